@@ -1,0 +1,116 @@
+-- How long the frames of a form are. Assumes nothing.
+use Prim.Native.Nat.{ℕ, zero, suc, _+_, _≤_}
+use mathlib.Core.List.{List}
+use mathlib.Core.Bool.{Bool, true, false, cond, _&&_}
+use mathlib.Core.Path.{_≡_, refl, ap, _∙_}
+use native.Mathlib.Omega.{arith}
+use lib.ListN.{length, length-append}
+use borrow.Author.Tests.{eqb-false, leb-true}
+use lib.Dec.{eqb, leb}
+use Rattle.frame.specs.declared.fields.Fields.{Fields}
+use Rattle.frame.specs.declared.table.Form.{Form}
+use Rattle.frame.specs.declared.table.Form.the-variants.{UploadOpening}
+use Rattle.frame.specs.declared.table.FormRow.{FormRow}
+use Rattle.frame.specs.Table.{tagCount, frameLimit, dataTag, width, has, isRequestForm, isForm}
+use Rattle.frame.specs.Names.{phase, form}
+use Rattle.frame.specs.Row.{piece, join}
+use Rattle.frame.specs.Writer.{
+  contentOf,
+  contentsOf,
+  frameOf,
+  lengthFrom,
+  frameLength,
+  fieldWritable,
+  fieldsWritable,
+  writable,
+  uploadOpeningLength,
+  largestRequest,
+  largestReply,
+  segmentSize,
+}
+use Rattle.frame.proofs.Tests.{and-true}
+use Rattle.frame.proofs.Numbers.{length-bytesOf, length-fieldBytes}
+use Rattle.frame.proofs.Forms.{rowsHold, form-found, tagsOf, form-tags}
+use Rattle.frame.proofs.Contents.{well-formed, piece-none, piece-some}
+use Rattle.frame.proofs.Loops.{FieldWritable, field-writable, content-absent, content-number}
+
+-- ---- the length by the table
+
+module _ (f : Fields) (d : List ℕ) where
+  content-length : (t : ℕ) (b : Bool) → eqb t dataTag ≡ b → has (f .tags) t ≡ true → length (contentOf t f d) ≡ cond b (length d) (width t)
+  unfolding contentOf
+  content-length t true q e = rw (e, q)
+  content-length t false q e = ap length (content-number t f d e (eqb-false t dataTag q)) ∙ length-bytesOf (width t) _
+
+  piece-length : (t : ℕ) (b : Bool) → has (f .tags) t ≡ b → FieldWritable t f d
+      → length (piece t (contentOf t f d)) ≡ cond b (3 + cond (eqb t dataTag) (length d) (width t)) 0
+  piece-length t true e g =
+      let c : List ℕ = contentOf t f d in
+      let k = well-formed t c (g .fit e) .some in
+      ap length (piece-some t c (λ z. omega arith)) ∙ length-fieldBytes t c
+      ∙ ap (λ (n : ℕ). 3 + n) (content-length t (eqb t dataTag) refl e)
+  piece-length t false e g = ap length (piece-none t (contentOf t f d) (ap length (content-absent t f d e)))
+
+  pub length-join : (k t : ℕ) → fieldsWritable k t f d ≡ true → length (join t (contentsOf k t f d)) ≡ lengthFrom k t (f .tags) (length d)
+  unfolding fieldsWritable contentsOf join lengthFrom
+  length-join zero t h = refl
+  length-join (suc k) t h =
+      let a = and-true (fieldWritable t f d) (fieldsWritable k (t + 1) f d) h in
+      let p = piece-length t (has (f .tags) t) refl (field-writable t f d (a .0)) in
+      length-append (piece t (contentOf t f d)) (join (t + 1) (contentsOf k (t + 1) f d)) ∙ rw (p, length-join k (t + 1) (a .1))
+
+  module _ (h : writable f d ≡ true) where
+    writable-parts : (isForm (form f) ≡ true) × (fieldsWritable tagCount 0 f d ≡ true)
+    unfolding writable
+    writable-parts =
+        let a = and-true (isForm (form f) && fieldsWritable tagCount 0 f d) (leb (length (frameOf f d)) frameLimit) h in
+        and-true (isForm (form f)) (fieldsWritable tagCount 0 f d) (a .0)
+
+    -- a writable frame is as long as the table says
+    pub length-frameOf : length (frameOf f d) ≡ frameLength (f .tags) (length d)
+    unfolding frameOf frameLength
+    length-frameOf = length-join tagCount 0 (writable-parts .1)
+
+-- ---- more data, no shorter frame
+
+grow-at : (a b : Bool) (w n m x y : ℕ) → n ≤ m → x ≤ y → cond a (3 + cond b n w) 0 + x ≤ cond a (3 + cond b m w) 0 + y
+grow-at true true w n m x y h k = omega arith
+grow-at true false w n m x y h k = omega arith
+grow-at false b w n m x y h k = omega arith
+
+lengthFrom-grows : (k t m n n' : ℕ) → n ≤ n' → lengthFrom k t m n ≤ lengthFrom k t m n'
+unfolding lengthFrom
+lengthFrom-grows zero t m n n' h = omega arith
+lengthFrom-grows (suc k) t m n n' h = grow-at (has m t) (eqb t dataTag) (width t) n n' _ _ h (lengthFrom-grows k (t + 1) m n n' h)
+
+frameLength-grows : (m n n' : ℕ) → n ≤ n' → frameLength m n ≤ frameLength m n'
+unfolding frameLength
+frameLength-grows m n n' h = lengthFrom-grows tagCount 0 m n n' h
+
+-- ---- the lengths that document 01 names, each a test over the table of forms
+
+abbrev limit : Form → ℕ
+limit x = cond (isRequestForm x) largestRequest largestReply
+
+inLimit : FormRow → Bool
+inLimit r = leb (frameLength (r .0) segmentSize) (limit (r .2))
+
+module _ (f : Fields) (d : List ℕ) (h : writable f d ≡ true) where
+  in-limit : frameLength (f .tags) segmentSize ≤ limit (form f)
+  unfolding rowsHold inLimit frameLength lengthFrom width
+  in-limit =
+      let x = form-found inLimit (f .tags) (phase f) refl (writable-parts f d h .0) in
+      let e : leb (frameLength (f .tags) segmentSize) (limit (form f)) ≡ true = rw (x .tags, x .name) at (x .holds) in
+      leb-true _ _ e
+
+  pub length-limit : length d ≤ segmentSize → length (frameOf f d) ≤ limit (form f)
+  length-limit k = omega (arith, length-frameOf f d h, frameLength-grows (f .tags) (length d) segmentSize k, in-limit)
+
+  opening-tags : (n : ℕ) → frameLength (tagsOf UploadOpening) n ≡ uploadOpeningLength
+  unfolding frameLength lengthFrom width
+  opening-tags n = refl
+
+  pub opening-length : form f ≡ UploadOpening → length (frameOf f d) ≡ uploadOpeningLength
+  opening-length e =
+      let t = form-tags (f .tags) (phase f) (writable-parts f d h .0) ∙ ap tagsOf e in
+      length-frameOf f d h ∙ ap (λ (m : ℕ). frameLength m (length d)) t ∙ opening-tags (length d)

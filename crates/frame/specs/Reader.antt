@@ -1,0 +1,30 @@
+-- Document 01, "The frame": what a frame says.
+use Prim.Native.Nat.{ℕ}
+use mathlib.Core.List.{List}
+use mathlib.Core.Bool.{cond, _&&_}
+use lib.ListN.{length, replicate}
+use lib.Dec.{leb, eqb}
+use Rattle.frame.specs.declared.fields.Fields.{Fields}
+use Rattle.frame.specs.Table.{tagCount, frameLimit, isRequestForm, isReplyForm}
+use Rattle.frame.specs.Names.{form}
+use Rattle.frame.specs.Row.{contents, behind, presentTags, highOf, lowOf, eachFrom}
+
+-- no fields: the empty set of tags, and every number 0
+abbrev pub noFields : Fields
+noFields = record { tags = 0; high = replicate tagCount 0; low = replicate tagCount 0 }
+
+-- the fields that a row of contents says
+unfoldable pub fieldsOf : List (List ℕ) → Fields
+fieldsOf r = record { tags = presentTags r; high = eachFrom highOf 0 r; low = eachFrom lowOf 0 r }
+
+-- "Each field stands once, tags rising, nothing behind", at most 1,024 bytes; else no fields
+unfoldable pub parse : List ℕ → Fields
+parse s = cond (leb (length s) frameLimit && eqb (length (behind tagCount 0 s)) 0) (fieldsOf (contents tagCount 0 s)) noFields
+
+-- what a request says; no fields where the frame is of no request form
+unfoldable pub readRequest : List ℕ → Fields
+readRequest s = cond (isRequestForm (form (parse s))) (parse s) noFields
+
+-- what a reply says; no fields where the frame is of no reply form
+unfoldable pub readReply : List ℕ → Fields
+readReply s = cond (isReplyForm (form (parse s))) (parse s) noFields

@@ -1,0 +1,179 @@
+// Reading a frame: tag by tag, each field from where the one before it ended.
+use crate::bytes::inner;
+use crate::bytes::number;
+use crate::bytes::wide;
+use crate::fields::Bits128;
+use crate::fields::Fields;
+use crate::table;
+use crate::table::FRAME_LIMIT;
+use crate::table::TAGS;
+use crate::table::allowed;
+use crate::table::is_reply_form;
+use crate::table::is_request_form;
+use crate::table::width;
+ghost use mathlib.Core.Path.{_≡_};
+ghost use Prim.Native.Nat.{_*_, _^_, _≤_, _<_};
+ghost use lib.ListN.{length};
+ghost use Rattle.frame.specs.Table.{tagCount, dataTag};
+ghost use Rattle.frame.specs.Row.{listed, wellFormed, fieldSize, behind, dataOf, present, highOf, lowOf};
+ghost use Rattle.frame.specs.Reader.{parse, readRequest, readReply};
+
+// Whether each byte of the content is in the value list of the tag.
+fn listed(tag: usize, content: &[u8]) -> bool
+    requires { ⌜ tag < tagCount ⌝ }
+    ensures { λ r. ⌜ r ≡ listed tag (now (content .entry)) ⌝ }
+{
+    let mut i = 0;
+    while i < content.len() {
+        if !allowed(tag, content[i]) {
+            return false;
+        }
+        i += 1;
+    }
+    true
+}
+
+// Whether this can be the content of a field with this tag.
+pub(crate) fn well_formed(tag: usize, content: &[u8]) -> bool
+    requires { ⌜ tag < tagCount ⌝ }
+    ensures { λ r. ⌜ r ≡ wellFormed tag (now (content .entry)) ⌝ }
+{
+    let n = content.len();
+    let w = width(tag);
+    if FRAME_LIMIT < n {
+        return false;
+    }
+    if n == 0 {
+        return false;
+    }
+    if w == 0 {
+        return listed(tag, content);
+    }
+    if n != w {
+        return false;
+    }
+    listed(tag, content)
+}
+
+// How many bytes the field with this tag takes at the front of rest; 0 where no such field stands there.
+fn field_size(rest: &[u8], tag: usize) -> usize
+    requires { ⌜ tag < tagCount ⌝ }
+    ensures { λ r. ⌜ r ≡ fieldSize tag (now (rest .entry)) ⌝ }
+{
+    if rest.len() < 3 {
+        return 0;
+    }
+    if wide(rest[0]) != tag as u64 {
+        return 0;
+    }
+    let n = 3 + wide(rest[1]) as usize * 256 + wide(rest[2]) as usize;
+    if rest.len() < n {
+        return 0;
+    }
+    if well_formed(tag, &rest[3..n]) { n } else { 0 }
+}
+
+// The number that the content of the field stands for. Data are no number.
+pub(crate) fn value(tag: usize, content: &[u8]) -> Bits128
+    requires { ⌜ ((tag ≡ dataTag → ⊥) → length (now content) ≤ 16) ⌝ }
+    ensures { λ r. ⌜ (r .high ≡ highOf tag (now (content .entry))) × (r .low ≡ lowOf tag (now (content .entry))) ⌝ }
+{
+    let n = content.len();
+    if tag == table::DATA {
+        return Bits128 { high: 0, low: 0 };
+    }
+    if n <= 8 {
+        return Bits128 {
+            high: 0,
+            low: number(content),
+        };
+    }
+    let k = n - 8;
+    Bits128 {
+        high: number(&content[..k]),
+        low: number(&content[k..]),
+    }
+}
+
+// The set of the tag alone, or the empty set where its field takes no bytes.
+fn tag_bit(size: usize, tag: usize) -> u32
+    requires { ⌜ tag < tagCount ⌝ }
+    ensures { λ r. ⌜ r ≡ present size * 2 ^ tag ⌝ }
+{
+    if size == 0 { 0 } else { 1 << tag }
+}
+
+// What the frame says; no fields where it is no row of fields as the table has them.
+fn parse(frame: &[u8]) -> Fields
+    ensures { λ r. ⌜ r ≡ parse (now (frame .entry)) ⌝ }
+{
+    let mut tags: u32 = 0;
+    let mut high = [0u64; TAGS];
+    let mut low = [0u64; TAGS];
+    let mut rest = frame;
+    let mut tag = 0;
+    while tag < TAGS {
+        let n = field_size(rest, tag);
+        tags = tags + tag_bit(n, tag);
+        let v = value(tag, inner(rest, n));
+        high[tag] = v.high;
+        low[tag] = v.low;
+        rest = &rest[n..];
+        tag += 1;
+    }
+    if FRAME_LIMIT < frame.len() {
+        return Fields::none();
+    }
+    if rest.len() == 0 {
+        Fields { tags, high, low }
+    } else {
+        Fields::none()
+    }
+}
+
+// The part of the frame behind all fields with tags below end.
+fn behind(frame: &[u8], end: usize) -> &[u8]
+    requires { ⌜ end ≤ tagCount ⌝ }
+    ensures { λ r. ⌜ now r ≡ behind end 0 (now (frame .entry)) ⌝ }
+{
+    let mut rest = frame;
+    let mut tag = 0;
+    while tag < end {
+        let n = field_size(rest, tag);
+        rest = &rest[n..];
+        tag += 1;
+    }
+    rest
+}
+
+// What a request says; no fields where the frame is of no request form.
+pub fn read_request(frame: &[u8]) -> Fields
+    ensures { λ r. ⌜ r ≡ readRequest (now (frame .entry)) ⌝ }
+{
+    let fields = parse(frame);
+    if is_request_form(fields.form()) {
+        fields
+    } else {
+        Fields::none()
+    }
+}
+
+// What a reply says; no fields where the frame is of no reply form.
+pub fn read_reply(frame: &[u8]) -> Fields
+    ensures { λ r. ⌜ r ≡ readReply (now (frame .entry)) ⌝ }
+{
+    let fields = parse(frame);
+    if is_reply_form(fields.form()) {
+        fields
+    } else {
+        Fields::none()
+    }
+}
+
+// The content of the data field: that part of the frame itself.
+pub fn data(frame: &[u8]) -> &[u8]
+    ensures { λ r. ⌜ now r ≡ dataOf (now (frame .entry)) ⌝ }
+{
+    let rest = behind(frame, table::DATA);
+    inner(rest, field_size(rest, table::DATA))
+}
