@@ -1,7 +1,7 @@
 -- What tests on numbers and truth values tell. Assumes nothing.
 use Prim.Native.Nat.{ℕ, zero, suc, _<_}
 use mathlib.Core.Bool.{Bool, true, false, _&&_, _||_}
-use mathlib.Core.Path.{_≡_, refl, ap, _∙_}
+use mathlib.Core.Path.{_≡_, refl, sym, ap, _∙_}
 use native.Mathlib.Omega.{arith}
 use lib.Dec.{eqb}
 use borrow.Author.Tests.{eqb-true, eqb-false, lt-ltb, le-ltb, le-leb, lt-leb, eq-eqb, ne-eqb}
@@ -19,6 +19,10 @@ and-true false b h = never h
 pub or-true : (a b : Bool) → a ≡ false → a || b ≡ true → b ≡ true
 or-true true b e h = never (rw e)
 or-true false b e h = h
+
+pub or-neither : (a b : Bool) → a || b ≡ false → (a ≡ false) × (b ≡ false)
+or-neither true b h = never (sym h)
+or-neither false b h = (refl, h)
 
 -- p holds below n
 abbrev pub every : (ℕ → Bool) → ℕ → Bool

@@ -12,7 +12,7 @@ pub(crate) fn wide(x: u8) -> u64
 }
 
 // The number that the bytes are, high byte first.
-pub(crate) fn number(s: &[u8]) -> u64
+pub fn number(s: &[u8]) -> u64
     requires { ⌜ length (now s) ≤ 8 ⌝ }
     ensures { λ r. ⌜ r ≡ number (now (s .entry)) ⌝ }
 {

@@ -1,5 +1,5 @@
 // Frames: rows of fields. The tables say which fields and forms there are; reader and writer walk them.
-mod bytes;
+pub mod bytes;
 pub mod fields;
 pub mod reader;
 pub mod table;

@@ -1,0 +1,65 @@
+-- What a request, a file and lent lengths that are not refused tell. Assumes nothing.
+use Prim.Native.Nat.{ℕ, _≤_, _<_}
+use mathlib.Core.Bool.{Bool, true, false, _&&_, _||_}
+use mathlib.Core.List.{List}
+use mathlib.Core.Path.{_≡_, refl, ap}
+use lib.Dec.{eqb, leb, ltb}
+use lib.ListN.{length}
+use borrow.Author.Tests.{eqb-true, ltb-false, not-false}
+use Rattle.frame.specs.declared.fields.Fields.{Fields}
+use Rattle.frame.specs.Names.{subscriber}
+use Rattle.frame.proofs.Tests.{and-true, or-neither}
+use Rattle.message.specs.Limits.{subscribers, fileBytes}
+use Rattle.message.specs.Verdicts.{decide}
+use Rattle.bank_state.specs.declared.state.Bank.{Bank}
+use Rattle.bank_state.specs.Limits.{storeBytes, idBytes, replyRoom}
+use Rattle.bank_step.proofs.Verdicts.{all-failed}
+use Rattle.bank.specs.declared.call.RequestVerdict.{RequestVerdict}
+use Rattle.bank.specs.declared.call.RequestVerdict.the-variants.{Refuse, Proceed}
+use Rattle.bank.specs.declared.mailbox.FileAnswer.{FileAnswer}
+use Rattle.bank.specs.declared.mailbox.FileAnswer.the-variants.{Done, WrongLength, NoMailbox, WrongFile, MailboxFull}
+use Rattle.bank.specs.Call.{requestRefusals}
+use Rattle.bank.specs.Mailbox.{fileRefusals}
+
+-- a number of a subscriber, or of a mailbox
+numbered : (n : ℕ) → ltb n 1 || ltb subscribers n ≡ false → (0 < n) × (n ≤ subscribers)
+numbered n h =
+    let a = or-neither (ltb n 1) (ltb subscribers n) h in
+    (ltb-false n 1 (a .0), ltb-false subscribers n (a .1))
+
+abbrev isProceed : RequestVerdict → Bool
+isProceed (Refuse c) = false
+isProceed Proceed = true
+
+-- a request that goes on is one of a subscriber
+pub request-known : (q : Fields) (d : List ℕ) → decide (requestRefusals q d) Proceed ≡ Proceed
+    → (0 < subscriber q) × (subscriber q ≤ subscribers)
+unfolding requestRefusals
+request-known q d h = numbered (subscriber q) (all-failed isProceed (requestRefusals q d) Proceed refl (ap isProceed h) 0)
+
+abbrev isDone : FileAnswer → Bool
+isDone Done = true
+isDone WrongLength = false
+isDone NoMailbox = false
+isDone WrongFile = false
+isDone MailboxFull = false
+
+-- a file that goes into a mailbox has room there
+pub file-fits : (b : Bank) (m : ℕ) (file boxes : List ℕ) → decide (fileRefusals b m file boxes) Done ≡ Done
+    → (0 < m) × (m ≤ subscribers) × (length file ≤ fileBytes) × (length boxes ≡ storeBytes)
+unfolding fileRefusals
+file-fits b m file boxes h =
+    let failed = all-failed isDone (fileRefusals b m file boxes) Done refl (ap isDone h) in
+    let n = numbered m (failed 1) in
+    let size = or-neither (eqb (length file) 0) (ltb fileBytes (length file)) (failed 2) in
+    (n .0, n .1, ltb-false fileBytes (length file) (size .1), eqb-true (length boxes) storeBytes (not-false _ (failed 0)))
+
+-- the lent lengths
+pub lengths-right : (orders boxes ids buffer : ℕ)
+    → eqb orders storeBytes && eqb boxes storeBytes && eqb ids idBytes && leb replyRoom buffer ≡ true
+    → (orders ≡ storeBytes) × (boxes ≡ storeBytes) × (ids ≡ idBytes)
+lengths-right orders boxes ids buffer h =
+    let a = and-true (eqb orders storeBytes && eqb boxes storeBytes && eqb ids idBytes) (leb replyRoom buffer) h in
+    let b = and-true (eqb orders storeBytes && eqb boxes storeBytes) (eqb ids idBytes) (a .0) in
+    let stores = and-true (eqb orders storeBytes) (eqb boxes storeBytes) (b .0) in
+    (eqb-true orders storeBytes (stores .0), eqb-true boxes storeBytes (stores .1), eqb-true ids idBytes (b .1))

@@ -1,0 +1,28 @@
+-- `refused` meets its contract. Assumes nothing.
+use borrow.Author.Needs.{needs}
+use Rattle.bank.proofs.call.refused.Statement.{statement}
+use Rattle.bank.proofs.call.refused.Tie as tie
+
+returns : tie.Need-returns
+returns c =
+    λ o m.
+    let at-reply = c .before .before in
+    let at-refusal = at-reply .before .before in
+    rw (
+      at-reply .reply-alone .ensures .0,
+      at-reply .reply-alone .ensures .1,
+      at-refusal .refusal .ensures,
+      at-refusal .before .exchange .ensures,
+      at-refusal .before .before .phase .ensures,
+    )
+
+pub refused-spec : {M : Type 1} → statement M
+refused-spec =
+    tie.close
+    (tie.spec
+    (λ c κs. search needs)
+    (λ c κs. search needs)
+    (λ c κs. search needs)
+    (λ c κs. search needs)
+    (λ c. search needs)
+    returns)

@@ -1,0 +1,13 @@
+-- `unread` meets its contract. Assumes nothing.
+use borrow.Author.Needs.{needs}
+use Rattle.bank.proofs.call.unread.Statement.{statement}
+use Rattle.bank.proofs.call.unread.Tie as tie
+
+returns : tie.Need-returns
+returns c =
+    λ o m.
+    let at-reply = c .before .before in
+    rw (at-reply .reply-alone .ensures .0, at-reply .reply-alone .ensures .1, at-reply .before .before .unreadable .ensures)
+
+pub unread-spec : {M : Type 1} → statement M
+unread-spec = tie.close (tie.spec (λ c κs. search needs) (λ c κs. search needs) (λ c. search needs) returns)

@@ -1,0 +1,13 @@
+-- `is_no_mailbox` meets its contract. Assumes nothing.
+use Rattle.frame.proofs.Tests.{tests}
+use Rattle.bank.proofs.mailbox.is_no_mailbox.Statement.{statement}
+use Rattle.bank.proofs.mailbox.is_no_mailbox.Tie as tie
+
+returns : tie.Need-returns
+returns c = search tests
+
+returns-2 : tie.Need-returns-2
+returns-2 c = search tests
+
+pub is-no-mailbox-spec : {M : Type 1} → statement M
+is-no-mailbox-spec = tie.close (tie.spec returns returns-2)

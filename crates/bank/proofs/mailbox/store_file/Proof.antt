@@ -1,0 +1,19 @@
+-- `store_file` meets its contract. Assumes nothing.
+use borrow.Author.Needs.{needs}
+use Rattle.bank.proofs.mailbox.store_file.Statement.{statement}
+use Rattle.bank.proofs.mailbox.store_file.Tie as tie
+
+returns : tie.Need-returns
+returns c = rw (c .before .before .append .ensures)
+
+pub store-file-spec : {M : Type 1} → statement M
+store-file-spec =
+    tie.close
+    (tie.spec
+    (λ c. search needs)
+    (λ c. search needs)
+    (λ c κs. search needs)
+    (λ c. search needs)
+    (λ c. search needs)
+    (λ c. search needs)
+    returns)

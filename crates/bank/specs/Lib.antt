@@ -1,0 +1,3 @@
+-- The definitions of the bank's two calls.
+pub mod Call
+pub mod Mailbox

@@ -1,0 +1,6 @@
+-- The laws that several proofs, and the crates above, cite.
+pub mod Tests
+pub mod Rows
+pub mod Loops
+pub mod Stores
+pub mod Drops

@@ -1,0 +1,70 @@
+-- `first_place` gives the first place that passes: each element passed fails the test.
+use Prim.Native.Nat.{_-_}
+use mathlib.Core.Path.{_≡_, sym, _∙_}
+use borrow.Author.Needs.{needs}
+use native.Mathlib.Omega.{arith}
+use lib.ListN.{length}
+use Rattle.bank_state.specs.Search.{placePasses}
+use Rattle.bank_state.specs.Limits.{placeCount}
+use Rattle.bank_state.specs.State.{noPlace}
+use Rattle.bank_state.proofs.Loops.{Searched, searched-start, searched-next, searched-hit, searched-end}
+use Rattle.bank_state.proofs.search.first_place.Statement.{statement}
+use Rattle.bank_state.proofs.search.first_place.Tie as tie
+
+abbrev Inv-loop : tie.InvT-loop
+Inv-loop test places i₀ i = Searched (placePasses test) places i
+
+abbrev μ-loop : tie.MeasureT-loop
+μ-loop test places i₀ i = placeCount - i
+
+sized : (c : tie.Start Inv-loop μ-loop) → length (c .args .t1) ≡ placeCount
+sized c = c .good .0 .1 .0 .1
+
+loop-holds : tie.Need-loop-holds Inv-loop μ-loop
+loop-holds c = searched-start _ _
+
+mul-p : tie.Need-mul-p Inv-loop μ-loop
+mul-p c = search needs
+
+array-copy-out-p : tie.Need-array-copy-out-p Inv-loop μ-loop
+array-copy-out-p c = search needs
+
+place-passes-requires : tie.Need-place-passes-requires Inv-loop μ-loop
+place-passes-requires c κs = search needs
+
+returns : tie.Need-returns Inv-loop μ-loop
+returns c =
+    let at = c .before .before .before .before in
+    let test = sym (c .before .place-passes .ensures) ∙ c .if1 .taken in
+    searched-hit _ _ noPlace _ (at .loop .inv) (omega (arith, sized (at .before))) test
+
+add-i : tie.Need-add-i Inv-loop μ-loop
+add-i c = search needs
+
+loop-less : tie.Need-loop-less Inv-loop μ-loop
+loop-less c = search needs
+
+loop-again : tie.Need-loop-again Inv-loop μ-loop
+loop-again c =
+    let at = c .before .before .before .before in
+    let test = sym (c .before .place-passes .ensures) ∙ c .if1 .left in
+    searched-next _ _ noPlace _ (at .loop .inv) (omega (arith, sized (at .before))) test
+
+returns-2 : tie.Need-returns-2 Inv-loop μ-loop
+returns-2 c = searched-end _ _ noPlace _ (c .before .loop .inv) (omega (arith, sized (c .before .before)))
+
+pub first-place-spec : {M : Type 1} → statement M
+first-place-spec =
+    tie.close
+    (tie.spec
+    Inv-loop
+    μ-loop
+    loop-holds
+    mul-p
+    array-copy-out-p
+    place-passes-requires
+    returns
+    add-i
+    loop-less
+    loop-again
+    returns-2)

@@ -1,0 +1,7 @@
+-- The definitions of the bank's state.
+pub mod Limits
+pub mod State
+pub mod Rows
+pub mod Store
+pub mod Search
+pub mod Clock

@@ -1,0 +1,40 @@
+-- The bank's own numbers of document 01.
+use Prim.Native.Nat.{ℕ}
+
+-- "Lent: 8 order places and 8 mailboxes"
+abbrev pub placeCount : ℕ
+placeCount = 8
+
+-- "(two stores of 30,720)"
+abbrev pub storeBytes : ℕ
+storeBytes = 30720
+
+-- "a reply buffer of at least 312 bytes, 8 bytes for the transaction ID"
+abbrev pub replyRoom : ℕ
+replyRoom = 312
+
+abbrev pub idBytes : ℕ
+idBytes = 8
+
+-- "open at 3,600, gone at 3,601"
+abbrev pub idleLimit : ℕ
+idleLimit = 3600
+
+-- "differs from the clock by at most 300"
+abbrev pub window : ℕ
+window = 300
+
+-- "8 transactions open"; "the subscriber has 4 open transactions"
+abbrev pub openMost : ℕ
+openMost = 8
+
+abbrev pub openPerSubscriber : ℕ
+openPerSubscriber = 4
+
+-- "64 nonces remembered"
+abbrev pub nonceCount : ℕ
+nonceCount = 64
+
+-- "1,213,056 openings accepted"
+abbrev pub openingsMost : ℕ
+openingsMost = 1213056

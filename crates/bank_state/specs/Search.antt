@@ -1,0 +1,88 @@
+-- What is open, in use and remembered.
+use Prim.Native.Nat.{ℕ, _+_}
+use mathlib.Core.Bool.{Bool, true, false, not, _&&_}
+use lib.Dec.{ltb, eqb}
+use Rattle.frame.specs.declared.fields.Bits128.{Bits128}
+use Rattle.frame.specs.Names.{sameBits}
+use Rattle.bank_state.specs.declared.state.Use.{Use}
+use Rattle.bank_state.specs.declared.state.Use.the-variants.{Free, Open, Booked}
+use Rattle.bank_state.specs.declared.state.Place.{Place}
+use Rattle.bank_state.specs.declared.state.Download.{Download}
+use Rattle.bank_state.specs.declared.state.Nonce.{Nonce}
+use Rattle.bank_state.specs.declared.state.Bank.{Bank}
+use Rattle.bank_state.specs.declared.search.PlaceTest.{PlaceTest}
+use Rattle.bank_state.specs.declared.search.PlaceTest.the-variants as place-test
+use Rattle.bank_state.specs.declared.search.DownloadTest.{DownloadTest}
+use Rattle.bank_state.specs.declared.search.DownloadTest.the-variants as download-test
+use Rattle.bank_state.specs.declared.search.NonceTest.{NonceTest}
+use Rattle.bank_state.specs.declared.search.NonceTest.the-variants as nonce-test
+use Rattle.bank_state.specs.Limits.{nonceCount}
+use Rattle.bank_state.specs.Rows.{firstOf, countOf}
+
+abbrev pub isFree : Use → Bool
+isFree Free = true
+isFree Open = false
+isFree Booked = false
+
+abbrev pub isOpen : Use → Bool
+isOpen Free = false
+isOpen Open = true
+isOpen Booked = false
+
+-- "An upload takes the first place not in use"
+unfoldable pub freePlace : Bank → ℕ
+freePlace b = firstOf (λ (p : Place). isFree (p .used)) (b .places)
+
+-- the first free record of an open download
+unfoldable pub freeDownload : Bank → ℕ
+freeDownload b = firstOf (λ (e : Download). not (e .used)) (b .downloads)
+
+-- the first free record of a nonce
+unfoldable pub freeNonce : Bank → ℕ
+freeNonce b = firstOf (λ (e : Nonce). not (e .used)) (b .nonces)
+
+-- an upload open for this subscriber under this transaction ID, and where it is
+unfoldable pub isUpload : ℕ → Bits128 → Place → Bool
+isUpload subscriber transaction p = isOpen (p .used) && eqb (p .subscriber) subscriber && sameBits (p .transaction) transaction
+
+unfoldable pub findUpload : ℕ → Bits128 → Bank → ℕ
+findUpload subscriber transaction b = firstOf (isUpload subscriber transaction) (b .places)
+
+-- a download open for this subscriber under this transaction ID, and where it is
+unfoldable pub isDownload : ℕ → Bits128 → Download → Bool
+isDownload subscriber transaction e = e .used && eqb (e .subscriber) subscriber && sameBits (e .transaction) transaction
+
+unfoldable pub findDownload : ℕ → Bits128 → Bank → ℕ
+findDownload subscriber transaction b = firstOf (isDownload subscriber transaction) (b .downloads)
+
+-- the open transactions of all subscribers
+unfoldable pub openCount : Bank → ℕ
+openCount b = countOf (λ (p : Place). isOpen (p .used)) (b .places) + countOf (λ (e : Download). e .used) (b .downloads)
+
+-- the open transactions of one subscriber
+unfoldable pub openCountOf : ℕ → Bank → ℕ
+openCountOf s b =
+    countOf (λ (p : Place). isOpen (p .used) && eqb (p .subscriber) s) (b .places)
+    + countOf (λ (e : Download). e .used && eqb (e .subscriber) s) (b .downloads)
+
+-- "nonce remembered": of an accepted opening, against all subscribers
+unfoldable pub isRemembered : Bits128 → Bank → Bool
+isRemembered value b = ltb (firstOf (λ (e : Nonce). e .used && sameBits (e .value) value) (b .nonces)) nonceCount
+
+-- the tests above as values: what the loops of the searches and counts take
+
+abbrev pub placePasses : PlaceTest → Place → Bool
+placePasses place-test.Free p = isFree (p .used)
+placePasses place-test.Open p = isOpen (p .used)
+placePasses (place-test.OpenOf subscriber) p = isOpen (p .used) && eqb (p .subscriber) subscriber
+placePasses (place-test.Upload subscriber transaction) p = isUpload subscriber transaction p
+
+abbrev pub downloadPasses : DownloadTest → Download → Bool
+downloadPasses download-test.Free e = not (e .used)
+downloadPasses download-test.Open e = e .used
+downloadPasses (download-test.OpenOf subscriber) e = e .used && eqb (e .subscriber) subscriber
+downloadPasses (download-test.Download subscriber transaction) e = isDownload subscriber transaction e
+
+abbrev pub noncePasses : NonceTest → Nonce → Bool
+noncePasses nonce-test.Free e = not (e .used)
+noncePasses (nonce-test.Value value) e = e .used && sameBits (e .value) value

@@ -1,0 +1,77 @@
+-- The bank's state with its two stores, a fresh bank, and the state with one part changed.
+use Prim.Native.Nat.{ℕ}
+use mathlib.Core.Bool.{false}
+use mathlib.Core.List.{List}
+use lib.ListN.{replicate, set, getD}
+use Rattle.frame.specs.declared.fields.Bits128.{Bits128}
+use Rattle.bank_state.specs.declared.state.Use.the-variants.{Free}
+use Rattle.bank_state.specs.declared.state.Place.{Place}
+use Rattle.bank_state.specs.declared.state.Download.{Download}
+use Rattle.bank_state.specs.declared.state.Nonce.{Nonce}
+use Rattle.bank_state.specs.declared.state.Bank.{Bank}
+use Rattle.bank_state.specs.Limits.{placeCount, nonceCount}
+
+-- The bank and the bytes lent to it that it keeps between calls: the order places' store and the mailboxes' store
+pub record World : Type 0 where
+  pub bank : Bank
+  pub orders : List ℕ
+  pub boxes : List ℕ
+
+abbrev pub world : Bank → List ℕ → List ℕ → World
+world b o m = record { bank = b; orders = o; boxes = m }
+
+-- what is free is zero
+abbrev pub noBits : Bits128
+noBits = record { high = 0; low = 0 }
+
+abbrev pub noPlace : Place
+noPlace = record { used = Free; transaction = noBits; subscriber = 0; number = 0; segments = 0; taken = 0; attempts = 0; last = 0; length = 0 }
+
+abbrev pub noDownload : Download
+noDownload = record { used = false; transaction = noBits; subscriber = 0; delivered = 0; attempts = 0; last = 0 }
+
+abbrev pub noNonce : Nonce
+noNonce = record { used = false; value = noBits; timestamp = 0 }
+
+-- "Fresh means clock 0, no opening accepted, nothing open, booked or remembered"
+unfoldable pub fresh : Bank
+fresh = record {
+  clock = 0;
+  openings = 0;
+  places = replicate placeCount noPlace;
+  downloads = replicate placeCount noDownload;
+  nonces = replicate nonceCount noNonce;
+  files = replicate placeCount 0;
+}
+
+-- one part of the state changed
+
+abbrev pub withClock : ℕ → Bank → Bank
+withClock t b = record { clock = t; openings = b .openings; places = b .places; downloads = b .downloads; nonces = b .nonces; files = b .files }
+
+abbrev pub withOpenings : ℕ → Bank → Bank
+withOpenings n b = record { clock = b .clock; openings = n; places = b .places; downloads = b .downloads; nonces = b .nonces; files = b .files }
+
+abbrev pub withPlaces : List Place → Bank → Bank
+withPlaces l b = record { clock = b .clock; openings = b .openings; places = l; downloads = b .downloads; nonces = b .nonces; files = b .files }
+
+abbrev pub withDownloads : List Download → Bank → Bank
+withDownloads l b = record { clock = b .clock; openings = b .openings; places = b .places; downloads = l; nonces = b .nonces; files = b .files }
+
+abbrev pub withNonces : List Nonce → Bank → Bank
+withNonces l b = record { clock = b .clock; openings = b .openings; places = b .places; downloads = b .downloads; nonces = l; files = b .files }
+
+abbrev pub withFiles : List ℕ → Bank → Bank
+withFiles l b = record { clock = b .clock; openings = b .openings; places = b .places; downloads = b .downloads; nonces = b .nonces; files = l }
+
+abbrev pub placeAt : Bank → ℕ → Place
+placeAt b i = getD (b .places) i noPlace
+
+abbrev pub downloadAt : Bank → ℕ → Download
+downloadAt b i = getD (b .downloads) i noDownload
+
+abbrev pub withPlace : ℕ → Place → Bank → Bank
+withPlace i p b = withPlaces (set (b .places) i p) b
+
+abbrev pub withDownload : ℕ → Download → Bank → Bank
+withDownload i e b = withDownloads (set (b .downloads) i e) b

@@ -1,0 +1,29 @@
+// The bank's own numbers of document 01. Each has the same name in specs/Limits.antt.
+
+// Order places, and mailboxes.
+pub const PLACES: usize = 8;
+
+// The bytes of a store: all places, or all mailboxes.
+pub const STORE_BYTES: usize = 30720;
+
+// The lent bytes of a transaction ID, and the least reply buffer.
+pub const ID_BYTES: usize = 8;
+
+pub const REPLY_ROOM: usize = 312;
+
+// Seconds that a transaction stays open behind its last fitting request.
+pub const IDLE_LIMIT: u64 = 3600;
+
+// Seconds that a timestamp in time differs from the clock at most.
+pub const WINDOW: u64 = 300;
+
+// Open transactions in all, and of one subscriber.
+pub const OPEN_MOST: usize = 8;
+
+pub const OPEN_PER_SUBSCRIBER: usize = 4;
+
+// Remembered nonces.
+pub const NONCES: usize = 64;
+
+// Accepted openings: the order numbers A000 to ZZZZ.
+pub const OPENINGS_MOST: u64 = 1213056;

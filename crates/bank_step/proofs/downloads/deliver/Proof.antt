@@ -1,0 +1,27 @@
+-- `deliver` meets its contract. Assumes nothing.
+use borrow.Author.Needs.{needs}
+use Rattle.bank_step.proofs.downloads.deliver.Statement.{statement}
+use Rattle.bank_step.proofs.downloads.deliver.Tie as tie
+
+returns : tie.Need-returns
+returns c =
+    let at-moved-to = c .before .before in
+    let at-segment = at-moved-to .before in
+    let start = at-segment .before in
+    rw (
+      at-moved-to .moved-to .ensures,
+      c .before .segment-reply .ensures,
+      c .segment2 .ensures,
+      at-segment .segment .ensures,
+      start .pre,
+    )
+
+pub deliver-spec : {M : Type 1} → statement M
+deliver-spec =
+    tie.close
+    (tie.spec
+    (λ c κs. search needs)
+    (λ c κs. search needs)
+    (λ c κs. search needs)
+    (λ c κs. search needs)
+    returns)

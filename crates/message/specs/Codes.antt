@@ -1,0 +1,34 @@
+-- The return codes of document 01 and the number of field 0D for each.
+use Prim.Native.Nat.{ℕ, zero, suc, _+_, _*_, _/_, _%_}
+use Rattle.message.specs.declared.codes.ReturnCode.{ReturnCode}
+use Rattle.message.specs.declared.codes.ReturnCode.the-variants as code
+
+-- Document 01's six-digit code, as a decimal number
+abbrev pub codeValue : ReturnCode → ℕ
+codeValue code.Ok = 0
+codeValue code.DownloadPostprocessDone = 11000
+codeValue code.DownloadPostprocessSkipped = 11001
+codeValue code.SegmentNumberUnderrun = 11101
+codeValue code.InvalidRequest = 61002
+codeValue code.InternalError = 61099
+codeValue code.RecoverySync = 61101
+codeValue code.NoDownloadDataAvailable = 90005
+codeValue code.UserUnknown = 91003
+codeValue code.InvalidOrderType = 91005
+codeValue code.SegmentSizeExceeded = 91009
+codeValue code.InvalidXml = 91010
+codeValue code.UnknownTransaction = 91101
+codeValue code.TransactionAbort = 91102
+codeValue code.MessageReplay = 91103
+codeValue code.SegmentNumberExceeded = 91104
+codeValue code.MaxSegmentsExceeded = 91118
+codeValue code.MaxTransactionsExceeded = 91119
+
+-- The number of the last w decimal digits of n as ASCII bytes, high byte first
+abbrev pub asciiDigits : ℕ → ℕ → ℕ
+asciiDigits zero n = 0
+asciiDigits (suc w) n = asciiDigits w (n / 10) * 256 + (48 + n % 10)
+
+-- "0D return code, 6 ASCII digits"
+abbrev pub codeField : ReturnCode → ℕ
+codeField c = asciiDigits 6 (codeValue c)

@@ -1,0 +1,39 @@
+-- The numbers of document 01 that the bank and the client share.
+use Prim.Native.Nat.{ℕ}
+
+-- "segments are 256 bytes but the last"
+abbrev pub segmentBytes : ℕ
+segmentBytes = 256
+
+-- "over 15 segments" are too many
+abbrev pub segmentsMost : ℕ
+segmentsMost = 15
+
+-- "8 order places and 8 mailboxes of 3,840 bytes each": all segments of an order
+abbrev pub fileBytes : ℕ
+fileBytes = 3840
+
+-- "The first five get 061101"; "These repeats and returns number at most five"
+abbrev pub attemptsMost : ℕ
+attemptsMost = 5
+
+-- "Subscribers are 1 to 8, each with the mailbox of that number"
+abbrev pub subscribers : ℕ
+subscribers = 8
+
+-- "FUL is an upload, FDL a download": three characters, high byte first
+abbrev pub ful : ℕ
+ful = 0x46554C
+
+abbrev pub fdl : ℕ
+fdl = 0x46444C
+
+-- "1 initialisation, 2 transfer, 3 receipt"
+abbrev pub initialisation : ℕ
+initialisation = 1
+
+abbrev pub transfer : ℕ
+transfer = 2
+
+abbrev pub receiptPhase : ℕ
+receiptPhase = 3

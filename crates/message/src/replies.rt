@@ -1,0 +1,139 @@
+// The seven reply forms, each as the fields that it has.
+use crate::codes::ReturnCode;
+use crate::codes::code_field;
+use crate::limits::INITIALISATION;
+use crate::limits::RECEIPT;
+use crate::limits::TRANSFER;
+use frame::fields::Bits128;
+use frame::fields::Fields;
+use frame::table::DATA;
+use frame::table::EXCHANGE;
+use frame::table::LAST_MARK;
+use frame::table::ORDER_NUMBER;
+use frame::table::PHASE;
+use frame::table::RETURN_CODE;
+use frame::table::SEGMENT;
+use frame::table::SEGMENTS;
+use frame::table::TRANSACTION;
+ghost use mathlib.Core.Path.{_≡_};
+ghost use Rattle.message.specs.Replies.{replyOf, withCode, uploadOpened, withSegment, downloadOpened, pointOf, segmentTaken, recoveryPoint, downloadSegment, receiptAnswered, unreadable, refusal};
+
+// 01 03, which stand in every reply but the one to an unreadable request.
+fn reply_of(phase: u64, exchange: u64) -> Fields
+    ensures { λ r. ⌜ r ≡ replyOf phase exchange ⌝ }
+{
+    Fields::none().with(PHASE, phase).with(EXCHANGE, exchange)
+}
+
+// 0D.
+fn with_code(code: ReturnCode, fields: Fields) -> Fields
+    ensures { λ r. ⌜ r ≡ withCode code fields ⌝ }
+{
+    fields.with(RETURN_CODE, code_field(code))
+}
+
+// Upload opened: 01 03 08 0D 0E.
+pub fn upload_opened(exchange: u64, transaction: Bits128, order_number: u64) -> Fields
+    ensures { λ r. ⌜ r ≡ uploadOpened exchange transaction «order_number» ⌝ }
+{
+    with_code(
+        ReturnCode::Ok,
+        reply_of(INITIALISATION, exchange).with_wide(TRANSACTION, transaction),
+    ).with(ORDER_NUMBER, order_number)
+}
+
+// 09 0A 0B; the data stands beside the fields.
+fn with_segment(segment: u64, last_mark: u64, fields: Fields) -> Fields
+    ensures { λ r. ⌜ r ≡ withSegment segment «last_mark» fields ⌝ }
+{
+    fields
+        .with(SEGMENT, segment)
+        .with(LAST_MARK, last_mark)
+        .with(DATA, 0)
+}
+
+// Download opened: 01 03 07 08 09 0A 0B 0D, with segment 1.
+pub fn download_opened(exchange: u64, segments: u64, transaction: Bits128, last_mark: u64) -> Fields
+    ensures { λ r. ⌜ r ≡ downloadOpened exchange segments transaction «last_mark» ⌝ }
+{
+    let opened = reply_of(INITIALISATION, exchange)
+        .with(SEGMENTS, segments)
+        .with_wide(TRANSACTION, transaction);
+    with_code(ReturnCode::Ok, with_segment(1, last_mark, opened))
+}
+
+// 01 03 08 09 0D.
+fn point_of(
+    phase: u64,
+    exchange: u64,
+    transaction: Bits128,
+    segment: u64,
+    code: ReturnCode,
+) -> Fields
+    ensures { λ r. ⌜ r ≡ pointOf phase exchange transaction segment code ⌝ }
+{
+    with_code(
+        code,
+        reply_of(phase, exchange)
+            .with_wide(TRANSACTION, transaction)
+            .with(SEGMENT, segment),
+    )
+}
+
+// Upload segment taken: 01 03 08 09 0D.
+pub fn segment_taken(exchange: u64, transaction: Bits128, segment: u64) -> Fields
+    ensures { λ r. ⌜ r ≡ segmentTaken exchange transaction segment ⌝ }
+{
+    point_of(TRANSFER, exchange, transaction, segment, ReturnCode::Ok)
+}
+
+// Recovery point: 01 03 08 09 0D, of the point's phase.
+pub fn recovery_point(phase: u64, exchange: u64, transaction: Bits128, segment: u64) -> Fields
+    ensures { λ r. ⌜ r ≡ recoveryPoint phase exchange transaction segment ⌝ }
+{
+    point_of(
+        phase,
+        exchange,
+        transaction,
+        segment,
+        ReturnCode::RecoverySync,
+    )
+}
+
+// Download segment: 01 03 08 09 0A 0B 0D.
+pub fn download_segment(exchange: u64, transaction: Bits128, segment: u64, last_mark: u64) -> Fields
+    ensures { λ r. ⌜ r ≡ downloadSegment exchange transaction segment «last_mark» ⌝ }
+{
+    with_code(
+        ReturnCode::Ok,
+        with_segment(
+            segment,
+            last_mark,
+            reply_of(TRANSFER, exchange).with_wide(TRANSACTION, transaction),
+        ),
+    )
+}
+
+// Receipt answered: 01 03 08 0D.
+pub fn receipt_answered(exchange: u64, transaction: Bits128, code: ReturnCode) -> Fields
+    ensures { λ r. ⌜ r ≡ receiptAnswered exchange transaction code ⌝ }
+{
+    with_code(
+        code,
+        reply_of(RECEIPT, exchange).with_wide(TRANSACTION, transaction),
+    )
+}
+
+// Unreadable request: 0D.
+pub fn unreadable() -> Fields
+    ensures { λ r. ⌜ r ≡ unreadable ⌝ }
+{
+    with_code(ReturnCode::InvalidXml, Fields::none())
+}
+
+// Any other refusal: 01 03 0D.
+pub fn refusal(phase: u64, exchange: u64, code: ReturnCode) -> Fields
+    ensures { λ r. ⌜ r ≡ refusal phase exchange code ⌝ }
+{
+    with_code(code, reply_of(phase, exchange))
+}

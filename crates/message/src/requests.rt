@@ -1,0 +1,113 @@
+// The five request forms, each as the fields that it has.
+use crate::limits::FDL;
+use crate::limits::FUL;
+use crate::limits::INITIALISATION;
+use crate::limits::RECEIPT;
+use crate::limits::TRANSFER;
+use frame::fields::Bits128;
+use frame::fields::Fields;
+use frame::table::DATA;
+use frame::table::EXCHANGE;
+use frame::table::LAST_MARK;
+use frame::table::NONCE;
+use frame::table::ORDER_TYPE;
+use frame::table::PHASE;
+use frame::table::RECEIPT_CODE;
+use frame::table::SEGMENT;
+use frame::table::SEGMENTS;
+use frame::table::SUBSCRIBER;
+use frame::table::TIMESTAMP;
+use frame::table::TRANSACTION;
+ghost use mathlib.Core.Path.{_≡_};
+ghost use Rattle.message.specs.Requests.{requestOf, openingOf, uploadOpening, downloadOpening, transferOf, uploadTransfer, downloadTransfer, receipt};
+
+// 01 02 03, which stand in every request.
+fn request_of(phase: u64, subscriber: u64, exchange: u64) -> Fields
+    ensures { λ r. ⌜ r ≡ requestOf phase subscriber exchange ⌝ }
+{
+    Fields::none()
+        .with(PHASE, phase)
+        .with(SUBSCRIBER, subscriber)
+        .with(EXCHANGE, exchange)
+}
+
+// 01 to 06, which stand in both openings.
+fn opening_of(
+    subscriber: u64,
+    exchange: u64,
+    order_type: u64,
+    nonce: Bits128,
+    timestamp: u64,
+) -> Fields
+    ensures { λ r. ⌜ r ≡ openingOf subscriber exchange «order_type» nonce timestamp ⌝ }
+{
+    request_of(INITIALISATION, subscriber, exchange)
+        .with(ORDER_TYPE, order_type)
+        .with_wide(NONCE, nonce)
+        .with(TIMESTAMP, timestamp)
+}
+
+// Upload opening: 01 to 07.
+pub fn upload_opening(
+    subscriber: u64,
+    exchange: u64,
+    nonce: Bits128,
+    timestamp: u64,
+    segments: u64,
+) -> Fields
+    ensures { λ r. ⌜ r ≡ uploadOpening subscriber exchange nonce timestamp segments ⌝ }
+{
+    opening_of(subscriber, exchange, FUL, nonce, timestamp).with(SEGMENTS, segments)
+}
+
+// Download opening: 01 to 06.
+pub fn download_opening(subscriber: u64, exchange: u64, nonce: Bits128, timestamp: u64) -> Fields
+    ensures { λ r. ⌜ r ≡ downloadOpening subscriber exchange nonce timestamp ⌝ }
+{
+    opening_of(subscriber, exchange, FDL, nonce, timestamp)
+}
+
+// 01 02 03 08 09, which stand in both transfers.
+fn transfer_of(subscriber: u64, exchange: u64, transaction: Bits128, segment: u64) -> Fields
+    ensures { λ r. ⌜ r ≡ transferOf subscriber exchange transaction segment ⌝ }
+{
+    request_of(TRANSFER, subscriber, exchange)
+        .with_wide(TRANSACTION, transaction)
+        .with(SEGMENT, segment)
+}
+
+// Upload transfer: 01 02 03 08 09 0A 0B; the data stands beside the fields.
+pub fn upload_transfer(
+    subscriber: u64,
+    exchange: u64,
+    transaction: Bits128,
+    segment: u64,
+    last_mark: u64,
+) -> Fields
+    ensures { λ r. ⌜ r ≡ uploadTransfer subscriber exchange transaction segment «last_mark» ⌝ }
+{
+    transfer_of(subscriber, exchange, transaction, segment)
+        .with(LAST_MARK, last_mark)
+        .with(DATA, 0)
+}
+
+// Download transfer: 01 02 03 08 09.
+pub fn download_transfer(
+    subscriber: u64,
+    exchange: u64,
+    transaction: Bits128,
+    segment: u64,
+) -> Fields
+    ensures { λ r. ⌜ r ≡ downloadTransfer subscriber exchange transaction segment ⌝ }
+{
+    transfer_of(subscriber, exchange, transaction, segment)
+}
+
+// Receipt: 01 02 03 08 0C.
+pub fn receipt(subscriber: u64, exchange: u64, transaction: Bits128, code: u64) -> Fields
+    ensures { λ r. ⌜ r ≡ receipt subscriber exchange transaction code ⌝ }
+{
+    request_of(RECEIPT, subscriber, exchange)
+        .with_wide(TRANSACTION, transaction)
+        .with(RECEIPT_CODE, code)
+}
