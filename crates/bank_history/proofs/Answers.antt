@@ -1,0 +1,151 @@
+-- Every frame gets its reply: a frame of 9 to 312 bytes, which reads as the reply's fields and its data.
+use Prim.Native.Nat.{ℕ, _+_, _^_, _≤_, _<_}
+use mathlib.Core.Bool.{Bool, true, false, _&&_}
+use mathlib.Core.List.{List, _++_}
+use mathlib.Core.Path.{_≡_, refl, sym, ap, _∙_, subst}
+use native.Mathlib.Nat.{zero-add}
+use native.Mathlib.Omega.{arith}
+use lib.Dec.{leb, eqb}
+use lib.ListN.{length, take, drop}
+use lib.Seq.{take-at, drop-at}
+use borrow.Author.Tests.{leb-true}
+use Rattle.frame.specs.declared.fields.Fields.{Fields}
+use Rattle.frame.specs.Bytes.{number, overwrite}
+use Rattle.frame.specs.Names.{form}
+use Rattle.frame.specs.Reader.{readRequest, readReply}
+use Rattle.frame.specs.Row.{dataOf}
+use Rattle.frame.specs.Table.{isRequestForm, isReplyForm}
+use Rattle.frame.specs.Writer.{frameOf}
+use Rattle.frame.proofs.Tests.{and-true}
+use Rattle.frame.proofs.Numbers.{Bytes, bytesOf-number, number-lt}
+use Rattle.frame.proofs.Build.{written-in-front}
+use Rattle.frame.proofs.Theorems.{written-reply, written-data}
+use Rattle.message.proofs.Writable.{unreadable-written}
+use Rattle.bank_state.specs.Clock.{advanced}
+use Rattle.bank_state.specs.Limits.{storeBytes, idBytes, replyRoom}
+use Rattle.bank_state.specs.State.{World}
+use Rattle.bank.specs.Call.{Step, unread, respond, lentRight, frameCall}
+use Rattle.bank.proofs.Accepted.{lengths-right}
+use Rattle.bank_history.specs.History.{Past, BankCall, Frame, exchangeOf, after, pastOf}
+use Rattle.bank_history.specs.Invariant.{Invariant, Holds}
+use Rattle.bank_history.specs.Standing.{answered}
+use Rattle.bank_history.specs.Answers.{AllBytes, FrameAnswered}
+use Rattle.bank_history.proofs.Cases.{happens}
+use Rattle.bank_history.proofs.Clock.{advanced-keeps}
+use Rattle.bank_history.proofs.Keeps.{past-holds}
+use Rattle.bank_history.proofs.Answered.{lent-right, frame-answered}
+use Rattle.bank_history.proofs.RequestBounds.{request-in-width}
+use Rattle.bank_history.proofs.MailboxBytes.{advanced-bytes, past-bytes}
+use Rattle.bank_history.proofs.WrittenReplies.{WrittenReply, sent, case-written}
+
+-- ---- the lent bytes
+
+-- the lent ID bytes are a number of 64 bits
+lent-lt : (ids : List ℕ) → Bytes ids → length ids ≡ idBytes → number ids < 2 ^ 64
+lent-lt ids b long =
+    subst (λ (l : List ℕ). number l < 2 ^ 64) (bytesOf-number idBytes ids b long) (number-lt idBytes (number ids))
+
+-- what right lent lengths tell of those of a call
+call-lengths : (w : World) (ids buffer : List ℕ) → lentRight w ids buffer ≡ true → (length ids ≡ idBytes) × (replyRoom ≤ length buffer)
+unfolding lentRight
+call-lengths w ids buffer h =
+    let others : Bool = eqb (length (w .orders)) storeBytes && eqb (length (w .boxes)) storeBytes && eqb (length ids) idBytes in
+    let right = lengths-right (length (w .orders)) (length (w .boxes)) (length ids) (length buffer) h in
+    (right .2, leb-true _ _ (and-true others (leb replyRoom (length buffer)) h .1))
+
+-- ---- every reply
+
+-- the answer to a request of a frame
+abbrev stepOf : World → ℕ → List ℕ → List ℕ → Step
+stepOf w time ids frame = respond (number ids) (advanced time w) (readRequest frame) (dataOf frame)
+
+unread-is : (lent : ℕ) (w : World) (q : Fields) (d : List ℕ) → isRequestForm (form q) ≡ false → respond lent w q d ≡ unread w
+unfolding respond
+unread-is lent w q d e = rw e
+
+module _ (p : Past) (holds : Holds p) (bytes : Bytes (p .world .boxes)) (time : ℕ) (ids frame : List ℕ) (idsBytes : Bytes ids)
+    (frameBytes : Bytes frame) (right : length ids ≡ idBytes) where
+  pub reply-written : WrittenReply (stepOf (p .world) time ids frame .reply) (stepOf (p .world) time ids frame .replyData)
+  reply-written = at (isRequestForm (form (readRequest frame))) refl
+    where
+      w : World
+      w = advanced time (p .world)
+
+      v : Invariant w (p .history)
+      v = advanced-keeps time (p .world) (p .history) (holds .invariant)
+
+      at : (b : Bool) → isRequestForm (form (readRequest frame)) ≡ b →
+          WrittenReply (stepOf (p .world) time ids frame .reply) (stepOf (p .world) time ids frame .replyData)
+      at true e =
+          case-written w (p .history) v (readRequest frame) (request-in-width frame frameBytes e) (advanced-bytes time (p .world) bytes)
+          (lent-lt ids idsBytes right)
+          (happens (number ids) w (readRequest frame) (dataOf frame) (v .sizes .places) (v .sizes .downloads))
+      at false e =
+          subst (λ (s : Step). WrittenReply (s .reply) (s .replyData)) (sym (unread-is (number ids) w (readRequest frame) (dataOf frame) e))
+          (sent refl (omega arith) (omega arith) unreadable-written)
+
+  module _ (buffer : List ℕ) (room : replyRoom ≤ length buffer) where
+    abbrev out : List ℕ
+    out = frameOf (stepOf (p .world) time ids frame .reply) (stepOf (p .world) time ids frame .replyData)
+
+    -- the call is entered into the history
+    pub call-entered : after (Frame time ids frame buffer) p ≡ answered time ids frame p
+    call-entered =
+        let r = reply-written in
+        frame-answered time ids frame buffer p holds right room (r .written .accepted, let n = r .written .size in omega (arith, r .most))
+
+    -- its answer is the reply, in front of the buffer
+    pub call-answered : FrameAnswered (frameCall (p .world) time ids frame buffer) buffer
+        (exchangeOf (number ids) (advanced time (p .world)) (readRequest frame) (dataOf frame))
+    unfolding frameCall exchangeOf overwrite
+    call-answered =
+        let r = reply-written in
+        let t = r .written in
+        let s : Step = stepOf (p .world) time ids frame in
+        let front = written-in-front (s .reply) (s .replyData) buffer (r .size) (t .accepted) (t .size) (omega (arith, r .most)) in
+        let is : frameCall (p .world) time ids frame buffer .buffer ≡ out ++ drop (0 + length out) buffer =
+        rw (lent-right p ids buffer holds right room) (front .1) in
+        let own : take (r .size) (frameCall (p .world) time ids frame buffer .buffer) ≡ out =
+        ap (take (r .size)) is ∙ take-at out _ (r .size) (t .size) in
+        record {
+          size = r .size;
+          answer = rw (lent-right p ids buffer holds right room, front .0);
+          least = r .least;
+          most = r .most;
+          fields = ap readReply own ∙ written-reply (s .reply) (s .replyData) (t .long) (t .accepted) (ap isReplyForm (t .named) ∙ r .kind);
+          contents = ap dataOf own ∙ written-data (s .reply) (s .replyData) (t .long) (t .accepted);
+          untouched = ap (drop (r .size)) is ∙ drop-at out _ (r .size) (t .size)
+              ∙ ap (λ (n : ℕ). drop n buffer) (zero-add (length out) ∙ t .size);
+        }
+
+-- ---- in every past of calls that bring bytes
+
+module _ {calls : List BankCall} (given : AllBytes calls) (time : ℕ) (ids frame buffer : List ℕ) (idsBytes : Bytes ids)
+    (frameBytes : Bytes frame) where
+  abbrev past : Past
+  past = pastOf calls
+
+  -- "a number, nothing changed" comes of a wrong lent length alone; every other frame gets its reply
+  pub frame-gets-reply : length ids ≡ idBytes → replyRoom ≤ length buffer →
+      FrameAnswered (frameCall (past .world) time ids frame buffer) buffer
+      (exchangeOf (number ids) (advanced time (past .world)) (readRequest frame) (dataOf frame))
+  frame-gets-reply right room =
+      call-answered past (past-holds calls) (past-bytes given) time ids frame idsBytes frameBytes right buffer room
+
+  -- and its exchange enters the history
+  pub frame-entered : length ids ≡ idBytes → replyRoom ≤ length buffer →
+      after (Frame time ids frame buffer) past ≡ answered time ids frame past
+  frame-entered right room =
+      call-entered past (past-holds calls) (past-bytes given) time ids frame idsBytes frameBytes right buffer room
+
+  -- the history's bank is the bank that the call leaves
+  pub same-bank : after (Frame time ids frame buffer) past .world ≡ frameCall (past .world) time ids frame buffer .world
+  unfolding after frameCall
+  same-bank = at (lentRight (past .world) ids buffer) refl
+    where
+      at : (b : Bool) → lentRight (past .world) ids buffer ≡ b →
+          after (Frame time ids frame buffer) past .world ≡ frameCall (past .world) time ids frame buffer .world
+      at true e =
+          let l = call-lengths (past .world) ids buffer e in
+          ap (λ (r : Past). r .world) (frame-entered (l .0) (l .1)) ∙ rw e
+      at false e = rw e

@@ -1,0 +1,79 @@
+-- The invariant of a bank whose places have not changed, from what is new about clock, downloads, nonces and mailboxes.
+use Prim.Native.Nat.{ℕ, suc, _≤_, _<_}
+use mathlib.Core.Bool.{true, false}
+use mathlib.Core.List.{List}
+use mathlib.Core.Path.{_≡_}
+use lib.ListN.{length, getD}
+use Rattle.frame.specs.declared.fields.Bits128.{Bits128}
+use Rattle.bank_state.specs.declared.state.Download.{Download}
+use Rattle.bank_state.specs.declared.state.Nonce.{Nonce}
+use Rattle.bank_state.specs.Limits.{placeCount, storeBytes, nonceCount, openMost, openPerSubscriber, openingsMost}
+use Rattle.bank_state.specs.Search.{isFree, openCount, openCountOf}
+use Rattle.bank_state.specs.State.{World, world, noDownload, placeAt}
+use Rattle.bank_state.specs.Store.{partAt}
+use Rattle.bank_history.specs.History.{Exchange, mailboxFile, accepted, ever, isAction, isBooking}
+use Rattle.bank_history.specs.Packed.{Packed}
+use Rattle.bank_history.specs.Sound.{AllSound}
+use Rattle.bank_history.specs.Invariant.{PlaceHolds, DownloadHolds, MailboxHolds, Memory, BookedIn, Invariant}
+
+-- the bank with these parts, its places and their store as they are
+abbrev pub besides : ℕ → ℕ → List Download → List Nonce → List ℕ → List ℕ → World → World
+besides clock openings downloads nonces files boxes w =
+    world
+    (record { clock = clock; openings = openings; places = w .bank .places; downloads = downloads; nonces = nonces; files = files })
+    (w .orders)
+    boxes
+
+module _ (w : World) (c o : ℕ) (downs : List Download) (nonces : List Nonce) (files boxes : List ℕ) where
+  abbrev after : World
+  after = besides c o downs nonces files boxes w
+
+  -- what is new, with the history g
+  pub record DownloadChange (g : List Exchange) : Type 0 where
+    pub listed : length downs ≡ placeCount
+    pub remembered : length nonces ≡ nonceCount
+    pub filed : length files ≡ placeCount
+    pub stored : length boxes ≡ storeBytes
+    pub counted : o ≡ accepted g
+    pub numbers : o ≤ openingsMost
+    pub places : (i : ℕ) → i < placeCount → PlaceHolds (placeAt (w .bank) i .used) c o g (placeAt (w .bank) i) (partAt (w .orders) i)
+    pub downloads : (j : ℕ) →
+        DownloadHolds (getD downs j noDownload .used) c o g (mailboxFile after (getD downs j noDownload .subscriber))
+        (getD downs j noDownload)
+    pub mailboxes : (i : ℕ) → i < placeCount → MailboxHolds (getD files i 0) (partAt boxes i)
+    pub apart : (i j : ℕ) → i < placeCount → isFree (placeAt (w .bank) i .used) ≡ false → getD downs j noDownload .used ≡ true →
+        placeAt (w .bank) i .number ≡ getD downs j noDownload .transaction .low → ⊥
+    pub inOrder : Packed (λ (e : Download). e .used) noDownload (λ (e : Download). e .transaction .low)
+        (λ (e : Download). suc (e .transaction .low)) 0 downs
+    pub memory : Memory c nonces g
+    pub openAll : openCount (after .bank) ≤ openMost
+    pub openOf : (s : ℕ) → openCountOf s (after .bank) ≤ openPerSubscriber
+    pub known : (t : Bits128) → ever isAction t g ≡ true → t .low < o
+    pub booked : (t : Bits128) → ever isBooking t g ≡ true → BookedIn w t
+    pub sound : AllSound g
+
+  pub download-change : {h g : List Exchange} → Invariant w h → DownloadChange g → Invariant (besides c o downs nonces files boxes w) g
+  download-change v k = record {
+    sizes = record {
+      places = v .sizes .places;
+      downloads = k .listed;
+      nonces = k .remembered;
+      files = k .filed;
+      orders = v .sizes .orders;
+      boxes = k .stored;
+    };
+    counted = k .counted;
+    numbers = k .numbers;
+    places = k .places;
+    downloads = k .downloads;
+    mailboxes = k .mailboxes;
+    placesApart = v .placesApart;
+    apart = k .apart;
+    inOrder = k .inOrder;
+    memory = k .memory;
+    openAll = k .openAll;
+    openOf = k .openOf;
+    known = k .known;
+    booked = λ t e. let z = k .booked t e in record { place = z .place; inside = z .inside; used = z .used; same = z .same };
+    sound = k .sound;
+  }

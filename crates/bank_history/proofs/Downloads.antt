@@ -1,0 +1,249 @@
+-- An open download that does an action: what stays of the others, where it moves and where it ends.
+use Prim.Native.Nat.{ℕ, suc, _-_, _≤_, _<_}
+use mathlib.Core.Bool.{Bool, true, false, not, _&&_}
+use mathlib.Core.List.{List, _∷_}
+use mathlib.Core.Path.{_≡_, refl, sym, ap, _∙_, subst}
+use native.Mathlib.Decide.{decLt}
+use native.Mathlib.Omega.{arith}
+use lib.Dec.{eqb}
+use lib.ListN.{length, getD, set, length-set, length-take, List·getD-eq-default}
+use borrow.Author.Tests.{eqb-true, ne-eqb, not-true}
+use Rattle.frame.specs.declared.fields.Bits128.{Bits128}
+use Rattle.frame.specs.Names.{subscriber, transaction, sameBits}
+use Rattle.frame.proofs.Tests.{never, and-true}
+use Rattle.message.specs.Limits.{subscribers}
+use Rattle.message.specs.Segments.{segmentsOf, segmentOf}
+use Rattle.bank_state.specs.declared.clock.Ended.{Ended}
+use Rattle.bank_state.specs.declared.state.Download.{Download}
+use Rattle.bank_state.specs.Clock.{ends, endDownloads}
+use Rattle.bank_state.specs.Limits.{placeCount, storeBytes}
+use Rattle.bank_state.specs.Search.{isFree, isDownload, openCount, openCountOf}
+use Rattle.bank_state.specs.State.{World, noDownload, placeAt, downloadAt}
+use Rattle.bank_state.specs.Store.{partAt, fileOf}
+use Rattle.bank_step.specs.Downloads.{movedTo}
+use Rattle.bank_step.specs.Openings.{fileLength}
+use Rattle.bank.specs.Call.{mailboxSegment}
+use Rattle.bank_history.specs.History.{
+  Action,
+  Of,
+  Exchange,
+  mailboxFile,
+  isBooking,
+  isOpening,
+  opens,
+  isAction,
+  did,
+  ever,
+}
+use Rattle.bank_history.specs.Sound.{Sound, more}
+use Rattle.bank_history.specs.Invariant.{OpenDownload, PlaceHolds, DownloadHolds, MailboxHolds, Invariant}
+use Rattle.bank_history.proofs.Stores.{length-part}
+use Rattle.bank_state.proofs.Rows.{count-keepOnly}
+use Rattle.bank_state.proofs.Drops.{length-endDownloads, each-endDownloads}
+use Rattle.bank_history.proofs.Rows.{
+  each-set,
+  count-set-le,
+  packed-set,
+  packed-keepOnly,
+  packed-rises,
+}
+use Rattle.bank_history.proofs.Entries.{did-other, known-more, booked-more, accepted-own}
+use Rattle.bank_history.proofs.Memory.{memory-unchanged}
+use Rattle.bank_history.proofs.Places.{place-unchanged}
+use Rattle.bank_history.proofs.Records.{download-unchanged}
+use Rattle.bank_history.proofs.DownloadChange.{besides, download-change}
+use Rattle.bank_history.proofs.Uploads.{place-number}
+
+-- what is found under a subscriber and a transaction ID
+pub download-found : (s : ℕ) (t : Bits128) (e : Download) → isDownload s t e ≡ true →
+    (e .used ≡ true) × (e .subscriber ≡ s) × (sameBits (e .transaction) t ≡ true)
+unfolding isDownload
+download-found s t e h =
+    let a = and-true (e .used && eqb (e .subscriber) s) (sameBits (e .transaction) t) h in
+    let b = and-true (e .used) (eqb (e .subscriber) s) (a .0) in
+    (b .0, eqb-true (e .subscriber) s (b .1), a .1)
+
+module _ (w : World) (h : List Exchange) (v : Invariant w h) where
+  -- the file of a mailbox has the length that is kept for it
+  pub file-long : (s : ℕ) → 1 ≤ s → s ≤ subscribers → length (mailboxFile w s) ≡ fileLength s (w .bank)
+  unfolding mailboxFile fileLength fileOf
+  file-long s a b =
+      let inside : s - 1 < placeCount = omega arith in
+      let l = length-part (w .boxes) (v .sizes .boxes) (s - 1) inside in
+      let m = v .mailboxes (s - 1) inside .room in
+      simp length-take (omega arith)
+
+  pub download-open : (j : ℕ) → downloadAt (w .bank) j .used ≡ true →
+      OpenDownload (w .bank .clock) (w .bank .openings) h (mailboxFile w (downloadAt (w .bank) j .subscriber)) (downloadAt (w .bank) j)
+  download-open j e =
+      subst (λ (u : Bool). DownloadHolds u (w .bank .clock) (w .bank .openings) h (mailboxFile w (downloadAt (w .bank) j .subscriber))
+      (downloadAt (w .bank) j)) e (v .downloads j)
+
+  -- two open downloads have two numbers
+  pub downloads-apart : (i j : ℕ) → downloadAt (w .bank) i .used ≡ true → downloadAt (w .bank) j .used ≡ true →
+      downloadAt (w .bank) i .transaction .low ≡ downloadAt (w .bank) j .transaction .low → i ≡ j
+  downloads-apart i j a b e = at (decLt i j) (decLt j i)
+    where
+      rises : (k l : ℕ) → k < l → downloadAt (w .bank) l .used ≡ true →
+          downloadAt (w .bank) k .transaction .low < downloadAt (w .bank) l .transaction .low
+      rises k l g u = packed-rises (λ (r : Download). r .used) noDownload (λ (r : Download). r .transaction .low)
+          (λ (r : Download). suc (r .transaction .low))
+          refl (λ r. omega arith) (v .inOrder) k l g u
+
+      at : Dec (i < j) → Dec (j < i) → i ≡ j
+      at (yes g) d = absurd (let z = rises i j g b in omega arith)
+      at (no g) (yes l) = absurd (let z = rises j i l a in omega arith)
+      at (no g) (no l) = omega arith
+
+  pub downloads-other : (i j : ℕ) (k : Action) → downloadAt (w .bank) i .used ≡ true → downloadAt (w .bank) j .used ≡ true → (j ≡ i → ⊥) →
+      did isAction (downloadAt (w .bank) j .transaction) (Of (downloadAt (w .bank) i .transaction) k) ≡ false
+  downloads-other i j k a b n =
+      did-other (downloadAt (w .bank) j .transaction) (downloadAt (w .bank) i .transaction) k (λ z. n (downloads-apart j i b a z))
+
+  pub places-other : (i j : ℕ) (k : Action) → i < placeCount → isFree (placeAt (w .bank) i .used) ≡ false →
+      downloadAt (w .bank) j .used ≡ true →
+      did isAction (placeAt (w .bank) i .transaction) (Of (downloadAt (w .bank) j .transaction) k) ≡ false
+  places-other i j k a e f =
+      did-other (placeAt (w .bank) i .transaction) (downloadAt (w .bank) j .transaction) k
+      (λ z. v .apart i j a e f (sym (place-number w h v i a e .0) ∙ z))
+
+-- the download of record j does the action k
+module _ (w : World) (h : List Exchange) (v : Invariant w h) (j : ℕ) (used : downloadAt (w .bank) j .used ≡ true)
+    (k : Action) (noOpening : isOpening k ≡ false) (unbooked : isBooking k ≡ false) (x : Exchange)
+    (own : x .event ≡ Of (downloadAt (w .bank) j .transaction) k) where
+  abbrev e : Download
+  e = downloadAt (w .bank) j
+
+  about : (t : Bits128) → did isAction t (Of (e .transaction) k) ≡ false → did isAction t (x .event) ≡ false
+  about t z = ap (did isAction t) own ∙ z
+
+  places-stay : (i : ℕ) → i < placeCount →
+      PlaceHolds (placeAt (w .bank) i .used) (w .bank .clock) (w .bank .openings) (x ∷ h) (placeAt (w .bank) i) (partAt (w .orders) i)
+  places-stay i a =
+      place-unchanged x h (w .bank .openings) (w .bank .openings) (omega arith) (placeAt (w .bank) i) (partAt (w .orders) i)
+      (w .bank .clock)
+      (placeAt (w .bank) i .used)
+      (λ f. about (placeAt (w .bank) i .transaction) (places-other w h v i j k a f used)) (v .places i a)
+
+  other-stays : (i : ℕ) → (i ≡ j → ⊥) →
+      DownloadHolds (downloadAt (w .bank) i .used) (w .bank .clock) (w .bank .openings) (x ∷ h)
+      (mailboxFile w (downloadAt (w .bank) i .subscriber)) (downloadAt (w .bank) i)
+  other-stays i n =
+      download-unchanged x h (w .bank .openings) (w .bank .openings) (omega arith) (mailboxFile w (downloadAt (w .bank) i .subscriber))
+      (downloadAt (w .bank) i)
+      (w .bank .clock) (downloadAt (w .bank) i .used)
+      (λ f. about (downloadAt (w .bank) i .transaction) (downloads-other w h v j i k used f n)) (v .downloads i)
+
+  known-stays : (t : Bits128) → ever isAction t (x ∷ h) ≡ true → t .low < w .bank .openings
+  known-stays = known-more (e .transaction) k x h own (w .bank .openings) (download-open w h v j used .counted) (v .known)
+
+  -- it stays open, moved
+  pub moved-step : (d attempts last : ℕ) →
+      OpenDownload (w .bank .clock) (w .bank .openings) (x ∷ h) (mailboxFile w (e .subscriber)) (movedTo d attempts last e) → Sound x h →
+      Invariant (besides (w .bank .clock) (w .bank .openings) (set (w .bank .downloads) j (movedTo d attempts last e)) (w .bank .nonces)
+      (w .bank .files) (w .boxes) w) (x ∷ h)
+  unfolding mailboxFile fileLength openCount openCountOf
+  moved-step d attempts last new sound = download-change w _ _ _ _ _ _ v (record {
+    listed = length-set (w .bank .downloads) j _ ∙ v .sizes .downloads;
+    remembered = v .sizes .nonces;
+    filed = v .sizes .files;
+    stored = v .sizes .boxes;
+    counted = v .counted ∙ sym (accepted-own (e .transaction) k x h own ∙ rw noOpening refl);
+    numbers = v .numbers;
+    places = places-stay;
+    downloads = each (λ (i : ℕ) (r : Download). DownloadHolds (r .used) (w .bank .clock) (w .bank .openings) (x ∷ h)
+        (mailboxFile w (r .subscriber)) r)
+        (subst (λ (u : Bool). DownloadHolds u (w .bank .clock) (w .bank .openings) (x ∷ h) (mailboxFile w (e .subscriber)) new′)
+        (sym used) new)
+        other-stays;
+    mailboxes = v .mailboxes;
+    apart = λ i l a f. each (λ (m : ℕ) (r : Download). r .used ≡ true → placeAt (w .bank) i .number ≡ r .transaction .low → ⊥)
+        (v .apart i j a f) (λ m n. v .apart i m a f) l;
+    inOrder = packed-set (λ (r : Download). r .used) noDownload (λ (r : Download). r .transaction .low)
+        (λ (r : Download). suc (r .transaction .low))
+        j new′ (v .inOrder) used refl used refl refl;
+    memory = memory-unchanged _ _ x h (ap opens own ∙ noOpening) (v .memory);
+    openAll = let m = count-set-le (λ (r : Download). r .used) (w .bank .downloads) j new′ noDownload (λ g. g) in omega (arith, v .openAll);
+    openOf = λ s. let m = count-set-le (λ (r : Download). r .used && eqb (r .subscriber) s) (w .bank .downloads) j new′ noDownload
+        (λ g. g) in omega (arith, v .openOf s);
+    known = known-stays;
+    booked = λ t g. v .booked t (booked-more (e .transaction) k x h own unbooked t g);
+    sound = more sound (v .sound);
+  })
+    where
+      new′ : Download
+      new′ = movedTo d attempts last e
+
+      inside : j < length (w .bank .downloads)
+      inside = at (decLt j (length (w .bank .downloads)))
+        where
+          at : Dec (j < length (w .bank .downloads)) → j < length (w .bank .downloads)
+          at (yes l) = l
+          at (no l) = never (sym (ap (λ (r : Download). r .used)
+              (List·getD-eq-default (w .bank .downloads) noDownload {n = j} (omega arith))) ∙ used)
+
+      each : (P : ℕ → Download → Type 0) → P j new′ → ((i : ℕ) → (i ≡ j → ⊥) → P i (downloadAt (w .bank) i)) → (i : ℕ) →
+          P i (getD (set (w .bank .downloads) j new′) i noDownload)
+      each = each-set (w .bank .downloads) j new′ noDownload inside
+
+  -- it ends, with every other download for which the test holds; the mailboxes of those that stay do not change
+  pub ended-step : (which : Ended) (files boxes : List ℕ) → ends which e ≡ true →
+      ((i : ℕ) → downloadAt (w .bank) i .used ≡ true → ends which (downloadAt (w .bank) i) ≡ false →
+      mailboxFile (besides (w .bank .clock) (w .bank .openings) (endDownloads which (w .bank .downloads)) (w .bank .nonces) files boxes
+      w) (downloadAt (w .bank) i .subscriber)
+      ≡ mailboxFile w (downloadAt (w .bank) i .subscriber)) →
+      length files ≡ placeCount → length boxes ≡ storeBytes →
+      ((i : ℕ) → i < placeCount → MailboxHolds (getD files i 0) (partAt boxes i)) → Sound x h →
+      Invariant (besides (w .bank .clock) (w .bank .openings) (endDownloads which (w .bank .downloads)) (w .bank .nonces) files boxes w)
+      (x ∷ h)
+  unfolding endDownloads openCount openCountOf
+  ended-step which files boxes gone same filed stored mailboxes sound = download-change w _ _ _ _ _ _ v (record {
+    listed = length-endDownloads which (w .bank .downloads) ∙ v .sizes .downloads;
+    remembered = v .sizes .nonces;
+    filed = filed;
+    stored = stored;
+    counted = v .counted ∙ sym (accepted-own (e .transaction) k x h own ∙ rw noOpening refl);
+    numbers = v .numbers;
+    places = places-stay;
+    downloads = each-endDownloads
+        (λ (r : Download). DownloadHolds (r .used) (w .bank .clock) (w .bank .openings) (x ∷ h)
+        (mailboxFile (besides (w .bank .clock) (w .bank .openings) (endDownloads which (w .bank .downloads)) (w .bank .nonces) files
+        boxes w) (r .subscriber)) r)
+        refl which (w .bank .downloads) (λ i _ g. stays i g);
+    mailboxes = mailboxes;
+    apart = λ i l a f. each-endDownloads (λ (r : Download). r .used ≡ true → placeAt (w .bank) i .number ≡ r .transaction .low → ⊥)
+        (λ g. never g) which (w .bank .downloads) (λ m _ g. v .apart i m a f) l;
+    inOrder = packed-keepOnly (λ (r : Download). r .used) noDownload (λ (r : Download). r .transaction .low)
+        (λ (r : Download). suc (r .transaction .low))
+        test (λ r. omega arith) (v .inOrder);
+    memory = memory-unchanged _ _ x h (ap opens own ∙ noOpening) (v .memory);
+    openAll = let m = count-keepOnly test noDownload (λ (r : Download). r .used) refl (w .bank .downloads) in omega (arith, v .openAll);
+    openOf = λ s. let m = count-keepOnly test noDownload (λ (r : Download). r .used && eqb (r .subscriber) s) refl
+        (w .bank .downloads) in omega (arith, v .openOf s);
+    known = known-stays;
+    booked = λ t g. v .booked t (booked-more (e .transaction) k x h own unbooked t g);
+    sound = more sound (v .sound);
+  })
+    where
+      test : Download → Bool
+      test r = r .used && not (ends which r)
+
+      stays : (i : ℕ) → test (downloadAt (w .bank) i) ≡ true →
+          DownloadHolds (downloadAt (w .bank) i .used) (w .bank .clock) (w .bank .openings) (x ∷ h)
+          (mailboxFile (besides (w .bank .clock) (w .bank .openings) (endDownloads which (w .bank .downloads)) (w .bank .nonces) files
+          boxes w) (downloadAt (w .bank) i .subscriber))
+          (downloadAt (w .bank) i)
+      stays i g =
+          let a = and-true (downloadAt (w .bank) i .used) (not (ends which (downloadAt (w .bank) i))) g in
+          let f = not-true (ends which (downloadAt (w .bank) i)) (a .1) in
+          let n : i ≡ j → ⊥ = λ z. never (sym f ∙ (ap (λ (m : ℕ). ends which (downloadAt (w .bank) m)) z ∙ gone)) in
+          rw (same i (a .0) f) (other-stays i n)
+
+-- the segment of a mailbox that a reply carries
+pub carried-segment : (w : World) (s n : ℕ) → 1 ≤ n → mailboxSegment w s n ≡ segmentOf (mailboxFile w s) n
+unfolding mailboxSegment mailboxFile
+carried-segment w s n h = rw (ne-eqb n 0 (λ e. omega arith))
+
+pub some-segment : (n : ℕ) → 1 ≤ n → 1 ≤ segmentsOf n
+unfolding segmentsOf
+some-segment n h = omega arith

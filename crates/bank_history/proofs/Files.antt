@@ -1,0 +1,160 @@
+-- A file that goes into a mailbox keeps the invariant.
+use Prim.Native.Nat.{ℕ, _+_, _-_, _≤_, _<_}
+use mathlib.Core.Bool.{Bool, true, false, not, _||_}
+use mathlib.Core.List.{List, _++_}
+use mathlib.Core.Path.{_≡_, refl, sym, ap, _∙_}
+use native.Mathlib.Decide.{ℕ-discrete}
+use native.Mathlib.Omega.{arith}
+use lib.Dec.{ltb, eqb}
+use lib.ListN.{length, getD, set, take, drop, replicate, length-set}
+use lib.Seq.{getD-set-same, getD-set-other, take-append-seam}
+use borrow.Author.Tests.{ltb-false, eqb-true, eqb-false, not-false}
+use Rattle.frame.proofs.Tests.{or-neither}
+use Rattle.message.specs.Limits.{subscribers, fileBytes}
+use Rattle.message.specs.Verdicts.{decide}
+use Rattle.bank_state.specs.declared.state.Bank.{Bank}
+use Rattle.bank_state.specs.Limits.{placeCount, storeBytes}
+use Rattle.bank_state.specs.Search.{openCount, openCountOf}
+use Rattle.bank_state.specs.State.{World, downloadAt}
+use Rattle.bank_state.specs.Store.{partAt, fileOf}
+use Rattle.bank_step.specs.Openings.{fileLength}
+use Rattle.bank.specs.declared.mailbox.FileAnswer.{FileAnswer}
+use Rattle.bank.specs.declared.mailbox.FileAnswer.the-variants as put
+use Rattle.bank.specs.Mailbox.{fileRefusals, fileNumber}
+use Rattle.bank_history.specs.Standing.{filled}
+use Rattle.bank_history.specs.History.{Exchange, mailboxFile}
+use Rattle.bank_history.specs.Invariant.{DownloadHolds, MailboxHolds, Invariant}
+use Rattle.bank_history.proofs.Stores.{length-written, part-written, part-unwritten}
+use Rattle.bank_history.proofs.Judged.{by-test}
+use Rattle.bank_history.proofs.Places.{drop-replicate}
+use Rattle.bank_history.proofs.DownloadChange.{download-change}
+use Rattle.bank_history.proofs.Downloads.{file-long}
+
+-- what the tests tell of a file that goes in
+pub data FileSound (b : Bank) (mailbox : ℕ) (file boxes : List ℕ) : FileAnswer → Type 0 where
+  rejected : {a : FileAnswer} → (0 < fileNumber a) → FileSound b mailbox file boxes a
+  done : 1 ≤ mailbox → mailbox ≤ subscribers → 1 ≤ length file → length file ≤ fileBytes → fileLength mailbox b ≡ 0 →
+      FileSound b mailbox file boxes put.Done
+
+pub judged-file : (b : Bank) (mailbox : ℕ) (file boxes : List ℕ) →
+    FileSound b mailbox file boxes (decide (fileRefusals b mailbox file boxes) put.Done)
+unfolding fileRefusals
+judged-file b mailbox file boxes =
+    by-test P (not (eqb (length boxes) storeBytes)) (λ _. rejected (omega arith))
+    (λ _. by-test P (ltb mailbox 1 || ltb subscribers mailbox) (λ _. rejected (omega arith))
+    (λ from. by-test P (eqb (length file) 0 || ltb fileBytes (length file)) (λ _. rejected (omega arith))
+    (λ size. by-test P (not (eqb (fileLength mailbox b) 0)) (λ _. rejected (omega arith))
+    (λ empty. accepted (or-neither (ltb mailbox 1) (ltb subscribers mailbox) from)
+    (or-neither (eqb (length file) 0) (ltb fileBytes (length file)) size)
+    (eqb-true (fileLength mailbox b) 0 (not-false _ empty))))))
+  where
+    P : FileAnswer → Type 0
+    P a = FileSound b mailbox file boxes a
+
+    accepted : (ltb mailbox 1 ≡ false) × (ltb subscribers mailbox ≡ false) →
+        (eqb (length file) 0 ≡ false) × (ltb fileBytes (length file) ≡ false) →
+        fileLength mailbox b ≡ 0 → FileSound b mailbox file boxes put.Done
+    accepted m f e = done (ltb-false _ _ (m .0)) (ltb-false _ _ (m .1)) (let z = eqb-false (length file) 0 (f .0) in omega arith)
+        (ltb-false _ _ (f .1)) e
+
+module _ (w : World) (h : List Exchange) (v : Invariant w h) (mailbox : ℕ) (file : List ℕ) (known : 1 ≤ mailbox)
+    (most : mailbox ≤ subscribers)
+    (some : 1 ≤ length file) (short : length file ≤ fileBytes) (empty : fileLength mailbox (w .bank) ≡ 0) where
+  box : ℕ
+  box = mailbox - 1
+
+  inside : mailbox - 1 < placeCount
+  inside = omega arith
+
+  -- the other mailboxes stay
+  pub filled-other : (s : ℕ) → (s - 1 ≡ mailbox - 1 → ⊥) → mailboxFile (filled mailbox file w) s ≡ mailboxFile w s
+  unfolding mailboxFile fileLength fileOf
+  filled-other s n =
+      rw (
+        getD-set-other (w .bank .files) (mailbox - 1) (s - 1) (length file) 0 n,
+        part-unwritten (w .boxes) (v .sizes .boxes) (mailbox - 1) inside file short (s - 1) n,
+      )
+
+  was-zeros : partAt (w .boxes) (mailbox - 1) ≡ replicate fileBytes 0
+  unfolding fileLength
+  was-zeros =
+      v .mailboxes (mailbox - 1) inside .zeros
+      ∙ ap (λ (n : ℕ). take n (partAt (w .boxes) (mailbox - 1)) ++ replicate (fileBytes - n) 0) empty
+
+  now-held : partAt (filled mailbox file w .boxes) (mailbox - 1) ≡ file ++ replicate (fileBytes - length file) 0
+  now-held =
+      let e : fileBytes ≡ length file + (fileBytes - length file) = omega arith in
+      part-written (w .boxes) (v .sizes .boxes) (mailbox - 1) inside file short
+      ∙ ap (λ (l : List ℕ). file ++ l)
+      (ap (drop (length file)) was-zeros
+      ∙ (ap (λ (n : ℕ). drop (length file) (replicate n 0)) e ∙ drop-replicate (length file) (fileBytes - length file) 0))
+
+  -- the mailbox holds exactly the file
+  pub filled-same : mailboxFile (filled mailbox file w) mailbox ≡ file
+  unfolding mailboxFile fileLength fileOf
+  filled-same =
+      rw (getD-set-same (w .bank .files) (mailbox - 1) (length file) 0 (let z = v .sizes .files in omega arith), now-held)
+      (take-append-seam file (replicate (fileBytes - length file) 0))
+
+  mailboxes-hold : (i : ℕ) → i < placeCount →
+      MailboxHolds (getD (filled mailbox file w .bank .files) i 0) (partAt (filled mailbox file w .boxes) i)
+  mailboxes-hold i a = at (ℕ-discrete i (mailbox - 1))
+    where
+      at : Dec (i ≡ mailbox - 1) → MailboxHolds (getD (set (w .bank .files) (mailbox - 1) (length file)) i 0)
+          (partAt (filled mailbox file w .boxes) i)
+      at (yes z) = rw z (rw (
+        getD-set-same (w .bank .files) (mailbox - 1) (length file) 0 (let y = v .sizes .files in omega arith),
+        now-held,
+      ) (record {
+        room = short;
+        zeros = ap (λ (l : List ℕ). l ++ replicate (fileBytes - length file) 0)
+            (sym (take-append-seam file (replicate (fileBytes - length file) 0)));
+      }))
+      at (no n) =
+          rw (
+            getD-set-other (w .bank .files) (mailbox - 1) i (length file) 0 n,
+            part-unwritten (w .boxes) (v .sizes .boxes) (mailbox - 1) inside file short i n,
+          ) (v .mailboxes i a)
+
+  -- no download of this mailbox is open: it is empty
+  downloads-stay : (j : ℕ) → DownloadHolds (downloadAt (w .bank) j .used) (w .bank .clock) (w .bank .openings) h
+      (mailboxFile (filled mailbox file w) (downloadAt (w .bank) j .subscriber)) (downloadAt (w .bank) j)
+  downloads-stay j = at (downloadAt (w .bank) j .used) refl (v .downloads j)
+    where
+      at : (u : Bool) → downloadAt (w .bank) j .used ≡ u →
+          DownloadHolds u (w .bank .clock) (w .bank .openings) h (mailboxFile w (downloadAt (w .bank) j .subscriber))
+          (downloadAt (w .bank) j) →
+          DownloadHolds u (w .bank .clock) (w .bank .openings) h
+          (mailboxFile (filled mailbox file w) (downloadAt (w .bank) j .subscriber)) (downloadAt (w .bank) j)
+      at false e s = s
+      at true e s =
+          let k = s .known in
+          let l = file-long w h v (downloadAt (w .bank) j .subscriber) (s .known) (s .most) in
+          let f = s .full in
+          let n : downloadAt (w .bank) j .subscriber ≡ mailbox →
+          ⊥ = λ z. (let y = ap (λ (m : ℕ). fileLength m (w .bank)) z in omega arith) in
+          rw (filled-other (downloadAt (w .bank) j .subscriber) (λ z. n (omega arith))) s
+
+  pub filled-keeps : Invariant (filled mailbox file w) h
+  unfolding openCount openCountOf
+  filled-keeps =
+      download-change w (w .bank .clock) (w .bank .openings) (w .bank .downloads) (w .bank .nonces) (filled mailbox file w .bank .files)
+      (filled mailbox file w .boxes) v (record {
+        listed = v .sizes .downloads;
+        remembered = v .sizes .nonces;
+        filed = length-set (w .bank .files) (mailbox - 1) (length file) ∙ v .sizes .files;
+        stored = length-written (w .boxes) (v .sizes .boxes) (mailbox - 1) inside file short;
+        counted = v .counted;
+        numbers = v .numbers;
+        places = v .places;
+        downloads = downloads-stay;
+        mailboxes = mailboxes-hold;
+        apart = v .apart;
+        inOrder = v .inOrder;
+        memory = v .memory;
+        openAll = v .openAll;
+        openOf = v .openOf;
+        known = v .known;
+        booked = v .booked;
+        sound = v .sound;
+      })

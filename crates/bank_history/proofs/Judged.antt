@@ -1,0 +1,216 @@
+-- The verdicts on a request to an open upload, to an open download and on an opening, each with the tests that led to it.
+use Prim.Native.Nat.{ℕ, _+_, _≤_, _<_}
+use mathlib.Core.Bool.{Bool, true, false, not, cond, _&&_, _||_}
+use mathlib.Core.List.{[], _∷_}
+use mathlib.Core.Path.{_≡_, refl, sym}
+use lib.Dec.{ltb, leb, eqb}
+use lib.ListN.{length}
+use borrow.Author.Tests.{ltb-true, ltb-false, leb-true, leb-false, eqb-true, eqb-false, not-false, lt-ltb, eq-eqb}
+use Rattle.frame.specs.declared.fields.Fields.{Fields}
+use Rattle.frame.specs.Names.{subscriber, orderType, timestamp, nonce, segments, segment, lastMark, receiptCode}
+use Rattle.frame.proofs.Tests.{never, and-true, or-neither}
+use Rattle.message.specs.declared.codes.ReturnCode.{ReturnCode}
+use Rattle.message.specs.declared.codes.ReturnCode.the-variants as code
+use Rattle.message.specs.Limits.{ful, fdl, segmentsMost, fileBytes, attemptsMost}
+use Rattle.message.specs.Verdicts.{decide}
+use Rattle.bank_state.specs.declared.state.Bank.{Bank}
+use Rattle.bank_state.specs.declared.state.Download.{Download}
+use Rattle.bank_state.specs.declared.state.Place.{Place}
+use Rattle.bank_state.specs.Limits.{placeCount, nonceCount, window, openMost, openPerSubscriber, openingsMost}
+use Rattle.bank_state.specs.Search.{freePlace, freeNonce, openCount, openCountOf, isRemembered}
+use Rattle.bank_step.specs.declared.downloads.DownloadRequest.{DownloadRequest}
+use Rattle.bank_step.specs.declared.downloads.DownloadRequest.the-variants as asked
+use Rattle.bank_step.specs.declared.downloads.DownloadVerdict.{DownloadVerdict}
+use Rattle.bank_step.specs.declared.downloads.DownloadVerdict.the-variants as down
+use Rattle.bank_step.specs.declared.openings.Direction.{Direction}
+use Rattle.bank_step.specs.declared.openings.Direction.the-variants as way
+use Rattle.bank_step.specs.declared.openings.OpeningVerdict.{OpeningVerdict}
+use Rattle.bank_step.specs.declared.openings.OpeningVerdict.the-variants as opening
+use Rattle.bank_step.specs.declared.uploads.UploadVerdict.{UploadVerdict}
+use Rattle.bank_step.specs.declared.uploads.UploadVerdict.the-variants as up
+use Rattle.bank_step.specs.Downloads.{receiptAnswers, downloadRefusals, judgeDownload}
+use Rattle.bank_step.specs.Openings.{
+  inTime,
+  fileLength,
+  senderRefusals,
+  subscriberRefusals,
+  sharedRefusals,
+  openingRefusals,
+  judgeOpening,
+}
+use Rattle.bank_step.specs.Uploads.{fitsUpload, segmentRefusals, uploadRefusals, judgeUpload}
+use Rattle.bank_history.specs.Sound.{cancels}
+
+-- a fact of what a test picks, from what the test tells
+pub by-test {ℓ} : {A : Type ℓ} (P : A → Type 0) (t : Bool) {a b : A} → (t ≡ true → P a) → (t ≡ false → P b) → P (cond t a b)
+by-test P true f g = f refl
+by-test P false f g = g refl
+
+-- the same for two values picked by one test
+pub by-test-two : {A B : Type 0} (P : A → B → Type 0) (t : Bool) {a b : A} {c d : B} → (t ≡ true → P a c) → (t ≡ false → P b d) →
+    P (cond t a b) (cond t c d)
+by-test-two P true f g = f refl
+by-test-two P false f g = g refl
+
+pub and-false : (a b : Bool) → a && b ≡ false → a ≡ true → b ≡ false
+and-false true b h e = h
+and-false false b h e = never e
+
+-- ---- a request to an open upload
+
+pub data UploadSound (p : Place) (transfer : Bool) (q : Fields) (n : ℕ) : UploadVerdict → Type 0 where
+  take : transfer ≡ true → segment q ≡ p .taken + 1 → (segment q < p .segments → lastMark q ≡ 1 → ⊥) →
+      (segment q ≡ p .segments → lastMark q ≡ 0 → ⊥) → p .length + n ≤ fileBytes → UploadSound p transfer q n up.Take
+  point : p .attempts < attemptsMost → UploadSound p transfer q n up.Point
+  cancel : (c : ReturnCode) → cancels c ≡ true → UploadSound p transfer q n (up.Cancel c)
+  overfull : fileBytes < p .length + n → UploadSound p transfer q n (up.Cancel code.InternalError)
+
+module _ (p : Place) (transfer : Bool) (q : Fields) (n : ℕ) where
+  fits-upload : not (fitsUpload p transfer q) ≡ false → (transfer ≡ true) × (segment q ≡ p .taken + 1)
+  unfolding fitsUpload
+  fits-upload h =
+      let a = and-true transfer (eqb (segment q) (p .taken + 1)) (not-false (transfer && eqb (segment q) (p .taken + 1)) h) in
+      (a .0, eqb-true (segment q) (p .taken + 1) (a .1))
+
+  pub judged-upload : UploadSound p transfer q n (judgeUpload p transfer q n)
+  unfolding judgeUpload uploadRefusals segmentRefusals
+  judged-upload =
+      by-test P (not (fitsUpload p transfer q) && ltb (p .attempts) attemptsMost)
+      (λ e. point (ltb-true (p .attempts) attemptsMost (and-true (not (fitsUpload p transfer q)) _ e .1)))
+      (λ _. by-test P (not (fitsUpload p transfer q)) (λ _. cancel code.TransactionAbort refl)
+      (λ fit. by-test P (ltb (segment q) (p .segments) && eqb (lastMark q) 1) (λ _. cancel code.SegmentNumberUnderrun refl)
+      (λ early. by-test P (eqb (segment q) (p .segments) && eqb (lastMark q) 0) (λ _. cancel code.SegmentNumberExceeded refl)
+      (λ missing. by-test P (ltb fileBytes (p .length + n)) (λ e. overfull (ltb-true fileBytes (p .length + n) e))
+      (λ room. take (fits-upload fit .0) (fits-upload fit .1) (notEarly early) (notMissing missing)
+      (ltb-false fileBytes (p .length + n) room))))))
+    where
+      P : UploadVerdict → Type 0
+      P v = UploadSound p transfer q n v
+
+      notEarly : ltb (segment q) (p .segments) && eqb (lastMark q) 1 ≡ false → segment q < p .segments → lastMark q ≡ 1 → ⊥
+      notEarly e h = eqb-false (lastMark q) 1 (and-false (ltb (segment q) (p .segments)) (eqb (lastMark q) 1) e (lt-ltb _ _ h))
+
+      notMissing : eqb (segment q) (p .segments) && eqb (lastMark q) 0 ≡ false → segment q ≡ p .segments → lastMark q ≡ 0 → ⊥
+      notMissing e h = eqb-false (lastMark q) 0 (and-false (eqb (segment q) (p .segments)) (eqb (lastMark q) 0) e (eq-eqb _ _ h))
+
+-- ---- a request to an open download of n segments
+
+pub data DownloadSound (r : DownloadRequest) (e : Download) (n : ℕ) (q : Fields) : DownloadVerdict → Type 0 where
+  deliver : r ≡ asked.Transfer → segment q ≡ e .delivered + 1 → segment q ≤ n → DownloadSound r e n q down.Deliver
+  resend : r ≡ asked.Transfer → 0 < segment q → segment q ≤ e .delivered → e .attempts < attemptsMost → DownloadSound r e n q down.Resend
+  point : e .attempts < attemptsMost → DownloadSound r e n q down.Point
+  abort : DownloadSound r e n q down.Abort
+  done : r ≡ asked.Receipt → e .delivered ≡ n → receiptCode q ≡ 0 → DownloadSound r e n q down.Done
+  skipped : r ≡ asked.Receipt → e .delivered ≡ n → DownloadSound r e n q down.Skipped
+
+-- the verdict by what fits, what is sent again and what is a receipt
+module _ (r : DownloadRequest) (e : Download) (n : ℕ) (q : Fields) where
+  judged-by : (fits again receipt : Bool) →
+      (fits ≡ true → receipt ≡ false → (r ≡ asked.Transfer) × (segment q ≡ e .delivered + 1) × (segment q ≤ n)) →
+      (fits ≡ true → receipt ≡ true → (r ≡ asked.Receipt) × (e .delivered ≡ n)) →
+      (again ≡ true → (r ≡ asked.Transfer) × (0 < segment q) × (segment q ≤ e .delivered)) →
+      DownloadSound r e n q (decide (
+      (not fits && ltb (e .attempts) attemptsMost && not again, down.Point)
+      ∷ (not fits && ltb (e .attempts) attemptsMost, down.Resend)
+      ∷ (not fits, down.Abort)
+      ∷ (receipt && eqb (receiptCode q) 0, down.Done)
+      ∷ (receipt, down.Skipped)
+      ∷ []
+      ) down.Deliver)
+  judged-by false false receipt f g h =
+      by-test P (ltb (e .attempts) attemptsMost && true) (λ k. point (few (and-true (ltb (e .attempts) attemptsMost) true k .0)))
+      (λ k. by-test P (ltb (e .attempts) attemptsMost) (λ l. never (sym (and-false (ltb (e .attempts) attemptsMost) true k l)))
+      (λ _. abort))
+    where
+      P : DownloadVerdict → Type 0
+      P v = DownloadSound r e n q v
+
+      few : ltb (e .attempts) attemptsMost ≡ true → e .attempts < attemptsMost
+      few k = ltb-true (e .attempts) attemptsMost k
+  judged-by false true receipt f g h =
+      by-test P (ltb (e .attempts) attemptsMost && false) (λ k. never (and-true (ltb (e .attempts) attemptsMost) false k .1))
+      (λ k. by-test P (ltb (e .attempts) attemptsMost)
+      (λ l. resend (h refl .0) (h refl .1) (h refl .2) (ltb-true (e .attempts) attemptsMost l)) (λ _. abort))
+    where
+      P : DownloadVerdict → Type 0
+      P v = DownloadSound r e n q v
+  judged-by true again false f g h = let k = f refl refl in deliver (k .0) (k .1) (k .2)
+  judged-by true again true f g h = let k = g refl refl in
+      by-test (λ (v : DownloadVerdict). DownloadSound r e n q v) (eqb (receiptCode q) 0)
+      (λ z. done (k .0) (k .1) (eqb-true (receiptCode q) 0 z)) (λ _. skipped (k .0) (k .1))
+
+pub judged-download : (r : DownloadRequest) (e : Download) (n : ℕ) (q : Fields) → DownloadSound r e n q (judgeDownload r e n q)
+unfolding judgeDownload downloadRefusals receiptAnswers
+judged-download asked.Transfer e n q =
+    judged-by asked.Transfer e n q (eqb (segment q) (e .delivered + 1) && leb (segment q) n)
+    (ltb 0 (segment q) && leb (segment q) (e .delivered)) false
+    (λ k _. let a = and-true (eqb (segment q) (e .delivered + 1)) (leb (segment q) n) k in (refl, eqb-true _ _ (a .0), leb-true _ _ (a .1)))
+    (λ _ k. never k)
+    (λ k. let a = and-true (ltb 0 (segment q)) (leb (segment q) (e .delivered)) k in (refl, ltb-true _ _ (a .0), leb-true _ _ (a .1)))
+judged-download asked.Receipt e n q =
+    judged-by asked.Receipt e n q (eqb (e .delivered) n) false true (λ _ k. never (sym k)) (λ k _. (refl, eqb-true _ _ k)) (λ k. never k)
+judged-download asked.Other e n q = judged-by asked.Other e n q false false false (λ k. never k) (λ k. never k) (λ k. never k)
+
+-- ---- an opening
+
+pub record Acceptable (b : Bank) (q : Fields) : Type 0 where
+  pub few : segments q ≤ segmentsMost
+  pub timely : leb (b .clock) (timestamp q + window) ≡ true
+  pub ofSubscriber : openCountOf (subscriber q) b < openPerSubscriber
+  pub ofAll : openCount b < openMost
+  pub memory : freeNonce b < nonceCount
+  pub numbers : b .openings < openingsMost
+
+pub data OpeningSound (b : Bank) (q : Fields) : Direction → OpeningVerdict → Type 0 where
+  refuse : (d : Direction) (c : ReturnCode) → cancels c ≡ false → OpeningSound b q d (opening.Refuse c)
+  upload : Acceptable b q → (segments q ≡ 0 → ⊥) → freePlace b < placeCount → OpeningSound b q way.Upload opening.Accept
+  download : Acceptable b q → (fileLength (subscriber q) b ≡ 0 → ⊥) → OpeningSound b q way.Download opening.Accept
+
+in-time : (time clock : ℕ) → inTime time clock ≡ true → leb clock (time + window) ≡ true
+unfolding inTime
+in-time time clock h = and-true (leb time (clock + window)) (leb clock (time + window)) h .1
+
+module _ (b : Bank) (q : Fields) where
+  facts : ltb segmentsMost (segments q) ≡ false → not (inTime (timestamp q) (b .clock)) || isRemembered (nonce q) b ≡ false →
+      leb openPerSubscriber (openCountOf (subscriber q) b) ≡ false →
+      leb openMost (openCount b) ≡ false → leb nonceCount (freeNonce b) ≡ false → leb openingsMost (b .openings) ≡ false → Acceptable b q
+  facts many time own all memory number = record {
+    few = ltb-false _ _ many;
+    timely = in-time (timestamp q) (b .clock) (not-false _ (or-neither _ (isRemembered (nonce q) b) time .0));
+    ofSubscriber = leb-false _ _ own;
+    ofAll = leb-false _ _ all;
+    memory = leb-false _ _ memory;
+    numbers = leb-false _ _ number;
+  }
+
+  pub judged-opening : (d : Direction) → OpeningSound b q d (judgeOpening b d q)
+  unfolding judgeOpening openingRefusals senderRefusals subscriberRefusals sharedRefusals
+  judged-opening way.Upload =
+      by-test P (not (eqb (orderType q) ful || eqb (orderType q) fdl)) (λ _. refuse _ code.InvalidOrderType refl)
+      (λ _. by-test P (eqb (orderType q) fdl || eqb (segments q) 0) (λ _. refuse _ code.InvalidRequest refl)
+      (λ kind. by-test P (ltb segmentsMost (segments q)) (λ _. refuse _ code.MaxSegmentsExceeded refl)
+      (λ many. by-test P (not (inTime (timestamp q) (b .clock)) || isRemembered (nonce q) b) (λ _. refuse _ code.MessageReplay refl)
+      (λ time. by-test P (leb openPerSubscriber (openCountOf (subscriber q) b)) (λ _. refuse _ code.MaxTransactionsExceeded refl)
+      (λ own. by-test P (leb openMost (openCount b)) (λ _. refuse _ code.InternalError refl)
+      (λ all. by-test P (leb placeCount (freePlace b)) (λ _. refuse _ code.InternalError refl)
+      (λ place. by-test P (leb nonceCount (freeNonce b)) (λ _. refuse _ code.InternalError refl)
+      (λ memory. by-test P (leb openingsMost (b .openings)) (λ _. refuse _ code.InternalError refl)
+      (λ number. upload (facts many time own all memory number) (eqb-false (segments q) 0 (or-neither (eqb (orderType q) fdl) _ kind .1))
+      (leb-false _ _ place))))))))))
+    where
+      P : OpeningVerdict → Type 0
+      P v = OpeningSound b q way.Upload v
+  judged-opening way.Download =
+      by-test P (not (eqb (orderType q) ful || eqb (orderType q) fdl)) (λ _. refuse _ code.InvalidOrderType refl)
+      (λ _. by-test P (eqb (orderType q) ful) (λ _. refuse _ code.InvalidRequest refl)
+      (λ _. by-test P (ltb segmentsMost (segments q)) (λ _. refuse _ code.MaxSegmentsExceeded refl)
+      (λ many. by-test P (not (inTime (timestamp q) (b .clock)) || isRemembered (nonce q) b) (λ _. refuse _ code.MessageReplay refl)
+      (λ time. by-test P (eqb (fileLength (subscriber q) b) 0) (λ _. refuse _ code.NoDownloadDataAvailable refl)
+      (λ some. by-test P (leb openPerSubscriber (openCountOf (subscriber q) b)) (λ _. refuse _ code.MaxTransactionsExceeded refl)
+      (λ own. by-test P (leb openMost (openCount b)) (λ _. refuse _ code.InternalError refl)
+      (λ all. by-test P (leb nonceCount (freeNonce b)) (λ _. refuse _ code.InternalError refl)
+      (λ memory. by-test P (leb openingsMost (b .openings)) (λ _. refuse _ code.InternalError refl)
+      (λ number. download (facts many time own all memory number) (eqb-false (fileLength (subscriber q) b) 0 some))))))))))
+    where
+      P : OpeningVerdict → Type 0
+      P v = OpeningSound b q way.Download v

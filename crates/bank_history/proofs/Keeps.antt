@@ -1,0 +1,257 @@
+-- Every call keeps the invariant: each case of a request, a frame call, a file call, and every list of calls.
+use Prim.Native.Nat.{ℕ, zero, suc, _+_, _-_, _*_, _≤_, _<_}
+use mathlib.Core.Bool.{false}
+use mathlib.Core.List.{List, [], _∷_}
+use mathlib.Core.Path.{_≡_, refl, sym, ap, _∙_}
+use native.Mathlib.Nat.{suc-add}
+use native.Mathlib.Omega.{arith}
+use lib.ListN.{length, take, drop, replicate, length-replicate, getD-replicate}
+use Rattle.frame.specs.declared.fields.Bits128.{Bits128}
+use Rattle.frame.specs.declared.fields.Fields.{Fields}
+use Rattle.frame.specs.declared.table.Form.the-variants as forms
+use Rattle.frame.specs.Bytes.{number}
+use Rattle.frame.specs.Names.{form}
+use Rattle.frame.specs.Reader.{readRequest}
+use Rattle.frame.specs.Row.{dataOf}
+use Rattle.frame.proofs.Tests.{never}
+use Rattle.message.specs.Limits.{fileBytes}
+use Rattle.bank_state.specs.declared.state.Bank.{Bank}
+use Rattle.bank_state.specs.declared.state.Download.{Download}
+use Rattle.bank_state.specs.declared.state.Place.{Place}
+use Rattle.bank_state.specs.Clock.{advanced}
+use Rattle.bank_state.specs.Limits.{placeCount, storeBytes}
+use Rattle.bank_state.specs.Rows.{countOf, keep}
+use Rattle.bank_state.specs.Search.{isFree, isOpen, openCount, openCountOf}
+use Rattle.bank_state.specs.State.{World, noPlace, noDownload, fresh, placeAt, downloadAt}
+use Rattle.bank_state.specs.Store.{partAt}
+use Rattle.bank.specs.declared.call.FrameAnswer.{FrameAnswer}
+use Rattle.bank.specs.declared.call.FrameAnswer.the-variants.{Reply, WrongLength}
+use Rattle.bank.specs.declared.mailbox.FileAnswer.{FileAnswer}
+use Rattle.bank.specs.declared.mailbox.FileAnswer.the-variants as put
+use Rattle.bank.specs.Call.{Step, unread, refused, FrameCall, lentRight, replied, respond, frameCall}
+use Rattle.bank.specs.Mailbox.{fileNumber, carryOutFile, fileCall}
+use Rattle.bank_history.specs.History.{
+  Event,
+  Unreadable,
+  Refusal,
+  Exchange,
+  Past,
+  BankCall,
+  Frame,
+  File,
+  did,
+  isAction,
+  isBooking,
+  opens,
+  accepted,
+  exchangeOf,
+  entered,
+  placed,
+  after,
+  start,
+  pastOf,
+  ever,
+  openingNonces,
+  remembered,
+}
+use Rattle.bank_history.specs.Packed.{rest}
+use Rattle.bank_history.specs.Sound.{Sound, none, more}
+use Rattle.bank_history.specs.Invariant.{Invariant, NoneIdle, Holds}
+use Rattle.bank_history.proofs.Judged.{by-test}
+use Rattle.bank_history.proofs.Cases.{
+  Happens,
+  unreadable,
+  refusal,
+  opensUpload,
+  opensDownload,
+  toUpload,
+  toDownload,
+  happens,
+}
+use Rattle.bank_history.proofs.Entries.{ever-other}
+use Rattle.bank_history.proofs.Memory.{memory-unchanged}
+use Rattle.bank_history.proofs.Places.{drop-replicate, place-unchanged}
+use Rattle.bank_history.proofs.Rows.{getD-free, free-replicate}
+use Rattle.bank_history.proofs.Records.{download-unchanged}
+use Rattle.bank_history.proofs.DownloadChange.{download-change}
+use Rattle.bank_history.proofs.Uploads.{entry, upload-keeps}
+use Rattle.bank_history.proofs.DownloadVerdicts.{download-keeps}
+use Rattle.bank_history.proofs.Openings.{opens-upload, opens-download}
+use Rattle.bank_history.proofs.NotIdle.{case-not-idle}
+use Rattle.bank_history.proofs.Clock.{advanced-keeps, advanced-not-idle}
+use Rattle.bank_history.proofs.Reading.{transfer-data}
+use Rattle.bank_history.proofs.Files.{FileSound, rejected, done, judged-file, filled-keeps}
+
+-- a request that does nothing
+nothing-keeps : (w : World) (h : List Exchange) (x : Exchange) → ((t : Bits128) → did isAction t (x .event) ≡ false) →
+    opens (x .event) ≡ false → Sound x h →
+    Invariant w h → Invariant w (x ∷ h)
+unfolding accepted
+nothing-keeps w h x no-action unopened sound v =
+    download-change w (w .bank .clock) (w .bank .openings) (w .bank .downloads) (w .bank .nonces) (w .bank .files) (w .boxes) v (record {
+      listed = v .sizes .downloads;
+      remembered = v .sizes .nonces;
+      filed = v .sizes .files;
+      stored = v .sizes .boxes;
+      counted = rw unopened (v .counted);
+      numbers = v .numbers;
+      places = λ i a. place-unchanged x h _ _ (omega arith) _ _ _ (placeAt (w .bank) i .used)
+          (λ _. no-action (placeAt (w .bank) i .transaction)) (v .places i a);
+      downloads = λ j. download-unchanged x h _ _ (omega arith) _ _ _ (downloadAt (w .bank) j .used)
+          (λ _. no-action (downloadAt (w .bank) j .transaction)) (v .downloads j);
+      mailboxes = v .mailboxes;
+      apart = v .apart;
+      inOrder = v .inOrder;
+      memory = memory-unchanged _ _ x h unopened (v .memory);
+      openAll = v .openAll;
+      openOf = v .openOf;
+      known = λ t e. v .known t (sym (ever-other t x h (no-action t) isAction) ∙ e);
+      booked = λ t e. v .booked t (sym (ever-other t x h (no-action t) isBooking) ∙ e);
+      sound = more sound (v .sound);
+    })
+
+module _ (lent : ℕ) (w : World) (h : List Exchange) (v : Invariant w h) (q : Fields) (d : List ℕ)
+    (some : form q ≡ forms.UploadTransfer → 1 ≤ length d) where
+  case-keeps : {e : Event} {s : Step} → Happens lent w q d e s → Invariant (s .world) (entry e s w q d ∷ h)
+  case-keeps unreadable = nothing-keeps w h (entry Unreadable (unread w) w q d) (λ t. refl) refl (record { reply = refl; event = refl }) v
+  case-keeps (refusal c e) = nothing-keeps w h (entry (Refusal c) (refused w q c) w q d) (λ t. refl) refl
+      (record { reply = refl; event = record { harmless = e; bare = refl } }) v
+  case-keeps (opensUpload asked a g n p) = opens-upload lent w h v q d a g asked n p
+  case-keeps (opensDownload asked a g n) = opens-download lent w h v q d a g asked n
+  case-keeps (toUpload i transfer r u a asked inside found sound) = upload-keeps w h v q d a i inside found transfer r asked some sound
+  case-keeps (toDownload j transfer r u a asked inside found sound) = download-keeps w h v q d a j found transfer r asked sound
+
+  pub respond-keeps : Invariant (respond lent w q d .world) (exchangeOf lent w q d ∷ h)
+  unfolding exchangeOf
+  respond-keeps = case-keeps (happens lent w q d (v .sizes .places) (v .sizes .downloads))
+
+-- ---- the calls
+
+-- "a number, nothing changed"; else what the request came to
+entered-holds : (p : Past) (a : FrameAnswer) (w : World) (e : Exchange) → Holds p → Invariant w (e ∷ p .history) → NoneIdle w →
+    Holds (entered a w e p)
+entered-holds p (Reply n) w e old v notIdle = record { invariant = v; current = notIdle }
+entered-holds p WrongLength w e old v notIdle = old
+
+frame-holds : (p : Past) (time : ℕ) (ids frame buffer : List ℕ) → Holds p → Holds (after (Frame time ids frame buffer) p)
+unfolding after frameCall
+frame-holds p time ids frame buffer old =
+    by-test (λ (c : FrameCall). Holds (entered (c .answer) (c .world) x p)) (lentRight (p .world) ids buffer)
+    (λ _. entered-holds p (replied s buffer .answer) (s .world) x old kept notIdle) (λ _. old)
+  where
+    w : World
+    w = advanced time (p .world)
+
+    s : Step
+    s = respond (number ids) w (readRequest frame) (dataOf frame)
+
+    x : Exchange
+    x = exchangeOf (number ids) w (readRequest frame) (dataOf frame)
+
+    v : Invariant w (p .history)
+    v = advanced-keeps time (p .world) (p .history) (old .invariant)
+
+    kept : Invariant (s .world) (x ∷ p .history)
+    kept = respond-keeps (number ids) w (p .history) v (readRequest frame) (dataOf frame) (transfer-data frame)
+
+    notIdle : NoneIdle (s .world)
+    notIdle =
+        case-not-idle w (advanced-not-idle time (p .world) (old .invariant .sizes)) (number ids) (readRequest frame) (dataOf frame)
+        (v .sizes .places)
+        (happens (number ids) w (readRequest frame) (dataOf frame) (v .sizes .places) (v .sizes .downloads))
+
+file-holds : (p : Past) (mailbox : ℕ) (file : List ℕ) → Holds p → Holds (after (File mailbox file) p)
+unfolding after fileCall
+file-holds p mailbox file old = at (judged-file (p .world .bank) mailbox file (p .world .boxes))
+  where
+    boxes : List ℕ
+    boxes = p .world .boxes
+
+    b : Bank
+    b = p .world .bank
+
+    rejected-stays : (a : FileAnswer) → 0 < fileNumber a →
+        Holds (placed (carryOutFile a b mailbox file boxes .answer) (carryOutFile a b mailbox file boxes .bank)
+        (carryOutFile a b mailbox file boxes .boxes) p)
+    rejected-stays put.Done h = absurd (omega arith)
+    rejected-stays put.WrongLength h = old
+    rejected-stays put.NoMailbox h = old
+    rejected-stays put.WrongFile h = old
+    rejected-stays put.MailboxFull h = old
+
+    at : {a : FileAnswer} → FileSound b mailbox file boxes a →
+        Holds (placed (carryOutFile a b mailbox file boxes .answer) (carryOutFile a b mailbox file boxes .bank)
+        (carryOutFile a b mailbox file boxes .boxes) p)
+    at {a} (rejected h) = rejected-stays a h
+    at (done known most some short empty) = record {
+      invariant = filled-keeps (p .world) (p .history) (old .invariant) mailbox file known most some short empty;
+      current = record { places = old .current .places; downloads = old .current .downloads };
+    }
+
+pub after-holds : (c : BankCall) (p : Past) → Holds p → Holds (after c p)
+after-holds (Frame time ids frame buffer) p old = frame-holds p time ids frame buffer old
+after-holds (File mailbox file) p old = file-holds p mailbox file old
+
+-- ---- a fresh bank
+
+take-replicate : {A : Type 0} (n m : ℕ) (a : A) → take n (replicate (n + m) a) ≡ replicate n a
+take-replicate zero m a = refl
+take-replicate {A} (suc n) m a = rw (suc-add n m) (ap (λ (l : List A). a ∷ l) (take-replicate n m a))
+
+part-of-same : {A : Type 0} (a : A) (k n m : ℕ) → m + n ≤ k → take n (drop m (replicate k a)) ≡ replicate n a
+part-of-same a k n m h =
+    let e : k ≡ m + (n + (k - (m + n))) = omega arith in
+    ap (λ (z : ℕ). take n (drop m (replicate z a))) e
+    ∙ (ap (take n) (drop-replicate m (n + (k - (m + n))) a) ∙ take-replicate n (k - (m + n)) a)
+
+zeros-part : (i : ℕ) → i < placeCount → partAt (replicate storeBytes 0) i ≡ replicate fileBytes 0
+unfolding partAt
+zeros-part i a = part-of-same {A = ℕ} 0 storeBytes fileBytes (i * fileBytes) (omega arith)
+
+fresh-place : (i : ℕ) → i < placeCount → placeAt fresh i ≡ noPlace
+unfolding fresh
+fresh-place i a = getD-replicate placeCount i noPlace noPlace a
+
+fresh-download : (j : ℕ) → downloadAt fresh j ≡ noDownload
+unfolding fresh
+fresh-download = getD-free noDownload placeCount
+
+start-holds : Holds start
+unfolding start fresh openCount openCountOf countOf accepted ever remembered openingNonces keep
+start-holds = record {
+  invariant = record {
+    sizes = record {
+      places = refl;
+      downloads = refl;
+      nonces = refl;
+      files = refl;
+      orders =
+          length-replicate {A = ℕ} storeBytes 0;
+      boxes = length-replicate {A = ℕ} storeBytes 0;
+    };
+    counted = refl;
+    numbers = omega arith;
+    places = λ i a. rw (fresh-place i a) (record { empty = refl; zeros = zeros-part i a });
+    downloads = λ j. rw (fresh-download j) refl;
+    mailboxes = λ i a. rw (getD-replicate {A = ℕ} placeCount i 0 0 a) (record { room = omega arith; zeros = zeros-part i a });
+    placesApart = λ i j a b f. never (sym f ∙ ap (λ (p : Place). isFree (p .used)) (fresh-place i a));
+    apart = λ i j a f. never (sym f ∙ ap (λ (p : Place). isFree (p .used)) (fresh-place i a));
+    inOrder = rest (free-replicate noDownload placeCount);
+    memory = record { held = refl };
+    openAll = omega arith;
+    openOf = λ s. omega arith;
+    known = λ t e. never e;
+    booked = λ t e. never e;
+    sound = none;
+  };
+  current = record {
+    places = λ i a f. never (sym (ap (λ (p : Place). isOpen (p .used)) (fresh-place i a)) ∙ f);
+    downloads = λ j f. never (sym (ap (λ (e : Download). e .used) (fresh-download j)) ∙ f);
+  };
+}
+
+-- THE INVARIANT, after every list of calls
+pub past-holds : (calls : List BankCall) → Holds (pastOf calls)
+unfolding pastOf
+past-holds [] = start-holds
+past-holds (c ∷ calls) = after-holds c (pastOf calls) (past-holds calls)

@@ -1,0 +1,282 @@
+-- The main results on transactions that stay open, for the crates above: over one call, and for the requests that fit.
+use Prim.Native.Nat.{ℕ, suc, _+_, _≤_, _<_, max}
+use mathlib.Core.Bool.{false, cond}
+use mathlib.Core.List.{List, _∷_}
+use mathlib.Core.Logic.{_⊎_, inl, inr}
+use mathlib.Core.Path.{_≡_, refl, sym, ap, _∙_, subst}
+use native.Mathlib.Omega.{arith}
+use lib.Dec.{eqb}
+use lib.ListN.{length}
+use Rattle.frame.specs.declared.fields.Bits128.{Bits128}
+use Rattle.frame.specs.declared.fields.Fields.{Fields}
+use Rattle.frame.specs.declared.table.Form.the-variants as forms
+use Rattle.frame.specs.Bytes.{number}
+use Rattle.frame.specs.Names.{subscriber, transaction, segments, segment, lastMark, receiptCode, form}
+use Rattle.frame.specs.Reader.{readRequest}
+use Rattle.frame.specs.Row.{dataOf}
+use Rattle.message.specs.Limits.{segmentBytes}
+use Rattle.message.specs.Segments.{lastMarkOf}
+use Rattle.bank_state.specs.Clock.{advanced}
+use Rattle.bank_state.specs.Limits.{idleLimit}
+use Rattle.bank_state.specs.State.{World}
+use Rattle.bank_step.specs.declared.downloads.DownloadVerdict.{DownloadVerdict}
+use Rattle.bank_step.specs.declared.downloads.DownloadVerdict.the-variants as down
+use Rattle.bank_step.specs.Openings.{counted, openUpload, openDownload}
+use Rattle.bank.specs.Call.{Step, respond}
+use Rattle.bank_history.specs.History.{
+  Took,
+  TookLast,
+  OpenedUpload,
+  OpenedDownload,
+  Delivered,
+  Confirmed,
+  Event,
+  Of,
+  Exchange,
+  Past,
+  BankCall,
+  Frame,
+  File,
+  isAction,
+  did,
+  exchangeOf,
+  after,
+  accepted,
+  openedBy,
+  Stands,
+  segmentsNow,
+}
+use Rattle.bank_history.specs.Sound.{Sound, AllSound}
+use Rattle.bank_history.specs.Invariant.{Invariant, Holds}
+use Rattle.bank_history.specs.Standing.{Filled, UploadAt, DownloadAt, UploadUnlessIdle, DownloadUnlessIdle, filled, answered}
+use Rattle.bank_history.proofs.Cases.{
+  Happens,
+  unreadable,
+  refusal,
+  opensUpload,
+  opensDownload,
+  toUpload,
+  toDownload,
+  downloadStepBy,
+  happens,
+}
+use Rattle.bank_history.proofs.Clock.{advanced-keeps, advanced-clock}
+use Rattle.bank_history.proofs.Downloads.{download-open}
+use Rattle.bank_history.proofs.Keeps.{after-holds}
+use Rattle.bank_history.proofs.Positions.{sound-at, foreign-request}
+use Rattle.bank_history.proofs.Changes.{after-frame, after-file}
+use Rattle.bank_history.proofs.OpenUploads as uploads
+use Rattle.bank_history.proofs.OpenDownloads as downloads
+use Rattle.bank_history.proofs.UploadRequests as own
+use Rattle.bank_history.proofs.DownloadRequests as ownDownload
+
+-- a request does not move the clock that its call has set
+case-clock : {lent : ℕ} {w : World} {q : Fields} {d : List ℕ} {e : Event} {s : Step} → Happens lent w q d e s →
+    s .world .bank .clock ≡ w .bank .clock
+unfolding openUpload openDownload counted
+case-clock unreadable = refl
+case-clock (refusal c e) = refl
+case-clock (opensUpload asked a g n inside) = refl
+case-clock (opensDownload asked a g n) = refl
+case-clock (toUpload i transfer r u a asked inside found sound) = refl
+case-clock {w = w} {q = q} (toDownload j transfer r u a asked inside found sound) = at u
+  where
+    at : (x : DownloadVerdict) → downloadStepBy x j w q .world .bank .clock ≡ w .bank .clock
+    at down.Deliver = refl
+    at down.Resend = refl
+    at down.Point = refl
+    at down.Abort = refl
+    at down.Done = refl
+    at down.Skipped = refl
+
+-- what is true of the past before and of each past that a call can leave is true after the call
+pub by-call : (P : Past → Type 0) (c : BankCall) (p : Past) → Holds p → P p →
+    ((time : ℕ) (ids frame buffer : List ℕ) → c ≡ Frame time ids frame buffer → after c p ≡ answered time ids frame p →
+    P (answered time ids frame p)) →
+    ((mailbox : ℕ) (file : List ℕ) → c ≡ File mailbox file →
+    P (record { world = filled mailbox file (p .world); history = p .history })) → P (after c p)
+by-call P (Frame time ids frame buffer) p holds same answers files = at (after-frame time ids frame buffer p)
+  where
+    at : (after (Frame time ids frame buffer) p ≡ p) ⊎ (after (Frame time ids frame buffer) p ≡ answered time ids frame p) →
+        P (after (Frame time ids frame buffer) p)
+    at (inl e) = subst P (sym e) same
+    at (inr e) = subst P (sym e) (answers time ids frame buffer refl e)
+by-call P (File mailbox file) p holds same answers files = at (after-file mailbox file p holds)
+  where
+    at : (after (File mailbox file) p ≡ p)
+        ⊎ ((after (File mailbox file) p ≡ record { world = filled mailbox file (p .world); history = p .history }) × Filled (p .world)
+        (filled mailbox file (p .world)) mailbox file) →
+        P (after (File mailbox file) p)
+    at (inl e) = subst P (sym e) same
+    at (inr e) = subst P (sym (e .0)) (files mailbox file refl)
+
+-- an answered frame: the bank as the request is judged, the exchange, the invariant, the case
+module _ (time : ℕ) (ids frame : List ℕ) (p : Past) (holds : Holds p) where
+  abbrev pub judged : World
+  judged = advanced time (p .world)
+
+  abbrev pub newest : Exchange
+  newest = exchangeOf (number ids) judged (readRequest frame) (dataOf frame)
+
+  judged-holds : Invariant judged (p .history)
+  judged-holds = advanced-keeps time (p .world) (p .history) (holds .invariant)
+
+  the-case : Happens (number ids) judged (readRequest frame) (dataOf frame) (newest .event)
+      (respond (number ids) judged (readRequest frame) (dataOf frame))
+  unfolding exchangeOf
+  the-case = happens (number ids) judged (readRequest frame) (dataOf frame) (judged-holds .sizes .places) (judged-holds .sizes .downloads)
+
+  pub answered-clock : answered time ids frame p .world .bank .clock ≡ max (p .world .bank .clock) time
+  answered-clock = case-clock the-case ∙ advanced-clock time (p .world)
+
+  -- ---- the requests of an upload that fit
+
+  -- its opening
+  pub upload-opens : (t : Bits128) → newest .event ≡ Of t OpenedUpload →
+      UploadAt (answered time ids frame p .world) t (subscriber (readRequest frame)) 0 (segments (readRequest frame))
+      (max (p .world .bank .clock) time)
+  upload-opens t e = subst (UploadAt (answered time ids frame p .world) t (subscriber (readRequest frame)) 0
+      (segments (readRequest frame))) (advanced-clock time (p .world))
+      (own.opened-open (number ids) judged (p .history) judged-holds (readRequest frame) (dataOf frame) t the-case e)
+
+  -- its next segment, within the idle hour
+  module _ (t : Bits128) (s k n last : ℕ) (before : UploadUnlessIdle (p .world) t s k n last)
+      (asked : form (readRequest frame) ≡ forms.UploadTransfer)
+      (from : subscriber (readRequest frame) ≡ s) (to : transaction (readRequest frame) ≡ t) (next : segment (readRequest frame) ≡ suc k)
+      (mark : lastMark (readRequest frame) ≡ lastMarkOf (segment (readRequest frame)) n) (short : length (dataOf frame) ≤ segmentBytes)
+      (notIdle : max (p .world .bank .clock) time ≤ last + idleLimit) where
+    there : UploadAt judged t s k n last
+    there = uploads.advanced-open t s k n last time (p .world) (holds .invariant .sizes) before
+        (let c = advanced-clock time (p .world) in omega arith)
+
+    pub upload-takes : newest .event ≡ Of t (cond (eqb (k + 1) n) TookLast Took)
+    unfolding exchangeOf
+    upload-takes = own.own-event (number ids) judged (p .history) judged-holds t s k n last there (readRequest frame) (dataOf frame)
+        asked from to next mark short
+
+    pub upload-goes-on : suc k < n → UploadAt (answered time ids frame p .world) t s (suc k) n (max (p .world .bank .clock) time)
+    upload-goes-on below = subst (UploadAt (answered time ids frame p .world) t s (suc k) n) (advanced-clock time (p .world))
+        (own.own-open (number ids) judged (p .history) judged-holds t s k n last there (readRequest frame) (dataOf frame) asked from to
+        next mark short below)
+
+  -- ---- the requests of a download that fit
+
+  pub download-opens : (t : Bits128) (n : ℕ) → newest .event ≡ Of t (OpenedDownload n) →
+      DownloadAt (answered time ids frame p .world) t (subscriber (readRequest frame)) 1 (max (p .world .bank .clock) time)
+  download-opens t n e = subst (DownloadAt (answered time ids frame p .world) t (subscriber (readRequest frame)) 1)
+      (advanced-clock time (p .world))
+      (ownDownload.opened-open (number ids) judged (p .history) judged-holds (readRequest frame) (dataOf frame) t n the-case e)
+
+  module _ (t : Bits128) (s d last : ℕ) (before : DownloadUnlessIdle (p .world) t s d last) (from : subscriber (readRequest frame) ≡ s)
+      (to : transaction (readRequest frame) ≡ t) (short : length (dataOf frame) ≤ segmentBytes)
+      (notIdle : max (p .world .bank .clock) time ≤ last + idleLimit) where
+    there-download : DownloadAt judged t s d last
+    there-download = downloads.advanced-open t s d last time (p .world) (holds .invariant .sizes .downloads) before
+        (let c = advanced-clock time (p .world) in omega arith)
+
+    -- its next segment
+    module _ (asked : form (readRequest frame) ≡ forms.DownloadTransfer) (next : segment (readRequest frame) ≡ suc d)
+        (within : segment (readRequest frame) ≤ segmentsNow judged (readRequest frame)) where
+      pub download-delivers : newest .event ≡ Of t (Delivered (segmentsNow judged (readRequest frame)))
+      unfolding exchangeOf
+      download-delivers =
+          ownDownload.deliver-event (number ids) judged (p .history) judged-holds t s d last there-download (readRequest frame)
+          (dataOf frame) from to short asked next within
+
+      pub download-goes-on : DownloadAt (answered time ids frame p .world) t s (suc d) (max (p .world .bank .clock) time)
+      download-goes-on = subst (DownloadAt (answered time ids frame p .world) t s (suc d)) (advanced-clock time (p .world))
+          (ownDownload.deliver-open (number ids) judged (p .history) judged-holds t s d last there-download (readRequest frame)
+          (dataOf frame) from to short asked next within)
+
+    -- its receipt
+    pub download-confirms : form (readRequest frame) ≡ forms.Receipt → d ≡ segmentsNow judged (readRequest frame) →
+        receiptCode (readRequest frame) ≡ 0 →
+        newest .event ≡ Of t Confirmed
+    unfolding exchangeOf
+    download-confirms = ownDownload.receipt-event (number ids) judged (p .history) judged-holds t s d last there-download
+        (readRequest frame) (dataOf frame) from to short
+
+-- ---- whatever comes from elsewhere
+
+-- an upload stays, unless the call's request is to it
+pub upload-stays : (t : Bits128) (s k n last : ℕ) (c : BankCall) (p : Past) → Holds p → UploadUnlessIdle (p .world) t s k n last →
+    ((e : Exchange) → after c p .history ≡ e ∷ p .history → did isAction t (e .event) ≡ false) →
+    UploadUnlessIdle (after c p .world) t s k n last
+upload-stays t s k n last c p holds before noAction =
+    by-call (λ (r : Past). UploadUnlessIdle (r .world) t s k n last) c p holds before frames
+    (λ m f e h. uploads.upload-moved (before h) refl)
+  where
+    frames : (time : ℕ) (ids frame buffer : List ℕ) → c ≡ Frame time ids frame buffer → after c p ≡ answered time ids frame p →
+        UploadUnlessIdle (answered time ids frame p .world) t s k n last
+    frames time ids frame buffer e z h =
+        uploads.case-open t s k n last (advanced time (p .world)) (p .history) (judged-holds time ids frame p holds)
+        (uploads.advanced-open t s k n last time (p .world) (holds .invariant .sizes) before
+        (let a = case-clock (the-case time ids frame p holds) in omega arith))
+        (number ids) (readRequest frame) (dataOf frame) (the-case time ids frame p holds)
+        (noAction (newest time ids frame p holds) (ap (λ (r : Past). r .history) z))
+
+-- a download stays, unless the call's request is to it or is a receipt of its subscriber answered 011000
+pub download-stays : (t : Bits128) (s d last : ℕ) (c : BankCall) (p : Past) → Holds p → DownloadUnlessIdle (p .world) t s d last →
+    ((e : Exchange) → after c p .history ≡ e ∷ p .history → did isAction t (e .event) ≡ false) →
+    ((e : Exchange) (id : Bits128) → after c p .history ≡ e ∷ p .history → e .event ≡ Of id Confirmed → subscriber (e .request) ≡ s → ⊥) →
+    DownloadUnlessIdle (after c p .world) t s d last
+unfolding exchangeOf
+download-stays t s d last c p holds before noAction kept =
+    by-call (λ (r : Past). DownloadUnlessIdle (r .world) t s d last) c p holds before frames
+    (λ m f e h. let u = before h in downloads.record-moved u (u .row) (u .inside) refl)
+  where
+    frames : (time : ℕ) (ids frame buffer : List ℕ) → c ≡ Frame time ids frame buffer → after c p ≡ answered time ids frame p →
+        DownloadUnlessIdle (answered time ids frame p .world) t s d last
+    frames time ids frame buffer e z h =
+        downloads.case-open t s d last (advanced time (p .world)) (p .history) (judged-holds time ids frame p holds)
+        (downloads.advanced-open t s d last time (p .world) (holds .invariant .sizes .downloads) before
+        (let a = case-clock (the-case time ids frame p holds) in omega arith))
+        (number ids) (readRequest frame) (dataOf frame) (the-case time ids frame p holds)
+        (noAction (newest time ids frame p holds) (ap (λ (r : Past). r .history) z))
+        (λ id. kept (newest time ids frame p holds) id (ap (λ (r : Past). r .history) z))
+
+-- ---- another subscriber's requests do not touch it
+
+pub clock-grows : (c : BankCall) (p : Past) → Holds p → p .world .bank .clock ≤ after c p .world .bank .clock
+clock-grows c p holds =
+    by-call (λ (r : Past). p .world .bank .clock ≤ r .world .bank .clock) c p holds (omega arith)
+    (λ time ids frame buffer e z. let a = answered-clock time ids frame p holds in omega arith) (λ m f e. omega arith)
+
+-- the exchange that a call has entered is sound
+entered-sound : (c : BankCall) (p : Past) (e : Exchange) → Holds p → after c p .history ≡ e ∷ p .history → Sound e (p .history)
+entered-sound c p e holds z = sound-at (subst AllSound z (after-holds c p holds .invariant .sound)) newest-stands
+  where
+    newest-stands : Stands e (p .history) (e ∷ p .history)
+    newest-stands = Stands.newest
+
+-- the requests of other subscribers leave an upload open
+pub upload-other-subscriber : (t : Bits128) (s k n last : ℕ) (c : BankCall) (p : Past) → Holds p →
+    UploadUnlessIdle (p .world) t s k n last →
+    ((e : Exchange) → after c p .history ≡ e ∷ p .history → subscriber (e .request) ≡ s → ⊥) →
+    UploadUnlessIdle (after c p .world) t s k n last
+upload-other-subscriber t s k n last c p holds before foreign bound =
+    let u = before (let g = clock-grows c p holds in omega arith) in
+    let o = own.upload-is-open (p .world) (p .history) (holds .invariant) t s k n last u .place in
+    let low : t .low < accepted (p .history) =
+    (let a = o .numbered in let b = o .counted in let z = holds .invariant .counted in let y =
+    ap (λ (i : Bits128). i .low) (u .transaction) in omega arith) in
+    let owner : openedBy t (p .history) ≡ s = ap (λ (i : Bits128). openedBy i (p .history)) (sym (u .transaction))
+    ∙ (o .owner ∙ u .subscriber) in
+    upload-stays t s k n last c p holds before
+    (λ e z. foreign-request t e (p .history) (entered-sound c p e holds z) low (λ y. foreign e z (sym y ∙ owner))) bound
+
+-- and a download
+pub download-other-subscriber : (t : Bits128) (s d last : ℕ) (c : BankCall) (p : Past) → Holds p →
+    DownloadUnlessIdle (p .world) t s d last →
+    ((e : Exchange) → after c p .history ≡ e ∷ p .history → subscriber (e .request) ≡ s → ⊥) →
+    DownloadUnlessIdle (after c p .world) t s d last
+download-other-subscriber t s d last c p holds before foreign bound =
+    let u = before (let g = clock-grows c p holds in omega arith) in
+    let o = download-open (p .world) (p .history) (holds .invariant) (u .row) (u .used) in
+    let low : t .low < accepted (p .history) =
+    (let b = o .counted in let z = holds .invariant .counted in let y = ap (λ (i : Bits128). i .low) (u .transaction) in omega arith) in
+    let owner : openedBy t (p .history) ≡ s = ap (λ (i : Bits128). openedBy i (p .history)) (sym (u .transaction))
+    ∙ (o .owner ∙ u .subscriber) in
+    download-stays t s d last c p holds before
+    (λ e z. foreign-request t e (p .history) (entered-sound c p e holds z) low (λ y. foreign e z (sym y ∙ owner)))
+    (λ e id z _. foreign e z) bound

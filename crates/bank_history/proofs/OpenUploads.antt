@@ -1,0 +1,102 @@
+-- An open upload stays open, and as it is, while no idle hour passes and no request is to it.
+use Prim.Native.Nat.{ℕ, _+_, max}
+use mathlib.Core.Bool.{false}
+use mathlib.Core.List.{List}
+use mathlib.Core.Path.{_≡_, refl, sym, ap, _∙_}
+use native.Mathlib.Omega.{arith}
+use lib.Seq.{getD-set-other}
+use borrow.Author.Tests.{le-ltb}
+use Rattle.frame.specs.declared.fields.Bits128.{Bits128}
+use Rattle.frame.specs.declared.fields.Fields.{Fields}
+use Rattle.frame.specs.Names.{subscriber, transaction, sameBits}
+use Rattle.frame.proofs.Tests.{never}
+use Rattle.bank_state.specs.declared.state.Place.{Place}
+use Rattle.bank_state.specs.Clock.{isIdle, advanced}
+use Rattle.bank_state.specs.Limits.{idleLimit}
+use Rattle.bank_state.specs.Search.{isFree, freePlace}
+use Rattle.bank_state.specs.State.{World, noPlace, placeAt}
+use Rattle.bank_state.proofs.Drops.{isIdlePlace, Spot, advanced-spot}
+use Rattle.bank_step.specs.declared.downloads.DownloadVerdict.{DownloadVerdict}
+use Rattle.bank_step.specs.declared.downloads.DownloadVerdict.the-variants as down
+use Rattle.bank_step.specs.Openings.{counted, openUpload, openDownload}
+use Rattle.bank_step.proofs.Tests.{and-true-right}
+use Rattle.bank.specs.Call.{Step}
+use Rattle.bank_history.specs.History.{Event, Exchange, isAction, did}
+use Rattle.bank_history.specs.Invariant.{Sizes, Invariant}
+use Rattle.bank_history.specs.Standing.{UploadAt, UploadUnlessIdle}
+use Rattle.bank_history.proofs.Cases.{
+  Happens,
+  unreadable,
+  refusal,
+  opensUpload,
+  opensDownload,
+  toUpload,
+  toDownload,
+  downloadStepBy,
+}
+use Rattle.bank_history.proofs.Entries.{same-bits}
+use Rattle.bank_history.proofs.Clock.{sized, advanced-clock}
+use Rattle.bank_history.proofs.Openings.{free-passes}
+
+-- the same place, as it was
+pub upload-moved : {w w′ : World} {t : Bits128} {s k n last : ℕ} → (u : UploadAt w t s k n last) →
+    placeAt (w′ .bank) (u .place) ≡ placeAt (w .bank) (u .place) → UploadAt w′ t s k n last
+upload-moved u e = record {
+  place = u .place;
+  inside = u .inside;
+  used = ap (λ (r : Place). r .used) e ∙ u .used;
+  transaction = ap (λ (r : Place). r .transaction) e ∙ u .transaction;
+  subscriber = ap (λ (r : Place). r .subscriber) e ∙ u .subscriber;
+  taken = ap (λ (r : Place). r .taken) e ∙ u .taken;
+  segments = ap (λ (r : Place). r .segments) e ∙ u .segments;
+  fitting = ap (λ (r : Place). r .last) e ∙ u .fitting;
+}
+
+module _ (t : Bits128) (s k n last : ℕ) where
+  -- "open at 3,600, gone at 3,601"
+  pub advanced-open : (time : ℕ) (w : World) → Sizes w → UploadUnlessIdle w t s k n last → UploadUnlessIdle (advanced time w) t s k n last
+  unfolding isIdle
+  advanced-open time w sizes before h =
+      let c = advanced-clock time w in
+      let u = before (omega arith) in
+      let z = u .fitting in
+      let spot = advanced-spot time w (sized sizes) (u .place) (u .inside) in
+      let m = max (w .bank .clock) time in
+      let idle : isIdlePlace m (placeAt (w .bank) (u .place)) ≡ false =
+      rw (u .used, le-ltb (placeAt (w .bank) (u .place) .last + idleLimit) m (omega arith)) in
+      upload-moved u (ap (λ (x : Spot). x .0) (rw idle at spot))
+
+  -- ---- a request to another transaction
+
+  module _ (w : World) (h : List Exchange) (v : Invariant w h) (u : UploadAt w t s k n last) where
+    -- the place of another request is another place
+    other-place : (i : ℕ) (q : Bits128) → placeAt (w .bank) i .transaction ≡ q → sameBits t q ≡ false → u .place ≡ i → ⊥
+    other-place i q e f z =
+        never (sym f ∙ (ap (λ (b : Bits128). sameBits t b)
+        (sym e ∙ (ap (λ (m : ℕ). placeAt (w .bank) m .transaction) (sym z) ∙ u .transaction)) ∙ same-bits t))
+
+    pub case-open : (lent : ℕ) (q : Fields) (d : List ℕ) {e : Event} {g : Step} → Happens lent w q d e g → did isAction t e ≡ false →
+        UploadAt (g .world) t s k n last
+    unfolding openUpload openDownload counted
+    case-open lent q d unreadable f = u
+    case-open lent q d (refusal c e) f = u
+    case-open lent q d (opensUpload asked a g m inside) f =
+        upload-moved u (getD-set-other (w .bank .places) (freePlace (w .bank)) (u .place) _ noPlace (λ z. taken-free z))
+      where
+        taken-free : u .place ≡ freePlace (w .bank) → ⊥
+        taken-free z =
+            never (sym (ap isFree (u .used))
+            ∙ (ap (λ (i : ℕ). isFree (placeAt (w .bank) i .used)) z ∙ free-passes (w .bank) (let y = v .sizes .places in omega arith)))
+    case-open lent q d (opensDownload asked a g m) f = upload-moved u refl
+    case-open lent q d (toUpload i transfer r x a asked inside found sound) f =
+        upload-moved u (getD-set-other (w .bank .places) i (u .place) _ noPlace
+        (other-place i (placeAt (w .bank) i .transaction) refl (and-true-right (sameBits t (placeAt (w .bank) i .transaction)) ∙ f)))
+    case-open lent q d (toDownload j transfer r x a asked inside found sound) f = upload-moved u (at x)
+      where
+        at : (x : DownloadVerdict) → placeAt (downloadStepBy x j w q .world .bank) (u .place) ≡ placeAt (w .bank) (u .place)
+        at down.Deliver = refl
+        at down.Resend = refl
+        at down.Point = refl
+        at down.Abort = refl
+        at down.Done = refl
+        at down.Skipped = refl

@@ -1,0 +1,294 @@
+-- An accepted opening keeps the invariant.
+use Prim.Native.Nat.{ℕ, suc, _+_, _≤_, _<_}
+use mathlib.Core.Bool.{Bool, true, false, not, _&&_, Bool·not-not}
+use mathlib.Core.List.{List, _∷_}
+use mathlib.Core.Path.{_≡_, refl, sym, ap, _∙_, subst}
+use native.Mathlib.Omega.{arith}
+use lib.Dec.{eqb}
+use lib.ListN.{length, set, replicate, length-set}
+use borrow.Author.Tests.{eqb-true}
+use Rattle.frame.specs.declared.fields.Bits128.{Bits128}
+use Rattle.frame.specs.declared.fields.Fields.{Fields}
+use Rattle.frame.specs.declared.table.Form.{Form}
+use Rattle.frame.specs.declared.table.Form.the-variants as forms
+use Rattle.frame.specs.Names.{subscriber, nonce, timestamp, segments, form}
+use Rattle.frame.proofs.Tests.{never, and-true}
+use Rattle.message.specs.Limits.{fileBytes}
+use Rattle.message.specs.Segments.{segmentsOf}
+use Rattle.bank_state.specs.declared.state.Bank.{Bank}
+use Rattle.bank_state.specs.declared.state.Download.{Download}
+use Rattle.bank_state.specs.declared.state.Nonce.{Nonce}
+use Rattle.bank_state.specs.declared.state.Place.{Place}
+use Rattle.bank_state.specs.declared.state.Use.{Use}
+use Rattle.bank_state.specs.declared.state.Use.the-variants.{Free, Open, Booked}
+use Rattle.bank_state.specs.Limits.{placeCount, openMost, openPerSubscriber}
+use Rattle.bank_state.specs.Rows.{countOf}
+use Rattle.bank_state.specs.Search.{isFree, isOpen, freePlace, freeDownload, freeNonce, openCount, openCountOf}
+use Rattle.bank_state.specs.State.{World, world, noPlace, noDownload, placeAt, downloadAt}
+use Rattle.bank_state.specs.Store.{partAt}
+use Rattle.bank_step.specs.Openings.{fileLength, transactionOf, counted, openUpload, openDownload}
+use Rattle.bank.specs.Call.{mailboxSegment}
+use Rattle.bank_history.specs.History.{
+  Action,
+  OpenedUpload,
+  OpenedDownload,
+  Of,
+  Exchange,
+  mailboxFile,
+  isBooking,
+  isOpening,
+  opens,
+  nonceOf,
+  isAction,
+  did,
+  ever,
+  accepted,
+  segmentsNow,
+}
+use Rattle.bank_history.specs.Sound.{SoundOpening, more}
+use Rattle.bank_history.specs.Invariant.{FreePlace, PlaceHolds, DownloadHolds, Memory, Invariant}
+use Rattle.bank_state.proofs.Rows.{first-passes}
+use Rattle.bank_history.proofs.Rows.{
+  each-set,
+  first-if-few,
+  count-set-le,
+  count-set-suc,
+  packed-add,
+}
+use Rattle.bank_history.proofs.Judged.{Acceptable}
+use Rattle.bank_history.proofs.Cases.{Admitted, openingStepBy}
+use Rattle.bank_history.proofs.Entries.{did-other, known-more, booked-more, accepted-own}
+use Rattle.bank_history.proofs.Memory.{memory-added}
+use Rattle.bank_history.proofs.Places.{place-unchanged, newPlace, place-opened}
+use Rattle.bank_history.proofs.Records.{download-unchanged, newDownload, download-opened}
+use Rattle.bank_history.proofs.PlaceChange.{changedAt, place-change}
+use Rattle.bank_history.proofs.DownloadChange.{download-change}
+use Rattle.bank_history.proofs.Uploads.{entry, place-number, still-booked}
+use Rattle.bank_history.proofs.Downloads.{file-long, download-open, carried-segment, some-segment}
+
+is-free : (u : Use) → isFree u ≡ true → u ≡ Free
+is-free Free e = refl
+is-free Open e = never e
+is-free Booked e = never e
+
+free-not-booked : (u : Use) → u ≡ Free → u ≡ Booked → ⊥
+free-not-booked u e f = let z : _≡_ {A = ℕ} 0 1 = cc in omega arith
+
+pub free-passes : (b : Bank) → freePlace b < length (b .places) → isFree (placeAt b (freePlace b) .used) ≡ true
+unfolding freePlace
+free-passes b h = first-passes (λ (p : Place). isFree (p .used)) (b .places) noPlace h
+
+-- with fewer open downloads than records there is a free record
+free-inside : (b : Bank) → countOf (λ (e : Download). e .used) (b .downloads) < length (b .downloads) →
+    freeDownload b < length (b .downloads)
+unfolding freeDownload
+free-inside b h = first-if-few (λ (e : Download). not (e .used)) (b .downloads) (simp Bool·not-not h)
+
+pub free-inside-open : (b : Bank) → length (b .downloads) ≡ placeCount → openCount b < openMost → freeDownload b < length (b .downloads)
+unfolding openCount
+free-inside-open b long few = free-inside b (omega arith)
+
+-- how many pass a test that also asks for the subscriber, with one record more of the subscriber s
+module _ {A : Type 0} (used : A → Bool) (owner : A → ℕ) (l : List A) (i : ℕ) (x d : A) where
+  count-owner : (s : ℕ) → countOf (λ (r : A). used r && eqb (owner r) s) (set l i x) ≤ suc
+      (countOf (λ (r : A). used r && eqb (owner r) s) l)
+  count-owner s = count-set-suc (λ (r : A). used r && eqb (owner r) s) l i x
+
+  count-other : (s : ℕ) → eqb (owner x) s ≡ false →
+      countOf (λ (r : A). used r && eqb (owner r) s) (set l i x) ≤ countOf (λ (r : A). used r && eqb (owner r) s) l
+  count-other s e = count-set-le (λ (r : A). used r && eqb (owner r) s) l i x d
+      (λ z. never (sym e ∙ and-true (used x) (eqb (owner x) s) z .1))
+
+module _ (lent : ℕ) (w : World) (h : List Exchange) (v : Invariant w h) (q : Fields) (d : List ℕ) (admitted : Admitted q d)
+    (acceptable : Acceptable (w .bank) q) where
+  abbrev t : Bits128
+  t = transactionOf lent (w .bank)
+
+  abbrev o : ℕ
+  o = w .bank .openings
+
+  abbrev nonces : List Nonce
+  nonces = set (w .bank .nonces) (freeNonce (w .bank)) (record { used = true; value = nonce q; timestamp = timestamp q })
+
+  unknown : ever isAction t h ≡ false
+  unknown = at (ever isAction t h) refl
+    where
+      at : (b : Bool) → ever isAction t h ≡ b → b ≡ false
+      at true e = absurd (let z = v .known t e in omega arith)
+      at false e = refl
+
+  memory-kept : (x : Exchange) → opens (x .event) ≡ true → x .request ≡ q → Memory (w .bank .clock) nonces (x ∷ h)
+  unfolding freeNonce
+  memory-kept x opened same =
+      let e : nonceOf x ≡ record { used = true; value = nonce q; timestamp = timestamp q } =
+      ap (λ (f : Fields). record { used = true; value = nonce f; timestamp = timestamp f }) same in
+      subst (λ (z : Nonce). Memory (w .bank .clock) (set (w .bank .nonces) (freeNonce (w .bank)) z) (x ∷ h)) e
+      (memory-added (w .bank .clock) h x opened (rw same (acceptable .timely)) (w .bank .nonces) (v .memory) (acceptable .memory))
+
+  module _ (k : Action) (starts : isOpening k ≡ true) (unbooked : isBooking k ≡ false) (x : Exchange) (own : x .event ≡ Of t k) where
+    counted-more : o + 1 ≡ accepted (x ∷ h)
+    counted-more = let a : accepted (x ∷ h) ≡ suc (accepted h) = accepted-own t k x h own
+        ∙ rw starts refl in let b = v .counted in omega arith
+
+    places-stay : (i : ℕ) → i < placeCount →
+        PlaceHolds (placeAt (w .bank) i .used) (w .bank .clock) (o + 1) (x ∷ h) (placeAt (w .bank) i) (partAt (w .orders) i)
+    places-stay i a =
+        place-unchanged x h o (o + 1) (omega arith) (placeAt (w .bank) i) (partAt (w .orders) i) (w .bank .clock)
+        (placeAt (w .bank) i .used)
+        (λ f. ap (did isAction (placeAt (w .bank) i .transaction)) own
+        ∙ did-other (placeAt (w .bank) i .transaction) t k (λ z. let n = place-number w h v i a f in omega arith))
+        (v .places i a)
+
+    downloads-stay : (j : ℕ) →
+        DownloadHolds (downloadAt (w .bank) j .used) (w .bank .clock) (o + 1) (x ∷ h)
+        (mailboxFile w (downloadAt (w .bank) j .subscriber)) (downloadAt (w .bank) j)
+    downloads-stay j =
+        download-unchanged x h o (o + 1) (omega arith) (mailboxFile w (downloadAt (w .bank) j .subscriber)) (downloadAt (w .bank) j)
+        (w .bank .clock) (downloadAt (w .bank) j .used)
+        (λ f. ap (did isAction (downloadAt (w .bank) j .transaction)) own
+        ∙ did-other (downloadAt (w .bank) j .transaction) t k (λ z. let n = download-open w h v j f .counted in omega arith))
+        (v .downloads j)
+
+    known-stays : (u : Bits128) → ever isAction u (x ∷ h) ≡ true → u .low < o + 1
+    known-stays = known-more t k x h own (o + 1) (omega arith) (λ u e. let z = v .known u e in omega arith)
+
+  sound-opening : (f : Form) (x : Exchange) → x .request ≡ q → form q ≡ f → SoundOpening f t x h
+  sound-opening f x e asked = record {
+    numbered = v .counted;
+    asked = ap form e ∙ asked;
+    known = rw e (admitted .known);
+    most = rw e (admitted .most);
+  }
+
+  -- an upload opened
+  pub opens-upload : form q ≡ forms.UploadOpening → (segments q ≡ 0 → ⊥) → freePlace (w .bank) < placeCount →
+      Invariant (openingStepBy (openUpload lent q (w .bank)) w q .world)
+      (entry (Of t OpenedUpload) (openingStepBy (openUpload lent q (w .bank)) w q) w q d ∷ h)
+  unfolding openUpload counted mailboxSegment openCount openCountOf
+  opens-upload asked some inside = place-change w i new (o + 1) nonces (w .orders) {g = x ∷ h} v (record {
+    bytes = replicate fileBytes 0;
+    inside = inside;
+    stored = v .sizes .orders;
+    here = wasFree .zeros;
+    elsewhere = λ j n. refl;
+    remembered = length-set (w .bank .nonces) (freeNonce (w .bank)) _ ∙ v .sizes .nonces;
+    memory = memory-kept x refl refl;
+    counted = counted-more OpenedUpload refl refl x refl;
+    numbers = let z = acceptable .numbers in omega arith;
+    new = place-opened x h o (w .bank .clock) t refl refl unknown (admitted .known) (admitted .most) (omega arith) (acceptable .few);
+    others = λ j a n. places-stay OpenedUpload refl refl x refl j a;
+    downloads = downloads-stay OpenedUpload refl refl x refl;
+    apartPlace = λ j a n f g e. let z = place-number w h v j a g in omega arith;
+    apartDownload = λ j f g e. let z = download-open w h v j g .counted in omega arith;
+    openAll = let m = count-set-suc (λ (r : Place). isOpen (r .used)) (w .bank .places) i new in let a = acceptable .ofAll in omega arith;
+    openOf = λ s. openOf s (eqb (subscriber q) s) refl;
+    known = known-stays OpenedUpload refl refl x refl;
+    booked = λ u g. still-booked w h v i new (changedAt i new (o + 1) nonces (w .orders) w) refl (free-not-booked _ isFree′) u
+        (v .booked u (booked-more t OpenedUpload x h refl refl u g));
+    sound = more {e = x} (record {
+      reply = refl;
+      event = record { opening = sound-opening forms.UploadOpening x refl asked; some = omega arith; few = acceptable .few; bare = refl };
+    }) (v .sound);
+  })
+    where
+      i : ℕ
+      i = freePlace (w .bank)
+
+      new : Place
+      new = newPlace t (subscriber q) o (segments q) (w .bank .clock)
+
+      x : Exchange
+      x = entry (Of t OpenedUpload) (openingStepBy (openUpload lent q (w .bank)) w q) w q d
+
+      isFree′ : placeAt (w .bank) (freePlace (w .bank)) .used ≡ Free
+      isFree′ = is-free _ (free-passes (w .bank) (let z = v .sizes .places in omega arith))
+
+      wasFree : FreePlace (placeAt (w .bank) (freePlace (w .bank))) (partAt (w .orders) (freePlace (w .bank)))
+      wasFree = subst (λ (u : Use). PlaceHolds u (w .bank .clock) o h (placeAt (w .bank) (freePlace (w .bank)))
+          (partAt (w .orders) (freePlace (w .bank)))) isFree′ (v .places i inside)
+
+      openOf : (s : ℕ) (b : Bool) → eqb (subscriber q) s ≡ b →
+          countOf (λ (p : Place). isOpen (p .used) && eqb (p .subscriber) s) (set (w .bank .places) i new)
+          + countOf (λ (e : Download). e .used && eqb (e .subscriber) s) (w .bank .downloads) ≤ openPerSubscriber
+      openOf s true e =
+          let m = count-owner (λ (p : Place). isOpen (p .used)) (λ (p : Place). p .subscriber) (w .bank .places) i new noPlace s in
+          let a : openCountOf s (w .bank) < openPerSubscriber =
+          subst (λ (z : ℕ). openCountOf z (w .bank) < openPerSubscriber) (eqb-true (subscriber q) s e) (acceptable .ofSubscriber) in
+          omega arith
+      openOf s false e =
+          let m = count-other (λ (p : Place). isOpen (p .used)) (λ (p : Place). p .subscriber) (w .bank .places) i new noPlace s e in
+          omega (arith, v .openOf s)
+
+  -- a download opened
+  pub opens-download : form q ≡ forms.DownloadOpening → (fileLength (subscriber q) (w .bank) ≡ 0 → ⊥) →
+      Invariant (openingStepBy (openDownload lent q (w .bank)) w q .world)
+      (entry (Of t (OpenedDownload (segmentsNow w q))) (openingStepBy (openDownload lent q (w .bank)) w q) w q d ∷ h)
+  unfolding openDownload counted openCount openCountOf mailboxFile fileLength freeDownload
+  opens-download asked some = download-change w _ (o + 1) _ nonces _ _ {g = x ∷ h} v (record {
+    listed = length-set (w .bank .downloads) j new ∙ v .sizes .downloads;
+    remembered = length-set (w .bank .nonces) (freeNonce (w .bank)) _ ∙ v .sizes .nonces;
+    filed = v .sizes .files;
+    stored = v .sizes .boxes;
+    counted = counted-more k refl refl x refl;
+    numbers = let z = acceptable .numbers in omega arith;
+    places = places-stay k refl refl x refl;
+    downloads = each-set (w .bank .downloads) j new noDownload inside
+        (λ (i : ℕ) (r : Download). DownloadHolds (r .used) (w .bank .clock) (o + 1) (x ∷ h) (mailboxFile w (r .subscriber)) r)
+        (download-opened x h o (w .bank .clock) (segmentsNow w q) t refl refl unknown (admitted .known) (admitted .most) full
+        (some-segment _ full))
+        (λ i n. downloads-stay k refl refl x refl i);
+    mailboxes = v .mailboxes;
+    apart = λ i l a f. each-set (w .bank .downloads) j new noDownload inside
+        (λ (m : ℕ) (r : Download). r .used ≡ true → placeAt (w .bank) i .number ≡ r .transaction .low → ⊥)
+        (λ g e. let z = place-number w h v i a f in omega arith) (λ m n. v .apart i m a f) l;
+    inOrder = packed-add (λ (r : Download). r .used) noDownload (λ (r : Download). r .transaction .low)
+        (λ (r : Download). suc (r .transaction .low))
+        new (v .inOrder) refl refl (omega arith) (λ i u. download-open w h v i u .counted);
+    memory = memory-kept x refl refl;
+    openAll = let m = count-set-suc (λ (r : Download). r .used) (w .bank .downloads) j new in let a = acceptable .ofAll in omega arith;
+    openOf = λ s. openOf s (eqb (subscriber q) s) refl;
+    known = known-stays k refl refl x refl;
+    booked = λ u g. v .booked u (booked-more t k x h refl refl u g);
+    sound = more {e = x} (record {
+      reply = refl;
+      event = record {
+        opening = sound-opening forms.DownloadOpening x refl asked;
+        full = full;
+        count = ap segmentsOf (sym long);
+        part = carried-segment w (subscriber q) 1 (omega arith);
+      };
+    }) (v .sound);
+  })
+    where
+      j : ℕ
+      j = freeDownload (w .bank)
+
+      new : Download
+      new = newDownload t (subscriber q) (w .bank .clock)
+
+      k : Action
+      k = OpenedDownload (segmentsNow w q)
+
+      x : Exchange
+      x = entry (Of t k) (openingStepBy (openDownload lent q (w .bank)) w q) w q d
+
+      inside : j < length (w .bank .downloads)
+      inside = free-inside-open (w .bank) (v .sizes .downloads) (acceptable .ofAll)
+
+      long : length (mailboxFile w (subscriber q)) ≡ fileLength (subscriber q) (w .bank)
+      long = file-long w h v (subscriber q) (admitted .known) (admitted .most)
+
+      full : 1 ≤ length (mailboxFile w (subscriber q))
+      full = let z = long in omega arith
+
+      openOf : (s : ℕ) (b : Bool) → eqb (subscriber q) s ≡ b →
+          countOf (λ (p : Place). isOpen (p .used) && eqb (p .subscriber) s) (w .bank .places)
+          + countOf (λ (e : Download). e .used && eqb (e .subscriber) s) (set (w .bank .downloads) j new) ≤ openPerSubscriber
+      openOf s true e =
+          let m = count-owner (λ (r : Download). r .used) (λ (r : Download). r .subscriber) (w .bank .downloads) j new noDownload s in
+          let a : openCountOf s (w .bank) < openPerSubscriber =
+          subst (λ (z : ℕ). openCountOf z (w .bank) < openPerSubscriber) (eqb-true (subscriber q) s e) (acceptable .ofSubscriber) in
+          omega arith
+      openOf s false e =
+          let m = count-other (λ (r : Download). r .used) (λ (r : Download). r .subscriber) (w .bank .downloads) j new noDownload s e in
+          omega (arith, v .openOf s)

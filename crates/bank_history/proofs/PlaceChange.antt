@@ -1,0 +1,113 @@
+-- The invariant of a bank in which one place has changed, from what is new about that place.
+use Prim.Native.Nat.{ℕ, _≤_, _<_}
+use mathlib.Core.Bool.{true, false}
+use mathlib.Core.List.{List}
+use mathlib.Core.Path.{_≡_, refl, sym, _∙_}
+use native.Mathlib.Omega.{arith}
+use lib.ListN.{length, getD, set, length-set}
+use Rattle.frame.specs.declared.fields.Bits128.{Bits128}
+use Rattle.bank_state.specs.declared.state.Nonce.{Nonce}
+use Rattle.bank_state.specs.declared.state.Place.{Place}
+use Rattle.bank_state.specs.Limits.{placeCount, storeBytes, nonceCount, openMost, openPerSubscriber, openingsMost}
+use Rattle.bank_state.specs.Search.{isFree, openCount, openCountOf}
+use Rattle.bank_state.specs.State.{World, world, noPlace, placeAt, downloadAt}
+use Rattle.bank_state.specs.Store.{partAt}
+use Rattle.bank_step.specs.Openings.{fileLength}
+use Rattle.bank_history.proofs.Rows.{each-set}
+use Rattle.bank_history.specs.History.{Exchange, mailboxFile, accepted, ever, isAction, isBooking}
+use Rattle.bank_history.specs.Sound.{AllSound}
+use Rattle.bank_history.specs.Invariant.{PlaceHolds, DownloadHolds, Memory, BookedIn, Invariant}
+
+-- the bank with place i changed, and with another number of openings, other nonces and another store of the places
+abbrev pub changedAt : ℕ → Place → ℕ → List Nonce → List ℕ → World → World
+changedAt i p openings nonces orders w =
+    world
+    (record {
+      clock = w .bank .clock;
+      openings = openings;
+      places = set (w .bank .places) i p;
+      downloads = w .bank .downloads;
+      nonces = nonces;
+      files = w .bank .files;
+    })
+    orders
+    (w .boxes)
+
+module _ (w : World) (i : ℕ) (p : Place) (o : ℕ) (nonces : List Nonce) (orders : List ℕ) where
+  -- what is new about the place, and what is not about the others, with the history g
+  pub record PlaceChange (g : List Exchange) : Type 0 where
+    pub bytes : List ℕ
+    pub inside : i < placeCount
+    pub stored : length orders ≡ storeBytes
+    pub here : partAt orders i ≡ bytes
+    pub elsewhere : (j : ℕ) → (j ≡ i → ⊥) → partAt orders j ≡ partAt (w .orders) j
+    pub remembered : length nonces ≡ nonceCount
+    pub memory : Memory (w .bank .clock) nonces g
+    pub counted : o ≡ accepted g
+    pub numbers : o ≤ openingsMost
+    pub new : PlaceHolds (p .used) (w .bank .clock) o g p bytes
+    pub others : (j : ℕ) → j < placeCount → (j ≡ i → ⊥) →
+        PlaceHolds (placeAt (w .bank) j .used) (w .bank .clock) o g (placeAt (w .bank) j) (partAt (w .orders) j)
+    pub downloads : (j : ℕ) →
+        DownloadHolds (downloadAt (w .bank) j .used) (w .bank .clock) o g (mailboxFile w (downloadAt (w .bank) j .subscriber))
+        (downloadAt (w .bank) j)
+    pub apartPlace : (j : ℕ) → j < placeCount → (j ≡ i → ⊥) → isFree (p .used) ≡ false → isFree (placeAt (w .bank) j .used) ≡ false →
+        p .number ≡ placeAt (w .bank) j .number → ⊥
+    pub apartDownload : (j : ℕ) → isFree (p .used) ≡ false → downloadAt (w .bank) j .used ≡ true →
+        p .number ≡ downloadAt (w .bank) j .transaction .low → ⊥
+    pub openAll : openCount (changedAt i p o nonces orders w .bank) ≤ openMost
+    pub openOf : (s : ℕ) → openCountOf s (changedAt i p o nonces orders w .bank) ≤ openPerSubscriber
+    pub known : (t : Bits128) → ever isAction t g ≡ true → t .low < o
+    pub booked : (t : Bits128) → ever isBooking t g ≡ true → BookedIn (changedAt i p o nonces orders w) t
+    pub sound : AllSound g
+
+  -- what holds of the changed place and of the others holds of each place
+  pub each-place : length (w .bank .places) ≡ placeCount → i < placeCount → (P : ℕ → Place → Type 0) → P i p →
+      ((j : ℕ) → j < placeCount → (j ≡ i → ⊥) → P j (placeAt (w .bank) j)) → (j : ℕ) → j < placeCount →
+      P j (getD (set (w .bank .places) i p) j noPlace)
+  each-place long inside P new others j h =
+      each-set (w .bank .places) i p noPlace (omega arith) (λ (k : ℕ) (r : Place). k < placeCount → P k r) (λ _. new)
+      (λ k n b. others k b n) j h
+
+  pub place-change : {h g : List Exchange} → Invariant w h → PlaceChange g → Invariant (changedAt i p o nonces orders w) g
+  unfolding mailboxFile fileLength
+  place-change {h} {g} v c = record {
+    sizes = record {
+      places = length-set (w .bank .places) i p ∙ v .sizes .places;
+      downloads = v .sizes .downloads;
+      nonces = c .remembered;
+      files = v .sizes .files;
+      orders = c .stored;
+      boxes = v .sizes .boxes;
+    };
+    counted = c .counted;
+    numbers = c .numbers;
+    places = each (λ (j : ℕ) (r : Place). PlaceHolds (r .used) (w .bank .clock) o g r (partAt orders j)) (rw (c .here) (c .new))
+        (λ j a n. rw (c .elsewhere j n) (c .others j a n));
+    downloads = c .downloads;
+    mailboxes = v .mailboxes;
+    placesApart = λ j k a b. each
+        (λ (m : ℕ) (r : Place). isFree (r .used) ≡ false → isFree (getD (set (w .bank .places) i p) k noPlace .used) ≡ false →
+        r .number ≡ getD (set (w .bank .places) i p) k noPlace .number → m ≡ k)
+        (each (λ (m : ℕ) (r : Place). isFree (p .used) ≡ false → isFree (r .used) ≡ false → p .number ≡ r .number → i ≡ m)
+        (λ _ _ _. refl) (λ m d n x y z. absurd (c .apartPlace m d n x y z)) k b)
+        (λ m d n. each (λ (l : ℕ) (r : Place). isFree (placeAt (w .bank) m .used) ≡ false → isFree (r .used) ≡ false →
+        placeAt (w .bank) m .number ≡ r .number → m ≡ l)
+        (λ x y z. absurd (c .apartPlace m d n y x (sym z))) (λ l e _. v .placesApart m l d e) k b)
+        j a;
+    apart = λ j k a. each
+        (λ (m : ℕ) (r : Place). isFree (r .used) ≡ false → downloadAt (w .bank) k .used ≡ true →
+        r .number ≡ downloadAt (w .bank) k .transaction .low → ⊥)
+        (c .apartDownload k) (λ m d n. v .apart m k d) j a;
+    inOrder = v .inOrder;
+    memory = c .memory;
+    openAll = c .openAll;
+    openOf = c .openOf;
+    known = c .known;
+    booked = c .booked;
+    sound = c .sound;
+  }
+    where
+      each : (P : ℕ → Place → Type 0) → P i p → ((j : ℕ) → j < placeCount → (j ≡ i → ⊥) → P j (placeAt (w .bank) j)) →
+          (j : ℕ) → j < placeCount → P j (getD (set (w .bank .places) i p) j noPlace)
+      each = each-place (v .sizes .places) (c .inside)

@@ -1,0 +1,350 @@
+-- Exchanges of a sound history: each opening has its own number, each segment is taken once, what is ended was not booked.
+use Prim.Native.Nat.{ℕ, suc, _+_, _-_, _*_, _≤_, _<_}
+use mathlib.Core.Bool.{Bool, true, false, cond, _&&_}
+use mathlib.Core.List.{List, [], _∷_, _++_}
+use mathlib.Core.Path.{_≡_, refl, sym, ap, _∙_, subst}
+use native.Mathlib.Omega.{arith}
+use lib.ListN.{take, drop}
+use lib.Seq.{take-add}
+use Rattle.frame.specs.declared.fields.Bits128.{Bits128}
+use Rattle.frame.specs.Names.{subscriber, segment, sameBits}
+use Rattle.frame.proofs.Tests.{never, and-true}
+use Rattle.message.specs.Limits.{segmentBytes}
+use Rattle.message.specs.Segments.{segmentOf}
+use Rattle.bank_history.specs.History.{
+  Action,
+  OpenedUpload,
+  OpenedDownload,
+  Took,
+  TookLast,
+  UploadPoint,
+  DownloadPoint,
+  Cancelled,
+  Delivered,
+  SentAgain,
+  Confirmed,
+  Declined,
+  Event,
+  Unreadable,
+  Refusal,
+  Of,
+  Exchange,
+  Stands,
+  newest,
+  older,
+  isOpening,
+  isTaking,
+  isBooking,
+  isEnding,
+  isAction,
+  did,
+  ever,
+  times,
+  received,
+  openedBy,
+  segmentsAt,
+  accepted,
+  opens,
+  OpensNumber,
+  ActionIn,
+}
+use Rattle.bank_history.specs.Sound.{
+  SoundAction,
+  SoundEvent,
+  SoundRequest,
+  SoundTaking,
+  Sound,
+  AllSound,
+  none,
+  more,
+}
+use Rattle.bank_history.proofs.Judged.{by-test}
+use Rattle.bank_history.proofs.Entries.{bits-same, ever-own, did-same}
+
+pub sound-at : {e : Exchange} {g h : List Exchange} → AllSound h → Stands e g h → Sound e g
+sound-at (more s r) newest = s
+sound-at (more s r) (older p) = sound-at r p
+
+-- what the event of a standing exchange says
+pub action-sound : {e : Exchange} {g h : List Exchange} {t : Bits128} {k : Action} → AllSound h → Stands e g h → e .event ≡ Of t k →
+    SoundAction k t e g
+action-sound {e} {g} r p own = subst (λ (v : Event). SoundEvent v e g) own (sound-at r p .event)
+
+-- at most one exchange with one value, where the value is a measure of what came before it that each such exchange raises
+module _ (P : Exchange → Type 0) (value : Exchange → ℕ) (measure : List Exchange → ℕ)
+    (known : (e : Exchange) (g : List Exchange) → Sound e g → P e → value e ≡ measure g)
+    (raises : (e : Exchange) (g : List Exchange) → P e → measure g < measure (e ∷ g))
+    (grows : (e : Exchange) (g : List Exchange) → measure g ≤ measure (e ∷ g)) where
+  below : {e : Exchange} {g h : List Exchange} → Stands e g h → P e → measure g < measure h
+  below {e} {g} newest p = raises e g p
+  below (older {x = x} {h = h} s) p = let a = below s p in let b = grows x h in omega arith
+
+  pub one-place : {e f : Exchange} {g k h : List Exchange} → AllSound h → Stands e g h → Stands f k h → P e → P f → value e ≡ value f →
+      (e ≡ f) × (g ≡ k)
+  one-place (more s r) newest newest p q z = (refl, refl)
+  one-place {e} {f} {g} {k} (more s r) newest (older b) p q z =
+      absurd (let m = known e g s p in let n = known f k (sound-at r b) q in let l = below b q in omega arith)
+  one-place {e} {f} {g} {k} (more s r) (older a) newest p q z =
+      absurd (let m = known f k s q in let n = known e g (sound-at r a) p in let l = below a p in omega arith)
+  one-place (more s r) (older a) (older b) p q z = one-place r a b p q z
+
+-- ---- openings
+
+opening-number : (t : Bits128) (e : Exchange) (g : List Exchange) (k : Action) → isOpening k ≡ true → SoundAction k t e g →
+    t .low ≡ accepted g
+opening-number t e g OpenedUpload o s = s .opening .numbered
+opening-number t e g (OpenedDownload n) o s = s .opening .numbered
+opening-number t e g Took o s = never o
+opening-number t e g TookLast o s = never o
+opening-number t e g (UploadPoint k) o s = never o
+opening-number t e g (DownloadPoint d) o s = never o
+opening-number t e g (Cancelled c) o s = never o
+opening-number t e g (Delivered n) o s = never o
+opening-number t e g (SentAgain n) o s = never o
+opening-number t e g Confirmed o s = never o
+opening-number t e g Declined o s = never o
+
+-- "The accepted openings are numbered from 0": each has its own number
+pub one-opening : (n : ℕ) {e f : Exchange} {g k h : List Exchange} → AllSound h → Stands e g h → Stands f k h → OpensNumber n e →
+    OpensNumber n f → (e ≡ f) × (g ≡ k)
+unfolding accepted
+one-opening n r a b p q = one-place (OpensNumber n) (λ _. n) accepted known raises grows r a b p q refl
+  where
+    known : (e : Exchange) (g : List Exchange) → Sound e g → OpensNumber n e → n ≡ accepted g
+    known e g s p = sym (p .numbered)
+        ∙ opening-number (p .id) e g (p .action) (p .opening) (subst (λ (v : Event). SoundEvent v e g) (p .is) (s .event))
+
+    raises : (e : Exchange) (g : List Exchange) → OpensNumber n e → accepted g < accepted (e ∷ g)
+    raises e g p = rw (p .is) (rw (p .opening) (omega arith))
+
+    grows : (e : Exchange) (g : List Exchange) → accepted g ≤ accepted (e ∷ g)
+    grows e g = by-test (λ (m : ℕ). accepted g ≤ m) (opens (e .event)) (λ _. omega arith) (λ _. omega arith)
+
+-- ---- one kind of actions of one transaction
+
+module _ (f : Action → Bool) (t : Bits128) where
+  times-raises : (e : Exchange) (g : List Exchange) → ActionIn f t e → times f t g < times f t (e ∷ g)
+  unfolding times
+  times-raises e g p =
+      let z : did f t (e .event) ≡ true = ap (did f t) (p .is) ∙ (did-same f t (p .action) ∙ p .kind) in
+      rw z (omega arith)
+
+  times-grows : (e : Exchange) (g : List Exchange) → times f t g ≤ times f t (e ∷ g)
+  unfolding times
+  times-grows e g = by-test (λ (m : ℕ). times f t g ≤ m) (did f t (e .event)) (λ _. omega arith) (λ _. omega arith)
+
+  never-times : (h : List Exchange) → ever f t h ≡ false → times f t h ≡ 0
+  unfolding ever times
+  never-times [] e = refl
+  never-times (x ∷ h) e = at (did f t (x .event)) (never-times h) e
+    where
+      at : (b : Bool) → (ever f t h ≡ false → times f t h ≡ 0) → cond b true (ever f t h) ≡ false →
+          cond b (suc (times f t h)) (times f t h) ≡ 0
+      at true later z = never (sym z)
+      at false later z = later z
+
+taking-next : (k : Action) {t : Bits128} {e : Exchange} {g : List Exchange} → isTaking k ≡ true → SoundAction k t e g → SoundTaking t e g
+taking-next OpenedUpload o s = never o
+taking-next (OpenedDownload n) o s = never o
+taking-next Took o s = s .taking
+taking-next TookLast o s = s .taking
+taking-next (UploadPoint k) o s = never o
+taking-next (DownloadPoint d) o s = never o
+taking-next (Cancelled c) o s = never o
+taking-next (Delivered n) o s = never o
+taking-next (SentAgain n) o s = never o
+taking-next Confirmed o s = never o
+taking-next Declined o s = never o
+
+-- the segments of a transaction were taken in the order 1, 2, 3 ..., so each at most once
+pub taking-sound : {t : Bits128} {e : Exchange} {g h : List Exchange} → AllSound h → Stands e g h → ActionIn isTaking t e →
+    SoundTaking t e g
+taking-sound r p d = taking-next (d .action) (d .kind) (action-sound r p (d .is))
+
+pub one-taking : (t : Bits128) {e f : Exchange} {g k h : List Exchange} → AllSound h → Stands e g h → Stands f k h →
+    ActionIn isTaking t e → ActionIn isTaking t f →
+    segment (e .request) ≡ segment (f .request) → (e ≡ f) × (g ≡ k)
+one-taking t = one-place (ActionIn isTaking t) (λ (e : Exchange). segment (e .request)) (λ (g : List Exchange). suc (times isTaking t g))
+    (λ e g s p. taking-next (p .action) (p .kind) (subst (λ (v : Event). SoundEvent v e g) (p .is) (s .event)) .next)
+    (λ e g p. let z = times-raises isTaking t e g p in omega arith) (λ e g. let z = times-grows isTaking t e g in omega arith)
+
+booking-last : (k : Action) → isBooking k ≡ true → k ≡ TookLast
+booking-last OpenedUpload o = never o
+booking-last (OpenedDownload n) o = never o
+booking-last Took o = never o
+booking-last TookLast o = refl
+booking-last (UploadPoint k) o = never o
+booking-last (DownloadPoint d) o = never o
+booking-last (Cancelled c) o = never o
+booking-last (Delivered n) o = never o
+booking-last (SentAgain n) o = never o
+booking-last Confirmed o = never o
+booking-last Declined o = never o
+
+-- "Segment N books the order": the segment taken is the last one of its opening exactly when it books
+last-books : (t : Bits128) (e : Exchange) (g : List Exchange) (k : Action) → isTaking k ≡ true → SoundAction k t e g →
+    segment (e .request) ≡ segmentsAt t g → isBooking k ≡ true
+last-books t e g OpenedUpload o s z = never o
+last-books t e g (OpenedDownload n) o s z = never o
+last-books t e g Took o s z = absurd (let b = s .below in omega arith)
+last-books t e g TookLast o s z = refl
+last-books t e g (UploadPoint k) o s z = never o
+last-books t e g (DownloadPoint d) o s z = never o
+last-books t e g (Cancelled c) o s z = never o
+last-books t e g (Delivered n) o s z = never o
+last-books t e g (SentAgain n) o s z = never o
+last-books t e g Confirmed o s z = never o
+last-books t e g Declined o s z = never o
+
+pub taken-last-books : (t : Bits128) {e : Exchange} {g h : List Exchange} → AllSound h → Stands e g h → ActionIn isTaking t e →
+    segment (e .request) ≡ segmentsAt t g → ActionIn isBooking t e
+taken-last-books t {e} {g} r p d z =
+    record { action = d .action; is = d .is; kind = last-books t e g (d .action) (d .kind) (action-sound r p (d .is)) z }
+
+pub booking-takes-last : (t : Bits128) {e : Exchange} {g h : List Exchange} → AllSound h → Stands e g h → ActionIn isBooking t e →
+    segment (e .request) ≡ segmentsAt t g
+booking-takes-last t r p d = action-sound r p (d .is ∙ ap (Of t) (booking-last (d .action) (d .kind))) .last
+
+-- a transaction is booked at most once
+pub one-booking : (t : Bits128) {e f : Exchange} {g k h : List Exchange} → AllSound h → Stands e g h → Stands f k h →
+    ActionIn isBooking t e → ActionIn isBooking t f → (e ≡ f) × (g ≡ k)
+one-booking t r a b p q = one-place (ActionIn isBooking t) (λ _. 0) (times isBooking t) known (times-raises isBooking t)
+    (times-grows isBooking t) r a b p q refl
+  where
+    known : (e : Exchange) (g : List Exchange) → Sound e g → ActionIn isBooking t e → 0 ≡ times isBooking t g
+    known e g s p =
+        let last = subst (λ (v : Event). SoundEvent v e g) (p .is ∙ ap (Of t) (booking-last (p .action) (p .kind))) (s .event) in
+        sym (never-times isBooking t g (last .taking .upload .request .unbooked))
+
+-- ---- from the truth values to exchanges
+
+action-in : (f : Action → Bool) (t : Bits128) (x : Exchange) (v : Event) → x .event ≡ v → did f t v ≡ true → ActionIn f t x
+action-in f t x Unreadable e d = never d
+action-in f t x (Refusal c) e d = never d
+action-in f t x (Of u k) e d =
+    let a = and-true (sameBits t u) (f k) d in
+    record { action = k; is = e ∙ ap (λ (b : Bits128). Of b k) (sym (bits-same t u (a .0))); kind = a .1 }
+
+pub ever-stands : (f : Action → Bool) (t : Bits128) (h : List Exchange) → ever f t h ≡ true →
+    (e : Exchange) × (g : List Exchange) × Stands e g h × ActionIn f t e
+unfolding ever
+ever-stands f t [] z = never z
+ever-stands f t (x ∷ h) z = at (did f t (x .event)) refl (ever-stands f t h) z
+  where
+    at : (b : Bool) → did f t (x .event) ≡ b → (ever f t h ≡ true → (e : Exchange) × (g : List Exchange) × Stands e g h × ActionIn f t e) →
+        cond b true (ever f t h) ≡ true →
+        (e : Exchange) × (g : List Exchange) × Stands e g (x ∷ h) × ActionIn f t e
+    at true d later y = (x, h, newest, action-in f t x (x .event) refl d)
+    at false d later y = let r = later y in (r .0, r .1, older (r .2), r .3)
+
+pub stands-ever : (f : Action → Bool) (t : Bits128) {e : Exchange} {g h : List Exchange} → Stands e g h → ActionIn f t e → ever f t h ≡ true
+unfolding ever
+stands-ever f t {e} {g} newest p = ever-own t (p .action) e g (p .is) f ∙ ap (λ (b : Bool). cond b true (ever f t g)) (p .kind)
+stands-ever f t (older {x = x} {h = h} s) p = rw (stands-ever f t s p) (any (did f t (x .event)))
+  where
+    any : (b : Bool) → cond b true true ≡ true
+    any true = refl
+    any false = refl
+
+-- ---- what is ended was not booked, and what is booked was not ended
+
+-- every action but an opening answers a request to an open transaction of its subscriber
+pub request-of : (k : Action) {t : Bits128} {e : Exchange} {g : List Exchange} → isOpening k ≡ false → SoundAction k t e g →
+    SoundRequest t e g
+request-of OpenedUpload o s = never (sym o)
+request-of (OpenedDownload n) o s = never (sym o)
+request-of Took o s = s .taking .upload .request
+request-of TookLast o s = s .taking .upload .request
+request-of (UploadPoint k) o s = s .upload .request
+request-of (DownloadPoint d) o s = s .request
+request-of (Cancelled c) o s = s .request
+request-of (Delivered n) o s = s .carried .download .request
+request-of (SentAgain n) o s = s .carried .download .request
+request-of Confirmed o s = s .receipt .download .request
+request-of Declined o s = s .download .request
+
+ending-opens-not : (k : Action) → isEnding k ≡ true → isOpening k ≡ false
+ending-opens-not OpenedUpload o = never o
+ending-opens-not (OpenedDownload n) o = never o
+ending-opens-not Took o = refl
+ending-opens-not TookLast o = refl
+ending-opens-not (UploadPoint k) o = refl
+ending-opens-not (DownloadPoint d) o = refl
+ending-opens-not (Cancelled c) o = refl
+ending-opens-not (Delivered n) o = refl
+ending-opens-not (SentAgain n) o = refl
+ending-opens-not Confirmed o = refl
+ending-opens-not Declined o = refl
+
+pub ended-unbooked : (t : Bits128) {h : List Exchange} → AllSound h → ever isEnding t h ≡ true → ever isBooking t h ≡ true → ⊥
+ended-unbooked t {h} r e b = let x = ever-stands isEnding t h e in let y = ever-stands isBooking t h b in at r (x .2) (x .3) (y .2) (y .3)
+  where
+    at : {e f : Exchange} {g k h : List Exchange} → AllSound h → Stands e g h → ActionIn isEnding t e → Stands f k h →
+        ActionIn isBooking t f → ⊥
+    at {e} {f} {g} {k} (more s r) newest p newest q =
+        let z : Of t (p .action) ≡ Of t TookLast = sym (p .is) ∙ (q .is ∙ ap (Of t) (booking-last (q .action) (q .kind))) in
+        never (sym (ap ending z) ∙ p .kind)
+      where
+        ending : Event → Bool
+        ending Unreadable = false
+        ending (Refusal c) = false
+        ending (Of u d) = isEnding d
+    at {e} {f} {g} (more s r) newest p (older b) q =
+        let z = request-of (p .action) (ending-opens-not (p .action) (p .kind))
+        (subst (λ (v : Event). SoundEvent v e g) (p .is) (s .event)) in
+        never (sym (z .unbooked) ∙ stands-ever isBooking t b q)
+    at {e} {f} {g} {k} (more s r) (older a) p newest q =
+        let z = subst (λ (v : Event). SoundEvent v f k) (q .is ∙ ap (Of t) (booking-last (q .action) (q .kind))) (s .event) in
+        never (sym (z .taking .upload .request .going) ∙ stands-ever isEnding t a p)
+    at (more s r) (older a) p (older b) q = at r a p b q
+
+-- a request of another subscriber is no action of t
+pub foreign-request : (t : Bits128) (e : Exchange) (h : List Exchange) → Sound e h → t .low < accepted h →
+    (openedBy t h ≡ subscriber (e .request) → ⊥) → did isAction t (e .event) ≡ false
+foreign-request t e h sound known foreign = at (e .event) (sound .event)
+  where
+    same : (k : Action) → SoundAction k t e h → (b : Bool) → isOpening k ≡ b → ⊥
+    same k s true o = let z = opening-number t e h k o s in omega arith
+    same k s false o = foreign (request-of k o s .owner)
+
+    of : (u : Bits128) (k : Action) → SoundAction k u e h → (b : Bool) → sameBits t u ≡ b → b && true ≡ false
+    of u k s true z = absurd (same k (subst (λ (i : Bits128). SoundAction k i e h) (sym (bits-same t u z)) s) (isOpening k) refl)
+    of u k s false z = refl
+
+    at : (v : Event) → SoundEvent v e h → did isAction t v ≡ false
+    at Unreadable s = refl
+    at (Refusal c) s = refl
+    at (Of u k) s = of u k s (sameBits t u) refl
+
+-- ---- the payload
+
+segment-behind : (payload : List ℕ) (n : ℕ) → segmentOf payload (suc n) ≡ take segmentBytes (drop (n * segmentBytes) payload)
+unfolding segmentOf
+segment-behind payload n = let e : suc n - 1 ≡ n = omega arith in ap (λ (m : ℕ). take segmentBytes (drop (m * segmentBytes) payload)) e
+
+-- where every segment taken of t is the payload's, the data received are the payload's front
+pub received-payload : (t : Bits128) (payload : List ℕ) {h : List Exchange} → AllSound h →
+    ((e : Exchange) (g : List Exchange) → Stands e g h → ActionIn isTaking t e →
+    e .requestData ≡ segmentOf payload (segment (e .request))) →
+    received t h ≡ take (times isTaking t h * segmentBytes) payload
+unfolding received times
+received-payload t payload none cut = refl
+received-payload t payload (more {e = e} {h = h} s r) cut =
+    at (did isTaking t (e .event)) refl (received-payload t payload r (λ x g p. cut x g (older p)))
+  where
+    more-data : ActionIn isTaking t e → received t h ≡ take (times isTaking t h * segmentBytes) payload →
+        received t h ++ e .requestData ≡ take (suc (times isTaking t h) * segmentBytes) payload
+    more-data d z =
+        let n = times isTaking t h in
+        let next = taking-next (d .action) (d .kind) (subst (λ (v : Event). SoundEvent v e h) (d .is) (s .event)) .next in
+        let a : suc n * segmentBytes ≡ n * segmentBytes + segmentBytes = omega arith in
+        let b = cut e h newest d ∙ (ap (segmentOf payload) next ∙ segment-behind payload n) in
+        ap (λ (l : List ℕ). l ++ e .requestData) z
+        ∙ (ap (λ (l : List ℕ). take (n * segmentBytes) payload ++ l) b
+        ∙ (sym (take-add (n * segmentBytes) segmentBytes payload) ∙ ap (λ (m : ℕ). take m payload) (sym a)))
+
+    at : (b : Bool) → did isTaking t (e .event) ≡ b → received t h ≡ take (times isTaking t h * segmentBytes) payload →
+        cond b (received t h ++ e .requestData) (received t h) ≡ take
+        (cond b (suc (times isTaking t h)) (times isTaking t h) * segmentBytes) payload
+    at true d z = more-data (action-in isTaking t e (e .event) refl d) z
+    at false d z = z

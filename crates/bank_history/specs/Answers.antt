@@ -1,0 +1,36 @@
+-- "Every frame gets its reply": calls whose lent bytes are bytes, and what the answer to a frame is, as bytes.
+use Prim.Native.Nat.{ℕ, _≤_}
+use mathlib.Core.List.{List, [], _∷_}
+use mathlib.Core.Path.{_≡_}
+use lib.ListN.{take, drop}
+use Rattle.frame.specs.Reader.{readReply}
+use Rattle.frame.specs.Row.{dataOf}
+use Rattle.frame.specs.Writer.{largestReply}
+use Rattle.frame.proofs.Numbers.{Bytes}
+use Rattle.bank.specs.declared.call.FrameAnswer.the-variants.{Reply}
+use Rattle.bank.specs.Call.{FrameCall}
+use Rattle.bank_history.specs.History.{Exchange, BankCall, Frame, File}
+
+-- the lent ID bytes and the frame of a call, or its file, are bytes
+abbrev pub BytesIn : BankCall → Type 0
+BytesIn (Frame time ids frame buffer) = Bytes ids × Bytes frame
+BytesIn (File mailbox file) = Bytes file
+
+pub data AllBytes : List BankCall → Type 0 where
+  none : AllBytes []
+  more : {c : BankCall} {calls : List BankCall} → BytesIn c → AllBytes calls → AllBytes (c ∷ calls)
+
+-- "unreadable request 0D": three bytes and six digits
+abbrev pub smallestReply : ℕ
+smallestReply = 9
+
+-- the call c into the buffer old is answered by a frame, which says the reply of the exchange e with its data;
+-- "reply bytes behind the reply are untouched"
+pub record FrameAnswered (c : FrameCall) (old : List ℕ) (e : Exchange) : Type 0 where
+  pub size : ℕ
+  pub answer : c .answer ≡ Reply size
+  pub least : smallestReply ≤ size
+  pub most : size ≤ largestReply
+  pub fields : readReply (take size (c .buffer)) ≡ e .reply
+  pub contents : dataOf (take size (c .buffer)) ≡ e .replyData
+  pub untouched : drop size (c .buffer) ≡ drop size old

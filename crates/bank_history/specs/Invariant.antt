@@ -1,0 +1,195 @@
+-- The bank's invariant: what holds of the state, the stores and the history after every list of calls.
+use Prim.Native.Nat.{ℕ, suc, _+_, _-_, _*_, _<_, _≤_}
+use mathlib.Core.Bool.{Bool, true, false}
+use mathlib.Core.List.{List, _++_}
+use mathlib.Core.Path.{_≡_}
+use lib.ListN.{length, getD, take, replicate}
+use Rattle.frame.specs.declared.fields.Bits128.{Bits128}
+use Rattle.message.specs.Limits.{subscribers, segmentBytes, segmentsMost, fileBytes, attemptsMost}
+use Rattle.message.specs.Segments.{segmentsOf}
+use Rattle.bank_state.specs.declared.state.Download.{Download}
+use Rattle.bank_state.specs.declared.state.Nonce.{Nonce}
+use Rattle.bank_state.specs.declared.state.Place.{Place}
+use Rattle.bank_state.specs.declared.state.Use.{Use}
+use Rattle.bank_state.specs.declared.state.Use.the-variants.{Free, Open, Booked}
+use Rattle.bank_state.specs.Limits.{
+  placeCount,
+  storeBytes,
+  nonceCount,
+  idleLimit,
+  openMost,
+  openPerSubscriber,
+  openingsMost,
+}
+use Rattle.bank_state.specs.Search.{isFree, isOpen, openCount, openCountOf}
+use Rattle.bank_state.specs.State.{World, noPlace, noDownload, noNonce, placeAt, downloadAt}
+use Rattle.bank_state.specs.Store.{partAt}
+use Rattle.bank_history.specs.History.{
+  Exchange,
+  Past,
+  mailboxFile,
+  isUploadOpening,
+  isDownloadOpening,
+  isBooking,
+  isTaking,
+  isDelivery,
+  isEnding,
+  isAction,
+  ever,
+  times,
+  received,
+  accepted,
+  openedBy,
+  segmentsAt,
+  fileAtOpening,
+  remembered,
+}
+use Rattle.bank_history.specs.Packed.{Packed}
+use Rattle.bank_history.specs.Sound.{AllSound}
+
+-- rows and stores have their lengths
+pub record Sizes (w : World) : Type 0 where
+  pub places : length (w .bank .places) ≡ placeCount
+  pub downloads : length (w .bank .downloads) ≡ placeCount
+  pub nonces : length (w .bank .nonces) ≡ nonceCount
+  pub files : length (w .bank .files) ≡ placeCount
+  pub orders : length (w .orders) ≡ storeBytes
+  pub boxes : length (w .boxes) ≡ storeBytes
+
+-- a place not in use: "Unused bytes of places and mailboxes are 0"
+pub record FreePlace (p : Place) (bytes : List ℕ) : Type 0 where
+  pub empty : p ≡ noPlace
+  pub zeros : bytes ≡ replicate fileBytes 0
+
+-- a place in use, with the number of openings, the history and the place's bytes
+pub record UsedPlace (openings : ℕ) (h : List Exchange) (p : Place) (bytes : List ℕ) : Type 0 where
+  -- "The transaction ID is the 8 lent bytes, then the number"
+  pub numbered : p .transaction .low ≡ p .number
+  pub counted : p .number < openings
+  -- "Subscribers are 1 to 8"
+  pub known : 1 ≤ p .subscriber
+  pub most : p .subscriber ≤ subscribers
+  -- N is 1 to 15
+  pub some : 1 ≤ p .segments
+  pub few : p .segments ≤ segmentsMost
+  -- at most five attempts; the sixth cancels
+  pub tries : p .attempts ≤ attemptsMost
+  -- its transaction was opened by an accepted opening of this subscriber with this number of segments
+  pub opened : ever isUploadOpening (p .transaction) h ≡ true
+  pub owner : openedBy (p .transaction) h ≡ p .subscriber
+  pub size : segmentsAt (p .transaction) h ≡ p .segments
+  -- nothing has cancelled it
+  pub going : ever isEnding (p .transaction) h ≡ false
+  -- k segments were taken, each of 1 to 256 bytes
+  pub takings : times isTaking (p .transaction) h ≡ p .taken
+  pub least : p .taken ≤ p .length
+  pub largest : p .length ≤ p .taken * segmentBytes
+  -- the place holds exactly their data, zeros behind
+  pub long : length (received (p .transaction) h) ≡ p .length
+  pub held : bytes ≡ received (p .transaction) h ++ replicate (fileBytes - p .length) 0
+
+-- an open upload: k < N
+pub record OpenUpload (clock openings : ℕ) (h : List Exchange) (p : Place) (bytes : List ℕ) : Type 0 where
+  pub place : UsedPlace openings h p bytes
+  pub below : p .taken < p .segments
+  pub current : p .last ≤ clock
+  pub unbooked : ever isBooking (p .transaction) h ≡ false
+
+-- a booked order: its segments 1 to N
+pub record BookedOrder (openings : ℕ) (h : List Exchange) (p : Place) (bytes : List ℕ) : Type 0 where
+  pub place : UsedPlace openings h p bytes
+  pub whole : p .taken ≡ p .segments
+  pub booked : ever isBooking (p .transaction) h ≡ true
+
+-- a place by its use
+abbrev pub PlaceHolds : Use → ℕ → ℕ → List Exchange → Place → List ℕ → Type 0
+PlaceHolds Free clock openings h p bytes = FreePlace p bytes
+PlaceHolds Open clock openings h p bytes = OpenUpload clock openings h p bytes
+PlaceHolds Booked clock openings h p bytes = BookedOrder openings h p bytes
+
+-- an open download, with the clock, the number of openings, the history and the file now in its mailbox
+pub record OpenDownload (clock openings : ℕ) (h : List Exchange) (file : List ℕ) (e : Download) : Type 0 where
+  pub counted : e .transaction .low < openings
+  pub known : 1 ≤ e .subscriber
+  pub most : e .subscriber ≤ subscribers
+  pub tries : e .attempts ≤ attemptsMost
+  -- d is 1 to N
+  pub some : 1 ≤ e .delivered
+  pub within : e .delivered ≤ segmentsOf (length file)
+  pub current : e .last ≤ clock
+  -- its transaction was opened by an accepted opening of this subscriber; d segments were delivered; nothing has ended it
+  pub opened : ever isDownloadOpening (e .transaction) h ≡ true
+  pub owner : openedBy (e .transaction) h ≡ e .subscriber
+  pub deliveries : times isDelivery (e .transaction) h ≡ e .delivered
+  pub going : ever isEnding (e .transaction) h ≡ false
+  pub unbooked : ever isBooking (e .transaction) h ≡ false
+  -- the mailbox holds exactly the file of its opening, which is not empty
+  pub unchanged : fileAtOpening (e .transaction) h ≡ file
+  pub full : 1 ≤ length file
+
+-- a record of downloads by its use
+abbrev pub DownloadHolds : Bool → ℕ → ℕ → List Exchange → List ℕ → Download → Type 0
+DownloadHolds true clock openings h file e = OpenDownload clock openings h file e
+DownloadHolds false clock openings h file e = e ≡ noDownload
+
+-- a mailbox with a file of n bytes: zeros behind it
+pub record MailboxHolds (n : ℕ) (bytes : List ℕ) : Type 0 where
+  pub room : n ≤ fileBytes
+  pub zeros : bytes ≡ take n bytes ++ replicate (fileBytes - n) 0
+
+-- the nonces remembered at a clock stand first, and the others are free
+pub record Memory (clock : ℕ) (nonces : List Nonce) (h : List Exchange) : Type 0 where
+  pub held : nonces ≡ remembered clock h ++ replicate (nonceCount - length (remembered clock h)) noNonce
+
+-- the order of transaction t is booked in some place
+pub record BookedIn (w : World) (t : Bits128) : Type 0 where
+  pub place : ℕ
+  pub inside : place < placeCount
+  pub used : placeAt (w .bank) place .used ≡ Booked
+  pub same : placeAt (w .bank) place .transaction ≡ t
+
+pub record Invariant (w : World) (h : List Exchange) : Type 0 where
+  -- rows and stores have their lengths
+  pub sizes : Sizes w
+  -- the openings are counted, at most 1,213,056
+  pub counted : w .bank .openings ≡ accepted h
+  pub numbers : w .bank .openings ≤ openingsMost
+  -- each place is free and zero, or holds exactly what was taken for it
+  pub places : (i : ℕ) → i < placeCount →
+      PlaceHolds (placeAt (w .bank) i .used) (w .bank .clock) (w .bank .openings) h (placeAt (w .bank) i) (partAt (w .orders) i)
+  -- each record of downloads is zero, or an open download of the file at its opening
+  pub downloads : (j : ℕ) →
+      DownloadHolds (downloadAt (w .bank) j .used) (w .bank .clock) (w .bank .openings) h
+      (mailboxFile w (downloadAt (w .bank) j .subscriber)) (downloadAt (w .bank) j)
+  -- each mailbox holds at most 3,840 bytes, zeros behind
+  pub mailboxes : (i : ℕ) → i < placeCount → MailboxHolds (getD (w .bank .files) i 0) (partAt (w .boxes) i)
+  -- no two places in use have one number, and no place that of an open download
+  pub placesApart : (i j : ℕ) → i < placeCount → j < placeCount → isFree (placeAt (w .bank) i .used) ≡ false →
+      isFree (placeAt (w .bank) j .used) ≡ false →
+      placeAt (w .bank) i .number ≡ placeAt (w .bank) j .number → i ≡ j
+  pub apart : (i j : ℕ) → i < placeCount → isFree (placeAt (w .bank) i .used) ≡ false → downloadAt (w .bank) j .used ≡ true →
+      placeAt (w .bank) i .number ≡ downloadAt (w .bank) j .transaction .low → ⊥
+  -- open downloads stand first, in the order of their openings
+  pub inOrder : Packed (λ (e : Download). e .used) noDownload (λ (e : Download). e .transaction .low)
+      (λ (e : Download). suc (e .transaction .low)) 0 (w .bank .downloads)
+  -- the nonces are exactly those remembered, in the order of their openings
+  pub memory : Memory (w .bank .clock) (w .bank .nonces) h
+  -- at most 8 transactions are open, at most 4 of one subscriber
+  pub openAll : openCount (w .bank) ≤ openMost
+  pub openOf : (s : ℕ) → openCountOf s (w .bank) ≤ openPerSubscriber
+  -- every transaction of the history has a number below that of the next opening
+  pub known : (t : Bits128) → ever isAction t h ≡ true → t .low < w .bank .openings
+  -- a transaction whose segment N was taken is booked
+  pub booked : (t : Bits128) → ever isBooking t h ≡ true → BookedIn w t
+  -- every exchange of the history is sound
+  pub sound : AllSound h
+
+-- no open transaction is idle: "open at 3,600, gone at 3,601"
+pub record NoneIdle (w : World) : Type 0 where
+  pub places : (i : ℕ) → i < placeCount → isOpen (placeAt (w .bank) i .used) ≡ true → w .bank .clock ≤ placeAt (w .bank) i .last + idleLimit
+  pub downloads : (j : ℕ) → downloadAt (w .bank) j .used ≡ true → w .bank .clock ≤ downloadAt (w .bank) j .last + idleLimit
+
+-- what holds after every list of calls
+pub record Holds (p : Past) : Type 0 where
+  pub invariant : Invariant (p .world) (p .history)
+  pub current : NoneIdle (p .world)

@@ -1,0 +1,7 @@
+-- The definitions of the bank's history and of its invariant.
+pub mod History
+pub mod Packed
+pub mod Sound
+pub mod Invariant
+pub mod Standing
+pub mod Answers

@@ -1,0 +1,209 @@
+-- What is true of every exchange in a history, seen from the exchanges before it.
+use Prim.Native.Nat.{ℕ, suc, _<_, _≤_}
+use mathlib.Core.Bool.{Bool, true, false, _||_}
+use mathlib.Core.List.{List, [], _∷_}
+use mathlib.Core.Path.{_≡_}
+use lib.Dec.{eqb}
+use lib.ListN.{length}
+use Rattle.frame.specs.declared.fields.Bits128.{Bits128}
+use Rattle.frame.specs.declared.table.Form.{Form}
+use Rattle.frame.specs.declared.table.Form.the-variants as forms
+use Rattle.frame.specs.Names.{subscriber, transaction, segments, segment, lastMark, receiptCode, form}
+use Rattle.message.specs.declared.codes.ReturnCode.{ReturnCode}
+use Rattle.message.specs.declared.codes.ReturnCode.the-variants as code
+use Rattle.message.specs.Codes.{codeField}
+use Rattle.message.specs.Limits.{subscribers, segmentBytes, segmentsMost}
+use Rattle.message.specs.Segments.{segmentsOf, segmentOf}
+use Rattle.bank_history.specs.History.{
+  Action,
+  OpenedUpload,
+  OpenedDownload,
+  Took,
+  TookLast,
+  UploadPoint,
+  DownloadPoint,
+  Cancelled,
+  Delivered,
+  SentAgain,
+  Confirmed,
+  Declined,
+  Event,
+  Unreadable,
+  Refusal,
+  Of,
+  Exchange,
+  replyTo,
+  isUploadOpening,
+  isDownloadOpening,
+  isBooking,
+  isTaking,
+  isDelivery,
+  isEnding,
+  ever,
+  times,
+  accepted,
+  openedBy,
+  segmentsAt,
+  fileAtOpening,
+}
+
+-- "transaction cancelled": 091102, 011101, 091104
+abbrev pub cancels : ReturnCode → Bool
+cancels code.Ok = false
+cancels code.DownloadPostprocessDone = false
+cancels code.DownloadPostprocessSkipped = false
+cancels code.SegmentNumberUnderrun = true
+cancels code.InvalidRequest = false
+cancels code.InternalError = false
+cancels code.RecoverySync = false
+cancels code.NoDownloadDataAvailable = false
+cancels code.UserUnknown = false
+cancels code.InvalidOrderType = false
+cancels code.SegmentSizeExceeded = false
+cancels code.InvalidXml = false
+cancels code.UnknownTransaction = false
+cancels code.TransactionAbort = true
+cancels code.MessageReplay = false
+cancels code.SegmentNumberExceeded = true
+cancels code.MaxSegmentsExceeded = false
+cancels code.MaxTransactionsExceeded = false
+
+-- field 0D is one of these three codes
+abbrev pub isCancelling : ℕ → Bool
+isCancelling n = eqb n (codeField code.TransactionAbort) || eqb n (codeField code.SegmentNumberUnderrun) || eqb n
+    (codeField code.SegmentNumberExceeded)
+
+-- "The accepted openings are numbered from 0": t has the next number; the request is of this opening form, from a subscriber 1 to 8
+pub record SoundOpening (f : Form) (t : Bits128) (e : Exchange) (h : List Exchange) : Type 0 where
+  pub numbered : t .low ≡ accepted h
+  pub asked : form (e .request) ≡ f
+  pub known : 1 ≤ subscriber (e .request)
+  pub most : subscriber (e .request) ≤ subscribers
+
+-- an upload opened: "0 segments" and "over 15 segments" are refused
+pub record SoundUploadOpening (t : Bits128) (e : Exchange) (h : List Exchange) : Type 0 where
+  pub opening : SoundOpening forms.UploadOpening t e h
+  pub some : 1 ≤ segments (e .request)
+  pub few : segments (e .request) ≤ segmentsMost
+  pub bare : e .replyData ≡ []
+
+-- a download opened: its mailbox is not empty, N is right, "segment 1 is in it"
+pub record SoundDownloadOpening (n : ℕ) (t : Bits128) (e : Exchange) (h : List Exchange) : Type 0 where
+  pub opening : SoundOpening forms.DownloadOpening t e h
+  pub full : 1 ≤ length (e .file)
+  pub count : n ≡ segmentsOf (length (e .file))
+  pub part : e .replyData ≡ segmentOf (e .file) 1
+
+-- a request to an open transaction "of its subscriber": the ID is the request's, and nothing has ended it or booked it
+pub record SoundRequest (t : Bits128) (e : Exchange) (h : List Exchange) : Type 0 where
+  pub same : t ≡ transaction (e .request)
+  pub owner : openedBy t h ≡ subscriber (e .request)
+  pub going : ever isEnding t h ≡ false
+  pub unbooked : ever isBooking t h ≡ false
+
+pub record SoundUpload (t : Bits128) (e : Exchange) (h : List Exchange) : Type 0 where
+  pub request : SoundRequest t e h
+  pub opened : ever isUploadOpening t h ≡ true
+  pub bare : e .replyData ≡ []
+
+-- "With k segments taken of N, only segment k + 1 fits"
+pub record SoundTaking (t : Bits128) (e : Exchange) (h : List Exchange) : Type 0 where
+  pub upload : SoundUpload t e h
+  pub asked : form (e .request) ≡ forms.UploadTransfer
+  pub next : segment (e .request) ≡ suc (times isTaking t h)
+  pub short : length (e .requestData) ≤ segmentBytes
+
+-- "Its last mark must be 1 exactly when k + 1 = N"
+pub record SoundTook (t : Bits128) (e : Exchange) (h : List Exchange) : Type 0 where
+  pub taking : SoundTaking t e h
+  pub below : segment (e .request) < segmentsAt t h
+  pub mark : lastMark (e .request) ≡ 1 → ⊥
+
+pub record SoundTookLast (t : Bits128) (e : Exchange) (h : List Exchange) : Type 0 where
+  pub taking : SoundTaking t e h
+  pub last : segment (e .request) ≡ segmentsAt t h
+  pub mark : lastMark (e .request) ≡ 0 → ⊥
+
+pub record SoundUploadPoint (k : ℕ) (t : Bits128) (e : Exchange) (h : List Exchange) : Type 0 where
+  pub upload : SoundUpload t e h
+  pub point : k ≡ times isTaking t h
+
+-- a download's mailbox "holds exactly the file" of its opening, and N is its number of segments
+pub record SoundDownload (n : ℕ) (t : Bits128) (e : Exchange) (h : List Exchange) : Type 0 where
+  pub request : SoundRequest t e h
+  pub opened : ever isDownloadOpening t h ≡ true
+  pub same : e .file ≡ fileAtOpening t h
+  pub count : n ≡ segmentsOf (length (fileAtOpening t h))
+
+-- the reply's data is the segment asked for, of the file at the opening
+pub record SoundData (n : ℕ) (t : Bits128) (e : Exchange) (h : List Exchange) : Type 0 where
+  pub download : SoundDownload n t e h
+  pub asked : form (e .request) ≡ forms.DownloadTransfer
+  pub some : 1 ≤ segment (e .request)
+  pub within : segment (e .request) ≤ n
+  pub part : e .replyData ≡ segmentOf (fileAtOpening t h) (segment (e .request))
+
+-- "With d delivered, segment d + 1 (up to N) fits"
+pub record SoundDelivery (n : ℕ) (t : Bits128) (e : Exchange) (h : List Exchange) : Type 0 where
+  pub carried : SoundData n t e h
+  pub next : segment (e .request) ≡ suc (times isDelivery t h)
+
+-- "1 to d are sent again"
+pub record SoundAgain (n : ℕ) (t : Bits128) (e : Exchange) (h : List Exchange) : Type 0 where
+  pub carried : SoundData n t e h
+  pub again : segment (e .request) ≤ times isDelivery t h
+
+pub record SoundDownloadPoint (d : ℕ) (t : Bits128) (e : Exchange) (h : List Exchange) : Type 0 where
+  pub request : SoundRequest t e h
+  pub opened : ever isDownloadOpening t h ≡ true
+  pub point : d ≡ times isDelivery t h
+  pub bare : e .replyData ≡ []
+
+-- "A receipt fits when d = N"
+pub record SoundReceipt (t : Bits128) (e : Exchange) (h : List Exchange) : Type 0 where
+  pub download : SoundDownload (times isDelivery t h) t e h
+  pub asked : form (e .request) ≡ forms.Receipt
+  pub bare : e .replyData ≡ []
+
+pub record SoundConfirmed (t : Bits128) (e : Exchange) (h : List Exchange) : Type 0 where
+  pub receipt : SoundReceipt t e h
+  pub taken : receiptCode (e .request) ≡ 0
+
+pub record SoundCancelled (c : ReturnCode) (t : Bits128) (e : Exchange) (h : List Exchange) : Type 0 where
+  pub request : SoundRequest t e h
+  pub cancelling : cancels c ≡ true
+  pub bare : e .replyData ≡ []
+
+-- a refusal that changes nothing beyond clock and drops
+pub record SoundRefusal (c : ReturnCode) (e : Exchange) : Type 0 where
+  pub harmless : cancels c ≡ false
+  pub bare : e .replyData ≡ []
+
+abbrev pub SoundAction : Action → Bits128 → Exchange → List Exchange → Type 0
+SoundAction OpenedUpload t e h = SoundUploadOpening t e h
+SoundAction (OpenedDownload n) t e h = SoundDownloadOpening n t e h
+SoundAction Took t e h = SoundTook t e h
+SoundAction TookLast t e h = SoundTookLast t e h
+SoundAction (UploadPoint k) t e h = SoundUploadPoint k t e h
+SoundAction (DownloadPoint d) t e h = SoundDownloadPoint d t e h
+SoundAction (Cancelled c) t e h = SoundCancelled c t e h
+SoundAction (Delivered n) t e h = SoundDelivery n t e h
+SoundAction (SentAgain n) t e h = SoundAgain n t e h
+SoundAction Confirmed t e h = SoundConfirmed t e h
+SoundAction Declined t e h = SoundReceipt t e h
+
+-- an event by its kind
+abbrev pub SoundEvent : Event → Exchange → List Exchange → Type 0
+SoundEvent Unreadable e h = e .replyData ≡ []
+SoundEvent (Refusal c) e h = SoundRefusal c e
+SoundEvent (Of t k) e h = SoundAction k t e h
+
+-- an exchange behind the history h: its reply's fields are those of its event, and what its event says is so
+pub record Sound (e : Exchange) (h : List Exchange) : Type 0 where
+  pub reply : e .reply ≡ replyTo (e .event) (e .request)
+  pub event : SoundEvent (e .event) e h
+
+-- every exchange of a history is sound
+pub data AllSound : List Exchange → Type 0 where
+  none : AllSound []
+  more : {e : Exchange} {h : List Exchange} → Sound e h → AllSound h → AllSound (e ∷ h)

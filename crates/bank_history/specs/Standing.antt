@@ -1,0 +1,109 @@
+-- What one call after another leaves: mailboxes, transactions that are gone, transactions that stay open.
+use Prim.Native.Nat.{ℕ, _+_, _-_, _*_, _<_, _≤_}
+use mathlib.Core.Bool.{true, false}
+use mathlib.Core.List.{List, [], _∷_, _++_}
+use mathlib.Core.Path.{_≡_}
+use lib.ListN.{length, set, replicate}
+use Rattle.frame.specs.declared.fields.Bits128.{Bits128}
+use Rattle.frame.specs.Bytes.{number, overwrite}
+use Rattle.frame.specs.Names
+use Rattle.frame.specs.Reader.{readRequest}
+use Rattle.frame.specs.Row.{dataOf}
+use Rattle.message.specs.Limits.{fileBytes}
+use Rattle.bank_state.specs.Clock.{advanced}
+use Rattle.bank_state.specs.declared.state.Use.the-variants.{Open, Booked}
+use Rattle.bank_state.specs.Limits.{placeCount, idleLimit}
+use Rattle.bank_state.specs.Search.{isFree}
+use Rattle.bank_state.specs.State.{World, world, placeAt, downloadAt, withFiles}
+use Rattle.bank_state.specs.Store.{partAt}
+use Rattle.bank.specs.Call.{respond}
+use Rattle.bank_history.specs.History.{
+  Of,
+  Confirmed,
+  Exchange,
+  mailboxFile,
+  Past,
+  exchangeOf,
+  isTaking,
+  isBooking,
+  isUploadOpening,
+  ever,
+  times,
+  received,
+  openedBy,
+  segmentsAt,
+}
+
+-- the past of an answered frame
+abbrev pub answered : ℕ → List ℕ → List ℕ → Past → Past
+answered time ids frame p = record {
+  world = respond (number ids) (advanced time (p .world)) (readRequest frame) (dataOf frame) .world;
+  history = exchangeOf (number ids) (advanced time (p .world)) (readRequest frame) (dataOf frame) ∷ p .history;
+}
+
+-- the bank with the file in its mailbox
+abbrev pub filled : ℕ → List ℕ → World → World
+filled mailbox file w =
+    world (withFiles (set (w .bank .files) (mailbox - 1) (length file)) (w .bank)) (w .orders)
+    (overwrite (w .boxes) ((mailbox - 1) * fileBytes) file)
+
+-- what a booked place holds: the subscriber and the number of its accepted opening, and exactly the data of segments 1 to N
+pub record Order (w : World) (h : List Exchange) (t : Bits128) (i : ℕ) : Type 0 where
+  pub inside : i < placeCount
+  pub used : placeAt (w .bank) i .used ≡ Booked
+  pub same : placeAt (w .bank) i .transaction ≡ t
+  pub number : placeAt (w .bank) i .number ≡ t .low
+  pub owner : placeAt (w .bank) i .subscriber ≡ openedBy t h
+  pub long : placeAt (w .bank) i .length ≡ length (received t h)
+  pub held : partAt (w .orders) i ≡ received t h ++ replicate (fileBytes - length (received t h)) 0
+  pub whole : times isTaking t h ≡ segmentsAt t h
+  pub opened : ever isUploadOpening t h ≡ true
+  pub last : ever isBooking t h ≡ true
+
+-- "until a receipt of its subscriber is answered 011000, which alone empties it": the exchange e has emptied mailbox m of the bank w
+pub record Emptied (w : World) (m : ℕ) (e : Exchange) : Type 0 where
+  pub id : Bits128
+  pub confirmed : e .event ≡ Of id Confirmed
+  pub owner : Names.subscriber (e .request) ≡ m
+  pub empty : mailboxFile w m ≡ []
+
+-- "The bank's mailbox holds exactly the file last put in by a call given no number": the bank w has got the file into mailbox m, and is
+-- w′ now
+pub record Filled (w w′ : World) (m : ℕ) (file : List ℕ) : Type 0 where
+  pub was : mailboxFile w m ≡ []
+  pub now : mailboxFile w′ m ≡ file
+  pub others : (n : ℕ) → 1 ≤ n → (n ≡ m → ⊥) → mailboxFile w′ n ≡ mailboxFile w n
+
+-- an accepted opening had the ID t, and no place and no open download has it any more
+pub record Gone (w : World) (t : Bits128) : Type 0 where
+  pub known : t .low < w .bank .openings
+  pub places : (i : ℕ) → isFree (placeAt (w .bank) i .used) ≡ false → placeAt (w .bank) i .transaction ≡ t → ⊥
+  pub downloads : (j : ℕ) → downloadAt (w .bank) j .used ≡ true → downloadAt (w .bank) j .transaction ≡ t → ⊥
+
+-- the upload t of subscriber s is open, k of n segments taken, its last fitting request at the clock last
+pub record UploadAt (w : World) (t : Bits128) (s k n last : ℕ) : Type 0 where
+  pub place : ℕ
+  pub inside : place < placeCount
+  pub used : placeAt (w .bank) place .used ≡ Open
+  pub transaction : placeAt (w .bank) place .transaction ≡ t
+  pub subscriber : placeAt (w .bank) place .subscriber ≡ s
+  pub taken : placeAt (w .bank) place .taken ≡ k
+  pub segments : placeAt (w .bank) place .segments ≡ n
+  pub fitting : placeAt (w .bank) place .last ≡ last
+
+-- the download t of subscriber s is open, d segments delivered, its last fitting request at the clock last
+pub record DownloadAt (w : World) (t : Bits128) (s d last : ℕ) : Type 0 where
+  pub row : ℕ
+  pub inside : row < placeCount
+  pub used : downloadAt (w .bank) row .used ≡ true
+  pub transaction : downloadAt (w .bank) row .transaction ≡ t
+  pub subscriber : downloadAt (w .bank) row .subscriber ≡ s
+  pub delivered : downloadAt (w .bank) row .delivered ≡ d
+  pub fitting : downloadAt (w .bank) row .last ≡ last
+
+-- it is so unless an idle hour has passed: "open at 3,600, gone at 3,601"
+abbrev pub UploadUnlessIdle : World → Bits128 → ℕ → ℕ → ℕ → ℕ → Type 0
+UploadUnlessIdle w t s k n last = w .bank .clock ≤ last + idleLimit → UploadAt w t s k n last
+
+abbrev pub DownloadUnlessIdle : World → Bits128 → ℕ → ℕ → ℕ → Type 0
+DownloadUnlessIdle w t s d last = w .bank .clock ≤ last + idleLimit → DownloadAt w t s d last

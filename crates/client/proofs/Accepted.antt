@@ -1,0 +1,115 @@
+-- What is known of a call that is given no number by its ruling. Assumes nothing.
+use Prim.Native.Nat.{ℕ, _≤_}
+use mathlib.Core.Bool.{Bool, true, false, not, cond, _||_}
+use mathlib.Core.Path.{_≡_, refl, sym}
+use native.Mathlib.Omega.{arith}
+use lib.Dec.{ltb, eqb}
+use borrow.Author.Tests.{ltb-false, eqb-true, eqb-false, not-false}
+use Rattle.frame.proofs.Tests.{never}
+use Rattle.message.specs.Limits.{fileBytes, subscribers}
+use Rattle.client.specs.declared.run.Client.{Client}
+use Rattle.client.specs.declared.run.Direction.{Direction}
+use Rattle.client.specs.declared.run.Direction.the-variants.{Upload, Download}
+use Rattle.client.specs.declared.run.Lengths.{Lengths}
+use Rattle.client.specs.declared.run.Refusal.{Refusal}
+use Rattle.client.specs.declared.run.Ruling.{Ruling}
+use Rattle.client.specs.declared.run.Ruling.the-variants.{Refuse, Accept}
+use Rattle.client.specs.declared.run.Stage.{Stage}
+use Rattle.client.specs.declared.run.Stage.the-variants as stage
+use Rattle.client.specs.Run.{requestRoom, firstExchangeMost, exchangeMost}
+use Rattle.client.specs.Rulings.{
+  wrongBuffers,
+  changedLength,
+  wrongLengths,
+  noSubscriber,
+  isBegun,
+  beginRuling,
+  rulingNotBegun,
+  rulingRunning,
+  rulingEnded,
+  runRuling,
+}
+use Rattle.client.proofs.Apart.{not-both, not-accepted}
+
+pub or-false : (a b : Bool) → a || b ≡ false → (a ≡ false) × (b ≡ false)
+or-false true b h = never (sym h)
+or-false false b h = (refl, h)
+
+-- where a test would refuse, it is false, and the rest decides
+passed : (u : Bool) (x : Refusal) (rest : Ruling) → cond u (Refuse x) rest ≡ Accept → (u ≡ false) × (rest ≡ Accept)
+passed true x rest h = not-accepted x h
+passed false x rest h = (refl, h)
+
+-- the buffers serve the direction
+abbrev pub Serves : Direction → Lengths → Type 0
+Serves Upload l = (1 ≤ l .payload) × (l .payload ≤ fileBytes) × (requestRoom ≤ l .request)
+Serves Download l = (l .file ≡ fileBytes) × (requestRoom ≤ l .request)
+
+pub serves : (way : Direction) (l : Lengths) → wrongBuffers way l ≡ false → Serves way l
+serves Upload l h =
+    let a = or-false _ (ltb (l .request) requestRoom) h in
+    let b = or-false (eqb (l .payload) 0) (ltb fileBytes (l .payload)) (a .0) in
+    let some = eqb-false (l .payload) 0 (b .0) in
+    (omega arith, ltb-false fileBytes (l .payload) (b .1), ltb-false (l .request) requestRoom (a .1))
+serves Download l h =
+    let a = or-false (not (eqb (l .file) fileBytes)) (ltb (l .request) requestRoom) h in
+    (eqb-true (l .file) fileBytes (not-false _ (a .0)), ltb-false (l .request) requestRoom (a .1))
+
+-- "of changed length"
+abbrev pub SameLength : Direction → Client → Lengths → Type 0
+SameLength Upload c l = l .payload ≡ c .length
+SameLength Download c l = ℕ
+
+same-length : (way : Direction) (c : Client) (l : Lengths) → changedLength way c l ≡ false → SameLength way c l
+same-length Upload c l h = eqb-true (l .payload) (c .length) (not-false (eqb (l .payload) (c .length)) h)
+same-length Download c l h = 0
+
+-- a call to a run
+pub record Accepted (c : Client) (l : Lengths) : Type 0 where
+  pub running : c .stage ≡ stage.Running
+  pub exchange : c .exchange ≤ exchangeMost
+  pub buffers : Serves (c .direction) l
+  pub length : SameLength (c .direction) c l
+
+accepted-at : (c : Client) (l : Lengths) (s : Stage) → c .stage ≡ s → runRuling s c l ≡ Accept → Accepted c l
+unfolding rulingNotBegun rulingRunning rulingEnded wrongLengths
+accepted-at c l stage.NotBegun e h = not-accepted _ (passed (ltb (l .request) requestRoom) _ _ h .1)
+accepted-at c l stage.Running e h =
+    let a = passed (wrongLengths c l) _ _ h in
+    let b = or-false (wrongBuffers (c .direction) l) (changedLength (c .direction) c l) (a .0) in record {
+      running = e;
+      exchange = ltb-false exchangeMost (c .exchange) (passed (ltb exchangeMost (c .exchange)) _ _ (a .1) .0);
+      buffers = serves (c .direction) l (b .0);
+      length = same-length (c .direction) c l (b .1);
+    }
+accepted-at c l (stage.Ended w) e h = not-accepted _ (passed (wrongLengths c l) _ _ h .1)
+
+pub accepted : (c : Client) (l : Lengths) → runRuling (c .stage) c l ≡ Accept → Accepted c l
+accepted c l h = accepted-at c l (c .stage) refl h
+
+-- begin
+pub record Begins (c : Client) (way : Direction) (subscriber first : ℕ) (l : Lengths) : Type 0 where
+  pub buffers : Serves way l
+  pub start : first ≤ firstExchangeMost
+  pub low : 1 ≤ subscriber
+  pub high : subscriber ≤ subscribers
+  pub fresh : isBegun (c .stage) ≡ false
+
+pub begins : (c : Client) (way : Direction) (subscriber first : ℕ) (l : Lengths) → beginRuling c way subscriber first l ≡ Accept
+    → Begins c way subscriber first l
+unfolding beginRuling noSubscriber
+begins c way subscriber first l h =
+    let a = passed (wrongBuffers way l) _ _ h in
+    let b = passed (ltb firstExchangeMost first) _ _ (a .1) in
+    let e = passed (noSubscriber subscriber) _ _ (b .1) in
+    let g = or-false (ltb subscriber 1) (ltb subscribers subscriber) (e .0) in record {
+      buffers = serves way l (a .0);
+      start = ltb-false firstExchangeMost first (b .0);
+      low = ltb-false subscriber 1 (g .0);
+      high = ltb-false subscribers subscriber (g .1);
+      fresh = passed (isBegun (c .stage)) _ _ (e .1) .0;
+    }
+
+pub file-served : (way : Direction) (l : Lengths) → Serves way l → way ≡ Download → l .file ≡ fileBytes
+file-served Upload l s e = not-both refl e
+file-served Download l s e = s .0

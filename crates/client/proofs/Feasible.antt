@@ -1,0 +1,64 @@
+-- What a deed needs, its cause gives: no number of the next run wraps, and a newly held segment has its place in the file. Assumes nothing.
+use Prim.Native.Nat.{ℕ, _+_, _^_, _<_, _≤_}
+use mathlib.Core.Bool.{true}
+use mathlib.Core.Path.{_≡_}
+use native.Mathlib.Omega.{arith}
+use Rattle.frame.specs.declared.fields.Fields.{Fields}
+use Rattle.frame.proofs.Tests.{never}
+use Rattle.message.specs.Limits.{segmentBytes, segmentsMost, attemptsMost, fileBytes}
+use Rattle.client.specs.declared.run.Client.{Client}
+use Rattle.client.specs.declared.run.Deed.the-variants.{Opened, Advance, Return, Repeat}
+use Rattle.client.specs.declared.run.Direction.{Direction}
+use Rattle.client.specs.declared.run.Direction.the-variants.{Upload, Download}
+use Rattle.client.specs.NextRun.{learned, isNew}
+use Rattle.client.specs.Run.{exchangeMost}
+use Rattle.client.proofs.Apart.{not-both}
+use Rattle.client.proofs.Causes.{
+  Cause,
+  upload-opened,
+  download-opened,
+  segment-taken,
+  segment-brought,
+  upload-returned,
+  download-returned,
+  silent,
+  repeats-left,
+  upload-point,
+  download-point,
+  taken-below,
+  brought,
+  opens,
+}
+
+-- the outstanding segment of k can be taken with d bytes, in a file buffer of n
+abbrev pub Takes : Client → ℕ → ℕ → Type 0
+Takes k d n =
+    (k .segment + 1 < 2 ^ 64)
+    × (k .exchange ≤ exchangeMost)
+    × (isNew (k .direction) k ≡ true → (k .segment ≤ segmentsMost) × (d ≤ segmentBytes) × (n ≡ fileBytes))
+
+module _ (c : Client) (r : Fields) (d n : ℕ) (x : c .exchange ≤ exchangeMost) (f : c .direction ≡ Download → n ≡ fileBytes) where
+  opened-most : c .direction ≡ Download → Cause c r d Opened → d ≤ segmentBytes
+  opened-most w (upload-opened u s a h) = not-both u w
+  opened-most w (download-opened u s a h) = opens r d h .segment-1 .bytes .most
+
+  pub opened-takes : (way : Direction) → c .direction ≡ way → Cause c r d Opened → Takes (learned way r c) d n
+  opened-takes Upload w k = (omega arith, x, λ new. never (rw w at new))
+  opened-takes Download w k = (omega arith, x, λ new. (omega arith, opened-most w k, f w))
+
+  pub advance-takes : c .segments < 2 ^ 64 → Cause c r d Advance → Takes c d n
+  advance-takes m (segment-taken w s a h) = (omega (arith, taken-below c r h .1), x, λ new. never (rw w at new))
+  advance-takes m (segment-brought w s a h) =
+      let b = brought c r d h .1 in
+      (omega (arith, b .place), x, λ new. (b .place, b .bytes .most, f w))
+
+pub return-fits : (c : Client) (r : Fields) (d s : ℕ) → c .segments < 2 ^ 64 → Cause c r d (Return s) → s + 1 < 2 ^ 64
+return-fits c r d s m (upload-returned w t a h) = omega (arith, upload-point c r h .below)
+return-fits c r d s m (download-returned w t a h) = omega (arith, download-point c r h .most)
+
+pub return-left : (c : Client) (r : Fields) (d s : ℕ) → Cause c r d (Return s) → c .repeats < attemptsMost
+return-left c r d s (upload-returned w t a h) = upload-point c r h .left
+return-left c r d s (download-returned w t a h) = download-point c r h .left
+
+pub repeat-fits : (c : Client) (r : Fields) (d : ℕ) → Cause c r d Repeat → c .repeats < attemptsMost
+repeat-fits c r d (silent h) = repeats-left c h

@@ -1,0 +1,128 @@
+-- A run's transaction ID is 16 bytes, over every list of calls that bring bytes. Assumes nothing.
+use Prim.Native.Nat.{ℕ, _+_, _*_, _^_, _<_}
+use mathlib.Core.Bool.{Bool, true, false}
+use mathlib.Core.List.{List, [], _∷_}
+use mathlib.Core.Path.{_≡_, refl, sym, subst, _∙_}
+use native.Mathlib.Nat.{div-lt-iff-lt-mul, mod-lt}
+use native.Mathlib.Omega.{arith}
+use lib.Dec.{lit<}
+use lib.ListN.{length, getD}
+use Rattle.frame.specs.declared.fields.Fields.{Fields}
+use Rattle.frame.specs.Bytes.{number}
+use Rattle.frame.specs.Names.{form, transaction}
+use Rattle.frame.specs.Reader.{noFields, parse, readReply}
+use Rattle.frame.specs.Row.{highOf, lowOf, dataOf}
+use Rattle.frame.specs.Table.{tagCount, transactionTag, width, has, isReplyForm}
+use Rattle.frame.specs.Writer.{contentOf}
+use Rattle.frame.proofs.Forms.{reply-form}
+use Rattle.frame.proofs.Loops.{FieldWritable, field-writable, content-absent, content-number}
+use Rattle.frame.proofs.Numbers.{Bytes, number-nil, number-lt}
+use Rattle.frame.proofs.RoundTrip.{parsed-says, writable-at}
+use Rattle.message.proofs.Writable.{Wide}
+use Rattle.client.specs.declared.run.Client.{Client}
+use Rattle.client.specs.declared.run.Deed.{Deed}
+use Rattle.client.specs.declared.run.Deed.the-variants.{Ignore, Opened, Advance, Return, Repeat, Close}
+use Rattle.client.specs.declared.run.Direction.{Direction}
+use Rattle.client.specs.declared.run.Ruling.{Ruling}
+use Rattle.client.specs.declared.run.Ruling.the-variants.{Refuse, Accept}
+use Rattle.client.specs.CallLists.{Call, begin, arrived, silent, called, runBehind}
+use Rattle.client.specs.Calls.{beginBy, beginCall, runBy, replyCall, silenceCall}
+use Rattle.client.specs.Decisions.{onReply, onSilence}
+use Rattle.client.specs.NextRun.{beginLength, begun, goOn, repeated, learned, ended}
+use Rattle.client.specs.Rulings.{beginRuling, runRuling}
+use Rattle.client.specs.Run.{Lent, lengthsOf}
+use Rattle.client.proofs.Issues.{issued-keeps, carried}
+use Rattle.client.proofs.Kept.{Issuing, nextOf}
+use Rattle.client.proofs.NextRuns.{holding-transaction, learned-transaction}
+
+-- what a call brings is of the types of its parameters: a time of 32 bits, 12 nonce bytes, and slices of bytes
+pub record TypedLent (l : Lent) : Type 0 where
+  pub time : l .time < 2 ^ 32
+  pub twelve : length (l .nonce) ≡ 12
+  pub nonce : Bytes (l .nonce)
+  pub payload : Bytes (l .payload)
+
+pub data Typed : Call → Type 0 where
+  typed-begin : {way : Direction} {subscriber first : ℕ} {l : Lent} → TypedLent l → Typed (begin way subscriber first l)
+  typed-reply : {frame : List ℕ} {l : Lent} → Bytes frame → TypedLent l → Typed (arrived frame l)
+  typed-silence : {l : Lent} → TypedLent l → Typed (silent l)
+
+pub data AllTyped : List Call → Type 0 where
+  typed-none : AllTyped []
+  typed-more : {k : Call} {ks : List Call} → Typed k → AllTyped ks → AllTyped (k ∷ ks)
+
+-- ---- what is read
+
+number-wide : (f : Fields) (d : List ℕ) → number (contentOf transactionTag f d) < 256 ^ 16 → FieldWritable transactionTag f d
+    → Wide (transaction f)
+unfolding highOf lowOf
+number-wide f d n w =
+    let x = number (contentOf transactionTag f d) in
+    let some : 0 < 2 ^ 64 = lit< tt in (
+      subst (λ (y : ℕ). y < 2 ^ 64) (w .high) (div-lt-iff-lt-mul {k = 2 ^ 64} {x = x} {y = 2 ^ 64} some .1 n),
+      subst (λ (y : ℕ). y < 2 ^ 64) (w .low) (mod-lt x some),
+    )
+
+content-small : (f : Fields) (d : List ℕ) (b : Bool) → has (f .tags) transactionTag ≡ b → number (contentOf transactionTag f d) < 256 ^ 16
+unfolding width
+content-small f d true e =
+    let x = getD (f .high) transactionTag 0 * 2 ^ 64 + getD (f .low) transactionTag 0 in
+    rw (content-number transactionTag f d e (λ z. omega arith)) (number-lt 16 x)
+content-small f d false e = rw (content-absent transactionTag f d e, number-nil) (lit< tt)
+
+wide-at : (s : List ℕ) → Bytes s → (b : Bool) → isReplyForm (form (parse s)) ≡ b → Wide (transaction (readReply s))
+unfolding readReply
+wide-at s b true e =
+    let f = parse s in
+    let all = parsed-says s (reply-form (form f) e) b .1 in
+    let w = field-writable transactionTag f (dataOf s) (writable-at f (dataOf s) tagCount 0 transactionTag all (omega arith) .0) in
+    rw e (number-wide f (dataOf s) (content-small f (dataOf s) (has (f .tags) transactionTag) refl) w)
+wide-at s b false e = rw e (omega arith, omega arith)
+
+-- the transaction ID of a reply
+pub reply-wide : (s : List ℕ) → Bytes s → Wide (transaction (readReply s))
+reply-wide s b = wide-at s b (isReplyForm (form (parse s))) refl
+
+-- ---- each call keeps it
+
+abbrev HasWide : Client → ℕ → Type 0
+HasWide c q = Wide (c .transaction)
+
+pub next-wide : (deed : Deed) → Issuing deed → (c : Client) (r : Fields) (d : ℕ) → Wide (transaction r) → Wide (c .transaction)
+    → Wide (nextOf deed c r d .transaction)
+unfolding goOn repeated
+next-wide Ignore i c r d v w = absurd i
+next-wide Opened i c r d v w =
+    subst Wide (sym (holding-transaction d (learned (c .direction) r c) ∙ learned-transaction (c .direction) r c)) v
+next-wide Advance i c r d v w = subst Wide (sym (holding-transaction d c)) w
+next-wide (Return s) i c r d v w = w
+next-wide Repeat i c r d v w = w
+next-wide (Close u) i c r d v w = absurd i
+
+module _ (c : Client) (w : Wide (c .transaction)) where
+  ruled-wide : (x : Ruling) (deed : Deed) (r : Fields) (d : List ℕ) (l : Lent) → Wide (transaction r)
+      → Wide (runBy x deed c r d l .run .transaction)
+  unfolding ended
+  ruled-wide (Refuse x) deed r d l v = w
+  ruled-wide Accept deed r d l v = carried HasWide deed c r d l 0 w (λ u. w) (λ i. next-wide deed i c r (length d) v w)
+
+  begun-wide : (x : Ruling) (way : Direction) (subscriber first : ℕ) (l : Lent)
+      → Wide (beginBy x c way subscriber first l .run .transaction)
+  unfolding begun
+  begun-wide (Refuse x) way subscriber first l = w
+  begun-wide Accept way subscriber first l =
+      issued-keeps HasWide c (begun way subscriber first (beginLength way (lengthsOf l))) (l .file) l 0 w (omega arith, omega arith)
+
+  call-wide : (k : Call) → Typed k → Wide (called c k .run .transaction)
+  unfolding beginCall replyCall silenceCall
+  call-wide (begin way subscriber first l) t = begun-wide (beginRuling c way subscriber first (lengthsOf l)) way subscriber first l
+  call-wide (arrived frame l) (typed-reply b t) =
+      let r = readReply frame in
+      ruled-wide (runRuling (c .stage) c (lengthsOf l)) (onReply c r (length (dataOf frame))) r (dataOf frame) l (reply-wide frame b)
+  call-wide (silent l) t =
+      ruled-wide (runRuling (c .stage) c (lengthsOf l)) (onSilence c) noFields [] l (omega arith, omega arith)
+
+pub transaction-wide : (c : Client) (ks : List Call) → AllTyped ks → Wide (c .transaction) → Wide (runBehind c ks .transaction)
+unfolding runBehind
+transaction-wide c [] t w = w
+transaction-wide c (k ∷ ks) (typed-more a t) w = transaction-wide (called c k .run) ks t (call-wide c w k a)

@@ -1,0 +1,254 @@
+-- From a begin, each request that a run issues is written, in at most 303 bytes: a call that its ruling lets pass is given no number.
+-- Over every list of calls whose arguments are of their types. Assumes nothing.
+use Prim.Native.Nat.{ℕ, _+_, _-_, _*_, _^_, _≤_, _<_}
+use mathlib.Core.List.{List, []}
+use mathlib.Core.Logic.{inl, inr}
+use mathlib.Core.Path.{_≡_, refl, sym, ap, subst, _∙_}
+use native.Mathlib.Omega.{arith}
+use lib.Dec.{eqb}
+use lib.ListN.{length, take, drop, length-take, length-drop}
+use Rattle.frame.specs.declared.fields.Fields.{Fields}
+use Rattle.frame.specs.declared.table.Form.{Form}
+use Rattle.frame.specs.declared.writer.Written.the-variants.{Length}
+use Rattle.frame.specs.Bytes.{number}
+use Rattle.frame.specs.Names.{transaction}
+use Rattle.frame.specs.Reader.{noFields, readReply}
+use Rattle.frame.specs.Row.{dataOf}
+use Rattle.frame.proofs.Build.{written-in-front}
+use Rattle.frame.proofs.Numbers.{Bytes, bytes-take, bytes-drop, bytesOf-number, number-lt}
+use Rattle.message.specs.Limits.{segmentBytes}
+use Rattle.message.specs.Segments.{segmentsOf, segmentOf, lastMarkOf}
+use Rattle.message.proofs.Writable.{
+  WrittenAs,
+  Wide,
+  Content,
+  upload-opening-written,
+  download-opening-written,
+  upload-transfer-written,
+  download-transfer-written,
+  receipt-written,
+}
+use Rattle.client.specs.declared.run.Answer.{Answer}
+use Rattle.client.specs.declared.run.Answer.the-variants as answer
+use Rattle.client.specs.declared.run.Client.{Client}
+use Rattle.client.specs.declared.run.Deed.{Deed}
+use Rattle.client.specs.declared.run.Deed.the-variants.{Ignore, Opened, Advance, Return, Repeat, Close}
+use Rattle.client.specs.declared.run.Direction.{Direction}
+use Rattle.client.specs.declared.run.Direction.the-variants.{Upload, Download}
+use Rattle.client.specs.declared.run.Lengths.{Lengths}
+use Rattle.client.specs.declared.run.Ruling.{Ruling}
+use Rattle.client.specs.declared.run.Ruling.the-variants.{Accept}
+use Rattle.client.specs.declared.run.Step.the-variants as step
+use Rattle.client.specs.CallLists.{Call, begin, arrived, silent, called, runBehind, requests}
+use Rattle.client.specs.Calls.{isWritten, issued, taken, carryOut, beginCall, runBy, replyCall, silenceCall}
+use Rattle.client.specs.Decisions.{onReply, onSilence}
+use Rattle.client.specs.NextRun.{beginLength, begun, repeated, learned, fileWith}
+use Rattle.client.specs.Rulings.{beginRuling, runRuling}
+use Rattle.client.specs.Requests.{nonceOf, outstanding, outstandingData}
+use Rattle.client.specs.Run.{Lent, lengthsOf, notBegun, requestRoom}
+use Rattle.client.proofs.Accepted.{Serves, SameLength, Accepted, accepted, Begins, begins}
+use Rattle.client.proofs.Apart.{not-both, not-new-running}
+use Rattle.client.proofs.Bounds.{begun-start, begun-exchange, Standing, new, going, standing-new}
+use Rattle.client.proofs.Causes.{by-test, Cause, by-reply, by-silence}
+use Rattle.client.proofs.Course.{UpPlace, Up, up-segments, DownOpening, DownPlace, Down, Course, up, opening, down, Begun}
+use Rattle.client.proofs.Kept.{Issuing, nextOf, next-direction, next-length, begun-next}
+use Rattle.client.proofs.Transactions.{
+  TypedLent,
+  Typed,
+  typed-begin,
+  typed-reply,
+  typed-silence,
+  AllTyped,
+  reply-wide,
+  next-wide,
+  transaction-wide,
+}
+
+-- ---- the parts of a request
+
+number-small : (w : ℕ) (s : List ℕ) → Bytes s → length s ≡ w → number s < 256 ^ w
+number-small w s b e = subst (λ (l : List ℕ). number l < 256 ^ w) (bytesOf-number w s b e) (number-lt w (number s))
+
+nonce-wide : (s : List ℕ) (x : ℕ) → length s ≡ 12 → Bytes s → Wide (nonceOf s x)
+unfolding nonceOf
+nonce-wide s x e b =
+    let low = number-small 4 (drop 8 s) (bytes-drop 8 s b) (simp length-drop (omega arith)) in
+    (number-small 8 (take 8 s) (bytes-take 8 s b) (simp length-take (omega arith)), omega arith)
+
+-- each segment of a payload has some bytes, at most 256
+segment-content : (p : List ℕ) (s : ℕ) → Bytes p → 1 ≤ s → s ≤ segmentsOf (length p)
+    → Content (segmentOf p s) 47 × (length (segmentOf p s) ≤ segmentBytes)
+unfolding segmentOf segmentsOf
+segment-content p s b first last = (
+  record {
+    some = simp (length-take, length-drop) (omega arith);
+    most = simp (length-take, length-drop) (omega arith);
+    bytes = bytes-take segmentBytes (drop ((s - 1) * segmentBytes) p) (bytes-drop ((s - 1) * segmentBytes) p b);
+  },
+  simp length-take (omega arith),
+)
+
+mark-small : (s n : ℕ) → lastMarkOf s n ≤ 1
+mark-small s n = by-test (λ (m : ℕ). m ≤ 1) (eqb s n) (λ e. omega arith) (λ e. omega arith)
+
+-- ---- the request that a run has outstanding
+
+-- it is written in at most 303 bytes
+pub record Sent (c : Client) (l : Lent) : Type 0 where
+  pub size : ℕ
+  pub small : size ≤ requestRoom
+  pub written : isWritten c l ≡ Length size
+
+module _ (c : Client) (first q : ℕ) (b : Begun c first q) (v : Wide (c .transaction)) (l : Lent) (t : TypedLent l)
+    (same : c .direction ≡ Upload → c .length ≡ length (l .payload)) (room : requestRoom ≤ length (l .request)) where
+  sender : (c .subscriber < 2 ^ 16) × (c .exchange < 2 ^ 32)
+  sender = (omega (arith, b .high), omega (arith, begun-exchange c first q b))
+
+  sent : {f : Fields} {d : List ℕ} {x : Form} (n : ℕ) → WrittenAs f d x n → n ≤ requestRoom → outstanding c (l .time) (l .nonce) ≡ f
+      → outstandingData c (l .payload) ≡ d → Sent c l
+  unfolding isWritten
+  sent {f} {d} n w k ef ed =
+      record { size = n; small = k; written = rw (ef, ed) (written-in-front f d (l .request) n (w .accepted) (w .size) (omega arith) .0) }
+
+  up-opening-sent : Up c q → c .step ≡ step.Opening → Sent c l
+  unfolding outstanding outstandingData
+  up-opening-sent u s =
+      let w = upload-opening-written (c .subscriber) (c .exchange) sender (nonceOf (l .nonce) (c .exchange)) (l .time)
+      (nonce-wide (l .nonce) (c .exchange) (t .twelve) (t .nonce)) (t .time) (c .segments) (omega (arith, up-segments c q u .1)) in
+      sent 53 w (omega arith) (rw (u .way, s)) (rw (u .way, s))
+
+  up-segment-sent : Up c q → c .step ≡ step.Segment → 1 ≤ c .segment → Sent c l
+  unfolding outstanding outstandingData
+  up-segment-sent u s some =
+      let count = u .count ∙ ap segmentsOf (same (u .way)) in
+      let few = up-segments c q u .1 in
+      let d = segment-content (l .payload) (c .segment) (t .payload) some (omega (arith, count, u .known, u .within)) in
+      let w = upload-transfer-written (c .subscriber) (c .exchange) sender (c .transaction) v (c .segment)
+      (lastMarkOf (c .segment) (c .segments)) (segmentOf (l .payload) (c .segment)) (omega (arith, u .known, u .within))
+      (mark-small (c .segment) (c .segments)) (d .0) in
+      sent (47 + length (segmentOf (l .payload) (c .segment))) w (omega (arith, d .1)) (rw (u .way, s)) (rw (u .way, s))
+
+  down-opening-sent : DownOpening c q → Sent c l
+  unfolding outstanding outstandingData
+  down-opening-sent o =
+      let w = download-opening-written (c .subscriber) (c .exchange) sender (nonceOf (l .nonce) (c .exchange)) (l .time)
+      (nonce-wide (l .nonce) (c .exchange) (t .twelve) (t .nonce)) (t .time) in
+      sent 48 w (omega arith) (rw (o .way, o .at)) (rw (o .way))
+
+  down-segment-sent : Down c q → c .step ≡ step.Segment → c .segment ≤ c .segments → Sent c l
+  unfolding outstanding outstandingData
+  down-segment-sent e s k =
+      let small = e .known .most in
+      let w = download-transfer-written (c .subscriber) (c .exchange) sender (c .transaction) v (c .segment) (omega arith) in
+      sent 40 w (omega arith) (rw (e .known .way, s)) (rw (e .known .way))
+
+  receipt-sent : Down c q → c .step ≡ step.Receipt → Sent c l
+  unfolding outstanding outstandingData
+  receipt-sent e s =
+      let w = receipt-written (c .subscriber) (c .exchange) sender (c .transaction) v 0 (omega arith) in
+      sent 39 w (omega arith) (rw (e .known .way, s)) (rw (e .known .way))
+
+  course-sent : Course c q → Sent c l
+  course-sent (up u) = at (u .place)
+    where
+      at : UpPlace (c .step) (c .segment) → Sent c l
+      at (inl p) = up-opening-sent u (p .0)
+      at (inr p) = up-segment-sent u (p .0) (p .1)
+  course-sent (opening o) = down-opening-sent o
+  course-sent (down e) = at (e .place)
+    where
+      at : DownPlace (c .step) (c .segment) (c .segments) → Sent c l
+      at (inl p) = down-segment-sent e (p .0) (p .1)
+      at (inr p) = receipt-sent e (p .0)
+
+  pub outstanding-sent : Sent c l
+  outstanding-sent = course-sent (b .course)
+
+-- ---- the calls
+
+-- no number, and a request of at most 303 bytes
+abbrev pub Unrefused : Answer → Type 0
+Unrefused (answer.Request n) = n ≤ requestRoom
+Unrefused answer.Ignored = ℕ
+Unrefused (answer.Closed w) = ℕ
+Unrefused (answer.Refused r) = ⊥
+
+issued-unrefused : (c next : Client) (file : List ℕ) (l : Lent) → Sent next l → Unrefused (issued c next file l .answer)
+unfolding issued
+issued-unrefused c next file l s = rw (s .written) (s .small)
+
+room-served : (way : Direction) (l : Lengths) → Serves way l → requestRoom ≤ l .request
+room-served Upload l s = s .2
+room-served Download l s = s .1
+
+payload-same : (way : Direction) (c : Client) (l : Lengths) → SameLength way c l → way ≡ Upload → c .length ≡ l .payload
+payload-same Upload c l s e = sym s
+payload-same Download c l s e = not-both e refl
+
+module _ (c : Client) (first q : ℕ) (b : Begun c first q) (v : Wide (c .transaction)) (l : Lent) (t : TypedLent l)
+    (a : Accepted c (lengthsOf l)) (r : Fields) (d : List ℕ) (w : Wide (transaction r)) where
+  next-sent : (deed : Deed) → Issuing deed → Cause c r (length d) deed → Sent (nextOf deed c r (length d)) l
+  next-sent deed i k =
+      let same : nextOf deed c r (length d) .direction ≡ Upload → nextOf deed c r (length d) .length ≡ length (l .payload) =
+      λ e.
+      let u = sym (next-direction deed i c r (length d)) ∙ e in
+      next-length deed i c r (length d) u ∙ payload-same (c .direction) c (lengthsOf l) (a .length) u in
+      outstanding-sent (nextOf deed c r (length d)) first (q + 1) (begun-next c first q b r (length d) deed i k)
+      (next-wide deed i c r (length d) w v) l t same (room-served (c .direction) (lengthsOf l) (a .buffers))
+
+  carried-unrefused : (deed : Deed) → Cause c r (length d) deed → Unrefused (carryOut deed c r d l .answer)
+  unfolding taken
+  carried-unrefused Ignore k = 0
+  carried-unrefused Opened k =
+      issued-unrefused c (nextOf Opened c r (length d)) (fileWith (learned (c .direction) r c) d (l .file)) l (next-sent Opened 0 k)
+  carried-unrefused Advance k = issued-unrefused c (nextOf Advance c r (length d)) (fileWith c d (l .file)) l (next-sent Advance 0 k)
+  carried-unrefused (Return s) k = issued-unrefused c (nextOf (Return s) c r (length d)) (l .file) l (next-sent (Return s) 0 k)
+  carried-unrefused Repeat k = issued-unrefused c (repeated c) (l .file) l (next-sent Repeat 0 k)
+  carried-unrefused (Close u) k = 0
+
+begin-same : (way : Direction) (l : Lengths) → way ≡ Upload → beginLength way l ≡ l .payload
+begin-same Upload l e = refl
+begin-same Download l e = not-both e refl
+
+begin-sent : (c : Client) (way : Direction) (subscriber first : ℕ) (l : Lent) → TypedLent l → Begins c way subscriber first (lengthsOf l)
+    → Sent (begun way subscriber first (beginLength way (lengthsOf l))) l
+unfolding begun
+begin-sent c way subscriber first l t b =
+    outstanding-sent (begun way subscriber first (beginLength way (lengthsOf l))) first 1
+    (begun-start c way subscriber first (lengthsOf l) b)
+    (omega arith, omega arith) l t (begin-same way (lengthsOf l)) (room-served way (lengthsOf l) (b .buffers))
+
+-- how a call is ruled
+abbrev pub ruling : Client → Call → Ruling
+ruling c (begin way subscriber first l) = beginRuling c way subscriber first (lengthsOf l)
+ruling c (arrived frame l) = runRuling (c .stage) c (lengthsOf l)
+ruling c (silent l) = runRuling (c .stage) c (lengthsOf l)
+
+module _ (c : Client) (q : ℕ) (v : Wide (c .transaction)) where
+  run-unrefused : (deed : Deed) (r : Fields) (d : List ℕ) (l : Lent) → TypedLent l → Wide (transaction r) → Cause c r (length d) deed
+      → Standing c q → runRuling (c .stage) c (lengthsOf l) ≡ Accept
+      → Unrefused (runBy (runRuling (c .stage) c (lengthsOf l)) deed c r d l .answer)
+  run-unrefused deed r d l t w k (new n z) e =
+      not-new-running (ap (λ (x : Client). x .stage) n) (accepted c (lengthsOf l) e .running)
+  run-unrefused deed r d l t w k (going first g b) e = rw e (carried-unrefused c first q b v l t (accepted c (lengthsOf l) e) r d w deed k)
+
+  call-unrefused : (k : Call) → Typed k → Standing c q → ruling c k ≡ Accept → Unrefused (called c k .answer)
+  unfolding beginCall replyCall silenceCall
+  call-unrefused (begin way subscriber first l) (typed-begin t) s e =
+      rw e
+      (issued-unrefused c (begun way subscriber first (beginLength way (lengthsOf l))) (l .file) l
+      (begin-sent c way subscriber first l t (begins c way subscriber first (lengthsOf l) e)))
+  call-unrefused (arrived frame l) (typed-reply b t) s e =
+      let r = readReply frame in
+      let d = dataOf frame in
+      run-unrefused (onReply c r (length d)) r d l t (reply-wide frame b) (by-reply c r (length d)) s e
+  call-unrefused (silent l) (typed-silence t) s e =
+      run-unrefused (onSilence c) noFields [] l t (omega arith, omega arith) (by-silence c noFields 0) s e
+
+-- over every list of calls to a run: one more call that its ruling lets pass is given no number, and a request has at most 303 bytes
+pub unrefused : (ks : List Call) → AllTyped ks → (k : Call) → Typed k → ruling (runBehind notBegun ks) k ≡ Accept
+    → Unrefused (called (runBehind notBegun ks) k .answer)
+unrefused ks a k t e =
+    call-unrefused (runBehind notBegun ks) (requests notBegun ks) (transaction-wide notBegun ks a (omega arith, omega arith)) k t
+    (standing-new ks)
+    e

@@ -1,0 +1,22 @@
+-- `on_silence` meets its contract. Assumes nothing.
+use Rattle.client.specs.Decisions.{onSilence}
+use borrow.Author.Needs.{needs}
+use Rattle.client.proofs.decisions.on_silence.Statement.{statement}
+use Rattle.client.proofs.decisions.on_silence.Tie as tie
+
+may-repeat-requires : tie.Need-may-repeat-requires
+may-repeat-requires c κs = search needs
+
+returns : tie.Need-returns
+unfolding onSilence
+returns c = simp (← c .before .may-repeat .ensures, c .if1 .taken)
+
+rest-word-requires : tie.Need-rest-word-requires
+rest-word-requires c κs = search needs
+
+returns-2 : tie.Need-returns-2
+unfolding onSilence
+returns-2 c = simp (← c .before .before .may-repeat .ensures, c .before .if1 .left, ← c .rest-word .ensures)
+
+pub on-silence-spec : {M : Type 1} → statement M
+on-silence-spec = tie.close (tie.spec may-repeat-requires returns rest-word-requires returns-2)

@@ -1,0 +1,90 @@
+-- "begin, reply arrived, no reply": what each call leaves.
+use Prim.Native.Nat.{ℕ, _+_}
+use mathlib.Core.List.{List, []}
+use lib.ListN.{length}
+use Rattle.frame.specs.declared.fields.Fields.{Fields}
+use Rattle.frame.specs.declared.writer.Written.{Written}
+use Rattle.frame.specs.declared.writer.Written.the-variants as written
+use Rattle.frame.specs.Reader.{noFields, readReply}
+use Rattle.frame.specs.Row.{dataOf}
+use Rattle.frame.specs.Writer.{writeAnswer, writeBuffer}
+use Rattle.client.specs.declared.run.Answer.the-variants as answer
+use Rattle.client.specs.declared.run.Client.{Client}
+use Rattle.client.specs.declared.run.Deed.{Deed}
+use Rattle.client.specs.declared.run.Deed.the-variants.{Ignore, Opened, Advance, Return, Repeat, Close}
+use Rattle.client.specs.declared.run.Direction.{Direction}
+use Rattle.client.specs.declared.run.Outcome.{Outcome}
+use Rattle.client.specs.declared.run.Refusal.{Refusal}
+use Rattle.client.specs.declared.run.Refusal.the-variants.{WrongBuffer}
+use Rattle.client.specs.declared.run.Ruling.{Ruling}
+use Rattle.client.specs.declared.run.Ruling.the-variants.{Refuse, Accept}
+use Rattle.client.specs.Decisions.{onReply, onSilence}
+use Rattle.client.specs.NextRun.{beginLength, begun, goOn, repeated, learned, holding, fileWith, ended}
+use Rattle.client.specs.Requests.{outstanding, outstandingData}
+use Rattle.client.specs.Rulings.{beginRuling, runRuling}
+use Rattle.client.specs.Run.{Lent, ClientCall, lengthsOf, callOf}
+
+-- what is left where the request is written, and where it is not
+abbrev pub ifWritten : {A : Type 0} → Written → A → A → A
+ifWritten (written.Length n) a b = a
+ifWritten written.Refused a b = b
+
+-- the next run with its request; a request that the writer refuses, which no run from a begin has, is number 5
+abbrev pub outcomeOf : Written → Client → Client → Outcome
+outcomeOf (written.Length n) c next = record { run = next; answer = answer.Request n }
+outcomeOf written.Refused c next = record { run = c; answer = answer.Refused WrongBuffer }
+
+-- whether the outstanding request of the next run is written
+unfoldable pub isWritten : Client → Lent → Written
+isWritten next l = writeAnswer (outstanding next (l .time) (l .nonce)) (outstandingData next (l .payload)) (l .request)
+
+-- the request buffer then
+unfoldable pub requestWith : Client → Lent → List ℕ
+requestWith next l = writeBuffer (outstanding next (l .time) (l .nonce)) (outstandingData next (l .payload)) (l .request)
+
+-- the next run's request issued: the run goes on and the file buffer changes only where it is written
+unfoldable pub issued : Client → Client → List ℕ → Lent → ClientCall
+issued c next file l =
+    callOf (outcomeOf (isWritten next l) c next) (ifWritten (isWritten next l) file (l .file)) (requestWith next l)
+
+-- the segment that the run k has outstanding is answered with the data d: held, and the request behind it issued
+unfoldable pub taken : Client → Client → List ℕ → Lent → ClientCall
+taken c k d l = issued c (goOn (k .segment) (k .repeats) (holding (length d) k)) (fileWith k d (l .file)) l
+
+-- what returns with both buffers as they were
+abbrev pub unchanged : Outcome → Lent → ClientCall
+unchanged o l = callOf o (l .file) (l .request)
+
+-- *The client's owner* "(nothing changed)"
+abbrev pub refused : Refusal → Client → Lent → ClientCall
+refused r c l = unchanged (record { run = c; answer = answer.Refused r }) l
+
+-- what a deed makes of the run and the buffers; r and d are the reply's fields and data
+abbrev pub carryOut : Deed → Client → Fields → List ℕ → Lent → ClientCall
+carryOut Ignore c r d l = unchanged (record { run = c; answer = answer.Ignored }) l
+carryOut Opened c r d l = taken c (learned (c .direction) r c) d l
+carryOut Advance c r d l = taken c c d l
+carryOut (Return s) c r d l = issued c (goOn s (c .repeats + 1) c) (l .file) l
+carryOut Repeat c r d l = issued c (repeated c) (l .file) l
+carryOut (Close w) c r d l = unchanged (record { run = ended w c; answer = answer.Closed w }) l
+
+abbrev pub beginBy : Ruling → Client → Direction → ℕ → ℕ → Lent → ClientCall
+beginBy (Refuse x) c way subscriber first l = refused x c l
+beginBy Accept c way subscriber first l = issued c (begun way subscriber first (beginLength way (lengthsOf l))) (l .file) l
+
+-- begin
+unfoldable pub beginCall : Client → Direction → ℕ → ℕ → Lent → ClientCall
+beginCall c way subscriber first l = beginBy (beginRuling c way subscriber first (lengthsOf l)) c way subscriber first l
+
+abbrev pub runBy : Ruling → Deed → Client → Fields → List ℕ → Lent → ClientCall
+runBy (Refuse x) deed c r d l = refused x c l
+runBy Accept deed c r d l = carryOut deed c r d l
+
+-- reply arrived
+unfoldable pub replyCall : Client → List ℕ → Lent → ClientCall
+replyCall c frame l =
+    runBy (runRuling (c .stage) c (lengthsOf l)) (onReply c (readReply frame) (length (dataOf frame))) c (readReply frame) (dataOf frame) l
+
+-- no reply
+unfoldable pub silenceCall : Client → Lent → ClientCall
+silenceCall c l = runBy (runRuling (c .stage) c (lengthsOf l)) (onSilence c) c noFields [] l

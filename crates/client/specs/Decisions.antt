@@ -1,0 +1,162 @@
+-- "The client run": what fits each step, and what each event leads to.
+use Prim.Native.Nat.{ℕ}
+use mathlib.Core.Bool.{Bool, not, cond, _&&_, _||_}
+use mathlib.Core.List.{List, [], _∷_}
+use lib.Dec.{ltb, leb, eqb}
+use Rattle.frame.specs.declared.fields.Fields.{Fields}
+use Rattle.frame.specs.declared.table.Form.{Form}
+use Rattle.frame.specs.declared.table.Form.the-variants as forms
+use Rattle.frame.specs.Names.{phase, exchange, segments, transaction, segment, lastMark, returnCode, form, sameBits}
+use Rattle.frame.specs.Table.{isReplyForm}
+use Rattle.message.specs.declared.codes.ReturnCode.{ReturnCode}
+use Rattle.message.specs.declared.codes.ReturnCode.the-variants as code
+use Rattle.message.specs.Codes.{codeField}
+use Rattle.message.specs.Limits.{segmentBytes, segmentsMost, attemptsMost, initialisation, transfer, receiptPhase}
+use Rattle.message.specs.Segments.{lastMarkOf}
+use Rattle.message.specs.Verdicts.{decide}
+use Rattle.client.specs.declared.run.Client.{Client}
+use Rattle.client.specs.declared.run.Deed.{Deed}
+use Rattle.client.specs.declared.run.Deed.the-variants.{Ignore, Opened, Advance, Return, Repeat, Close}
+use Rattle.client.specs.declared.run.Direction.{Direction}
+use Rattle.client.specs.declared.run.Direction.the-variants.{Upload, Download}
+use Rattle.client.specs.declared.run.Step.{Step}
+use Rattle.client.specs.declared.run.Step.the-variants as step
+use Rattle.client.specs.declared.run.Word.{Word}
+use Rattle.client.specs.declared.run.Word.the-variants.{Lodged, NotLodged, Unclear, Fetched, HeldUnconfirmed, NotFetched}
+
+-- the place of a form in document 01's list, by which two forms are compared
+abbrev pub formIndex : Form → ℕ
+formIndex forms.NoForm = 0
+formIndex forms.UploadOpening = 1
+formIndex forms.DownloadOpening = 2
+formIndex forms.UploadTransfer = 3
+formIndex forms.DownloadTransfer = 4
+formIndex forms.Receipt = 5
+formIndex forms.UploadOpened = 6
+formIndex forms.DownloadOpened = 7
+formIndex forms.SegmentTaken = 8
+formIndex forms.DownloadSegment = 9
+formIndex forms.ReceiptAnswered = 10
+formIndex forms.Unreadable = 11
+formIndex forms.Refusal = 12
+
+-- the reply is of this form with this code and this phase:
+-- "A reply fits only in its step's form, with code 000000 ..., with that step's phase"
+unfoldable pub says : Form → ReturnCode → ℕ → Fields → Bool
+says x c p r = eqb (formIndex (form r)) (formIndex x) && eqb (returnCode r) (codeField c) && eqb (phase r) p
+
+-- "the run's transaction ID once one is known"
+unfoldable pub isOwn : Client → Fields → Bool
+isOwn c r = sameBits (transaction r) (c .transaction)
+
+-- a closing word where nothing else is said.
+-- Upload: "not lodged (segment N never issued ...); else unclear". Download: "held, unconfirmed (a receipt was issued); else not fetched"
+abbrev pub closingWord : Direction → Client → Word
+closingWord Upload c = cond (ltb (c .issued) (c .segments)) NotLodged Unclear
+closingWord Download c = cond (c .receipted) HeldUnconfirmed NotFetched
+
+unfoldable pub restWord : Client → Word
+restWord c = closingWord (c .direction) c
+
+-- "These repeats and returns number at most five; the sixth ends the run"
+unfoldable pub mayRepeat : Client → Bool
+mayRepeat c = ltb (c .repeats) attemptsMost
+
+-- "ended by a reply 01 03 0D of phase 2 with 091102, 091104 or 011101"
+unfoldable pub endsUpload : Fields → Bool
+endsUpload r =
+    says forms.Refusal code.TransactionAbort transfer r
+    || says forms.Refusal code.SegmentNumberExceeded transfer r
+    || says forms.Refusal code.SegmentNumberUnderrun transfer r
+
+-- a segment's answer, of this form:
+-- "with code 000000 ..., with that step's phase, the run's transaction ID once one is known and the segment number requested"
+unfoldable pub answersSegment : Form → Client → Fields → Bool
+answersSegment x c r = says x code.Ok transfer r && isOwn c r && eqb (segment r) (c .segment)
+
+-- "its data 256 bytes before segment N, 1 to 256 in it": segment s of n with d bytes
+unfoldable pub fitsData : ℕ → ℕ → ℕ → Bool
+fitsData s n d = cond (eqb s n) (leb 1 d && leb d segmentBytes) (eqb d segmentBytes)
+
+-- "... with last mark 1 there only"; no call leaves s over 15
+unfoldable pub fitsSegment : ℕ → ℕ → ℕ → Fields → Bool
+fitsSegment s n d r = leb s segmentsMost && eqb (lastMark r) (lastMarkOf s n) && fitsData s n d
+
+-- "a recovery point has instead its point's phase, as under the frame, and its own r": phase 1 is that of the point behind
+-- segment first: "1 for segment 0 of an upload, else 2"; a download "counts as phase 1 while only" segment 1 "is delivered"
+unfoldable pub isPoint : ℕ → Client → Fields → Bool
+isPoint first c r = says forms.SegmentTaken code.RecoverySync (cond (eqb (segment r) first) initialisation transfer) r && isOwn c r
+
+-- an upload's recovery point leads on "if r < N and segment r + 1 was issued or is next", as one of five
+unfoldable pub uploadReturns : Client → Fields → Bool
+uploadReturns c r = isPoint 0 c r && ltb (segment r) (c .segments) && leb (segment r) (c .issued) && mayRepeat c
+
+-- a download's leads on "if segments 1 to r are held" (no call leaves more than 15), as one of five
+unfoldable pub downloadReturns : Client → Fields → Bool
+downloadReturns c r = isPoint 1 c r && leb (segment r) (c .held) && leb (segment r) segmentsMost && mayRepeat c
+
+-- a download's opening is answered: "a download's N must be 1 to 15", "segment 1 is in it"
+unfoldable pub opensDownload : ℕ → Fields → Bool
+opensDownload d r =
+    says forms.DownloadOpened code.Ok initialisation r
+    && eqb (segment r) 1
+    && leb 1 (segments r)
+    && leb (segments r) segmentsMost
+    && fitsSegment 1 (segments r) d r
+
+-- "lodged (segment N answered 000000)"
+unfoldable pub lodges : Client → Fields → Bool
+lodges c r = answersSegment forms.SegmentTaken c r && eqb (c .segment) (c .segments)
+
+-- a segment before N answered 000000: "An answered step leads to the next"
+unfoldable pub takesSegment : Client → Fields → Bool
+takesSegment c r = answersSegment forms.SegmentTaken c r && ltb (c .segment) (c .segments)
+
+-- a download's segment arrived, with d bytes
+unfoldable pub bringsSegment : Client → Fields → ℕ → Bool
+bringsSegment c r d = answersSegment forms.DownloadSegment c r && fitsSegment (c .segment) (c .segments) d r
+
+-- "fetched (011000)": the receipt is answered
+unfoldable pub confirms : Client → Fields → Bool
+confirms c r = says forms.ReceiptAnswered code.DownloadPostprocessDone receiptPhase r && isOwn c r
+
+-- what a reply under the outstanding exchange number leads to in an upload, by step, from top to bottom: "No 061101 fits an opening"
+abbrev pub uploadRules : Step → Client → Fields → List (Bool × Deed)
+uploadRules step.Opening c r = (says forms.UploadOpened code.Ok initialisation r, Opened) ∷ []
+uploadRules step.Segment c r =
+    (lodges c r, Close Lodged)
+    ∷ (takesSegment c r, Advance)
+    ∷ (uploadReturns c r, Return (segment r))
+    ∷ (endsUpload r, Close NotLodged)
+    ∷ []
+uploadRules step.Receipt c r = []
+
+-- the same in a download; d is the length of the reply's data
+abbrev pub downloadRules : Step → Client → Fields → ℕ → List (Bool × Deed)
+downloadRules step.Opening c r d = (opensDownload d r, Opened) ∷ []
+downloadRules step.Segment c r d = (bringsSegment c r d, Advance) ∷ (downloadReturns c r, Return (segment r)) ∷ []
+downloadRules step.Receipt c r d = (confirms c r, Close Fetched) ∷ (downloadReturns c r, Return (segment r)) ∷ []
+
+-- "the sixth ends the run, as does any other or ill-fitting reply"
+unfoldable pub onUpload : Step → Client → Fields → Deed
+onUpload at c r = decide (uploadRules at c r) (Close (restWord c))
+
+unfoldable pub onDownload : Step → Client → Fields → ℕ → Deed
+onDownload at c r d = decide (downloadRules at c r d) (Close (restWord c))
+
+-- the outstanding request is answered
+abbrev pub onAnswer : Direction → Client → Fields → ℕ → Deed
+onAnswer Upload c r d = onUpload (c .step) c r
+onAnswer Download c r d = onDownload (c .step) c r d
+
+-- "A reply that is unreadable or lacks the outstanding request's exchange number is ignored"; a reply 0D has none
+unfoldable pub isAnswer : Client → Fields → Bool
+isAnswer c r = isReplyForm (form r) && not (eqb (formIndex (form r)) (formIndex forms.Unreadable)) && eqb (exchange r) (c .exchange)
+
+-- a reply arrived: r is what is read of it, d the length of its data
+unfoldable pub onReply : Client → Fields → ℕ → Deed
+onReply c r d = cond (isAnswer c r) (onAnswer (c .direction) c r d) Ignore
+
+-- "No reply repeats the request under a new exchange number"
+unfoldable pub onSilence : Client → Deed
+onSilence c = cond (mayRepeat c) Repeat (Close (restWord c))

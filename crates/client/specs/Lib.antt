@@ -1,0 +1,8 @@
+-- The definitions of the client run.
+pub mod Run
+pub mod Rulings
+pub mod Decisions
+pub mod NextRun
+pub mod Requests
+pub mod Calls
+pub mod CallLists

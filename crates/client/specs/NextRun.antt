@@ -1,0 +1,175 @@
+-- "A client run is handed in and handed back at each call": the next run, by what the event led to.
+use Prim.Native.Nat.{ℕ, _+_, _-_, _*_, max}
+use mathlib.Core.Bool.{Bool, false, cond, _||_}
+use mathlib.Core.List.{List}
+use lib.Dec.{eqb}
+use Rattle.frame.specs.declared.fields.Fields.{Fields}
+use Rattle.frame.specs.Bytes.{overwrite}
+use Rattle.frame.specs.Names.{segments, transaction, orderNumber}
+use Rattle.message.specs.Limits.{segmentBytes}
+use Rattle.message.specs.Segments.{segmentsOf}
+use Rattle.client.specs.declared.run.Client.{Client}
+use Rattle.client.specs.declared.run.Direction.{Direction}
+use Rattle.client.specs.declared.run.Direction.the-variants.{Upload, Download}
+use Rattle.client.specs.declared.run.Lengths.{Lengths}
+use Rattle.client.specs.declared.run.Stage.the-variants as stage
+use Rattle.client.specs.declared.run.Step.{Step}
+use Rattle.client.specs.declared.run.Step.the-variants as step
+use Rattle.client.specs.declared.run.Word.{Word}
+
+-- the bytes that count of what is lent to begin: an upload's payload; a download holds nothing yet
+abbrev pub beginLength : Direction → Lengths → ℕ
+beginLength Upload l = l .payload
+beginLength Download l = 0
+
+-- the run as begun, its opening outstanding under the first exchange number
+unfoldable pub begun : Direction → ℕ → ℕ → ℕ → Client
+begun way subscriber first n = record {
+  stage = stage.Running;
+  direction = way;
+  step = step.Opening;
+  subscriber = subscriber;
+  exchange = first;
+  repeats = 0;
+  transaction = record { high = 0; low = 0 };
+  number = 0;
+  length = n;
+  segments = segmentsOf n;
+  segment = 0;
+  issued = 0;
+  held = 0;
+  receipted = false;
+}
+
+-- the step behind segment k: the receipt where a download has them all, else segment k + 1
+abbrev pub stepBehind : Direction → ℕ → ℕ → Step
+stepBehind Upload k n = step.Segment
+stepBehind Download k n = cond (eqb k n) step.Receipt step.Segment
+
+-- a receipt is issued behind the last segment of a download
+abbrev pub receiptsBehind : Direction → ℕ → ℕ → Bool
+receiptsBehind Upload k n = false
+receiptsBehind Download k n = eqb k n
+
+-- the run whose request behind segment k is outstanding, with this many repeats: "Each request takes the next exchange number"
+unfoldable pub goOn : ℕ → ℕ → Client → Client
+goOn k repeats c = record {
+  stage = c .stage;
+  direction = c .direction;
+  step = stepBehind (c .direction) k (c .segments);
+  subscriber = c .subscriber;
+  exchange = c .exchange + 1;
+  repeats = repeats;
+  transaction = c .transaction;
+  number = c .number;
+  length = c .length;
+  segments = c .segments;
+  segment = k + 1;
+  issued = max (c .issued) (k + 1);
+  held = c .held;
+  receipted = c .receipted || receiptsBehind (c .direction) k (c .segments);
+}
+
+-- the same request again under a new exchange number
+unfoldable pub repeated : Client → Client
+repeated c = record {
+  stage = c .stage;
+  direction = c .direction;
+  step = c .step;
+  subscriber = c .subscriber;
+  exchange = c .exchange + 1;
+  repeats = c .repeats + 1;
+  transaction = c .transaction;
+  number = c .number;
+  length = c .length;
+  segments = c .segments;
+  segment = c .segment;
+  issued = c .issued;
+  held = c .held;
+  receipted = c .receipted;
+}
+
+-- what an opening's answer tells: the transaction ID, an upload's order number, a download's number of segments
+abbrev pub learned : Direction → Fields → Client → Client
+learned Upload r c = record {
+  stage = c .stage;
+  direction = c .direction;
+  step = c .step;
+  subscriber = c .subscriber;
+  exchange = c .exchange;
+  repeats = c .repeats;
+  transaction = transaction r;
+  number = orderNumber r;
+  length = c .length;
+  segments = c .segments;
+  segment = 0;
+  issued = c .issued;
+  held = c .held;
+  receipted = c .receipted;
+}
+learned Download r c = record {
+  stage = c .stage;
+  direction = c .direction;
+  step = c .step;
+  subscriber = c .subscriber;
+  exchange = c .exchange;
+  repeats = c .repeats;
+  transaction = transaction r;
+  number = 0;
+  length = c .length;
+  segments = segments r;
+  segment = 1;
+  issued = c .issued;
+  held = c .held;
+  receipted = c .receipted;
+}
+
+-- a segment of d bytes that answers the outstanding request is newly held where it is the next one
+abbrev pub isNew : Direction → Client → Bool
+isNew Upload c = false
+isNew Download c = eqb (c .segment) (c .held + 1)
+
+-- the run with its outstanding segment, of d bytes, held
+unfoldable pub holding : ℕ → Client → Client
+holding d c =
+    cond (isNew (c .direction) c)
+    (record {
+      stage = c .stage;
+      direction = c .direction;
+      step = c .step;
+      subscriber = c .subscriber;
+      exchange = c .exchange;
+      repeats = c .repeats;
+      transaction = c .transaction;
+      number = c .number;
+      length = (c .segment - 1) * segmentBytes + d;
+      segments = c .segments;
+      segment = c .segment;
+      issued = c .issued;
+      held = c .held + 1;
+      receipted = c .receipted;
+    })
+    c
+
+-- "Only ... a newly held segment's bytes are written ...; one held already is not written again"
+unfoldable pub fileWith : Client → List ℕ → List ℕ → List ℕ
+fileWith c d file = cond (isNew (c .direction) c) (overwrite file ((c .segment - 1) * segmentBytes) d) file
+
+-- the run ended with a word
+unfoldable pub ended : Word → Client → Client
+ended w c = record {
+  stage = stage.Ended w;
+  direction = c .direction;
+  step = c .step;
+  subscriber = c .subscriber;
+  exchange = c .exchange;
+  repeats = c .repeats;
+  transaction = c .transaction;
+  number = c .number;
+  length = c .length;
+  segments = c .segments;
+  segment = c .segment;
+  issued = c .issued;
+  held = c .held;
+  receipted = c .receipted;
+}

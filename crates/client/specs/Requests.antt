@@ -1,0 +1,52 @@
+-- The request that a run has outstanding.
+use Prim.Native.Nat.{ℕ, _+_, _*_, _%_, _^_}
+use mathlib.Core.List.{List, []}
+use lib.ListN.{take, drop}
+use Rattle.frame.specs.declared.fields.Bits128.{Bits128}
+use Rattle.frame.specs.declared.fields.Fields.{Fields}
+use Rattle.frame.specs.Bytes.{number}
+use Rattle.message.specs.Requests.{uploadOpening, downloadOpening, uploadTransfer, downloadTransfer, receipt}
+use Rattle.message.specs.Segments.{segmentOf, lastMarkOf}
+use Rattle.client.specs.declared.run.Client.{Client}
+use Rattle.client.specs.declared.run.Direction.{Direction}
+use Rattle.client.specs.declared.run.Direction.the-variants.{Upload, Download}
+use Rattle.client.specs.declared.run.Step.{Step}
+use Rattle.client.specs.declared.run.Step.the-variants as step
+
+-- "a nonce is 12 lent bytes, then the exchange number", whose field has 4 bytes
+unfoldable pub nonceOf : List ℕ → ℕ → Bits128
+nonceOf lent exchange = record { high = number (take 8 lent); low = number (drop 8 lent) * 2 ^ 32 + exchange % 2 ^ 32 }
+
+-- "Each call brings the time, which an opening carries as its timestamp"
+abbrev pub uploadRequest : Step → Client → ℕ → List ℕ → Fields
+uploadRequest step.Opening c time nonce = uploadOpening (c .subscriber) (c .exchange) (nonceOf nonce (c .exchange)) time (c .segments)
+uploadRequest step.Segment c time nonce =
+    uploadTransfer (c .subscriber) (c .exchange) (c .transaction) (c .segment) (lastMarkOf (c .segment) (c .segments))
+uploadRequest step.Receipt c time nonce = receipt (c .subscriber) (c .exchange) (c .transaction) 0
+
+-- "a receipt carries code 0"
+abbrev pub downloadRequest : Step → Client → ℕ → List ℕ → Fields
+downloadRequest step.Opening c time nonce = downloadOpening (c .subscriber) (c .exchange) (nonceOf nonce (c .exchange)) time
+downloadRequest step.Segment c time nonce = downloadTransfer (c .subscriber) (c .exchange) (c .transaction) (c .segment)
+downloadRequest step.Receipt c time nonce = receipt (c .subscriber) (c .exchange) (c .transaction) 0
+
+abbrev pub requestBy : Direction → Client → ℕ → List ℕ → Fields
+requestBy Upload c time nonce = uploadRequest (c .step) c time nonce
+requestBy Download c time nonce = downloadRequest (c .step) c time nonce
+
+-- "It cuts the payload at 256 bytes"
+abbrev pub uploadData : Step → ℕ → List ℕ → List ℕ
+uploadData step.Opening s payload = []
+uploadData step.Segment s payload = segmentOf payload s
+uploadData step.Receipt s payload = []
+
+abbrev pub dataBy : Direction → Client → List ℕ → List ℕ
+dataBy Upload c payload = uploadData (c .step) (c .segment) payload
+dataBy Download c payload = []
+
+-- the fields of the outstanding request, and its data
+unfoldable pub outstanding : Client → ℕ → List ℕ → Fields
+outstanding c time nonce = requestBy (c .direction) c time nonce
+
+unfoldable pub outstandingData : Client → List ℕ → List ℕ
+outstandingData c payload = dataBy (c .direction) c payload

@@ -1,0 +1,104 @@
+-- A client run, its closing words and the numbers that its calls are given.
+use Prim.Native.Nat.{ℕ}
+use mathlib.Core.Bool.{false}
+use mathlib.Core.List.{List, [], _∷_}
+use lib.ListN.{length}
+use Rattle.client.specs.declared.run.Client.{Client}
+use Rattle.client.specs.declared.run.Direction.the-variants as direction
+use Rattle.client.specs.declared.run.Stage.the-variants as stage
+use Rattle.client.specs.declared.run.Step.the-variants as step
+use Rattle.client.specs.declared.run.Word.{Word}
+use Rattle.client.specs.declared.run.Word.the-variants.{Lodged, NotLodged, Unclear, Fetched, HeldUnconfirmed, NotFetched}
+use Rattle.client.specs.declared.run.Refusal.{Refusal}
+use Rattle.client.specs.declared.run.Refusal.the-variants.{WrongBuffer, ExchangeTooHigh, NoSubscriber, WrongStage}
+use Rattle.client.specs.declared.run.Answer.{Answer}
+use Rattle.client.specs.declared.run.Answer.the-variants as answer
+use Rattle.client.specs.declared.run.Lengths.{Lengths}
+use Rattle.client.specs.declared.run.Outcome.{Outcome}
+
+-- *The client's owner*: "request buffer under 303"
+abbrev pub requestRoom : ℕ
+requestRoom = 303
+
+-- "first exchange number over 4,294,967,200"
+abbrev pub firstExchangeMost : ℕ
+firstExchangeMost = 4294967200
+
+-- the highest exchange number: its field has 4 bytes
+abbrev pub exchangeMost : ℕ
+exchangeMost = 4294967295
+
+-- document 01's numbers for the client's owner
+abbrev pub refusalNumber : Refusal → ℕ
+refusalNumber WrongBuffer = 5
+refusalNumber ExchangeTooHigh = 6
+refusalNumber NoSubscriber = 7
+refusalNumber WrongStage = 8
+
+-- document 01's number for an answer, 0 where it is none
+abbrev pub answerNumber : Answer → ℕ
+answerNumber (answer.Request n) = 0
+answerNumber answer.Ignored = 0
+answerNumber (answer.Closed w) = 0
+answerNumber (answer.Refused r) = refusalNumber r
+
+-- "Closing words": their characters as document 01 has them
+abbrev pub wordText : Word → List ℕ
+-- lodged
+wordText Lodged = 108 ∷ 111 ∷ 100 ∷ 103 ∷ 101 ∷ 100 ∷ []
+-- not lodged
+wordText NotLodged = 110 ∷ 111 ∷ 116 ∷ 32 ∷ 108 ∷ 111 ∷ 100 ∷ 103 ∷ 101 ∷ 100 ∷ []
+-- unclear
+wordText Unclear = 117 ∷ 110 ∷ 99 ∷ 108 ∷ 101 ∷ 97 ∷ 114 ∷ []
+-- fetched
+wordText Fetched = 102 ∷ 101 ∷ 116 ∷ 99 ∷ 104 ∷ 101 ∷ 100 ∷ []
+-- held, unconfirmed
+wordText HeldUnconfirmed =
+    104 ∷ 101 ∷ 108 ∷ 100 ∷ 44 ∷ 32 ∷ 117 ∷ 110 ∷ 99 ∷ 111 ∷ 110 ∷ 102 ∷ 105 ∷ 114 ∷ 109 ∷ 101 ∷ 100 ∷ []
+-- not fetched
+wordText NotFetched = 110 ∷ 111 ∷ 116 ∷ 32 ∷ 102 ∷ 101 ∷ 116 ∷ 99 ∷ 104 ∷ 101 ∷ 100 ∷ []
+
+-- a run not begun
+abbrev pub notBegun : Client
+notBegun = record {
+  stage = stage.NotBegun;
+  direction = direction.Upload;
+  step = step.Opening;
+  subscriber = 0;
+  exchange = 0;
+  repeats = 0;
+  transaction = record { high = 0; low = 0 };
+  number = 0;
+  length = 0;
+  segments = 0;
+  segment = 0;
+  issued = 0;
+  held = 0;
+  receipted = false;
+}
+
+-- what is lent to a call: the time, 12 nonce bytes, the payload, the file buffer and the request buffer
+pub record Lent : Type 0 where
+  pub time : ℕ
+  pub nonce : List ℕ
+  pub payload : List ℕ
+  pub file : List ℕ
+  pub request : List ℕ
+
+abbrev pub lentOf : ℕ → List ℕ → List ℕ → List ℕ → List ℕ → Lent
+lentOf time nonce payload file request = record { time = time; nonce = nonce; payload = payload; file = file; request = request }
+
+-- the lengths of what is lent
+abbrev pub lengthsOf : Lent → Lengths
+lengthsOf l = record { payload = length (l .payload); file = length (l .file); request = length (l .request) }
+
+-- what a call leaves: the next run, the file buffer, the request buffer, and the answer
+pub record ClientCall : Type 0 where
+  pub run : Client
+  pub file : List ℕ
+  pub request : List ℕ
+  pub answer : Answer
+
+-- the same from what the call returns and the two buffers
+abbrev pub callOf : Outcome → List ℕ → List ℕ → ClientCall
+callOf o file request = record { run = o .run; file = file; request = request; answer = o .answer }

@@ -1,0 +1,423 @@
+// What fits each step of a run, and what each event leads to.
+use crate::run::Client;
+use crate::run::Deed;
+use crate::run::Direction;
+use crate::run::Step;
+use crate::run::Word;
+use frame::fields::Fields;
+use frame::fields::same;
+use frame::table::Form;
+use frame::table::is_reply_form;
+use message::codes::ReturnCode;
+use message::codes::code_field;
+use message::limits::ATTEMPTS_MOST;
+use message::limits::INITIALISATION;
+use message::limits::RECEIPT;
+use message::limits::SEGMENT_BYTES;
+use message::limits::SEGMENTS_MOST;
+use message::limits::TRANSFER;
+use message::segments::last_mark_of;
+ghost use mathlib.Core.Path.{_≡_};
+ghost use mathlib.Core.Bool.{cond};
+ghost use lib.Dec.{eqb};
+ghost use Rattle.message.specs.Limits.{initialisation, transfer};
+ghost use Rattle.client.specs.Decisions.{formIndex, says, isOwn, closingWord, restWord, mayRepeat};
+ghost use Rattle.client.specs.Decisions.{endsUpload, answersSegment, fitsData, fitsSegment, isPoint, uploadReturns};
+ghost use Rattle.client.specs.Decisions.{downloadReturns, opensDownload, lodges, takesSegment, bringsSegment, confirms};
+ghost use Rattle.client.specs.Decisions.{onUpload, onDownload, onAnswer, isAnswer, onReply, onSilence};
+
+// The place of a form in document 01's list.
+fn form_index(form: Form) -> u64
+    ensures { λ r. ⌜ r ≡ formIndex form ⌝ }
+{
+    match form {
+        Form::NoForm => 0,
+        Form::UploadOpening => 1,
+        Form::DownloadOpening => 2,
+        Form::UploadTransfer => 3,
+        Form::DownloadTransfer => 4,
+        Form::Receipt => 5,
+        Form::UploadOpened => 6,
+        Form::DownloadOpened => 7,
+        Form::SegmentTaken => 8,
+        Form::DownloadSegment => 9,
+        Form::ReceiptAnswered => 10,
+        Form::Unreadable => 11,
+        Form::Refusal => 12,
+    }
+}
+
+// Whether the reply is of this form, with this code and this phase.
+fn says(form: Form, code: ReturnCode, phase: u64, r: Fields) -> bool
+    ensures { λ b. ⌜ b ≡ says form code phase r ⌝ }
+{
+    if form_index(r.form()) != form_index(form) {
+        return false;
+    }
+    if r.return_code() != code_field(code) {
+        return false;
+    }
+    r.phase() == phase
+}
+
+// Whether the reply has the run's transaction ID.
+fn is_own(c: Client, r: Fields) -> bool
+    ensures { λ b. ⌜ b ≡ isOwn c r ⌝ }
+{
+    let own = c.transaction;
+    same(r.transaction(), own)
+}
+
+// The closing word of an upload where nothing else is said.
+fn upload_word(c: Client) -> Word
+    ensures { λ w. ⌜ w ≡ closingWord Direction.Upload c ⌝ }
+{
+    if c.issued < c.segments {
+        return Word::NotLodged;
+    }
+    Word::Unclear
+}
+
+// The closing word of a download where nothing else is said.
+fn download_word(c: Client) -> Word
+    ensures { λ w. ⌜ w ≡ closingWord Direction.Download c ⌝ }
+{
+    if c.receipted {
+        return Word::HeldUnconfirmed;
+    }
+    Word::NotFetched
+}
+
+// The closing word where nothing else is said.
+pub(crate) fn rest_word(c: Client) -> Word
+    ensures { λ w. ⌜ w ≡ restWord c ⌝ }
+{
+    let way = c.direction;
+    match way {
+        Direction::Upload => upload_word(c),
+        Direction::Download => download_word(c),
+    }
+}
+
+// Whether another repeat or return is left.
+pub(crate) fn may_repeat(c: Client) -> bool
+    ensures { λ b. ⌜ b ≡ mayRepeat c ⌝ }
+{
+    c.repeats < ATTEMPTS_MOST
+}
+
+// Whether the reply is a refusal that ends an upload as not lodged.
+fn ends_upload(r: Fields) -> bool
+    ensures { λ b. ⌜ b ≡ endsUpload r ⌝ }
+{
+    if says(Form::Refusal, ReturnCode::TransactionAbort, TRANSFER, r) {
+        return true;
+    }
+    if says(
+        Form::Refusal,
+        ReturnCode::SegmentNumberExceeded,
+        TRANSFER,
+        r,
+    ) {
+        return true;
+    }
+    says(
+        Form::Refusal,
+        ReturnCode::SegmentNumberUnderrun,
+        TRANSFER,
+        r,
+    )
+}
+
+// Whether the reply answers the outstanding segment in this form, its data aside.
+fn answers_segment(form: Form, c: Client, r: Fields) -> bool
+    ensures { λ b. ⌜ b ≡ answersSegment form c r ⌝ }
+{
+    if !says(form, ReturnCode::Ok, TRANSFER, r) {
+        return false;
+    }
+    if !is_own(c, r) {
+        return false;
+    }
+    r.segment() == c.segment
+}
+
+// Whether d bytes of data fit segment s of n.
+fn fits_data(s: u64, n: u64, d: usize) -> bool
+    ensures { λ b. ⌜ b ≡ fitsData s n d ⌝ }
+{
+    if s != n {
+        return d == SEGMENT_BYTES;
+    }
+    if d < 1 {
+        return false;
+    }
+    d <= SEGMENT_BYTES
+}
+
+// Whether the reply's last mark and d bytes of data fit segment s of n.
+fn fits_segment(s: u64, n: u64, d: usize, r: Fields) -> bool
+    ensures { λ b. ⌜ b ≡ fitsSegment s n d r ⌝ }
+{
+    if SEGMENTS_MOST < s {
+        return false;
+    }
+    if r.last_mark() != last_mark_of(s, n) {
+        return false;
+    }
+    fits_data(s, n, d)
+}
+
+// The phase of a recovery point behind a segment; it is 1 behind segment `first` alone.
+fn point_phase(segment: u64, first: u64) -> u64
+    ensures { λ p. ⌜ p ≡ cond (eqb segment first) initialisation transfer ⌝ }
+{
+    if segment == first {
+        return INITIALISATION;
+    }
+    TRANSFER
+}
+
+// Whether the reply is a recovery point of the run.
+fn is_point(first: u64, c: Client, r: Fields) -> bool
+    ensures { λ b. ⌜ b ≡ isPoint first c r ⌝ }
+{
+    let phase = point_phase(r.segment(), first);
+    if !says(Form::SegmentTaken, ReturnCode::RecoverySync, phase, r) {
+        return false;
+    }
+    is_own(c, r)
+}
+
+// Whether the reply is a recovery point that an upload goes on from.
+fn upload_returns(c: Client, r: Fields) -> bool
+    ensures { λ b. ⌜ b ≡ uploadReturns c r ⌝ }
+{
+    if !is_point(0, c, r) {
+        return false;
+    }
+    let point = r.segment();
+    if c.segments <= point {
+        return false;
+    }
+    if c.issued < point {
+        return false;
+    }
+    may_repeat(c)
+}
+
+// Whether the reply is a recovery point that a download goes on from.
+fn download_returns(c: Client, r: Fields) -> bool
+    ensures { λ b. ⌜ b ≡ downloadReturns c r ⌝ }
+{
+    if !is_point(1, c, r) {
+        return false;
+    }
+    let point = r.segment();
+    if c.held < point {
+        return false;
+    }
+    if SEGMENTS_MOST < point {
+        return false;
+    }
+    may_repeat(c)
+}
+
+// Whether the reply, with d bytes of data, answers a download's opening.
+fn opens_download(d: usize, r: Fields) -> bool
+    ensures { λ b. ⌜ b ≡ opensDownload d r ⌝ }
+{
+    if !says(Form::DownloadOpened, ReturnCode::Ok, INITIALISATION, r) {
+        return false;
+    }
+    if r.segment() != 1 {
+        return false;
+    }
+    let n = r.segments();
+    if n < 1 {
+        return false;
+    }
+    if SEGMENTS_MOST < n {
+        return false;
+    }
+    fits_segment(1, n, d, r)
+}
+
+// An upload's opening is outstanding.
+fn on_upload_opening(c: Client, r: Fields) -> Deed
+    ensures { λ e. ⌜ e ≡ onUpload Step.Opening c r ⌝ }
+{
+    if says(Form::UploadOpened, ReturnCode::Ok, INITIALISATION, r) {
+        return Deed::Opened;
+    }
+    Deed::Close(rest_word(c))
+}
+
+// Whether the reply answers segment N of an upload.
+fn lodges(c: Client, r: Fields) -> bool
+    ensures { λ b. ⌜ b ≡ lodges c r ⌝ }
+{
+    if !answers_segment(Form::SegmentTaken, c, r) {
+        return false;
+    }
+    c.segment == c.segments
+}
+
+// Whether the reply answers an earlier segment of an upload.
+fn takes_segment(c: Client, r: Fields) -> bool
+    ensures { λ b. ⌜ b ≡ takesSegment c r ⌝ }
+{
+    if !answers_segment(Form::SegmentTaken, c, r) {
+        return false;
+    }
+    c.segment < c.segments
+}
+
+// An upload's segment is outstanding.
+fn on_upload_segment(c: Client, r: Fields) -> Deed
+    ensures { λ e. ⌜ e ≡ onUpload Step.Segment c r ⌝ }
+{
+    if lodges(c, r) {
+        return Deed::Close(Word::Lodged);
+    }
+    if takes_segment(c, r) {
+        return Deed::Advance;
+    }
+    if upload_returns(c, r) {
+        return Deed::Return(r.segment());
+    }
+    if ends_upload(r) {
+        return Deed::Close(Word::NotLodged);
+    }
+    Deed::Close(rest_word(c))
+}
+
+// The outstanding request of an upload is answered. An upload has no receipt.
+fn on_upload(c: Client, r: Fields) -> Deed
+    ensures { λ e. ⌜ e ≡ onUpload (c .step) c r ⌝ }
+{
+    let step = c.step;
+    match step {
+        Step::Opening => on_upload_opening(c, r),
+        Step::Segment => on_upload_segment(c, r),
+        Step::Receipt => Deed::Close(rest_word(c)),
+    }
+}
+
+// A download's opening is outstanding.
+fn on_download_opening(c: Client, r: Fields, d: usize) -> Deed
+    ensures { λ e. ⌜ e ≡ onDownload Step.Opening c r d ⌝ }
+{
+    if opens_download(d, r) {
+        return Deed::Opened;
+    }
+    Deed::Close(rest_word(c))
+}
+
+// Whether the reply, with d bytes of data, brings the outstanding segment of a download.
+fn brings_segment(c: Client, r: Fields, d: usize) -> bool
+    ensures { λ b. ⌜ b ≡ bringsSegment c r d ⌝ }
+{
+    if !answers_segment(Form::DownloadSegment, c, r) {
+        return false;
+    }
+    fits_segment(c.segment, c.segments, d, r)
+}
+
+// A download's segment is outstanding.
+fn on_download_segment(c: Client, r: Fields, d: usize) -> Deed
+    ensures { λ e. ⌜ e ≡ onDownload Step.Segment c r d ⌝ }
+{
+    if brings_segment(c, r, d) {
+        return Deed::Advance;
+    }
+    if download_returns(c, r) {
+        return Deed::Return(r.segment());
+    }
+    Deed::Close(rest_word(c))
+}
+
+// Whether the reply answers the receipt.
+fn confirms(c: Client, r: Fields) -> bool
+    ensures { λ b. ⌜ b ≡ confirms c r ⌝ }
+{
+    if !says(
+        Form::ReceiptAnswered,
+        ReturnCode::DownloadPostprocessDone,
+        RECEIPT,
+        r,
+    ) {
+        return false;
+    }
+    is_own(c, r)
+}
+
+// A receipt is outstanding.
+fn on_receipt(c: Client, r: Fields) -> Deed
+    ensures { λ e. ⌜ e ≡ onDownload Step.Receipt c r 0 ⌝ }
+{
+    if confirms(c, r) {
+        return Deed::Close(Word::Fetched);
+    }
+    if download_returns(c, r) {
+        return Deed::Return(r.segment());
+    }
+    Deed::Close(rest_word(c))
+}
+
+// The outstanding request of a download is answered.
+fn on_download(c: Client, r: Fields, d: usize) -> Deed
+    ensures { λ e. ⌜ e ≡ onDownload (c .step) c r d ⌝ }
+{
+    let step = c.step;
+    match step {
+        Step::Opening => on_download_opening(c, r, d),
+        Step::Segment => on_download_segment(c, r, d),
+        Step::Receipt => on_receipt(c, r),
+    }
+}
+
+// The outstanding request is answered by a reply with d bytes of data.
+fn on_answer(c: Client, r: Fields, d: usize) -> Deed
+    ensures { λ e. ⌜ e ≡ onAnswer (c .direction) c r d ⌝ }
+{
+    let way = c.direction;
+    match way {
+        Direction::Upload => on_upload(c, r),
+        Direction::Download => on_download(c, r, d),
+    }
+}
+
+// Whether the reply answers the outstanding request.
+fn is_answer(c: Client, r: Fields) -> bool
+    ensures { λ b. ⌜ b ≡ isAnswer c r ⌝ }
+{
+    let form = r.form();
+    if !is_reply_form(form) {
+        return false;
+    }
+    if form_index(form) == form_index(Form::Unreadable) {
+        return false;
+    }
+    r.exchange() == c.exchange
+}
+
+// A reply arrived, with d bytes of data.
+pub(crate) fn on_reply(c: Client, r: Fields, d: usize) -> Deed
+    ensures { λ e. ⌜ e ≡ onReply c r d ⌝ }
+{
+    if is_answer(c, r) {
+        return on_answer(c, r, d);
+    }
+    Deed::Ignore
+}
+
+// No reply came.
+pub(crate) fn on_silence(c: Client) -> Deed
+    ensures { λ e. ⌜ e ≡ onSilence c ⌝ }
+{
+    if may_repeat(c) {
+        return Deed::Repeat;
+    }
+    Deed::Close(rest_word(c))
+}

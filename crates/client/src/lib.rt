@@ -1,0 +1,7 @@
+// The client end: a run of one upload or one download, handed in and handed back at each call.
+pub mod calls;
+mod decisions;
+mod next_run;
+mod requests;
+mod rulings;
+pub mod run;

@@ -1,0 +1,240 @@
+// The next run, by what the event led to.
+use crate::run::Client;
+use crate::run::Direction;
+use crate::run::Lengths;
+use crate::run::Stage;
+use crate::run::Step;
+use crate::run::Word;
+use frame::fields::Bits128;
+use frame::fields::Fields;
+use message::limits::SEGMENT_BYTES;
+use message::segments::segments_of;
+ghost use mathlib.Core.Path.{_≡_};
+ghost use Prim.Native.Nat.{_+_, _*_, _^_, _≤_, _<_, max};
+ghost use mathlib.Core.Bool.{true, _||_};
+ghost use lib.Dec.{eqb};
+ghost use Rattle.message.specs.Limits.{segmentBytes, segmentsMost};
+ghost use Rattle.client.specs.Run.{exchangeMost};
+ghost use Rattle.client.specs.NextRun.{beginLength, begun, stepBehind, receiptsBehind, goOn, repeated, learned};
+ghost use Rattle.client.specs.NextRun.{isNew, holding, ended};
+
+// The bytes of a segment but the last, as a count of a file's bytes.
+const SEGMENT: u64 = SEGMENT_BYTES as u64;
+
+// The bytes that count of what is lent to begin.
+pub(crate) fn begin_length(way: Direction, l: Lengths) -> u64
+    ensures { λ n. ⌜ n ≡ beginLength way l ⌝ }
+{
+    match way {
+        Direction::Upload => l.payload as u64,
+        Direction::Download => 0,
+    }
+}
+
+// The run as begun.
+pub(crate) fn begun(way: Direction, subscriber: u64, first: u64, n: u64) -> Client
+    ensures { λ r. ⌜ r ≡ begun way subscriber first n ⌝ }
+{
+    Client {
+        stage: Stage::Running,
+        direction: way,
+        step: Step::Opening,
+        subscriber,
+        exchange: first,
+        repeats: 0,
+        transaction: Bits128 { high: 0, low: 0 },
+        number: 0,
+        length: n,
+        segments: segments_of(n),
+        segment: 0,
+        issued: 0,
+        held: 0,
+        receipted: false,
+    }
+}
+
+// The step of a download behind segment k of n.
+fn download_step(k: u64, n: u64) -> Step
+    ensures { λ s. ⌜ s ≡ stepBehind Direction.Download k n ⌝ }
+{
+    if k == n {
+        return Step::Receipt;
+    }
+    Step::Segment
+}
+
+// The step behind segment k of n.
+fn step_behind(way: Direction, k: u64, n: u64) -> Step
+    ensures { λ s. ⌜ s ≡ stepBehind way k n ⌝ }
+{
+    match way {
+        Direction::Upload => Step::Segment,
+        Direction::Download => download_step(k, n),
+    }
+}
+
+// Whether a receipt stands behind segment k of n.
+fn receipts_behind(way: Direction, k: u64, n: u64) -> bool
+    ensures { λ b. ⌜ b ≡ receiptsBehind way k n ⌝ }
+{
+    match way {
+        Direction::Upload => false,
+        Direction::Download => k == n,
+    }
+}
+
+// Whether a receipt was issued, with the one behind segment k.
+fn receipted_behind(c: Client, k: u64) -> bool
+    ensures { λ b. ⌜ b ≡ c .receipted || receiptsBehind (c .direction) k (c .segments) ⌝ }
+{
+    if c.receipted {
+        return true;
+    }
+    let way = c.direction;
+    receipts_behind(way, k, c.segments)
+}
+
+fn larger(a: u64, b: u64) -> u64
+    ensures { λ m. ⌜ m ≡ max a b ⌝ }
+{
+    if a < b {
+        return b;
+    }
+    a
+}
+
+// The run with the request behind segment k outstanding.
+pub(crate) fn go_on(k: u64, repeats: u64, c: Client) -> Client
+    requires { ⌜ (k + 1 < 2 ^ 64) × (c .exchange ≤ exchangeMost) ⌝ }
+    ensures { λ r. ⌜ r ≡ goOn k repeats c ⌝ }
+{
+    let stage = c.stage;
+    let way = c.direction;
+    let transaction = c.transaction;
+    Client {
+        stage,
+        direction: way,
+        step: step_behind(way, k, c.segments),
+        subscriber: c.subscriber,
+        exchange: c.exchange + 1,
+        repeats,
+        transaction,
+        number: c.number,
+        length: c.length,
+        segments: c.segments,
+        segment: k + 1,
+        issued: larger(c.issued, k + 1),
+        held: c.held,
+        receipted: receipted_behind(c, k),
+    }
+}
+
+// The run with the same request outstanding again.
+pub(crate) fn repeated(c: Client) -> Client
+    requires { ⌜ (c .repeats + 1 < 2 ^ 64) × (c .exchange ≤ exchangeMost) ⌝ }
+    ensures { λ r. ⌜ r ≡ repeated c ⌝ }
+{
+    let mut next = c;
+    next.exchange = c.exchange + 1;
+    next.repeats = c.repeats + 1;
+    next
+}
+
+// What the answer to an upload's opening tells.
+fn learned_upload(r: Fields, c: Client) -> Client
+    ensures { λ k. ⌜ k ≡ learned Direction.Upload r c ⌝ }
+{
+    let transaction = r.transaction();
+    let mut next = c;
+    next.transaction = transaction;
+    next.number = r.order_number();
+    next.segment = 0;
+    next
+}
+
+// What the answer to a download's opening tells.
+fn learned_download(r: Fields, c: Client) -> Client
+    ensures { λ k. ⌜ k ≡ learned Direction.Download r c ⌝ }
+{
+    let transaction = r.transaction();
+    let mut next = c;
+    next.transaction = transaction;
+    next.number = 0;
+    next.segments = r.segments();
+    next.segment = 1;
+    next
+}
+
+// What the answer to the opening tells.
+pub(crate) fn learned(r: Fields, c: Client) -> Client
+    ensures { λ k. ⌜ k ≡ learned (c .direction) r c ⌝ }
+{
+    let way = c.direction;
+    match way {
+        Direction::Upload => learned_upload(r, c),
+        Direction::Download => learned_download(r, c),
+    }
+}
+
+// Whether segment s comes next behind those held.
+fn is_next(s: u64, held: u64) -> bool
+    ensures { λ b. ⌜ b ≡ eqb s (held + 1) ⌝ }
+{
+    if s < 1 {
+        return false;
+    }
+    if s - 1 == held {
+        return true;
+    }
+    false
+}
+
+// Whether the outstanding segment is newly held when it is answered.
+pub(crate) fn is_new(c: Client) -> bool
+    ensures { λ b. ⌜ b ≡ isNew (c .direction) c ⌝ }
+{
+    let way = c.direction;
+    match way {
+        Direction::Upload => false,
+        Direction::Download => is_next(c.segment, c.held),
+    }
+}
+
+// The run with its outstanding segment, of d bytes, held.
+pub(crate) fn holding(d: usize, c: Client) -> Client
+    requires { ⌜ (isNew (c .direction) c ≡ true → (c .segment ≤ segmentsMost) × (d ≤ segmentBytes)) ⌝ }
+    ensures { λ r. ⌜ r ≡ holding d c ⌝ }
+{
+    if !is_new(c) {
+        return c;
+    }
+    let mut next = c;
+    next.length = (c.segment - 1) * SEGMENT + d as u64;
+    next.held = c.held + 1;
+    next
+}
+
+// The run ended with a word.
+pub(crate) fn ended(w: Word, c: Client) -> Client
+    ensures { λ r. ⌜ r ≡ ended w c ⌝ }
+{
+    let way = c.direction;
+    let step = c.step;
+    let transaction = c.transaction;
+    Client {
+        stage: Stage::Ended(w),
+        direction: way,
+        step,
+        subscriber: c.subscriber,
+        exchange: c.exchange,
+        repeats: c.repeats,
+        transaction,
+        number: c.number,
+        length: c.length,
+        segments: c.segments,
+        segment: c.segment,
+        issued: c.issued,
+        held: c.held,
+        receipted: c.receipted,
+    }
+}

@@ -1,0 +1,138 @@
+// The request that a run has outstanding.
+use crate::run::Client;
+use crate::run::Direction;
+use crate::run::Step;
+use frame::fields::Bits128;
+use frame::fields::Fields;
+use message::requests::download_opening;
+use message::requests::download_transfer;
+use message::requests::receipt;
+use message::requests::upload_opening;
+use message::requests::upload_transfer;
+use message::segments::last_mark_of;
+use message::segments::segment_of;
+ghost use mathlib.Core.Path.{_≡_};
+ghost use mathlib.Core.List.{[]};
+ghost use Prim.Native.Nat.{_*_, _^_, _≤_, _<_};
+ghost use lib.ListN.{length};
+ghost use Rattle.frame.specs.Bytes.{number};
+ghost use Rattle.client.specs.Requests.{nonceOf, uploadRequest, downloadRequest, uploadData, outstanding, outstandingData};
+
+// How many numbers the exchange number's four bytes have.
+const EXCHANGES: u64 = 0x1_0000_0000;
+
+fn wide(x: u8) -> u64
+    ensures { λ r. ⌜ r ≡ x ⌝ }
+{
+    x as u64
+}
+
+// The number that the bytes are, high byte first.
+fn number(s: &[u8]) -> u64
+    requires { ⌜ length (now s) ≤ 8 ⌝ }
+    ensures { λ r. ⌜ (r ≡ number (now (s .entry))) × (r < 2 ^ (8 * length (now (s .entry)))) ⌝ }
+{
+    let mut x: u64 = 0;
+    let mut i = 0;
+    while i < s.len() {
+        x = x * 256 + wide(s[i]);
+        i += 1;
+    }
+    x
+}
+
+// The 12 lent bytes, then the exchange number.
+fn nonce_of(lent: [u8; 12], exchange: u64) -> Bits128
+    ensures { λ r. ⌜ r ≡ nonceOf lent exchange ⌝ }
+{
+    let high = number(&lent[..8]);
+    let low = number(&lent[8..]);
+    Bits128 {
+        high,
+        low: low * EXCHANGES + exchange % EXCHANGES,
+    }
+}
+
+// The request of an upload at its step.
+fn upload_request(c: Client, time: u64, nonce: [u8; 12]) -> Fields
+    ensures { λ r. ⌜ r ≡ uploadRequest (c .step) c time nonce ⌝ }
+{
+    let step = c.step;
+    let transaction = c.transaction;
+    match step {
+        Step::Opening => upload_opening(
+            c.subscriber,
+            c.exchange,
+            nonce_of(nonce, c.exchange),
+            time,
+            c.segments,
+        ),
+        Step::Segment => upload_transfer(
+            c.subscriber,
+            c.exchange,
+            transaction,
+            c.segment,
+            last_mark_of(c.segment, c.segments),
+        ),
+        Step::Receipt => receipt(c.subscriber, c.exchange, transaction, 0),
+    }
+}
+
+// The request of a download at its step.
+fn download_request(c: Client, time: u64, nonce: [u8; 12]) -> Fields
+    ensures { λ r. ⌜ r ≡ downloadRequest (c .step) c time nonce ⌝ }
+{
+    let step = c.step;
+    let transaction = c.transaction;
+    match step {
+        Step::Opening => download_opening(
+            c.subscriber,
+            c.exchange,
+            nonce_of(nonce, c.exchange),
+            time,
+        ),
+        Step::Segment => download_transfer(c.subscriber, c.exchange, transaction, c.segment),
+        Step::Receipt => receipt(c.subscriber, c.exchange, transaction, 0),
+    }
+}
+
+// The fields of the outstanding request.
+pub(crate) fn request_of(c: Client, time: u64, nonce: [u8; 12]) -> Fields
+    ensures { λ r. ⌜ r ≡ outstanding c time nonce ⌝ }
+{
+    let way = c.direction;
+    match way {
+        Direction::Upload => upload_request(c, time, nonce),
+        Direction::Download => download_request(c, time, nonce),
+    }
+}
+
+// No bytes, as a part of the payload.
+pub(crate) fn no_data(payload: &[u8]) -> &[u8]
+    ensures { λ r. ⌜ now r ≡ [] ⌝ }
+{
+    &payload[..0]
+}
+
+// The data of an upload's request at its step: the part of the payload itself.
+fn upload_data(step: Step, s: u64, payload: &[u8]) -> &[u8]
+    ensures { λ r. ⌜ now r ≡ uploadData step s (now (payload .entry)) ⌝ }
+{
+    match step {
+        Step::Opening => no_data(payload),
+        Step::Segment => segment_of(payload, s),
+        Step::Receipt => no_data(payload),
+    }
+}
+
+// The data of the outstanding request.
+pub(crate) fn data_of(c: Client, payload: &[u8]) -> &[u8]
+    ensures { λ r. ⌜ now r ≡ outstandingData c (now (payload .entry)) ⌝ }
+{
+    let way = c.direction;
+    let step = c.step;
+    match way {
+        Direction::Upload => upload_data(step, c.segment, payload),
+        Direction::Download => no_data(payload),
+    }
+}

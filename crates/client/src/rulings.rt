@@ -1,0 +1,162 @@
+// Which call is given which number.
+use crate::run::Client;
+use crate::run::Direction;
+use crate::run::EXCHANGE_MOST;
+use crate::run::FIRST_EXCHANGE_MOST;
+use crate::run::Lengths;
+use crate::run::REQUEST_ROOM;
+use crate::run::Refusal;
+use crate::run::Ruling;
+use crate::run::Stage;
+use message::limits::FILE_BYTES;
+use message::limits::SUBSCRIBERS;
+ghost use mathlib.Core.Path.{_≡_};
+ghost use Rattle.client.specs.Rulings.{wrongBuffers, changedLength, wrongLengths, noSubscriber, isBegun};
+ghost use Rattle.client.specs.Rulings.{beginRuling, rulingNotBegun, rulingRunning, rulingEnded, runRuling};
+
+// Whether a length does not serve an upload.
+fn wrong_for_upload(l: Lengths) -> bool
+    ensures { λ b. ⌜ b ≡ wrongBuffers Direction.Upload l ⌝ }
+{
+    if l.payload == 0 {
+        return true;
+    }
+    if FILE_BYTES < l.payload {
+        return true;
+    }
+    l.request < REQUEST_ROOM
+}
+
+// Whether a length does not serve a download.
+fn wrong_for_download(l: Lengths) -> bool
+    ensures { λ b. ⌜ b ≡ wrongBuffers Direction.Download l ⌝ }
+{
+    if l.file != FILE_BYTES {
+        return true;
+    }
+    l.request < REQUEST_ROOM
+}
+
+// Whether a length does not serve the direction.
+fn wrong_buffers(way: Direction, l: Lengths) -> bool
+    ensures { λ b. ⌜ b ≡ wrongBuffers way l ⌝ }
+{
+    match way {
+        Direction::Upload => wrong_for_upload(l),
+        Direction::Download => wrong_for_download(l),
+    }
+}
+
+// Whether the payload's length is another than at begin.
+fn changed_length(c: Client, l: Lengths) -> bool
+    ensures { λ b. ⌜ b ≡ changedLength (c .direction) c l ⌝ }
+{
+    let way = c.direction;
+    match way {
+        Direction::Upload => l.payload as u64 != c.length,
+        Direction::Download => false,
+    }
+}
+
+// Whether a length does not serve the run.
+fn wrong_lengths(c: Client, l: Lengths) -> bool
+    ensures { λ b. ⌜ b ≡ wrongLengths c l ⌝ }
+{
+    let way = c.direction;
+    if wrong_buffers(way, l) {
+        return true;
+    }
+    changed_length(c, l)
+}
+
+// Whether there is no such subscriber.
+fn no_subscriber(subscriber: u64) -> bool
+    ensures { λ b. ⌜ b ≡ noSubscriber subscriber ⌝ }
+{
+    if subscriber < 1 {
+        return true;
+    }
+    SUBSCRIBERS < subscriber
+}
+
+// Whether the run was begun.
+fn is_begun(stage: Stage) -> bool
+    ensures { λ b. ⌜ b ≡ isBegun stage ⌝ }
+{
+    match stage {
+        Stage::NotBegun => false,
+        Stage::Running => true,
+        Stage::Ended(_) => true,
+    }
+}
+
+// Whether begin is given a number.
+pub(crate) fn begin_ruling(
+    c: Client,
+    way: Direction,
+    subscriber: u64,
+    first: u64,
+    l: Lengths,
+) -> Ruling
+    ensures { λ r. ⌜ r ≡ beginRuling c way subscriber first l ⌝ }
+{
+    if wrong_buffers(way, l) {
+        return Ruling::Refuse(Refusal::WrongBuffer);
+    }
+    if FIRST_EXCHANGE_MOST < first {
+        return Ruling::Refuse(Refusal::ExchangeTooHigh);
+    }
+    if no_subscriber(subscriber) {
+        return Ruling::Refuse(Refusal::NoSubscriber);
+    }
+    let stage = c.stage;
+    if is_begun(stage) {
+        return Ruling::Refuse(Refusal::WrongStage);
+    }
+    Ruling::Accept
+}
+
+// The number that a call to a run not begun is given.
+fn ruling_not_begun(l: Lengths) -> Ruling
+    ensures { λ r. ⌜ r ≡ rulingNotBegun l ⌝ }
+{
+    if l.request < REQUEST_ROOM {
+        return Ruling::Refuse(Refusal::WrongBuffer);
+    }
+    Ruling::Refuse(Refusal::WrongStage)
+}
+
+// Whether a call to a running run is given a number.
+fn ruling_running(c: Client, l: Lengths) -> Ruling
+    ensures { λ r. ⌜ r ≡ rulingRunning c l ⌝ }
+{
+    if wrong_lengths(c, l) {
+        return Ruling::Refuse(Refusal::WrongBuffer);
+    }
+    if EXCHANGE_MOST < c.exchange {
+        return Ruling::Refuse(Refusal::ExchangeTooHigh);
+    }
+    Ruling::Accept
+}
+
+// The number that a call to an ended run is given.
+fn ruling_ended(c: Client, l: Lengths) -> Ruling
+    ensures { λ r. ⌜ r ≡ rulingEnded c l ⌝ }
+{
+    if wrong_lengths(c, l) {
+        return Ruling::Refuse(Refusal::WrongBuffer);
+    }
+    Ruling::Refuse(Refusal::WrongStage)
+}
+
+// Whether a call with a reply, or with none, is given a number.
+pub(crate) fn run_ruling(c: Client, l: Lengths) -> Ruling
+    ensures { λ r. ⌜ r ≡ runRuling (c .stage) c l ⌝ }
+{
+    let stage = c.stage;
+    match stage {
+        Stage::NotBegun => ruling_not_begun(l),
+        Stage::Running => ruling_running(c, l),
+        Stage::Ended(_) => ruling_ended(c, l),
+    }
+}

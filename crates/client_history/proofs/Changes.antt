@@ -1,0 +1,239 @@
+-- What a fair event makes of a past: nothing, a begin, the next request issued, or the run's end. Assumes nothing.
+use Prim.Native.Nat.{ℕ, _+_}
+use mathlib.Core.Bool.{true}
+use mathlib.Core.List.{List, [], List·Memᴰ as In}
+use mathlib.Core.Logic.{_⊎_}
+use mathlib.Core.Path.{_≡_, refl, sym, subst}
+use lib.ListN.{length}
+use Rattle.frame.specs.declared.fields.Fields.{Fields}
+use Rattle.frame.specs.declared.table.Form.the-variants as forms
+use Rattle.frame.specs.declared.writer.Written.{Written}
+use Rattle.frame.specs.declared.writer.Written.the-variants as written
+use Rattle.frame.specs.Names.{segment}
+use Rattle.frame.specs.Reader.{noFields, readReply}
+use Rattle.frame.specs.Row.{dataOf}
+use Rattle.frame.specs.Table.{rowFits, findForm, formOf}
+use Rattle.frame.proofs.Tests.{never}
+use Rattle.message.specs.declared.codes.ReturnCode.the-variants as code
+use Rattle.message.specs.Limits.{initialisation}
+use Rattle.client.specs.declared.run.Answer.{Answer}
+use Rattle.client.specs.declared.run.Answer.the-variants as answer
+use Rattle.client.specs.declared.run.Client.{Client}
+use Rattle.client.specs.declared.run.Deed.{Deed}
+use Rattle.client.specs.declared.run.Direction.{Direction}
+use Rattle.client.specs.declared.run.Direction.the-variants.{Upload, Download}
+use Rattle.client.specs.declared.run.Ruling.{Ruling}
+use Rattle.client.specs.declared.run.Ruling.the-variants.{Refuse, Accept}
+use Rattle.client.specs.declared.run.Step.the-variants as step
+use Rattle.client.specs.declared.run.Word.{Word}
+use Rattle.client.specs.declared.run.Word.the-variants.{Lodged, NotLodged, Fetched}
+use Rattle.client.specs.Calls.{
+  ifWritten,
+  outcomeOf,
+  isWritten,
+  requestWith,
+  issued,
+  taken,
+  carryOut,
+  beginBy,
+  beginCall,
+  runBy,
+  replyCall,
+  silenceCall,
+}
+use Rattle.client.specs.Decisions.{
+  says,
+  restWord,
+  mayRepeat,
+  endsUpload,
+  uploadReturns,
+  downloadReturns,
+  opensDownload,
+  lodges,
+  takesSegment,
+  bringsSegment,
+  confirms,
+  isAnswer,
+  onReply,
+  onSilence,
+}
+use Rattle.client.specs.NextRun.{beginLength, begun, goOn, repeated, learned, holding, fileWith, ended}
+use Rattle.client.specs.Rulings.{beginRuling, runRuling}
+use Rattle.client.specs.Run.{Lent, ClientCall, lengthsOf, answerNumber, callOf}
+use Rattle.client_history.specs.History.{Issue, Event, Begin, Reply, NoReply, Past, issuing, left, after, Kept, Fair}
+use Rattle.client.proofs.Accepted.{Accepted, accepted, Begins, begins}
+use Rattle.client.proofs.Causes.{
+  Cause,
+  not-answered,
+  upload-opened,
+  lodged,
+  segment-taken,
+  upload-returned,
+  upload-refused,
+  download-opened,
+  segment-brought,
+  download-returned,
+  fetched,
+  rest,
+  silent,
+  by-reply,
+  by-silence,
+}
+use Rattle.client_history.proofs.NextRuns.{holding-upload, file-upload}
+
+-- the run ended with a word
+abbrev pub ending : Word → Past → Past
+ending w p = record { run = ended w (p .run); payload = p .payload; file = p .file; issues = p .issues }
+
+module _ (Given : Fields → List ℕ → Fields → List ℕ → Type 0) where
+  -- a reply with the fields r and the data d answers the run, and was given to a request that it issued
+  pub record Answering (p : Past) (r : Fields) (d : List ℕ) : Type 0 where
+    pub answers : isAnswer (p .run) r ≡ true
+    pub issue : Issue
+    pub own : In issue (p .issues)
+    pub given : Given (issue .request) (issue .requestData) r d
+
+  -- the next run and file buffer where a request is issued
+  pub data Move (p : Past) : Client → List ℕ → Type 0 where
+    upload-opens : {r : Fields} {d : List ℕ} → p .run .direction ≡ Upload → p .run .step ≡ step.Opening → Answering p r d
+        → says forms.UploadOpened code.Ok initialisation r ≡ true
+        → Move p (goOn 0 (p .run .repeats) (learned Upload r (p .run))) (p .file)
+    takes : {r : Fields} {d : List ℕ} → p .run .direction ≡ Upload → p .run .step ≡ step.Segment → Answering p r d
+        → takesSegment (p .run) r ≡ true → Move p (goOn (p .run .segment) (p .run .repeats) (p .run)) (p .file)
+    upload-returns : {r : Fields} {d : List ℕ} → p .run .direction ≡ Upload → p .run .step ≡ step.Segment → Answering p r d
+        → uploadReturns (p .run) r ≡ true → Move p (goOn (segment r) (p .run .repeats + 1) (p .run)) (p .file)
+    download-opens : {r : Fields} {d : List ℕ} → p .run .direction ≡ Download → p .run .step ≡ step.Opening → Answering p r d
+        → opensDownload (length d) r ≡ true
+        → Move p (goOn 1 (p .run .repeats) (holding (length d) (learned Download r (p .run))))
+        (fileWith (learned Download r (p .run)) d (p .file))
+    brings : {r : Fields} {d : List ℕ} → p .run .direction ≡ Download → p .run .step ≡ step.Segment → Answering p r d
+        → bringsSegment (p .run) r (length d) ≡ true
+        → Move p (goOn (p .run .segment) (p .run .repeats) (holding (length d) (p .run))) (fileWith (p .run) d (p .file))
+    download-returns : {r : Fields} {d : List ℕ} → p .run .direction ≡ Download
+        → (p .run .step ≡ step.Segment) ⊎ (p .run .step ≡ step.Receipt)
+        → Answering p r d → downloadReturns (p .run) r ≡ true → Move p (goOn (segment r) (p .run .repeats + 1) (p .run)) (p .file)
+    repeats : mayRepeat (p .run) ≡ true → Move p (repeated (p .run)) (p .file)
+
+  -- the word of a run that ends
+  pub data Ends (p : Past) : Word → Type 0 where
+    last-taken : {r : Fields} {d : List ℕ} → p .run .direction ≡ Upload → p .run .step ≡ step.Segment → Answering p r d
+        → lodges (p .run) r ≡ true → Ends p Lodged
+    cancelled : {r : Fields} {d : List ℕ} → p .run .direction ≡ Upload → p .run .step ≡ step.Segment → Answering p r d
+        → endsUpload r ≡ true → Ends p NotLodged
+    confirmed : {r : Fields} {d : List ℕ} → p .run .direction ≡ Download → p .run .step ≡ step.Receipt → Answering p r d
+        → confirms (p .run) r ≡ true → Ends p Fetched
+    otherwise : Ends p (restWord (p .run))
+
+  pub data Change (p : Past) : Past → Type 0 where
+    nothing : Change p p
+    begins-with : (way : Direction) (s first : ℕ) (l : Lent) → Begins (p .run) way s first (lengthsOf l)
+        → Change p (issuing (begun way s first (beginLength way (lengthsOf l))) (l .payload) (l .file) (l .time) (l .nonce) (p .issues))
+    goes : {next : Client} {file : List ℕ} (l : Lent) → Accepted (p .run) (lengthsOf l) → Kept l p → Move p next file
+        → Change p (issuing next (p .payload) file (l .time) (l .nonce) (p .issues))
+    closes : {w : Word} (l : Lent) → Accepted (p .run) (lengthsOf l) → Kept l p → Ends p w → Change p (ending w p)
+
+  -- ---- the calls
+
+  by-kept : (P : List ℕ → List ℕ → Type 0) {l : Lent} {p : Past} → Kept l p → P (p .payload) (p .file) → P (l .payload) (l .file)
+  by-kept P {l} {p} k h = subst (P (l .payload)) (sym (k .file)) (subst (λ (y : List ℕ). P y (p .file)) (sym (k .payload)) h)
+
+  -- a request issued, or refused by the writer
+  pub by-issue : (P : Past → Type 0) (c next : Client) (file : List ℕ) (l : Lent) (p : Past) → P p
+      → P (issuing next (l .payload) file (l .time) (l .nonce) (p .issues))
+      → P (left (issued c next file l .answer) (issued c next file l) l p)
+  unfolding issued
+  by-issue P c next file l p same new = go (isWritten next l)
+    where
+      go : (w : Written) → let k = callOf (outcomeOf w c next) (ifWritten w file (l .file)) (requestWith next l) in
+          P (left (k .answer) k l p)
+      go (written.Length n) = new
+      go written.Refused = same
+
+  module _ (p : Past) (l : Lent) (k : Kept l p) (a : Accepted (p .run) (lengthsOf l)) where
+    abbrev Leads : ClientCall → Type 0
+    Leads x = Change p (left (x .answer) x l p)
+
+    -- a request issued with the file buffer that g makes of the lent one
+    moves : (next : Client) (g : List ℕ → List ℕ) → Move p next (g (p .file)) → Leads (issued (p .run) next (g (l .file)) l)
+    moves next g m =
+        by-issue (Change p) (p .run) next (g (l .file)) l p nothing
+        (by-kept (λ (y f : List ℕ). Change p (issuing next y (g f) (l .time) (l .nonce) (p .issues))) k (goes l a k m))
+
+    -- the segment that c has outstanding is answered
+    behind : (c : Client) (d : List ℕ) → Move p (goOn (c .segment) (c .repeats) (holding (length d) c)) (fileWith c d (p .file))
+        → Leads (taken (p .run) c d l)
+    unfolding taken
+    behind c d m = moves (goOn (c .segment) (c .repeats) (holding (length d) c)) (fileWith c d) m
+
+    behind-upload : (c : Client) (d : List ℕ) → c .direction ≡ Upload → Move p (goOn (c .segment) (c .repeats) c) (p .file)
+        → Leads (taken (p .run) c d l)
+    behind-upload c d up m =
+        behind c d
+        (subst (Move p (goOn (c .segment) (c .repeats) (holding (length d) c))) (sym (file-upload c up d (p .file)))
+        (subst (λ (n : Client). Move p (goOn (c .segment) (c .repeats) n) (p .file)) (sym (holding-upload c up (length d))) m))
+
+    opened : (way : Direction) (r : Fields) (d : List ℕ) → p .run .direction ≡ way → Leads (taken (p .run) (learned way r (p .run)) d l)
+        → Leads (taken (p .run) (learned (p .run .direction) r (p .run)) d l)
+    opened way r d e h = subst (λ (w : Direction). Leads (taken (p .run) (learned w r (p .run)) d l)) (sym e) h
+
+    ends : {w : Word} → Ends p w → Change p (record { run = ended w (p .run); payload = l .payload; file = l .file; issues = p .issues })
+    ends {w} m =
+        by-kept (λ (y g : List ℕ). Change p (record { run = ended w (p .run); payload = y; file = g; issues = p .issues })) k
+        (closes l a k m)
+
+    carried : {r : Fields} {d : List ℕ} {deed : Deed} → (isAnswer (p .run) r ≡ true → Answering p r d) → Cause (p .run) r (length d) deed
+        → Leads (carryOut deed (p .run) r d l)
+    carried f (not-answered h) =
+        by-kept (λ (y g : List ℕ). Change p (record { run = p .run; payload = y; file = g; issues = p .issues })) k nothing
+    carried {r} {d} f (upload-opened w s h t) =
+        opened Upload r d w (behind-upload (learned Upload r (p .run)) d w (upload-opens w s (f h) t))
+    carried f (lodged w s h t) = ends (last-taken w s (f h) t)
+    carried {r} {d} f (segment-taken w s h t) = behind-upload (p .run) d w (takes w s (f h) t)
+    carried f (upload-returned w s h t) = moves _ (λ g. g) (upload-returns w s (f h) t)
+    carried f (upload-refused w s h t) = ends (cancelled w s (f h) t)
+    carried {r} {d} f (download-opened w s h t) =
+        opened Download r d w (behind (learned Download r (p .run)) d (download-opens w s (f h) t))
+    carried f (segment-brought w s h t) = behind (p .run) _ (brings w s (f h) t)
+    carried f (download-returned w s h t) = moves _ (λ g. g) (download-returns w s (f h) t)
+    carried f (fetched w s h t) = ends (confirmed w s (f h) t)
+    carried f rest = ends otherwise
+    carried f (silent h) = moves _ (λ g. g) (repeats h)
+
+  -- no reply answers nothing
+  unanswered : {A : Type 0} (c : Client) → isAnswer c noFields ≡ true → A
+  unfolding isAnswer formOf findForm rowFits
+  unanswered c h = never h
+
+  -- a call given a number changes nothing
+  by-number : (p : Past) (l : Lent) (k : ClientCall) (x : Answer) → (answerNumber x ≡ 0 → Change p (left x k l p))
+      → Change p (left x k l p)
+  by-number p l k (answer.Request n) f = f refl
+  by-number p l k answer.Ignored f = f refl
+  by-number p l k (answer.Closed w) f = f refl
+  by-number p l k (answer.Refused r) f = nothing
+
+  module _ (p : Past) (l : Lent) (r : Fields) (d : List ℕ) (deed : Deed) (z : Cause (p .run) r (length d) deed) where
+    -- where the ruling gives no number, the deed is carried out
+    ruled : (u : Ruling) → runRuling (p .run .stage) (p .run) (lengthsOf l) ≡ u → let k = runBy u deed (p .run) r d l in
+        (answerNumber (k .answer) ≡ 0 → Kept l p × (isAnswer (p .run) r ≡ true → Answering p r d)) → Change p (left (k .answer) k l p)
+    ruled (Refuse x) e f = nothing
+    ruled Accept e f =
+        let k = carryOut deed (p .run) r d l in
+        by-number p l k (k .answer) (λ n. carried p l (f n .0) (accepted (p .run) (lengthsOf l) e) (f n .1) z)
+
+  begins-change : (p : Past) (way : Direction) (s first : ℕ) (l : Lent) (u : Ruling) → beginRuling (p .run) way s first (lengthsOf l) ≡ u
+      → let k = beginBy u (p .run) way s first l in Change p (left (k .answer) k l p)
+  begins-change p way s first l (Refuse x) e = nothing
+  begins-change p way s first l Accept e =
+      by-issue (Change p) (p .run) _ (l .file) l p nothing (begins-with way s first l (begins (p .run) way s first (lengthsOf l) e))
+
+  pub changes : (p : Past) (e : Event) → Fair Given e p → Change p (after e p)
+  unfolding after beginCall replyCall silenceCall
+  changes p (Begin way s first l) f = begins-change p way s first l (beginRuling (p .run) way s first (lengthsOf l)) refl
+  changes p (Reply frame l) f =
+      let r = readReply frame in
+      let d = dataOf frame in
+      ruled p l r d (onReply (p .run) r (length d)) (by-reply (p .run) r (length d)) _ refl
+      (λ n. let g = f n in (g .0, λ h. record { answers = h; issue = g .1 .issue; own = g .1 .own; given = g .1 .given }))
+  changes p (NoReply l) f =
+      ruled p l noFields [] (onSilence (p .run)) (by-silence (p .run) noFields 0) _ refl (λ n. (f n, λ h. unanswered (p .run) h))

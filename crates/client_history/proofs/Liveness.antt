@@ -1,0 +1,333 @@
+-- An order in turn: each fitting answer leads to the next step, the receipt, or the closing word.
+use Prim.Native.Nat.{ℕ, _+_, _<_, _≤_}
+use mathlib.Core.Bool.{true, false}
+use mathlib.Core.List.{List, []}
+use mathlib.Core.Path.{_≡_, refl, sym, ap, _∙_, subst}
+use native.Mathlib.Omega.{arith}
+use lib.ListN.{length}
+use borrow.Author.Tests.{lt-ltb, le-leb, eq-eqb, ne-eqb}
+use Rattle.frame.specs.declared.fields.Bits128.{Bits128}
+use Rattle.frame.specs.declared.fields.Fields.{Fields}
+use Rattle.frame.specs.declared.table.Form.the-variants as forms
+use Rattle.frame.specs.declared.writer.Written.{Written}
+use Rattle.frame.specs.declared.writer.Written.the-variants as written
+use Rattle.frame.specs.Names.{exchange, segments, transaction, segment, lastMark, orderNumber}
+use Rattle.frame.specs.Reader.{readReply}
+use Rattle.frame.specs.Row.{dataOf}
+use Rattle.message.specs.declared.codes.ReturnCode.the-variants as code
+use Rattle.message.specs.Limits.{segmentsMost, fileBytes}
+use Rattle.message.specs.Replies.{uploadOpened, downloadOpened, segmentTaken, downloadSegment, receiptAnswered}
+use Rattle.message.specs.Segments.{segmentsOf, segmentOf, lastMarkOf}
+use Rattle.client.specs.declared.run.Answer.the-variants as answer
+use Rattle.client.specs.declared.run.Client.{Client}
+use Rattle.client.specs.declared.run.Deed.{Deed}
+use Rattle.client.specs.declared.run.Deed.the-variants.{Ignore, Opened, Advance, Close}
+use Rattle.client.specs.declared.run.Direction.{Direction}
+use Rattle.client.specs.declared.run.Direction.the-variants.{Upload, Download}
+use Rattle.client.specs.declared.run.Refusal.{Refusal}
+use Rattle.client.specs.declared.run.Refusal.the-variants.{WrongBuffer, ExchangeTooHigh, NoSubscriber, WrongStage}
+use Rattle.client.specs.declared.run.Ruling.{Ruling}
+use Rattle.client.specs.declared.run.Ruling.the-variants.{Refuse, Accept}
+use Rattle.client.specs.declared.run.Stage.the-variants as stage
+use Rattle.client.specs.declared.run.Step.the-variants as step
+use Rattle.client.specs.declared.run.Word.{Word}
+use Rattle.client.specs.declared.run.Word.the-variants.{Lodged, Fetched}
+use Rattle.client.specs.Calls.{
+  ifWritten,
+  outcomeOf,
+  isWritten,
+  requestWith,
+  issued,
+  taken,
+  carryOut,
+  beginBy,
+  beginCall,
+  runBy,
+  replyCall,
+}
+use Rattle.client.specs.Decisions.{
+  answersSegment,
+  fitsSegment,
+  opensDownload,
+  lodges,
+  takesSegment,
+  bringsSegment,
+  confirms,
+  isAnswer,
+  onReply,
+}
+use Rattle.client.specs.NextRun.{begun, stepBehind, goOn, learned, holding, fileWith, ended}
+use Rattle.client.specs.Rulings.{beginRuling, runRuling}
+use Rattle.client.specs.Run.{Lent, ClientCall, lengthsOf, refusalNumber, answerNumber, callOf}
+use Rattle.client_history.specs.History.{Begin, Reply, Past, issuing, left, after, Kept}
+use Rattle.client_history.specs.InTurn.{InTurn}
+use Rattle.client_history.proofs.Files.{some-segments, most-segments}
+use Rattle.client_history.proofs.NextRuns.{held-same}
+use Rattle.client_history.proofs.Fitting.{
+  and-intro,
+  and-false,
+  own-true,
+  Fits,
+  fits-says,
+  fits-answer,
+  answers-true,
+  opened-fits,
+  taken-fits,
+  download-fits,
+  segment-fits,
+  receipt-fits,
+  opened-fields,
+  taken-fields,
+  download-fields,
+  segment-fields,
+  receipt-fields,
+  file-fits,
+  upload-deed,
+  download-deed,
+  to-opened,
+  to-lodged,
+  to-next,
+  to-download,
+  to-brought,
+  to-fetched,
+}
+
+-- ---- a call given no number
+
+numbered : {A : Type 0} (x : Refusal) → refusalNumber x ≡ 0 → A
+numbered WrongBuffer h = absurd (omega arith)
+numbered ExchangeTooHigh h = absurd (omega arith)
+numbered NoSubscriber h = absurd (omega arith)
+numbered WrongStage h = absurd (omega arith)
+
+-- a request issued
+by-issued : (P : Past → Type 0) (c next : Client) (file : List ℕ) (l : Lent) (p : Past)
+    → P (issuing next (l .payload) file (l .time) (l .nonce) (p .issues)) → answerNumber (issued c next file l .answer) ≡ 0
+    → P (left (issued c next file l .answer) (issued c next file l) l p)
+unfolding issued
+by-issued P c next file l p new = go (isWritten next l)
+  where
+    go : (w : Written) → let k = callOf (outcomeOf w c next) (ifWritten w file (l .file)) (requestWith next l) in
+        answerNumber (k .answer) ≡ 0 → P (left (k .answer) k l p)
+    go (written.Length n) h = new
+    go written.Refused h = numbered WrongBuffer h
+
+-- a reply's call by the deed that the reply leads to
+by-deed : (P : Past → Type 0) (p : Past) (frame : List ℕ) (l : Lent) (deed : Deed)
+    → onReply (p .run) (readReply frame) (length (dataOf frame)) ≡ deed
+    → (let k = carryOut deed (p .run) (readReply frame) (dataOf frame) l in answerNumber (k .answer) ≡ 0 → P (left (k .answer) k l p))
+    → answerNumber (replyCall (p .run) frame l .answer) ≡ 0 → P (after (Reply frame l) p)
+unfolding after replyCall
+by-deed P p frame l deed e f = go (runRuling (p .run .stage) (p .run) (lengthsOf l))
+  where
+    Goal : ClientCall → Type 0
+    Goal k = answerNumber (k .answer) ≡ 0 → P (left (k .answer) k l p)
+
+    go : (u : Ruling)
+        → Goal (runBy u (onReply (p .run) (readReply frame) (length (dataOf frame))) (p .run) (readReply frame) (dataOf frame) l)
+    go (Refuse x) = numbered x
+    go Accept = subst (λ (z : Deed). Goal (carryOut z (p .run) (readReply frame) (dataOf frame) l)) (sym e) f
+
+-- ---- where the run stands then
+
+-- the run k with the request behind its outstanding segment, answered with the data d, issued
+unfoldable next : Client → List ℕ → Client
+next k d = goOn (k .segment) (k .repeats) (holding (length d) k)
+
+next-in-turn : (k : Client) (way : Direction) (j : ℕ) (d payload file : List ℕ) (l : Lent) (p : Past) → k .stage ≡ stage.Running
+    → k .direction ≡ way → k .segment ≡ j → k .repeats ≡ 0
+    → InTurn (issuing (next k d) payload file (l .time) (l .nonce) (p .issues)) way (stepBehind way j (k .segments)) (j + 1)
+unfolding next goOn
+next-in-turn k way j d payload file l p running w e z =
+    let s = held-same d [] k in
+    record {
+      running = s .0 .stage ∙ running;
+      direction = s .0 .direction ∙ w;
+      step =
+          ap (λ (x : Direction). stepBehind x (k .segment) (holding (length d) k .segments)) (s .0 .direction ∙ w)
+          ∙ ap (λ (x : ℕ). stepBehind way x (holding (length d) k .segments)) e
+          ∙ ap (stepBehind way j) (s .1 .segments);
+      segment = ap (λ (x : ℕ). x + 1) e;
+      repeats = z;
+    }
+
+next-known : (k : Client) (d : List ℕ)
+    → (next k d .transaction ≡ k .transaction) × (next k d .number ≡ k .number) × (next k d .segments ≡ k .segments)
+unfolding next goOn
+next-known k d = let s = held-same d [] k .1 in (s .transaction, s .number, s .segments)
+
+module _ (p : Past) (frame : List ℕ) (l : Lent) (done : answerNumber (replyCall (p .run) frame l .answer) ≡ 0) where
+  abbrev c : Client
+  c = p .run
+
+  abbrev r : Fields
+  r = readReply frame
+
+  abbrev d : List ℕ
+  d = dataOf frame
+
+  abbrev then : Past
+  then = after (Reply frame l) p
+
+  -- an answered step leads to the next
+  by-next : (P : Past → Type 0) (k : Client)
+      → P (issuing (next k d) (l .payload) (fileWith k d (l .file)) (l .time) (l .nonce) (p .issues))
+      → answerNumber (taken c k d l .answer) ≡ 0 → P (left (taken c k d l .answer) (taken c k d l) l p)
+  unfolding taken next
+  by-next P k new h = by-issued P c (next k d) (fileWith k d (l .file)) l p new h
+
+  by-opened : (P : Past → Type 0) (way : Direction) → c .direction ≡ way → onReply c r (length d) ≡ Opened
+      → P (issuing (next (learned way r c) d) (l .payload) (fileWith (learned way r c) d (l .file)) (l .time) (l .nonce) (p .issues))
+      → P then
+  by-opened P way w e new =
+      by-deed P p frame l Opened e
+      (subst (λ (x : Direction). let k = taken c (learned x r c) d l in answerNumber (k .answer) ≡ 0 → P (left (k .answer) k l p)) (sym w)
+      (by-next P (learned way r c) new)) done
+
+  by-advanced : (P : Past → Type 0) → onReply c r (length d) ≡ Advance
+      → P (issuing (next c d) (l .payload) (fileWith c d (l .file)) (l .time) (l .nonce) (p .issues)) → P then
+  by-advanced P e new = by-deed P p frame l Advance e (by-next P c new) done
+
+  by-closed : (w : Word) → onReply c r (length d) ≡ Close w → then .run .stage ≡ stage.Ended w
+  unfolding ended
+  by-closed w e = by-deed (λ (q : Past). q .run .stage ≡ stage.Ended w) p frame l (Close w) e (λ h. refl) done
+
+  -- ---- UPLOAD
+
+  -- the opening's answer leads to segment 1, under the transaction and the order number that it brings
+  pub upload-opens : (j n : ℕ) (t : Bits128) → InTurn p Upload step.Opening j → r ≡ uploadOpened (c .exchange) t n
+      → InTurn then Upload step.Segment 1 × (then .run .transaction ≡ t) × (then .run .number ≡ n)
+  upload-opens j n t i e =
+      let f = subst (Fits _ _ _ _) (sym e) (opened-fits (c .exchange) n 0 0 t) in
+      let a = fits-answer c r f refl (λ z. omega arith) in
+      let k = learned Upload r c in
+      let g = next-known k d in
+      by-opened (λ (q : Past). InTurn q Upload step.Segment 1 × (q .run .transaction ≡ t) × (q .run .number ≡ n)) Upload (i .direction)
+      (upload-deed c r (length d) a (i .direction) step.Opening (i .step) ∙ to-opened c r (length d) (fits-says c r f)) (
+        next-in-turn k Upload 0 d _ _ l p (i .running) (i .direction) refl (i .repeats),
+        g .0 ∙ ap transaction e ∙ opened-fields (c .exchange) n 0 0 t .0,
+        g .1 ∙ ap orderNumber e ∙ opened-fields (c .exchange) n 0 0 t .1,
+      )
+
+  module _ (j : ℕ) (i : InTurn p Upload step.Segment j) (e : r ≡ segmentTaken (c .exchange) (c .transaction) j) where
+    taken-answer : isAnswer c r ≡ true
+    taken-answer =
+        fits-answer c r (subst (Fits _ _ _ _) (sym e) (taken-fits (c .exchange) 0 j 0 (c .transaction))) refl (λ z. omega arith)
+
+    taken-answers : answersSegment forms.SegmentTaken c r ≡ true
+    taken-answers =
+        answers-true _ c r (subst (Fits _ _ _ _) (sym e) (taken-fits (c .exchange) 0 j 0 (c .transaction)))
+        (ap transaction e ∙ taken-fields (c .exchange) 0 j 0 (c .transaction) .0)
+        (ap segment e ∙ taken-fields (c .exchange) 0 j 0 (c .transaction) .1 ∙ sym (i .segment))
+
+    -- segment j < N taken leads to segment j + 1
+    pub upload-advances : j < c .segments → InTurn then Upload step.Segment (j + 1)
+    unfolding lodges takesSegment
+    upload-advances h =
+        let s = i .segment in
+        by-advanced (λ (q : Past). InTurn q Upload step.Segment (j + 1))
+        (upload-deed c r (length d) taken-answer (i .direction) step.Segment (i .step)
+        ∙ to-next c r (length d)
+        (and-false (answersSegment forms.SegmentTaken c r) _ (ne-eqb (c .segment) (c .segments) (λ z. omega arith)))
+        (and-intro taken-answers (lt-ltb (c .segment) (c .segments) (omega arith))))
+        (next-in-turn c Upload j d _ _ l p (i .running) (i .direction) s (i .repeats))
+
+    -- segment N taken: lodged
+    pub upload-lodges : j ≡ c .segments → then .run .stage ≡ stage.Ended Lodged
+    unfolding lodges
+    upload-lodges h =
+        by-closed Lodged
+        (upload-deed c r (length d) taken-answer (i .direction) step.Segment (i .step)
+        ∙ to-lodged c r (length d) (and-intro taken-answers (eq-eqb (c .segment) (c .segments) (i .segment ∙ h))))
+
+  -- ---- DOWNLOAD
+
+  -- the opening's answer, with segment 1 of the file f, leads to segment 2 or to the receipt
+  pub download-opens : (j n : ℕ) (t : Bits128) (f : List ℕ) → InTurn p Download step.Opening j
+      → r ≡ downloadOpened (c .exchange) n t (lastMarkOf 1 n) → n ≡ segmentsOf (length f) → 0 < length f → length f ≤ fileBytes
+      → d ≡ segmentOf f 1
+      → InTurn then Download (stepBehind Download 1 n) 2 × (then .run .transaction ≡ t) × (then .run .segments ≡ n)
+  unfolding opensDownload
+  download-opens j n t f i e m least most g =
+      let x = subst (Fits _ _ _ _) (sym e) (download-fits (c .exchange) n 0 (lastMarkOf 1 n) t) in
+      let y = download-fields (c .exchange) n 0 (lastMarkOf 1 n) t in
+      let a = fits-answer c r x refl (λ z. omega arith) in
+      let sn : segments r ≡ n = ap segments e ∙ y .1 in
+      let some : 1 ≤ segments r = let z = some-segments (length f) least in omega arith in
+      let few : segments r ≤ segmentsMost = let z = most-segments (length f) most in omega arith in
+      let whole =
+      file-fits f 1 (segments r) r d (omega arith) some few (sn ∙ m) g (ap lastMark e ∙ y .3 ∙ ap (lastMarkOf 1) (sym sn)) in
+      let fits =
+      and-intro (and-intro (and-intro (and-intro (fits-says c r x) (eq-eqb (segment r) 1 (ap segment e ∙ y .2))) (le-leb 1 _ some))
+      (le-leb _ _ few)) whole in
+      let k = learned Download r c in
+      let h = next-known k d in
+      by-opened
+      (λ (q : Past). InTurn q Download (stepBehind Download 1 n) 2 × (q .run .transaction ≡ t) × (q .run .segments ≡ n))
+      Download (i .direction)
+      (download-deed c r (length d) a (i .direction) step.Opening (i .step) ∙ to-download c r (length d) fits) (
+        subst (λ (u : ℕ). InTurn (issuing (next k d) (l .payload) (fileWith k d (l .file)) (l .time) (l .nonce) (p .issues)) Download
+            (stepBehind Download 1 u) 2)
+            sn (next-in-turn k Download 1 d _ _ l p (i .running) (i .direction) refl (i .repeats)),
+        h .0 ∙ ap transaction e ∙ y .0,
+        h .2 ∙ sn,
+      )
+
+  -- segment j of the file f leads to segment j + 1 or to the receipt
+  pub download-advances : (j : ℕ) (f : List ℕ) → InTurn p Download step.Segment j → 1 ≤ j → j ≤ c .segments
+      → r ≡ downloadSegment (c .exchange) (c .transaction) j (lastMarkOf j (c .segments)) → c .segments ≡ segmentsOf (length f)
+      → length f ≤ fileBytes
+      → d ≡ segmentOf f j → InTurn then Download (stepBehind Download j (c .segments)) (j + 1)
+  unfolding bringsSegment
+  download-advances j f i least within e m most g =
+      let mark = lastMarkOf j (c .segments) in
+      let x = subst (Fits _ _ _ _) (sym e) (segment-fits (c .exchange) 0 j mark (c .transaction)) in
+      let y = segment-fields (c .exchange) 0 j mark (c .transaction) in
+      let few : c .segments ≤ segmentsMost = let z = most-segments (length f) most in omega arith in
+      let s = sym (i .segment) in
+      let whole = file-fits f j (c .segments) r d least within few m g (ap lastMark e ∙ y .2) in
+      let fits =
+      and-intro (answers-true _ c r x (ap transaction e ∙ y .0) (ap segment e ∙ y .1 ∙ s))
+      (subst (λ (z : ℕ). fitsSegment z (c .segments) (length d) r ≡ true) s whole) in
+      by-advanced (λ (q : Past). InTurn q Download (stepBehind Download j (c .segments)) (j + 1))
+      (download-deed c r (length d) (fits-answer c r x refl (λ z. omega arith)) (i .direction) step.Segment (i .step)
+      ∙ to-brought c r (length d) fits)
+      (next-in-turn c Download j d _ _ l p (i .running) (i .direction) (i .segment) (i .repeats))
+
+  -- the receipt's answer: fetched
+  pub download-fetches : (j : ℕ) → InTurn p Download step.Receipt j
+      → r ≡ receiptAnswered (c .exchange) (c .transaction) code.DownloadPostprocessDone → then .run .stage ≡ stage.Ended Fetched
+  unfolding confirms
+  download-fetches j i e =
+      let x = subst (Fits _ _ _ _) (sym e) (receipt-fits (c .exchange) 0 0 0 (c .transaction)) in
+      by-closed Fetched
+      (download-deed c r (length d) (fits-answer c r x refl (λ z. omega arith)) (i .direction) step.Receipt (i .step)
+      ∙ to-fetched c r (length d)
+      (and-intro (fits-says c r x) (own-true c r (ap transaction e ∙ receipt-fields (c .exchange) 0 0 0 (c .transaction)))))
+
+  -- ---- A REPLY TO AN EARLIER REQUEST
+
+  -- a reply that is ignored leaves all as it was
+  pub ignored-stays : Kept l p → isAnswer c r ≡ false → then ≡ p
+  unfolding onReply
+  ignored-stays k h =
+      by-deed (λ (q : Past). q ≡ p) p frame l Ignore (rw h)
+      (λ z. let y = k .payload in let f = k .file in λ i. record { run = c; payload = y i; file = f i; issues = p .issues }) done
+
+-- ---- THE BEGIN
+
+-- a begin leaves the opening outstanding under the first exchange number
+pub begins : (p : Past) (way : Direction) (s first : ℕ) (l : Lent) → answerNumber (beginCall (p .run) way s first l .answer) ≡ 0
+    → let q = after (Begin way s first l) p in
+    InTurn q way step.Opening 0 × (q .run .subscriber ≡ s) × (q .run .exchange ≡ first) × (q .payload ≡ l .payload)
+unfolding after beginCall begun
+begins p way s first l = go (beginRuling (p .run) way s first (lengthsOf l))
+  where
+    Goal : Past → Type 0
+    Goal q = InTurn q way step.Opening 0 × (q .run .subscriber ≡ s) × (q .run .exchange ≡ first) × (q .payload ≡ l .payload)
+
+    go : (u : Ruling) → let k = beginBy u (p .run) way s first l in answerNumber (k .answer) ≡ 0 → Goal (left (k .answer) k l p)
+    go (Refuse x) = numbered x
+    go Accept =
+        by-issued Goal (p .run) _ (l .file) l p
+        (record { running = refl; direction = refl; step = refl; segment = refl; repeats = refl }, refl, refl, refl)

@@ -1,0 +1,157 @@
+-- What stays from event to event: of a begun run, of one with its transaction known, of one that has ended.
+use Prim.Native.Nat.{ℕ}
+use mathlib.Core.Bool.{Bool, true, false, cond}
+use mathlib.Core.List.{List, [], List·Memᴰ·tail as there}
+use mathlib.Core.Path.{_≡_, refl, sym, ap, _∙_}
+use lib.Dec.{eqb}
+use Rattle.frame.specs.declared.fields.Fields.{Fields}
+use Rattle.frame.specs.Reader.{noFields, readReply}
+use Rattle.frame.specs.Row.{dataOf}
+use Rattle.frame.proofs.Tests.{never}
+use Rattle.client.specs.declared.run.Client.{Client}
+use Rattle.client.specs.declared.run.Deed.{Deed}
+use Rattle.client.specs.declared.run.Direction.{Direction}
+use Rattle.client.specs.declared.run.Direction.the-variants.{Upload, Download}
+use Rattle.client.specs.declared.run.Ruling.{Ruling}
+use Rattle.client.specs.declared.run.Ruling.the-variants.{Refuse, Accept}
+use Rattle.client.specs.declared.run.Stage.{Stage}
+use Rattle.client.specs.declared.run.Stage.the-variants as stage
+use Rattle.client.specs.declared.run.Step.{Step}
+use Rattle.client.specs.declared.run.Step.the-variants as step
+use Rattle.client.specs.declared.run.Word.{Word}
+use Rattle.client.specs.Calls.{beginBy, beginCall, runBy, replyCall, silenceCall}
+use Rattle.client.specs.NextRun.{stepBehind, goOn, repeated, learned, ended}
+use Rattle.client.specs.Rulings.{isBegun, beginRuling, runRuling}
+use Rattle.client.specs.Run.{Lent, lengthsOf}
+use Rattle.client_history.specs.History.{Event, Begin, Reply, NoReply, Past, issuing, left, after, Fair}
+use Rattle.client_history.specs.Invariant.{isOpen, Steady}
+use Rattle.client.proofs.Accepted.{accepted, begins}
+use Rattle.client_history.proofs.Changes.{
+  Move,
+  upload-opens,
+  takes,
+  upload-returns,
+  download-opens,
+  brings,
+  download-returns,
+  repeats,
+  Change,
+  nothing,
+  begins-with,
+  goes,
+  closes,
+  changes,
+}
+use Rattle.client_history.proofs.NextRuns.{Same, Known, same, known, learned-same, held-same, opened-same}
+
+-- ---- a begun run
+
+open-behind : (w : Direction) (k n : ℕ) → isOpen (stepBehind w k n) ≡ true
+open-behind Upload k n = refl
+open-behind Download k n = go (eqb k n)
+  where
+    go : (b : Bool) → isOpen (cond b step.Receipt step.Segment) ≡ true
+    go true = refl
+    go false = refl
+
+module _ (p : Past) (b : isBegun (p .run .stage) ≡ true) (file : List ℕ) (time : ℕ) (nonce : List ℕ) where
+  abbrev Goes : Client → Type 0
+  Goes next = Steady p (issuing next (p .payload) file time nonce (p .issues))
+
+  goes-on : (k n : ℕ) (c : Client) → Same c (p .run) → (isOpen (p .run .step) ≡ true → Known c (p .run)) → Goes (goOn k n c)
+  unfolding goOn
+  goes-on k n c s f = record {
+    begun = ap isBegun (s .stage) ∙ b;
+    direction = s .direction;
+    subscriber-same = s .subscriber;
+    payload = refl;
+    issues = λ x m. there m;
+    known = λ h. open-behind (c .direction) k (c .segments);
+    transaction-same = λ h. f h .transaction;
+    number = λ h. f h .number;
+    segments = λ h. f h .segments;
+  }
+
+  goes-same : (k n : ℕ) → Goes (goOn k n (p .run))
+  goes-same k n = goes-on k n (p .run) (same (p .run)) (λ h. known (p .run))
+
+  repeats-same : Goes (repeated (p .run))
+  unfolding repeated
+  repeats-same = record {
+    begun = b;
+    direction = refl;
+    subscriber-same = refl;
+    payload = refl;
+    issues = λ x m. there m;
+    known = λ h. h;
+    transaction-same = λ h. refl;
+    number = λ h. refl;
+    segments = λ h. refl;
+  }
+
+opening : {A : Type 0} {s : Step} → s ≡ step.Opening → isOpen s ≡ true → A
+opening e h = never (sym (ap isOpen e) ∙ h)
+
+module _ (Given : Fields → List ℕ → Fields → List ℕ → Type 0) where
+  moved : (p : Past) → isBegun (p .run .stage) ≡ true → (l : Lent) {next : Client} {file : List ℕ} → Move Given p next file
+      → Steady p (issuing next (p .payload) file (l .time) (l .nonce) (p .issues))
+  moved p b l (upload-opens {r} w s g t) =
+      goes-on p b _ _ _ 0 _ (learned Upload r (p .run)) (learned-same Upload r (p .run)) (opening s)
+  moved p b l (takes w s g t) = goes-same p b _ _ _ _ _
+  moved p b l (upload-returns w s g t) = goes-same p b _ _ _ _ _
+  moved p b l (download-opens {r} {d} w s g t) = goes-on p b _ _ _ 1 _ _ (opened-same d r (p .run)) (opening s)
+  moved p b l (brings {r} {d} w s g t) = goes-on p b _ _ _ _ _ _ (held-same d [] (p .run) .0) (λ h. held-same d [] (p .run) .1)
+  moved p b l (download-returns w s g t) = goes-same p b _ _ _ _ _
+  moved p b l (repeats t) = repeats-same p b _ _ _
+
+  steady-by : {p q : Past} → isBegun (p .run .stage) ≡ true → Change Given p q → Steady p q
+  unfolding ended
+  steady-by b nothing = record {
+    begun = b;
+    direction = refl;
+    subscriber-same = refl;
+    payload = refl;
+    issues = λ x m. m;
+    known = λ h. h;
+    transaction-same = λ h. refl;
+    number = λ h. refl;
+    segments = λ h. refl;
+  }
+  steady-by b (begins-with way s first l g) = never (sym (g .fresh) ∙ b)
+  steady-by {p} b (goes l a k m) = moved p b l m
+  steady-by {p} b (closes {w} l a k m) = record {
+    begun = refl;
+    direction = refl;
+    subscriber-same = refl;
+    payload = refl;
+    issues = λ x m. m;
+    known = λ h. h;
+    transaction-same = λ h. refl;
+    number = λ h. refl;
+    segments = λ h. refl;
+  }
+
+  pub steady : (p : Past) (e : Event) → Fair Given e p → isBegun (p .run .stage) ≡ true → Steady p (after e p)
+  steady p e f b = steady-by b (changes Given p e f)
+
+-- ---- a run that has ended
+
+module _ (p : Past) (w : Word) (e : p .run .stage ≡ stage.Ended w) where
+  not-running : {A : Type 0} {s : Stage} → s ≡ stage.Ended w → s ≡ stage.Running → A
+  not-running a b = never (let z : _≡_ {A = Bool} false true = cc in z)
+
+  ruled : (l : Lent) (deed : Deed) (r : Fields) (d : List ℕ) (u : Ruling) → runRuling (p .run .stage) (p .run) (lengthsOf l) ≡ u
+      → let k = runBy u deed (p .run) r d l in left (k .answer) k l p ≡ p
+  ruled l deed r d (Refuse x) h = refl
+  ruled l deed r d Accept h = not-running e (accepted (p .run) (lengthsOf l) h .running)
+
+  begin-ruled : (way : Direction) (s first : ℕ) (l : Lent) (u : Ruling) → beginRuling (p .run) way s first (lengthsOf l) ≡ u
+      → let k = beginBy u (p .run) way s first l in left (k .answer) k l p ≡ p
+  begin-ruled way s first l (Refuse x) h = refl
+  begin-ruled way s first l Accept h = never (sym (begins (p .run) way s first (lengthsOf l) h .fresh) ∙ ap isBegun e)
+
+  pub ended-stays : (v : Event) → after v p ≡ p
+  unfolding after beginCall replyCall silenceCall
+  ended-stays (Begin way s first l) = begin-ruled way s first l _ refl
+  ended-stays (Reply frame l) = ruled l _ (readReply frame) (dataOf frame) _ refl
+  ended-stays (NoReply l) = ruled l _ noFields [] _ refl

@@ -1,0 +1,358 @@
+-- The main results, for the crates above: what holds of a client run after every list of fair events.
+use Prim.Native.Nat.{ℕ, _+_, _<_, _≤_}
+use mathlib.Core.Bool.{Bool, true}
+use mathlib.Core.List.{List, List·Memᴰ as In, List·Memᴰ·not-nil as in-none}
+use mathlib.Core.Logic.{_⊎_, inl, inr}
+use mathlib.Core.Path.{_≡_, sym, ap, _∙_, subst}
+use native.Mathlib.Omega.{arith}
+use lib.ListN.{length}
+use Rattle.frame.specs.declared.fields.Bits128.{Bits128}
+use Rattle.frame.specs.declared.fields.Fields.{Fields}
+use Rattle.frame.specs.declared.table.Form.{Form}
+use Rattle.frame.specs.declared.table.Form.the-variants as forms
+use Rattle.frame.specs.Names.{subscriber, exchange, transaction, segment, form}
+use Rattle.frame.specs.Reader.{readReply}
+use Rattle.frame.specs.Row.{dataOf}
+use Rattle.frame.proofs.Tests.{never}
+use Rattle.message.specs.Limits.{segmentsMost}
+use Rattle.message.specs.Segments.{segmentsOf}
+use Rattle.client.specs.declared.run.Direction.the-variants.{Upload, Download}
+use Rattle.client.specs.declared.run.Stage.{Stage}
+use Rattle.client.specs.declared.run.Stage.the-variants as stage
+use Rattle.client.specs.declared.run.Step.{Step}
+use Rattle.client.specs.declared.run.Step.the-variants as step
+use Rattle.client.specs.declared.run.Word.{Word}
+use Rattle.client.specs.declared.run.Word.the-variants.{Lodged, NotLodged, Fetched}
+use Rattle.client.specs.Decisions.{isAnswer}
+use Rattle.client.specs.Rulings.{isBegun}
+use Rattle.client_history.specs.History.{Issue, Event, Past, heldOf, after, pastOf, BankReplies, GivenTo, Fair, AllFair}
+use Rattle.client_history.specs.Invariant.{
+  Numbered,
+  Newest,
+  Begun,
+  isOpen,
+  Steady,
+  UploadIssue,
+  uploadOpens,
+  sends,
+  DownloadIssue,
+  downloadOpens,
+  asks,
+  confirms,
+  SegmentSent,
+  SegmentAsked,
+  ReceiptIssued,
+  Answered,
+  UploadOpen,
+  UploadStep,
+  LastTaken,
+  Cancelled,
+  UploadStage,
+  UploadRun,
+  FileHeld,
+  DownloadStep,
+  Confirmed,
+  DownloadStage,
+  Receipts,
+  DownloadRun,
+  Invariant,
+  not-begun,
+  upload,
+  download,
+}
+use Rattle.client_history.proofs.Downloads.{whole-file}
+use Rattle.client_history.proofs.Issues
+use Rattle.client_history.proofs.Keeps
+-- the invariant as more replies are given
+pub use Rattle.client_history.proofs.Lifting.{lifted}
+-- 5. an order in turn: begin, the opening's answer, each segment's, the last one's, the receipt's; and a reply that is ignored
+pub use Rattle.client_history.proofs.Liveness.{
+  begins,
+  upload-opens,
+  upload-advances,
+  upload-lodges,
+  download-opens,
+  download-advances,
+  download-fetches,
+  ignored-stays,
+}
+use Rattle.client_history.proofs.NextRuns.{not-both}
+use Rattle.client_history.proofs.Requests.{
+  form-uploadOpening,
+  form-downloadOpening,
+  form-uploadTransfer,
+  form-downloadTransfer,
+  form-receipt,
+  segment-uploadTransfer,
+}
+use Rattle.client_history.proofs.Stays
+
+-- ---- the forms of the requests issued
+
+other-form : {A : Type 0} {f x y : Form} → f ≡ x → f ≡ y → (x ≡ y → _≡_ {A = ℕ} 0 1) → A
+other-form a b f = absurd (let z = f (sym a ∙ b) in omega arith)
+
+upload-form : {s n top : ℕ} {t : Bits128} {y : List ℕ} {x : Issue} → UploadIssue s n t top y x
+    → (form (x .request) ≡ forms.UploadOpening) ⊎ (form (x .request) ≡ forms.UploadTransfer)
+upload-form (uploadOpens number time nonce q d) = inl (ap form q ∙ form-uploadOpening _ _ _ _ _)
+upload-form (sends number j a c q d) = inr (ap form q ∙ form-uploadTransfer _ _ _ _ _)
+
+download-form : {s n held : ℕ} {t : Bits128} {b : Bool} {f : List ℕ} {x : Issue} → DownloadIssue s n t held b f x
+    → (form (x .request) ≡ forms.DownloadOpening) ⊎ ((form (x .request) ≡ forms.DownloadTransfer) ⊎ (form (x .request) ≡ forms.Receipt))
+download-form (downloadOpens number time nonce q d) = inl (ap form q ∙ form-downloadOpening _ _ _ _)
+download-form (asks number j a b c e q d) = inr (inl (ap form q ∙ form-downloadTransfer _ _ _ _))
+download-form (confirms number a b c e q d) = inr (inr (ap form q ∙ form-receipt _ _ _ _))
+
+not-upload : {A : Type 0} {f x : Form} → (f ≡ forms.UploadOpening) ⊎ (f ≡ forms.UploadTransfer) → f ≡ x
+    → (x ≡ forms.UploadOpening → _≡_ {A = ℕ} 0 1) → (x ≡ forms.UploadTransfer → _≡_ {A = ℕ} 0 1) → A
+not-upload (inl a) e g h = other-form e a g
+not-upload (inr a) e g h = other-form e a h
+
+not-download : {A : Type 0} {f x : Form} → (f ≡ forms.DownloadOpening) ⊎ ((f ≡ forms.DownloadTransfer) ⊎ (f ≡ forms.Receipt)) → f ≡ x
+    → (x ≡ forms.DownloadOpening → _≡_ {A = ℕ} 0 1) → (x ≡ forms.DownloadTransfer → _≡_ {A = ℕ} 0 1)
+    → (x ≡ forms.Receipt → _≡_ {A = ℕ} 0 1) → A
+not-download (inl a) e g h k = other-form e a g
+not-download (inr (inl a)) e g h k = other-form e a h
+not-download (inr (inr a)) e g h k = other-form e a k
+
+-- the number of a transfer issued
+sent-number : {p : Past} {x : Issue} (s : SegmentSent p x) → segment (x .request) ≡ s .j
+sent-number s = ap segment (s .request) ∙ segment-uploadTransfer _ _ _ _ _
+
+module _ (Given : Fields → List ℕ → Fields → List ℕ → Type 0) (fileAt : Bits128 → List ℕ) (bank : BankReplies Given fileAt) where
+  -- ---- THE INVARIANT: of every list of fair events, and from event to event
+
+  pub invariant : (es : List Event) → AllFair Given es → Invariant Given fileAt (pastOf es)
+  invariant = Keeps.invariant Given fileAt bank
+
+  pub kept : (p : Past) (e : Event) → Fair Given e p → Invariant Given fileAt p → Invariant Given fileAt (after e p)
+  kept = Keeps.kept Given fileAt bank
+
+  -- what each event leaves as it was: direction, subscriber, payload and issues; once it is known, the transaction
+  pub steady : (p : Past) (e : Event) → Fair Given e p → isBegun (p .run .stage) ≡ true → Steady p (after e p)
+  steady = Stays.steady Given
+
+  -- 8, "the run has ended": it stays as it is and issues nothing more
+  pub ended-stays : (p : Past) (w : Word) → p .run .stage ≡ stage.Ended w → (e : Event) → after e p ≡ p
+  ended-stays = Stays.ended-stays
+
+  module _ (p : Past) (i : Invariant Given fileAt p) where
+    -- ---- 1. THE REQUESTS
+
+    begun-of : isBegun (p .run .stage) ≡ true → Begun p
+    begun-of b = go i
+      where
+        go : Invariant Given fileAt p → Begun p
+        go (not-begun e f) = never (sym (ap isBegun e) ∙ b)
+        go (upload g u) = g
+        go (download g u) = g
+
+    -- exchange numbers: first, first + 1, ... up to the outstanding one, each once
+    pub exchange-numbers : isBegun (p .run .stage) ≡ true → (first : ℕ) × Numbered first (p .run .exchange + 1) (p .issues)
+    exchange-numbers b = let g = begun-of b in (g .first, g .numbers)
+
+    pub one-number : (x y : Issue) → In x (p .issues) → In y (p .issues) → exchange (x .request) ≡ exchange (y .request) → x ≡ y
+    one-number x y m n e = go i
+      where
+        go : Invariant Given fileAt p → x ≡ y
+        go (not-begun f g) = absurd (in-none (subst (In x) g m))
+        go (upload g u) = Issues.one-number (g .numbers) m n e
+        go (download g u) = Issues.one-number (g .numbers) m n e
+
+    -- all are under the run's subscriber
+    pub one-subscriber : (x : Issue) → In x (p .issues) → subscriber (x .request) ≡ p .run .subscriber
+    one-subscriber x m = go i
+      where
+        go : Invariant Given fileAt p → subscriber (x .request) ≡ p .run .subscriber
+        go (not-begun e f) = absurd (in-none (subst (In x) f m))
+        go (upload g u) = g .own x m
+        go (download g u) = g .own x m
+
+    -- the newest issue is the outstanding request
+    pub newest-outstanding : isBegun (p .run .stage) ≡ true → Newest p
+    newest-outstanding b = begun-of b .newest
+
+    -- a reply that is not ignored was given to the outstanding request itself
+    pub answer-to-outstanding : (frame : List ℕ) → isBegun (p .run .stage) ≡ true → GivenTo Given frame p
+        → isAnswer (p .run) (readReply frame) ≡ true → Answered Given p (readReply frame) (dataOf frame)
+    answer-to-outstanding frame b g h =
+        Issues.answered Given fileAt bank p (readReply frame) (dataOf frame) (begun-of b)
+        (record { answers = h; issue = g .issue; own = g .own; given = g .given })
+
+    -- ---- 2. UPLOAD
+
+    module _ (b : isBegun (p .run .stage) ≡ true) (w : p .run .direction ≡ Upload) where
+      -- number of segments, requests issued, step
+      pub upload-run : UploadRun Given (p .run) (p .payload) (p .issues)
+      upload-run = go i
+        where
+          go : Invariant Given fileAt p → UploadRun Given (p .run) (p .payload) (p .issues)
+          go (not-begun e f) = never (sym (ap isBegun e) ∙ b)
+          go (upload g u) = u
+          go (download g u) = not-both w (u .direction)
+
+      -- "It cuts the payload at 256 bytes": 1 to 15 segments
+      pub upload-segments : (p .run .segments ≡ segmentsOf (length (p .payload)))
+          × (1 ≤ p .run .segments) × (p .run .segments ≤ segmentsMost)
+      upload-segments = let u = upload-run in (u .number, u .some, u .most)
+
+      -- an upload run issues openings and transfers only
+      pub upload-forms : (x : Issue) → In x (p .issues)
+          → (form (x .request) ≡ forms.UploadOpening) ⊎ (form (x .request) ≡ forms.UploadTransfer)
+      upload-forms x m = upload-form (upload-run .each x m)
+
+    module _ (x : Issue) (m : In x (p .issues)) where
+      -- every upload transfer issued is a segment of the payload under the run's transaction, none past `issued`
+      pub segment-sent : form (x .request) ≡ forms.UploadTransfer → SegmentSent p x
+      segment-sent e = go i
+        where
+          sent : UploadRun Given (p .run) (p .payload) (p .issues)
+              → UploadIssue (p .run .subscriber) (p .run .segments) (p .run .transaction) (p .run .issued) (p .payload) x
+              → SegmentSent p x
+          sent u (uploadOpens number time nonce q d) = other-form e (ap form q ∙ form-uploadOpening _ _ _ _ _) (λ z. cc)
+          sent u (sends number j a c q d) = record {
+            upload-run = u .direction;
+            number = number;
+            j = j;
+            least = a;
+            issued = c;
+            most = let t = u .top in omega arith;
+            request = q;
+            bytes = d;
+          }
+
+          go : Invariant Given fileAt p → SegmentSent p x
+          go (not-begun f g) = absurd (in-none (subst (In x) g m))
+          go (upload g u) = sent u (u .each x m)
+          go (download g u) = not-download (download-form (u .each x m)) e (λ z. cc) (λ z. cc) (λ z. cc)
+
+      -- "segment N never issued"
+      pub last-not-sent : form (x .request) ≡ forms.UploadTransfer → p .run .issued < p .run .segments
+          → segment (x .request) ≡ p .run .segments → ⊥
+      last-not-sent e h n = let s = segment-sent e in let k = s .issued in let j = sent-number s in omega arith
+
+      -- once a segment was issued, an opening of the run was given the run's transaction and order number
+      pub segment-opened : form (x .request) ≡ forms.UploadTransfer → UploadOpen Given (p .run) (p .issues)
+      segment-opened e = go i
+        where
+          s : SegmentSent p x
+          s = segment-sent e
+
+          opened : (at : Step) → UploadStep Given at (p .run) (p .issues) → UploadOpen Given (p .run) (p .issues)
+          opened step.Opening k = absurd (let a = s .least in let b = s .issued in omega arith)
+          opened step.Segment k = k .0
+          opened step.Receipt k = absurd k
+
+          go : Invariant Given fileAt p → UploadOpen Given (p .run) (p .issues)
+          go (not-begun f g) = absurd (in-none (subst (In x) g m))
+          go (upload g u) = opened (p .run .step) (u .step)
+          go (download g u) = not-both (s .upload-run) (u .direction)
+
+    -- ---- 3. AN UPLOAD'S END
+
+    -- "lodged (segment N answered 000000)"
+    pub lodged : p .run .stage ≡ stage.Ended Lodged → (p .run .direction ≡ Upload) × LastTaken Given (p .run) (p .issues)
+    lodged e = go i
+      where
+        go : Invariant Given fileAt p → (p .run .direction ≡ Upload) × LastTaken Given (p .run) (p .issues)
+        go (not-begun f g) = never (sym (ap isBegun f) ∙ ap isBegun e)
+        go (upload g u) = (u .direction, subst (λ (s : Stage). UploadStage Given s (p .run) (p .issues)) e (u .stage))
+        go (download g u) = absurd (subst (λ (s : Stage). DownloadStage Given fileAt s (p .run) (p .file) (p .issues)) e (u .stage))
+
+    -- "not lodged (segment N never issued, or ended by a reply 01 03 0D of phase 2 with 091102, 091104 or 011101)"
+    pub not-lodged : p .run .stage ≡ stage.Ended NotLodged
+        → (p .run .direction ≡ Upload) × ((p .run .issued < p .run .segments) ⊎ Cancelled Given (p .run) (p .issues))
+    not-lodged e = go i
+      where
+        go : Invariant Given fileAt p
+            → (p .run .direction ≡ Upload) × ((p .run .issued < p .run .segments) ⊎ Cancelled Given (p .run) (p .issues))
+        go (not-begun f g) = never (sym (ap isBegun f) ∙ ap isBegun e)
+        go (upload g u) = (u .direction, subst (λ (s : Stage). UploadStage Given s (p .run) (p .issues)) e (u .stage))
+        go (download g u) = absurd (subst (λ (s : Stage). DownloadStage Given fileAt s (p .run) (p .file) (p .issues)) e (u .stage))
+
+    -- ---- 4. DOWNLOAD
+
+    module _ (b : isBegun (p .run .stage) ≡ true) (w : p .run .direction ≡ Download) where
+      -- requests issued, step, receipts
+      pub download-run : DownloadRun Given fileAt (p .run) (p .file) (p .issues)
+      download-run = go i
+        where
+          go : Invariant Given fileAt p → DownloadRun Given fileAt (p .run) (p .file) (p .issues)
+          go (not-begun e f) = never (sym (ap isBegun e) ∙ b)
+          go (upload g u) = not-both (u .direction) w
+          go (download g u) = u
+
+      -- once opened: the opening's answer, N, and the bytes of segments 1 to held
+      pub file-held : isOpen (p .run .step) ≡ true → FileHeld Given fileAt (p .run) (p .file) (p .issues)
+      file-held o = go (p .run .step) o (download-run .step)
+        where
+          go : (s : Step) → isOpen s ≡ true → DownloadStep Given fileAt s (p .run) (p .file) (p .issues)
+              → FileHeld Given fileAt (p .run) (p .file) (p .issues)
+          go step.Opening h k = never h
+          go step.Segment h k = k .0
+          go step.Receipt h k = k .0
+
+      -- with all segments held the run's file is the mailbox's at the opening
+      pub file-whole : isOpen (p .run .step) ≡ true → p .run .held ≡ p .run .segments
+          → heldOf (p .run) (p .file) ≡ fileAt (p .run .transaction)
+      file-whole o e = whole-file Given (file-held o) e
+
+      -- a download run issues openings, transfers and receipts only
+      pub download-forms : (x : Issue) → In x (p .issues)
+          → (form (x .request) ≡ forms.DownloadOpening)
+          ⊎ ((form (x .request) ≡ forms.DownloadTransfer) ⊎ (form (x .request) ≡ forms.Receipt))
+      download-forms x m = download-form (download-run .each x m)
+
+      -- `receipted`: a receipt was issued
+      pub receipted-issued : p .run .receipted ≡ true → Receipts (p .issues)
+      receipted-issued h = download-run .receipts h
+
+    module _ (x : Issue) (m : In x (p .issues)) where
+      -- every download transfer asks for a segment up to the next one, under the run's transaction
+      pub segment-asked : form (x .request) ≡ forms.DownloadTransfer → SegmentAsked p x
+      segment-asked e = go i
+        where
+          asked : p .run .direction ≡ Download
+              → DownloadIssue (p .run .subscriber) (p .run .segments) (p .run .transaction) (p .run .held) (p .run .receipted)
+              (fileAt (p .run .transaction)) x → SegmentAsked p x
+          asked w (downloadOpens number time nonce q d) = other-form e (ap form q ∙ form-downloadOpening _ _ _ _) (λ z. cc)
+          asked w (asks number j a b c f q d) =
+              record { download-run = w; number = number; j = j; least = a; next = b; most = c; request = q }
+          asked w (confirms number a b c f q d) = other-form e (ap form q ∙ form-receipt _ _ _ _) (λ z. cc)
+
+          go : Invariant Given fileAt p → SegmentAsked p x
+          go (not-begun f g) = absurd (in-none (subst (In x) g m))
+          go (upload g u) = not-upload (upload-form (u .each x m)) e (λ z. cc) (λ z. cc)
+          go (download g u) = asked (u .direction) (u .each x m)
+
+      -- "the run held the whole when, as it issued that receipt, its file was the mailbox's"
+      pub receipt-issued : form (x .request) ≡ forms.Receipt → ReceiptIssued p (fileAt (p .run .transaction)) x
+      receipt-issued e = go i
+        where
+          issued : p .run .direction ≡ Download
+              → DownloadIssue (p .run .subscriber) (p .run .segments) (p .run .transaction) (p .run .held) (p .run .receipted)
+              (fileAt (p .run .transaction)) x → ReceiptIssued p (fileAt (p .run .transaction)) x
+          issued w (downloadOpens number time nonce q d) = other-form e (ap form q ∙ form-downloadOpening _ _ _ _) (λ z. cc)
+          issued w (asks number j a b c f q d) = other-form e (ap form q ∙ form-downloadTransfer _ _ _ _) (λ z. cc)
+          issued w (confirms number a b c f q d) =
+              record { download-run = w; number = number; whole = a; receipted = c; file = f; request = q }
+
+          go : Invariant Given fileAt p → ReceiptIssued p (fileAt (p .run .transaction)) x
+          go (not-begun f g) = absurd (in-none (subst (In x) g m))
+          go (upload g u) = not-upload (upload-form (u .each x m)) e (λ z. cc) (λ z. cc)
+          go (download g u) = issued (u .direction) (u .each x m)
+
+    -- "fetched (011000)"
+    pub fetched : p .run .stage ≡ stage.Ended Fetched
+        → (p .run .direction ≡ Download) × Confirmed Given fileAt (p .run) (p .file) (p .issues)
+    fetched e = go i
+      where
+        go : Invariant Given fileAt p → (p .run .direction ≡ Download) × Confirmed Given fileAt (p .run) (p .file) (p .issues)
+        go (not-begun f g) = never (sym (ap isBegun f) ∙ ap isBegun e)
+        go (upload g u) = absurd (subst (λ (s : Stage). UploadStage Given s (p .run) (p .issues)) e (u .stage))
+        go (download g u) =
+            (u .direction, subst (λ (s : Stage). DownloadStage Given fileAt s (p .run) (p .file) (p .issues)) e (u .stage))
+
+    -- a fetched file is the mailbox's file at its transaction's opening
+    pub fetched-file : p .run .stage ≡ stage.Ended Fetched → heldOf (p .run) (p .file) ≡ fileAt (p .run .transaction)
+    fetched-file e = let k = fetched e .1 in whole-file Given (k .held) (k .whole)

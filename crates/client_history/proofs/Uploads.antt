@@ -1,0 +1,333 @@
+-- What an upload run keeps.
+use Prim.Native.Nat.{ℕ, _+_, _<_, _≤_, max}
+use mathlib.Core.Bool.{true}
+use mathlib.Core.List.{List, [], _∷_, List·Memᴰ as In, List·Memᴰ·head as here, List·Memᴰ·tail as there, List·Memᴰ·not-nil as in-none}
+use mathlib.Core.Logic.{inl, inr}
+use mathlib.Core.Path.{_≡_, refl, sym, ap, _∙_, subst}
+use native.Mathlib.Omega.{arith}
+use lib.Dec.{ltb, eqb}
+use lib.ListN.{length}
+use borrow.Author.Tests.{ltb-true, ltb-false, eqb-true}
+use Rattle.frame.specs.declared.fields.Bits128.{Bits128}
+use Rattle.frame.specs.declared.fields.Fields.{Fields}
+use Rattle.frame.specs.declared.table.Form.the-variants as forms
+use Rattle.frame.specs.Names.{transaction, segment, form}
+use Rattle.frame.proofs.Tests.{and-true}
+use Rattle.message.specs.declared.codes.ReturnCode.the-variants as code
+use Rattle.message.specs.Limits.{segmentsMost, fileBytes, initialisation}
+use Rattle.message.specs.Requests.{uploadTransfer}
+use Rattle.message.specs.Segments.{segmentsOf, lastMarkOf}
+use Rattle.client.specs.declared.run.Client.{Client}
+use Rattle.client.specs.declared.run.Direction.{Direction}
+use Rattle.client.specs.declared.run.Direction.the-variants.{Upload}
+use Rattle.client.specs.declared.run.Stage.{Stage}
+use Rattle.client.specs.declared.run.Stage.the-variants as stage
+use Rattle.client.specs.declared.run.Step.{Step}
+use Rattle.client.specs.declared.run.Step.the-variants as step
+use Rattle.client.specs.declared.run.Word.{Word}
+use Rattle.client.specs.declared.run.Word.the-variants.{Lodged, NotLodged, Unclear}
+use Rattle.client.specs.Decisions.{says, answersSegment, closingWord, restWord, endsUpload, lodges, takesSegment, uploadReturns}
+use Rattle.client.specs.NextRun.{begun, stepBehind, goOn, repeated, learned, ended}
+use Rattle.client.specs.Requests.{nonceOf, outstanding}
+use Rattle.client_history.specs.History.{Issue, Past, issueOf}
+use Rattle.client_history.specs.Invariant.{
+  UploadIssue,
+  uploadOpens,
+  sends,
+  Answered,
+  UploadOpen,
+  UploadStep,
+  UploadWord,
+  UploadStage,
+  UploadRun,
+}
+use Rattle.client.proofs.Causes.{by-test, Answers, answers, upload-point, taken-below}
+use Rattle.client_history.proofs.Files.{some-segments, most-segments}
+use Rattle.client_history.proofs.Issues.{got, got-in}
+use Rattle.client_history.proofs.Replies.{said, cancels}
+use Rattle.client_history.proofs.Requests.{
+  form-uploadOpening,
+  form-uploadTransfer,
+  segment-uploadTransfer,
+  id-uploadTransfer,
+  is-uploadOpening,
+  is-uploadTransfer,
+  data-opening,
+  data-transfer,
+}
+
+-- ---- the requests issued, as the run goes on
+
+higher : {s n top more : ℕ} {t : Bits128} {payload : List ℕ} {x : Issue} → top ≤ more → UploadIssue s n t top payload x
+    → UploadIssue s n t more payload x
+higher h (uploadOpens number time nonce q d) = uploadOpens number time nonce q d
+higher h (sends number j a b q d) = sends number j a (omega arith) q d
+
+-- with no segment issued the transaction is open to choice
+unsent : {s n top more : ℕ} {t u : Bits128} {payload : List ℕ} {x : Issue} → top ≡ 0 → UploadIssue s n t top payload x
+    → UploadIssue s n u more payload x
+unsent h (uploadOpens number time nonce q d) = uploadOpens number time nonce q d
+unsent h (sends number j a b q d) = absurd (omega arith)
+
+-- "lodged (segment N answered 000000)"
+lodged-last : (c : Client) (r : Fields) → lodges c r ≡ true → Answers forms.SegmentTaken c r × (c .segment ≡ c .segments)
+unfolding lodges
+lodged-last c r h =
+    let a = and-true (answersSegment forms.SegmentTaken c r) (eqb (c .segment) (c .segments)) h in
+    (answers forms.SegmentTaken c r (a .0), eqb-true (c .segment) (c .segments) (a .1))
+
+module _ (Given : Fields → List ℕ → Fields → List ℕ → Type 0) where
+  open-for : {c k : Client} {l m : List Issue} → c .transaction ≡ k .transaction → c .number ≡ k .number → ((x : Issue) → In x l → In x m)
+      → UploadOpen Given c l → UploadOpen Given k m
+  open-for t n f o = record { got = got-in Given f (o .got); id = o .id ∙ t; number = o .number ∙ n }
+
+  -- the outstanding request is one that the run may issue
+  outstanding-issue : (c : Client) (payload file : List ℕ) (time : ℕ) (nonce : List ℕ) (issues : List Issue) → c .direction ≡ Upload
+      → (s : Step) → c .step ≡ s → UploadStep Given s c issues
+      → UploadIssue (c .subscriber) (c .segments) (c .transaction) (c .issued) payload (issueOf c payload file time nonce)
+  outstanding-issue c payload file time nonce issues up step.Opening e k =
+      uploadOpens (c .exchange) time (nonceOf nonce (c .exchange)) (is-uploadOpening c time nonce payload up e)
+      (data-opening c time nonce payload up e)
+  outstanding-issue c payload file time nonce issues up step.Segment e k =
+      sends (c .exchange) (c .segment) (k .1) (k .2) (is-uploadTransfer c time nonce payload up e)
+      (data-transfer c time nonce payload up e)
+  outstanding-issue c payload file time nonce issues up step.Receipt e k = absurd k
+
+  -- an open upload that runs
+  record Ready (c : Client) (payload : List ℕ) (issues : List Issue) : Type 0 where
+    direction : c .direction ≡ Upload
+    running : c .stage ≡ stage.Running
+    size : c .length ≡ length payload
+    number : c .segments ≡ segmentsOf (length payload)
+    some : 1 ≤ c .segments
+    most : c .segments ≤ segmentsMost
+    top : c .issued ≤ c .segments
+    each : (x : Issue) → In x issues → UploadIssue (c .subscriber) (c .segments) (c .transaction) (c .issued) payload x
+    opened : UploadOpen Given c issues
+
+  goes-on : (c : Client) (payload file : List ℕ) (issues : List Issue) (k repeats time : ℕ) (nonce : List ℕ) → Ready c payload issues
+      → k < c .segments → k ≤ c .issued
+      → UploadRun Given (goOn k repeats c) payload (issueOf (goOn k repeats c) payload file time nonce ∷ issues)
+  unfolding goOn
+  goes-on c payload file issues k repeats time nonce r a b =
+      record {
+        direction = r .direction;
+        size = r .size;
+        number = r .number;
+        some = r .some;
+        most = r .most;
+        top = let t = r .top in omega arith;
+        each = each;
+        step = subst (λ (s : Step). UploadStep Given s next (new ∷ issues)) (sym at) stepped;
+        stage = subst (λ (s : Stage). UploadStage Given s next (new ∷ issues)) (sym (r .running)) tt;
+      }
+    where
+      next : Client
+      next = goOn k repeats c
+
+      new : Issue
+      new = issueOf next payload file time nonce
+
+      at : stepBehind (c .direction) k (c .segments) ≡ step.Segment
+      at = ap (λ (w : Direction). stepBehind w k (c .segments)) (r .direction)
+
+      stepped : UploadStep Given step.Segment next (new ∷ issues)
+      stepped = (open-for {k = next} refl refl (λ x m. there m) (r .opened), omega arith, omega arith)
+
+      each : (x : Issue) → In x (new ∷ issues)
+          → UploadIssue (c .subscriber) (c .segments) (c .transaction) (max (c .issued) (k + 1)) payload x
+      each x (here e) =
+          subst (UploadIssue _ _ _ _ _) (sym e)
+          (outstanding-issue next payload file time nonce (new ∷ issues) (r .direction) step.Segment at stepped)
+      each x (there m) = higher (omega arith) (r .each x m)
+
+  module _ (c : Client) (payload file : List ℕ) (issues : List Issue) (u : UploadRun Given c payload issues)
+      (running : c .stage ≡ stage.Running) where
+    ready : c .step ≡ step.Segment → Ready c payload issues
+    ready e = record {
+      direction = u .direction;
+      running = running;
+      size = u .size;
+      number = u .number;
+      some = u .some;
+      most = u .most;
+      top = u .top;
+      each = u .each;
+      opened = subst (λ (s : Step). UploadStep Given s c issues) e (u .step) .0;
+    }
+
+    -- ---- the next request
+
+    module _ (time : ℕ) (nonce : List ℕ) where
+      abbrev Goes : Client → Type 0
+      Goes next = UploadRun Given next payload (issueOf next payload file time nonce ∷ issues)
+
+      pub taken : (r : Fields) → c .step ≡ step.Segment → takesSegment c r ≡ true → Goes (goOn (c .segment) (c .repeats) c)
+      taken r e h =
+          goes-on c payload file issues (c .segment) (c .repeats) time nonce (ready e) (taken-below c r h .1)
+          (subst (λ (s : Step). UploadStep Given s c issues) e (u .step) .2)
+
+      pub returned : (r : Fields) → c .step ≡ step.Segment → uploadReturns c r ≡ true → Goes (goOn (segment r) (c .repeats + 1) c)
+      returned r e h =
+          let k = upload-point c r h in
+          goes-on c payload file issues (segment r) (c .repeats + 1) time nonce (ready e) (k .below) (k .known)
+
+      pub repeated-run : Goes (repeated c)
+      unfolding repeated
+      repeated-run = record {
+        direction = u .direction;
+        size = u .size;
+        number = u .number;
+        some = u .some;
+        most = u .most;
+        top = u .top;
+        each = each;
+        step = stepped (c .step) (u .step);
+        stage = subst (λ (s : Stage). UploadStage Given s next (new ∷ issues)) (sym running) tt;
+      }
+        where
+          next : Client
+          next = repeated c
+
+          new : Issue
+          new = issueOf next payload file time nonce
+
+          stepped : (s : Step) → UploadStep Given s c issues → UploadStep Given s next (new ∷ issues)
+          stepped step.Opening k = k
+          stepped step.Segment k = (open-for {k = next} refl refl (λ x m. there m) (k .0), k .1, k .2)
+          stepped step.Receipt k = k
+
+          each : (x : Issue) → In x (new ∷ issues) → UploadIssue (c .subscriber) (c .segments) (c .transaction) (c .issued) payload x
+          each x (here e) =
+              subst (UploadIssue _ _ _ _ _) (sym e)
+              (outstanding-issue next payload file time nonce (new ∷ issues) (u .direction) (c .step) refl (stepped (c .step) (u .step)))
+          each x (there m) = u .each x m
+
+    -- ---- the opening's answer
+
+    abbrev p : Past
+    p = record { run = c; payload = payload; file = file; issues = issues }
+
+    pub opened-run : (r : Fields) (d : List ℕ) (time : ℕ) (nonce : List ℕ) → c .step ≡ step.Opening → Answered Given p r d
+        → says forms.UploadOpened code.Ok initialisation r ≡ true → Goes time nonce (goOn 0 (c .repeats) (learned Upload r c))
+    opened-run r d time nonce e a h =
+        goes-on (learned Upload r c) payload file issues 0 (c .repeats) time nonce
+        (record {
+          direction = u .direction;
+          running = running;
+          size = u .size;
+          number = u .number;
+          some = u .some;
+          most = u .most;
+          top = u .top;
+          each = λ x m. unsent (subst (λ (s : Step). UploadStep Given s c issues) e (u .step)) (u .each x m);
+          opened = record {
+            got =
+                got Given {p = p} a
+                (ap form (is-uploadOpening c (a .time) (a .nonce) payload (u .direction) e)
+                ∙ form-uploadOpening _ _ _ _ _)
+                (said _ _ _ r h);
+            id = refl;
+            number = refl;
+          };
+        })
+        (u .some) (omega arith)
+
+    -- ---- the closing words
+
+    abbrev Closes : Word → Type 0
+    Closes w = UploadRun Given (ended w c) payload issues
+
+    ended-with : (w : Word) → UploadWord Given w (ended w c) issues → Closes w
+    unfolding ended
+    ended-with w k = record {
+      direction = u .direction;
+      size = u .size;
+      number = u .number;
+      some = u .some;
+      most = u .most;
+      top = u .top;
+      each = u .each;
+      step = stepped (c .step) (u .step);
+      stage = k;
+    }
+      where
+        stepped : (s : Step) → UploadStep Given s c issues → UploadStep Given s (ended w c) issues
+        stepped step.Opening k = k
+        stepped step.Segment k = (open-for {k = ended w c} refl refl (λ x m. m) (k .0), k .1, k .2)
+        stepped step.Receipt k = k
+
+    pub rest-run : Closes (restWord c)
+    unfolding restWord ended
+    rest-run =
+        subst (λ (w : Direction). Closes (closingWord w c)) (sym (u .direction))
+        (by-test Closes (ltb (c .issued) (c .segments))
+        (λ h. ended-with NotLodged (inl (ltb-true (c .issued) (c .segments) h)))
+        (λ h. ended-with Unclear (ltb-false (c .issued) (c .segments) h)))
+
+    module _ (r : Fields) (d : List ℕ) (e : c .step ≡ step.Segment) (a : Answered Given p r d) where
+      asked : outstanding c (a .time) (a .nonce)
+          ≡ uploadTransfer (c .subscriber) (c .exchange) (c .transaction) (c .segment) (lastMarkOf (c .segment) (c .segments))
+      asked = is-uploadTransfer c (a .time) (a .nonce) payload (u .direction) e
+
+      asked-form : form (outstanding c (a .time) (a .nonce)) ≡ forms.UploadTransfer
+      asked-form = ap form asked ∙ form-uploadTransfer _ _ _ _ _
+
+      asked-id : transaction (outstanding c (a .time) (a .nonce)) ≡ c .transaction
+      asked-id = ap transaction asked ∙ id-uploadTransfer _ _ _ _ _
+
+      pub lodged-run : lodges c r ≡ true → Closes Lodged
+      unfolding ended
+      lodged-run h =
+          let k = lodged-last c r h in
+          ended-with Lodged
+          (record {
+            got = got Given {p = p} a asked-form (said _ _ _ r (k .0 .said));
+            last = ap segment asked ∙ segment-uploadTransfer _ _ _ _ _ ∙ k .1;
+            id = asked-id;
+            opened = open-for {k = ended Lodged c} refl refl (λ x m. m) (ready e .opened);
+          })
+
+      pub cancelled-run : endsUpload r ≡ true → Closes NotLodged
+      unfolding ended
+      cancelled-run h =
+          let k = cancels r h in
+          ended-with NotLodged
+          (inr (record {
+            why = k .why;
+            one = k .one;
+            got = got Given {p = p} a asked-form (k .says-so);
+            phase-2 = k .says-so .phase-is;
+            id = asked-id;
+          }))
+
+  -- ---- the begin
+
+  pub begun-run : (s first time : ℕ) (nonce payload file : List ℕ) (issues : List Issue) → 1 ≤ length payload → length payload ≤ fileBytes
+      → issues ≡ [] → let next = begun Upload s first (length payload) in
+      UploadRun Given next payload (issueOf next payload file time nonce ∷ issues)
+  unfolding begun
+  begun-run s first time nonce payload file issues a b z =
+      record {
+        direction = refl;
+        size = refl;
+        number = refl;
+        some = some-segments (length payload) a;
+        most = most-segments (length payload) b;
+        top = omega arith;
+        each = each;
+        step = refl;
+        stage = tt;
+      }
+    where
+      next : Client
+      next = begun Upload s first (length payload)
+
+      new : Issue
+      new = issueOf next payload file time nonce
+
+      each : (x : Issue) → In x (new ∷ issues) → UploadIssue s (segmentsOf (length payload)) (next .transaction) 0 payload x
+      each x (here e) =
+          subst (UploadIssue _ _ _ _ _) (sym e)
+          (outstanding-issue next payload file time nonce (new ∷ issues) refl step.Opening refl refl)
+      each x (there m) = absurd (in-none (subst (In x) z m))

@@ -1,0 +1,256 @@
+-- What holds of a client run and of all that it issued, over which reply was given to which request.
+use Prim.Native.Nat.{ℕ, _+_, _*_, _<_, _≤_}
+use mathlib.Core.Bool.{Bool, true, false}
+use mathlib.Core.List.{List, [], _∷_, List·Memᴰ as In}
+use mathlib.Core.Logic.{_⊎_}
+use mathlib.Core.Path.{_≡_}
+use lib.ListN.{length, take}
+use Rattle.frame.specs.declared.fields.Bits128.{Bits128}
+use Rattle.frame.specs.declared.fields.Fields.{Fields}
+use Rattle.frame.specs.declared.table.Form.{Form}
+use Rattle.frame.specs.declared.table.Form.the-variants as forms
+use Rattle.frame.specs.Names.{phase, subscriber, exchange, transaction, segment, returnCode, orderNumber, form}
+use Rattle.message.specs.declared.codes.ReturnCode.{ReturnCode}
+use Rattle.message.specs.declared.codes.ReturnCode.the-variants as code
+use Rattle.message.specs.Codes.{codeField}
+use Rattle.message.specs.Limits.{segmentBytes, segmentsMost, fileBytes, subscribers, transfer}
+use Rattle.message.specs.Requests.{uploadOpening, downloadOpening, uploadTransfer, downloadTransfer, receipt}
+use Rattle.message.specs.Segments.{segmentsOf, segmentOf, lastMarkOf}
+use Rattle.client.specs.declared.run.Client.{Client}
+use Rattle.client.specs.declared.run.Direction.the-variants.{Upload, Download}
+use Rattle.client.specs.declared.run.Stage.{Stage}
+use Rattle.client.specs.declared.run.Stage.the-variants as stage
+use Rattle.client.specs.declared.run.Step.{Step}
+use Rattle.client.specs.declared.run.Step.the-variants as step
+use Rattle.client.specs.declared.run.Word.{Word}
+use Rattle.client.specs.declared.run.Word.the-variants.{Lodged, NotLodged, Unclear, Fetched, HeldUnconfirmed, NotFetched}
+use Rattle.client.specs.Requests.{outstanding, outstandingData}
+use Rattle.client.specs.Rulings.{isBegun}
+use Rattle.client_history.specs.History.{Issue, Past, issueOf}
+
+-- ---- THE REQUESTS ISSUED
+
+-- "Each request takes the next exchange number": the issues carry first, first + 1, ... up to before next, each once
+pub data Numbered (first : ℕ) : ℕ → List Issue → Type 0 where
+  none : Numbered first first []
+  more : {n next : ℕ} {x : Issue} {l : List Issue} → exchange (x .request) ≡ n → next ≡ n + 1 → Numbered first n l
+      → Numbered first next (x ∷ l)
+
+-- the newest issue is the outstanding request, with the run's file as it is
+pub record Newest (p : Past) : Type 0 where
+  pub time : ℕ
+  pub nonce : List ℕ
+  pub older : List Issue
+  pub are : p .issues ≡ issueOf (p .run) (p .payload) (p .file) time nonce ∷ older
+
+-- what a begun run of either direction keeps
+pub record Begun (p : Past) : Type 0 where
+  pub stage : isBegun (p .run .stage) ≡ true
+  pub low : 1 ≤ p .run .subscriber
+  pub high : p .run .subscriber ≤ subscribers
+  pub first : ℕ
+  pub numbers : Numbered first (p .run .exchange + 1) (p .issues)
+  pub newest : Newest p
+  pub own : (x : Issue) → In x (p .issues) → subscriber (x .request) ≡ p .run .subscriber
+
+-- what an upload of n segments under the transaction t issues, segments up to top
+pub data UploadIssue (s n : ℕ) (t : Bits128) (top : ℕ) (payload : List ℕ) (x : Issue) : Type 0 where
+  uploadOpens : (number time : ℕ) (nonce : Bits128) → x .request ≡ uploadOpening s number nonce time n → x .requestData ≡ []
+      → UploadIssue s n t top payload x
+  -- "It cuts the payload at 256 bytes"
+  sends : (number j : ℕ) → 1 ≤ j → j ≤ top → x .request ≡ uploadTransfer s number t j (lastMarkOf j n)
+      → x .requestData ≡ segmentOf payload j
+      → UploadIssue s n t top payload x
+
+-- what a download of the file f, of n segments under the transaction t, issues while it holds segments 1 to held
+pub data DownloadIssue (s n : ℕ) (t : Bits128) (held : ℕ) (receipted : Bool) (f : List ℕ) (x : Issue) : Type 0 where
+  downloadOpens : (number time : ℕ) (nonce : Bits128) → x .request ≡ downloadOpening s number nonce time → x .requestData ≡ []
+      → DownloadIssue s n t held receipted f x
+  asks : (number j : ℕ) → 1 ≤ j → j ≤ held + 1 → j ≤ n → 1 ≤ held → x .request ≡ downloadTransfer s number t j → x .requestData ≡ []
+      → DownloadIssue s n t held receipted f x
+  -- "the run held the whole when, as it issued that receipt, its file was the mailbox's"
+  confirms : (number : ℕ) → held ≡ n → 1 ≤ held → receipted ≡ true → x .file ≡ f → x .request ≡ receipt s number t 0 → x .requestData ≡ []
+      → DownloadIssue s n t held receipted f x
+
+-- the run's transaction is known: its opening was answered
+abbrev pub isOpen : Step → Bool
+isOpen step.Opening = false
+isOpen step.Segment = true
+isOpen step.Receipt = true
+
+-- what an event leaves as it was: of a begun run, and of one with its transaction known
+pub record Steady (p q : Past) : Type 0 where
+  pub begun : isBegun (q .run .stage) ≡ true
+  pub direction : q .run .direction ≡ p .run .direction
+  pub subscriber-same : q .run .subscriber ≡ p .run .subscriber
+  pub payload : q .payload ≡ p .payload
+  pub issues : (x : Issue) → In x (p .issues) → In x (q .issues)
+  pub known : isOpen (p .run .step) ≡ true → isOpen (q .run .step) ≡ true
+  pub transaction-same : isOpen (p .run .step) ≡ true → q .run .transaction ≡ p .run .transaction
+  pub number : isOpen (p .run .step) ≡ true → q .run .number ≡ p .run .number
+  pub segments : isOpen (p .run .step) ≡ true → q .run .segments ≡ p .run .segments
+
+-- an upload transfer issued: segment j of the payload
+pub record SegmentSent (p : Past) (x : Issue) : Type 0 where
+  pub upload-run : p .run .direction ≡ Upload
+  pub number : ℕ
+  pub j : ℕ
+  pub least : 1 ≤ j
+  pub issued : j ≤ p .run .issued
+  pub most : j ≤ p .run .segments
+  pub request : x .request ≡ uploadTransfer (p .run .subscriber) number (p .run .transaction) j (lastMarkOf j (p .run .segments))
+  pub bytes : x .requestData ≡ segmentOf (p .payload) j
+
+-- a download transfer issued: segment j is asked for
+pub record SegmentAsked (p : Past) (x : Issue) : Type 0 where
+  pub download-run : p .run .direction ≡ Download
+  pub number : ℕ
+  pub j : ℕ
+  pub least : 1 ≤ j
+  pub next : j ≤ p .run .held + 1
+  pub most : j ≤ p .run .segments
+  pub request : x .request ≡ downloadTransfer (p .run .subscriber) number (p .run .transaction) j
+
+-- a receipt issued, over the whole file f
+pub record ReceiptIssued (p : Past) (f : List ℕ) (x : Issue) : Type 0 where
+  pub download-run : p .run .direction ≡ Download
+  pub number : ℕ
+  pub whole : p .run .held ≡ p .run .segments
+  pub receipted : p .run .receipted ≡ true
+  pub file : x .file ≡ f
+  pub request : x .request ≡ receipt (p .run .subscriber) number (p .run .transaction) 0
+
+-- a receipt was issued
+abbrev pub Receipts : List Issue → Type 0
+Receipts issues = (x : Issue) × In x issues × (form (x .request) ≡ forms.Receipt)
+
+module _ (Given : Fields → List ℕ → Fields → List ℕ → Type 0) where
+  -- a reply was given to the outstanding request
+  pub record Answered (p : Past) (r : Fields) (d : List ℕ) : Type 0 where
+    pub time : ℕ
+    pub nonce : List ℕ
+    pub own : In (issueOf (p .run) (p .payload) (p .file) time nonce) (p .issues)
+    pub given : Given (outstanding (p .run) time nonce) (outstandingData (p .run) (p .payload)) r d
+
+  -- an issue of this request form was given a reply of this form with this code
+  pub record Got (issues : List Issue) (x y : Form) (c : ReturnCode) : Type 0 where
+    pub issue : Issue
+    pub own : In issue issues
+    pub asked : form (issue .request) ≡ x
+    pub reply : Fields
+    pub bytes : List ℕ
+    pub given : Given (issue .request) (issue .requestData) reply bytes
+    pub answered : form reply ≡ y
+    pub code : returnCode reply ≡ codeField c
+
+  -- ---- UPLOAD
+
+  -- "the order number opened with its transaction ID"
+  pub record UploadOpen (c : Client) (issues : List Issue) : Type 0 where
+    pub got : Got issues forms.UploadOpening forms.UploadOpened code.Ok
+    pub id : transaction (got .reply) ≡ c .transaction
+    pub number : orderNumber (got .reply) ≡ c .number
+
+  abbrev pub UploadStep : Step → Client → List Issue → Type 0
+  UploadStep step.Opening c issues = c .issued ≡ 0
+  UploadStep step.Segment c issues = UploadOpen c issues × (1 ≤ c .segment) × (c .segment ≤ c .issued)
+  UploadStep step.Receipt c issues = ⊥
+
+  -- "lodged (segment N answered 000000)"
+  pub record LastTaken (c : Client) (issues : List Issue) : Type 0 where
+    pub got : Got issues forms.UploadTransfer forms.SegmentTaken code.Ok
+    pub last : segment (got .issue .request) ≡ c .segments
+    pub id : transaction (got .issue .request) ≡ c .transaction
+    pub opened : UploadOpen c issues
+
+  -- "ended by a reply 01 03 0D of phase 2 with 091102, 091104 or 011101"
+  pub record Cancelled (c : Client) (issues : List Issue) : Type 0 where
+    pub why : ReturnCode
+    pub one : (why ≡ code.TransactionAbort) ⊎ ((why ≡ code.SegmentNumberExceeded) ⊎ (why ≡ code.SegmentNumberUnderrun))
+    pub got : Got issues forms.UploadTransfer forms.Refusal why
+    pub phase-2 : phase (got .reply) ≡ transfer
+    pub id : transaction (got .issue .request) ≡ c .transaction
+
+  abbrev pub UploadWord : Word → Client → List Issue → Type 0
+  UploadWord Lodged c issues = LastTaken c issues
+  UploadWord NotLodged c issues = (c .issued < c .segments) ⊎ Cancelled c issues
+  UploadWord Unclear c issues = c .segments ≤ c .issued
+  UploadWord Fetched c issues = ⊥
+  UploadWord HeldUnconfirmed c issues = ⊥
+  UploadWord NotFetched c issues = ⊥
+
+  abbrev pub UploadStage : Stage → Client → List Issue → Type 0
+  UploadStage stage.NotBegun c issues = ⊥
+  UploadStage stage.Running c issues = Unit {0}
+  UploadStage (stage.Ended w) c issues = UploadWord w c issues
+
+  pub record UploadRun (c : Client) (payload : List ℕ) (issues : List Issue) : Type 0 where
+    pub direction : c .direction ≡ Upload
+    pub size : c .length ≡ length payload
+    pub number : c .segments ≡ segmentsOf (length payload)
+    pub some : 1 ≤ c .segments
+    pub most : c .segments ≤ segmentsMost
+    pub top : c .issued ≤ c .segments
+    pub each : (x : Issue) → In x issues → UploadIssue (c .subscriber) (c .segments) (c .transaction) (c .issued) payload x
+    pub step : UploadStep (c .step) c issues
+    pub stage : UploadStage (c .stage) c issues
+
+  -- ---- DOWNLOAD
+
+  -- the transaction t of the file f, of n segments, is open to the run, which holds segments 1 to held, size bytes
+  pub record HeldFile (f : List ℕ) (t : Bits128) (n held size : ℕ) (file : List ℕ) (issues : List Issue) : Type 0 where
+    pub got : Got issues forms.DownloadOpening forms.DownloadOpened code.Ok
+    pub id : transaction (got .reply) ≡ t
+    pub number : n ≡ segmentsOf (length f)
+    pub least : 0 < length f
+    pub most : length f ≤ fileBytes
+    pub some : 1 ≤ held
+    pub top : held ≤ n
+    pub end : size ≡ length (take (segmentBytes * held) f)
+    -- "A run's file is its file buffer up to the end of the last segment held"
+    pub bytes : take size file ≡ take (segmentBytes * held) f
+
+  module _ (fileAt : Bits128 → List ℕ) where
+    abbrev pub FileHeld : Client → List ℕ → List Issue → Type 0
+    FileHeld c file issues = HeldFile (fileAt (c .transaction)) (c .transaction) (c .segments) (c .held) (c .length) file issues
+
+    abbrev pub DownloadStep : Step → Client → List ℕ → List Issue → Type 0
+    DownloadStep step.Opening c file issues = (c .held ≡ 0) × (c .length ≡ 0) × (c .receipted ≡ false)
+    DownloadStep step.Segment c file issues =
+        FileHeld c file issues × (1 ≤ c .segment) × (c .segment ≤ c .held + 1) × (c .segment ≤ c .segments)
+    DownloadStep step.Receipt c file issues = FileHeld c file issues × (c .held ≡ c .segments) × (c .receipted ≡ true)
+
+    -- "fetched (011000)"
+    pub record Confirmed (c : Client) (file : List ℕ) (issues : List Issue) : Type 0 where
+      pub held : FileHeld c file issues
+      pub whole : c .held ≡ c .segments
+      pub got : Got issues forms.Receipt forms.ReceiptAnswered code.DownloadPostprocessDone
+      pub id : transaction (got .issue .request) ≡ c .transaction
+
+    abbrev pub DownloadWord : Word → Client → List ℕ → List Issue → Type 0
+    DownloadWord Lodged c file issues = ⊥
+    DownloadWord NotLodged c file issues = ⊥
+    DownloadWord Unclear c file issues = ⊥
+    DownloadWord Fetched c file issues = Confirmed c file issues
+    DownloadWord HeldUnconfirmed c file issues = c .receipted ≡ true
+    DownloadWord NotFetched c file issues = c .receipted ≡ false
+
+    abbrev pub DownloadStage : Stage → Client → List ℕ → List Issue → Type 0
+    DownloadStage stage.NotBegun c file issues = ⊥
+    DownloadStage stage.Running c file issues = Unit {0}
+    DownloadStage (stage.Ended w) c file issues = DownloadWord w c file issues
+
+    pub record DownloadRun (c : Client) (file : List ℕ) (issues : List Issue) : Type 0 where
+      pub direction : c .direction ≡ Download
+      pub each : (x : Issue) → In x issues
+          → DownloadIssue (c .subscriber) (c .segments) (c .transaction) (c .held) (c .receipted) (fileAt (c .transaction)) x
+      pub receipts : c .receipted ≡ true → Receipts issues
+      pub step : DownloadStep (c .step) c file issues
+      pub stage : DownloadStage (c .stage) c file issues
+
+    -- ---- EITHER
+
+    pub data Invariant (p : Past) : Type 0 where
+      not-begun : p .run .stage ≡ stage.NotBegun → p .issues ≡ [] → Invariant p
+      upload : Begun p → UploadRun (p .run) (p .payload) (p .issues) → Invariant p
+      download : Begun p → DownloadRun (p .run) (p .file) (p .issues) → Invariant p

@@ -1,0 +1,4 @@
+-- The definitions of a client run's history and of its invariant.
+pub mod History
+pub mod Invariant
+pub mod InTurn
