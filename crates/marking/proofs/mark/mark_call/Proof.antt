@@ -1,0 +1,113 @@
+-- `mark_call` meets its contract: the record that is ready is read, called, and its line written. Assumes nothing.
+use mathlib.Core.Path.{ap}
+use native.Mathlib.Nat.{add-assoc}
+use native.Mathlib.Omega.{arith}
+use Prim.Native.Nat.{_+_, _^_, _≤_, _<_}
+use lib.ListN.{length}
+use Rattle.marking.specs.Print.{headBytes, sizeOf}
+use Rattle.marking.specs.Marking.{marked}
+use Rattle.marking.proofs.Calls.{Readied, readied}
+use borrow.Author.Needs.{needs}
+use Rattle.marking.proofs.mark.mark_call.Statement.{statement}
+use Rattle.marking.proofs.mark.mark_call.Tie as tie
+
+-- the places of the body, from the last back to the first
+at-frame : tie.After-put-line → tie.After-frame-arrives
+at-frame c = c .before .before .before .before .before .before .before .before .before .before
+
+at-behind : tie.After-frame-arrives → tie.After-behind
+at-behind c = c .before .before .before .before .before .before .before .before
+
+at-start : tie.After-behind → tie.Start
+at-start c = c .before .before .before .before .before .before
+
+ready : (c : tie.Start) → let a = c .args in Readied (a .input .now) (length (a .output .now)) (a .m .calls) (a .m .used) (a .m .written)
+ready c = readied _ _ _ _ _ (c .pre)
+
+head-fits : (c : tie.After-behind) → headBytes ≤ length (c .behind .result .now)
+head-fits c = omega (arith, ap length (c .behind .ensures), ready (c .before .before .before .before .before .before) .head)
+
+end-fits : (c : tie.After-behind) → c .before .before .before .before .before .before .args .m .used + (headBytes + sizeOf (c .behind .result .now)) < 2 ^ 64
+end-fits c = omega (arith, ap sizeOf (c .behind .ensures), ready (c .before .before .before .before .before .before) .end)
+
+behind-requires : tie.Need-behind-requires
+behind-requires c κs = search needs
+
+time-of-requires : tie.Need-time-of-requires
+time-of-requires c κs = omega (arith, head-fits (c .before))
+
+slice-aggregate-frame-arrives : tie.Need-slice-aggregate-frame-arrives
+slice-aggregate-frame-arrives c = search needs
+
+frame-in-requires : tie.Need-frame-in-requires
+frame-in-requires c κs = omega (arith, head-fits (c .before .before .before))
+
+frame-arrives-requires : tie.Need-frame-arrives-requires
+frame-arrives-requires c κs = search needs
+
+add-calls : tie.Need-add-calls
+add-calls c = omega (arith, ready (c .before .before .before .before .before .before .before .before .before .before .before .before .before .before .before .before .before .before .before .before .before) .count)
+
+put-line-requires : tie.Need-put-line-requires
+put-line-requires c κs = omega (arith, ready (c .before .before .before .before .before .before .before .before .before .before .before .before .before .before .before .before .before .before .before .before .before .before .before) .line)
+
+add-t30 : tie.Need-add-t30
+add-t30 c = omega (arith, end-fits (c .before .before .before .before .before .before .before .before .before .before .before .before .before .before .before .before .before .before .before .before .before))
+
+size-of-requires : tie.Need-size-of-requires
+size-of-requires c κs = omega (arith, head-fits (c .before .before .before .before .before .before .before .before .before .before .before .before .before .before .before .before .before .before .before .before .before))
+
+add-t32 : tie.Need-add-t32
+add-t32 c = omega (arith, c .size-of .ensures, end-fits (c .before .before .before .before .before .before .before .before .before .before .before .before .before .before .before .before .before .before .before .before .before .before))
+
+same-length : tie.Need-same-length
+same-length c = search needs
+
+same-length-2 : tie.Need-same-length-2
+same-length-2 c = search needs
+
+same-length-3 : tie.Need-same-length-3
+same-length-3 c = search needs
+
+same-length-4 : tie.Need-same-length-4
+same-length-4 c = search needs
+
+returns : tie.Need-returns
+unfolding marked
+returns c =
+    let at-line = c .before .before .before .before in
+    let at-frame = at-line .before .before .before .before .before .before .before .before .before .before in
+    let at-read = at-frame .before .before .before .before in
+    let at-time = at-read .before .before in
+    let at-behind = at-time .before .before in
+    let put = at-line .put-line .ensures in
+    rw (
+      ← at-behind .behind .ensures,
+      ← at-time .time-of .ensures,
+      ← at-read .frame-in .ensures,
+      ← c .size-of .ensures,
+      ← at-frame .frame-arrives .ensures,
+      put .bytes,
+      put .place,
+      add-assoc,
+    )
+
+pub mark-call-spec : {M : Type 1} → statement M
+mark-call-spec =
+    tie.close
+    (tie.spec
+    behind-requires
+    time-of-requires
+    slice-aggregate-frame-arrives
+    frame-in-requires
+    frame-arrives-requires
+    add-calls
+    put-line-requires
+    add-t30
+    size-of-requires
+    add-t32
+    same-length
+    same-length-2
+    same-length-3
+    same-length-4
+    returns)

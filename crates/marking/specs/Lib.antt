@@ -1,0 +1,3 @@
+-- The definitions of the marker's print.
+pub mod Print
+pub mod Marking

@@ -1,0 +1,129 @@
+// The marker's session: records from standard input to its end, the print to standard output.
+use crate::mark::mark;
+use crate::print::book;
+use crate::print::header;
+use crate::record::front;
+use bank_state::limits::REPLY_ROOM;
+use bank_state::limits::STORE_BYTES;
+use bank_state::state::Bank;
+use bank_state::state::fresh;
+use libc::STDIN_FILENO;
+use libc::STDOUT_FILENO;
+ghost use mathlib.Core.Path.{_≡_};
+ghost use Prim.Native.Nat.{_≤_};
+ghost use lib.ListN.{length, take, drop};
+ghost use Rattle.frame.specs.Bytes.{overwrite};
+
+// The input held: two records of the longest frame.
+const INPUT_BYTES: usize = 131082;
+
+// The output: a line for each record that the input can hold.
+const OUTPUT_BYTES: usize = 611744;
+
+// Between two reads: the bank, the calls so far, the bytes held of a record cut short, whether the input may go on.
+struct Reading {
+    pub bank: Bank,
+    pub calls: u64,
+    pub held: usize,
+    pub more: bool,
+}
+
+// Moves the bytes from a place up to an end to the front, and counts them.
+fn keep(input: &mut [u8], from: usize, end: usize) -> usize
+    requires { ⌜ end ≤ length (now input) ⌝ }
+    ensures { λ r. ⌜ (now (input .exit) ≡ overwrite (now (input .entry)) 0 (drop from (take end (now (input .entry))))) × (r ≡ length (drop from (take end (now (input .entry))))) ⌝ }
+{
+    let mut n = 0;
+    let mut i = from;
+    while i < end {
+        input[n] = input[i];
+        n += 1;
+        i += 1;
+    }
+    n
+}
+
+// One read: the records that are whole then are marked, and the rest is kept for the next.
+fn read_on(
+    t: Reading,
+    input: &mut [u8],
+    output: &mut [u8],
+    orders: &mut [u8],
+    boxes: &mut [u8],
+    buffer: &mut [u8],
+) -> Reading {
+    let held = t.held;
+    let bank = t.bank;
+    if input.len() <= held {
+        return Reading {
+            bank,
+            calls: t.calls,
+            held,
+            more: false,
+        };
+    }
+    let got = libc::read(STDIN_FILENO, &mut input[held..]);
+    let n = io::count(got, &input[held..]);
+    if n == 0 {
+        return Reading {
+            bank,
+            calls: t.calls,
+            held,
+            more: false,
+        };
+    }
+    let end = held + n;
+    let m = mark(bank, t.calls, &input[..end], output, orders, boxes, buffer);
+    let more = io::write_all(STDOUT_FILENO, front(output, m.written));
+    let left = keep(input, m.used, end);
+    let after = m.bank;
+    Reading {
+        bank: after,
+        calls: m.calls,
+        held: left,
+        more,
+    }
+}
+
+// Reads on to the end of the input. Nothing says that an input ends, so the reads are counted down from a number that no run uses up.
+fn read_all(
+    input: &mut [u8],
+    output: &mut [u8],
+    orders: &mut [u8],
+    boxes: &mut [u8],
+    buffer: &mut [u8],
+) -> Bank {
+    let bank = fresh();
+    let mut t = Reading {
+        bank,
+        calls: 0,
+        held: 0,
+        more: true,
+    };
+    let mut turns = u64::MAX;
+    while 0 < turns && t.more {
+        t = read_on(t, input, output, orders, boxes, buffer);
+        turns -= 1;
+    }
+    t.bank
+}
+
+// Reads all records, and prints.
+pub fn session() {
+    let mut input = [0u8; INPUT_BYTES];
+    let mut output = [0u8; OUTPUT_BYTES];
+    let mut orders = [0u8; STORE_BYTES];
+    let mut boxes = [0u8; STORE_BYTES];
+    let mut buffer = [0u8; REPLY_ROOM];
+    let n = header(&mut output);
+    io::write_all(STDOUT_FILENO, front(&output, n));
+    let bank = read_all(
+        &mut input,
+        &mut output,
+        &mut orders,
+        &mut boxes,
+        &mut buffer,
+    );
+    let k = book(bank, &mut output);
+    io::write_all(STDOUT_FILENO, front(&output, k));
+}
