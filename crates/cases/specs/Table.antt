@@ -27,7 +27,6 @@ pub record Case : Type 0 where
   pub due : List ℕ
 
 infixl 4 _gives_
-
 abbrev pub _gives_ : List ℕ → List ℕ → Case
 come gives due = record { come = come; due = due }
 

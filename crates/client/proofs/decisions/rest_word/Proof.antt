@@ -1,5 +1,4 @@
 -- `rest_word` meets its contract. Assumes nothing.
-use Rattle.frame.proofs.Tests.{tests}
 use Rattle.client.specs.Decisions.{restWord}
 use borrow.Author.Needs.{needs}
 use Rattle.client.proofs.decisions.rest_word.Statement.{statement}
@@ -19,11 +18,11 @@ download-word-requires c κs = search needs
 
 returns : tie.Need-returns
 unfolding restWord
-returns c = search (tests, c .before .enum-told .given .1, ← c .upload-word .ensures)
+returns c = rw (c .before .enum-told .given .1, ← c .upload-word .ensures)
 
 returns-2 : tie.Need-returns-2
 unfolding restWord
-returns-2 c = search (tests, c .before .enum-told2 .given .1, ← c .download-word .ensures)
+returns-2 c = rw (c .before .enum-told2 .given .1, ← c .download-word .ensures)
 
 pub rest-word-spec : {M : Type 1} → statement M
 rest-word-spec =
