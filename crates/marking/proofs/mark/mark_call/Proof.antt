@@ -12,23 +12,23 @@ use Rattle.marking.proofs.mark.mark_call.Statement.{statement}
 use Rattle.marking.proofs.mark.mark_call.Tie as tie
 
 -- the places of the body, from the last back to the first
-at-frame : tie.After-put-line → tie.After-frame-arrives
+abbrev at-frame : tie.After-put-line → tie.After-frame-arrives
 at-frame c = c .before .before .before .before .before .before .before .before .before .before
 
-at-behind : tie.After-frame-arrives → tie.After-behind
+abbrev at-behind : tie.After-frame-arrives → tie.After-behind
 at-behind c = c .before .before .before .before .before .before .before .before
 
-at-start : tie.After-behind → tie.Start
+abbrev at-start : tie.After-behind → tie.Start
 at-start c = c .before .before .before .before .before .before
 
 ready : (c : tie.Start) → let a = c .args in Readied (a .input .now) (length (a .output .now)) (a .m .calls) (a .m .used) (a .m .written)
 ready c = readied _ _ _ _ _ (c .pre)
 
 head-fits : (c : tie.After-behind) → headBytes ≤ length (c .behind .result .now)
-head-fits c = omega (arith, ap length (c .behind .ensures), ready (c .before .before .before .before .before .before) .head)
+head-fits c = omega (arith, ap length (c .behind .ensures), ready (at-start c) .head)
 
-end-fits : (c : tie.After-behind) → c .before .before .before .before .before .before .args .m .used + (headBytes + sizeOf (c .behind .result .now)) < 2 ^ 64
-end-fits c = omega (arith, ap sizeOf (c .behind .ensures), ready (c .before .before .before .before .before .before) .end)
+end-fits : (c : tie.After-behind) → at-start c .args .m .used + (headBytes + sizeOf (c .behind .result .now)) < 2 ^ 64
+end-fits c = omega (arith, ap sizeOf (c .behind .ensures), ready (at-start c) .end)
 
 behind-requires : tie.Need-behind-requires
 behind-requires c κs = search needs
@@ -46,19 +46,19 @@ frame-arrives-requires : tie.Need-frame-arrives-requires
 frame-arrives-requires c κs = search needs
 
 add-calls : tie.Need-add-calls
-add-calls c = omega (arith, ready (c .before .before .before .before .before .before .before .before .before .before .before .before .before .before .before .before .before .before .before .before .before) .count)
+add-calls c = omega (arith, ready (at-start (at-behind (c .before .before .before .before .before .before .before))) .count)
 
 put-line-requires : tie.Need-put-line-requires
-put-line-requires c κs = omega (arith, ready (c .before .before .before .before .before .before .before .before .before .before .before .before .before .before .before .before .before .before .before .before .before .before .before) .line)
+put-line-requires c κs = omega (arith, ready (at-start (at-behind (c .before .before .before .before .before .before .before .before .before))) .line)
 
 add-t30 : tie.Need-add-t30
-add-t30 c = omega (arith, end-fits (c .before .before .before .before .before .before .before .before .before .before .before .before .before .before .before .before .before .before .before .before .before))
+add-t30 c = omega (arith, end-fits (at-behind (at-frame (c .before .before .before))))
 
 size-of-requires : tie.Need-size-of-requires
-size-of-requires c κs = omega (arith, head-fits (c .before .before .before .before .before .before .before .before .before .before .before .before .before .before .before .before .before .before .before .before .before))
+size-of-requires c κs = omega (arith, head-fits (at-behind (at-frame (c .before .before .before))))
 
 add-t32 : tie.Need-add-t32
-add-t32 c = omega (arith, c .size-of .ensures, end-fits (c .before .before .before .before .before .before .before .before .before .before .before .before .before .before .before .before .before .before .before .before .before .before))
+add-t32 c = omega (arith, c .size-of .ensures, end-fits (at-behind (at-frame (c .before .before .before .before))))
 
 same-length : tie.Need-same-length
 same-length c = search needs
@@ -76,17 +76,17 @@ returns : tie.Need-returns
 unfolding marked
 returns c =
     let at-line = c .before .before .before .before in
-    let at-frame = at-line .before .before .before .before .before .before .before .before .before .before in
-    let at-read = at-frame .before .before .before .before in
+    let frame = at-line .before .before .before .before .before .before .before .before .before .before in
+    let at-read = frame .before .before .before .before in
     let at-time = at-read .before .before in
-    let at-behind = at-time .before .before in
+    let behind = at-time .before .before in
     let put = at-line .put-line .ensures in
     rw (
-      ← at-behind .behind .ensures,
+      ← behind .behind .ensures,
       ← at-time .time-of .ensures,
       ← at-read .frame-in .ensures,
       ← c .size-of .ensures,
-      ← at-frame .frame-arrives .ensures,
+      ← frame .frame-arrives .ensures,
       put .bytes,
       put .place,
       add-assoc,

@@ -13,6 +13,11 @@ Inv-loop input₀ output₀ orders₀ boxes₀ buffer₀ t₀ turns₀ input out
 abbrev μ-loop : tie.MeasureT-loop
 μ-loop input₀ output₀ orders₀ boxes₀ buffer₀ t₀ turns₀ input output orders boxes buffer t turns = turns
 
+abbrev in-loop : tie.After-slice-known10 Inv-loop μ-loop → tie.In-loop Inv-loop μ-loop
+in-loop c =
+    let at-call = c .before .before .before .before .before .before .before .before .before .before in
+    at-call .before .before .before .before .before .before .before
+
 fresh-requires : tie.Need-fresh-requires Inv-loop μ-loop
 fresh-requires c κs = tt
 
@@ -23,10 +28,10 @@ read-on-requires : tie.Need-read-on-requires Inv-loop μ-loop
 read-on-requires c κs = tt
 
 sub-turns : tie.Need-sub-turns Inv-loop μ-loop
-sub-turns c = omega (arith, c .before .before .before .before .before .before .before .before .before .before .before .before .before .before .before .before .before .loop-test .taken)
+sub-turns c = omega (arith, in-loop c .loop-test .taken)
 
 loop-less : tie.Need-loop-less Inv-loop μ-loop
-loop-less c = omega (arith, c .before .before .before .before .before .before .before .before .before .before .before .before .before .before .before .before .before .loop-test .taken)
+loop-less c = omega (arith, in-loop c .loop-test .taken)
 
 loop-again : tie.Need-loop-again Inv-loop μ-loop
 loop-again c =

@@ -60,7 +60,12 @@ keep-requires : tie.Need-keep-requires
 keep-requires c κs = search needs
 
 same-length-2 : tie.Need-same-length-2
-same-length-2 c = c .before .before .input3 .given ∙ c .before .before .before .before .before .before .before .before .before .before .before .before .before .before .before .before .before .before .before .before .before .before .before .before .before .before .before .input .given .1
+same-length-2 c =
+    let at-keep = c .before .before .before in
+    let at-front = at-keep .before .before .before in
+    let at-mark = at-front .before .before .before .before .before .before .before .before .before .before in
+    let at-count = at-mark .before .before .before .before .before .before .before in
+    c .before .before .input3 .given ∙ at-count .before .before .before .before .input .given .1
 
 same-length-3 : tie.Need-same-length-3
 same-length-3 c = search needs
