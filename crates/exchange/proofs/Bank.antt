@@ -1,0 +1,502 @@
+-- The bank's part of a course: a past of the bank's calls, whose history says the course's exchanges one by one. Assumes nothing.
+use Prim.Native.Nat.{ℕ, _≤_, _-_}
+use mathlib.Core.Bool.{Bool, true, false, cond}
+use mathlib.Core.List.{List, [], _∷_, List·Memᴰ as In, List·Memᴰ·head as here, List·Memᴰ·tail as there, List·Memᴰ·not-nil as in-none}
+use mathlib.Core.Logic.{_⊎_, inl, inr}
+use mathlib.Core.Path.{_≡_, refl, sym, ap, _∙_, subst}
+use native.Mathlib.Omega.{arith}
+use lib.Dec.{eqb}
+use lib.ListN.{take, getD-replicate}
+use borrow.Author.Tests.{eqb-true, eqb-false}
+use Rattle.frame.specs.declared.fields.Fields.{Fields}
+use Rattle.frame.specs.declared.writer.Written.{Written}
+use Rattle.frame.specs.declared.writer.Written.the-variants as written
+use Rattle.frame.specs.Bytes.{number}
+use Rattle.frame.specs.Names.{subscriber, transaction, returnCode, form}
+use Rattle.frame.specs.Reader.{readRequest, readReply}
+use Rattle.frame.specs.Row.{dataOf}
+use Rattle.frame.specs.Table.{isReplyForm, rowFits, findForm, formOf}
+use Rattle.frame.specs.Writer.{writeAnswer, writeBuffer}
+use Rattle.frame.proofs.RoundTrip.{Sized}
+use Rattle.message.specs.declared.codes.ReturnCode.the-variants as code
+use Rattle.message.specs.Codes.{codeField}
+use Rattle.message.specs.Limits.{subscribers}
+use Rattle.message.specs.Replies.{
+  uploadOpened,
+  downloadOpened,
+  segmentTaken,
+  recoveryPoint,
+  downloadSegment,
+  receiptAnswered,
+  unreadable,
+  refusal,
+}
+use Rattle.message.specs.Verdicts.{decide}
+use Rattle.bank_state.specs.declared.state.Bank.{Bank}
+use Rattle.bank_state.specs.Clock.{advanced}
+use Rattle.bank_state.specs.Limits.{placeCount}
+use Rattle.bank_state.specs.State.{World, world, fresh}
+use Rattle.bank_state.specs.Store.{partAt, fileOf}
+use Rattle.bank_step.specs.Openings.{fileLength}
+use Rattle.bank.specs.declared.call.FrameAnswer.{FrameAnswer}
+use Rattle.bank.specs.declared.call.FrameAnswer.the-variants as frameAnswer
+use Rattle.bank.specs.declared.mailbox.FileAnswer.{FileAnswer}
+use Rattle.bank.specs.declared.mailbox.FileAnswer.the-variants as fileAnswer
+use Rattle.bank.specs.Call.{Step, FrameCall, respond, replied, answerOf, lentRight, frameCall}
+use Rattle.bank.specs.Mailbox.{FileCall, fileCall, carryOutFile, fileRefusals, fileNumber}
+use Rattle.bank_history.specs.History.{
+  Action,
+  OpenedUpload,
+  OpenedDownload,
+  Took,
+  TookLast,
+  UploadPoint,
+  DownloadPoint,
+  Cancelled,
+  Delivered,
+  SentAgain,
+  Confirmed,
+  Declined,
+  Event,
+  Unreadable,
+  Refusal,
+  Of,
+  Past,
+  Frame,
+  File,
+  Stands,
+  newest,
+  older,
+  entered,
+  placed,
+  exchangeOf,
+  mailboxFile,
+  actionReply,
+  replyTo,
+}
+use Rattle.bank_history.specs.History as history
+use Rattle.bank_history.specs.Invariant.{Invariant, Holds}
+use Rattle.bank_history.specs.Sound.{AllSound}
+use Rattle.bank_history.specs.Standing.{answered, filled, Emptied}
+use Rattle.bank_history.proofs.Clock.{advanced-clock, advanced-keeps}
+use Rattle.bank_history.proofs.Cases.{happens}
+use Rattle.bank_history.proofs.Files.{FileSound, rejected, done, judged-file, filled-same, filled-other}
+use Rattle.bank_history.proofs.Replies.{eventCode}
+use Rattle.bank_history.proofs.Theorems.{frame-mailbox, after-holds, past-holds, reply-is}
+use Rattle.bank_history.proofs.Liveness.{answered-clock}
+use Rattle.exchange.specs.Course.{
+  frameArrives,
+  filePut,
+  Exchange,
+  Course,
+  start,
+  mailboxOf,
+  changed,
+  emptied,
+  afterFrame,
+  afterFile,
+  exec,
+}
+use Rattle.exchange.specs.Demand3.{Answered}
+use Rattle.exchange.proofs.Bytes.{reply-read, data-read}
+use Rattle.exchange.proofs.Events.{event-refuses, mailbox-short, case-empties}
+use Rattle.exchange.proofs.Told.{Proper, AllProper, coded, done-confirmed}
+use Rattle.exchange.proofs.Told.{none as no-entry, more as one-more}
+
+-- ---- the replies as frames
+
+-- every reply is of a reply form
+pub reply-form : (v : Event) (q : Fields) → Sized (replyTo v q) × (isReplyForm (form (replyTo v q)) ≡ true)
+unfolding uploadOpened downloadOpened segmentTaken recoveryPoint downloadSegment receiptAnswered unreadable refusal formOf findForm rowFits
+reply-form Unreadable q = ((refl, refl), refl)
+reply-form (Refusal c) q = ((refl, refl), refl)
+reply-form (Of t k) q = at k
+  where
+    at : (a : Action) → Sized (actionReply a t q) × (isReplyForm (form (actionReply a t q)) ≡ true)
+    at OpenedUpload = ((refl, refl), refl)
+    at (OpenedDownload n) = ((refl, refl), refl)
+    at Took = ((refl, refl), refl)
+    at TookLast = ((refl, refl), refl)
+    at (UploadPoint n) = ((refl, refl), refl)
+    at (DownloadPoint d) = ((refl, refl), refl)
+    at (Cancelled c) = ((refl, refl), refl)
+    at (Delivered n) = ((refl, refl), refl)
+    at (SentAgain n) = ((refl, refl), refl)
+    at Confirmed = ((refl, refl), refl)
+    at Declined = ((refl, refl), refl)
+
+-- ---- entry by entry
+
+-- the exchange of the course is that of the history
+pub record Entry (e : Exchange) (f : history.Exchange) : Type 0 where
+  pub request : readRequest (e .request) ≡ f .request
+  pub requestData : dataOf (e .request) ≡ f .requestData
+  pub reply : readReply (e .reply) ≡ f .reply
+  pub replyData : dataOf (e .reply) ≡ f .replyData
+  pub clock : e .clock ≡ f .clock
+  pub box : e .box ≡ f .file
+
+pub data Entries : List Exchange → List history.Exchange → Type 0 where
+  none : Entries [] []
+  more : {e : Exchange} {f : history.Exchange} {l : List Exchange} {h : List history.Exchange} → Entry e f → Entries l h →
+      Entries (e ∷ l) (f ∷ h)
+
+-- an exchange of the course stands in the history, and the other way round
+pub record Found (e : Exchange) (h : List history.Exchange) : Type 0 where
+  pub exchange : history.Exchange
+  pub before : List history.Exchange
+  pub stands : Stands exchange before h
+  pub same : Entry e exchange
+
+pub found : {e : Exchange} {l : List Exchange} {h : List history.Exchange} → Entries l h → In e l → Found e h
+found none m = absurd (in-none m)
+found {h = f ∷ h} (more {l = l} s r) (here z) =
+    record { exchange = f; before = h; stands = newest; same = subst (λ (x : Exchange). Entry x f) (sym z) s }
+found (more s r) (there m) = let o = found r m in record {
+  exchange = o .exchange;
+  before = o .before;
+  stands = older (o .stands);
+  same =
+      o .same;
+}
+
+pub listed : {f : history.Exchange} {g : List history.Exchange} {l : List Exchange} {h : List history.Exchange} → Entries l h →
+    Stands f g h →
+    (e : Exchange) × In e l × Entry e f
+listed (more {e = e} s r) newest = (e, here refl, s)
+listed (more s r) (older p) = let o = listed r p in (o .0, there (o .1), o .2)
+
+-- ---- the bank's part
+
+pub record BankPart (s : Course) : Type 0 where
+  pub past : Past
+  pub holds : Holds past
+  pub world : past .world ≡ s .bank
+  pub entries : Entries (s .exchanged) (past .history)
+  pub proper : AllProper (past .history)
+  -- "The bank's mailbox holds exactly the file last put in by a call given no number, until ..."
+  pub mailboxes : (m : ℕ) → 1 ≤ m → m ≤ subscribers → mailboxOf (s .bank) m ≡ s .mailboxes m
+
+-- a call enters at most one exchange
+pub data Grows (h : List history.Exchange) : List history.Exchange → Type 0 where
+  stays : Grows h h
+  grows : {x : history.Exchange} → Grows h (x ∷ h)
+
+abbrev pub Later : {s : Course} → BankPart s → Course → Type 0
+Later b t = (n : BankPart t) × Grows (b .past .history) (n .past .history)
+
+same-mailbox : (w : World) (m : ℕ) → mailboxOf w m ≡ mailboxFile w m
+unfolding mailboxOf mailboxFile
+same-mailbox w m = refl
+
+-- ---- a frame answered
+
+-- the call's bank, buffer and answer are those of the request's step
+record Replied (k : FrameCall) (s : Step) (buffer : List ℕ) (n : ℕ) : Type 0 where
+  world : k .world ≡ s .world
+  lent : k .buffer ≡ writeBuffer (s .reply) (s .replyData) buffer
+  written : writeAnswer (s .reply) (s .replyData) buffer ≡ written.Length n
+
+abbrev stepOf : World → ℕ → List ℕ → List ℕ → Step
+stepOf w time ids frame = respond (number ids) (advanced time w) (readRequest frame) (dataOf frame)
+
+replied-by : (w : World) (time : ℕ) (ids frame buffer : List ℕ) (n : ℕ) →
+    frameCall w time ids frame buffer .answer ≡ frameAnswer.Reply n →
+    Replied (frameCall w time ids frame buffer) (stepOf w time ids frame) buffer n
+unfolding frameCall
+replied-by w time ids frame buffer n = go (lentRight w ids buffer)
+  where
+    s : Step
+    s = stepOf w time ids frame
+
+    out : (a : Written) → answerOf a ≡ frameAnswer.Reply n → a ≡ written.Length n
+    out (written.Length m) h = cc
+    out written.Refused h = absurd (let z : _≡_ {A = ℕ} 0 1 = cc in omega arith)
+
+    go : (b : Bool) → let k = cond b (replied s buffer) (record { world = w; buffer = buffer; answer = frameAnswer.WrongLength }) in
+        k .answer ≡ frameAnswer.Reply n → Replied k s buffer n
+    go true h = record { world = refl; lent = refl; written = out (writeAnswer (s .reply) (s .replyData) buffer) h }
+    go false h = absurd (let z : _≡_ {A = ℕ} 0 1 = cc in omega arith)
+
+module _ (s : Course) (b : BankPart s) (time : ℕ) (ids frame buffer : List ℕ) (n : ℕ) where
+  abbrev p : Past
+  p = b .past
+
+  abbrev k : FrameCall
+  k = frameCall (b .past .world) time ids frame buffer
+
+  abbrev x : history.Exchange
+  x = exchangeOf (number ids) (advanced time (b .past .world)) (readRequest frame) (dataOf frame)
+
+  module _ (h : frameCall (b .past .world) time ids frame buffer .answer ≡ frameAnswer.Reply n) where
+    told : Replied k (stepOf (p .world) time ids frame) buffer n
+    told = replied-by (p .world) time ids frame buffer n h
+
+    pub next-is : history.after (Frame time ids frame buffer) p ≡ answered time ids frame p
+    unfolding history.after
+    next-is =
+        ap (λ (a : FrameAnswer). entered a (k .world) x p) h
+        ∙ ap (λ (w : World). record { world = w; history = x ∷ p .history }) (told .world)
+
+    next-holds : Holds (answered time ids frame p)
+    next-holds = subst Holds next-is (after-holds (Frame time ids frame buffer) p (b .holds))
+
+    next-sound : AllSound (x ∷ p .history)
+    next-sound = next-holds .invariant .sound
+
+    next-proper : Proper x
+    unfolding exchangeOf
+    next-proper = record {
+      refuses = event-refuses (number ids) (advanced time (p .world)) (readRequest frame) (dataOf frame);
+      short = mailbox-short (advanced time (p .world)) (subscriber (readRequest frame));
+    }
+
+    replied-form : Sized (x .reply) × (isReplyForm (form (x .reply)) ≡ true)
+    replied-form =
+        subst (λ (f : Fields). Sized f × (isReplyForm (form f) ≡ true)) (sym (reply-is next-sound newest))
+        (reply-form (x .event) (x .request))
+
+    next-clock : k .world .bank .clock ≡ advanced time (p .world) .bank .clock
+    next-clock =
+        ap (λ (w : World). w .bank .clock) (told .world) ∙ answered-clock time ids frame p (b .holds)
+        ∙ sym (advanced-clock time (p .world))
+
+    next-reply : readReply (take n (k .buffer)) ≡ x .reply
+    unfolding exchangeOf
+    next-reply =
+        let r = replied-form in
+        ap (λ (l : List ℕ). readReply (take n l)) (told .lent) ∙ reply-read (x .reply) (x .replyData) buffer n (r .0) (told .written)
+        (r .1)
+
+    next-data : dataOf (take n (k .buffer)) ≡ x .replyData
+    unfolding exchangeOf
+    next-data =
+        ap (λ (l : List ℕ). dataOf (take n l)) (told .lent) ∙ data-read (x .reply) (x .replyData) buffer n (replied-form .0)
+        (told .written)
+
+    module _ (m : ℕ) (low : 1 ≤ m) (high : m ≤ subscribers) where
+      was : mailboxFile (p .world) m ≡ s .mailboxes m
+      was = sym (same-mailbox (p .world) m) ∙ ap (λ (w : World). mailboxOf w m) (b .world) ∙ b .mailboxes m low high
+
+      now : mailboxOf (k .world) m ≡ mailboxFile (answered time ids frame p .world) m
+      now = same-mailbox (k .world) m ∙ ap (λ (w : World). mailboxFile w m) (told .world)
+
+      emptied-own : x .event ≡ Of (transaction (x .request)) Confirmed → m ≡ subscriber (readRequest frame) →
+          mailboxFile (answered time ids frame p .world) m ≡ []
+      unfolding exchangeOf
+      emptied-own own e =
+          let v = advanced-keeps time (p .world) (p .history) (b .holds .invariant) in
+          ap (mailboxFile (answered time ids frame p .world)) e
+          ∙ case-empties
+          (happens (number ids) (advanced time (p .world)) (readRequest frame) (dataOf frame) (v .sizes .places) (v .sizes .downloads))
+          (v .sizes) own .empty
+
+      kept-other : (Emptied (answered time ids frame p .world) m x → ⊥) →
+          mailboxFile (answered time ids frame p .world) m ≡ s .mailboxes m
+      kept-other not = at (frame-mailbox time ids frame p m (b .holds) low)
+        where
+          at : (mailboxFile (answered time ids frame p .world) m ≡ mailboxFile (p .world) m) ⊎ Emptied
+              (answered time ids frame p .world) m x →
+              mailboxFile (answered time ids frame p .world) m ≡ s .mailboxes m
+          at (inl e) = e ∙ was
+          at (inr e) = absurd (not e)
+
+      next-mailbox : mailboxOf (k .world) m ≡ emptied frame (take n (k .buffer)) (s .mailboxes) m
+      unfolding emptied exchangeOf
+      next-mailbox = now ∙ at (eqb (returnCode (readReply (take n (k .buffer)))) (codeField code.DownloadPostprocessDone)) refl
+        where
+          own : (d : Bool) → eqb m (subscriber (readRequest frame)) ≡ d → x .event ≡ Of (transaction (x .request)) Confirmed →
+              mailboxFile (answered time ids frame p .world) m ≡ cond d [] (s .mailboxes m)
+          own true e c = emptied-own c (eqb-true m (subscriber (readRequest frame)) e)
+          own false e c = kept-other (λ z. eqb-false m (subscriber (readRequest frame)) e (sym (z .owner)))
+
+          at : (c : Bool) → eqb (returnCode (readReply (take n (k .buffer)))) (codeField code.DownloadPostprocessDone) ≡ c →
+              mailboxFile (answered time ids frame p .world) m
+              ≡ cond c (changed (s .mailboxes) (subscriber (readRequest frame)) []) (s .mailboxes) m
+          at true e =
+              let z = sym (ap returnCode next-reply) ∙ eqb-true _ (codeField code.DownloadPostprocessDone) e in
+              own (eqb m (subscriber (readRequest frame))) refl (done-confirmed next-sound newest next-proper z .0)
+          at false e = kept-other (λ z. eqb-false _ (codeField code.DownloadPostprocessDone) e
+              (ap returnCode next-reply ∙ coded next-sound newest ∙ ap (λ (v : Event). codeField (eventCode v)) (z .confirmed)))
+
+    -- the course behind the answered frame
+    frame-part : BankPart (afterFrame (frameAnswer.Reply n) k (advanced time (p .world)) frame s)
+    unfolding exchangeOf
+    frame-part = record {
+      past = answered time ids frame p;
+      holds = next-holds;
+      world = sym (told .world);
+      entries =
+          more (record {
+            request = refl;
+            requestData = refl;
+            reply = next-reply;
+            replyData = next-data;
+            clock = next-clock;
+            box = same-mailbox (advanced time (p .world)) (subscriber (readRequest frame));
+          }) (b .entries);
+      proper = one-more next-proper (b .proper);
+      mailboxes = next-mailbox;
+    }
+
+-- what an answered frame leaves: its exchange entered, and the bank as its history says
+pub record Entered (s : Course) (b : BankPart s) (time : ℕ) (ids frame buffer : List ℕ) (t : Course) : Type 0 where
+  pub exchange : Exchange
+  pub exchanged : t .exchanged ≡ exchange ∷ s .exchanged
+  pub request : exchange .request ≡ frame
+  pub same : Entry exchange (exchangeOf (number ids) (advanced time (b .past .world)) (readRequest frame) (dataOf frame))
+  pub clock : exchange .clock ≡ t .bank .bank .clock
+  pub next : history.after (Frame time ids frame buffer) (b .past) ≡ answered time ids frame (b .past)
+  pub bank : t .bank ≡ answered time ids frame (b .past) .world
+  pub sound : AllSound (exchangeOf (number ids) (advanced time (b .past .world)) (readRequest frame) (dataOf frame) ∷ b .past .history)
+
+entered-by : (s : Course) (b : BankPart s) (time : ℕ) (ids frame buffer : List ℕ) (n : ℕ)
+    (h : frameCall (b .past .world) time ids frame buffer .answer ≡ frameAnswer.Reply n) →
+    Entered s b time ids frame buffer (afterFrame (frameAnswer.Reply n) (frameCall (b .past .world) time ids frame buffer)
+    (advanced time (b .past .world)) frame s)
+unfolding exchangeOf
+entered-by s b time ids frame buffer n h = record {
+  exchange = _;
+  exchanged = refl;
+  request = refl;
+  same = record {
+    request = refl;
+    requestData = refl;
+    reply = next-reply s b time ids frame buffer n h;
+    replyData = next-data s b time ids frame buffer n h;
+    clock = next-clock s b time ids frame buffer n h;
+    box = same-mailbox (advanced time (b .past .world)) (subscriber (readRequest frame));
+  };
+  clock = refl;
+  next = next-is s b time ids frame buffer n h;
+  bank = told s b time ids frame buffer n h .world;
+  sound = next-sound s b time ids frame buffer n h;
+}
+
+-- ---- a file put
+
+module _ (s : Course) (b : BankPart s) (mailbox : ℕ) (file : List ℕ) where
+  abbrev bankBefore : Bank
+  bankBefore = b .past .world .bank
+
+  abbrev boxesBefore : List ℕ
+  boxesBefore = b .past .world .boxes
+
+  abbrev put : FileAnswer → FileCall
+  put a = carryOutFile a (b .past .world .bank) mailbox file (b .past .world .boxes)
+
+  file-by : (a : FileAnswer) → FileSound bankBefore mailbox file boxesBefore a →
+      Holds (placed (put a .answer) (put a .bank) (put a .boxes) (b .past)) →
+      put a .answer ≡ fileAnswer.Done → Later b (afterFile fileAnswer.Done (put a) mailbox file s)
+  unfolding mailboxOf
+  file-by fileAnswer.Done (rejected l) holds h = absurd (omega arith)
+  file-by fileAnswer.Done (done known most some short empty) holds h = (
+    record {
+      past = record { world = filled mailbox file (b .past .world); history = b .past .history };
+      holds = holds;
+      world = ap (λ (w : World). world (put fileAnswer.Done .bank) (w .orders) (put fileAnswer.Done .boxes)) (b .world);
+      entries = b .entries;
+      proper = b .proper;
+      mailboxes = λ m low high. same-mailbox _ m ∙ at m low high (eqb m mailbox) refl;
+    },
+    stays,
+  )
+    where
+      v : Invariant (b .past .world) (b .past .history)
+      v = b .holds .invariant
+
+      at : (m : ℕ) → 1 ≤ m → m ≤ subscribers → (c : Bool) → eqb m mailbox ≡ c →
+          mailboxFile (filled mailbox file (b .past .world)) m ≡ cond c file (s .mailboxes m)
+      at m low high true e =
+          ap (mailboxFile (filled mailbox file (b .past .world))) (eqb-true m mailbox e)
+          ∙ filled-same (b .past .world) (b .past .history) v mailbox file known most some short empty
+      at m low high false e =
+          filled-other (b .past .world) (b .past .history) v mailbox file known most some short empty m
+          (λ z. eqb-false m mailbox e (omega arith))
+          ∙ sym (same-mailbox (b .past .world) m) ∙ ap (λ (w : World). mailboxOf w m) (b .world) ∙ b .mailboxes m low high
+  file-by fileAnswer.WrongLength l holds h = absurd (let z : _≡_ {A = ℕ} 0 1 = cc in omega arith)
+  file-by fileAnswer.NoMailbox l holds h = absurd (let z : _≡_ {A = ℕ} 0 1 = cc in omega arith)
+  file-by fileAnswer.WrongFile l holds h = absurd (let z : _≡_ {A = ℕ} 0 1 = cc in omega arith)
+  file-by fileAnswer.MailboxFull l holds h = absurd (let z : _≡_ {A = ℕ} 0 1 = cc in omega arith)
+
+  file-part : fileCall bankBefore mailbox file boxesBefore .answer ≡ fileAnswer.Done →
+      Later b (afterFile fileAnswer.Done (fileCall bankBefore mailbox file boxesBefore) mailbox file s)
+  unfolding fileCall history.after
+  file-part h =
+      file-by (decide (fileRefusals bankBefore mailbox file boxesBefore) fileAnswer.Done)
+      (judged-file bankBefore mailbox file boxesBefore)
+      (after-holds (File mailbox file) (b .past) (b .holds)) h
+
+-- ---- over the calls of a list
+
+-- a frame call, lent the bank as it was left
+pub frame-keeps : (s : Course) (b : BankPart s) (w : World) (time : ℕ) (ids frame buffer : List ℕ) (X : Type 0) →
+    Answered (frameCall w time ids frame buffer .answer) ((w ≡ s .bank) × X) → Later b (exec (frameArrives w time ids frame buffer) s)
+unfolding exec frame-part
+frame-keeps s b w time ids frame buffer X = go (frameCall w time ids frame buffer .answer) refl
+  where
+    go : (a : FrameAnswer) → frameCall w time ids frame buffer .answer ≡ a → Answered a ((w ≡ s .bank) × X) →
+        Later b (afterFrame a (frameCall w time ids frame buffer) (advanced time w) frame s)
+    go (frameAnswer.Reply n) e q =
+        subst (λ (v : World). frameCall v time ids frame buffer .answer ≡ frameAnswer.Reply n →
+        Later b (afterFrame (frameAnswer.Reply n) (frameCall v time ids frame buffer) (advanced time v) frame s)) (b .world ∙ sym (q .0))
+        (λ h. (frame-part s b time ids frame buffer n h, grows)) e
+    go frameAnswer.WrongLength e q = (b, stays)
+
+-- a frame call is given a number and changes nothing, or it is answered
+pub frame-enters : (s : Course) (b : BankPart s) (w : World) (time : ℕ) (ids frame buffer : List ℕ) (X : Type 0) →
+    Answered (frameCall w time ids frame buffer .answer) ((w ≡ s .bank) × X) → let t = exec (frameArrives w time ids frame buffer) s in
+    (t ≡ s) ⊎ (Entered s b time ids frame buffer t × X)
+unfolding exec
+frame-enters s b w time ids frame buffer X = go (frameCall w time ids frame buffer .answer) refl
+  where
+    go : (a : FrameAnswer) → frameCall w time ids frame buffer .answer ≡ a → Answered a ((w ≡ s .bank) × X) →
+        let t = afterFrame a (frameCall w time ids frame buffer) (advanced time w) frame s in (t ≡ s) ⊎
+        (Entered s b time ids frame buffer t × X)
+    go (frameAnswer.Reply n) e q = inr (
+      subst (λ (v : World). frameCall v time ids frame buffer .answer ≡ frameAnswer.Reply n →
+          Entered s b time ids frame buffer (afterFrame (frameAnswer.Reply n) (frameCall v time ids frame buffer)
+          (advanced time v) frame s)) (b .world ∙ sym (q .0))
+          (λ h. entered-by s b time ids frame buffer n h) e,
+      q .1,
+    )
+    go frameAnswer.WrongLength e q = inl refl
+
+-- a file call, lent the bank and the mailboxes as they were left
+pub file-keeps : (s : Course) (b : BankPart s) (bank : Bank) (boxes : List ℕ) (m : ℕ) (file : List ℕ) →
+    (fileNumber (fileCall bank m file boxes .answer) ≡ 0 → (bank ≡ s .bank .bank) × (boxes ≡ s .bank .boxes)) →
+    Later b (exec (filePut bank boxes m file) s)
+unfolding exec
+file-keeps s b bank boxes m file = go (fileCall bank m file boxes .answer) refl
+  where
+    P : Bank → List ℕ → Type 0
+    P c l = fileCall c m file l .answer ≡ fileAnswer.Done → Later b (afterFile fileAnswer.Done (fileCall c m file l) m file s)
+
+    go : (a : FileAnswer) → fileCall bank m file boxes .answer ≡ a →
+        (fileNumber a ≡ 0 → (bank ≡ s .bank .bank) × (boxes ≡ s .bank .boxes)) →
+        Later b (afterFile a (fileCall bank m file boxes) m file s)
+    go fileAnswer.Done e q =
+        let same = q refl in
+        subst (λ (c : Bank). P c boxes) (ap (λ (w : World). w .bank) (b .world) ∙ sym (same .0))
+        (subst (P (b .past .world .bank)) (ap (λ (w : World). w .boxes) (b .world) ∙ sym (same .1)) (file-part s b m file)) e
+    go fileAnswer.WrongLength e q = (b, stays)
+    go fileAnswer.NoMailbox e q = (b, stays)
+    go fileAnswer.WrongFile e q = (b, stays)
+    go fileAnswer.MailboxFull e q = (b, stays)
+
+-- before the first call
+fresh-mailbox : (m : ℕ) → 1 ≤ m → m ≤ subscribers → mailboxOf (start .bank) m ≡ []
+unfolding start mailboxOf fileOf fileLength fresh
+fresh-mailbox m low high = ap (λ (n : ℕ). take n (partAt (start .bank .boxes) (m - 1)))
+    (getD-replicate placeCount (m - 1) 0 0 (omega arith))
+
+pub bank-start : BankPart start
+unfolding start history.pastOf history.start
+bank-start = record {
+  past = history.pastOf [];
+  holds = past-holds [];
+  world = refl;
+  entries = none;
+  proper = no-entry;
+  mailboxes = fresh-mailbox;
+}

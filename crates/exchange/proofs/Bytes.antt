@@ -1,0 +1,168 @@
+-- The bytes of requests issued and of replies given: the frames of their fields and data, which are read back. Assumes nothing.
+use Prim.Native.Nat.{ℕ}
+use mathlib.Core.Bool.{Bool, true, false, cond}
+use mathlib.Core.List.{List, []}
+use mathlib.Core.Path.{_≡_, refl, ap, _∙_}
+use native.Mathlib.Omega.{arith}
+use lib.Dec.{leb}
+use lib.ListN.{length, take}
+use lib.Seq.{take-at}
+use Rattle.frame.specs.declared.fields.Fields.{Fields}
+use Rattle.frame.specs.declared.writer.Written.{Written}
+use Rattle.frame.specs.declared.writer.Written.the-variants as written
+use Rattle.frame.specs.Bytes.{overwrite}
+use Rattle.frame.specs.Names.{form}
+use Rattle.frame.specs.Reader.{readRequest, readReply}
+use Rattle.frame.specs.Row.{dataOf}
+use Rattle.frame.specs.Table.{isRequestForm, isReplyForm, rowFits, findForm, formOf}
+use Rattle.frame.specs.Writer.{frameOf, writable, accepted, writeAnswer, writeBuffer}
+use Rattle.frame.proofs.RoundTrip.{Sized}
+use Rattle.frame.proofs.Tests.{and-true}
+use Rattle.frame.proofs.Theorems.{written-request, written-reply, written-data}
+use Rattle.message.specs.Requests.{uploadOpening, downloadOpening, uploadTransfer, downloadTransfer, receipt}
+use Rattle.client.specs.declared.run.Answer.the-variants as answer
+use Rattle.client.specs.declared.run.Client.{Client}
+use Rattle.client.specs.declared.run.Deed.{Deed}
+use Rattle.client.specs.declared.run.Deed.the-variants.{Ignore, Opened, Advance, Return, Repeat, Close}
+use Rattle.client.specs.declared.run.Direction.{Direction}
+use Rattle.client.specs.declared.run.Direction.the-variants.{Upload, Download}
+use Rattle.client.specs.declared.run.Ruling.{Ruling}
+use Rattle.client.specs.declared.run.Ruling.the-variants.{Refuse, Accept}
+use Rattle.client.specs.declared.run.Step.{Step}
+use Rattle.client.specs.declared.run.Step.the-variants as step
+use Rattle.client.specs.Calls.{
+  ifWritten,
+  outcomeOf,
+  isWritten,
+  requestWith,
+  issued,
+  taken,
+  carryOut,
+  beginBy,
+  beginCall,
+  runBy,
+  replyCall,
+  silenceCall,
+}
+use Rattle.client.specs.Decisions.{onReply, onSilence}
+use Rattle.client.specs.NextRun.{beginLength, begun, goOn, repeated, learned, holding, fileWith}
+use Rattle.client.specs.Requests.{uploadRequest, downloadRequest, requestBy, outstanding, outstandingData}
+use Rattle.client.specs.Rulings.{beginRuling, runRuling}
+use Rattle.client.specs.Run.{Lent, ClientCall, lengthsOf, callOf}
+
+-- ---- what the writer wrote
+
+-- the frame stands in front of the buffer
+pub written-front : (f : Fields) (d old : List ℕ) (n : ℕ) → writeAnswer f d old ≡ written.Length n →
+    (writable f d ≡ true) × (take n (writeBuffer f d old) ≡ frameOf f d)
+unfolding writeAnswer writeBuffer accepted overwrite
+written-front f d old n h = go (accepted f d old) refl h
+  where
+    go : (b : Bool) → accepted f d old ≡ b → cond b (written.Length (length (frameOf f d))) written.Refused ≡ written.Length n →
+        (writable f d ≡ true) × (take n (cond b (overwrite old 0 (frameOf f d)) old) ≡ frameOf f d)
+    go true e k =
+        let long : length (frameOf f d) ≡ n = cc in
+        (and-true (writable f d) (leb (length (frameOf f d)) (length old)) e .0, take-at (frameOf f d) _ n long)
+    go false e k = absurd (let z : _≡_ {A = ℕ} 0 1 = cc in omega arith)
+
+module _ (f : Fields) (d old : List ℕ) (n : ℕ) (long : Sized f) (h : writeAnswer f d old ≡ written.Length n) where
+  pub data-read : dataOf (take n (writeBuffer f d old)) ≡ d
+  data-read = let w = written-front f d old n h in ap dataOf (w .1) ∙ written-data f d long (w .0)
+
+  pub request-read : isRequestForm (form f) ≡ true → readRequest (take n (writeBuffer f d old)) ≡ f
+  request-read k = let w = written-front f d old n h in ap readRequest (w .1) ∙ written-request f d long (w .0) k
+
+  pub reply-read : isReplyForm (form f) ≡ true → readReply (take n (writeBuffer f d old)) ≡ f
+  reply-read k = let w = written-front f d old n h in ap readReply (w .1) ∙ written-reply f d long (w .0) k
+
+-- ---- the request that a run has outstanding
+
+abbrev IsRequest : Fields → Type 0
+IsRequest f = Sized f × (isRequestForm (form f) ≡ true)
+
+pub outstanding-request : (c : Client) (time : ℕ) (nonce : List ℕ) → IsRequest (outstanding c time nonce)
+unfolding outstanding uploadOpening uploadTransfer downloadOpening downloadTransfer receipt formOf findForm rowFits
+outstanding-request c time nonce = go (c .direction)
+  where
+    up : (s : Step) → IsRequest (uploadRequest s c time nonce)
+    up step.Opening = ((refl, refl), refl)
+    up step.Segment = ((refl, refl), refl)
+    up step.Receipt = ((refl, refl), refl)
+
+    down : (s : Step) → IsRequest (downloadRequest s c time nonce)
+    down step.Opening = ((refl, refl), refl)
+    down step.Segment = ((refl, refl), refl)
+    down step.Receipt = ((refl, refl), refl)
+
+    go : (w : Direction) → IsRequest (requestBy w c time nonce)
+    go Upload = up (c .step)
+    go Download = down (c .step)
+
+-- the call's request is the outstanding request of the run that it leaves
+pub record Issued (k : ClientCall) (l : Lent) (n : ℕ) : Type 0 where
+  pub answer : isWritten (k .run) l ≡ written.Length n
+  pub buffer : k .request ≡ requestWith (k .run) l
+
+abbrev Issues : ClientCall → Lent → Type 0
+Issues k l = (n : ℕ) → k .answer ≡ answer.Request n → Issued k l n
+
+issued-issues : (c next : Client) (file : List ℕ) (l : Lent) → Issues (issued c next file l) l
+unfolding issued
+issued-issues c next file l n = go (isWritten next l) refl
+  where
+    go : (w : Written) → isWritten next l ≡ w → outcomeOf w c next .answer ≡ answer.Request n →
+        Issued (callOf (outcomeOf w c next) (ifWritten w file (l .file)) (requestWith next l)) l n
+    go (written.Length m) e h = record { answer = cc; buffer = refl }
+    go written.Refused e h = absurd (let z : _≡_ {A = ℕ} 0 1 = cc in omega arith)
+
+module _ (c : Client) (r : Fields) (d : List ℕ) (l : Lent) where
+  carried-issues : (deed : Deed) → Issues (carryOut deed c r d l) l
+  unfolding taken
+  carried-issues Ignore n h = absurd (let z : _≡_ {A = ℕ} 0 1 = cc in omega arith)
+  carried-issues Opened n h =
+      let k = learned (c .direction) r c in
+      issued-issues c (goOn (k .segment) (k .repeats) (holding (length d) k)) (fileWith k d (l .file)) l n h
+  carried-issues Advance n h = issued-issues c (goOn (c .segment) (c .repeats) (holding (length d) c)) (fileWith c d (l .file)) l n h
+  carried-issues (Return s) n h = issued-issues c _ (l .file) l n h
+  carried-issues Repeat n h = issued-issues c (repeated c) (l .file) l n h
+  carried-issues (Close w) n h = absurd (let z : _≡_ {A = ℕ} 0 1 = cc in omega arith)
+
+  ruled-issues : (u : Ruling) (deed : Deed) → Issues (runBy u deed c r d l) l
+  ruled-issues (Refuse x) deed n h = absurd (let z : _≡_ {A = ℕ} 0 1 = cc in omega arith)
+  ruled-issues Accept deed n h = carried-issues deed n h
+
+module _ (c : Client) (l : Lent) where
+  pub begin-issues : (way : Direction) (subscriber first : ℕ) → Issues (beginCall c way subscriber first l) l
+  unfolding beginCall
+  begin-issues way subscriber first = go (beginRuling c way subscriber first (lengthsOf l))
+    where
+      go : (u : Ruling) → Issues (beginBy u c way subscriber first l) l
+      go (Refuse x) n h = absurd (let z : _≡_ {A = ℕ} 0 1 = cc in omega arith)
+      go Accept n h = issued-issues c (begun way subscriber first (beginLength way (lengthsOf l))) (l .file) l n h
+
+  pub reply-issues : (frame : List ℕ) → Issues (replyCall c frame l) l
+  unfolding replyCall
+  reply-issues frame =
+      ruled-issues c (readReply frame) (dataOf frame) l (runRuling (c .stage) c (lengthsOf l))
+      (onReply c (readReply frame) (length (dataOf frame)))
+
+  pub silence-issues : Issues (silenceCall c l) l
+  unfolding silenceCall
+  silence-issues = ruled-issues c _ [] l (runRuling (c .stage) c (lengthsOf l)) (onSilence c)
+
+-- its bytes read as its fields and its data
+module _ {k : ClientCall} {l : Lent} {n : ℕ} (i : Issued k l n) where
+  pub issued-request : readRequest (take n (k .request)) ≡ outstanding (k .run) (l .time) (l .nonce)
+  unfolding isWritten requestWith
+  issued-request =
+      let q = outstanding-request (k .run) (l .time) (l .nonce) in
+      ap (λ (b : List ℕ). readRequest (take n b)) (i .buffer)
+      ∙ request-read (outstanding (k .run) (l .time) (l .nonce)) (outstandingData (k .run) (l .payload)) (l .request) n (q .0)
+      (i .answer) (q .1)
+
+  pub issued-data : dataOf (take n (k .request)) ≡ outstandingData (k .run) (l .payload)
+  unfolding isWritten requestWith
+  issued-data =
+      let q = outstanding-request (k .run) (l .time) (l .nonce) in
+      ap (λ (b : List ℕ). dataOf (take n b)) (i .buffer)
+      ∙ data-read (outstanding (k .run) (l .time) (l .nonce)) (outstandingData (k .run) (l .payload)) (l .request) n (q .0) (i .answer)

@@ -1,0 +1,319 @@
+-- What holds of every course: both ends' parts, the frames that are copies, and what each call leaves as it was. Assumes nothing.
+use Prim.Native.Nat.{ℕ}
+use mathlib.Core.Bool.{true}
+use mathlib.Core.List.{List, [], _∷_, map, List·Memᴰ as In, List·Memᴰ·head as here, List·Memᴰ·tail as there, List·Memᴰ·not-nil as in-none}
+use mathlib.Core.Path.{_≡_, refl, sym, ap, _∙_, subst}
+use Rattle.frame.specs.Names.{exchange}
+use Rattle.frame.specs.Reader.{readRequest, readReply}
+use Rattle.frame.specs.Row.{dataOf}
+use Rattle.bank_state.specs.declared.state.Bank.{Bank}
+use Rattle.bank_state.specs.Clock.{advanced}
+use Rattle.bank_state.specs.State.{World}
+use Rattle.bank.specs.declared.call.FrameAnswer.{FrameAnswer}
+use Rattle.bank.specs.declared.call.FrameAnswer.the-variants as frameAnswer
+use Rattle.bank.specs.declared.mailbox.FileAnswer.{FileAnswer}
+use Rattle.bank.specs.declared.mailbox.FileAnswer.the-variants as fileAnswer
+use Rattle.bank.specs.Call.{FrameCall, frameCall}
+use Rattle.bank.specs.Mailbox.{FileCall, fileCall}
+use Rattle.client.specs.declared.run.Answer.{Answer}
+use Rattle.client.specs.declared.run.Answer.the-variants as answer
+use Rattle.client.specs.declared.run.Client.{Client}
+use Rattle.client.specs.declared.run.Direction.{Direction}
+use Rattle.client.specs.Calls.{beginCall, replyCall, silenceCall}
+use Rattle.client.specs.Run.{Lent, ClientCall, answerNumber}
+use Rattle.client_history.specs.History.{Begin, Reply, NoReply, GivenTo}
+use Rattle.client_history.specs.Invariant.{not-begun}
+use Rattle.exchange.specs.Course.{
+  Call,
+  frameArrives,
+  filePut,
+  begins,
+  replyArrives,
+  noReply,
+  Issue,
+  Exchange,
+  Course,
+  start,
+  afterFrame,
+  afterFile,
+  afterRun,
+  reached,
+  exec,
+  after,
+}
+use Rattle.exchange.specs.Demand3.{isSubscribers, IssuedBy, Allowed, AllAllowed, Answered, OneExchangeNumber}
+use Rattle.exchange.specs.Lists.{NoDup, more}
+use Rattle.exchange.proofs.Bytes.{begin-issues, reply-issues, silence-issues}
+use Rattle.exchange.proofs.Told.{Gave}
+use Rattle.exchange.proofs.Bank.{found, Later, frame-keeps, file-keeps, bank-start}
+use Rattle.exchange.proofs.Clients.{asIssue, issuesOf, runPast, issued-in, run-lifts, RunHolds, Parts, arrive-keeps, run-keeps}
+
+-- ---- both ends
+
+-- a call of a run that is given a number leaves all as it was
+run-called : (s : Course) (v : Parts s) (i : ℕ) (k : ClientCall) (payload : List ℕ) →
+    (answerNumber (k .answer) ≡ 0 → Parts (afterRun (k .answer) i k payload s)) → Parts (afterRun (k .answer) i k payload s)
+run-called s v i k payload = go (k .answer)
+  where
+    go : (a : Answer) → (answerNumber a ≡ 0 → Parts (afterRun a i k payload s)) → Parts (afterRun a i k payload s)
+    go (answer.Request n) f = f refl
+    go answer.Ignored f = f refl
+    go (answer.Closed w) f = f refl
+    go (answer.Refused r) f = v
+
+reply-called : (s : Course) (v : Parts s) (i : ℕ) (reply : List ℕ) (k : ClientCall) (payload : List ℕ) →
+    (answerNumber (k .answer) ≡ 0 → Parts (afterRun (k .answer) i k payload s)) →
+    Parts (reached (k .answer) i reply (afterRun (k .answer) i k payload s))
+reply-called s v i reply k payload = go (k .answer)
+  where
+    go : (a : Answer) → (answerNumber a ≡ 0 → Parts (afterRun a i k payload s)) → Parts (reached a i reply (afterRun a i k payload s))
+    go (answer.Request n) f = arrive-keeps _ (f refl) i reply
+    go answer.Ignored f = arrive-keeps _ (f refl) i reply
+    go (answer.Closed w) f = arrive-keeps _ (f refl) i reply
+    go (answer.Refused r) f = v
+
+-- a copy of a request of run i that the bank answered: its reply was given to it
+given-to : (s : Course) (v : Parts s) (i : ℕ) (reply : List ℕ) →
+    (e : Exchange) × In e (s .exchanged) × (e .reply ≡ reply) × IssuedBy i (e .request) s →
+    GivenTo (Gave (v .bank .past .history)) reply (runPast s i)
+given-to s v i reply (e, m, z, (x, n, r, c)) =
+    let f = found (v .bank .entries) m in
+    record {
+      issue = asIssue x;
+      own = issued-in i n r;
+      given = record {
+        exchange = f .exchange;
+        before = f .before;
+        stands = f .stands;
+        request = sym (f .same .request) ∙ ap readRequest (sym c);
+        requestData = sym (f .same .requestData) ∙ ap dataOf (sym c);
+        reply = sym (f .same .reply) ∙ ap readReply z;
+        replyData = sym (f .same .replyData) ∙ ap dataOf z;
+      };
+    }
+
+-- a call of the bank leaves the runs
+pub frame-runs : (s : Course) (w : World) (time : ℕ) (ids frame buffer : List ℕ) (i : ℕ) →
+    runPast (exec (frameArrives w time ids frame buffer) s) i ≡ runPast s i
+unfolding exec
+frame-runs s w time ids frame buffer i = go (k .answer)
+  where
+    k : FrameCall
+    k = frameCall w time ids frame buffer
+
+    go : (a : FrameAnswer) → runPast (afterFrame a k (advanced time w) frame s) i ≡ runPast s i
+    go (frameAnswer.Reply n) = refl
+    go frameAnswer.WrongLength = refl
+
+pub file-runs : (s : Course) (b : Bank) (boxes : List ℕ) (m : ℕ) (file : List ℕ) (i : ℕ) →
+    runPast (exec (filePut b boxes m file) s) i ≡ runPast s i
+unfolding exec
+file-runs s b boxes m file i = go (k .answer)
+  where
+    k : FileCall
+    k = fileCall b m file boxes
+
+    go : (a : FileAnswer) → runPast (afterFile a k m file s) i ≡ runPast s i
+    go fileAnswer.Done = refl
+    go fileAnswer.WrongLength = refl
+    go fileAnswer.NoMailbox = refl
+    go fileAnswer.WrongFile = refl
+    go fileAnswer.MailboxFull = refl
+
+bank-called : {s t : Course} (v : Parts s) → Later (v .bank) t → ((i : ℕ) → runPast t i ≡ runPast s i) → Parts t
+bank-called {s} {t} v n same = record {
+  bank = n .0;
+  runs = λ i. subst (RunHolds (n .0 .past .history)) (sym (same i))
+      (run-lifts (n .1) (v .bank .holds .invariant .sound) (n .0 .holds .invariant .sound) (runPast s i) (v .runs i));
+}
+
+-- a call of a run
+begin-keeps : (s : Course) (v : Parts s) (i : ℕ) (c : Client) (way : Direction) (subscriber first : ℕ) (l : Lent) →
+    Allowed (begins i c way subscriber first l) s → Parts (exec (begins i c way subscriber first l) s)
+unfolding exec
+begin-keeps s v i c way subscriber first l a =
+    run-called s v i (beginCall c way subscriber first l) (l .payload) (λ z.
+    subst (λ (x : Client). let k = beginCall x way subscriber first l in Parts (afterRun (k .answer) i k (l .payload) s)) (sym (a z))
+    (run-keeps s v i (Begin way subscriber first l) (begin-issues (s .runs i) l way subscriber first) tt))
+
+reply-keeps : (s : Course) (v : Parts s) (i : ℕ) (c : Client) (reply : List ℕ) (l : Lent) →
+    Allowed (replyArrives i c reply l) s → Parts (exec (replyArrives i c reply l) s)
+unfolding exec
+reply-keeps s v i c reply l a =
+    reply-called s v i reply (replyCall c reply l) (l .payload) (λ z.
+    let q = a z in
+    subst (λ (x : Client). let k = replyCall x reply l in Parts (afterRun (k .answer) i k (l .payload) s)) (sym (q .0 .0))
+    (run-keeps s v i (Reply reply l) (reply-issues (s .runs i) l reply)
+    (λ _. (record { payload = q .0 .1; file = q .0 .2 }, given-to s v i reply (q .1)))))
+
+silence-keeps : (s : Course) (v : Parts s) (i : ℕ) (c : Client) (l : Lent) → Allowed (noReply i c l) s → Parts (exec (noReply i c l) s)
+unfolding exec
+silence-keeps s v i c l a =
+    run-called s v i (silenceCall c l) (l .payload) (λ z.
+    let q = a z in
+    subst (λ (x : Client). let k = silenceCall x l in Parts (afterRun (k .answer) i k (l .payload) s)) (sym (q .0))
+    (run-keeps s v i (NoReply l) (silence-issues (s .runs i) l) (λ _. record { payload = q .1; file = q .2 })))
+
+pub call-keeps : (k : Call) (s : Course) → Parts s → Allowed k s → Parts (exec k s)
+call-keeps (frameArrives w time ids frame buffer) s v a =
+    bank-called v (frame-keeps s (v .bank) w time ids frame buffer _ a) (frame-runs s w time ids frame buffer)
+call-keeps (filePut b boxes m file) s v a = bank-called v (file-keeps s (v .bank) b boxes m file a) (file-runs s b boxes m file)
+call-keeps (begins i c way subscriber first l) s v a = begin-keeps s v i c way subscriber first l a
+call-keeps (replyArrives i c reply l) s v a = reply-keeps s v i c reply l a
+call-keeps (noReply i c l) s v a = silence-keeps s v i c l a
+
+pub parts-start : Parts start
+unfolding start issuesOf
+parts-start = record { bank = bank-start; runs = λ i. not-begun refl refl }
+
+pub parts : (ks : List Call) (s : Course) → Parts s → AllAllowed ks s → Parts (after ks s)
+unfolding after
+parts [] s v a = v
+parts (k ∷ ks) s v a = parts ks (exec k s) (call-keeps k s v (a .0)) (a .1)
+
+-- ---- what grows
+
+-- the requests issued before a call stay: the call issues at most one more
+pub data Issues (l : List Issue) : List Issue → Type 0 where
+  same : Issues l l
+  one : {x : Issue} → Issues l (x ∷ l)
+
+pub in-more : {x : Issue} {l m : List Issue} → Issues l m → In x l → In x m
+in-more same k = k
+in-more one k = there k
+
+run-issues : (s : Course) (i : ℕ) (k : ClientCall) (payload : List ℕ) (a : Answer) → Issues (s .issued) (afterRun a i k payload s .issued)
+run-issues s i k payload (answer.Request n) = one
+run-issues s i k payload answer.Ignored = same
+run-issues s i k payload (answer.Closed w) = same
+run-issues s i k payload (answer.Refused r) = same
+
+reached-issues : (s : Course) (i : ℕ) (reply : List ℕ) (k : ClientCall) (payload : List ℕ) (a : Answer) →
+    Issues (s .issued) (reached a i reply (afterRun a i k payload s) .issued)
+reached-issues s i reply k payload (answer.Request n) = one
+reached-issues s i reply k payload answer.Ignored = same
+reached-issues s i reply k payload (answer.Closed w) = same
+reached-issues s i reply k payload (answer.Refused r) = same
+
+pub call-issues : (k : Call) (s : Course) → Issues (s .issued) (exec k s .issued)
+unfolding exec
+call-issues (frameArrives w time ids frame buffer) s = go (frameCall w time ids frame buffer .answer)
+  where
+    go : (a : FrameAnswer) → Issues (s .issued) (afterFrame a (frameCall w time ids frame buffer) (advanced time w) frame s .issued)
+    go (frameAnswer.Reply n) = same
+    go frameAnswer.WrongLength = same
+call-issues (filePut b boxes m file) s = go (fileCall b m file boxes .answer)
+  where
+    go : (a : FileAnswer) → Issues (s .issued) (afterFile a (fileCall b m file boxes) m file s .issued)
+    go fileAnswer.Done = same
+    go fileAnswer.WrongLength = same
+    go fileAnswer.NoMailbox = same
+    go fileAnswer.WrongFile = same
+    go fileAnswer.MailboxFull = same
+call-issues (begins i c way subscriber first l) s =
+    let k = beginCall c way subscriber first l in run-issues s i k (l .payload) (k .answer)
+call-issues (replyArrives i c reply l) s = let k = replyCall c reply l in reached-issues s i reply k (l .payload) (k .answer)
+call-issues (noReply i c l) s = let k = silenceCall c l in run-issues s i k (l .payload) (k .answer)
+
+pub issued-more : (k : Call) (s : Course) {i : ℕ} {frame : List ℕ} → IssuedBy i frame s → IssuedBy i frame (exec k s)
+issued-more k s (x, m, r, f) = (x, in-more (call-issues k s) m, r, f)
+
+-- every frame that was answered under a subscriber's number is a copy of a request issued
+abbrev pub Copied : Course → Type 0
+Copied s = (e : Exchange) → In e (s .exchanged) → isSubscribers (e .request) ≡ true → (i : ℕ) × IssuedBy i (e .request) s
+
+copied-later : (k : Call) (s : Course) → Copied s → (e : Exchange) → In e (s .exchanged) → isSubscribers (e .request) ≡ true →
+    (i : ℕ) × IssuedBy i (e .request) (exec k s)
+copied-later k s c e m z = let o = c e m z in (o .0, issued-more k s (o .1))
+
+run-exchanged : (s : Course) (i : ℕ) (k : ClientCall) (payload : List ℕ) (a : Answer) → afterRun a i k payload s .exchanged ≡ s .exchanged
+run-exchanged s i k payload (answer.Request n) = refl
+run-exchanged s i k payload answer.Ignored = refl
+run-exchanged s i k payload (answer.Closed w) = refl
+run-exchanged s i k payload (answer.Refused r) = refl
+
+reached-exchanged : (s : Course) (i : ℕ) (reply : List ℕ) (k : ClientCall) (payload : List ℕ) (a : Answer) →
+    reached a i reply (afterRun a i k payload s) .exchanged ≡ s .exchanged
+reached-exchanged s i reply k payload (answer.Request n) = refl
+reached-exchanged s i reply k payload answer.Ignored = refl
+reached-exchanged s i reply k payload (answer.Closed w) = refl
+reached-exchanged s i reply k payload (answer.Refused r) = refl
+
+-- what is exchanged after a call: as before, or one frame more, which was allowed
+pub data Exchanges (k : Call) (s : Course) : List Exchange → Type 0 where
+  nothing : Exchanges k s (s .exchanged)
+  enters : {e : Exchange} → (isSubscribers (e .request) ≡ true → (i : ℕ) × IssuedBy i (e .request) s) → Exchanges k s (e ∷ s .exchanged)
+
+pub call-exchanges : (k : Call) (s : Course) → Allowed k s → Exchanges k s (exec k s .exchanged)
+unfolding exec
+call-exchanges (frameArrives w time ids frame buffer) s q = go (frameCall w time ids frame buffer .answer) q
+  where
+    go : (a : FrameAnswer) → Answered a ((w ≡ s .bank) × (isSubscribers frame ≡ true → (i : ℕ) × IssuedBy i frame s)) →
+        Exchanges (frameArrives w time ids frame buffer) s (afterFrame a (frameCall w time ids frame buffer)
+        (advanced time w) frame s .exchanged)
+    go (frameAnswer.Reply n) p = enters (p .1)
+    go frameAnswer.WrongLength p = nothing
+call-exchanges (filePut b boxes m file) s q = go (fileCall b m file boxes .answer)
+  where
+    go : (a : FileAnswer) → Exchanges (filePut b boxes m file) s (afterFile a (fileCall b m file boxes) m file s .exchanged)
+    go fileAnswer.Done = nothing
+    go fileAnswer.WrongLength = nothing
+    go fileAnswer.NoMailbox = nothing
+    go fileAnswer.WrongFile = nothing
+    go fileAnswer.MailboxFull = nothing
+call-exchanges (begins i c way subscriber first l) s q =
+    let k = beginCall c way subscriber first l in
+    subst (Exchanges (begins i c way subscriber first l) s) (sym (run-exchanged s i k (l .payload) (k .answer))) nothing
+call-exchanges (replyArrives i c reply l) s q =
+    let k = replyCall c reply l in
+    subst (Exchanges (replyArrives i c reply l) s) (sym (reached-exchanged s i reply k (l .payload) (k .answer))) nothing
+call-exchanges (noReply i c l) s q =
+    let k = silenceCall c l in
+    subst (Exchanges (noReply i c l) s) (sym (run-exchanged s i k (l .payload) (k .answer))) nothing
+
+pub copied-call : (k : Call) (s : Course) → Copied s → Allowed k s → Copied (exec k s)
+copied-call k s c q e m z = go (call-exchanges k s q) m
+  where
+    go : {l : List Exchange} → Exchanges k s l → In e l → (i : ℕ) × IssuedBy i (e .request) (exec k s)
+    go nothing n = copied-later k s c e n z
+    go (enters f) (here y) =
+        let o = f (subst (λ (g : Exchange). isSubscribers (g .request) ≡ true) y z) in
+        (o .0, issued-more k s (subst (λ (g : Exchange). IssuedBy (o .0) (g .request) s) (sym y) (o .1)))
+    go (enters f) (there n) = copied-later k s c e n z
+
+pub copied : (ks : List Call) (s : Course) → Copied s → AllAllowed ks s → Copied (after ks s)
+unfolding after
+copied [] s c q = c
+copied (k ∷ ks) s c q = copied ks (exec k s) (copied-call k s c (q .0)) (q .1)
+
+-- ---- exchange numbers
+
+abbrev pub numberOf : Issue → ℕ
+numberOf x = exchange (readRequest (x .frame))
+
+mapped : {x : Issue} {l : List Issue} → In x l → In (numberOf x) (map numberOf l)
+mapped (here e) = here (ap numberOf e)
+mapped (there m) = there (mapped m)
+
+one-by-one : {x y : Issue} (l : List Issue) → NoDup (map numberOf l) → In x l → In y l → numberOf x ≡ numberOf y → x ≡ y
+one-by-one [] d m n e = absurd (in-none m)
+one-by-one (z ∷ l) (more f d) (here a) (here b) e = a ∙ sym b
+one-by-one (z ∷ l) (more f d) (here a) (there n) e = absurd (f (subst (λ (k : ℕ). In k (map numberOf l)) (sym e ∙ ap numberOf a)
+    (mapped n)))
+one-by-one (z ∷ l) (more f d) (there m) (here b) e = absurd (f (subst (λ (k : ℕ). In k (map numberOf l)) (e ∙ ap numberOf b) (mapped m)))
+one-by-one (z ∷ l) (more f d) (there m) (there n) e = one-by-one l d m n e
+
+-- "no two requests of the list were issued under one exchange number"
+pub one-issue : (s : Course) → OneExchangeNumber s → {x y : Issue} → In x (s .issued) → In y (s .issued) → numberOf x ≡ numberOf y → x ≡ y
+unfolding OneExchangeNumber
+one-issue s n = one-by-one (s .issued) n
+
+fewer : {l m : List Issue} → Issues l m → NoDup (map numberOf m) → NoDup (map numberOf l)
+fewer same d = d
+fewer one (more f d) = d
+
+-- it was so before the last calls too
+pub numbers-before : (ks : List Call) (s : Course) → OneExchangeNumber (after ks s) → OneExchangeNumber s
+unfolding after OneExchangeNumber
+numbers-before [] s n = n
+numbers-before (k ∷ ks) s n = fewer (call-issues k s) (numbers-before ks (exec k s) n)

@@ -1,0 +1,428 @@
+-- The clauses of demand 3 on book, closing words and mailboxes, at a course. Assumes nothing.
+use Prim.Native.Nat.{ℕ, _*_, _≤_, _<_}
+use mathlib.Core.Bool.{Bool, true, false}
+use mathlib.Core.List.{List, [], _∷_, List·Memᴰ as In, List·Memᴰ·not-nil as in-none}
+use mathlib.Core.Logic.{_⊎_, inl, inr}
+use mathlib.Core.Path.{_≡_, refl, sym, ap, _∙_, subst}
+use native.Mathlib.Omega.{arith}
+use native.Mathlib.Nat.{mul-comm}
+use lib.ListN.{length, take}
+use lib.Seq.{take-at}
+use Rattle.frame.specs.declared.fields.Bits128.{Bits128}
+use Rattle.frame.specs.declared.fields.Fields.{Fields}
+use Rattle.frame.specs.declared.table.Form.the-variants as forms
+use Rattle.frame.specs.Names.{subscriber, exchange, transaction, segments, segment, returnCode, orderNumber, form}
+use Rattle.frame.specs.Reader.{readRequest, readReply}
+use Rattle.frame.specs.Table.{isRequestForm}
+use Rattle.frame.proofs.Tests.{never}
+use Rattle.message.specs.declared.codes.ReturnCode.{ReturnCode}
+use Rattle.message.specs.declared.codes.ReturnCode.the-variants as code
+use Rattle.message.specs.Codes.{codeField}
+use Rattle.message.specs.Limits.{subscribers, segmentBytes}
+use Rattle.message.specs.Segments.{segmentsOf}
+use Rattle.bank_state.specs.Limits.{openingsMost}
+use Rattle.bank_state.specs.Search.{isFree}
+use Rattle.bank_state.specs.State.{World, placeAt}
+use Rattle.bank_state.specs.Store.{partAt}
+use Rattle.bank_step.specs.OrderNumbers.{orderNumberOf}
+use Rattle.bank_history.specs.History.{Of, Stands, newest, older, ActionIn, isBooking, isEnding, did, ever, received}
+use Rattle.bank_history.specs.History as bank
+use Rattle.bank_history.specs.Invariant as whole
+use Rattle.bank_history.specs.Standing as standing
+use Rattle.bank_history.specs.Sound.{AllSound, isCancelling}
+use Rattle.bank_history.proofs.Entries.{ever-action}
+use Rattle.bank_history.proofs.Positions.{action-sound}
+use Rattle.bank_history.proofs.Theorems.{
+  booked-order,
+  in-book,
+  upload-opened,
+  download-opened,
+  transaction-cancelled,
+  ended-unbooked,
+  stands-ever,
+}
+use Rattle.client.specs.declared.run.Stage.the-variants as stage
+use Rattle.client.specs.declared.run.Word.the-variants.{Lodged, NotLodged, Fetched}
+use Rattle.client_history.specs.History.{Past, BankReplies}
+use Rattle.client_history.specs.History as history
+use Rattle.client_history.specs.Invariant.{
+  UploadIssue,
+  uploadOpens,
+  sends,
+  DownloadIssue,
+  downloadOpens,
+  asks,
+  confirms,
+  ReceiptIssued,
+  Invariant,
+  Cancelled,
+  not-begun,
+  upload,
+  download,
+}
+use Rattle.client_history.proofs.Files.{all-held}
+use Rattle.client_history.proofs.Requests.{
+  form-uploadOpening,
+  form-downloadOpening,
+  form-uploadTransfer,
+  form-downloadTransfer,
+  form-receipt,
+  id-receipt,
+}
+use Rattle.client_history.proofs.Theorems.{lodged, not-lodged, last-not-sent, fetched, fetched-file, receipt-issued, one-subscriber}
+use Rattle.exchange.specs.Course.{Issue, Exchange, Course, heldOf}
+use Rattle.exchange.specs.Demand3.{IssuedBy, OneExchangeNumber, Books, Booked, Order, InBook, OrderOf, Outcome}
+use Rattle.exchange.specs.Lists.{AtMostOne}
+use Rattle.exchange.proofs.Told.{
+  opening-at,
+  sound-before,
+  proper-at,
+  did-action,
+  did-of,
+  done-confirmed,
+  Gave,
+  fileIn,
+  bank-replies,
+}
+use Rattle.exchange.proofs.Bank.{Entry, Entries, found, listed}
+use Rattle.exchange.proofs.Clients.{asIssue, issuesOf, runPast, issued-in, issue-of, opened-upload, opened-download, Parts}
+use Rattle.exchange.proofs.Courses.{Copied, one-issue}
+use Rattle.exchange.proofs.Joint.{
+  Uploads,
+  one-opener,
+  sender-uploads,
+  upload-size,
+  upload-owner,
+  counts,
+  taken-payload,
+  books-booking,
+  booked-ever,
+  ever-booked,
+  at-before,
+  download-in,
+}
+use Rattle.exchange.proofs.Joint as joint
+use Rattle.exchange.proofs.Numbers.{one-order-number}
+
+-- ---- forms and codes
+
+upload-kind : {s n top : ℕ} {t : Bits128} {payload : List ℕ} {x : history.Issue} → UploadIssue s n t top payload x →
+    isRequestForm (form (x .request)) ≡ true
+upload-kind (uploadOpens number time nonce q d) = ap isRequestForm (ap form q ∙ form-uploadOpening _ _ _ _ _)
+upload-kind (sends number j a b q d) = ap isRequestForm (ap form q ∙ form-uploadTransfer _ _ _ _ _)
+
+download-kind : {s n held : ℕ} {t : Bits128} {b : Bool} {f : List ℕ} {x : history.Issue} → DownloadIssue s n t held b f x →
+    isRequestForm (form (x .request)) ≡ true
+download-kind (downloadOpens number time nonce q d) = ap isRequestForm (ap form q ∙ form-downloadOpening _ _ _ _)
+download-kind (asks number j a b c e q d) = ap isRequestForm (ap form q ∙ form-downloadTransfer _ _ _ _)
+download-kind (confirms number a b c e q d) = ap isRequestForm (ap form q ∙ form-receipt _ _ _ _)
+
+receipt-id : {p : Past} {f : List ℕ} {x : history.Issue} → ReceiptIssued p f x → transaction (x .request) ≡ p .run .transaction
+receipt-id r = ap transaction (r .request) ∙ id-receipt _ _ _ _
+
+cancelled-code : {c : ReturnCode} → (c ≡ code.TransactionAbort) ⊎ ((c ≡ code.SegmentNumberExceeded) ⊎ (c ≡ code.SegmentNumberUnderrun)) →
+    isCancelling (codeField c) ≡ true
+cancelled-code (inl e) = ap (λ (x : ReturnCode). isCancelling (codeField x)) e
+cancelled-code (inr (inl e)) = ap (λ (x : ReturnCode). isCancelling (codeField x)) e
+cancelled-code (inr (inr e)) = ap (λ (x : ReturnCode). isCancelling (codeField x)) e
+
+module _ (s : Course) (v : Parts s) (copies : Copied s) (numbers : OneExchangeNumber s) where
+  abbrev h : List bank.Exchange
+  h = v .bank .past .history
+
+  sound : AllSound (v .bank .past .history)
+  sound = v .bank .holds .invariant .sound
+
+  inv : whole.Invariant (s .bank) (v .bank .past .history)
+  inv = subst (λ (w : World). whole.Invariant w (v .bank .past .history)) (v .bank .world) (v .bank .holds .invariant)
+
+  -- ---- the book
+
+  -- the place of a run's booked upload holds its order
+  order-of : {i j : ℕ} {t : Bits128} → Uploads s v copies numbers i t → standing.Order (s .bank) (v .bank .past .history) t j →
+      (o : Order) → InBook s j o → OrderOf s i o
+  order-of {i} {j} {t} u r o b =
+      let a = u .opened .got .given in
+      let l = listed (v .bank .entries) (a .stands) in
+      let p = placeAt (s .bank .bank) j in
+      let f = upload-opened sound (a .stands) (ap form (a .reply) ∙ u .opened .got .answered) in
+      let id : transaction (a .exchange .reply) ≡ s .runs i .transaction = ap transaction (a .reply) ∙ u .opened .id in
+      record {
+        subscriber = ap (λ (x : Order). x .subscriber) (b .is) ∙ r .owner ∙ upload-owner s v copies numbers u;
+        bytes = ap (λ (x : Order). x .bytes) (b .is) ∙ ap (take (p .length)) (r .held)
+            ∙ take-at (received t h) _ (p .length) (sym (r .long)) ∙ taken-payload s v copies numbers u
+            ∙ ap (λ (n : ℕ). take n (s .payloads i)) (ap (λ (n : ℕ). n * segmentBytes) (r .whole ∙ upload-size s v copies numbers u)
+            ∙ mul-comm _ segmentBytes)
+            ∙ all-held (s .payloads i) (segmentsOf (length (s .payloads i))) refl;
+        opening = l .0;
+        given = l .1;
+        opened = ap form (l .2 .reply ∙ a .reply) ∙ u .opened .got .answered;
+        own = ap transaction (l .2 .reply) ∙ id;
+        number = ap orderNumber (l .2 .reply) ∙ f .2
+            ∙ ap orderNumberOf (ap (λ (x : Bits128). x .low) (id ∙ u .own) ∙ sym (r .number))
+            ∙ ap (λ (x : Order). x .number) (sym (b .is));
+      }
+
+  pub book-sound : (j : ℕ) (o : Order) → InBook s j o → (i : ℕ) × Booked s i × OrderOf s i o
+  book-sound j o b =
+      let r = booked-order inv j (b .place) (b .booked) in
+      let k = ever-booked s v copies numbers (r .last) in
+      (k .0, k .2, order-of (k .1) r o b)
+
+  pub book-whole : (i : ℕ) → Booked s i → (j : ℕ) × (o : Order) × InBook s j o × OrderOf s i o
+  book-whole i b =
+      let k = booked-ever s v copies numbers b in
+      let r = in-book inv (s .runs i .transaction) (k .1) in
+      let p = placeAt (s .bank .bank) (r .0) in
+      let o : Order = record {
+        subscriber = p .subscriber;
+        number = orderNumberOf (p .number);
+        bytes =
+            take (p .length) (partAt (s .bank .orders) (r .0));
+      } in
+      let n : InBook s (r .0) o = record { place = r .1 .inside; booked = r .1 .used; is = refl } in
+      (r .0, o, n, order-of (k .0) (r .1) o n)
+
+  place-number : {j : ℕ} {o : Order} → InBook s j o → placeAt (s .bank .bank) j .number < openingsMost
+  place-number {j} b =
+      let r = booked-order inv j (b .place) (b .booked) in
+      let k = inv .known (placeAt (s .bank .bank) j .transaction) (ever-action isBooking _ h (r .last)) in
+      omega (arith, r .number, inv .numbers)
+
+  pub book-single : (j j′ : ℕ) (o o′ : Order) → InBook s j o → InBook s j′ o′ → o .number ≡ o′ .number → j ≡ j′
+  book-single j j′ o o′ a b e =
+      inv .placesApart j j′ (a .place) (b .place) (ap isFree (a .booked)) (ap isFree (b .booked))
+      (one-order-number _ _ (place-number a) (place-number b)
+      (ap (λ (x : Order). x .number) (sym (a .is)) ∙ e ∙ ap (λ (x : Order). x .number) (b .is)))
+
+  -- the number of an order is that of its transaction
+  number-of : {i : ℕ} {o : Order} → OrderOf s i o → o .number ≡ orderNumberOf (s .runs i .transaction .low)
+  number-of d =
+      let f = found (v .bank .entries) (d .given) in
+      let u = upload-opened sound (f .stands) (ap form (sym (f .same .reply)) ∙ d .opened) in
+      sym (d .number) ∙ ap orderNumber (f .same .reply) ∙ u .2
+      ∙ ap (λ (x : Bits128). orderNumberOf (x .low)) (ap transaction (sym (f .same .reply)) ∙ d .own)
+
+  booked-low : {i : ℕ} → Booked s i → s .runs i .transaction .low < openingsMost
+  booked-low {i} b =
+      let k = inv .known (s .runs i .transaction) (ever-action isBooking _ h (booked-ever s v copies numbers b .1)) in
+      omega (arith, inv .numbers)
+
+  pub book-apart : (i i′ : ℕ) (o : Order) → Booked s i → Booked s i′ → OrderOf s i o → OrderOf s i′ o → i ≡ i′
+  book-apart i i′ o a b c d =
+      one-opener s v copies numbers (opened-upload sound (booked-ever s v copies numbers a .0 .opened))
+      (opened-upload sound (booked-ever s v copies numbers b .0 .opened))
+      (one-order-number _ _ (booked-low a) (booked-low b) (sym (number-of c) ∙ number-of d))
+
+  -- "each upload is booked at most once"
+  pub booked-once : (i : ℕ) → AtMostOne (Books s i) (s .exchanged)
+  booked-once i = at (v .bank .entries) (λ f k p. p)
+    where
+      t : Bits128
+      t = s .runs i .transaction
+
+      at : {l : List Exchange} {g : List bank.Exchange} → Entries l g →
+          ((f : bank.Exchange) (k : List bank.Exchange) → Stands f k g → Stands f k (v .bank .past .history)) → AtMostOne (Books s i) l
+      at Entries.none up = AtMostOne.none
+      at (Entries.more {e = e} {f = f} {l = l} {h = g} same r) up =
+          by (did isBooking t (f .event)) refl (at r (λ x k p. up x k (older p)))
+        where
+          by : (b : Bool) → did isBooking t (f .event) ≡ b → AtMostOne (Books s i) l → AtMostOne (Books s i) (e ∷ l)
+          by true z rest = AtMostOne.only (λ y m k.
+              let x = found r m in
+              ⊥-of (did-action isBooking t f z) (stands-ever isBooking t (x .stands)
+              (books-booking s v copies numbers (up _ _ (older (x .stands))) (x .same) k)))
+            where
+              ⊥-of : ActionIn isBooking t f → ever isBooking t g ≡ true → ⊥
+              ⊥-of d k = never (sym (action-sound sound (up _ _ newest)
+                  (d .is ∙ ap (Of t) (joint.booking-kind (d .action) (d .kind))) .taking .upload .request .unbooked) ∙ k)
+          by false z rest = AtMostOne.skip (λ k.
+              let d = books-booking s v copies numbers (up _ _ newest) same k in never (sym z ∙ did-of isBooking t f d)) rest
+
+  -- ---- the closing words
+
+  -- a request of a run, and the copy of it that was given a reply
+  pub record Copy (i : ℕ) (f : bank.Exchange) : Type 0 where
+    pub exchange : Exchange
+    pub given : In exchange (s .exchanged)
+    pub same : Entry exchange f
+    pub copy : IssuedBy i (exchange .request) s
+
+  -- each run's request is of a request form, under a subscriber's number
+  pub request-of : (i : ℕ) {y : history.Issue} → In y (issuesOf i (s .issued)) →
+      (isRequestForm (form (y .request)) ≡ true) × (1 ≤ subscriber (y .request)) × (subscriber (y .request) ≤ subscribers)
+  request-of i {y} m = at (v .runs i)
+    where
+      at : Invariant (Gave (v .bank .past .history)) (fileIn (v .bank .past .history)) (runPast s i) →
+          (isRequestForm (form (y .request)) ≡ true) × (1 ≤ subscriber (y .request)) × (subscriber (y .request) ≤ subscribers)
+      at (not-begun e g) = absurd (in-none (subst (In y) g m))
+      at (upload b u) = let z = b .own y m in (upload-kind (u .each y m), let l = b .low in omega arith, let l = b .high in omega arith)
+      at (download b u) = let z = b .own y m in (
+        download-kind (u .each y m),
+        let l = b .low in omega arith,
+        let l =
+            b .high in omega arith,
+      )
+
+  pub copied-reply : {i : ℕ} {y : history.Issue} {r : Fields} {d : List ℕ} → In y (issuesOf i (s .issued)) →
+      (a : Gave (v .bank .past .history) (y .request) (y .requestData) r d) → Copy i (a .exchange)
+  copied-reply {i} {y} m a =
+      let l = listed (v .bank .entries) (a .stands) in
+      let q : readRequest (l .0 .request) ≡ y .request = l .2 .request ∙ a .request in
+      let k = request-of i m in
+      let n = ap subscriber q in
+      let c = copies (l .0) (l .1) (counts s v copies numbers (l .0 .request) (ap (λ (f : Fields). isRequestForm (form f)) q ∙ k .0)
+      (let z = k .1 in omega arith) (let z = k .2 in omega arith)) in
+      let x = issue-of i (s .issued) m in
+      let one : c .1 .0 ≡ x .issue = one-issue s numbers (c .1 .1) (x .own)
+      (ap (λ (b : List ℕ). exchange (readRequest b)) (c .1 .3) ∙ ap exchange q
+      ∙ ap (λ (u : history.Issue). exchange (u .request)) (sym (x .same))) in
+      record {
+        exchange = l .0;
+        given = l .1;
+        same = l .2;
+        copy = (c .1 .0, c .1 .1, ap (λ (u : Issue). u .run) one ∙ x .run, c .1 .3);
+      }
+
+  replies : BankReplies (Gave (v .bank .past .history)) (fileIn (v .bank .past .history))
+  replies = bank-replies h sound (v .bank .proper)
+
+  -- "'lodged' names its booked order"
+  pub lodged-booked : (i : ℕ) → s .runs i .stage ≡ stage.Ended Lodged →
+      Booked s i × ((j : ℕ) × (o : Order) × InBook s j o × OrderOf s i o × (o .number ≡ s .runs i .number))
+  unfolding Booked
+  lodged-booked i z =
+      let l = lodged (Gave h) (fileIn h) replies (runPast s i) (v .runs i) z .1 in
+      let c = copied-reply (l .got .own) (l .got .given) in
+      let a = l .got .given in
+      let q : readRequest (c .exchange .request) ≡ l .got .issue .request = c .same .request ∙ a .request in
+      let r : readReply (c .exchange .reply) ≡ l .got .reply = c .same .reply ∙ a .reply in
+      let u = sender-uploads s v copies numbers (c .copy) (ap form q ∙ l .got .asked) in
+      let b : Booked s i = (
+        c .exchange,
+        c .given,
+        record {
+          copy = c .copy;
+          upload = ap form q ∙ l .got .asked;
+          last = ap segment q ∙ l .last ∙ u .run .number;
+          taken = ap returnCode r ∙ l .got .code;
+        },
+      ) in
+      let w = book-whole i b in
+      let o = l .opened in
+      let g = o .got .given in
+      let n = upload-opened sound (g .stands) (ap form (g .reply) ∙ o .got .answered) in
+      let id : transaction (g .exchange .reply) ≡ s .runs i .transaction = ap transaction (g .reply) ∙ o .id in (
+        b,
+        (
+          w .0,
+          w .1,
+          w .2,
+          w .3,
+          number-of (w .3) ∙ ap (λ (x : Bits128). orderNumberOf (x .low)) (sym id) ∙ sym (n .2)
+              ∙ ap orderNumber (g .reply) ∙ o .number,
+        ),
+      )
+
+  -- "'not lodged' means never booked"
+  pub not-lodged-unbooked : (i : ℕ) → s .runs i .stage ≡ stage.Ended NotLodged → Booked s i → ⊥
+  unfolding Booked
+  not-lodged-unbooked i z b = at (not-lodged (Gave h) (fileIn h) replies (runPast s i) (v .runs i) z .1)
+    where
+      u : Uploads s v copies numbers i (s .runs i .transaction)
+      u = booked-ever s v copies numbers b .0
+
+      k : Books s i (b .0)
+      k = b .2
+
+      at : (s .runs i .issued < s .runs i .segments) ⊎ Cancelled (Gave (v .bank .past .history)) (s .runs i) (issuesOf i (s .issued)) → ⊥
+      at (inl l) =
+          let c = k .copy in
+          let q : readRequest (c .0 .frame) ≡ readRequest (b .0 .request) = ap readRequest (c .3) in
+          last-not-sent (Gave h) (fileIn h) replies (runPast s i) (v .runs i) (asIssue (c .0)) (issued-in i (c .1) (c .2))
+          (ap form q ∙ k .upload) l
+          (ap segment q ∙ k .last ∙ sym (u .run .number))
+      at (inr l) =
+          let a = l .got .given in
+          let t = transaction-cancelled sound (a .stands) (ap form (a .reply) ∙ l .got .answered)
+          (ap isCancelling (ap returnCode (a .reply) ∙ l .got .code) ∙ cancelled-code (l .one)) in
+          let id : transaction (a .exchange .request) ≡ s .runs i .transaction = ap transaction (a .request) ∙ l .id in
+          ended-unbooked (s .runs i .transaction) sound
+          (stands-ever isEnding (s .runs i .transaction) (a .stands)
+          (record { action = bank.Cancelled (t .0); is = t .1 ∙ ap (λ (x : Bits128). Of x (bank.Cancelled (t .0))) id; kind = refl }))
+          (booked-ever s v copies numbers b .1)
+
+  -- "a fetched file is the mailbox's file at its transaction's opening"
+  pub fetched-box : (i : ℕ) → s .runs i .stage ≡ stage.Ended Fetched → (e : Exchange) × In e (s .exchanged)
+      × (form (readReply (e .reply)) ≡ forms.DownloadOpened) × (transaction (readReply (e .reply)) ≡ s .runs i .transaction)
+      × (subscriber (readRequest (e .request)) ≡ s .runs i .subscriber) × (heldOf (s .runs i) (s .files i) ≡ e .box)
+  unfolding heldOf
+  fetched-box i z =
+      let k = fetched (Gave h) (fileIn h) replies (runPast s i) (v .runs i) z .1 .held in
+      let o = opened-download sound k in
+      let a = k .got .given in
+      let l = listed (v .bank .entries) (a .stands) in
+      let d = download-opened sound (a .stands) (ap form (a .reply) ∙ k .got .answered) in
+      let id : transaction (a .exchange .reply) ≡ s .runs i .transaction = ap transaction (a .reply) ∙ k .id in (
+        l .0,
+        l .1,
+        ap form (l .2 .reply ∙ a .reply) ∙ k .got .answered,
+        ap transaction (l .2 .reply) ∙ id,
+        ap subscriber (l .2 .request ∙ a .request)
+            ∙ one-subscriber (Gave h) (fileIn h) replies (runPast s i) (v .runs i) (k .got .issue) (k .got .own),
+        fetched-file (Gave h) (fileIn h) replies (runPast s i) (v .runs i) z
+            ∙ opening-at (λ (x : bank.Exchange). x .file) [] sound (a .stands)
+            (record {
+              action = _;
+              is = d .0 ∙ ap (λ (x : Bits128). Of x
+                  (bank.OpenedDownload (segments (a .exchange .reply)))) id;
+              opening = refl;
+            })
+            ∙ sym (l .2 .box),
+      )
+
+  -- ---- mailboxes
+
+  -- "a mailbox is emptied only after its client held the whole"
+  pub emptied-held : (e : Exchange) → In e (s .exchanged) → returnCode (readReply (e .reply)) ≡ codeField code.DownloadPostprocessDone →
+      (form (readRequest (e .request)) ≡ forms.Receipt) × ((x : Issue) × In x (s .issued) × (x .frame ≡ e .request) × (x .file ≡ e .box))
+  emptied-held e m z =
+      let f = found (v .bank .entries) m in
+      let d = done-confirmed sound (f .stands) (proper-at (v .bank .proper) (f .stands))
+      (ap returnCode (sym (f .same .reply)) ∙ z) .1 .receipt in
+      let t = transaction (f .exchange .request) in
+      let g = sound-before sound (f .stands) in
+      let o = download-in t g (d .download .opened) in
+      let from : subscriber (o .exchange .request) ≡ subscriber (readRequest (e .request)) =
+      sym (opening-at (λ (x : bank.Exchange). subscriber (x .request)) 0 g (o .stands) (o .opening))
+      ∙ d .download .request .owner ∙ ap subscriber (sym (f .same .request)) in
+      let asked : form (readRequest (e .request)) ≡ forms.Receipt = ap form (f .same .request) ∙ d .asked in
+      let c = copies e m (counts s v copies numbers (e .request) (ap isRequestForm asked) (let y = o .low in omega arith)
+      (let y = o .high in omega arith)) in
+      let q : readRequest (c .1 .0 .frame) ≡ readRequest (e .request) = ap readRequest (c .1 .3) in
+      let r = receipt-issued (Gave h) (fileIn h) replies (runPast s (c .0)) (v .runs (c .0)) (asIssue (c .1 .0))
+      (issued-in (c .0) (c .1 .1) (c .1 .2)) (ap form q ∙ asked) in
+      let id : t ≡ s .runs (c .0) .transaction = ap transaction (sym (f .same .request) ∙ sym q) ∙ receipt-id r in (
+        asked,
+        (
+          c .1 .0,
+          c .1 .1,
+          c .1 .3,
+          r .file ∙ sym (ap (fileIn h) id)
+              ∙ sym (at-before (λ (x : bank.Exchange). x .file) [] t sound (f .stands) o) ∙ sym (d .download .same) ∙ sym (f .same .box),
+        ),
+      )
+
+  pub outcome : Outcome s
+  outcome = record {
+    once = booked-once;
+    sound = book-sound;
+    whole = book-whole;
+    single = book-single;
+    apart = book-apart;
+    lodged = lodged-booked;
+    notLodged = not-lodged-unbooked;
+    fetched = fetched-box;
+    mailbox = v .bank .mailboxes;
+    emptied = emptied-held;
+  }

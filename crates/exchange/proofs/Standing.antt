@@ -1,0 +1,101 @@
+-- A run's open transaction stays as it is while frames and files of others come. Assumes nothing.
+use Prim.Native.Nat.{ℕ, _≤_}
+use mathlib.Core.Bool.{Bool, true, false}
+use mathlib.Core.List.{List, [], _∷_}
+use mathlib.Core.Path.{_≡_, refl, sym, ap, _∙_, subst}
+use native.Mathlib.Omega.{arith}
+use Rattle.frame.specs.declared.fields.Bits128.{Bits128}
+use Rattle.frame.specs.declared.table.Form.{Form}
+use Rattle.frame.specs.Bytes.{number}
+use Rattle.frame.specs.Names.{subscriber}
+use Rattle.frame.specs.Reader.{readRequest}
+use Rattle.frame.specs.Row.{dataOf}
+use Rattle.bank_state.specs.Clock.{advanced}
+use Rattle.frame.proofs.Tests.{never}
+use Rattle.bank_state.specs.Search.{openCountOf}
+use Rattle.bank_state.specs.State.{World}
+use Rattle.bank_history.specs.History.{Of, Confirmed, Past, BankCall, Frame, isAction, did, exchangeOf}
+use Rattle.bank_history.specs.History as bank
+use Rattle.bank_history.specs.Standing.{DownloadAt, UploadUnlessIdle, DownloadUnlessIdle}
+use Rattle.bank_history.proofs.Entries.{did-same}
+use Rattle.bank_history.proofs.Liveness.{upload-stays, download-stays, clock-grows}
+use Rattle.client.specs.declared.run.Direction.{Direction}
+use Rattle.client.specs.declared.run.Direction.the-variants.{Upload, Download}
+use Rattle.exchange.specs.Course.{Course}
+use Rattle.exchange.specs.Demand3.{isSubscribers, IssuedBy, OneExchangeNumber}
+use Rattle.exchange.proofs.Told.{did-action}
+use Rattle.exchange.proofs.Bank.{Entered}
+use Rattle.exchange.proofs.Clients.{issuesOf, OpenedBy, Parts}
+use Rattle.exchange.proofs.Courses.{Copied}
+use Rattle.exchange.proofs.Foreign.{acts-own, confirms-own}
+
+-- the transaction t of subscriber s is open unless an idle hour has passed: k of n segments taken, or k delivered
+abbrev pub Standing : Direction → World → Bits128 → ℕ → ℕ → ℕ → ℕ → Type 0
+Standing Upload w t s k n last = UploadUnlessIdle w t s k n last
+Standing Download w t s k n last = DownloadUnlessIdle w t s k last
+
+-- only one exchange is entered by a call
+entered-one : {x e : bank.Exchange} {l : List bank.Exchange} → x ∷ l ≡ e ∷ l → x ≡ e
+entered-one z = cc
+
+module _ (s : Course) (v : Parts s) (copies : Copied s) (numbers : OneExchangeNumber s) where
+  -- over an answered frame that is no copy of the run's request
+  module _ (time : ℕ) (ids frame buffer : List ℕ) (given : isSubscribers frame ≡ true → (j : ℕ) × IssuedBy j frame s) (after : Course)
+      (en : Entered s (v .bank) time ids frame buffer after) {i : ℕ} {t : Bits128} {y : Form}
+      (o : OpenedBy y (v .bank .past .history) t (issuesOf i (s .issued))) (foreign : IssuedBy i frame s → ⊥) where
+    abbrev p : Past
+    p = v .bank .past
+
+    abbrev c : BankCall
+    c = Frame time ids frame buffer
+
+    abbrev x : bank.Exchange
+    x = exchangeOf (number ids) (advanced time (v .bank .past .world)) (readRequest frame) (dataOf frame)
+
+    is-entered : (e : bank.Exchange) → bank.after (Frame time ids frame buffer) (v .bank .past) .history ≡ e ∷ v .bank .past .history →
+        exchangeOf (number ids) (advanced time (v .bank .past .world)) (readRequest frame) (dataOf frame) ≡ e
+    is-entered e z = entered-one (sym (ap (λ (r : Past). r .history) (en .next)) ∙ z)
+
+    untouched : did isAction t (exchangeOf (number ids) (advanced time (v .bank .past .world)) (readRequest frame)
+        (dataOf frame) .event) ≡ false
+    untouched = at (did isAction t (x .event)) refl
+      where
+        at : (b : Bool) → did isAction t (x .event) ≡ b → b ≡ false
+        at false e = refl
+        at true e = absurd (foreign (acts-own s v copies numbers time ids frame given (en .sound) o (did-action isAction t x e)))
+
+    no-action : (e : bank.Exchange) → bank.after (Frame time ids frame buffer) (v .bank .past) .history ≡ e ∷ v .bank .past .history →
+        did isAction t (e .event) ≡ false
+    no-action e z = ap (λ (f : bank.Exchange). did isAction t (f .event)) (sym (is-entered e z)) ∙ untouched
+
+    now : bank.after (Frame time ids frame buffer) (v .bank .past) .world ≡ after .bank
+    now = ap (λ (r : Past). r .world) (en .next) ∙ sym (en .bank)
+
+    pub upload-standing : {u k n last : ℕ} → UploadUnlessIdle (s .bank) t u k n last → UploadUnlessIdle (after .bank) t u k n last
+    upload-standing {u} {k} {n} {last} a =
+        subst (λ (w : World). UploadUnlessIdle w t u k n last) now
+        (upload-stays t u k n last c p (v .bank .holds) (subst (λ (w : World). UploadUnlessIdle w t u k n last)
+        (sym (v .bank .world)) a) no-action)
+
+    -- where the subscriber has nothing else open
+    pub download-standing : {u d last : ℕ} → openCountOf u (s .bank .bank) ≤ 1 → DownloadUnlessIdle (s .bank) t u d last →
+        DownloadUnlessIdle (after .bank) t u d last
+    unfolding exchangeOf
+    download-standing {u} {d} {last} few a =
+        subst (λ (w : World). DownloadUnlessIdle w t u d last) now (λ bound.
+        let there = before (let g = clock-grows c p (v .bank .holds) in omega arith) in
+        download-stays t u d last c p (v .bank .holds) before no-action
+        (λ e id z own from. confirmed-not there (ap (λ (f : bank.Exchange). f .event) (is-entered e z) ∙ own)
+        (ap (λ (f : bank.Exchange). subscriber (f .request)) (is-entered e z) ∙ from)) bound)
+      where
+        before : DownloadUnlessIdle (v .bank .past .world) t u d last
+        before = subst (λ (w : World). DownloadUnlessIdle w t u d last) (sym (v .bank .world)) a
+
+        confirmed-not : {id : Bits128} → DownloadAt (v .bank .past .world) t u d last → x .event ≡ Of id Confirmed →
+            subscriber (x .request) ≡ u → ⊥
+        confirmed-not {id} there own from =
+            let same : id ≡ t = confirms-own (number ids) time (p .world) (readRequest frame) (dataOf frame) (p .history)
+            (v .bank .holds .invariant)
+            there (subst (λ (w : World). openCountOf u (w .bank) ≤ 1) (sym (v .bank .world)) few) own from in
+            never (sym untouched ∙ (ap (did isAction t) (own ∙ ap (λ (b : Bits128). Of b Confirmed) same)
+            ∙ did-same isAction t Confirmed))

@@ -1,0 +1,334 @@
+-- What the replies of a sound history tell of a transaction, and that they are what a client run takes them for. Assumes nothing.
+use Prim.Native.Nat.{ℕ, _≤_}
+use mathlib.Core.Bool.{Bool, true, false, cond, _||_}
+use mathlib.Core.List.{List, [], _∷_}
+use mathlib.Core.Logic.{inl, inr}
+use mathlib.Core.Path.{_≡_, refl, sym, ap, _∙_}
+use native.Mathlib.Omega.{arith}
+use lib.ListN.{length}
+use Rattle.frame.specs.declared.fields.Bits128.{Bits128}
+use Rattle.frame.specs.declared.fields.Fields.{Fields}
+use Rattle.frame.specs.declared.table.Form.{Form}
+use Rattle.frame.specs.declared.table.Form.the-variants as forms
+use Rattle.frame.specs.Names
+use Rattle.frame.specs.Names.{transaction, segments, segment, returnCode, form, sameBits}
+use Rattle.frame.proofs.Tests.{never, and-true}
+use Rattle.message.specs.declared.codes.ReturnCode.{ReturnCode}
+use Rattle.message.specs.declared.codes.ReturnCode.the-variants as code
+use Rattle.message.specs.Codes.{codeField}
+use Rattle.message.specs.Limits.{fileBytes}
+use Rattle.message.specs.Segments.{segmentsOf, segmentOf}
+use Rattle.bank_history.specs.History.{
+  Action,
+  OpenedUpload,
+  OpenedDownload,
+  Took,
+  TookLast,
+  UploadPoint,
+  DownloadPoint,
+  Cancelled,
+  Delivered,
+  SentAgain,
+  Confirmed,
+  Declined,
+  Event,
+  Unreadable,
+  Refusal,
+  Of,
+  Exchange,
+  Stands,
+  newest,
+  older,
+  ActionIn,
+  OpensNumber,
+  isTaking,
+  isOpening,
+  isUploadOpening,
+  isDownloadOpening,
+  did,
+  atOpening,
+  fileAtOpening,
+  replyTo,
+}
+use Rattle.bank_history.specs.Sound.{isCancelling, SoundConfirmed, AllSound}
+use Rattle.bank_history.specs.Sound.{more as sounds}
+use Rattle.bank_history.proofs.Entries.{bits-same, same-bits}
+use Rattle.bank_history.proofs.Positions.{action-sound}
+use Rattle.bank_history.proofs.Replies.{
+  eventForm,
+  eventCode,
+  IsAction,
+  ActionOf,
+  event-form,
+  event-code,
+  is-action,
+  actionForm,
+  action-transaction,
+  cancelling-code,
+}
+use Rattle.bank_history.proofs.Theorems.{one-opening, ever-stands, reply-is, reply-exchange, download-opened, segment-delivered}
+use Rattle.client_history.specs.History.{BankReplies}
+use Rattle.exchange.proofs.Events.{refuses, isRefusing, refusing-code, Refuses}
+
+-- ---- places of a history
+
+pub stands-behind : {e f : Exchange} {g k h : List Exchange} → Stands f k g → Stands e g h → Stands f k h
+stands-behind p newest = older p
+stands-behind p (older q) = older (stands-behind p q)
+
+-- what is asked of every exchange: its refusals' codes, and a file of at most 3,840 bytes
+pub record Proper (e : Exchange) : Type 0 where
+  pub refuses : Refuses (e .event)
+  pub short : length (e .file) ≤ fileBytes
+
+pub data AllProper : List Exchange → Type 0 where
+  none : AllProper []
+  more : {e : Exchange} {h : List Exchange} → Proper e → AllProper h → AllProper (e ∷ h)
+
+pub proper-at : {e : Exchange} {g h : List Exchange} → AllProper h → Stands e g h → Proper e
+proper-at (more s r) newest = s
+proper-at (more s r) (older p) = proper-at r p
+
+-- ---- the opening of a transaction
+
+-- an exchange that opened t
+pub record Opening (t : Bits128) (f : Exchange) : Type 0 where
+  pub action : Action
+  pub is : f .event ≡ Of t action
+  pub opening : isOpening action ≡ true
+
+-- the test whether an exchange is such an action of t
+pub did-action : (f : Action → Bool) (t : Bits128) (e : Exchange) → did f t (e .event) ≡ true → ActionIn f t e
+did-action f t e h = at (e .event) refl h
+  where
+    at : (v : Event) → e .event ≡ v → did f t v ≡ true → ActionIn f t e
+    at Unreadable z k = never k
+    at (Refusal c) z k = never k
+    at (Of u a) z k =
+        let b = and-true (sameBits t u) (f a) k in
+        record { action = a; is = z ∙ ap (λ (i : Bits128). Of i a) (sym (bits-same t u (b .0))); kind = b .1 }
+
+pub did-of : (f : Action → Bool) (t : Bits128) (e : Exchange) → ActionIn f t e → did f t (e .event) ≡ true
+did-of f t e d = ap (did f t) (d .is) ∙ rw (same-bits t) (d .kind)
+
+opened-so : {t : Bits128} {f : Exchange} → ActionIn isOpening t f → Opening t f
+opened-so d = record { action = d .action; is = d .is; opening = d .kind }
+
+opens-number : {t : Bits128} {f : Exchange} → Opening t f → OpensNumber (t .low) f
+opens-number {t} o = record { id = t; action = o .action; is = o .is; opening = o .opening; numbered = refl }
+
+-- each transaction has one opening
+pub one-opened : {t : Bits128} {e f : Exchange} {g k h : List Exchange} → AllSound h → Stands e g h → Stands f k h → Opening t e →
+    Opening t f → e ≡ f
+one-opened {t} sound a b o p = one-opening (t .low) sound a b (opens-number o) (opens-number p) .0
+
+-- and so each number of an opening
+pub one-numbered : {t u : Bits128} {e f : Exchange} {g k h : List Exchange} → AllSound h → Stands e g h → Stands f k h → Opening t e →
+    Opening u f →
+    t .low ≡ u .low → e ≡ f
+one-numbered {t} sound a b o p n =
+    one-opening (t .low) sound a b (opens-number o)
+    (record { id = _; action = p .action; is = p .is; opening = p .opening; numbered = sym n }) .0
+
+-- what is looked up at the opening is that of the exchange that opened
+pub opening-at : {A : Type 0} (look : Exchange → A) (empty : A) {t : Bits128} {f : Exchange} {g h : List Exchange} → AllSound h →
+    Stands f g h →
+    Opening t f → atOpening look empty t h ≡ look f
+unfolding atOpening
+opening-at look empty {t} {f} (sounds {h = k} s r) newest o =
+    ap (λ (b : Bool). cond b (look f) (atOpening look empty t k))
+    (did-of isOpening t f (record { action = o .action; is = o .is; kind = o .opening }))
+opening-at look empty {t} {f} {g} (sounds {e = x} {h = h} s r) (older p) o =
+    at (did isOpening t (x .event)) refl (opening-at look empty r p o)
+  where
+    at : (b : Bool) → did isOpening t (x .event) ≡ b → atOpening look empty t h ≡ look f →
+        cond b (look x) (atOpening look empty t h) ≡ look f
+    at true e k = ap look (one-opened (sounds s r) newest (older p) (opened-so (did-action isOpening t x e)) o)
+    at false e k = k
+
+-- ---- what a reply tells
+
+module _ {e : Exchange} {g h : List Exchange} (sound : AllSound h) (stands : Stands e g h) where
+  pub formed : form (e .reply) ≡ eventForm (e .event)
+  formed = ap form (reply-is sound stands) ∙ event-form (e .event) (e .request)
+
+  pub coded : returnCode (e .reply) ≡ codeField (eventCode (e .event))
+  coded = ap returnCode (reply-is sound stands) ∙ event-code (e .event) (e .request)
+
+  carries : {t : Bits128} {k : Action} → e .event ≡ Of t k → (actionForm k ≡ forms.Refusal → ⊥) → transaction (e .reply) ≡ t
+  carries {t} {k} own n =
+      ap transaction (reply-is sound stands) ∙ ap (λ (v : Event). transaction (replyTo v (e .request))) own
+      ∙ action-transaction t (e .request) k n
+
+  -- a download segment carries the transaction ID asked for
+  delivered-id : form (e .reply) ≡ forms.DownloadSegment → transaction (e .reply) ≡ transaction (e .request)
+  delivered-id z = at (is-action (e .event) forms.DownloadSegment (sym formed ∙ z) refl)
+    where
+      by : (d : IsAction (e .event) forms.DownloadSegment) → ActionOf forms.DownloadSegment (d .action) →
+          transaction (e .reply) ≡ transaction (e .request)
+      by d (inl k) =
+          let own : e .event ≡ Of (d .id) (Delivered (k .0)) = d .is ∙ ap (Of (d .id)) (k .1) in
+          carries own (λ y. let x : _≡_ {A = ℕ} 0 1 = cc in omega arith) ∙ action-sound sound stands own .carried .download .request .same
+      by d (inr k) =
+          let own : e .event ≡ Of (d .id) (SentAgain (k .0)) = d .is ∙ ap (Of (d .id)) (k .1) in
+          carries own (λ y. let x : _≡_ {A = ℕ} 0 1 = cc in omega arith) ∙ action-sound sound stands own .carried .download .request .same
+
+      at : IsAction (e .event) forms.DownloadSegment → transaction (e .reply) ≡ transaction (e .request)
+      at d = by d (d .kind)
+
+  module _ (proper : Proper e) where
+    -- the event by its code, where that is no refusal's
+    by-code : (c : ReturnCode) → refuses c ≡ false → returnCode (e .reply) ≡ codeField c →
+        (t : Bits128) × (k : Action) × (e .event ≡ Of t k)
+    by-code c n z = at (e .event) refl (proper .refuses)
+      where
+        told : (v : Event) → e .event ≡ v → isRefusing (codeField (eventCode v)) ≡ false
+        told v own = ap (λ (u : Event). isRefusing (codeField (eventCode u))) (sym own) ∙ ap isRefusing (sym coded ∙ z)
+            ∙ refusing-code c ∙ n
+
+        at : (v : Event) → e .event ≡ v → Refuses v → (t : Bits128) × (k : Action) × (e .event ≡ Of t k)
+        at Unreadable own r = never (sym (told Unreadable own))
+        at (Refusal x) own r = never (sym (told (Refusal x) own) ∙ (refusing-code x ∙ r))
+        at (Of t k) own r = (t, k, own)
+
+    other-code : {A : Type 0} (c : ReturnCode) {t : Bits128} {k : Action} → returnCode (e .reply) ≡ codeField c → e .event ≡ Of t k →
+        (codeField (eventCode (Of t k)) ≡ codeField c → ⊥) → A
+    other-code c z own n = absurd (n (ap (λ (v : Event). codeField (eventCode v)) (sym own) ∙ sym coded ∙ z))
+
+    -- 000000 to an upload transfer: a segment of the request's transaction is taken
+    pub transfer-taken : form (e .request) ≡ forms.UploadTransfer → returnCode (e .reply) ≡ codeField code.Ok →
+        ActionIn isTaking (transaction (e .request)) e
+    transfer-taken asked z = let b = by-code code.Ok refl z in at (b .0) (b .1) (b .2)
+      where
+        Out : Type 0
+        Out = ActionIn isTaking (transaction (e .request)) e
+
+        other : {x : Form} → form (e .request) ≡ x → (x ≡ forms.UploadTransfer → _≡_ {A = ℕ} 0 1) → Out
+        other f n = absurd (let y = n (sym f ∙ asked) in omega arith)
+
+        at : (t : Bits128) (k : Action) → e .event ≡ Of t k → Out
+        at t OpenedUpload own = other (action-sound sound stands own .opening .asked) (λ y. cc)
+        at t (OpenedDownload n) own = other (action-sound sound stands own .opening .asked) (λ y. cc)
+        at t Took own =
+            let s = action-sound sound stands own in
+            record { action = Took; is = own ∙ ap (λ (i : Bits128). Of i Took) (s .taking .upload .request .same); kind = refl }
+        at t TookLast own =
+            let s = action-sound sound stands own in
+            record { action = TookLast; is = own ∙ ap (λ (i : Bits128). Of i TookLast) (s .taking .upload .request .same); kind = refl }
+        at t (UploadPoint k) own = other-code code.Ok z own (λ y. omega arith)
+        at t (DownloadPoint d) own = other-code code.Ok z own (λ y. omega arith)
+        at t (Cancelled c) own =
+            other-code code.Ok z own (λ y. never (sym (ap isCancelling y)
+            ∙ (cancelling-code c ∙ action-sound sound stands own .cancelling)))
+        at t (Delivered n) own = other (action-sound sound stands own .carried .asked) (λ y. cc)
+        at t (SentAgain n) own = other (action-sound sound stands own .carried .asked) (λ y. cc)
+        at t Confirmed own = other-code code.Ok z own (λ y. omega arith)
+        at t Declined own = other-code code.Ok z own (λ y. omega arith)
+
+    -- 011000: a receipt of the request's transaction is confirmed
+    pub done-confirmed : returnCode (e .reply) ≡ codeField code.DownloadPostprocessDone →
+        (e .event ≡ Of (transaction (e .request)) Confirmed) × SoundConfirmed (transaction (e .request)) e g
+    done-confirmed z = let b = by-code code.DownloadPostprocessDone refl z in at (b .0) (b .1) (b .2)
+      where
+        Out : Type 0
+        Out = (e .event ≡ Of (transaction (e .request)) Confirmed) × SoundConfirmed (transaction (e .request)) e g
+
+        not : {t : Bits128} {k : Action} → e .event ≡ Of t k → (codeField (eventCode (Of t k)) ≡ codeField code.DownloadPostprocessDone →
+            ⊥) → Out
+        not own = other-code code.DownloadPostprocessDone z own
+
+        at : (t : Bits128) (k : Action) → e .event ≡ Of t k → Out
+        at t Confirmed own =
+            let now : e .event ≡ Of (transaction (e .request)) Confirmed =
+            own ∙ ap (λ (i : Bits128). Of i Confirmed) (action-sound sound stands own .receipt .download .request .same) in
+            (now, action-sound sound stands now)
+        at t (Cancelled c) own =
+            not own (λ y. never (sym (ap isCancelling y) ∙ (cancelling-code c ∙ action-sound sound stands own .cancelling)))
+        at t OpenedUpload own = not own (λ y. omega arith)
+        at t (OpenedDownload n) own = not own (λ y. omega arith)
+        at t Took own = not own (λ y. omega arith)
+        at t TookLast own = not own (λ y. omega arith)
+        at t (UploadPoint k) own = not own (λ y. omega arith)
+        at t (DownloadPoint d) own = not own (λ y. omega arith)
+        at t (Delivered n) own = not own (λ y. omega arith)
+        at t (SentAgain n) own = not own (λ y. omega arith)
+        at t Declined own = not own (λ y. omega arith)
+
+-- ---- the replies as a client run takes them
+
+pub sound-before : {e : Exchange} {g h : List Exchange} → AllSound h → Stands e g h → AllSound g
+sound-before (sounds s r) newest = r
+sound-before (sounds s r) (older p) = sound-before r p
+
+either-opening : (f : Action → Bool) → ((k : Action) → f k ≡ true → isOpening k ≡ true) → {t : Bits128} {e : Exchange} → ActionIn f t e →
+    Opening t e
+either-opening f up d = record { action = d .action; is = d .is; opening = up (d .action) (d .kind) }
+
+or-left : (a b : Bool) → a ≡ true → a || b ≡ true
+or-left a b h = rw h
+
+or-right : (a b : Bool) → b ≡ true → a || b ≡ true
+or-right true b h = refl
+or-right false b h = h
+
+pub upload-opening : {t : Bits128} {e : Exchange} → ActionIn isUploadOpening t e → Opening t e
+upload-opening = either-opening isUploadOpening (λ k. or-left (isUploadOpening k) (isDownloadOpening k))
+
+pub download-opening : {t : Bits128} {e : Exchange} → ActionIn isDownloadOpening t e → Opening t e
+download-opening = either-opening isDownloadOpening (λ k. or-right (isUploadOpening k) (isDownloadOpening k))
+
+-- the request with these fields and this data was given the reply with these fields and this data
+pub record Gave (h : List Exchange) (q : Fields) (d : List ℕ) (r : Fields) (e : List ℕ) : Type 0 where
+  pub exchange : Exchange
+  pub before : List Exchange
+  pub stands : Stands exchange before h
+  pub request : exchange .request ≡ q
+  pub requestData : exchange .requestData ≡ d
+  pub reply : exchange .reply ≡ r
+  pub replyData : exchange .replyData ≡ e
+
+abbrev pub fileIn : List Exchange → Bits128 → List ℕ
+fileIn h t = fileAtOpening t h
+
+module _ (h : List Exchange) (sound : AllSound h) (proper : AllProper h) where
+  opened-file : {q r : Fields} {d e : List ℕ} (a : Gave h q d r e) → form r ≡ forms.DownloadOpened →
+      fileIn h (transaction r) ≡ a .exchange .file
+  opened-file {r = r} a z =
+      let o = download-opened sound (a .stands) (ap form (a .reply) ∙ z) in
+      ap (fileIn h) (sym (ap transaction (a .reply)))
+      ∙ opening-at (λ (x : Exchange). x .file) [] sound (a .stands) (record { action = _; is = o .0; opening = refl })
+
+  pub bank-replies : BankReplies (Gave h) (fileIn h)
+  bank-replies = record {
+    echo = λ a f n.
+        ap Names.exchange (sym (a .reply))
+        ∙ reply-exchange sound (a .stands) (λ z. n (sym (ap form (a .reply)) ∙ z)) ∙ ap Names.exchange (a .request);
+    number = λ a z.
+        let o = download-opened sound (a .stands) (ap form (a .reply) ∙ z) in
+        ap segments (sym (a .reply)) ∙ o .1 .count ∙ ap (λ (f : List ℕ). segmentsOf (length f)) (sym (opened-file a z));
+    some = λ a z.
+        let o = download-opened sound (a .stands) (ap form (a .reply) ∙ z) in
+        let f = ap length (opened-file a z) in
+        omega (arith, o .1 .full);
+    most = λ a z. let f = ap length (opened-file a z) in omega (arith, proper-at proper (a .stands) .short);
+    first = λ a z.
+        let o = download-opened sound (a .stands) (ap form (a .reply) ∙ z) in
+        sym (a .replyData) ∙ o .1 .part ∙ ap (λ (f : List ℕ). segmentOf f 1) (sym (opened-file a z));
+    part = λ a z. part-of a (ap form (a .reply) ∙ z);
+  }
+    where
+      part-of : {q r : Fields} {d e : List ℕ} (a : Gave h q d r e) → form (a .exchange .reply) ≡ forms.DownloadSegment →
+          e ≡ segmentOf (fileIn h (transaction r)) (segment r)
+      part-of {r = r} {e = e} a z =
+          let x = a .exchange in
+          let s = segment-delivered sound (a .stands) z in
+          let t = transaction (x .request) in
+          let o = ever-stands isDownloadOpening t (a .before) (s .1 .download .opened) in
+          let p = download-opening (o .3) in
+          let same : fileIn (a .before) t ≡ fileIn h t =
+          opening-at (λ (y : Exchange). y .file) [] (sound-before sound (a .stands)) (o .2) p
+          ∙ sym (opening-at (λ (y : Exchange). y .file) [] sound (stands-behind (o .2) (a .stands)) p) in
+          let id : t ≡ transaction r = sym (delivered-id sound (a .stands) z) ∙ ap transaction (a .reply) in
+          let number : segment (x .request) ≡ segment r = sym (s .2) ∙ ap segment (a .reply) in
+          sym (a .replyData) ∙ s .1 .part ∙ ap (λ (f : List ℕ). segmentOf f (segment (x .request))) (same ∙ ap (fileIn h) id)
+          ∙ ap (segmentOf (fileIn h (transaction r))) number

@@ -1,0 +1,4 @@
+-- The definitions of demand 3.
+pub mod Lists
+pub mod Course
+pub mod Demand3
