@@ -15,13 +15,13 @@ use Rattle.frame.specs.Names.{subscriber, transaction, segments, segment, lastM
 use Rattle.frame.specs.Reader.{readRequest}
 use Rattle.frame.specs.Row.{dataOf}
 use Rattle.message.specs.Limits.{segmentBytes}
-use Rattle.message.specs.Segments.{lastMarkOf}
+use Rattle.message.specs.Segments.{segmentsOf, lastMarkOf}
 use Rattle.bank_state.specs.Clock.{advanced}
 use Rattle.bank_state.specs.Limits.{idleLimit}
-use Rattle.bank_state.specs.State.{World}
+use Rattle.bank_state.specs.State.{World, downloadAt}
 use Rattle.bank_step.specs.declared.downloads.DownloadVerdict.{DownloadVerdict}
 use Rattle.bank_step.specs.declared.downloads.DownloadVerdict.the-variants as down
-use Rattle.bank_step.specs.Openings.{counted, openUpload, openDownload}
+use Rattle.bank_step.specs.Openings.{fileLength, counted, openUpload, openDownload}
 use Rattle.bank.specs.Call.{Step, respond}
 use Rattle.bank_history.specs.History.{
   Took,
@@ -43,6 +43,7 @@ use Rattle.bank_history.specs.History.{
   after,
   accepted,
   openedBy,
+  fileAtOpening,
   Stands,
   segmentsNow,
 }
@@ -61,7 +62,7 @@ use Rattle.bank_history.proofs.Cases.{
   happens,
 }
 use Rattle.bank_history.proofs.Clock.{advanced-keeps, advanced-clock}
-use Rattle.bank_history.proofs.Downloads.{download-open}
+use Rattle.bank_history.proofs.Downloads.{file-long, download-open}
 use Rattle.bank_history.proofs.Keeps.{after-holds}
 use Rattle.bank_history.proofs.Positions.{sound-at, foreign-request}
 use Rattle.bank_history.proofs.Changes.{after-frame, after-file}
@@ -149,6 +150,13 @@ module _ (time : ℕ) (ids frame : List ℕ) (p : Past) (holds : Holds p) where
     there = uploads.advanced-open t s k n last time (p .world) (holds .invariant .sizes) before
         (let c = advanced-clock time (p .world) in omega arith)
 
+    pub upload-current : last ≤ max (p .world .bank .clock) time
+    upload-current =
+        let u = there in
+        let a = own.upload-is-open judged (p .history) judged-holds t s k n last u .current in
+        let b = u .fitting in
+        let c = advanced-clock time (p .world) in omega arith
+
     pub upload-takes : newest .event ≡ Of t (cond (eqb (k + 1) n) TookLast Took)
     unfolding exchangeOf
     upload-takes = own.own-event (number ids) judged (p .history) judged-holds t s k n last there (readRequest frame) (dataOf frame)
@@ -173,6 +181,24 @@ module _ (time : ℕ) (ids frame : List ℕ) (p : Past) (holds : Holds p) where
     there-download : DownloadAt judged t s d last
     there-download = downloads.advanced-open t s d last time (p .world) (holds .invariant .sizes .downloads) before
         (let c = advanced-clock time (p .world) in omega arith)
+
+    pub download-current : last ≤ max (p .world .bank .clock) time
+    download-current =
+        let u = there-download in
+        let a = download-open judged (p .history) judged-holds (u .row) (u .used) .current in
+        let b = u .fitting in
+        let c = advanced-clock time (p .world) in omega arith
+
+    -- N is still that of the file at its opening
+    pub download-segments : segmentsNow judged (readRequest frame) ≡ segmentsOf (length (fileAtOpening t (p .history)))
+    download-segments =
+        let u = there-download in
+        let o = download-open judged (p .history) judged-holds (u .row) (u .used) in
+        let own : subscriber (readRequest frame) ≡ downloadAt (judged .bank) (u .row) .subscriber = from ∙ sym (u .subscriber) in
+        ap (λ (m : ℕ). segmentsOf (fileLength m (judged .bank))) own
+        ∙ ap segmentsOf (sym (file-long judged (p .history) judged-holds _ (o .known) (o .most)))
+        ∙ ap (λ (f : List ℕ). segmentsOf (length f)) (sym (o .unchanged))
+        ∙ ap (λ (i : Bits128). segmentsOf (length (fileAtOpening i (p .history)))) (u .transaction)
 
     -- its next segment
     module _ (asked : form (readRequest frame) ≡ forms.DownloadTransfer) (next : segment (readRequest frame) ≡ suc d)

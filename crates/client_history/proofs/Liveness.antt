@@ -11,14 +11,14 @@ use Rattle.frame.specs.declared.fields.Fields.{Fields}
 use Rattle.frame.specs.declared.table.Form.the-variants as forms
 use Rattle.frame.specs.declared.writer.Written.{Written}
 use Rattle.frame.specs.declared.writer.Written.the-variants as written
-use Rattle.frame.specs.Names.{exchange, segments, transaction, segment, lastMark, orderNumber}
+use Rattle.frame.specs.Names.{returnCode, exchange, segments, transaction, segment, lastMark, orderNumber}
 use Rattle.frame.specs.Reader.{readReply}
 use Rattle.frame.specs.Row.{dataOf}
 use Rattle.message.specs.declared.codes.ReturnCode.the-variants as code
-use Rattle.message.specs.Limits.{segmentsMost, fileBytes}
+use Rattle.message.specs.Codes.{codeField}
+use Rattle.message.specs.Limits.{segmentsMost, fileBytes, initialisation}
 use Rattle.message.specs.Replies.{uploadOpened, downloadOpened, segmentTaken, downloadSegment, receiptAnswered}
 use Rattle.message.specs.Segments.{segmentsOf, segmentOf, lastMarkOf}
-use Rattle.client.specs.declared.run.Answer.the-variants as answer
 use Rattle.client.specs.declared.run.Client.{Client}
 use Rattle.client.specs.declared.run.Deed.{Deed}
 use Rattle.client.specs.declared.run.Deed.the-variants.{Ignore, Opened, Advance, Close}
@@ -29,6 +29,7 @@ use Rattle.client.specs.declared.run.Refusal.the-variants.{WrongBuffer, Exchang
 use Rattle.client.specs.declared.run.Ruling.{Ruling}
 use Rattle.client.specs.declared.run.Ruling.the-variants.{Refuse, Accept}
 use Rattle.client.specs.declared.run.Stage.the-variants as stage
+use Rattle.client.specs.declared.run.Step.{Step}
 use Rattle.client.specs.declared.run.Step.the-variants as step
 use Rattle.client.specs.declared.run.Word.{Word}
 use Rattle.client.specs.declared.run.Word.the-variants.{Lodged, Fetched}
@@ -54,15 +55,23 @@ use Rattle.client.specs.Decisions.{
   bringsSegment,
   confirms,
   isAnswer,
+  says,
+  restWord,
+  onUpload,
+  onDownload,
+  onAnswer,
   onReply,
 }
 use Rattle.client.specs.NextRun.{begun, stepBehind, goOn, learned, holding, fileWith, ended}
-use Rattle.client.specs.Rulings.{beginRuling, runRuling}
+use Rattle.client.specs.Rulings.{isBegun, beginRuling, runRuling}
 use Rattle.client.specs.Run.{Lent, ClientCall, lengthsOf, refusalNumber, answerNumber, callOf}
 use Rattle.client_history.specs.History.{Begin, Reply, Past, issuing, left, after, Kept}
 use Rattle.client_history.specs.InTurn.{InTurn}
 use Rattle.client_history.proofs.Files.{some-segments, most-segments}
+use Rattle.client.proofs.Accepted as rulings
+use Rattle.client.proofs.Causes.{by-test}
 use Rattle.client_history.proofs.NextRuns.{held-same}
+use Rattle.client_history.proofs.Replies.{said, opened-says}
 use Rattle.client_history.proofs.Fitting.{
   and-intro,
   and-false,
@@ -94,7 +103,7 @@ use Rattle.client_history.proofs.Fitting.{
 
 -- ---- a call given no number
 
-numbered : {A : Type 0} (x : Refusal) → refusalNumber x ≡ 0 → A
+pub numbered : {A : Type 0} (x : Refusal) → refusalNumber x ≡ 0 → A
 numbered WrongBuffer h = absurd (omega arith)
 numbered ExchangeTooHigh h = absurd (omega arith)
 numbered NoSubscriber h = absurd (omega arith)
@@ -136,7 +145,7 @@ next k d = goOn (k .segment) (k .repeats) (holding (length d) k)
 
 next-in-turn : (k : Client) (way : Direction) (j : ℕ) (d payload file : List ℕ) (l : Lent) (p : Past) → k .stage ≡ stage.Running
     → k .direction ≡ way → k .segment ≡ j → k .repeats ≡ 0
-    → InTurn (issuing (next k d) payload file (l .time) (l .nonce) (p .issues)) way (stepBehind way j (k .segments)) (j + 1)
+    → InTurn (issuing (next k d) payload file (l .time) (l .nonce) (p .issues)) way (stepBehind way j (k .segments)) (j + 1) (k .exchange + 1)
 unfolding next goOn
 next-in-turn k way j d payload file l p running w e z =
     let s = held-same d [] k in
@@ -149,6 +158,7 @@ next-in-turn k way j d payload file l p running w e z =
           ∙ ap (stepBehind way j) (s .1 .segments);
       segment = ap (λ (x : ℕ). x + 1) e;
       repeats = z;
+      number = ap (λ (x : ℕ). x + 1) (s .0 .exchange);
     }
 
 next-known : (k : Client) (d : List ℕ)
@@ -195,21 +205,25 @@ module _ (p : Past) (frame : List ℕ) (l : Lent) (done : answerNumber (replyCal
   -- ---- UPLOAD
 
   -- the opening's answer leads to segment 1, under the transaction and the order number that it brings
-  pub upload-opens : (j n : ℕ) (t : Bits128) → InTurn p Upload step.Opening j → r ≡ uploadOpened (c .exchange) t n
-      → InTurn then Upload step.Segment 1 × (then .run .transaction ≡ t) × (then .run .number ≡ n)
-  upload-opens j n t i e =
+  pub upload-opens : (j x n : ℕ) (t : Bits128) → InTurn p Upload step.Opening j x → r ≡ uploadOpened (c .exchange) t n
+      → InTurn then Upload step.Segment 1 (c .exchange + 1) × (then .run .transaction ≡ t) × (then .run .number ≡ n)
+      × (then .run .segments ≡ c .segments)
+  upload-opens j x n t i e =
       let f = subst (Fits _ _ _ _) (sym e) (opened-fits (c .exchange) n 0 0 t) in
       let a = fits-answer c r f refl (λ z. omega arith) in
       let k = learned Upload r c in
       let g = next-known k d in
-      by-opened (λ (q : Past). InTurn q Upload step.Segment 1 × (q .run .transaction ≡ t) × (q .run .number ≡ n)) Upload (i .direction)
+      by-opened
+      (λ (q : Past). InTurn q Upload step.Segment 1 (c .exchange + 1) × (q .run .transaction ≡ t) × (q .run .number ≡ n)
+      × (q .run .segments ≡ c .segments)) Upload (i .direction)
       (upload-deed c r (length d) a (i .direction) step.Opening (i .step) ∙ to-opened c r (length d) (fits-says c r f)) (
         next-in-turn k Upload 0 d _ _ l p (i .running) (i .direction) refl (i .repeats),
         g .0 ∙ ap transaction e ∙ opened-fields (c .exchange) n 0 0 t .0,
         g .1 ∙ ap orderNumber e ∙ opened-fields (c .exchange) n 0 0 t .1,
+        g .2,
       )
 
-  module _ (j : ℕ) (i : InTurn p Upload step.Segment j) (e : r ≡ segmentTaken (c .exchange) (c .transaction) j) where
+  module _ (j x : ℕ) (i : InTurn p Upload step.Segment j x) (e : r ≡ segmentTaken (c .exchange) (c .transaction) j) where
     taken-answer : isAnswer c r ≡ true
     taken-answer =
         fits-answer c r (subst (Fits _ _ _ _) (sym e) (taken-fits (c .exchange) 0 j 0 (c .transaction))) refl (λ z. omega arith)
@@ -221,11 +235,11 @@ module _ (p : Past) (frame : List ℕ) (l : Lent) (done : answerNumber (replyCal
         (ap segment e ∙ taken-fields (c .exchange) 0 j 0 (c .transaction) .1 ∙ sym (i .segment))
 
     -- segment j < N taken leads to segment j + 1
-    pub upload-advances : j < c .segments → InTurn then Upload step.Segment (j + 1)
+    pub upload-advances : j < c .segments → InTurn then Upload step.Segment (j + 1) (c .exchange + 1)
     unfolding lodges takesSegment
     upload-advances h =
         let s = i .segment in
-        by-advanced (λ (q : Past). InTurn q Upload step.Segment (j + 1))
+        by-advanced (λ (q : Past). InTurn q Upload step.Segment (j + 1) (c .exchange + 1))
         (upload-deed c r (length d) taken-answer (i .direction) step.Segment (i .step)
         ∙ to-next c r (length d)
         (and-false (answersSegment forms.SegmentTaken c r) _ (ne-eqb (c .segment) (c .segments) (λ z. omega arith)))
@@ -243,12 +257,12 @@ module _ (p : Past) (frame : List ℕ) (l : Lent) (done : answerNumber (replyCal
   -- ---- DOWNLOAD
 
   -- the opening's answer, with segment 1 of the file f, leads to segment 2 or to the receipt
-  pub download-opens : (j n : ℕ) (t : Bits128) (f : List ℕ) → InTurn p Download step.Opening j
+  pub download-opens : (j x n : ℕ) (t : Bits128) (f : List ℕ) → InTurn p Download step.Opening j x
       → r ≡ downloadOpened (c .exchange) n t (lastMarkOf 1 n) → n ≡ segmentsOf (length f) → 0 < length f → length f ≤ fileBytes
       → d ≡ segmentOf f 1
-      → InTurn then Download (stepBehind Download 1 n) 2 × (then .run .transaction ≡ t) × (then .run .segments ≡ n)
+      → InTurn then Download (stepBehind Download 1 n) 2 (c .exchange + 1) × (then .run .transaction ≡ t) × (then .run .segments ≡ n)
   unfolding opensDownload
-  download-opens j n t f i e m least most g =
+  download-opens j number n t f i e m least most g =
       let x = subst (Fits _ _ _ _) (sym e) (download-fits (c .exchange) n 0 (lastMarkOf 1 n) t) in
       let y = download-fields (c .exchange) n 0 (lastMarkOf 1 n) t in
       let a = fits-answer c r x refl (λ z. omega arith) in
@@ -263,23 +277,23 @@ module _ (p : Past) (frame : List ℕ) (l : Lent) (done : answerNumber (replyCal
       let k = learned Download r c in
       let h = next-known k d in
       by-opened
-      (λ (q : Past). InTurn q Download (stepBehind Download 1 n) 2 × (q .run .transaction ≡ t) × (q .run .segments ≡ n))
+      (λ (q : Past). InTurn q Download (stepBehind Download 1 n) 2 (c .exchange + 1) × (q .run .transaction ≡ t) × (q .run .segments ≡ n))
       Download (i .direction)
       (download-deed c r (length d) a (i .direction) step.Opening (i .step) ∙ to-download c r (length d) fits) (
         subst (λ (u : ℕ). InTurn (issuing (next k d) (l .payload) (fileWith k d (l .file)) (l .time) (l .nonce) (p .issues)) Download
-            (stepBehind Download 1 u) 2)
+            (stepBehind Download 1 u) 2 (c .exchange + 1))
             sn (next-in-turn k Download 1 d _ _ l p (i .running) (i .direction) refl (i .repeats)),
         h .0 ∙ ap transaction e ∙ y .0,
         h .2 ∙ sn,
       )
 
   -- segment j of the file f leads to segment j + 1 or to the receipt
-  pub download-advances : (j : ℕ) (f : List ℕ) → InTurn p Download step.Segment j → 1 ≤ j → j ≤ c .segments
+  pub download-advances : (j x : ℕ) (f : List ℕ) → InTurn p Download step.Segment j x → 1 ≤ j → j ≤ c .segments
       → r ≡ downloadSegment (c .exchange) (c .transaction) j (lastMarkOf j (c .segments)) → c .segments ≡ segmentsOf (length f)
       → length f ≤ fileBytes
-      → d ≡ segmentOf f j → InTurn then Download (stepBehind Download j (c .segments)) (j + 1)
+      → d ≡ segmentOf f j → InTurn then Download (stepBehind Download j (c .segments)) (j + 1) (c .exchange + 1)
   unfolding bringsSegment
-  download-advances j f i least within e m most g =
+  download-advances j number f i least within e m most g =
       let mark = lastMarkOf j (c .segments) in
       let x = subst (Fits _ _ _ _) (sym e) (segment-fits (c .exchange) 0 j mark (c .transaction)) in
       let y = segment-fields (c .exchange) 0 j mark (c .transaction) in
@@ -289,16 +303,16 @@ module _ (p : Past) (frame : List ℕ) (l : Lent) (done : answerNumber (replyCal
       let fits =
       and-intro (answers-true _ c r x (ap transaction e ∙ y .0) (ap segment e ∙ y .1 ∙ s))
       (subst (λ (z : ℕ). fitsSegment z (c .segments) (length d) r ≡ true) s whole) in
-      by-advanced (λ (q : Past). InTurn q Download (stepBehind Download j (c .segments)) (j + 1))
+      by-advanced (λ (q : Past). InTurn q Download (stepBehind Download j (c .segments)) (j + 1) (c .exchange + 1))
       (download-deed c r (length d) (fits-answer c r x refl (λ z. omega arith)) (i .direction) step.Segment (i .step)
       ∙ to-brought c r (length d) fits)
       (next-in-turn c Download j d _ _ l p (i .running) (i .direction) (i .segment) (i .repeats))
 
   -- the receipt's answer: fetched
-  pub download-fetches : (j : ℕ) → InTurn p Download step.Receipt j
+  pub download-fetches : (j x : ℕ) → InTurn p Download step.Receipt j x
       → r ≡ receiptAnswered (c .exchange) (c .transaction) code.DownloadPostprocessDone → then .run .stage ≡ stage.Ended Fetched
   unfolding confirms
-  download-fetches j i e =
+  download-fetches j number i e =
       let x = subst (Fits _ _ _ _) (sym e) (receipt-fits (c .exchange) 0 0 0 (c .transaction)) in
       by-closed Fetched
       (download-deed c r (length d) (fits-answer c r x refl (λ z. omega arith)) (i .direction) step.Receipt (i .step)
@@ -314,20 +328,60 @@ module _ (p : Past) (frame : List ℕ) (l : Lent) (done : answerNumber (replyCal
       by-deed (λ (q : Past). q ≡ p) p frame l Ignore (rw h)
       (λ z. let y = k .payload in let f = k .file in λ i. record { run = c; payload = y i; file = f i; issues = p .issues }) done
 
+-- ---- AN OPENING REFUSED
+
+-- a reply to the opening with another code than 000000 is ignored or ends the run
+at-opening : (P : Deed → Type 0) (c : Client) (r : Fields) (n : ℕ) → c .step ≡ step.Opening → (returnCode r ≡ codeField code.Ok → ⊥)
+    → P Ignore → P (Close (restWord c)) → P (onReply c r n)
+unfolding onReply onUpload onDownload
+at-opening P c r n at other ignored closed = by-test P (isAnswer c r) (λ _. by (c .direction)) (λ _. ignored)
+  where
+    by : (w : Direction) → P (onAnswer w c r n)
+    by Upload = subst (λ (s : Step). P (onUpload s c r)) (sym at)
+        (by-test P (says forms.UploadOpened code.Ok initialisation r) (λ h. absurd (other (said _ _ _ r h .code-is))) (λ _. closed))
+    by Download = subst (λ (s : Step). P (onDownload s c r n)) (sym at)
+        (by-test P (opensDownload n r) (λ h. absurd (other (opened-says n r h .code-is))) (λ _. closed))
+
+-- so it issues nothing
+pub opening-refused : (p : Past) (frame : List ℕ) (l : Lent) → answerNumber (replyCall (p .run) frame l .answer) ≡ 0
+    → isBegun (p .run .stage) ≡ true → p .run .step ≡ step.Opening → (returnCode (readReply frame) ≡ codeField code.Ok → ⊥)
+    → let q = after (Reply frame l) p in
+    (q .issues ≡ p .issues) × (q .run .step ≡ step.Opening) × (q .run .exchange ≡ p .run .exchange) × (isBegun (q .run .stage) ≡ true)
+unfolding ended
+opening-refused p frame l done b at other =
+    at-opening (λ (x : Deed). onReply (p .run) (readReply frame) (length (dataOf frame)) ≡ x → Goal (after (Reply frame l) p)) (p .run)
+    (readReply frame) (length (dataOf frame)) at other (λ e. by-deed Goal p frame l Ignore e (λ h. (refl, at, refl, b)) done)
+    (λ e. by-deed Goal p frame l (Close (restWord (p .run))) e (λ h. (refl, at, refl, refl)) done) refl
+  where
+    Goal : Past → Type 0
+    Goal q = (q .issues ≡ p .issues) × (q .run .step ≡ step.Opening) × (q .run .exchange ≡ p .run .exchange)
+        × (isBegun (q .run .stage) ≡ true)
+
 -- ---- THE BEGIN
 
 -- a begin leaves the opening outstanding under the first exchange number
 pub begins : (p : Past) (way : Direction) (s first : ℕ) (l : Lent) → answerNumber (beginCall (p .run) way s first l .answer) ≡ 0
     → let q = after (Begin way s first l) p in
-    InTurn q way step.Opening 0 × (q .run .subscriber ≡ s) × (q .run .exchange ≡ first) × (q .payload ≡ l .payload)
+    InTurn q way step.Opening 0 first × (q .run .subscriber ≡ s) × (q .payload ≡ l .payload)
 unfolding after beginCall begun
 begins p way s first l = go (beginRuling (p .run) way s first (lengthsOf l))
   where
     Goal : Past → Type 0
-    Goal q = InTurn q way step.Opening 0 × (q .run .subscriber ≡ s) × (q .run .exchange ≡ first) × (q .payload ≡ l .payload)
+    Goal q = InTurn q way step.Opening 0 first × (q .run .subscriber ≡ s) × (q .payload ≡ l .payload)
 
     go : (u : Ruling) → let k = beginBy u (p .run) way s first l in answerNumber (k .answer) ≡ 0 → Goal (left (k .answer) k l p)
     go (Refuse x) = numbered x
     go Accept =
         by-issued Goal (p .run) _ (l .file) l p
-        (record { running = refl; direction = refl; step = refl; segment = refl; repeats = refl }, refl, refl, refl)
+        (record { running = refl; direction = refl; step = refl; segment = refl; repeats = refl; number = refl }, refl, refl)
+
+-- a run already begun is not begun again
+pub begin-fresh : (c : Client) (way : Direction) (s first : ℕ) (l : Lent) → answerNumber (beginCall c way s first l .answer) ≡ 0
+    → isBegun (c .stage) ≡ false
+unfolding beginCall
+begin-fresh c way s first l = go (beginRuling c way s first (lengthsOf l)) refl
+  where
+    go : (u : Ruling) → beginRuling c way s first (lengthsOf l) ≡ u → answerNumber (beginBy u c way s first l .answer) ≡ 0
+        → isBegun (c .stage) ≡ false
+    go (Refuse x) e h = numbered x h
+    go Accept e h = rulings.begins c way s first (lengthsOf l) e .fresh

@@ -75,6 +75,8 @@ pub use Rattle.client_history.proofs.Liveness.{
   download-advances,
   download-fetches,
   ignored-stays,
+  opening-refused,
+  begin-fresh,
 }
 use Rattle.client_history.proofs.NextRuns.{not-both}
 use Rattle.client_history.proofs.Requests.{

@@ -349,6 +349,7 @@ pub record Entered (s : Course) (b : BankPart s) (time : ℕ) (ids frame buffer 
   pub next : history.after (Frame time ids frame buffer) (b .past) ≡ answered time ids frame (b .past)
   pub bank : t .bank ≡ answered time ids frame (b .past) .world
   pub sound : AllSound (exchangeOf (number ids) (advanced time (b .past .world)) (readRequest frame) (dataOf frame) ∷ b .past .history)
+  pub proper : Proper (exchangeOf (number ids) (advanced time (b .past .world)) (readRequest frame) (dataOf frame))
 
 entered-by : (s : Course) (b : BankPart s) (time : ℕ) (ids frame buffer : List ℕ) (n : ℕ)
     (h : frameCall (b .past .world) time ids frame buffer .answer ≡ frameAnswer.Reply n) →
@@ -371,6 +372,7 @@ entered-by s b time ids frame buffer n h = record {
   next = next-is s b time ids frame buffer n h;
   bank = told s b time ids frame buffer n h .world;
   sound = next-sound s b time ids frame buffer n h;
+  proper = next-proper s b time ids frame buffer n h;
 }
 
 -- ---- a file put

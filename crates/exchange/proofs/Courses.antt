@@ -73,7 +73,7 @@ reply-called s v i reply k payload = go (k .answer)
     go (answer.Refused r) f = v
 
 -- a copy of a request of run i that the bank answered: its reply was given to it
-given-to : (s : Course) (v : Parts s) (i : ℕ) (reply : List ℕ) →
+pub given-to : (s : Course) (v : Parts s) (i : ℕ) (reply : List ℕ) →
     (e : Exchange) × In e (s .exchanged) × (e .reply ≡ reply) × IssuedBy i (e .request) s →
     GivenTo (Gave (v .bank .past .history)) reply (runPast s i)
 given-to s v i reply (e, m, z, (x, n, r, c)) =
@@ -280,6 +280,10 @@ copied-call k s c q e m z = go (call-exchanges k s q) m
         let o = f (subst (λ (g : Exchange). isSubscribers (g .request) ≡ true) y z) in
         (o .0, issued-more k s (subst (λ (g : Exchange). IssuedBy (o .0) (g .request) s) (sym y) (o .1)))
     go (enters f) (there n) = copied-later k s c e n z
+
+pub copied-start : Copied start
+unfolding start
+copied-start e m z = absurd (in-none m)
 
 pub copied : (ks : List Call) (s : Course) → Copied s → AllAllowed ks s → Copied (after ks s)
 unfolding after

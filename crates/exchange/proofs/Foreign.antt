@@ -102,7 +102,7 @@ pub data Under (q : Fields) : Type 0 where
   asking : form q ≡ forms.DownloadTransfer → Under q
   confirming : form q ≡ forms.Receipt → Under q
 
-under-not : {A : Type 0} {q : Fields} → Under q → (form q ≡ forms.UploadOpening) ⊎ (form q ≡ forms.DownloadOpening) → A
+pub under-not : {A : Type 0} {q : Fields} → Under q → (form q ≡ forms.UploadOpening) ⊎ (form q ≡ forms.DownloadOpening) → A
 under-not (sending e) (inl z) = absurd (let y : _≡_ {A = ℕ} 0 1 = cc in omega arith)
 under-not (sending e) (inr z) = absurd (let y : _≡_ {A = ℕ} 0 1 = cc in omega arith)
 under-not (asking e) (inl z) = absurd (let y : _≡_ {A = ℕ} 0 1 = cc in omega arith)
@@ -279,7 +279,7 @@ module _ (s : Course) (v : Parts s) (copies : Copied s) (numbers : OneExchangeNu
     abbrev x : bank.Exchange
     x = exchangeOf (number ids) (advanced time (v .bank .past .world)) (readRequest frame) (dataOf frame)
 
-    case-of : {t : Bits128} {k : Action} → exchangeOf (number ids) (advanced time (v .bank .past .world)) (readRequest frame)
+    pub case-of : {t : Bits128} {k : Action} → exchangeOf (number ids) (advanced time (v .bank .past .world)) (readRequest frame)
         (dataOf frame) .event ≡ Of t k →
         isOpening k ≡ false → Under (readRequest frame)
     unfolding exchangeOf

@@ -1,7 +1,7 @@
 -- Bank and runs together: each transaction has one run, and what the bank took for it is that run's payload. Assumes nothing.
 use Prim.Native.Nat.{ℕ, _*_, _≤_}
 use mathlib.Core.Bool.{true}
-use mathlib.Core.List.{List, [], List·Memᴰ as In, List·Memᴰ·not-nil as in-none}
+use mathlib.Core.List.{List, List·Memᴰ as In, List·Memᴰ·not-nil as in-none}
 use mathlib.Core.Path.{_≡_, refl, sym, ap, _∙_, subst}
 use native.Mathlib.Omega.{arith}
 use lib.ListN.{length, take}

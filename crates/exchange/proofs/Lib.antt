@@ -1,4 +1,4 @@
--- The proof of demand 3.
+-- The proof of demand 3: both ends' parts of a course, the outcome of every list, an order in turn, the theorem, examples.
 pub mod Bytes
 pub mod Events
 pub mod Told
@@ -13,5 +13,11 @@ pub mod Safety
 pub mod Foreign
 pub mod Standing
 pub mod Came
-pub mod Examples
+pub mod Concerns
 pub mod Outstanding
+pub mod OrderStates
+pub mod OwnRequests
+pub mod OwnReplies
+pub mod Turn
+pub mod Theorem
+pub mod Examples

@@ -64,6 +64,22 @@ own-step : (s : Course) (i : ℕ) (e : Event) → ((n : ℕ) → callOf e (s .ru
 unfolding history.after
 own-step s i e issues = own-past s i (callOf e (s .runs i)) (lentTo e) issues (callOf e (s .runs i) .answer) refl
 
+-- and after its begin, or a reply to it
+pub begin-past : (s : Course) (i : ℕ) (c : Client) (way : Direction) (subscriber first : ℕ) (l : Lent) → c ≡ s .runs i →
+    runPast (exec (begins i c way subscriber first l) s) i ≡ history.after (Begin way subscriber first l) (runPast s i)
+unfolding exec
+begin-past s i c way subscriber first l z =
+    ap (λ (x : Client). let k = beginCall x way subscriber first l in runPast (afterRun (k .answer) i k (l .payload) s) i) z
+    ∙ own-step s i (Begin way subscriber first l) (begin-issues (s .runs i) l way subscriber first)
+
+pub reply-past : (s : Course) (i : ℕ) (c : Client) (reply : List ℕ) (l : Lent) → c ≡ s .runs i →
+    runPast (exec (replyArrives i c reply l) s) i ≡ history.after (Reply reply l) (runPast s i)
+unfolding exec
+reply-past s i c reply l z =
+    reached-past (let k = replyCall c reply l in afterRun (k .answer) i k (l .payload) s) i i reply (replyCall c reply l .answer)
+    ∙ ap (λ (x : Client). let k = replyCall x reply l in runPast (afterRun (k .answer) i k (l .payload) s) i) z
+    ∙ own-step s i (Reply reply l) (reply-issues (s .runs i) l reply)
+
 -- a call given a number
 refused-past : (s : Course) (i : ℕ) (k : ClientCall) (payload : List ℕ) (a : Answer) → k .answer ≡ a → (r : Refusal) →
     a ≡ answer.Refused r →
@@ -88,8 +104,7 @@ run-step (begins j c way subscriber first l) s q i = at (ℕ-discrete i j)
         subst (λ (n : ℕ). (answerNumber (k c .answer) ≡ 0 → c ≡ s .runs n) →
         RunStep s i (begins n c way subscriber first l) (now n c)) z (λ a.
         by-number (RunStep s i (begins i c way subscriber first l) (now i c)) (k c .answer)
-        (λ e. begun (a e) e (ap (now i) (a e) ∙ own-step s i (Begin way subscriber first l)
-        (begin-issues (s .runs i) l way subscriber first)))
+        (λ e. begun (a e) e (begin-past s i c way subscriber first l (a e)))
         (λ r e. rests (refused-past s i (k c) (l .payload) (k c .answer) refl r e))) q
 run-step (replyArrives j c reply l) s q i = at (ℕ-discrete i j)
   where
@@ -111,7 +126,7 @@ run-step (replyArrives j c reply l) s q i = at (ℕ-discrete i j)
         (afterRun (k c .answer) n (k c) (l .payload) s)) i)) z (λ a.
         by-number (RunStep s i (replyArrives i c reply l) (runPast
         (reached (k c .answer) i reply (afterRun (k c .answer) i (k c) (l .payload) s)) i)) (k c .answer)
-        (λ e. replied (a e) e (gone i c ∙ ap (now i) (a e) ∙ own-step s i (Reply reply l) (reply-issues (s .runs i) l reply)))
+        (λ e. replied (a e) e (reply-past s i c reply l (a e)))
         (λ r e. rests (gone i c ∙ refused-past s i (k c) (l .payload) (k c .answer) refl r e))) (λ e. q e .0 .0)
 run-step (noReply j c l) s q i = at (ℕ-discrete i j)
   where

@@ -1,12 +1,12 @@
 -- Demand 3 but for the order in turn: the outcome of every list of calls, and "not lodged" over every continuation. Assumes nothing.
 use Prim.Native.Nat.{ℕ}
-use mathlib.Core.List.{List, [], _∷_, _++_, List·Memᴰ·not-nil as in-none}
+use mathlib.Core.List.{List, [], _∷_, _++_}
 use mathlib.Core.Path.{_≡_, refl, ap, _∙_, subst}
 use Rattle.client.specs.declared.run.Stage.the-variants as stage
 use Rattle.client.specs.declared.run.Word.the-variants.{NotLodged}
 use Rattle.exchange.specs.Course.{Call, Course, start, exec, after}
 use Rattle.exchange.specs.Demand3.{AllAllowed, OneExchangeNumber, Booked, Outcome}
-use Rattle.exchange.proofs.Courses.{parts, parts-start, Copied, copied, numbers-before}
+use Rattle.exchange.proofs.Courses.{parts, parts-start, copied, copied-start, numbers-before}
 use Rattle.exchange.proofs.Outcome.{outcome}
 use Rattle.exchange.proofs.Runs.{stays-ended}
 
@@ -25,10 +25,6 @@ pub allowed-rest : (ks ls : List Call) (s : Course) → AllAllowed (ks ++ ls) s 
 unfolding after
 allowed-rest [] ls s a = a
 allowed-rest (k ∷ ks) ls s a = allowed-rest ks ls (exec k s) (a .1)
-
-pub copied-start : Copied start
-unfolding start
-copied-start e m z = absurd (in-none m)
 
 -- ---- every list
 

@@ -178,7 +178,7 @@ module _ {e : Exchange} {g h : List Exchange} (sound : AllSound h) (stands : Sta
 
   module _ (proper : Proper e) where
     -- the event by its code, where that is no refusal's
-    by-code : (c : ReturnCode) → refuses c ≡ false → returnCode (e .reply) ≡ codeField c →
+    pub by-code : (c : ReturnCode) → refuses c ≡ false → returnCode (e .reply) ≡ codeField c →
         (t : Bits128) × (k : Action) × (e .event ≡ Of t k)
     by-code c n z = at (e .event) refl (proper .refuses)
       where

@@ -1,0 +1,257 @@
+-- Where an order in turn stands, and that it stays there while calls do not concern its run. Assumes nothing.
+use Prim.Native.Nat.{ℕ, suc, _+_, _<_, _≤_}
+use mathlib.Core.Bool.{true}
+use mathlib.Core.List.{List, List·Memᴰ as In}
+use mathlib.Core.Logic.{_⊎_}
+use mathlib.Core.Path.{_≡_, refl, sym, ap, _∙_}
+use Rattle.frame.specs.declared.fields.Bits128.{Bits128}
+use Rattle.frame.specs.declared.fields.Fields.{Fields}
+use Rattle.frame.specs.declared.table.Form.{Form}
+use Rattle.frame.specs.declared.table.Form.the-variants as forms
+use Rattle.frame.specs.Names.{exchange, transaction, returnCode, form, segments}
+use Rattle.frame.specs.Reader.{readRequest, readReply}
+use Rattle.message.specs.declared.codes.ReturnCode.the-variants as code
+use Rattle.message.specs.Codes.{codeField}
+use Rattle.message.specs.Replies.{uploadOpened, downloadOpened, segmentTaken, downloadSegment, receiptAnswered}
+use Rattle.message.specs.Segments.{lastMarkOf}
+use Rattle.bank_state.specs.Search.{openCountOf}
+use Rattle.bank_history.specs.History.{Of, OpenedUpload, OpenedDownload}
+use Rattle.bank_history.proofs.Theorems.{upload-opened, download-opened}
+use Rattle.client.specs.declared.run.Client.{Client}
+use Rattle.client.specs.declared.run.Direction.{Direction}
+use Rattle.client.specs.declared.run.Direction.the-variants.{Upload, Download}
+use Rattle.client.specs.declared.run.Stage.the-variants as stage
+use Rattle.client.specs.declared.run.Step.{Step}
+use Rattle.client.specs.declared.run.Step.the-variants as step
+use Rattle.client.specs.declared.run.Word.the-variants.{Lodged, Fetched}
+use Rattle.client.specs.Rulings.{isBegun}
+use Rattle.client_history.specs.History.{Past}
+use Rattle.client_history.specs.InTurn.{InTurn}
+use Rattle.exchange.specs.Course.{Issue, Exchange, Arrival, Course}
+use Rattle.exchange.specs.Demand3.{Came, Accepted}
+use Rattle.exchange.proofs.Told.{Opening}
+use Rattle.exchange.proofs.Bank.{Found, found}
+use Rattle.exchange.proofs.Clients.{asIssue, issuesOf, issued-in, OpenedBy, Parts}
+use Rattle.exchange.proofs.Courses.{numberOf}
+use Rattle.exchange.proofs.Came.{Same}
+use Rattle.exchange.proofs.Concerns.{Untouched}
+use Rattle.exchange.proofs.Standing.{Standing}
+
+-- ---- THE MESSAGES
+
+-- the run's requests under numbers below top have come to the bank, and no others;
+-- the replies to those below now have arrived, and no others
+pub record Messages (s : Course) (i top now : ℕ) : Type 0 where
+  pub came : (e : Exchange) → Came i e s → exchange (readRequest (e .request)) < top
+  pub all : (x : Issue) → In x (s .issued) → x .run ≡ i → numberOf x < top → (e : Exchange) × In e (s .exchanged) × (e .request ≡ x .frame)
+  pub arrived : (a : Arrival) → In a (s .arrived) → a .run ≡ i → exchange (readReply (a .reply)) < now
+  pub replied : (e : Exchange) → Came i e s → exchange (readRequest (e .request)) < now →
+      (a : Arrival) × In a (s .arrived) × (a .run ≡ i) × (a .reply ≡ e .reply)
+
+-- ---- THE TRANSACTION
+
+-- the reply form that opens a transaction
+abbrev pub openedForm : Direction → Form
+openedForm Upload = forms.UploadOpened
+openedForm Download = forms.DownloadOpened
+
+-- the transaction t of subscriber u is open at the bank, k of n segments taken or k delivered; the order's last request came at last
+pub record Open (way : Direction) (s : Course) (i u : ℕ) (t : Bits128) (n k : ℕ) : Type 0 where
+  pub opening : Exchange
+  pub came : Came i opening s
+  pub opened : form (readReply (opening .reply)) ≡ openedForm way
+  pub ok : returnCode (readReply (opening .reply)) ≡ codeField code.Ok
+  pub id : transaction (readReply (opening .reply)) ≡ t
+  pub last : ℕ
+  pub latest : (e : Exchange) → Came i e s → e .clock ≤ last
+  pub standing : Standing way (s .bank) t u k n last
+
+-- it was opened by a request of the run
+pub opened-by : (s : Course) (v : Parts s) (way : Direction) {i u n k : ℕ} {t : Bits128} → Open way s i u t n k →
+    (y : Form) × OpenedBy y (v .bank .past .history) t (issuesOf i (s .issued))
+opened-by s v way {i} {t = t} o = by way (o .opened)
+  where
+    f : Found (o .opening) (v .bank .past .history)
+    f = found (v .bank .entries) (o .came .0)
+
+    x : Issue
+    x = o .came .1 .0
+
+    same : transaction (f .exchange .reply) ≡ t
+    same = ap transaction (sym (f .same .reply)) ∙ o .id
+
+    with-opening : Opening t (f .exchange) → (y : Form) × OpenedBy y (v .bank .past .history) t (issuesOf i (s .issued))
+    with-opening p = (
+      form (readRequest (x .frame)),
+      record {
+        exchange = f .exchange;
+        before = f .before;
+        stands = f .stands;
+        opening = p;
+        issue = asIssue x;
+        own = issued-in i (o .came .1 .1) (o .came .1 .2);
+        asked = sym (f .same .request) ∙ ap readRequest (sym (o .came .1 .3));
+        kind = refl;
+      },
+    )
+
+    by : (w : Direction) → form (readReply (o .opening .reply)) ≡ openedForm w →
+        (y : Form) × OpenedBy y (v .bank .past .history) t (issuesOf i (s .issued))
+    by Upload e =
+        let p = upload-opened (v .bank .holds .invariant .sound) (f .stands) (ap form (sym (f .same .reply)) ∙ e) in
+        with-opening (record {
+          action = OpenedUpload;
+          is = p .0 ∙ ap (λ (b : Bits128). Of b OpenedUpload) same;
+          opening = refl;
+        })
+    by Download e =
+        let p = download-opened (v .bank .holds .invariant .sound) (f .stands) (ap form (sym (f .same .reply)) ∙ e) in
+        with-opening (record {
+          action = OpenedDownload (segments (f .exchange .reply));
+          is = p .0 ∙ ap (λ (b : Bits128). Of b (OpenedDownload (segments (f .exchange .reply)))) same;
+          opening = refl;
+        })
+
+-- it stays, where the run's requests that came are the same and the bank keeps it
+pub open-stays : {s t : Course} {way : Direction} {i u n k : ℕ} {id : Bits128} → ((e : Exchange) → Came i e s → Came i e t) →
+    ((e : Exchange) → Came i e t → Came i e s) →
+    ((last : ℕ) → Standing way (s .bank) id u k n last → Standing way (t .bank) id u k n last) → Open way s i u id n k →
+    Open way t i u id n k
+open-stays keeps back bank o = record {
+  opening = o .opening;
+  came = keeps (o .opening) (o .came);
+  opened = o .opened;
+  ok = o .ok;
+  id = o .id;
+  last = o .last;
+  latest = λ e c. o .latest e (back e c);
+  standing = bank (o .last) (o .standing);
+}
+
+-- ---- THE STATES
+
+-- the bank before the outstanding request comes
+abbrev pub Before : Direction → Step → ℕ → Course → ℕ → Client → Type 0
+Before way step.Opening j s i c = (e : Exchange) → Came i e s → ⊥
+Before way step.Segment j s i c =
+    (k : ℕ) × (j ≡ suc k) × (j ≤ c .segments) × Open way s i (c .subscriber) (c .transaction) (c .segments) k
+Before way step.Receipt j s i c = (way ≡ Download) × Open way s i (c .subscriber) (c .transaction) (c .segments) (c .segments)
+
+-- the bank once it has come, and its reply's fields
+abbrev pub Behind : Direction → Step → ℕ → Course → ℕ → Client → Fields → Type 0
+Behind Upload step.Opening j s i c r =
+    (t : Bits128) × (n : ℕ) × (r ≡ uploadOpened (c .exchange) t n) × Open Upload s i (c .subscriber) t (c .segments) 0
+Behind Upload step.Segment j s i c r =
+    (r ≡ segmentTaken (c .exchange) (c .transaction) j) × (j ≤ c .segments)
+    × (j < c .segments → Open Upload s i (c .subscriber) (c .transaction) (c .segments) j)
+Behind Upload step.Receipt j s i c r = ⊥
+Behind Download step.Opening j s i c r =
+    (t : Bits128) × (n : ℕ) × (r ≡ downloadOpened (c .exchange) n t (lastMarkOf 1 n)) × Open Download s i (c .subscriber) t n 1
+Behind Download step.Segment j s i c r =
+    (r ≡ downloadSegment (c .exchange) (c .transaction) j (lastMarkOf j (c .segments))) × (1 ≤ j) × (j ≤ c .segments)
+    × Open Download s i (c .subscriber) (c .transaction) (c .segments) j
+Behind Download step.Receipt j s i c r = r ≡ receiptAnswered (c .exchange) (c .transaction) code.DownloadPostprocessDone
+
+-- the outstanding request has not come; p is the run
+pub record Asks (s : Course) (i : ℕ) (p : Past) : Type 0 where
+  pub way : Direction
+  pub at : Step
+  pub j : ℕ
+  pub turn : InTurn p way at j (p .run .exchange)
+  pub messages : Messages s i (p .run .exchange) (p .run .exchange)
+  pub before : Before way at j s i (p .run)
+
+-- it has come, and its reply has not arrived
+pub record Told (s : Course) (i : ℕ) (p : Past) : Type 0 where
+  pub way : Direction
+  pub at : Step
+  pub j : ℕ
+  pub turn : InTurn p way at j (p .run .exchange)
+  pub messages : Messages s i (p .run .exchange + 1) (p .run .exchange)
+  pub reply : List ℕ
+  pub given : (e : Exchange) → Came i e s → exchange (readRequest (e .request)) ≡ p .run .exchange → e .reply ≡ reply
+  pub number : exchange (readReply reply) ≡ p .run .exchange
+  pub behind : Behind way at j s i (p .run) (readReply reply)
+
+-- the opening came and was refused
+pub record Refused (s : Course) (i : ℕ) (p : Past) : Type 0 where
+  pub begun : isBegun (p .run .stage) ≡ true
+  pub at : p .run .step ≡ step.Opening
+  pub all : (x : Issue) → In x (s .issued) → x .run ≡ i → (e : Exchange) × In e (s .exchanged) × (e .request ≡ x .frame)
+  pub none : (e : Exchange) → Came i e s → returnCode (readReply (e .reply)) ≡ codeField code.Ok → ⊥
+
+-- where the run p of an order in turn stands
+pub data State (s : Course) (i : ℕ) (p : Past) : Type 0 where
+  idle : p .run .stage ≡ stage.NotBegun → ((a : Arrival) → In a (s .arrived) → a .run ≡ i → ⊥) → State s i p
+  asks : Asks s i p → State s i p
+  told : Told s i p → State s i p
+  refused : Refused s i p → State s i p
+  closed : (p .run .stage ≡ stage.Ended Lodged) ⊎ (p .run .stage ≡ stage.Ended Fetched) → State s i p
+
+-- ---- CALLS THAT DO NOT CONCERN THE RUN
+
+pub exchanges-keep : {s t : Course} {i : ℕ} → Same i s t → (x : Issue) → In x (s .issued) → x .run ≡ i →
+    (e : Exchange) × In e (s .exchanged) × (e .request ≡ x .frame) → (e : Exchange) × In e (t .exchanged) × (e .request ≡ x .frame)
+exchanges-keep same x m r (e, n, z) = (e, same .keeps e (n, (x, m, r, sym z)) .0, z)
+
+module _ {s t : Course} {i : ℕ} (same : Same i s t) where
+  messages-stay : {top now : ℕ} → Messages s i top now → Messages t i top now
+  messages-stay m = record {
+    came = λ e c. m .came e (same .came e c);
+    all = λ x n r b. let y = same .issued x n r in exchanges-keep same x y r (m .all x y r b);
+    arrived = λ a n r. m .arrived a (same .arrivals a n r) r;
+    replied = λ e c b. let o = m .replied e (same .came e c) b in (o .0, same .arrived (o .0) (o .1), o .2, o .3);
+  }
+
+  module _ (v : Parts s) (untouched : Untouched s v i t) (p : Past)
+      (alone : Accepted i s → p .run .stage ≡ stage.Running → openCountOf (p .run .subscriber) (s .bank .bank) ≤ 1)
+      (running : p .run .stage ≡ stage.Running) where
+    open-same : (way : Direction) {id : Bits128} {n k : ℕ} → Open way s i (p .run .subscriber) id n k →
+        Open way t i (p .run .subscriber) id n k
+    open-same way {id} {n} {k} o =
+        let b = opened-by s v way o in
+        open-stays (same .keeps) (same .came)
+        (λ last a. untouched (b .0) id (b .1) way (p .run .subscriber) k n last (λ _. alone (o .opening, o .came, o .ok) running) a) o
+
+    before-same : (way : Direction) (at : Step) (j : ℕ) → Before way at j s i (p .run) → Before way at j t i (p .run)
+    before-same way step.Opening j b = λ e c. b e (same .came e c)
+    before-same way step.Segment j b = (b .0, b .1, b .2, open-same way (b .3))
+    before-same way step.Receipt j b = (b .0, open-same way (b .1))
+
+    behind-same : (way : Direction) (at : Step) (j : ℕ) (r : Fields) → Behind way at j s i (p .run) r → Behind way at j t i (p .run) r
+    behind-same Upload step.Opening j r b = (b .0, b .1, b .2, open-same Upload (b .3))
+    behind-same Upload step.Segment j r b = (b .0, b .1, λ h. open-same Upload (b .2 h))
+    behind-same Upload step.Receipt j r b = b
+    behind-same Download step.Opening j r b = (b .0, b .1, b .2, open-same Download (b .3))
+    behind-same Download step.Segment j r b = (b .0, b .1, b .2, open-same Download (b .3))
+    behind-same Download step.Receipt j r b = b
+
+  pub state-same : (v : Parts s) → Untouched s v i t → (p : Past) →
+      (Accepted i s → p .run .stage ≡ stage.Running → openCountOf (p .run .subscriber) (s .bank .bank) ≤ 1) → State s i p → State t i p
+  state-same v u p alone (idle e n) = idle e (λ a m r. n a (same .arrivals a m r) r)
+  state-same v u p alone (asks a) = asks (record {
+    way = a .way;
+    at = a .at;
+    j = a .j;
+    turn = a .turn;
+    messages = messages-stay (a .messages);
+    before = before-same v u p alone (a .turn .running) (a .way) (a .at) (a .j) (a .before);
+  })
+  state-same v u p alone (told a) = told (record {
+    way = a .way;
+    at = a .at;
+    j = a .j;
+    turn = a .turn;
+    messages = messages-stay (a .messages);
+    reply = a .reply;
+    given = λ e c. a .given e (same .came e c);
+    number = a .number;
+    behind = behind-same v u p alone (a .turn .running) (a .way) (a .at) (a .j) (readReply (a .reply)) (a .behind);
+  })
+  state-same v u p alone (refused a) = refused (record {
+    begun = a .begun;
+    at = a .at;
+    all = λ x n r. let y = same .issued x n r in exchanges-keep same x y r (a .all x y r);
+    none = λ e c. a .none e (same .came e c);
+  })
+  state-same v u p alone (closed w) = closed w

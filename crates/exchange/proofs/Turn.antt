@@ -1,0 +1,105 @@
+-- "an order in turn closes as lodged or fetched". Assumes nothing.
+use Prim.Native.Nat.{ℕ}
+use mathlib.Core.List.{List, [], _∷_, List·Memᴰ·not-nil as in-none}
+use mathlib.Core.Logic.{_⊎_}
+use mathlib.Core.Path.{_≡_, refl, sym, ap, _∙_, subst}
+use native.Mathlib.Omega.{arith}
+use Rattle.frame.specs.Names.{exchange}
+use Rattle.frame.specs.Reader.{readRequest, readReply}
+use Rattle.frame.proofs.Tests.{never}
+use Rattle.client.specs.declared.run.Stage.the-variants as stage
+use Rattle.client.specs.declared.run.Word.the-variants.{Lodged, Fetched}
+use Rattle.client.specs.Rulings.{isBegun}
+use Rattle.exchange.specs.Course.{Call, frameArrives, Course, start, exec, after}
+use Rattle.exchange.specs.Demand3.{
+  Allowed,
+  AllAllowed,
+  OneExchangeNumber,
+  InTurn,
+  Came,
+  Accepted,
+  Alone,
+  AllInTurn,
+  Settled,
+  ClosesInTurn,
+}
+use Rattle.exchange.proofs.Clients.{runPast, Parts}
+use Rattle.exchange.proofs.Courses.{
+  call-keeps,
+  parts,
+  parts-start,
+  Copied,
+  copied-call,
+  copied,
+  copied-start,
+  frame-runs,
+  numbers-before,
+}
+use Rattle.exchange.proofs.Concerns.{Concern, elsewhere, own-frame, own-begin, own-reply, concern}
+use Rattle.exchange.proofs.OrderStates.{State, idle, asks, told, refused, closed, state-same}
+use Rattle.exchange.proofs.Outstanding.{outstanding-issue}
+use Rattle.exchange.proofs.OwnRequests.{issued-begun, request-moves}
+use Rattle.exchange.proofs.OwnReplies.{begin-moves, reply-moves}
+
+-- ---- over one call, and over a list
+
+module _ (i : ℕ) where
+  call-moves : (k : Call) (s : Course) (v : Parts s) → Copied s → OneExchangeNumber s → OneExchangeNumber (exec k s) → Allowed k s →
+      InTurn i k s → Alone i s → State s i (runPast s i) → State (exec k s) i (runPast (exec k s) i)
+  call-moves k s v copies numbers later q turn alone z = at k q later (concern s v copies numbers i k q turn)
+    where
+      at : (k : Call) → Allowed k s → OneExchangeNumber (exec k s) → Concern s v i k → State (exec k s) i (runPast (exec k s) i)
+      at k q later (elsewhere same untouched) =
+          subst (State (exec k s) i) (sym (same .past)) (state-same same v untouched (runPast s i) alone z)
+      at k q later (own-frame {w = w} {time = time} {ids = ids} {frame = frame} {buffer = buffer} en own new hour issued arrivals) =
+          subst (State (exec (frameArrives w time ids frame buffer) s) i) (sym (frame-runs s w time ids frame buffer i))
+          (request-moves s v copies numbers i time ids frame buffer (exec (frameArrives w time ids frame buffer) s) en own new hour issued
+          arrivals z)
+      at k q later (own-begin {c = c} {way = way} {u = u} {first = first} {l = l} own done) = begin-moves s v copies numbers i c way u first l q later own done z
+      at k q later (own-reply {c = c} {reply = reply} {l = l} done left source fresh) =
+          reply-moves s v copies numbers i c reply l q later done left source fresh z
+
+  order-state : (ks : List Call) (s : Course) → Parts s → Copied s → AllAllowed ks s → OneExchangeNumber (after ks s) → AllInTurn i ks s →
+      State s i (runPast s i) → State (after ks s) i (runPast (after ks s) i)
+  unfolding after
+  order-state [] s v copies a n turn z = z
+  order-state (k ∷ ks) s v copies a n turn z =
+      let later = numbers-before ks (exec k s) n in
+      let now = numbers-before (k ∷ ks) s n in
+      order-state ks (exec k s) (call-keeps k s v (a .0)) (copied-call k s copies (a .0)) (a .1) n (turn .2)
+      (call-moves k s v copies now later (a .0) (turn .1) (turn .0) z)
+
+  first-state : State start i (runPast start i)
+  unfolding start
+  first-state = idle refl (λ a m r. in-none m)
+
+  -- ---- once none of its messages is under way
+
+  -- the outstanding request has not come, or its reply has not arrived: a message is under way
+  settled-closed : (t : Course) (v : Parts t) → Copied t → OneExchangeNumber t → State t i (runPast t i) → Accepted i t → Settled t i →
+      (t .runs i .stage ≡ stage.Ended Lodged) ⊎ (t .runs i .stage ≡ stage.Ended Fetched)
+  settled-closed t v copies numbers (idle e none) (x, c, ok) settled =
+      never (sym (ap isBegun e) ∙ issued-begun t v copies numbers i (c .1))
+  settled-closed t v copies numbers (asks a) accepted settled = absurd (
+      let o = outstanding-issue t v i (ap isBegun (a .turn .running)) in
+      let f = settled .requests (o .issue) (o .own) (o .run) in
+      let b = a .messages .came (f .0) (f .1, (o .issue, o .own, o .run, sym (f .2))) in
+      let n = ap (λ (l : List ℕ). exchange (readRequest l)) (f .2) in
+      let m = o .number in omega arith)
+  settled-closed t v copies numbers (told a) accepted settled = absurd (
+      let o = outstanding-issue t v i (ap isBegun (a .turn .running)) in
+      let f = a .messages .all (o .issue) (o .own) (o .run) (let m = o .number in omega arith) in
+      let c : Came i (f .0) t = (f .1, (o .issue, o .own, o .run, sym (f .2))) in
+      let g = settled .replies (f .0) c in
+      let same = a .given (f .0) c (ap (λ (l : List ℕ). exchange (readRequest l)) (f .2) ∙ o .number) in
+      let b = a .messages .arrived (g .0) (g .1) (g .2) in
+      let n = ap (λ (l : List ℕ). exchange (readReply l)) (g .3 ∙ same) in
+      let m = a .number in omega arith)
+  settled-closed t v copies numbers (refused a) (x, c, ok) settled = absurd (a .none x c ok)
+  settled-closed t v copies numbers (closed w) accepted settled = w
+
+-- "an order whose opening is accepted and whose messages each arrive once, in turn, ... has closed as lodged or fetched"
+pub closes-in-turn : (ks : List Call) → AllAllowed ks start → OneExchangeNumber (after ks start) → ClosesInTurn ks
+closes-in-turn ks a n i turn accepted settled =
+    settled-closed i (after ks start) (parts ks start parts-start a) (copied ks start copied-start a) n
+    (order-state i ks start parts-start copied-start a n turn (first-state i)) accepted settled
