@@ -2,7 +2,7 @@
 use Prim.Native.Nat.{ℕ, suc, _+_, _<_, _≤_}
 use mathlib.Core.Bool.{true}
 use mathlib.Core.List.{List, List·Memᴰ as In}
-use mathlib.Core.Logic.{_⊎_}
+use mathlib.Core.Logic.{_⊎_, inl, inr}
 use mathlib.Core.Path.{_≡_, refl, sym, ap, _∙_}
 use Rattle.frame.specs.declared.fields.Bits128.{Bits128}
 use Rattle.frame.specs.declared.fields.Fields.{Fields}
@@ -54,6 +54,10 @@ pub record Messages (s : Course) (i top now : ℕ) : Type 0 where
 abbrev pub openedForm : Direction → Form
 openedForm Upload = forms.UploadOpened
 openedForm Download = forms.DownloadOpened
+
+opened-form : (way : Direction) {x : Form} → x ≡ openedForm way → (x ≡ forms.UploadOpened) ⊎ (x ≡ forms.DownloadOpened)
+opened-form Upload e = inl e
+opened-form Download e = inr e
 
 -- the transaction t of subscriber u is open at the bank, k of n segments taken or k delivered; the order's last request came at last
 pub record Open (way : Direction) (s : Course) (i u : ℕ) (t : Bits128) (n k : ℕ) : Type 0 where
@@ -211,7 +215,7 @@ module _ {s t : Course} {i : ℕ} (same : Same i s t) where
     open-same way {id} {n} {k} o =
         let b = opened-by s v way o in
         open-stays (same .keeps) (same .came)
-        (λ last a. untouched (b .0) id (b .1) way (p .run .subscriber) k n last (λ _. alone (o .opening, o .came, o .ok) running) a) o
+        (λ last a. untouched (b .0) id (b .1) way (p .run .subscriber) k n last (λ _. alone (o .opening, o .came, opened-form way (o .opened), o .ok) running) a) o
 
     before-same : (way : Direction) (at : Step) (j : ℕ) → Before way at j s i (p .run) → Before way at j t i (p .run)
     before-same way step.Opening j b = λ e c. b e (same .came e c)

@@ -78,7 +78,7 @@ module _ (i : ℕ) where
   -- the outstanding request has not come, or its reply has not arrived: a message is under way
   settled-closed : (t : Course) (v : Parts t) → Copied t → OneExchangeNumber t → State t i (runPast t i) → Accepted i t → Settled t i →
       (t .runs i .stage ≡ stage.Ended Lodged) ⊎ (t .runs i .stage ≡ stage.Ended Fetched)
-  settled-closed t v copies numbers (idle e none) (x, c, ok) settled =
+  settled-closed t v copies numbers (idle e none) (x, c, kind, ok) settled =
       never (sym (ap isBegun e) ∙ issued-begun t v copies numbers i (c .1))
   settled-closed t v copies numbers (asks a) accepted settled = absurd (
       let o = outstanding-issue t v i (ap isBegun (a .turn .running)) in
@@ -95,7 +95,7 @@ module _ (i : ℕ) where
       let b = a .messages .arrived (g .0) (g .1) (g .2) in
       let n = ap (λ (l : List ℕ). exchange (readReply l)) (g .3 ∙ same) in
       let m = a .number in omega arith)
-  settled-closed t v copies numbers (refused a) (x, c, ok) settled = absurd (a .none x c ok)
+  settled-closed t v copies numbers (refused a) (x, c, kind, ok) settled = absurd (a .none x c ok)
   settled-closed t v copies numbers (closed w) accepted settled = w
 
 -- "an order whose opening is accepted and whose messages each arrive once, in turn, ... has closed as lodged or fetched"

@@ -176,9 +176,10 @@ InTurn i (replyArrives j c reply l) s =
     Unless (answerNumber (replyCall c reply l .answer)) (j ≡ i → (a : Arrival) → In a (s .arrived) → a .run ≡ i → a .reply ≡ reply → ⊥)
 InTurn i (noReply j c l) s = Unless (answerNumber (silenceCall c l .answer)) (j ≡ i → ⊥)
 
--- its opening was accepted
+-- "an order whose opening is accepted": a request of the run was answered as an opening, with 000000
 abbrev pub Accepted : ℕ → Course → Type 0
-Accepted i s = (e : Exchange) × Came i e s × (returnCode (readReply (e .reply)) ≡ codeField code.Ok)
+Accepted i s = (e : Exchange) × Came i e s × ((form (readReply (e .reply)) ≡ forms.UploadOpened)
+    ⊎ (form (readReply (e .reply)) ≡ forms.DownloadOpened)) × (returnCode (readReply (e .reply)) ≡ codeField code.Ok)
 
 -- "its subscriber having nothing else open meanwhile": from the acceptance of its opening on, while the run is not ended
 abbrev pub Alone : ℕ → Course → Type 0
