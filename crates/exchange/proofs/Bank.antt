@@ -97,7 +97,7 @@ use Rattle.exchange.specs.Course.{
   afterFile,
   exec,
 }
-use Rattle.exchange.specs.Demand3.{Answered}
+use Rattle.exchange.specs.Terms.{Answered}
 use Rattle.exchange.proofs.Bytes.{reply-read, data-read}
 use Rattle.exchange.proofs.Events.{event-refuses, mailbox-short, case-empties}
 use Rattle.exchange.proofs.Told.{Proper, AllProper, coded, done-confirmed}

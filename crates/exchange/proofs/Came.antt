@@ -11,7 +11,8 @@ use Rattle.client.specs.declared.run.Answer.{Answer}
 use Rattle.client.specs.declared.run.Answer.the-variants as answer
 use Rattle.client.specs.Run.{Lent, ClientCall}
 use Rattle.exchange.specs.Course.{Call, Issue, Exchange, Arrival, Course, afterRun, exec}
-use Rattle.exchange.specs.Demand3.{IssuedBy, Came, Allowed, OneExchangeNumber}
+use Rattle.exchange.specs.Terms.{IssuedBy, Came}
+use Rattle.exchange.specs.Demand3.{Allowed, OneExchangeNumber}
 use Rattle.exchange.proofs.Clients.{runPast, issued-in, other-past, Parts}
 use Rattle.exchange.proofs.Courses.{Copied, one-issue, call-keeps, copied-call, call-issues, in-more}
 use Rattle.exchange.proofs.Joint.{counts}

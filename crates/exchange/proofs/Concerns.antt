@@ -52,7 +52,8 @@ use Rattle.exchange.specs.Course.{
   reached,
   exec,
 }
-use Rattle.exchange.specs.Demand3.{isSubscribers, IssuedBy, Left, Answered, Allowed, NoIdleHour, InTurn, OneExchangeNumber}
+use Rattle.exchange.specs.Terms.{IssuedBy, Answered, NoIdleHour, InTurn}
+use Rattle.exchange.specs.Demand3.{isSubscribers, Left, Allowed, OneExchangeNumber}
 use Rattle.exchange.proofs.Bank.{Entered, frame-enters}
 use Rattle.exchange.proofs.Clients.{issuesOf, issued-in, OpenedBy, Parts}
 use Rattle.exchange.proofs.Courses.{Copied, one-issue, frame-runs}

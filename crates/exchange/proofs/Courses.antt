@@ -41,7 +41,8 @@ use Rattle.exchange.specs.Course.{
   exec,
   after,
 }
-use Rattle.exchange.specs.Demand3.{isSubscribers, IssuedBy, Allowed, AllAllowed, Answered, OneExchangeNumber}
+use Rattle.exchange.specs.Terms.{IssuedBy, Answered}
+use Rattle.exchange.specs.Demand3.{isSubscribers, Allowed, AllAllowed, OneExchangeNumber}
 use Rattle.exchange.specs.Lists.{NoDup, more}
 use Rattle.exchange.proofs.Bytes.{begin-issues, reply-issues, silence-issues}
 use Rattle.exchange.proofs.Told.{Gave}

@@ -35,8 +35,9 @@ use Rattle.exchange.specs.Course.{
   exec,
   after,
 }
-use Rattle.exchange.specs.Demand3.{isSubscribers, IssuedBy, Allowed, AllAllowed, OneExchangeNumber}
-use Rattle.exchange.specs.Demand3 as demand
+use Rattle.exchange.specs.Terms.{IssuedBy}
+use Rattle.exchange.specs.Demand3.{isSubscribers, Allowed, AllAllowed, OneExchangeNumber}
+use Rattle.exchange.specs.Terms as terms
 use Rattle.bank.specs.declared.call.FrameAnswer.{FrameAnswer}
 use Rattle.bank.specs.declared.call.FrameAnswer.the-variants as frameAnswer
 use Rattle.bank.specs.Call.{FrameCall, frameCall}
@@ -151,7 +152,7 @@ record Answered (s : Course) : Type 0 where
 allowed-comes : (s : Course) → Issued s → Allowed (comes s) s
 allowed-comes s h = go (frameCall (s .bank) 1000 (replicate 8 0) (newestIssue (s .issued) .frame) (replicate 312 0) .answer)
   where
-    go : (a : FrameAnswer) → demand.Answered a ((s .bank ≡ s .bank) ×
+    go : (a : FrameAnswer) → terms.Answered a ((s .bank ≡ s .bank) ×
         (isSubscribers (newestIssue (s .issued) .frame) ≡ true → (i : ℕ) × IssuedBy i (newestIssue (s .issued) .frame) s))
     go (frameAnswer.Reply n) = (refl, λ _. (0, (newestIssue (s .issued), first-issue (s .issued) (h .any), h .own, refl)))
     go frameAnswer.WrongLength = tt

@@ -87,7 +87,8 @@ use Rattle.client.specs.declared.run.Step.the-variants as step
 use Rattle.message.specs.Limits.{subscribers}
 use Rattle.message.specs.Requests as requests
 use Rattle.exchange.specs.Course.{Issue, Course}
-use Rattle.exchange.specs.Demand3.{isSubscribers, IssuedBy, OneExchangeNumber}
+use Rattle.exchange.specs.Terms.{IssuedBy}
+use Rattle.exchange.specs.Demand3.{isSubscribers, OneExchangeNumber}
 use Rattle.exchange.proofs.Events.{Empties, case-empties}
 use Rattle.exchange.proofs.Told.{Opening, opening-at, Gave, fileIn, bank-replies}
 use Rattle.exchange.proofs.Clients.{asIssue, issuesOf, runPast, issued-in, OpenedBy, opened-upload, opened-download, Parts}

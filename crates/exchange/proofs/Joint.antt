@@ -69,7 +69,8 @@ use Rattle.client_history.proofs.NextRuns.{not-both}
 use Rattle.client_history.proofs.Requests.{form-uploadTransfer, segment-uploadTransfer, id-uploadTransfer}
 use Rattle.client_history.proofs.Theorems.{segment-sent, segment-opened, one-subscriber}
 use Rattle.exchange.specs.Course.{Issue, Exchange, Course}
-use Rattle.exchange.specs.Demand3.{isSubscribers, IssuedBy, OneExchangeNumber, Books, Booked}
+use Rattle.exchange.specs.Terms.{IssuedBy, Books, Booked}
+use Rattle.exchange.specs.Demand3.{isSubscribers, OneExchangeNumber}
 use Rattle.exchange.proofs.Told.{
   Opening,
   one-numbered,

@@ -28,7 +28,7 @@ use Rattle.client.specs.Rulings.{isBegun}
 use Rattle.client_history.specs.History.{Past}
 use Rattle.client_history.specs.InTurn.{InTurn}
 use Rattle.exchange.specs.Course.{Issue, Exchange, Arrival, Course}
-use Rattle.exchange.specs.Demand3.{Came, Accepted}
+use Rattle.exchange.specs.Terms.{Came, Accepted}
 use Rattle.exchange.proofs.Told.{Opening}
 use Rattle.exchange.proofs.Bank.{Found, found}
 use Rattle.exchange.proofs.Clients.{asIssue, issuesOf, issued-in, OpenedBy, Parts}

@@ -71,7 +71,8 @@ use Rattle.client_history.proofs.Requests.{
 }
 use Rattle.client_history.proofs.Theorems.{lodged, not-lodged, last-not-sent, fetched, fetched-file, receipt-issued, one-subscriber}
 use Rattle.exchange.specs.Course.{Issue, Exchange, Course, heldOf}
-use Rattle.exchange.specs.Demand3.{IssuedBy, OneExchangeNumber, Books, Booked, Order, InBook, OrderOf, Outcome}
+use Rattle.exchange.specs.Terms.{IssuedBy, Books, Booked, Order, InBook, OrderOf}
+use Rattle.exchange.specs.Demand3.{OneExchangeNumber, Outcome}
 use Rattle.exchange.specs.Lists.{AtMostOne}
 use Rattle.exchange.proofs.Told.{
   opening-at,

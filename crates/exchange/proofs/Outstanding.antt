@@ -14,7 +14,8 @@ use Rattle.client_history.specs.History as history
 use Rattle.client_history.proofs.Requests.{outstanding-exchange}
 use Rattle.client_history.proofs.Theorems.{newest-outstanding}
 use Rattle.exchange.specs.Course.{Issue, Course}
-use Rattle.exchange.specs.Demand3.{IssuedBy, OneExchangeNumber}
+use Rattle.exchange.specs.Terms.{IssuedBy}
+use Rattle.exchange.specs.Demand3.{OneExchangeNumber}
 use Rattle.exchange.proofs.Told.{Gave, fileIn, bank-replies}
 use Rattle.exchange.proofs.Clients.{asIssue, runPast, issue-of, Parts}
 use Rattle.exchange.proofs.Courses.{numberOf, one-issue}

@@ -43,12 +43,39 @@ use Rattle.client_history.proofs.Requests.{outstanding-exchange}
 use Rattle.client_history.proofs.Theorems.{newest-outstanding, steady, upload-run, file-held, begin-fresh}
 use Rattle.client_history.proofs.Liveness as clientTurn
 use Rattle.exchange.specs.Course.{Call, begins, replyArrives, Issue, Exchange, Arrival, Course, afterRun, reached, exec}
-use Rattle.exchange.specs.Demand3.{IssuedBy, Left, Allowed, Came, OneExchangeNumber}
+use Rattle.exchange.specs.Terms.{IssuedBy, Came}
+use Rattle.exchange.specs.Demand3.{Left, Allowed, OneExchangeNumber}
 use Rattle.exchange.proofs.Told.{Gave, fileIn, bank-replies}
 use Rattle.exchange.proofs.Clients.{asIssue, issuesOf, runPast, Parts}
-use Rattle.exchange.proofs.Courses.{Copied, Issues, same, one, in-more, call-issues, issued-more, given-to, call-keeps, numberOf, one-issue}
+use Rattle.exchange.proofs.Courses.{
+  Copied,
+  Issues,
+  same,
+  one,
+  in-more,
+  call-issues,
+  issued-more,
+  given-to,
+  call-keeps,
+  numberOf,
+  one-issue,
+}
 use Rattle.exchange.proofs.Came.{came-earlier}
-use Rattle.exchange.proofs.OrderStates.{Messages, Open, open-stays, Before, Behind, Told, Refused, State, idle, asks, told, refused, closed}
+use Rattle.exchange.proofs.OrderStates.{
+  Messages,
+  Open,
+  open-stays,
+  Before,
+  Behind,
+  Told,
+  Refused,
+  State,
+  idle,
+  asks,
+  told,
+  refused,
+  closed,
+}
 use Rattle.exchange.proofs.Outstanding.{Pending, outstanding-issue}
 use Rattle.exchange.proofs.OwnRequests.{issued-begun}
 use Rattle.exchange.proofs.Runs.{begin-past, reply-past, run-ended}

@@ -26,7 +26,22 @@ use Rattle.bank_state.specs.Clock.{advanced}
 use Rattle.bank_state.specs.Limits.{idleLimit}
 use Rattle.bank_state.specs.State.{World}
 use Rattle.bank_step.specs.OrderNumbers.{orderNumberOf}
-use Rattle.bank_history.specs.History.{Action, OpenedUpload, OpenedDownload, Took, TookLast, Delivered, Confirmed, Event, Of, newest, isOpening, exchangeOf, replyTo, segmentsNow}
+use Rattle.bank_history.specs.History.{
+  Action,
+  OpenedUpload,
+  OpenedDownload,
+  Took,
+  TookLast,
+  Delivered,
+  Confirmed,
+  Event,
+  Of,
+  newest,
+  isOpening,
+  exchangeOf,
+  replyTo,
+  segmentsNow,
+}
 use Rattle.bank_history.specs.History as bank
 use Rattle.bank_history.specs.Standing.{UploadAt, DownloadAt, UploadUnlessIdle, DownloadUnlessIdle, answered}
 use Rattle.bank_history.proofs.Liveness as bankTurn
@@ -43,12 +58,35 @@ use Rattle.client_history.specs.History.{Past}
 use Rattle.client_history.specs.InTurn.{InTurn}
 use Rattle.client_history.specs.Invariant.{isOpen, Invariant, not-begun, upload, download}
 use Rattle.client_history.proofs.Files.{segment-most}
-use Rattle.client_history.proofs.Fitting.{opened-fits, download-fits, taken-fits, segment-fits, receipt-fits, opened-fields, download-fields}
+use Rattle.client_history.proofs.Fitting.{
+  opened-fits,
+  download-fits,
+  taken-fits,
+  segment-fits,
+  receipt-fits,
+  opened-fields,
+  download-fields,
+}
 use Rattle.client_history.proofs.Issues as issues
-use Rattle.client_history.proofs.Requests.{form-uploadOpening, form-downloadOpening, form-uploadTransfer, form-downloadTransfer, form-receipt, outstanding-subscriber, is-uploadOpening, is-downloadOpening, is-uploadTransfer, is-downloadTransfer, is-receipt, data-transfer, data-download}
+use Rattle.client_history.proofs.Requests.{
+  form-uploadOpening,
+  form-downloadOpening,
+  form-uploadTransfer,
+  form-downloadTransfer,
+  form-receipt,
+  outstanding-subscriber,
+  is-uploadOpening,
+  is-downloadOpening,
+  is-uploadTransfer,
+  is-downloadTransfer,
+  is-receipt,
+  data-transfer,
+  data-download,
+}
 use Rattle.client_history.proofs.Theorems.{exchange-numbers, upload-run, file-held}
 use Rattle.exchange.specs.Course.{Issue, Exchange, Arrival, Course}
-use Rattle.exchange.specs.Demand3.{IssuedBy, Came, NoIdleHour, OneExchangeNumber}
+use Rattle.exchange.specs.Terms.{IssuedBy, Came, NoIdleHour}
+use Rattle.exchange.specs.Demand3.{OneExchangeNumber}
 use Rattle.exchange.proofs.Told.{Gave, fileIn, bank-replies, by-code}
 use Rattle.exchange.proofs.Bank.{Entered}
 use Rattle.exchange.proofs.Clients.{runPast, issued-in, Parts}

@@ -5,7 +5,8 @@ use mathlib.Core.Path.{_≡_, refl, ap, _∙_, subst}
 use Rattle.client.specs.declared.run.Stage.the-variants as stage
 use Rattle.client.specs.declared.run.Word.the-variants.{NotLodged}
 use Rattle.exchange.specs.Course.{Call, Course, start, exec, after}
-use Rattle.exchange.specs.Demand3.{AllAllowed, OneExchangeNumber, Booked, Outcome}
+use Rattle.exchange.specs.Terms.{Booked}
+use Rattle.exchange.specs.Demand3.{AllAllowed, OneExchangeNumber, Outcome}
 use Rattle.exchange.proofs.Courses.{parts, parts-start, copied, copied-start, numbers-before}
 use Rattle.exchange.proofs.Outcome.{outcome}
 use Rattle.exchange.proofs.Runs.{stays-ended}

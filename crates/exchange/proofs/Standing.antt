@@ -22,7 +22,8 @@ use Rattle.bank_history.proofs.Liveness.{upload-stays, download-stays, clock-gr
 use Rattle.client.specs.declared.run.Direction.{Direction}
 use Rattle.client.specs.declared.run.Direction.the-variants.{Upload, Download}
 use Rattle.exchange.specs.Course.{Course}
-use Rattle.exchange.specs.Demand3.{isSubscribers, IssuedBy, OneExchangeNumber}
+use Rattle.exchange.specs.Terms.{IssuedBy}
+use Rattle.exchange.specs.Demand3.{isSubscribers, OneExchangeNumber}
 use Rattle.exchange.proofs.Told.{did-action}
 use Rattle.exchange.proofs.Bank.{Entered}
 use Rattle.exchange.proofs.Clients.{issuesOf, OpenedBy, Parts}

@@ -11,18 +11,8 @@ use Rattle.client.specs.declared.run.Stage.the-variants as stage
 use Rattle.client.specs.declared.run.Word.the-variants.{Lodged, Fetched}
 use Rattle.client.specs.Rulings.{isBegun}
 use Rattle.exchange.specs.Course.{Call, frameArrives, Course, start, exec, after}
-use Rattle.exchange.specs.Demand3.{
-  Allowed,
-  AllAllowed,
-  OneExchangeNumber,
-  InTurn,
-  Came,
-  Accepted,
-  Alone,
-  AllInTurn,
-  Settled,
-  ClosesInTurn,
-}
+use Rattle.exchange.specs.Terms.{InTurn, Came, Accepted, Alone, AllInTurn, Settled}
+use Rattle.exchange.specs.Demand3.{Allowed, AllAllowed, OneExchangeNumber, ClosesInTurn}
 use Rattle.exchange.proofs.Clients.{runPast, Parts}
 use Rattle.exchange.proofs.Courses.{
   call-keeps,

@@ -1,4 +1,5 @@
 -- The definitions of demand 3.
 pub mod Lists
 pub mod Course
+pub mod Terms
 pub mod Demand3
