@@ -248,90 +248,53 @@ pub data Stands (e : Exchange) (g : List Exchange) : List Exchange → Type 0 wh
   newest : Stands e g (e ∷ g)
   older : {x : Exchange} {h : List Exchange} → Stands e g h → Stands e g (x ∷ h)
 
--- Which actions open, which take a segment, which deliver one, which end the transaction without booking
+-- What an action is: it opens an upload, opens a download, takes a segment, books the order, delivers a segment, ends without booking
+pub record Kind : Type 0 where
+  pub opensUpload : Bool
+  pub opensDownload : Bool
+  pub takes : Bool
+  pub books : Bool
+  pub delivers : Bool
+  pub ends : Bool
+
+abbrev kind : Bool → Bool → Bool → Bool → Bool → Bool → Kind
+kind a b c d e f = record { opensUpload = a; opensDownload = b; takes = c; books = d; delivers = e; ends = f }
+
+-- "Segment N books the order"; a download's opening delivers segment 1
+abbrev pub kindOf : Action → Kind
+-- columns: opens an upload, opens a download, takes, books, delivers, ends
+kindOf OpenedUpload = kind true false false false false false
+kindOf (OpenedDownload n) = kind false true false false true false
+kindOf Took = kind false false true false false false
+kindOf TookLast = kind false false true true false false
+kindOf (UploadPoint k) = kind false false false false false false
+kindOf (DownloadPoint d) = kind false false false false false false
+kindOf (Cancelled c) = kind false false false false false true
+kindOf (Delivered n) = kind false false false false true false
+kindOf (SentAgain n) = kind false false false false false false
+kindOf Confirmed = kind false false false false false true
+kindOf Declined = kind false false false false false true
 
 abbrev pub isUploadOpening : Action → Bool
-isUploadOpening OpenedUpload = true
-isUploadOpening (OpenedDownload n) = false
-isUploadOpening Took = false
-isUploadOpening TookLast = false
-isUploadOpening (UploadPoint k) = false
-isUploadOpening (DownloadPoint d) = false
-isUploadOpening (Cancelled c) = false
-isUploadOpening (Delivered n) = false
-isUploadOpening (SentAgain n) = false
-isUploadOpening Confirmed = false
-isUploadOpening Declined = false
+isUploadOpening k = kindOf k .opensUpload
 
 abbrev pub isDownloadOpening : Action → Bool
-isDownloadOpening OpenedUpload = false
-isDownloadOpening (OpenedDownload n) = true
-isDownloadOpening Took = false
-isDownloadOpening TookLast = false
-isDownloadOpening (UploadPoint k) = false
-isDownloadOpening (DownloadPoint d) = false
-isDownloadOpening (Cancelled c) = false
-isDownloadOpening (Delivered n) = false
-isDownloadOpening (SentAgain n) = false
-isDownloadOpening Confirmed = false
-isDownloadOpening Declined = false
+isDownloadOpening k = kindOf k .opensDownload
 
 abbrev pub isOpening : Action → Bool
 isOpening k = isUploadOpening k || isDownloadOpening k
 
--- segment N taken: "Segment N books the order"
-abbrev pub isBooking : Action → Bool
-isBooking OpenedUpload = false
-isBooking (OpenedDownload n) = false
-isBooking Took = false
-isBooking TookLast = true
-isBooking (UploadPoint k) = false
-isBooking (DownloadPoint d) = false
-isBooking (Cancelled c) = false
-isBooking (Delivered n) = false
-isBooking (SentAgain n) = false
-isBooking Confirmed = false
-isBooking Declined = false
-
 abbrev pub isTaking : Action → Bool
-isTaking OpenedUpload = false
-isTaking (OpenedDownload n) = false
-isTaking Took = true
-isTaking TookLast = true
-isTaking (UploadPoint k) = false
-isTaking (DownloadPoint d) = false
-isTaking (Cancelled c) = false
-isTaking (Delivered n) = false
-isTaking (SentAgain n) = false
-isTaking Confirmed = false
-isTaking Declined = false
+isTaking k = kindOf k .takes
 
--- a segment delivered; the opening delivers segment 1
+abbrev pub isBooking : Action → Bool
+isBooking k = kindOf k .books
+
 abbrev pub isDelivery : Action → Bool
-isDelivery OpenedUpload = false
-isDelivery (OpenedDownload n) = true
-isDelivery Took = false
-isDelivery TookLast = false
-isDelivery (UploadPoint k) = false
-isDelivery (DownloadPoint d) = false
-isDelivery (Cancelled c) = false
-isDelivery (Delivered n) = true
-isDelivery (SentAgain n) = false
-isDelivery Confirmed = false
-isDelivery Declined = false
+isDelivery k = kindOf k .delivers
 
 abbrev pub isEnding : Action → Bool
-isEnding OpenedUpload = false
-isEnding (OpenedDownload n) = false
-isEnding Took = false
-isEnding TookLast = false
-isEnding (UploadPoint k) = false
-isEnding (DownloadPoint d) = false
-isEnding (Cancelled c) = true
-isEnding (Delivered n) = false
-isEnding (SentAgain n) = false
-isEnding Confirmed = true
-isEnding Declined = true
+isEnding k = kindOf k .ends
 
 abbrev pub isAction : Action → Bool
 isAction k = true

@@ -1,14 +1,12 @@
 -- Computed examples of demand 3: lists that meet its premises, and what they come to.
 use Prim.Native.Nat.{ℕ, zero, suc}
-use mathlib.Core.Bool.{Bool, true, false, not, _&&_}
-use mathlib.Core.List.{List, [], _∷_, List·Memᴰ as In, List·Memᴰ·head as here, List·Memᴰ·tail as there, List·Memᴰ·not-nil as in-none}
-use mathlib.Core.Path.{_≡_, refl, sym, ap, _∙_}
-use lib.Dec.{eqb}
+use mathlib.Core.Bool.{true}
+use mathlib.Core.List.{List, [], _∷_, List·Memᴰ·head as here, List·Memᴰ·tail as there}
+use mathlib.Core.Logic.{_⊎_, inl, inr}
+use mathlib.Core.Path.{_≡_, refl}
 use lib.ListN.{replicate}
-use borrow.Author.Tests.{eq-eqb}
 use Rattle.frame.specs.Names.{returnCode}
 use Rattle.frame.specs.Reader.{readReply}
-use Rattle.frame.proofs.Tests.{never, and-true}
 use Rattle.message.specs.declared.codes.ReturnCode.the-variants as code
 use Rattle.message.specs.Codes.{codeField}
 use Rattle.message.specs.Limits.{fileBytes}
@@ -17,32 +15,36 @@ use Rattle.bank_state.specs.State.{placeAt}
 use Rattle.client.specs.declared.run.Direction.the-variants.{Upload, Download}
 use Rattle.client.specs.declared.run.Stage.the-variants as stage
 use Rattle.client.specs.declared.run.Word.the-variants.{Lodged, Unclear, Fetched}
-use Rattle.client.specs.Run.{Lent, lentOf}
-use Rattle.exchange.specs.Course.{
-  Call,
-  frameArrives,
-  filePut,
-  begins,
-  replyArrives,
-  noReply,
-  Issue,
-  Exchange,
-  Course,
-  start,
-  afterFrame,
-  mailboxOf,
-  heldOf,
-  exec,
-  after,
+use Rattle.client.specs.Calls.{silenceCall}
+use Rattle.client.specs.Run.{answerNumber}
+use Rattle.exchange.specs.Course.{Call, filePut, begins, Course, start, mailboxOf, heldOf, exec, after}
+use Rattle.exchange.specs.Terms.{Accepted, AllInTurn, Settled}
+use Rattle.exchange.specs.Demand3.{isSubscribers, AllAllowed, OneExchangeNumber, Demand3}
+use Rattle.exchange.proofs.ExampleCalls.{
+  distinct-nodup,
+  newestExchange,
+  lent,
+  comes,
+  answers,
+  silence,
+  nothing,
+  asking,
+  asking-issued,
+  replying-issued,
+  allowed-comes,
+  allowed-silence,
+  isAlone,
+  alone,
+  turn-allowed,
+  TwoTurns,
+  order-asking,
+  order-replying,
+  order-allowed,
+  order-in-turn,
+  order-accepted,
+  order-settled,
 }
-use Rattle.exchange.specs.Terms.{IssuedBy}
-use Rattle.exchange.specs.Demand3.{isSubscribers, Allowed, AllAllowed, OneExchangeNumber}
-use Rattle.exchange.specs.Terms as terms
-use Rattle.bank.specs.declared.call.FrameAnswer.{FrameAnswer}
-use Rattle.bank.specs.declared.call.FrameAnswer.the-variants as frameAnswer
-use Rattle.bank.specs.Call.{FrameCall, frameCall}
-use Rattle.bank_state.specs.Clock.{advanced}
-use Rattle.exchange.specs.Lists.{NoDup, none, more}
+use Rattle.exchange.proofs.Theorem.{demand3}
 use Rattle.frame.specs.Bytes as frameBytes
 use Rattle.frame.specs.Reader as frameReader
 use Rattle.frame.specs.Row as frameRow
@@ -70,50 +72,7 @@ use Rattle.client.specs.Requests as clientRequests
 use Rattle.client.specs.Rulings as clientRulings
 use Rattle.exchange.specs.Course as course
 
--- ---- numbers that do not stand twice
-
-abbrev absent : ℕ → List ℕ → Bool
-absent n [] = true
-absent n (m ∷ l) = not (eqb n m) && absent n l
-
-abbrev distinct : List ℕ → Bool
-distinct [] = true
-distinct (n ∷ l) = absent n l && distinct l
-
-absent-not : (n : ℕ) (l : List ℕ) → absent n l ≡ true → In n l → ⊥
-absent-not n [] h m = in-none m
-absent-not n (k ∷ l) h (here e) = never (sym (ap not (eq-eqb n k e)) ∙ and-true (not (eqb n k)) (absent n l) h .0)
-absent-not n (k ∷ l) h (there m) = absent-not n l (and-true (not (eqb n k)) (absent n l) h .1) m
-
-distinct-nodup : (l : List ℕ) → distinct l ≡ true → NoDup l
-distinct-nodup [] h = none
-distinct-nodup (n ∷ l) h =
-    let a = and-true (absent n l) (distinct l) h in
-    more (absent-not n l (a .0)) (distinct-nodup l (a .1))
-
--- ---- the calls of the examples: one run, run 0 of subscriber 1
-
-abbrev newestIssue : List Issue → Issue
-newestIssue [] = record { run = 0; frame = []; file = [] }
-newestIssue (x ∷ l) = x
-
-abbrev newestExchange : List Exchange → Exchange
-newestExchange [] = record { request = []; reply = []; clock = 0; box = [] }
-newestExchange (e ∷ l) = e
-
--- what the run is lent: 12 nonce bytes and a request buffer, payload and file buffer
-abbrev lent : List ℕ → List ℕ → Lent
-lent payload file = lentOf 1000 (replicate 12 0) payload file (replicate 303 0)
-
--- the newest request comes to the bank; the newest reply comes to the run; no reply comes
-abbrev comes : Course → Call
-comes s = frameArrives (s .bank) 1000 (replicate 8 0) (newestIssue (s .issued) .frame) (replicate 312 0)
-
-abbrev answers : Course → Call
-answers s = replyArrives 0 (s .runs 0) (newestExchange (s .exchanged) .reply) (lent (s .payloads 0) (s .files 0))
-
-abbrev silence : Course → Call
-silence s = noReply 0 (s .runs 0) (lent (s .payloads 0) (s .files 0))
+-- ---- how run 0 begins, and a file put into the mailbox of its subscriber
 
 abbrev uploading : Course → Call
 uploading s = begins 0 (s .runs 0) Upload 1 7 (lent (65 ∷ []) [])
@@ -123,70 +82,6 @@ downloading s = begins 0 (s .runs 0) Download 1 7 (lent [] (replicate fileBytes 
 
 abbrev filling : Course → Call
 filling s = filePut (s .bank .bank) (s .bank .boxes) 1 (66 ∷ 67 ∷ [])
-
--- ---- these calls are allowed
-
-abbrev some : {A : Type 0} → List A → Bool
-some [] = false
-some (x ∷ l) = true
-
-first-issue : (l : List Issue) → some l ≡ true → In (newestIssue l) l
-first-issue [] h = never h
-first-issue (x ∷ l) h = here refl
-
-first-exchange : (l : List Exchange) → some l ≡ true → In (newestExchange l) l
-first-exchange [] h = never h
-first-exchange (x ∷ l) h = here refl
-
--- the newest request is one of run 0
-record Issued (s : Course) : Type 0 where
-  any : some (s .issued) ≡ true
-  own : newestIssue (s .issued) .run ≡ 0
-
--- and the newest exchange is that of its copy
-record Answered (s : Course) : Type 0 where
-  issue : Issued s
-  any : some (s .exchanged) ≡ true
-  copy : newestIssue (s .issued) .frame ≡ newestExchange (s .exchanged) .request
-
-allowed-comes : (s : Course) → Issued s → Allowed (comes s) s
-allowed-comes s h = go (frameCall (s .bank) 1000 (replicate 8 0) (newestIssue (s .issued) .frame) (replicate 312 0) .answer)
-  where
-    go : (a : FrameAnswer) → terms.Answered a ((s .bank ≡ s .bank) ×
-        (isSubscribers (newestIssue (s .issued) .frame) ≡ true → (i : ℕ) × IssuedBy i (newestIssue (s .issued) .frame) s))
-    go (frameAnswer.Reply n) = (refl, λ _. (0, (newestIssue (s .issued), first-issue (s .issued) (h .any), h .own, refl)))
-    go frameAnswer.WrongLength = tt
-
-allowed-answers : (s : Course) → Answered s → Allowed (answers s) s
-allowed-answers s h = λ _. (
-  (refl, refl, refl),
-  (
-    newestExchange (s .exchanged),
-    first-exchange (s .exchanged) (h .any),
-    refl,
-    (newestIssue (s .issued), first-issue (s .issued) (h .issue .any), h .issue .own, h .copy),
-  ),
-)
-
-allowed-silence : (s : Course) → Allowed (silence s) s
-allowed-silence s = λ _. (refl, refl, refl)
-
--- a request that is answered
-abbrev bankCalled : Course → FrameCall
-bankCalled s = frameCall (s .bank) 1000 (replicate 8 0) (newestIssue (s .issued) .frame) (replicate 312 0)
-
-abbrev isReply : FrameAnswer → Bool
-isReply (frameAnswer.Reply n) = true
-isReply frameAnswer.WrongLength = false
-
-answered-comes : (s : Course) → Issued s → isReply (bankCalled s .answer) ≡ true → Answered (exec (comes s) s)
-unfolding course.exec
-answered-comes s h = go (bankCalled s .answer)
-  where
-    go : (a : FrameAnswer) → isReply a ≡ true →
-        Answered (afterFrame a (bankCalled s) (advanced 1000 (s .bank)) (newestIssue (s .issued) .frame) s)
-    go (frameAnswer.Reply n) e = record { issue = record { any = h .any; own = h .own }; any = refl; copy = refl }
-    go frameAnswer.WrongLength e = never e
 
 -- ---- an upload that is lodged, and one whose last segment is repeated
 
@@ -210,15 +105,12 @@ repeating = uploading start ∷ comes up1 ∷ answers up2 ∷ comes up3 ∷ come
 
 -- ---- an upload whose last reply is lost ends unclear, and its order is booked
 
-abbrev silent : ℕ → Course
-silent zero = up4
-silent (suc n) = exec (silence (silent n)) (silent n)
+abbrev silences : ℕ → Course → List Call
+silences zero s = []
+silences (suc n) s = silence s ∷ silences n (exec (silence s) s)
 
 abbrev losing : List Call
-losing =
-    uploading start ∷ comes up1 ∷ answers up2 ∷ comes up3 ∷ silence (silent 0) ∷ silence (silent 1) ∷ silence (silent 2) ∷ silence
-    (silent 3)
-    ∷ silence (silent 4) ∷ silence (silent 5) ∷ []
+losing = uploading start ∷ comes up1 ∷ answers up2 ∷ comes up3 ∷ silences 6 up4
 
 -- ---- a download is fetched
 
@@ -243,23 +135,20 @@ fetching = filling start ∷ downloading down0 ∷ comes down1 ∷ answers down2
 -- ---- what the lists compute to
 
 record Computed : Type 0 where
-  up1-issued : Issued up1
-  up1-answered : isReply (bankCalled up1 .answer) ≡ true
-  up3-issued : Issued up3
-  up3-answered : isReply (bankCalled up3 .answer) ≡ true
-  up4-issued : Issued up4
+  start-alone : isAlone start ≡ true
+  -- 48 and 39: the lengths of the upload transfer of one byte and of the receipt
+  up1-turns : TwoTurns up1 48 Lodged
   lodging-numbers : OneExchangeNumber (after lodging start)
   lodging-ends : (after lodging start .runs 0 .stage ≡ stage.Ended Lodged) ×
       (placeAt (after lodging start .bank .bank) 0 .used ≡ uses.Booked)
   repeating-numbers : OneExchangeNumber (after repeating start)
   repeating-ends : returnCode (readReply (newestExchange (after repeating start .exchanged) .reply)) ≡ codeField code.UnknownTransaction
+  silence-taken : answerNumber (silenceCall (up4 .runs 0) (lent (up4 .payloads 0) (up4 .files 0)) .answer) ≡ 0
   losing-numbers : OneExchangeNumber (after losing start)
   losing-ends : (after losing start .runs 0 .stage ≡ stage.Ended Unclear) ×
       (placeAt (after losing start .bank .bank) 0 .used ≡ uses.Booked)
-  down1-issued : Issued down1
-  down1-answered : isReply (bankCalled down1 .answer) ≡ true
-  down3-issued : Issued down3
-  down3-answered : isReply (bankCalled down3 .answer) ≡ true
+  down0-alone : isAlone down0 ≡ true
+  down1-turns : TwoTurns down1 39 Fetched
   fetching-numbers : OneExchangeNumber (after fetching start)
   fetching-ends : (after fetching start .runs 0 .stage ≡ stage.Ended Fetched) ×
       (heldOf (after fetching start .runs 0) (after fetching start .files 0) ≡ 66 ∷ 67 ∷ []) ×
@@ -302,21 +191,29 @@ unfolding frameBytes.numberFrom frameBytes.number frameBytes.bytesOf frameBytes.
     clientRulings.beginRuling clientRulings.rulingNotBegun clientRulings.rulingRunning clientRulings.rulingEnded course.start
     course.mailboxOf course.heldOf course.emptied course.exec course.after OneExchangeNumber isSubscribers
 computed = record {
-  up1-issued = record { any = refl; own = refl };
-  up1-answered = refl;
-  up3-issued = record { any = refl; own = refl };
-  up3-answered = refl;
-  up4-issued = record { any = refl; own = refl };
+  start-alone = refl;
+  up1-turns = record {
+    begun = asking refl nothing;
+    first = record { reply = refl; request-new = refl; hour = refl; reply-new = refl; answer = refl; alone = refl; alone-came = refl };
+    second = record { reply = refl; request-new = refl; hour = refl; reply-new = refl; answer = refl; alone = refl; alone-came = refl };
+    alone-closed = refl;
+    opening = (_, there (here refl), inl refl, refl);
+  };
   lodging-numbers = distinct-nodup (8 ∷ 7 ∷ []) refl;
   lodging-ends = (refl, refl);
   repeating-numbers = distinct-nodup (8 ∷ 7 ∷ []) refl;
   repeating-ends = refl;
+  silence-taken = refl;
   losing-numbers = distinct-nodup (13 ∷ 12 ∷ 11 ∷ 10 ∷ 9 ∷ 8 ∷ 7 ∷ []) refl;
   losing-ends = (refl, refl);
-  down1-issued = record { any = refl; own = refl };
-  down1-answered = refl;
-  down3-issued = record { any = refl; own = refl };
-  down3-answered = refl;
+  down0-alone = refl;
+  down1-turns = record {
+    begun = asking refl nothing;
+    first = record { reply = refl; request-new = refl; hour = refl; reply-new = refl; answer = refl; alone = refl; alone-came = refl };
+    second = record { reply = refl; request-new = refl; hour = refl; reply-new = refl; answer = refl; alone = refl; alone-came = refl };
+    alone-closed = refl;
+    opening = (_, there (here refl), inr refl, refl);
+  };
   fetching-numbers = distinct-nodup (8 ∷ 7 ∷ []) refl;
   fetching-ends = (refl, refl, refl);
 }
@@ -324,78 +221,68 @@ computed = record {
 -- ---- the lists meet the premises
 
 lodging-allowed : AllAllowed lodging start
-lodging-allowed = (
-  λ _. refl,
-  (
-    allowed-comes up1 (computed .up1-issued),
-    (
-      allowed-answers up2 (answered-comes up1 (computed .up1-issued) (computed .up1-answered)),
-      (
-        allowed-comes up3 (computed .up3-issued),
-        (
-          allowed-answers up4
-              (answered-comes up3 (computed .up3-issued) (computed .up3-answered)),
-          tt,
-        ),
-      ),
-    ),
-  ),
-)
+lodging-allowed = (λ _. refl, order-allowed up1 (computed .up1-turns))
+
+-- up to the arrival of the segment, repeating and losing are the same
+segment-allowed : (ks : List Call) → AllAllowed ks up4 → AllAllowed (uploading start ∷ comes up1 ∷ answers up2 ∷ comes up3 ∷ ks) start
+segment-allowed ks rest =
+    let o = computed .up1-turns in
+    (λ _. refl, turn-allowed up1 (o .begun) (o .first) (comes up3 ∷ ks) (allowed-comes up3 (asking-issued (order-asking up1 o)), rest))
 
 repeating-allowed : AllAllowed repeating start
-repeating-allowed = (
-  λ _. refl,
-  (
-    allowed-comes up1 (computed .up1-issued),
-    (
-      allowed-answers up2 (answered-comes up1 (computed .up1-issued) (computed .up1-answered)),
-      (allowed-comes up3 (computed .up3-issued), (allowed-comes up4 (computed .up4-issued), tt)),
-    ),
-  ),
-)
+repeating-allowed =
+    segment-allowed (comes up4 ∷ []) (allowed-comes up4 (replying-issued (order-replying up1 (computed .up1-turns))), tt)
+
+silences-allowed : (n : ℕ) (s : Course) → AllAllowed (silences n s) s
+silences-allowed zero s = tt
+silences-allowed (suc n) s = (allowed-silence s, silences-allowed n (exec (silence s) s))
 
 losing-allowed : AllAllowed losing start
-losing-allowed = (
-  λ _. refl,
-  (
-    allowed-comes up1 (computed .up1-issued),
-    (
-      allowed-answers up2 (answered-comes up1 (computed .up1-issued) (computed .up1-answered)),
-      (
-        allowed-comes up3 (computed .up3-issued),
-        (
-          allowed-silence (silent 0),
-          (
-            allowed-silence (silent 1),
-            (
-              allowed-silence (silent 2),
-              (allowed-silence (silent 3), (allowed-silence (silent 4), (allowed-silence (silent 5), tt))),
-            ),
-          ),
-        ),
-      ),
-    ),
-  ),
-)
+losing-allowed = segment-allowed (silences 6 up4) (silences-allowed 6 up4)
 
 fetching-allowed : AllAllowed fetching start
-fetching-allowed = (
-  λ _. (refl, refl),
-  (
-    λ _. refl,
-    (
-      allowed-comes down1 (computed .down1-issued),
-      (
-        allowed-answers down2 (answered-comes down1 (computed .down1-issued) (computed .down1-answered)),
-        (
-          allowed-comes down3 (computed .down3-issued),
-          (
-            allowed-answers down4
-                (answered-comes down3 (computed .down3-issued) (computed .down3-answered)),
-            tt,
-          ),
-        ),
-      ),
-    ),
-  ),
+fetching-allowed = (λ _. (refl, refl), (λ _. refl, order-allowed down1 (computed .down1-turns)))
+
+-- ---- an order in turn: lodging and fetching meet the premises of the clause, losing does not
+
+-- "has closed as lodged or fetched"
+abbrev Closed : List Call → Type 0
+Closed ks = (after ks start .runs 0 .stage ≡ stage.Ended Lodged) ⊎ (after ks start .runs 0 .stage ≡ stage.Ended Fetched)
+
+lodging-in-turn : AllInTurn 0 lodging start
+lodging-in-turn = (alone start (computed .start-alone), tt, order-in-turn up1 (computed .up1-turns))
+
+lodging-accepted : Accepted 0 (after lodging start)
+unfolding after
+lodging-accepted = order-accepted up1 (computed .up1-turns)
+
+lodging-settled : Settled (after lodging start) 0
+unfolding after
+lodging-settled = order-settled up1 (computed .up1-turns)
+
+lodging-closed : Closed lodging
+unfolding Demand3
+lodging-closed = demand3 lodging [] lodging-allowed (computed .lodging-numbers) .1 0 lodging-in-turn lodging-accepted lodging-settled
+
+fetching-in-turn : AllInTurn 0 fetching start
+fetching-in-turn = (
+  alone start (computed .start-alone),
+  tt,
+  (alone down0 (computed .down0-alone), tt, order-in-turn down1 (computed .down1-turns)),
 )
+
+fetching-accepted : Accepted 0 (after fetching start)
+unfolding after
+fetching-accepted = order-accepted down1 (computed .down1-turns)
+
+fetching-settled : Settled (after fetching start) 0
+unfolding after
+fetching-settled = order-settled down1 (computed .down1-turns)
+
+fetching-closed : Closed fetching
+unfolding Demand3
+fetching-closed = demand3 fetching [] fetching-allowed (computed .fetching-numbers) .1 0 fetching-in-turn fetching-accepted fetching-settled
+
+-- a call of "no reply" that is given no number is not in turn
+losing-not-in-turn : AllInTurn 0 losing start → ⊥
+losing-not-in-turn h = h .2 .2 .2 .2 .1 (computed .silence-taken) refl

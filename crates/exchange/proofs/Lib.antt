@@ -20,4 +20,5 @@ pub mod OwnRequests
 pub mod OwnReplies
 pub mod Turn
 pub mod Theorem
+pub mod ExampleCalls
 pub mod Examples
