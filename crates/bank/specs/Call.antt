@@ -59,7 +59,7 @@ refused w q c = record { world = w; reply = refusal (phase q) (exchange q) c; re
 -- the bytes of segment s of a subscriber's mailbox; segment 0 stands for none
 unfoldable pub mailboxSegment : World → ℕ → ℕ → List ℕ
 mailboxSegment w subscriber s =
-    cond (eqb s 0) [] (segmentOf (fileOf (w .boxes) (subscriber - 1) (fileLength subscriber (w .bank))) s)
+    cond (eqb s 0) [] (segmentOf (fileOf (w .boxes) (subscriber - 1) (fileLength subscriber (w .bank .files))) s)
 
 -- a request of a subscriber, and both stores of their length: what its step asks
 pub record Ready (q : Fields) (orders boxes : List ℕ) : Type 0 where
@@ -110,7 +110,7 @@ downloadsAfter Empties i s w q = emptied (subscriber q) w
 -- a request to the open download of record i
 unfoldable pub downloadStepAt : ℕ → World → DownloadRequest → Fields → Step
 downloadStepAt i w r q =
-    let s = downloadStep (w .bank .clock) r (downloadAt (w .bank) i) (segmentsOf (fileLength (subscriber q) (w .bank))) q in
+    let s = downloadStep (w .bank .clock) r (downloadAt (w .bank) i) (segmentsOf (fileLength (subscriber q) (w .bank .files))) q in
     record { world = downloadsAfter (s .ending) i s w q; reply = s .reply; replyData = mailboxSegment w (subscriber q) (s .segment) }
 
 -- "091101: transaction ID not open for this subscriber"; else a step of that transaction
@@ -156,20 +156,32 @@ abbrev pub answerOf : Written → FrameAnswer
 answerOf (written.Length n) = Reply n
 answerOf written.Refused = WrongLength
 
--- what a call leaves: the bank, both stores, the reply buffer, and the answer
+-- document 01's number for an answer, 0 where there is a reply
+abbrev pub frameNumber : FrameAnswer → ℕ
+frameNumber (Reply n) = 0
+frameNumber WrongLength = 1
+
+-- what a call leaves: the bank, both stores, the reply buffer, the answer, and document 01's number for it
 pub record FrameCall : Type 0 where
   pub world : World
   pub buffer : List ℕ
   pub answer : FrameAnswer
+  pub number : ℕ
 
 abbrev pub frameCallOf : FrameOut → List ℕ → List ℕ → List ℕ → FrameCall
-frameCallOf r orders boxes buffer = record { world = world (r .bank) orders boxes; buffer = buffer; answer = r .answer }
+frameCallOf r orders boxes buffer = record {
+  world = world (r .bank) orders boxes;
+  buffer = buffer;
+  answer = r .answer;
+  number = frameNumber (r .answer);
+}
 
 abbrev pub replied : Step → List ℕ → FrameCall
 replied s buffer = record {
   world = s .world;
   buffer = writeBuffer (s .reply) (s .replyData) buffer;
   answer = answerOf (writeAnswer (s .reply) (s .replyData) buffer);
+  number = frameNumber (answerOf (writeAnswer (s .reply) (s .replyData) buffer));
 }
 
 -- number 1: "a lent length differs from the above or is too short for what is to be written"
@@ -182,9 +194,4 @@ unfoldable pub frameCall : World → ℕ → List ℕ → List ℕ → List ℕ 
 frameCall w time ids frame buffer =
     cond (lentRight w ids buffer)
     (replied (respond (number ids) (advanced time w) (readRequest frame) (dataOf frame)) buffer)
-    (record { world = w; buffer = buffer; answer = WrongLength })
-
--- document 01's number for an answer, 0 where there is a reply
-abbrev pub frameNumber : FrameAnswer → ℕ
-frameNumber (Reply n) = 0
-frameNumber WrongLength = 1
+    (record { world = w; buffer = buffer; answer = WrongLength; number = frameNumber WrongLength })

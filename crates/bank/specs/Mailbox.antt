@@ -21,7 +21,7 @@ fileRefusals b mailbox file boxes =
     (not (eqb (length boxes) storeBytes), WrongLength)
     ∷ (ltb mailbox 1 || ltb subscribers mailbox, NoMailbox)
     ∷ (eqb (length file) 0 || ltb fileBytes (length file), WrongFile)
-    ∷ (not (eqb (fileLength mailbox b) 0), MailboxFull)
+    ∷ (not (eqb (fileLength mailbox (b .files)) 0), MailboxFull)
     ∷ []
 
 -- document 01's numbers, 0 where the file is in the mailbox
@@ -32,23 +32,26 @@ fileNumber NoMailbox = 2
 fileNumber WrongFile = 3
 fileNumber MailboxFull = 4
 
--- what the call leaves: the bank, the mailboxes' store, and the answer
+-- what the call leaves: the bank, the mailboxes' store, the answer, and document 01's number for it
 pub record FileCall : Type 0 where
   pub bank : Bank
   pub boxes : List ℕ
   pub answer : FileAnswer
+  pub number : ℕ
 
 abbrev pub fileCallOf : FileOut → List ℕ → FileCall
-fileCallOf r boxes = record { bank = r .bank; boxes = boxes; answer = r .answer }
+fileCallOf r boxes = record { bank = r .bank; boxes = boxes; answer = r .answer; number = fileNumber (r .answer) }
 
+-- "a number, nothing changed"
 abbrev pub refusedFile : FileAnswer → Bank → List ℕ → FileCall
-refusedFile a b boxes = record { bank = b; boxes = boxes; answer = a }
+refusedFile a b boxes = record { bank = b; boxes = boxes; answer = a; number = fileNumber a }
 
 abbrev pub carryOutFile : FileAnswer → Bank → ℕ → List ℕ → List ℕ → FileCall
 carryOutFile Done b mailbox file boxes = record {
   bank = withFiles (set (b .files) (mailbox - 1) (length file)) b;
   boxes = overwrite boxes ((mailbox - 1) * fileBytes) file;
   answer = Done;
+  number = fileNumber Done;
 }
 carryOutFile WrongLength b mailbox file boxes = refusedFile WrongLength b boxes
 carryOutFile NoMailbox b mailbox file boxes = refusedFile NoMailbox b boxes

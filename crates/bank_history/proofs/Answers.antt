@@ -10,14 +10,14 @@ use lib.ListN.{length, take, drop}
 use lib.Seq.{take-at, drop-at}
 use borrow.Author.Tests.{leb-true}
 use Rattle.frame.specs.declared.fields.Fields.{Fields}
-use Rattle.frame.specs.Bytes.{number, overwrite}
+use Rattle.frame.specs.Bytes.{Bytes, number, overwrite}
 use Rattle.frame.specs.Names.{form}
 use Rattle.frame.specs.Reader.{readRequest, readReply}
 use Rattle.frame.specs.Row.{dataOf}
 use Rattle.frame.specs.Table.{isRequestForm, isReplyForm}
 use Rattle.frame.specs.Writer.{frameOf}
 use Rattle.frame.proofs.Tests.{and-true}
-use Rattle.frame.proofs.Numbers.{Bytes, bytesOf-number, number-lt}
+use Rattle.frame.proofs.Numbers.{bytesOf-number, number-lt}
 use Rattle.frame.proofs.Build.{written-in-front}
 use Rattle.frame.proofs.Theorems.{written-reply, written-data}
 use Rattle.message.proofs.Writable.{unreadable-written}

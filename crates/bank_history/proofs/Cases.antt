@@ -68,17 +68,16 @@ use Rattle.bank_history.specs.History.{
   eventOf,
   segmentsNow,
 }
+use Rattle.bank_step.proofs.Verdicts.{by-test}
+use Rattle.bank_step.proofs.UploadVerdicts.{UploadSound, judged-upload}
 use Rattle.bank_history.proofs.Judged.{
   Acceptable,
   DownloadSound,
   OpeningSound,
-  UploadSound,
-  by-test,
   by-test-two,
   download,
   judged-download,
   judged-opening,
-  judged-upload,
   refuse,
   upload,
 }
@@ -129,7 +128,7 @@ pub data Happens (lent : ℕ) (w : World) (q : Fields) (d : List ℕ) : Event �
   opensUpload : form q ≡ forms.UploadOpening → Admitted q d → Acceptable (w .bank) q → (segments q ≡ 0 → ⊥) →
       freePlace (w .bank) < placeCount →
       Happens lent w q d (Of (transactionOf lent (w .bank)) OpenedUpload) (openingStepBy (openUpload lent q (w .bank)) w q)
-  opensDownload : form q ≡ forms.DownloadOpening → Admitted q d → Acceptable (w .bank) q → (fileLength (subscriber q) (w .bank) ≡ 0 → ⊥) →
+  opensDownload : form q ≡ forms.DownloadOpening → Admitted q d → Acceptable (w .bank) q → (fileLength (subscriber q) (w .bank .files) ≡ 0 → ⊥) →
       Happens lent w q d (Of (transactionOf lent (w .bank)) (OpenedDownload (segmentsNow w q)))
       (openingStepBy (openDownload lent q (w .bank)) w q)
   toUpload : (i : ℕ) (transfer : Bool) (r : DownloadRequest) (v : UploadVerdict) → Admitted q d → AskedBy q transfer r → i < placeCount →

@@ -57,7 +57,7 @@ use Rattle.bank_history.specs.Invariant.{Sizes, Invariant, Holds}
 use Rattle.bank_history.specs.Standing.{Emptied, Filled, Gone, filled, answered}
 use Rattle.bank_state.proofs.Drops.{each-endDownloads}
 use Rattle.bank_history.proofs.Rows.{each-set-all}
-use Rattle.bank_history.proofs.Judged.{by-test}
+use Rattle.bank_step.proofs.Verdicts.{by-test}
 use Rattle.bank_history.proofs.Cases.{
   Happens,
   unreadable,
@@ -70,7 +70,8 @@ use Rattle.bank_history.proofs.Cases.{
   downloadStepBy,
   happens,
 }
-use Rattle.bank_history.proofs.Uploads.{entry, upload-found}
+use Rattle.bank_state.proofs.Found.{upload-found}
+use Rattle.bank_history.proofs.Uploads.{entry}
 use Rattle.bank_history.proofs.DownloadVerdicts.{mailbox-other}
 use Rattle.bank_history.proofs.Clock.{
   advanced-keeps,
@@ -102,7 +103,7 @@ after-frame time ids frame buffer p =
     at WrongLength = inl refl
 
 -- an empty mailbox has no file
-no-file : (w : World) (m : ℕ) → fileLength m (w .bank) ≡ 0 → mailboxFile w m ≡ []
+no-file : (w : World) (m : ℕ) → fileLength m (w .bank .files) ≡ 0 → mailboxFile w m ≡ []
 unfolding mailboxFile fileOf
 no-file w m e = ap (λ (n : ℕ). take n (partAt (w .boxes) (m - 1))) e
 

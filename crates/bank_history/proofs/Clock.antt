@@ -47,7 +47,7 @@ use Rattle.bank_step.specs.Openings.{fileLength}
 use Rattle.bank_history.specs.History.{Exchange, mailboxFile}
 use Rattle.bank_history.specs.Invariant.{Sizes, PlaceHolds, DownloadHolds, Invariant, NoneIdle}
 use Rattle.bank_history.proofs.Rows.{count-set-le, packed-keepOnly}
-use Rattle.bank_history.proofs.Judged.{by-test, and-false}
+use Rattle.bank_step.proofs.Verdicts.{by-test, and-false}
 use Rattle.bank_history.proofs.Memory.{memory-later}
 use Rattle.bank_history.proofs.PlaceChange.{place-change}
 use Rattle.bank_history.proofs.DownloadChange.{download-change}

@@ -57,8 +57,9 @@ use Rattle.bank_history.proofs.Cases.{
   downloadStepBy,
 }
 use Rattle.bank_history.proofs.Entries.{same-bits, bits-same}
-use Rattle.bank_history.proofs.Uploads.{upload-found, place-number}
-use Rattle.bank_history.proofs.Downloads.{download-found, download-open, downloads-apart}
+use Rattle.bank_state.proofs.Found.{upload-found, download-found}
+use Rattle.bank_history.proofs.Uploads.{place-number}
+use Rattle.bank_history.proofs.Downloads.{download-open, downloads-apart}
 use Rattle.bank_history.proofs.Openings.{free-inside-open}
 use Rattle.bank_history.proofs.UploadRequests.{event-by-form, respond-by-form, upload-opens-not, download-opens-not}
 

@@ -5,10 +5,9 @@ use mathlib.Core.List.{List, [], _∷_}
 use mathlib.Core.Path.{_≡_, refl, sym, ap, _∙_, subst}
 use native.Mathlib.Decide.{ℕ-discrete}
 use native.Mathlib.Omega.{arith}
-use lib.Dec.{eqb}
 use lib.ListN.{length, getD, set, length-set}
 use lib.Seq.{getD-set-same, getD-set-other}
-use borrow.Author.Tests.{eqb-false, eq-eqb}
+use borrow.Author.Tests.{eq-eqb}
 use Rattle.frame.specs.declared.fields.Fields.{Fields}
 use Rattle.frame.specs.declared.table.Form.the-variants as forms
 use Rattle.frame.specs.Names.{subscriber, transaction, segment, receiptCode, form}
@@ -21,12 +20,13 @@ use Rattle.bank_state.specs.declared.state.Nonce.{Nonce}
 use Rattle.bank_state.specs.Clock.{ends, endDownloads}
 use Rattle.bank_state.specs.Limits.{placeCount, storeBytes}
 use Rattle.bank_state.specs.Search.{isDownload}
-use Rattle.bank_state.specs.State.{World, world, downloadAt}
+use Rattle.bank_state.specs.State.{World, world, noDownload, downloadAt}
 use Rattle.bank_state.specs.Store.{partAt, zeroed, fileOf}
 use Rattle.bank_step.specs.declared.downloads.DownloadRequest.{DownloadRequest}
 use Rattle.bank_step.specs.declared.downloads.DownloadRequest.the-variants as asked
 use Rattle.bank_step.specs.declared.downloads.DownloadVerdict.{DownloadVerdict}
 use Rattle.bank_step.specs.declared.downloads.DownloadVerdict.the-variants as down
+use Rattle.bank_step.specs.Downloads.{carryOutDownload}
 use Rattle.bank_step.specs.Openings.{fileLength}
 use Rattle.bank.specs.Call.{Step, mailboxSegment}
 use Rattle.bank_history.specs.History.{
@@ -49,7 +49,9 @@ use Rattle.bank_history.specs.History.{
 }
 use Rattle.bank_history.specs.Sound.{SoundRequest, SoundDownload, SoundData, SoundReceipt, Sound}
 use Rattle.bank_history.specs.Invariant.{OpenDownload, MailboxHolds, Invariant}
+use Rattle.bank_state.proofs.Found.{download-found}
 use Rattle.bank_state.proofs.Stores.{length-zeroed, zeroed-same, zeroed-other}
+use Rattle.bank.proofs.Safety.{emptied-ends}
 use Rattle.bank_history.proofs.Judged.{DownloadSound, deliver, resend, point, abort, done, skipped}
 use Rattle.bank_history.proofs.Cases.{
   AskedBy,
@@ -64,7 +66,6 @@ use Rattle.bank_history.proofs.Records.{download-moved}
 use Rattle.bank_history.proofs.DownloadChange.{besides}
 use Rattle.bank_history.proofs.Uploads.{entry}
 use Rattle.bank_history.proofs.Downloads.{
-  download-found,
   file-long,
   download-open,
   moved-step,
@@ -270,17 +271,18 @@ module _ (w : World) (h : List Exchange) (v : Invariant w h) (q : Fields) (d : L
       boxes : List ℕ
       boxes = zeroed (w .boxes) box
 
-      same : (i : ℕ) → downloadAt (w .bank) i .used ≡ true → eqb (downloadAt (w .bank) i .subscriber) (subscriber q) ≡ false →
-          mailboxFile (besides (w .bank .clock) (w .bank .openings) (endDownloads (ended.Mailbox (subscriber q)) (w .bank .downloads))
-          (w .bank .nonces) files boxes w) (downloadAt (w .bank) i .subscriber)
-          ≡ mailboxFile w (downloadAt (w .bank) i .subscriber)
-      same i a f =
-          let k = download-open w h v i a .known in
-          let l = eqb-false (downloadAt (w .bank) i .subscriber) (subscriber q) f in
+      downs : List Download
+      downs = endDownloads (ended.Mailbox (subscriber q)) (w .bank .downloads)
+
+      same : (i : ℕ) → getD downs i noDownload .used ≡ true → 1 ≤ getD downs i noDownload .subscriber →
+          mailboxFile (besides (w .bank .clock) (w .bank .openings) downs (w .bank .nonces) files boxes w)
+          (getD downs i noDownload .subscriber)
+          ≡ mailboxFile w (getD downs i noDownload .subscriber)
+      same i a k =
           let m = admitted .known in
-          mailbox-other w box (v .sizes .boxes) inside (w .bank .clock) (w .bank .openings)
-          (endDownloads (ended.Mailbox (subscriber q)) (w .bank .downloads)) (w .bank .nonces) (downloadAt (w .bank) i .subscriber)
-          (λ e. l (omega arith))
+          mailbox-other w box (v .sizes .boxes) inside (w .bank .clock) (w .bank .openings) downs (w .bank .nonces)
+          (getD downs i noDownload .subscriber)
+          (λ e. emptied-ends j (carryOutDownload down.Done (w .bank .clock) old n q) w q i a (omega arith))
 
       mailboxes : (i : ℕ) → i < placeCount → MailboxHolds (getD files i 0) (partAt boxes i)
       mailboxes i a = mailbox-emptied w box (v .sizes .boxes) inside (v .sizes .files) (v .mailboxes) i a

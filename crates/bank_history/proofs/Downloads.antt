@@ -7,9 +7,9 @@ use native.Mathlib.Decide.{decLt}
 use native.Mathlib.Omega.{arith}
 use lib.Dec.{eqb}
 use lib.ListN.{length, getD, set, length-set, length-take, List·getD-eq-default}
-use borrow.Author.Tests.{eqb-true, ne-eqb, not-true}
+use borrow.Author.Tests.{ne-eqb, not-true}
 use Rattle.frame.specs.declared.fields.Bits128.{Bits128}
-use Rattle.frame.specs.Names.{subscriber, transaction, sameBits}
+use Rattle.frame.specs.Names.{subscriber, transaction}
 use Rattle.frame.proofs.Tests.{never, and-true}
 use Rattle.message.specs.Limits.{subscribers}
 use Rattle.message.specs.Segments.{segmentsOf, segmentOf}
@@ -17,7 +17,7 @@ use Rattle.bank_state.specs.declared.clock.Ended.{Ended}
 use Rattle.bank_state.specs.declared.state.Download.{Download}
 use Rattle.bank_state.specs.Clock.{ends, endDownloads}
 use Rattle.bank_state.specs.Limits.{placeCount, storeBytes}
-use Rattle.bank_state.specs.Search.{isFree, isDownload, openCount, openCountOf}
+use Rattle.bank_state.specs.Search.{isFree, openCount, openCountOf}
 use Rattle.bank_state.specs.State.{World, noDownload, placeAt, downloadAt}
 use Rattle.bank_state.specs.Store.{partAt, fileOf}
 use Rattle.bank_step.specs.Downloads.{movedTo}
@@ -54,18 +54,9 @@ use Rattle.bank_history.proofs.Records.{download-unchanged}
 use Rattle.bank_history.proofs.DownloadChange.{besides, download-change}
 use Rattle.bank_history.proofs.Uploads.{place-number}
 
--- what is found under a subscriber and a transaction ID
-pub download-found : (s : ℕ) (t : Bits128) (e : Download) → isDownload s t e ≡ true →
-    (e .used ≡ true) × (e .subscriber ≡ s) × (sameBits (e .transaction) t ≡ true)
-unfolding isDownload
-download-found s t e h =
-    let a = and-true (e .used && eqb (e .subscriber) s) (sameBits (e .transaction) t) h in
-    let b = and-true (e .used) (eqb (e .subscriber) s) (a .0) in
-    (b .0, eqb-true (e .subscriber) s (b .1), a .1)
-
 module _ (w : World) (h : List Exchange) (v : Invariant w h) where
   -- the file of a mailbox has the length that is kept for it
-  pub file-long : (s : ℕ) → 1 ≤ s → s ≤ subscribers → length (mailboxFile w s) ≡ fileLength s (w .bank)
+  pub file-long : (s : ℕ) → 1 ≤ s → s ≤ subscribers → length (mailboxFile w s) ≡ fileLength s (w .bank .files)
   unfolding mailboxFile fileLength fileOf
   file-long s a b =
       let inside : s - 1 < placeCount = omega arith in
@@ -188,10 +179,10 @@ module _ (w : World) (h : List Exchange) (v : Invariant w h) (j : ℕ) (used : d
 
   -- it ends, with every other download for which the test holds; the mailboxes of those that stay do not change
   pub ended-step : (which : Ended) (files boxes : List ℕ) → ends which e ≡ true →
-      ((i : ℕ) → downloadAt (w .bank) i .used ≡ true → ends which (downloadAt (w .bank) i) ≡ false →
+      ((i : ℕ) → let r = getD (endDownloads which (w .bank .downloads)) i noDownload in r .used ≡ true → 1 ≤ r .subscriber →
       mailboxFile (besides (w .bank .clock) (w .bank .openings) (endDownloads which (w .bank .downloads)) (w .bank .nonces) files boxes
-      w) (downloadAt (w .bank) i .subscriber)
-      ≡ mailboxFile w (downloadAt (w .bank) i .subscriber)) →
+      w) (r .subscriber)
+      ≡ mailboxFile w (r .subscriber)) →
       length files ≡ placeCount → length boxes ≡ storeBytes →
       ((i : ℕ) → i < placeCount → MailboxHolds (getD files i 0) (partAt boxes i)) → Sound x h →
       Invariant (besides (w .bank .clock) (w .bank .openings) (endDownloads which (w .bank .downloads)) (w .bank .nonces) files boxes w)
@@ -205,11 +196,10 @@ module _ (w : World) (h : List Exchange) (v : Invariant w h) (j : ℕ) (used : d
     counted = v .counted ∙ sym (accepted-own (e .transaction) k x h own ∙ rw noOpening refl);
     numbers = v .numbers;
     places = places-stay;
-    downloads = each-endDownloads
-        (λ (r : Download). DownloadHolds (r .used) (w .bank .clock) (w .bank .openings) (x ∷ h)
-        (mailboxFile (besides (w .bank .clock) (w .bank .openings) (endDownloads which (w .bank .downloads)) (w .bank .nonces) files
-        boxes w) (r .subscriber)) r)
-        refl which (w .bank .downloads) (λ i _ g. stays i g);
+    downloads = λ i.
+        moved _ _ (same i)
+        (each-endDownloads (λ (r : Download). Holds (r .used) (mailboxFile w (r .subscriber)) r) refl which (w .bank .downloads)
+        (λ l _ g. stays l g) i);
     mailboxes = mailboxes;
     apart = λ i l a f. each-endDownloads (λ (r : Download). r .used ≡ true → placeAt (w .bank) i .number ≡ r .transaction .low → ⊥)
         (λ g. never g) which (w .bank .downloads) (λ m _ g. v .apart i m a f) l;
@@ -228,16 +218,20 @@ module _ (w : World) (h : List Exchange) (v : Invariant w h) (j : ℕ) (used : d
       test : Download → Bool
       test r = r .used && not (ends which r)
 
+      Holds : Bool → List ℕ → Download → Type 0
+      Holds u file r = DownloadHolds u (w .bank .clock) (w .bank .openings) (x ∷ h) file r
+
+      moved : (u : Bool) (r : Download) {file : List ℕ} → (u ≡ true → 1 ≤ r .subscriber → file ≡ mailboxFile w (r .subscriber)) →
+          Holds u (mailboxFile w (r .subscriber)) r → Holds u file r
+      moved true r f k = rw (f refl (k .known)) k
+      moved false r f k = k
+
       stays : (i : ℕ) → test (downloadAt (w .bank) i) ≡ true →
-          DownloadHolds (downloadAt (w .bank) i .used) (w .bank .clock) (w .bank .openings) (x ∷ h)
-          (mailboxFile (besides (w .bank .clock) (w .bank .openings) (endDownloads which (w .bank .downloads)) (w .bank .nonces) files
-          boxes w) (downloadAt (w .bank) i .subscriber))
-          (downloadAt (w .bank) i)
+          Holds (downloadAt (w .bank) i .used) (mailboxFile w (downloadAt (w .bank) i .subscriber)) (downloadAt (w .bank) i)
       stays i g =
           let a = and-true (downloadAt (w .bank) i .used) (not (ends which (downloadAt (w .bank) i))) g in
           let f = not-true (ends which (downloadAt (w .bank) i)) (a .1) in
-          let n : i ≡ j → ⊥ = λ z. never (sym f ∙ (ap (λ (m : ℕ). ends which (downloadAt (w .bank) m)) z ∙ gone)) in
-          rw (same i (a .0) f) (other-stays i n)
+          other-stays i (λ z. never (sym f ∙ (ap (λ (m : ℕ). ends which (downloadAt (w .bank) m)) z ∙ gone)))
 
 -- the segment of a mailbox that a reply carries
 pub carried-segment : (w : World) (s n : ℕ) → 1 ≤ n → mailboxSegment w s n ≡ segmentOf (mailboxFile w s) n

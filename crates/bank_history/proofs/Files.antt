@@ -25,7 +25,7 @@ use Rattle.bank_history.specs.Standing.{filled}
 use Rattle.bank_history.specs.History.{Exchange, mailboxFile}
 use Rattle.bank_history.specs.Invariant.{DownloadHolds, MailboxHolds, Invariant}
 use Rattle.bank_history.proofs.Stores.{length-written, part-written, part-unwritten}
-use Rattle.bank_history.proofs.Judged.{by-test}
+use Rattle.bank_step.proofs.Verdicts.{by-test}
 use Rattle.bank_history.proofs.Places.{drop-replicate}
 use Rattle.bank_history.proofs.DownloadChange.{download-change}
 use Rattle.bank_history.proofs.Downloads.{file-long}
@@ -33,7 +33,7 @@ use Rattle.bank_history.proofs.Downloads.{file-long}
 -- what the tests tell of a file that goes in
 pub data FileSound (b : Bank) (mailbox : ℕ) (file boxes : List ℕ) : FileAnswer → Type 0 where
   rejected : {a : FileAnswer} → (0 < fileNumber a) → FileSound b mailbox file boxes a
-  done : 1 ≤ mailbox → mailbox ≤ subscribers → 1 ≤ length file → length file ≤ fileBytes → fileLength mailbox b ≡ 0 →
+  done : 1 ≤ mailbox → mailbox ≤ subscribers → 1 ≤ length file → length file ≤ fileBytes → fileLength mailbox (b .files) ≡ 0 →
       FileSound b mailbox file boxes put.Done
 
 pub judged-file : (b : Bank) (mailbox : ℕ) (file boxes : List ℕ) →
@@ -43,23 +43,23 @@ judged-file b mailbox file boxes =
     by-test P (not (eqb (length boxes) storeBytes)) (λ _. rejected (omega arith))
     (λ _. by-test P (ltb mailbox 1 || ltb subscribers mailbox) (λ _. rejected (omega arith))
     (λ from. by-test P (eqb (length file) 0 || ltb fileBytes (length file)) (λ _. rejected (omega arith))
-    (λ size. by-test P (not (eqb (fileLength mailbox b) 0)) (λ _. rejected (omega arith))
+    (λ size. by-test P (not (eqb (fileLength mailbox (b .files)) 0)) (λ _. rejected (omega arith))
     (λ empty. accepted (or-neither (ltb mailbox 1) (ltb subscribers mailbox) from)
     (or-neither (eqb (length file) 0) (ltb fileBytes (length file)) size)
-    (eqb-true (fileLength mailbox b) 0 (not-false _ empty))))))
+    (eqb-true (fileLength mailbox (b .files)) 0 (not-false _ empty))))))
   where
     P : FileAnswer → Type 0
     P a = FileSound b mailbox file boxes a
 
     accepted : (ltb mailbox 1 ≡ false) × (ltb subscribers mailbox ≡ false) →
         (eqb (length file) 0 ≡ false) × (ltb fileBytes (length file) ≡ false) →
-        fileLength mailbox b ≡ 0 → FileSound b mailbox file boxes put.Done
+        fileLength mailbox (b .files) ≡ 0 → FileSound b mailbox file boxes put.Done
     accepted m f e = done (ltb-false _ _ (m .0)) (ltb-false _ _ (m .1)) (let z = eqb-false (length file) 0 (f .0) in omega arith)
         (ltb-false _ _ (f .1)) e
 
 module _ (w : World) (h : List Exchange) (v : Invariant w h) (mailbox : ℕ) (file : List ℕ) (known : 1 ≤ mailbox)
     (most : mailbox ≤ subscribers)
-    (some : 1 ≤ length file) (short : length file ≤ fileBytes) (empty : fileLength mailbox (w .bank) ≡ 0) where
+    (some : 1 ≤ length file) (short : length file ≤ fileBytes) (empty : fileLength mailbox (w .bank .files) ≡ 0) where
   box : ℕ
   box = mailbox - 1
 
@@ -132,7 +132,7 @@ module _ (w : World) (h : List Exchange) (v : Invariant w h) (mailbox : ℕ) (fi
           let l = file-long w h v (downloadAt (w .bank) j .subscriber) (s .known) (s .most) in
           let f = s .full in
           let n : downloadAt (w .bank) j .subscriber ≡ mailbox →
-          ⊥ = λ z. (let y = ap (λ (m : ℕ). fileLength m (w .bank)) z in omega arith) in
+          ⊥ = λ z. (let y = ap (λ (m : ℕ). fileLength m (w .bank .files)) z in omega arith) in
           rw (filled-other (downloadAt (w .bank) j .subscriber) (λ z. n (omega arith))) s
 
   pub filled-keeps : Invariant (filled mailbox file w) h

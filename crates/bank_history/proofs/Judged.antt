@@ -1,21 +1,19 @@
--- The verdicts on a request to an open upload, to an open download and on an opening, each with the tests that led to it.
+-- The verdicts on a request to an open download and on an opening, each with the tests that led to it.
 use Prim.Native.Nat.{ℕ, _+_, _≤_, _<_}
 use mathlib.Core.Bool.{Bool, true, false, not, cond, _&&_, _||_}
 use mathlib.Core.List.{[], _∷_}
 use mathlib.Core.Path.{_≡_, refl, sym}
 use lib.Dec.{ltb, leb, eqb}
-use lib.ListN.{length}
-use borrow.Author.Tests.{ltb-true, ltb-false, leb-true, leb-false, eqb-true, eqb-false, not-false, lt-ltb, eq-eqb}
+use borrow.Author.Tests.{ltb-true, ltb-false, leb-true, leb-false, eqb-true, eqb-false, not-false}
 use Rattle.frame.specs.declared.fields.Fields.{Fields}
-use Rattle.frame.specs.Names.{subscriber, orderType, timestamp, nonce, segments, segment, lastMark, receiptCode}
+use Rattle.frame.specs.Names.{subscriber, orderType, timestamp, nonce, segments, segment, receiptCode}
 use Rattle.frame.proofs.Tests.{never, and-true, or-neither}
 use Rattle.message.specs.declared.codes.ReturnCode.{ReturnCode}
 use Rattle.message.specs.declared.codes.ReturnCode.the-variants as code
-use Rattle.message.specs.Limits.{ful, fdl, segmentsMost, fileBytes, attemptsMost}
+use Rattle.message.specs.Limits.{ful, fdl, segmentsMost, attemptsMost}
 use Rattle.message.specs.Verdicts.{decide}
 use Rattle.bank_state.specs.declared.state.Bank.{Bank}
 use Rattle.bank_state.specs.declared.state.Download.{Download}
-use Rattle.bank_state.specs.declared.state.Place.{Place}
 use Rattle.bank_state.specs.Limits.{placeCount, nonceCount, window, openMost, openPerSubscriber, openingsMost}
 use Rattle.bank_state.specs.Search.{freePlace, freeNonce, openCount, openCountOf, isRemembered}
 use Rattle.bank_step.specs.declared.downloads.DownloadRequest.{DownloadRequest}
@@ -26,8 +24,6 @@ use Rattle.bank_step.specs.declared.openings.Direction.{Direction}
 use Rattle.bank_step.specs.declared.openings.Direction.the-variants as way
 use Rattle.bank_step.specs.declared.openings.OpeningVerdict.{OpeningVerdict}
 use Rattle.bank_step.specs.declared.openings.OpeningVerdict.the-variants as opening
-use Rattle.bank_step.specs.declared.uploads.UploadVerdict.{UploadVerdict}
-use Rattle.bank_step.specs.declared.uploads.UploadVerdict.the-variants as up
 use Rattle.bank_step.specs.Downloads.{receiptAnswers, downloadRefusals, judgeDownload}
 use Rattle.bank_step.specs.Openings.{
   inTime,
@@ -38,60 +34,14 @@ use Rattle.bank_step.specs.Openings.{
   openingRefusals,
   judgeOpening,
 }
-use Rattle.bank_step.specs.Uploads.{fitsUpload, segmentRefusals, uploadRefusals, judgeUpload}
+use Rattle.bank_step.proofs.Verdicts.{by-test, and-false}
 use Rattle.bank_history.specs.Sound.{cancels}
 
--- a fact of what a test picks, from what the test tells
-pub by-test {ℓ} : {A : Type ℓ} (P : A → Type 0) (t : Bool) {a b : A} → (t ≡ true → P a) → (t ≡ false → P b) → P (cond t a b)
-by-test P true f g = f refl
-by-test P false f g = g refl
-
--- the same for two values picked by one test
+-- a fact of two values picked by one test, from what the test tells
 pub by-test-two : {A B : Type 0} (P : A → B → Type 0) (t : Bool) {a b : A} {c d : B} → (t ≡ true → P a c) → (t ≡ false → P b d) →
     P (cond t a b) (cond t c d)
 by-test-two P true f g = f refl
 by-test-two P false f g = g refl
-
-pub and-false : (a b : Bool) → a && b ≡ false → a ≡ true → b ≡ false
-and-false true b h e = h
-and-false false b h e = never e
-
--- ---- a request to an open upload
-
-pub data UploadSound (p : Place) (transfer : Bool) (q : Fields) (n : ℕ) : UploadVerdict → Type 0 where
-  take : transfer ≡ true → segment q ≡ p .taken + 1 → (segment q < p .segments → lastMark q ≡ 1 → ⊥) →
-      (segment q ≡ p .segments → lastMark q ≡ 0 → ⊥) → p .length + n ≤ fileBytes → UploadSound p transfer q n up.Take
-  point : p .attempts < attemptsMost → UploadSound p transfer q n up.Point
-  cancel : (c : ReturnCode) → cancels c ≡ true → UploadSound p transfer q n (up.Cancel c)
-  overfull : fileBytes < p .length + n → UploadSound p transfer q n (up.Cancel code.InternalError)
-
-module _ (p : Place) (transfer : Bool) (q : Fields) (n : ℕ) where
-  fits-upload : not (fitsUpload p transfer q) ≡ false → (transfer ≡ true) × (segment q ≡ p .taken + 1)
-  unfolding fitsUpload
-  fits-upload h =
-      let a = and-true transfer (eqb (segment q) (p .taken + 1)) (not-false (transfer && eqb (segment q) (p .taken + 1)) h) in
-      (a .0, eqb-true (segment q) (p .taken + 1) (a .1))
-
-  pub judged-upload : UploadSound p transfer q n (judgeUpload p transfer q n)
-  unfolding judgeUpload uploadRefusals segmentRefusals
-  judged-upload =
-      by-test P (not (fitsUpload p transfer q) && ltb (p .attempts) attemptsMost)
-      (λ e. point (ltb-true (p .attempts) attemptsMost (and-true (not (fitsUpload p transfer q)) _ e .1)))
-      (λ _. by-test P (not (fitsUpload p transfer q)) (λ _. cancel code.TransactionAbort refl)
-      (λ fit. by-test P (ltb (segment q) (p .segments) && eqb (lastMark q) 1) (λ _. cancel code.SegmentNumberUnderrun refl)
-      (λ early. by-test P (eqb (segment q) (p .segments) && eqb (lastMark q) 0) (λ _. cancel code.SegmentNumberExceeded refl)
-      (λ missing. by-test P (ltb fileBytes (p .length + n)) (λ e. overfull (ltb-true fileBytes (p .length + n) e))
-      (λ room. take (fits-upload fit .0) (fits-upload fit .1) (notEarly early) (notMissing missing)
-      (ltb-false fileBytes (p .length + n) room))))))
-    where
-      P : UploadVerdict → Type 0
-      P v = UploadSound p transfer q n v
-
-      notEarly : ltb (segment q) (p .segments) && eqb (lastMark q) 1 ≡ false → segment q < p .segments → lastMark q ≡ 1 → ⊥
-      notEarly e h = eqb-false (lastMark q) 1 (and-false (ltb (segment q) (p .segments)) (eqb (lastMark q) 1) e (lt-ltb _ _ h))
-
-      notMissing : eqb (segment q) (p .segments) && eqb (lastMark q) 0 ≡ false → segment q ≡ p .segments → lastMark q ≡ 0 → ⊥
-      notMissing e h = eqb-false (lastMark q) 0 (and-false (eqb (segment q) (p .segments)) (eqb (lastMark q) 0) e (eq-eqb _ _ h))
 
 -- ---- a request to an open download of n segments
 
@@ -164,7 +114,7 @@ pub record Acceptable (b : Bank) (q : Fields) : Type 0 where
 pub data OpeningSound (b : Bank) (q : Fields) : Direction → OpeningVerdict → Type 0 where
   refuse : (d : Direction) (c : ReturnCode) → cancels c ≡ false → OpeningSound b q d (opening.Refuse c)
   upload : Acceptable b q → (segments q ≡ 0 → ⊥) → freePlace b < placeCount → OpeningSound b q way.Upload opening.Accept
-  download : Acceptable b q → (fileLength (subscriber q) b ≡ 0 → ⊥) → OpeningSound b q way.Download opening.Accept
+  download : Acceptable b q → (fileLength (subscriber q) (b .files) ≡ 0 → ⊥) → OpeningSound b q way.Download opening.Accept
 
 in-time : (time clock : ℕ) → inTime time clock ≡ true → leb clock (time + window) ≡ true
 unfolding inTime
@@ -205,12 +155,12 @@ module _ (b : Bank) (q : Fields) where
       (λ _. by-test P (eqb (orderType q) ful) (λ _. refuse _ code.InvalidRequest refl)
       (λ _. by-test P (ltb segmentsMost (segments q)) (λ _. refuse _ code.MaxSegmentsExceeded refl)
       (λ many. by-test P (not (inTime (timestamp q) (b .clock)) || isRemembered (nonce q) b) (λ _. refuse _ code.MessageReplay refl)
-      (λ time. by-test P (eqb (fileLength (subscriber q) b) 0) (λ _. refuse _ code.NoDownloadDataAvailable refl)
+      (λ time. by-test P (eqb (fileLength (subscriber q) (b .files)) 0) (λ _. refuse _ code.NoDownloadDataAvailable refl)
       (λ some. by-test P (leb openPerSubscriber (openCountOf (subscriber q) b)) (λ _. refuse _ code.MaxTransactionsExceeded refl)
       (λ own. by-test P (leb openMost (openCount b)) (λ _. refuse _ code.InternalError refl)
       (λ all. by-test P (leb nonceCount (freeNonce b)) (λ _. refuse _ code.InternalError refl)
       (λ memory. by-test P (leb openingsMost (b .openings)) (λ _. refuse _ code.InternalError refl)
-      (λ number. download (facts many time own all memory number) (eqb-false (fileLength (subscriber q) b) 0 some))))))))))
+      (λ number. download (facts many time own all memory number) (eqb-false (fileLength (subscriber q) (b .files)) 0 some))))))))))
     where
       P : OpeningVerdict → Type 0
       P v = OpeningSound b q way.Download v

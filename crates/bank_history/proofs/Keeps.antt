@@ -57,7 +57,7 @@ use Rattle.bank_history.specs.History.{
 use Rattle.bank_history.specs.Packed.{rest}
 use Rattle.bank_history.specs.Sound.{Sound, none, more}
 use Rattle.bank_history.specs.Invariant.{Invariant, NoneIdle, Holds}
-use Rattle.bank_history.proofs.Judged.{by-test}
+use Rattle.bank_step.proofs.Verdicts.{by-test}
 use Rattle.bank_history.proofs.Cases.{
   Happens,
   unreadable,

@@ -23,31 +23,7 @@ use Rattle.bank_step.specs.declared.downloads.DownloadVerdict.{DownloadVerdict}
 use Rattle.bank_step.specs.declared.downloads.DownloadVerdict.the-variants as down
 use Rattle.bank_step.specs.Openings.{fileLength, counted, openUpload, openDownload}
 use Rattle.bank.specs.Call.{Step, respond}
-use Rattle.bank_history.specs.History.{
-  Took,
-  TookLast,
-  OpenedUpload,
-  OpenedDownload,
-  Delivered,
-  Confirmed,
-  Event,
-  Of,
-  Exchange,
-  Past,
-  BankCall,
-  Frame,
-  File,
-  isAction,
-  did,
-  exchangeOf,
-  after,
-  accepted,
-  openedBy,
-  fileAtOpening,
-  Stands,
-  segmentsNow,
-}
-use Rattle.bank_history.specs.Sound.{Sound, AllSound}
+use Rattle.bank_history.specs.History.{Took, TookLast, OpenedUpload, OpenedDownload, Delivered, Confirmed, Event, Of, Exchange, Past, BankCall, Frame, File, isAction, did, exchangeOf, after, fileAtOpening, segmentsNow}
 use Rattle.bank_history.specs.Invariant.{Invariant, Holds}
 use Rattle.bank_history.specs.Standing.{Filled, UploadAt, DownloadAt, UploadUnlessIdle, DownloadUnlessIdle, filled, answered}
 use Rattle.bank_history.proofs.Cases.{
@@ -63,8 +39,6 @@ use Rattle.bank_history.proofs.Cases.{
 }
 use Rattle.bank_history.proofs.Clock.{advanced-keeps, advanced-clock}
 use Rattle.bank_history.proofs.Downloads.{file-long, download-open}
-use Rattle.bank_history.proofs.Keeps.{after-holds}
-use Rattle.bank_history.proofs.Positions.{sound-at, foreign-request}
 use Rattle.bank_history.proofs.Changes.{after-frame, after-file}
 use Rattle.bank_history.proofs.OpenUploads as uploads
 use Rattle.bank_history.proofs.OpenDownloads as downloads
@@ -195,7 +169,7 @@ module _ (time : ℕ) (ids frame : List ℕ) (p : Past) (holds : Holds p) where
         let u = there-download in
         let o = download-open judged (p .history) judged-holds (u .row) (u .used) in
         let own : subscriber (readRequest frame) ≡ downloadAt (judged .bank) (u .row) .subscriber = from ∙ sym (u .subscriber) in
-        ap (λ (m : ℕ). segmentsOf (fileLength m (judged .bank))) own
+        ap (λ (m : ℕ). segmentsOf (fileLength m (judged .bank .files))) own
         ∙ ap segmentsOf (sym (file-long judged (p .history) judged-holds _ (o .known) (o .most)))
         ∙ ap (λ (f : List ℕ). segmentsOf (length f)) (sym (o .unchanged))
         ∙ ap (λ (i : Bits128). segmentsOf (length (fileAtOpening i (p .history)))) (u .transaction)
@@ -261,48 +235,8 @@ download-stays t s d last c p holds before noAction kept =
         (noAction (newest time ids frame p holds) (ap (λ (r : Past). r .history) z))
         (λ id. kept (newest time ids frame p holds) id (ap (λ (r : Past). r .history) z))
 
--- ---- another subscriber's requests do not touch it
-
+-- the clock never goes back
 pub clock-grows : (c : BankCall) (p : Past) → Holds p → p .world .bank .clock ≤ after c p .world .bank .clock
 clock-grows c p holds =
     by-call (λ (r : Past). p .world .bank .clock ≤ r .world .bank .clock) c p holds (omega arith)
     (λ time ids frame buffer e z. let a = answered-clock time ids frame p holds in omega arith) (λ m f e. omega arith)
-
--- the exchange that a call has entered is sound
-entered-sound : (c : BankCall) (p : Past) (e : Exchange) → Holds p → after c p .history ≡ e ∷ p .history → Sound e (p .history)
-entered-sound c p e holds z = sound-at (subst AllSound z (after-holds c p holds .invariant .sound)) newest-stands
-  where
-    newest-stands : Stands e (p .history) (e ∷ p .history)
-    newest-stands = Stands.newest
-
--- the requests of other subscribers leave an upload open
-pub upload-other-subscriber : (t : Bits128) (s k n last : ℕ) (c : BankCall) (p : Past) → Holds p →
-    UploadUnlessIdle (p .world) t s k n last →
-    ((e : Exchange) → after c p .history ≡ e ∷ p .history → subscriber (e .request) ≡ s → ⊥) →
-    UploadUnlessIdle (after c p .world) t s k n last
-upload-other-subscriber t s k n last c p holds before foreign bound =
-    let u = before (let g = clock-grows c p holds in omega arith) in
-    let o = own.upload-is-open (p .world) (p .history) (holds .invariant) t s k n last u .place in
-    let low : t .low < accepted (p .history) =
-    (let a = o .numbered in let b = o .counted in let z = holds .invariant .counted in let y =
-    ap (λ (i : Bits128). i .low) (u .transaction) in omega arith) in
-    let owner : openedBy t (p .history) ≡ s = ap (λ (i : Bits128). openedBy i (p .history)) (sym (u .transaction))
-    ∙ (o .owner ∙ u .subscriber) in
-    upload-stays t s k n last c p holds before
-    (λ e z. foreign-request t e (p .history) (entered-sound c p e holds z) low (λ y. foreign e z (sym y ∙ owner))) bound
-
--- and a download
-pub download-other-subscriber : (t : Bits128) (s d last : ℕ) (c : BankCall) (p : Past) → Holds p →
-    DownloadUnlessIdle (p .world) t s d last →
-    ((e : Exchange) → after c p .history ≡ e ∷ p .history → subscriber (e .request) ≡ s → ⊥) →
-    DownloadUnlessIdle (after c p .world) t s d last
-download-other-subscriber t s d last c p holds before foreign bound =
-    let u = before (let g = clock-grows c p holds in omega arith) in
-    let o = download-open (p .world) (p .history) (holds .invariant) (u .row) (u .used) in
-    let low : t .low < accepted (p .history) =
-    (let b = o .counted in let z = holds .invariant .counted in let y = ap (λ (i : Bits128). i .low) (u .transaction) in omega arith) in
-    let owner : openedBy t (p .history) ≡ s = ap (λ (i : Bits128). openedBy i (p .history)) (sym (u .transaction))
-    ∙ (o .owner ∙ u .subscriber) in
-    download-stays t s d last c p holds before
-    (λ e z. foreign-request t e (p .history) (entered-sound c p e holds z) low (λ y. foreign e z (sym y ∙ owner)))
-    (λ e id z _. foreign e z) bound

@@ -6,11 +6,11 @@ use mathlib.Core.Path.{_≡_, sym, subst}
 use native.Mathlib.Omega.{arith}
 use lib.ListN.{length, take, drop, replicate}
 use Rattle.frame.specs.declared.fields.Fields.{Fields}
-use Rattle.frame.specs.Bytes.{number, overwrite}
+use Rattle.frame.specs.Bytes.{Bytes, number, overwrite}
 use Rattle.frame.specs.Names.{subscriber}
 use Rattle.frame.specs.Reader.{readRequest}
 use Rattle.frame.specs.Row.{dataOf}
-use Rattle.frame.proofs.Numbers.{Bytes, bytes-take, bytes-drop}
+use Rattle.frame.proofs.Numbers.{bytes-take, bytes-drop}
 use Rattle.message.specs.Limits.{fileBytes}
 use Rattle.bank_state.specs.Clock.{advanced}
 use Rattle.bank_state.specs.Limits.{storeBytes}
@@ -60,7 +60,7 @@ pub file-bytes : (w : World) (s : ℕ) → Bytes (w .boxes) → Bytes (mailboxFi
 unfolding mailboxFile fileOf partAt
 file-bytes w s b =
     let from = (s - 1) * fileBytes in
-    bytes-take (fileLength s (w .bank)) (take fileBytes (drop from (w .boxes)))
+    bytes-take (fileLength s (w .bank .files)) (take fileBytes (drop from (w .boxes)))
     (bytes-take fileBytes (drop from (w .boxes)) (bytes-drop from (w .boxes) b))
 
 case-bytes : {lent : ℕ} {w : World} {q : Fields} {d : List ℕ} {e : Event} {s : Step} → Bytes (w .boxes) → Happens lent w q d e s →

@@ -41,7 +41,7 @@ use Rattle.bank_history.proofs.Cases.{
 }
 use Rattle.bank_history.proofs.Entries.{same-bits, bits-same}
 use Rattle.bank_history.proofs.Clock.{advanced-clock}
-use Rattle.bank_history.proofs.Downloads.{download-found}
+use Rattle.bank_state.proofs.Found.{download-found}
 use Rattle.bank_step.proofs.Tests.{and-true-right}
 
 -- the same record at another place of the row

@@ -220,7 +220,7 @@ module _ (lent : ℕ) (w : World) (h : List Exchange) (v : Invariant w h) (q : F
           omega (arith, v .openOf s)
 
   -- a download opened
-  pub opens-download : form q ≡ forms.DownloadOpening → (fileLength (subscriber q) (w .bank) ≡ 0 → ⊥) →
+  pub opens-download : form q ≡ forms.DownloadOpening → (fileLength (subscriber q) (w .bank .files) ≡ 0 → ⊥) →
       Invariant (openingStepBy (openDownload lent q (w .bank)) w q .world)
       (entry (Of t (OpenedDownload (segmentsNow w q))) (openingStepBy (openDownload lent q (w .bank)) w q) w q d ∷ h)
   unfolding openDownload counted openCount openCountOf mailboxFile fileLength freeDownload
@@ -275,7 +275,7 @@ module _ (lent : ℕ) (w : World) (h : List Exchange) (v : Invariant w h) (q : F
       inside : j < length (w .bank .downloads)
       inside = free-inside-open (w .bank) (v .sizes .downloads) (acceptable .ofAll)
 
-      long : length (mailboxFile w (subscriber q)) ≡ fileLength (subscriber q) (w .bank)
+      long : length (mailboxFile w (subscriber q)) ≡ fileLength (subscriber q) (w .bank .files)
       long = file-long w h v (subscriber q) (admitted .known) (admitted .most)
 
       full : 1 ≤ length (mailboxFile w (subscriber q))

@@ -1,53 +1,17 @@
 -- Exchanges of a sound history: each opening has its own number, each segment is taken once, what is ended was not booked.
 use Prim.Native.Nat.{ℕ, suc, _+_, _-_, _*_, _≤_, _<_}
-use mathlib.Core.Bool.{Bool, true, false, cond, _&&_}
+use mathlib.Core.Bool.{Bool, true, false, cond}
 use mathlib.Core.List.{List, [], _∷_, _++_}
 use mathlib.Core.Path.{_≡_, refl, sym, ap, _∙_, subst}
 use native.Mathlib.Omega.{arith}
 use lib.ListN.{take, drop}
 use lib.Seq.{take-add}
 use Rattle.frame.specs.declared.fields.Bits128.{Bits128}
-use Rattle.frame.specs.Names.{subscriber, segment, sameBits}
+use Rattle.frame.specs.Names.{segment, sameBits}
 use Rattle.frame.proofs.Tests.{never, and-true}
 use Rattle.message.specs.Limits.{segmentBytes}
 use Rattle.message.specs.Segments.{segmentOf}
-use Rattle.bank_history.specs.History.{
-  Action,
-  OpenedUpload,
-  OpenedDownload,
-  Took,
-  TookLast,
-  UploadPoint,
-  DownloadPoint,
-  Cancelled,
-  Delivered,
-  SentAgain,
-  Confirmed,
-  Declined,
-  Event,
-  Unreadable,
-  Refusal,
-  Of,
-  Exchange,
-  Stands,
-  newest,
-  older,
-  isOpening,
-  isTaking,
-  isBooking,
-  isEnding,
-  isAction,
-  did,
-  ever,
-  times,
-  received,
-  openedBy,
-  segmentsAt,
-  accepted,
-  opens,
-  OpensNumber,
-  ActionIn,
-}
+use Rattle.bank_history.specs.History.{Action, OpenedUpload, OpenedDownload, Took, TookLast, UploadPoint, DownloadPoint, Cancelled, Delivered, SentAgain, Confirmed, Declined, Event, Unreadable, Refusal, Of, Exchange, Stands, newest, older, isOpening, isTaking, isBooking, isEnding, did, ever, times, received, segmentsAt, accepted, opens, OpensNumber, ActionIn}
 use Rattle.bank_history.specs.Sound.{
   SoundAction,
   SoundEvent,
@@ -58,7 +22,7 @@ use Rattle.bank_history.specs.Sound.{
   none,
   more,
 }
-use Rattle.bank_history.proofs.Judged.{by-test}
+use Rattle.bank_step.proofs.Verdicts.{by-test}
 use Rattle.bank_history.proofs.Entries.{bits-same, ever-own, did-same}
 
 pub sound-at : {e : Exchange} {g h : List Exchange} → AllSound h → Stands e g h → Sound e g
@@ -297,24 +261,6 @@ ended-unbooked t {h} r e b = let x = ever-stands isEnding t h e in let y = ever-
         let z = subst (λ (v : Event). SoundEvent v f k) (q .is ∙ ap (Of t) (booking-last (q .action) (q .kind))) (s .event) in
         never (sym (z .taking .upload .request .going) ∙ stands-ever isEnding t a p)
     at (more s r) (older a) p (older b) q = at r a p b q
-
--- a request of another subscriber is no action of t
-pub foreign-request : (t : Bits128) (e : Exchange) (h : List Exchange) → Sound e h → t .low < accepted h →
-    (openedBy t h ≡ subscriber (e .request) → ⊥) → did isAction t (e .event) ≡ false
-foreign-request t e h sound known foreign = at (e .event) (sound .event)
-  where
-    same : (k : Action) → SoundAction k t e h → (b : Bool) → isOpening k ≡ b → ⊥
-    same k s true o = let z = opening-number t e h k o s in omega arith
-    same k s false o = foreign (request-of k o s .owner)
-
-    of : (u : Bits128) (k : Action) → SoundAction k u e h → (b : Bool) → sameBits t u ≡ b → b && true ≡ false
-    of u k s true z = absurd (same k (subst (λ (i : Bits128). SoundAction k i e h) (sym (bits-same t u z)) s) (isOpening k) refl)
-    of u k s false z = refl
-
-    at : (v : Event) → SoundEvent v e h → did isAction t v ≡ false
-    at Unreadable s = refl
-    at (Refusal c) s = refl
-    at (Of u k) s = of u k s (sameBits t u) refl
 
 -- ---- the payload
 

@@ -15,7 +15,7 @@ use Rattle.frame.specs.Table.{tagCount, frameLimit, dataTag, rowFits, findForm,
 use Rattle.frame.proofs.Tests.{never}
 use Rattle.frame.proofs.Forms.{tagsOf, form-tags}
 use Rattle.frame.proofs.Theorems.{request-parsed}
-use Rattle.bank_history.proofs.Judged.{by-test}
+use Rattle.bank_step.proofs.Verdicts.{by-test}
 
 -- n halved k times
 halved : ℕ → ℕ → ℕ

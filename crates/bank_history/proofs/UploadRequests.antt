@@ -69,7 +69,8 @@ use Rattle.bank_history.proofs.Cases.{
   uploadStepBy,
 }
 use Rattle.bank_history.proofs.Entries.{and-no, same-bits, bits-same}
-use Rattle.bank_history.proofs.Uploads.{upload-found, place-number}
+use Rattle.bank_state.proofs.Found.{upload-found}
+use Rattle.bank_history.proofs.Uploads.{place-number}
 
 -- ---- a readable request that is not refused at once
 

@@ -12,10 +12,11 @@ use Rattle.frame.specs.declared.fields.Bits128.{Bits128}
 use Rattle.frame.specs.declared.fields.Fields.{Fields}
 use Rattle.frame.specs.declared.table.Form.the-variants as forms
 use Rattle.frame.specs.Bytes.{overwrite}
-use Rattle.frame.specs.Names.{subscriber, transaction, segment, lastMark, form, sameBits}
+use Rattle.frame.specs.Names.{subscriber, transaction, segment, lastMark, form}
 use Rattle.frame.proofs.Numbers.{length-overwrite}
 use Rattle.frame.proofs.Tests.{never, and-true}
 use Rattle.message.specs.declared.codes.ReturnCode.{ReturnCode}
+use Rattle.message.specs.declared.codes.ReturnCode.the-variants as code
 use Rattle.message.specs.Limits.{fileBytes, attemptsMost}
 use Rattle.bank_state.specs.declared.state.Place.{Place}
 use Rattle.bank_state.specs.declared.state.Use.{Use}
@@ -58,10 +59,12 @@ use Rattle.bank_history.specs.Sound.{
   more,
 }
 use Rattle.bank_history.specs.Invariant.{OpenUpload, PlaceHolds, BookedIn, Invariant}
+use Rattle.bank_state.proofs.Found.{upload-found}
 use Rattle.bank_state.proofs.Stores.{length-withPart, part-same, part-other}
 use Rattle.bank_history.proofs.Stores.{length-part}
 use Rattle.bank_history.proofs.Rows.{count-set-le}
-use Rattle.bank_history.proofs.Judged.{UploadSound, take, point, cancel, overfull}
+use Rattle.bank_step.proofs.Safety.{freed-zero}
+use Rattle.bank_step.proofs.UploadVerdicts.{UploadSound, take, point, abort, underrun, exceeded, overfull}
 use Rattle.bank_history.proofs.Cases.{AskedBy, uploadTransfer, downloadTransfer, receipt, Admitted, uploadStepBy}
 use Rattle.bank_history.proofs.Entries.{bits-same, did-other, known-more, booked-more, booked-last, accepted-own}
 use Rattle.bank_history.proofs.Memory.{memory-unchanged}
@@ -81,22 +84,8 @@ entry v s w q d = record {
   event = v;
 }
 
-pub is-open : (u : Use) → isOpen u ≡ true → u ≡ Open
-is-open Free e = never e
-is-open Open e = refl
-is-open Booked e = never e
-
 pub not-free : (u : Use) → u ≡ Open → isFree u ≡ false
 not-free u e = ap isFree e
-
--- what is found under a subscriber and a transaction ID
-pub upload-found : (s : ℕ) (t : Bits128) (p : Place) → isUpload s t p ≡ true →
-    (p .used ≡ Open) × (p .subscriber ≡ s) × (sameBits (p .transaction) t ≡ true)
-unfolding isUpload
-upload-found s t p h =
-    let a = and-true (isOpen (p .used) && eqb (p .subscriber) s) (sameBits (p .transaction) t) h in
-    let b = and-true (isOpen (p .used)) (eqb (p .subscriber) s) (a .0) in
-    (is-open (p .used) (b .0), eqb-true (p .subscriber) s (b .1), a .1)
 
 -- no request to place i is one to another place or to a download
 module _ (w : World) (h : List Exchange) (v : Invariant w h) where
@@ -346,8 +335,10 @@ module _ (w : World) (h : List Exchange) (v : Invariant w h) (q : Fields) (d : L
   cancel-keeps c cancelling =
       let x : Exchange = now (Cancelled c) (uploadStepBy (up.Cancel c) i w q d) in
       let l = length-part (w .orders) (v .sizes .orders) i inside in
-      upload-step w h v i inside used-open _ _ (length-replicate (length (partAt (w .orders) i)) 0 ∙ l) (Cancelled c) refl x refl
-      (record { empty = refl; zeros = ap (λ (n : ℕ). replicate n 0) l })
+      let f = freed-zero (w .bank .clock) old used-open q d (partAt (w .orders) i) (up.Cancel c) refl in
+      upload-step w h v i inside used-open _ _ (ap length (f .zeros) ∙ (length-replicate (length (partAt (w .orders) i)) 0 ∙ l))
+      (Cancelled c) refl x refl
+      (record { empty = f .place; zeros = f .zeros ∙ ap (λ (n : ℕ). replicate n 0) l })
       (λ e. never (sym e)) (λ e. never e)
       (λ t g. still-booked w h v i _ (uploadStepBy (up.Cancel c) i w q d .world) refl not-booked t
       (v .booked t (booked-more (old .transaction) (Cancelled c) x h refl refl t g)))
@@ -360,7 +351,9 @@ module _ (w : World) (h : List Exchange) (v : Invariant w h) (q : Fields) (d : L
   upload-keeps transfer r asked some (take t next early missing room) =
       let f = asked-upload asked t in taken-keeps f (some f) next early missing room
   upload-keeps transfer r asked some (point few) = point-keeps few
-  upload-keeps transfer r asked some (cancel c e) = cancel-keeps c e
+  upload-keeps transfer r asked some abort = cancel-keeps code.TransactionAbort refl
+  upload-keeps transfer r asked some underrun = cancel-keeps code.SegmentNumberUnderrun refl
+  upload-keeps transfer r asked some exceeded = cancel-keeps code.SegmentNumberExceeded refl
   -- a place always has room for a segment more
   upload-keeps transfer r asked some (overfull e) = absurd (
       let a = upload-open .below in

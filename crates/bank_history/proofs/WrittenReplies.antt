@@ -10,8 +10,9 @@ use Rattle.frame.specs.declared.fields.Fields.{Fields}
 use Rattle.frame.specs.declared.table.Form.{Form}
 use Rattle.frame.specs.Names.{phase, subscriber, exchange, transaction, segment}
 use Rattle.frame.specs.Table.{isReplyForm}
-use Rattle.frame.specs.Writer.{largestReply}
-use Rattle.frame.proofs.Numbers.{Bytes, bytes-take, bytes-drop}
+use Rattle.frame.specs.Writer.{replyRoom}
+use Rattle.frame.specs.Bytes.{Bytes}
+use Rattle.frame.proofs.Numbers.{bytes-take, bytes-drop}
 use Rattle.message.specs.declared.codes.ReturnCode.{ReturnCode}
 use Rattle.message.specs.declared.codes.ReturnCode.the-variants as code
 use Rattle.message.specs.Limits.{segmentBytes, segmentsMost}
@@ -48,7 +49,10 @@ use Rattle.bank.specs.Call.{Step, mailboxSegment}
 use Rattle.bank_history.specs.History.{Event, Exchange, mailboxFile, segmentsNow}
 use Rattle.bank_history.specs.Invariant.{OpenUpload, PlaceHolds, Invariant}
 use Rattle.bank_history.specs.Answers.{smallestReply}
-use Rattle.bank_history.proofs.Judged.{by-test, Acceptable, UploadSound, DownloadSound}
+use Rattle.bank_step.proofs.Verdicts.{by-test}
+use Rattle.bank_step.proofs.UploadVerdicts.{UploadSound}
+use Rattle.bank_step.proofs.UploadVerdicts as upload
+use Rattle.bank_history.proofs.Judged.{Acceptable, DownloadSound}
 use Rattle.bank_history.proofs.Judged as judged
 use Rattle.bank_history.proofs.Cases.{
   AskedBy,
@@ -64,8 +68,8 @@ use Rattle.bank_history.proofs.Cases.{
 }
 use Rattle.bank_history.proofs.Cases as cases
 use Rattle.bank_history.proofs.Entries.{bits-same}
-use Rattle.bank_history.proofs.Uploads.{upload-found}
-use Rattle.bank_history.proofs.Downloads.{download-found, download-open, file-long, carried-segment, some-segment}
+use Rattle.bank_state.proofs.Found.{upload-found, download-found}
+use Rattle.bank_history.proofs.Downloads.{download-open, file-long, carried-segment, some-segment}
 use Rattle.bank_history.proofs.Answered.{segment-length}
 use Rattle.bank_history.proofs.RequestBounds.{InWidth}
 use Rattle.bank_history.proofs.MailboxBytes.{file-bytes}
@@ -77,9 +81,9 @@ pub record WrittenReply (f : Fields) (d : List ℕ) : Type 0 where
   pub written : WrittenAs f d named size
   pub kind : isReplyForm named ≡ true
   pub least : smallestReply ≤ size
-  pub most : size ≤ largestReply
+  pub most : size ≤ replyRoom
 
-pub sent : {f : Fields} {d : List ℕ} {x : Form} {n : ℕ} → isReplyForm x ≡ true → smallestReply ≤ n → n ≤ largestReply →
+pub sent : {f : Fields} {d : List ℕ} {x : Form} {n : ℕ} → isReplyForm x ≡ true → smallestReply ≤ n → n ≤ replyRoom →
     WrittenAs f d x n → WrittenReply f d
 sent {x = x} {n = n} k l m w = record { named = x; size = n; written = w; kind = k; least = l; most = m }
 
@@ -162,20 +166,22 @@ module _ (w : World) (h : List Exchange) (v : Invariant w h) (q : Fields) (r : I
 
     upload-written : {u : UploadVerdict} → UploadSound p transfer q (length d) u →
         WrittenReply (uploadStepBy u i w q d .reply) (uploadStepBy u i w q d .replyData)
-    upload-written (judged.take t next early missing room) =
+    upload-written (upload.take t next early missing room) =
         let a = upload-open .below in
         let b = upload-open .place .few in
         sent refl (omega arith) (omega arith)
         (segment-taken-written (exchange q) (r .numbered) (p .transaction) upload-wide (segment q) (omega arith))
-    upload-written (judged.point few) =
+    upload-written (upload.point few) =
         let a = upload-open .below in
         let b = upload-open .place .few in
         let c = phase-range (eqb (p .taken) 0) in
         sent refl (omega arith) (omega arith)
         (recovery-point-written (exchange q) (r .numbered) (p .transaction) upload-wide (uploadPointPhase (p .taken)) (p .taken)
         (c .0) (c .1) (omega arith))
-    upload-written (judged.cancel c ends) = refused-written c
-    upload-written (judged.overfull over) = refused-written code.InternalError
+    upload-written upload.abort = refused-written code.TransactionAbort
+    upload-written upload.underrun = refused-written code.SegmentNumberUnderrun
+    upload-written upload.exceeded = refused-written code.SegmentNumberExceeded
+    upload-written (upload.overfull over) = refused-written code.InternalError
 
   -- to the open download of record j
   module _ (d : List ℕ) (transfer : Bool) (k : DownloadRequest) (j : ℕ) (a : Admitted q d) (asked : AskedBy q transfer k)
@@ -241,7 +247,7 @@ module _ (w : World) (h : List Exchange) (v : Invariant w h) (q : Fields) (r : I
         (upload-opened-written (exchange q) (r .numbered) (transactionOf lent (w .bank)) opening-wide
         (orderNumberOf (w .bank .openings)) (order-number-lt (w .bank .openings)))
 
-    download-opening-written : (fileLength (subscriber q) (w .bank) ≡ 0 → ⊥) →
+    download-opening-written : (fileLength (subscriber q) (w .bank .files) ≡ 0 → ⊥) →
         WrittenReply (openingStepBy (openDownload lent q (w .bank)) w q .reply)
         (openingStepBy (openDownload lent q (w .bank)) w q .replyData)
     unfolding openDownload

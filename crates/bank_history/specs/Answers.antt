@@ -5,8 +5,8 @@ use mathlib.Core.Path.{_≡_}
 use lib.ListN.{take, drop}
 use Rattle.frame.specs.Reader.{readReply}
 use Rattle.frame.specs.Row.{dataOf}
-use Rattle.frame.specs.Writer.{largestReply}
-use Rattle.frame.proofs.Numbers.{Bytes}
+use Rattle.frame.specs.Writer.{replyRoom}
+use Rattle.frame.specs.Bytes.{Bytes}
 use Rattle.bank.specs.declared.call.FrameAnswer.the-variants.{Reply}
 use Rattle.bank.specs.Call.{FrameCall}
 use Rattle.bank_history.specs.History.{Exchange, BankCall, Frame, File}
@@ -30,7 +30,7 @@ pub record FrameAnswered (c : FrameCall) (old : List ℕ) (e : Exchange) : Type 
   pub size : ℕ
   pub answer : c .answer ≡ Reply size
   pub least : smallestReply ≤ size
-  pub most : size ≤ largestReply
+  pub most : size ≤ replyRoom
   pub fields : readReply (take size (c .buffer)) ≡ e .reply
   pub contents : dataOf (take size (c .buffer)) ≡ e .replyData
   pub untouched : drop size (c .buffer) ≡ drop size old

@@ -113,11 +113,11 @@ downloadAction down.Skipped e n = Declined
 abbrev pub openingEvent : OpeningVerdict → Direction → ℕ → Bank → Fields → Event
 openingEvent (opening.Refuse c) d lent b q = Refusal c
 openingEvent opening.Accept way.Upload lent b q = Of (transactionOf lent b) OpenedUpload
-openingEvent opening.Accept way.Download lent b q = Of (transactionOf lent b) (OpenedDownload (segmentsOf (fileLength (subscriber q) b)))
+openingEvent opening.Accept way.Download lent b q = Of (transactionOf lent b) (OpenedDownload (segmentsOf (fileLength (subscriber q) (b .files))))
 
 -- the number of segments of the request's mailbox
 abbrev pub segmentsNow : World → Fields → ℕ
-segmentsNow w q = segmentsOf (fileLength (subscriber q) (w .bank))
+segmentsNow w q = segmentsOf (fileLength (subscriber q) (w .bank .files))
 
 -- the event of a request under a transaction ID, by the verdicts of the bank
 unfoldable pub transactionEvent : Bool → DownloadRequest → World → Fields → List ℕ → Event
@@ -188,7 +188,7 @@ pub record Exchange : Type 0 where
 
 -- "The bank's mailbox holds exactly the file ...": the file in a subscriber's mailbox
 unfoldable pub mailboxFile : World → ℕ → List ℕ
-mailboxFile w s = fileOf (w .boxes) (s - 1) (fileLength s (w .bank))
+mailboxFile w s = fileOf (w .boxes) (s - 1) (fileLength s (w .bank .files))
 
 -- the exchange of a request that comes to the bank w, clock and drops done
 unfoldable pub exchangeOf : ℕ → World → Fields → List ℕ → Exchange

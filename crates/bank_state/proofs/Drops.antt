@@ -1,11 +1,11 @@
 -- What the clock and its drops leave: lengths, the parts of the state that they do not touch, and each place. Assumes nothing.
-use Prim.Native.Nat.{ℕ, zero, suc, max, _+_, _≤_, _<_}
+use Prim.Native.Nat.{ℕ, zero, suc, max, _≤_, _<_}
 use mathlib.Core.Bool.{Bool, true, false, not, cond, _&&_}
 use mathlib.Core.List.{List}
 use mathlib.Core.Path.{_≡_, refl, ap, _∙_}
 use native.Mathlib.Omega.{arith}
-use lib.Dec.{ltb, leb, eqb}
-use lib.ListN.{length, getD, set, replicate, length-set, length-replicate, List·getD-eq-default}
+use lib.Dec.{ltb, eqb}
+use lib.ListN.{length, getD, set, replicate, length-set, List·getD-eq-default}
 use lib.Seq.{getD-set-same, getD-set-other, set-out}
 use borrow.Author.Tests.{ltb-true, ltb-false, eqb-true, eqb-false}
 use Rattle.message.specs.Limits.{fileBytes}
@@ -14,9 +14,9 @@ use Rattle.bank_state.specs.declared.clock.Ended.the-variants.{Idle}
 use Rattle.bank_state.specs.declared.state.Place.{Place}
 use Rattle.bank_state.specs.declared.state.Download.{Download}
 use Rattle.bank_state.specs.declared.state.Nonce.{Nonce}
-use Rattle.bank_state.specs.Limits.{placeCount, storeBytes, nonceCount, window}
+use Rattle.bank_state.specs.Limits.{placeCount, storeBytes, nonceCount}
 use Rattle.bank_state.specs.Search.{isOpen}
-use Rattle.bank_state.specs.State.{World, world, noPlace, noDownload, noNonce, fresh, placeAt}
+use Rattle.bank_state.specs.State.{World, world, noPlace, noDownload, noNonce, placeAt}
 use Rattle.bank_state.specs.Store.{partAt}
 use Rattle.bank_state.specs.Clock.{isIdle, freed, dropUpload, dropUploads, ends, endDownloads, forget, atClock, advanced}
 use Rattle.bank_state.proofs.Rows.{EachPassing, length-keepOnly, each-keepOnly}
@@ -38,12 +38,6 @@ module _ (P : Download → Type 0) (none : P noDownload) (which : Ended) (l : Li
       → (i : ℕ) → P (getD (endDownloads which l) i noDownload)
   unfolding endDownloads
   each-endDownloads = each-keepOnly _ noDownload P none l
-
-module _ (P : Nonce → Type 0) (none : P noNonce) (clock : ℕ) (l : List Nonce) where
-  pub each-forget : EachPassing (λ (e : Nonce). e .used && leb clock (e .timestamp + window)) noNonce P l
-      → (i : ℕ) → P (getD (forget clock l) i noNonce)
-  unfolding forget
-  each-forget = each-keepOnly _ noNonce P none l
 
 -- ---- what is not touched
 
@@ -106,12 +100,6 @@ pub record Sized (w : World) : Type 0 where
   pub files : length (w .bank .files) ≡ placeCount
   pub orders : length (w .orders) ≡ storeBytes
   pub boxes : length (w .boxes) ≡ storeBytes
-
-pub fresh-sized : Sized (world fresh (replicate storeBytes 0) (replicate storeBytes 0))
-unfolding fresh
-fresh-sized =
-    let n : length (replicate {A = ℕ} storeBytes 0) ≡ storeBytes = length-replicate {A = ℕ} storeBytes 0 in
-    record { places = refl; downloads = refl; nonces = refl; files = refl; orders = n; boxes = n }
 
 pub freed-sized : (i : ℕ) (w : World) → i < placeCount → Sized w → Sized (freed i w)
 unfolding freed

@@ -2,7 +2,6 @@
 use Prim.Native.Nat.{ℕ, zero, suc, _+_, _-_, _≤_, _<_}
 use mathlib.Core.Bool.{Bool, true, false, cond}
 use mathlib.Core.List.{List, [], _∷_, _++_}
-use mathlib.Core.Logic.{_⊎_, inl, inr}
 use mathlib.Core.Path.{_≡_, refl, sym, ap, _∙_}
 use native.Mathlib.Omega.{arith}
 use lib.ListN.{length, getD, replicate, length-append, length-replicate, List·getD-append}
@@ -114,13 +113,6 @@ module _ {A : Type 0} (p : A → Bool) (free : A) where
     pub each-keepOnly : (l : List A) → EachPassing P l → (i : ℕ) → P (getD (keepOnly p free l) i free)
     unfolding keepOnly
     each-keepOnly l f = each-append (keep p l) _ (each-keep l f) (each-free (length l - length (keep p l)))
-
-  -- each element of the row passes or is free
-  abbrev PassesOrFree : A → Type 0
-  PassesOrFree x = (p x ≡ true) ⊎ (x ≡ free)
-
-  pub keepOnly-passes : (l : List A) (i : ℕ) → PassesOrFree (getD (keepOnly p free l) i free)
-  keepOnly-passes l = each-keepOnly PassesOrFree (inr refl) l (λ i h e. inl e)
 
   -- x stands in a row
   abbrev pub Holds : List A → A → Type 0

@@ -1,9 +1,9 @@
 -- Laws of bytes written into a store. Assumes nothing.
-use Prim.Native.Nat.{ℕ, suc, _+_, _-_, _*_, _/_, _≤_, _<_}
+use Prim.Native.Nat.{ℕ, suc, _+_, _-_, _*_, _≤_, _<_}
 use mathlib.Core.Bool.{Bool, true, false}
 use mathlib.Core.List.{List, _++_, append-assoc, append-nil}
 use mathlib.Core.Path.{_≡_, refl, sym, ap, _∙_}
-use native.Mathlib.Nat.{add-sub-cancel-left, zero-add, le-of-lt, div-lt-iff-lt-mul, le-div-iff-mul-le}
+use native.Mathlib.Nat.{add-sub-cancel-left, zero-add}
 use native.Mathlib.Numerals.{add-one}
 use native.Mathlib.Omega.{arith}
 use lib.Dec.{ltb}
@@ -25,7 +25,6 @@ use lib.Seq.{
   drop-length,
   drop-drop,
   length-take-le,
-  take-suc,
   drop-cons,
   set-at,
   drop-at,
@@ -51,18 +50,6 @@ zeros-next p i h =
       ← replicate-append-replicate {A = ℕ} i 1 0,
       append-assoc,
       add-one,
-    )
-
--- one more byte copied to the front
-pub copy-next : (s d : List ℕ) (i : ℕ) → i < length s → i < length d
-    → set (take i s ++ drop i d) i (getD s i 0) ≡ take (i + 1) s ++ drop (i + 1) d
-copy-next s d i h k =
-    rw (
-      drop-cons d i 0,
-      set-at (take i s) (getD d i 0) (drop (suc i) d) (getD s i 0) i (length-take-le i s (le-of-lt h)),
-      add-one,
-      take-suc s i 0 h,
-      append-assoc,
     )
 
 -- a part of n bytes that came back as x
@@ -99,14 +86,6 @@ appended s a d h =
       zero-add,
       drop-drop,
     )
-
--- k pieces of a size fit into n bytes where k is no more than their quotient
-module _ (n k size : ℕ) (h : 0 < size) where
-  pub pieces-fit : k ≤ n / size → k * size ≤ n
-  pieces-fit e = le-div-iff-mul-le h .0 e
-
-  pub pieces-over : n / size < k → n ≤ k * size
-  pieces-over e = le-of-lt (div-lt-iff-lt-mul h .0 e)
 
 -- ---- the parts of a store
 

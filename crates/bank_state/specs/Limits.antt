@@ -1,5 +1,6 @@
 -- The bank's own numbers of document 01.
 use Prim.Native.Nat.{ℕ}
+pub use Rattle.frame.specs.Writer.{replyRoom}
 
 -- "Lent: 8 order places and 8 mailboxes"
 abbrev pub placeCount : ℕ
@@ -9,10 +10,7 @@ placeCount = 8
 abbrev pub storeBytes : ℕ
 storeBytes = 30720
 
--- "a reply buffer of at least 312 bytes, 8 bytes for the transaction ID"
-abbrev pub replyRoom : ℕ
-replyRoom = 312
-
+-- "8 bytes for the transaction ID"
 abbrev pub idBytes : ℕ
 idBytes = 8
 

@@ -4,3 +4,4 @@ pub mod Verdicts
 pub mod OpeningVerdicts
 pub mod DownloadVerdicts
 pub mod UploadVerdicts
+pub mod Safety

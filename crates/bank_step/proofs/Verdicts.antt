@@ -51,3 +51,12 @@ module _ {A : Type 0} (is : A → Bool) where
       at : (j : ℕ) → row .0 ≡ false → ((k : ℕ) → getD rows k (false, other) .0 ≡ false) → getD (row ∷ rows) j (false, other) .0 ≡ false
       at zero e f = e
       at (suc j) e f = f j
+
+-- a fact of what a test picks, from what the test tells
+pub by-test {ℓ} : {A : Type ℓ} (P : A → Type 0) (t : Bool) {a b : A} → (t ≡ true → P a) → (t ≡ false → P b) → P (cond t a b)
+by-test P true f g = f refl
+by-test P false f g = g refl
+
+pub and-false : (a b : Bool) → a && b ≡ false → a ≡ true → b ≡ false
+and-false true b h e = h
+and-false false b h e = never e

@@ -33,8 +33,8 @@ unfoldable pub inTime : ℕ → ℕ → Bool
 inTime time clock = leb time (clock + window) && leb clock (time + window)
 
 -- the length of the file in a subscriber's mailbox, 0 where it is empty
-unfoldable pub fileLength : ℕ → Bank → ℕ
-fileLength s b = getD (b .files) (s - 1) 0
+unfoldable pub fileLength : ℕ → List ℕ → ℕ
+fileLength s files = getD files (s - 1) 0
 
 -- "The sender of a frame": the refusals of an opening whose form is of this direction
 unfoldable pub senderRefusals : Bank → Direction → Fields → List (Bool × OpeningVerdict)
@@ -48,7 +48,7 @@ senderRefusals b way q =
 -- "The subscriber, by the course of the order"
 unfoldable pub subscriberRefusals : Bank → Direction → Fields → List (Bool × OpeningVerdict)
 subscriberRefusals b way q =
-    (not (isUpload way) && eqb (fileLength (subscriber q) b) 0, Refuse code.NoDownloadDataAvailable)
+    (not (isUpload way) && eqb (fileLength (subscriber q) (b .files)) 0, Refuse code.NoDownloadDataAvailable)
     ∷ (leb openPerSubscriber (openCountOf (subscriber q) b), Refuse code.MaxTransactionsExceeded)
     ∷ []
 
@@ -100,7 +100,7 @@ openUpload lent q b = record {
 -- "download opened ... (segment 1 is in it)"
 unfoldable pub openDownload : ℕ → Fields → Bank → Opening
 openDownload lent q b =
-    let n = segmentsOf (fileLength (subscriber q) b) in
+    let n = segmentsOf (fileLength (subscriber q) (b .files)) in
     record {
       bank =
           withDownload (freeDownload b) (record {

@@ -33,7 +33,7 @@ ghost use mathlib.Core.Bool.{cond, not, _&&_, _||_};
 ghost use mathlib.Core.List.{_++_};
 ghost use Prim.Native.Nat.{_-_, _<_};
 ghost use lib.Dec.{eqb, leb};
-ghost use lib.ListN.{getD, set};
+ghost use lib.ListN.{set};
 ghost use Rattle.frame.specs.Names.{orderType, nonce, timestamp, segments};
 ghost use Rattle.message.specs.Limits.{ful, fdl};
 ghost use Rattle.message.specs.Verdicts.{decide};
@@ -82,7 +82,7 @@ fn in_time(time: u64, clock: u64) -> bool
 
 // The length of the file in a subscriber's mailbox, 0 where it is empty.
 pub fn file_length(files: [u64; PLACES], subscriber: u64) -> u64
-    ensures { λ r. ⌜ r ≡ getD files (subscriber - 1) 0 ⌝ }
+    ensures { λ r. ⌜ r ≡ fileLength subscriber files ⌝ }
 {
     if subscriber == 0 {
         return files[0];
@@ -137,7 +137,7 @@ fn is_replay(b: Bank, q: Fields) -> bool
 
 // Whether a download's mailbox is empty.
 fn is_empty(b: Bank, way: Direction, subscriber: u64) -> bool
-    ensures { λ r. ⌜ r ≡ (not (isUpload way) && eqb (fileLength subscriber b) 0) ⌝ }
+    ensures { λ r. ⌜ r ≡ (not (isUpload way) && eqb (fileLength subscriber (b .files)) 0) ⌝ }
 {
     if is_upload(way) {
         return false;

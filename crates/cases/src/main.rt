@@ -6,6 +6,7 @@ use bank_state::limits::REPLY_ROOM;
 use bank_state::limits::STORE_BYTES;
 use bank_state::state::Bank;
 use bank_state::state::fresh;
+use frame::bytes::front;
 use frame::fields::Bits128;
 use frame::fields::Fields;
 use frame::reader::read_reply;
@@ -14,7 +15,6 @@ use frame::writer::Written;
 use frame::writer::write;
 use libc::STDOUT_FILENO;
 use marking::print::code_digits;
-use marking::record::front;
 use message::codes::ReturnCode;
 use message::codes::code_field;
 use message::requests::upload_opening;
@@ -77,20 +77,30 @@ fn print_case(sent: &[u8], code: u64) {
     io::write_all(STDOUT_FILENO, b"\n");
 }
 
-// The cases of document 01 that are run: 15 and 16 segments, 256 and 257 data bytes.
+// 15 and 16 segments.
+fn print_openings(bank: Bank, orders: &mut [u8], boxes: &mut [u8]) -> Bank {
+    let nothing = [0u8; 0];
+    let a = ask(bank, opening(15), &nothing, orders, boxes);
+    print_case(b"15 segments ", a.code);
+    let b = ask(a.bank, opening(16), &nothing, orders, boxes);
+    print_case(b"16 segments ", b.code);
+    b.bank
+}
+
+// 256 and 257 data bytes.
+fn print_segments(bank: Bank, orders: &mut [u8], boxes: &mut [u8]) {
+    let a = ask(bank, segment(1), &[7u8; 256], orders, boxes);
+    print_case(b"256 data bytes ", a.code);
+    let b = ask(a.bank, segment(2), &[7u8; 257], orders, boxes);
+    print_case(b"257 data bytes ", b.code);
+}
+
+// The cases of document 01 that are run.
 fn print_cases() {
     let mut orders = [0u8; STORE_BYTES];
     let mut boxes = [0u8; STORE_BYTES];
-    let bank = fresh();
-    let nothing = [0u8; 0];
-    let a = ask(bank, opening(15), &nothing, &mut orders, &mut boxes);
-    print_case(b"15 segments ", a.code);
-    let b = ask(a.bank, opening(16), &nothing, &mut orders, &mut boxes);
-    print_case(b"16 segments ", b.code);
-    let c = ask(b.bank, segment(1), &[7u8; 256], &mut orders, &mut boxes);
-    print_case(b"256 data bytes ", c.code);
-    let d = ask(c.bank, segment(2), &[7u8; 257], &mut orders, &mut boxes);
-    print_case(b"257 data bytes ", d.code);
+    let bank = print_openings(fresh(), &mut orders, &mut boxes);
+    print_segments(bank, &mut orders, &mut boxes);
 }
 
 // A line: the code's six digits, and its name in Annex 1.
@@ -100,7 +110,8 @@ fn print_code(code: ReturnCode, name: &[u8]) {
     io::write_all(STDOUT_FILENO, name);
 }
 
-fn print_codes() {
+// The codes from 000000 to 011101.
+fn print_codes_01() {
     print_code(ReturnCode::Ok, b"EBICS_OK\n");
     print_code(
         ReturnCode::DownloadPostprocessDone,
@@ -114,9 +125,17 @@ fn print_codes() {
         ReturnCode::SegmentNumberUnderrun,
         b"EBICS_TX_SEGMENT_NUMBER_UNDERRUN\n",
     );
+}
+
+// The codes from 061002 to 061101.
+fn print_codes_06() {
     print_code(ReturnCode::InvalidRequest, b"EBICS_INVALID_REQUEST\n");
     print_code(ReturnCode::InternalError, b"EBICS_INTERNAL_ERROR\n");
     print_code(ReturnCode::RecoverySync, b"EBICS_TX_RECOVERY_SYNC\n");
+}
+
+// The codes from 090005 to 091010.
+fn print_codes_09() {
     print_code(
         ReturnCode::NoDownloadDataAvailable,
         b"EBICS_NO_DOWNLOAD_DATA_AVAILABLE\n",
@@ -128,6 +147,10 @@ fn print_codes() {
         b"EBICS_SEGMENT_SIZE_EXCEEDED\n",
     );
     print_code(ReturnCode::InvalidXml, b"EBICS_INVALID_XML\n");
+}
+
+// The codes from 091101 on.
+fn print_codes_091() {
     print_code(ReturnCode::UnknownTransaction, b"EBICS_TX_UNKNOWN_TXID\n");
     print_code(ReturnCode::TransactionAbort, b"EBICS_TX_ABORT\n");
     print_code(ReturnCode::MessageReplay, b"EBICS_TX_MESSAGE_REPLAY\n");
@@ -147,5 +170,8 @@ fn print_codes() {
 
 fn main() {
     print_cases();
-    print_codes();
+    print_codes_01();
+    print_codes_06();
+    print_codes_09();
+    print_codes_091();
 }

@@ -8,7 +8,7 @@ use native.Mathlib.Omega.{arith}
 use lib.Dec.{lit<}
 use lib.ListN.{length, getD}
 use Rattle.frame.specs.declared.fields.Fields.{Fields}
-use Rattle.frame.specs.Bytes.{number}
+use Rattle.frame.specs.Bytes.{Bytes, number}
 use Rattle.frame.specs.Names.{form, transaction}
 use Rattle.frame.specs.Reader.{noFields, parse, readReply}
 use Rattle.frame.specs.Row.{highOf, lowOf, dataOf}
@@ -16,7 +16,7 @@ use Rattle.frame.specs.Table.{tagCount, transactionTag, width, has, isReplyForm
 use Rattle.frame.specs.Writer.{contentOf}
 use Rattle.frame.proofs.Forms.{reply-form}
 use Rattle.frame.proofs.Loops.{FieldWritable, field-writable, content-absent, content-number}
-use Rattle.frame.proofs.Numbers.{Bytes, number-nil, number-lt}
+use Rattle.frame.proofs.Numbers.{number-nil, number-lt}
 use Rattle.frame.proofs.RoundTrip.{parsed-says, writable-at}
 use Rattle.message.proofs.Writable.{Wide}
 use Rattle.client.specs.declared.run.Client.{Client}

@@ -10,12 +10,12 @@ use lib.ListN.{length, take, drop, length-take, length-drop}
 use Rattle.frame.specs.declared.fields.Fields.{Fields}
 use Rattle.frame.specs.declared.table.Form.{Form}
 use Rattle.frame.specs.declared.writer.Written.the-variants.{Length}
-use Rattle.frame.specs.Bytes.{number}
+use Rattle.frame.specs.Bytes.{Bytes, number}
 use Rattle.frame.specs.Names.{transaction}
 use Rattle.frame.specs.Reader.{noFields, readReply}
 use Rattle.frame.specs.Row.{dataOf}
 use Rattle.frame.proofs.Build.{written-in-front}
-use Rattle.frame.proofs.Numbers.{Bytes, bytes-take, bytes-drop, bytesOf-number, number-lt}
+use Rattle.frame.proofs.Numbers.{bytes-take, bytes-drop, bytesOf-number, number-lt}
 use Rattle.message.specs.Limits.{segmentBytes}
 use Rattle.message.specs.Segments.{segmentsOf, segmentOf, lastMarkOf}
 use Rattle.message.proofs.Writable.{

@@ -3,6 +3,7 @@ use Prim.Native.Nat.{ℕ}
 use mathlib.Core.Bool.{false}
 use mathlib.Core.List.{List, [], _∷_}
 use lib.ListN.{length}
+pub use Rattle.frame.specs.Writer.{requestRoom}
 use Rattle.client.specs.declared.run.Client.{Client}
 use Rattle.client.specs.declared.run.Direction.the-variants as direction
 use Rattle.client.specs.declared.run.Stage.the-variants as stage
@@ -15,10 +16,6 @@ use Rattle.client.specs.declared.run.Answer.{Answer}
 use Rattle.client.specs.declared.run.Answer.the-variants as answer
 use Rattle.client.specs.declared.run.Lengths.{Lengths}
 use Rattle.client.specs.declared.run.Outcome.{Outcome}
-
--- *The client's owner*: "request buffer under 303"
-abbrev pub requestRoom : ℕ
-requestRoom = 303
 
 -- "first exchange number over 4,294,967,200"
 abbrev pub firstExchangeMost : ℕ
@@ -92,13 +89,20 @@ lentOf time nonce payload file request = record { time = time; nonce = nonce; pa
 abbrev pub lengthsOf : Lent → Lengths
 lengthsOf l = record { payload = length (l .payload); file = length (l .file); request = length (l .request) }
 
--- what a call leaves: the next run, the file buffer, the request buffer, and the answer
+-- what a call leaves: the next run, the file buffer, the request buffer, the answer, and document 01's number for it
 pub record ClientCall : Type 0 where
   pub run : Client
   pub file : List ℕ
   pub request : List ℕ
   pub answer : Answer
+  pub number : ℕ
 
 -- the same from what the call returns and the two buffers
 abbrev pub callOf : Outcome → List ℕ → List ℕ → ClientCall
-callOf o file request = record { run = o .run; file = file; request = request; answer = o .answer }
+callOf o file request = record {
+  run = o .run;
+  file = file;
+  request = request;
+  answer = o .answer;
+  number = answerNumber (o .answer);
+}

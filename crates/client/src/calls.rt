@@ -23,6 +23,7 @@ use crate::run::Outcome;
 use crate::run::Refusal;
 use crate::run::Ruling;
 use crate::run::Word;
+use frame::bytes::copy;
 use frame::fields::Fields;
 use frame::reader::data;
 use frame::reader::read_reply;
@@ -43,18 +44,6 @@ ghost use Rattle.client.specs.NextRun.{isNew, fileWith, ended};
 ghost use Rattle.client.specs.Requests.{outstanding, outstandingData};
 ghost use Rattle.client.specs.Run.{lentOf, callOf, exchangeMost};
 ghost use Rattle.client.specs.Calls.{ifWritten, outcomeOf, issued, taken, carryOut, beginCall, replyCall, silenceCall};
-
-// Writes src over dst from a place on.
-fn copy(dst: &mut [u8], at: usize, src: &[u8])
-    requires { ⌜ at + length (now src) ≤ length (now dst) ⌝ }
-    ensures { λ _. ⌜ now (dst .exit) ≡ overwrite (now (dst .entry)) at (now (src .entry)) ⌝ }
-{
-    let mut i = 0;
-    while i < src.len() {
-        dst[at + i] = src[i];
-        i += 1;
-    }
-}
 
 // Writes the bytes of segment s, from 1 on, to their place in the file.
 fn put_segment(s: u64, d: &[u8], file: &mut [u8])

@@ -2,6 +2,7 @@
 use crate::run::Client;
 use crate::run::Direction;
 use crate::run::Step;
+use frame::bytes::number;
 use frame::fields::Bits128;
 use frame::fields::Fields;
 use message::requests::download_opening;
@@ -13,33 +14,10 @@ use message::segments::last_mark_of;
 use message::segments::segment_of;
 ghost use mathlib.Core.Path.{_≡_};
 ghost use mathlib.Core.List.{[]};
-ghost use Prim.Native.Nat.{_*_, _^_, _≤_, _<_};
-ghost use lib.ListN.{length};
-ghost use Rattle.frame.specs.Bytes.{number};
 ghost use Rattle.client.specs.Requests.{nonceOf, uploadRequest, downloadRequest, uploadData, outstanding, outstandingData};
 
 // How many numbers the exchange number's four bytes have.
 const EXCHANGES: u64 = 0x1_0000_0000;
-
-fn wide(x: u8) -> u64
-    ensures { λ r. ⌜ r ≡ x ⌝ }
-{
-    x as u64
-}
-
-// The number that the bytes are, high byte first.
-fn number(s: &[u8]) -> u64
-    requires { ⌜ length (now s) ≤ 8 ⌝ }
-    ensures { λ r. ⌜ (r ≡ number (now (s .entry))) × (r < 2 ^ (8 * length (now (s .entry)))) ⌝ }
-{
-    let mut x: u64 = 0;
-    let mut i = 0;
-    while i < s.len() {
-        x = x * 256 + wide(s[i]);
-        i += 1;
-    }
-    x
-}
 
 // The 12 lent bytes, then the exchange number.
 fn nonce_of(lent: [u8; 12], exchange: u64) -> Bits128

@@ -49,7 +49,7 @@ use Rattle.client.proofs.Causes.{by-test, brought, download-point, opens}
 use Rattle.client_history.proofs.Files.{most-segments, nothing-held, all-held, grown-end, grown-bytes}
 use Rattle.client_history.proofs.Issues.{got, got-in}
 use Rattle.client_history.proofs.NextRuns.{grown, Held, by-new}
-use Rattle.client_history.proofs.Replies.{Says, said, opened-says, own-id}
+use Rattle.client.proofs.Replies.{Says, said, opened-says, own-id}
 use Rattle.client_history.proofs.Requests.{
   form-downloadOpening,
   form-receipt,

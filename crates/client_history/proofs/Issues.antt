@@ -22,7 +22,7 @@ use Rattle.client.specs.Rulings.{isBegun}
 use Rattle.client_history.specs.History.{Issue, Past, heldOf, issueOf, issuing, BankReplies}
 use Rattle.client_history.specs.Invariant.{Numbered, none, more, Newest, Begun, Answered, Got}
 use Rattle.client_history.proofs.Changes.{Answering, ending}
-use Rattle.client_history.proofs.Replies.{Says, is-answer}
+use Rattle.client.proofs.Replies.{Says, is-answer}
 use Rattle.client_history.proofs.Requests.{outstanding-exchange, outstanding-subscriber}
 
 -- ---- exchange numbers

@@ -1,6 +1,5 @@
 -- The laws of a client run's history, and the main results in Theorems.
 pub mod Requests
-pub mod Replies
 pub mod NextRuns
 pub mod Changes
 pub mod Issues

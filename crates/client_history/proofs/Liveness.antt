@@ -71,7 +71,7 @@ use Rattle.client_history.proofs.Files.{some-segments, most-segments}
 use Rattle.client.proofs.Accepted as rulings
 use Rattle.client.proofs.Causes.{by-test}
 use Rattle.client_history.proofs.NextRuns.{held-same}
-use Rattle.client_history.proofs.Replies.{said, opened-says}
+use Rattle.client.proofs.Replies.{said, opened-says}
 use Rattle.client_history.proofs.Fitting.{
   and-intro,
   and-false,

@@ -44,7 +44,7 @@ use Rattle.client_history.specs.Invariant.{
 use Rattle.client.proofs.Causes.{by-test, Answers, answers, upload-point, taken-below}
 use Rattle.client_history.proofs.Files.{some-segments, most-segments}
 use Rattle.client_history.proofs.Issues.{got, got-in}
-use Rattle.client_history.proofs.Replies.{said, cancels}
+use Rattle.client.proofs.Replies.{said, cancels}
 use Rattle.client_history.proofs.Requests.{
   form-uploadOpening,
   form-uploadTransfer,

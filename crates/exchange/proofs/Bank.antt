@@ -42,7 +42,7 @@ use Rattle.bank.specs.declared.call.FrameAnswer.{FrameAnswer}
 use Rattle.bank.specs.declared.call.FrameAnswer.the-variants as frameAnswer
 use Rattle.bank.specs.declared.mailbox.FileAnswer.{FileAnswer}
 use Rattle.bank.specs.declared.mailbox.FileAnswer.the-variants as fileAnswer
-use Rattle.bank.specs.Call.{Step, FrameCall, respond, replied, answerOf, lentRight, frameCall}
+use Rattle.bank.specs.Call.{Step, FrameCall, respond, replied, answerOf, lentRight, frameNumber, frameCall}
 use Rattle.bank.specs.Mailbox.{FileCall, fileCall, carryOutFile, fileRefusals, fileNumber}
 use Rattle.bank_history.specs.History.{
   Action,
@@ -213,7 +213,7 @@ replied-by w time ids frame buffer n = go (lentRight w ids buffer)
     out (written.Length m) h = cc
     out written.Refused h = absurd (let z : _≡_ {A = ℕ} 0 1 = cc in omega arith)
 
-    go : (b : Bool) → let k = cond b (replied s buffer) (record { world = w; buffer = buffer; answer = frameAnswer.WrongLength }) in
+    go : (b : Bool) → let k = cond b (replied s buffer) (record { world = w; buffer = buffer; answer = frameAnswer.WrongLength; number = frameNumber frameAnswer.WrongLength }) in
         k .answer ≡ frameAnswer.Reply n → Replied k s buffer n
     go true h = record { world = refl; lent = refl; written = out (writeAnswer (s .reply) (s .replyData) buffer) h }
     go false h = absurd (let z : _≡_ {A = ℕ} 0 1 = cc in omega arith)

@@ -31,7 +31,6 @@ use Rattle.client.specs.declared.run.Answer.the-variants as answer
 use Rattle.client.specs.declared.run.Client.{Client}
 use Rattle.client.specs.declared.run.Direction.{Direction}
 use Rattle.client.specs.declared.run.Direction.the-variants.{Upload, Download}
-use Rattle.client.specs.declared.run.Refusal.{Refusal}
 use Rattle.client.specs.Calls.{beginCall, replyCall, silenceCall}
 use Rattle.client.specs.Run.{Lent, ClientCall, answerNumber}
 use Rattle.exchange.specs.Course.{
@@ -60,6 +59,7 @@ use Rattle.exchange.proofs.Courses.{Copied, one-issue, frame-runs}
 use Rattle.exchange.proofs.Came.{Same, same-refl, other-same, foreign-same}
 use Rattle.exchange.proofs.Joint.{counts}
 use Rattle.exchange.proofs.Outcome.{request-of}
+use Rattle.exchange.proofs.Runs.{by-number}
 use Rattle.exchange.proofs.Standing.{Standing, upload-standing, download-standing}
 
 -- the transactions that the run has had opened stay as they are; a download where its subscriber has nothing else open
@@ -300,13 +300,6 @@ module _ (s : Course) (v : Parts s) (copies : Copied s) (numbers : OneExchangeNu
       go (answer.Closed w) = new
       go (answer.Refused r) = z
 
-  -- a call of the run itself: given a number, or not
-  given-none : (P : Type 0) (a : Answer) → (answerNumber a ≡ 0 → P) → ((r : Refusal) → a ≡ answer.Refused r → P) → P
-  given-none P (answer.Request n) f g = f refl
-  given-none P answer.Ignored f g = f refl
-  given-none P (answer.Closed w) f g = f refl
-  given-none P (answer.Refused r) f g = g r refl
-
   pub concern : (k : Call) → Allowed k s → InTurn i k s → Concern s v i k
   unfolding exec
   concern (frameArrives w time ids frame buffer) q turn = frame-concern w time ids frame buffer q turn
@@ -321,7 +314,7 @@ module _ (s : Course) (v : Parts s) (copies : Copied s) (numbers : OneExchangeNu
           (run-bank j k (l .payload) (k .answer)))
       at (yes z) =
           subst (λ (n : ℕ). (answerNumber (k .answer) ≡ 0 → c ≡ s .runs n) → Concern s v i (begins n c way u first l)) z (λ a.
-          given-none (Concern s v i (begins i c way u first l)) (k .answer) (λ e. own-begin (a e) e)
+          by-number (Concern s v i (begins i c way u first l)) (k .answer) (λ e. own-begin (a e) e)
           (λ r e. let n = nothing-new s v i (afterRun (k .answer) i k (l .payload) s) (ap (λ (x : Answer). afterRun x i k (l .payload) s) e) in elsewhere (n .0) (n .1))) q
   concern (replyArrives j c reply l) q turn = at (ℕ-discrete i j)
     where
@@ -338,7 +331,7 @@ module _ (s : Course) (v : Parts s) (copies : Copied s) (numbers : OneExchangeNu
       at (yes z) =
           subst (λ (n : ℕ). Allowed (replyArrives n c reply l) s → InTurn i (replyArrives n c reply l) s →
           Concern s v i (replyArrives n c reply l)) z (λ a b.
-          given-none (Concern s v i (replyArrives i c reply l)) (k .answer)
+          by-number (Concern s v i (replyArrives i c reply l)) (k .answer)
           (λ e. let y = a e in own-reply e (y .0) (y .1) (b e refl))
           (λ r e. let n = nothing-new s v i (t i) (ap (λ (x : Answer). reached x i reply (afterRun x i k (l .payload) s)) e) in
           elsewhere (n .0) (n .1))) q turn
@@ -351,5 +344,5 @@ module _ (s : Course) (v : Parts s) (copies : Copied s) (numbers : OneExchangeNu
       at (no d) = elsewhere (other-same s i j d k l (k .answer)) (bank-same s v i (afterRun (k .answer) j k (l .payload) s)
           (run-bank j k (l .payload) (k .answer)))
       at (yes z) =
-          given-none (Concern s v i (noReply j c l)) (k .answer) (λ e. absurd (turn e (sym z)))
+          by-number (Concern s v i (noReply j c l)) (k .answer) (λ e. absurd (turn e (sym z)))
           (λ r e. let n = nothing-new s v i (afterRun (k .answer) j k (l .payload) s) (ap (λ (x : Answer). afterRun x j k (l .payload) s) e) in elsewhere (n .0) (n .1))

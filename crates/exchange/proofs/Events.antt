@@ -56,7 +56,7 @@ use Rattle.bank_history.specs.History.{
   mailboxFile,
 }
 use Rattle.bank_history.specs.Invariant.{Sizes}
-use Rattle.bank_history.proofs.Judged.{by-test}
+use Rattle.bank_step.proofs.Verdicts.{by-test}
 use Rattle.bank_history.proofs.Cases.{Happens, unreadable, refusal, opensUpload, opensDownload, toUpload, toDownload, downloadStepBy}
 
 -- ---- no refusal carries 000000, 011000 or 011001
@@ -170,7 +170,7 @@ pub mailbox-short : (w : World) (m : ℕ) → length (mailboxFile w m) ≤ fileB
 unfolding mailboxFile fileOf partAt
 mailbox-short w m = simp length-take (omega arith)
 
-empty-file : (w : World) (m : ℕ) → fileLength m (w .bank) ≡ 0 → mailboxFile w m ≡ []
+empty-file : (w : World) (m : ℕ) → fileLength m (w .bank .files) ≡ 0 → mailboxFile w m ≡ []
 unfolding mailboxFile fileOf
 empty-file w m e = ap (λ (n : ℕ). take n (partAt (w .boxes) (m - 1))) e
 

@@ -1,13 +1,15 @@
--- No two openings have one order number. Assumes nothing.
+-- No two openings have one order number, and document 01's examples of them. Assumes nothing.
 use Prim.Native.Nat.{ℕ, _+_, _*_, _/_, _%_, _<_}
 use mathlib.Core.Bool.{Bool, true, false, cond}
 use mathlib.Core.Path.{_≡_, refl, sym, _∙_}
+use mathlib.Core.List.{[], _∷_}
 use native.Mathlib.Omega.{arith}
 use lib.Dec.{ltb}
 use borrow.Author.Tests.{ltb-true, ltb-false}
+use Rattle.frame.specs.Bytes.{numberFrom, number}
 use Rattle.bank_state.specs.Limits.{openingsMost}
 use Rattle.bank_step.specs.OrderNumbers.{character, letter, orderNumberOf}
-use Rattle.bank_history.proofs.Judged.{by-test}
+use Rattle.bank_step.proofs.Verdicts.{by-test}
 
 character-small : (d : ℕ) → d < 36 → character d < 256
 unfolding character
@@ -53,3 +55,9 @@ one-order-number m n h k e =
     (character-small _ (digit (n / 1296))) (character-small _ (digit (n / 36))) (character-small _ (digit n)) e in
     one-number m n (omega (arith, z .0)) (one-character _ _ (digit (m / 1296)) (digit (n / 1296)) (z .1))
     (one-character _ _ (digit (m / 36)) (digit (n / 36)) (z .2)) (one-character _ _ (digit m) (digit n) (z .3))
+
+-- "0 is A000, 36 is A010, 46,656 is B000, 1,213,055 is ZZZZ": the four characters as the number of field 0E
+pub order-number-examples : (orderNumberOf 0 ≡ number (65 ∷ 48 ∷ 48 ∷ 48 ∷ [])) × (orderNumberOf 36 ≡ number (65 ∷ 48 ∷ 49 ∷ 48 ∷ [])) ×
+    (orderNumberOf 46656 ≡ number (66 ∷ 48 ∷ 48 ∷ 48 ∷ [])) × (orderNumberOf 1213055 ≡ number (90 ∷ 90 ∷ 90 ∷ 90 ∷ []))
+unfolding orderNumberOf letter character number numberFrom
+order-number-examples = (refl, refl, refl, refl)

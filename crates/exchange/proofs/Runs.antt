@@ -45,7 +45,7 @@ pub data RunStep (s : Course) (i : ℕ) : Call → Past → Type 0 where
       p ≡ history.after (NoReply l) (runPast s i) → RunStep s i (noReply i c l) p
 
 -- an answer is a number, or none
-by-number : (P : Type 0) (a : Answer) → (answerNumber a ≡ 0 → P) → ((r : Refusal) → a ≡ answer.Refused r → P) → P
+pub by-number : (P : Type 0) (a : Answer) → (answerNumber a ≡ 0 → P) → ((r : Refusal) → a ≡ answer.Refused r → P) → P
 by-number P (answer.Request n) f g = f refl
 by-number P answer.Ignored f g = f refl
 by-number P (answer.Closed w) f g = f refl

@@ -88,7 +88,7 @@ changed f i a j = cond (eqb j i) a (f j)
 
 -- the file that a subscriber's mailbox holds
 unfoldable pub mailboxOf : World → ℕ → List ℕ
-mailboxOf w m = fileOf (w .boxes) (m - 1) (fileLength m (w .bank))
+mailboxOf w m = fileOf (w .boxes) (m - 1) (fileLength m (w .bank .files))
 
 -- "A run's file is its file buffer up to the end of the last segment held"
 unfoldable pub heldOf : Client → List ℕ → List ℕ

@@ -13,7 +13,7 @@ use lib.Dec.{eqb}
 use Rattle.frame.specs.declared.fields.Bits128.{Bits128}
 use Rattle.frame.specs.declared.fields.Fields.{Fields}
 use Rattle.frame.specs.declared.writer.Written.the-variants.{Length}
-use Rattle.frame.specs.Bytes.{number, numberFrom, bytesOf, overwrite}
+use Rattle.frame.specs.Bytes.{Bytes, number, numberFrom, bytesOf, overwrite}
 use Rattle.frame.specs.Table.{
   tagCount,
   frameLimit,
@@ -42,7 +42,7 @@ use Rattle.frame.specs.Writer.{
   writeBuffer,
 }
 use Rattle.frame.proofs.Tests.{and-true, every-below, or-true}
-use Rattle.frame.proofs.Numbers.{length-bytesOf, number-bytesOf, number-lt, Bytes}
+use Rattle.frame.proofs.Numbers.{length-bytesOf, number-bytesOf, number-lt}
 use Rattle.frame.proofs.Tags.{has-withTag, withTag-other}
 use Rattle.frame.proofs.Contents.{width-narrow, well-formed}
 use Rattle.frame.proofs.Loops.{FieldWritable, field-writable, content-number}

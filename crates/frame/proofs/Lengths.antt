@@ -24,9 +24,9 @@ use Rattle.frame.specs.Writer.{
   fieldsWritable,
   writable,
   uploadOpeningLength,
-  largestRequest,
-  largestReply,
-  segmentSize,
+  requestRoom,
+  replyRoom,
+  segmentBytes,
 }
 use Rattle.frame.proofs.Tests.{and-true}
 use Rattle.frame.proofs.Numbers.{length-bytesOf, length-fieldBytes}
@@ -90,21 +90,21 @@ frameLength-grows m n n' h = lengthFrom-grows tagCount 0 m n n' h
 -- ---- the lengths that document 01 names, each a test over the table of forms
 
 abbrev limit : Form → ℕ
-limit x = cond (isRequestForm x) largestRequest largestReply
+limit x = cond (isRequestForm x) requestRoom replyRoom
 
 inLimit : FormRow → Bool
-inLimit r = leb (frameLength (r .0) segmentSize) (limit (r .2))
+inLimit r = leb (frameLength (r .0) segmentBytes) (limit (r .2))
 
 module _ (f : Fields) (d : List ℕ) (h : writable f d ≡ true) where
-  in-limit : frameLength (f .tags) segmentSize ≤ limit (form f)
+  in-limit : frameLength (f .tags) segmentBytes ≤ limit (form f)
   unfolding rowsHold inLimit frameLength lengthFrom width
   in-limit =
       let x = form-found inLimit (f .tags) (phase f) refl (writable-parts f d h .0) in
-      let e : leb (frameLength (f .tags) segmentSize) (limit (form f)) ≡ true = rw (x .tags, x .name) at (x .holds) in
+      let e : leb (frameLength (f .tags) segmentBytes) (limit (form f)) ≡ true = rw (x .tags, x .name) at (x .holds) in
       leb-true _ _ e
 
-  pub length-limit : length d ≤ segmentSize → length (frameOf f d) ≤ limit (form f)
-  length-limit k = omega (arith, length-frameOf f d h, frameLength-grows (f .tags) (length d) segmentSize k, in-limit)
+  pub length-limit : length d ≤ segmentBytes → length (frameOf f d) ≤ limit (form f)
+  length-limit k = omega (arith, length-frameOf f d h, frameLength-grows (f .tags) (length d) segmentBytes k, in-limit)
 
   opening-tags : (n : ℕ) → frameLength (tagsOf UploadOpening) n ≡ uploadOpeningLength
   unfolding frameLength lengthFrom width

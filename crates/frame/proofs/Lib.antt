@@ -2,6 +2,7 @@
 pub mod Tests
 pub mod Numbers
 pub mod Tags
+pub mod Keys
 pub mod Forms
 pub mod Contents
 pub mod Loops

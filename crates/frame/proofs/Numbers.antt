@@ -17,6 +17,8 @@ use native.Mathlib.Nat.{
   zero-lt-suc,
   pow-suc,
   mod-lt,
+  le-of-lt,
+  le-div-iff-mul-le,
 }
 use native.Mathlib.Numerals.{add-one}
 use native.Mathlib.Omega.{arith}
@@ -52,7 +54,7 @@ use lib.Dec.{ltb}
 use lib.Pow.{pow-mono, pow-add}
 use lib.Arith.{digits-div, digits-mod, digits-lt}
 use borrow.Author.Tests.{ltb-true, ltb-false}
-use Rattle.frame.specs.Bytes.{numberFrom, number, bytesOf, fieldBytes, overwrite}
+use Rattle.frame.specs.Bytes.{Bytes, numberFrom, number, bytesOf, fieldBytes, overwrite}
 
 -- ---- the number of some bytes
 
@@ -166,10 +168,15 @@ number-lt (suc w) x =
     rw (number-snoc (bytesOf w (x / 256)) (x % 256), pow-suc 256 w)
     (digits-lt (number-lt w (x / 256)) (mod-lt x (zero-lt-suc 255)))
 
--- ---- lists of bytes
+-- k pieces of a size fit into n bytes where k is no more than their quotient
+module _ (n k size : ℕ) (h : 0 < size) where
+  pub pieces-fit : k ≤ n / size → k * size ≤ n
+  pieces-fit e = le-div-iff-mul-le h .0 e
 
-abbrev pub Bytes : List ℕ → Type 0
-Bytes s = (i : ℕ) → getD s i 0 < 256
+  pub pieces-over : n / size < k → n ≤ k * size
+  pieces-over e = le-of-lt (div-lt-iff-lt-mul h .0 e)
+
+-- ---- lists of bytes
 
 pub bytes-drop : (n : ℕ) (s : List ℕ) → Bytes s → Bytes (drop n s)
 bytes-drop n s b i = subst (λ (x : ℕ). x < 256) (sym (getD-drop n s i 0)) (b (n + i))

@@ -7,7 +7,7 @@ use lib.ListN.{length, replicate}
 use Rattle.frame.specs.declared.fields.Fields.{Fields}
 use Rattle.frame.specs.declared.table.Form.{Form}
 use Rattle.frame.specs.declared.table.Form.the-variants.{NoForm, UploadOpening}
-use Rattle.frame.specs.Bytes.{numberFrom, number, bytesOf, fieldBytes}
+use Rattle.frame.specs.Bytes.{Bytes, numberFrom, number, bytesOf, fieldBytes}
 use Rattle.frame.specs.Table.{phaseTag, subscriberTag, exchangeTag, segmentsTag, transactionTag, segmentTag, lastMarkTag, dataTag, returnCodeTag, width, inRange, allowed, rowFits, findForm, formOf, isRequestForm, isReplyForm}
 use Rattle.frame.specs.Names.{form, with}
 use Rattle.frame.specs.Row.{listed, wellFormed, dataOf, highOf, lowOf, piece, join}
@@ -22,12 +22,11 @@ use Rattle.frame.specs.Writer.{
   fieldsWritable,
   writable,
   uploadOpeningLength,
-  largestRequest,
-  largestReply,
-  segmentSize,
+  requestRoom,
+  replyRoom,
+  segmentBytes,
 }
 use Rattle.frame.proofs.Tests.{never}
-use Rattle.frame.proofs.Numbers.{Bytes}
 use Rattle.frame.proofs.Forms.{request-not-reply, reply-not-request, request-form, reply-form}
 use Rattle.frame.proofs.RoundTrip.{Sized, parse-frameOf, dataOf-frameOf, frameOf-parse, writable-parse}
 use Rattle.frame.proofs.Lengths.{length-frameOf, length-limit, opening-length}
@@ -115,15 +114,15 @@ module _ (f : Fields) (d : List ℕ) (h : writable f d ≡ true) where
   pub upload-opening-length : form f ≡ UploadOpening → length (frameOf f d) ≡ uploadOpeningLength
   upload-opening-length = opening-length f d h
 
-  pub request-length : isRequestForm (form f) ≡ true → length d ≤ segmentSize → length (frameOf f d) ≤ largestRequest
+  pub request-length : isRequestForm (form f) ≡ true → length d ≤ segmentBytes → length (frameOf f d) ≤ requestRoom
   request-length k n = rw k at (length-limit f d h n)
 
-  pub reply-length : isReplyForm (form f) ≡ true → length d ≤ segmentSize → length (frameOf f d) ≤ largestReply
+  pub reply-length : isReplyForm (form f) ≡ true → length d ≤ segmentBytes → length (frameOf f d) ≤ replyRoom
   reply-length k n = rw (reply-not-request (form f) k) at (length-limit f d h n)
 
 -- a whole segment of zeros
 unfoldable pub segmentData : List ℕ
-segmentData = replicate segmentSize 0
+segmentData = replicate segmentBytes 0
 
 -- an upload transfer, and a download opened, with a whole segment
 unfoldable pub segmentRequest : Fields
@@ -142,7 +141,7 @@ abbrev pub Reached : (Form → Bool) → Fields → ℕ → Type 0
 Reached k f n = (writable f segmentData ≡ true) × (k (form f) ≡ true) × (length (frameOf f segmentData) ≡ n)
 
 -- both limits are reached
-pub largest-reached : Reached isRequestForm segmentRequest largestRequest × Reached isReplyForm segmentReply largestReply
+pub largest-reached : Reached isRequestForm segmentRequest requestRoom × Reached isReplyForm segmentReply replyRoom
 unfolding segmentData segmentRequest segmentReply writable fieldsWritable fieldWritable contentOf contentsOf frameOf dataWhole
     wellFormed listed allowed inRange width highOf lowOf number numberFrom bytesOf fieldBytes piece join formOf findForm rowFits
 largest-reached = ((refl, refl, refl), (refl, refl, refl))

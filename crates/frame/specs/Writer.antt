@@ -75,23 +75,27 @@ writeAnswer f d old = cond (accepted f d old) (Length (length (frameOf f d))) Re
 unfoldable pub writeBuffer : Fields → List ℕ → List ℕ → List ℕ
 writeBuffer f d old = cond (accepted f d old) (overwrite old 0 (frameOf f d)) old
 
--- "fields of no form, values outside their list or too short a buffer get number 1"; 0 is no number of a refusal
-abbrev pub refusalNumber : Written → ℕ
-refusalNumber (Length n) = 0
-refusalNumber Refused = 1
+-- "fields of no form, values outside their list or too short a buffer get number 1"; 0 where a frame is written
+unfoldable pub writeNumber : Fields → List ℕ → List ℕ → ℕ
+writeNumber f d old = cond (accepted f d old) 0 1
+
+-- document 01's number for an answer
+abbrev pub writtenNumber : Written → ℕ
+writtenNumber (Length n) = 0
+writtenNumber Refused = 1
 
 -- "Frame lengths: upload opening 53"
 abbrev pub uploadOpeningLength : ℕ
 uploadOpeningLength = 53
 
--- "largest request 303", with the 256 data bytes of a whole segment
-abbrev pub largestRequest : ℕ
-largestRequest = 303
+-- "largest request 303", with the 256 data bytes of a whole segment; "request buffer under 303"
+abbrev pub requestRoom : ℕ
+requestRoom = 303
 
--- "largest reply 312", likewise
-abbrev pub largestReply : ℕ
-largestReply = 312
+-- "largest reply 312", likewise; "a reply buffer of at least 312 bytes"
+abbrev pub replyRoom : ℕ
+replyRoom = 312
 
--- the data bytes of a whole segment
-abbrev pub segmentSize : ℕ
-segmentSize = 256
+-- "segments are 256 bytes but the last"
+abbrev pub segmentBytes : ℕ
+segmentBytes = 256

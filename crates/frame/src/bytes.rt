@@ -1,11 +1,11 @@
 // Numbers high byte first, parts of a slice, and bytes written into a buffer.
 ghost use mathlib.Core.Path.{_≡_};
 ghost use mathlib.Core.List.{_++_};
-ghost use Prim.Native.Nat.{_+_, _-_, _^_, _≤_, _<_};
+ghost use Prim.Native.Nat.{_+_, _-_, _*_, _^_, _≤_, _<_};
 ghost use lib.ListN.{length, take, drop};
 ghost use Rattle.frame.specs.Bytes.{number, bytesOf, fieldBytes, overwrite};
 
-pub(crate) fn wide(x: u8) -> u64
+pub fn wide(x: u8) -> u64
     ensures { λ r. ⌜ r ≡ x ⌝ }
 {
     x as u64
@@ -14,7 +14,7 @@ pub(crate) fn wide(x: u8) -> u64
 // The number that the bytes are, high byte first.
 pub fn number(s: &[u8]) -> u64
     requires { ⌜ length (now s) ≤ 8 ⌝ }
-    ensures { λ r. ⌜ r ≡ number (now (s .entry)) ⌝ }
+    ensures { λ r. ⌜ (r ≡ number (now (s .entry))) × (r < 2 ^ (8 * length (now (s .entry)))) ⌝ }
 {
     let mut x: u64 = 0;
     let mut i = 0;
@@ -23,6 +23,39 @@ pub fn number(s: &[u8]) -> u64
         i += 1;
     }
     x
+}
+
+// The first n bytes; all of them where there are fewer.
+pub fn front(s: &[u8], n: usize) -> &[u8]
+    ensures { λ r. ⌜ now r ≡ take n (now (s .entry)) ⌝ }
+{
+    if s.len() <= n {
+        return s;
+    }
+    &s[..n]
+}
+
+// What stands from a place on; nothing behind the end.
+pub fn behind(s: &[u8], at: usize) -> &[u8]
+    ensures { λ r. ⌜ now r ≡ drop at (now (s .entry)) ⌝ }
+{
+    let n = s.len();
+    if n < at {
+        return &s[n..];
+    }
+    &s[at..]
+}
+
+// What stands behind the first k pieces of this size; nothing where there are fewer. The product is made only where it is within the bytes.
+pub fn behind_pieces(s: &[u8], k: u64, size: u64) -> &[u8]
+    requires { ⌜ 0 < size ⌝ }
+    ensures { λ r. ⌜ now r ≡ drop (k * size) (now (s .entry)) ⌝ }
+{
+    let n = s.len();
+    if n as u64 / size < k {
+        return &s[n..];
+    }
+    behind(s, (k * size) as usize)
 }
 
 // What stands behind the first three of the first n bytes.
@@ -72,7 +105,7 @@ pub(crate) fn digits(high: u64, low: u64) -> [u8; 16]
 }
 
 // Writes src over dst from a place on.
-pub(crate) fn copy(dst: &mut [u8], at: usize, src: &[u8])
+pub fn copy(dst: &mut [u8], at: usize, src: &[u8])
     requires { ⌜ at + length (now src) ≤ length (now dst) ⌝ }
     ensures { λ _. ⌜ now (dst .exit) ≡ overwrite (now (dst .entry)) at (now (src .entry)) ⌝ }
 {

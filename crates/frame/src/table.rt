@@ -1,7 +1,7 @@
 // The two tables: fields by tag, and forms as sets of tags.
 ghost use mathlib.Core.Path.{_≡_};
 ghost use Prim.Native.Nat.{_<_};
-ghost use Rattle.frame.specs.Table.{tagCount, width, inRange, allowed, rowFits, formOf, isRequestForm, isReplyForm};
+ghost use Rattle.frame.specs.Table.{tagCount, fieldRow, width, inRange, allowed, rowFits, formOf, isRequestForm, isReplyForm};
 
 // How many tags there are, from 0 on.
 pub const TAGS: usize = 15;
@@ -96,12 +96,20 @@ const FORM_TABLE: [FormRow; FORMS] = [
     FormRow(0x200A, 0, Form::Refusal), // 01 03 0D
 ];
 
+// The row of the tag.
+fn field_row(tag: usize) -> Field
+    requires { ⌜ tag < tagCount ⌝ }
+    ensures { λ r. ⌜ r ≡ fieldRow tag ⌝ }
+{
+    FIELDS[tag]
+}
+
 // The content length of the tag; 0 where it is one byte or more.
 pub(crate) fn width(tag: usize) -> usize
     requires { ⌜ tag < tagCount ⌝ }
     ensures { λ r. ⌜ r ≡ width tag ⌝ }
 {
-    let field = FIELDS[tag];
+    let field = field_row(tag);
     field.0
 }
 
@@ -119,7 +127,7 @@ pub(crate) fn allowed(tag: usize, byte: u8) -> bool
     requires { ⌜ tag < tagCount ⌝ }
     ensures { λ r. ⌜ r ≡ allowed tag byte ⌝ }
 {
-    let field = FIELDS[tag];
+    let field = field_row(tag);
     if in_range(field.1, field.2, byte) {
         return true;
     }
@@ -158,19 +166,12 @@ pub fn is_request_form(form: Form) -> bool
     ensures { λ r. ⌜ r ≡ isRequestForm form ⌝ }
 {
     match form {
-        Form::NoForm => false,
-        Form::UploadOpening => true,
-        Form::DownloadOpening => true,
-        Form::UploadTransfer => true,
-        Form::DownloadTransfer => true,
-        Form::Receipt => true,
-        Form::UploadOpened => false,
-        Form::DownloadOpened => false,
-        Form::SegmentTaken => false,
-        Form::DownloadSegment => false,
-        Form::ReceiptAnswered => false,
-        Form::Unreadable => false,
-        Form::Refusal => false,
+        Form::UploadOpening
+        | Form::DownloadOpening
+        | Form::UploadTransfer
+        | Form::DownloadTransfer
+        | Form::Receipt => true,
+        _ => false,
     }
 }
 
@@ -178,18 +179,12 @@ pub fn is_reply_form(form: Form) -> bool
     ensures { λ r. ⌜ r ≡ isReplyForm form ⌝ }
 {
     match form {
-        Form::NoForm => false,
-        Form::UploadOpening => false,
-        Form::DownloadOpening => false,
-        Form::UploadTransfer => false,
-        Form::DownloadTransfer => false,
-        Form::Receipt => false,
-        Form::UploadOpened => true,
-        Form::DownloadOpened => true,
-        Form::SegmentTaken => true,
-        Form::DownloadSegment => true,
-        Form::ReceiptAnswered => true,
-        Form::Unreadable => true,
-        Form::Refusal => true,
+        Form::NoForm
+        | Form::UploadOpening
+        | Form::DownloadOpening
+        | Form::UploadTransfer
+        | Form::DownloadTransfer
+        | Form::Receipt => false,
+        _ => true,
     }
 }

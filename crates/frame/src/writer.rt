@@ -18,7 +18,7 @@ ghost use Prim.Native.Nat.{_+_, _^_, _≤_, _<_};
 ghost use lib.ListN.{length, getD};
 ghost use Rattle.frame.specs.Bytes.{overwrite};
 ghost use Rattle.frame.specs.Table.{tagCount, frameLimit, isForm};
-ghost use Rattle.frame.specs.Writer.{contentOf, numberBytes, pieceOf, frameOf, dataWhole, fieldWritable, fieldsWritable, writeAnswer, writeBuffer};
+ghost use Rattle.frame.specs.Writer.{contentOf, numberBytes, pieceOf, frameOf, dataWhole, fieldWritable, fieldsWritable, writeAnswer, writeBuffer, writeNumber, writtenNumber};
 
 // The length of the frame written, or document 01's number 1: nothing written.
 pub enum Written {
@@ -139,7 +139,9 @@ fn is_form(form: Form) -> bool
 
 // Writes the frame that says these fields with this data into the front of out.
 pub fn write(fields: Fields, data: &[u8], out: &mut [u8]) -> Written
-    ensures { λ r. ⌜ (r ≡ writeAnswer fields (now («data» .entry)) (now (out .entry))) × (now (out .exit) ≡ writeBuffer fields (now («data» .entry)) (now (out .entry))) ⌝ }
+    ensures { λ r. ⌜ (r ≡ writeAnswer fields (now («data» .entry)) (now (out .entry)))
+        × (now (out .exit) ≡ writeBuffer fields (now («data» .entry)) (now (out .entry)))
+        × (writtenNumber r ≡ writeNumber fields (now («data» .entry)) (now (out .entry))) ⌝ }
 {
     if !is_form(fields.form()) {
         return Written::Refused;

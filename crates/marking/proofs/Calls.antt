@@ -2,19 +2,19 @@
 use Prim.Native.Nat.{ℕ, zero, suc, _+_, _-_, _≤_, _<_}
 use mathlib.Core.Bool.{true, false, _&&_}
 use mathlib.Core.List.{List, [], _++_}
-use mathlib.Core.Path.{_≡_, refl, sym, ap, _∙_}
+use mathlib.Core.Path.{_≡_, sym, ap, _∙_}
 use native.Mathlib.Omega.{arith}
 use lib.Dec.{ltb, leb}
 use lib.ListN.{length, drop, length-drop}
 use borrow.Author.Tests.{leb-true, ltb-true}
-use Rattle.frame.specs.Bytes.{overwrite}
 use Rattle.frame.proofs.Tests.{and-true}
-use Rattle.bank_state.specs.State.{World, world}
-use Rattle.bank.specs.Call.{frameCall}
+use Rattle.bank_state.specs.State.{world}
 use Rattle.marking.specs.declared.mark.Marked.{Marked}
-use Rattle.marking.specs.Print.{Put, headBytes, timeOf, sizeOf, frameIn, isWhole, lineOf, lineRoom}
+use Rattle.text.specs.Print.{Put}
+use Rattle.marking.specs.Print.{headBytes, sizeOf, isWhole, lineRoom}
 use Rattle.marking.specs.Marking.{Standing, callsMost, isReady, marked, markedTo, standingOf, Print, printOf, leftAt}
-use Rattle.marking.proofs.Texts.{put-length, put-then, line-most}
+use Rattle.text.proofs.Texts.{put-length, put-then}
+use Rattle.marking.proofs.Texts.{line-most}
 
 -- a call is ready
 pub record Readied (input : List ℕ) (room calls used written : ℕ) : Type 0 where

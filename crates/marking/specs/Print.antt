@@ -1,13 +1,13 @@
--- "The marker's print": a record of the input, numbers in digits, the line of a call, and the book.
-use Prim.Native.Nat.{ℕ, zero, suc, _+_, _/_, _%_, _≤_}
-use mathlib.Core.Path.{_≡_}
-use mathlib.Core.Bool.{Bool, cond, _&&_}
+-- "The marker's print": a record of the input, the line of a call, and the book.
+use Prim.Native.Nat.{ℕ, _+_}
+use mathlib.Core.Bool.{Bool, _&&_}
 use mathlib.Core.List.{List, [], _∷_, _++_}
-use lib.Dec.{ltb, leb}
+use lib.Dec.{leb}
 use lib.ListN.{length, take, drop}
-use Rattle.frame.specs.Bytes.{number, overwrite}
+use Rattle.frame.specs.Bytes.{number}
 use Rattle.frame.specs.Names.{returnCode}
 use Rattle.frame.specs.Reader.{readReply}
+use Rattle.text.specs.Print.{digitsIn, decimal, space, newline}
 use Rattle.bank_state.specs.declared.state.Bank.{Bank}
 use Rattle.bank_state.specs.declared.state.Place.{Place}
 use Rattle.bank_state.specs.declared.state.Use.{Use}
@@ -36,33 +36,6 @@ frameIn s = take (sizeOf s) (drop headBytes s)
 -- "A record cut short ends the input"
 unfoldable pub isWhole : List ℕ → Bool
 isWhole s = leb headBytes (length s) && leb (headBytes + sizeOf s) (length s)
-
--- the last w digits of x in base b, the digit d as the byte first + d
-unfoldable pub digitsIn : ℕ → ℕ → ℕ → ℕ → List ℕ
-digitsIn b first zero x = []
-digitsIn b first (suc w) x = digitsIn b first w (x / b) ++ ((first + x % b) ∷ [])
-
--- how many decimal digits x has, n + 1 at most
-unfoldable pub digitCountTo : ℕ → ℕ → ℕ
-digitCountTo zero x = 1
-digitCountTo (suc n) x = cond (ltb x 10) 1 (suc (digitCountTo n (x / 10)))
-
--- the decimal digits that a number has at most: 20 hold every number of 64 bits
-abbrev pub digitsMost : ℕ
-digitsMost = 20
-
-unfoldable pub digitCount : ℕ → ℕ
-digitCount x = digitCountTo 19 x
-
--- a number in decimal
-unfoldable pub decimal : ℕ → List ℕ
-decimal x = digitsIn 10 48 (digitCount x) x
-
-abbrev pub space : ℕ
-space = 32
-
-abbrev pub newline : ℕ
-newline = 10
 
 -- "0D return code, 6 ASCII digits"; "0E order number, 4"
 abbrev pub codeDigits : ℕ
@@ -126,16 +99,3 @@ orderRoom = 47
 
 abbrev pub bookRoom : ℕ
 bookRoom = 399
-
--- a text written into the output old from a place on: the output then, and the place behind the text
-pub record Put (old : List ℕ) (at : ℕ) (text new : List ℕ) (behind : ℕ) : Type 0 where
-  pub place : behind ≡ at + length text
-  pub fits : behind ≤ length old
-  pub bytes : new ≡ overwrite old at text
-
--- a text at the front of the output, and how many bytes are written; nothing where the output has no room for so many
-abbrev pub printed : ℕ → List ℕ → List ℕ → List ℕ
-printed room text output = cond (leb room (length output)) (overwrite output 0 text) output
-
-abbrev pub printedCount : ℕ → List ℕ → List ℕ → ℕ
-printedCount room text output = cond (leb room (length output)) (length text) 0

@@ -2,7 +2,6 @@
 use crate::print::LINE_ROOM;
 use crate::print::put_line;
 use crate::record::HEAD_BYTES;
-use crate::record::behind;
 use crate::record::frame_in;
 use crate::record::is_whole;
 use crate::record::size_of;
@@ -10,6 +9,7 @@ use crate::record::time_of;
 use bank::call::frame_arrives;
 use bank_state::limits::ID_BYTES;
 use bank_state::state::Bank;
+use frame::bytes::behind;
 ghost use mathlib.Core.Path.{_≡_};
 ghost use mathlib.Core.Bool.{true};
 ghost use mathlib.Core.List.{[]};

@@ -1,23 +1,24 @@
-// Numbers in digits, the line of a call, the headers and the book, written into a lent output.
-use crate::record::front;
+// The line of a call, the headers and the book, written into a lent output.
 use bank::call::FrameAnswer;
 use bank_state::limits::PLACES;
 use bank_state::state::Bank;
 use bank_state::state::Place;
 use bank_state::state::Use;
-use bank_state::store::append;
 use bank_step::order_numbers::order_number_of;
+use frame::bytes::front;
 use frame::reader::read_reply;
+use text::print::digit_count;
+use text::print::put_byte;
+use text::print::put_decimal;
+use text::print::put_digits;
+use text::print::put_text;
 ghost use mathlib.Core.Path.{_≡_};
-ghost use mathlib.Core.List.{[], _∷_};
 ghost use Prim.Native.Nat.{_+_, _*_, _≤_, _<_};
 ghost use lib.ListN.{length};
 ghost use Rattle.bank_state.specs.Limits.{placeCount};
-ghost use Rattle.marking.specs.Print.{Put, digitsIn, digitsMost, digitCount, decimal, codeDigits, codeOf, answerText, lineOf, lineRoom};
-ghost use Rattle.marking.specs.Print.{callHeader, headerRoom, orderText, lineFor, orderRoom, bookLines, bookOf, bookRoom, printed, printedCount};
-
-// The most decimal digits of a number.
-const DIGITS_MOST: usize = 20;
+ghost use Rattle.text.specs.Print.{Put, digitsIn, printed, printedCount};
+ghost use Rattle.marking.specs.Print.{codeDigits, codeOf, answerText, lineOf, lineRoom};
+ghost use Rattle.marking.specs.Print.{callHeader, headerRoom, orderText, lineFor, orderRoom, bookLines, bookOf, bookRoom};
 
 // The digits of a return code, and the characters of an order number.
 const CODE_DIGITS: usize = 6;
@@ -29,46 +30,8 @@ pub const LINE_ROOM: usize = 28;
 
 pub const BOOK_ROOM: usize = 399;
 
-// The bytes of the calls' header, and of the book's.
+// The bytes of the calls' header.
 pub const HEADER_ROOM: usize = 10;
-
-const BOOK_HEADER_BYTES: usize = 23;
-
-// How many decimal digits x has.
-fn digit_count(x: u64) -> usize
-    ensures { λ r. ⌜ r ≡ digitCount x ⌝ }
-{
-    let mut n = 1;
-    let mut rest = x;
-    while n < DIGITS_MOST && 10 <= rest {
-        rest = rest / 10;
-        n += 1;
-    }
-    n
-}
-
-// Writes the last w digits of x in a base from a place on, and gives the place behind them.
-fn put_digits(output: &mut [u8], at: usize, base: u64, first: u64, w: usize, x: u64) -> usize
-    requires { ⌜ (at + w ≤ length (now output)) × (0 < base) × (first + base ≤ 256) ⌝ }
-    ensures { λ r. ⌜ Put (now (output .entry)) at (digitsIn base first w x) (now (output .exit)) r ⌝ }
-{
-    let mut i = w;
-    let mut rest = x;
-    while 0 < i {
-        i -= 1;
-        output[at + i] = (first + rest % base) as u8;
-        rest = rest / base;
-    }
-    at + w
-}
-
-// Writes x in decimal.
-fn put_decimal(output: &mut [u8], at: usize, x: u64) -> usize
-    requires { ⌜ at + digitsMost ≤ length (now output) ⌝ }
-    ensures { λ r. ⌜ Put (now (output .entry)) at (decimal x) (now (output .exit)) r ⌝ }
-{
-    put_digits(output, at, 10, 48, digit_count(x), x)
-}
 
 // The digits of a return code, given as the number of field 0D.
 pub fn code_digits(code: u64) -> [u8; CODE_DIGITS]
@@ -77,15 +40,6 @@ pub fn code_digits(code: u64) -> [u8; CODE_DIGITS]
     let mut text = [0u8; CODE_DIGITS];
     put_digits(&mut text, 0, 256, 0, CODE_DIGITS, code);
     text
-}
-
-// Writes one byte.
-fn put_byte(output: &mut [u8], at: usize, b: u8) -> usize
-    requires { ⌜ at < length (now output) ⌝ }
-    ensures { λ r. ⌜ Put (now (output .entry)) at (b ∷ []) (now (output .exit)) r ⌝ }
-{
-    output[at] = b;
-    at + 1
 }
 
 // Writes the code of the reply in the first n bytes of the buffer.
@@ -180,8 +134,7 @@ pub fn header(output: &mut [u8]) -> usize
     if output.len() < HEADER_ROOM {
         return 0;
     }
-    append(output, 0, b"call code\n");
-    HEADER_ROOM
+    put_text(output, 0, b"call code\n")
 }
 
 // The book at the front of the output, and its length.
@@ -191,7 +144,7 @@ pub fn book(b: Bank, output: &mut [u8]) -> usize
     if output.len() < BOOK_ROOM {
         return 0;
     }
-    append(output, 0, b"order subscriber bytes\n");
+    let at = put_text(output, 0, b"order subscriber bytes\n");
     let places = b.places;
-    put_places(output, BOOK_HEADER_BYTES, places)
+    put_places(output, at, places)
 }

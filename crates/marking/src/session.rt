@@ -2,23 +2,23 @@
 use crate::mark::mark;
 use crate::print::book;
 use crate::print::header;
-use crate::record::front;
 use bank_state::limits::REPLY_ROOM;
 use bank_state::limits::STORE_BYTES;
 use bank_state::state::Bank;
 use bank_state::state::fresh;
+use frame::bytes::front;
 use libc::STDIN_FILENO;
 use libc::STDOUT_FILENO;
 ghost use mathlib.Core.Path.{_≡_};
-ghost use Prim.Native.Nat.{_≤_};
+ghost use Prim.Native.Nat.{_-_, _≤_};
 ghost use lib.ListN.{length, take, drop};
 ghost use Rattle.frame.specs.Bytes.{overwrite};
 
-// The input held: two records of the longest frame.
-const INPUT_BYTES: usize = 131082;
+// The input held: a record of the longest frame.
+const INPUT_BYTES: usize = 65541;
 
 // The output: a line for each record that the input can hold.
-const OUTPUT_BYTES: usize = 611744;
+const OUTPUT_BYTES: usize = 305844;
 
 // Between two reads: the bank, the calls so far, the bytes held of a record cut short, whether the input may go on.
 struct Reading {
@@ -43,6 +43,17 @@ fn keep(input: &mut [u8], from: usize, end: usize) -> usize
     n
 }
 
+// Reads into the input behind the bytes held, and counts what came: 0 at the end, and where the input is full.
+fn read_in(input: &mut [u8], held: usize) -> usize
+    ensures { λ r. ⌜ r ≤ length (now (input .entry)) - held ⌝ }
+{
+    if input.len() <= held {
+        return 0;
+    }
+    let got = libc::read(STDIN_FILENO, &mut input[held..]);
+    io::count(got, &input[held..])
+}
+
 // One read: the records that are whole then are marked, and the rest is kept for the next.
 fn read_on(
     t: Reading,
@@ -54,16 +65,7 @@ fn read_on(
 ) -> Reading {
     let held = t.held;
     let bank = t.bank;
-    if input.len() <= held {
-        return Reading {
-            bank,
-            calls: t.calls,
-            held,
-            more: false,
-        };
-    }
-    let got = libc::read(STDIN_FILENO, &mut input[held..]);
-    let n = io::count(got, &input[held..]);
+    let n = read_in(input, held);
     if n == 0 {
         return Reading {
             bank,
@@ -108,22 +110,43 @@ fn read_all(
     t.bank
 }
 
-// Reads all records, and prints.
+// Prints the header.
+fn print_header(output: &mut [u8]) {
+    let n = header(output);
+    io::write_all(STDOUT_FILENO, front(output, n));
+}
+
+// Prints the bank's book.
+fn print_book(bank: Bank, output: &mut [u8]) {
+    let n = book(bank, output);
+    io::write_all(STDOUT_FILENO, front(output, n));
+}
+
+// Reads all records, and prints, in lent memory.
+fn print_all(
+    input: &mut [u8],
+    output: &mut [u8],
+    orders: &mut [u8],
+    boxes: &mut [u8],
+    buffer: &mut [u8],
+) {
+    print_header(output);
+    let bank = read_all(input, output, orders, boxes, buffer);
+    print_book(bank, output);
+}
+
+// Reads all records, and prints, in memory of its own.
 pub fn session() {
     let mut input = [0u8; INPUT_BYTES];
     let mut output = [0u8; OUTPUT_BYTES];
     let mut orders = [0u8; STORE_BYTES];
     let mut boxes = [0u8; STORE_BYTES];
     let mut buffer = [0u8; REPLY_ROOM];
-    let n = header(&mut output);
-    io::write_all(STDOUT_FILENO, front(&output, n));
-    let bank = read_all(
+    print_all(
         &mut input,
         &mut output,
         &mut orders,
         &mut boxes,
         &mut buffer,
     );
-    let k = book(bank, &mut output);
-    io::write_all(STDOUT_FILENO, front(&output, k));
 }

@@ -11,7 +11,7 @@ use Rattle.frame.specs.declared.fields.Bits128.{Bits128}
 use Rattle.frame.specs.declared.fields.Fields.{Fields}
 use Rattle.frame.specs.declared.table.Form.{Form}
 use Rattle.frame.specs.declared.table.Form.the-variants as forms
-use Rattle.frame.specs.Bytes.{bytesOf}
+use Rattle.frame.specs.Bytes.{Bytes, bytesOf}
 use Rattle.frame.specs.Table.{
   frameLimit,
   tagCount,
@@ -44,7 +44,6 @@ use Rattle.frame.specs.Reader.{noFields}
 use Rattle.frame.specs.Row.{listed}
 use Rattle.frame.specs.Writer.{frameOf, lengthFrom, frameLength, fieldWritable, writable}
 use Rattle.frame.proofs.Tests.{and-true}
-use Rattle.frame.proofs.Numbers.{Bytes}
 use Rattle.frame.proofs.RoundTrip.{Sized}
 use Rattle.frame.proofs.Lengths.{length-frameOf}
 use Rattle.frame.proofs.Build.{

@@ -1,9 +1,6 @@
 -- The numbers of document 01 that the bank and the client share.
 use Prim.Native.Nat.{ℕ}
-
--- "segments are 256 bytes but the last"
-abbrev pub segmentBytes : ℕ
-segmentBytes = 256
+pub use Rattle.frame.specs.Writer.{segmentBytes}
 
 -- "over 15 segments" are too many
 abbrev pub segmentsMost : ℕ

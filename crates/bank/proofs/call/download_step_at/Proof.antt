@@ -1,12 +1,11 @@
 -- `download_step_at` meets its contract. Assumes nothing.
-use Rattle.bank_step.specs.Openings.{fileLength}
 use Rattle.bank.specs.Call.{downloadStepAt}
 use borrow.Author.Needs.{needs}
 use Rattle.bank.proofs.call.download_step_at.Statement.{statement}
 use Rattle.bank.proofs.call.download_step_at.Tie as tie
 
 returns : tie.Need-returns
-unfolding downloadStepAt fileLength
+unfolding downloadStepAt
 returns c =
     λ o.
     let at-after = c .before .before in
@@ -32,13 +31,13 @@ download-step-at-spec =
     (tie.spec
     (λ c. search needs)
     (λ c. search needs)
+    (λ c κs. tt)
+    (λ c κs. tt)
+    (λ c κs. tt)
+    (λ c κs. tt)
+    (λ c κs. tt)
     (λ c κs. search needs)
-    (λ c κs. search needs)
-    (λ c κs. search needs)
-    (λ c κs. search needs)
-    (λ c κs. search needs)
-    (λ c κs. search needs)
-    (λ c κs. search needs)
+    (λ c κs. tt)
     (λ c κs. search needs)
     (λ c. search needs)
     (λ c. search needs)

@@ -47,7 +47,7 @@ returns-2 c =
       ← at-if1 .before .lent-right .ensures,
       not-false (at-if1 .before .lent-right .result) (at-if1 .if1 .left),
       ← at-advance .advance .ensures _,
-      ← at-number .number .ensures,
+      ← at-number .number .ensures .0,
       ← at-read .read-request .ensures,
       ← at-data .«data» .ensures,
     ) (at-respond .respond .ensures)
@@ -56,12 +56,12 @@ pub frame-arrives-spec : {M : Type 1} → statement M
 frame-arrives-spec =
     tie.close
     (tie.spec
-    (λ c κs. search needs)
+    (λ c κs. tt)
     returns
     advance-requires
     number-requires
-    (λ c κs. search needs)
-    (λ c κs. search needs)
+    (λ c κs. tt)
+    (λ c κs. tt)
     respond-requires
     (λ c. search needs)
     (λ c. search needs)

@@ -3,7 +3,6 @@ use borrow.Author.Tests.{lt-ltb, le-ltb}
 use lib.ListN.{length}
 use Rattle.message.specs.Limits.{segmentBytes}
 use Rattle.bank.specs.Call.{requestRefusals}
-use borrow.Author.Needs.{needs}
 use Rattle.bank.proofs.call.judge_request.Statement.{statement}
 use Rattle.bank.proofs.call.judge_request.Tie as tie
 
@@ -37,4 +36,4 @@ returns-3 c =
 
 pub judge-request-spec : {M : Type 1} → statement M
 judge-request-spec =
-    tie.close (tie.spec (λ c κs. search needs) (λ c κs. search needs) returns returns-2 returns-3)
+    tie.close (tie.spec (λ c κs. tt) (λ c κs. tt) returns returns-2 returns-3)

@@ -1,6 +1,5 @@
 -- `mailbox_segment` meets its contract. Assumes nothing.
 use borrow.Author.Tests.{ne-eqb}
-use Rattle.bank_step.specs.Openings.{fileLength}
 use Rattle.bank.specs.Call.{mailboxSegment}
 use borrow.Author.Needs.{needs}
 use Rattle.bank.proofs.call.mailbox_segment.Statement.{statement}
@@ -11,7 +10,7 @@ unfolding mailboxSegment
 returns c = λ o. rw (c .before .if1 .taken)
 
 returns-2 : tie.Need-returns-2
-unfolding mailboxSegment fileLength
+unfolding mailboxSegment
 returns-2 c =
     λ o.
     let at-file = c .before in
@@ -32,7 +31,7 @@ mailbox-segment-spec =
     (λ c. search needs)
     returns
     (λ c. search needs)
-    (λ c κs. search needs)
-    (λ c κs. search needs)
-    (λ c κs. search needs)
+    (λ c κs. tt)
+    (λ c κs. tt)
+    (λ c κs. tt)
     returns-2)

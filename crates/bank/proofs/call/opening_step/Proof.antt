@@ -22,9 +22,9 @@ pub opening-step-spec : {M : Type 1} → statement M
 opening-step-spec =
     tie.close
     (tie.spec
+    (λ c κs. tt)
+    (λ c κs. tt)
     (λ c κs. search needs)
-    (λ c κs. search needs)
-    (λ c κs. search needs)
-    (λ c κs. search needs)
+    (λ c κs. tt)
     (λ c. search needs)
     returns)

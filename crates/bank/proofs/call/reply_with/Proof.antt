@@ -17,7 +17,7 @@ pub reply-with-spec : {M : Type 1} → statement M
 reply-with-spec =
     tie.close
     (tie.spec
-    (λ c κs. search needs)
+    (λ c κs. tt)
     (λ c. search needs)
     (λ c. search needs)
     (λ c. search needs)

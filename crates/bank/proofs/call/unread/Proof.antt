@@ -10,4 +10,4 @@ returns c =
     rw (at-reply .reply-alone .ensures .0, at-reply .reply-alone .ensures .1, at-reply .before .before .unreadable .ensures)
 
 pub unread-spec : {M : Type 1} → statement M
-unread-spec = tie.close (tie.spec (λ c κs. search needs) (λ c κs. search needs) (λ c. search needs) returns)
+unread-spec = tie.close (tie.spec (λ c κs. tt) (λ c κs. tt) (λ c. search needs) returns)

@@ -1,5 +1,4 @@
 -- `without` meets its contract. Assumes nothing.
-use borrow.Author.Needs.{needs}
 use Rattle.bank.proofs.call.without.Statement.{statement}
 use Rattle.bank.proofs.call.without.Tie as tie
 
@@ -7,4 +6,4 @@ returns : tie.Need-returns
 returns c = rw (c .end-downloads .ensures)
 
 pub without-spec : {M : Type 1} → statement M
-without-spec = tie.close (tie.spec (λ c κs. search needs) returns)
+without-spec = tie.close (tie.spec (λ c κs. tt) returns)

@@ -5,10 +5,8 @@ use lib.ListN.{length, drop}
 use borrow.Author.Tests.{eq-eqb, ne-eqb}
 use Rattle.message.specs.Verdicts.{decide}
 use Rattle.bank_state.specs.Limits.{storeBytes}
-use Rattle.bank_step.specs.Openings.{fileLength}
 use Rattle.bank.specs.declared.mailbox.FileAnswer.the-variants.{Done}
 use Rattle.bank.specs.Mailbox.{fileRefusals}
-use borrow.Author.Needs.{needs}
 use Rattle.bank.proofs.mailbox.judge_file.Statement.{statement}
 use Rattle.bank.proofs.mailbox.judge_file.Tie as tie
 
@@ -43,13 +41,13 @@ unfolding fileRefusals
 returns-3 c = sym (passed-2 (c .before .before) ∙ rw (← c .before .is-wrong-file .ensures, c .if3 .taken))
 
 returns-4 : tie.Need-returns-4
-unfolding fileRefusals fileLength
+unfolding fileRefusals
 returns-4 c =
     sym (passed-3 (c .before .before .before)
     ∙ rw (← c .before .file-length .ensures, ne-eqb (c .before .file-length .result) 0 (c .if4 .taken)))
 
 returns-5 : tie.Need-returns-5
-unfolding fileRefusals fileLength
+unfolding fileRefusals
 returns-5 c =
     sym (passed-3 (c .before .before .before)
     ∙ rw (← c .before .file-length .ensures, eq-eqb (c .before .file-length .result) 0 (c .if4 .left)))
@@ -59,10 +57,10 @@ judge-file-spec =
     tie.close
     (tie.spec
     returns
-    (λ c κs. search needs)
+    (λ c κs. tt)
     returns-2
-    (λ c κs. search needs)
+    (λ c κs. tt)
     returns-3
-    (λ c κs. search needs)
+    (λ c κs. tt)
     returns-4
     returns-5)

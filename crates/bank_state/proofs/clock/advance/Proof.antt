@@ -6,10 +6,10 @@ use Rattle.bank_state.proofs.clock.advance.Statement.{statement}
 use Rattle.bank_state.proofs.clock.advance.Tie as tie
 
 larger-requires : tie.Need-larger-requires
-larger-requires c κs = search needs
+larger-requires c κs = tt
 
 at-clock-requires : tie.Need-at-clock-requires
-at-clock-requires c κs = search needs
+at-clock-requires c κs = tt
 
 drop-uploads-requires : tie.Need-drop-uploads-requires
 drop-uploads-requires c κs = search needs

@@ -1,14 +1,13 @@
 -- Downloads and nonces by their own functions.
-use borrow.Author.Needs.{needs}
 use Rattle.bank_state.specs.Clock.{atClock}
 use Rattle.bank_state.proofs.clock.at_clock.Statement.{statement}
 use Rattle.bank_state.proofs.clock.at_clock.Tie as tie
 
 end-downloads-requires : tie.Need-end-downloads-requires
-end-downloads-requires c κs = search needs
+end-downloads-requires c κs = tt
 
 forget-requires : tie.Need-forget-requires
-forget-requires c κs = search needs
+forget-requires c κs = tt
 
 returns : tie.Need-returns
 unfolding atClock

@@ -12,7 +12,7 @@ element-copy-out-p : tie.Need-element-copy-out-p
 element-copy-out-p c = search needs
 
 is-idle-upload-requires : tie.Need-is-idle-upload-requires
-is-idle-upload-requires c κs = search needs
+is-idle-upload-requires c κs = tt
 
 free-requires : tie.Need-free-requires
 free-requires c κs = search needs

@@ -23,7 +23,7 @@ sized : (c : tie.Start Inv-loop μ-loop) → length (c .args .t1) ≡ placeCount
 sized c = c .good .0 .1 .0 .1
 
 no-download-requires : tie.Need-no-download-requires Inv-loop μ-loop
-no-download-requires c κs = search needs
+no-download-requires c κs = tt
 
 loop-holds : tie.Need-loop-holds Inv-loop μ-loop
 loop-holds c = kept-start _ _ _ placeCount _ (sized (c .before)) (rw (c .no-download .ensures))
@@ -38,7 +38,7 @@ add-i : tie.Need-add-i Inv-loop μ-loop
 add-i c = search needs
 
 stays-requires : tie.Need-stays-requires Inv-loop μ-loop
-stays-requires c κs = search needs
+stays-requires c κs = tt
 
 mul-kept : tie.Need-mul-kept Inv-loop μ-loop
 mul-kept c = search needs

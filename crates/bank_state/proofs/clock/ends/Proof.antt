@@ -8,7 +8,7 @@ enum-known-which : tie.Need-enum-known-which
 enum-known-which c = search needs
 
 is-idle-requires : tie.Need-is-idle-requires
-is-idle-requires c κs = search needs
+is-idle-requires c κs = tt
 
 enum-known-which-2 : tie.Need-enum-known-which-2
 enum-known-which-2 c = search needs
@@ -17,7 +17,7 @@ enum-known-which-3 : tie.Need-enum-known-which-3
 enum-known-which-3 c = search needs
 
 is-download-requires : tie.Need-is-download-requires
-is-download-requires c κs = search needs
+is-download-requires c κs = tt
 
 returns : tie.Need-returns
 unfolding ends

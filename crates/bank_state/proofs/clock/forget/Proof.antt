@@ -26,7 +26,7 @@ sized : (c : tie.Start Inv-loop μ-loop) → length (c .args .t1) ≡ nonceCount
 sized c = c .good .0 .1 .0 .1
 
 no-nonce-requires : tie.Need-no-nonce-requires Inv-loop μ-loop
-no-nonce-requires c κs = search needs
+no-nonce-requires c κs = tt
 
 loop-holds : tie.Need-loop-holds Inv-loop μ-loop
 loop-holds c = kept-start _ _ _ nonceCount _ (sized (c .before)) (rw (c .no-nonce .ensures))
@@ -41,7 +41,7 @@ add-i : tie.Need-add-i Inv-loop μ-loop
 add-i c = search needs
 
 is-kept-requires : tie.Need-is-kept-requires Inv-loop μ-loop
-is-kept-requires c κs = search needs
+is-kept-requires c κs = tt
 
 mul-kept : tie.Need-mul-kept Inv-loop μ-loop
 mul-kept c = search needs

@@ -5,7 +5,7 @@ use Rattle.bank_state.proofs.clock.free.Statement.{statement}
 use Rattle.bank_state.proofs.clock.free.Tie as tie
 
 no-place-requires : tie.Need-no-place-requires
-no-place-requires c κs = search needs
+no-place-requires c κs = tt
 
 mul-t6 : tie.Need-mul-t6
 mul-t6 c = search needs

@@ -1,11 +1,10 @@
 -- The same test at the idle limit.
-use borrow.Author.Needs.{needs}
 use Rattle.bank_state.specs.Clock.{isIdle}
 use Rattle.bank_state.proofs.clock.is_idle.Statement.{statement}
 use Rattle.bank_state.proofs.clock.is_idle.Tie as tie
 
 is-behind-requires : tie.Need-is-behind-requires
-is-behind-requires c κs = search needs
+is-behind-requires c κs = tt
 
 returns : tie.Need-returns
 unfolding isIdle

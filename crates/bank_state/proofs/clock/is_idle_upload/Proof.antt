@@ -4,10 +4,10 @@ use Rattle.bank_state.proofs.clock.is_idle_upload.Statement.{statement}
 use Rattle.bank_state.proofs.clock.is_idle_upload.Tie as tie
 
 is-open-requires : tie.Need-is-open-requires
-is-open-requires c κs = search needs
+is-open-requires c κs = tt
 
 is-idle-requires : tie.Need-is-idle-requires
-is-idle-requires c κs = search needs
+is-idle-requires c κs = tt
 
 returns : tie.Need-returns
 returns c = rw (← c .before .before .is-open .ensures, c .before .if1 .taken) (c .is-idle .ensures)

@@ -5,7 +5,7 @@ use Rattle.bank_state.proofs.clock.is_kept.Statement.{statement}
 use Rattle.bank_state.proofs.clock.is_kept.Tie as tie
 
 is-behind-requires : tie.Need-is-behind-requires
-is-behind-requires c κs = search needs
+is-behind-requires c κs = tt
 
 returns : tie.Need-returns
 returns c = rw (c .before .if1 .taken, c .is-behind .ensures, not-ltb)

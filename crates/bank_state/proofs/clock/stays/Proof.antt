@@ -7,7 +7,7 @@ use Rattle.bank_state.proofs.clock.stays.Statement.{statement}
 use Rattle.bank_state.proofs.clock.stays.Tie as tie
 
 ends-requires : tie.Need-ends-requires
-ends-requires c κs = search needs
+ends-requires c κs = tt
 
 returns : tie.Need-returns
 returns c = and-with _ (c .before .if1 .taken) (ap not (c .ends .ensures))

@@ -33,7 +33,7 @@ add-i : tie.Need-add-i Inv-loop μ-loop
 add-i c = search needs
 
 download-passes-requires : tie.Need-download-passes-requires Inv-loop μ-loop
-download-passes-requires c κs = search needs
+download-passes-requires c κs = tt
 
 add-n : tie.Need-add-n Inv-loop μ-loop
 add-n c = search needs

@@ -33,7 +33,7 @@ add-i : tie.Need-add-i Inv-loop μ-loop
 add-i c = search needs
 
 place-passes-requires : tie.Need-place-passes-requires Inv-loop μ-loop
-place-passes-requires c κs = search needs
+place-passes-requires c κs = tt
 
 add-n : tie.Need-add-n Inv-loop μ-loop
 add-n c = search needs

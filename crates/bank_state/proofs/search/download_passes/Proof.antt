@@ -13,13 +13,13 @@ enum-known-test : tie.Need-enum-known-test
 enum-known-test c = search needs
 
 is-download-of-requires : tie.Need-is-download-of-requires
-is-download-of-requires c κs = search needs
+is-download-of-requires c κs = tt
 
 enum-known-test-2 : tie.Need-enum-known-test-2
 enum-known-test-2 c = search needs
 
 is-download-requires : tie.Need-is-download-requires
-is-download-requires c κs = search needs
+is-download-requires c κs = tt
 
 returns : tie.Need-returns
 returns c = search needs

@@ -1,11 +1,10 @@
 -- The loop's answer for the bank's row.
-use borrow.Author.Needs.{needs}
 use Rattle.bank_state.specs.Search.{findUpload}
 use Rattle.bank_state.proofs.search.find_upload.Statement.{statement}
 use Rattle.bank_state.proofs.search.find_upload.Tie as tie
 
 first-place-requires : tie.Need-first-place-requires
-first-place-requires c κs = search needs
+first-place-requires c κs = tt
 
 returns : tie.Need-returns
 unfolding findUpload

@@ -30,7 +30,7 @@ array-copy-out-e : tie.Need-array-copy-out-e Inv-loop μ-loop
 array-copy-out-e c = search needs
 
 download-passes-requires : tie.Need-download-passes-requires Inv-loop μ-loop
-download-passes-requires c κs = search needs
+download-passes-requires c κs = tt
 
 returns : tie.Need-returns Inv-loop μ-loop
 returns c =

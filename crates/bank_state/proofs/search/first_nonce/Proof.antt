@@ -30,7 +30,7 @@ array-copy-out-e : tie.Need-array-copy-out-e Inv-loop μ-loop
 array-copy-out-e c = search needs
 
 nonce-passes-requires : tie.Need-nonce-passes-requires Inv-loop μ-loop
-nonce-passes-requires c κs = search needs
+nonce-passes-requires c κs = tt
 
 returns : tie.Need-returns Inv-loop μ-loop
 returns c =

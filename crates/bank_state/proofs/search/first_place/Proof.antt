@@ -30,7 +30,7 @@ array-copy-out-p : tie.Need-array-copy-out-p Inv-loop μ-loop
 array-copy-out-p c = search needs
 
 place-passes-requires : tie.Need-place-passes-requires Inv-loop μ-loop
-place-passes-requires c κs = search needs
+place-passes-requires c κs = tt
 
 returns : tie.Need-returns Inv-loop μ-loop
 returns c =

@@ -1,11 +1,10 @@
 -- The loop's answer for the bank's row.
-use borrow.Author.Needs.{needs}
 use Rattle.bank_state.specs.Search.{freeDownload}
 use Rattle.bank_state.proofs.search.free_download.Statement.{statement}
 use Rattle.bank_state.proofs.search.free_download.Tie as tie
 
 first-download-requires : tie.Need-first-download-requires
-first-download-requires c κs = search needs
+first-download-requires c κs = tt
 
 returns : tie.Need-returns
 unfolding freeDownload

@@ -1,11 +1,10 @@
 -- The loop's answer for the bank's row.
-use borrow.Author.Needs.{needs}
 use Rattle.bank_state.specs.Search.{freeNonce}
 use Rattle.bank_state.proofs.search.free_nonce.Statement.{statement}
 use Rattle.bank_state.proofs.search.free_nonce.Tie as tie
 
 first-nonce-requires : tie.Need-first-nonce-requires
-first-nonce-requires c κs = search needs
+first-nonce-requires c κs = tt
 
 returns : tie.Need-returns
 unfolding freeNonce

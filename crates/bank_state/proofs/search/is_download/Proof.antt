@@ -1,14 +1,13 @@
 -- An open download of the subscriber, then its transaction ID.
-use borrow.Author.Needs.{needs}
 use Rattle.bank_state.specs.Search.{isDownload}
 use Rattle.bank_state.proofs.search.is_download.Statement.{statement}
 use Rattle.bank_state.proofs.search.is_download.Tie as tie
 
 is-download-of-requires : tie.Need-is-download-of-requires
-is-download-of-requires c κs = search needs
+is-download-of-requires c κs = tt
 
 same-requires : tie.Need-same-requires
-same-requires c κs = search needs
+same-requires c κs = tt
 
 returns : tie.Need-returns
 unfolding isDownload

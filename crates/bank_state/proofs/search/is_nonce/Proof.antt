@@ -4,7 +4,7 @@ use Rattle.bank_state.proofs.search.is_nonce.Statement.{statement}
 use Rattle.bank_state.proofs.search.is_nonce.Tie as tie
 
 same-requires : tie.Need-same-requires
-same-requires c κs = search needs
+same-requires c κs = tt
 
 returns : tie.Need-returns
 returns c = rw (c .before .before .if1 .taken) (c .same .ensures)

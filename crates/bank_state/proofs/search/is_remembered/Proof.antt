@@ -1,11 +1,10 @@
 -- The search ends before the row does.
-use borrow.Author.Needs.{needs}
 use Rattle.bank_state.specs.Search.{isRemembered}
 use Rattle.bank_state.proofs.search.is_remembered.Statement.{statement}
 use Rattle.bank_state.proofs.search.is_remembered.Tie as tie
 
 first-nonce-requires : tie.Need-first-nonce-requires
-first-nonce-requires c κs = search needs
+first-nonce-requires c κs = tt
 
 returns : tie.Need-returns
 unfolding isRemembered

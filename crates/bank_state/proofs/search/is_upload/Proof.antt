@@ -1,14 +1,13 @@
 -- An open upload of the subscriber, then its transaction ID.
-use borrow.Author.Needs.{needs}
 use Rattle.bank_state.specs.Search.{isUpload}
 use Rattle.bank_state.proofs.search.is_upload.Statement.{statement}
 use Rattle.bank_state.proofs.search.is_upload.Tie as tie
 
 is-upload-of-requires : tie.Need-is-upload-of-requires
-is-upload-of-requires c κs = search needs
+is-upload-of-requires c κs = tt
 
 same-requires : tie.Need-same-requires
-same-requires c κs = search needs
+same-requires c κs = tt
 
 returns : tie.Need-returns
 unfolding isUpload

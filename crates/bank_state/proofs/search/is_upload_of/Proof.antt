@@ -4,7 +4,7 @@ use Rattle.bank_state.proofs.search.is_upload_of.Statement.{statement}
 use Rattle.bank_state.proofs.search.is_upload_of.Tie as tie
 
 is-open-requires : tie.Need-is-open-requires
-is-open-requires c κs = search needs
+is-open-requires c κs = tt
 
 returns : tie.Need-returns
 returns c = rw (← c .before .before .is-open .ensures, c .before .if1 .taken)

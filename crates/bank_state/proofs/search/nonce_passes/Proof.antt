@@ -10,7 +10,7 @@ enum-known-test : tie.Need-enum-known-test
 enum-known-test c = search needs
 
 is-nonce-requires : tie.Need-is-nonce-requires
-is-nonce-requires c κs = search needs
+is-nonce-requires c κs = tt
 
 returns : tie.Need-returns
 returns c = search needs

@@ -1,11 +1,10 @@
 -- Both counts with the tests of the definition.
-use borrow.Author.Needs.{needs}
 use Rattle.bank_state.specs.Search.{openCountOf}
 use Rattle.bank_state.proofs.search.open_count_of.Statement.{statement}
 use Rattle.bank_state.proofs.search.open_count_of.Tie as tie
 
 count-both-requires : tie.Need-count-both-requires
-count-both-requires c κs = search needs
+count-both-requires c κs = tt
 
 returns : tie.Need-returns
 unfolding openCountOf

@@ -7,25 +7,25 @@ enum-told : tie.Need-enum-told
 enum-told c = search needs
 
 is-free-requires : tie.Need-is-free-requires
-is-free-requires c κs = search needs
+is-free-requires c κs = tt
 
 enum-told-2 : tie.Need-enum-told-2
 enum-told-2 c = search needs
 
 is-open-requires : tie.Need-is-open-requires
-is-open-requires c κs = search needs
+is-open-requires c κs = tt
 
 enum-known-test : tie.Need-enum-known-test
 enum-known-test c = search needs
 
 is-upload-of-requires : tie.Need-is-upload-of-requires
-is-upload-of-requires c κs = search needs
+is-upload-of-requires c κs = tt
 
 enum-known-test-2 : tie.Need-enum-known-test-2
 enum-known-test-2 c = search needs
 
 is-upload-requires : tie.Need-is-upload-requires
-is-upload-requires c κs = search needs
+is-upload-requires c κs = tt
 
 returns : tie.Need-returns
 returns c = search needs

@@ -1,17 +1,16 @@
 -- Each row from its free record.
-use borrow.Author.Needs.{needs}
 use Rattle.bank_state.specs.State.{fresh}
 use Rattle.bank_state.proofs.state.fresh.Statement.{statement}
 use Rattle.bank_state.proofs.state.fresh.Tie as tie
 
 no-place-requires : tie.Need-no-place-requires
-no-place-requires c κs = search needs
+no-place-requires c κs = tt
 
 no-download-requires : tie.Need-no-download-requires
-no-download-requires c κs = search needs
+no-download-requires c κs = tt
 
 no-nonce-requires : tie.Need-no-nonce-requires
-no-nonce-requires c κs = search needs
+no-nonce-requires c κs = tt
 
 returns : tie.Need-returns
 unfolding fresh

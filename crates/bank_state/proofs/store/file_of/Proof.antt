@@ -1,14 +1,13 @@
 -- The front of the mailbox.
-use borrow.Author.Needs.{needs}
 use Rattle.bank_state.specs.Store.{fileOf}
 use Rattle.bank_state.proofs.store.file_of.Statement.{statement}
 use Rattle.bank_state.proofs.store.file_of.Tie as tie
 
 part-requires : tie.Need-part-requires
-part-requires c κs = search needs
+part-requires c κs = tt
 
 front-requires : tie.Need-front-requires
-front-requires c κs = search needs
+front-requires c κs = tt
 
 returns : tie.Need-returns
 unfolding fileOf

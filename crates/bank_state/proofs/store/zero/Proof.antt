@@ -25,7 +25,7 @@ part-clear-end : tie.Need-part-clear-end
 part-clear-end c = search needs
 
 clear-requires : tie.Need-clear-requires
-clear-requires c κs = search needs
+clear-requires c κs = tt
 
 same-length : tie.Need-same-length
 same-length c = search needs

@@ -52,7 +52,7 @@ pub download-step-spec : {M : Type 1} → statement M
 download-step-spec =
     tie.close
     (tie.spec
-    (λ c κs. search needs)
+    (λ c κs. tt)
     (λ c. search needs)
     deliver-requires
     (λ c. search needs)
@@ -60,11 +60,11 @@ download-step-spec =
     (λ c. search needs)
     point-requires
     (λ c. search needs)
-    (λ c κs. search needs)
+    (λ c κs. tt)
     (λ c. search needs)
-    (λ c κs. search needs)
+    (λ c κs. tt)
     (λ c. search needs)
-    (λ c κs. search needs)
+    (λ c κs. tt)
     returns
     returns-2
     returns-3

@@ -2,7 +2,6 @@
 use mathlib.Core.Bool.{Bool, true, false, cond, not}
 use mathlib.Core.Path.{_≡_, refl, sym, _∙_}
 use borrow.Author.Tests.{lt-ltb, le-ltb}
-use borrow.Author.Needs.{needs}
 use Rattle.bank_step.specs.declared.downloads.DownloadVerdict.the-variants.{Resend, Point, Abort}
 use Rattle.bank_step.specs.Downloads.{judgeDownload, downloadRefusals}
 use Rattle.message.specs.Limits.{attemptsMost}
@@ -53,10 +52,10 @@ pub judge-download-spec : {M : Type 1} → statement M
 judge-download-spec =
     tie.close
     (tie.spec
-    (λ c κs. search needs)
-    (λ c κs. search needs)
+    (λ c κs. tt)
+    (λ c κs. tt)
     returns
     returns-2
-    (λ c κs. search needs)
+    (λ c κs. tt)
     returns-3
     returns-4)

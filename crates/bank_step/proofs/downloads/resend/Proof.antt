@@ -7,4 +7,4 @@ returns : tie.Need-returns
 returns c = rw (c .before .before .attempted .ensures, c .before .segment-reply .ensures, c .segment .ensures)
 
 pub resend-spec : {M : Type 1} → statement M
-resend-spec = tie.close (tie.spec (λ c κs. search needs) (λ c κs. search needs) (λ c κs. search needs) returns)
+resend-spec = tie.close (tie.spec (λ c κs. search needs) (λ c κs. tt) (λ c κs. tt) returns)

@@ -1,5 +1,4 @@
 -- `segment_reply` meets its contract. Assumes nothing.
-use borrow.Author.Needs.{needs}
 use Rattle.bank_step.proofs.downloads.segment_reply.Statement.{statement}
 use Rattle.bank_step.proofs.downloads.segment_reply.Tie as tie
 
@@ -20,9 +19,9 @@ pub segment-reply-spec : {M : Type 1} → statement M
 segment-reply-spec =
     tie.close
     (tie.spec
-    (λ c κs. search needs)
-    (λ c κs. search needs)
-    (λ c κs. search needs)
-    (λ c κs. search needs)
-    (λ c κs. search needs)
+    (λ c κs. tt)
+    (λ c κs. tt)
+    (λ c κs. tt)
+    (λ c κs. tt)
+    (λ c κs. tt)
     returns)

@@ -7,4 +7,4 @@ returns : tie.Need-returns
 returns c = rw (← c .before .before .is-upload .ensures, c .before .if1 .taken, c .free-place .ensures)
 
 pub is-placeless-spec : {M : Type 1} → statement M
-is-placeless-spec = tie.close (tie.spec (λ c κs. search needs) (λ c κs. search needs) returns (λ c. search needs))
+is-placeless-spec = tie.close (tie.spec (λ c κs. tt) (λ c κs. tt) returns (λ c. search needs))

@@ -1,5 +1,4 @@
 -- `is_wrong_form` meets its contract. Assumes nothing.
-use borrow.Author.Needs.{needs}
 use Rattle.bank_step.proofs.openings.is_wrong_form.Statement.{statement}
 use Rattle.bank_step.proofs.openings.is_wrong_form.Tie as tie
 
@@ -10,4 +9,4 @@ returns-2 : tie.Need-returns-2
 returns-2 c = rw (← c .before .before .is-upload .ensures, c .before .if1 .left, ← c .order-type .ensures)
 
 pub is-wrong-form-spec : {M : Type 1} → statement M
-is-wrong-form-spec = tie.close (tie.spec (λ c κs. search needs) (λ c κs. search needs) returns (λ c κs. search needs) returns-2)
+is-wrong-form-spec = tie.close (tie.spec (λ c κs. tt) (λ c κs. tt) returns (λ c κs. tt) returns-2)

@@ -1,6 +1,5 @@
 -- `is_wrong_upload` meets its contract. Assumes nothing.
 use borrow.Author.Tests.{ne-eqb}
-use borrow.Author.Needs.{needs}
 use Rattle.message.specs.Limits.{fdl}
 use Rattle.bank_step.proofs.openings.is_wrong_upload.Statement.{statement}
 use Rattle.bank_step.proofs.openings.is_wrong_upload.Tie as tie
@@ -17,4 +16,4 @@ returns-2 c =
     )
 
 pub is-wrong-upload-spec : {M : Type 1} → statement M
-is-wrong-upload-spec = tie.close (tie.spec (λ c κs. search needs) returns (λ c κs. search needs) returns-2)
+is-wrong-upload-spec = tie.close (tie.spec (λ c κs. tt) returns (λ c κs. tt) returns-2)

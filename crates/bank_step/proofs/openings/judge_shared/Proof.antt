@@ -3,7 +3,6 @@ use mathlib.Core.Path.{_≡_, sym, _∙_}
 use Prim.Native.Nat.{ℕ}
 use lib.ListN.{drop}
 use borrow.Author.Tests.{le-leb, lt-leb}
-use borrow.Author.Needs.{needs}
 use Rattle.message.specs.Verdicts.{decide}
 use Rattle.bank_state.specs.Limits.{openMost, nonceCount, openingsMost}
 use Rattle.bank_step.specs.declared.openings.OpeningVerdict.the-variants.{Accept}
@@ -63,11 +62,11 @@ pub judge-shared-spec : {M : Type 1} → statement M
 judge-shared-spec =
     tie.close
     (tie.spec
-    (λ c κs. search needs)
+    (λ c κs. tt)
     returns
-    (λ c κs. search needs)
+    (λ c κs. tt)
     returns-2
-    (λ c κs. search needs)
+    (λ c κs. tt)
     returns-3
     returns-4
     returns-5)

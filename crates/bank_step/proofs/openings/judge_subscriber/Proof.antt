@@ -4,7 +4,6 @@ use mathlib.Core.List.{_++_}
 use Prim.Native.Nat.{ℕ}
 use lib.ListN.{drop}
 use borrow.Author.Tests.{le-leb, lt-leb}
-use borrow.Author.Needs.{needs}
 use Rattle.bank_state.specs.Limits.{openPerSubscriber}
 use Rattle.message.specs.Verdicts.{decide}
 use Rattle.bank_step.specs.declared.openings.OpeningVerdict.the-variants.{Accept}
@@ -55,10 +54,10 @@ pub judge-subscriber-spec : {M : Type 1} → statement M
 judge-subscriber-spec =
     tie.close
     (tie.spec
-    (λ c κs. search needs)
-    (λ c κs. search needs)
+    (λ c κs. tt)
+    (λ c κs. tt)
     returns
-    (λ c κs. search needs)
+    (λ c κs. tt)
     returns-2
-    (λ c κs. search needs)
+    (λ c κs. tt)
     returns-3)

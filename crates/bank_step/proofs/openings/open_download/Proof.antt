@@ -1,11 +1,11 @@
 -- `open_download` meets its contract. Assumes nothing.
 use borrow.Author.Needs.{needs}
-use Rattle.bank_step.specs.Openings.{openDownload, counted, fileLength}
+use Rattle.bank_step.specs.Openings.{openDownload, counted}
 use Rattle.bank_step.proofs.openings.open_download.Statement.{statement}
 use Rattle.bank_step.proofs.openings.open_download.Tie as tie
 
 returns : tie.Need-returns
-unfolding openDownload counted fileLength
+unfolding openDownload counted
 returns c =
     let at-last-mark-of = c .before in
     let at-exchange = at-last-mark-of .before in
@@ -33,14 +33,14 @@ pub open-download-spec : {M : Type 1} → statement M
 open-download-spec =
     tie.close
     (tie.spec
+    (λ c κs. tt)
+    (λ c κs. tt)
+    (λ c κs. tt)
+    (λ c κs. tt)
+    (λ c κs. tt)
+    (λ c κs. tt)
     (λ c κs. search needs)
-    (λ c κs. search needs)
-    (λ c κs. search needs)
-    (λ c κs. search needs)
-    (λ c κs. search needs)
-    (λ c κs. search needs)
-    (λ c κs. search needs)
-    (λ c κs. search needs)
-    (λ c κs. search needs)
-    (λ c κs. search needs)
+    (λ c κs. tt)
+    (λ c κs. tt)
+    (λ c κs. tt)
     returns)

@@ -58,7 +58,7 @@ pub order-number-of-spec : {M : Type 1} → statement M
 order-number-of-spec =
     tie.close
     (tie.spec
-    (λ c κs. search needs)
+    (λ c κs. tt)
     (λ c κs. search needs)
     (λ c κs. search needs)
     (λ c κs. search needs)

@@ -9,4 +9,4 @@ unfolding grown
 returns c = rw (c .before .before .used-with .ensures, ← c .before .before .before .pre .0)
 
 pub grown-spec : {M : Type 1} → statement M
-grown-spec = tie.close (tie.spec (λ c κs. search needs) (λ c. search needs) returns)
+grown-spec = tie.close (tie.spec (λ c κs. tt) (λ c. search needs) returns)

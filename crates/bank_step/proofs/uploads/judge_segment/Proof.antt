@@ -2,7 +2,6 @@
 use mathlib.Core.Path.{_≡_, sym, _∙_}
 use Prim.Native.Nat.{ℕ}
 use lib.ListN.{drop}
-use borrow.Author.Needs.{needs}
 use Rattle.message.specs.Verdicts.{decide}
 use Rattle.bank_step.specs.declared.uploads.UploadVerdict.the-variants.{Take}
 use Rattle.bank_step.specs.Uploads.{segmentRefusals}
@@ -43,10 +42,10 @@ pub judge-segment-spec : {M : Type 1} → statement M
 judge-segment-spec =
     tie.close
     (tie.spec
-    (λ c κs. search needs)
+    (λ c κs. tt)
     returns
-    (λ c κs. search needs)
+    (λ c κs. tt)
     returns-2
-    (λ c κs. search needs)
+    (λ c κs. tt)
     returns-3
     returns-4)

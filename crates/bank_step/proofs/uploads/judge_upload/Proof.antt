@@ -1,6 +1,5 @@
 -- `judge_upload` meets its contract. Assumes nothing.
 use borrow.Author.Tests.{lt-ltb, le-ltb}
-use borrow.Author.Needs.{needs}
 use Rattle.bank_step.specs.Uploads.{judgeUpload, uploadRefusals}
 use Rattle.message.specs.Limits.{attemptsMost}
 use Rattle.bank_step.proofs.uploads.judge_upload.Statement.{statement}
@@ -27,4 +26,4 @@ returns-3 c =
     rw (← at-fits-upload .fits-upload .ensures, at-if1 .if1 .left, le-ltb (start .args .p .attempts) attemptsMost (c .if2 .left))
 
 pub judge-upload-spec : {M : Type 1} → statement M
-judge-upload-spec = tie.close (tie.spec (λ c κs. search needs) (λ c κs. search needs) returns returns-2 returns-3)
+judge-upload-spec = tie.close (tie.spec (λ c κs. tt) (λ c κs. tt) returns returns-2 returns-3)

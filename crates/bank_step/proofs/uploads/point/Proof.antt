@@ -7,4 +7,4 @@ returns : tie.Need-returns
 returns c = λ bytes. rw (c .before .attempted .ensures, c .upload-point .ensures)
 
 pub point-spec : {M : Type 1} → statement M
-point-spec = tie.close (tie.spec (λ c κs. search needs) (λ c κs. search needs) returns)
+point-spec = tie.close (tie.spec (λ c κs. search needs) (λ c κs. tt) returns)

@@ -47,13 +47,13 @@ pub upload-step-spec : {M : Type 1} → statement M
 upload-step-spec =
     tie.close
     (tie.spec
-    (λ c κs. search needs)
+    (λ c κs. tt)
     (λ c. search needs)
     take-requires
     (λ c. search needs)
     point-requires
     (λ c. search needs)
-    (λ c κs. search needs)
+    (λ c κs. tt)
     (λ c. search needs)
     returns
     returns-2

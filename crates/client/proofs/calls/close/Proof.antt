@@ -1,10 +1,9 @@
 -- `close` meets its contract. Assumes nothing.
-use borrow.Author.Needs.{needs}
 use Rattle.client.proofs.calls.close.Statement.{statement}
 use Rattle.client.proofs.calls.close.Tie as tie
 
 ended-requires : tie.Need-ended-requires
-ended-requires c κs = search needs
+ended-requires c κs = tt
 
 returns : tie.Need-returns
 returns c = rw (c .ended .ensures)

@@ -17,7 +17,7 @@ new : (c : tie.Then1) → isNew (run-of c .direction) (run-of c) ≡ true
 new c = sym (c .before .is-new .ensures) ∙ c .if1 .taken
 
 is-new-requires : tie.Need-is-new-requires
-is-new-requires c κs = search needs
+is-new-requires c κs = tt
 
 put-segment-requires : tie.Need-put-segment-requires
 put-segment-requires c κs =

@@ -8,10 +8,10 @@ use Rattle.client.proofs.calls.issue.Statement.{statement}
 use Rattle.client.proofs.calls.issue.Tie as tie
 
 write-request-requires : tie.Need-write-request-requires
-write-request-requires c κs = search needs
+write-request-requires c κs = tt
 
 outcome-of-requires : tie.Need-outcome-of-requires
-outcome-of-requires c κs = search needs
+outcome-of-requires c κs = tt
 
 same-length : tie.Need-same-length
 same-length c = search needs

@@ -20,13 +20,13 @@ go-on-requires c κs =
     (start .pre .0, rw (c .holding .ensures, holding-exchange) (start .pre .1))
 
 write-request-requires : tie.Need-write-request-requires
-write-request-requires c κs = search needs
+write-request-requires c κs = tt
 
 hold-if-written-requires : tie.Need-hold-if-written-requires
 hold-if-written-requires c κs = search needs
 
 outcome-of-requires : tie.Need-outcome-of-requires
-outcome-of-requires c κs = search needs
+outcome-of-requires c κs = tt
 
 same-length : tie.Need-same-length
 same-length c = search needs

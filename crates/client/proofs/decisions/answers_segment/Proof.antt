@@ -1,19 +1,18 @@
 -- `answers_segment` meets its contract. Assumes nothing.
 use borrow.Author.Tests.{not-false, not-true}
 use Rattle.client.specs.Decisions.{answersSegment}
-use borrow.Author.Needs.{needs}
 use Rattle.client.proofs.decisions.answers_segment.Statement.{statement}
 use Rattle.client.proofs.decisions.answers_segment.Tie as tie
 
 says-requires : tie.Need-says-requires
-says-requires c κs = search needs
+says-requires c κs = tt
 
 returns : tie.Need-returns
 unfolding answersSegment
 returns c = simp (← c .before .says .ensures, not-true (c .before .says .result) (c .if1 .taken))
 
 is-own-requires : tie.Need-is-own-requires
-is-own-requires c κs = search needs
+is-own-requires c κs = tt
 
 returns-2 : tie.Need-returns-2
 unfolding answersSegment
@@ -28,7 +27,7 @@ returns-2 c =
     )
 
 segment-requires : tie.Need-segment-requires
-segment-requires c κs = search needs
+segment-requires c κs = tt
 
 returns-3 : tie.Need-returns-3
 unfolding answersSegment

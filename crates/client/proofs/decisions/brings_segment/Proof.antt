@@ -1,19 +1,18 @@
 -- `brings_segment` meets its contract. Assumes nothing.
 use borrow.Author.Tests.{not-false, not-true}
 use Rattle.client.specs.Decisions.{bringsSegment}
-use borrow.Author.Needs.{needs}
 use Rattle.client.proofs.decisions.brings_segment.Statement.{statement}
 use Rattle.client.proofs.decisions.brings_segment.Tie as tie
 
 answers-segment-requires : tie.Need-answers-segment-requires
-answers-segment-requires c κs = search needs
+answers-segment-requires c κs = tt
 
 returns : tie.Need-returns
 unfolding bringsSegment
 returns c = simp (← c .before .answers-segment .ensures, not-true (c .before .answers-segment .result) (c .if1 .taken))
 
 fits-segment-requires : tie.Need-fits-segment-requires
-fits-segment-requires c κs = search needs
+fits-segment-requires c κs = tt
 
 returns-2 : tie.Need-returns-2
 unfolding bringsSegment

@@ -1,19 +1,18 @@
 -- `confirms` meets its contract. Assumes nothing.
 use borrow.Author.Tests.{not-false, not-true}
 use Rattle.client.specs.Decisions.{confirms}
-use borrow.Author.Needs.{needs}
 use Rattle.client.proofs.decisions.confirms.Statement.{statement}
 use Rattle.client.proofs.decisions.confirms.Tie as tie
 
 says-requires : tie.Need-says-requires
-says-requires c κs = search needs
+says-requires c κs = tt
 
 returns : tie.Need-returns
 unfolding confirms
 returns c = simp (← c .before .says .ensures, not-true (c .before .says .result) (c .if1 .taken))
 
 is-own-requires : tie.Need-is-own-requires
-is-own-requires c κs = search needs
+is-own-requires c κs = tt
 
 returns-2 : tie.Need-returns-2
 unfolding confirms

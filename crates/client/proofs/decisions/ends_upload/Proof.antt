@@ -1,18 +1,17 @@
 -- `ends_upload` meets its contract. Assumes nothing.
 use Rattle.client.specs.Decisions.{endsUpload}
-use borrow.Author.Needs.{needs}
 use Rattle.client.proofs.decisions.ends_upload.Statement.{statement}
 use Rattle.client.proofs.decisions.ends_upload.Tie as tie
 
 says-requires : tie.Need-says-requires
-says-requires c κs = search needs
+says-requires c κs = tt
 
 returns : tie.Need-returns
 unfolding endsUpload
 returns c = simp (← c .before .says .ensures, c .if1 .taken)
 
 says-requires-2 : tie.Need-says-requires-2
-says-requires-2 c κs = search needs
+says-requires-2 c κs = tt
 
 returns-2 : tie.Need-returns-2
 unfolding endsUpload
@@ -22,7 +21,7 @@ returns-2 c =
     simp (← b .says .ensures, a .if1 .left, ← c .before .says2 .ensures, c .if2 .taken)
 
 says-requires-3 : tie.Need-says-requires-3
-says-requires-3 c κs = search needs
+says-requires-3 c κs = tt
 
 returns-3 : tie.Need-returns-3
 unfolding endsUpload

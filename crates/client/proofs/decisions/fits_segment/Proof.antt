@@ -1,7 +1,6 @@
 -- `fits_segment` meets its contract. Assumes nothing.
 use borrow.Author.Tests.{eq-eqb, le-leb, lt-leb, ne-eqb}
 use Rattle.client.specs.Decisions.{fitsSegment}
-use borrow.Author.Needs.{needs}
 use Rattle.client.proofs.decisions.fits_segment.Statement.{statement}
 use Rattle.client.proofs.decisions.fits_segment.Tie as tie
 
@@ -10,10 +9,10 @@ unfolding fitsSegment
 returns c = simp (lt-leb _ _ (c .if1 .taken))
 
 last-mark-requires : tie.Need-last-mark-requires
-last-mark-requires c κs = search needs
+last-mark-requires c κs = tt
 
 last-mark-of-requires : tie.Need-last-mark-of-requires
-last-mark-of-requires c κs = search needs
+last-mark-of-requires c κs = tt
 
 returns-2 : tie.Need-returns-2
 unfolding fitsSegment
@@ -23,7 +22,7 @@ returns-2 c =
     simp (le-leb _ _ (b .if1 .left), ← a .last-mark .ensures, ← c .before .last-mark-of .ensures, ne-eqb _ _ (c .if2 .taken))
 
 fits-data-requires : tie.Need-fits-data-requires
-fits-data-requires c κs = search needs
+fits-data-requires c κs = tt
 
 returns-3 : tie.Need-returns-3
 unfolding fitsSegment

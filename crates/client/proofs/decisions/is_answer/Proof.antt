@@ -1,15 +1,14 @@
 -- `is_answer` meets its contract. Assumes nothing.
 use borrow.Author.Tests.{eq-eqb, ne-eqb, not-false, not-true}
 use Rattle.client.specs.Decisions.{isAnswer}
-use borrow.Author.Needs.{needs}
 use Rattle.client.proofs.decisions.is_answer.Statement.{statement}
 use Rattle.client.proofs.decisions.is_answer.Tie as tie
 
 form-requires : tie.Need-form-requires
-form-requires c κs = search needs
+form-requires c κs = tt
 
 is-reply-form-requires : tie.Need-is-reply-form-requires
-is-reply-form-requires c κs = search needs
+is-reply-form-requires c κs = tt
 
 returns : tie.Need-returns
 unfolding isAnswer
@@ -18,10 +17,10 @@ returns c =
     simp (← a .form .ensures, ← c .before .is-reply-form .ensures, not-true (c .before .is-reply-form .result) (c .if1 .taken))
 
 form-index-requires : tie.Need-form-index-requires
-form-index-requires c κs = search needs
+form-index-requires c κs = tt
 
 form-index-requires-2 : tie.Need-form-index-requires-2
-form-index-requires-2 c κs = search needs
+form-index-requires-2 c κs = tt
 
 returns-2 : tie.Need-returns-2
 unfolding isAnswer
@@ -40,7 +39,7 @@ returns-2 c =
     )
 
 exchange-requires : tie.Need-exchange-requires
-exchange-requires c κs = search needs
+exchange-requires c κs = tt
 
 returns-3 : tie.Need-returns-3
 unfolding isAnswer

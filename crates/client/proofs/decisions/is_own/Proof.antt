@@ -3,15 +3,14 @@ use mathlib.Core.Path.{ap, _∙_}
 use Rattle.frame.specs.declared.fields.Bits128.{Bits128}
 use Rattle.frame.specs.Names.{sameBits}
 use Rattle.client.specs.Decisions.{isOwn}
-use borrow.Author.Needs.{needs}
 use Rattle.client.proofs.decisions.is_own.Statement.{statement}
 use Rattle.client.proofs.decisions.is_own.Tie as tie
 
 transaction-requires : tie.Need-transaction-requires
-transaction-requires c κs = search needs
+transaction-requires c κs = tt
 
 same-requires : tie.Need-same-requires
-same-requires c κs = search needs
+same-requires c κs = tt
 
 returns : tie.Need-returns
 unfolding isOwn

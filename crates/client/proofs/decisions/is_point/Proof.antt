@@ -1,18 +1,17 @@
 -- `is_point` meets its contract. Assumes nothing.
 use borrow.Author.Tests.{not-false, not-true}
 use Rattle.client.specs.Decisions.{isPoint}
-use borrow.Author.Needs.{needs}
 use Rattle.client.proofs.decisions.is_point.Statement.{statement}
 use Rattle.client.proofs.decisions.is_point.Tie as tie
 
 segment-requires : tie.Need-segment-requires
-segment-requires c κs = search needs
+segment-requires c κs = tt
 
 point-phase-requires : tie.Need-point-phase-requires
-point-phase-requires c κs = search needs
+point-phase-requires c κs = tt
 
 says-requires : tie.Need-says-requires
-says-requires c κs = search needs
+says-requires c κs = tt
 
 returns : tie.Need-returns
 unfolding isPoint
@@ -27,7 +26,7 @@ returns c =
     )
 
 is-own-requires : tie.Need-is-own-requires
-is-own-requires c κs = search needs
+is-own-requires c κs = tt
 
 returns-2 : tie.Need-returns-2
 unfolding isPoint

@@ -1,12 +1,11 @@
 -- `lodges` meets its contract. Assumes nothing.
 use borrow.Author.Tests.{not-false, not-true}
 use Rattle.client.specs.Decisions.{lodges}
-use borrow.Author.Needs.{needs}
 use Rattle.client.proofs.decisions.lodges.Statement.{statement}
 use Rattle.client.proofs.decisions.lodges.Tie as tie
 
 answers-segment-requires : tie.Need-answers-segment-requires
-answers-segment-requires c κs = search needs
+answers-segment-requires c κs = tt
 
 returns : tie.Need-returns
 unfolding lodges

@@ -7,13 +7,13 @@ enum-told : tie.Need-enum-told
 enum-told c = search needs
 
 on-upload-requires : tie.Need-on-upload-requires
-on-upload-requires c κs = search needs
+on-upload-requires c κs = tt
 
 enum-told-2 : tie.Need-enum-told-2
 enum-told-2 c = search needs
 
 on-download-requires : tie.Need-on-download-requires
-on-download-requires c κs = search needs
+on-download-requires c κs = tt
 
 returns : tie.Need-returns
 returns c = simp (c .before .enum-told .given .1, ← c .on-upload .ensures)

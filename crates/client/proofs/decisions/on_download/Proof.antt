@@ -8,19 +8,19 @@ enum-told : tie.Need-enum-told
 enum-told c = search needs
 
 on-download-opening-requires : tie.Need-on-download-opening-requires
-on-download-opening-requires c κs = search needs
+on-download-opening-requires c κs = tt
 
 enum-told-2 : tie.Need-enum-told-2
 enum-told-2 c = search needs
 
 on-download-segment-requires : tie.Need-on-download-segment-requires
-on-download-segment-requires c κs = search needs
+on-download-segment-requires c κs = tt
 
 enum-told-3 : tie.Need-enum-told-3
 enum-told-3 c = search needs
 
 on-receipt-requires : tie.Need-on-receipt-requires
-on-receipt-requires c κs = search needs
+on-receipt-requires c κs = tt
 
 returns : tie.Need-returns
 unfolding onDownload

@@ -1,18 +1,17 @@
 -- `on_download_opening` meets its contract. Assumes nothing.
 use Rattle.client.specs.Decisions.{onDownload}
-use borrow.Author.Needs.{needs}
 use Rattle.client.proofs.decisions.on_download_opening.Statement.{statement}
 use Rattle.client.proofs.decisions.on_download_opening.Tie as tie
 
 opens-download-requires : tie.Need-opens-download-requires
-opens-download-requires c κs = search needs
+opens-download-requires c κs = tt
 
 returns : tie.Need-returns
 unfolding onDownload
 returns c = simp (← c .before .opens-download .ensures, c .if1 .taken)
 
 rest-word-requires : tie.Need-rest-word-requires
-rest-word-requires c κs = search needs
+rest-word-requires c κs = tt
 
 returns-2 : tie.Need-returns-2
 unfolding onDownload

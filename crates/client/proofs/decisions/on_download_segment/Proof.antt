@@ -1,21 +1,20 @@
 -- `on_download_segment` meets its contract. Assumes nothing.
 use Rattle.client.specs.Decisions.{onDownload}
-use borrow.Author.Needs.{needs}
 use Rattle.client.proofs.decisions.on_download_segment.Statement.{statement}
 use Rattle.client.proofs.decisions.on_download_segment.Tie as tie
 
 brings-segment-requires : tie.Need-brings-segment-requires
-brings-segment-requires c κs = search needs
+brings-segment-requires c κs = tt
 
 returns : tie.Need-returns
 unfolding onDownload
 returns c = simp (← c .before .brings-segment .ensures, c .if1 .taken)
 
 download-returns-requires : tie.Need-download-returns-requires
-download-returns-requires c κs = search needs
+download-returns-requires c κs = tt
 
 segment-requires : tie.Need-segment-requires
-segment-requires c κs = search needs
+segment-requires c κs = tt
 
 returns-2 : tie.Need-returns-2
 unfolding onDownload
@@ -32,7 +31,7 @@ returns-2 c =
     )
 
 rest-word-requires : tie.Need-rest-word-requires
-rest-word-requires c κs = search needs
+rest-word-requires c κs = tt
 
 returns-3 : tie.Need-returns-3
 unfolding onDownload

@@ -1,21 +1,20 @@
 -- `on_receipt` meets its contract. Assumes nothing.
 use Rattle.client.specs.Decisions.{onDownload}
-use borrow.Author.Needs.{needs}
 use Rattle.client.proofs.decisions.on_receipt.Statement.{statement}
 use Rattle.client.proofs.decisions.on_receipt.Tie as tie
 
 confirms-requires : tie.Need-confirms-requires
-confirms-requires c κs = search needs
+confirms-requires c κs = tt
 
 returns : tie.Need-returns
 unfolding onDownload
 returns c = simp (← c .before .confirms .ensures, c .if1 .taken)
 
 download-returns-requires : tie.Need-download-returns-requires
-download-returns-requires c κs = search needs
+download-returns-requires c κs = tt
 
 segment-requires : tie.Need-segment-requires
-segment-requires c κs = search needs
+segment-requires c κs = tt
 
 returns-2 : tie.Need-returns-2
 unfolding onDownload
@@ -26,7 +25,7 @@ returns-2 c =
     simp (← d .confirms .ensures, b .if1 .left, ← a .download-returns .ensures, c .before .if2 .taken, ← c .segment .ensures)
 
 rest-word-requires : tie.Need-rest-word-requires
-rest-word-requires c κs = search needs
+rest-word-requires c κs = tt
 
 returns-3 : tie.Need-returns-3
 unfolding onDownload

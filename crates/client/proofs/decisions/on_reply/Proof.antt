@@ -1,14 +1,13 @@
 -- `on_reply` meets its contract. Assumes nothing.
 use Rattle.client.specs.Decisions.{onReply}
-use borrow.Author.Needs.{needs}
 use Rattle.client.proofs.decisions.on_reply.Statement.{statement}
 use Rattle.client.proofs.decisions.on_reply.Tie as tie
 
 is-answer-requires : tie.Need-is-answer-requires
-is-answer-requires c κs = search needs
+is-answer-requires c κs = tt
 
 on-answer-requires : tie.Need-on-answer-requires
-on-answer-requires c κs = search needs
+on-answer-requires c κs = tt
 
 returns : tie.Need-returns
 unfolding onReply

@@ -1,18 +1,17 @@
 -- `on_silence` meets its contract. Assumes nothing.
 use Rattle.client.specs.Decisions.{onSilence}
-use borrow.Author.Needs.{needs}
 use Rattle.client.proofs.decisions.on_silence.Statement.{statement}
 use Rattle.client.proofs.decisions.on_silence.Tie as tie
 
 may-repeat-requires : tie.Need-may-repeat-requires
-may-repeat-requires c κs = search needs
+may-repeat-requires c κs = tt
 
 returns : tie.Need-returns
 unfolding onSilence
 returns c = simp (← c .before .may-repeat .ensures, c .if1 .taken)
 
 rest-word-requires : tie.Need-rest-word-requires
-rest-word-requires c κs = search needs
+rest-word-requires c κs = tt
 
 returns-2 : tie.Need-returns-2
 unfolding onSilence

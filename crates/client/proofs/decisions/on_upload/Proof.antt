@@ -8,19 +8,19 @@ enum-told : tie.Need-enum-told
 enum-told c = search needs
 
 on-upload-opening-requires : tie.Need-on-upload-opening-requires
-on-upload-opening-requires c κs = search needs
+on-upload-opening-requires c κs = tt
 
 enum-told-2 : tie.Need-enum-told-2
 enum-told-2 c = search needs
 
 on-upload-segment-requires : tie.Need-on-upload-segment-requires
-on-upload-segment-requires c κs = search needs
+on-upload-segment-requires c κs = tt
 
 enum-told-3 : tie.Need-enum-told-3
 enum-told-3 c = search needs
 
 rest-word-requires : tie.Need-rest-word-requires
-rest-word-requires c κs = search needs
+rest-word-requires c κs = tt
 
 returns : tie.Need-returns
 unfolding onUpload

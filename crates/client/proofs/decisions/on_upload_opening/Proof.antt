@@ -1,18 +1,17 @@
 -- `on_upload_opening` meets its contract. Assumes nothing.
 use Rattle.client.specs.Decisions.{onUpload}
-use borrow.Author.Needs.{needs}
 use Rattle.client.proofs.decisions.on_upload_opening.Statement.{statement}
 use Rattle.client.proofs.decisions.on_upload_opening.Tie as tie
 
 says-requires : tie.Need-says-requires
-says-requires c κs = search needs
+says-requires c κs = tt
 
 returns : tie.Need-returns
 unfolding onUpload
 returns c = simp (← c .before .says .ensures, c .if1 .taken)
 
 rest-word-requires : tie.Need-rest-word-requires
-rest-word-requires c κs = search needs
+rest-word-requires c κs = tt
 
 returns-2 : tie.Need-returns-2
 unfolding onUpload

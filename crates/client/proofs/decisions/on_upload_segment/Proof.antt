@@ -1,18 +1,17 @@
 -- `on_upload_segment` meets its contract. Assumes nothing.
 use Rattle.client.specs.Decisions.{onUpload}
-use borrow.Author.Needs.{needs}
 use Rattle.client.proofs.decisions.on_upload_segment.Statement.{statement}
 use Rattle.client.proofs.decisions.on_upload_segment.Tie as tie
 
 lodges-requires : tie.Need-lodges-requires
-lodges-requires c κs = search needs
+lodges-requires c κs = tt
 
 returns : tie.Need-returns
 unfolding onUpload
 returns c = simp (← c .before .lodges .ensures, c .if1 .taken)
 
 takes-segment-requires : tie.Need-takes-segment-requires
-takes-segment-requires c κs = search needs
+takes-segment-requires c κs = tt
 
 returns-2 : tie.Need-returns-2
 unfolding onUpload
@@ -22,10 +21,10 @@ returns-2 c =
     simp (← b .lodges .ensures, a .if1 .left, ← c .before .takes-segment .ensures, c .if2 .taken)
 
 upload-returns-requires : tie.Need-upload-returns-requires
-upload-returns-requires c κs = search needs
+upload-returns-requires c κs = tt
 
 segment-requires : tie.Need-segment-requires
-segment-requires c κs = search needs
+segment-requires c κs = tt
 
 returns-3 : tie.Need-returns-3
 unfolding onUpload
@@ -46,7 +45,7 @@ returns-3 c =
     )
 
 ends-upload-requires : tie.Need-ends-upload-requires
-ends-upload-requires c κs = search needs
+ends-upload-requires c κs = tt
 
 returns-4 : tie.Need-returns-4
 unfolding onUpload
@@ -69,7 +68,7 @@ returns-4 c =
     )
 
 rest-word-requires : tie.Need-rest-word-requires
-rest-word-requires c κs = search needs
+rest-word-requires c κs = tt
 
 returns-5 : tie.Need-returns-5
 unfolding onUpload

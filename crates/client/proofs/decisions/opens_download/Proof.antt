@@ -1,19 +1,18 @@
 -- `opens_download` meets its contract. Assumes nothing.
 use borrow.Author.Tests.{eq-eqb, le-leb, lt-leb, ne-eqb, not-false, not-true}
 use Rattle.client.specs.Decisions.{opensDownload}
-use borrow.Author.Needs.{needs}
 use Rattle.client.proofs.decisions.opens_download.Statement.{statement}
 use Rattle.client.proofs.decisions.opens_download.Tie as tie
 
 says-requires : tie.Need-says-requires
-says-requires c κs = search needs
+says-requires c κs = tt
 
 returns : tie.Need-returns
 unfolding opensDownload
 returns c = simp (← c .before .says .ensures, not-true (c .before .says .result) (c .if1 .taken))
 
 segment-requires : tie.Need-segment-requires
-segment-requires c κs = search needs
+segment-requires c κs = tt
 
 returns-2 : tie.Need-returns-2
 unfolding opensDownload
@@ -28,7 +27,7 @@ returns-2 c =
     )
 
 segments-requires : tie.Need-segments-requires
-segments-requires c κs = search needs
+segments-requires c κs = tt
 
 returns-3 : tie.Need-returns-3
 unfolding opensDownload
@@ -65,7 +64,7 @@ returns-4 c =
     )
 
 fits-segment-requires : tie.Need-fits-segment-requires
-fits-segment-requires c κs = search needs
+fits-segment-requires c κs = tt
 
 returns-5 : tie.Need-returns-5
 unfolding opensDownload

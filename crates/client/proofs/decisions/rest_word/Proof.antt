@@ -8,13 +8,13 @@ enum-told : tie.Need-enum-told
 enum-told c = search needs
 
 upload-word-requires : tie.Need-upload-word-requires
-upload-word-requires c κs = search needs
+upload-word-requires c κs = tt
 
 enum-told-2 : tie.Need-enum-told-2
 enum-told-2 c = search needs
 
 download-word-requires : tie.Need-download-word-requires
-download-word-requires c κs = search needs
+download-word-requires c κs = tt
 
 returns : tie.Need-returns
 unfolding restWord

@@ -1,18 +1,17 @@
 -- `says` meets its contract. Assumes nothing.
 use borrow.Author.Tests.{eq-eqb, ne-eqb}
 use Rattle.client.specs.Decisions.{says}
-use borrow.Author.Needs.{needs}
 use Rattle.client.proofs.decisions.says.Statement.{statement}
 use Rattle.client.proofs.decisions.says.Tie as tie
 
 form-requires : tie.Need-form-requires
-form-requires c κs = search needs
+form-requires c κs = tt
 
 form-index-requires : tie.Need-form-index-requires
-form-index-requires c κs = search needs
+form-index-requires c κs = tt
 
 form-index-requires-2 : tie.Need-form-index-requires-2
-form-index-requires-2 c κs = search needs
+form-index-requires-2 c κs = tt
 
 returns : tie.Need-returns
 unfolding says
@@ -22,10 +21,10 @@ returns c =
     simp (← b .form .ensures, ← a .form-index .ensures, ← c .before .form-index2 .ensures, ne-eqb _ _ (c .if1 .taken))
 
 return-code-requires : tie.Need-return-code-requires
-return-code-requires c κs = search needs
+return-code-requires c κs = tt
 
 code-field-requires : tie.Need-code-field-requires
-code-field-requires c κs = search needs
+code-field-requires c κs = tt
 
 returns-2 : tie.Need-returns-2
 unfolding says
@@ -46,7 +45,7 @@ returns-2 c =
     )
 
 phase-requires : tie.Need-phase-requires
-phase-requires c κs = search needs
+phase-requires c κs = tt
 
 returns-3 : tie.Need-returns-3
 unfolding says

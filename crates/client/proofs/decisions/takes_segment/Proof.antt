@@ -1,12 +1,11 @@
 -- `takes_segment` meets its contract. Assumes nothing.
 use borrow.Author.Tests.{not-false, not-true}
 use Rattle.client.specs.Decisions.{takesSegment}
-use borrow.Author.Needs.{needs}
 use Rattle.client.proofs.decisions.takes_segment.Statement.{statement}
 use Rattle.client.proofs.decisions.takes_segment.Tie as tie
 
 answers-segment-requires : tie.Need-answers-segment-requires
-answers-segment-requires c κs = search needs
+answers-segment-requires c κs = tt
 
 returns : tie.Need-returns
 unfolding takesSegment

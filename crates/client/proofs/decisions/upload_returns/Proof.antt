@@ -1,19 +1,18 @@
 -- `upload_returns` meets its contract. Assumes nothing.
 use borrow.Author.Tests.{le-leb, le-ltb, lt-leb, lt-ltb, not-false, not-true}
 use Rattle.client.specs.Decisions.{uploadReturns}
-use borrow.Author.Needs.{needs}
 use Rattle.client.proofs.decisions.upload_returns.Statement.{statement}
 use Rattle.client.proofs.decisions.upload_returns.Tie as tie
 
 is-point-requires : tie.Need-is-point-requires
-is-point-requires c κs = search needs
+is-point-requires c κs = tt
 
 returns : tie.Need-returns
 unfolding uploadReturns
 returns c = simp (← c .before .is-point .ensures, not-true (c .before .is-point .result) (c .if1 .taken))
 
 segment-requires : tie.Need-segment-requires
-segment-requires c κs = search needs
+segment-requires c κs = tt
 
 returns-2 : tie.Need-returns-2
 unfolding uploadReturns
@@ -44,7 +43,7 @@ returns-3 c =
     )
 
 may-repeat-requires : tie.Need-may-repeat-requires
-may-repeat-requires c κs = search needs
+may-repeat-requires c κs = tt
 
 returns-4 : tie.Need-returns-4
 unfolding uploadReturns

@@ -1,11 +1,10 @@
 -- `begun` meets its contract. Assumes nothing.
 use Rattle.client.specs.NextRun.{begun}
-use borrow.Author.Needs.{needs}
 use Rattle.client.proofs.next_run.begun.Statement.{statement}
 use Rattle.client.proofs.next_run.begun.Tie as tie
 
 segments-of-requires : tie.Need-segments-of-requires
-segments-of-requires c κs = search needs
+segments-of-requires c κs = tt
 
 returns : tie.Need-returns
 unfolding begun

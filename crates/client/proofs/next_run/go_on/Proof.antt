@@ -5,7 +5,7 @@ use Rattle.client.proofs.next_run.go_on.Statement.{statement}
 use Rattle.client.proofs.next_run.go_on.Tie as tie
 
 step-behind-requires : tie.Need-step-behind-requires
-step-behind-requires c κs = search needs
+step-behind-requires c κs = tt
 
 add-t8 : tie.Need-add-t8
 add-t8 c = search needs
@@ -17,10 +17,10 @@ add-larger : tie.Need-add-larger
 add-larger c = search needs
 
 larger-requires : tie.Need-larger-requires
-larger-requires c κs = search needs
+larger-requires c κs = tt
 
 receipted-behind-requires : tie.Need-receipted-behind-requires
-receipted-behind-requires c κs = search needs
+receipted-behind-requires c κs = tt
 
 returns : tie.Need-returns
 unfolding goOn

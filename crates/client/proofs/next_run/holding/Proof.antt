@@ -3,7 +3,6 @@ use Prim.Native.Nat.{_+_}
 use mathlib.Core.Bool.{true}
 use mathlib.Core.Path.{_≡_, sym, _∙_}
 use native.Mathlib.Omega.{arith}
-use borrow.Author.Needs.{needs}
 use borrow.Author.Tests.{not-false, not-true}
 use Rattle.client.specs.NextRun.{isNew, holding}
 use Rattle.client.proofs.NextRuns.{new-next}
@@ -11,7 +10,7 @@ use Rattle.client.proofs.next_run.holding.Statement.{statement}
 use Rattle.client.proofs.next_run.holding.Tie as tie
 
 is-new-requires : tie.Need-is-new-requires
-is-new-requires c κs = search needs
+is-new-requires c κs = tt
 
 returns : tie.Need-returns
 unfolding holding

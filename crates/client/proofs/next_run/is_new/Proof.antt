@@ -10,7 +10,7 @@ enum-told-2 : tie.Need-enum-told-2
 enum-told-2 c = search needs
 
 is-next-requires : tie.Need-is-next-requires
-is-next-requires c κs = search needs
+is-next-requires c κs = tt
 
 returns : tie.Need-returns
 returns c = simp (c .enum-told .given .1)

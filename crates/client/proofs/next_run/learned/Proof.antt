@@ -7,13 +7,13 @@ enum-told : tie.Need-enum-told
 enum-told c = search needs
 
 learned-upload-requires : tie.Need-learned-upload-requires
-learned-upload-requires c κs = search needs
+learned-upload-requires c κs = tt
 
 enum-told-2 : tie.Need-enum-told-2
 enum-told-2 c = search needs
 
 learned-download-requires : tie.Need-learned-download-requires
-learned-download-requires c κs = search needs
+learned-download-requires c κs = tt
 
 returns : tie.Need-returns
 returns c = simp (c .before .enum-told .given .1, ← c .learned-upload .ensures)

@@ -1,13 +1,12 @@
 -- `learned_download` meets its contract. Assumes nothing.
-use borrow.Author.Needs.{needs}
 use Rattle.client.proofs.next_run.learned_download.Statement.{statement}
 use Rattle.client.proofs.next_run.learned_download.Tie as tie
 
 transaction-requires : tie.Need-transaction-requires
-transaction-requires c κs = search needs
+transaction-requires c κs = tt
 
 segments-requires : tie.Need-segments-requires
-segments-requires c κs = search needs
+segments-requires c κs = tt
 
 returns : tie.Need-returns
 returns c = simp (← c .before .transaction .ensures, ← c .segments .ensures)

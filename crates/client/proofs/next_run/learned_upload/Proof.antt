@@ -1,13 +1,12 @@
 -- `learned_upload` meets its contract. Assumes nothing.
-use borrow.Author.Needs.{needs}
 use Rattle.client.proofs.next_run.learned_upload.Statement.{statement}
 use Rattle.client.proofs.next_run.learned_upload.Tie as tie
 
 transaction-requires : tie.Need-transaction-requires
-transaction-requires c κs = search needs
+transaction-requires c κs = tt
 
 order-number-requires : tie.Need-order-number-requires
-order-number-requires c κs = search needs
+order-number-requires c κs = tt
 
 returns : tie.Need-returns
 returns c = simp (← c .before .transaction .ensures, ← c .order-number .ensures)

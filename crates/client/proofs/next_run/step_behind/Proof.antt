@@ -10,7 +10,7 @@ enum-told-2 : tie.Need-enum-told-2
 enum-told-2 c = search needs
 
 download-step-requires : tie.Need-download-step-requires
-download-step-requires c κs = search needs
+download-step-requires c κs = tt
 
 returns : tie.Need-returns
 returns c = search needs

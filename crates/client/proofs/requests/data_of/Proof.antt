@@ -8,13 +8,13 @@ enum-told : tie.Need-enum-told
 enum-told c = search needs
 
 upload-data-requires : tie.Need-upload-data-requires
-upload-data-requires c κs = search needs
+upload-data-requires c κs = tt
 
 enum-told-2 : tie.Need-enum-told-2
 enum-told-2 c = search needs
 
 no-data-requires : tie.Need-no-data-requires
-no-data-requires c κs = search needs
+no-data-requires c κs = tt
 
 returns : tie.Need-returns
 unfolding outstandingData

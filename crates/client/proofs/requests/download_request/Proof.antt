@@ -7,22 +7,22 @@ enum-told : tie.Need-enum-told
 enum-told c = search needs
 
 nonce-of-requires : tie.Need-nonce-of-requires
-nonce-of-requires c κs = search needs
+nonce-of-requires c κs = tt
 
 download-opening-requires : tie.Need-download-opening-requires
-download-opening-requires c κs = search needs
+download-opening-requires c κs = tt
 
 enum-told-2 : tie.Need-enum-told-2
 enum-told-2 c = search needs
 
 download-transfer-requires : tie.Need-download-transfer-requires
-download-transfer-requires c κs = search needs
+download-transfer-requires c κs = tt
 
 enum-told-3 : tie.Need-enum-told-3
 enum-told-3 c = search needs
 
 receipt-requires : tie.Need-receipt-requires
-receipt-requires c κs = search needs
+receipt-requires c κs = tt
 
 returns : tie.Need-returns
 returns c = simp (c .before .before .enum-told .given .1, ← c .before .nonce-of .ensures, ← c .download-opening .ensures)

@@ -8,13 +8,13 @@ enum-told : tie.Need-enum-told
 enum-told c = search needs
 
 upload-request-requires : tie.Need-upload-request-requires
-upload-request-requires c κs = search needs
+upload-request-requires c κs = tt
 
 enum-told-2 : tie.Need-enum-told-2
 enum-told-2 c = search needs
 
 download-request-requires : tie.Need-download-request-requires
-download-request-requires c κs = search needs
+download-request-requires c κs = tt
 
 returns : tie.Need-returns
 unfolding outstanding

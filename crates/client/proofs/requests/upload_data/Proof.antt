@@ -7,19 +7,19 @@ enum-told : tie.Need-enum-told
 enum-told c = search needs
 
 no-data-requires : tie.Need-no-data-requires
-no-data-requires c κs = search needs
+no-data-requires c κs = tt
 
 enum-told-2 : tie.Need-enum-told-2
 enum-told-2 c = search needs
 
 segment-of-requires : tie.Need-segment-of-requires
-segment-of-requires c κs = search needs
+segment-of-requires c κs = tt
 
 enum-told-3 : tie.Need-enum-told-3
 enum-told-3 c = search needs
 
 no-data-requires-2 : tie.Need-no-data-requires-2
-no-data-requires-2 c κs = search needs
+no-data-requires-2 c κs = tt
 
 returns : tie.Need-returns
 returns c = search needs

@@ -7,25 +7,25 @@ enum-told : tie.Need-enum-told
 enum-told c = search needs
 
 nonce-of-requires : tie.Need-nonce-of-requires
-nonce-of-requires c κs = search needs
+nonce-of-requires c κs = tt
 
 upload-opening-requires : tie.Need-upload-opening-requires
-upload-opening-requires c κs = search needs
+upload-opening-requires c κs = tt
 
 enum-told-2 : tie.Need-enum-told-2
 enum-told-2 c = search needs
 
 last-mark-of-requires : tie.Need-last-mark-of-requires
-last-mark-of-requires c κs = search needs
+last-mark-of-requires c κs = tt
 
 upload-transfer-requires : tie.Need-upload-transfer-requires
-upload-transfer-requires c κs = search needs
+upload-transfer-requires c κs = tt
 
 enum-told-3 : tie.Need-enum-told-3
 enum-told-3 c = search needs
 
 receipt-requires : tie.Need-receipt-requires
-receipt-requires c κs = search needs
+receipt-requires c κs = tt
 
 returns : tie.Need-returns
 returns c = simp (c .before .before .enum-told .given .1, ← c .before .nonce-of .ensures, ← c .upload-opening .ensures)

@@ -1,12 +1,11 @@
 -- `begin_ruling` meets its contract. Assumes nothing.
 use borrow.Author.Tests.{le-ltb, lt-ltb}
 use Rattle.client.specs.Rulings.{beginRuling}
-use borrow.Author.Needs.{needs}
 use Rattle.client.proofs.rulings.begin_ruling.Statement.{statement}
 use Rattle.client.proofs.rulings.begin_ruling.Tie as tie
 
 wrong-buffers-requires : tie.Need-wrong-buffers-requires
-wrong-buffers-requires c κs = search needs
+wrong-buffers-requires c κs = tt
 
 returns : tie.Need-returns
 unfolding beginRuling
@@ -17,7 +16,7 @@ unfolding beginRuling
 returns-2 c = simp (← c .before .before .wrong-buffers .ensures, c .before .if1 .left, lt-ltb _ _ (c .if2 .taken))
 
 no-subscriber-requires : tie.Need-no-subscriber-requires
-no-subscriber-requires c κs = search needs
+no-subscriber-requires c κs = tt
 
 returns-3 : tie.Need-returns-3
 unfolding beginRuling
@@ -34,7 +33,7 @@ returns-3 c =
     )
 
 is-begun-requires : tie.Need-is-begun-requires
-is-begun-requires c κs = search needs
+is-begun-requires c κs = tt
 
 returns-4 : tie.Need-returns-4
 unfolding beginRuling

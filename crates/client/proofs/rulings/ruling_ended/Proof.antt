@@ -1,11 +1,10 @@
 -- `ruling_ended` meets its contract. Assumes nothing.
 use Rattle.client.specs.Rulings.{rulingEnded}
-use borrow.Author.Needs.{needs}
 use Rattle.client.proofs.rulings.ruling_ended.Statement.{statement}
 use Rattle.client.proofs.rulings.ruling_ended.Tie as tie
 
 wrong-lengths-requires : tie.Need-wrong-lengths-requires
-wrong-lengths-requires c κs = search needs
+wrong-lengths-requires c κs = tt
 
 returns : tie.Need-returns
 unfolding rulingEnded

@@ -1,12 +1,11 @@
 -- `ruling_running` meets its contract. Assumes nothing.
 use borrow.Author.Tests.{le-ltb, lt-ltb}
 use Rattle.client.specs.Rulings.{rulingRunning}
-use borrow.Author.Needs.{needs}
 use Rattle.client.proofs.rulings.ruling_running.Statement.{statement}
 use Rattle.client.proofs.rulings.ruling_running.Tie as tie
 
 wrong-lengths-requires : tie.Need-wrong-lengths-requires
-wrong-lengths-requires c κs = search needs
+wrong-lengths-requires c κs = tt
 
 returns : tie.Need-returns
 unfolding rulingRunning

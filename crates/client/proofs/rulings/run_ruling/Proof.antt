@@ -7,19 +7,19 @@ enum-told : tie.Need-enum-told
 enum-told c = search needs
 
 ruling-not-begun-requires : tie.Need-ruling-not-begun-requires
-ruling-not-begun-requires c κs = search needs
+ruling-not-begun-requires c κs = tt
 
 enum-told-2 : tie.Need-enum-told-2
 enum-told-2 c = search needs
 
 ruling-running-requires : tie.Need-ruling-running-requires
-ruling-running-requires c κs = search needs
+ruling-running-requires c κs = tt
 
 enum-told-3 : tie.Need-enum-told-3
 enum-told-3 c = search needs
 
 ruling-ended-requires : tie.Need-ruling-ended-requires
-ruling-ended-requires c κs = search needs
+ruling-ended-requires c κs = tt
 
 returns : tie.Need-returns
 returns c = simp (c .before .enum-told .given .1, ← c .ruling-not-begun .ensures)

@@ -7,13 +7,13 @@ enum-told : tie.Need-enum-told
 enum-told c = search needs
 
 wrong-for-upload-requires : tie.Need-wrong-for-upload-requires
-wrong-for-upload-requires c κs = search needs
+wrong-for-upload-requires c κs = tt
 
 enum-told-2 : tie.Need-enum-told-2
 enum-told-2 c = search needs
 
 wrong-for-download-requires : tie.Need-wrong-for-download-requires
-wrong-for-download-requires c κs = search needs
+wrong-for-download-requires c κs = tt
 
 returns : tie.Need-returns
 returns c = simp (c .before .enum-told .given .1, ← c .wrong-for-upload .ensures)

@@ -1,18 +1,17 @@
 -- `wrong_lengths` meets its contract. Assumes nothing.
 use Rattle.client.specs.Rulings.{wrongLengths}
-use borrow.Author.Needs.{needs}
 use Rattle.client.proofs.rulings.wrong_lengths.Statement.{statement}
 use Rattle.client.proofs.rulings.wrong_lengths.Tie as tie
 
 wrong-buffers-requires : tie.Need-wrong-buffers-requires
-wrong-buffers-requires c κs = search needs
+wrong-buffers-requires c κs = tt
 
 returns : tie.Need-returns
 unfolding wrongLengths
 returns c = simp (← c .before .wrong-buffers .ensures, c .if1 .taken)
 
 changed-length-requires : tie.Need-changed-length-requires
-changed-length-requires c κs = search needs
+changed-length-requires c κs = tt
 
 returns-2 : tie.Need-returns-2
 unfolding wrongLengths

@@ -1,6 +1,6 @@
 -- `number` meets its contract. The loop's invariant: x is the number of the first i bytes. Assumes nothing.
 use lib.Seq.{take-all}
-use mathlib.Core.Path.{_≡_, sym, ap, _∙_}
+use mathlib.Core.Path.{_≡_, sym, ap, subst, _∙_}
 use Prim.Native.Nat.{ℕ, _+_, _≤_, _<_, _-_, _*_, _^_}
 use native.Mathlib.Omega.{arith}
 use borrow.Author.Needs.{needs}
@@ -26,7 +26,7 @@ shared-slice-read-wide : tie.Need-shared-slice-read-wide Inv-loop μ-loop
 shared-slice-read-wide c = search needs
 
 wide-requires : tie.Need-wide-requires Inv-loop μ-loop
-wide-requires c κs = search needs
+wide-requires c κs = tt
 
 add-x : tie.Need-add-x Inv-loop μ-loop
 add-x c =
@@ -53,7 +53,8 @@ returns : tie.Need-returns Inv-loop μ-loop
 returns c =
     let l = c .before .loop in
     let s = c .before .before .before .args .s .now in
-    l .inv .1 ∙ ap number (take-all (l .i) s (search needs))
+    let e : l .i ≡ length s = omega arith in
+    (l .inv .1 ∙ ap number (take-all (l .i) s (search needs)), subst (λ (n : ℕ). l .x < 2 ^ (8 * n)) e (l .inv .2))
 
 pub number-spec : {M : Type 1} → statement M
 number-spec =

@@ -95,14 +95,14 @@ loop-again c =
     (n .ensures) (b .ensures) (i .ensures) (v .ensures .0) (v .ensures .1) (take-rest (l .rest .now) (n .result))
 
 none-requires : tie.Need-none-requires Inv-loop μ-loop
-none-requires c κs = search needs
+none-requires c κs = tt
 
 returns : tie.Need-returns Inv-loop μ-loop
 unfolding parse
 returns c = c .none .ensures ∙ sym (rw (lt-leb _ _ (c .before .if1 .taken)))
 
 none-requires-2 : tie.Need-none-requires-2 Inv-loop μ-loop
-none-requires-2 c κs = search needs
+none-requires-2 c κs = tt
 
 abbrev start : tie.Else1 Inv-loop μ-loop → tie.Start Inv-loop μ-loop
 start c = c .before .before .before .before

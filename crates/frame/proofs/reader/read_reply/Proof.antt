@@ -1,23 +1,22 @@
 -- `read_reply` meets its contract. Assumes nothing.
 use mathlib.Core.Path.{_≡_, sym, ap, _∙_}
 use mathlib.Core.Bool.{Bool, true, false, cond}
-use borrow.Author.Needs.{needs}
 use Rattle.frame.specs.Table.{isReplyForm}
 use Rattle.frame.specs.Reader.{noFields, readReply}
 use Rattle.frame.proofs.reader.read_reply.Statement.{statement}
 use Rattle.frame.proofs.reader.read_reply.Tie as tie
 
 parse-requires : tie.Need-parse-requires
-parse-requires c κs = search needs
+parse-requires c κs = tt
 
 form-requires : tie.Need-form-requires
-form-requires c κs = search needs
+form-requires c κs = tt
 
 is-reply-form-requires : tie.Need-is-reply-form-requires
-is-reply-form-requires c κs = search needs
+is-reply-form-requires c κs = tt
 
 none-requires : tie.Need-none-requires
-none-requires c κs = search needs
+none-requires c κs = tt
 
 abbrev start : tie.After-is-reply-form → tie.Start
 start c = c .before .before .before .before

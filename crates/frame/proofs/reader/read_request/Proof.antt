@@ -1,23 +1,22 @@
 -- `read_request` meets its contract. Assumes nothing.
 use mathlib.Core.Path.{_≡_, sym, ap, _∙_}
 use mathlib.Core.Bool.{Bool, true, false, cond}
-use borrow.Author.Needs.{needs}
 use Rattle.frame.specs.Table.{isRequestForm}
 use Rattle.frame.specs.Reader.{noFields, readRequest}
 use Rattle.frame.proofs.reader.read_request.Statement.{statement}
 use Rattle.frame.proofs.reader.read_request.Tie as tie
 
 parse-requires : tie.Need-parse-requires
-parse-requires c κs = search needs
+parse-requires c κs = tt
 
 form-requires : tie.Need-form-requires
-form-requires c κs = search needs
+form-requires c κs = tt
 
 is-request-form-requires : tie.Need-is-request-form-requires
-is-request-form-requires c κs = search needs
+is-request-form-requires c κs = tt
 
 none-requires : tie.Need-none-requires
-none-requires c κs = search needs
+none-requires c κs = tt
 
 abbrev start : tie.After-is-request-form → tie.Start
 start c = c .before .before .before .before

@@ -26,7 +26,7 @@ returns-2 : tie.Need-returns-2
 unfolding highOf lowOf
 returns-2 c =
     let e = ne-eqb _ _ (c .before .before .if1 .left) in
-    let n = c .number .ensures in
+    let n = c .number .ensures .0 in
     (sym (rw (e, ← n) (div-eq-of-lt (search needs))), sym (rw (e, ← n) (mod-eq-of-lt (search needs))))
 
 sub-k : tie.Need-sub-k
@@ -60,8 +60,8 @@ returns-3 c =
     let hi = c .before .before .number2 in
     let lo = c .number3 in
     let e : number l ≡ hi .result * 2 ^ 64 + lo .result =
-    number-halves l k ∙ ap (λ (x : ℕ). x * 2 ^ 64 + number (drop (length l - 8) l)) (sym (hi .ensures))
-    ∙ ap (λ (x : ℕ). hi .result * 2 ^ 64 + x) (sym (lo .ensures ∙ ap number (take-rest l (length l - 8)))) in
+    number-halves l k ∙ ap (λ (x : ℕ). x * 2 ^ 64 + number (drop (length l - 8) l)) (sym (hi .ensures .0))
+    ∙ ap (λ (x : ℕ). hi .result * 2 ^ 64 + x) (sym (lo .ensures .0 ∙ ap number (take-rest l (length l - 8)))) in
     let n = ne-eqb _ _ (at-if1 .if1 .left) in
     (sym (rw (n, e) (digits-div (hi .result) (search needs))), sym (rw (n, e) (digits-mod (hi .result) (search needs))))
 

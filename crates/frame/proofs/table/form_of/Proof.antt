@@ -25,7 +25,7 @@ array-copy-out-row : tie.Need-array-copy-out-row Inv-loop μ-loop
 array-copy-out-row c = search needs
 
 row-fits-requires : tie.Need-row-fits-requires Inv-loop μ-loop
-row-fits-requires c κs = search needs
+row-fits-requires c κs = tt
 
 returns : tie.Need-returns Inv-loop μ-loop
 returns c =

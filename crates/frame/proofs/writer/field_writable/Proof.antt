@@ -54,7 +54,7 @@ returns-2 c =
     sym (rw (← at-content .content .ensures, ← v .0, eq-eqb _ _ (c .before .before .if1 .left), ← v .1, ne-eqb _ _ (c .if2 .taken)))
 
 data-whole-requires : tie.Need-data-whole-requires
-data-whole-requires c κs = search needs
+data-whole-requires c κs = tt
 
 abbrev start : tie.After-data-whole → tie.Start
 start c = c .before .before .before .before .before .before .before .before .before .before .before .before

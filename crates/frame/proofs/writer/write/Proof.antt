@@ -7,7 +7,7 @@ use lib.ListN.{length}
 use borrow.Author.Needs.{needs}
 use borrow.Author.Tests.{le-leb, lt-leb, not-true, not-false}
 use Rattle.frame.specs.Table.{tagCount, isForm}
-use Rattle.frame.specs.Writer.{contentOf, frameOf, writable, accepted, writeAnswer, writeBuffer}
+use Rattle.frame.specs.Writer.{contentOf, frameOf, writable, accepted, writeAnswer, writeBuffer, writeNumber}
 use Rattle.frame.proofs.Contents.{piece-bound}
 use Rattle.frame.proofs.Loops.{Writing, writing-start, writing-left, writing-step, writing-end, writable-over, writable-under}
 use Rattle.frame.proofs.writer.write.Statement.{statement}
@@ -20,28 +20,28 @@ abbrev μ-loop : tie.MeasureT-loop
 μ-loop fields «data» out₀ n at₀ tag₀ out at tag = tagCount - tag
 
 form-requires : tie.Need-form-requires Inv-loop μ-loop
-form-requires c κs = search needs
+form-requires c κs = tt
 
 is-form-requires : tie.Need-is-form-requires Inv-loop μ-loop
-is-form-requires c κs = search needs
+is-form-requires c κs = tt
 
 returns : tie.Need-returns Inv-loop μ-loop
-unfolding writeAnswer writeBuffer accepted writable
+unfolding writeAnswer writeBuffer writeNumber accepted writable
 returns c =
     let e = sym (c .before .is-form .ensures ∙ ap isForm (c .before .before .form .ensures)) ∙ not-true _ (c .if1 .taken) in
-    (sym (rw e), sym (rw e))
+    (sym (rw e), sym (rw e), sym (rw e))
 
 frame-length-requires : tie.Need-frame-length-requires Inv-loop μ-loop
-frame-length-requires c κs = search needs
+frame-length-requires c κs = tt
 
 returns-2 : tie.Need-returns-2 Inv-loop μ-loop
-unfolding writeAnswer writeBuffer accepted
+unfolding writeAnswer writeBuffer writeNumber accepted
 returns-2 c =
     let start = c .before .before .before .before .before .before .before in
     let a = start .args in
     let n = c .before .frame-length in
     let e = writable-over (a .fields) (a .«data» .now) (n .result) (n .ensures) (c .if2 .taken) in
-    (sym (rw e), sym (rw e))
+    (sym (rw e), sym (rw e), sym (rw e))
 
 abbrev start : tie.Else2 Inv-loop μ-loop → tie.Start Inv-loop μ-loop
 start c = c .before .before .before .before .before .before .before
@@ -56,13 +56,13 @@ writable-here c =
     writable-under (start c .args .fields) (start c .args .«data» .now) (n .result) (n .ensures) p (search needs)
 
 returns-3 : tie.Need-returns-3 Inv-loop μ-loop
-unfolding writeAnswer writeBuffer accepted
+unfolding writeAnswer writeBuffer writeNumber accepted
 returns-3 c =
     let start = c .before .before .before .before .before .before .before .before in
     let a = start .args in
     let u = writable-here (c .before) in
     let e = lt-leb (length (frameOf (a .fields) (a .«data» .now))) (length (a .out .now)) (omega (arith, u .1)) in
-    (sym (rw (u .0, e)), sym (rw (u .0, e)))
+    (sym (rw (u .0, e)), sym (rw (u .0, e)), sym (rw (u .0, e)))
 
 loop-holds : tie.Need-loop-holds Inv-loop μ-loop
 loop-holds c =
@@ -102,7 +102,7 @@ same-length : tie.Need-same-length Inv-loop μ-loop
 same-length c = c .before .loop .inv .long
 
 returns-4 : tie.Need-returns-4 Inv-loop μ-loop
-unfolding writeAnswer writeBuffer accepted
+unfolding writeAnswer writeBuffer writeNumber accepted
 returns-4 c =
     let start = c .before .before .before .before .before .before .before .before .before .before in
     let a = start .args in
@@ -110,7 +110,7 @@ returns-4 c =
     let u = writable-here (c .before .before .before) in
     let e = le-leb (length (frameOf (a .fields) (a .«data» .now))) (length (a .out .now)) (omega (arith, u .1)) in
     let w = writing-end (a .fields) (a .«data» .now) (a .out .now) (l .out) (l .at) (l .tag) (l .inv) (search needs) in
-    (sym (rw (u .0, e, u .1)), sym (rw (u .0, e) w))
+    (sym (rw (u .0, e, u .1)), sym (rw (u .0, e) w), sym (rw (u .0, e)))
 
 pub write-spec : {M : Type 1} → statement M
 write-spec =

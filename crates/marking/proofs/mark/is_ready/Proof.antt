@@ -33,7 +33,7 @@ behind-requires : tie.Need-behind-requires
 behind-requires c κs = search needs
 
 is-whole-requires : tie.Need-is-whole-requires
-is-whole-requires c κs = search needs
+is-whole-requires c κs = tt
 
 returns-4 : tie.Need-returns-4
 unfolding isReady

@@ -6,7 +6,7 @@ use mathlib.Core.Bool.{true}
 use native.Mathlib.Omega.{arith}
 use lib.ListN.{length}
 use Rattle.marking.specs.Marking.{markedAll, isReady}
-use Rattle.marking.proofs.Texts.{put-length, put-nothing}
+use Rattle.text.proofs.Texts.{put-length, put-nothing}
 use Rattle.marking.proofs.Calls.{Marks, used-less, marking-next, marking-end}
 use Rattle.marking.proofs.mark.mark.Statement.{statement}
 use Rattle.marking.proofs.mark.mark.Tie as tie

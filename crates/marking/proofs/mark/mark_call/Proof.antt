@@ -43,7 +43,7 @@ frame-in-requires : tie.Need-frame-in-requires
 frame-in-requires c κs = omega (arith, head-fits (c .before .before .before))
 
 frame-arrives-requires : tie.Need-frame-arrives-requires
-frame-arrives-requires c κs = search needs
+frame-arrives-requires c κs = tt
 
 add-calls : tie.Need-add-calls
 add-calls c = omega (arith, ready (at-start (at-behind (c .before .before .before .before .before .before .before))) .count)

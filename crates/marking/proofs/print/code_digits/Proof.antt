@@ -2,7 +2,7 @@
 use mathlib.Core.Path.{sym, _∙_}
 use borrow.Author.Needs.{needs}
 use Rattle.frame.proofs.Numbers.{overwrite-all}
-use Rattle.marking.proofs.Digits.{length-digitsIn}
+use Rattle.text.proofs.Digits.{length-digitsIn}
 use Rattle.marking.proofs.print.code_digits.Statement.{statement}
 use Rattle.marking.proofs.print.code_digits.Tie as tie
 

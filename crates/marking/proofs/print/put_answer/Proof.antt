@@ -1,6 +1,6 @@
 -- `put_answer` meets its contract. Assumes nothing.
 use native.Mathlib.Omega.{arith}
-use Rattle.marking.specs.Print.{digitCountTo, digitCount, decimal}
+use Rattle.text.specs.Print.{digitCountTo, digitCount, decimal}
 use borrow.Author.Needs.{needs}
 use Rattle.marking.proofs.print.put_answer.Statement.{statement}
 use Rattle.marking.proofs.print.put_answer.Tie as tie
@@ -15,7 +15,7 @@ enum-told : tie.Need-enum-told
 enum-told c = search needs
 
 digit-count-requires : tie.Need-digit-count-requires
-digit-count-requires c κs = search needs
+digit-count-requires c κs = tt
 
 put-digits-requires : tie.Need-put-digits-requires
 unfolding digitCount digitCountTo

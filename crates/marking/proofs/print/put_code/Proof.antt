@@ -5,13 +5,13 @@ use Rattle.marking.proofs.print.put_code.Statement.{statement}
 use Rattle.marking.proofs.print.put_code.Tie as tie
 
 front-requires : tie.Need-front-requires
-front-requires c κs = search needs
+front-requires c κs = tt
 
 read-reply-requires : tie.Need-read-reply-requires
-read-reply-requires c κs = search needs
+read-reply-requires c κs = tt
 
 return-code-requires : tie.Need-return-code-requires
-return-code-requires c κs = search needs
+return-code-requires c κs = tt
 
 put-digits-requires : tie.Need-put-digits-requires
 put-digits-requires c κs = search needs

@@ -3,8 +3,9 @@ use Prim.Native.Nat.{_+_, _≤_}
 use lib.ListN.{length}
 use native.Mathlib.Omega.{arith}
 use Rattle.marking.specs.Print.{lineOf}
-use Rattle.marking.proofs.Digits.{decimal-most}
-use Rattle.marking.proofs.Texts.{put-then, put-left, answer-most}
+use Rattle.text.proofs.Digits.{decimal-most}
+use Rattle.text.proofs.Texts.{put-then, put-left}
+use Rattle.marking.proofs.Texts.{answer-most}
 use borrow.Author.Needs.{needs}
 use Rattle.marking.proofs.print.put_line.Statement.{statement}
 use Rattle.marking.proofs.print.put_line.Tie as tie

@@ -3,8 +3,8 @@ use Prim.Native.Nat.{_+_, _≤_}
 use lib.ListN.{length}
 use native.Mathlib.Omega.{arith}
 use Rattle.marking.specs.Print.{orderText}
-use Rattle.marking.proofs.Digits.{length-digitsIn, decimal-most}
-use Rattle.marking.proofs.Texts.{put-then, put-left}
+use Rattle.text.proofs.Digits.{length-digitsIn, decimal-most}
+use Rattle.text.proofs.Texts.{put-then, put-left}
 use borrow.Author.Needs.{needs}
 use Rattle.marking.proofs.print.put_order.Statement.{statement}
 use Rattle.marking.proofs.print.put_order.Tie as tie
@@ -26,7 +26,7 @@ left5 : (c : tie.After-put-decimal2) → c .put-decimal2 .result + 1 ≤ length 
 left5 c = put-left 20 1 (c .put-decimal2 .ensures) (decimal-most _) (left4 (c .before .before .before .before))
 
 order-number-of-requires : tie.Need-order-number-of-requires
-order-number-of-requires c κs = search needs
+order-number-of-requires c κs = tt
 
 put-digits-requires : tie.Need-put-digits-requires
 put-digits-requires c κs = search needs

@@ -1,7 +1,7 @@
 -- `put_place` meets its contract. Assumes nothing.
 use native.Mathlib.Omega.{arith}
 use Rattle.marking.specs.Print.{orderText}
-use Rattle.marking.proofs.Texts.{put-nothing}
+use Rattle.text.proofs.Texts.{put-nothing}
 use borrow.Author.Needs.{needs}
 use Rattle.marking.proofs.print.put_place.Statement.{statement}
 use Rattle.marking.proofs.print.put_place.Tie as tie

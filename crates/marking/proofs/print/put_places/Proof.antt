@@ -7,8 +7,10 @@ use lib.Seq.{take-all}
 use borrow.Author.Needs.{needs}
 use Rattle.bank_state.specs.Limits.{placeCount}
 use Rattle.bank_state.specs.State.{noPlace}
-use Rattle.marking.specs.Print.{Put, bookLines, orderRoom}
-use Rattle.marking.proofs.Texts.{put-length, put-nothing, put-then, place-most, bookLines-next}
+use Rattle.text.specs.Print.{Put}
+use Rattle.marking.specs.Print.{bookLines, orderRoom}
+use Rattle.text.proofs.Texts.{put-length, put-nothing, put-then}
+use Rattle.marking.proofs.Texts.{place-most, bookLines-next}
 use Rattle.marking.proofs.print.put_places.Statement.{statement}
 use Rattle.marking.proofs.print.put_places.Tie as tie
 

@@ -18,7 +18,7 @@ part-front-end : tie.Need-part-front-end
 part-front-end c = search needs
 
 front-requires : tie.Need-front-requires
-front-requires c κs = search needs
+front-requires c κs = tt
 
 returns : tie.Need-returns
 unfolding frameIn

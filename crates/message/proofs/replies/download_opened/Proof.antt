@@ -1,5 +1,4 @@
 -- `download_opened` meets its contract: its calls' contracts, put together. Assumes nothing.
-use borrow.Author.Needs.{needs}
 use Rattle.message.specs.Replies.{downloadOpened}
 use Rattle.message.proofs.replies.download_opened.Statement.{statement}
 use Rattle.message.proofs.replies.download_opened.Tie as tie
@@ -22,9 +21,9 @@ pub download-opened-spec : {M : Type 1} → statement M
 download-opened-spec =
     tie.close
     (tie.spec
-    (λ c κs. search needs)
-    (λ c κs. search needs)
-    (λ c κs. search needs)
-    (λ c κs. search needs)
-    (λ c κs. search needs)
+    (λ c κs. tt)
+    (λ c κs. tt)
+    (λ c κs. tt)
+    (λ c κs. tt)
+    (λ c κs. tt)
     returns)

@@ -1,5 +1,4 @@
 -- `download_segment` meets its contract: its calls' contracts, put together. Assumes nothing.
-use borrow.Author.Needs.{needs}
 use Rattle.message.specs.Replies.{downloadSegment}
 use Rattle.message.proofs.replies.download_segment.Statement.{statement}
 use Rattle.message.proofs.replies.download_segment.Tie as tie
@@ -15,8 +14,8 @@ pub download-segment-spec : {M : Type 1} → statement M
 download-segment-spec =
     tie.close
     (tie.spec
-    (λ c κs. search needs)
-    (λ c κs. search needs)
-    (λ c κs. search needs)
-    (λ c κs. search needs)
+    (λ c κs. tt)
+    (λ c κs. tt)
+    (λ c κs. tt)
+    (λ c κs. tt)
     returns)

@@ -1,5 +1,4 @@
 -- `refusal` meets its contract: its calls' contracts, put together. Assumes nothing.
-use borrow.Author.Needs.{needs}
 use Rattle.message.specs.Replies.{refusal}
 use Rattle.message.proofs.replies.refusal.Statement.{statement}
 use Rattle.message.proofs.replies.refusal.Tie as tie
@@ -9,4 +8,4 @@ unfolding refusal
 returns c = rw (c .with-code .ensures, c .before .reply-of .ensures)
 
 pub refusal-spec : {M : Type 1} → statement M
-refusal-spec = tie.close (tie.spec (λ c κs. search needs) (λ c κs. search needs) returns)
+refusal-spec = tie.close (tie.spec (λ c κs. tt) (λ c κs. tt) returns)

@@ -1,5 +1,4 @@
 -- `upload_opened` meets its contract: its calls' contracts, put together. Assumes nothing.
-use borrow.Author.Needs.{needs}
 use Rattle.message.specs.Replies.{uploadOpened}
 use Rattle.message.proofs.replies.upload_opened.Statement.{statement}
 use Rattle.message.proofs.replies.upload_opened.Tie as tie
@@ -15,8 +14,8 @@ pub upload-opened-spec : {M : Type 1} → statement M
 upload-opened-spec =
     tie.close
     (tie.spec
-    (λ c κs. search needs)
-    (λ c κs. search needs)
-    (λ c κs. search needs)
-    (λ c κs. search needs)
+    (λ c κs. tt)
+    (λ c κs. tt)
+    (λ c κs. tt)
+    (λ c κs. tt)
     returns)

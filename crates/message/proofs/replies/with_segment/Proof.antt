@@ -1,5 +1,4 @@
 -- `with_segment` meets its contract: its calls' contracts, put together. Assumes nothing.
-use borrow.Author.Needs.{needs}
 use Rattle.message.proofs.replies.with_segment.Statement.{statement}
 use Rattle.message.proofs.replies.with_segment.Tie as tie
 
@@ -7,4 +6,4 @@ returns : tie.Need-returns
 returns c = rw (c .with3 .ensures, c .before .with2 .ensures, c .before .before .with .ensures)
 
 pub with-segment-spec : {M : Type 1} → statement M
-with-segment-spec = tie.close (tie.spec (λ c κs. search needs) (λ c κs. search needs) (λ c κs. search needs) returns)
+with-segment-spec = tie.close (tie.spec (λ c κs. tt) (λ c κs. tt) (λ c κs. tt) returns)

@@ -1,5 +1,4 @@
 -- `download_opening` meets its contract: its calls' contracts, put together. Assumes nothing.
-use borrow.Author.Needs.{needs}
 use Rattle.message.specs.Requests.{downloadOpening}
 use Rattle.message.proofs.requests.download_opening.Statement.{statement}
 use Rattle.message.proofs.requests.download_opening.Tie as tie
@@ -9,4 +8,4 @@ unfolding downloadOpening
 returns c = c .opening-of .ensures
 
 pub download-opening-spec : {M : Type 1} → statement M
-download-opening-spec = tie.close (tie.spec (λ c κs. search needs) returns)
+download-opening-spec = tie.close (tie.spec (λ c κs. tt) returns)

@@ -1,5 +1,4 @@
 -- `request_of` meets its contract: its calls' contracts, put together. Assumes nothing.
-use borrow.Author.Needs.{needs}
 use Rattle.message.proofs.requests.request_of.Statement.{statement}
 use Rattle.message.proofs.requests.request_of.Tie as tie
 
@@ -10,8 +9,8 @@ pub request-of-spec : {M : Type 1} → statement M
 request-of-spec =
     tie.close
     (tie.spec
-    (λ c κs. search needs)
-    (λ c κs. search needs)
-    (λ c κs. search needs)
-    (λ c κs. search needs)
+    (λ c κs. tt)
+    (λ c κs. tt)
+    (λ c κs. tt)
+    (λ c κs. tt)
     returns)

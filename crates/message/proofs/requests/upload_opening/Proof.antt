@@ -1,5 +1,4 @@
 -- `upload_opening` meets its contract: its calls' contracts, put together. Assumes nothing.
-use borrow.Author.Needs.{needs}
 use Rattle.message.specs.Requests.{uploadOpening}
 use Rattle.message.proofs.requests.upload_opening.Statement.{statement}
 use Rattle.message.proofs.requests.upload_opening.Tie as tie
@@ -9,4 +8,4 @@ unfolding uploadOpening
 returns c = rw (c .with .ensures, c .before .opening-of .ensures)
 
 pub upload-opening-spec : {M : Type 1} → statement M
-upload-opening-spec = tie.close (tie.spec (λ c κs. search needs) (λ c κs. search needs) returns)
+upload-opening-spec = tie.close (tie.spec (λ c κs. tt) (λ c κs. tt) returns)

@@ -5,25 +5,25 @@ use Rattle.client.proofs.run.Client.begin.Statement.{statement}
 use Rattle.client.proofs.run.Client.begin.Tie as tie
 
 begin-ruling-requires : tie.Need-begin-ruling-requires
-begin-ruling-requires c κs = search needs
+begin-ruling-requires c κs = tt
 
 enum-known-ruling : tie.Need-enum-known-ruling
 enum-known-ruling c = search needs
 
 refused-requires : tie.Need-refused-requires
-refused-requires c κs = search needs
+refused-requires c κs = tt
 
 enum-told : tie.Need-enum-told
 enum-told c = search needs
 
 begin-length-requires : tie.Need-begin-length-requires
-begin-length-requires c κs = search needs
+begin-length-requires c κs = tt
 
 begun-requires : tie.Need-begun-requires
-begun-requires c κs = search needs
+begun-requires c κs = tt
 
 issue-requires : tie.Need-issue-requires
-issue-requires c κs = search needs
+issue-requires c κs = tt
 
 returns : tie.Need-returns
 unfolding beginCall

@@ -25,25 +25,25 @@ known c =
     accepted (run-of (start c)) (lengths (start c)) (sym (c .before .before .run-ruling .ensures) ∙ c .enum-told .given .1)
 
 run-ruling-requires : tie.Need-run-ruling-requires
-run-ruling-requires c κs = search needs
+run-ruling-requires c κs = tt
 
 enum-known-ruling : tie.Need-enum-known-ruling
 enum-known-ruling c = search needs
 
 refused-requires : tie.Need-refused-requires
-refused-requires c κs = search needs
+refused-requires c κs = tt
 
 enum-told : tie.Need-enum-told
 enum-told c = search needs
 
 on-silence-requires : tie.Need-on-silence-requires
-on-silence-requires c κs = search needs
+on-silence-requires c κs = tt
 
 none-requires : tie.Need-none-requires
-none-requires c κs = search needs
+none-requires c κs = tt
 
 no-data-requires : tie.Need-no-data-requires
-no-data-requires c κs = search needs
+no-data-requires c κs = tt
 
 carry-out-requires : tie.Need-carry-out-requires
 carry-out-requires c κs =

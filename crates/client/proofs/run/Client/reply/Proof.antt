@@ -25,25 +25,25 @@ known c =
     accepted (run-of (start c)) (lengths (start c)) (sym (c .before .before .run-ruling .ensures) ∙ c .enum-told .given .1)
 
 run-ruling-requires : tie.Need-run-ruling-requires
-run-ruling-requires c κs = search needs
+run-ruling-requires c κs = tt
 
 enum-known-ruling : tie.Need-enum-known-ruling
 enum-known-ruling c = search needs
 
 refused-requires : tie.Need-refused-requires
-refused-requires c κs = search needs
+refused-requires c κs = tt
 
 enum-told : tie.Need-enum-told
 enum-told c = search needs
 
 read-reply-requires : tie.Need-read-reply-requires
-read-reply-requires c κs = search needs
+read-reply-requires c κs = tt
 
 data-requires : tie.Need-data-requires
-data-requires c κs = search needs
+data-requires c κs = tt
 
 on-reply-requires : tie.Need-on-reply-requires
-on-reply-requires c κs = search needs
+on-reply-requires c κs = tt
 
 carry-out-requires : tie.Need-carry-out-requires
 carry-out-requires c κs =

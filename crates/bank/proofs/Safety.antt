@@ -1,0 +1,27 @@
+-- What a receipt answered 011000 never does: leave open a download of the mailbox that it empties. Assumes nothing.
+use Prim.Native.Nat.{ℕ}
+use mathlib.Core.Bool.{true, not}
+use mathlib.Core.Path.{_≡_}
+use lib.Dec.{eqb}
+use borrow.Author.Tests.{eqb-false, not-true}
+use Rattle.frame.specs.declared.fields.Fields.{Fields}
+use Rattle.frame.specs.Names.{subscriber}
+use Rattle.frame.proofs.Tests.{never, and-true}
+use Rattle.bank_state.specs.declared.clock.Ended.the-variants as ended
+use Rattle.bank_state.specs.declared.state.Download.{Download}
+use Rattle.bank_state.specs.Clock.{ends}
+use Rattle.bank_state.specs.State.{World, downloadAt}
+use Rattle.bank_state.proofs.Drops.{each-endDownloads}
+use Rattle.bank_step.specs.declared.downloads.DownloadStep.{DownloadStep}
+use Rattle.bank_step.specs.declared.downloads.Ending.the-variants.{Empties}
+use Rattle.bank.specs.Call.{downloadsAfter}
+
+-- "every download of that mailbox ended": those still open are of other subscribers
+pub emptied-ends : (i : ℕ) (s : DownloadStep) (w : World) (q : Fields) (j : ℕ) → let e = downloadAt (downloadsAfter Empties i s w q .bank) j in
+    e .used ≡ true → e .subscriber ≡ subscriber q → ⊥
+unfolding ends
+emptied-ends i s w q =
+    each-endDownloads (λ (e : Download). e .used ≡ true → e .subscriber ≡ subscriber q → ⊥) (λ u. never u) (ended.Mailbox (subscriber q))
+    (w .bank .downloads)
+    (λ k _ g _. let e = downloadAt (w .bank) k in
+    eqb-false (e .subscriber) (subscriber q) (not-true _ (and-true (e .used) (not (eqb (e .subscriber) (subscriber q))) g .1)))

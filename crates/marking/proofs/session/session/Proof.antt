@@ -1,0 +1,42 @@
+-- `session` is safe: each array is lent whole. The lengths come by a lemma, since computing them writes the arrays out. Assumes nothing.
+use mathlib.Core.Path.{_≡_, sym}
+use lib.ListN.{length, replicate, length-replicate}
+use Prim.Native.Nat.{ℕ}
+use Rattle.marking.proofs.session.session.Statement.{statement}
+use Rattle.marking.proofs.session.session.Tie as tie
+
+zeros : (n : ℕ) → n ≡ length {A = ℕ} (replicate n 0)
+zeros n = sym (length-replicate {A = ℕ} n 0)
+
+slice-aggregate-print-all : tie.Need-slice-aggregate-print-all
+slice-aggregate-print-all c = zeros 65541
+
+slice-aggregate-print-all-2 : tie.Need-slice-aggregate-print-all-2
+slice-aggregate-print-all-2 c = zeros 305844
+
+slice-aggregate-print-all-3 : tie.Need-slice-aggregate-print-all-3
+slice-aggregate-print-all-3 c = zeros 30720
+
+slice-aggregate-print-all-4 : tie.Need-slice-aggregate-print-all-4
+slice-aggregate-print-all-4 c = zeros 30720
+
+slice-aggregate-print-all-5 : tie.Need-slice-aggregate-print-all-5
+slice-aggregate-print-all-5 c = zeros 312
+
+print-all-requires : tie.Need-print-all-requires
+print-all-requires c κs = tt
+
+returns : tie.Need-returns
+returns c = tt
+
+pub session-spec : {M : Type 1} → statement M
+session-spec =
+    tie.close
+    (tie.spec
+    slice-aggregate-print-all
+    slice-aggregate-print-all-2
+    slice-aggregate-print-all-3
+    slice-aggregate-print-all-4
+    slice-aggregate-print-all-5
+    print-all-requires
+    returns)

@@ -1,0 +1,26 @@
+-- `put_decimal` meets its contract. Assumes nothing.
+use native.Mathlib.Omega.{arith}
+use Rattle.text.specs.Print.{decimal}
+use Rattle.text.proofs.Digits.{digitCount-most}
+use borrow.Author.Needs.{needs}
+use Rattle.text.proofs.print.put_decimal.Statement.{statement}
+use Rattle.text.proofs.print.put_decimal.Tie as tie
+
+digit-count-requires : tie.Need-digit-count-requires
+digit-count-requires c κs = tt
+
+put-digits-requires : tie.Need-put-digits-requires
+put-digits-requires c κs = (omega (arith, c .digit-count .ensures, digitCount-most (c .before .before .before .args .x)), omega arith, omega arith)
+
+same-length : tie.Need-same-length
+same-length c = search needs
+
+returns : tie.Need-returns
+unfolding decimal
+returns c =
+    let at-digits = c .before .before in
+    rw (← at-digits .before .digit-count .ensures) (at-digits .put-digits .ensures)
+
+pub put-decimal-spec : {M : Type 1} → statement M
+put-decimal-spec =
+    tie.close (tie.spec digit-count-requires put-digits-requires same-length returns)

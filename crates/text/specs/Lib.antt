@@ -1,0 +1,2 @@
+-- The definitions of texts.
+pub mod Print

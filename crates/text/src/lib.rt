@@ -1,0 +1,2 @@
+// Texts in a lent output: numbers in digits, bytes.
+pub mod print;
