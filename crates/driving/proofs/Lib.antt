@@ -1,0 +1,6 @@
+-- The laws that several proofs cite.
+pub mod Parts
+pub mod Begins
+pub mod Steps
+pub mod Texts
+pub mod Rows

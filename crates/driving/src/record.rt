@@ -1,0 +1,163 @@
+// A record of the input: its letter, its parts, and the call that it is.
+use frame::bytes::behind;
+use frame::bytes::front;
+use frame::bytes::number;
+ghost use mathlib.Core.Path.{_≡_};
+ghost use Prim.Native.Nat.{_≤_};
+ghost use Rattle.driving.specs.Records.{kindOf, headOf, hasLength, bytesAt, numberAt, sizeOf, bodyOf};
+ghost use Rattle.driving.specs.Records.{isRun, namesRun, isWhole, callOf};
+
+// The client runs, numbered from 1.
+pub const RUNS: usize = 16;
+
+// The bytes of the longest record: an upload's head and a payload of 65,535.
+pub const RECORD_BYTES: usize = 65561;
+
+// What a record is: by its letter, or no call.
+pub enum Kind {
+    Frame,
+    File,
+    Upload,
+    Download,
+    Reply,
+    Silence,
+    NoCall,
+}
+
+// The kind of a letter.
+pub fn kind_of(letter: u8) -> Kind
+    ensures { λ r. ⌜ r ≡ kindOf letter ⌝ }
+{
+    match letter {
+        b'F' => Kind::Frame,
+        b'M' => Kind::File,
+        b'U' => Kind::Upload,
+        b'D' => Kind::Download,
+        b'R' => Kind::Reply,
+        b'N' => Kind::Silence,
+        _ => Kind::NoCall,
+    }
+}
+
+// The bytes of a record before those that its length counts.
+pub fn head_of(kind: Kind) -> usize
+    ensures { λ r. ⌜ r ≡ headOf kind ⌝ }
+{
+    match kind {
+        Kind::Frame => 15,
+        Kind::File => 5,
+        Kind::Upload => 26,
+        Kind::Download => 24,
+        Kind::Reply => 8,
+        Kind::Silence => 6,
+        Kind::NoCall => 1,
+    }
+}
+
+// Whether a length stands at the end of the head.
+fn has_length(kind: Kind) -> bool
+    ensures { λ r. ⌜ r ≡ hasLength kind ⌝ }
+{
+    match kind {
+        Kind::Frame => true,
+        Kind::File => true,
+        Kind::Upload => true,
+        Kind::Download => false,
+        Kind::Reply => true,
+        Kind::Silence => false,
+        Kind::NoCall => false,
+    }
+}
+
+// At most n bytes of a record from a place on.
+pub(crate) fn bytes_at(s: &[u8], from: usize, n: usize) -> &[u8]
+    ensures { λ r. ⌜ now r ≡ bytesAt from n (now (s .entry)) ⌝ }
+{
+    front(behind(s, from), n)
+}
+
+// The number of at most 8 bytes from a place on.
+pub(crate) fn number_at(s: &[u8], from: usize, n: usize) -> u64
+    requires { ⌜ n ≤ 8 ⌝ }
+    ensures { λ r. ⌜ r ≡ numberAt from n (now (s .entry)) ⌝ }
+{
+    number(bytes_at(s, from, n))
+}
+
+// The number of the 4 bytes from a place on.
+pub(crate) fn time_at(s: &[u8], from: usize) -> u32
+    ensures { λ r. ⌜ r ≡ numberAt from 4 (now (s .entry)) ⌝ }
+{
+    number_at(s, from, 4) as u32
+}
+
+// What the length of a record says, 0 where it has none.
+pub fn size_of(kind: Kind, s: &[u8]) -> usize
+    ensures { λ r. ⌜ r ≡ sizeOf kind (now (s .entry)) ⌝ }
+{
+    if !has_length(kind) {
+        return 0;
+    }
+    number_at(s, head_of(kind) - 2, 2) as usize
+}
+
+// The frame, file, payload or reply of a record.
+pub(crate) fn body_of(kind: Kind, s: &[u8]) -> &[u8]
+    ensures { λ r. ⌜ now r ≡ bodyOf kind (now (s .entry)) ⌝ }
+{
+    front(behind(s, head_of(kind)), size_of(kind, s))
+}
+
+// Whether a run is one of the runs.
+fn is_run(n: u64) -> bool
+    ensures { λ r. ⌜ r ≡ isRun n ⌝ }
+{
+    if n < 1 {
+        return false;
+    }
+    n <= RUNS as u64
+}
+
+// Whether the record names a run that there is, where it names one.
+fn names_run(kind: Kind, s: &[u8]) -> bool
+    ensures { λ r. ⌜ r ≡ namesRun kind (now (s .entry)) ⌝ }
+{
+    let named = is_run(number_at(s, 1, 1));
+    match kind {
+        Kind::Frame => true,
+        Kind::File => true,
+        Kind::Upload => named,
+        Kind::Download => named,
+        Kind::Reply => named,
+        Kind::Silence => named,
+        Kind::NoCall => false,
+    }
+}
+
+// Whether a record of this kind is not cut short.
+fn is_whole(kind: Kind, s: &[u8]) -> bool
+    ensures { λ r. ⌜ r ≡ isWhole kind (now (s .entry)) ⌝ }
+{
+    let head = head_of(kind);
+    if s.len() < head {
+        return false;
+    }
+    size_of(kind, s) <= s.len() - head
+}
+
+// The call that the record is.
+pub fn call_of(s: &[u8]) -> Kind
+    ensures { λ r. ⌜ r ≡ callOf (now (s .entry)) ⌝ }
+{
+    if s.len() < 1 {
+        return Kind::NoCall;
+    }
+    let kind = kind_of(s[0]);
+    if !is_whole(kind, s) {
+        return Kind::NoCall;
+    }
+    if !names_run(kind, s) {
+        return Kind::NoCall;
+    }
+    kind
+}
