@@ -1,0 +1,2 @@
+-- The definitions of a line.
+pub mod Lines

@@ -1,0 +1,409 @@
+// The line of a move: call, who to whom, what the frame says, lost, repeated or late, and what the client answers.
+use bank_state::state::Bank;
+use bank_step::openings::file_length;
+use client::run::Answer;
+use client::run::Direction;
+use client::run::Refusal;
+use exercise_play::script::Act;
+use exercise_play::script::Move;
+use exercise_play::script::order_of;
+use exercise_play::standing::End;
+use exercise_play::standing::Message;
+use exercise_play::standing::Standing;
+use exercise_play::standing::end_of;
+use exercise_words::words::PARTS;
+use exercise_words::words::Part;
+use exercise_words::words::Phrase;
+use exercise_words::words::put_group;
+use frame::bytes::front;
+use frame::fields::Fields;
+use frame::reader::read_reply;
+use frame::reader::read_request;
+use frame::table::Form;
+use message::codes::ReturnCode;
+use message::codes::code_field;
+use text::print::put_byte;
+ghost use mathlib.Core.Path.{_≡_};
+ghost use Prim.Native.Nat.{_≤_};
+ghost use lib.ListN.{length};
+ghost use Rattle.frame.specs.Reader.{readRequest, readReply};
+ghost use Rattle.client.specs.Run.{refusalNumber};
+ghost use Rattle.text.specs.Print.{Put, printed, printedCount};
+ghost use Rattle.exercise_play.specs.Play.{frameIn};
+ghost use Rattle.exercise_lines.specs.Lines.{kindOf, nothing, say, head, lastOf, point};
+ghost use Rattle.exercise_lines.specs.Lines.{frameSaid, beginSaid, fileSaid, said, codeSaid, arrivalOf};
+ghost use Rattle.exercise_lines.specs.Lines.{repeatedOf, exchangeSaid, answerSaid, answered, fieldsOf, lineWith, lineOf, lineRoom};
+
+// The most bytes of a line.
+pub const LINE_ROOM: usize = 681;
+
+// Whose line an act has: the host's, a client's own, a request's, a reply's.
+pub enum Kind {
+    Host,
+    Own,
+    Request,
+    Reply,
+}
+
+fn kind_of(act: Act) -> Kind
+    ensures { λ r. ⌜ r ≡ kindOf act ⌝ }
+{
+    match act {
+        Act::FilePut => Kind::Host,
+        Act::Begin => Kind::Own,
+        Act::RequestArrives => Kind::Request,
+        Act::RequestLost => Kind::Request,
+        Act::RequestCopied => Kind::Request,
+        Act::CopyArrives => Kind::Request,
+        Act::ReplyArrives => Kind::Reply,
+        Act::ReplyLost => Kind::Reply,
+        Act::NoReply => Kind::Own,
+    }
+}
+
+fn nothing() -> [Part; PARTS]
+    ensures { λ r. ⌜ r ≡ nothing ⌝ }
+{
+    let n = Part::Nothing;
+    [n; PARTS]
+}
+
+fn say(p: Phrase) -> [Part; PARTS]
+    ensures { λ r. ⌜ r ≡ say p ⌝ }
+{
+    let n = Part::Nothing;
+    let t = Part::Say(p);
+    [t, n, n, n]
+}
+
+// Who to whom.
+fn head(call: u64, kind: Kind, run: u64, subscriber: u64) -> [Part; PARTS]
+    ensures { λ r. ⌜ r ≡ head call kind run subscriber ⌝ }
+{
+    let c = Part::Number(call);
+    let r = Part::Number(run);
+    match kind {
+        Kind::Host => [
+            c,
+            Part::Say(Phrase::FileForMailbox),
+            Part::Number(subscriber),
+            Part::Nothing,
+        ],
+        Kind::Own => [c, Part::Say(Phrase::Client), r, Part::Say(Phrase::Colon)],
+        Kind::Request => [c, Part::Say(Phrase::Client), r, Part::Say(Phrase::ToBank)],
+        Kind::Reply => [
+            c,
+            Part::Say(Phrase::BankToClient),
+            r,
+            Part::Say(Phrase::Colon),
+        ],
+    }
+}
+
+fn last_of(mark: u64) -> Part
+    ensures { λ r. ⌜ r ≡ lastOf mark ⌝ }
+{
+    if mark == 1 {
+        return Part::Say(Phrase::Last);
+    }
+    Part::Nothing
+}
+
+// The answer to an upload's segment, or a recovery point.
+fn point(q: Fields) -> [Part; PARTS]
+    ensures { λ r. ⌜ r ≡ point q ⌝ }
+{
+    let k = Part::Number(q.segment());
+    if q.return_code() == code_field(ReturnCode::RecoverySync) {
+        return [
+            Part::Say(Phrase::RecoveryPoint),
+            k,
+            Part::Nothing,
+            Part::Nothing,
+        ];
+    }
+    [
+        Part::Say(Phrase::Segment),
+        k,
+        Part::Say(Phrase::Taken),
+        Part::Nothing,
+    ]
+}
+
+// What a request or a reply says, by its form.
+fn frame_said(q: Fields) -> [Part; PARTS]
+    ensures { λ r. ⌜ r ≡ frameSaid q ⌝ }
+{
+    let form = q.form();
+    let n = Part::Nothing;
+    let segment = Part::Number(q.segment());
+    let segments = Part::Number(q.segments());
+    let last = last_of(q.last_mark());
+    match form {
+        Form::NoForm => say(Phrase::NoMessage),
+        Form::UploadOpening => [
+            Part::Say(Phrase::UploadOpening),
+            segments,
+            Part::Say(Phrase::Segments),
+            n,
+        ],
+        Form::DownloadOpening => say(Phrase::DownloadOpening),
+        Form::UploadTransfer => [Part::Say(Phrase::UploadSegment), segment, last, n],
+        Form::DownloadTransfer => [Part::Say(Phrase::DownloadSegment), segment, n, n],
+        Form::Receipt => say(Phrase::Receipt),
+        Form::UploadOpened => [
+            Part::Say(Phrase::UploadOpened),
+            Part::OrderNumber(q.order_number()),
+            n,
+            n,
+        ],
+        Form::DownloadOpened => [
+            Part::Say(Phrase::DownloadOpened),
+            segment,
+            Part::Say(Phrase::Of),
+            segments,
+        ],
+        Form::SegmentTaken => point(q),
+        Form::DownloadSegment => [Part::Say(Phrase::DownloadSegment), segment, last, n],
+        Form::ReceiptAnswered => say(Phrase::ReceiptAnswered),
+        Form::Unreadable => say(Phrase::Unreadable),
+        Form::Refusal => say(Phrase::Refusal),
+    }
+}
+
+// What a run begins.
+fn begin_said(way: Direction) -> [Part; PARTS]
+    ensures { λ r. ⌜ r ≡ beginSaid way ⌝ }
+{
+    match way {
+        Direction::Upload => say(Phrase::UploadBegun),
+        Direction::Download => say(Phrase::DownloadBegun),
+    }
+}
+
+// The file that a mailbox holds.
+fn file_said(b: Bank, subscriber: u64) -> [Part; PARTS]
+    ensures { λ r. ⌜ r ≡ fileSaid b subscriber ⌝ }
+{
+    let files = b.files;
+    [
+        Part::Say(Phrase::Comma),
+        Part::Number(file_length(files, subscriber)),
+        Part::Say(Phrase::Bytes),
+        Part::Nothing,
+    ]
+}
+
+// What a move says: of a file, of a run, or of a frame.
+fn said(act: Act, b: Bank, subscriber: u64, e: End, q: Fields) -> [Part; PARTS]
+    ensures { λ r. ⌜ r ≡ said act b subscriber e q ⌝ }
+{
+    let run = e.run;
+    let way = run.direction;
+    match act {
+        Act::FilePut => file_said(b, subscriber),
+        Act::Begin => begin_said(way),
+        Act::RequestArrives => frame_said(q),
+        Act::RequestLost => frame_said(q),
+        Act::RequestCopied => frame_said(q),
+        Act::CopyArrives => frame_said(q),
+        Act::ReplyArrives => frame_said(q),
+        Act::ReplyLost => frame_said(q),
+        Act::NoReply => say(Phrase::NoReply),
+    }
+}
+
+// The return code of a reply, and its name.
+fn code_said(kind: Kind, q: Fields) -> [Part; PARTS]
+    ensures { λ r. ⌜ r ≡ codeSaid kind q ⌝ }
+{
+    let code = q.return_code();
+    match kind {
+        Kind::Host => nothing(),
+        Kind::Own => nothing(),
+        Kind::Request => nothing(),
+        Kind::Reply => [
+            Part::Say(Phrase::Comma),
+            Part::Code(code),
+            Part::Say(Phrase::Space),
+            Part::Name(code),
+        ],
+    }
+}
+
+// Whether a message was lost or came late.
+fn arrival_of(act: Act) -> Part
+    ensures { λ r. ⌜ r ≡ arrivalOf act ⌝ }
+{
+    match act {
+        Act::FilePut => Part::Nothing,
+        Act::Begin => Part::Nothing,
+        Act::RequestArrives => Part::Nothing,
+        Act::RequestLost => Part::Say(Phrase::Lost),
+        Act::RequestCopied => Part::Nothing,
+        Act::CopyArrives => Part::Say(Phrase::Late),
+        Act::ReplyArrives => Part::Nothing,
+        Act::ReplyLost => Part::Say(Phrase::Lost),
+        Act::NoReply => Part::Nothing,
+    }
+}
+
+// Whether a request repeats one.
+fn repeated_of(act: Act, repeated: bool) -> Part
+    ensures { λ r. ⌜ r ≡ repeatedOf act repeated ⌝ }
+{
+    if !repeated {
+        return Part::Nothing;
+    }
+    match act {
+        Act::FilePut => Part::Nothing,
+        Act::Begin => Part::Nothing,
+        Act::RequestArrives => Part::Say(Phrase::Repeated),
+        Act::RequestLost => Part::Say(Phrase::Repeated),
+        Act::RequestCopied => Part::Say(Phrase::Repeated),
+        Act::CopyArrives => Part::Nothing,
+        Act::ReplyArrives => Part::Nothing,
+        Act::ReplyLost => Part::Nothing,
+        Act::NoReply => Part::Nothing,
+    }
+}
+
+// The exchange number of a message, and what became of it.
+fn exchange_said(kind: Kind, q: Fields, repeated: Part, arrival: Part) -> [Part; PARTS]
+    ensures { λ r. ⌜ r ≡ exchangeSaid kind q repeated arrival ⌝ }
+{
+    let x = Part::Number(q.exchange());
+    match kind {
+        Kind::Host => nothing(),
+        Kind::Own => nothing(),
+        Kind::Request => [Part::Say(Phrase::Exchange), x, repeated, arrival],
+        Kind::Reply => [Part::Say(Phrase::Exchange), x, repeated, arrival],
+    }
+}
+
+// Document 01's number for a refusal.
+fn refusal_number(x: Refusal) -> u64
+    ensures { λ r. ⌜ r ≡ refusalNumber x ⌝ }
+{
+    match x {
+        Refusal::WrongBuffer => 5,
+        Refusal::ExchangeTooHigh => 6,
+        Refusal::NoSubscriber => 7,
+        Refusal::WrongStage => 8,
+    }
+}
+
+// What a client's call answers, but for a request, whose line follows.
+fn answer_said(answer: Answer, number: u64) -> [Part; PARTS]
+    ensures { λ r. ⌜ r ≡ answerSaid answer number ⌝ }
+{
+    let n = Part::Nothing;
+    match answer {
+        Answer::Request(_) => nothing(),
+        Answer::Ignored => say(Phrase::Ignored),
+        Answer::Closed(w) => [Part::Say(Phrase::Closed), Part::Closing(w, number), n, n],
+        Answer::Refused(x) => [
+            Part::Say(Phrase::GivenNumber),
+            Part::Number(refusal_number(x)),
+            n,
+            n,
+        ],
+    }
+}
+
+// What the client's call of a move answers.
+fn answered(act: Act, e: End) -> [Part; PARTS]
+    ensures { λ r. ⌜ r ≡ answered act e ⌝ }
+{
+    let answer = e.answer;
+    let run = e.run;
+    match act {
+        Act::FilePut => nothing(),
+        Act::Begin => answer_said(answer, run.number),
+        Act::RequestArrives => nothing(),
+        Act::RequestLost => nothing(),
+        Act::RequestCopied => nothing(),
+        Act::CopyArrives => nothing(),
+        Act::ReplyArrives => answer_said(answer, run.number),
+        Act::ReplyLost => nothing(),
+        Act::NoReply => answer_said(answer, run.number),
+    }
+}
+
+fn request_in(q: Message) -> Fields
+    ensures { λ r. ⌜ r ≡ readRequest (frameIn q) ⌝ }
+{
+    let bytes = q.bytes;
+    read_request(front(&bytes, q.size))
+}
+
+fn reply_in(q: Message) -> Fields
+    ensures { λ r. ⌜ r ≡ readReply (frameIn q) ⌝ }
+{
+    let bytes = q.bytes;
+    read_reply(front(&bytes, q.size))
+}
+
+// What the frame of a move says; no fields where a move has no frame.
+fn fields_of(act: Act, s: Standing, e: End) -> Fields
+    ensures { λ r. ⌜ r ≡ fieldsOf act s e ⌝ }
+{
+    let request = e.request;
+    let copy = s.copy;
+    let reply = s.reply;
+    match act {
+        Act::FilePut => Fields::none(),
+        Act::Begin => Fields::none(),
+        Act::RequestArrives => request_in(request),
+        Act::RequestLost => request_in(request),
+        Act::RequestCopied => request_in(request),
+        Act::CopyArrives => request_in(copy),
+        Act::ReplyArrives => reply_in(reply),
+        Act::ReplyLost => reply_in(reply),
+        Act::NoReply => Fields::none(),
+    }
+}
+
+// Writes the line of a move, its frame read, its client end and order looked up.
+fn put_line(
+    output: &mut [u8],
+    call: u64,
+    m: Move,
+    b: Bank,
+    subscriber: u64,
+    e: End,
+    q: Fields,
+) -> usize
+    requires { ⌜ lineRoom ≤ length (now output) ⌝ }
+    ensures { λ r. ⌜ Put (now (output .entry)) 0 (lineWith call m b subscriber e q) (now (output .exit)) r ⌝ }
+{
+    let act = m.0;
+    let kind = kind_of(act);
+    let a = put_group(output, 0, head(call, kind, m.1 as u64, subscriber));
+    let c = put_group(output, a, said(act, b, subscriber, e, q));
+    let d = put_group(output, c, code_said(kind, q));
+    let f = put_group(
+        output,
+        d,
+        exchange_said(kind, q, repeated_of(act, e.repeated), arrival_of(act)),
+    );
+    let g = put_group(output, f, answered(act, e));
+    put_byte(output, g, b'\n')
+}
+
+// The line of a call's move at the front of the output, as the unit stands after it, and its length.
+pub fn line(call: u64, m: Move, s: Standing, output: &mut [u8]) -> usize
+    ensures { λ r. ⌜ (now (output .exit) ≡ printed lineRoom (lineOf call m s) (now (output .entry)))
+        × (r ≡ printedCount lineRoom (lineOf call m s) (now (output .entry))) ⌝ }
+{
+    if output.len() < LINE_ROOM {
+        return 0;
+    }
+    let act = m.0;
+    let run = m.1;
+    let o = order_of(run);
+    let e = end_of(s, run);
+    let bank = s.bank;
+    let q = fields_of(act, s, e);
+    put_line(output, call, m, bank, o.1, e, q)
+}

@@ -1,0 +1,2 @@
+-- The definitions of the exercises' words.
+pub mod Words

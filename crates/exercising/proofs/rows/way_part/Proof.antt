@@ -1,0 +1,13 @@
+-- `way_part` meets its contract. Assumes nothing.
+use borrow.Author.Needs.{needs}
+use Rattle.exercising.proofs.rows.way_part.Statement.{statement}
+use Rattle.exercising.proofs.rows.way_part.Tie as tie
+
+returns : tie.Need-returns
+returns c = rw (c .enum-told .given .1)
+
+returns-2 : tie.Need-returns-2
+returns-2 c = rw (c .enum-told2 .given .1)
+
+pub way-part-spec : {M : Type 1} → statement M
+way-part-spec = tie.close (tie.spec (λ c. search needs) (λ c. search needs) returns returns-2)

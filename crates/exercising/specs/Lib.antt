@@ -1,0 +1,2 @@
+-- The definitions of the rows.
+pub mod Rows
