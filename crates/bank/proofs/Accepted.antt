@@ -6,14 +6,14 @@ use mathlib.Core.Path.{_≡_, refl, ap}
 use lib.Dec.{eqb, leb, ltb}
 use lib.ListN.{length}
 use borrow.Author.Tests.{eqb-true, ltb-false, not-false}
-use Rattle.frame.specs.declared.fields.Fields.{Fields}
-use Rattle.frame.specs.Names.{subscriber}
-use Rattle.frame.proofs.Tests.{and-true, or-neither}
+use Rattle.frame_table.specs.declared.fields.Fields.{Fields}
+use Rattle.frame_table.specs.Names.{subscriber}
+use Rattle.octets.proofs.Tests.{and-true, or-neither}
 use Rattle.message.specs.Limits.{subscribers, fileBytes}
 use Rattle.message.specs.Verdicts.{decide}
 use Rattle.bank_state.specs.declared.state.Bank.{Bank}
 use Rattle.bank_state.specs.Limits.{storeBytes, idBytes, replyRoom}
-use Rattle.bank_step.proofs.Verdicts.{all-failed}
+use Rattle.message.proofs.Verdicts.{all-failed}
 use Rattle.bank.specs.declared.call.RequestVerdict.{RequestVerdict}
 use Rattle.bank.specs.declared.call.RequestVerdict.the-variants.{Refuse, Proceed}
 use Rattle.bank.specs.declared.mailbox.FileAnswer.{FileAnswer}

@@ -4,16 +4,16 @@ use mathlib.Core.Bool.{true, not}
 use mathlib.Core.Path.{_≡_}
 use lib.Dec.{eqb}
 use borrow.Author.Tests.{eqb-false, not-true}
-use Rattle.frame.specs.declared.fields.Fields.{Fields}
-use Rattle.frame.specs.Names.{subscriber}
-use Rattle.frame.proofs.Tests.{never, and-true}
+use Rattle.frame_table.specs.declared.fields.Fields.{Fields}
+use Rattle.frame_table.specs.Names.{subscriber}
+use Rattle.octets.proofs.Tests.{never, and-true}
 use Rattle.bank_state.specs.declared.clock.Ended.the-variants as ended
 use Rattle.bank_state.specs.declared.state.Download.{Download}
 use Rattle.bank_state.specs.Clock.{ends}
 use Rattle.bank_state.specs.State.{World, downloadAt}
 use Rattle.bank_state.proofs.Drops.{each-endDownloads}
-use Rattle.bank_step.specs.declared.downloads.DownloadStep.{DownloadStep}
-use Rattle.bank_step.specs.declared.downloads.Ending.the-variants.{Empties}
+use Rattle.bank_downloads.specs.declared.downloads.DownloadStep.{DownloadStep}
+use Rattle.bank_downloads.specs.declared.downloads.Ending.the-variants.{Empties}
 use Rattle.bank.specs.Call.{downloadsAfter}
 
 -- "every download of that mailbox ended": those still open are of other subscribers

@@ -5,16 +5,16 @@ use mathlib.Core.Bool.{Bool, true, false, cond, _&&_, _||_}
 use mathlib.Core.List.{List, [], _∷_}
 use lib.Dec.{ltb, leb, eqb}
 use lib.ListN.{length, set}
-use Rattle.frame.specs.declared.fields.Fields.{Fields}
-use Rattle.frame.specs.declared.table.Form.{Form}
-use Rattle.frame.specs.declared.table.Form.the-variants as forms
+use Rattle.frame_table.specs.declared.fields.Fields.{Fields}
+use Rattle.frame_table.specs.declared.table.Form.{Form}
+use Rattle.frame_table.specs.declared.table.Form.the-variants as forms
 use Rattle.frame.specs.declared.writer.Written.{Written}
 use Rattle.frame.specs.declared.writer.Written.the-variants as written
-use Rattle.frame.specs.Bytes.{number}
-use Rattle.frame.specs.Names.{phase, subscriber, exchange, transaction, form}
+use Rattle.octets.specs.Bytes.{number}
+use Rattle.frame_table.specs.Names.{phase, subscriber, exchange, transaction, form}
 use Rattle.frame.specs.Reader.{readRequest}
 use Rattle.frame.specs.Row.{dataOf}
-use Rattle.frame.specs.Table.{isRequestForm}
+use Rattle.frame_table.specs.Table.{isRequestForm}
 use Rattle.frame.specs.Writer.{writeAnswer, writeBuffer}
 use Rattle.message.specs.declared.codes.ReturnCode.{ReturnCode}
 use Rattle.message.specs.declared.codes.ReturnCode.the-variants as code
@@ -30,16 +30,16 @@ use Rattle.bank_state.specs.Limits.{placeCount, storeBytes, idBytes, replyRoom}
 use Rattle.bank_state.specs.Search.{findUpload, findDownload}
 use Rattle.bank_state.specs.State.{World, world, placeAt, downloadAt, withPlace, withDownload, withDownloads, withFiles}
 use Rattle.bank_state.specs.Store.{partAt, withPart, zeroed, fileOf}
-use Rattle.bank_step.specs.declared.downloads.DownloadStep.{DownloadStep}
-use Rattle.bank_step.specs.declared.downloads.DownloadRequest.{DownloadRequest}
-use Rattle.bank_step.specs.declared.downloads.DownloadRequest.the-variants as asked
-use Rattle.bank_step.specs.declared.downloads.Ending.{Ending}
-use Rattle.bank_step.specs.declared.downloads.Ending.the-variants.{Stays, Ends, Empties}
-use Rattle.bank_step.specs.declared.openings.Direction.{Direction}
-use Rattle.bank_step.specs.declared.openings.Direction.the-variants.{Upload, Download}
-use Rattle.bank_step.specs.Downloads.{downloadStep}
-use Rattle.bank_step.specs.Openings.{fileLength, opened}
-use Rattle.bank_step.specs.Uploads.{uploadStep}
+use Rattle.bank_downloads.specs.declared.downloads.DownloadStep.{DownloadStep}
+use Rattle.bank_downloads.specs.declared.downloads.DownloadRequest.{DownloadRequest}
+use Rattle.bank_downloads.specs.declared.downloads.DownloadRequest.the-variants as asked
+use Rattle.bank_downloads.specs.declared.downloads.Ending.{Ending}
+use Rattle.bank_downloads.specs.declared.downloads.Ending.the-variants.{Stays, Ends, Empties}
+use Rattle.bank_openings.specs.declared.openings.Direction.{Direction}
+use Rattle.bank_openings.specs.declared.openings.Direction.the-variants.{Upload, Download}
+use Rattle.bank_downloads.specs.Downloads.{downloadStep}
+use Rattle.bank_openings.specs.Openings.{fileLength, opened}
+use Rattle.bank_uploads.specs.Uploads.{uploadStep}
 use Rattle.bank.specs.declared.call.FrameAnswer.{FrameAnswer}
 use Rattle.bank.specs.declared.call.FrameAnswer.the-variants.{Reply, WrongLength}
 use Rattle.bank.specs.declared.call.FrameOut.{FrameOut}

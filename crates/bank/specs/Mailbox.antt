@@ -4,13 +4,13 @@ use mathlib.Core.Bool.{Bool, not, _||_}
 use mathlib.Core.List.{List, [], _∷_}
 use lib.Dec.{ltb, eqb}
 use lib.ListN.{length, set}
-use Rattle.frame.specs.Bytes.{overwrite}
+use Rattle.octets.specs.Bytes.{overwrite}
 use Rattle.message.specs.Limits.{subscribers, fileBytes}
 use Rattle.message.specs.Verdicts.{decide}
 use Rattle.bank_state.specs.declared.state.Bank.{Bank}
 use Rattle.bank_state.specs.Limits.{storeBytes}
 use Rattle.bank_state.specs.State.{withFiles}
-use Rattle.bank_step.specs.Openings.{fileLength}
+use Rattle.bank_openings.specs.Openings.{fileLength}
 use Rattle.bank.specs.declared.mailbox.FileAnswer.{FileAnswer}
 use Rattle.bank.specs.declared.mailbox.FileAnswer.the-variants.{Done, WrongLength, NoMailbox, WrongFile, MailboxFull}
 use Rattle.bank.specs.declared.mailbox.FileOut.{FileOut}

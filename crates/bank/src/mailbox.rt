@@ -1,8 +1,8 @@
 // A file goes into a mailbox.
+use bank_openings::openings::file_length;
 use bank_state::limits::STORE_BYTES;
 use bank_state::state::Bank;
 use bank_state::store::append;
-use bank_step::openings::file_length;
 use message::limits::FILE_BYTES;
 use message::limits::SUBSCRIBERS;
 ghost use mathlib.Core.Path.{_≡_};

@@ -6,9 +6,9 @@ use mathlib.Core.Path.{_≡_, ap}
 use native.Mathlib.Omega.{arith}
 use lib.ListN.{length, length-take, length-drop}
 use borrow.Author.Tests.{eq-eqb, le-leb}
-use Rattle.frame.specs.declared.fields.Bits128.{Bits128}
-use Rattle.frame.specs.Bytes.{number}
-use Rattle.frame.specs.Names.{segment}
+use Rattle.frame_table.specs.declared.fields.Bits128.{Bits128}
+use Rattle.octets.specs.Bytes.{number}
+use Rattle.frame_table.specs.Names.{segment}
 use Rattle.frame.specs.Reader.{readRequest}
 use Rattle.frame.specs.Row.{dataOf}
 use Rattle.frame.specs.Writer.{frameOf, writable, accepted, writeAnswer}
@@ -44,7 +44,7 @@ use Rattle.bank_history.specs.History.{
 use Rattle.bank_history.specs.Sound.{SoundData, SoundAction, SoundEvent, AllSound}
 use Rattle.bank_history.specs.Invariant.{Holds}
 use Rattle.bank_history.specs.Standing.{answered}
-use Rattle.bank_history.proofs.Downloads.{some-segment}
+use Rattle.message.proofs.SegmentNumbers.{some-segment}
 use Rattle.bank_history.proofs.Positions.{sound-at}
 
 -- the stores that the calls left have the lengths that a frame call asks for

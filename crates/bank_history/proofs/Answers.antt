@@ -9,15 +9,15 @@ use lib.Dec.{leb, eqb}
 use lib.ListN.{length, take, drop}
 use lib.Seq.{take-at, drop-at}
 use borrow.Author.Tests.{leb-true}
-use Rattle.frame.specs.declared.fields.Fields.{Fields}
-use Rattle.frame.specs.Bytes.{Bytes, number, overwrite}
-use Rattle.frame.specs.Names.{form}
+use Rattle.frame_table.specs.declared.fields.Fields.{Fields}
+use Rattle.octets.specs.Bytes.{Bytes, number, overwrite}
+use Rattle.frame_table.specs.Names.{form}
 use Rattle.frame.specs.Reader.{readRequest, readReply}
 use Rattle.frame.specs.Row.{dataOf}
-use Rattle.frame.specs.Table.{isRequestForm, isReplyForm}
+use Rattle.frame_table.specs.Table.{isRequestForm, isReplyForm}
 use Rattle.frame.specs.Writer.{frameOf}
-use Rattle.frame.proofs.Tests.{and-true}
-use Rattle.frame.proofs.Numbers.{bytesOf-number, number-lt}
+use Rattle.octets.proofs.Tests.{and-true}
+use Rattle.octets.proofs.Numbers.{bytesOf-number, number-lt}
 use Rattle.frame.proofs.Build.{written-in-front}
 use Rattle.frame.proofs.Theorems.{written-reply, written-data}
 use Rattle.message.proofs.Writable.{unreadable-written}
@@ -56,7 +56,7 @@ call-lengths w ids buffer h =
 -- ---- every reply
 
 -- the answer to a request of a frame
-abbrev stepOf : World → ℕ → List ℕ → List ℕ → Step
+abbrev pub stepOf : World → ℕ → List ℕ → List ℕ → Step
 stepOf w time ids frame = respond (number ids) (advanced time w) (readRequest frame) (dataOf frame)
 
 unread-is : (lent : ℕ) (w : World) (q : Fields) (d : List ℕ) → isRequestForm (form q) ≡ false → respond lent w q d ≡ unread w

@@ -8,12 +8,12 @@ use native.Mathlib.Omega.{arith}
 use lib.Dec.{ltb}
 use lib.ListN.{length}
 use borrow.Author.Tests.{ltb-true, ltb-false}
-use Rattle.frame.specs.declared.fields.Fields.{Fields}
-use Rattle.frame.specs.declared.table.Form.{Form}
-use Rattle.frame.specs.declared.table.Form.the-variants as forms
-use Rattle.frame.specs.Names.{subscriber, transaction, segments, segment, form}
-use Rattle.frame.specs.Table.{isRequestForm}
-use Rattle.frame.proofs.Tests.{or-neither}
+use Rattle.frame_table.specs.declared.fields.Fields.{Fields}
+use Rattle.frame_table.specs.declared.table.Form.{Form}
+use Rattle.frame_table.specs.declared.table.Form.the-variants as forms
+use Rattle.frame_table.specs.Names.{subscriber, transaction, segments, segment, form}
+use Rattle.frame_table.specs.Table.{isRequestForm}
+use Rattle.octets.proofs.Tests.{or-neither}
 use Rattle.message.specs.declared.codes.ReturnCode.{ReturnCode}
 use Rattle.message.specs.declared.codes.ReturnCode.the-variants as code
 use Rattle.message.specs.Limits.{subscribers, segmentBytes}
@@ -23,16 +23,16 @@ use Rattle.bank_state.specs.Limits.{placeCount}
 use Rattle.bank_state.specs.Search.{freePlace, isUpload, findUpload, isDownload, findDownload}
 use Rattle.bank_state.specs.State.{World, world, placeAt, downloadAt, withPlace}
 use Rattle.bank_state.specs.Store.{partAt, withPart}
-use Rattle.bank_step.specs.declared.downloads.DownloadRequest.{DownloadRequest}
-use Rattle.bank_step.specs.declared.downloads.DownloadRequest.the-variants as asked
-use Rattle.bank_step.specs.declared.downloads.DownloadVerdict.{DownloadVerdict}
-use Rattle.bank_step.specs.declared.openings.Direction.the-variants as way
-use Rattle.bank_step.specs.declared.openings.Opening.{Opening}
-use Rattle.bank_step.specs.declared.openings.OpeningVerdict.{OpeningVerdict}
-use Rattle.bank_step.specs.declared.uploads.UploadVerdict.{UploadVerdict}
-use Rattle.bank_step.specs.Downloads.{carryOutDownload, downloadStep}
-use Rattle.bank_step.specs.Openings.{fileLength, transactionOf, openUpload, openDownload, carryOut, opened}
-use Rattle.bank_step.specs.Uploads.{carryOutUpload, uploadStep}
+use Rattle.bank_downloads.specs.declared.downloads.DownloadRequest.{DownloadRequest}
+use Rattle.bank_downloads.specs.declared.downloads.DownloadRequest.the-variants as asked
+use Rattle.bank_downloads.specs.declared.downloads.DownloadVerdict.{DownloadVerdict}
+use Rattle.bank_openings.specs.declared.openings.Direction.the-variants as way
+use Rattle.bank_openings.specs.declared.openings.Opening.{Opening}
+use Rattle.bank_openings.specs.declared.openings.OpeningVerdict.{OpeningVerdict}
+use Rattle.bank_uploads.specs.declared.uploads.UploadVerdict.{UploadVerdict}
+use Rattle.bank_downloads.specs.Downloads.{carryOutDownload, downloadStep}
+use Rattle.bank_openings.specs.Openings.{fileLength, transactionOf, openUpload, openDownload, carryOut, opened}
+use Rattle.bank_uploads.specs.Uploads.{carryOutUpload, uploadStep}
 use Rattle.bank.specs.declared.call.RequestVerdict.{RequestVerdict}
 use Rattle.bank.specs.declared.call.RequestVerdict.the-variants as request
 use Rattle.bank.specs.Call.{
@@ -68,8 +68,8 @@ use Rattle.bank_history.specs.History.{
   eventOf,
   segmentsNow,
 }
-use Rattle.bank_step.proofs.Verdicts.{by-test}
-use Rattle.bank_step.proofs.UploadVerdicts.{UploadSound, judged-upload}
+use Rattle.message.proofs.Verdicts.{by-test}
+use Rattle.bank_uploads.proofs.UploadVerdicts.{UploadSound, judged-upload}
 use Rattle.bank_history.proofs.Judged.{
   Acceptable,
   DownloadSound,
@@ -128,7 +128,8 @@ pub data Happens (lent : ℕ) (w : World) (q : Fields) (d : List ℕ) : Event �
   opensUpload : form q ≡ forms.UploadOpening → Admitted q d → Acceptable (w .bank) q → (segments q ≡ 0 → ⊥) →
       freePlace (w .bank) < placeCount →
       Happens lent w q d (Of (transactionOf lent (w .bank)) OpenedUpload) (openingStepBy (openUpload lent q (w .bank)) w q)
-  opensDownload : form q ≡ forms.DownloadOpening → Admitted q d → Acceptable (w .bank) q → (fileLength (subscriber q) (w .bank .files) ≡ 0 → ⊥) →
+  opensDownload : form q ≡ forms.DownloadOpening → Admitted q d → Acceptable (w .bank) q →
+      (fileLength (subscriber q) (w .bank .files) ≡ 0 → ⊥) →
       Happens lent w q d (Of (transactionOf lent (w .bank)) (OpenedDownload (segmentsNow w q)))
       (openingStepBy (openDownload lent q (w .bank)) w q)
   toUpload : (i : ℕ) (transfer : Bool) (r : DownloadRequest) (v : UploadVerdict) → Admitted q d → AskedBy q transfer r → i < placeCount →

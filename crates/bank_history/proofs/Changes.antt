@@ -8,13 +8,13 @@ use native.Mathlib.Decide.{ℕ-discrete}
 use native.Mathlib.Omega.{arith}
 use lib.ListN.{getD, set, take}
 use lib.Seq.{getD-set-same}
-use Rattle.frame.specs.declared.fields.Bits128.{Bits128}
-use Rattle.frame.specs.declared.fields.Fields.{Fields}
-use Rattle.frame.specs.Bytes.{number}
-use Rattle.frame.specs.Names.{subscriber, transaction}
+use Rattle.frame_table.specs.declared.fields.Bits128.{Bits128}
+use Rattle.frame_table.specs.declared.fields.Fields.{Fields}
+use Rattle.octets.specs.Bytes.{number}
+use Rattle.frame_table.specs.Names.{subscriber, transaction}
 use Rattle.frame.specs.Reader.{readRequest}
 use Rattle.frame.specs.Row.{dataOf}
-use Rattle.frame.proofs.Tests.{never}
+use Rattle.octets.proofs.Tests.{never}
 use Rattle.bank_state.specs.declared.clock.Ended.{Ended}
 use Rattle.bank_state.specs.declared.clock.Ended.the-variants as ended
 use Rattle.bank_state.specs.declared.state.Download.{Download}
@@ -24,12 +24,12 @@ use Rattle.bank_state.specs.Clock.{advanced, endDownloads}
 use Rattle.bank_state.specs.Search.{isFree}
 use Rattle.bank_state.specs.State.{World, world, noPlace, noDownload, placeAt, downloadAt}
 use Rattle.bank_state.specs.Store.{partAt, fileOf}
-use Rattle.bank_step.specs.declared.downloads.DownloadVerdict.{DownloadVerdict}
-use Rattle.bank_step.specs.declared.downloads.DownloadVerdict.the-variants as down
-use Rattle.bank_step.specs.declared.uploads.UploadVerdict.{UploadVerdict}
-use Rattle.bank_step.specs.declared.uploads.UploadVerdict.the-variants as up
-use Rattle.bank_step.specs.Openings.{fileLength, counted, openUpload, openDownload}
-use Rattle.bank_step.specs.Uploads.{grown, attempted}
+use Rattle.bank_downloads.specs.declared.downloads.DownloadVerdict.{DownloadVerdict}
+use Rattle.bank_downloads.specs.declared.downloads.DownloadVerdict.the-variants as down
+use Rattle.bank_uploads.specs.declared.uploads.UploadVerdict.{UploadVerdict}
+use Rattle.bank_uploads.specs.declared.uploads.UploadVerdict.the-variants as up
+use Rattle.bank_openings.specs.Openings.{fileLength, counted, openUpload, openDownload}
+use Rattle.bank_uploads.specs.Uploads.{grown, attempted}
 use Rattle.bank.specs.declared.call.FrameAnswer.{FrameAnswer}
 use Rattle.bank.specs.declared.call.FrameAnswer.the-variants.{Reply, WrongLength}
 use Rattle.bank.specs.declared.mailbox.FileAnswer.{FileAnswer}
@@ -57,7 +57,7 @@ use Rattle.bank_history.specs.Invariant.{Sizes, Invariant, Holds}
 use Rattle.bank_history.specs.Standing.{Emptied, Filled, Gone, filled, answered}
 use Rattle.bank_state.proofs.Drops.{each-endDownloads}
 use Rattle.bank_history.proofs.Rows.{each-set-all}
-use Rattle.bank_step.proofs.Verdicts.{by-test}
+use Rattle.message.proofs.Verdicts.{by-test}
 use Rattle.bank_history.proofs.Cases.{
   Happens,
   unreadable,
@@ -103,7 +103,7 @@ after-frame time ids frame buffer p =
     at WrongLength = inl refl
 
 -- an empty mailbox has no file
-no-file : (w : World) (m : ℕ) → fileLength m (w .bank .files) ≡ 0 → mailboxFile w m ≡ []
+pub no-file : (w : World) (m : ℕ) → fileLength m (w .bank .files) ≡ 0 → mailboxFile w m ≡ []
 unfolding mailboxFile fileOf
 no-file w m e = ap (λ (n : ℕ). take n (partAt (w .boxes) (m - 1))) e
 

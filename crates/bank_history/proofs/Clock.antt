@@ -8,7 +8,7 @@ use native.Mathlib.Omega.{arith}
 use lib.Dec.{eqb}
 use lib.ListN.{replicate, List·getD-eq-default}
 use borrow.Author.Tests.{ltb-false, not-true}
-use Rattle.frame.proofs.Tests.{never, and-true}
+use Rattle.octets.proofs.Tests.{never, and-true}
 use Rattle.message.specs.Limits.{fileBytes}
 use Rattle.bank_state.specs.declared.clock.Ended.the-variants as ended
 use Rattle.bank_state.specs.declared.state.Download.{Download}
@@ -43,11 +43,11 @@ use Rattle.bank_state.proofs.Drops.{
   Spot,
   advanced-spot,
 }
-use Rattle.bank_step.specs.Openings.{fileLength}
+use Rattle.bank_openings.specs.Openings.{fileLength}
 use Rattle.bank_history.specs.History.{Exchange, mailboxFile}
 use Rattle.bank_history.specs.Invariant.{Sizes, PlaceHolds, DownloadHolds, Invariant, NoneIdle}
 use Rattle.bank_history.proofs.Rows.{count-set-le, packed-keepOnly}
-use Rattle.bank_step.proofs.Verdicts.{by-test, and-false}
+use Rattle.message.proofs.Verdicts.{by-test, and-false}
 use Rattle.bank_history.proofs.Memory.{memory-later}
 use Rattle.bank_history.proofs.PlaceChange.{place-change}
 use Rattle.bank_history.proofs.DownloadChange.{download-change}

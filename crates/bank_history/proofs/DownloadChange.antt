@@ -4,7 +4,7 @@ use mathlib.Core.Bool.{true, false}
 use mathlib.Core.List.{List}
 use mathlib.Core.Path.{_≡_}
 use lib.ListN.{length, getD}
-use Rattle.frame.specs.declared.fields.Bits128.{Bits128}
+use Rattle.frame_table.specs.declared.fields.Bits128.{Bits128}
 use Rattle.bank_state.specs.declared.state.Download.{Download}
 use Rattle.bank_state.specs.declared.state.Nonce.{Nonce}
 use Rattle.bank_state.specs.Limits.{placeCount, storeBytes, nonceCount, openMost, openPerSubscriber, openingsMost}

@@ -9,22 +9,23 @@ use lib.Dec.{ltb, eqb}
 use lib.ListN.{length}
 use lib.Seq.{getD-set-same}
 use borrow.Author.Tests.{eq-eqb, lt-ltb, le-ltb, le-leb}
-use Rattle.frame.specs.declared.fields.Bits128.{Bits128}
-use Rattle.frame.specs.declared.fields.Fields.{Fields}
-use Rattle.frame.specs.declared.table.Form.the-variants as forms
-use Rattle.frame.specs.Names.{subscriber, transaction, segment, receiptCode, form, sameBits}
-use Rattle.frame.proofs.Tests.{never}
+use Rattle.frame_table.specs.declared.fields.Bits128.{Bits128}
+use Rattle.frame_table.specs.declared.fields.Fields.{Fields}
+use Rattle.frame_table.specs.declared.table.Form.the-variants as forms
+use Rattle.frame_table.specs.Names.{subscriber, transaction, segment, receiptCode, form, sameBits}
+use Rattle.octets.proofs.Tests.{never}
+use Rattle.frame_table.proofs.Bits.{bits-same}
 use Rattle.message.specs.Limits.{segmentBytes}
 use Rattle.bank_state.specs.declared.state.Download.{Download}
 use Rattle.bank_state.specs.Limits.{placeCount}
 use Rattle.bank_state.specs.Search.{isFree, isUpload, isDownload, findUpload, findDownload, freeDownload}
 use Rattle.bank_state.specs.State.{World, noPlace, noDownload, placeAt, downloadAt}
-use Rattle.bank_step.specs.declared.downloads.DownloadRequest.{DownloadRequest}
-use Rattle.bank_step.specs.declared.downloads.DownloadRequest.the-variants as asks
-use Rattle.bank_step.specs.declared.downloads.DownloadVerdict.{DownloadVerdict}
-use Rattle.bank_step.specs.declared.downloads.DownloadVerdict.the-variants as down
-use Rattle.bank_step.specs.Downloads.{receiptAnswers, downloadRefusals, judgeDownload, downloadStep, movedTo}
-use Rattle.bank_step.specs.Openings.{counted, openDownload}
+use Rattle.bank_downloads.specs.declared.downloads.DownloadRequest.{DownloadRequest}
+use Rattle.bank_downloads.specs.declared.downloads.DownloadRequest.the-variants as asks
+use Rattle.bank_downloads.specs.declared.downloads.DownloadVerdict.{DownloadVerdict}
+use Rattle.bank_downloads.specs.declared.downloads.DownloadVerdict.the-variants as down
+use Rattle.bank_downloads.specs.Downloads.{receiptAnswers, downloadRefusals, judgeDownload, downloadStep, movedTo}
+use Rattle.bank_openings.specs.Openings.{counted, openDownload}
 use Rattle.bank.specs.Call.{Step, downloadStepAt, transactionStep, respond}
 use Rattle.bank_history.specs.History.{
   OpenedDownload,
@@ -56,7 +57,7 @@ use Rattle.bank_history.proofs.Cases.{
   Admitted,
   downloadStepBy,
 }
-use Rattle.bank_history.proofs.Entries.{same-bits, bits-same}
+use Rattle.bank_history.proofs.Entries.{same-bits}
 use Rattle.bank_state.proofs.Found.{upload-found, download-found}
 use Rattle.bank_history.proofs.Uploads.{place-number}
 use Rattle.bank_history.proofs.Downloads.{download-open, downloads-apart}

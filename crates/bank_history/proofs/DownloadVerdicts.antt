@@ -8,9 +8,10 @@ use native.Mathlib.Omega.{arith}
 use lib.ListN.{length, getD, set, length-set}
 use lib.Seq.{getD-set-same, getD-set-other}
 use borrow.Author.Tests.{eq-eqb}
-use Rattle.frame.specs.declared.fields.Fields.{Fields}
-use Rattle.frame.specs.declared.table.Form.the-variants as forms
-use Rattle.frame.specs.Names.{subscriber, transaction, segment, receiptCode, form}
+use Rattle.frame_table.specs.declared.fields.Fields.{Fields}
+use Rattle.frame_table.specs.declared.table.Form.the-variants as forms
+use Rattle.frame_table.specs.Names.{subscriber, transaction, segment, receiptCode, form}
+use Rattle.frame_table.proofs.Bits.{bits-same}
 use Rattle.message.specs.declared.codes.ReturnCode.the-variants as code
 use Rattle.message.specs.Limits.{attemptsMost}
 use Rattle.message.specs.Segments.{segmentsOf, segmentOf}
@@ -22,12 +23,12 @@ use Rattle.bank_state.specs.Limits.{placeCount, storeBytes}
 use Rattle.bank_state.specs.Search.{isDownload}
 use Rattle.bank_state.specs.State.{World, world, noDownload, downloadAt}
 use Rattle.bank_state.specs.Store.{partAt, zeroed, fileOf}
-use Rattle.bank_step.specs.declared.downloads.DownloadRequest.{DownloadRequest}
-use Rattle.bank_step.specs.declared.downloads.DownloadRequest.the-variants as asked
-use Rattle.bank_step.specs.declared.downloads.DownloadVerdict.{DownloadVerdict}
-use Rattle.bank_step.specs.declared.downloads.DownloadVerdict.the-variants as down
-use Rattle.bank_step.specs.Downloads.{carryOutDownload}
-use Rattle.bank_step.specs.Openings.{fileLength}
+use Rattle.bank_downloads.specs.declared.downloads.DownloadRequest.{DownloadRequest}
+use Rattle.bank_downloads.specs.declared.downloads.DownloadRequest.the-variants as asked
+use Rattle.bank_downloads.specs.declared.downloads.DownloadVerdict.{DownloadVerdict}
+use Rattle.bank_downloads.specs.declared.downloads.DownloadVerdict.the-variants as down
+use Rattle.bank_downloads.specs.Downloads.{carryOutDownload}
+use Rattle.bank_openings.specs.Openings.{fileLength}
 use Rattle.bank.specs.Call.{Step, mailboxSegment}
 use Rattle.bank_history.specs.History.{
   Action,
@@ -61,7 +62,6 @@ use Rattle.bank_history.proofs.Cases.{
   Admitted,
   downloadStepBy,
 }
-use Rattle.bank_history.proofs.Entries.{bits-same}
 use Rattle.bank_history.proofs.Records.{download-moved}
 use Rattle.bank_history.proofs.DownloadChange.{besides}
 use Rattle.bank_history.proofs.Uploads.{entry}

@@ -8,11 +8,11 @@ use native.Mathlib.Omega.{arith}
 use lib.Dec.{eqb}
 use lib.ListN.{length, getD, set, length-set, length-take, List·getD-eq-default}
 use borrow.Author.Tests.{ne-eqb, not-true}
-use Rattle.frame.specs.declared.fields.Bits128.{Bits128}
-use Rattle.frame.specs.Names.{subscriber, transaction}
-use Rattle.frame.proofs.Tests.{never, and-true}
+use Rattle.frame_table.specs.declared.fields.Bits128.{Bits128}
+use Rattle.frame_table.specs.Names.{subscriber, transaction}
+use Rattle.octets.proofs.Tests.{never, and-true}
 use Rattle.message.specs.Limits.{subscribers}
-use Rattle.message.specs.Segments.{segmentsOf, segmentOf}
+use Rattle.message.specs.Segments.{segmentOf}
 use Rattle.bank_state.specs.declared.clock.Ended.{Ended}
 use Rattle.bank_state.specs.declared.state.Download.{Download}
 use Rattle.bank_state.specs.Clock.{ends, endDownloads}
@@ -20,8 +20,8 @@ use Rattle.bank_state.specs.Limits.{placeCount, storeBytes}
 use Rattle.bank_state.specs.Search.{isFree, openCount, openCountOf}
 use Rattle.bank_state.specs.State.{World, noDownload, placeAt, downloadAt}
 use Rattle.bank_state.specs.Store.{partAt, fileOf}
-use Rattle.bank_step.specs.Downloads.{movedTo}
-use Rattle.bank_step.specs.Openings.{fileLength}
+use Rattle.bank_downloads.specs.Downloads.{movedTo}
+use Rattle.bank_openings.specs.Openings.{fileLength}
 use Rattle.bank.specs.Call.{mailboxSegment}
 use Rattle.bank_history.specs.History.{
   Action,
@@ -237,7 +237,3 @@ module _ (w : World) (h : List Exchange) (v : Invariant w h) (j : ℕ) (used : d
 pub carried-segment : (w : World) (s n : ℕ) → 1 ≤ n → mailboxSegment w s n ≡ segmentOf (mailboxFile w s) n
 unfolding mailboxSegment mailboxFile
 carried-segment w s n h = rw (ne-eqb n 0 (λ e. omega arith))
-
-pub some-segment : (n : ℕ) → 1 ≤ n → 1 ≤ segmentsOf n
-unfolding segmentsOf
-some-segment n h = omega arith

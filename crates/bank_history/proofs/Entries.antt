@@ -5,10 +5,11 @@ use mathlib.Core.List.{List, [], _∷_, _++_}
 use mathlib.Core.Path.{_≡_, refl, sym, ap, _∙_}
 use native.Mathlib.Omega.{arith}
 use lib.Dec.{eqb}
-use borrow.Author.Tests.{eqb-true, eq-eqb, ne-eqb}
-use Rattle.frame.specs.declared.fields.Bits128.{Bits128}
-use Rattle.frame.specs.Names.{sameBits}
-use Rattle.frame.proofs.Tests.{never, and-true}
+use borrow.Author.Tests.{eq-eqb, ne-eqb}
+use Rattle.frame_table.specs.declared.fields.Bits128.{Bits128}
+use Rattle.frame_table.specs.Names.{sameBits}
+use Rattle.octets.proofs.Tests.{never, and-true}
+use Rattle.frame_table.proofs.Bits.{bits-same}
 use Rattle.bank_history.specs.History.{
   Action,
   TookLast,
@@ -34,11 +35,6 @@ use Rattle.bank_history.specs.History.{
 
 pub same-bits : (t : Bits128) → sameBits t t ≡ true
 same-bits t = rw (eq-eqb (t .high) (t .high) refl, eq-eqb (t .low) (t .low) refl)
-
-pub bits-same : (t u : Bits128) → sameBits t u ≡ true → t ≡ u
-bits-same t u h =
-    let a = and-true (eqb (t .high) (u .high)) (eqb (t .low) (u .low)) h in
-    λ i. record { high = eqb-true (t .high) (u .high) (a .0) i; low = eqb-true (t .low) (u .low) (a .1) i }
 
 pub and-no : (a : Bool) → a && false ≡ false
 and-no true = refl

@@ -9,7 +9,7 @@ use lib.Dec.{ltb, eqb}
 use lib.ListN.{length, getD, set, take, drop, replicate, length-set}
 use lib.Seq.{getD-set-same, getD-set-other, take-append-seam}
 use borrow.Author.Tests.{ltb-false, eqb-true, eqb-false, not-false}
-use Rattle.frame.proofs.Tests.{or-neither}
+use Rattle.octets.proofs.Tests.{or-neither}
 use Rattle.message.specs.Limits.{subscribers, fileBytes}
 use Rattle.message.specs.Verdicts.{decide}
 use Rattle.bank_state.specs.declared.state.Bank.{Bank}
@@ -17,7 +17,7 @@ use Rattle.bank_state.specs.Limits.{placeCount, storeBytes}
 use Rattle.bank_state.specs.Search.{openCount, openCountOf}
 use Rattle.bank_state.specs.State.{World, downloadAt}
 use Rattle.bank_state.specs.Store.{partAt, fileOf}
-use Rattle.bank_step.specs.Openings.{fileLength}
+use Rattle.bank_openings.specs.Openings.{fileLength}
 use Rattle.bank.specs.declared.mailbox.FileAnswer.{FileAnswer}
 use Rattle.bank.specs.declared.mailbox.FileAnswer.the-variants as put
 use Rattle.bank.specs.Mailbox.{fileRefusals, fileNumber}
@@ -25,7 +25,7 @@ use Rattle.bank_history.specs.Standing.{filled}
 use Rattle.bank_history.specs.History.{Exchange, mailboxFile}
 use Rattle.bank_history.specs.Invariant.{DownloadHolds, MailboxHolds, Invariant}
 use Rattle.bank_history.proofs.Stores.{length-written, part-written, part-unwritten}
-use Rattle.bank_step.proofs.Verdicts.{by-test}
+use Rattle.message.proofs.Verdicts.{by-test}
 use Rattle.bank_history.proofs.Places.{drop-replicate}
 use Rattle.bank_history.proofs.DownloadChange.{download-change}
 use Rattle.bank_history.proofs.Downloads.{file-long}

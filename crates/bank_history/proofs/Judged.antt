@@ -5,9 +5,9 @@ use mathlib.Core.List.{[], _∷_}
 use mathlib.Core.Path.{_≡_, refl, sym}
 use lib.Dec.{ltb, leb, eqb}
 use borrow.Author.Tests.{ltb-true, ltb-false, leb-true, leb-false, eqb-true, eqb-false, not-false}
-use Rattle.frame.specs.declared.fields.Fields.{Fields}
-use Rattle.frame.specs.Names.{subscriber, orderType, timestamp, nonce, segments, segment, receiptCode}
-use Rattle.frame.proofs.Tests.{never, and-true, or-neither}
+use Rattle.frame_table.specs.declared.fields.Fields.{Fields}
+use Rattle.frame_table.specs.Names.{subscriber, orderType, timestamp, nonce, segments, segment, receiptCode}
+use Rattle.octets.proofs.Tests.{never, and-true, or-neither}
 use Rattle.message.specs.declared.codes.ReturnCode.{ReturnCode}
 use Rattle.message.specs.declared.codes.ReturnCode.the-variants as code
 use Rattle.message.specs.Limits.{ful, fdl, segmentsMost, attemptsMost}
@@ -16,16 +16,16 @@ use Rattle.bank_state.specs.declared.state.Bank.{Bank}
 use Rattle.bank_state.specs.declared.state.Download.{Download}
 use Rattle.bank_state.specs.Limits.{placeCount, nonceCount, window, openMost, openPerSubscriber, openingsMost}
 use Rattle.bank_state.specs.Search.{freePlace, freeNonce, openCount, openCountOf, isRemembered}
-use Rattle.bank_step.specs.declared.downloads.DownloadRequest.{DownloadRequest}
-use Rattle.bank_step.specs.declared.downloads.DownloadRequest.the-variants as asked
-use Rattle.bank_step.specs.declared.downloads.DownloadVerdict.{DownloadVerdict}
-use Rattle.bank_step.specs.declared.downloads.DownloadVerdict.the-variants as down
-use Rattle.bank_step.specs.declared.openings.Direction.{Direction}
-use Rattle.bank_step.specs.declared.openings.Direction.the-variants as way
-use Rattle.bank_step.specs.declared.openings.OpeningVerdict.{OpeningVerdict}
-use Rattle.bank_step.specs.declared.openings.OpeningVerdict.the-variants as opening
-use Rattle.bank_step.specs.Downloads.{receiptAnswers, downloadRefusals, judgeDownload}
-use Rattle.bank_step.specs.Openings.{
+use Rattle.bank_downloads.specs.declared.downloads.DownloadRequest.{DownloadRequest}
+use Rattle.bank_downloads.specs.declared.downloads.DownloadRequest.the-variants as asked
+use Rattle.bank_downloads.specs.declared.downloads.DownloadVerdict.{DownloadVerdict}
+use Rattle.bank_downloads.specs.declared.downloads.DownloadVerdict.the-variants as down
+use Rattle.bank_openings.specs.declared.openings.Direction.{Direction}
+use Rattle.bank_openings.specs.declared.openings.Direction.the-variants as way
+use Rattle.bank_openings.specs.declared.openings.OpeningVerdict.{OpeningVerdict}
+use Rattle.bank_openings.specs.declared.openings.OpeningVerdict.the-variants as opening
+use Rattle.bank_downloads.specs.Downloads.{receiptAnswers, downloadRefusals, judgeDownload}
+use Rattle.bank_openings.specs.Openings.{
   inTime,
   fileLength,
   senderRefusals,
@@ -34,7 +34,7 @@ use Rattle.bank_step.specs.Openings.{
   openingRefusals,
   judgeOpening,
 }
-use Rattle.bank_step.proofs.Verdicts.{by-test, and-false}
+use Rattle.message.proofs.Verdicts.{by-test, and-false}
 use Rattle.bank_history.specs.Sound.{cancels}
 
 -- a fact of two values picked by one test, from what the test tells

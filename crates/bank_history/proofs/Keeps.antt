@@ -6,14 +6,14 @@ use mathlib.Core.Path.{_≡_, refl, sym, ap, _∙_}
 use native.Mathlib.Nat.{suc-add}
 use native.Mathlib.Omega.{arith}
 use lib.ListN.{length, take, drop, replicate, length-replicate, getD-replicate}
-use Rattle.frame.specs.declared.fields.Bits128.{Bits128}
-use Rattle.frame.specs.declared.fields.Fields.{Fields}
-use Rattle.frame.specs.declared.table.Form.the-variants as forms
-use Rattle.frame.specs.Bytes.{number}
-use Rattle.frame.specs.Names.{form}
+use Rattle.frame_table.specs.declared.fields.Bits128.{Bits128}
+use Rattle.frame_table.specs.declared.fields.Fields.{Fields}
+use Rattle.frame_table.specs.declared.table.Form.the-variants as forms
+use Rattle.octets.specs.Bytes.{number}
+use Rattle.frame_table.specs.Names.{form}
 use Rattle.frame.specs.Reader.{readRequest}
 use Rattle.frame.specs.Row.{dataOf}
-use Rattle.frame.proofs.Tests.{never}
+use Rattle.octets.proofs.Tests.{never}
 use Rattle.message.specs.Limits.{fileBytes}
 use Rattle.bank_state.specs.declared.state.Bank.{Bank}
 use Rattle.bank_state.specs.declared.state.Download.{Download}
@@ -57,7 +57,7 @@ use Rattle.bank_history.specs.History.{
 use Rattle.bank_history.specs.Packed.{rest}
 use Rattle.bank_history.specs.Sound.{Sound, none, more}
 use Rattle.bank_history.specs.Invariant.{Invariant, NoneIdle, Holds}
-use Rattle.bank_step.proofs.Verdicts.{by-test}
+use Rattle.message.proofs.Verdicts.{by-test}
 use Rattle.bank_history.proofs.Cases.{
   Happens,
   unreadable,

@@ -7,11 +7,11 @@ use mathlib.Core.Path.{_≡_, refl, sym, ap, _∙_, subst}
 use native.Mathlib.Omega.{arith}
 use lib.Dec.{eqb}
 use lib.ListN.{length}
-use Rattle.frame.specs.declared.fields.Bits128.{Bits128}
-use Rattle.frame.specs.declared.fields.Fields.{Fields}
-use Rattle.frame.specs.declared.table.Form.the-variants as forms
-use Rattle.frame.specs.Bytes.{number}
-use Rattle.frame.specs.Names.{subscriber, transaction, segments, segment, lastMark, receiptCode, form}
+use Rattle.frame_table.specs.declared.fields.Bits128.{Bits128}
+use Rattle.frame_table.specs.declared.fields.Fields.{Fields}
+use Rattle.frame_table.specs.declared.table.Form.the-variants as forms
+use Rattle.octets.specs.Bytes.{number}
+use Rattle.frame_table.specs.Names.{subscriber, transaction, segments, segment, lastMark, receiptCode, form}
 use Rattle.frame.specs.Reader.{readRequest}
 use Rattle.frame.specs.Row.{dataOf}
 use Rattle.message.specs.Limits.{segmentBytes}
@@ -19,11 +19,31 @@ use Rattle.message.specs.Segments.{segmentsOf, lastMarkOf}
 use Rattle.bank_state.specs.Clock.{advanced}
 use Rattle.bank_state.specs.Limits.{idleLimit}
 use Rattle.bank_state.specs.State.{World, downloadAt}
-use Rattle.bank_step.specs.declared.downloads.DownloadVerdict.{DownloadVerdict}
-use Rattle.bank_step.specs.declared.downloads.DownloadVerdict.the-variants as down
-use Rattle.bank_step.specs.Openings.{fileLength, counted, openUpload, openDownload}
+use Rattle.bank_downloads.specs.declared.downloads.DownloadVerdict.{DownloadVerdict}
+use Rattle.bank_downloads.specs.declared.downloads.DownloadVerdict.the-variants as down
+use Rattle.bank_openings.specs.Openings.{fileLength, counted, openUpload, openDownload}
 use Rattle.bank.specs.Call.{Step, respond}
-use Rattle.bank_history.specs.History.{Took, TookLast, OpenedUpload, OpenedDownload, Delivered, Confirmed, Event, Of, Exchange, Past, BankCall, Frame, File, isAction, did, exchangeOf, after, fileAtOpening, segmentsNow}
+use Rattle.bank_history.specs.History.{
+  Took,
+  TookLast,
+  OpenedUpload,
+  OpenedDownload,
+  Delivered,
+  Confirmed,
+  Event,
+  Of,
+  Exchange,
+  Past,
+  BankCall,
+  Frame,
+  File,
+  isAction,
+  did,
+  exchangeOf,
+  after,
+  fileAtOpening,
+  segmentsNow,
+}
 use Rattle.bank_history.specs.Invariant.{Invariant, Holds}
 use Rattle.bank_history.specs.Standing.{Filled, UploadAt, DownloadAt, UploadUnlessIdle, DownloadUnlessIdle, filled, answered}
 use Rattle.bank_history.proofs.Cases.{

@@ -5,21 +5,21 @@ use mathlib.Core.Logic.{_⊎_, inl, inr}
 use mathlib.Core.Path.{_≡_, sym, subst}
 use native.Mathlib.Omega.{arith}
 use lib.ListN.{length, take, drop, replicate}
-use Rattle.frame.specs.declared.fields.Fields.{Fields}
-use Rattle.frame.specs.Bytes.{Bytes, number, overwrite}
-use Rattle.frame.specs.Names.{subscriber}
+use Rattle.frame_table.specs.declared.fields.Fields.{Fields}
+use Rattle.octets.specs.Bytes.{Bytes, number, overwrite}
+use Rattle.frame_table.specs.Names.{subscriber}
 use Rattle.frame.specs.Reader.{readRequest}
 use Rattle.frame.specs.Row.{dataOf}
-use Rattle.frame.proofs.Numbers.{bytes-take, bytes-drop}
+use Rattle.octets.proofs.Numbers.{bytes-take, bytes-drop}
 use Rattle.message.specs.Limits.{fileBytes}
 use Rattle.bank_state.specs.Clock.{advanced}
 use Rattle.bank_state.specs.Limits.{storeBytes}
 use Rattle.bank_state.specs.State.{World}
 use Rattle.bank_state.specs.Store.{partAt, withPart, zeroed, fileOf}
 use Rattle.bank_state.proofs.Drops.{advanced-at-clock}
-use Rattle.bank_step.specs.declared.downloads.DownloadVerdict.{DownloadVerdict}
-use Rattle.bank_step.specs.declared.downloads.DownloadVerdict.the-variants as down
-use Rattle.bank_step.specs.Openings.{fileLength}
+use Rattle.bank_downloads.specs.declared.downloads.DownloadVerdict.{DownloadVerdict}
+use Rattle.bank_downloads.specs.declared.downloads.DownloadVerdict.the-variants as down
+use Rattle.bank_openings.specs.Openings.{fileLength}
 use Rattle.bank.specs.Call.{Step}
 use Rattle.bank_history.specs.History.{Event, Past, BankCall, Frame, File, mailboxFile, after, start, pastOf}
 use Rattle.bank_history.specs.Invariant.{Holds}

@@ -7,9 +7,9 @@ use native.Mathlib.Decide.{decLt}
 use native.Mathlib.Omega.{arith}
 use lib.ListN.{length, getD, set}
 use lib.Seq.{set-out}
-use Rattle.frame.specs.declared.fields.Fields.{Fields}
-use Rattle.frame.specs.Names.{subscriber, transaction}
-use Rattle.frame.proofs.Tests.{never}
+use Rattle.frame_table.specs.declared.fields.Fields.{Fields}
+use Rattle.frame_table.specs.Names.{subscriber, transaction}
+use Rattle.octets.proofs.Tests.{never}
 use Rattle.bank_state.specs.declared.clock.Ended.{Ended}
 use Rattle.bank_state.specs.declared.state.Download.{Download}
 use Rattle.bank_state.specs.declared.state.Place.{Place}
@@ -17,12 +17,12 @@ use Rattle.bank_state.specs.Clock.{endDownloads}
 use Rattle.bank_state.specs.Limits.{placeCount, idleLimit}
 use Rattle.bank_state.specs.Search.{isOpen, isUpload, freePlace, freeDownload}
 use Rattle.bank_state.specs.State.{World, world, noPlace, noDownload, placeAt}
-use Rattle.bank_step.specs.declared.downloads.DownloadVerdict.{DownloadVerdict}
-use Rattle.bank_step.specs.declared.downloads.DownloadVerdict.the-variants as down
-use Rattle.bank_step.specs.declared.uploads.UploadVerdict.{UploadVerdict}
-use Rattle.bank_step.specs.declared.uploads.UploadVerdict.the-variants as up
-use Rattle.bank_step.specs.Openings.{counted, openUpload, openDownload}
-use Rattle.bank_step.specs.Uploads.{grown, attempted}
+use Rattle.bank_downloads.specs.declared.downloads.DownloadVerdict.{DownloadVerdict}
+use Rattle.bank_downloads.specs.declared.downloads.DownloadVerdict.the-variants as down
+use Rattle.bank_uploads.specs.declared.uploads.UploadVerdict.{UploadVerdict}
+use Rattle.bank_uploads.specs.declared.uploads.UploadVerdict.the-variants as up
+use Rattle.bank_openings.specs.Openings.{counted, openUpload, openDownload}
+use Rattle.bank_uploads.specs.Uploads.{grown, attempted}
 use Rattle.bank.specs.Call.{Step}
 use Rattle.bank_history.specs.History.{Event}
 use Rattle.bank_history.specs.Invariant.{NoneIdle}

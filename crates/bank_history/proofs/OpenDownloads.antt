@@ -8,10 +8,11 @@ use lib.Dec.{eqb}
 use lib.ListN.{length, getD, set}
 use lib.Seq.{getD-set-other}
 use borrow.Author.Tests.{le-ltb, eqb-true}
-use Rattle.frame.specs.declared.fields.Bits128.{Bits128}
-use Rattle.frame.specs.declared.fields.Fields.{Fields}
-use Rattle.frame.specs.Names.{subscriber, transaction, sameBits}
-use Rattle.frame.proofs.Tests.{never}
+use Rattle.frame_table.specs.declared.fields.Bits128.{Bits128}
+use Rattle.frame_table.specs.declared.fields.Fields.{Fields}
+use Rattle.frame_table.specs.Names.{subscriber, transaction, sameBits}
+use Rattle.octets.proofs.Tests.{never}
+use Rattle.frame_table.proofs.Bits.{bits-same}
 use Rattle.bank_state.specs.declared.clock.Ended.{Ended}
 use Rattle.bank_state.specs.declared.clock.Ended.the-variants as ended
 use Rattle.bank_state.specs.declared.state.Bank.{Bank}
@@ -20,9 +21,9 @@ use Rattle.bank_state.specs.Clock.{isIdle, ends, endDownloads, advanced}
 use Rattle.bank_state.specs.Limits.{placeCount, idleLimit}
 use Rattle.bank_state.specs.Search.{isDownload, freeDownload}
 use Rattle.bank_state.specs.State.{World, noDownload, downloadAt}
-use Rattle.bank_step.specs.declared.downloads.DownloadVerdict.{DownloadVerdict}
-use Rattle.bank_step.specs.declared.downloads.DownloadVerdict.the-variants as down
-use Rattle.bank_step.specs.Openings.{counted, openUpload, openDownload}
+use Rattle.bank_downloads.specs.declared.downloads.DownloadVerdict.{DownloadVerdict}
+use Rattle.bank_downloads.specs.declared.downloads.DownloadVerdict.the-variants as down
+use Rattle.bank_openings.specs.Openings.{counted, openUpload, openDownload}
 use Rattle.bank.specs.Call.{Step}
 use Rattle.bank_history.specs.History.{Confirmed, Event, Of, Exchange, downloadAction, isAction, did, segmentsNow}
 use Rattle.bank_history.specs.Invariant.{Invariant}
@@ -39,10 +40,10 @@ use Rattle.bank_history.proofs.Cases.{
   toDownload,
   downloadStepBy,
 }
-use Rattle.bank_history.proofs.Entries.{same-bits, bits-same}
+use Rattle.bank_history.proofs.Entries.{same-bits}
 use Rattle.bank_history.proofs.Clock.{advanced-clock}
 use Rattle.bank_state.proofs.Found.{download-found}
-use Rattle.bank_step.proofs.Tests.{and-true-right}
+use Rattle.octets.proofs.Tests.{and-true-right}
 
 -- the same record at another place of the row
 pub record-moved : {w w′ : World} {t : Bits128} {s d last : ℕ} → (u : DownloadAt w t s d last) (j : ℕ) → j < placeCount →

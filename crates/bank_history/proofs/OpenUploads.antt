@@ -6,20 +6,20 @@ use mathlib.Core.Path.{_≡_, refl, sym, ap, _∙_}
 use native.Mathlib.Omega.{arith}
 use lib.Seq.{getD-set-other}
 use borrow.Author.Tests.{le-ltb}
-use Rattle.frame.specs.declared.fields.Bits128.{Bits128}
-use Rattle.frame.specs.declared.fields.Fields.{Fields}
-use Rattle.frame.specs.Names.{subscriber, transaction, sameBits}
-use Rattle.frame.proofs.Tests.{never}
+use Rattle.frame_table.specs.declared.fields.Bits128.{Bits128}
+use Rattle.frame_table.specs.declared.fields.Fields.{Fields}
+use Rattle.frame_table.specs.Names.{subscriber, transaction, sameBits}
+use Rattle.octets.proofs.Tests.{never}
 use Rattle.bank_state.specs.declared.state.Place.{Place}
 use Rattle.bank_state.specs.Clock.{isIdle, advanced}
 use Rattle.bank_state.specs.Limits.{idleLimit}
 use Rattle.bank_state.specs.Search.{isFree, freePlace}
 use Rattle.bank_state.specs.State.{World, noPlace, placeAt}
 use Rattle.bank_state.proofs.Drops.{isIdlePlace, Spot, advanced-spot}
-use Rattle.bank_step.specs.declared.downloads.DownloadVerdict.{DownloadVerdict}
-use Rattle.bank_step.specs.declared.downloads.DownloadVerdict.the-variants as down
-use Rattle.bank_step.specs.Openings.{counted, openUpload, openDownload}
-use Rattle.bank_step.proofs.Tests.{and-true-right}
+use Rattle.bank_downloads.specs.declared.downloads.DownloadVerdict.{DownloadVerdict}
+use Rattle.bank_downloads.specs.declared.downloads.DownloadVerdict.the-variants as down
+use Rattle.bank_openings.specs.Openings.{counted, openUpload, openDownload}
+use Rattle.octets.proofs.Tests.{and-true-right}
 use Rattle.bank.specs.Call.{Step}
 use Rattle.bank_history.specs.History.{Event, Exchange, isAction, did}
 use Rattle.bank_history.specs.Invariant.{Sizes, Invariant}

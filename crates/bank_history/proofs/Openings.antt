@@ -7,12 +7,12 @@ use native.Mathlib.Omega.{arith}
 use lib.Dec.{eqb}
 use lib.ListN.{length, set, replicate, length-set}
 use borrow.Author.Tests.{eqb-true}
-use Rattle.frame.specs.declared.fields.Bits128.{Bits128}
-use Rattle.frame.specs.declared.fields.Fields.{Fields}
-use Rattle.frame.specs.declared.table.Form.{Form}
-use Rattle.frame.specs.declared.table.Form.the-variants as forms
-use Rattle.frame.specs.Names.{subscriber, nonce, timestamp, segments, form}
-use Rattle.frame.proofs.Tests.{never, and-true}
+use Rattle.frame_table.specs.declared.fields.Bits128.{Bits128}
+use Rattle.frame_table.specs.declared.fields.Fields.{Fields}
+use Rattle.frame_table.specs.declared.table.Form.{Form}
+use Rattle.frame_table.specs.declared.table.Form.the-variants as forms
+use Rattle.frame_table.specs.Names.{subscriber, nonce, timestamp, segments, form}
+use Rattle.octets.proofs.Tests.{never, and-true}
 use Rattle.message.specs.Limits.{fileBytes}
 use Rattle.message.specs.Segments.{segmentsOf}
 use Rattle.bank_state.specs.declared.state.Bank.{Bank}
@@ -26,7 +26,7 @@ use Rattle.bank_state.specs.Rows.{countOf}
 use Rattle.bank_state.specs.Search.{isFree, isOpen, freePlace, freeDownload, freeNonce, openCount, openCountOf}
 use Rattle.bank_state.specs.State.{World, world, noPlace, noDownload, placeAt, downloadAt}
 use Rattle.bank_state.specs.Store.{partAt}
-use Rattle.bank_step.specs.Openings.{fileLength, transactionOf, counted, openUpload, openDownload}
+use Rattle.bank_openings.specs.Openings.{fileLength, transactionOf, counted, openUpload, openDownload}
 use Rattle.bank.specs.Call.{mailboxSegment}
 use Rattle.bank_history.specs.History.{
   Action,
@@ -64,7 +64,8 @@ use Rattle.bank_history.proofs.Records.{download-unchanged, newDownload
 use Rattle.bank_history.proofs.PlaceChange.{changedAt, place-change}
 use Rattle.bank_history.proofs.DownloadChange.{download-change}
 use Rattle.bank_history.proofs.Uploads.{entry, place-number, still-booked}
-use Rattle.bank_history.proofs.Downloads.{file-long, download-open, carried-segment, some-segment}
+use Rattle.bank_history.proofs.Downloads.{file-long, download-open, carried-segment}
+use Rattle.message.proofs.SegmentNumbers.{some-segment}
 
 is-free : (u : Use) → isFree u ≡ true → u ≡ Free
 is-free Free e = refl

@@ -5,14 +5,14 @@ use mathlib.Core.List.{List}
 use mathlib.Core.Path.{_≡_, refl, sym, _∙_}
 use native.Mathlib.Omega.{arith}
 use lib.ListN.{length, getD, set, length-set}
-use Rattle.frame.specs.declared.fields.Bits128.{Bits128}
+use Rattle.frame_table.specs.declared.fields.Bits128.{Bits128}
 use Rattle.bank_state.specs.declared.state.Nonce.{Nonce}
 use Rattle.bank_state.specs.declared.state.Place.{Place}
 use Rattle.bank_state.specs.Limits.{placeCount, storeBytes, nonceCount, openMost, openPerSubscriber, openingsMost}
 use Rattle.bank_state.specs.Search.{isFree, openCount, openCountOf}
 use Rattle.bank_state.specs.State.{World, world, noPlace, placeAt, downloadAt}
 use Rattle.bank_state.specs.Store.{partAt}
-use Rattle.bank_step.specs.Openings.{fileLength}
+use Rattle.bank_openings.specs.Openings.{fileLength}
 use Rattle.bank_history.proofs.Rows.{each-set}
 use Rattle.bank_history.specs.History.{Exchange, mailboxFile, accepted, ever, isAction, isBooking}
 use Rattle.bank_history.specs.Sound.{AllSound}

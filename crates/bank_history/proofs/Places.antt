@@ -9,15 +9,15 @@ use lib.Dec.{eqb}
 use lib.ListN.{length, drop, replicate, length-append}
 use lib.Seq.{take-at, drop-append-add}
 use borrow.Author.Tests.{eqb-true, eqb-false}
-use Rattle.frame.specs.declared.fields.Bits128.{Bits128}
-use Rattle.frame.specs.Bytes.{overwrite}
-use Rattle.frame.specs.Names.{subscriber, segments}
+use Rattle.frame_table.specs.declared.fields.Bits128.{Bits128}
+use Rattle.octets.specs.Bytes.{overwrite}
+use Rattle.frame_table.specs.Names.{subscriber, segments}
 use Rattle.message.specs.Limits.{subscribers, segmentBytes, segmentsMost, fileBytes, attemptsMost}
 use Rattle.bank_state.specs.declared.state.Place.{Place}
 use Rattle.bank_state.specs.declared.state.Use.{Use}
 use Rattle.bank_state.specs.declared.state.Use.the-variants.{Free, Open, Booked}
 use Rattle.bank_state.specs.Search.{isFree}
-use Rattle.bank_step.specs.Uploads.{grown, attempted}
+use Rattle.bank_uploads.specs.Uploads.{grown, attempted}
 use Rattle.bank_history.specs.History.{
   Action,
   OpenedUpload,

@@ -6,12 +6,47 @@ use mathlib.Core.Path.{_≡_, refl, sym, ap, _∙_, subst}
 use native.Mathlib.Omega.{arith}
 use lib.ListN.{take, drop}
 use lib.Seq.{take-add}
-use Rattle.frame.specs.declared.fields.Bits128.{Bits128}
-use Rattle.frame.specs.Names.{segment, sameBits}
-use Rattle.frame.proofs.Tests.{never, and-true}
+use Rattle.frame_table.specs.declared.fields.Bits128.{Bits128}
+use Rattle.frame_table.specs.Names.{segment, sameBits}
+use Rattle.octets.proofs.Tests.{never, and-true}
+use Rattle.frame_table.proofs.Bits.{bits-same}
 use Rattle.message.specs.Limits.{segmentBytes}
 use Rattle.message.specs.Segments.{segmentOf}
-use Rattle.bank_history.specs.History.{Action, OpenedUpload, OpenedDownload, Took, TookLast, UploadPoint, DownloadPoint, Cancelled, Delivered, SentAgain, Confirmed, Declined, Event, Unreadable, Refusal, Of, Exchange, Stands, newest, older, isOpening, isTaking, isBooking, isEnding, did, ever, times, received, segmentsAt, accepted, opens, OpensNumber, ActionIn}
+use Rattle.bank_history.specs.History.{
+  Action,
+  OpenedUpload,
+  OpenedDownload,
+  Took,
+  TookLast,
+  UploadPoint,
+  DownloadPoint,
+  Cancelled,
+  Delivered,
+  SentAgain,
+  Confirmed,
+  Declined,
+  Event,
+  Unreadable,
+  Refusal,
+  Of,
+  Exchange,
+  Stands,
+  newest,
+  older,
+  isOpening,
+  isTaking,
+  isBooking,
+  isEnding,
+  did,
+  ever,
+  times,
+  received,
+  segmentsAt,
+  accepted,
+  opens,
+  OpensNumber,
+  ActionIn,
+}
 use Rattle.bank_history.specs.Sound.{
   SoundAction,
   SoundEvent,
@@ -22,8 +57,8 @@ use Rattle.bank_history.specs.Sound.{
   none,
   more,
 }
-use Rattle.bank_step.proofs.Verdicts.{by-test}
-use Rattle.bank_history.proofs.Entries.{bits-same, ever-own, did-same}
+use Rattle.message.proofs.Verdicts.{by-test}
+use Rattle.bank_history.proofs.Entries.{ever-own, did-same}
 
 pub sound-at : {e : Exchange} {g h : List Exchange} → AllSound h → Stands e g h → Sound e g
 sound-at (more s r) newest = s
@@ -132,7 +167,7 @@ one-taking t = one-place (ActionIn isTaking t) (λ (e : Exchange). segment (e .r
     (λ e g s p. taking-next (p .action) (p .kind) (subst (λ (v : Event). SoundEvent v e g) (p .is) (s .event)) .next)
     (λ e g p. let z = times-raises isTaking t e g p in omega arith) (λ e g. let z = times-grows isTaking t e g in omega arith)
 
-booking-last : (k : Action) → isBooking k ≡ true → k ≡ TookLast
+pub booking-last : (k : Action) → isBooking k ≡ true → k ≡ TookLast
 booking-last OpenedUpload o = never o
 booking-last (OpenedDownload n) o = never o
 booking-last Took o = never o

@@ -5,12 +5,12 @@ use mathlib.Core.List.{List, _∷_}
 use mathlib.Core.Path.{_≡_, refl, ap, _∙_}
 use native.Mathlib.Omega.{arith}
 use lib.ListN.{length}
-use Rattle.frame.specs.declared.fields.Bits128.{Bits128}
-use Rattle.frame.specs.Names.{subscriber}
+use Rattle.frame_table.specs.declared.fields.Bits128.{Bits128}
+use Rattle.frame_table.specs.Names.{subscriber}
 use Rattle.message.specs.Limits.{subscribers, attemptsMost}
 use Rattle.message.specs.Segments.{segmentsOf}
 use Rattle.bank_state.specs.declared.state.Download.{Download}
-use Rattle.bank_step.specs.Downloads.{movedTo}
+use Rattle.bank_downloads.specs.Downloads.{movedTo}
 use Rattle.bank_history.specs.History.{
   Action,
   OpenedDownload,

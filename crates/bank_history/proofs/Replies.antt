@@ -3,13 +3,14 @@ use Prim.Native.Nat.{ℕ}
 use mathlib.Core.Bool.{Bool, true, false}
 use mathlib.Core.Logic.{_⊎_, inl, inr}
 use mathlib.Core.Path.{_≡_, refl, ap, _∙_, subst}
-use Rattle.frame.specs.declared.fields.Bits128.{Bits128}
-use Rattle.frame.specs.declared.fields.Fields.{Fields}
-use Rattle.frame.specs.declared.table.Form.{Form}
-use Rattle.frame.specs.declared.table.Form.the-variants as forms
-use Rattle.frame.specs.Names.{exchange, transaction, returnCode, form}
-use Rattle.frame.specs.Table.{rowFits, findForm, formOf}
-use Rattle.frame.proofs.Tests.{never}
+use Rattle.frame_table.specs.declared.fields.Bits128.{Bits128}
+use Rattle.frame_table.specs.declared.fields.Fields.{Fields}
+use Rattle.frame_table.specs.declared.table.Form.{Form}
+use Rattle.frame_table.specs.declared.table.Form.the-variants as forms
+use Rattle.frame_table.specs.Names.{exchange, transaction, returnCode, form}
+use Rattle.frame_table.specs.Table.{isReplyForm, rowFits, findForm, formOf}
+use Rattle.frame.proofs.RoundTrip.{Sized}
+use Rattle.octets.proofs.Tests.{never}
 use Rattle.message.specs.declared.codes.ReturnCode.{ReturnCode}
 use Rattle.message.specs.declared.codes.ReturnCode.the-variants as code
 use Rattle.message.specs.Codes.{codeField}
@@ -85,24 +86,26 @@ eventCode (Of t k) = actionCode k
 
 -- what an action's reply says
 pub record ActionReply (k : Action) (t : Bits128) (q : Fields) (r : Fields) : Type 0 where
+  pub sized : Sized r
+  pub kind : isReplyForm (form r) ≡ true
   pub formed : form r ≡ actionForm k
   pub coded : returnCode r ≡ codeField (actionCode k)
-  pub echoed : exchange r ≡ exchange q
+  pub same-exchange : exchange r ≡ exchange q
 
 module _ (t : Bits128) (q : Fields) where
   pub action-reply : (k : Action) → ActionReply k t q (actionReply k t q)
   unfolding uploadOpened downloadOpened segmentTaken recoveryPoint downloadSegment receiptAnswered refusal formOf findForm rowFits
-  action-reply OpenedUpload = record { formed = refl; coded = refl; echoed = refl }
-  action-reply (OpenedDownload n) = record { formed = refl; coded = refl; echoed = refl }
-  action-reply Took = record { formed = refl; coded = refl; echoed = refl }
-  action-reply TookLast = record { formed = refl; coded = refl; echoed = refl }
-  action-reply (UploadPoint k) = record { formed = refl; coded = refl; echoed = refl }
-  action-reply (DownloadPoint d) = record { formed = refl; coded = refl; echoed = refl }
-  action-reply (Cancelled c) = record { formed = refl; coded = refl; echoed = refl }
-  action-reply (Delivered n) = record { formed = refl; coded = refl; echoed = refl }
-  action-reply (SentAgain n) = record { formed = refl; coded = refl; echoed = refl }
-  action-reply Confirmed = record { formed = refl; coded = refl; echoed = refl }
-  action-reply Declined = record { formed = refl; coded = refl; echoed = refl }
+  action-reply OpenedUpload = record { sized = (refl, refl); kind = refl; formed = refl; coded = refl; same-exchange = refl }
+  action-reply (OpenedDownload n) = record { sized = (refl, refl); kind = refl; formed = refl; coded = refl; same-exchange = refl }
+  action-reply Took = record { sized = (refl, refl); kind = refl; formed = refl; coded = refl; same-exchange = refl }
+  action-reply TookLast = record { sized = (refl, refl); kind = refl; formed = refl; coded = refl; same-exchange = refl }
+  action-reply (UploadPoint k) = record { sized = (refl, refl); kind = refl; formed = refl; coded = refl; same-exchange = refl }
+  action-reply (DownloadPoint d) = record { sized = (refl, refl); kind = refl; formed = refl; coded = refl; same-exchange = refl }
+  action-reply (Cancelled c) = record { sized = (refl, refl); kind = refl; formed = refl; coded = refl; same-exchange = refl }
+  action-reply (Delivered n) = record { sized = (refl, refl); kind = refl; formed = refl; coded = refl; same-exchange = refl }
+  action-reply (SentAgain n) = record { sized = (refl, refl); kind = refl; formed = refl; coded = refl; same-exchange = refl }
+  action-reply Confirmed = record { sized = (refl, refl); kind = refl; formed = refl; coded = refl; same-exchange = refl }
+  action-reply Declined = record { sized = (refl, refl); kind = refl; formed = refl; coded = refl; same-exchange = refl }
 
   -- every reply of an action but a cancellation carries the transaction ID
   pub action-transaction : (k : Action) → (actionForm k ≡ forms.Refusal → ⊥) → transaction (actionReply k t q) ≡ t
@@ -118,6 +121,13 @@ module _ (t : Bits128) (q : Fields) where
   action-transaction (SentAgain m) n = refl
   action-transaction Confirmed n = refl
   action-transaction Declined n = refl
+
+-- every reply is of a reply form
+pub reply-form : (v : Event) (q : Fields) → Sized (replyTo v q) × (isReplyForm (form (replyTo v q)) ≡ true)
+unfolding unreadable refusal formOf findForm rowFits
+reply-form Unreadable q = ((refl, refl), refl)
+reply-form (Refusal c) q = ((refl, refl), refl)
+reply-form (Of t k) q = let r = action-reply t q k in (r .sized, r .kind)
 
 pub event-form : (v : Event) (q : Fields) → form (replyTo v q) ≡ eventForm v
 unfolding unreadable refusal formOf findForm rowFits
@@ -136,7 +146,7 @@ pub event-exchange : (v : Event) (q : Fields) → (eventForm v ≡ forms.Unreada
 unfolding refusal
 event-exchange Unreadable q n = absurd (n refl)
 event-exchange (Refusal c) q n = refl
-event-exchange (Of t k) q n = action-reply t q k .echoed
+event-exchange (Of t k) q n = action-reply t q k .same-exchange
 
 -- ---- the event back from the reply's form
 

@@ -8,22 +8,23 @@ use native.Mathlib.Omega.{arith}
 use lib.Arith.{digits-div}
 use lib.Dec.{leb, eqb}
 use lib.ListN.{length, getD}
-use Rattle.frame.specs.declared.fields.Fields.{Fields}
-use Rattle.frame.specs.declared.table.Form.{Form}
-use Rattle.frame.specs.declared.table.Form.the-variants as forms
-use Rattle.frame.specs.Bytes.{Bytes, number}
-use Rattle.frame.specs.Names.{phase, exchange, transaction, form}
-use Rattle.frame.specs.Reader.{noFields, fieldsOf, parse, readRequest}
+use Rattle.frame_table.specs.declared.fields.Fields.{Fields}
+use Rattle.frame_table.specs.declared.table.Form.{Form}
+use Rattle.frame_table.specs.declared.table.Form.the-variants as forms
+use Rattle.octets.specs.Bytes.{Bytes, number}
+use Rattle.frame_table.specs.Names.{phase, exchange, transaction, form}
+use Rattle.frame.specs.Reader.{fieldsOf, parse, readRequest}
+use Rattle.frame_table.specs.Names.{noFields}
 use Rattle.frame.specs.Row.{contents, behind, lowOf, eachFrom}
-use Rattle.frame.specs.Table.{tagCount, frameLimit, exchangeTag, transactionTag, dataTag, width, has, isRequestForm}
-use Rattle.frame.proofs.Tests.{never}
-use Rattle.frame.proofs.Forms.{tagsOf, phaseOf, form-tags, request-phase, request-form}
+use Rattle.frame_table.specs.Table.{tagCount, frameLimit, exchangeTag, transactionTag, dataTag, width, has, isRequestForm}
+use Rattle.octets.proofs.Tests.{never}
+use Rattle.frame_table.proofs.Forms.{tagsOf, phaseOf, form-tags, request-phase, request-form}
 use Rattle.frame.proofs.Build.{numberOf, read-value}
 use Rattle.frame.proofs.Theorems.{request-parsed}
 use Rattle.message.proofs.Writable.{Wide}
-use Rattle.bank_step.specs.declared.downloads.DownloadRequest.{DownloadRequest}
+use Rattle.bank_downloads.specs.declared.downloads.DownloadRequest.{DownloadRequest}
 use Rattle.bank_history.proofs.Rows.{getD-free}
-use Rattle.bank_step.proofs.Verdicts.{by-test}
+use Rattle.message.proofs.Verdicts.{by-test}
 use Rattle.bank_history.proofs.Cases.{AskedBy, uploadTransfer, downloadTransfer, receipt}
 
 -- what a reply takes over from a readable request

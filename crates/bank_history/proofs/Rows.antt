@@ -7,7 +7,7 @@ use native.Mathlib.Decide.{ℕ-discrete}
 use native.Mathlib.Omega.{arith}
 use lib.ListN.{length, getD, set, replicate}
 use lib.Seq.{getD-set-same, getD-set-other}
-use Rattle.frame.proofs.Tests.{never}
+use Rattle.octets.proofs.Tests.{never}
 use Rattle.bank_state.specs.Rows.{firstOf, countOf, keep, keepOnly}
 use Rattle.bank_history.specs.Packed.{AllFree, none, more, Packed, rest, one}
 

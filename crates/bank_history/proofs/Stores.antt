@@ -6,8 +6,8 @@ use native.Mathlib.Decide.{decLt}
 use native.Mathlib.Omega.{arith}
 use lib.ListN.{length, take, drop, length-take, length-drop}
 use lib.Seq.{drop-at, drop-drop, take-add, length-take-le}
-use Rattle.frame.specs.Bytes.{overwrite}
-use Rattle.frame.proofs.Numbers.{length-overwrite}
+use Rattle.octets.specs.Bytes.{overwrite}
+use Rattle.octets.proofs.Numbers.{length-overwrite}
 use Rattle.message.specs.Limits.{fileBytes}
 use Rattle.bank_state.specs.Limits.{placeCount, storeBytes}
 use Rattle.bank_state.specs.Store.{partAt}

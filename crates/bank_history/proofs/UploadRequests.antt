@@ -8,13 +8,14 @@ use lib.Dec.{ltb, eqb}
 use lib.ListN.{length}
 use lib.Seq.{getD-set-same}
 use borrow.Author.Tests.{eqb-true, eq-eqb, ne-eqb, lt-ltb, le-ltb}
-use Rattle.frame.specs.declared.fields.Bits128.{Bits128}
-use Rattle.frame.specs.declared.fields.Fields.{Fields}
-use Rattle.frame.specs.declared.table.Form.{Form}
-use Rattle.frame.specs.declared.table.Form.the-variants as forms
-use Rattle.frame.specs.Names.{subscriber, transaction, segments, segment, lastMark, form, sameBits}
-use Rattle.frame.specs.Table.{isRequestForm}
-use Rattle.frame.proofs.Tests.{never}
+use Rattle.frame_table.specs.declared.fields.Bits128.{Bits128}
+use Rattle.frame_table.specs.declared.fields.Fields.{Fields}
+use Rattle.frame_table.specs.declared.table.Form.{Form}
+use Rattle.frame_table.specs.declared.table.Form.the-variants as forms
+use Rattle.frame_table.specs.Names.{subscriber, transaction, segments, segment, lastMark, form, sameBits}
+use Rattle.frame_table.specs.Table.{isRequestForm}
+use Rattle.octets.proofs.Tests.{never}
+use Rattle.frame_table.proofs.Bits.{bits-same}
 use Rattle.message.specs.Limits.{subscribers, segmentBytes, fileBytes}
 use Rattle.message.specs.Segments.{lastMarkOf}
 use Rattle.message.specs.Verdicts.{decide}
@@ -26,13 +27,13 @@ use Rattle.bank_state.specs.Limits.{placeCount}
 use Rattle.bank_state.specs.Search.{isFree, isOpen, isUpload, findUpload, freePlace}
 use Rattle.bank_state.specs.State.{World, noPlace, placeAt, downloadAt}
 use Rattle.bank_state.specs.Store.{partAt}
-use Rattle.bank_step.specs.declared.downloads.DownloadRequest.the-variants as asks
-use Rattle.bank_step.specs.declared.downloads.DownloadVerdict.{DownloadVerdict}
-use Rattle.bank_step.specs.declared.downloads.DownloadVerdict.the-variants as down
-use Rattle.bank_step.specs.declared.uploads.UploadVerdict.{UploadVerdict}
-use Rattle.bank_step.specs.declared.uploads.UploadVerdict.the-variants as up
-use Rattle.bank_step.specs.Openings.{counted, openUpload}
-use Rattle.bank_step.specs.Uploads.{fitsUpload, segmentRefusals, uploadRefusals, judgeUpload, uploadStep, grown}
+use Rattle.bank_downloads.specs.declared.downloads.DownloadRequest.the-variants as asks
+use Rattle.bank_downloads.specs.declared.downloads.DownloadVerdict.{DownloadVerdict}
+use Rattle.bank_downloads.specs.declared.downloads.DownloadVerdict.the-variants as down
+use Rattle.bank_uploads.specs.declared.uploads.UploadVerdict.{UploadVerdict}
+use Rattle.bank_uploads.specs.declared.uploads.UploadVerdict.the-variants as up
+use Rattle.bank_openings.specs.Openings.{counted, openUpload}
+use Rattle.bank_uploads.specs.Uploads.{fitsUpload, segmentRefusals, uploadRefusals, judgeUpload, uploadStep, grown}
 use Rattle.bank.specs.declared.call.RequestVerdict.{RequestVerdict}
 use Rattle.bank.specs.declared.call.RequestVerdict.the-variants as request
 use Rattle.bank.specs.Call.{Step, unread, requestRefusals, uploadStepAt, transactionStep, byForm, byVerdict, respond}
@@ -68,7 +69,7 @@ use Rattle.bank_history.proofs.Cases.{
   Admitted,
   uploadStepBy,
 }
-use Rattle.bank_history.proofs.Entries.{and-no, same-bits, bits-same}
+use Rattle.bank_history.proofs.Entries.{and-no, same-bits}
 use Rattle.bank_state.proofs.Found.{upload-found}
 use Rattle.bank_history.proofs.Uploads.{place-number}
 

@@ -8,13 +8,14 @@ use lib.Dec.{eqb}
 use lib.ListN.{length, getD, set, replicate, length-replicate}
 use lib.Seq.{getD-set-same, getD-set-other}
 use borrow.Author.Tests.{eqb-true, eqb-false}
-use Rattle.frame.specs.declared.fields.Bits128.{Bits128}
-use Rattle.frame.specs.declared.fields.Fields.{Fields}
-use Rattle.frame.specs.declared.table.Form.the-variants as forms
-use Rattle.frame.specs.Bytes.{overwrite}
-use Rattle.frame.specs.Names.{subscriber, transaction, segment, lastMark, form}
-use Rattle.frame.proofs.Numbers.{length-overwrite}
-use Rattle.frame.proofs.Tests.{never, and-true}
+use Rattle.frame_table.specs.declared.fields.Bits128.{Bits128}
+use Rattle.frame_table.specs.declared.fields.Fields.{Fields}
+use Rattle.frame_table.specs.declared.table.Form.the-variants as forms
+use Rattle.octets.specs.Bytes.{overwrite}
+use Rattle.frame_table.specs.Names.{subscriber, transaction, segment, lastMark, form}
+use Rattle.octets.proofs.Numbers.{length-overwrite}
+use Rattle.octets.proofs.Tests.{never, and-true}
+use Rattle.frame_table.proofs.Bits.{bits-same}
 use Rattle.message.specs.declared.codes.ReturnCode.{ReturnCode}
 use Rattle.message.specs.declared.codes.ReturnCode.the-variants as code
 use Rattle.message.specs.Limits.{fileBytes, attemptsMost}
@@ -25,10 +26,10 @@ use Rattle.bank_state.specs.Limits.{placeCount}
 use Rattle.bank_state.specs.Search.{isFree, isOpen, isUpload, openCount, openCountOf}
 use Rattle.bank_state.specs.State.{World, world, noPlace, placeAt, downloadAt}
 use Rattle.bank_state.specs.Store.{partAt, withPart}
-use Rattle.bank_step.specs.declared.downloads.DownloadRequest.{DownloadRequest}
-use Rattle.bank_step.specs.declared.uploads.UploadVerdict.{UploadVerdict}
-use Rattle.bank_step.specs.declared.uploads.UploadVerdict.the-variants as up
-use Rattle.bank_step.specs.Uploads.{grown, attempted}
+use Rattle.bank_downloads.specs.declared.downloads.DownloadRequest.{DownloadRequest}
+use Rattle.bank_uploads.specs.declared.uploads.UploadVerdict.{UploadVerdict}
+use Rattle.bank_uploads.specs.declared.uploads.UploadVerdict.the-variants as up
+use Rattle.bank_uploads.specs.Uploads.{grown, attempted}
 use Rattle.bank.specs.Call.{Step}
 use Rattle.bank_history.specs.History.{
   Action,
@@ -63,10 +64,10 @@ use Rattle.bank_state.proofs.Found.{upload-found}
 use Rattle.bank_state.proofs.Stores.{length-withPart, part-same, part-other}
 use Rattle.bank_history.proofs.Stores.{length-part}
 use Rattle.bank_history.proofs.Rows.{count-set-le}
-use Rattle.bank_step.proofs.Safety.{freed-zero}
-use Rattle.bank_step.proofs.UploadVerdicts.{UploadSound, take, point, abort, underrun, exceeded, overfull}
+use Rattle.bank_uploads.proofs.Safety.{freed-zero}
+use Rattle.bank_uploads.proofs.UploadVerdicts.{UploadSound, take, point, abort, underrun, exceeded, overfull}
 use Rattle.bank_history.proofs.Cases.{AskedBy, uploadTransfer, downloadTransfer, receipt, Admitted, uploadStepBy}
-use Rattle.bank_history.proofs.Entries.{bits-same, did-other, known-more, booked-more, booked-last, accepted-own}
+use Rattle.bank_history.proofs.Entries.{did-other, known-more, booked-more, booked-last, accepted-own}
 use Rattle.bank_history.proofs.Memory.{memory-unchanged}
 use Rattle.bank_history.proofs.Places.{place-unchanged, place-attempted, place-grown}
 use Rattle.bank_history.proofs.Records.{download-unchanged}

@@ -4,20 +4,23 @@ use mathlib.Core.Bool.{Bool, true, false, cond}
 use mathlib.Core.List.{List, []}
 use mathlib.Core.Path.{_≡_, refl, sym, ap, _∙_, subst}
 use native.Mathlib.Omega.{arith}
-use lib.Dec.{ltb, eqb}
+use lib.Dec.{eqb}
 use lib.ListN.{length, take, drop, length-take, length-drop}
-use Rattle.frame.specs.declared.fields.Fields.{Fields}
-use Rattle.frame.specs.declared.table.Form.{Form}
-use Rattle.frame.specs.Names.{phase, subscriber, exchange, transaction, segment}
-use Rattle.frame.specs.Table.{isReplyForm}
+use Rattle.frame_table.specs.declared.fields.Fields.{Fields}
+use Rattle.frame_table.specs.declared.table.Form.{Form}
+use Rattle.frame_table.specs.Names.{phase, subscriber, exchange, transaction, segment}
+use Rattle.frame_table.specs.Table.{isReplyForm}
 use Rattle.frame.specs.Writer.{replyRoom}
-use Rattle.frame.specs.Bytes.{Bytes}
-use Rattle.frame.proofs.Numbers.{bytes-take, bytes-drop}
+use Rattle.octets.specs.Bytes.{Bytes}
+use Rattle.octets.proofs.Numbers.{bytes-take, bytes-drop}
+use Rattle.frame_table.proofs.Bits.{bits-same}
 use Rattle.message.specs.declared.codes.ReturnCode.{ReturnCode}
 use Rattle.message.specs.declared.codes.ReturnCode.the-variants as code
 use Rattle.message.specs.Limits.{segmentBytes, segmentsMost}
 use Rattle.message.specs.Replies.{receiptAnswered, refusal}
 use Rattle.message.specs.Segments.{segmentsOf, segmentOf, lastMarkOf}
+use Rattle.message.proofs.SegmentNumbers.{some-segment, mark-most}
+use Rattle.bank_openings.proofs.OrderNumbers.{letter-lt, character-lt}
 use Rattle.message.proofs.Writable.{
   WrittenAs,
   Wide,
@@ -38,20 +41,19 @@ use Rattle.bank_state.specs.Limits.{placeCount}
 use Rattle.bank_state.specs.Search.{isUpload, isDownload}
 use Rattle.bank_state.specs.State.{World, placeAt, downloadAt}
 use Rattle.bank_state.specs.Store.{partAt, fileOf}
-use Rattle.bank_step.specs.declared.downloads.DownloadRequest.{DownloadRequest}
-use Rattle.bank_step.specs.declared.downloads.DownloadVerdict.{DownloadVerdict}
-use Rattle.bank_step.specs.declared.uploads.UploadVerdict.{UploadVerdict}
-use Rattle.bank_step.specs.Downloads.{downloadPointPhase, segmentReply}
-use Rattle.bank_step.specs.Openings.{fileLength, transactionOf, openUpload, openDownload}
-use Rattle.bank_step.specs.OrderNumbers.{character, letter, orderNumberOf}
-use Rattle.bank_step.specs.Uploads.{uploadPointPhase}
+use Rattle.bank_downloads.specs.declared.downloads.DownloadRequest.{DownloadRequest}
+use Rattle.bank_downloads.specs.declared.downloads.DownloadVerdict.{DownloadVerdict}
+use Rattle.bank_uploads.specs.declared.uploads.UploadVerdict.{UploadVerdict}
+use Rattle.bank_downloads.specs.Downloads.{downloadPointPhase, segmentReply}
+use Rattle.bank_openings.specs.Openings.{fileLength, transactionOf, openUpload, openDownload}
+use Rattle.bank_openings.specs.OrderNumbers.{character, letter, orderNumberOf}
+use Rattle.bank_uploads.specs.Uploads.{uploadPointPhase}
 use Rattle.bank.specs.Call.{Step, mailboxSegment}
 use Rattle.bank_history.specs.History.{Event, Exchange, mailboxFile, segmentsNow}
 use Rattle.bank_history.specs.Invariant.{OpenUpload, PlaceHolds, Invariant}
 use Rattle.bank_history.specs.Answers.{smallestReply}
-use Rattle.bank_step.proofs.Verdicts.{by-test}
-use Rattle.bank_step.proofs.UploadVerdicts.{UploadSound}
-use Rattle.bank_step.proofs.UploadVerdicts as upload
+use Rattle.bank_uploads.proofs.UploadVerdicts.{UploadSound}
+use Rattle.bank_uploads.proofs.UploadVerdicts as upload
 use Rattle.bank_history.proofs.Judged.{Acceptable, DownloadSound}
 use Rattle.bank_history.proofs.Judged as judged
 use Rattle.bank_history.proofs.Cases.{
@@ -67,9 +69,8 @@ use Rattle.bank_history.proofs.Cases.{
   downloadStepBy,
 }
 use Rattle.bank_history.proofs.Cases as cases
-use Rattle.bank_history.proofs.Entries.{bits-same}
 use Rattle.bank_state.proofs.Found.{upload-found, download-found}
-use Rattle.bank_history.proofs.Downloads.{download-open, file-long, carried-segment, some-segment}
+use Rattle.bank_history.proofs.Downloads.{download-open, file-long, carried-segment}
 use Rattle.bank_history.proofs.Answered.{segment-length}
 use Rattle.bank_history.proofs.RequestBounds.{InWidth}
 use Rattle.bank_history.proofs.MailboxBytes.{file-bytes}
@@ -89,14 +90,6 @@ sent {x = x} {n = n} k l m w = record { named = x; size = n; written = w; kind =
 
 -- ---- the numbers that the bank writes
 
-character-lt : (d : ℕ) → d < 36 → character d < 256
-unfolding character
-character-lt d h = by-test (λ (n : ℕ). n < 256) (ltb d 10) (λ _. omega arith) (λ _. omega arith)
-
-letter-lt : (d : ℕ) → letter d < 256
-unfolding letter
-letter-lt d = omega arith
-
 order-number-lt : (n : ℕ) → orderNumberOf n < 2 ^ 32
 unfolding orderNumberOf
 order-number-lt n =
@@ -108,9 +101,6 @@ order-number-lt n =
 
 not-zero : (n : ℕ) → (n ≡ 0 → ⊥) → 1 ≤ n
 not-zero n h = omega arith
-
-mark-most : (s n : ℕ) → lastMarkOf s n ≤ 1
-mark-most s n = by-test (λ (m : ℕ). m ≤ 1) (eqb s n) (λ _. omega arith) (λ _. omega arith)
 
 -- a recovery point's phase is 1 or 2
 phase-range : (b : Bool) → (1 ≤ cond b 1 2) × (cond b 1 2 ≤ 3)

@@ -6,7 +6,7 @@ use lib.ListN.{take, drop}
 use Rattle.frame.specs.Reader.{readReply}
 use Rattle.frame.specs.Row.{dataOf}
 use Rattle.frame.specs.Writer.{replyRoom}
-use Rattle.frame.specs.Bytes.{Bytes}
+use Rattle.octets.specs.Bytes.{Bytes}
 use Rattle.bank.specs.declared.call.FrameAnswer.the-variants.{Reply}
 use Rattle.bank.specs.Call.{FrameCall}
 use Rattle.bank_history.specs.History.{Exchange, BankCall, Frame, File}

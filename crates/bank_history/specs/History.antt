@@ -5,12 +5,12 @@ use mathlib.Core.List.{List, [], _∷_, _++_}
 use mathlib.Core.Path.{_≡_}
 use lib.Dec.{ltb, leb, eqb}
 use lib.ListN.{length, replicate}
-use Rattle.frame.specs.declared.fields.Bits128.{Bits128}
-use Rattle.frame.specs.declared.fields.Fields.{Fields}
-use Rattle.frame.specs.declared.table.Form.{Form}
-use Rattle.frame.specs.declared.table.Form.the-variants as forms
-use Rattle.frame.specs.Bytes.{number}
-use Rattle.frame.specs.Names.{
+use Rattle.frame_table.specs.declared.fields.Bits128.{Bits128}
+use Rattle.frame_table.specs.declared.fields.Fields.{Fields}
+use Rattle.frame_table.specs.declared.table.Form.{Form}
+use Rattle.frame_table.specs.declared.table.Form.the-variants as forms
+use Rattle.octets.specs.Bytes.{number}
+use Rattle.frame_table.specs.Names.{
   phase,
   subscriber,
   exchange,
@@ -24,7 +24,7 @@ use Rattle.frame.specs.Names.{
 }
 use Rattle.frame.specs.Reader.{readRequest}
 use Rattle.frame.specs.Row.{dataOf}
-use Rattle.frame.specs.Table.{isRequestForm}
+use Rattle.frame_table.specs.Table.{isRequestForm}
 use Rattle.message.specs.declared.codes.ReturnCode.{ReturnCode}
 use Rattle.message.specs.declared.codes.ReturnCode.the-variants as code
 use Rattle.message.specs.Replies.{
@@ -49,20 +49,20 @@ use Rattle.bank_state.specs.Rows.{keep}
 use Rattle.bank_state.specs.Search.{findUpload, findDownload}
 use Rattle.bank_state.specs.State.{World, world, fresh, placeAt, downloadAt}
 use Rattle.bank_state.specs.Store.{fileOf}
-use Rattle.bank_step.specs.declared.downloads.DownloadRequest.{DownloadRequest}
-use Rattle.bank_step.specs.declared.downloads.DownloadRequest.the-variants as asked
-use Rattle.bank_step.specs.declared.downloads.DownloadVerdict.{DownloadVerdict}
-use Rattle.bank_step.specs.declared.downloads.DownloadVerdict.the-variants as down
-use Rattle.bank_step.specs.declared.openings.Direction.{Direction}
-use Rattle.bank_step.specs.declared.openings.Direction.the-variants as way
-use Rattle.bank_step.specs.declared.openings.OpeningVerdict.{OpeningVerdict}
-use Rattle.bank_step.specs.declared.openings.OpeningVerdict.the-variants as opening
-use Rattle.bank_step.specs.declared.uploads.UploadVerdict.{UploadVerdict}
-use Rattle.bank_step.specs.declared.uploads.UploadVerdict.the-variants as up
-use Rattle.bank_step.specs.Downloads.{judgeDownload, downloadPointPhase}
-use Rattle.bank_step.specs.Openings.{fileLength, judgeOpening, transactionOf}
-use Rattle.bank_step.specs.OrderNumbers.{orderNumberOf}
-use Rattle.bank_step.specs.Uploads.{judgeUpload, uploadPointPhase}
+use Rattle.bank_downloads.specs.declared.downloads.DownloadRequest.{DownloadRequest}
+use Rattle.bank_downloads.specs.declared.downloads.DownloadRequest.the-variants as asked
+use Rattle.bank_downloads.specs.declared.downloads.DownloadVerdict.{DownloadVerdict}
+use Rattle.bank_downloads.specs.declared.downloads.DownloadVerdict.the-variants as down
+use Rattle.bank_openings.specs.declared.openings.Direction.{Direction}
+use Rattle.bank_openings.specs.declared.openings.Direction.the-variants as way
+use Rattle.bank_openings.specs.declared.openings.OpeningVerdict.{OpeningVerdict}
+use Rattle.bank_openings.specs.declared.openings.OpeningVerdict.the-variants as opening
+use Rattle.bank_uploads.specs.declared.uploads.UploadVerdict.{UploadVerdict}
+use Rattle.bank_uploads.specs.declared.uploads.UploadVerdict.the-variants as up
+use Rattle.bank_downloads.specs.Downloads.{judgeDownload, downloadPointPhase}
+use Rattle.bank_openings.specs.Openings.{fileLength, judgeOpening, transactionOf}
+use Rattle.bank_openings.specs.OrderNumbers.{orderNumberOf}
+use Rattle.bank_uploads.specs.Uploads.{judgeUpload, uploadPointPhase}
 use Rattle.bank.specs.declared.call.FrameAnswer.{FrameAnswer}
 use Rattle.bank.specs.declared.call.FrameAnswer.the-variants.{Reply, WrongLength}
 use Rattle.bank.specs.declared.call.RequestVerdict.{RequestVerdict}
@@ -113,7 +113,8 @@ downloadAction down.Skipped e n = Declined
 abbrev pub openingEvent : OpeningVerdict → Direction → ℕ → Bank → Fields → Event
 openingEvent (opening.Refuse c) d lent b q = Refusal c
 openingEvent opening.Accept way.Upload lent b q = Of (transactionOf lent b) OpenedUpload
-openingEvent opening.Accept way.Download lent b q = Of (transactionOf lent b) (OpenedDownload (segmentsOf (fileLength (subscriber q) (b .files))))
+openingEvent opening.Accept way.Download lent b q =
+    Of (transactionOf lent b) (OpenedDownload (segmentsOf (fileLength (subscriber q) (b .files))))
 
 -- the number of segments of the request's mailbox
 abbrev pub segmentsNow : World → Fields → ℕ

@@ -4,7 +4,7 @@ use mathlib.Core.Bool.{Bool, true, false}
 use mathlib.Core.List.{List, _++_}
 use mathlib.Core.Path.{_≡_}
 use lib.ListN.{length, getD, take, replicate}
-use Rattle.frame.specs.declared.fields.Bits128.{Bits128}
+use Rattle.frame_table.specs.declared.fields.Bits128.{Bits128}
 use Rattle.message.specs.Limits.{subscribers, segmentBytes, segmentsMost, fileBytes, attemptsMost}
 use Rattle.message.specs.Segments.{segmentsOf}
 use Rattle.bank_state.specs.declared.state.Download.{Download}

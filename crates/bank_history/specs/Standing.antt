@@ -4,9 +4,9 @@ use mathlib.Core.Bool.{true, false}
 use mathlib.Core.List.{List, [], _∷_, _++_}
 use mathlib.Core.Path.{_≡_}
 use lib.ListN.{length, set, replicate}
-use Rattle.frame.specs.declared.fields.Bits128.{Bits128}
-use Rattle.frame.specs.Bytes.{number, overwrite}
-use Rattle.frame.specs.Names
+use Rattle.frame_table.specs.declared.fields.Bits128.{Bits128}
+use Rattle.octets.specs.Bytes.{number, overwrite}
+use Rattle.frame_table.specs.Names
 use Rattle.frame.specs.Reader.{readRequest}
 use Rattle.frame.specs.Row.{dataOf}
 use Rattle.message.specs.Limits.{fileBytes}

@@ -5,7 +5,7 @@ use mathlib.Core.List.{List, [], _∷_, _++_}
 use mathlib.Core.Path.{_≡_, refl, sym, ap, _∙_}
 use native.Mathlib.Omega.{arith}
 use lib.ListN.{length, getD, replicate, length-append, length-replicate, List·getD-append}
-use Rattle.frame.proofs.Tests.{never}
+use Rattle.octets.proofs.Tests.{never}
 use Rattle.bank_state.specs.Rows.{firstOf, countOf, keep, keepOnly}
 
 -- ---- the first that passes

@@ -35,8 +35,8 @@ use lib.Seq.{
 }
 use borrow.Rule.Slice.PartMut.{putMid, midOf, mid-len, post-is}
 use borrow.Author.Tests.{ltb-true, ltb-false}
-use Rattle.frame.specs.Bytes.{overwrite}
-use Rattle.frame.proofs.Numbers.{length-overwrite}
+use Rattle.octets.specs.Bytes.{overwrite}
+use Rattle.octets.proofs.Numbers.{length-overwrite}
 use Rattle.message.specs.Limits.{fileBytes}
 use Rattle.bank_state.specs.Limits.{placeCount, storeBytes}
 use Rattle.bank_state.specs.Store.{partAt, withPart, zeroed}

@@ -2,8 +2,8 @@
 use Prim.Native.Nat.{ℕ, _+_}
 use mathlib.Core.Bool.{Bool, true, false, not, _&&_}
 use lib.Dec.{ltb, eqb}
-use Rattle.frame.specs.declared.fields.Bits128.{Bits128}
-use Rattle.frame.specs.Names.{sameBits}
+use Rattle.frame_table.specs.declared.fields.Bits128.{Bits128}
+use Rattle.frame_table.specs.Names.{sameBits}
 use Rattle.bank_state.specs.declared.state.Use.{Use}
 use Rattle.bank_state.specs.declared.state.Use.the-variants.{Free, Open, Booked}
 use Rattle.bank_state.specs.declared.state.Place.{Place}
@@ -28,6 +28,11 @@ abbrev pub isOpen : Use → Bool
 isOpen Free = false
 isOpen Open = true
 isOpen Booked = false
+
+abbrev pub isBooked : Use → Bool
+isBooked Free = false
+isBooked Open = false
+isBooked Booked = true
 
 -- "An upload takes the first place not in use"
 unfoldable pub freePlace : Bank → ℕ

@@ -2,7 +2,7 @@
 use Prim.Native.Nat.{ℕ, _*_}
 use mathlib.Core.List.{List}
 use lib.ListN.{take, drop, replicate}
-use Rattle.frame.specs.Bytes.{overwrite}
+use Rattle.octets.specs.Bytes.{overwrite}
 use Rattle.message.specs.Limits.{fileBytes}
 
 -- the bytes of place or mailbox i of a store

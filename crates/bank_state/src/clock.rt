@@ -13,7 +13,7 @@ use crate::state::no_download;
 use crate::state::no_nonce;
 use crate::state::no_place;
 use crate::store::zero;
-use frame::fields::Bits128;
+use frame_table::fields::Bits128;
 ghost use mathlib.Core.Path.{_≡_};
 ghost use mathlib.Core.Bool.{not, _&&_};
 ghost use mathlib.Core.List.{List};

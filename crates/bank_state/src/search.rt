@@ -6,15 +6,16 @@ use crate::state::Download;
 use crate::state::Nonce;
 use crate::state::Place;
 use crate::state::Use;
-use frame::fields::Bits128;
-use frame::fields::same;
+use frame_table::fields::Bits128;
+use frame_table::fields::same;
 ghost use mathlib.Core.Path.{_≡_};
 ghost use mathlib.Core.Bool.{_&&_};
 ghost use Prim.Native.Nat.{_+_};
 ghost use lib.Dec.{eqb};
-ghost use Rattle.frame.specs.Names.{sameBits};
+ghost use Rattle.frame_table.specs.Names.{sameBits};
 ghost use Rattle.bank_state.specs.Rows.{firstOf, countOf};
-ghost use Rattle.bank_state.specs.Search.{isFree, isOpen, isUpload, isDownload, placePasses, downloadPasses, noncePasses};
+ghost use Rattle.bank_state.specs.Search.{isFree, isOpen, isBooked};
+ghost use Rattle.bank_state.specs.Search.{isUpload, isDownload, placePasses, downloadPasses, noncePasses};
 ghost use Rattle.bank_state.specs.Search.{freePlace, freeDownload, freeNonce, findUpload, findDownload};
 ghost use Rattle.bank_state.specs.Search.{openCount, openCountOf, isRemembered};
 
@@ -25,6 +26,16 @@ pub fn is_free(used: Use) -> bool
         Use::Free => true,
         Use::Open => false,
         Use::Booked => false,
+    }
+}
+
+pub fn is_booked(used: Use) -> bool
+    ensures { λ r. ⌜ r ≡ isBooked used ⌝ }
+{
+    match used {
+        Use::Free => false,
+        Use::Open => false,
+        Use::Booked => true,
     }
 }
 

@@ -1,7 +1,7 @@
 // The bank's state: order places, open downloads, remembered nonces, and the lengths of the files in the mailboxes.
 use crate::limits::NONCES;
 use crate::limits::PLACES;
-use frame::fields::Bits128;
+use frame_table::fields::Bits128;
 ghost use mathlib.Core.Path.{_≡_};
 ghost use Rattle.bank_state.specs.State.{noPlace, noDownload, noNonce, fresh};
 

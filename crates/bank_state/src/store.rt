@@ -1,12 +1,12 @@
 // The lent stores: the bytes of an order place, and the file of a mailbox.
-use frame::bytes::behind_pieces;
-use frame::bytes::copy;
-use frame::bytes::front;
 use message::limits::FILE_BYTES;
+use octets::bytes::behind_pieces;
+use octets::bytes::copy;
+use octets::bytes::front;
 ghost use mathlib.Core.Path.{_≡_};
 ghost use Prim.Native.Nat.{_+_, _<_, _≤_};
 ghost use lib.ListN.{length, replicate};
-ghost use Rattle.frame.specs.Bytes.{overwrite};
+ghost use Rattle.octets.specs.Bytes.{overwrite};
 ghost use Rattle.bank_state.specs.Limits.{placeCount, storeBytes};
 ghost use Rattle.bank_state.specs.Store.{partAt, zeroed, fileOf};
 

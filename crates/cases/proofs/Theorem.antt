@@ -1,8 +1,8 @@
 -- Every row of the table of cases holds, by computation. Assumes nothing.
 use mathlib.Core.Path.{refl}
-use Rattle.frame.specs.Bytes.{numberFrom, number, bytesOf, fieldBytes, overwrite}
+use Rattle.octets.specs.Bytes.{numberFrom, number, bytesOf, fieldBytes, overwrite}
 use Rattle.frame.specs.Row.{piece, join}
-use Rattle.frame.specs.Table.{width, rowFits, findForm, formOf}
+use Rattle.frame_table.specs.Table.{width, rowFits, findForm, formOf}
 use Rattle.frame.specs.Writer.{contentOf, contentsOf, frameOf}
 use Rattle.message.specs.Replies.{
   uploadOpened,
@@ -31,8 +31,8 @@ use Rattle.bank_state.specs.Search.{
 }
 use Rattle.bank_state.specs.State.{fresh}
 use Rattle.bank_state.specs.Store.{partAt, withPart, fileOf}
-use Rattle.bank_step.specs.Downloads.{receiptAnswers, downloadRefusals, judgeDownload, downloadStep}
-use Rattle.bank_step.specs.Openings.{
+use Rattle.bank_downloads.specs.Downloads.{receiptAnswers, downloadRefusals, judgeDownload, downloadStep}
+use Rattle.bank_openings.specs.Openings.{
   inTime,
   fileLength,
   senderRefusals,
@@ -45,8 +45,8 @@ use Rattle.bank_step.specs.Openings.{
   openDownload,
   opened,
 }
-use Rattle.bank_step.specs.OrderNumbers.{character, letter, orderNumberOf}
-use Rattle.bank_step.specs.Uploads.{fitsUpload, segmentRefusals, uploadRefusals, judgeUpload, grown, attempted, uploadStep}
+use Rattle.bank_openings.specs.OrderNumbers.{character, letter, orderNumberOf}
+use Rattle.bank_uploads.specs.Uploads.{fitsUpload, segmentRefusals, uploadRefusals, judgeUpload, grown, attempted, uploadStep}
 use Rattle.bank.specs.Call.{mailboxSegment, requestRefusals, openingStep, uploadStepAt, downloadStepAt, transactionStep, respond}
 use Rattle.cases.specs.Table.{steps, each, bookedAfter, largest, requestLengths, replyLengths, cases, Holds}
 

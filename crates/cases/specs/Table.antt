@@ -1,13 +1,12 @@
 -- Document 01, "Cases; starred ones are proved": each row is what comes of its calls, and what must come.
 use Prim.Native.Nat.{ℕ, max}
 use mathlib.Core.Path.{_≡_}
-use mathlib.Core.Bool.{Bool, true, false}
 use mathlib.Core.List.{List, [], _∷_, map}
 use lib.ListN.{length, replicate, set}
-use Rattle.frame.specs.declared.fields.Bits128.{Bits128}
-use Rattle.frame.specs.declared.fields.Fields.{Fields}
-use Rattle.frame.specs.Bytes.{number}
-use Rattle.frame.specs.Names.{segment, segments, returnCode, orderNumber}
+use Rattle.frame_table.specs.declared.fields.Bits128.{Bits128}
+use Rattle.frame_table.specs.declared.fields.Fields.{Fields}
+use Rattle.octets.specs.Bytes.{number}
+use Rattle.frame_table.specs.Names.{segment, segments, returnCode, orderNumber}
 use Rattle.frame.specs.Writer.{frameOf}
 use Rattle.message.specs.declared.codes.ReturnCode.the-variants as code
 use Rattle.message.specs.Codes.{asciiDigits}
@@ -15,8 +14,7 @@ use Rattle.message.specs.Limits.{segmentBytes}
 use Rattle.message.specs.Requests.{uploadOpening, downloadOpening, uploadTransfer, downloadTransfer, receipt}
 use Rattle.message.specs.Replies.{uploadOpened, downloadOpened, segmentTaken, downloadSegment, receiptAnswered, unreadable, refusal}
 use Rattle.bank_state.specs.declared.state.Place.{Place}
-use Rattle.bank_state.specs.declared.state.Use.{Use}
-use Rattle.bank_state.specs.declared.state.Use.the-variants.{Free, Open, Booked}
+use Rattle.bank_state.specs.Search.{isBooked}
 use Rattle.bank_state.specs.Rows.{countOf}
 use Rattle.bank_state.specs.State.{World, world, fresh, withClock, withOpenings, withFiles}
 use Rattle.bank.specs.Call.{Step, respond}
@@ -78,11 +76,6 @@ each g w l = map (λ (s : Step). g (s .reply)) (steps w l)
 -- the return codes
 abbrev pub codes : World → List Request → List ℕ
 codes = each returnCode
-
-abbrev pub isBooked : Use → Bool
-isBooked Free = false
-isBooked Open = false
-isBooked Booked = true
 
 -- how many orders are booked after the calls
 unfoldable pub bookedAfter : World → List Request → ℕ

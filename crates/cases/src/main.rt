@@ -6,19 +6,19 @@ use bank_state::limits::REPLY_ROOM;
 use bank_state::limits::STORE_BYTES;
 use bank_state::state::Bank;
 use bank_state::state::fresh;
-use frame::bytes::front;
-use frame::fields::Bits128;
-use frame::fields::Fields;
 use frame::reader::read_reply;
-use frame::table::FRAME_LIMIT;
 use frame::writer::Written;
 use frame::writer::write;
+use frame_table::fields::Bits128;
+use frame_table::fields::Fields;
+use frame_table::table::FRAME_LIMIT;
 use libc::STDOUT_FILENO;
 use marking::print::code_digits;
 use message::codes::ReturnCode;
 use message::codes::code_field;
 use message::requests::upload_opening;
 use message::requests::upload_transfer;
+use octets::bytes::front;
 
 // The bank time of every call, and every timestamp.
 const CLOCK: u32 = 1000;

@@ -1,11 +1,11 @@
 -- What is known of a call that is given no number by its ruling. Assumes nothing.
 use Prim.Native.Nat.{ℕ, _≤_}
-use mathlib.Core.Bool.{Bool, true, false, not, cond, _||_}
-use mathlib.Core.Path.{_≡_, refl, sym}
+use mathlib.Core.Bool.{Bool, true, false, not, cond}
+use mathlib.Core.Path.{_≡_, refl}
 use native.Mathlib.Omega.{arith}
 use lib.Dec.{ltb, eqb}
 use borrow.Author.Tests.{ltb-false, eqb-true, eqb-false, not-false}
-use Rattle.frame.proofs.Tests.{never}
+use Rattle.octets.proofs.Tests.{or-neither}
 use Rattle.message.specs.Limits.{fileBytes, subscribers}
 use Rattle.client.specs.declared.run.Client.{Client}
 use Rattle.client.specs.declared.run.Direction.{Direction}
@@ -31,10 +31,6 @@ use Rattle.client.specs.Rulings.{
 }
 use Rattle.client.proofs.Apart.{not-both, not-accepted}
 
-pub or-false : (a b : Bool) → a || b ≡ false → (a ≡ false) × (b ≡ false)
-or-false true b h = never (sym h)
-or-false false b h = (refl, h)
-
 -- where a test would refuse, it is false, and the rest decides
 passed : (u : Bool) (x : Refusal) (rest : Ruling) → cond u (Refuse x) rest ≡ Accept → (u ≡ false) × (rest ≡ Accept)
 passed true x rest h = not-accepted x h
@@ -47,12 +43,12 @@ Serves Download l = (l .file ≡ fileBytes) × (requestRoom ≤ l .request)
 
 pub serves : (way : Direction) (l : Lengths) → wrongBuffers way l ≡ false → Serves way l
 serves Upload l h =
-    let a = or-false _ (ltb (l .request) requestRoom) h in
-    let b = or-false (eqb (l .payload) 0) (ltb fileBytes (l .payload)) (a .0) in
+    let a = or-neither _ (ltb (l .request) requestRoom) h in
+    let b = or-neither (eqb (l .payload) 0) (ltb fileBytes (l .payload)) (a .0) in
     let some = eqb-false (l .payload) 0 (b .0) in
     (omega arith, ltb-false fileBytes (l .payload) (b .1), ltb-false (l .request) requestRoom (a .1))
 serves Download l h =
-    let a = or-false (not (eqb (l .file) fileBytes)) (ltb (l .request) requestRoom) h in
+    let a = or-neither (not (eqb (l .file) fileBytes)) (ltb (l .request) requestRoom) h in
     (eqb-true (l .file) fileBytes (not-false _ (a .0)), ltb-false (l .request) requestRoom (a .1))
 
 -- "of changed length"
@@ -76,7 +72,7 @@ unfolding rulingNotBegun rulingRunning rulingEnded wrongLengths
 accepted-at c l stage.NotBegun e h = not-accepted _ (passed (ltb (l .request) requestRoom) _ _ h .1)
 accepted-at c l stage.Running e h =
     let a = passed (wrongLengths c l) _ _ h in
-    let b = or-false (wrongBuffers (c .direction) l) (changedLength (c .direction) c l) (a .0) in record {
+    let b = or-neither (wrongBuffers (c .direction) l) (changedLength (c .direction) c l) (a .0) in record {
       running = e;
       exchange = ltb-false exchangeMost (c .exchange) (passed (ltb exchangeMost (c .exchange)) _ _ (a .1) .0);
       buffers = serves (c .direction) l (b .0);
@@ -102,7 +98,7 @@ begins c way subscriber first l h =
     let a = passed (wrongBuffers way l) _ _ h in
     let b = passed (ltb firstExchangeMost first) _ _ (a .1) in
     let e = passed (noSubscriber subscriber) _ _ (b .1) in
-    let g = or-false (ltb subscriber 1) (ltb subscribers subscriber) (e .0) in record {
+    let g = or-neither (ltb subscriber 1) (ltb subscribers subscriber) (e .0) in record {
       buffers = serves way l (a .0);
       start = ltb-false firstExchangeMost first (b .0);
       low = ltb-false subscriber 1 (g .0);

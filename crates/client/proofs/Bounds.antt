@@ -8,16 +8,17 @@ use mathlib.Core.Path.{_≡_, refl, sym, ap, subst, _∙_}
 use native.Mathlib.Nat.{add-zero, zero-add, add-assoc}
 use native.Mathlib.Omega.{arith}
 use lib.ListN.{length}
-use Rattle.frame.specs.declared.fields.Fields.{Fields}
-use Rattle.frame.specs.Names.{exchange}
-use Rattle.frame.specs.Reader.{noFields, readReply}
+use Rattle.frame_table.specs.declared.fields.Fields.{Fields}
+use Rattle.frame_table.specs.Names.{exchange}
+use Rattle.frame.specs.Reader.{readReply}
+use Rattle.frame_table.specs.Names.{noFields}
 use Rattle.frame.specs.Row.{dataOf}
-use Rattle.frame.proofs.Tests.{never}
+use Rattle.octets.proofs.Tests.{never}
 use Rattle.message.specs.Limits.{segmentsMost}
 use Rattle.message.specs.Requests.{uploadOpening, downloadOpening, uploadTransfer, downloadTransfer, receipt}
 use Rattle.client.specs.declared.run.Answer.the-variants as answer
 use Rattle.client.specs.declared.run.Client.{Client}
-use Rattle.client.specs.declared.run.Deed.{Deed}
+use Rattle.client.specs.declared.run.Decision.{Decision}
 use Rattle.client.specs.declared.run.Direction.{Direction}
 use Rattle.client.specs.declared.run.Direction.the-variants.{Upload, Download}
 use Rattle.client.specs.declared.run.Lengths.{Lengths}
@@ -27,16 +28,16 @@ use Rattle.client.specs.declared.run.Stage.the-variants as stage
 use Rattle.client.specs.declared.run.Step.{Step}
 use Rattle.client.specs.declared.run.Step.the-variants as step
 use Rattle.client.specs.declared.run.Word.{Word}
-use Rattle.client.specs.CallLists.{Call, begin, arrived, silent, called, runBehind, issues, requests, requestsMost}
-use Rattle.client.specs.Calls.{beginBy, beginCall, runBy, carryOut, replyCall, silenceCall}
-use Rattle.client.specs.Decisions.{onReply, onSilence}
+use Rattle.client.specs.CallLists.{Call, begin, arrived, noReply, called, runBehind, issues, requests, requestsMost}
+use Rattle.client.specs.Calls.{beginBy, beginCall, runBy, carryOut, replyCall, noReplyCall}
+use Rattle.client.specs.Decisions.{onReply, onNoReply}
 use Rattle.client.specs.NextRun.{beginLength, begun, ended}
 use Rattle.client.specs.Requests.{outstanding}
 use Rattle.client.specs.Rulings.{isBegun, beginRuling, runRuling}
 use Rattle.client.specs.Run.{Lent, lengthsOf, notBegun, exchangeMost}
 use Rattle.client.proofs.Accepted.{accepted, Serves, Begins, begins}
 use Rattle.client.proofs.Apart.{not-both, not-opening-receipt, not-new-running, not-ended-running, not-request}
-use Rattle.client.proofs.Causes.{Cause, by-reply, by-silence}
+use Rattle.client.proofs.Causes.{Cause, by-reply, by-no-reply}
 use Rattle.client.proofs.Course.{
   Course,
   course-most,
@@ -94,30 +95,30 @@ module _ (c : Client) (q : ℕ) where
       issued-keeps Standing c (begun way subscriber first (beginLength way (lengthsOf l))) (l .file) l q s
       (begun-standing way subscriber first l b s)
 
-  module _ (deed : Deed) (r : Fields) (d : List ℕ) (l : Lent) (led : Cause c r (length d) deed) where
+  module _ (decision : Decision) (r : Fields) (d : List ℕ) (l : Lent) (led : Cause c r (length d) decision) where
     accepted-standing : c .stage ≡ stage.Running → Standing c q
-        → Standing (carryOut deed c r d l .run) (q + issues (carryOut deed c r d l .answer))
+        → Standing (carryOut decision c r d l .run) (q + issues (carryOut decision c r d l .answer))
     unfolding ended
     accepted-standing e (new n z) = not-new-running (ap (λ (k : Client). k .stage) n) e
     accepted-standing e (going first g b) =
-        carried Standing deed c r d l q (going first g b) (λ w. going first refl (begun-ended c first q b w)) λ i.
-        going first (ap isBegun (next-stage deed i c r (length d)) ∙ g) (begun-next c first q b r (length d) deed i led)
+        carried Standing decision c r d l q (going first g b) (λ w. going first refl (begun-ended c first q b w)) λ i.
+        going first (ap isBegun (next-stage decision i c r (length d)) ∙ g) (begun-next c first q b r (length d) decision i led)
 
     run-standing : Standing c q → (x : Ruling) → runRuling (c .stage) c (lengthsOf l) ≡ x
-        → Standing (runBy x deed c r d l .run) (q + issues (runBy x deed c r d l .answer))
+        → Standing (runBy x decision c r d l .run) (q + issues (runBy x decision c r d l .answer))
     run-standing s (Refuse x) e = stays c q s
     run-standing s Accept e = accepted-standing (accepted c (lengthsOf l) e .running) s
 
   call-standing : (k : Call) → Standing c q → Standing (called c k .run) (q + issues (called c k .answer))
-  unfolding beginCall replyCall silenceCall
+  unfolding beginCall replyCall noReplyCall
   call-standing (begin way subscriber first l) s =
       begin-standing way subscriber first l s (beginRuling c way subscriber first (lengthsOf l)) refl
   call-standing (arrived frame l) s =
       let r = readReply frame in
       let d = dataOf frame in
       run-standing (onReply c r (length d)) r d l (by-reply c r (length d)) s (runRuling (c .stage) c (lengthsOf l)) refl
-  call-standing (silent l) s =
-      run-standing (onSilence c) noFields [] l (by-silence c noFields 0) s (runRuling (c .stage) c (lengthsOf l)) refl
+  call-standing (noReply l) s =
+      run-standing (onNoReply c) noFields [] l (by-no-reply c noFields 0) s (runRuling (c .stage) c (lengthsOf l)) refl
 
 pub standing : (c : Client) (q : ℕ) (ks : List Call) → Standing c q → Standing (runBehind c ks) (q + requests c ks)
 unfolding runBehind requests
@@ -160,15 +161,15 @@ exchange-fits ks = standing-exchange (runBehind notBegun ks) (requests notBegun 
 
 -- "Each request takes the next exchange number": a later call moves the run's by as many as it issues requests
 module _ (c : Client) where
-  ruled-rises : (x : Ruling) (deed : Deed) (r : Fields) (d : List ℕ) (l : Lent)
-      → runBy x deed c r d l .run .exchange ≡ c .exchange + issues (runBy x deed c r d l .answer)
+  ruled-rises : (x : Ruling) (decision : Decision) (r : Fields) (d : List ℕ) (l : Lent)
+      → runBy x decision c r d l .run .exchange ≡ c .exchange + issues (runBy x decision c r d l .answer)
   unfolding ended
-  ruled-rises (Refuse x) deed r d l = sym (add-zero (c .exchange))
-  ruled-rises Accept deed r d l =
+  ruled-rises (Refuse x) decision r d l = sym (add-zero (c .exchange))
+  ruled-rises Accept decision r d l =
       let same = sym (add-zero (c .exchange)) in
-      subst (λ (q : ℕ). carryOut deed c r d l .run .exchange ≡ c .exchange + q) (zero-add (issues (carryOut deed c r d l .answer)))
-      (carried (λ (k : Client) (q : ℕ). k .exchange ≡ c .exchange + q) deed c r d l 0 same (λ w. same) λ i.
-      next-exchange deed i c r (length d))
+      subst (λ (q : ℕ). carryOut decision c r d l .run .exchange ≡ c .exchange + q) (zero-add (issues (carryOut decision c r d l .answer)))
+      (carried (λ (k : Client) (q : ℕ). k .exchange ≡ c .exchange + q) decision c r d l 0 same (λ w. same) λ i.
+      next-exchange decision i c r (length d))
 
   pub reply-rises : (frame : List ℕ) (l : Lent)
       → called c (arrived frame l) .run .exchange ≡ c .exchange + issues (called c (arrived frame l) .answer)
@@ -177,9 +178,9 @@ module _ (c : Client) where
       let r = readReply frame in
       ruled-rises (runRuling (c .stage) c (lengthsOf l)) (onReply c r (length (dataOf frame))) r (dataOf frame) l
 
-  pub silence-rises : (l : Lent) → called c (silent l) .run .exchange ≡ c .exchange + issues (called c (silent l) .answer)
-  unfolding silenceCall
-  silence-rises l = ruled-rises (runRuling (c .stage) c (lengthsOf l)) (onSilence c) noFields [] l
+  pub no-reply-rises : (l : Lent) → called c (noReply l) .run .exchange ≡ c .exchange + issues (called c (noReply l) .answer)
+  unfolding noReplyCall
+  no-reply-rises l = ruled-rises (runRuling (c .stage) c (lengthsOf l)) (onNoReply c) noFields [] l
 
 -- the outstanding request carries the run's exchange number
 request-exchange-at : (c : Client) (time : ℕ) (nonce : List ℕ) (way : Direction) (at : Step) → c .direction ≡ way → c .step ≡ at
@@ -216,19 +217,19 @@ module _ (c : Client) (w : Word) (e : c .stage ≡ stage.Ended w) where
   begin-ended way subscriber first l Accept h =
       never (sym (begins c way subscriber first (lengthsOf l) h .fresh) ∙ ap isBegun e)
 
-  run-ended : (deed : Deed) (r : Fields) (d : List ℕ) (l : Lent) (x : Ruling) → runRuling (c .stage) c (lengthsOf l) ≡ x
-      → (runBy x deed c r d l .run ≡ c) × (issues (runBy x deed c r d l .answer) ≡ 0)
-  run-ended deed r d l (Refuse x) h = (refl, refl)
-  run-ended deed r d l Accept h = not-ended-running w e (accepted c (lengthsOf l) h .running)
+  run-ended : (decision : Decision) (r : Fields) (d : List ℕ) (l : Lent) (x : Ruling) → runRuling (c .stage) c (lengthsOf l) ≡ x
+      → (runBy x decision c r d l .run ≡ c) × (issues (runBy x decision c r d l .answer) ≡ 0)
+  run-ended decision r d l (Refuse x) h = (refl, refl)
+  run-ended decision r d l Accept h = not-ended-running w e (accepted c (lengthsOf l) h .running)
 
   pub call-ended : (k : Call) → (called c k .run ≡ c) × (issues (called c k .answer) ≡ 0)
-  unfolding beginCall replyCall silenceCall
+  unfolding beginCall replyCall noReplyCall
   call-ended (begin way subscriber first l) =
       begin-ended way subscriber first l (beginRuling c way subscriber first (lengthsOf l)) refl
   call-ended (arrived frame l) =
       let r = readReply frame in
       run-ended (onReply c r (length (dataOf frame))) r (dataOf frame) l (runRuling (c .stage) c (lengthsOf l)) refl
-  call-ended (silent l) = run-ended (onSilence c) noFields [] l (runRuling (c .stage) c (lengthsOf l)) refl
+  call-ended (noReply l) = run-ended (onNoReply c) noFields [] l (runRuling (c .stage) c (lengthsOf l)) refl
 
   pub ended-stays : (ks : List Call) → (runBehind c ks ≡ c) × (requests c ks ≡ 0)
   unfolding runBehind requests

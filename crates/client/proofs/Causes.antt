@@ -1,22 +1,23 @@
--- What led to a deed: each rule of the definitions as a case, and what its tests tell. Assumes nothing.
-use Prim.Native.Nat.{ℕ, _<_, _≤_}
-use mathlib.Core.Bool.{Bool, true, false, cond}
+-- What led to a decision: each rule of the definitions as a case, and what its tests tell. Assumes nothing.
+use Prim.Native.Nat.{ℕ, _+_, _<_, _≤_}
+use mathlib.Core.Bool.{Bool, true, false}
 use mathlib.Core.Logic.{_⊎_, inl, inr}
 use mathlib.Core.Path.{_≡_, refl, sym, subst}
 use native.Mathlib.Omega.{arith}
 use lib.Dec.{ltb, leb, eqb}
 use borrow.Author.Tests.{ltb-true, leb-true, eqb-true}
-use Rattle.frame.specs.declared.fields.Fields.{Fields}
-use Rattle.frame.specs.declared.table.Form.{Form}
-use Rattle.frame.specs.declared.table.Form.the-variants as forms
-use Rattle.frame.specs.Names.{segments, segment, lastMark}
-use Rattle.frame.proofs.Tests.{and-true}
+use Rattle.frame_table.specs.declared.fields.Fields.{Fields}
+use Rattle.frame_table.specs.declared.table.Form.{Form}
+use Rattle.frame_table.specs.declared.table.Form.the-variants as forms
+use Rattle.frame_table.specs.Names.{segments, segment, lastMark}
+use Rattle.octets.proofs.Tests.{and-true}
 use Rattle.message.specs.declared.codes.ReturnCode.the-variants as code
 use Rattle.message.specs.Limits.{segmentBytes, segmentsMost, attemptsMost, initialisation, transfer}
 use Rattle.message.specs.Segments.{lastMarkOf}
+use Rattle.message.proofs.Verdicts.{by-test}
 use Rattle.client.specs.declared.run.Client.{Client}
-use Rattle.client.specs.declared.run.Deed.{Deed}
-use Rattle.client.specs.declared.run.Deed.the-variants.{Ignore, Opened, Advance, Return, Repeat, Close}
+use Rattle.client.specs.declared.run.Decision.{Decision}
+use Rattle.client.specs.declared.run.Decision.the-variants.{Ignore, Opened, Advance, Return, Repeat, Close}
 use Rattle.client.specs.declared.run.Direction.{Direction}
 use Rattle.client.specs.declared.run.Direction.the-variants.{Upload, Download}
 use Rattle.client.specs.declared.run.Step.{Step}
@@ -32,6 +33,7 @@ use Rattle.client.specs.Decisions.{
   fitsData,
   fitsSegment,
   isPoint,
+  goesBack,
   uploadReturns,
   downloadReturns,
   opensDownload,
@@ -44,15 +46,11 @@ use Rattle.client.specs.Decisions.{
   onDownload,
   onAnswer,
   onReply,
-  onSilence,
+  onNoReply,
 }
 
-pub by-test : {A : Type 0} (P : A → Type 0) (u : Bool) {a b : A} → (u ≡ true → P a) → (u ≡ false → P b) → P (cond u a b)
-by-test P true t f = t refl
-by-test P false t f = f refl
-
--- the rule by which a reply with the fields r and d bytes of data, or silence, led to a deed
-pub data Cause (c : Client) (r : Fields) (d : ℕ) : Deed → Type 0 where
+-- the rule by which a reply with the fields r and d bytes of data, or no reply, led to a decision
+pub data Cause (c : Client) (r : Fields) (d : ℕ) : Decision → Type 0 where
   not-answered : isAnswer c r ≡ false → Cause c r d Ignore
   upload-opened : c .direction ≡ Upload → c .step ≡ step.Opening → isAnswer c r ≡ true
       → says forms.UploadOpened code.Ok initialisation r ≡ true → Cause c r d Opened
@@ -70,7 +68,7 @@ pub data Cause (c : Client) (r : Fields) (d : ℕ) : Deed → Type 0 where
   fetched : c .direction ≡ Download → c .step ≡ step.Receipt → isAnswer c r ≡ true → confirms c r ≡ true → Cause c r d (Close Fetched)
   -- any other or ill-fitting reply, and the sixth repeat or return
   rest : Cause c r d (Close (restWord c))
-  silent : mayRepeat c ≡ true → Cause c r d Repeat
+  no-reply : mayRepeat c ≡ true → Cause c r d Repeat
 
 module _ (c : Client) (r : Fields) (d : ℕ) where
   by-upload : c .direction ≡ Upload → isAnswer c r ≡ true → (at : Step) → c .step ≡ at → Cause c r d (onUpload at c r)
@@ -102,13 +100,13 @@ module _ (c : Client) (r : Fields) (d : ℕ) where
   unfolding onReply
   by-reply = by-test (Cause c r d) (isAnswer c r) (λ a. by-answer a (c .direction) refl) not-answered
 
-  pub by-silence : Cause c r d (onSilence c)
-  unfolding onSilence
-  by-silence = by-test (Cause c r d) (mayRepeat c) silent (λ _. rest)
+  pub by-no-reply : Cause c r d (onNoReply c)
+  unfolding onNoReply
+  by-no-reply = by-test (Cause c r d) (mayRepeat c) no-reply (λ _. rest)
 
-  pub cause : {deed : Deed} → (deed ≡ onReply c r d) ⊎ (deed ≡ onSilence c) → Cause c r d deed
+  pub cause : {decision : Decision} → (decision ≡ onReply c r d) ⊎ (decision ≡ onNoReply c) → Cause c r d decision
   cause (inl e) = subst (Cause c r d) (sym e) by-reply
-  cause (inr e) = subst (Cause c r d) (sym e) by-silence
+  cause (inr e) = subst (Cause c r d) (sym e) by-no-reply
 
 -- ---- what the tests tell
 
@@ -116,43 +114,32 @@ pub repeats-left : (c : Client) → mayRepeat c ≡ true → c .repeats < attemp
 unfolding mayRepeat
 repeats-left c h = ltb-true (c .repeats) attemptsMost h
 
--- an upload goes on from r
-pub record UploadPoint (c : Client) (r : Fields) : Type 0 where
-  pub below : segment r < c .segments
-  pub known : segment r ≤ c .issued
+-- a run goes on from r
+pub record Point (first end top : ℕ) (c : Client) (r : Fields) : Type 0 where
+  pub below : segment r < end
+  pub reached : segment r ≤ top
   pub left : c .repeats < attemptsMost
-  pub point : isPoint 0 c r ≡ true
+  pub point : isPoint first c r ≡ true
 
-pub upload-point : (c : Client) (r : Fields) → uploadReturns c r ≡ true → UploadPoint c r
+point-of : (first end top : ℕ) (c : Client) (r : Fields) → goesBack first end top c r ≡ true → Point first end top c r
+unfolding goesBack
+point-of first end top c r h =
+    let a = and-true _ (mayRepeat c) h in
+    let b = and-true _ (leb (segment r) top) (a .0) in
+    let e = and-true (isPoint first c r) (ltb (segment r) end) (b .0) in record {
+      below = ltb-true (segment r) end (e .1);
+      reached = leb-true (segment r) top (b .1);
+      left = repeats-left c (a .1);
+      point = e .0;
+    }
+
+pub upload-point : (c : Client) (r : Fields) → uploadReturns c r ≡ true → Point 0 (c .segments) (c .issued) c r
 unfolding uploadReturns
-upload-point c r h =
-    let a = and-true _ (mayRepeat c) h in
-    let b = and-true _ (leb (segment r) (c .issued)) (a .0) in
-    let e = and-true (isPoint 0 c r) (ltb (segment r) (c .segments)) (b .0) in record {
-      below = ltb-true (segment r) (c .segments) (e .1);
-      known = leb-true (segment r) (c .issued) (b .1);
-      left = repeats-left c (a .1);
-      point = e .0;
-    }
+upload-point c r h = point-of 0 (c .segments) (c .issued) c r h
 
--- a download goes on from r
-pub record DownloadPoint (c : Client) (r : Fields) : Type 0 where
-  pub held : segment r ≤ c .held
-  pub most : segment r ≤ segmentsMost
-  pub left : c .repeats < attemptsMost
-  pub point : isPoint 1 c r ≡ true
-
-pub download-point : (c : Client) (r : Fields) → downloadReturns c r ≡ true → DownloadPoint c r
+pub download-point : (c : Client) (r : Fields) → downloadReturns c r ≡ true → Point 1 (segmentsMost + 1) (c .held) c r
 unfolding downloadReturns
-download-point c r h =
-    let a = and-true _ (mayRepeat c) h in
-    let b = and-true _ (leb (segment r) segmentsMost) (a .0) in
-    let e = and-true (isPoint 1 c r) (leb (segment r) (c .held)) (b .0) in record {
-      held = leb-true (segment r) (c .held) (e .1);
-      most = leb-true (segment r) segmentsMost (b .1);
-      left = repeats-left c (a .1);
-      point = e .0;
-    }
+download-point c r h = point-of 1 (segmentsMost + 1) (c .held) c r h
 
 -- d bytes are segment s of n
 pub record Whole (s n d : ℕ) : Type 0 where

@@ -7,8 +7,8 @@ use native.Mathlib.Nat.{add-mul, one-mul, mul-one, mul-le-mul-left, mul-le-mul-r
 use native.Mathlib.Omega.{arith}
 use lib.Dec.{eqb}
 use borrow.Author.Tests.{eqb-true, eqb-false}
-use Rattle.frame.specs.declared.fields.Fields.{Fields}
-use Rattle.frame.specs.Names.{segments}
+use Rattle.frame_table.specs.declared.fields.Fields.{Fields}
+use Rattle.frame_table.specs.Names.{segments}
 use Rattle.message.specs.Limits.{segmentsMost, fileBytes, subscribers}
 use Rattle.message.specs.Segments.{segmentsOf}
 use Rattle.client.specs.declared.run.Client.{Client}
@@ -21,7 +21,8 @@ use Rattle.client.specs.CallLists.{requestsMost}
 use Rattle.client.specs.Run.{firstExchangeMost}
 use Rattle.client.specs.NextRun.{begun, stepBehind, goOn, repeated, learned, isNew, holding, ended}
 use Rattle.client.proofs.Apart.{not-both, not-opening-segment, not-opening-receipt, not-segment-receipt}
-use Rattle.client.proofs.Causes.{by-test, OpensDownload}
+use Rattle.message.proofs.Verdicts.{by-test}
+use Rattle.client.proofs.Causes.{OpensDownload}
 use Rattle.client.proofs.NextRuns.{new-next}
 
 -- one more repeat or return

@@ -1,13 +1,13 @@
--- What a deed needs, its cause gives: no number of the next run wraps, and a newly held segment has its place in the file. Assumes nothing.
+-- What a decision needs, its cause gives: no number of the next run wraps, a newly held segment has its place. Assumes nothing.
 use Prim.Native.Nat.{ℕ, _+_, _^_, _<_, _≤_}
 use mathlib.Core.Bool.{true}
 use mathlib.Core.Path.{_≡_}
 use native.Mathlib.Omega.{arith}
-use Rattle.frame.specs.declared.fields.Fields.{Fields}
-use Rattle.frame.proofs.Tests.{never}
+use Rattle.frame_table.specs.declared.fields.Fields.{Fields}
+use Rattle.octets.proofs.Tests.{never}
 use Rattle.message.specs.Limits.{segmentBytes, segmentsMost, attemptsMost, fileBytes}
 use Rattle.client.specs.declared.run.Client.{Client}
-use Rattle.client.specs.declared.run.Deed.the-variants.{Opened, Advance, Return, Repeat}
+use Rattle.client.specs.declared.run.Decision.the-variants.{Opened, Advance, Return, Repeat}
 use Rattle.client.specs.declared.run.Direction.{Direction}
 use Rattle.client.specs.declared.run.Direction.the-variants.{Upload, Download}
 use Rattle.client.specs.NextRun.{learned, isNew}
@@ -21,7 +21,7 @@ use Rattle.client.proofs.Causes.{
   segment-brought,
   upload-returned,
   download-returned,
-  silent,
+  no-reply,
   repeats-left,
   upload-point,
   download-point,
@@ -54,11 +54,11 @@ module _ (c : Client) (r : Fields) (d n : ℕ) (x : c .exchange ≤ exchangeMost
 
 pub return-fits : (c : Client) (r : Fields) (d s : ℕ) → c .segments < 2 ^ 64 → Cause c r d (Return s) → s + 1 < 2 ^ 64
 return-fits c r d s m (upload-returned w t a h) = omega (arith, upload-point c r h .below)
-return-fits c r d s m (download-returned w t a h) = omega (arith, download-point c r h .most)
+return-fits c r d s m (download-returned w t a h) = omega (arith, download-point c r h .below)
 
 pub return-left : (c : Client) (r : Fields) (d s : ℕ) → Cause c r d (Return s) → c .repeats < attemptsMost
 return-left c r d s (upload-returned w t a h) = upload-point c r h .left
 return-left c r d s (download-returned w t a h) = download-point c r h .left
 
 pub repeat-fits : (c : Client) (r : Fields) (d : ℕ) → Cause c r d Repeat → c .repeats < attemptsMost
-repeat-fits c r d (silent h) = repeats-left c h
+repeat-fits c r d (no-reply h) = repeats-left c h

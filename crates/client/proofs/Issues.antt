@@ -4,13 +4,13 @@ use mathlib.Core.List.{List}
 use mathlib.Core.Path.{_≡_, refl, sym, subst}
 use native.Mathlib.Nat.{add-zero}
 use lib.ListN.{length}
-use Rattle.frame.specs.declared.fields.Fields.{Fields}
+use Rattle.frame_table.specs.declared.fields.Fields.{Fields}
 use Rattle.frame.specs.declared.writer.Written.{Written}
 use Rattle.frame.specs.declared.writer.Written.the-variants.{Length, Refused}
 use Rattle.client.specs.declared.run.Answer.the-variants as answer
 use Rattle.client.specs.declared.run.Client.{Client}
-use Rattle.client.specs.declared.run.Deed.{Deed}
-use Rattle.client.specs.declared.run.Deed.the-variants.{Ignore, Opened, Advance, Return, Repeat, Close}
+use Rattle.client.specs.declared.run.Decision.{Decision}
+use Rattle.client.specs.declared.run.Decision.the-variants.{Ignore, Opened, Advance, Return, Repeat, Close}
 use Rattle.client.specs.declared.run.Outcome.{Outcome}
 use Rattle.client.specs.declared.run.Refusal.the-variants.{WrongBuffer}
 use Rattle.client.specs.declared.run.Word.{Word}
@@ -53,10 +53,10 @@ pub issued-request : (c next : Client) (file : List ℕ) (l : Lent) (n : ℕ) �
 unfolding issued
 issued-request c next file l n h P p = subst P (sym (request-at c next (isWritten next l) n h)) p
 
--- a deed carried out: nothing is issued, or the next run's request is
-pub carried : (P : Client → ℕ → Type 0) (deed : Deed) (c : Client) (r : Fields) (d : List ℕ) (l : Lent) (q : ℕ) → P c q
-    → ((w : Word) → P (ended w c) q) → (Issuing deed → P (nextOf deed c r (length d)) (q + 1))
-    → P (carryOut deed c r d l .run) (q + issues (carryOut deed c r d l .answer))
+-- a decision carried out: nothing is issued, or the next run's request is
+pub carried : (P : Client → ℕ → Type 0) (decision : Decision) (c : Client) (r : Fields) (d : List ℕ) (l : Lent) (q : ℕ) → P c q
+    → ((w : Word) → P (ended w c) q) → (Issuing decision → P (nextOf decision c r (length d)) (q + 1))
+    → P (carryOut decision c r d l .run) (q + issues (carryOut decision c r d l .answer))
 unfolding taken
 carried P Ignore c r d l q a e b = subst (P c) (sym (add-zero q)) a
 carried P Opened c r d l q a e b =

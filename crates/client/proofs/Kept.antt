@@ -1,12 +1,12 @@
--- Each deed that issues a request keeps where a run stands. Assumes nothing.
+-- Each decision that issues a request keeps where a run stands. Assumes nothing.
 use Prim.Native.Nat.{ℕ, _+_, _*_, _≤_}
 use mathlib.Core.Logic.{_⊎_, inl, inr}
 use mathlib.Core.Path.{_≡_, refl, ap, _∙_}
 use native.Mathlib.Omega.{arith}
-use Rattle.frame.specs.declared.fields.Fields.{Fields}
+use Rattle.frame_table.specs.declared.fields.Fields.{Fields}
 use Rattle.client.specs.declared.run.Client.{Client}
-use Rattle.client.specs.declared.run.Deed.{Deed}
-use Rattle.client.specs.declared.run.Deed.the-variants.{Ignore, Opened, Advance, Return, Repeat, Close}
+use Rattle.client.specs.declared.run.Decision.{Decision}
+use Rattle.client.specs.declared.run.Decision.the-variants.{Ignore, Opened, Advance, Return, Repeat, Close}
 use Rattle.client.specs.declared.run.Direction.{Direction}
 use Rattle.client.specs.declared.run.Direction.the-variants.{Upload, Download}
 use Rattle.client.specs.declared.run.Step.the-variants as step
@@ -59,8 +59,8 @@ use Rattle.client.proofs.NextRuns.{
   learned-stage,
 }
 
--- the deeds that issue a request
-abbrev pub Issuing : Deed → Type 0
+-- the decisions that issue a request
+abbrev pub Issuing : Decision → Type 0
 Issuing Ignore = ⊥
 Issuing Opened = ℕ
 Issuing Advance = ℕ
@@ -68,8 +68,8 @@ Issuing (Return s) = ℕ
 Issuing Repeat = ℕ
 Issuing (Close w) = ⊥
 
--- the run that a deed leaves where its request is written
-abbrev pub nextOf : Deed → Client → Fields → ℕ → Client
+-- the run that a decision leaves where its request is written
+abbrev pub nextOf : Decision → Client → Fields → ℕ → Client
 nextOf Ignore c r d = c
 nextOf Opened c r d =
     goOn (learned (c .direction) r c .segment) (learned (c .direction) r c .repeats) (holding d (learned (c .direction) r c))
@@ -79,7 +79,8 @@ nextOf Repeat c r d = repeated c
 nextOf (Close w) c r d = ended w c
 
 -- its exchange number is the next, and its stage the same
-pub next-exchange : (deed : Deed) → Issuing deed → (c : Client) (r : Fields) (d : ℕ) → nextOf deed c r d .exchange ≡ c .exchange + 1
+pub next-exchange : (decision : Decision) → Issuing decision → (c : Client) (r : Fields) (d : ℕ)
+    → nextOf decision c r d .exchange ≡ c .exchange + 1
 unfolding goOn repeated
 next-exchange Ignore i c r d = absurd i
 next-exchange Opened i c r d =
@@ -89,7 +90,7 @@ next-exchange (Return s) i c r d = refl
 next-exchange Repeat i c r d = refl
 next-exchange (Close w) i c r d = absurd i
 
-pub next-stage : (deed : Deed) → Issuing deed → (c : Client) (r : Fields) (d : ℕ) → nextOf deed c r d .stage ≡ c .stage
+pub next-stage : (decision : Decision) → Issuing decision → (c : Client) (r : Fields) (d : ℕ) → nextOf decision c r d .stage ≡ c .stage
 unfolding goOn repeated
 next-stage Ignore i c r d = absurd i
 next-stage Opened i c r d = holding-stage d (learned (c .direction) r c) ∙ learned-stage (c .direction) r c
@@ -98,7 +99,8 @@ next-stage (Return s) i c r d = refl
 next-stage Repeat i c r d = refl
 next-stage (Close w) i c r d = absurd i
 
-pub next-direction : (deed : Deed) → Issuing deed → (c : Client) (r : Fields) (d : ℕ) → nextOf deed c r d .direction ≡ c .direction
+pub next-direction : (decision : Decision) → Issuing decision → (c : Client) (r : Fields) (d : ℕ)
+    → nextOf decision c r d .direction ≡ c .direction
 unfolding goOn repeated
 next-direction Ignore i c r d = absurd i
 next-direction Opened i c r d = holding-direction d (learned (c .direction) r c) ∙ learned-direction (c .direction) r c
@@ -108,8 +110,8 @@ next-direction Repeat i c r d = refl
 next-direction (Close w) i c r d = absurd i
 
 -- an upload's payload stays as long as it was
-pub next-length : (deed : Deed) → Issuing deed → (c : Client) (r : Fields) (d : ℕ) → c .direction ≡ Upload
-    → nextOf deed c r d .length ≡ c .length
+pub next-length : (decision : Decision) → Issuing decision → (c : Client) (r : Fields) (d : ℕ) → c .direction ≡ Upload
+    → nextOf decision c r d .length ≡ c .length
 unfolding goOn repeated
 next-length Ignore i c r d w = absurd i
 next-length Opened i c r d w =
@@ -166,12 +168,12 @@ module _ (c : Client) (q : ℕ) (r : Fields) (d : ℕ) where
   pub course-return : (s : ℕ) → Course c q → Cause c r d (Return s) → Course (goOn s (c .repeats + 1) c) (q + 1)
   course-return s (up u) (upload-returned w t a h) =
       let p = upload-point c r h in
-      up (up-go c q s (c .repeats + 1) u (p .below) (p .known) (up-returned s u (omega (arith, p .below))))
+      up (up-go c q s (c .repeats + 1) u (p .below) (p .reached) (up-returned s u (omega (arith, p .below))))
   course-return s (up u) (download-returned w t a h) = not-both (u .way) w
   course-return s (opening o) (upload-returned w t a h) = not-both w (o .way)
   course-return s (opening o) (download-returned w t a h) = not-opening c (o .at) t
   course-return s (down e) (upload-returned w t a h) = not-both w (e .known .way)
-  course-return s (down e) (download-returned w t a h) = down (down-returned c q s e (download-point c r h .held))
+  course-return s (down e) (download-returned w t a h) = down (down-returned c q s e (download-point c r h .reached))
 
 -- ---- the run as a whole
 
@@ -223,8 +225,8 @@ module _ (c : Client) (first q : ℕ) (b : Begun c first q) where
         begun-go (holding d l) 1 (c .repeats) (holding-subscriber d l) (holding-exchange d l) (b .repeats)
         (course-opened c q r d Download e (b .course) k)
 
-    -- a deed that issues a request leads to a run with one request more
-    pub begun-next : (deed : Deed) → Issuing deed → Cause c r d deed → Begun (nextOf deed c r d) first (q + 1)
+    -- a decision that issues a request leads to a run with one request more
+    pub begun-next : (decision : Decision) → Issuing decision → Cause c r d decision → Begun (nextOf decision c r d) first (q + 1)
     begun-next Ignore i k = absurd i
     begun-next Opened i k = begun-opened (c .direction) refl k
     begun-next Advance i k =

@@ -7,13 +7,13 @@ use mathlib.Core.Path.{_≡_, refl, sym, ap, _∙_}
 use lib.Dec.{leb, eqb}
 use lib.ListN.{getD}
 use borrow.Author.Tests.{eqb-true, eq-eqb, not-true}
-use Rattle.frame.specs.declared.fields.Bits128.{Bits128}
-use Rattle.frame.specs.declared.fields.Fields.{Fields}
-use Rattle.frame.specs.declared.table.Form.{Form}
-use Rattle.frame.specs.declared.table.Form.the-variants as forms
-use Rattle.frame.specs.Names.{phase, exchange, segments, transaction, segment, returnCode, form, sameBits}
-use Rattle.frame.specs.Table.{isReplyForm}
-use Rattle.frame.proofs.Tests.{never, and-true}
+use Rattle.frame_table.specs.declared.fields.Fields.{Fields}
+use Rattle.frame_table.specs.declared.table.Form.{Form}
+use Rattle.frame_table.specs.declared.table.Form.the-variants as forms
+use Rattle.frame_table.specs.Names.{phase, exchange, segments, transaction, segment, returnCode, form}
+use Rattle.frame_table.specs.Table.{isReplyForm}
+use Rattle.octets.proofs.Tests.{never, and-true}
+use Rattle.frame_table.proofs.Bits.{bits-same}
 use Rattle.message.specs.declared.codes.ReturnCode.{ReturnCode}
 use Rattle.message.specs.declared.codes.ReturnCode.the-variants as code
 use Rattle.message.specs.Codes.{codeField}
@@ -84,17 +84,10 @@ opened-says d r h =
     let e = and-true _ (leb 1 (segments r)) (b .0) in
     said _ _ _ r (and-true (says forms.DownloadOpened code.Ok initialisation r) (eqb (segment r) 1) (e .0) .0)
 
-pub same-bits : (a b : Bits128) → sameBits a b ≡ true → a ≡ b
-same-bits a b h =
-    let e = and-true (eqb (a .high) (b .high)) (eqb (a .low) (b .low)) h in
-    let high = eqb-true (a .high) (b .high) (e .0) in
-    let low = eqb-true (a .low) (b .low) (e .1) in
-    λ i. record { high = high i; low = low i }
-
 -- "the run's transaction ID"
 pub own-id : (c : Client) (r : Fields) → isOwn c r ≡ true → transaction r ≡ c .transaction
 unfolding isOwn
-own-id c r h = same-bits (transaction r) (c .transaction) h
+own-id c r h = bits-same (transaction r) (c .transaction) h
 
 -- "A reply that is unreadable or lacks the outstanding request's exchange number is ignored": what it is else
 pub record IsAnswer (c : Client) (r : Fields) : Type 0 where

@@ -7,30 +7,31 @@ use native.Mathlib.Nat.{div-lt-iff-lt-mul, mod-lt}
 use native.Mathlib.Omega.{arith}
 use lib.Dec.{lit<}
 use lib.ListN.{length, getD}
-use Rattle.frame.specs.declared.fields.Fields.{Fields}
-use Rattle.frame.specs.Bytes.{Bytes, number}
-use Rattle.frame.specs.Names.{form, transaction}
-use Rattle.frame.specs.Reader.{noFields, parse, readReply}
+use Rattle.frame_table.specs.declared.fields.Fields.{Fields}
+use Rattle.octets.specs.Bytes.{Bytes, number}
+use Rattle.frame_table.specs.Names.{form, transaction}
+use Rattle.frame.specs.Reader.{parse, readReply}
+use Rattle.frame_table.specs.Names.{noFields}
 use Rattle.frame.specs.Row.{highOf, lowOf, dataOf}
-use Rattle.frame.specs.Table.{tagCount, transactionTag, width, has, isReplyForm}
+use Rattle.frame_table.specs.Table.{tagCount, transactionTag, width, has, isReplyForm}
 use Rattle.frame.specs.Writer.{contentOf}
-use Rattle.frame.proofs.Forms.{reply-form}
+use Rattle.frame_table.proofs.Forms.{reply-form}
 use Rattle.frame.proofs.Loops.{FieldWritable, field-writable, content-absent, content-number}
-use Rattle.frame.proofs.Numbers.{number-nil, number-lt}
+use Rattle.octets.proofs.Numbers.{number-nil, number-lt}
 use Rattle.frame.proofs.RoundTrip.{parsed-says, writable-at}
 use Rattle.message.proofs.Writable.{Wide}
 use Rattle.client.specs.declared.run.Client.{Client}
-use Rattle.client.specs.declared.run.Deed.{Deed}
-use Rattle.client.specs.declared.run.Deed.the-variants.{Ignore, Opened, Advance, Return, Repeat, Close}
+use Rattle.client.specs.declared.run.Decision.{Decision}
+use Rattle.client.specs.declared.run.Decision.the-variants.{Ignore, Opened, Advance, Return, Repeat, Close}
 use Rattle.client.specs.declared.run.Direction.{Direction}
 use Rattle.client.specs.declared.run.Ruling.{Ruling}
 use Rattle.client.specs.declared.run.Ruling.the-variants.{Refuse, Accept}
-use Rattle.client.specs.CallLists.{Call, begin, arrived, silent, called, runBehind}
-use Rattle.client.specs.Calls.{beginBy, beginCall, runBy, replyCall, silenceCall}
-use Rattle.client.specs.Decisions.{onReply, onSilence}
+use Rattle.client.specs.CallLists.{Call, begin, arrived, noReply, called, runBehind}
+use Rattle.client.specs.Calls.{beginBy, beginCall, runBy, replyCall, noReplyCall}
+use Rattle.client.specs.Decisions.{onReply, onNoReply}
 use Rattle.client.specs.NextRun.{beginLength, begun, goOn, repeated, learned, ended}
 use Rattle.client.specs.Rulings.{beginRuling, runRuling}
-use Rattle.client.specs.Run.{Lent, lengthsOf}
+use Rattle.client.specs.Run.{Lent, lengthsOf, nonceBytes}
 use Rattle.client.proofs.Issues.{issued-keeps, carried}
 use Rattle.client.proofs.Kept.{Issuing, nextOf}
 use Rattle.client.proofs.NextRuns.{holding-transaction, learned-transaction}
@@ -38,14 +39,14 @@ use Rattle.client.proofs.NextRuns.{holding-transaction, learned-transac
 -- what a call brings is of the types of its parameters: a time of 32 bits, 12 nonce bytes, and slices of bytes
 pub record TypedLent (l : Lent) : Type 0 where
   pub time : l .time < 2 ^ 32
-  pub twelve : length (l .nonce) ≡ 12
+  pub twelve : length (l .nonce) ≡ nonceBytes
   pub nonce : Bytes (l .nonce)
   pub payload : Bytes (l .payload)
 
 pub data Typed : Call → Type 0 where
   typed-begin : {way : Direction} {subscriber first : ℕ} {l : Lent} → TypedLent l → Typed (begin way subscriber first l)
   typed-reply : {frame : List ℕ} {l : Lent} → Bytes frame → TypedLent l → Typed (arrived frame l)
-  typed-silence : {l : Lent} → TypedLent l → Typed (silent l)
+  typed-no-reply : {l : Lent} → TypedLent l → Typed (noReply l)
 
 pub data AllTyped : List Call → Type 0 where
   typed-none : AllTyped []
@@ -88,8 +89,8 @@ reply-wide s b = wide-at s b (isReplyForm (form (parse s))) refl
 abbrev HasWide : Client → ℕ → Type 0
 HasWide c q = Wide (c .transaction)
 
-pub next-wide : (deed : Deed) → Issuing deed → (c : Client) (r : Fields) (d : ℕ) → Wide (transaction r) → Wide (c .transaction)
-    → Wide (nextOf deed c r d .transaction)
+pub next-wide : (decision : Decision) → Issuing decision → (c : Client) (r : Fields) (d : ℕ) → Wide (transaction r) → Wide (c .transaction)
+    → Wide (nextOf decision c r d .transaction)
 unfolding goOn repeated
 next-wide Ignore i c r d v w = absurd i
 next-wide Opened i c r d v w =
@@ -100,11 +101,11 @@ next-wide Repeat i c r d v w = w
 next-wide (Close u) i c r d v w = absurd i
 
 module _ (c : Client) (w : Wide (c .transaction)) where
-  ruled-wide : (x : Ruling) (deed : Deed) (r : Fields) (d : List ℕ) (l : Lent) → Wide (transaction r)
-      → Wide (runBy x deed c r d l .run .transaction)
+  ruled-wide : (x : Ruling) (decision : Decision) (r : Fields) (d : List ℕ) (l : Lent) → Wide (transaction r)
+      → Wide (runBy x decision c r d l .run .transaction)
   unfolding ended
-  ruled-wide (Refuse x) deed r d l v = w
-  ruled-wide Accept deed r d l v = carried HasWide deed c r d l 0 w (λ u. w) (λ i. next-wide deed i c r (length d) v w)
+  ruled-wide (Refuse x) decision r d l v = w
+  ruled-wide Accept decision r d l v = carried HasWide decision c r d l 0 w (λ u. w) (λ i. next-wide decision i c r (length d) v w)
 
   begun-wide : (x : Ruling) (way : Direction) (subscriber first : ℕ) (l : Lent)
       → Wide (beginBy x c way subscriber first l .run .transaction)
@@ -114,13 +115,13 @@ module _ (c : Client) (w : Wide (c .transaction)) where
       issued-keeps HasWide c (begun way subscriber first (beginLength way (lengthsOf l))) (l .file) l 0 w (omega arith, omega arith)
 
   call-wide : (k : Call) → Typed k → Wide (called c k .run .transaction)
-  unfolding beginCall replyCall silenceCall
+  unfolding beginCall replyCall noReplyCall
   call-wide (begin way subscriber first l) t = begun-wide (beginRuling c way subscriber first (lengthsOf l)) way subscriber first l
   call-wide (arrived frame l) (typed-reply b t) =
       let r = readReply frame in
       ruled-wide (runRuling (c .stage) c (lengthsOf l)) (onReply c r (length (dataOf frame))) r (dataOf frame) l (reply-wide frame b)
-  call-wide (silent l) t =
-      ruled-wide (runRuling (c .stage) c (lengthsOf l)) (onSilence c) noFields [] l (omega arith, omega arith)
+  call-wide (noReply l) t =
+      ruled-wide (runRuling (c .stage) c (lengthsOf l)) (onNoReply c) noFields [] l (omega arith, omega arith)
 
 pub transaction-wide : (c : Client) (ks : List Call) → AllTyped ks → Wide (c .transaction) → Wide (runBehind c ks .transaction)
 unfolding runBehind

@@ -5,19 +5,20 @@ use mathlib.Core.List.{List, []}
 use mathlib.Core.Logic.{inl, inr}
 use mathlib.Core.Path.{_≡_, refl, sym, ap, subst, _∙_}
 use native.Mathlib.Omega.{arith}
-use lib.Dec.{eqb}
 use lib.ListN.{length, take, drop, length-take, length-drop}
-use Rattle.frame.specs.declared.fields.Fields.{Fields}
-use Rattle.frame.specs.declared.table.Form.{Form}
+use Rattle.frame_table.specs.declared.fields.Fields.{Fields}
+use Rattle.frame_table.specs.declared.table.Form.{Form}
 use Rattle.frame.specs.declared.writer.Written.the-variants.{Length}
-use Rattle.frame.specs.Bytes.{Bytes, number}
-use Rattle.frame.specs.Names.{transaction}
-use Rattle.frame.specs.Reader.{noFields, readReply}
+use Rattle.octets.specs.Bytes.{Bytes, number}
+use Rattle.frame_table.specs.Names.{transaction}
+use Rattle.frame.specs.Reader.{readReply}
+use Rattle.frame_table.specs.Names.{noFields}
 use Rattle.frame.specs.Row.{dataOf}
 use Rattle.frame.proofs.Build.{written-in-front}
-use Rattle.frame.proofs.Numbers.{bytes-take, bytes-drop, bytesOf-number, number-lt}
+use Rattle.octets.proofs.Numbers.{bytes-take, bytes-drop, bytesOf-number, number-lt}
 use Rattle.message.specs.Limits.{segmentBytes}
 use Rattle.message.specs.Segments.{segmentsOf, segmentOf, lastMarkOf}
+use Rattle.message.proofs.SegmentNumbers.{mark-most}
 use Rattle.message.proofs.Writable.{
   WrittenAs,
   Wide,
@@ -31,25 +32,25 @@ use Rattle.message.proofs.Writable.{
 use Rattle.client.specs.declared.run.Answer.{Answer}
 use Rattle.client.specs.declared.run.Answer.the-variants as answer
 use Rattle.client.specs.declared.run.Client.{Client}
-use Rattle.client.specs.declared.run.Deed.{Deed}
-use Rattle.client.specs.declared.run.Deed.the-variants.{Ignore, Opened, Advance, Return, Repeat, Close}
+use Rattle.client.specs.declared.run.Decision.{Decision}
+use Rattle.client.specs.declared.run.Decision.the-variants.{Ignore, Opened, Advance, Return, Repeat, Close}
 use Rattle.client.specs.declared.run.Direction.{Direction}
 use Rattle.client.specs.declared.run.Direction.the-variants.{Upload, Download}
 use Rattle.client.specs.declared.run.Lengths.{Lengths}
 use Rattle.client.specs.declared.run.Ruling.{Ruling}
 use Rattle.client.specs.declared.run.Ruling.the-variants.{Accept}
 use Rattle.client.specs.declared.run.Step.the-variants as step
-use Rattle.client.specs.CallLists.{Call, begin, arrived, silent, called, runBehind, requests}
-use Rattle.client.specs.Calls.{isWritten, issued, taken, carryOut, beginCall, runBy, replyCall, silenceCall}
-use Rattle.client.specs.Decisions.{onReply, onSilence}
+use Rattle.client.specs.CallLists.{Call, begin, arrived, noReply, called, runBehind, requests}
+use Rattle.client.specs.Calls.{isWritten, issued, taken, carryOut, beginCall, runBy, replyCall, noReplyCall}
+use Rattle.client.specs.Decisions.{onReply, onNoReply}
 use Rattle.client.specs.NextRun.{beginLength, begun, repeated, learned, fileWith}
 use Rattle.client.specs.Rulings.{beginRuling, runRuling}
 use Rattle.client.specs.Requests.{nonceOf, outstanding, outstandingData}
-use Rattle.client.specs.Run.{Lent, lengthsOf, notBegun, requestRoom}
+use Rattle.client.specs.Run.{Lent, lengthsOf, nonceBytes, notBegun, requestRoom}
 use Rattle.client.proofs.Accepted.{Serves, SameLength, Accepted, accepted, Begins, begins}
 use Rattle.client.proofs.Apart.{not-both, not-new-running}
 use Rattle.client.proofs.Bounds.{begun-start, begun-exchange, Standing, new, going, standing-new}
-use Rattle.client.proofs.Causes.{by-test, Cause, by-reply, by-silence}
+use Rattle.client.proofs.Causes.{Cause, by-reply, by-no-reply}
 use Rattle.client.proofs.Course.{UpPlace, Up, up-segments, DownOpening, DownPlace, Down, Course, up, opening, down, Begun}
 use Rattle.client.proofs.Kept.{Issuing, nextOf, next-direction, next-length, begun-next}
 use Rattle.client.proofs.Transactions.{
@@ -57,7 +58,7 @@ use Rattle.client.proofs.Transactions.{
   Typed,
   typed-begin,
   typed-reply,
-  typed-silence,
+  typed-no-reply,
   AllTyped,
   reply-wide,
   next-wide,
@@ -69,7 +70,7 @@ use Rattle.client.proofs.Transactions.{
 number-small : (w : ℕ) (s : List ℕ) → Bytes s → length s ≡ w → number s < 256 ^ w
 number-small w s b e = subst (λ (l : List ℕ). number l < 256 ^ w) (bytesOf-number w s b e) (number-lt w (number s))
 
-nonce-wide : (s : List ℕ) (x : ℕ) → length s ≡ 12 → Bytes s → Wide (nonceOf s x)
+nonce-wide : (s : List ℕ) (x : ℕ) → length s ≡ nonceBytes → Bytes s → Wide (nonceOf s x)
 unfolding nonceOf
 nonce-wide s x e b =
     let low = number-small 4 (drop 8 s) (bytes-drop 8 s b) (simp length-drop (omega arith)) in
@@ -87,9 +88,6 @@ segment-content p s b first last = (
   },
   simp length-take (omega arith),
 )
-
-mark-small : (s n : ℕ) → lastMarkOf s n ≤ 1
-mark-small s n = by-test (λ (m : ℕ). m ≤ 1) (eqb s n) (λ e. omega arith) (λ e. omega arith)
 
 -- ---- the request that a run has outstanding
 
@@ -125,7 +123,7 @@ module _ (c : Client) (first q : ℕ) (b : Begun c first q) (v : Wide (c .transa
       let d = segment-content (l .payload) (c .segment) (t .payload) some (omega (arith, count, u .known, u .within)) in
       let w = upload-transfer-written (c .subscriber) (c .exchange) sender (c .transaction) v (c .segment)
       (lastMarkOf (c .segment) (c .segments)) (segmentOf (l .payload) (c .segment)) (omega (arith, u .known, u .within))
-      (mark-small (c .segment) (c .segments)) (d .0) in
+      (mark-most (c .segment) (c .segments)) (d .0) in
       sent (47 + length (segmentOf (l .payload) (c .segment))) w (omega (arith, d .1)) (rw (u .way, s)) (rw (u .way, s))
 
   down-opening-sent : DownOpening c q → Sent c l
@@ -187,16 +185,16 @@ payload-same Download c l s e = not-both e refl
 
 module _ (c : Client) (first q : ℕ) (b : Begun c first q) (v : Wide (c .transaction)) (l : Lent) (t : TypedLent l)
     (a : Accepted c (lengthsOf l)) (r : Fields) (d : List ℕ) (w : Wide (transaction r)) where
-  next-sent : (deed : Deed) → Issuing deed → Cause c r (length d) deed → Sent (nextOf deed c r (length d)) l
-  next-sent deed i k =
-      let same : nextOf deed c r (length d) .direction ≡ Upload → nextOf deed c r (length d) .length ≡ length (l .payload) =
+  next-sent : (decision : Decision) → Issuing decision → Cause c r (length d) decision → Sent (nextOf decision c r (length d)) l
+  next-sent decision i k =
+      let same : nextOf decision c r (length d) .direction ≡ Upload → nextOf decision c r (length d) .length ≡ length (l .payload) =
       λ e.
-      let u = sym (next-direction deed i c r (length d)) ∙ e in
-      next-length deed i c r (length d) u ∙ payload-same (c .direction) c (lengthsOf l) (a .length) u in
-      outstanding-sent (nextOf deed c r (length d)) first (q + 1) (begun-next c first q b r (length d) deed i k)
-      (next-wide deed i c r (length d) w v) l t same (room-served (c .direction) (lengthsOf l) (a .buffers))
+      let u = sym (next-direction decision i c r (length d)) ∙ e in
+      next-length decision i c r (length d) u ∙ payload-same (c .direction) c (lengthsOf l) (a .length) u in
+      outstanding-sent (nextOf decision c r (length d)) first (q + 1) (begun-next c first q b r (length d) decision i k)
+      (next-wide decision i c r (length d) w v) l t same (room-served (c .direction) (lengthsOf l) (a .buffers))
 
-  carried-unrefused : (deed : Deed) → Cause c r (length d) deed → Unrefused (carryOut deed c r d l .answer)
+  carried-unrefused : (decision : Decision) → Cause c r (length d) decision → Unrefused (carryOut decision c r d l .answer)
   unfolding taken
   carried-unrefused Ignore k = 0
   carried-unrefused Opened k =
@@ -222,18 +220,19 @@ begin-sent c way subscriber first l t b =
 abbrev pub ruling : Client → Call → Ruling
 ruling c (begin way subscriber first l) = beginRuling c way subscriber first (lengthsOf l)
 ruling c (arrived frame l) = runRuling (c .stage) c (lengthsOf l)
-ruling c (silent l) = runRuling (c .stage) c (lengthsOf l)
+ruling c (noReply l) = runRuling (c .stage) c (lengthsOf l)
 
 module _ (c : Client) (q : ℕ) (v : Wide (c .transaction)) where
-  run-unrefused : (deed : Deed) (r : Fields) (d : List ℕ) (l : Lent) → TypedLent l → Wide (transaction r) → Cause c r (length d) deed
-      → Standing c q → runRuling (c .stage) c (lengthsOf l) ≡ Accept
-      → Unrefused (runBy (runRuling (c .stage) c (lengthsOf l)) deed c r d l .answer)
-  run-unrefused deed r d l t w k (new n z) e =
+  run-unrefused : (decision : Decision) (r : Fields) (d : List ℕ) (l : Lent) → TypedLent l → Wide (transaction r)
+      → Cause c r (length d) decision → Standing c q → runRuling (c .stage) c (lengthsOf l) ≡ Accept
+      → Unrefused (runBy (runRuling (c .stage) c (lengthsOf l)) decision c r d l .answer)
+  run-unrefused decision r d l t w k (new n z) e =
       not-new-running (ap (λ (x : Client). x .stage) n) (accepted c (lengthsOf l) e .running)
-  run-unrefused deed r d l t w k (going first g b) e = rw e (carried-unrefused c first q b v l t (accepted c (lengthsOf l) e) r d w deed k)
+  run-unrefused decision r d l t w k (going first g b) e =
+      rw e (carried-unrefused c first q b v l t (accepted c (lengthsOf l) e) r d w decision k)
 
   call-unrefused : (k : Call) → Typed k → Standing c q → ruling c k ≡ Accept → Unrefused (called c k .answer)
-  unfolding beginCall replyCall silenceCall
+  unfolding beginCall replyCall noReplyCall
   call-unrefused (begin way subscriber first l) (typed-begin t) s e =
       rw e
       (issued-unrefused c (begun way subscriber first (beginLength way (lengthsOf l))) (l .file) l
@@ -242,8 +241,8 @@ module _ (c : Client) (q : ℕ) (v : Wide (c .transaction)) where
       let r = readReply frame in
       let d = dataOf frame in
       run-unrefused (onReply c r (length d)) r d l t (reply-wide frame b) (by-reply c r (length d)) s e
-  call-unrefused (silent l) (typed-silence t) s e =
-      run-unrefused (onSilence c) noFields [] l t (omega arith, omega arith) (by-silence c noFields 0) s e
+  call-unrefused (noReply l) (typed-no-reply t) s e =
+      run-unrefused (onNoReply c) noFields [] l t (omega arith, omega arith) (by-no-reply c noFields 0) s e
 
 -- over every list of calls to a run: one more call that its ruling lets pass is given no number, and a request has at most 303 bytes
 pub unrefused : (ks : List Call) → AllTyped ks → (k : Call) → Typed k → ruling (runBehind notBegun ks) k ≡ Accept

@@ -7,18 +7,18 @@ use Rattle.client.specs.declared.run.Client.{Client}
 use Rattle.client.specs.declared.run.Direction.{Direction}
 use Rattle.client.specs.declared.run.Direction.the-variants.{Upload, Download}
 use Rattle.client.specs.Run.{Lent, ClientCall}
-use Rattle.client.specs.Calls.{beginCall, replyCall, silenceCall}
+use Rattle.client.specs.Calls.{beginCall, replyCall, noReplyCall}
 
 -- "begin, reply arrived, no reply", with all that the call brings and is lent
 pub data Call : Type 0 where
   begin : Direction → ℕ → ℕ → Lent → Call
   arrived : List ℕ → Lent → Call
-  silent : Lent → Call
+  noReply : Lent → Call
 
 abbrev pub called : Client → Call → ClientCall
 called c (begin way subscriber first l) = beginCall c way subscriber first l
 called c (arrived frame l) = replyCall c frame l
-called c (silent l) = silenceCall c l
+called c (noReply l) = noReplyCall c l
 
 -- "A client run is handed in and handed back at each call": the run behind a list of calls
 unfoldable pub runBehind : Client → List Call → Client

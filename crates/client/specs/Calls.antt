@@ -2,23 +2,24 @@
 use Prim.Native.Nat.{ℕ, _+_}
 use mathlib.Core.List.{List, []}
 use lib.ListN.{length}
-use Rattle.frame.specs.declared.fields.Fields.{Fields}
+use Rattle.frame_table.specs.declared.fields.Fields.{Fields}
 use Rattle.frame.specs.declared.writer.Written.{Written}
 use Rattle.frame.specs.declared.writer.Written.the-variants as written
-use Rattle.frame.specs.Reader.{noFields, readReply}
+use Rattle.frame.specs.Reader.{readReply}
+use Rattle.frame_table.specs.Names.{noFields}
 use Rattle.frame.specs.Row.{dataOf}
 use Rattle.frame.specs.Writer.{writeAnswer, writeBuffer}
 use Rattle.client.specs.declared.run.Answer.the-variants as answer
 use Rattle.client.specs.declared.run.Client.{Client}
-use Rattle.client.specs.declared.run.Deed.{Deed}
-use Rattle.client.specs.declared.run.Deed.the-variants.{Ignore, Opened, Advance, Return, Repeat, Close}
+use Rattle.client.specs.declared.run.Decision.{Decision}
+use Rattle.client.specs.declared.run.Decision.the-variants.{Ignore, Opened, Advance, Return, Repeat, Close}
 use Rattle.client.specs.declared.run.Direction.{Direction}
 use Rattle.client.specs.declared.run.Outcome.{Outcome}
 use Rattle.client.specs.declared.run.Refusal.{Refusal}
 use Rattle.client.specs.declared.run.Refusal.the-variants.{WrongBuffer}
 use Rattle.client.specs.declared.run.Ruling.{Ruling}
 use Rattle.client.specs.declared.run.Ruling.the-variants.{Refuse, Accept}
-use Rattle.client.specs.Decisions.{onReply, onSilence}
+use Rattle.client.specs.Decisions.{onReply, onNoReply}
 use Rattle.client.specs.NextRun.{beginLength, begun, goOn, repeated, learned, holding, fileWith, ended}
 use Rattle.client.specs.Requests.{outstanding, outstandingData}
 use Rattle.client.specs.Rulings.{beginRuling, runRuling}
@@ -59,8 +60,8 @@ unchanged o l = callOf o (l .file) (l .request)
 abbrev pub refused : Refusal → Client → Lent → ClientCall
 refused r c l = unchanged (record { run = c; answer = answer.Refused r }) l
 
--- what a deed makes of the run and the buffers; r and d are the reply's fields and data
-abbrev pub carryOut : Deed → Client → Fields → List ℕ → Lent → ClientCall
+-- what a decision makes of the run and the buffers; r and d are the reply's fields and data
+abbrev pub carryOut : Decision → Client → Fields → List ℕ → Lent → ClientCall
 carryOut Ignore c r d l = unchanged (record { run = c; answer = answer.Ignored }) l
 carryOut Opened c r d l = taken c (learned (c .direction) r c) d l
 carryOut Advance c r d l = taken c c d l
@@ -76,15 +77,18 @@ beginBy Accept c way subscriber first l = issued c (begun way subscriber first (
 unfoldable pub beginCall : Client → Direction → ℕ → ℕ → Lent → ClientCall
 beginCall c way subscriber first l = beginBy (beginRuling c way subscriber first (lengthsOf l)) c way subscriber first l
 
-abbrev pub runBy : Ruling → Deed → Client → Fields → List ℕ → Lent → ClientCall
-runBy (Refuse x) deed c r d l = refused x c l
-runBy Accept deed c r d l = carryOut deed c r d l
+abbrev pub runBy : Ruling → Decision → Client → Fields → List ℕ → Lent → ClientCall
+runBy (Refuse x) decision c r d l = refused x c l
+runBy Accept decision c r d l = carryOut decision c r d l
+
+-- a reply arrived or none: the decision to which it led is carried out, or the call is given a number
+abbrev pub runCall : Decision → Client → Fields → List ℕ → Lent → ClientCall
+runCall decision c r d l = runBy (runRuling (c .stage) c (lengthsOf l)) decision c r d l
 
 -- reply arrived
 unfoldable pub replyCall : Client → List ℕ → Lent → ClientCall
-replyCall c frame l =
-    runBy (runRuling (c .stage) c (lengthsOf l)) (onReply c (readReply frame) (length (dataOf frame))) c (readReply frame) (dataOf frame) l
+replyCall c frame l = runCall (onReply c (readReply frame) (length (dataOf frame))) c (readReply frame) (dataOf frame) l
 
 -- no reply
-unfoldable pub silenceCall : Client → Lent → ClientCall
-silenceCall c l = runBy (runRuling (c .stage) c (lengthsOf l)) (onSilence c) c noFields [] l
+unfoldable pub noReplyCall : Client → Lent → ClientCall
+noReplyCall c l = runCall (onNoReply c) c noFields [] l

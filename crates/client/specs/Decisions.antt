@@ -1,13 +1,13 @@
 -- "The client run": what fits each step, and what each event leads to.
-use Prim.Native.Nat.{ℕ}
+use Prim.Native.Nat.{ℕ, _+_}
 use mathlib.Core.Bool.{Bool, not, cond, _&&_, _||_}
 use mathlib.Core.List.{List, [], _∷_}
 use lib.Dec.{ltb, leb, eqb}
-use Rattle.frame.specs.declared.fields.Fields.{Fields}
-use Rattle.frame.specs.declared.table.Form.{Form}
-use Rattle.frame.specs.declared.table.Form.the-variants as forms
-use Rattle.frame.specs.Names.{phase, exchange, segments, transaction, segment, lastMark, returnCode, form, sameBits}
-use Rattle.frame.specs.Table.{isReplyForm}
+use Rattle.frame_table.specs.declared.fields.Fields.{Fields}
+use Rattle.frame_table.specs.declared.table.Form.{Form}
+use Rattle.frame_table.specs.declared.table.Form.the-variants as forms
+use Rattle.frame_table.specs.Names.{phase, exchange, segments, transaction, segment, lastMark, returnCode, form, sameBits}
+use Rattle.frame_table.specs.Table.{isReplyForm}
 use Rattle.message.specs.declared.codes.ReturnCode.{ReturnCode}
 use Rattle.message.specs.declared.codes.ReturnCode.the-variants as code
 use Rattle.message.specs.Codes.{codeField}
@@ -15,8 +15,8 @@ use Rattle.message.specs.Limits.{segmentBytes, segmentsMost, attemptsMost, init
 use Rattle.message.specs.Segments.{lastMarkOf}
 use Rattle.message.specs.Verdicts.{decide}
 use Rattle.client.specs.declared.run.Client.{Client}
-use Rattle.client.specs.declared.run.Deed.{Deed}
-use Rattle.client.specs.declared.run.Deed.the-variants.{Ignore, Opened, Advance, Return, Repeat, Close}
+use Rattle.client.specs.declared.run.Decision.{Decision}
+use Rattle.client.specs.declared.run.Decision.the-variants.{Ignore, Opened, Advance, Return, Repeat, Close}
 use Rattle.client.specs.declared.run.Direction.{Direction}
 use Rattle.client.specs.declared.run.Direction.the-variants.{Upload, Download}
 use Rattle.client.specs.declared.run.Step.{Step}
@@ -87,13 +87,17 @@ fitsSegment s n d r = leb s segmentsMost && eqb (lastMark r) (lastMarkOf s n) &&
 unfoldable pub isPoint : ℕ → Client → Fields → Bool
 isPoint first c r = says forms.SegmentTaken code.RecoverySync (cond (eqb (segment r) first) initialisation transfer) r && isOwn c r
 
--- an upload's recovery point leads on "if r < N and segment r + 1 was issued or is next", as one of five
-unfoldable pub uploadReturns : Client → Fields → Bool
-uploadReturns c r = isPoint 0 c r && ltb (segment r) (c .segments) && leb (segment r) (c .issued) && mayRepeat c
+-- a recovery point leads on if it is below a number of segments and at most the last that the run reached, as one of five
+unfoldable pub goesBack : ℕ → ℕ → ℕ → Client → Fields → Bool
+goesBack first below reached c r = isPoint first c r && ltb (segment r) below && leb (segment r) reached && mayRepeat c
 
--- a download's leads on "if segments 1 to r are held" (no call leaves more than 15), as one of five
+-- an upload's "if r < N and segment r + 1 was issued or is next"
+unfoldable pub uploadReturns : Client → Fields → Bool
+uploadReturns c r = goesBack 0 (c .segments) (c .issued) c r
+
+-- a download's "if segments 1 to r are held" (no call leaves more than 15)
 unfoldable pub downloadReturns : Client → Fields → Bool
-downloadReturns c r = isPoint 1 c r && leb (segment r) (c .held) && leb (segment r) segmentsMost && mayRepeat c
+downloadReturns c r = goesBack 1 (segmentsMost + 1) (c .held) c r
 
 -- a download's opening is answered: "a download's N must be 1 to 15", "segment 1 is in it"
 unfoldable pub opensDownload : ℕ → Fields → Bool
@@ -121,7 +125,7 @@ unfoldable pub confirms : Client → Fields → Bool
 confirms c r = says forms.ReceiptAnswered code.DownloadPostprocessDone receiptPhase r && isOwn c r
 
 -- what a reply under the outstanding exchange number leads to in an upload, by step, from top to bottom: "No 061101 fits an opening"
-abbrev pub uploadRules : Step → Client → Fields → List (Bool × Deed)
+abbrev pub uploadRules : Step → Client → Fields → List (Bool × Decision)
 uploadRules step.Opening c r = (says forms.UploadOpened code.Ok initialisation r, Opened) ∷ []
 uploadRules step.Segment c r =
     (lodges c r, Close Lodged)
@@ -132,20 +136,20 @@ uploadRules step.Segment c r =
 uploadRules step.Receipt c r = []
 
 -- the same in a download; d is the length of the reply's data
-abbrev pub downloadRules : Step → Client → Fields → ℕ → List (Bool × Deed)
+abbrev pub downloadRules : Step → Client → Fields → ℕ → List (Bool × Decision)
 downloadRules step.Opening c r d = (opensDownload d r, Opened) ∷ []
 downloadRules step.Segment c r d = (bringsSegment c r d, Advance) ∷ (downloadReturns c r, Return (segment r)) ∷ []
 downloadRules step.Receipt c r d = (confirms c r, Close Fetched) ∷ (downloadReturns c r, Return (segment r)) ∷ []
 
 -- "the sixth ends the run, as does any other or ill-fitting reply"
-unfoldable pub onUpload : Step → Client → Fields → Deed
+unfoldable pub onUpload : Step → Client → Fields → Decision
 onUpload at c r = decide (uploadRules at c r) (Close (restWord c))
 
-unfoldable pub onDownload : Step → Client → Fields → ℕ → Deed
+unfoldable pub onDownload : Step → Client → Fields → ℕ → Decision
 onDownload at c r d = decide (downloadRules at c r d) (Close (restWord c))
 
 -- the outstanding request is answered
-abbrev pub onAnswer : Direction → Client → Fields → ℕ → Deed
+abbrev pub onAnswer : Direction → Client → Fields → ℕ → Decision
 onAnswer Upload c r d = onUpload (c .step) c r
 onAnswer Download c r d = onDownload (c .step) c r d
 
@@ -154,9 +158,9 @@ unfoldable pub isAnswer : Client → Fields → Bool
 isAnswer c r = isReplyForm (form r) && not (eqb (formIndex (form r)) (formIndex forms.Unreadable)) && eqb (exchange r) (c .exchange)
 
 -- a reply arrived: r is what is read of it, d the length of its data
-unfoldable pub onReply : Client → Fields → ℕ → Deed
+unfoldable pub onReply : Client → Fields → ℕ → Decision
 onReply c r d = cond (isAnswer c r) (onAnswer (c .direction) c r d) Ignore
 
 -- "No reply repeats the request under a new exchange number"
-unfoldable pub onSilence : Client → Deed
-onSilence c = cond (mayRepeat c) Repeat (Close (restWord c))
+unfoldable pub onNoReply : Client → Decision
+onNoReply c = cond (mayRepeat c) Repeat (Close (restWord c))

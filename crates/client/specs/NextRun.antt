@@ -3,9 +3,9 @@ use Prim.Native.Nat.{ℕ, _+_, _-_, _*_, max}
 use mathlib.Core.Bool.{Bool, false, cond, _||_}
 use mathlib.Core.List.{List}
 use lib.Dec.{eqb}
-use Rattle.frame.specs.declared.fields.Fields.{Fields}
-use Rattle.frame.specs.Bytes.{overwrite}
-use Rattle.frame.specs.Names.{segments, transaction, orderNumber}
+use Rattle.frame_table.specs.declared.fields.Fields.{Fields}
+use Rattle.octets.specs.Bytes.{overwrite}
+use Rattle.frame_table.specs.Names.{segments, transaction, orderNumber}
 use Rattle.message.specs.Limits.{segmentBytes}
 use Rattle.message.specs.Segments.{segmentsOf}
 use Rattle.client.specs.declared.run.Client.{Client}
@@ -129,27 +129,28 @@ abbrev pub isNew : Direction → Client → Bool
 isNew Upload c = false
 isNew Download c = eqb (c .segment) (c .held + 1)
 
+-- the run with its outstanding segment, of d bytes, newly held
+abbrev pub grown : ℕ → Client → Client
+grown d c = record {
+  stage = c .stage;
+  direction = c .direction;
+  step = c .step;
+  subscriber = c .subscriber;
+  exchange = c .exchange;
+  repeats = c .repeats;
+  transaction = c .transaction;
+  number = c .number;
+  length = (c .segment - 1) * segmentBytes + d;
+  segments = c .segments;
+  segment = c .segment;
+  issued = c .issued;
+  held = c .held + 1;
+  receipted = c .receipted;
+}
+
 -- the run with its outstanding segment, of d bytes, held
 unfoldable pub holding : ℕ → Client → Client
-holding d c =
-    cond (isNew (c .direction) c)
-    (record {
-      stage = c .stage;
-      direction = c .direction;
-      step = c .step;
-      subscriber = c .subscriber;
-      exchange = c .exchange;
-      repeats = c .repeats;
-      transaction = c .transaction;
-      number = c .number;
-      length = (c .segment - 1) * segmentBytes + d;
-      segments = c .segments;
-      segment = c .segment;
-      issued = c .issued;
-      held = c .held + 1;
-      receipted = c .receipted;
-    })
-    c
+holding d c = cond (isNew (c .direction) c) (grown d c) c
 
 -- "Only ... a newly held segment's bytes are written ...; one held already is not written again"
 unfoldable pub fileWith : Client → List ℕ → List ℕ → List ℕ

@@ -74,7 +74,11 @@ notBegun = record {
   receipted = false;
 }
 
--- what is lent to a call: the time, 12 nonce bytes, the payload, the file buffer and the request buffer
+-- "a nonce is 12 lent bytes, then the exchange number"
+abbrev pub nonceBytes : ℕ
+nonceBytes = 12
+
+-- what is lent to a call: the time, the nonce bytes, the payload, the file buffer and the request buffer
 pub record Lent : Type 0 where
   pub time : ℕ
   pub nonce : List ℕ

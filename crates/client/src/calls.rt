@@ -1,6 +1,6 @@
 // The calls: begin, a reply arrived, no reply. Each takes the run and returns the next.
+use crate::decisions::on_no_reply;
 use crate::decisions::on_reply;
-use crate::decisions::on_silence;
 use crate::next_run::begin_length;
 use crate::next_run::begun;
 use crate::next_run::ended;
@@ -16,34 +16,36 @@ use crate::rulings::begin_ruling;
 use crate::rulings::run_ruling;
 use crate::run::Answer;
 use crate::run::Client;
-use crate::run::Deed;
+use crate::run::Decision;
 use crate::run::Direction;
 use crate::run::Lengths;
+use crate::run::NONCE_BYTES;
 use crate::run::Outcome;
 use crate::run::Refusal;
 use crate::run::Ruling;
 use crate::run::Word;
-use frame::bytes::copy;
-use frame::fields::Fields;
 use frame::reader::data;
 use frame::reader::read_reply;
 use frame::writer::Written;
 use frame::writer::write;
+use frame_table::fields::Fields;
 use message::limits::SEGMENT_BYTES;
+use octets::bytes::copy;
 ghost use mathlib.Core.Path.{_≡_};
 ghost use mathlib.Core.Bool.{true};
 ghost use mathlib.Core.Logic.{_⊎_};
 ghost use mathlib.Core.List.{List};
 ghost use Prim.Native.Nat.{ℕ, _+_, _-_, _*_, _^_, _≤_, _<_};
 ghost use lib.ListN.{length};
-ghost use Rattle.frame.specs.Bytes.{overwrite};
+ghost use Rattle.octets.specs.Bytes.{overwrite};
 ghost use Rattle.frame.specs.Writer.{writeAnswer, writeBuffer};
 ghost use Rattle.message.specs.Limits.{segmentBytes, segmentsMost, fileBytes};
-ghost use Rattle.client.specs.Decisions.{onReply, onSilence};
+ghost use Rattle.client.specs.Decisions.{onReply, onNoReply};
 ghost use Rattle.client.specs.NextRun.{isNew, fileWith, ended};
 ghost use Rattle.client.specs.Requests.{outstanding, outstandingData};
 ghost use Rattle.client.specs.Run.{lentOf, callOf, exchangeMost};
-ghost use Rattle.client.specs.Calls.{ifWritten, outcomeOf, issued, taken, carryOut, beginCall, replyCall, silenceCall};
+ghost use Rattle.client.specs.Calls.{ifWritten, outcomeOf, issued, taken, carryOut, runCall};
+ghost use Rattle.client.specs.Calls.{beginCall, replyCall, noReplyCall};
 
 // Writes the bytes of segment s, from 1 on, to their place in the file.
 fn put_segment(s: u64, d: &[u8], file: &mut [u8])
@@ -68,7 +70,7 @@ fn hold(c: Client, d: &[u8], file: &mut [u8])
 fn write_request(
     c: Client,
     time: u32,
-    nonce: [u8; 12],
+    nonce: [u8; NONCE_BYTES],
     payload: &[u8],
     request: &mut [u8],
 ) -> Written
@@ -113,7 +115,7 @@ fn issue(
     c: Client,
     next: Client,
     time: u32,
-    nonce: [u8; 12],
+    nonce: [u8; NONCE_BYTES],
     payload: &[u8],
     request: &mut [u8],
 ) -> Outcome
@@ -130,7 +132,7 @@ fn take_segment(
     k: Client,
     d: &[u8],
     time: u32,
-    nonce: [u8; 12],
+    nonce: [u8; NONCE_BYTES],
     payload: &[u8],
     file: &mut [u8],
     request: &mut [u8],
@@ -167,33 +169,61 @@ fn refused(x: Refusal, c: Client) -> Outcome
     }
 }
 
-// What the deed, to which a reply or silence led, makes of the run and the buffers.
+// What the decision, to which a reply or no reply led, makes of the run and the buffers.
 fn carry_out(
-    deed: Deed,
+    decision: Decision,
     c: Client,
     r: Fields,
     d: &[u8],
     time: u32,
-    nonce: [u8; 12],
+    nonce: [u8; NONCE_BYTES],
     payload: &[u8],
     file: &mut [u8],
     request: &mut [u8],
 ) -> Outcome
-    requires { ⌜ ((deed ≡ onReply c r (length (now d))) ⊎ (deed ≡ onSilence c)) × (c .exchange ≤ exchangeMost)
+    requires { ⌜ ((decision ≡ onReply c r (length (now d))) ⊎ (decision ≡ onNoReply c)) × (c .exchange ≤ exchangeMost)
         × (c .direction ≡ Direction.Download → length (now file) ≡ fileBytes) ⌝ }
     ensures { λ o. ⌜ callOf o (now (file .exit)) (now (request .exit))
-        ≡ carryOut deed c r (now (d .entry)) (lentOf time nonce (now (payload .entry)) (now (file .entry)) (now (request .entry))) ⌝ }
+        ≡ carryOut decision c r (now (d .entry)) (lentOf time nonce (now (payload .entry)) (now (file .entry)) (now (request .entry))) ⌝ }
 {
-    match deed {
-        Deed::Ignore => Outcome {
+    match decision {
+        Decision::Ignore => Outcome {
             run: c,
             answer: Answer::Ignored,
         },
-        Deed::Opened => take_segment(c, learned(r, c), d, time, nonce, payload, file, request),
-        Deed::Advance => take_segment(c, c, d, time, nonce, payload, file, request),
-        Deed::Return(s) => issue(c, go_on(s, c.repeats + 1, c), time, nonce, payload, request),
-        Deed::Repeat => issue(c, repeated(c), time, nonce, payload, request),
-        Deed::Close(w) => close(w, c),
+        Decision::Opened => take_segment(c, learned(r, c), d, time, nonce, payload, file, request),
+        Decision::Advance => take_segment(c, c, d, time, nonce, payload, file, request),
+        Decision::Return(s) => issue(c, go_on(s, c.repeats + 1, c), time, nonce, payload, request),
+        Decision::Repeat => issue(c, repeated(c), time, nonce, payload, request),
+        Decision::Close(w) => close(w, c),
+    }
+}
+
+// A call with the decision to which a reply or no reply led: it is carried out, or the call is given a number.
+fn run_call(
+    decision: Decision,
+    c: Client,
+    r: Fields,
+    d: &[u8],
+    time: u32,
+    nonce: [u8; NONCE_BYTES],
+    payload: &[u8],
+    file: &mut [u8],
+    request: &mut [u8],
+) -> Outcome
+    requires { ⌜ ((decision ≡ onReply c r (length (now d))) ⊎ (decision ≡ onNoReply c)) ⌝ }
+    ensures { λ o. ⌜ callOf o (now (file .exit)) (now (request .exit))
+        ≡ runCall decision c r (now (d .entry)) (lentOf time nonce (now (payload .entry)) (now (file .entry)) (now (request .entry))) ⌝ }
+{
+    let l = Lengths {
+        payload: payload.len(),
+        file: file.len(),
+        request: request.len(),
+    };
+    let ruling = run_ruling(c, l);
+    match ruling {
+        Ruling::Refuse(x) => refused(x, c),
+        Ruling::Accept => carry_out(decision, c, r, d, time, nonce, payload, file, request),
     }
 }
 
@@ -205,7 +235,7 @@ impl Client {
         subscriber: u64,
         first: u64,
         time: u32,
-        nonce: [u8; 12],
+        nonce: [u8; NONCE_BYTES],
         payload: &[u8],
         file: &mut [u8],
         request: &mut [u8],
@@ -237,7 +267,7 @@ impl Client {
         self,
         frame: &[u8],
         time: u32,
-        nonce: [u8; 12],
+        nonce: [u8; NONCE_BYTES],
         payload: &[u8],
         file: &mut [u8],
         request: &mut [u8],
@@ -245,57 +275,35 @@ impl Client {
         ensures { λ o. ⌜ callOf o (now (file .exit)) (now (request .exit))
             ≡ replyCall self (now (frame .entry)) (lentOf time nonce (now (payload .entry)) (now (file .entry)) (now (request .entry))) ⌝ }
     {
-        let l = Lengths {
-            payload: payload.len(),
-            file: file.len(),
-            request: request.len(),
-        };
-        let ruling = run_ruling(self, l);
-        match ruling {
-            Ruling::Refuse(x) => refused(x, self),
-            Ruling::Accept => {
-                let r = read_reply(frame);
-                let d = data(frame);
-                let deed = on_reply(self, r, d.len());
-                carry_out(deed, self, r, d, time, nonce, payload, file, request)
-            }
-        }
+        let r = read_reply(frame);
+        let d = data(frame);
+        let decision = on_reply(self, r, d.len());
+        run_call(decision, self, r, d, time, nonce, payload, file, request)
     }
 
     // No reply came.
     pub fn no_reply(
         self,
         time: u32,
-        nonce: [u8; 12],
+        nonce: [u8; NONCE_BYTES],
         payload: &[u8],
         file: &mut [u8],
         request: &mut [u8],
     ) -> Outcome
         ensures { λ o. ⌜ callOf o (now (file .exit)) (now (request .exit))
-            ≡ silenceCall self (lentOf time nonce (now (payload .entry)) (now (file .entry)) (now (request .entry))) ⌝ }
+            ≡ noReplyCall self (lentOf time nonce (now (payload .entry)) (now (file .entry)) (now (request .entry))) ⌝ }
     {
-        let l = Lengths {
-            payload: payload.len(),
-            file: file.len(),
-            request: request.len(),
-        };
-        let ruling = run_ruling(self, l);
-        match ruling {
-            Ruling::Refuse(x) => refused(x, self),
-            Ruling::Accept => {
-                let deed = on_silence(self);
-                carry_out(
-                    deed,
-                    self,
-                    Fields::none(),
-                    no_data(payload),
-                    time,
-                    nonce,
-                    payload,
-                    file,
-                    request,
-                )
-            }
-        }
+        let decision = on_no_reply(self);
+        run_call(
+            decision,
+            self,
+            Fields::none(),
+            no_data(payload),
+            time,
+            nonce,
+            payload,
+            file,
+            request,
+        )
     }
 }

@@ -1,13 +1,13 @@
 // What fits each step of a run, and what each event leads to.
 use crate::run::Client;
-use crate::run::Deed;
+use crate::run::Decision;
 use crate::run::Direction;
 use crate::run::Step;
 use crate::run::Word;
-use frame::fields::Fields;
-use frame::fields::same;
-use frame::table::Form;
-use frame::table::is_reply_form;
+use frame_table::fields::Fields;
+use frame_table::fields::same;
+use frame_table::table::Form;
+use frame_table::table::is_reply_form;
 use message::codes::ReturnCode;
 use message::codes::code_field;
 use message::limits::ATTEMPTS_MOST;
@@ -22,9 +22,9 @@ ghost use mathlib.Core.Bool.{cond};
 ghost use lib.Dec.{eqb};
 ghost use Rattle.message.specs.Limits.{initialisation, transfer};
 ghost use Rattle.client.specs.Decisions.{formIndex, says, isOwn, closingWord, restWord, mayRepeat};
-ghost use Rattle.client.specs.Decisions.{endsUpload, answersSegment, fitsData, fitsSegment, isPoint, uploadReturns};
+ghost use Rattle.client.specs.Decisions.{endsUpload, answersSegment, fitsData, fitsSegment, isPoint, goesBack, uploadReturns};
 ghost use Rattle.client.specs.Decisions.{downloadReturns, opensDownload, lodges, takesSegment, bringsSegment, confirms};
-ghost use Rattle.client.specs.Decisions.{onUpload, onDownload, onAnswer, isAnswer, onReply, onSilence};
+ghost use Rattle.client.specs.Decisions.{onUpload, onDownload, onAnswer, isAnswer, onReply, onNoReply};
 
 // The place of a form in document 01's list.
 fn form_index(form: Form) -> u64
@@ -189,38 +189,35 @@ fn is_point(first: u64, c: Client, r: Fields) -> bool
     is_own(c, r)
 }
 
+// Whether the reply is a recovery point to go on from: below a number of segments, at most the last reached, and a return left.
+fn goes_back(first: u64, below: u64, reached: u64, c: Client, r: Fields) -> bool
+    ensures { λ b. ⌜ b ≡ goesBack first below reached c r ⌝ }
+{
+    if !is_point(first, c, r) {
+        return false;
+    }
+    let point = r.segment();
+    if below <= point {
+        return false;
+    }
+    if reached < point {
+        return false;
+    }
+    may_repeat(c)
+}
+
 // Whether the reply is a recovery point that an upload goes on from.
 fn upload_returns(c: Client, r: Fields) -> bool
     ensures { λ b. ⌜ b ≡ uploadReturns c r ⌝ }
 {
-    if !is_point(0, c, r) {
-        return false;
-    }
-    let point = r.segment();
-    if c.segments <= point {
-        return false;
-    }
-    if c.issued < point {
-        return false;
-    }
-    may_repeat(c)
+    goes_back(0, c.segments, c.issued, c, r)
 }
 
 // Whether the reply is a recovery point that a download goes on from.
 fn download_returns(c: Client, r: Fields) -> bool
     ensures { λ b. ⌜ b ≡ downloadReturns c r ⌝ }
 {
-    if !is_point(1, c, r) {
-        return false;
-    }
-    let point = r.segment();
-    if c.held < point {
-        return false;
-    }
-    if SEGMENTS_MOST < point {
-        return false;
-    }
-    may_repeat(c)
+    goes_back(1, SEGMENTS_MOST + 1, c.held, c, r)
 }
 
 // Whether the reply, with d bytes of data, answers a download's opening.
@@ -244,13 +241,13 @@ fn opens_download(d: usize, r: Fields) -> bool
 }
 
 // An upload's opening is outstanding.
-fn on_upload_opening(c: Client, r: Fields) -> Deed
+fn on_upload_opening(c: Client, r: Fields) -> Decision
     ensures { λ e. ⌜ e ≡ onUpload Step.Opening c r ⌝ }
 {
     if says(Form::UploadOpened, ReturnCode::Ok, INITIALISATION, r) {
-        return Deed::Opened;
+        return Decision::Opened;
     }
-    Deed::Close(rest_word(c))
+    Decision::Close(rest_word(c))
 }
 
 // Whether the reply answers segment N of an upload.
@@ -274,44 +271,32 @@ fn takes_segment(c: Client, r: Fields) -> bool
 }
 
 // An upload's segment is outstanding.
-fn on_upload_segment(c: Client, r: Fields) -> Deed
+fn on_upload_segment(c: Client, r: Fields) -> Decision
     ensures { λ e. ⌜ e ≡ onUpload Step.Segment c r ⌝ }
 {
     if lodges(c, r) {
-        return Deed::Close(Word::Lodged);
+        return Decision::Close(Word::Lodged);
     }
     if takes_segment(c, r) {
-        return Deed::Advance;
+        return Decision::Advance;
     }
     if upload_returns(c, r) {
-        return Deed::Return(r.segment());
+        return Decision::Return(r.segment());
     }
     if ends_upload(r) {
-        return Deed::Close(Word::NotLodged);
+        return Decision::Close(Word::NotLodged);
     }
-    Deed::Close(rest_word(c))
-}
-
-// The outstanding request of an upload is answered. An upload has no receipt.
-fn on_upload(c: Client, r: Fields) -> Deed
-    ensures { λ e. ⌜ e ≡ onUpload (c .step) c r ⌝ }
-{
-    let step = c.step;
-    match step {
-        Step::Opening => on_upload_opening(c, r),
-        Step::Segment => on_upload_segment(c, r),
-        Step::Receipt => Deed::Close(rest_word(c)),
-    }
+    Decision::Close(rest_word(c))
 }
 
 // A download's opening is outstanding.
-fn on_download_opening(c: Client, r: Fields, d: usize) -> Deed
+fn on_download_opening(c: Client, r: Fields, d: usize) -> Decision
     ensures { λ e. ⌜ e ≡ onDownload Step.Opening c r d ⌝ }
 {
     if opens_download(d, r) {
-        return Deed::Opened;
+        return Decision::Opened;
     }
-    Deed::Close(rest_word(c))
+    Decision::Close(rest_word(c))
 }
 
 // Whether the reply, with d bytes of data, brings the outstanding segment of a download.
@@ -325,16 +310,16 @@ fn brings_segment(c: Client, r: Fields, d: usize) -> bool
 }
 
 // A download's segment is outstanding.
-fn on_download_segment(c: Client, r: Fields, d: usize) -> Deed
+fn on_download_segment(c: Client, r: Fields, d: usize) -> Decision
     ensures { λ e. ⌜ e ≡ onDownload Step.Segment c r d ⌝ }
 {
     if brings_segment(c, r, d) {
-        return Deed::Advance;
+        return Decision::Advance;
     }
     if download_returns(c, r) {
-        return Deed::Return(r.segment());
+        return Decision::Return(r.segment());
     }
-    Deed::Close(rest_word(c))
+    Decision::Close(rest_word(c))
 }
 
 // Whether the reply answers the receipt.
@@ -353,38 +338,35 @@ fn confirms(c: Client, r: Fields) -> bool
 }
 
 // A receipt is outstanding.
-fn on_receipt(c: Client, r: Fields) -> Deed
+fn on_receipt(c: Client, r: Fields) -> Decision
     ensures { λ e. ⌜ e ≡ onDownload Step.Receipt c r 0 ⌝ }
 {
     if confirms(c, r) {
-        return Deed::Close(Word::Fetched);
+        return Decision::Close(Word::Fetched);
     }
     if download_returns(c, r) {
-        return Deed::Return(r.segment());
+        return Decision::Return(r.segment());
     }
-    Deed::Close(rest_word(c))
+    Decision::Close(rest_word(c))
 }
 
-// The outstanding request of a download is answered.
-fn on_download(c: Client, r: Fields, d: usize) -> Deed
-    ensures { λ e. ⌜ e ≡ onDownload (c .step) c r d ⌝ }
-{
-    let step = c.step;
-    match step {
-        Step::Opening => on_download_opening(c, r, d),
-        Step::Segment => on_download_segment(c, r, d),
-        Step::Receipt => on_receipt(c, r),
-    }
-}
-
-// The outstanding request is answered by a reply with d bytes of data.
-fn on_answer(c: Client, r: Fields, d: usize) -> Deed
+// The outstanding request is answered by a reply with d bytes of data. An upload has no receipt.
+fn on_answer(c: Client, r: Fields, d: usize) -> Decision
     ensures { λ e. ⌜ e ≡ onAnswer (c .direction) c r d ⌝ }
 {
     let way = c.direction;
+    let step = c.step;
     match way {
-        Direction::Upload => on_upload(c, r),
-        Direction::Download => on_download(c, r, d),
+        Direction::Upload => match step {
+            Step::Opening => on_upload_opening(c, r),
+            Step::Segment => on_upload_segment(c, r),
+            Step::Receipt => Decision::Close(rest_word(c)),
+        },
+        Direction::Download => match step {
+            Step::Opening => on_download_opening(c, r, d),
+            Step::Segment => on_download_segment(c, r, d),
+            Step::Receipt => on_receipt(c, r),
+        },
     }
 }
 
@@ -403,21 +385,21 @@ fn is_answer(c: Client, r: Fields) -> bool
 }
 
 // A reply arrived, with d bytes of data.
-pub(crate) fn on_reply(c: Client, r: Fields, d: usize) -> Deed
+pub(crate) fn on_reply(c: Client, r: Fields, d: usize) -> Decision
     ensures { λ e. ⌜ e ≡ onReply c r d ⌝ }
 {
     if is_answer(c, r) {
         return on_answer(c, r, d);
     }
-    Deed::Ignore
+    Decision::Ignore
 }
 
 // No reply came.
-pub(crate) fn on_silence(c: Client) -> Deed
-    ensures { λ e. ⌜ e ≡ onSilence c ⌝ }
+pub(crate) fn on_no_reply(c: Client) -> Decision
+    ensures { λ e. ⌜ e ≡ onNoReply c ⌝ }
 {
     if may_repeat(c) {
-        return Deed::Repeat;
+        return Decision::Repeat;
     }
-    Deed::Close(rest_word(c))
+    Decision::Close(rest_word(c))
 }

@@ -3,5 +3,5 @@ pub mod calls;
 mod decisions;
 mod next_run;
 mod requests;
-mod rulings;
+pub mod rulings;
 pub mod run;

@@ -1,10 +1,10 @@
 // The request that a run has outstanding.
 use crate::run::Client;
 use crate::run::Direction;
+use crate::run::NONCE_BYTES;
 use crate::run::Step;
-use frame::bytes::number;
-use frame::fields::Bits128;
-use frame::fields::Fields;
+use frame_table::fields::Bits128;
+use frame_table::fields::Fields;
 use message::requests::download_opening;
 use message::requests::download_transfer;
 use message::requests::receipt;
@@ -12,6 +12,7 @@ use message::requests::upload_opening;
 use message::requests::upload_transfer;
 use message::segments::last_mark_of;
 use message::segments::segment_of;
+use octets::bytes::number;
 ghost use mathlib.Core.Path.{_≡_};
 ghost use mathlib.Core.List.{[]};
 ghost use Rattle.client.specs.Requests.{nonceOf, uploadRequest, downloadRequest, uploadData, outstanding, outstandingData};
@@ -20,7 +21,7 @@ ghost use Rattle.client.specs.Requests.{nonceOf, uploadRequest, download
 const EXCHANGES: u64 = 0x1_0000_0000;
 
 // The 12 lent bytes, then the exchange number.
-fn nonce_of(lent: [u8; 12], exchange: u64) -> Bits128
+fn nonce_of(lent: [u8; NONCE_BYTES], exchange: u64) -> Bits128
     ensures { λ r. ⌜ r ≡ nonceOf lent exchange ⌝ }
 {
     let high = number(&lent[..8]);
@@ -32,7 +33,7 @@ fn nonce_of(lent: [u8; 12], exchange: u64) -> Bits128
 }
 
 // The request of an upload at its step.
-fn upload_request(c: Client, time: u64, nonce: [u8; 12]) -> Fields
+fn upload_request(c: Client, time: u64, nonce: [u8; NONCE_BYTES]) -> Fields
     ensures { λ r. ⌜ r ≡ uploadRequest (c .step) c time nonce ⌝ }
 {
     let step = c.step;
@@ -57,7 +58,7 @@ fn upload_request(c: Client, time: u64, nonce: [u8; 12]) -> Fields
 }
 
 // The request of a download at its step.
-fn download_request(c: Client, time: u64, nonce: [u8; 12]) -> Fields
+fn download_request(c: Client, time: u64, nonce: [u8; NONCE_BYTES]) -> Fields
     ensures { λ r. ⌜ r ≡ downloadRequest (c .step) c time nonce ⌝ }
 {
     let step = c.step;
@@ -75,7 +76,7 @@ fn download_request(c: Client, time: u64, nonce: [u8; 12]) -> Fields
 }
 
 // The fields of the outstanding request.
-pub(crate) fn request_of(c: Client, time: u64, nonce: [u8; 12]) -> Fields
+pub(crate) fn request_of(c: Client, time: u64, nonce: [u8; NONCE_BYTES]) -> Fields
     ensures { λ r. ⌜ r ≡ outstanding c time nonce ⌝ }
 {
     let way = c.direction;

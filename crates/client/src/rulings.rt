@@ -80,7 +80,7 @@ fn no_subscriber(subscriber: u64) -> bool
 }
 
 // Whether the run was begun.
-fn is_begun(stage: Stage) -> bool
+pub fn is_begun(stage: Stage) -> bool
     ensures { λ b. ⌜ b ≡ isBegun stage ⌝ }
 {
     match stage {

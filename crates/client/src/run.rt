@@ -1,7 +1,10 @@
 // A client run: its state, its closing words, and the answers of its calls.
-use frame::fields::Bits128;
+use frame_table::fields::Bits128;
 ghost use mathlib.Core.Path.{_≡_};
-ghost use Rattle.client.specs.Run.{notBegun};
+ghost use Rattle.client.specs.Run.{notBegun, refusalNumber};
+
+// The bytes lent for a nonce: the exchange number follows them.
+pub const NONCE_BYTES: usize = 12;
 
 // The bytes of the largest request, which a request buffer has at least.
 pub const REQUEST_ROOM: usize = 303;
@@ -70,6 +73,18 @@ pub enum Refusal {
     WrongStage,
 }
 
+// Document 01's number for the client's owner.
+pub fn refusal_number(refusal: Refusal) -> u64
+    ensures { λ r. ⌜ r ≡ refusalNumber refusal ⌝ }
+{
+    match refusal {
+        Refusal::WrongBuffer => 5,
+        Refusal::ExchangeTooHigh => 6,
+        Refusal::NoSubscriber => 7,
+        Refusal::WrongStage => 8,
+    }
+}
+
 // Whether a call is given a number.
 pub enum Ruling {
     Refuse(Refusal),
@@ -86,7 +101,7 @@ pub enum Answer {
 
 // What an event leads to: nothing, the opening's answer taken, a segment's answer taken, a return to behind a segment, the
 // request again, or the run's end.
-pub enum Deed {
+pub enum Decision {
     Ignore,
     Opened,
     Advance,

@@ -5,21 +5,22 @@ use mathlib.Core.List.{List, [], List·Memᴰ as In}
 use mathlib.Core.Logic.{_⊎_}
 use mathlib.Core.Path.{_≡_, refl, sym, subst}
 use lib.ListN.{length}
-use Rattle.frame.specs.declared.fields.Fields.{Fields}
-use Rattle.frame.specs.declared.table.Form.the-variants as forms
+use Rattle.frame_table.specs.declared.fields.Fields.{Fields}
+use Rattle.frame_table.specs.declared.table.Form.the-variants as forms
 use Rattle.frame.specs.declared.writer.Written.{Written}
 use Rattle.frame.specs.declared.writer.Written.the-variants as written
-use Rattle.frame.specs.Names.{segment}
-use Rattle.frame.specs.Reader.{noFields, readReply}
+use Rattle.frame_table.specs.Names.{segment}
+use Rattle.frame.specs.Reader.{readReply}
+use Rattle.frame_table.specs.Names.{noFields}
 use Rattle.frame.specs.Row.{dataOf}
-use Rattle.frame.specs.Table.{rowFits, findForm, formOf}
-use Rattle.frame.proofs.Tests.{never}
+use Rattle.frame_table.specs.Table.{rowFits, findForm, formOf}
+use Rattle.octets.proofs.Tests.{never}
 use Rattle.message.specs.declared.codes.ReturnCode.the-variants as code
 use Rattle.message.specs.Limits.{initialisation}
 use Rattle.client.specs.declared.run.Answer.{Answer}
 use Rattle.client.specs.declared.run.Answer.the-variants as answer
 use Rattle.client.specs.declared.run.Client.{Client}
-use Rattle.client.specs.declared.run.Deed.{Deed}
+use Rattle.client.specs.declared.run.Decision.{Decision}
 use Rattle.client.specs.declared.run.Direction.{Direction}
 use Rattle.client.specs.declared.run.Direction.the-variants.{Upload, Download}
 use Rattle.client.specs.declared.run.Ruling.{Ruling}
@@ -39,7 +40,7 @@ use Rattle.client.specs.Calls.{
   beginCall,
   runBy,
   replyCall,
-  silenceCall,
+  noReplyCall,
 }
 use Rattle.client.specs.Decisions.{
   says,
@@ -55,7 +56,7 @@ use Rattle.client.specs.Decisions.{
   confirms,
   isAnswer,
   onReply,
-  onSilence,
+  onNoReply,
 }
 use Rattle.client.specs.NextRun.{beginLength, begun, goOn, repeated, learned, holding, fileWith, ended}
 use Rattle.client.specs.Rulings.{beginRuling, runRuling}
@@ -75,9 +76,9 @@ use Rattle.client.proofs.Causes.{
   download-returned,
   fetched,
   rest,
-  silent,
+  no-reply,
   by-reply,
-  by-silence,
+  by-no-reply,
 }
 use Rattle.client_history.proofs.NextRuns.{holding-upload, file-upload}
 
@@ -181,8 +182,8 @@ module _ (Given : Fields → List ℕ → Fields → List ℕ → Type 0) where
         by-kept (λ (y g : List ℕ). Change p (record { run = ended w (p .run); payload = y; file = g; issues = p .issues })) k
         (closes l a k m)
 
-    carried : {r : Fields} {d : List ℕ} {deed : Deed} → (isAnswer (p .run) r ≡ true → Answering p r d) → Cause (p .run) r (length d) deed
-        → Leads (carryOut deed (p .run) r d l)
+    carried : {r : Fields} {d : List ℕ} {decision : Decision} → (isAnswer (p .run) r ≡ true → Answering p r d)
+        → Cause (p .run) r (length d) decision → Leads (carryOut decision (p .run) r d l)
     carried f (not-answered h) =
         by-kept (λ (y g : List ℕ). Change p (record { run = p .run; payload = y; file = g; issues = p .issues })) k nothing
     carried {r} {d} f (upload-opened w s h t) =
@@ -197,7 +198,7 @@ module _ (Given : Fields → List ℕ → Fields → List ℕ → Type 0) where
     carried f (download-returned w s h t) = moves _ (λ g. g) (download-returns w s (f h) t)
     carried f (fetched w s h t) = ends (confirmed w s (f h) t)
     carried f rest = ends otherwise
-    carried f (silent h) = moves _ (λ g. g) (repeats h)
+    carried f (no-reply h) = moves _ (λ g. g) (repeats h)
 
   -- no reply answers nothing
   unanswered : {A : Type 0} (c : Client) → isAnswer c noFields ≡ true → A
@@ -212,13 +213,13 @@ module _ (Given : Fields → List ℕ → Fields → List ℕ → Type 0) where
   by-number p l k (answer.Closed w) f = f refl
   by-number p l k (answer.Refused r) f = nothing
 
-  module _ (p : Past) (l : Lent) (r : Fields) (d : List ℕ) (deed : Deed) (z : Cause (p .run) r (length d) deed) where
-    -- where the ruling gives no number, the deed is carried out
-    ruled : (u : Ruling) → runRuling (p .run .stage) (p .run) (lengthsOf l) ≡ u → let k = runBy u deed (p .run) r d l in
+  module _ (p : Past) (l : Lent) (r : Fields) (d : List ℕ) (decision : Decision) (z : Cause (p .run) r (length d) decision) where
+    -- where the ruling gives no number, the decision is carried out
+    ruled : (u : Ruling) → runRuling (p .run .stage) (p .run) (lengthsOf l) ≡ u → let k = runBy u decision (p .run) r d l in
         (answerNumber (k .answer) ≡ 0 → Kept l p × (isAnswer (p .run) r ≡ true → Answering p r d)) → Change p (left (k .answer) k l p)
     ruled (Refuse x) e f = nothing
     ruled Accept e f =
-        let k = carryOut deed (p .run) r d l in
+        let k = carryOut decision (p .run) r d l in
         by-number p l k (k .answer) (λ n. carried p l (f n .0) (accepted (p .run) (lengthsOf l) e) (f n .1) z)
 
   begins-change : (p : Past) (way : Direction) (s first : ℕ) (l : Lent) (u : Ruling) → beginRuling (p .run) way s first (lengthsOf l) ≡ u
@@ -228,7 +229,7 @@ module _ (Given : Fields → List ℕ → Fields → List ℕ → Type 0) where
       by-issue (Change p) (p .run) _ (l .file) l p nothing (begins-with way s first l (begins (p .run) way s first (lengthsOf l) e))
 
   pub changes : (p : Past) (e : Event) → Fair Given e p → Change p (after e p)
-  unfolding after beginCall replyCall silenceCall
+  unfolding after beginCall replyCall noReplyCall
   changes p (Begin way s first l) f = begins-change p way s first l (beginRuling (p .run) way s first (lengthsOf l)) refl
   changes p (Reply frame l) f =
       let r = readReply frame in
@@ -236,4 +237,4 @@ module _ (Given : Fields → List ℕ → Fields → List ℕ → Type 0) where
       ruled p l r d (onReply (p .run) r (length d)) (by-reply (p .run) r (length d)) _ refl
       (λ n. let g = f n in (g .0, λ h. record { answers = h; issue = g .1 .issue; own = g .1 .own; given = g .1 .given }))
   changes p (NoReply l) f =
-      ruled p l noFields [] (onSilence (p .run)) (by-silence (p .run) noFields 0) _ refl (λ n. (f n, λ h. unanswered (p .run) h))
+      ruled p l noFields [] (onNoReply (p .run)) (by-no-reply (p .run) noFields 0) _ refl (λ n. (f n, λ h. unanswered (p .run) h))

@@ -8,12 +8,12 @@ use native.Mathlib.Omega.{arith}
 use lib.Dec.{eqb}
 use lib.ListN.{length, take}
 use borrow.Author.Tests.{eqb-true, eqb-false, eq-eqb}
-use Rattle.frame.specs.declared.fields.Bits128.{Bits128}
-use Rattle.frame.specs.declared.fields.Fields.{Fields}
-use Rattle.frame.specs.declared.table.Form.the-variants as forms
-use Rattle.frame.specs.Bytes.{overwrite}
-use Rattle.frame.specs.Names.{transaction, segments, segment, form}
-use Rattle.frame.proofs.Tests.{never, and-true}
+use Rattle.frame_table.specs.declared.fields.Bits128.{Bits128}
+use Rattle.frame_table.specs.declared.fields.Fields.{Fields}
+use Rattle.frame_table.specs.declared.table.Form.the-variants as forms
+use Rattle.octets.specs.Bytes.{overwrite}
+use Rattle.frame_table.specs.Names.{transaction, segments, segment, form}
+use Rattle.octets.proofs.Tests.{never, and-true, or-left, or-right}
 use Rattle.message.specs.declared.codes.ReturnCode.the-variants as code
 use Rattle.message.specs.Limits.{segmentBytes, fileBytes, initialisation, receiptPhase}
 use Rattle.message.specs.Segments.{segmentsOf, segmentOf}
@@ -27,7 +27,7 @@ use Rattle.client.specs.declared.run.Step.the-variants as step
 use Rattle.client.specs.declared.run.Word.{Word}
 use Rattle.client.specs.declared.run.Word.the-variants.{Fetched, HeldUnconfirmed, NotFetched}
 use Rattle.client.specs.Decisions.{says, isOwn, closingWord, restWord, opensDownload, bringsSegment, downloadReturns, confirms}
-use Rattle.client.specs.NextRun.{begun, stepBehind, receiptsBehind, goOn, repeated, learned, isNew, holding, fileWith, ended}
+use Rattle.client.specs.NextRun.{begun, stepBehind, receiptsBehind, goOn, repeated, learned, isNew, grown, holding, fileWith, ended}
 use Rattle.client.specs.Requests.{nonceOf, outstanding}
 use Rattle.client_history.specs.History.{Issue, Past, issueOf, BankReplies}
 use Rattle.client_history.specs.Invariant.{
@@ -45,10 +45,11 @@ use Rattle.client_history.specs.Invariant.{
   Receipts,
   DownloadRun,
 }
-use Rattle.client.proofs.Causes.{by-test, brought, download-point, opens}
+use Rattle.message.proofs.Verdicts.{by-test}
+use Rattle.client.proofs.Causes.{brought, download-point, opens}
 use Rattle.client_history.proofs.Files.{most-segments, nothing-held, all-held, grown-end, grown-bytes}
 use Rattle.client_history.proofs.Issues.{got, got-in}
-use Rattle.client_history.proofs.NextRuns.{grown, Held, by-new}
+use Rattle.client_history.proofs.NextRuns.{Held, by-new}
 use Rattle.client.proofs.Replies.{Says, said, opened-says, own-id}
 use Rattle.client_history.proofs.Requests.{
   form-downloadOpening,
@@ -81,14 +82,6 @@ pub unasked : {s n m held more : ℕ} {t u : Bits128} {b y : Bool} {f g : List �
 unasked h (downloadOpens number time nonce q d) = downloadOpens number time nonce q d
 unasked h (asks number j a b c e q d) = absurd (omega arith)
 unasked h (receipt-issued number a b c e q d) = absurd (omega arith)
-
-or-right : (a b : Bool) → b ≡ true → a || b ≡ true
-or-right true b e = refl
-or-right false b e = e
-
-or-left : (a b : Bool) → a ≡ true → a || b ≡ true
-or-left true b e = refl
-or-left false b e = never e
 
 or-false : (a b : Bool) → b ≡ false → a || b ≡ true → a ≡ true
 or-false true b e h = refl
@@ -243,7 +236,7 @@ module _ (Given : Fields → List ℕ → Fields → List ℕ → Type 0) where
         pub returned : (r : Fields) → (c .step ≡ step.Segment) ⊎ (c .step ≡ step.Receipt) → downloadReturns c r ≡ true
             → Goes (goOn (segment r) (c .repeats + 1) c) file
         returned r e h =
-            goes-on c payload file issues (segment r) (c .repeats + 1) time nonce (ready (held e)) (download-point c r h .held)
+            goes-on c payload file issues (segment r) (c .repeats + 1) time nonce (ready (held e)) (download-point c r h .reached)
           where
             held : (c .step ≡ step.Segment) ⊎ (c .step ≡ step.Receipt) → FileHeld Given fileAt c file issues
             held (inl s) = subst At s (u .step) .0

@@ -5,7 +5,7 @@ use mathlib.Core.Path.{_≡_, refl, sym, ap, _∙_, subst}
 use native.Mathlib.Omega.{arith}
 use lib.ListN.{length, take, drop, length-append, length-take, length-drop}
 use lib.Seq.{take-all, take-add, take-at, length-take-le}
-use Rattle.frame.specs.Bytes.{overwrite}
+use Rattle.octets.specs.Bytes.{overwrite}
 use Rattle.message.specs.Limits.{segmentBytes, segmentsMost, fileBytes}
 use Rattle.message.specs.Segments.{segmentsOf, segmentOf}
 
@@ -17,10 +17,6 @@ before-last n h k = omega arith
 pub behind-last : (n : ℕ) → n ≤ segmentBytes * segmentsOf n
 unfolding segmentsOf
 behind-last n = omega arith
-
-pub some-segments : (n : ℕ) → 1 ≤ n → 1 ≤ segmentsOf n
-unfolding segmentsOf
-some-segments n h = omega arith
 
 pub most-segments : (n : ℕ) → n ≤ fileBytes → segmentsOf n ≤ segmentsMost
 unfolding segmentsOf

@@ -7,12 +7,12 @@ use native.Mathlib.Omega.{arith}
 use lib.Dec.{eqb}
 use lib.ListN.{length}
 use borrow.Author.Tests.{le-leb, eq-eqb, ne-eqb, eqb-false}
-use Rattle.frame.specs.declared.fields.Bits128.{Bits128}
-use Rattle.frame.specs.declared.fields.Fields.{Fields}
-use Rattle.frame.specs.declared.table.Form.{Form}
-use Rattle.frame.specs.declared.table.Form.the-variants as forms
-use Rattle.frame.specs.Names.{phase, exchange, segments, transaction, segment, lastMark, returnCode, orderNumber, form}
-use Rattle.frame.specs.Table.{isReplyForm, rowFits, findForm, formOf}
+use Rattle.frame_table.specs.declared.fields.Bits128.{Bits128}
+use Rattle.frame_table.specs.declared.fields.Fields.{Fields}
+use Rattle.frame_table.specs.declared.table.Form.{Form}
+use Rattle.frame_table.specs.declared.table.Form.the-variants as forms
+use Rattle.frame_table.specs.Names.{phase, exchange, segments, transaction, segment, lastMark, returnCode, orderNumber, form}
+use Rattle.frame_table.specs.Table.{isReplyForm, rowFits, findForm, formOf}
 use Rattle.message.specs.declared.codes.ReturnCode.{ReturnCode}
 use Rattle.message.specs.declared.codes.ReturnCode.the-variants as code
 use Rattle.message.specs.Codes.{codeField}
@@ -20,7 +20,7 @@ use Rattle.message.specs.Limits.{segmentBytes, segmentsMost, initialisation, tr
 use Rattle.message.specs.Replies.{uploadOpened, downloadOpened, segmentTaken, downloadSegment, receiptAnswered}
 use Rattle.message.specs.Segments.{segmentsOf, segmentOf, lastMarkOf}
 use Rattle.client.specs.declared.run.Client.{Client}
-use Rattle.client.specs.declared.run.Deed.the-variants.{Opened, Advance, Close}
+use Rattle.client.specs.declared.run.Decision.the-variants.{Opened, Advance, Close}
 use Rattle.client.specs.declared.run.Direction.{Direction}
 use Rattle.client.specs.declared.run.Direction.the-variants.{Upload, Download}
 use Rattle.client.specs.declared.run.Step.{Step}
@@ -159,13 +159,13 @@ file-fits f j n r d a b m e g k =
 -- ---- what a fitting reply leads to
 
 module _ (c : Client) (r : Fields) (n : ℕ) (a : isAnswer c r ≡ true) where
-  pub upload-deed : c .direction ≡ Upload → (s : Step) → c .step ≡ s → onReply c r n ≡ onUpload s c r
+  pub upload-decision : c .direction ≡ Upload → (s : Step) → c .step ≡ s → onReply c r n ≡ onUpload s c r
   unfolding onReply
-  upload-deed w s e = rw a (ap (λ (z : Direction). onAnswer z c r n) w ∙ ap (λ (z : Step). onUpload z c r) e)
+  upload-decision w s e = rw a (ap (λ (z : Direction). onAnswer z c r n) w ∙ ap (λ (z : Step). onUpload z c r) e)
 
-  pub download-deed : c .direction ≡ Download → (s : Step) → c .step ≡ s → onReply c r n ≡ onDownload s c r n
+  pub download-decision : c .direction ≡ Download → (s : Step) → c .step ≡ s → onReply c r n ≡ onDownload s c r n
   unfolding onReply
-  download-deed w s e = rw a (ap (λ (z : Direction). onAnswer z c r n) w ∙ ap (λ (z : Step). onDownload z c r n) e)
+  download-decision w s e = rw a (ap (λ (z : Direction). onAnswer z c r n) w ∙ ap (λ (z : Step). onDownload z c r n) e)
 
 module _ (c : Client) (r : Fields) (n : ℕ) where
   pub to-opened : says forms.UploadOpened code.Ok initialisation r ≡ true → onUpload step.Opening c r ≡ Opened

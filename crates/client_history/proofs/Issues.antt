@@ -4,10 +4,10 @@ use mathlib.Core.Bool.{true}
 use mathlib.Core.List.{List, [], _∷_, List·Memᴰ as In, List·Memᴰ·head as here, List·Memᴰ·tail as there, List·Memᴰ·not-nil as in-none}
 use mathlib.Core.Path.{_≡_, refl, sym, ap, _∙_, subst}
 use native.Mathlib.Omega.{arith}
-use Rattle.frame.specs.declared.fields.Bits128.{Bits128}
-use Rattle.frame.specs.declared.fields.Fields.{Fields}
-use Rattle.frame.specs.declared.table.Form.{Form}
-use Rattle.frame.specs.Names.{subscriber, exchange, form}
+use Rattle.frame_table.specs.declared.fields.Bits128.{Bits128}
+use Rattle.frame_table.specs.declared.fields.Fields.{Fields}
+use Rattle.frame_table.specs.declared.table.Form.{Form}
+use Rattle.frame_table.specs.Names.{subscriber, exchange, form}
 use Rattle.message.specs.declared.codes.ReturnCode.{ReturnCode}
 use Rattle.message.specs.Limits.{subscribers}
 use Rattle.client.specs.declared.run.Client.{Client}
@@ -151,7 +151,7 @@ module _ (Given : Fields → List ℕ → Fields → List ℕ → Type 0) where
         n = b .newest
 
         same : exchange (a .issue .request) ≡ p .run .exchange
-        same = let k = is-answer (p .run) r (a .answers) in sym (bank .echo (a .given) (k .reply) (k .readable)) ∙ k .number
+        same = let k = is-answer (p .run) r (a .answers) in sym (bank .sameExchange (a .given) (k .reply) (k .readable)) ∙ k .number
 
         go : In (a .issue) (issueOf (p .run) (p .payload) (p .file) (n .time) (n .nonce) ∷ n .older) → Answered Given p r d
         go (here e) = record {

@@ -4,9 +4,9 @@ use mathlib.Core.List.{List, [], _∷_}
 use mathlib.Core.Path.{_≡_, refl, sym, ap, _∙_, subst}
 use native.Mathlib.Omega.{arith}
 use lib.ListN.{length}
-use Rattle.frame.specs.declared.fields.Bits128.{Bits128}
-use Rattle.frame.specs.declared.fields.Fields.{Fields}
-use Rattle.frame.proofs.Tests.{never}
+use Rattle.frame_table.specs.declared.fields.Bits128.{Bits128}
+use Rattle.frame_table.specs.declared.fields.Fields.{Fields}
+use Rattle.octets.proofs.Tests.{never}
 use Rattle.message.specs.Limits.{fileBytes}
 use Rattle.client.specs.declared.run.Client.{Client}
 use Rattle.client.specs.declared.run.Direction.{Direction}
@@ -20,6 +20,7 @@ use Rattle.client.specs.Run.{Lent, lengthsOf}
 use Rattle.client_history.specs.History.{Event, Past, issuing, after, pastOf, BankReplies, Kept, Fair, AllFair}
 use Rattle.client_history.specs.Invariant.{Begun, UploadRun, DownloadRun, Invariant, not-begun, upload, download}
 use Rattle.client.proofs.Accepted.{Accepted, Begins, file-served}
+use Rattle.client.proofs.Apart.{not-both}
 use Rattle.client_history.proofs.Changes.{
   Move,
   upload-opens,
@@ -44,7 +45,7 @@ use Rattle.client_history.proofs.Changes.{
 }
 use Rattle.client_history.proofs.Downloads
 use Rattle.client_history.proofs.Issues.{begun-first, begun-next, begun-ended, answered}
-use Rattle.client_history.proofs.NextRuns.{not-both, Same, same, learned-same, held-same, opened-same}
+use Rattle.client_history.proofs.NextRuns.{Same, same, learned-same, held-same, opened-same}
 use Rattle.client_history.proofs.Uploads
 
 module _ (p : Past) (b : Begun p) (file : List ℕ) (time : ℕ) (nonce : List ℕ) where

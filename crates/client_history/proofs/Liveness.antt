@@ -6,12 +6,12 @@ use mathlib.Core.Path.{_≡_, refl, sym, ap, _∙_, subst}
 use native.Mathlib.Omega.{arith}
 use lib.ListN.{length}
 use borrow.Author.Tests.{lt-ltb, le-leb, eq-eqb, ne-eqb}
-use Rattle.frame.specs.declared.fields.Bits128.{Bits128}
-use Rattle.frame.specs.declared.fields.Fields.{Fields}
-use Rattle.frame.specs.declared.table.Form.the-variants as forms
+use Rattle.frame_table.specs.declared.fields.Bits128.{Bits128}
+use Rattle.frame_table.specs.declared.fields.Fields.{Fields}
+use Rattle.frame_table.specs.declared.table.Form.the-variants as forms
 use Rattle.frame.specs.declared.writer.Written.{Written}
 use Rattle.frame.specs.declared.writer.Written.the-variants as written
-use Rattle.frame.specs.Names.{returnCode, exchange, segments, transaction, segment, lastMark, orderNumber}
+use Rattle.frame_table.specs.Names.{returnCode, exchange, segments, transaction, segment, lastMark, orderNumber}
 use Rattle.frame.specs.Reader.{readReply}
 use Rattle.frame.specs.Row.{dataOf}
 use Rattle.message.specs.declared.codes.ReturnCode.the-variants as code
@@ -20,8 +20,8 @@ use Rattle.message.specs.Limits.{segmentsMost, fileBytes, initialisation}
 use Rattle.message.specs.Replies.{uploadOpened, downloadOpened, segmentTaken, downloadSegment, receiptAnswered}
 use Rattle.message.specs.Segments.{segmentsOf, segmentOf, lastMarkOf}
 use Rattle.client.specs.declared.run.Client.{Client}
-use Rattle.client.specs.declared.run.Deed.{Deed}
-use Rattle.client.specs.declared.run.Deed.the-variants.{Ignore, Opened, Advance, Close}
+use Rattle.client.specs.declared.run.Decision.{Decision}
+use Rattle.client.specs.declared.run.Decision.the-variants.{Ignore, Opened, Advance, Close}
 use Rattle.client.specs.declared.run.Direction.{Direction}
 use Rattle.client.specs.declared.run.Direction.the-variants.{Upload, Download}
 use Rattle.client.specs.declared.run.Refusal.{Refusal}
@@ -67,9 +67,10 @@ use Rattle.client.specs.Rulings.{isBegun, beginRuling, runRuling}
 use Rattle.client.specs.Run.{Lent, ClientCall, lengthsOf, refusalNumber, answerNumber, callOf}
 use Rattle.client_history.specs.History.{Begin, Reply, Past, issuing, left, after, Kept}
 use Rattle.client_history.specs.InTurn.{InTurn}
-use Rattle.client_history.proofs.Files.{some-segments, most-segments}
+use Rattle.client_history.proofs.Files.{most-segments}
+use Rattle.message.proofs.SegmentNumbers.{some-segment}
 use Rattle.client.proofs.Accepted as rulings
-use Rattle.client.proofs.Causes.{by-test}
+use Rattle.message.proofs.Verdicts.{by-test}
 use Rattle.client_history.proofs.NextRuns.{held-same}
 use Rattle.client.proofs.Replies.{said, opened-says}
 use Rattle.client_history.proofs.Fitting.{
@@ -91,8 +92,8 @@ use Rattle.client_history.proofs.Fitting.{
   segment-fields,
   receipt-fields,
   file-fits,
-  upload-deed,
-  download-deed,
+  upload-decision,
+  download-decision,
   to-opened,
   to-lodged,
   to-next,
@@ -121,13 +122,13 @@ by-issued P c next file l p new = go (isWritten next l)
     go (written.Length n) h = new
     go written.Refused h = numbered WrongBuffer h
 
--- a reply's call by the deed that the reply leads to
-by-deed : (P : Past → Type 0) (p : Past) (frame : List ℕ) (l : Lent) (deed : Deed)
-    → onReply (p .run) (readReply frame) (length (dataOf frame)) ≡ deed
-    → (let k = carryOut deed (p .run) (readReply frame) (dataOf frame) l in answerNumber (k .answer) ≡ 0 → P (left (k .answer) k l p))
+-- a reply's call by the decision that the reply leads to
+by-decision : (P : Past → Type 0) (p : Past) (frame : List ℕ) (l : Lent) (decision : Decision)
+    → onReply (p .run) (readReply frame) (length (dataOf frame)) ≡ decision
+    → (let k = carryOut decision (p .run) (readReply frame) (dataOf frame) l in answerNumber (k .answer) ≡ 0 → P (left (k .answer) k l p))
     → answerNumber (replyCall (p .run) frame l .answer) ≡ 0 → P (after (Reply frame l) p)
 unfolding after replyCall
-by-deed P p frame l deed e f = go (runRuling (p .run .stage) (p .run) (lengthsOf l))
+by-decision P p frame l decision e f = go (runRuling (p .run .stage) (p .run) (lengthsOf l))
   where
     Goal : ClientCall → Type 0
     Goal k = answerNumber (k .answer) ≡ 0 → P (left (k .answer) k l p)
@@ -135,7 +136,7 @@ by-deed P p frame l deed e f = go (runRuling (p .run .stage) (p .run) (lengthsOf
     go : (u : Ruling)
         → Goal (runBy u (onReply (p .run) (readReply frame) (length (dataOf frame))) (p .run) (readReply frame) (dataOf frame) l)
     go (Refuse x) = numbered x
-    go Accept = subst (λ (z : Deed). Goal (carryOut z (p .run) (readReply frame) (dataOf frame) l)) (sym e) f
+    go Accept = subst (λ (z : Decision). Goal (carryOut z (p .run) (readReply frame) (dataOf frame) l)) (sym e) f
 
 -- ---- where the run stands then
 
@@ -145,7 +146,8 @@ next k d = goOn (k .segment) (k .repeats) (holding (length d) k)
 
 next-in-turn : (k : Client) (way : Direction) (j : ℕ) (d payload file : List ℕ) (l : Lent) (p : Past) → k .stage ≡ stage.Running
     → k .direction ≡ way → k .segment ≡ j → k .repeats ≡ 0
-    → InTurn (issuing (next k d) payload file (l .time) (l .nonce) (p .issues)) way (stepBehind way j (k .segments)) (j + 1) (k .exchange + 1)
+    → InTurn (issuing (next k d) payload file (l .time) (l .nonce) (p .issues)) way (stepBehind way j (k .segments)) (j + 1)
+    (k .exchange + 1)
 unfolding next goOn
 next-in-turn k way j d payload file l p running w e z =
     let s = held-same d [] k in
@@ -190,17 +192,17 @@ module _ (p : Past) (frame : List ℕ) (l : Lent) (done : answerNumber (replyCal
       → P (issuing (next (learned way r c) d) (l .payload) (fileWith (learned way r c) d (l .file)) (l .time) (l .nonce) (p .issues))
       → P then
   by-opened P way w e new =
-      by-deed P p frame l Opened e
+      by-decision P p frame l Opened e
       (subst (λ (x : Direction). let k = taken c (learned x r c) d l in answerNumber (k .answer) ≡ 0 → P (left (k .answer) k l p)) (sym w)
       (by-next P (learned way r c) new)) done
 
   by-advanced : (P : Past → Type 0) → onReply c r (length d) ≡ Advance
       → P (issuing (next c d) (l .payload) (fileWith c d (l .file)) (l .time) (l .nonce) (p .issues)) → P then
-  by-advanced P e new = by-deed P p frame l Advance e (by-next P c new) done
+  by-advanced P e new = by-decision P p frame l Advance e (by-next P c new) done
 
   by-closed : (w : Word) → onReply c r (length d) ≡ Close w → then .run .stage ≡ stage.Ended w
   unfolding ended
-  by-closed w e = by-deed (λ (q : Past). q .run .stage ≡ stage.Ended w) p frame l (Close w) e (λ h. refl) done
+  by-closed w e = by-decision (λ (q : Past). q .run .stage ≡ stage.Ended w) p frame l (Close w) e (λ h. refl) done
 
   -- ---- UPLOAD
 
@@ -216,7 +218,7 @@ module _ (p : Past) (frame : List ℕ) (l : Lent) (done : answerNumber (replyCal
       by-opened
       (λ (q : Past). InTurn q Upload step.Segment 1 (c .exchange + 1) × (q .run .transaction ≡ t) × (q .run .number ≡ n)
       × (q .run .segments ≡ c .segments)) Upload (i .direction)
-      (upload-deed c r (length d) a (i .direction) step.Opening (i .step) ∙ to-opened c r (length d) (fits-says c r f)) (
+      (upload-decision c r (length d) a (i .direction) step.Opening (i .step) ∙ to-opened c r (length d) (fits-says c r f)) (
         next-in-turn k Upload 0 d _ _ l p (i .running) (i .direction) refl (i .repeats),
         g .0 ∙ ap transaction e ∙ opened-fields (c .exchange) n 0 0 t .0,
         g .1 ∙ ap orderNumber e ∙ opened-fields (c .exchange) n 0 0 t .1,
@@ -240,7 +242,7 @@ module _ (p : Past) (frame : List ℕ) (l : Lent) (done : answerNumber (replyCal
     upload-advances h =
         let s = i .segment in
         by-advanced (λ (q : Past). InTurn q Upload step.Segment (j + 1) (c .exchange + 1))
-        (upload-deed c r (length d) taken-answer (i .direction) step.Segment (i .step)
+        (upload-decision c r (length d) taken-answer (i .direction) step.Segment (i .step)
         ∙ to-next c r (length d)
         (and-false (answersSegment forms.SegmentTaken c r) _ (ne-eqb (c .segment) (c .segments) (λ z. omega arith)))
         (and-intro taken-answers (lt-ltb (c .segment) (c .segments) (omega arith))))
@@ -251,7 +253,7 @@ module _ (p : Past) (frame : List ℕ) (l : Lent) (done : answerNumber (replyCal
     unfolding lodges
     upload-lodges h =
         by-closed Lodged
-        (upload-deed c r (length d) taken-answer (i .direction) step.Segment (i .step)
+        (upload-decision c r (length d) taken-answer (i .direction) step.Segment (i .step)
         ∙ to-lodged c r (length d) (and-intro taken-answers (eq-eqb (c .segment) (c .segments) (i .segment ∙ h))))
 
   -- ---- DOWNLOAD
@@ -267,7 +269,7 @@ module _ (p : Past) (frame : List ℕ) (l : Lent) (done : answerNumber (replyCal
       let y = download-fields (c .exchange) n 0 (lastMarkOf 1 n) t in
       let a = fits-answer c r x refl (λ z. omega arith) in
       let sn : segments r ≡ n = ap segments e ∙ y .1 in
-      let some : 1 ≤ segments r = let z = some-segments (length f) least in omega arith in
+      let some : 1 ≤ segments r = let z = some-segment (length f) least in omega arith in
       let few : segments r ≤ segmentsMost = let z = most-segments (length f) most in omega arith in
       let whole =
       file-fits f 1 (segments r) r d (omega arith) some few (sn ∙ m) g (ap lastMark e ∙ y .3 ∙ ap (lastMarkOf 1) (sym sn)) in
@@ -279,7 +281,7 @@ module _ (p : Past) (frame : List ℕ) (l : Lent) (done : answerNumber (replyCal
       by-opened
       (λ (q : Past). InTurn q Download (stepBehind Download 1 n) 2 (c .exchange + 1) × (q .run .transaction ≡ t) × (q .run .segments ≡ n))
       Download (i .direction)
-      (download-deed c r (length d) a (i .direction) step.Opening (i .step) ∙ to-download c r (length d) fits) (
+      (download-decision c r (length d) a (i .direction) step.Opening (i .step) ∙ to-download c r (length d) fits) (
         subst (λ (u : ℕ). InTurn (issuing (next k d) (l .payload) (fileWith k d (l .file)) (l .time) (l .nonce) (p .issues)) Download
             (stepBehind Download 1 u) 2 (c .exchange + 1))
             sn (next-in-turn k Download 1 d _ _ l p (i .running) (i .direction) refl (i .repeats)),
@@ -304,7 +306,7 @@ module _ (p : Past) (frame : List ℕ) (l : Lent) (done : answerNumber (replyCal
       and-intro (answers-true _ c r x (ap transaction e ∙ y .0) (ap segment e ∙ y .1 ∙ s))
       (subst (λ (z : ℕ). fitsSegment z (c .segments) (length d) r ≡ true) s whole) in
       by-advanced (λ (q : Past). InTurn q Download (stepBehind Download j (c .segments)) (j + 1) (c .exchange + 1))
-      (download-deed c r (length d) (fits-answer c r x refl (λ z. omega arith)) (i .direction) step.Segment (i .step)
+      (download-decision c r (length d) (fits-answer c r x refl (λ z. omega arith)) (i .direction) step.Segment (i .step)
       ∙ to-brought c r (length d) fits)
       (next-in-turn c Download j d _ _ l p (i .running) (i .direction) (i .segment) (i .repeats))
 
@@ -315,7 +317,7 @@ module _ (p : Past) (frame : List ℕ) (l : Lent) (done : answerNumber (replyCal
   download-fetches j number i e =
       let x = subst (Fits _ _ _ _) (sym e) (receipt-fits (c .exchange) 0 0 0 (c .transaction)) in
       by-closed Fetched
-      (download-deed c r (length d) (fits-answer c r x refl (λ z. omega arith)) (i .direction) step.Receipt (i .step)
+      (download-decision c r (length d) (fits-answer c r x refl (λ z. omega arith)) (i .direction) step.Receipt (i .step)
       ∙ to-fetched c r (length d)
       (and-intro (fits-says c r x) (own-true c r (ap transaction e ∙ receipt-fields (c .exchange) 0 0 0 (c .transaction)))))
 
@@ -325,13 +327,13 @@ module _ (p : Past) (frame : List ℕ) (l : Lent) (done : answerNumber (replyCal
   pub ignored-stays : Kept l p → isAnswer c r ≡ false → then ≡ p
   unfolding onReply
   ignored-stays k h =
-      by-deed (λ (q : Past). q ≡ p) p frame l Ignore (rw h)
+      by-decision (λ (q : Past). q ≡ p) p frame l Ignore (rw h)
       (λ z. let y = k .payload in let f = k .file in λ i. record { run = c; payload = y i; file = f i; issues = p .issues }) done
 
 -- ---- AN OPENING REFUSED
 
 -- a reply to the opening with another code than 000000 is ignored or ends the run
-at-opening : (P : Deed → Type 0) (c : Client) (r : Fields) (n : ℕ) → c .step ≡ step.Opening → (returnCode r ≡ codeField code.Ok → ⊥)
+at-opening : (P : Decision → Type 0) (c : Client) (r : Fields) (n : ℕ) → c .step ≡ step.Opening → (returnCode r ≡ codeField code.Ok → ⊥)
     → P Ignore → P (Close (restWord c)) → P (onReply c r n)
 unfolding onReply onUpload onDownload
 at-opening P c r n at other ignored closed = by-test P (isAnswer c r) (λ _. by (c .direction)) (λ _. ignored)
@@ -349,9 +351,9 @@ pub opening-refused : (p : Past) (frame : List ℕ) (l : Lent) → answerNumber 
     (q .issues ≡ p .issues) × (q .run .step ≡ step.Opening) × (q .run .exchange ≡ p .run .exchange) × (isBegun (q .run .stage) ≡ true)
 unfolding ended
 opening-refused p frame l done b at other =
-    at-opening (λ (x : Deed). onReply (p .run) (readReply frame) (length (dataOf frame)) ≡ x → Goal (after (Reply frame l) p)) (p .run)
-    (readReply frame) (length (dataOf frame)) at other (λ e. by-deed Goal p frame l Ignore e (λ h. (refl, at, refl, b)) done)
-    (λ e. by-deed Goal p frame l (Close (restWord (p .run))) e (λ h. (refl, at, refl, refl)) done) refl
+    at-opening (λ (x : Decision). onReply (p .run) (readReply frame) (length (dataOf frame)) ≡ x → Goal (after (Reply frame l) p)) (p .run)
+    (readReply frame) (length (dataOf frame)) at other (λ e. by-decision Goal p frame l Ignore e (λ h. (refl, at, refl, b)) done)
+    (λ e. by-decision Goal p frame l (Close (restWord (p .run))) e (λ h. (refl, at, refl, refl)) done) refl
   where
     Goal : Past → Type 0
     Goal q = (q .issues ≡ p .issues) × (q .run .step ≡ step.Opening) × (q .run .exchange ≡ p .run .exchange)

@@ -1,20 +1,16 @@
 -- Laws of the next run. Assumes nothing.
-use Prim.Native.Nat.{ℕ, _+_, _-_, _*_}
+use Prim.Native.Nat.{ℕ, _-_, _*_}
 use mathlib.Core.Bool.{Bool, true, false, cond}
 use mathlib.Core.List.{List, []}
 use mathlib.Core.Path.{_≡_, refl, sym, ap, subst}
-use native.Mathlib.Omega.{arith}
 use lib.ListN.{length}
-use Rattle.frame.specs.declared.fields.Fields.{Fields}
-use Rattle.frame.specs.Bytes.{overwrite}
+use Rattle.frame_table.specs.declared.fields.Fields.{Fields}
+use Rattle.octets.specs.Bytes.{overwrite}
 use Rattle.message.specs.Limits.{segmentBytes}
 use Rattle.client.specs.declared.run.Client.{Client}
 use Rattle.client.specs.declared.run.Direction.{Direction}
 use Rattle.client.specs.declared.run.Direction.the-variants.{Upload, Download}
-use Rattle.client.specs.NextRun.{learned, isNew, holding, fileWith}
-
-pub not-both : {A : Type 0} {w : Direction} → w ≡ Upload → w ≡ Download → A
-not-both u d = absurd (let z : _≡_ {A = ℕ} 0 1 = cc in omega arith)
+use Rattle.client.specs.NextRun.{learned, isNew, grown, holding, fileWith}
 
 -- ---- an upload holds nothing
 
@@ -31,24 +27,6 @@ module _ (k : Client) (up : k .direction ≡ Upload) where
   file-upload d file = rw not-new
 
 -- ---- the run with its outstanding segment newly held
-
-abbrev pub grown : ℕ → Client → Client
-grown d c = record {
-  stage = c .stage;
-  direction = c .direction;
-  step = c .step;
-  subscriber = c .subscriber;
-  exchange = c .exchange;
-  repeats = c .repeats;
-  transaction = c .transaction;
-  number = c .number;
-  length = (c .segment - 1) * segmentBytes + d;
-  segments = c .segments;
-  segment = c .segment;
-  issued = c .issued;
-  held = c .held + 1;
-  receipted = c .receipted;
-}
 
 module _ (c : Client) (d file : List ℕ) where
   abbrev pub Held : (Client → List ℕ → Type 0) → Type 0

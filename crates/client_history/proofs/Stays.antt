@@ -4,12 +4,13 @@ use mathlib.Core.Bool.{Bool, true, false, cond}
 use mathlib.Core.List.{List, [], List·Memᴰ·tail as there}
 use mathlib.Core.Path.{_≡_, refl, sym, ap, _∙_}
 use lib.Dec.{eqb}
-use Rattle.frame.specs.declared.fields.Fields.{Fields}
-use Rattle.frame.specs.Reader.{noFields, readReply}
+use Rattle.frame_table.specs.declared.fields.Fields.{Fields}
+use Rattle.frame.specs.Reader.{readReply}
+use Rattle.frame_table.specs.Names.{noFields}
 use Rattle.frame.specs.Row.{dataOf}
-use Rattle.frame.proofs.Tests.{never}
+use Rattle.octets.proofs.Tests.{never}
 use Rattle.client.specs.declared.run.Client.{Client}
-use Rattle.client.specs.declared.run.Deed.{Deed}
+use Rattle.client.specs.declared.run.Decision.{Decision}
 use Rattle.client.specs.declared.run.Direction.{Direction}
 use Rattle.client.specs.declared.run.Direction.the-variants.{Upload, Download}
 use Rattle.client.specs.declared.run.Ruling.{Ruling}
@@ -19,7 +20,7 @@ use Rattle.client.specs.declared.run.Stage.the-variants as stage
 use Rattle.client.specs.declared.run.Step.{Step}
 use Rattle.client.specs.declared.run.Step.the-variants as step
 use Rattle.client.specs.declared.run.Word.{Word}
-use Rattle.client.specs.Calls.{beginBy, beginCall, runBy, replyCall, silenceCall}
+use Rattle.client.specs.Calls.{beginBy, beginCall, runBy, replyCall, noReplyCall}
 use Rattle.client.specs.NextRun.{stepBehind, goOn, repeated, learned, ended}
 use Rattle.client.specs.Rulings.{isBegun, beginRuling, runRuling}
 use Rattle.client.specs.Run.{Lent, lengthsOf}
@@ -140,10 +141,10 @@ module _ (p : Past) (w : Word) (e : p .run .stage ≡ stage.Ended w) where
   not-running : {A : Type 0} {s : Stage} → s ≡ stage.Ended w → s ≡ stage.Running → A
   not-running a b = never (let z : _≡_ {A = Bool} false true = cc in z)
 
-  ruled : (l : Lent) (deed : Deed) (r : Fields) (d : List ℕ) (u : Ruling) → runRuling (p .run .stage) (p .run) (lengthsOf l) ≡ u
-      → let k = runBy u deed (p .run) r d l in left (k .answer) k l p ≡ p
-  ruled l deed r d (Refuse x) h = refl
-  ruled l deed r d Accept h = not-running e (accepted (p .run) (lengthsOf l) h .running)
+  ruled : (l : Lent) (decision : Decision) (r : Fields) (d : List ℕ) (u : Ruling) → runRuling (p .run .stage) (p .run) (lengthsOf l) ≡ u
+      → let k = runBy u decision (p .run) r d l in left (k .answer) k l p ≡ p
+  ruled l decision r d (Refuse x) h = refl
+  ruled l decision r d Accept h = not-running e (accepted (p .run) (lengthsOf l) h .running)
 
   begin-ruled : (way : Direction) (s first : ℕ) (l : Lent) (u : Ruling) → beginRuling (p .run) way s first (lengthsOf l) ≡ u
       → let k = beginBy u (p .run) way s first l in left (k .answer) k l p ≡ p
@@ -151,7 +152,7 @@ module _ (p : Past) (w : Word) (e : p .run .stage ≡ stage.Ended w) where
   begin-ruled way s first l Accept h = never (sym (begins (p .run) way s first (lengthsOf l) h .fresh) ∙ ap isBegun e)
 
   pub ended-stays : (v : Event) → after v p ≡ p
-  unfolding after beginCall replyCall silenceCall
+  unfolding after beginCall replyCall noReplyCall
   ended-stays (Begin way s first l) = begin-ruled way s first l _ refl
   ended-stays (Reply frame l) = ruled l _ (readReply frame) (dataOf frame) _ refl
   ended-stays (NoReply l) = ruled l _ noFields [] _ refl

@@ -6,14 +6,14 @@ use mathlib.Core.Logic.{_⊎_, inl, inr}
 use mathlib.Core.Path.{_≡_, sym, ap, _∙_, subst}
 use native.Mathlib.Omega.{arith}
 use lib.ListN.{length}
-use Rattle.frame.specs.declared.fields.Bits128.{Bits128}
-use Rattle.frame.specs.declared.fields.Fields.{Fields}
-use Rattle.frame.specs.declared.table.Form.{Form}
-use Rattle.frame.specs.declared.table.Form.the-variants as forms
-use Rattle.frame.specs.Names.{subscriber, exchange, transaction, segment, form}
+use Rattle.frame_table.specs.declared.fields.Bits128.{Bits128}
+use Rattle.frame_table.specs.declared.fields.Fields.{Fields}
+use Rattle.frame_table.specs.declared.table.Form.{Form}
+use Rattle.frame_table.specs.declared.table.Form.the-variants as forms
+use Rattle.frame_table.specs.Names.{subscriber, exchange, transaction, segment, form}
 use Rattle.frame.specs.Reader.{readReply}
 use Rattle.frame.specs.Row.{dataOf}
-use Rattle.frame.proofs.Tests.{never}
+use Rattle.octets.proofs.Tests.{never}
 use Rattle.message.specs.Limits.{segmentsMost}
 use Rattle.message.specs.Segments.{segmentsOf}
 use Rattle.client.specs.declared.run.Direction.the-variants.{Upload, Download}
@@ -25,6 +25,7 @@ use Rattle.client.specs.declared.run.Word.{Word}
 use Rattle.client.specs.declared.run.Word.the-variants.{Lodged, NotLodged, Fetched}
 use Rattle.client.specs.Decisions.{isAnswer}
 use Rattle.client.specs.Rulings.{isBegun}
+use Rattle.client.proofs.Apart.{not-both}
 use Rattle.client_history.specs.History.{Issue, Event, Past, heldOf, after, pastOf, BankReplies, GivenTo, Fair, AllFair}
 use Rattle.client_history.specs.Invariant.{
   Numbered,
@@ -78,7 +79,6 @@ pub use Rattle.client_history.proofs.Liveness.{
   opening-refused,
   begin-fresh,
 }
-use Rattle.client_history.proofs.NextRuns.{not-both}
 use Rattle.client_history.proofs.Requests.{
   form-uploadOpening,
   form-downloadOpening,

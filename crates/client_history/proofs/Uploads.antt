@@ -8,11 +8,11 @@ use native.Mathlib.Omega.{arith}
 use lib.Dec.{ltb, eqb}
 use lib.ListN.{length}
 use borrow.Author.Tests.{ltb-true, ltb-false, eqb-true}
-use Rattle.frame.specs.declared.fields.Bits128.{Bits128}
-use Rattle.frame.specs.declared.fields.Fields.{Fields}
-use Rattle.frame.specs.declared.table.Form.the-variants as forms
-use Rattle.frame.specs.Names.{transaction, segment, form}
-use Rattle.frame.proofs.Tests.{and-true}
+use Rattle.frame_table.specs.declared.fields.Bits128.{Bits128}
+use Rattle.frame_table.specs.declared.fields.Fields.{Fields}
+use Rattle.frame_table.specs.declared.table.Form.the-variants as forms
+use Rattle.frame_table.specs.Names.{transaction, segment, form}
+use Rattle.octets.proofs.Tests.{and-true}
 use Rattle.message.specs.declared.codes.ReturnCode.the-variants as code
 use Rattle.message.specs.Limits.{segmentsMost, fileBytes, initialisation}
 use Rattle.message.specs.Requests.{uploadTransfer}
@@ -41,8 +41,10 @@ use Rattle.client_history.specs.Invariant.{
   UploadStage,
   UploadRun,
 }
-use Rattle.client.proofs.Causes.{by-test, Answers, answers, upload-point, taken-below}
-use Rattle.client_history.proofs.Files.{some-segments, most-segments}
+use Rattle.message.proofs.Verdicts.{by-test}
+use Rattle.client.proofs.Causes.{Answers, answers, upload-point, taken-below}
+use Rattle.client_history.proofs.Files.{most-segments}
+use Rattle.message.proofs.SegmentNumbers.{some-segment}
 use Rattle.client_history.proofs.Issues.{got, got-in}
 use Rattle.client.proofs.Replies.{said, cancels}
 use Rattle.client_history.proofs.Requests.{
@@ -170,7 +172,7 @@ module _ (Given : Fields → List ℕ → Fields → List ℕ → Type 0) where
       pub returned : (r : Fields) → c .step ≡ step.Segment → uploadReturns c r ≡ true → Goes (goOn (segment r) (c .repeats + 1) c)
       returned r e h =
           let k = upload-point c r h in
-          goes-on c payload file issues (segment r) (c .repeats + 1) time nonce (ready e) (k .below) (k .known)
+          goes-on c payload file issues (segment r) (c .repeats + 1) time nonce (ready e) (k .below) (k .reached)
 
       pub repeated-run : Goes (repeated c)
       unfolding repeated
@@ -312,7 +314,7 @@ module _ (Given : Fields → List ℕ → Fields → List ℕ → Type 0) where
         direction = refl;
         size = refl;
         number = refl;
-        some = some-segments (length payload) a;
+        some = some-segment (length payload) a;
         most = most-segments (length payload) b;
         top = omega arith;
         each = each;

@@ -4,20 +4,20 @@ use mathlib.Core.Bool.{true}
 use mathlib.Core.List.{List, [], _∷_, List·Memᴰ as In}
 use mathlib.Core.Path.{_≡_}
 use lib.ListN.{length, take}
-use Rattle.frame.specs.declared.fields.Bits128.{Bits128}
-use Rattle.frame.specs.declared.fields.Fields.{Fields}
-use Rattle.frame.specs.declared.table.Form.the-variants as forms
-use Rattle.frame.specs.Names.{exchange, segments, transaction, segment, form}
+use Rattle.frame_table.specs.declared.fields.Bits128.{Bits128}
+use Rattle.frame_table.specs.declared.fields.Fields.{Fields}
+use Rattle.frame_table.specs.declared.table.Form.the-variants as forms
+use Rattle.frame_table.specs.Names.{exchange, segments, transaction, segment, form}
 use Rattle.frame.specs.Reader.{readReply}
 use Rattle.frame.specs.Row.{dataOf}
-use Rattle.frame.specs.Table.{isReplyForm}
+use Rattle.frame_table.specs.Table.{isReplyForm}
 use Rattle.message.specs.Limits.{fileBytes}
 use Rattle.message.specs.Segments.{segmentsOf, segmentOf}
 use Rattle.client.specs.declared.run.Answer.{Answer}
 use Rattle.client.specs.declared.run.Answer.the-variants as answer
 use Rattle.client.specs.declared.run.Client.{Client}
 use Rattle.client.specs.declared.run.Direction.{Direction}
-use Rattle.client.specs.Calls.{beginCall, replyCall, silenceCall}
+use Rattle.client.specs.Calls.{beginCall, replyCall, noReplyCall}
 use Rattle.client.specs.Requests.{outstanding, outstandingData}
 use Rattle.client.specs.Run.{Lent, ClientCall, notBegun, answerNumber}
 
@@ -70,7 +70,7 @@ left (answer.Refused r) k l p = p
 abbrev pub callOf : Event → Client → ClientCall
 callOf (Begin way subscriber first l) c = beginCall c way subscriber first l
 callOf (Reply frame l) c = replyCall c frame l
-callOf (NoReply l) c = silenceCall c l
+callOf (NoReply l) c = noReplyCall c l
 
 abbrev pub lentTo : Event → Lent
 lentTo (Begin way subscriber first l) = l
@@ -89,7 +89,7 @@ pastOf (e ∷ es) = after e (pastOf es)
 -- fileAt t: the file in the mailbox at the opening of the transaction t
 pub record BankReplies (Given : Fields → List ℕ → Fields → List ℕ → Type 0) (fileAt : Bits128 → List ℕ) : Type 0 where
   -- "Reply forms": each but the unreadable request's has the request's exchange number
-  pub echo : {q r : Fields} {d e : List ℕ} → Given q d r e → isReplyForm (form r) ≡ true → (form r ≡ forms.Unreadable → ⊥)
+  pub sameExchange : {q r : Fields} {d e : List ℕ} → Given q d r e → isReplyForm (form r) ≡ true → (form r ≡ forms.Unreadable → ⊥)
       → exchange r ≡ exchange q
   -- "N is the file length divided by 256, rounded up"
   pub number : {q r : Fields} {d e : List ℕ} → Given q d r e → form r ≡ forms.DownloadOpened
@@ -119,7 +119,7 @@ module _ (Given : Fields → List ℕ → Fields → List ℕ → Type 0) where
   abbrev pub Fair : Event → Past → Type 0
   Fair (Begin way subscriber first l) p = Unit {0}
   Fair (Reply frame l) p = answerNumber (replyCall (p .run) frame l .answer) ≡ 0 → Kept l p × GivenTo frame p
-  Fair (NoReply l) p = answerNumber (silenceCall (p .run) l .answer) ≡ 0 → Kept l p
+  Fair (NoReply l) p = answerNumber (noReplyCall (p .run) l .answer) ≡ 0 → Kept l p
 
   abbrev pub AllFair : List Event → Type 0
   AllFair [] = Unit {0}

@@ -1,6 +1,2 @@
 -- The laws that several proofs cite.
-pub mod Parts
-pub mod Begins
-pub mod Steps
-pub mod Texts
-pub mod Rows
+pub mod Sessions

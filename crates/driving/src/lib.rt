@@ -1,6 +1,2 @@
-// The driver: calls to one bank and to 16 client runs in, a line for each out.
-pub mod print;
-pub mod record;
+// The driver's session: calls to one bank and to 16 client runs in, a line for each out.
 pub mod session;
-pub mod tables;
-pub mod unit;

@@ -1,24 +1,25 @@
 // The driver's session: each record from standard input, its line to standard output; at the end the closing tables.
-use crate::print::line;
-use crate::record::RECORD_BYTES;
-use crate::record::head_of;
-use crate::record::kind_of;
-use crate::record::size_of;
-use crate::tables::TABLE_ROOM;
-use crate::tables::book;
-use crate::tables::files;
-use crate::tables::mailboxes;
-use crate::tables::words;
-use crate::unit::Answer;
-use crate::unit::ROOMS_BYTES;
-use crate::unit::UnitState;
-use crate::unit::call;
-use crate::unit::fresh;
 use bank_state::limits::REPLY_ROOM;
 use bank_state::limits::STORE_BYTES;
-use frame::bytes::front;
+use driving_print::print::line;
+use driving_print::tables::TABLE_ROOM;
+use driving_print::tables::Table;
+use driving_print::tables::table_of;
+use driving_unit::record::RECORD_BYTES;
+use driving_unit::record::call_of;
+use driving_unit::record::head_of;
+use driving_unit::record::is_call;
+use driving_unit::record::kind_of;
+use driving_unit::record::size_of;
+use driving_unit::unit::ROOMS_BYTES;
+use driving_unit::unit::UnitState;
+use driving_unit::unit::call;
+use driving_unit::unit::fresh;
 use libc::STDIN_FILENO;
 use libc::STDOUT_FILENO;
+use octets::bytes::front;
+ghost use Rattle.driving_unit.specs.Unit.{fresh, stateOf};
+ghost use Rattle.driving.specs.Session.{Calls, Session};
 
 // Between two records: the unit, and whether the input may go on.
 struct Reading {
@@ -63,14 +64,6 @@ fn first(input: &[u8]) -> u8 {
     input[0]
 }
 
-// Whether the record was a call.
-fn is_call(answer: Answer) -> bool {
-    match answer {
-        Answer::NoCall => false,
-        _ => true,
-    }
-}
-
 // One record: its call, the call's line, and whether the input may go on.
 fn step(
     u: UnitState,
@@ -82,8 +75,18 @@ fn step(
     payloads: &mut [u8],
     files: &mut [u8],
     buffer: &mut [u8],
-) -> Reading {
+) -> Reading
+    ensures { λ r. ⌜ Calls
+        (stateOf u (now (orders .entry)) (now (boxes .entry)) (now (payloads .entry)) (now (files .entry)) (now (buffer .entry)))
+        (stateOf (r .unit) (now (orders .exit)) (now (boxes .exit)) (now (payloads .exit)) (now (files .exit)) (now (buffer .exit))) ⌝ }
+{
     let size = read_record(input);
+    if !is_call(call_of(front(input, size))) {
+        return Reading {
+            unit: u,
+            more: false,
+        };
+    }
     let o = call(
         u,
         front(input, size),
@@ -95,9 +98,6 @@ fn step(
     );
     let unit = o.unit;
     let answer = o.answer;
-    if !is_call(answer) {
-        return Reading { unit, more: false };
-    }
     let k = line(n, answer, buffer, output);
     let more = io::write_all(STDOUT_FILENO, front(output, k));
     Reading { unit, more }
@@ -112,7 +112,11 @@ fn read_all(
     payloads: &mut [u8],
     files: &mut [u8],
     buffer: &mut [u8],
-) -> UnitState {
+) -> UnitState
+    ensures { λ r. ⌜ Calls
+        (stateOf fresh (now (orders .entry)) (now (boxes .entry)) (now (payloads .entry)) (now (files .entry)) (now (buffer .entry)))
+        (stateOf r (now (orders .exit)) (now (boxes .exit)) (now (payloads .exit)) (now (files .exit)) (now (buffer .exit))) ⌝ }
+{
     let unit = fresh();
     let mut t = Reading { unit, more: true };
     let mut calls = 0;
@@ -134,22 +138,31 @@ fn read_all(
     t.unit
 }
 
-// Writes the closing tables.
-fn close(u: UnitState, output: &mut [u8], orders: &[u8], boxes: &[u8], held: &[u8]) {
-    let bank = u.bank;
-    let runs = u.runs;
-    let a = book(bank, orders, output);
-    io::write_all(STDOUT_FILENO, front(output, a));
-    let b = mailboxes(bank, boxes, output);
-    io::write_all(STDOUT_FILENO, front(output, b));
-    let c = words(runs, output);
-    io::write_all(STDOUT_FILENO, front(output, c));
-    let d = files(runs, held, output);
-    io::write_all(STDOUT_FILENO, front(output, d));
+// Writes a closing table.
+fn close_table(
+    t: Table,
+    u: UnitState,
+    output: &mut [u8],
+    orders: &[u8],
+    boxes: &[u8],
+    files: &[u8],
+) {
+    let n = table_of(t, u, orders, boxes, files, output);
+    io::write_all(STDOUT_FILENO, front(output, n));
 }
 
-// Makes the calls of all records, and prints.
-pub fn session() {
+// Writes the closing tables.
+fn close(u: UnitState, output: &mut [u8], orders: &[u8], boxes: &[u8], files: &[u8]) {
+    close_table(Table::Book, u, output, orders, boxes, files);
+    close_table(Table::Mailboxes, u, output, orders, boxes, files);
+    close_table(Table::Words, u, output, orders, boxes, files);
+    close_table(Table::Files, u, output, orders, boxes, files);
+}
+
+// Makes the calls of all records, prints, and gives the unit as it is then.
+pub fn session() -> UnitState
+    ensures { λ r. ⌜ Session r ⌝ }
+{
     let mut input = [0u8; RECORD_BYTES];
     let mut output = [0u8; TABLE_ROOM];
     let mut orders = [0u8; STORE_BYTES];
@@ -167,4 +180,5 @@ pub fn session() {
         &mut buffer,
     );
     close(u, &mut output, &orders, &boxes, &files);
+    u
 }

@@ -8,58 +8,36 @@ use native.Mathlib.Omega.{arith}
 use lib.Dec.{eqb}
 use lib.ListN.{take, getD-replicate}
 use borrow.Author.Tests.{eqb-true, eqb-false}
-use Rattle.frame.specs.declared.fields.Fields.{Fields}
+use Rattle.frame_table.specs.declared.fields.Fields.{Fields}
 use Rattle.frame.specs.declared.writer.Written.{Written}
 use Rattle.frame.specs.declared.writer.Written.the-variants as written
-use Rattle.frame.specs.Bytes.{number}
-use Rattle.frame.specs.Names.{subscriber, transaction, returnCode, form}
+use Rattle.octets.specs.Bytes.{number}
+use Rattle.frame_table.specs.Names.{subscriber, transaction, returnCode, form}
 use Rattle.frame.specs.Reader.{readRequest, readReply}
 use Rattle.frame.specs.Row.{dataOf}
-use Rattle.frame.specs.Table.{isReplyForm, rowFits, findForm, formOf}
+use Rattle.frame_table.specs.Table.{isReplyForm}
 use Rattle.frame.specs.Writer.{writeAnswer, writeBuffer}
 use Rattle.frame.proofs.RoundTrip.{Sized}
 use Rattle.message.specs.declared.codes.ReturnCode.the-variants as code
 use Rattle.message.specs.Codes.{codeField}
 use Rattle.message.specs.Limits.{subscribers}
-use Rattle.message.specs.Replies.{
-  uploadOpened,
-  downloadOpened,
-  segmentTaken,
-  recoveryPoint,
-  downloadSegment,
-  receiptAnswered,
-  unreadable,
-  refusal,
-}
 use Rattle.message.specs.Verdicts.{decide}
 use Rattle.bank_state.specs.declared.state.Bank.{Bank}
 use Rattle.bank_state.specs.Clock.{advanced}
 use Rattle.bank_state.specs.Limits.{placeCount}
 use Rattle.bank_state.specs.State.{World, world, fresh}
 use Rattle.bank_state.specs.Store.{partAt, fileOf}
-use Rattle.bank_step.specs.Openings.{fileLength}
+use Rattle.bank_openings.specs.Openings.{fileLength}
 use Rattle.bank.specs.declared.call.FrameAnswer.{FrameAnswer}
 use Rattle.bank.specs.declared.call.FrameAnswer.the-variants as frameAnswer
 use Rattle.bank.specs.declared.mailbox.FileAnswer.{FileAnswer}
 use Rattle.bank.specs.declared.mailbox.FileAnswer.the-variants as fileAnswer
-use Rattle.bank.specs.Call.{Step, FrameCall, respond, replied, answerOf, lentRight, frameNumber, frameCall}
+use Rattle.bank.specs.Call.{Step, FrameCall, replied, answerOf, lentRight, frameNumber, frameCall}
 use Rattle.bank.specs.Mailbox.{FileCall, fileCall, carryOutFile, fileRefusals, fileNumber}
+use Rattle.bank_history.proofs.Answers.{stepOf}
 use Rattle.bank_history.specs.History.{
-  Action,
-  OpenedUpload,
-  OpenedDownload,
-  Took,
-  TookLast,
-  UploadPoint,
-  DownloadPoint,
-  Cancelled,
-  Delivered,
-  SentAgain,
   Confirmed,
-  Declined,
   Event,
-  Unreadable,
-  Refusal,
   Of,
   Past,
   Frame,
@@ -71,8 +49,6 @@ use Rattle.bank_history.specs.History.{
   placed,
   exchangeOf,
   mailboxFile,
-  actionReply,
-  replyTo,
 }
 use Rattle.bank_history.specs.History as history
 use Rattle.bank_history.specs.Invariant.{Invariant, Holds}
@@ -81,7 +57,7 @@ use Rattle.bank_history.specs.Standing.{answered, filled, Emptied}
 use Rattle.bank_history.proofs.Clock.{advanced-clock, advanced-keeps}
 use Rattle.bank_history.proofs.Cases.{happens}
 use Rattle.bank_history.proofs.Files.{FileSound, rejected, done, judged-file, filled-same, filled-other}
-use Rattle.bank_history.proofs.Replies.{eventCode}
+use Rattle.bank_history.proofs.Replies.{eventCode, reply-form}
 use Rattle.bank_history.proofs.Theorems.{frame-mailbox, after-holds, past-holds, reply-is}
 use Rattle.bank_history.proofs.Liveness.{answered-clock}
 use Rattle.exchange.specs.Course.{
@@ -102,28 +78,6 @@ use Rattle.exchange.proofs.Bytes.{reply-read, data-read}
 use Rattle.exchange.proofs.Events.{event-refuses, mailbox-short, case-empties}
 use Rattle.exchange.proofs.Told.{Proper, AllProper, coded, done-confirmed}
 use Rattle.exchange.proofs.Told.{none as no-entry, more as one-more}
-
--- ---- the replies as frames
-
--- every reply is of a reply form
-pub reply-form : (v : Event) (q : Fields) → Sized (replyTo v q) × (isReplyForm (form (replyTo v q)) ≡ true)
-unfolding uploadOpened downloadOpened segmentTaken recoveryPoint downloadSegment receiptAnswered unreadable refusal formOf findForm rowFits
-reply-form Unreadable q = ((refl, refl), refl)
-reply-form (Refusal c) q = ((refl, refl), refl)
-reply-form (Of t k) q = at k
-  where
-    at : (a : Action) → Sized (actionReply a t q) × (isReplyForm (form (actionReply a t q)) ≡ true)
-    at OpenedUpload = ((refl, refl), refl)
-    at (OpenedDownload n) = ((refl, refl), refl)
-    at Took = ((refl, refl), refl)
-    at TookLast = ((refl, refl), refl)
-    at (UploadPoint n) = ((refl, refl), refl)
-    at (DownloadPoint d) = ((refl, refl), refl)
-    at (Cancelled c) = ((refl, refl), refl)
-    at (Delivered n) = ((refl, refl), refl)
-    at (SentAgain n) = ((refl, refl), refl)
-    at Confirmed = ((refl, refl), refl)
-    at Declined = ((refl, refl), refl)
 
 -- ---- entry by entry
 
@@ -185,7 +139,7 @@ pub data Grows (h : List history.Exchange) : List history.Exchange → Type 0 wh
 abbrev pub Later : {s : Course} → BankPart s → Course → Type 0
 Later b t = (n : BankPart t) × Grows (b .past .history) (n .past .history)
 
-same-mailbox : (w : World) (m : ℕ) → mailboxOf w m ≡ mailboxFile w m
+pub same-mailbox : (w : World) (m : ℕ) → mailboxOf w m ≡ mailboxFile w m
 unfolding mailboxOf mailboxFile
 same-mailbox w m = refl
 
@@ -196,9 +150,6 @@ record Replied (k : FrameCall) (s : Step) (buffer : List ℕ) (n : ℕ) : Type 0
   world : k .world ≡ s .world
   lent : k .buffer ≡ writeBuffer (s .reply) (s .replyData) buffer
   written : writeAnswer (s .reply) (s .replyData) buffer ≡ written.Length n
-
-abbrev stepOf : World → ℕ → List ℕ → List ℕ → Step
-stepOf w time ids frame = respond (number ids) (advanced time w) (readRequest frame) (dataOf frame)
 
 replied-by : (w : World) (time : ℕ) (ids frame buffer : List ℕ) (n : ℕ) →
     frameCall w time ids frame buffer .answer ≡ frameAnswer.Reply n →
@@ -213,7 +164,8 @@ replied-by w time ids frame buffer n = go (lentRight w ids buffer)
     out (written.Length m) h = cc
     out written.Refused h = absurd (let z : _≡_ {A = ℕ} 0 1 = cc in omega arith)
 
-    go : (b : Bool) → let k = cond b (replied s buffer) (record { world = w; buffer = buffer; answer = frameAnswer.WrongLength; number = frameNumber frameAnswer.WrongLength }) in
+    go : (b : Bool) → let k = cond b (replied s buffer)
+        (record { world = w; buffer = buffer; answer = frameAnswer.WrongLength; number = frameNumber frameAnswer.WrongLength }) in
         k .answer ≡ frameAnswer.Reply n → Replied k s buffer n
     go true h = record { world = refl; lent = refl; written = out (writeAnswer (s .reply) (s .replyData) buffer) h }
     go false h = absurd (let z : _≡_ {A = ℕ} 0 1 = cc in omega arith)

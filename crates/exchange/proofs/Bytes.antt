@@ -7,23 +7,23 @@ use native.Mathlib.Omega.{arith}
 use lib.Dec.{leb}
 use lib.ListN.{length, take}
 use lib.Seq.{take-at}
-use Rattle.frame.specs.declared.fields.Fields.{Fields}
+use Rattle.frame_table.specs.declared.fields.Fields.{Fields}
 use Rattle.frame.specs.declared.writer.Written.{Written}
 use Rattle.frame.specs.declared.writer.Written.the-variants as written
-use Rattle.frame.specs.Bytes.{overwrite}
-use Rattle.frame.specs.Names.{form}
+use Rattle.octets.specs.Bytes.{overwrite}
+use Rattle.frame_table.specs.Names.{form}
 use Rattle.frame.specs.Reader.{readRequest, readReply}
 use Rattle.frame.specs.Row.{dataOf}
-use Rattle.frame.specs.Table.{isRequestForm, isReplyForm, rowFits, findForm, formOf}
+use Rattle.frame_table.specs.Table.{isRequestForm, isReplyForm, rowFits, findForm, formOf}
 use Rattle.frame.specs.Writer.{frameOf, writable, accepted, writeAnswer, writeBuffer}
 use Rattle.frame.proofs.RoundTrip.{Sized}
-use Rattle.frame.proofs.Tests.{and-true}
+use Rattle.octets.proofs.Tests.{and-true}
 use Rattle.frame.proofs.Theorems.{written-request, written-reply, written-data}
 use Rattle.message.specs.Requests.{uploadOpening, downloadOpening, uploadTransfer, downloadTransfer, receipt}
 use Rattle.client.specs.declared.run.Answer.the-variants as answer
 use Rattle.client.specs.declared.run.Client.{Client}
-use Rattle.client.specs.declared.run.Deed.{Deed}
-use Rattle.client.specs.declared.run.Deed.the-variants.{Ignore, Opened, Advance, Return, Repeat, Close}
+use Rattle.client.specs.declared.run.Decision.{Decision}
+use Rattle.client.specs.declared.run.Decision.the-variants.{Ignore, Opened, Advance, Return, Repeat, Close}
 use Rattle.client.specs.declared.run.Direction.{Direction}
 use Rattle.client.specs.declared.run.Direction.the-variants.{Upload, Download}
 use Rattle.client.specs.declared.run.Ruling.{Ruling}
@@ -42,9 +42,9 @@ use Rattle.client.specs.Calls.{
   beginCall,
   runBy,
   replyCall,
-  silenceCall,
+  noReplyCall,
 }
-use Rattle.client.specs.Decisions.{onReply, onSilence}
+use Rattle.client.specs.Decisions.{onReply, onNoReply}
 use Rattle.client.specs.NextRun.{beginLength, begun, goOn, repeated, learned, holding, fileWith}
 use Rattle.client.specs.Requests.{uploadRequest, downloadRequest, requestBy, outstanding, outstandingData}
 use Rattle.client.specs.Rulings.{beginRuling, runRuling}
@@ -116,7 +116,7 @@ issued-issues c next file l n = go (isWritten next l) refl
     go written.Refused e h = absurd (let z : _≡_ {A = ℕ} 0 1 = cc in omega arith)
 
 module _ (c : Client) (r : Fields) (d : List ℕ) (l : Lent) where
-  carried-issues : (deed : Deed) → Issues (carryOut deed c r d l) l
+  carried-issues : (decision : Decision) → Issues (carryOut decision c r d l) l
   unfolding taken
   carried-issues Ignore n h = absurd (let z : _≡_ {A = ℕ} 0 1 = cc in omega arith)
   carried-issues Opened n h =
@@ -127,9 +127,9 @@ module _ (c : Client) (r : Fields) (d : List ℕ) (l : Lent) where
   carried-issues Repeat n h = issued-issues c (repeated c) (l .file) l n h
   carried-issues (Close w) n h = absurd (let z : _≡_ {A = ℕ} 0 1 = cc in omega arith)
 
-  ruled-issues : (u : Ruling) (deed : Deed) → Issues (runBy u deed c r d l) l
-  ruled-issues (Refuse x) deed n h = absurd (let z : _≡_ {A = ℕ} 0 1 = cc in omega arith)
-  ruled-issues Accept deed n h = carried-issues deed n h
+  ruled-issues : (u : Ruling) (decision : Decision) → Issues (runBy u decision c r d l) l
+  ruled-issues (Refuse x) decision n h = absurd (let z : _≡_ {A = ℕ} 0 1 = cc in omega arith)
+  ruled-issues Accept decision n h = carried-issues decision n h
 
 module _ (c : Client) (l : Lent) where
   pub begin-issues : (way : Direction) (subscriber first : ℕ) → Issues (beginCall c way subscriber first l) l
@@ -146,9 +146,9 @@ module _ (c : Client) (l : Lent) where
       ruled-issues c (readReply frame) (dataOf frame) l (runRuling (c .stage) c (lengthsOf l))
       (onReply c (readReply frame) (length (dataOf frame)))
 
-  pub silence-issues : Issues (silenceCall c l) l
-  unfolding silenceCall
-  silence-issues = ruled-issues c _ [] l (runRuling (c .stage) c (lengthsOf l)) (onSilence c)
+  pub no-reply-issues : Issues (noReplyCall c l) l
+  unfolding noReplyCall
+  no-reply-issues = ruled-issues c _ [] l (runRuling (c .stage) c (lengthsOf l)) (onNoReply c)
 
 -- its bytes read as its fields and its data
 module _ {k : ClientCall} {l : Lent} {n : ℕ} (i : Issued k l n) where

@@ -7,14 +7,14 @@ use native.Mathlib.Decide.{ℕ-discrete}
 use lib.Dec.{eqb}
 use lib.ListN.{take}
 use borrow.Author.Tests.{eq-eqb, ne-eqb, eqb-true}
-use Rattle.frame.specs.declared.fields.Bits128.{Bits128}
-use Rattle.frame.specs.declared.fields.Fields.{Fields}
-use Rattle.frame.specs.declared.table.Form.{Form}
-use Rattle.frame.specs.declared.table.Form.the-variants as forms
-use Rattle.frame.specs.Names.{transaction, segments, form}
+use Rattle.frame_table.specs.declared.fields.Bits128.{Bits128}
+use Rattle.frame_table.specs.declared.fields.Fields.{Fields}
+use Rattle.frame_table.specs.declared.table.Form.{Form}
+use Rattle.frame_table.specs.declared.table.Form.the-variants as forms
+use Rattle.frame_table.specs.Names.{transaction, segments, form}
 use Rattle.frame.specs.Reader.{readRequest}
 use Rattle.frame.specs.Row.{dataOf}
-use Rattle.frame.proofs.Tests.{never}
+use Rattle.octets.proofs.Tests.{never}
 use Rattle.bank_history.specs.History.{Stands, older, OpenedUpload, OpenedDownload}
 use Rattle.bank_history.specs.History as bank
 use Rattle.bank_history.specs.Sound.{AllSound}
@@ -30,7 +30,7 @@ use Rattle.client_history.specs.History as history
 use Rattle.client_history.specs.Invariant.{isOpen, UploadOpen, UploadStep, HeldFile, DownloadStep, Invariant, not-begun, upload, download}
 use Rattle.client_history.proofs.Lifting.{lifted}
 use Rattle.client_history.proofs.Theorems.{kept}
-use Rattle.exchange.specs.Course.{Issue, Exchange, Course, heldOf, leaving, afterRun, arrive}
+use Rattle.exchange.specs.Course.{Issue, Exchange, Course, heldOf, leaving, newIssue, afterRun, arrive}
 use Rattle.exchange.proofs.Bytes.{Issued, issued-request, issued-data}
 use Rattle.exchange.proofs.Told.{Opening, opening-at, Gave, fileIn, bank-replies}
 use Rattle.exchange.proofs.Bank.{BankPart, Grows, stays, grows}
@@ -192,22 +192,19 @@ module _ (s : Course) (i : ℕ) (k : ClientCall) (payload : List ℕ) where
       runPast (leaving i k payload issued s) i ≡ record { run = k .run; payload = payload; file = k .file; issues = issuesOf i issued }
   own-run issued = rw (same-run i)
 
--- the request that a call of run i issues
-abbrev newIssue : ℕ → ClientCall → ℕ → Issue
-newIssue i k n = record { run = i; frame = take n (k .request); file = heldOf (k .run) (k .file) }
-
-new-own : (i n : ℕ) (k : ClientCall) (l : Lent) (issues : List Issue) → Issued k l n →
-    issuesOf i (newIssue i k n ∷ issues) ≡ issueOf (k .run) (l .payload) (k .file) (l .time) (l .nonce) ∷ issuesOf i issues
+new-own : (s : Course) (i n : ℕ) (k : ClientCall) (l : Lent) (issues : List Issue) → Issued k l n →
+    issuesOf i (newIssue s i k n ∷ issues) ≡ issueOf (k .run) (l .payload) (k .file) (l .time) (l .nonce) ∷ issuesOf i issues
 unfolding issuesOf heldOf
-new-own i n k l issues w =
+new-own s i n k l issues w =
     rw (same-run i)
     (let q = issued-request w in
     let d = issued-data w in
     λ x. record { request = q x; requestData = d x; file = take (k .run .length) (k .file) } ∷ issuesOf i issues)
 
-new-other : (i j n : ℕ) (k : ClientCall) (issues : List Issue) → (j ≡ i → ⊥) → issuesOf j (newIssue i k n ∷ issues) ≡ issuesOf j issues
+new-other : (s : Course) (i j n : ℕ) (k : ClientCall) (issues : List Issue) → (j ≡ i → ⊥) →
+    issuesOf j (newIssue s i k n ∷ issues) ≡ issuesOf j issues
 unfolding issuesOf
-new-other i j n k issues h = rw (ne-eqb i j (λ e. h (sym e)))
+new-other s i j n k issues h = rw (ne-eqb i j (λ e. h (sym e)))
 
 -- the bank's part does not hang on the runs
 bank-leaving : (s : Course) (b : BankPart s) (i : ℕ) (k : ClientCall) (payload : List ℕ) (issued : List Issue) →
@@ -241,16 +238,16 @@ module _ (s : Course) (i : ℕ) (k : ClientCall) (l : Lent) where
   pub own-past : ((n : ℕ) → k .answer ≡ answer.Request n → Issued k l n) → (a : Answer) → k .answer ≡ a →
       runPast (afterRun a i k (l .payload) s) i ≡ left a k l (runPast s i)
   own-past issues (answer.Request n) e =
-      own-run s i k (l .payload) (newIssue i k n ∷ s .issued)
+      own-run s i k (l .payload) (newIssue s i k n ∷ s .issued)
       ∙ ap (λ (x : List history.Issue). record { run = k .run; payload = l .payload; file = k .file; issues = x })
-      (new-own i n k l (s .issued) (issues n e))
+      (new-own s i n k l (s .issued) (issues n e))
   own-past issues answer.Ignored e = own-run s i k (l .payload) (s .issued)
   own-past issues (answer.Closed w) e = own-run s i k (l .payload) (s .issued)
   own-past issues (answer.Refused r) e = refl
 
   -- the others stay
   pub other-past : (a : Answer) (j : ℕ) → (j ≡ i → ⊥) → runPast (afterRun a i k (l .payload) s) j ≡ runPast s j
-  other-past (answer.Request n) j d = other-run s i k (l .payload) (newIssue i k n ∷ s .issued) j d (new-other i j n k (s .issued) d)
+  other-past (answer.Request n) j d = other-run s i k (l .payload) (newIssue s i k n ∷ s .issued) j d (new-other s i j n k (s .issued) d)
   other-past answer.Ignored j d = other-run s i k (l .payload) (s .issued) j d refl
   other-past (answer.Closed w) j d = other-run s i k (l .payload) (s .issued) j d refl
   other-past (answer.Refused r) j d = refl
@@ -258,7 +255,7 @@ module _ (s : Course) (i : ℕ) (k : ClientCall) (l : Lent) where
   -- and so does the bank
   bank-past : (b : BankPart s) (a : Answer) → (n : BankPart (afterRun a i k (l .payload) s)) × (n .past ≡ b .past)
   unfolding bank-leaving
-  bank-past b (answer.Request n) = (bank-leaving s b i k (l .payload) (newIssue i k n ∷ s .issued), refl)
+  bank-past b (answer.Request n) = (bank-leaving s b i k (l .payload) (newIssue s i k n ∷ s .issued), refl)
   bank-past b answer.Ignored = (bank-leaving s b i k (l .payload) (s .issued), refl)
   bank-past b (answer.Closed w) = (bank-leaving s b i k (l .payload) (s .issued), refl)
   bank-past b (answer.Refused r) = (b, refl)

@@ -7,11 +7,11 @@ use mathlib.Core.Path.{_≡_, refl, sym, ap, _∙_, subst}
 use native.Mathlib.Decide.{ℕ-discrete}
 use native.Mathlib.Omega.{arith}
 use lib.ListN.{length}
-use Rattle.frame.specs.declared.fields.Bits128.{Bits128}
-use Rattle.frame.specs.declared.table.Form.{Form}
-use Rattle.frame.specs.Names.{exchange}
+use Rattle.frame_table.specs.declared.fields.Bits128.{Bits128}
+use Rattle.frame_table.specs.declared.table.Form.{Form}
+use Rattle.frame_table.specs.Names.{exchange}
 use Rattle.frame.specs.Reader.{readRequest}
-use Rattle.frame.proofs.Tests.{never}
+use Rattle.octets.proofs.Tests.{never}
 use Rattle.bank_state.specs.declared.state.Bank.{Bank}
 use Rattle.bank_state.specs.Clock.{advanced}
 use Rattle.bank_state.specs.Search.{openCountOf}
@@ -31,7 +31,7 @@ use Rattle.client.specs.declared.run.Answer.the-variants as answer
 use Rattle.client.specs.declared.run.Client.{Client}
 use Rattle.client.specs.declared.run.Direction.{Direction}
 use Rattle.client.specs.declared.run.Direction.the-variants.{Upload, Download}
-use Rattle.client.specs.Calls.{beginCall, replyCall, silenceCall}
+use Rattle.client.specs.Calls.{beginCall, replyCall, noReplyCall}
 use Rattle.client.specs.Run.{Lent, ClientCall, answerNumber}
 use Rattle.exchange.specs.Course.{
   Call,
@@ -55,8 +55,8 @@ use Rattle.exchange.specs.Terms.{IssuedBy, Answered, NoIdleHour, InTurn}
 use Rattle.exchange.specs.Demand3.{isSubscribers, Left, Allowed, OneExchangeNumber}
 use Rattle.exchange.proofs.Bank.{Entered, frame-enters}
 use Rattle.exchange.proofs.Clients.{issuesOf, issued-in, OpenedBy, Parts}
-use Rattle.exchange.proofs.Courses.{Copied, one-issue, frame-runs}
-use Rattle.exchange.proofs.Came.{Same, same-refl, other-same, foreign-same}
+use Rattle.exchange.proofs.Courses.{Copied, one-issue, frame-runs, run-leaves, reached-leaves}
+use Rattle.exchange.proofs.Received.{Same, same-refl, other-same, foreign-same}
 use Rattle.exchange.proofs.Joint.{counts}
 use Rattle.exchange.proofs.Outcome.{request-of}
 use Rattle.exchange.proofs.Runs.{by-number}
@@ -79,7 +79,8 @@ pub data Concern (s : Course) (v : Parts s) (i : ℕ) : Call → Type 0 where
       Entered s (v .bank) time ids frame buffer (exec (frameArrives w time ids frame buffer) s) → IssuedBy i frame s →
       ((e : Exchange) → In e (s .exchanged) → e .request ≡ frame → ⊥) →
       NoIdleHour i (exec (frameArrives w time ids frame buffer) s .bank .bank .clock) s →
-      exec (frameArrives w time ids frame buffer) s .issued ≡ s .issued → exec (frameArrives w time ids frame buffer) s .arrived ≡ s .arrived →
+      exec (frameArrives w time ids frame buffer) s .issued ≡ s .issued →
+      exec (frameArrives w time ids frame buffer) s .arrived ≡ s .arrived →
       Concern s v i (frameArrives w time ids frame buffer)
   own-begin : {c : Client} {way : Direction} {u first : ℕ} {l : Lent} → c ≡ s .runs i →
       answerNumber (beginCall c way u first l .answer) ≡ 0 → Concern s v i (begins i c way u first l)
@@ -100,7 +101,7 @@ joined (frameAnswer.Reply n) P Q R p r = (p .0, (p .1, r))
 joined frameAnswer.WrongLength P Q R p r = tt
 
 -- the bank behind a frame that is answered
-frame-world : (s : Course) (w : World) (time : ℕ) (ids frame buffer : List ℕ) → let t = exec (frameArrives w time ids frame buffer) s in
+pub frame-world : (s : Course) (w : World) (time : ℕ) (ids frame buffer : List ℕ) → let t = exec (frameArrives w time ids frame buffer) s in
     (t ≡ s) ⊎ ((t .bank ≡ frameCall w time ids frame buffer .world) × (t .issued ≡ s .issued) × (t .arrived ≡ s .arrived))
 unfolding exec
 frame-world s w time ids frame buffer = go (frameCall w time ids frame buffer .answer)
@@ -109,6 +110,43 @@ frame-world s w time ids frame buffer = go (frameCall w time ids frame buffer .a
         (t ≡ s) ⊎ ((t .bank ≡ frameCall w time ids frame buffer .world) × (t .issued ≡ s .issued) × (t .arrived ≡ s .arrived))
     go (frameAnswer.Reply n) = inr (refl, refl, refl)
     go frameAnswer.WrongLength = inl refl
+
+-- a file put moves the bank as its history says
+pub file-bank : (s : Course) (v : Parts s) (b : Bank) (boxes : List ℕ) (m : ℕ) (file : List ℕ) → Allowed (filePut b boxes m file) s →
+    let t = exec (filePut b boxes m file) s in
+    (t ≡ s) ⊎ ((t .bank ≡ bank.after (File m file) (v .bank .past) .world) × (t .exchanged ≡ s .exchanged))
+unfolding exec bank.after
+file-bank s v b boxes m file = go (fileCall b m file boxes .answer) refl
+  where
+    Out : FileAnswer → Bank → List ℕ → Type 0
+    Out a c l = afterFile a (fileCall c m file l) m file s .bank
+        ≡ (let d = fileCall (v .bank .past .world .bank) m file (v .bank .past .world .boxes) in
+        placed (d .answer) (d .bank) (d .boxes) (v .bank .past) .world)
+
+    left-so : fileCall (v .bank .past .world .bank) m file (v .bank .past .world .boxes) .answer ≡ fileAnswer.Done →
+        Out fileAnswer.Done (v .bank .past .world .bank) (v .bank .past .world .boxes)
+    left-so e =
+        let d = fileCall (v .bank .past .world .bank) m file (v .bank .past .world .boxes) in
+        ap (λ (w : World). world (d .bank) (w .orders) (d .boxes)) (sym (v .bank .world))
+        ∙ ap (λ (a : FileAnswer). placed a (d .bank) (d .boxes) (v .bank .past) .world) (sym e)
+
+    go : (a : FileAnswer) → fileCall b m file boxes .answer ≡ a →
+        (fileNumber a ≡ 0 → (b ≡ s .bank .bank) × (boxes ≡ s .bank .boxes)) →
+        let t = afterFile a (fileCall b m file boxes) m file s in (t ≡ s) ⊎ (Out a b boxes × (t .exchanged ≡ s .exchanged))
+    go fileAnswer.Done e q =
+        let same = q refl in
+        let x : v .bank .past .world .bank ≡ b = ap (λ (w : World). w .bank) (v .bank .world) ∙ sym (same .0) in
+        let y : v .bank .past .world .boxes ≡ boxes = ap (λ (w : World). w .boxes) (v .bank .world) ∙ sym (same .1) in
+        inr (
+          subst (λ (c : Bank). fileCall c m file boxes .answer ≡ fileAnswer.Done → Out fileAnswer.Done c boxes) x
+              (subst (λ (l : List ℕ). fileCall (v .bank .past .world .bank) m file l .answer ≡ fileAnswer.Done →
+              Out fileAnswer.Done (v .bank .past .world .bank) l) y left-so) e,
+          refl,
+        )
+    go fileAnswer.WrongLength e q = inl refl
+    go fileAnswer.NoMailbox e q = inl refl
+    go fileAnswer.WrongFile e q = inl refl
+    go fileAnswer.MailboxFull e q = inl refl
 
 module _ (s : Course) (v : Parts s) (copies : Copied s) (numbers : OneExchangeNumber s) (i : ℕ) where
   -- whether a frame is a copy of the run's request
@@ -177,42 +215,9 @@ module _ (s : Course) (v : Parts s) (copies : Copied s) (numbers : OneExchangeNu
 
   -- ---- a file
 
-  -- a file put moves the bank as its history says
-  file-bank : (b : Bank) (boxes : List ℕ) (m : ℕ) (file : List ℕ) → Allowed (filePut b boxes m file) s →
-      let t = exec (filePut b boxes m file) s in (t ≡ s) ⊎ (t .bank ≡ bank.after (File m file) (v .bank .past) .world)
-  unfolding exec bank.after
-  file-bank b boxes m file = go (fileCall b m file boxes .answer) refl
-    where
-      Out : FileAnswer → Bank → List ℕ → Type 0
-      Out a c l = afterFile a (fileCall c m file l) m file s .bank
-          ≡ (let d = fileCall (v .bank .past .world .bank) m file (v .bank .past .world .boxes) in
-          placed (d .answer) (d .bank) (d .boxes) (v .bank .past) .world)
-
-      left-so : fileCall (v .bank .past .world .bank) m file (v .bank .past .world .boxes) .answer ≡ fileAnswer.Done →
-          Out fileAnswer.Done (v .bank .past .world .bank) (v .bank .past .world .boxes)
-      left-so e =
-          let d = fileCall (v .bank .past .world .bank) m file (v .bank .past .world .boxes) in
-          ap (λ (w : World). world (d .bank) (w .orders) (d .boxes)) (sym (v .bank .world))
-          ∙ ap (λ (a : FileAnswer). placed a (d .bank) (d .boxes) (v .bank .past) .world) (sym e)
-
-      go : (a : FileAnswer) → fileCall b m file boxes .answer ≡ a →
-          (fileNumber a ≡ 0 → (b ≡ s .bank .bank) × (boxes ≡ s .bank .boxes)) →
-          (afterFile a (fileCall b m file boxes) m file s ≡ s) ⊎ Out a b boxes
-      go fileAnswer.Done e q =
-          let same = q refl in
-          let x : v .bank .past .world .bank ≡ b = ap (λ (w : World). w .bank) (v .bank .world) ∙ sym (same .0) in
-          let y : v .bank .past .world .boxes ≡ boxes = ap (λ (w : World). w .boxes) (v .bank .world) ∙ sym (same .1) in
-          inr (subst (λ (c : Bank). fileCall c m file boxes .answer ≡ fileAnswer.Done → Out fileAnswer.Done c boxes) x
-          (subst (λ (l : List ℕ). fileCall (v .bank .past .world .bank) m file l .answer ≡ fileAnswer.Done →
-          Out fileAnswer.Done (v .bank .past .world .bank) l) y left-so) e)
-      go fileAnswer.WrongLength e q = inl refl
-      go fileAnswer.NoMailbox e q = inl refl
-      go fileAnswer.WrongFile e q = inl refl
-      go fileAnswer.MailboxFull e q = inl refl
-
   file-same : (k : FileCall) (m : ℕ) (file : List ℕ) (a : FileAnswer) → Same i s (afterFile a k m file s)
   file-same k m file fileAnswer.Done =
-      record { past = refl; came = λ e c. c; keeps = λ e c. c; arrivals = λ a m r. m; arrived = λ a m. m; issued = λ x m r. m }
+      record { past = refl; received = λ e c. c; keeps = λ e c. c; arrivals = λ a m r. m; arrived = λ a m. m; issued = λ x m r. m }
   file-same k m file fileAnswer.WrongLength = same-refl i s
   file-same k m file fileAnswer.NoMailbox = same-refl i s
   file-same k m file fileAnswer.WrongFile = same-refl i s
@@ -252,29 +257,18 @@ module _ (s : Course) (v : Parts s) (copies : Copied s) (numbers : OneExchangeNu
   file-concern : (b : Bank) (boxes : List ℕ) (m : ℕ) (file : List ℕ) → Allowed (filePut b boxes m file) s →
       Concern s v i (filePut b boxes m file)
   unfolding exec
-  file-concern b boxes m file q = at (file-bank b boxes m file q)
+  file-concern b boxes m file q = at (file-bank s v b boxes m file q)
     where
       t : Course
       t = exec (filePut b boxes m file) s
 
-      at : (t ≡ s) ⊎ (t .bank ≡ bank.after (File m file) (v .bank .past) .world) → Concern s v i (filePut b boxes m file)
+      at : (t ≡ s) ⊎ ((t .bank ≡ bank.after (File m file) (v .bank .past) .world) × (t .exchanged ≡ s .exchanged)) →
+          Concern s v i (filePut b boxes m file)
       at (inl z) = let n = nothing-new s v i t z in elsewhere (n .0) (n .1)
       at (inr z) =
-          elsewhere (file-same (fileCall b m file boxes) m file (fileCall b m file boxes .answer)) (file-untouched m file t z)
+          elsewhere (file-same (fileCall b m file boxes) m file (fileCall b m file boxes .answer)) (file-untouched m file t (z .0))
 
   -- ---- a call of a run
-
-  run-bank : (j : ℕ) (k : ClientCall) (payload : List ℕ) (a : Answer) → afterRun a j k payload s .bank ≡ s .bank
-  run-bank j k payload (answer.Request n) = refl
-  run-bank j k payload answer.Ignored = refl
-  run-bank j k payload (answer.Closed w) = refl
-  run-bank j k payload (answer.Refused r) = refl
-
-  reached-bank : (j : ℕ) (reply : List ℕ) (a : Answer) (t : Course) → reached a j reply t .bank ≡ t .bank
-  reached-bank j reply (answer.Request n) t = refl
-  reached-bank j reply answer.Ignored t = refl
-  reached-bank j reply (answer.Closed w) t = refl
-  reached-bank j reply (answer.Refused r) t = refl
 
   -- a reply that reaches another run
   reached-same : (j : ℕ) → (i ≡ j → ⊥) → (reply : List ℕ) (a : Answer) (t : Course) → Same i s t → Same i s (reached a j reply t)
@@ -287,7 +281,7 @@ module _ (s : Course) (v : Parts s) (copies : Copied s) (numbers : OneExchangeNu
       new : Same i s (arrive j reply t)
       new = record {
         past = z .past;
-        came = z .came;
+        received = z .received;
         keeps = z .keeps;
         arrivals = behind;
         arrived = λ b m. there (z .arrived b m);
@@ -311,11 +305,13 @@ module _ (s : Course) (v : Parts s) (copies : Copied s) (numbers : OneExchangeNu
 
       at : Dec (i ≡ j) → Concern s v i (begins j c way u first l)
       at (no d) = elsewhere (other-same s i j d k l (k .answer)) (bank-same s v i (afterRun (k .answer) j k (l .payload) s)
-          (run-bank j k (l .payload) (k .answer)))
+          (run-leaves s j k (l .payload) (k .answer) .0 .bank))
       at (yes z) =
           subst (λ (n : ℕ). (answerNumber (k .answer) ≡ 0 → c ≡ s .runs n) → Concern s v i (begins n c way u first l)) z (λ a.
           by-number (Concern s v i (begins i c way u first l)) (k .answer) (λ e. own-begin (a e) e)
-          (λ r e. let n = nothing-new s v i (afterRun (k .answer) i k (l .payload) s) (ap (λ (x : Answer). afterRun x i k (l .payload) s) e) in elsewhere (n .0) (n .1))) q
+          (λ r e. let n = nothing-new s v i (afterRun (k .answer) i k (l .payload) s)
+          (ap (λ (x : Answer). afterRun x i k (l .payload) s) e) in
+          elsewhere (n .0) (n .1))) q
   concern (replyArrives j c reply l) q turn = at (ℕ-discrete i j)
     where
       k : ClientCall
@@ -327,7 +323,7 @@ module _ (s : Course) (v : Parts s) (copies : Copied s) (numbers : OneExchangeNu
       at : Dec (i ≡ j) → Concern s v i (replyArrives j c reply l)
       at (no d) =
           elsewhere (reached-same j d reply (k .answer) (afterRun (k .answer) j k (l .payload) s) (other-same s i j d k l (k .answer)))
-          (bank-same s v i (t j) (reached-bank j reply (k .answer) (afterRun (k .answer) j k (l .payload) s) ∙ run-bank j k (l .payload) (k .answer)))
+          (bank-same s v i (t j) (reached-leaves s j reply k (l .payload) (k .answer) .bank))
       at (yes z) =
           subst (λ (n : ℕ). Allowed (replyArrives n c reply l) s → InTurn i (replyArrives n c reply l) s →
           Concern s v i (replyArrives n c reply l)) z (λ a b.
@@ -338,11 +334,13 @@ module _ (s : Course) (v : Parts s) (copies : Copied s) (numbers : OneExchangeNu
   concern (noReply j c l) q turn = at (ℕ-discrete i j)
     where
       k : ClientCall
-      k = silenceCall c l
+      k = noReplyCall c l
 
       at : Dec (i ≡ j) → Concern s v i (noReply j c l)
       at (no d) = elsewhere (other-same s i j d k l (k .answer)) (bank-same s v i (afterRun (k .answer) j k (l .payload) s)
-          (run-bank j k (l .payload) (k .answer)))
+          (run-leaves s j k (l .payload) (k .answer) .0 .bank))
       at (yes z) =
           by-number (Concern s v i (noReply j c l)) (k .answer) (λ e. absurd (turn e (sym z)))
-          (λ r e. let n = nothing-new s v i (afterRun (k .answer) j k (l .payload) s) (ap (λ (x : Answer). afterRun x j k (l .payload) s) e) in elsewhere (n .0) (n .1))
+          (λ r e. let n = nothing-new s v i (afterRun (k .answer) j k (l .payload) s)
+          (ap (λ (x : Answer). afterRun x j k (l .payload) s) e) in
+          elsewhere (n .0) (n .1))

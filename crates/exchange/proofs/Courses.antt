@@ -3,7 +3,7 @@ use Prim.Native.Nat.{ℕ}
 use mathlib.Core.Bool.{true}
 use mathlib.Core.List.{List, [], _∷_, map, List·Memᴰ as In, List·Memᴰ·head as here, List·Memᴰ·tail as there, List·Memᴰ·not-nil as in-none}
 use mathlib.Core.Path.{_≡_, refl, sym, ap, _∙_, subst}
-use Rattle.frame.specs.Names.{exchange}
+use Rattle.frame_table.specs.Names.{exchange}
 use Rattle.frame.specs.Reader.{readRequest, readReply}
 use Rattle.frame.specs.Row.{dataOf}
 use Rattle.bank_state.specs.declared.state.Bank.{Bank}
@@ -19,7 +19,7 @@ use Rattle.client.specs.declared.run.Answer.{Answer}
 use Rattle.client.specs.declared.run.Answer.the-variants as answer
 use Rattle.client.specs.declared.run.Client.{Client}
 use Rattle.client.specs.declared.run.Direction.{Direction}
-use Rattle.client.specs.Calls.{beginCall, replyCall, silenceCall}
+use Rattle.client.specs.Calls.{beginCall, replyCall, noReplyCall}
 use Rattle.client.specs.Run.{Lent, ClientCall, answerNumber}
 use Rattle.client_history.specs.History.{Begin, Reply, NoReply, GivenTo}
 use Rattle.client_history.specs.Invariant.{not-begun}
@@ -44,7 +44,7 @@ use Rattle.exchange.specs.Course.{
 use Rattle.exchange.specs.Terms.{IssuedBy, Answered}
 use Rattle.exchange.specs.Demand3.{isSubscribers, Allowed, AllAllowed, OneExchangeNumber}
 use Rattle.exchange.specs.Lists.{NoDup, more}
-use Rattle.exchange.proofs.Bytes.{begin-issues, reply-issues, silence-issues}
+use Rattle.exchange.proofs.Bytes.{begin-issues, reply-issues, no-reply-issues}
 use Rattle.exchange.proofs.Told.{Gave}
 use Rattle.exchange.proofs.Bank.{found, Later, frame-keeps, file-keeps, bank-start}
 use Rattle.exchange.proofs.Clients.{asIssue, issuesOf, runPast, issued-in, run-lifts, RunHolds, Parts, arrive-keeps, run-keeps}
@@ -147,13 +147,13 @@ reply-keeps s v i c reply l a =
     (run-keeps s v i (Reply reply l) (reply-issues (s .runs i) l reply)
     (λ _. (record { payload = q .0 .1; file = q .0 .2 }, given-to s v i reply (q .1)))))
 
-silence-keeps : (s : Course) (v : Parts s) (i : ℕ) (c : Client) (l : Lent) → Allowed (noReply i c l) s → Parts (exec (noReply i c l) s)
+no-reply-keeps : (s : Course) (v : Parts s) (i : ℕ) (c : Client) (l : Lent) → Allowed (noReply i c l) s → Parts (exec (noReply i c l) s)
 unfolding exec
-silence-keeps s v i c l a =
-    run-called s v i (silenceCall c l) (l .payload) (λ z.
+no-reply-keeps s v i c l a =
+    run-called s v i (noReplyCall c l) (l .payload) (λ z.
     let q = a z in
-    subst (λ (x : Client). let k = silenceCall x l in Parts (afterRun (k .answer) i k (l .payload) s)) (sym (q .0))
-    (run-keeps s v i (NoReply l) (silence-issues (s .runs i) l) (λ _. record { payload = q .1; file = q .2 })))
+    subst (λ (x : Client). let k = noReplyCall x l in Parts (afterRun (k .answer) i k (l .payload) s)) (sym (q .0))
+    (run-keeps s v i (NoReply l) (no-reply-issues (s .runs i) l) (λ _. record { payload = q .1; file = q .2 })))
 
 pub call-keeps : (k : Call) (s : Course) → Parts s → Allowed k s → Parts (exec k s)
 call-keeps (frameArrives w time ids frame buffer) s v a =
@@ -161,7 +161,7 @@ call-keeps (frameArrives w time ids frame buffer) s v a =
 call-keeps (filePut b boxes m file) s v a = bank-called v (file-keeps s (v .bank) b boxes m file a) (file-runs s b boxes m file)
 call-keeps (begins i c way subscriber first l) s v a = begin-keeps s v i c way subscriber first l a
 call-keeps (replyArrives i c reply l) s v a = reply-keeps s v i c reply l a
-call-keeps (noReply i c l) s v a = silence-keeps s v i c l a
+call-keeps (noReply i c l) s v a = no-reply-keeps s v i c l a
 
 pub parts-start : Parts start
 unfolding start issuesOf
@@ -183,7 +183,8 @@ pub in-more : {x : Issue} {l m : List Issue} → Issues l m → In x l → In x 
 in-more same k = k
 in-more one k = there k
 
-run-issues : (s : Course) (i : ℕ) (k : ClientCall) (payload : List ℕ) (a : Answer) → Issues (s .issued) (afterRun a i k payload s .issued)
+pub run-issues : (s : Course) (i : ℕ) (k : ClientCall) (payload : List ℕ) (a : Answer) →
+    Issues (s .issued) (afterRun a i k payload s .issued)
 run-issues s i k payload (answer.Request n) = one
 run-issues s i k payload answer.Ignored = same
 run-issues s i k payload (answer.Closed w) = same
@@ -214,7 +215,7 @@ call-issues (filePut b boxes m file) s = go (fileCall b m file boxes .answer)
 call-issues (begins i c way subscriber first l) s =
     let k = beginCall c way subscriber first l in run-issues s i k (l .payload) (k .answer)
 call-issues (replyArrives i c reply l) s = let k = replyCall c reply l in reached-issues s i reply k (l .payload) (k .answer)
-call-issues (noReply i c l) s = let k = silenceCall c l in run-issues s i k (l .payload) (k .answer)
+call-issues (noReply i c l) s = let k = noReplyCall c l in run-issues s i k (l .payload) (k .answer)
 
 pub issued-more : (k : Call) (s : Course) {i : ℕ} {frame : List ℕ} → IssuedBy i frame s → IssuedBy i frame (exec k s)
 issued-more k s (x, m, r, f) = (x, in-more (call-issues k s) m, r, f)
@@ -227,18 +228,24 @@ copied-later : (k : Call) (s : Course) → Copied s → (e : Exchange) → In e 
     (i : ℕ) × IssuedBy i (e .request) (exec k s)
 copied-later k s c e m z = let o = c e m z in (o .0, issued-more k s (o .1))
 
-run-exchanged : (s : Course) (i : ℕ) (k : ClientCall) (payload : List ℕ) (a : Answer) → afterRun a i k payload s .exchanged ≡ s .exchanged
-run-exchanged s i k payload (answer.Request n) = refl
-run-exchanged s i k payload answer.Ignored = refl
-run-exchanged s i k payload (answer.Closed w) = refl
-run-exchanged s i k payload (answer.Refused r) = refl
+-- what a run's call leaves
+pub record Leaves (s t : Course) : Type 0 where
+  pub exchanged : t .exchanged ≡ s .exchanged
+  pub bank : t .bank ≡ s .bank
 
-reached-exchanged : (s : Course) (i : ℕ) (reply : List ℕ) (k : ClientCall) (payload : List ℕ) (a : Answer) →
-    reached a i reply (afterRun a i k payload s) .exchanged ≡ s .exchanged
-reached-exchanged s i reply k payload (answer.Request n) = refl
-reached-exchanged s i reply k payload answer.Ignored = refl
-reached-exchanged s i reply k payload (answer.Closed w) = refl
-reached-exchanged s i reply k payload (answer.Refused r) = refl
+pub run-leaves : (s : Course) (i : ℕ) (k : ClientCall) (payload : List ℕ) (a : Answer) → let t = afterRun a i k payload s in
+    Leaves s t × (t .arrived ≡ s .arrived)
+run-leaves s i k payload (answer.Request n) = (record { exchanged = refl; bank = refl }, refl)
+run-leaves s i k payload answer.Ignored = (record { exchanged = refl; bank = refl }, refl)
+run-leaves s i k payload (answer.Closed w) = (record { exchanged = refl; bank = refl }, refl)
+run-leaves s i k payload (answer.Refused r) = (record { exchanged = refl; bank = refl }, refl)
+
+pub reached-leaves : (s : Course) (i : ℕ) (reply : List ℕ) (k : ClientCall) (payload : List ℕ) (a : Answer) →
+    Leaves s (reached a i reply (afterRun a i k payload s))
+reached-leaves s i reply k payload (answer.Request n) = record { exchanged = refl; bank = refl }
+reached-leaves s i reply k payload answer.Ignored = record { exchanged = refl; bank = refl }
+reached-leaves s i reply k payload (answer.Closed w) = record { exchanged = refl; bank = refl }
+reached-leaves s i reply k payload (answer.Refused r) = record { exchanged = refl; bank = refl }
 
 -- what is exchanged after a call: as before, or one frame more, which was allowed
 pub data Exchanges (k : Call) (s : Course) : List Exchange → Type 0 where
@@ -264,13 +271,13 @@ call-exchanges (filePut b boxes m file) s q = go (fileCall b m file boxes .answe
     go fileAnswer.MailboxFull = nothing
 call-exchanges (begins i c way subscriber first l) s q =
     let k = beginCall c way subscriber first l in
-    subst (Exchanges (begins i c way subscriber first l) s) (sym (run-exchanged s i k (l .payload) (k .answer))) nothing
+    subst (Exchanges (begins i c way subscriber first l) s) (sym (run-leaves s i k (l .payload) (k .answer) .0 .exchanged)) nothing
 call-exchanges (replyArrives i c reply l) s q =
     let k = replyCall c reply l in
-    subst (Exchanges (replyArrives i c reply l) s) (sym (reached-exchanged s i reply k (l .payload) (k .answer))) nothing
+    subst (Exchanges (replyArrives i c reply l) s) (sym (reached-leaves s i reply k (l .payload) (k .answer) .exchanged)) nothing
 call-exchanges (noReply i c l) s q =
-    let k = silenceCall c l in
-    subst (Exchanges (noReply i c l) s) (sym (run-exchanged s i k (l .payload) (k .answer))) nothing
+    let k = noReplyCall c l in
+    subst (Exchanges (noReply i c l) s) (sym (run-leaves s i k (l .payload) (k .answer) .0 .exchanged)) nothing
 
 pub copied-call : (k : Call) (s : Course) → Copied s → Allowed k s → Copied (exec k s)
 copied-call k s c q e m z = go (call-exchanges k s q) m

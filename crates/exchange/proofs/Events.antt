@@ -2,19 +2,19 @@
 use Prim.Native.Nat.{ℕ, _+_, _-_, _≤_}
 use mathlib.Core.Bool.{Bool, true, false, not, _&&_, _||_}
 use mathlib.Core.List.{List, [], _∷_}
-use mathlib.Core.Path.{_≡_, refl, ap}
+use mathlib.Core.Path.{_≡_, refl}
 use native.Mathlib.Omega.{arith}
 use lib.Dec.{eqb, ltb}
-use lib.ListN.{length, take, length-take}
+use lib.ListN.{length, length-take}
 use lib.Seq.{getD-set-same}
 use borrow.Author.Tests.{eqb-true}
-use Rattle.frame.specs.declared.fields.Bits128.{Bits128}
-use Rattle.frame.specs.declared.fields.Fields.{Fields}
-use Rattle.frame.specs.declared.table.Form.{Form}
-use Rattle.frame.specs.declared.table.Form.the-variants as forms
-use Rattle.frame.specs.Names.{subscriber, transaction, form, sameBits}
-use Rattle.frame.specs.Table.{isRequestForm}
-use Rattle.frame.proofs.Tests.{and-true}
+use Rattle.frame_table.specs.declared.fields.Bits128.{Bits128}
+use Rattle.frame_table.specs.declared.fields.Fields.{Fields}
+use Rattle.frame_table.specs.declared.table.Form.{Form}
+use Rattle.frame_table.specs.declared.table.Form.the-variants as forms
+use Rattle.frame_table.specs.Names.{subscriber, transaction, form, sameBits}
+use Rattle.frame_table.specs.Table.{isRequestForm}
+use Rattle.octets.proofs.Tests.{and-true}
 use Rattle.message.specs.declared.codes.ReturnCode.{ReturnCode}
 use Rattle.message.specs.declared.codes.ReturnCode.the-variants as code
 use Rattle.message.specs.Codes.{codeField}
@@ -25,17 +25,17 @@ use Rattle.bank_state.specs.Limits.{placeCount}
 use Rattle.bank_state.specs.Search.{isDownload, findUpload, findDownload}
 use Rattle.bank_state.specs.State.{World, downloadAt}
 use Rattle.bank_state.specs.Store.{partAt, fileOf}
-use Rattle.bank_step.specs.declared.downloads.DownloadRequest.{DownloadRequest}
-use Rattle.bank_step.specs.declared.downloads.DownloadRequest.the-variants as asked
-use Rattle.bank_step.specs.declared.downloads.DownloadVerdict.{DownloadVerdict}
-use Rattle.bank_step.specs.declared.downloads.DownloadVerdict.the-variants as down
-use Rattle.bank_step.specs.declared.openings.Direction.{Direction}
-use Rattle.bank_step.specs.declared.openings.Direction.the-variants as way
-use Rattle.bank_step.specs.declared.openings.OpeningVerdict.{OpeningVerdict}
-use Rattle.bank_step.specs.declared.openings.OpeningVerdict.the-variants as opening
-use Rattle.bank_step.specs.declared.uploads.UploadVerdict.{UploadVerdict}
-use Rattle.bank_step.specs.declared.uploads.UploadVerdict.the-variants as up
-use Rattle.bank_step.specs.Openings.{fileLength, senderRefusals, subscriberRefusals, sharedRefusals, openingRefusals, judgeOpening}
+use Rattle.bank_downloads.specs.declared.downloads.DownloadRequest.{DownloadRequest}
+use Rattle.bank_downloads.specs.declared.downloads.DownloadRequest.the-variants as asked
+use Rattle.bank_downloads.specs.declared.downloads.DownloadVerdict.{DownloadVerdict}
+use Rattle.bank_downloads.specs.declared.downloads.DownloadVerdict.the-variants as down
+use Rattle.bank_openings.specs.declared.openings.Direction.{Direction}
+use Rattle.bank_openings.specs.declared.openings.Direction.the-variants as way
+use Rattle.bank_openings.specs.declared.openings.OpeningVerdict.{OpeningVerdict}
+use Rattle.bank_openings.specs.declared.openings.OpeningVerdict.the-variants as opening
+use Rattle.bank_uploads.specs.declared.uploads.UploadVerdict.{UploadVerdict}
+use Rattle.bank_uploads.specs.declared.uploads.UploadVerdict.the-variants as up
+use Rattle.bank_openings.specs.Openings.{fileLength, senderRefusals, subscriberRefusals, sharedRefusals, openingRefusals, judgeOpening}
 use Rattle.bank.specs.declared.call.RequestVerdict.{RequestVerdict}
 use Rattle.bank.specs.Call.{Step, requestRefusals}
 use Rattle.bank_history.specs.History.{
@@ -56,8 +56,9 @@ use Rattle.bank_history.specs.History.{
   mailboxFile,
 }
 use Rattle.bank_history.specs.Invariant.{Sizes}
-use Rattle.bank_step.proofs.Verdicts.{by-test}
+use Rattle.message.proofs.Verdicts.{by-test}
 use Rattle.bank_history.proofs.Cases.{Happens, unreadable, refusal, opensUpload, opensDownload, toUpload, toDownload, downloadStepBy}
+use Rattle.bank_history.proofs.Changes.{no-file}
 
 -- ---- no refusal carries 000000, 011000 or 011001
 
@@ -170,10 +171,6 @@ pub mailbox-short : (w : World) (m : ℕ) → length (mailboxFile w m) ≤ fileB
 unfolding mailboxFile fileOf partAt
 mailbox-short w m = simp length-take (omega arith)
 
-empty-file : (w : World) (m : ℕ) → fileLength m (w .bank .files) ≡ 0 → mailboxFile w m ≡ []
-unfolding mailboxFile fileOf
-empty-file w m e = ap (λ (n : ℕ). take n (partAt (w .boxes) (m - 1))) e
-
 -- "011000: mailbox emptied": the receipt was that of an open download of its subscriber
 pub record Empties (w : World) (q : Fields) (s : Step) (t : Bits128) : Type 0 where
   pub row : ℕ
@@ -211,7 +208,7 @@ case-empties {w = w} {q = q} (toDownload j transfer r u a asked inside found sou
           used = c .0;
           owner = eqb-true (e .subscriber) (subscriber q) (c .1);
           own = cc;
-          empty = empty-file (downloadStepBy down.Done j w q .world) (subscriber q)
+          empty = no-file (downloadStepBy down.Done j w q .world) (subscriber q)
               (getD-set-same (w .bank .files) (subscriber q - 1) 0 0
               (let k = a .most in let l = a .known in let y = z .files in omega arith));
         }

@@ -18,10 +18,10 @@ use mathlib.Core.Path.{_≡_, refl, sym, ap, _∙_, subst}
 use lib.Dec.{eqb, leb}
 use lib.ListN.{replicate}
 use borrow.Author.Tests.{eq-eqb, leb-true}
-use Rattle.frame.specs.declared.table.Form.the-variants as forms
-use Rattle.frame.specs.Names.{exchange, returnCode, form}
+use Rattle.frame_table.specs.declared.table.Form.the-variants as forms
+use Rattle.frame_table.specs.Names.{exchange, returnCode, form}
 use Rattle.frame.specs.Reader.{readRequest, readReply}
-use Rattle.frame.proofs.Tests.{never, and-true}
+use Rattle.octets.proofs.Tests.{never, and-true}
 use Rattle.message.specs.declared.codes.ReturnCode.the-variants as code
 use Rattle.message.specs.Codes.{codeField}
 use Rattle.bank_state.specs.Clock.{advanced}
@@ -77,7 +77,7 @@ distinct-nodup (n ∷ l) h =
 -- ---- the calls: run 0 of subscriber 1
 
 abbrev newestIssue : List Issue → Issue
-newestIssue [] = record { run = 0; frame = []; file = [] }
+newestIssue [] = record { run = 0; frame = []; file = []; box = [] }
 newestIssue (x ∷ l) = x
 
 abbrev pub newestExchange : List Exchange → Exchange
@@ -95,8 +95,8 @@ comes s = frameArrives (s .bank) 1000 (replicate 8 0) (newestIssue (s .issued) .
 abbrev pub answers : Course → Call
 answers s = replyArrives 0 (s .runs 0) (newestExchange (s .exchanged) .reply) (lent (s .payloads 0) (s .files 0))
 
-abbrev pub silence : Course → Call
-silence s = noReply 0 (s .runs 0) (lent (s .payloads 0) (s .files 0))
+abbrev pub unanswered : Course → Call
+unanswered s = noReply 0 (s .runs 0) (lent (s .payloads 0) (s .files 0))
 
 -- what the bank and the run make of them
 abbrev bankCalled : Course → FrameCall
@@ -105,26 +105,26 @@ bankCalled s = frameCall (s .bank) 1000 (replicate 8 0) (newestIssue (s .issued)
 abbrev runCalled : Course → ClientCall
 runCalled s = replyCall (s .runs 0) (newestExchange (s .exchanged) .reply) (lent (s .payloads 0) (s .files 0))
 
--- the newest request has come; and its reply has arrived
-abbrev came : Course → Course
-came s = exec (comes s) s
+-- the newest request is received; and its reply has arrived
+abbrev received : Course → Course
+received s = exec (comes s) s
 
 abbrev replied : Course → Course
-replied s = exec (answers (came s)) (came s)
+replied s = exec (answers (received s)) (received s)
 
 -- ---- the run's messages, newest first
 
--- each request came to the bank and its reply arrived
+-- each request is received and its reply arrived
 pub data Complete : List Issue → List Exchange → List Arrival → Type 0 where
   nothing : Complete [] [] []
   another : {x : Issue} {e : Exchange} {a : Arrival} {l : List Issue} {m : List Exchange} {n : List Arrival} → x .run ≡ 0 →
       e .request ≡ x .frame → a .run ≡ 0 → a .reply ≡ e .reply → Complete l m n → Complete (x ∷ l) (e ∷ m) (a ∷ n)
 
--- the newest request has not come yet
+-- the newest request is not received yet
 pub data Asking : List Issue → List Exchange → List Arrival → Type 0 where
   asking : {x : Issue} {l : List Issue} {m : List Exchange} {n : List Arrival} → x .run ≡ 0 → Complete l m n → Asking (x ∷ l) m n
 
--- it has come, and its reply has not arrived yet
+-- it is received, and its reply has not arrived yet
 pub data Replying : List Issue → List Exchange → List Arrival → Type 0 where
   replying : {x : Issue} {e : Exchange} {l : List Issue} {m : List Exchange} {n : List Arrival} → x .run ≡ 0 → e .request ≡ x .frame →
       Complete l m n → Replying (x ∷ l) (e ∷ m) n
@@ -146,10 +146,10 @@ replying-given : {l : List Issue} {m : List Exchange} {n : List Arrival} → Rep
     (e : Exchange) × In e m × (e .reply ≡ newestExchange m .reply) × Copy (e .request) l
 replying-given (replying own copy c) = (_, here refl, refl, (_, here refl, own, sym copy))
 
-complete-came : {l : List Issue} {m : List Exchange} {n : List Arrival} → Complete l m n → {e : Exchange} → In e m → Copy (e .request) l
-complete-came nothing k = absurd (in-none k)
-complete-came (another own copy run reply c) (here z) = (_, here refl, own, sym (ap (λ (y : Exchange). y .request) z ∙ copy))
-complete-came (another own copy run reply c) (there k) = let o = complete-came c k in (o .0, there (o .1), o .2, o .3)
+complete-received : {l : List Issue} {m : List Exchange} {n : List Arrival} → Complete l m n → {e : Exchange} → In e m → Copy (e .request) l
+complete-received nothing k = absurd (in-none k)
+complete-received (another own copy run reply c) (here z) = (_, here refl, own, sym (ap (λ (y : Exchange). y .request) z ∙ copy))
+complete-received (another own copy run reply c) (there k) = let o = complete-received c k in (o .0, there (o .1), o .2, o .3)
 
 complete-asked : {l : List Issue} {m : List Exchange} {n : List Arrival} → Complete l m n → {x : Issue} → In x l →
     (e : Exchange) × In e m × (e .request ≡ x .frame)
@@ -177,7 +177,7 @@ answered frameAnswer.WrongLength p = tt
 pub allowed-comes : (s : Course) → IssuedBy 0 (newestIssue (s .issued) .frame) s → Allowed (comes s) s
 allowed-comes s h = answered (bankCalled s .answer) (refl, λ _. (0, h))
 
-comes-replying : (s : Course) → Messages Asking s → isReply (bankCalled s .answer) ≡ true → Messages Replying (came s)
+comes-replying : (s : Course) → Messages Asking s → isReply (bankCalled s .answer) ≡ true → Messages Replying (received s)
 unfolding exec
 comes-replying s h = go (bankCalled s .answer)
   where
@@ -195,8 +195,8 @@ comes-replying s h = go (bankCalled s .answer)
 allowed-answers : (s : Course) → Messages Replying s → Allowed (answers s) s
 allowed-answers s h = λ _. ((refl, refl, refl), replying-given h)
 
-pub allowed-silence : (s : Course) → Allowed (silence s) s
-allowed-silence s = λ _. (refl, refl, refl)
+pub allowed-no-reply : (s : Course) → Allowed (unanswered s) s
+allowed-no-reply s = λ _. (refl, refl, refl)
 
 -- what the run's answer leaves of the messages
 abbrev Next : Answer → Course → Type 0
@@ -237,10 +237,11 @@ pub record Turn (s : Course) (a : Answer) : Type 0 where
   pub reply : isReply (bankCalled s .answer) ≡ true
   pub request-new : absent (exchange (readRequest (newestIssue (s .issued) .frame))) (map requestNumber (s .exchanged)) ≡ true
   pub hour : leb (bankCalled s .world .bank .clock) (newestExchange (s .exchanged) .clock + idleLimit) ≡ true
-  pub reply-new : absent (exchange (readReply (newestExchange (came s .exchanged) .reply))) (map arrivalNumber (came s .arrived)) ≡ true
-  pub answer : runCalled (came s) .answer ≡ a
+  pub reply-new : absent (exchange (readReply (newestExchange (received s .exchanged) .reply)))
+      (map arrivalNumber (received s .arrived)) ≡ true
+  pub answer : runCalled (received s) .answer ≡ a
   pub alone : isAlone s ≡ true
-  pub alone-came : isAlone (came s) ≡ true
+  pub alone-received : isAlone (received s) ≡ true
 
 -- no element has a number that is absent
 absent-number : {A : Type 0} (f : A → ℕ) {n : ℕ} {l : List A} → absent n (map f l) ≡ true → {x : A} → In x l → f x ≡ n → ⊥
@@ -257,17 +258,17 @@ alone s h accepted running = leb-true _ _ h
 
 -- these two calls, then others
 abbrev requestThen : Course → List Call → List Call
-requestThen s ks = comes s ∷ answers (came s) ∷ ks
+requestThen s ks = comes s ∷ answers (received s) ∷ ks
 
 module _ (s : Course) {a : Answer} (h : Messages Asking s) (t : Turn s a) where
-  turn-replying : Messages Replying (came s)
+  turn-replying : Messages Replying (received s)
   turn-replying = comes-replying s h (t .reply)
 
   turn-next : Next a (replied s)
-  turn-next = subst (λ (b : Answer). Next b (replied s)) (t .answer) (answers-next (came s) turn-replying)
+  turn-next = subst (λ (b : Answer). Next b (replied s)) (t .answer) (answers-next (received s) turn-replying)
 
   pub turn-allowed : (ks : List Call) → AllAllowed ks (replied s) → AllAllowed (requestThen s ks) s
-  turn-allowed ks rest = (allowed-comes s (asking-issued h), (allowed-answers (came s) turn-replying, rest))
+  turn-allowed ks rest = (allowed-comes s (asking-issued h), (allowed-answers (received s) turn-replying, rest))
 
   comes-in-turn : InTurn 0 (comes s) s
   comes-in-turn =
@@ -276,11 +277,11 @@ module _ (s : Course) {a : Answer} (h : Messages Asking s) (t : Turn s a) where
         within-hour (bankCalled s .world .bank .clock) h (t .hour),
       ))
 
-  answers-in-turn : InTurn 0 (answers (came s)) (came s)
+  answers-in-turn : InTurn 0 (answers (received s)) (received s)
   answers-in-turn _ _ x m run z = absent-number arrivalNumber (t .reply-new) m (ap (λ (l : List ℕ). exchange (readReply l)) z)
 
   turn-in-turn : (ks : List Call) → AllInTurn 0 ks (replied s) → AllInTurn 0 (requestThen s ks) s
-  turn-in-turn ks rest = (alone s (t .alone), comes-in-turn, (alone (came s) (t .alone-came), answers-in-turn, rest))
+  turn-in-turn ks rest = (alone s (t .alone), comes-in-turn, (alone (received s) (t .alone-received), answers-in-turn, rest))
 
 -- ---- an order of two requests
 
@@ -301,7 +302,7 @@ module _ (s : Course) {n : ℕ} {w : Word} (o : TwoTurns s n w) where
   pub order-asking : Messages Asking (replied s)
   order-asking = turn-next s (o .begun) (o .first)
 
-  pub order-replying : Messages Replying (came (replied s))
+  pub order-replying : Messages Replying (received (replied s))
   order-replying = turn-replying (replied s) order-asking (o .second)
 
   order-complete : Messages Complete (replied (replied s))
@@ -317,7 +318,7 @@ module _ (s : Course) {n : ℕ} {w : Word} (o : TwoTurns s n w) where
       (turn-in-turn (replied s) order-asking (o .second) [] (alone (replied (replied s)) (o .alone-closed)))
 
   pub order-accepted : Accepted 0 (replied (replied s))
-  order-accepted = let (e, m, kind, ok) = o .opening in (e, (m, complete-came order-complete m), kind, ok)
+  order-accepted = let (e, m, kind, ok) = o .opening in (e, (m, complete-received order-complete m), kind, ok)
 
   pub order-settled : Settled (replied (replied s)) 0
   order-settled = record {

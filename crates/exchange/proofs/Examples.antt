@@ -5,7 +5,7 @@ use mathlib.Core.List.{List, [], _∷_, List·Memᴰ·head as here, List·Memᴰ
 use mathlib.Core.Logic.{_⊎_, inl, inr}
 use mathlib.Core.Path.{_≡_, refl}
 use lib.ListN.{replicate}
-use Rattle.frame.specs.Names.{returnCode}
+use Rattle.frame_table.specs.Names.{returnCode}
 use Rattle.frame.specs.Reader.{readReply}
 use Rattle.message.specs.declared.codes.ReturnCode.the-variants as code
 use Rattle.message.specs.Codes.{codeField}
@@ -15,7 +15,7 @@ use Rattle.bank_state.specs.State.{placeAt}
 use Rattle.client.specs.declared.run.Direction.the-variants.{Upload, Download}
 use Rattle.client.specs.declared.run.Stage.the-variants as stage
 use Rattle.client.specs.declared.run.Word.the-variants.{Lodged, Unclear, Fetched}
-use Rattle.client.specs.Calls.{silenceCall}
+use Rattle.client.specs.Calls.{noReplyCall}
 use Rattle.client.specs.Run.{answerNumber}
 use Rattle.exchange.specs.Course.{Call, filePut, begins, Course, start, mailboxOf, heldOf, exec, after}
 use Rattle.exchange.specs.Terms.{Accepted, AllInTurn, Settled}
@@ -26,13 +26,13 @@ use Rattle.exchange.proofs.ExampleCalls.{
   lent,
   comes,
   answers,
-  silence,
+  unanswered,
   nothing,
   asking,
   asking-issued,
   replying-issued,
   allowed-comes,
-  allowed-silence,
+  allowed-no-reply,
   isAlone,
   alone,
   turn-allowed,
@@ -45,10 +45,10 @@ use Rattle.exchange.proofs.ExampleCalls.{
   order-settled,
 }
 use Rattle.exchange.proofs.Theorem.{demand3}
-use Rattle.frame.specs.Bytes as frameBytes
+use Rattle.octets.specs.Bytes as frameBytes
 use Rattle.frame.specs.Reader as frameReader
 use Rattle.frame.specs.Row as frameRow
-use Rattle.frame.specs.Table as frameTable
+use Rattle.frame_table.specs.Table as frameTable
 use Rattle.frame.specs.Writer as frameWriter
 use Rattle.message.specs.Replies as messageReplies
 use Rattle.message.specs.Requests as messageRequests
@@ -58,10 +58,10 @@ use Rattle.bank_state.specs.Rows as bankstateRows
 use Rattle.bank_state.specs.Search as bankstateSearch
 use Rattle.bank_state.specs.State as bankstateState
 use Rattle.bank_state.specs.Store as bankstateStore
-use Rattle.bank_step.specs.Downloads as bankstepDownloads
-use Rattle.bank_step.specs.Openings as bankstepOpenings
-use Rattle.bank_step.specs.OrderNumbers as bankstepOrderNumbers
-use Rattle.bank_step.specs.Uploads as bankstepUploads
+use Rattle.bank_downloads.specs.Downloads as bankstepDownloads
+use Rattle.bank_openings.specs.Openings as bankstepOpenings
+use Rattle.bank_openings.specs.OrderNumbers as bankstepOrderNumbers
+use Rattle.bank_uploads.specs.Uploads as bankstepUploads
 use Rattle.bank.specs.Call as bankCall
 use Rattle.bank.specs.Mailbox as bankMailbox
 use Rattle.client.specs.CallLists as clientCallLists
@@ -105,12 +105,12 @@ repeating = uploading start ∷ comes up1 ∷ answers up2 ∷ comes up3 ∷ come
 
 -- ---- an upload whose last reply is lost ends unclear, and its order is booked
 
-abbrev silences : ℕ → Course → List Call
-silences zero s = []
-silences (suc n) s = silence s ∷ silences n (exec (silence s) s)
+abbrev noReplies : ℕ → Course → List Call
+noReplies zero s = []
+noReplies (suc n) s = unanswered s ∷ noReplies n (exec (unanswered s) s)
 
 abbrev losing : List Call
-losing = uploading start ∷ comes up1 ∷ answers up2 ∷ comes up3 ∷ silences 6 up4
+losing = uploading start ∷ comes up1 ∷ answers up2 ∷ comes up3 ∷ noReplies 6 up4
 
 -- ---- a download is fetched
 
@@ -143,7 +143,7 @@ record Computed : Type 0 where
       (placeAt (after lodging start .bank .bank) 0 .used ≡ uses.Booked)
   repeating-numbers : OneExchangeNumber (after repeating start)
   repeating-ends : returnCode (readReply (newestExchange (after repeating start .exchanged) .reply)) ≡ codeField code.UnknownTransaction
-  silence-taken : answerNumber (silenceCall (up4 .runs 0) (lent (up4 .payloads 0) (up4 .files 0)) .answer) ≡ 0
+  no-reply-taken : answerNumber (noReplyCall (up4 .runs 0) (lent (up4 .payloads 0) (up4 .files 0)) .answer) ≡ 0
   losing-numbers : OneExchangeNumber (after losing start)
   losing-ends : (after losing start .runs 0 .stage ≡ stage.Ended Unclear) ×
       (placeAt (after losing start .bank .bank) 0 .used ≡ uses.Booked)
@@ -180,12 +180,13 @@ unfolding frameBytes.numberFrom frameBytes.number frameBytes.bytesOf frameBytes.
     bankstepUploads.attempted bankstepUploads.uploadStep bankCall.mailboxSegment bankCall.requestRefusals bankCall.openingStep
     bankCall.uploadStepAt bankCall.downloadStepAt bankCall.transactionStep bankCall.respond bankCall.lentRight bankCall.frameCall
     bankMailbox.fileRefusals bankMailbox.fileCall clientCallLists.runBehind clientCallLists.requests clientCalls.isWritten
-    clientCalls.requestWith clientCalls.issued clientCalls.taken clientCalls.beginCall clientCalls.replyCall clientCalls.silenceCall
+    clientCalls.requestWith clientCalls.issued clientCalls.taken clientCalls.beginCall clientCalls.replyCall clientCalls.noReplyCall
     clientDecisions.says clientDecisions.isOwn clientDecisions.restWord clientDecisions.mayRepeat clientDecisions.endsUpload
     clientDecisions.answersSegment clientDecisions.fitsData clientDecisions.fitsSegment clientDecisions.isPoint
-    clientDecisions.uploadReturns clientDecisions.downloadReturns clientDecisions.opensDownload clientDecisions.lodges
+    clientDecisions.goesBack clientDecisions.uploadReturns clientDecisions.downloadReturns clientDecisions.opensDownload
+    clientDecisions.lodges
     clientDecisions.takesSegment clientDecisions.bringsSegment clientDecisions.confirms clientDecisions.onUpload
-    clientDecisions.onDownload clientDecisions.isAnswer clientDecisions.onReply clientDecisions.onSilence clientNextRun.begun
+    clientDecisions.onDownload clientDecisions.isAnswer clientDecisions.onReply clientDecisions.onNoReply clientNextRun.begun
     clientNextRun.goOn clientNextRun.repeated clientNextRun.holding clientNextRun.fileWith clientNextRun.ended clientRequests.nonceOf
     clientRequests.outstanding clientRequests.outstandingData clientRulings.wrongLengths clientRulings.noSubscriber
     clientRulings.beginRuling clientRulings.rulingNotBegun clientRulings.rulingRunning clientRulings.rulingEnded course.start
@@ -194,8 +195,8 @@ computed = record {
   start-alone = refl;
   up1-turns = record {
     begun = asking refl nothing;
-    first = record { reply = refl; request-new = refl; hour = refl; reply-new = refl; answer = refl; alone = refl; alone-came = refl };
-    second = record { reply = refl; request-new = refl; hour = refl; reply-new = refl; answer = refl; alone = refl; alone-came = refl };
+    first = record { reply = refl; request-new = refl; hour = refl; reply-new = refl; answer = refl; alone = refl; alone-received = refl };
+    second = record { reply = refl; request-new = refl; hour = refl; reply-new = refl; answer = refl; alone = refl; alone-received = refl };
     alone-closed = refl;
     opening = (_, there (here refl), inl refl, refl);
   };
@@ -203,14 +204,14 @@ computed = record {
   lodging-ends = (refl, refl);
   repeating-numbers = distinct-nodup (8 ∷ 7 ∷ []) refl;
   repeating-ends = refl;
-  silence-taken = refl;
+  no-reply-taken = refl;
   losing-numbers = distinct-nodup (13 ∷ 12 ∷ 11 ∷ 10 ∷ 9 ∷ 8 ∷ 7 ∷ []) refl;
   losing-ends = (refl, refl);
   down0-alone = refl;
   down1-turns = record {
     begun = asking refl nothing;
-    first = record { reply = refl; request-new = refl; hour = refl; reply-new = refl; answer = refl; alone = refl; alone-came = refl };
-    second = record { reply = refl; request-new = refl; hour = refl; reply-new = refl; answer = refl; alone = refl; alone-came = refl };
+    first = record { reply = refl; request-new = refl; hour = refl; reply-new = refl; answer = refl; alone = refl; alone-received = refl };
+    second = record { reply = refl; request-new = refl; hour = refl; reply-new = refl; answer = refl; alone = refl; alone-received = refl };
     alone-closed = refl;
     opening = (_, there (here refl), inr refl, refl);
   };
@@ -233,12 +234,12 @@ repeating-allowed : AllAllowed repeating start
 repeating-allowed =
     segment-allowed (comes up4 ∷ []) (allowed-comes up4 (replying-issued (order-replying up1 (computed .up1-turns))), tt)
 
-silences-allowed : (n : ℕ) (s : Course) → AllAllowed (silences n s) s
-silences-allowed zero s = tt
-silences-allowed (suc n) s = (allowed-silence s, silences-allowed n (exec (silence s) s))
+no-replies-allowed : (n : ℕ) (s : Course) → AllAllowed (noReplies n s) s
+no-replies-allowed zero s = tt
+no-replies-allowed (suc n) s = (allowed-no-reply s, no-replies-allowed n (exec (unanswered s) s))
 
 losing-allowed : AllAllowed losing start
-losing-allowed = segment-allowed (silences 6 up4) (silences-allowed 6 up4)
+losing-allowed = segment-allowed (noReplies 6 up4) (no-replies-allowed 6 up4)
 
 fetching-allowed : AllAllowed fetching start
 fetching-allowed = (λ _. (refl, refl), (λ _. refl, order-allowed down1 (computed .down1-turns)))
@@ -285,4 +286,4 @@ fetching-closed = demand3 fetching [] fetching-allowed (computed .fetching-numbe
 
 -- a call of "no reply" that is given no number is not in turn
 losing-not-in-turn : AllInTurn 0 losing start → ⊥
-losing-not-in-turn h = h .2 .2 .2 .2 .1 (computed .silence-taken) refl
+losing-not-in-turn h = h .2 .2 .2 .2 .1 (computed .no-reply-taken) refl

@@ -10,22 +10,22 @@ use native.Mathlib.Omega.{arith}
 use lib.Dec.{eqb}
 use lib.ListN.{length, getD}
 use borrow.Author.Tests.{eq-eqb}
-use Rattle.frame.specs.declared.fields.Bits128.{Bits128}
-use Rattle.frame.specs.declared.fields.Fields.{Fields}
-use Rattle.frame.specs.declared.table.Form.{Form}
-use Rattle.frame.specs.declared.table.Form.the-variants as forms
-use Rattle.frame.specs.Bytes.{number}
-use Rattle.frame.specs.Names.{subscriber, transaction, form}
+use Rattle.frame_table.specs.declared.fields.Bits128.{Bits128}
+use Rattle.frame_table.specs.declared.fields.Fields.{Fields}
+use Rattle.frame_table.specs.declared.table.Form.{Form}
+use Rattle.frame_table.specs.declared.table.Form.the-variants as forms
+use Rattle.octets.specs.Bytes.{number}
+use Rattle.frame_table.specs.Names.{subscriber, transaction, form}
 use Rattle.frame.specs.Reader.{readRequest}
 use Rattle.frame.specs.Row.{dataOf}
-use Rattle.frame.specs.Table.{isRequestForm}
-use Rattle.frame.proofs.Tests.{never}
+use Rattle.frame_table.specs.Table.{isRequestForm}
+use Rattle.octets.proofs.Tests.{never}
 use Rattle.bank_state.specs.Clock.{advanced}
 use Rattle.bank_state.specs.Rows.{countOf}
 use Rattle.bank_state.specs.declared.state.Download.{Download}
 use Rattle.bank_state.specs.Search.{openCountOf}
 use Rattle.bank_state.specs.State.{World, noDownload, downloadAt}
-use Rattle.bank_step.specs.declared.downloads.DownloadRequest.{DownloadRequest}
+use Rattle.bank_downloads.specs.declared.downloads.DownloadRequest.{DownloadRequest}
 use Rattle.bank.specs.Call as bankCall
 use Rattle.bank_history.specs.History.{
   Action,

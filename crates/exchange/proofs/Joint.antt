@@ -6,15 +6,15 @@ use mathlib.Core.Path.{_≡_, refl, sym, ap, _∙_, subst}
 use native.Mathlib.Omega.{arith}
 use lib.ListN.{length, take}
 use borrow.Author.Tests.{le-leb}
-use Rattle.frame.specs.declared.fields.Bits128.{Bits128}
-use Rattle.frame.specs.declared.fields.Fields.{Fields}
-use Rattle.frame.specs.declared.table.Form.{Form}
-use Rattle.frame.specs.declared.table.Form.the-variants as forms
-use Rattle.frame.specs.Names.{subscriber, exchange, transaction, segments, segment, returnCode, form}
+use Rattle.frame_table.specs.declared.fields.Bits128.{Bits128}
+use Rattle.frame_table.specs.declared.fields.Fields.{Fields}
+use Rattle.frame_table.specs.declared.table.Form.{Form}
+use Rattle.frame_table.specs.declared.table.Form.the-variants as forms
+use Rattle.frame_table.specs.Names.{subscriber, exchange, transaction, segments, segment, returnCode, form}
 use Rattle.frame.specs.Reader.{readRequest}
 use Rattle.frame.specs.Row.{dataOf}
-use Rattle.frame.specs.Table.{isRequestForm}
-use Rattle.frame.proofs.Tests.{never}
+use Rattle.frame_table.specs.Table.{isRequestForm}
+use Rattle.octets.proofs.Tests.{never}
 use Rattle.message.specs.Codes.{codeField}
 use Rattle.message.specs.Limits.{subscribers, segmentBytes}
 use Rattle.message.specs.Requests.{uploadOpening}
@@ -49,9 +49,10 @@ use Rattle.bank_history.specs.History.{
 }
 use Rattle.bank_history.specs.History as bank
 use Rattle.bank_history.specs.Sound.{AllSound}
-use Rattle.bank_history.proofs.Positions.{action-sound}
+use Rattle.bank_history.proofs.Positions.{action-sound, booking-last}
 use Rattle.bank_history.proofs.Replies.{eventCode}
 use Rattle.bank_history.proofs.Theorems.{taking-sound, taken-last-books, booking-takes-last, ever-stands, stands-ever, received-payload}
+use Rattle.client.proofs.Apart.{not-both}
 use Rattle.client_history.specs.History as history
 use Rattle.client_history.specs.Invariant.{
   UploadIssue,
@@ -65,7 +66,6 @@ use Rattle.client_history.specs.Invariant.{
   upload,
   download,
 }
-use Rattle.client_history.proofs.NextRuns.{not-both}
 use Rattle.client_history.proofs.Requests.{form-uploadTransfer, segment-uploadTransfer, id-uploadTransfer}
 use Rattle.client_history.proofs.Theorems.{segment-sent, segment-opened, one-subscriber}
 use Rattle.exchange.specs.Course.{Issue, Exchange, Course}
@@ -91,7 +91,7 @@ use Rattle.exchange.proofs.Clients.{asIssue, issuesOf, runPast, issued-
 use Rattle.exchange.proofs.Courses.{Copied, numberOf, one-issue}
 
 -- which actions these are
-upload-kind : (k : Action) → isUploadOpening k ≡ true → k ≡ OpenedUpload
+pub upload-kind : (k : Action) → isUploadOpening k ≡ true → k ≡ OpenedUpload
 upload-kind OpenedUpload e = refl
 upload-kind (OpenedDownload n) e = never e
 upload-kind Took e = never e
@@ -116,19 +116,6 @@ download-kind (Delivered n) e = never e
 download-kind (SentAgain n) e = never e
 download-kind Confirmed e = never e
 download-kind Declined e = never e
-
-pub booking-kind : (k : Action) → isBooking k ≡ true → k ≡ TookLast
-booking-kind OpenedUpload e = never e
-booking-kind (OpenedDownload n) e = never e
-booking-kind Took e = never e
-booking-kind TookLast e = refl
-booking-kind (UploadPoint k) e = never e
-booking-kind (DownloadPoint d) e = never e
-booking-kind (Cancelled c) e = never e
-booking-kind (Delivered n) e = never e
-booking-kind (SentAgain n) e = never e
-booking-kind Confirmed e = never e
-booking-kind Declined e = never e
 
 -- the transaction t was opened in a history, by a subscriber
 pub record OpenedIn (t : Bits128) (h : List bank.Exchange) : Type 0 where
@@ -363,7 +350,7 @@ module _ (s : Course) (v : Parts s) (copies : Copied s) (numbers : OneExchangeNu
       at : (o : (f : bank.Exchange) × (g : List bank.Exchange) × Stands f g (v .bank .past .history) × ActionIn isBooking t f) →
           (i : ℕ) × Uploads i t × ((e : Exchange) × In e (s .exchanged) × Books s i e)
       at (f, g, stands, d) =
-          let own : f .event ≡ Of t TookLast = d .is ∙ ap (Of t) (booking-kind (d .action) (d .kind)) in
+          let own : f .event ≡ Of t TookLast = d .is ∙ ap (Of t) (booking-last (d .action) (d .kind)) in
           let k = taken-from stands (record { action = TookLast; is = own; kind = refl }) in
           let o = upload-in t (sound-before sound stands) (action-sound sound stands own .taking .upload .opened) in (
             k .run,

@@ -9,11 +9,12 @@ pub mod Joint
 pub mod Numbers
 pub mod Outcome
 pub mod Runs
-pub mod Safety
 pub mod Foreign
 pub mod Standing
-pub mod Came
+pub mod Received
 pub mod Concerns
+pub mod Receipts
+pub mod Safety
 pub mod Outstanding
 pub mod OrderStates
 pub mod OwnRequests

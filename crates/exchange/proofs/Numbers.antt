@@ -6,14 +6,10 @@ use mathlib.Core.List.{[], _∷_}
 use native.Mathlib.Omega.{arith}
 use lib.Dec.{ltb}
 use borrow.Author.Tests.{ltb-true, ltb-false}
-use Rattle.frame.specs.Bytes.{numberFrom, number}
+use Rattle.octets.specs.Bytes.{numberFrom, number}
 use Rattle.bank_state.specs.Limits.{openingsMost}
-use Rattle.bank_step.specs.OrderNumbers.{character, letter, orderNumberOf}
-use Rattle.bank_step.proofs.Verdicts.{by-test}
-
-character-small : (d : ℕ) → d < 36 → character d < 256
-unfolding character
-character-small d h = by-test (λ (n : ℕ). n < 256) (ltb d 10) (λ _. omega arith) (λ _. omega arith)
+use Rattle.bank_openings.specs.OrderNumbers.{character, letter, orderNumberOf}
+use Rattle.bank_openings.proofs.OrderNumbers.{character-lt}
 
 one-character : (c d : ℕ) → c < 36 → d < 36 → character c ≡ character d → c ≡ d
 unfolding character
@@ -51,8 +47,8 @@ one-order-number m n h k e =
     let digit : (x : ℕ) → x % 36 < 36 = λ x. omega arith in
     let z = four-bytes (letter (m / 46656)) (character (m / 1296 % 36)) (character (m / 36 % 36)) (character (m % 36))
     (letter (n / 46656)) (character (n / 1296 % 36)) (character (n / 36 % 36)) (character (n % 36))
-    (character-small _ (digit (m / 1296))) (character-small _ (digit (m / 36))) (character-small _ (digit m))
-    (character-small _ (digit (n / 1296))) (character-small _ (digit (n / 36))) (character-small _ (digit n)) e in
+    (character-lt _ (digit (m / 1296))) (character-lt _ (digit (m / 36))) (character-lt _ (digit m))
+    (character-lt _ (digit (n / 1296))) (character-lt _ (digit (n / 36))) (character-lt _ (digit n)) e in
     one-number m n (omega (arith, z .0)) (one-character _ _ (digit (m / 1296)) (digit (n / 1296)) (z .1))
     (one-character _ _ (digit (m / 36)) (digit (n / 36)) (z .2)) (one-character _ _ (digit m) (digit n) (z .3))
 

@@ -4,11 +4,11 @@ use mathlib.Core.Bool.{true}
 use mathlib.Core.List.{List, List·Memᴰ as In}
 use mathlib.Core.Logic.{_⊎_, inl, inr}
 use mathlib.Core.Path.{_≡_, refl, sym, ap, _∙_}
-use Rattle.frame.specs.declared.fields.Bits128.{Bits128}
-use Rattle.frame.specs.declared.fields.Fields.{Fields}
-use Rattle.frame.specs.declared.table.Form.{Form}
-use Rattle.frame.specs.declared.table.Form.the-variants as forms
-use Rattle.frame.specs.Names.{exchange, transaction, returnCode, form, segments}
+use Rattle.frame_table.specs.declared.fields.Bits128.{Bits128}
+use Rattle.frame_table.specs.declared.fields.Fields.{Fields}
+use Rattle.frame_table.specs.declared.table.Form.{Form}
+use Rattle.frame_table.specs.declared.table.Form.the-variants as forms
+use Rattle.frame_table.specs.Names.{exchange, transaction, returnCode, form, segments}
 use Rattle.frame.specs.Reader.{readRequest, readReply}
 use Rattle.message.specs.declared.codes.ReturnCode.the-variants as code
 use Rattle.message.specs.Codes.{codeField}
@@ -28,24 +28,24 @@ use Rattle.client.specs.Rulings.{isBegun}
 use Rattle.client_history.specs.History.{Past}
 use Rattle.client_history.specs.InTurn.{InTurn}
 use Rattle.exchange.specs.Course.{Issue, Exchange, Arrival, Course}
-use Rattle.exchange.specs.Terms.{Came, Accepted}
+use Rattle.exchange.specs.Terms.{Received, Accepted}
 use Rattle.exchange.proofs.Told.{Opening}
 use Rattle.exchange.proofs.Bank.{Found, found}
 use Rattle.exchange.proofs.Clients.{asIssue, issuesOf, issued-in, OpenedBy, Parts}
 use Rattle.exchange.proofs.Courses.{numberOf}
-use Rattle.exchange.proofs.Came.{Same}
+use Rattle.exchange.proofs.Received.{Same}
 use Rattle.exchange.proofs.Concerns.{Untouched}
 use Rattle.exchange.proofs.Standing.{Standing}
 
 -- ---- THE MESSAGES
 
--- the run's requests under numbers below top have come to the bank, and no others;
+-- the bank received the run's requests under numbers below top, and no others;
 -- the replies to those below now have arrived, and no others
 pub record Messages (s : Course) (i top now : ℕ) : Type 0 where
-  pub came : (e : Exchange) → Came i e s → exchange (readRequest (e .request)) < top
+  pub received : (e : Exchange) → Received i e s → exchange (readRequest (e .request)) < top
   pub all : (x : Issue) → In x (s .issued) → x .run ≡ i → numberOf x < top → (e : Exchange) × In e (s .exchanged) × (e .request ≡ x .frame)
   pub arrived : (a : Arrival) → In a (s .arrived) → a .run ≡ i → exchange (readReply (a .reply)) < now
-  pub replied : (e : Exchange) → Came i e s → exchange (readRequest (e .request)) < now →
+  pub replied : (e : Exchange) → Received i e s → exchange (readRequest (e .request)) < now →
       (a : Arrival) × In a (s .arrived) × (a .run ≡ i) × (a .reply ≡ e .reply)
 
 -- ---- THE TRANSACTION
@@ -59,15 +59,15 @@ opened-form : (way : Direction) {x : Form} → x ≡ openedForm way → (x ≡ f
 opened-form Upload e = inl e
 opened-form Download e = inr e
 
--- the transaction t of subscriber u is open at the bank, k of n segments taken or k delivered; the order's last request came at last
+-- the transaction t of subscriber u is open at the bank, k of n segments taken or k delivered; its last request was received at last
 pub record Open (way : Direction) (s : Course) (i u : ℕ) (t : Bits128) (n k : ℕ) : Type 0 where
   pub opening : Exchange
-  pub came : Came i opening s
+  pub received : Received i opening s
   pub opened : form (readReply (opening .reply)) ≡ openedForm way
   pub ok : returnCode (readReply (opening .reply)) ≡ codeField code.Ok
   pub id : transaction (readReply (opening .reply)) ≡ t
   pub last : ℕ
-  pub latest : (e : Exchange) → Came i e s → e .clock ≤ last
+  pub latest : (e : Exchange) → Received i e s → e .clock ≤ last
   pub standing : Standing way (s .bank) t u k n last
 
 -- it was opened by a request of the run
@@ -76,10 +76,10 @@ pub opened-by : (s : Course) (v : Parts s) (way : Direction) {i u n k : ℕ} {t 
 opened-by s v way {i} {t = t} o = by way (o .opened)
   where
     f : Found (o .opening) (v .bank .past .history)
-    f = found (v .bank .entries) (o .came .0)
+    f = found (v .bank .entries) (o .received .0)
 
     x : Issue
-    x = o .came .1 .0
+    x = o .received .1 .0
 
     same : transaction (f .exchange .reply) ≡ t
     same = ap transaction (sym (f .same .reply)) ∙ o .id
@@ -93,8 +93,8 @@ opened-by s v way {i} {t = t} o = by way (o .opened)
         stands = f .stands;
         opening = p;
         issue = asIssue x;
-        own = issued-in i (o .came .1 .1) (o .came .1 .2);
-        asked = sym (f .same .request) ∙ ap readRequest (sym (o .came .1 .3));
+        own = issued-in i (o .received .1 .1) (o .received .1 .2);
+        asked = sym (f .same .request) ∙ ap readRequest (sym (o .received .1 .3));
         kind = refl;
       },
     )
@@ -116,14 +116,14 @@ opened-by s v way {i} {t = t} o = by way (o .opened)
           opening = refl;
         })
 
--- it stays, where the run's requests that came are the same and the bank keeps it
-pub open-stays : {s t : Course} {way : Direction} {i u n k : ℕ} {id : Bits128} → ((e : Exchange) → Came i e s → Came i e t) →
-    ((e : Exchange) → Came i e t → Came i e s) →
+-- it stays, where the run's requests received are the same and the bank keeps it
+pub open-stays : {s t : Course} {way : Direction} {i u n k : ℕ} {id : Bits128} → ((e : Exchange) → Received i e s → Received i e t) →
+    ((e : Exchange) → Received i e t → Received i e s) →
     ((last : ℕ) → Standing way (s .bank) id u k n last → Standing way (t .bank) id u k n last) → Open way s i u id n k →
     Open way t i u id n k
 open-stays keeps back bank o = record {
   opening = o .opening;
-  came = keeps (o .opening) (o .came);
+  received = keeps (o .opening) (o .received);
   opened = o .opened;
   ok = o .ok;
   id = o .id;
@@ -136,12 +136,12 @@ open-stays keeps back bank o = record {
 
 -- the bank before the outstanding request comes
 abbrev pub Before : Direction → Step → ℕ → Course → ℕ → Client → Type 0
-Before way step.Opening j s i c = (e : Exchange) → Came i e s → ⊥
+Before way step.Opening j s i c = (e : Exchange) → Received i e s → ⊥
 Before way step.Segment j s i c =
     (k : ℕ) × (j ≡ suc k) × (j ≤ c .segments) × Open way s i (c .subscriber) (c .transaction) (c .segments) k
 Before way step.Receipt j s i c = (way ≡ Download) × Open way s i (c .subscriber) (c .transaction) (c .segments) (c .segments)
 
--- the bank once it has come, and its reply's fields
+-- the bank once it is received, and its reply's fields
 abbrev pub Behind : Direction → Step → ℕ → Course → ℕ → Client → Fields → Type 0
 Behind Upload step.Opening j s i c r =
     (t : Bits128) × (n : ℕ) × (r ≡ uploadOpened (c .exchange) t n) × Open Upload s i (c .subscriber) t (c .segments) 0
@@ -156,7 +156,7 @@ Behind Download step.Segment j s i c r =
     × Open Download s i (c .subscriber) (c .transaction) (c .segments) j
 Behind Download step.Receipt j s i c r = r ≡ receiptAnswered (c .exchange) (c .transaction) code.DownloadPostprocessDone
 
--- the outstanding request has not come; p is the run
+-- the outstanding request is not received; p is the run
 pub record Asks (s : Course) (i : ℕ) (p : Past) : Type 0 where
   pub way : Direction
   pub at : Step
@@ -165,7 +165,7 @@ pub record Asks (s : Course) (i : ℕ) (p : Past) : Type 0 where
   pub messages : Messages s i (p .run .exchange) (p .run .exchange)
   pub before : Before way at j s i (p .run)
 
--- it has come, and its reply has not arrived
+-- it is received, and its reply has not arrived
 pub record Told (s : Course) (i : ℕ) (p : Past) : Type 0 where
   pub way : Direction
   pub at : Step
@@ -173,16 +173,16 @@ pub record Told (s : Course) (i : ℕ) (p : Past) : Type 0 where
   pub turn : InTurn p way at j (p .run .exchange)
   pub messages : Messages s i (p .run .exchange + 1) (p .run .exchange)
   pub reply : List ℕ
-  pub given : (e : Exchange) → Came i e s → exchange (readRequest (e .request)) ≡ p .run .exchange → e .reply ≡ reply
+  pub given : (e : Exchange) → Received i e s → exchange (readRequest (e .request)) ≡ p .run .exchange → e .reply ≡ reply
   pub number : exchange (readReply reply) ≡ p .run .exchange
   pub behind : Behind way at j s i (p .run) (readReply reply)
 
--- the opening came and was refused
+-- the opening was received and refused
 pub record Refused (s : Course) (i : ℕ) (p : Past) : Type 0 where
   pub begun : isBegun (p .run .stage) ≡ true
   pub at : p .run .step ≡ step.Opening
   pub all : (x : Issue) → In x (s .issued) → x .run ≡ i → (e : Exchange) × In e (s .exchanged) × (e .request ≡ x .frame)
-  pub none : (e : Exchange) → Came i e s → returnCode (readReply (e .reply)) ≡ codeField code.Ok → ⊥
+  pub none : (e : Exchange) → Received i e s → returnCode (readReply (e .reply)) ≡ codeField code.Ok → ⊥
 
 -- where the run p of an order in turn stands
 pub data State (s : Course) (i : ℕ) (p : Past) : Type 0 where
@@ -201,10 +201,10 @@ exchanges-keep same x m r (e, n, z) = (e, same .keeps e (n, (x, m, r, sym z)) .0
 module _ {s t : Course} {i : ℕ} (same : Same i s t) where
   messages-stay : {top now : ℕ} → Messages s i top now → Messages t i top now
   messages-stay m = record {
-    came = λ e c. m .came e (same .came e c);
+    received = λ e c. m .received e (same .received e c);
     all = λ x n r b. let y = same .issued x n r in exchanges-keep same x y r (m .all x y r b);
     arrived = λ a n r. m .arrived a (same .arrivals a n r) r;
-    replied = λ e c b. let o = m .replied e (same .came e c) b in (o .0, same .arrived (o .0) (o .1), o .2, o .3);
+    replied = λ e c b. let o = m .replied e (same .received e c) b in (o .0, same .arrived (o .0) (o .1), o .2, o .3);
   }
 
   module _ (v : Parts s) (untouched : Untouched s v i t) (p : Past)
@@ -214,11 +214,12 @@ module _ {s t : Course} {i : ℕ} (same : Same i s t) where
         Open way t i (p .run .subscriber) id n k
     open-same way {id} {n} {k} o =
         let b = opened-by s v way o in
-        open-stays (same .keeps) (same .came)
-        (λ last a. untouched (b .0) id (b .1) way (p .run .subscriber) k n last (λ _. alone (o .opening, o .came, opened-form way (o .opened), o .ok) running) a) o
+        open-stays (same .keeps) (same .received)
+        (λ last a. untouched (b .0) id (b .1) way (p .run .subscriber) k n last
+        (λ _. alone (o .opening, o .received, opened-form way (o .opened), o .ok) running) a) o
 
     before-same : (way : Direction) (at : Step) (j : ℕ) → Before way at j s i (p .run) → Before way at j t i (p .run)
-    before-same way step.Opening j b = λ e c. b e (same .came e c)
+    before-same way step.Opening j b = λ e c. b e (same .received e c)
     before-same way step.Segment j b = (b .0, b .1, b .2, open-same way (b .3))
     before-same way step.Receipt j b = (b .0, open-same way (b .1))
 
@@ -248,7 +249,7 @@ module _ {s t : Course} {i : ℕ} (same : Same i s t) where
     turn = a .turn;
     messages = messages-stay (a .messages);
     reply = a .reply;
-    given = λ e c. a .given e (same .came e c);
+    given = λ e c. a .given e (same .received e c);
     number = a .number;
     behind = behind-same v u p alone (a .turn .running) (a .way) (a .at) (a .j) (readReply (a .reply)) (a .behind);
   })
@@ -256,6 +257,6 @@ module _ {s t : Course} {i : ℕ} (same : Same i s t) where
     begun = a .begun;
     at = a .at;
     all = λ x n r. let y = same .issued x n r in exchanges-keep same x y r (a .all x y r);
-    none = λ e c. a .none e (same .came e c);
+    none = λ e c. a .none e (same .received e c);
   })
   state-same v u p alone (closed w) = closed w

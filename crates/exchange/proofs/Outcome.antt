@@ -8,13 +8,13 @@ use native.Mathlib.Omega.{arith}
 use native.Mathlib.Nat.{mul-comm}
 use lib.ListN.{length, take}
 use lib.Seq.{take-at}
-use Rattle.frame.specs.declared.fields.Bits128.{Bits128}
-use Rattle.frame.specs.declared.fields.Fields.{Fields}
-use Rattle.frame.specs.declared.table.Form.the-variants as forms
-use Rattle.frame.specs.Names.{subscriber, exchange, transaction, segments, segment, returnCode, orderNumber, form}
+use Rattle.frame_table.specs.declared.fields.Bits128.{Bits128}
+use Rattle.frame_table.specs.declared.fields.Fields.{Fields}
+use Rattle.frame_table.specs.declared.table.Form.the-variants as forms
+use Rattle.frame_table.specs.Names.{subscriber, exchange, transaction, segments, segment, returnCode, orderNumber, form}
 use Rattle.frame.specs.Reader.{readRequest, readReply}
-use Rattle.frame.specs.Table.{isRequestForm}
-use Rattle.frame.proofs.Tests.{never}
+use Rattle.frame_table.specs.Table.{isRequestForm}
+use Rattle.octets.proofs.Tests.{never}
 use Rattle.message.specs.declared.codes.ReturnCode.{ReturnCode}
 use Rattle.message.specs.declared.codes.ReturnCode.the-variants as code
 use Rattle.message.specs.Codes.{codeField}
@@ -24,14 +24,14 @@ use Rattle.bank_state.specs.Limits.{openingsMost}
 use Rattle.bank_state.specs.Search.{isFree}
 use Rattle.bank_state.specs.State.{World, placeAt}
 use Rattle.bank_state.specs.Store.{partAt}
-use Rattle.bank_step.specs.OrderNumbers.{orderNumberOf}
+use Rattle.bank_openings.specs.OrderNumbers.{orderNumberOf}
 use Rattle.bank_history.specs.History.{Of, Stands, newest, older, ActionIn, isBooking, isEnding, did, ever, received}
 use Rattle.bank_history.specs.History as bank
 use Rattle.bank_history.specs.Invariant as whole
 use Rattle.bank_history.specs.Standing as standing
 use Rattle.bank_history.specs.Sound.{AllSound, isCancelling}
 use Rattle.bank_history.proofs.Entries.{ever-action}
-use Rattle.bank_history.proofs.Positions.{action-sound}
+use Rattle.bank_history.proofs.Positions.{action-sound, booking-last}
 use Rattle.bank_history.proofs.Theorems.{
   booked-order,
   in-book,
@@ -102,7 +102,6 @@ use Rattle.exchange.proofs.Joint.{
   at-before,
   download-in,
 }
-use Rattle.exchange.proofs.Joint as joint
 use Rattle.exchange.proofs.Numbers.{one-order-number}
 
 -- ---- forms and codes
@@ -118,7 +117,7 @@ download-kind (downloadOpens number time nonce q d) = ap isRequestForm (ap form 
 download-kind (asks number j a b c e q d) = ap isRequestForm (ap form q ∙ form-downloadTransfer _ _ _ _)
 download-kind (confirms number a b c e q d) = ap isRequestForm (ap form q ∙ form-receipt _ _ _ _)
 
-receipt-id : {p : Past} {f : List ℕ} {x : history.Issue} → ReceiptIssued p f x → transaction (x .request) ≡ p .run .transaction
+pub receipt-id : {p : Past} {f : List ℕ} {x : history.Issue} → ReceiptIssued p f x → transaction (x .request) ≡ p .run .transaction
 receipt-id r = ap transaction (r .request) ∙ id-receipt _ _ _ _
 
 cancelled-code : {c : ReturnCode} → (c ≡ code.TransactionAbort) ⊎ ((c ≡ code.SegmentNumberExceeded) ⊎ (c ≡ code.SegmentNumberUnderrun)) →
@@ -127,6 +126,16 @@ cancelled-code (inl e) = ap (λ (x : ReturnCode). isCancelling (codeField x)) e
 cancelled-code (inr (inl e)) = ap (λ (x : ReturnCode). isCancelling (codeField x)) e
 cancelled-code (inr (inr e)) = ap (λ (x : ReturnCode). isCancelling (codeField x)) e
 
+-- "the run held the whole when, as it issued that receipt, its file was the mailbox's": and it is so still as e answers it
+abbrev pub HeldWhole : Course → Exchange → Type 0
+HeldWhole s e = (form (readRequest (e .request)) ≡ forms.Receipt)
+    × ((x : Issue) × In x (s .issued) × (x .frame ≡ e .request) × (x .file ≡ x .box) × (x .file ≡ e .box))
+
+-- "a mailbox is emptied only after its client held the whole"
+abbrev pub AllHeldWhole : Course → Type 0
+AllHeldWhole s = (e : Exchange) → In e (s .exchanged) → returnCode (readReply (e .reply)) ≡ codeField code.DownloadPostprocessDone →
+    HeldWhole s e
+
 module _ (s : Course) (v : Parts s) (copies : Copied s) (numbers : OneExchangeNumber s) where
   abbrev h : List bank.Exchange
   h = v .bank .past .history
@@ -134,7 +143,7 @@ module _ (s : Course) (v : Parts s) (copies : Copied s) (numbers : OneExchangeNu
   sound : AllSound (v .bank .past .history)
   sound = v .bank .holds .invariant .sound
 
-  inv : whole.Invariant (s .bank) (v .bank .past .history)
+  pub inv : whole.Invariant (s .bank) (v .bank .past .history)
   inv = subst (λ (w : World). whole.Invariant w (v .bank .past .history)) (v .bank .world) (v .bank .holds .invariant)
 
   -- ---- the book
@@ -236,7 +245,7 @@ module _ (s : Course) (v : Parts s) (copies : Copied s) (numbers : OneExchangeNu
             where
               ⊥-of : ActionIn isBooking t f → ever isBooking t g ≡ true → ⊥
               ⊥-of d k = never (sym (action-sound sound (up _ _ newest)
-                  (d .is ∙ ap (Of t) (joint.booking-kind (d .action) (d .kind))) .taking .upload .request .unbooked) ∙ k)
+                  (d .is ∙ ap (Of t) (booking-last (d .action) (d .kind))) .taking .upload .request .unbooked) ∙ k)
           by false z rest = AtMostOne.skip (λ k.
               let d = books-booking s v copies numbers (up _ _ newest) same k in never (sym z ∙ did-of isBooking t f d)) rest
 
@@ -384,7 +393,7 @@ module _ (s : Course) (v : Parts s) (copies : Copied s) (numbers : OneExchangeNu
 
   -- ---- mailboxes
 
-  -- "a mailbox is emptied only after its client held the whole"
+  -- a receipt answered 011000: its run's file as it issued it is the mailbox's as the bank answers
   pub emptied-held : (e : Exchange) → In e (s .exchanged) → returnCode (readReply (e .reply)) ≡ codeField code.DownloadPostprocessDone →
       (form (readRequest (e .request)) ≡ forms.Receipt) × ((x : Issue) × In x (s .issued) × (x .frame ≡ e .request) × (x .file ≡ e .box))
   emptied-held e m z =
@@ -414,8 +423,8 @@ module _ (s : Course) (v : Parts s) (copies : Copied s) (numbers : OneExchangeNu
         ),
       )
 
-  pub outcome : Outcome s
-  outcome = record {
+  pub outcome : AllHeldWhole s → Outcome s
+  outcome held = record {
     once = booked-once;
     sound = book-sound;
     whole = book-whole;
@@ -425,5 +434,5 @@ module _ (s : Course) (v : Parts s) (copies : Copied s) (numbers : OneExchangeNu
     notLodged = not-lodged-unbooked;
     fetched = fetched-box;
     mailbox = v .bank .mailboxes;
-    emptied = emptied-held;
+    emptied = held;
   }

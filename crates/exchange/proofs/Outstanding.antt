@@ -1,9 +1,9 @@
--- The request that a run has outstanding, among those that came to the bank. Assumes nothing.
+-- The request that a run has outstanding, among those that the bank received. Assumes nothing.
 use Prim.Native.Nat.{ℕ}
 use mathlib.Core.Bool.{true}
 use mathlib.Core.List.{List, List·Memᴰ as In, List·Memᴰ·head as here}
 use mathlib.Core.Path.{_≡_, refl, sym, ap, _∙_, subst}
-use Rattle.frame.specs.Names.{exchange}
+use Rattle.frame_table.specs.Names.{exchange}
 use Rattle.frame.specs.Reader.{readRequest}
 use Rattle.frame.specs.Row.{dataOf}
 use Rattle.client.specs.NextRun.{begun}

@@ -9,12 +9,12 @@ use native.Mathlib.Omega.{arith}
 use lib.Dec.{eqb}
 use lib.ListN.{length}
 use borrow.Author.Tests.{eq-eqb, eqb-true, eqb-false}
-use Rattle.frame.specs.declared.fields.Bits128.{Bits128}
-use Rattle.frame.specs.declared.table.Form.the-variants as forms
-use Rattle.frame.specs.Names.{exchange, transaction, segments, segment, returnCode, form}
+use Rattle.frame_table.specs.declared.fields.Bits128.{Bits128}
+use Rattle.frame_table.specs.declared.table.Form.the-variants as forms
+use Rattle.frame_table.specs.Names.{exchange, transaction, segments, segment, returnCode, form}
 use Rattle.frame.specs.Reader.{readRequest, readReply}
 use Rattle.frame.specs.Row.{dataOf}
-use Rattle.frame.proofs.Tests.{never}
+use Rattle.octets.proofs.Tests.{never}
 use Rattle.message.specs.Limits.{fileBytes}
 use Rattle.message.specs.Segments.{segmentsOf, segmentOf, lastMarkOf}
 use Rattle.bank_state.specs.State.{World}
@@ -37,13 +37,13 @@ use Rattle.client_history.specs.History.{Begin, Reply, Past, issueOf, GivenTo}
 use Rattle.client_history.specs.History as history
 use Rattle.client_history.specs.InTurn.{InTurn}
 use Rattle.client_history.specs.Invariant.{isOpen, Newest, Steady}
-use Rattle.client_history.proofs.Files.{some-segments}
+use Rattle.message.proofs.SegmentNumbers.{some-segment}
 use Rattle.client_history.proofs.Fitting.{download-fits, segment-fits, download-fields, segment-fields}
 use Rattle.client_history.proofs.Requests.{outstanding-exchange}
 use Rattle.client_history.proofs.Theorems.{newest-outstanding, steady, upload-run, file-held, begin-fresh}
 use Rattle.client_history.proofs.Liveness as clientTurn
 use Rattle.exchange.specs.Course.{Call, begins, replyArrives, Issue, Exchange, Arrival, Course, afterRun, reached, exec}
-use Rattle.exchange.specs.Terms.{IssuedBy, Came}
+use Rattle.exchange.specs.Terms.{IssuedBy, Received}
 use Rattle.exchange.specs.Demand3.{Left, Allowed, OneExchangeNumber}
 use Rattle.exchange.proofs.Told.{Gave, fileIn, bank-replies}
 use Rattle.exchange.proofs.Clients.{asIssue, issuesOf, runPast, Parts}
@@ -59,8 +59,10 @@ use Rattle.exchange.proofs.Courses.{
   call-keeps,
   numberOf,
   one-issue,
+  Leaves,
+  run-leaves,
 }
-use Rattle.exchange.proofs.Came.{came-earlier}
+use Rattle.exchange.proofs.Received.{received-earlier}
 use Rattle.exchange.proofs.OrderStates.{
   Messages,
   Open,
@@ -83,17 +85,6 @@ use Rattle.exchange.proofs.Standing.{Standing}
 
 -- ---- what a run's call leaves
 
-record Leaves (s t : Course) : Type 0 where
-  exchanged : t .exchanged ≡ s .exchanged
-  bank : t .bank ≡ s .bank
-
-begin-leaves : (s : Course) (i : ℕ) (k : ClientCall) (payload : List ℕ) (a : Answer) → let t = afterRun a i k payload s in
-    Leaves s t × (t .arrived ≡ s .arrived)
-begin-leaves s i k payload (answer.Request n) = (record { exchanged = refl; bank = refl }, refl)
-begin-leaves s i k payload answer.Ignored = (record { exchanged = refl; bank = refl }, refl)
-begin-leaves s i k payload (answer.Closed w) = (record { exchanged = refl; bank = refl }, refl)
-begin-leaves s i k payload (answer.Refused r) = (record { exchanged = refl; bank = refl }, refl)
-
 reply-leaves : (s : Course) (i : ℕ) (reply : List ℕ) (k : ClientCall) (payload : List ℕ) (a : Answer) → answerNumber a ≡ 0 →
     let t = reached a i reply (afterRun a i k payload s) in Leaves s t × (t .arrived ≡ record { run = i; reply = reply } ∷ s .arrived)
 reply-leaves s i reply k payload (answer.Request n) e = (record { exchanged = refl; bank = refl }, refl)
@@ -107,7 +98,8 @@ added : {i : ℕ} {x : Issue} {l m : List Issue} {o : history.Issue} {older : Li
 unfolding issuesOf
 added same n r e = inl n
 added one (there n) r e = inl n
-added {i} {x} {o = o} {older = older} (one {x = y}) (here z) r e = inr (ap asIssue z ∙ first (rw (eq-eqb (y .run) i (ap (λ (u : Issue). u .run) (sym z) ∙ r)) at e))
+added {i} {x} {o = o} {older = older} (one {x = y}) (here z) r e =
+    inr (ap asIssue z ∙ first (rw (eq-eqb (y .run) i (ap (λ (u : Issue). u .run) (sym z) ∙ r)) at e))
   where
     first : {a b : history.Issue} {l m : List history.Issue} → a ∷ l ≡ b ∷ m → a ≡ b
     first q = cc
@@ -124,11 +116,11 @@ module _ (k : Call) (s : Course) (v : Parts s) (copies : Copied s) (q : Allowed 
   abbrev t : Course
   t = exec k s
 
-  came-back : (e : Exchange) → Came i e (exec k s) → Came i e s
-  came-back e c = let m = subst (In e) (leaves .exchanged) (c .0) in (m, came-earlier k s v copies q later i e m (c .1))
+  received-back : (e : Exchange) → Received i e (exec k s) → Received i e s
+  received-back e c = let m = subst (In e) (leaves .exchanged) (c .0) in (m, received-earlier k s v copies q later i e m (c .1))
 
-  came-more : (e : Exchange) → Came i e s → Came i e (exec k s)
-  came-more e c = (subst (In e) (sym (leaves .exchanged)) (c .0), issued-more k s (c .1))
+  received-more : (e : Exchange) → Received i e s → Received i e (exec k s)
+  received-more e c = (subst (In e) (sym (leaves .exchanged)) (c .0), issued-more k s (c .1))
 
   exchange-more : (x : Issue) → (e : Exchange) × In e (s .exchanged) × (e .request ≡ x .frame) →
       (e : Exchange) × In e (exec k s .exchanged) × (e .request ≡ x .frame)
@@ -136,7 +128,7 @@ module _ (k : Call) (s : Course) (v : Parts s) (copies : Copied s) (q : Allowed 
 
   open-more : {way : Direction} {u n d : ℕ} {id : Bits128} → Open way s i u id n d → Open way (exec k s) i u id n d
   open-more {way} {u} {n} {d} {id} o =
-      open-stays came-more came-back (λ last a. subst (λ (w : World). Standing way w id u d n last) (sym (leaves .bank)) a) o
+      open-stays received-more received-back (λ last a. subst (λ (w : World). Standing way w id u d n last) (sym (leaves .bank)) a) o
 
   -- a request of the run now: one issued before, or the outstanding one
   issued-new : isBegun (exec k s .runs i .stage) ≡ true → (x : Issue) → In x (exec k s .issued) → x .run ≡ i →
@@ -172,7 +164,7 @@ module _ (s : Course) (v : Parts s) (copies : Copied s) (numbers : OneExchangeNu
 
   begin-left : Leaves s (exec (begins i c way u first l) s) × (exec (begins i c way u first l) s .arrived ≡ s .arrived)
   unfolding exec
-  begin-left = let k = beginCall c way u first l in begin-leaves s i k (l .payload) (k .answer)
+  begin-left = let k = beginCall c way u first l in run-leaves s i k (l .payload) (k .answer)
 
   not-again : {A : Type 0} → isBegun (s .runs i .stage) ≡ true → A
   not-again b = never (sym (begin-fresh (s .runs i) way u first l done-run) ∙ b)
@@ -192,12 +184,12 @@ module _ (s : Course) (v : Parts s) (copies : Copied s) (numbers : OneExchangeNu
       number = refl;
     };
     messages = record {
-      came = λ x m. absurd (nothing-came x m);
+      received = λ x m. absurd (nothing-received x m);
       all = λ x m r b. at x r b (issued-new begin s v copies q numbers later (begin-left .0) i begun x m r);
       arrived = λ a m r. absurd (none a (subst (In a) (begin-left .1) m) r);
-      replied = λ x m b. absurd (nothing-came x m);
+      replied = λ x m b. absurd (nothing-received x m);
     };
-    before = nothing-came;
+    before = nothing-received;
   })
     where
       then : Past
@@ -215,8 +207,8 @@ module _ (s : Course) (v : Parts s) (copies : Copied s) (numbers : OneExchangeNu
       fresh : {frame : List ℕ} → IssuedBy i frame s → ⊥
       fresh o = never (sym (ap isBegun e) ∙ issued-begun s v copies numbers i o)
 
-      nothing-came : (x : Exchange) → Came i x (exec begin s) → ⊥
-      nothing-came x m = fresh (came-back begin s v copies q numbers later (begin-left .0) i x m .1)
+      nothing-received : (x : Exchange) → Received i x (exec begin s) → ⊥
+      nothing-received x m = fresh (received-back begin s v copies q numbers later (begin-left .0) i x m .1)
 
       at : (x : Issue) → x .run ≡ i → numberOf x < then .run .exchange →
           In x (s .issued) ⊎ (numberOf x ≡ exec begin s .runs i .exchange) →
@@ -275,14 +267,14 @@ module _ (s : Course) (v : Parts s) (copies : Copied s) (numbers : OneExchangeNu
   steady-then b = steady (Gave h) (fileIn h) (bank-replies h (v .bank .holds .invariant .sound) (v .bank .proper)) p (Reply reply l)
       (λ _. (record { payload = left .1; file = left .2 }, given)) b
 
-  -- the source is one of the run's requests that came
-  came-source : Came i (source .0) s
-  came-source = (source .1, source .3)
+  -- the source is one of the run's requests received
+  received-source : Received i (source .0) s
+  received-source = (source .1, source .3)
 
   -- a reply to an earlier request would be a second arrival
   not-twice : {A : Type 0} {top : ℕ} → Messages s i top (s .runs i .exchange) →
       exchange (readRequest (source .0 .request)) < s .runs i .exchange → A
-  not-twice m b = let o = m .replied (source .0) came-source b in absurd (fresh (o .0) (o .1) (o .2) (o .3 ∙ source .2))
+  not-twice m b = let o = m .replied (source .0) received-source b in absurd (fresh (o .0) (o .1) (o .2) (o .3 ∙ source .2))
 
   -- the run's opening was refused
   refused-moves : Refused s i (runPast s i) →
@@ -291,13 +283,13 @@ module _ (s : Course) (v : Parts s) (copies : Copied s) (numbers : OneExchangeNu
     begun = after .3;
     at = after .1;
     all = λ x m r. exchange-more arrives s v copies q numbers later (reply-left .0) i x (a .all x (old x m r) r);
-    none = λ e k. a .none e (came-back arrives s v copies q numbers later (reply-left .0) i e k);
+    none = λ e k. a .none e (received-back arrives s v copies q numbers later (reply-left .0) i e k);
   })
     where
       after : (then .issues ≡ p .issues) × (then .run .step ≡ step.Opening) × (then .run .exchange ≡ p .run .exchange)
           × (isBegun (then .run .stage) ≡ true)
       after = clientTurn.opening-refused p reply l done-reply (a .begun) (a .at)
-          (λ z. a .none (source .0) came-source (ap (λ (x : List ℕ). returnCode (readReply x)) (source .2) ∙ z))
+          (λ z. a .none (source .0) received-source (ap (λ (x : List ℕ). returnCode (readReply x)) (source .2) ∙ z))
 
       begun : isBegun (exec arrives s .runs i .stage) ≡ true
       begun = ap (λ (x : Past). isBegun (x .run .stage)) past ∙ after .3
@@ -322,8 +314,8 @@ module _ (s : Course) (v : Parts s) (copies : Copied s) (numbers : OneExchangeNu
     is-it = at (ℕ-discrete (exchange (readRequest (source .0 .request))) (s .runs i .exchange))
       where
         at : Dec (exchange (readRequest (source .0 .request)) ≡ s .runs i .exchange) → reply ≡ a .reply
-        at (yes z) = sym (source .2) ∙ a .given (source .0) came-source z
-        at (no n) = not-twice (a .messages) (let b = a .messages .came (source .0) came-source in omega arith)
+        at (yes z) = sym (source .2) ∙ a .given (source .0) received-source z
+        at (no n) = not-twice (a .messages) (let b = a .messages .received (source .0) received-source in omega arith)
 
     begun : isBegun (s .runs i .stage) ≡ true
     begun = ap isBegun (a .turn .running)
@@ -338,12 +330,12 @@ module _ (s : Course) (v : Parts s) (copies : Copied s) (numbers : OneExchangeNu
 
       messages-next : Messages (exec (replyArrives i c reply l) s) i (then .run .exchange) (then .run .exchange)
       messages-next = record {
-        came = λ e k.
-            let b = a .messages .came e (came-back arrives s v copies q numbers later (reply-left .0) i e k) in
+        received = λ e k.
+            let b = a .messages .received e (received-back arrives s v copies q numbers later (reply-left .0) i e k) in
             let y = turn .number in omega arith;
         all = λ x m r b. all-by x r b (issued-new arrives s v copies q numbers later (reply-left .0) i begun-now x m r);
         arrived = λ y m r. arrived-by y r (subst (In y) (reply-left .1) m);
-        replied = λ e k b. replied-by e (came-back arrives s v copies q numbers later (reply-left .0) i e k)
+        replied = λ e k b. replied-by e (received-back arrives s v copies q numbers later (reply-left .0) i e k)
             (ℕ-discrete (exchange (readRequest (e .request))) (s .runs i .exchange));
       }
         where
@@ -362,7 +354,7 @@ module _ (s : Course) (v : Parts s) (copies : Copied s) (numbers : OneExchangeNu
               let m = number in let w = turn .number in omega arith
           arrived-by y r (there m) = let b = a .messages .arrived y m r in let w = turn .number in omega arith
 
-          replied-by : (e : Exchange) → Came i e s → Dec (exchange (readRequest (e .request)) ≡ s .runs i .exchange) →
+          replied-by : (e : Exchange) → Received i e s → Dec (exchange (readRequest (e .request)) ≡ s .runs i .exchange) →
               (y : Arrival) × In y (exec arrives s .arrived) × (y .run ≡ i) × (y .reply ≡ e .reply)
           replied-by e k (yes z) = (
             record { run = i; reply = reply },
@@ -371,7 +363,7 @@ module _ (s : Course) (v : Parts s) (copies : Copied s) (numbers : OneExchangeNu
             is-it ∙ sym (a .given e k z),
           )
           replied-by e k (no n) =
-              let b = a .messages .came e k in
+              let b = a .messages .received e k in
               let o = a .messages .replied e k (omega arith) in
               (o .0, subst (In (o .0)) (sym (reply-left .1)) (there (o .1)), o .2, o .3)
 
@@ -397,7 +389,8 @@ module _ (s : Course) (v : Parts s) (copies : Copied s) (numbers : OneExchangeNu
     open-then : {way : Direction} {id : Bits128} {n k : ℕ} → Open way s i (s .runs i .subscriber) id n k → id ≡ then .run .transaction →
         n ≡ then .run .segments →
         Open way (exec (replyArrives i c reply l) s) i (then .run .subscriber) (then .run .transaction) (then .run .segments) k
-    open-then o e f = open-as (sym (steady-then begun .subscriber-same)) e f (open-more arrives s v copies q numbers later (reply-left .0) i o)
+    open-then o e f =
+        open-as (sym (steady-then begun .subscriber-same)) e f (open-more arrives s v copies q numbers later (reply-left .0) i o)
 
     open-known : {way : Direction} {k : ℕ} → isOpen (s .runs i .step) ≡ true →
         Open way s i (s .runs i .subscriber) (s .runs i .transaction) (s .runs i .segments) k →
@@ -455,7 +448,7 @@ module _ (s : Course) (v : Parts s) (copies : Copied s) (numbers : OneExchangeNu
         let most : length f ≤ fileBytes = let w = b .most (given .given) kind in omega arith in
         let z = clientTurn.download-opens p reply l done-reply j (s .runs i .exchange) n id f turn r count some most
         (b .first (given .given) kind ∙ ap (λ (x : List ℕ). segmentOf x 1) own) in
-        download-next 1 n (z .0) (sym (z .2)) (let w = some-segments (length f) some in omega arith)
+        download-next 1 n (z .0) (sym (z .2)) (let w = some-segment (length f) some in omega arith)
         (open-then o (sym (z .1)) (sym (z .2)))
     told-by Download step.Segment j turn (r, least, within, o) =
         let b = bank-replies h (v .bank .holds .invariant .sound) (v .bank .proper) in
@@ -487,7 +480,7 @@ module _ (s : Course) (v : Parts s) (copies : Copied s) (numbers : OneExchangeNu
 
       at : State s i (runPast s i) → State (exec arrives s) i then
       at (idle e none) = never (sym (ap isBegun e) ∙ issued-begun s v copies numbers i (source .3))
-      at (asks a) = not-twice (a .messages) (a .messages .came (source .0) came-source)
+      at (asks a) = not-twice (a .messages) (a .messages .received (source .0) received-source)
       at (told a) = told-moves a
       at (refused a) = refused-moves a
       at (closed (inl e)) = closed (inl (ended-then Lodged e))

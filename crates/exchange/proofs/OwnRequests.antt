@@ -8,14 +8,14 @@ use native.Mathlib.Decide.{ℕ-discrete}
 use native.Mathlib.Omega.{arith}
 use lib.Dec.{eqb}
 use lib.ListN.{length}
-use Rattle.frame.specs.declared.fields.Bits128.{Bits128}
-use Rattle.frame.specs.declared.fields.Fields.{Fields}
-use Rattle.frame.specs.declared.table.Form.the-variants as forms
-use Rattle.frame.specs.Bytes.{number}
-use Rattle.frame.specs.Names.{subscriber, exchange, transaction, segments, segment, lastMark, receiptCode, returnCode, form}
+use Rattle.frame_table.specs.declared.fields.Bits128.{Bits128}
+use Rattle.frame_table.specs.declared.fields.Fields.{Fields}
+use Rattle.frame_table.specs.declared.table.Form.the-variants as forms
+use Rattle.octets.specs.Bytes.{number}
+use Rattle.frame_table.specs.Names.{subscriber, exchange, transaction, segments, segment, lastMark, receiptCode, returnCode, form}
 use Rattle.frame.specs.Reader.{readRequest, readReply}
 use Rattle.frame.specs.Row.{dataOf}
-use Rattle.frame.proofs.Tests.{never}
+use Rattle.octets.proofs.Tests.{never}
 use Rattle.message.specs.declared.codes.ReturnCode.the-variants as code
 use Rattle.message.specs.Codes.{codeField}
 use Rattle.message.specs.Limits.{segmentBytes}
@@ -25,7 +25,7 @@ use Rattle.message.specs.Segments.{lastMarkOf}
 use Rattle.bank_state.specs.Clock.{advanced}
 use Rattle.bank_state.specs.Limits.{idleLimit}
 use Rattle.bank_state.specs.State.{World}
-use Rattle.bank_step.specs.OrderNumbers.{orderNumberOf}
+use Rattle.bank_openings.specs.OrderNumbers.{orderNumberOf}
 use Rattle.bank_history.specs.History.{
   Action,
   OpenedUpload,
@@ -85,7 +85,7 @@ use Rattle.client_history.proofs.Requests.{
 }
 use Rattle.client_history.proofs.Theorems.{exchange-numbers, upload-run, file-held}
 use Rattle.exchange.specs.Course.{Issue, Exchange, Arrival, Course}
-use Rattle.exchange.specs.Terms.{IssuedBy, Came, NoIdleHour}
+use Rattle.exchange.specs.Terms.{IssuedBy, Received, NoIdleHour}
 use Rattle.exchange.specs.Demand3.{OneExchangeNumber}
 use Rattle.exchange.proofs.Told.{Gave, fileIn, bank-replies, by-code}
 use Rattle.exchange.proofs.Bank.{Entered}
@@ -157,7 +157,7 @@ module _ (s : Course) (v : Parts s) (copies : Copied s) (numbers : OneExchangeNu
       issues.below (exchange-numbers (Gave h) (fileIn h)
       (bank-replies h (v .bank .holds .invariant .sound) (v .bank .proper)) (runPast s i) (v .runs i) b .1) (issued-in i m r)
 
-  -- a frame of the run that has not come before
+  -- a frame of the run that was not received before
   module _ (time : ℕ) (ids frame buffer : List ℕ) (t : Course) (en : Entered s (v .bank) time ids frame buffer t) (own : IssuedBy i frame s)
       (new : (e : Exchange) → In e (s .exchanged) → e .request ≡ frame → ⊥) (hour : NoIdleHour i (t .bank .bank .clock) s)
       (issued : t .issued ≡ s .issued) (arrivals : t .arrived ≡ s .arrived) where
@@ -169,30 +169,30 @@ module _ (s : Course) (v : Parts s) (copies : Copied s) (numbers : OneExchangeNu
 
     -- ---- the messages
 
-    came-cases : (e : Exchange) → Came i e t → (e ≡ en .exchange) ⊎ Came i e s
-    came-cases e k = at (subst (In e) (en .exchanged) (k .0))
+    received-cases : (e : Exchange) → Received i e t → (e ≡ en .exchange) ⊎ Received i e s
+    received-cases e k = at (subst (In e) (en .exchanged) (k .0))
       where
         back : IssuedBy i (e .request) s
         back = subst (λ (l : List Issue). (y : Issue) × In y l × (y .run ≡ i) × (y .frame ≡ e .request)) issued (k .1)
 
-        at : In e (en .exchange ∷ s .exchanged) → (e ≡ en .exchange) ⊎ Came i e s
+        at : In e (en .exchange ∷ s .exchanged) → (e ≡ en .exchange) ⊎ Received i e s
         at (here z) = inl z
         at (there m) = inr (m, back)
 
-    came-more : (e : Exchange) → Came i e s → Came i e t
-    came-more e k = (
+    received-more : (e : Exchange) → Received i e s → Received i e t
+    received-more e k = (
       subst (In e) (sym (en .exchanged)) (there (k .0)),
       subst (λ (l : List Issue). (y : Issue) × In y l × (y .run ≡ i) × (y .frame ≡ e .request)) (sym issued) (k .1),
     )
 
-    came-now : Came i (en .exchange) t
-    came-now = (
+    received-now : Received i (en .exchange) t
+    received-now = (
       subst (In (en .exchange)) (sym (en .exchanged)) (here refl),
       subst (λ (l : List Issue). (y : Issue) × In y l × (y .run ≡ i) × (y .frame ≡ en .exchange .request)) (sym issued)
           (own .0, own .1, own .2, own .3 ∙ sym (en .request)),
     )
 
-    -- where requests below the outstanding one have come, the frame is the outstanding one
+    -- where requests below the outstanding one are received, the frame is the outstanding one
     module _ (m : Messages s i (s .runs i .exchange) (s .runs i .exchange)) where
       is-outstanding : exchange (readRequest frame) ≡ s .runs i .exchange
       is-outstanding = at (ℕ-discrete (numberOf (own .0)) (s .runs i .exchange))
@@ -211,12 +211,13 @@ module _ (s : Course) (v : Parts s) (copies : Copied s) (numbers : OneExchangeNu
       asked = own-outstanding s v numbers i frame (issued-begun own) own is-outstanding
 
       now-number : {e : Exchange} → e ≡ en .exchange → exchange (readRequest (e .request)) ≡ s .runs i .exchange
-      now-number z = ap (λ (u : Exchange). exchange (readRequest (u .request))) z ∙ ap (λ (l : List ℕ). exchange (readRequest l)) (en .request)
+      now-number z =
+          ap (λ (u : Exchange). exchange (readRequest (u .request))) z ∙ ap (λ (l : List ℕ). exchange (readRequest l)) (en .request)
           ∙ is-outstanding
 
-      -- every request of the run has come
-      all-came : (y : Issue) → In y (t .issued) → y .run ≡ i → (e : Exchange) × In e (t .exchanged) × (e .request ≡ y .frame)
-      all-came y k r = at (ℕ-discrete (numberOf y) (s .runs i .exchange))
+      -- every request of the run is received
+      all-received : (y : Issue) → In y (t .issued) → y .run ≡ i → (e : Exchange) × In e (t .exchanged) × (e .request ≡ y .frame)
+      all-received y k r = at (ℕ-discrete (numberOf y) (s .runs i .exchange))
         where
           old : In y (s .issued)
           old = subst (In y) issued k
@@ -225,7 +226,7 @@ module _ (s : Course) (v : Parts s) (copies : Copied s) (numbers : OneExchangeNu
           at (yes z) =
               let one : own .0 ≡ y = one-issue s numbers (own .1) old
               (ap (λ (l : List ℕ). exchange (readRequest l)) (own .3) ∙ is-outstanding ∙ sym z) in
-              (en .exchange, came-now .0, en .request ∙ sym (own .3) ∙ ap (λ (u : Issue). u .frame) one)
+              (en .exchange, received-now .0, en .request ∙ sym (own .3) ∙ ap (λ (u : Issue). u .frame) one)
           at (no n) =
               let b = issued-below old r in
               let o = m .all y old r (omega arith) in
@@ -233,27 +234,28 @@ module _ (s : Course) (v : Parts s) (copies : Copied s) (numbers : OneExchangeNu
 
       messages-now : Messages t i (s .runs i .exchange + 1) (s .runs i .exchange)
       messages-now = record {
-        came = λ e k. at-came e (came-cases e k);
-        all = λ y k r b. all-came y k r;
+        received = λ e k. at-received e (received-cases e k);
+        all = λ y k r b. all-received y k r;
         arrived = λ a k r. m .arrived a (subst (In a) arrivals k) r;
-        replied = λ e k b. at-replied e b (came-cases e k);
+        replied = λ e k b. at-replied e b (received-cases e k);
       }
         where
-          at-came : (e : Exchange) → (e ≡ en .exchange) ⊎ Came i e s → exchange (readRequest (e .request)) < s .runs i .exchange + 1
-          at-came e (inl z) = let n = now-number z in omega arith
-          at-came e (inr k) = let n = m .came e k in omega arith
+          at-received : (e : Exchange) → (e ≡ en .exchange) ⊎ Received i e s → exchange (readRequest (e .request)) < s .runs i .exchange + 1
+          at-received e (inl z) = let n = now-number z in omega arith
+          at-received e (inr k) = let n = m .received e k in omega arith
 
-          at-replied : (e : Exchange) → exchange (readRequest (e .request)) < s .runs i .exchange → (e ≡ en .exchange) ⊎ Came i e s →
+          at-replied : (e : Exchange) → exchange (readRequest (e .request)) < s .runs i .exchange → (e ≡ en .exchange) ⊎ Received i e s →
               (a : Arrival) × In a (t .arrived) × (a .run ≡ i) × (a .reply ≡ e .reply)
           at-replied e b (inl z) = absurd (let n = now-number z in omega arith)
           at-replied e b (inr k) = let o = m .replied e k b in (o .0, subst (In (o .0)) (sym arrivals) (o .1), o .2, o .3)
 
-      given-now : (e : Exchange) → Came i e t → exchange (readRequest (e .request)) ≡ s .runs i .exchange → e .reply ≡ en .exchange .reply
-      given-now e k n = at (came-cases e k)
+      given-now : (e : Exchange) → Received i e t → exchange (readRequest (e .request)) ≡ s .runs i .exchange →
+          e .reply ≡ en .exchange .reply
+      given-now e k n = at (received-cases e k)
         where
-          at : (e ≡ en .exchange) ⊎ Came i e s → e .reply ≡ en .exchange .reply
+          at : (e ≡ en .exchange) ⊎ Received i e s → e .reply ≡ en .exchange .reply
           at (inl z) = ap (λ (u : Exchange). u .reply) z
-          at (inr y) = absurd (let b = m .came e y in omega arith)
+          at (inr y) = absurd (let b = m .received e y in omega arith)
 
       -- ---- the reply
 
@@ -278,18 +280,19 @@ module _ (s : Course) (v : Parts s) (copies : Copied s) (numbers : OneExchangeNu
       -- ---- the clock and the bank now
 
       clock-is : max (v .bank .past .world .bank .clock) time ≡ t .bank .bank .clock
-      clock-is = sym (ap (λ (w : World). w .bank .clock) (en .bank) ∙ bankTurn.answered-clock time ids frame (v .bank .past) (v .bank .holds))
+      clock-is =
+          sym (ap (λ (w : World). w .bank .clock) (en .bank) ∙ bankTurn.answered-clock time ids frame (v .bank .past) (v .bank .holds))
 
       -- the latest of the order's requests
-      latest-now : (last : ℕ) → ((e : Exchange) → Came i e s → e .clock ≤ last) → last ≤ t .bank .bank .clock →
-          (e : Exchange) → Came i e t → e .clock ≤ t .bank .bank .clock
-      latest-now last b l e k = at (came-cases e k)
+      latest-now : (last : ℕ) → ((e : Exchange) → Received i e s → e .clock ≤ last) → last ≤ t .bank .bank .clock →
+          (e : Exchange) → Received i e t → e .clock ≤ t .bank .bank .clock
+      latest-now last b l e k = at (received-cases e k)
         where
-          at : (e ≡ en .exchange) ⊎ Came i e s → e .clock ≤ t .bank .bank .clock
+          at : (e ≡ en .exchange) ⊎ Received i e s → e .clock ≤ t .bank .bank .clock
           at (inl z) = let n = ap (λ (u : Exchange). u .clock) z in let y = en .clock in omega arith
           at (inr y) = let n = b e y in omega arith
 
-      not-idle : (o : (last : ℕ) × ((e : Exchange) → Came i e s → e .clock ≤ last) × ((e : Exchange) × Came i e s)) →
+      not-idle : (o : (last : ℕ) × ((e : Exchange) → Received i e s → e .clock ≤ last) × ((e : Exchange) × Received i e s)) →
           max (v .bank .past .world .bank .clock) time ≤ o .0 + idleLimit
       not-idle (last, latest, some) = at hour
         where
@@ -297,14 +300,15 @@ module _ (s : Course) (v : Parts s) (copies : Copied s) (numbers : OneExchangeNu
           at (inl (e, k, l)) = let n = latest e k in let y = clock-is in omega arith
           at (inr none) = absurd (none (some .0) (some .1))
 
-      open-now : (way : Direction) (id : Bits128) (u n k : ℕ) (o : Exchange) → Came i o t → form (readReply (o .reply)) ≡ openedForm way →
+      open-now : (way : Direction) (id : Bits128) (u n k : ℕ) (o : Exchange) → Received i o t →
+          form (readReply (o .reply)) ≡ openedForm way →
           returnCode (readReply (o .reply)) ≡ codeField code.Ok → transaction (readReply (o .reply)) ≡ id →
-          ((e : Exchange) → Came i e t → e .clock ≤ t .bank .bank .clock) →
+          ((e : Exchange) → Received i e t → e .clock ≤ t .bank .bank .clock) →
           Standing way (answered time ids frame (v .bank .past) .world) id u k n (max (v .bank .past .world .bank .clock) time) →
           Open way t i u id n k
-      open-now way id u n k o came a b d latest z = record {
+      open-now way id u n k o received a b d latest z = record {
         opening = o;
-        came = came;
+        received = received;
         opened = a;
         ok = b;
         id = d;
@@ -320,32 +324,33 @@ module _ (s : Course) (v : Parts s) (copies : Copied s) (numbers : OneExchangeNu
           Standing way (answered time ids frame (v .bank .past) .world) id u m n (max (v .bank .past .world .bank .clock) time) →
           Open way t i u id n m
       open-on {way} {id} {u} {n} o m l z =
-          open-now way id u n m (o .opening) (came-more (o .opening) (o .came)) (o .opened) (o .ok) (o .id)
+          open-now way id u n m (o .opening) (received-more (o .opening) (o .received)) (o .opened) (o .ok) (o .id)
           (latest-now (o .last) (o .latest) (let y = clock-is in omega arith)) z
 
       in-hour : {way : Direction} {id : Bits128} {u n k : ℕ} (o : Open way s i u id n k) →
           max (v .bank .past .world .bank .clock) time ≤ o .last + idleLimit
-      in-hour o = not-idle (o .last, o .latest, (o .opening, o .came))
+      in-hour o = not-idle (o .last, o .latest, (o .opening, o .received))
 
       -- ---- the opening
 
       -- its code is another than 000000
-      opening-lost : c .step ≡ step.Opening → ((e : Exchange) → Came i e s → ⊥) →
+      opening-lost : c .step ≡ step.Opening → ((e : Exchange) → Received i e s → ⊥) →
           (returnCode (readReply (f .reply)) ≡ codeField code.Ok → ⊥) → State t i p
       opening-lost at first other = refused (record {
         begun = issued-begun own;
         at = at;
-        all = all-came;
-        none = λ e k z. by e z (came-cases e k);
+        all = all-received;
+        none = λ e k z. by e z (received-cases e k);
       })
         where
-          by : (e : Exchange) → returnCode (readReply (e .reply)) ≡ codeField code.Ok → (e ≡ en .exchange) ⊎ Came i e s → ⊥
+          by : (e : Exchange) → returnCode (readReply (e .reply)) ≡ codeField code.Ok → (e ≡ en .exchange) ⊎ Received i e s → ⊥
           by e z (inl y) = other (ap (λ (u : Exchange). returnCode (readReply (u .reply))) (sym y) ∙ z)
           by e z (inr k) = first e k
 
       -- its code is 000000: it opened a transaction
       opening-done : (form (readRequest frame) ≡ forms.UploadOpening) ⊎ (form (readRequest frame) ≡ forms.DownloadOpening) →
-          returnCode (readReply (f .reply)) ≡ codeField code.Ok → (id : Bits128) × (k : Action) × (x .event ≡ Of id k) × (isOpening k ≡ true)
+          returnCode (readReply (f .reply)) ≡ codeField code.Ok →
+          (id : Bits128) × (k : Action) × (x .event ≡ Of id k) × (isOpening k ≡ true)
       opening-done kind ok = let b = by-code (en .sound) newest (en .proper) code.Ok refl (sym (ap returnCode (en .same .reply)) ∙ ok) in
           (b .0, b .1, b .2, at (b .2) (isOpening (b .1)) refl)
         where
@@ -353,10 +358,10 @@ module _ (s : Course) (v : Parts s) (copies : Copied s) (numbers : OneExchangeNu
           at e true z = refl
           at e false z = under-not (case-of s v copies numbers time ids frame (λ _. (i, own)) (en .sound) e z) kind
 
-      alone-now : ((e : Exchange) → Came i e s → ⊥) → (e : Exchange) → Came i e t → e .clock ≤ t .bank .bank .clock
+      alone-now : ((e : Exchange) → Received i e s → ⊥) → (e : Exchange) → Received i e t → e .clock ≤ t .bank .bank .clock
       alone-now first = latest-now 0 (λ e k. absurd (first e k)) (omega arith)
 
-      upload-opening : (j : ℕ) → InTurn p Upload step.Opening j (c .exchange) → ((e : Exchange) → Came i e s → ⊥) →
+      upload-opening : (j : ℕ) → InTurn p Upload step.Opening j (c .exchange) → ((e : Exchange) → Received i e s → ⊥) →
           returnCode (readReply (f .reply)) ≡ codeField code.Ok → State t i p
       unfolding exchangeOf
       upload-opening j turn first ok = at (opening-done (inl asks-form) ok)
@@ -377,7 +382,7 @@ module _ (s : Course) (v : Parts s) (copies : Copied s) (numbers : OneExchangeNu
                 id,
                 orderNumberOf (id .low),
                 r,
-                open-now Upload id (c .subscriber) (c .segments) 0 f came-now (ap form r ∙ y .form-is) ok
+                open-now Upload id (c .subscriber) (c .segments) 0 f received-now (ap form r ∙ y .form-is) ok
                     (ap transaction r ∙ opened-fields (c .exchange) (orderNumberOf (id .low)) 0 0 id .0) (alone-now first)
                     (λ _. subst (λ (u : ℕ). UploadAt (answered time ids frame (v .bank .past) .world) id u 0 (c .segments)
                     (max (v .bank .past .world .bank .clock) time))
@@ -396,7 +401,7 @@ module _ (s : Course) (v : Parts s) (copies : Copied s) (numbers : OneExchangeNu
                   let g : forms.UploadOpening ≡ forms.DownloadOpening = sym asks-form ∙ a in
                   let w : _≡_ {A = ℕ} 0 1 = cc in omega arith)
 
-      download-opening : (j : ℕ) → InTurn p Download step.Opening j (c .exchange) → ((e : Exchange) → Came i e s → ⊥) →
+      download-opening : (j : ℕ) → InTurn p Download step.Opening j (c .exchange) → ((e : Exchange) → Received i e s → ⊥) →
           returnCode (readReply (f .reply)) ≡ codeField code.Ok → State t i p
       unfolding exchangeOf
       download-opening j turn first ok = at (opening-done (inr asks-form) ok)
@@ -416,7 +421,7 @@ module _ (s : Course) (v : Parts s) (copies : Copied s) (numbers : OneExchangeNu
                 id,
                 n,
                 r,
-                open-now Download id (c .subscriber) n 1 f came-now (ap form r ∙ y .form-is) ok
+                open-now Download id (c .subscriber) n 1 f received-now (ap form r ∙ y .form-is) ok
                     (ap transaction r ∙ download-fields (c .exchange) n 0 (lastMarkOf 1 n) id .0) (alone-now first)
                     (λ _. subst (λ (u : ℕ). DownloadAt (answered time ids frame (v .bank .past) .world) id u 1
                     (max (v .bank .past .world .bank .clock) time))
@@ -435,7 +440,8 @@ module _ (s : Course) (v : Parts s) (copies : Copied s) (numbers : OneExchangeNu
 
       -- ---- a segment of an upload
 
-      take-reply : (id : Bits128) (b : Bool) (q : Fields) → replyTo (Of id (cond b TookLast Took)) q ≡ segmentTaken (exchange q) id (segment q)
+      take-reply : (id : Bits128) (b : Bool) (q : Fields) →
+          replyTo (Of id (cond b TookLast Took)) q ≡ segmentTaken (exchange q) id (segment q)
       take-reply id true q = refl
       take-reply id false q = refl
 
@@ -446,7 +452,8 @@ module _ (s : Course) (v : Parts s) (copies : Copied s) (numbers : OneExchangeNu
             within,
             λ below. open-on o j current (λ _. subst (λ (m : ℕ). UploadAt (answered time ids frame (v .bank .past) .world)
                 (c .transaction) (c .subscriber) m (c .segments) (max (v .bank .past .world .bank .clock) time)) (sym next)
-                (bankTurn.upload-goes-on time ids frame (v .bank .past) (v .bank .holds) (c .transaction) (c .subscriber) k (c .segments) (o .last)
+                (bankTurn.upload-goes-on time ids frame (v .bank .past) (v .bank .holds) (c .transaction) (c .subscriber) k (c .segments)
+                (o .last)
                 before kind from to next-segment mark short (in-hour o) (omega arith))),
           )
         where
@@ -454,7 +461,8 @@ module _ (s : Course) (v : Parts s) (copies : Copied s) (numbers : OneExchangeNu
               ≡ uploadTransfer (c .subscriber) (c .exchange) (c .transaction) (c .segment) (lastMarkOf (c .segment) (c .segments))
           request = asked .request ∙ is-uploadTransfer c (asked .time) (asked .nonce) [] (turn .direction) (turn .step)
 
-          fields : let q = uploadTransfer (c .subscriber) (c .exchange) (c .transaction) (c .segment) (lastMarkOf (c .segment) (c .segments)) in
+          fields : let q =
+              uploadTransfer (c .subscriber) (c .exchange) (c .transaction) (c .segment) (lastMarkOf (c .segment) (c .segments)) in
               (subscriber q ≡ c .subscriber) × (transaction q ≡ c .transaction) × (segment q ≡ c .segment)
               × (lastMark q ≡ lastMarkOf (c .segment) (c .segments))
           fields = transfer-fields _ _ _ _ _
@@ -487,7 +495,8 @@ module _ (s : Course) (v : Parts s) (copies : Copied s) (numbers : OneExchangeNu
               let l = ap length bytes in omega arith
 
           before : UploadUnlessIdle (v .bank .past .world) (c .transaction) (c .subscriber) k (c .segments) (o .last)
-          before = subst (λ (w : World). UploadUnlessIdle w (c .transaction) (c .subscriber) k (c .segments) (o .last)) (sym (v .bank .world))
+          before = subst (λ (w : World). UploadUnlessIdle w (c .transaction) (c .subscriber) k (c .segments) (o .last))
+              (sym (v .bank .world))
               (o .standing)
 
           current : o .last ≤ max (v .bank .past .world .bank .clock) time
@@ -496,7 +505,8 @@ module _ (s : Course) (v : Parts s) (copies : Copied s) (numbers : OneExchangeNu
 
           r : readReply (f .reply) ≡ segmentTaken (c .exchange) (c .transaction) j
           r =
-              replies _ (bankTurn.upload-takes time ids frame (v .bank .past) (v .bank .holds) (c .transaction) (c .subscriber) k (c .segments)
+              replies _ (bankTurn.upload-takes time ids frame (v .bank .past) (v .bank .holds) (c .transaction) (c .subscriber) k
+              (c .segments)
               (o .last) before kind from to next-segment mark short (in-hour o))
               ∙ take-reply (c .transaction) (eqb (k + 1) (c .segments)) (readRequest frame)
               ∙ ap (λ (n : ℕ). segmentTaken n (c .transaction) (segment (readRequest frame))) is-outstanding
@@ -515,7 +525,8 @@ module _ (s : Course) (v : Parts s) (copies : Copied s) (numbers : OneExchangeNu
         short-download = let l = ap length (asked .bytes ∙ data-download c 0 [] (s .payloads i) turn-way) in omega arith
 
         current-download : o .last ≤ max (v .bank .past .world .bank .clock) time
-        current-download = bankTurn.download-current time ids frame (v .bank .past) (v .bank .holds) (c .transaction) (c .subscriber) d (o .last)
+        current-download =
+            bankTurn.download-current time ids frame (v .bank .past) (v .bank .holds) (c .transaction) (c .subscriber) d (o .last)
             before-download from to short-download (in-hour o)
 
         -- N as the run knows it
@@ -609,7 +620,8 @@ module _ (s : Course) (v : Parts s) (copies : Copied s) (numbers : OneExchangeNu
       by-step : (way : Direction) (at : Step) (j : ℕ) → InTurn p way at j (c .exchange) → Before way at j s i c → State t i p
       by-step way step.Opening j turn first = at (ℕ-discrete (returnCode (readReply (f .reply))) (codeField code.Ok))
         where
-          go : (w : Direction) → InTurn p w step.Opening j (c .exchange) → returnCode (readReply (f .reply)) ≡ codeField code.Ok → State t i p
+          go : (w : Direction) → InTurn p w step.Opening j (c .exchange) →
+              returnCode (readReply (f .reply)) ≡ codeField code.Ok → State t i p
           go Upload z ok = upload-opening j z first ok
           go Download z ok = download-opening j z first ok
 

@@ -10,7 +10,7 @@ use Rattle.client.specs.declared.run.Direction.{Direction}
 use Rattle.client.specs.declared.run.Refusal.{Refusal}
 use Rattle.client.specs.declared.run.Stage.the-variants as stage
 use Rattle.client.specs.declared.run.Word.{Word}
-use Rattle.client.specs.Calls.{beginCall, replyCall, silenceCall}
+use Rattle.client.specs.Calls.{beginCall, replyCall, noReplyCall}
 use Rattle.client.specs.Run.{Lent, ClientCall, answerNumber}
 use Rattle.client_history.specs.History.{Event, Begin, Reply, NoReply, Past, callOf, lentTo}
 use Rattle.client_history.specs.History as history
@@ -29,7 +29,7 @@ use Rattle.exchange.specs.Course.{
   after,
 }
 use Rattle.exchange.specs.Demand3.{Allowed, AllAllowed}
-use Rattle.exchange.proofs.Bytes.{Issued, begin-issues, reply-issues, silence-issues}
+use Rattle.exchange.proofs.Bytes.{Issued, begin-issues, reply-issues, no-reply-issues}
 use Rattle.exchange.proofs.Clients.{runPast, own-past, other-past}
 use Rattle.exchange.proofs.Courses.{frame-runs, file-runs}
 
@@ -41,7 +41,7 @@ pub data RunStep (s : Course) (i : ℕ) : Call → Past → Type 0 where
       RunStep s i (begins i c way subscriber first l) p
   replied : {c : Client} {reply : List ℕ} {l : Lent} {p : Past} → c ≡ s .runs i → answerNumber (replyCall c reply l .answer) ≡ 0 →
       p ≡ history.after (Reply reply l) (runPast s i) → RunStep s i (replyArrives i c reply l) p
-  silent : {c : Client} {l : Lent} {p : Past} → c ≡ s .runs i → answerNumber (silenceCall c l .answer) ≡ 0 →
+  no-reply : {c : Client} {l : Lent} {p : Past} → c ≡ s .runs i → answerNumber (noReplyCall c l .answer) ≡ 0 →
       p ≡ history.after (NoReply l) (runPast s i) → RunStep s i (noReply i c l) p
 
 -- an answer is a number, or none
@@ -131,7 +131,7 @@ run-step (replyArrives j c reply l) s q i = at (ℕ-discrete i j)
 run-step (noReply j c l) s q i = at (ℕ-discrete i j)
   where
     k : Client → ClientCall
-    k x = silenceCall x l
+    k x = noReplyCall x l
 
     now : ℕ → Client → Past
     now n x = runPast (afterRun (k x .answer) n (k x) (l .payload) s) i
@@ -141,7 +141,7 @@ run-step (noReply j c l) s q i = at (ℕ-discrete i j)
     at (yes z) =
         subst (λ (n : ℕ). (answerNumber (k c .answer) ≡ 0 → c ≡ s .runs n) → RunStep s i (noReply n c l) (now n c)) z (λ a.
         by-number (RunStep s i (noReply i c l) (now i c)) (k c .answer)
-        (λ e. silent (a e) e (ap (now i) (a e) ∙ own-step s i (NoReply l) (silence-issues (s .runs i) l)))
+        (λ e. no-reply (a e) e (ap (now i) (a e) ∙ own-step s i (NoReply l) (no-reply-issues (s .runs i) l)))
         (λ r e. rests (refused-past s i (k c) (l .payload) (k c .answer) refl r e))) (λ e. q e .0)
 
 -- "An ended run stays as it is"
@@ -149,7 +149,7 @@ step-ended : (s : Course) (i : ℕ) (k : Call) (p : Past) (w : Word) → s .runs
 step-ended s i k p w e (rests z) = z
 step-ended s i k p w e (begun c n z) = z ∙ ended-stays (runPast s i) w e _
 step-ended s i k p w e (replied c n z) = z ∙ ended-stays (runPast s i) w e _
-step-ended s i k p w e (silent c n z) = z ∙ ended-stays (runPast s i) w e _
+step-ended s i k p w e (no-reply c n z) = z ∙ ended-stays (runPast s i) w e _
 
 pub run-ended : (k : Call) (s : Course) → Allowed k s → (i : ℕ) (w : Word) → s .runs i .stage ≡ stage.Ended w →
     exec k s .runs i ≡ s .runs i

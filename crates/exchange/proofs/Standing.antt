@@ -4,14 +4,14 @@ use mathlib.Core.Bool.{Bool, true, false}
 use mathlib.Core.List.{List, _∷_}
 use mathlib.Core.Path.{_≡_, refl, sym, ap, _∙_, subst}
 use native.Mathlib.Omega.{arith}
-use Rattle.frame.specs.declared.fields.Bits128.{Bits128}
-use Rattle.frame.specs.declared.table.Form.{Form}
-use Rattle.frame.specs.Bytes.{number}
-use Rattle.frame.specs.Names.{subscriber}
+use Rattle.frame_table.specs.declared.fields.Bits128.{Bits128}
+use Rattle.frame_table.specs.declared.table.Form.{Form}
+use Rattle.octets.specs.Bytes.{number}
+use Rattle.frame_table.specs.Names.{subscriber}
 use Rattle.frame.specs.Reader.{readRequest}
 use Rattle.frame.specs.Row.{dataOf}
 use Rattle.bank_state.specs.Clock.{advanced}
-use Rattle.frame.proofs.Tests.{never}
+use Rattle.octets.proofs.Tests.{never}
 use Rattle.bank_state.specs.Search.{openCountOf}
 use Rattle.bank_state.specs.State.{World}
 use Rattle.bank_history.specs.History.{Of, Confirmed, Past, BankCall, Frame, isAction, did, exchangeOf}

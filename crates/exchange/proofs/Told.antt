@@ -1,18 +1,19 @@
 -- What the replies of a sound history tell of a transaction, and that they are what a client run takes them for. Assumes nothing.
 use Prim.Native.Nat.{ℕ, _≤_}
-use mathlib.Core.Bool.{Bool, true, false, cond, _||_}
+use mathlib.Core.Bool.{Bool, true, false, cond}
 use mathlib.Core.List.{List, [], _∷_}
 use mathlib.Core.Logic.{inl, inr}
 use mathlib.Core.Path.{_≡_, refl, sym, ap, _∙_}
 use native.Mathlib.Omega.{arith}
 use lib.ListN.{length}
-use Rattle.frame.specs.declared.fields.Bits128.{Bits128}
-use Rattle.frame.specs.declared.fields.Fields.{Fields}
-use Rattle.frame.specs.declared.table.Form.{Form}
-use Rattle.frame.specs.declared.table.Form.the-variants as forms
-use Rattle.frame.specs.Names
-use Rattle.frame.specs.Names.{transaction, segments, segment, returnCode, form, sameBits}
-use Rattle.frame.proofs.Tests.{never, and-true}
+use Rattle.frame_table.specs.declared.fields.Bits128.{Bits128}
+use Rattle.frame_table.specs.declared.fields.Fields.{Fields}
+use Rattle.frame_table.specs.declared.table.Form.{Form}
+use Rattle.frame_table.specs.declared.table.Form.the-variants as forms
+use Rattle.frame_table.specs.Names
+use Rattle.frame_table.specs.Names.{transaction, segments, segment, returnCode, form, sameBits}
+use Rattle.octets.proofs.Tests.{never, and-true, or-left, or-right}
+use Rattle.frame_table.proofs.Bits.{bits-same}
 use Rattle.message.specs.declared.codes.ReturnCode.{ReturnCode}
 use Rattle.message.specs.declared.codes.ReturnCode.the-variants as code
 use Rattle.message.specs.Codes.{codeField}
@@ -52,7 +53,7 @@ use Rattle.bank_history.specs.History.{
 }
 use Rattle.bank_history.specs.Sound.{isCancelling, SoundConfirmed, AllSound}
 use Rattle.bank_history.specs.Sound.{more as sounds}
-use Rattle.bank_history.proofs.Entries.{bits-same, same-bits}
+use Rattle.bank_history.proofs.Entries.{same-bits}
 use Rattle.bank_history.proofs.Positions.{action-sound}
 use Rattle.bank_history.proofs.Replies.{
   eventForm,
@@ -264,13 +265,6 @@ either-opening : (f : Action → Bool) → ((k : Action) → f k ≡ true → is
     Opening t e
 either-opening f up d = record { action = d .action; is = d .is; opening = up (d .action) (d .kind) }
 
-or-left : (a b : Bool) → a ≡ true → a || b ≡ true
-or-left a b h = rw h
-
-or-right : (a b : Bool) → b ≡ true → a || b ≡ true
-or-right true b h = refl
-or-right false b h = h
-
 pub upload-opening : {t : Bits128} {e : Exchange} → ActionIn isUploadOpening t e → Opening t e
 upload-opening = either-opening isUploadOpening (λ k. or-left (isUploadOpening k) (isDownloadOpening k))
 
@@ -300,7 +294,7 @@ module _ (h : List Exchange) (sound : AllSound h) (proper : AllProper h) where
 
   pub bank-replies : BankReplies (Gave h) (fileIn h)
   bank-replies = record {
-    echo = λ a f n.
+    sameExchange = λ a f n.
         ap Names.exchange (sym (a .reply))
         ∙ reply-exchange sound (a .stands) (λ z. n (sym (ap form (a .reply)) ∙ z)) ∙ ap Names.exchange (a .request);
     number = λ a z.

@@ -4,14 +4,14 @@ use mathlib.Core.List.{List, [], _∷_, List·Memᴰ·not-nil as in-none}
 use mathlib.Core.Logic.{_⊎_}
 use mathlib.Core.Path.{_≡_, refl, sym, ap, _∙_, subst}
 use native.Mathlib.Omega.{arith}
-use Rattle.frame.specs.Names.{exchange}
+use Rattle.frame_table.specs.Names.{exchange}
 use Rattle.frame.specs.Reader.{readRequest, readReply}
-use Rattle.frame.proofs.Tests.{never}
+use Rattle.octets.proofs.Tests.{never}
 use Rattle.client.specs.declared.run.Stage.the-variants as stage
 use Rattle.client.specs.declared.run.Word.the-variants.{Lodged, Fetched}
 use Rattle.client.specs.Rulings.{isBegun}
 use Rattle.exchange.specs.Course.{Call, frameArrives, Course, start, exec, after}
-use Rattle.exchange.specs.Terms.{InTurn, Came, Accepted, Alone, AllInTurn, Settled}
+use Rattle.exchange.specs.Terms.{InTurn, Received, Accepted, Alone, AllInTurn, Settled}
 use Rattle.exchange.specs.Demand3.{Allowed, AllAllowed, OneExchangeNumber, ClosesInTurn}
 use Rattle.exchange.proofs.Clients.{runPast, Parts}
 use Rattle.exchange.proofs.Courses.{
@@ -45,7 +45,8 @@ module _ (i : ℕ) where
           subst (State (exec (frameArrives w time ids frame buffer) s) i) (sym (frame-runs s w time ids frame buffer i))
           (request-moves s v copies numbers i time ids frame buffer (exec (frameArrives w time ids frame buffer) s) en own new hour issued
           arrivals z)
-      at k q later (own-begin {c = c} {way = way} {u = u} {first = first} {l = l} own done) = begin-moves s v copies numbers i c way u first l q later own done z
+      at k q later (own-begin {c = c} {way = way} {u = u} {first = first} {l = l} own done) =
+          begin-moves s v copies numbers i c way u first l q later own done z
       at k q later (own-reply {c = c} {reply = reply} {l = l} done left source fresh) =
           reply-moves s v copies numbers i c reply l q later done left source fresh z
 
@@ -65,7 +66,7 @@ module _ (i : ℕ) where
 
   -- ---- once none of its messages is under way
 
-  -- the outstanding request has not come, or its reply has not arrived: a message is under way
+  -- the outstanding request is not received, or its reply has not arrived: a message is under way
   settled-closed : (t : Course) (v : Parts t) → Copied t → OneExchangeNumber t → State t i (runPast t i) → Accepted i t → Settled t i →
       (t .runs i .stage ≡ stage.Ended Lodged) ⊎ (t .runs i .stage ≡ stage.Ended Fetched)
   settled-closed t v copies numbers (idle e none) (x, c, kind, ok) settled =
@@ -73,13 +74,13 @@ module _ (i : ℕ) where
   settled-closed t v copies numbers (asks a) accepted settled = absurd (
       let o = outstanding-issue t v i (ap isBegun (a .turn .running)) in
       let f = settled .requests (o .issue) (o .own) (o .run) in
-      let b = a .messages .came (f .0) (f .1, (o .issue, o .own, o .run, sym (f .2))) in
+      let b = a .messages .received (f .0) (f .1, (o .issue, o .own, o .run, sym (f .2))) in
       let n = ap (λ (l : List ℕ). exchange (readRequest l)) (f .2) in
       let m = o .number in omega arith)
   settled-closed t v copies numbers (told a) accepted settled = absurd (
       let o = outstanding-issue t v i (ap isBegun (a .turn .running)) in
       let f = a .messages .all (o .issue) (o .own) (o .run) (let m = o .number in omega arith) in
-      let c : Came i (f .0) t = (f .1, (o .issue, o .own, o .run, sym (f .2))) in
+      let c : Received i (f .0) t = (f .1, (o .issue, o .own, o .run, sym (f .2))) in
       let g = settled .replies (f .0) c in
       let same = a .given (f .0) c (ap (λ (l : List ℕ). exchange (readRequest l)) (f .2) ∙ o .number) in
       let b = a .messages .arrived (g .0) (g .1) (g .2) in

@@ -4,7 +4,7 @@ use mathlib.Core.Bool.{cond}
 use mathlib.Core.List.{List, [], _∷_}
 use lib.Dec.{eqb}
 use lib.ListN.{length, take, replicate}
-use Rattle.frame.specs.Names.{subscriber, returnCode}
+use Rattle.frame_table.specs.Names.{subscriber, returnCode}
 use Rattle.frame.specs.Reader.{readRequest, readReply}
 use Rattle.message.specs.declared.codes.ReturnCode.the-variants as code
 use Rattle.message.specs.Codes.{codeField}
@@ -13,7 +13,7 @@ use Rattle.bank_state.specs.Clock.{advanced}
 use Rattle.bank_state.specs.Limits.{storeBytes}
 use Rattle.bank_state.specs.State.{World, world, fresh}
 use Rattle.bank_state.specs.Store.{fileOf}
-use Rattle.bank_step.specs.Openings.{fileLength}
+use Rattle.bank_openings.specs.Openings.{fileLength}
 use Rattle.bank.specs.declared.call.FrameAnswer.{FrameAnswer}
 use Rattle.bank.specs.declared.call.FrameAnswer.the-variants as frameAnswer
 use Rattle.bank.specs.declared.mailbox.FileAnswer.{FileAnswer}
@@ -24,7 +24,7 @@ use Rattle.client.specs.declared.run.Answer.{Answer}
 use Rattle.client.specs.declared.run.Answer.the-variants as answer
 use Rattle.client.specs.declared.run.Client.{Client}
 use Rattle.client.specs.declared.run.Direction.{Direction}
-use Rattle.client.specs.Calls.{beginCall, replyCall, silenceCall}
+use Rattle.client.specs.Calls.{beginCall, replyCall, noReplyCall}
 use Rattle.client.specs.Run.{Lent, ClientCall, notBegun}
 
 -- A call with everything that it brings and is lent; client runs are told apart by a number
@@ -40,11 +40,12 @@ pub data Call : Type 0 where
   -- no reply
   noReply : ℕ → Client → Lent → Call
 
--- a request issued: by which run, its bytes, and the run's file as it issued it
+-- a request issued: by which run, its bytes, and as it was issued the run's file and the file that its subscriber's mailbox held
 pub record Issue : Type 0 where
   pub run : ℕ
   pub frame : List ℕ
   pub file : List ℕ
+  pub box : List ℕ
 
 -- a frame and the reply that the bank gave it, the clock then, and the file that the mailbox of the frame's subscriber held
 pub record Exchange : Type 0 where
@@ -152,10 +153,14 @@ leaving i k payload issued s = record {
   arrived = s .arrived;
 }
 
+-- the request of n bytes that a call of run i issues
+abbrev pub newIssue : Course → ℕ → ClientCall → ℕ → Issue
+newIssue s i k n =
+    record { run = i; frame = take n (k .request); file = heldOf (k .run) (k .file); box = mailboxOf (s .bank) (k .run .subscriber) }
+
 -- a run's call: a request issued, nothing, the run's end, or given a number and nothing changed
 abbrev pub afterRun : Answer → ℕ → ClientCall → List ℕ → Course → Course
-afterRun (answer.Request n) i k payload s =
-    leaving i k payload (record { run = i; frame = take n (k .request); file = heldOf (k .run) (k .file) } ∷ s .issued) s
+afterRun (answer.Request n) i k payload s = leaving i k payload (newIssue s i k n ∷ s .issued) s
 afterRun answer.Ignored i k payload s = leaving i k payload (s .issued) s
 afterRun (answer.Closed w) i k payload s = leaving i k payload (s .issued) s
 afterRun (answer.Refused r) i k payload s = s
@@ -187,7 +192,7 @@ exec (frameArrives w time ids frame buffer) s =
 exec (filePut b boxes m file) s = let k = fileCall b m file boxes in afterFile (k .answer) k m file s
 exec (begins i c way subscriber first l) s = let k = beginCall c way subscriber first l in afterRun (k .answer) i k (l .payload) s
 exec (replyArrives i c reply l) s = let k = replyCall c reply l in reached (k .answer) i reply (afterRun (k .answer) i k (l .payload) s)
-exec (noReply i c l) s = let k = silenceCall c l in afterRun (k .answer) i k (l .payload) s
+exec (noReply i c l) s = let k = noReplyCall c l in afterRun (k .answer) i k (l .payload) s
 
 unfoldable pub after : List Call → Course → Course
 after [] s = s

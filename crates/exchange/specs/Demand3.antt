@@ -5,10 +5,10 @@ use mathlib.Core.Bool.{Bool, true, _&&_}
 use mathlib.Core.Logic.{_⊎_}
 use mathlib.Core.List.{List, [], _∷_, _++_, map, List·Memᴰ as In}
 use lib.Dec.{leb}
-use Rattle.frame.specs.declared.table.Form.the-variants as forms
-use Rattle.frame.specs.Names.{subscriber, exchange, transaction, returnCode, form}
+use Rattle.frame_table.specs.declared.table.Form.the-variants as forms
+use Rattle.frame_table.specs.Names.{subscriber, exchange, transaction, returnCode, form}
 use Rattle.frame.specs.Reader.{readRequest, readReply}
-use Rattle.frame.specs.Table.{isRequestForm}
+use Rattle.frame_table.specs.Table.{isRequestForm}
 use Rattle.message.specs.declared.codes.ReturnCode.the-variants as code
 use Rattle.message.specs.Codes.{codeField}
 use Rattle.message.specs.Limits.{subscribers}
@@ -17,7 +17,7 @@ use Rattle.bank.specs.Mailbox.{fileNumber, fileCall}
 use Rattle.client.specs.declared.run.Client.{Client}
 use Rattle.client.specs.declared.run.Stage.the-variants as stage
 use Rattle.client.specs.declared.run.Word.the-variants.{Lodged, NotLodged, Fetched}
-use Rattle.client.specs.Calls.{beginCall, replyCall, silenceCall}
+use Rattle.client.specs.Calls.{beginCall, replyCall, noReplyCall}
 use Rattle.client.specs.Run.{Lent, answerNumber}
 use Rattle.exchange.specs.Course.{
   Call,
@@ -62,7 +62,7 @@ Allowed (begins i c way subscriber first l) s = Unless (answerNumber (beginCall 
 Allowed (replyArrives i c reply l) s =
     Unless (answerNumber (replyCall c reply l .answer))
     (Left i c l s × ((e : Exchange) × In e (s .exchanged) × (e .reply ≡ reply) × IssuedBy i (e .request) s))
-Allowed (noReply i c l) s = Unless (answerNumber (silenceCall c l .answer)) (Left i c l s)
+Allowed (noReply i c l) s = Unless (answerNumber (noReplyCall c l .answer)) (Left i c l s)
 
 abbrev pub AllAllowed : List Call → Course → Type 0
 AllAllowed [] s = Unit {0}
@@ -94,9 +94,11 @@ pub record Outcome (s : Course) : Type 0 where
   -- "The bank's mailbox holds exactly the file last put in by a call given no number, until a receipt of its subscriber is answered
   -- 011000, which alone empties it"
   pub mailbox : (m : ℕ) → 1 ≤ m → m ≤ subscribers → mailboxOf (s .bank) m ≡ s .mailboxes m
-  -- "a mailbox is emptied only after its client held the whole"
+  -- "a mailbox is emptied only after its client held the whole": "as it issued that receipt, its file was the mailbox's"; and it is the
+  -- mailbox's file still as the bank answers
   pub emptied : (e : Exchange) → In e (s .exchanged) → returnCode (readReply (e .reply)) ≡ codeField code.DownloadPostprocessDone →
-      (form (readRequest (e .request)) ≡ forms.Receipt) × ((x : Issue) × In x (s .issued) × (x .frame ≡ e .request) × (x .file ≡ e .box))
+      (form (readRequest (e .request)) ≡ forms.Receipt)
+      × ((x : Issue) × In x (s .issued) × (x .frame ≡ e .request) × (x .file ≡ x .box) × (x .file ≡ e .box))
 
 -- "an order in turn closes as lodged or fetched"
 abbrev pub ClosesInTurn : List Call → Type 0

@@ -4,8 +4,8 @@ use mathlib.Core.Path.{_≡_}
 use mathlib.Core.Logic.{_⊎_}
 use mathlib.Core.List.{List, [], _∷_, List·Memᴰ as In}
 use lib.ListN.{length, take}
-use Rattle.frame.specs.declared.table.Form.the-variants as forms
-use Rattle.frame.specs.Names.{subscriber, segment, transaction, returnCode, orderNumber, form}
+use Rattle.frame_table.specs.declared.table.Form.the-variants as forms
+use Rattle.frame_table.specs.Names.{subscriber, segment, transaction, returnCode, orderNumber, form}
 use Rattle.frame.specs.Reader.{readRequest, readReply}
 use Rattle.message.specs.declared.codes.ReturnCode.the-variants as code
 use Rattle.message.specs.Codes.{codeField}
@@ -15,12 +15,12 @@ use Rattle.bank_state.specs.Limits.{placeCount, idleLimit}
 use Rattle.bank_state.specs.Search.{openCountOf}
 use Rattle.bank_state.specs.State.{placeAt}
 use Rattle.bank_state.specs.Store.{partAt}
-use Rattle.bank_step.specs.OrderNumbers.{orderNumberOf}
+use Rattle.bank_openings.specs.OrderNumbers.{orderNumberOf}
 use Rattle.bank.specs.declared.call.FrameAnswer.{FrameAnswer}
 use Rattle.bank.specs.declared.call.FrameAnswer.the-variants as frameAnswer
 use Rattle.bank.specs.Call.{frameCall}
 use Rattle.client.specs.declared.run.Stage.the-variants as stage
-use Rattle.client.specs.Calls.{replyCall, silenceCall}
+use Rattle.client.specs.Calls.{replyCall, noReplyCall}
 use Rattle.client.specs.Run.{answerNumber}
 use Rattle.exchange.specs.Course.{Call, frameArrives, filePut, begins, replyArrives, noReply, Issue, Exchange, Arrival, Course, exec}
 
@@ -82,13 +82,13 @@ pub record OrderOf (s : Course) (i : ℕ) (o : Order) : Type 0 where
 
 -- ---- AN ORDER IN TURN
 
--- the order's messages so far: requests that came to the bank, and replies
-abbrev pub Came : ℕ → Exchange → Course → Type 0
-Came i e s = In e (s .exchanged) × IssuedBy i (e .request) s
+-- a request of the run that the bank received, with the reply given
+abbrev pub Received : ℕ → Exchange → Course → Type 0
+Received i e s = In e (s .exchanged) × IssuedBy i (e .request) s
 
 -- "An idle hour is over 3,600 on the clock from the arrival of one of the order's requests to that of the next"
 abbrev pub NoIdleHour : ℕ → ℕ → Course → Type 0
-NoIdleHour i clock s = ((e : Exchange) × Came i e s × (clock ≤ e .clock + idleLimit)) ⊎ ((e : Exchange) → Came i e s → ⊥)
+NoIdleHour i clock s = ((e : Exchange) × Received i e s × (clock ≤ e .clock + idleLimit)) ⊎ ((e : Exchange) → Received i e s → ⊥)
 
 -- "whose messages each arrive once, in turn": "the run's only calls are begin and the arrivals of these replies"
 abbrev pub InTurn : ℕ → Call → Course → Type 0
@@ -100,11 +100,11 @@ InTurn i (filePut b boxes m file) s = Unit {0}
 InTurn i (begins j c way subscriber first l) s = Unit {0}
 InTurn i (replyArrives j c reply l) s =
     Unless (answerNumber (replyCall c reply l .answer)) (j ≡ i → (a : Arrival) → In a (s .arrived) → a .run ≡ i → a .reply ≡ reply → ⊥)
-InTurn i (noReply j c l) s = Unless (answerNumber (silenceCall c l .answer)) (j ≡ i → ⊥)
+InTurn i (noReply j c l) s = Unless (answerNumber (noReplyCall c l .answer)) (j ≡ i → ⊥)
 
 -- "an order whose opening is accepted": a request of the run was answered as an opening, with 000000
 abbrev pub Accepted : ℕ → Course → Type 0
-Accepted i s = (e : Exchange) × Came i e s × ((form (readReply (e .reply)) ≡ forms.UploadOpened)
+Accepted i s = (e : Exchange) × Received i e s × ((form (readReply (e .reply)) ≡ forms.UploadOpened)
     ⊎ (form (readReply (e .reply)) ≡ forms.DownloadOpened)) × (returnCode (readReply (e .reply)) ≡ codeField code.Ok)
 
 -- "its subscriber having nothing else open meanwhile": from the acceptance of its opening on, while the run is not ended
@@ -118,4 +118,4 @@ AllInTurn i (k ∷ ks) s = Alone i s × InTurn i k s × AllInTurn i ks (exec k s
 -- "once none of its messages is under way"
 pub record Settled (s : Course) (i : ℕ) : Type 0 where
   pub requests : (x : Issue) → In x (s .issued) → x .run ≡ i → (e : Exchange) × In e (s .exchanged) × (e .request ≡ x .frame)
-  pub replies : (e : Exchange) → Came i e s → (a : Arrival) × In a (s .arrived) × (a .run ≡ i) × (a .reply ≡ e .reply)
+  pub replies : (e : Exchange) → Received i e s → (a : Arrival) × In a (s .arrived) × (a .run ≡ i) × (a .reply ≡ e .reply)

@@ -4,15 +4,16 @@ use mathlib.Core.Bool.{Bool, cond}
 use mathlib.Core.List.{List, [], _∷_, _++_}
 use lib.Dec.{eqb}
 use lib.ListN.{replicate}
-use Rattle.frame.specs.declared.fields.Fields.{Fields}
-use Rattle.frame.specs.declared.table.Form.{Form}
-use Rattle.frame.specs.declared.table.Form.the-variants as forms
-use Rattle.frame.specs.Names.{exchange, segments, segment, lastMark, returnCode, orderNumber, form}
-use Rattle.frame.specs.Reader.{noFields, readRequest, readReply}
+use Rattle.frame_table.specs.declared.fields.Fields.{Fields}
+use Rattle.frame_table.specs.declared.table.Form.{Form}
+use Rattle.frame_table.specs.declared.table.Form.the-variants as forms
+use Rattle.frame_table.specs.Names.{exchange, segments, segment, lastMark, returnCode, orderNumber, form}
+use Rattle.frame.specs.Reader.{readRequest, readReply}
+use Rattle.frame_table.specs.Names.{noFields}
 use Rattle.message.specs.declared.codes.ReturnCode.the-variants as code
 use Rattle.message.specs.Codes.{codeField}
 use Rattle.bank_state.specs.declared.state.Bank.{Bank}
-use Rattle.bank_step.specs.Openings.{fileLength}
+use Rattle.bank_openings.specs.Openings.{fileLength}
 use Rattle.client.specs.declared.run.Answer.{Answer}
 use Rattle.client.specs.declared.run.Answer.the-variants as answer
 use Rattle.client.specs.declared.run.Direction.{Direction}
@@ -34,15 +35,15 @@ use Rattle.exercise_play.specs.declared.script.Act.the-variants.{
   NoReply,
 }
 use Rattle.exercise_play.specs.declared.script.Move.{Move}
-use Rattle.exercise_play.specs.declared.standing.End.{End}
-use Rattle.exercise_play.specs.declared.standing.Standing.{Standing}
+use Rattle.exercise_play.specs.declared.exercise.End.{End}
+use Rattle.exercise_play.specs.declared.exercise.Exercise.{Exercise}
 use Rattle.exercise_words.specs.declared.words.Part.{Part}
 use Rattle.exercise_words.specs.declared.words.Part.the-variants.{Nothing, Say, Number, Code, Name, OrderNumber, Closing}
 use Rattle.exercise_words.specs.declared.words.Phrase.{Phrase}
 use Rattle.exercise_words.specs.declared.words.Phrase.the-variants as phrase
 use Rattle.exercise_play.specs.Play.{frameIn}
 use Rattle.exercise_play.specs.Script.{orderOf}
-use Rattle.exercise_play.specs.Standing.{endOf}
+use Rattle.exercise_play.specs.Exercise.{endOf}
 use Rattle.exercise_words.specs.Words.{groupText, partCount}
 
 -- whose line an act has
@@ -60,15 +61,23 @@ kindOf NoReply = kind.Own
 abbrev pub nothing : List Part
 nothing = replicate partCount Nothing
 
+-- a group that begins with a fixed text
+abbrev pub group : Phrase → Part → Part → Part → List Part
+group p a b c = Say p ∷ a ∷ b ∷ c ∷ []
+
 abbrev pub say : Phrase → List Part
-say p = Say p ∷ Nothing ∷ Nothing ∷ Nothing ∷ []
+say p = group p Nothing Nothing Nothing
+
+-- a group that begins with the call's number: a fixed text, a number and what follows it
+abbrev pub callGroup : ℕ → Phrase → ℕ → Part → List Part
+callGroup call p x end = Number call ∷ Say p ∷ Number x ∷ end ∷ []
 
 -- the call, and who to whom
 abbrev pub head : ℕ → Kind → ℕ → ℕ → List Part
-head call kind.Host run subscriber = Number call ∷ Say phrase.FileForMailbox ∷ Number subscriber ∷ Nothing ∷ []
-head call kind.Own run subscriber = Number call ∷ Say phrase.Client ∷ Number run ∷ Say phrase.Colon ∷ []
-head call kind.Request run subscriber = Number call ∷ Say phrase.Client ∷ Number run ∷ Say phrase.ToBank ∷ []
-head call kind.Reply run subscriber = Number call ∷ Say phrase.BankToClient ∷ Number run ∷ Say phrase.Colon ∷ []
+head call kind.Host run subscriber = callGroup call phrase.FileForMailbox subscriber Nothing
+head call kind.Own run subscriber = callGroup call phrase.Client run (Say phrase.Colon)
+head call kind.Request run subscriber = callGroup call phrase.Client run (Say phrase.ToBank)
+head call kind.Reply run subscriber = callGroup call phrase.BankToClient run (Say phrase.Colon)
 
 abbrev pub lastOf : ℕ → Part
 lastOf mark = cond (eqb mark 1) (Say phrase.Last) Nothing
@@ -77,21 +86,21 @@ lastOf mark = cond (eqb mark 1) (Say phrase.Last) Nothing
 unfoldable pub point : Fields → List Part
 point q =
     cond (eqb (returnCode q) (codeField code.RecoverySync))
-    (Say phrase.RecoveryPoint ∷ Number (segment q) ∷ Nothing ∷ Nothing ∷ [])
-    (Say phrase.Segment ∷ Number (segment q) ∷ Say phrase.Taken ∷ Nothing ∷ [])
+    (group phrase.RecoveryPoint (Number (segment q)) Nothing Nothing)
+    (group phrase.Segment (Number (segment q)) (Say phrase.Taken) Nothing)
 
 -- what a request or a reply says, by its form
 abbrev pub formSaid : Form → Fields → List Part
 formSaid forms.NoForm q = say phrase.NoMessage
-formSaid forms.UploadOpening q = Say phrase.UploadOpening ∷ Number (segments q) ∷ Say phrase.Segments ∷ Nothing ∷ []
+formSaid forms.UploadOpening q = group phrase.UploadOpening (Number (segments q)) (Say phrase.Segments) Nothing
 formSaid forms.DownloadOpening q = say phrase.DownloadOpening
-formSaid forms.UploadTransfer q = Say phrase.UploadSegment ∷ Number (segment q) ∷ lastOf (lastMark q) ∷ Nothing ∷ []
-formSaid forms.DownloadTransfer q = Say phrase.DownloadSegment ∷ Number (segment q) ∷ Nothing ∷ Nothing ∷ []
+formSaid forms.UploadTransfer q = group phrase.UploadSegment (Number (segment q)) (lastOf (lastMark q)) Nothing
+formSaid forms.DownloadTransfer q = group phrase.DownloadSegment (Number (segment q)) Nothing Nothing
 formSaid forms.Receipt q = say phrase.Receipt
-formSaid forms.UploadOpened q = Say phrase.UploadOpened ∷ OrderNumber (orderNumber q) ∷ Nothing ∷ Nothing ∷ []
-formSaid forms.DownloadOpened q = Say phrase.DownloadOpened ∷ Number (segment q) ∷ Say phrase.Of ∷ Number (segments q) ∷ []
+formSaid forms.UploadOpened q = group phrase.UploadOpened (OrderNumber (orderNumber q)) Nothing Nothing
+formSaid forms.DownloadOpened q = group phrase.DownloadOpened (Number (segment q)) (Say phrase.Of) (Number (segments q))
 formSaid forms.SegmentTaken q = point q
-formSaid forms.DownloadSegment q = Say phrase.DownloadSegment ∷ Number (segment q) ∷ lastOf (lastMark q) ∷ Nothing ∷ []
+formSaid forms.DownloadSegment q = group phrase.DownloadSegment (Number (segment q)) (lastOf (lastMark q)) Nothing
 formSaid forms.ReceiptAnswered q = say phrase.ReceiptAnswered
 formSaid forms.Unreadable q = say phrase.Unreadable
 formSaid forms.Refusal q = say phrase.Refusal
@@ -106,7 +115,7 @@ beginSaid direction.Download = say phrase.DownloadBegun
 
 -- the file that a mailbox holds
 unfoldable pub fileSaid : Bank → ℕ → List Part
-fileSaid b subscriber = Say phrase.Comma ∷ Number (fileLength subscriber (b .files)) ∷ Say phrase.Bytes ∷ Nothing ∷ []
+fileSaid b subscriber = group phrase.Comma (Number (fileLength subscriber (b .files))) (Say phrase.Bytes) Nothing
 
 -- what a move says: of a file, of a run, or of a frame
 abbrev pub said : Act → Bank → ℕ → End → Fields → List Part
@@ -125,7 +134,7 @@ abbrev pub codeSaid : Kind → Fields → List Part
 codeSaid kind.Host q = nothing
 codeSaid kind.Own q = nothing
 codeSaid kind.Request q = nothing
-codeSaid kind.Reply q = Say phrase.Comma ∷ Code (returnCode q) ∷ Say phrase.Space ∷ Name (returnCode q) ∷ []
+codeSaid kind.Reply q = group phrase.Comma (Code (returnCode q)) (Say phrase.Space) (Name (returnCode q))
 
 -- whether a message was lost or came late
 abbrev pub arrivalOf : Act → Part
@@ -158,15 +167,15 @@ repeatedOf act repeated = cond repeated (repeatedBy act) Nothing
 abbrev pub exchangeSaid : Kind → Fields → Part → Part → List Part
 exchangeSaid kind.Host q repeated arrival = nothing
 exchangeSaid kind.Own q repeated arrival = nothing
-exchangeSaid kind.Request q repeated arrival = Say phrase.Exchange ∷ Number (exchange q) ∷ repeated ∷ arrival ∷ []
-exchangeSaid kind.Reply q repeated arrival = Say phrase.Exchange ∷ Number (exchange q) ∷ repeated ∷ arrival ∷ []
+exchangeSaid kind.Request q repeated arrival = group phrase.Exchange (Number (exchange q)) repeated arrival
+exchangeSaid kind.Reply q repeated arrival = group phrase.Exchange (Number (exchange q)) repeated arrival
 
 -- what a client's call answers, but for a request, whose line follows
 abbrev pub answerSaid : Answer → ℕ → List Part
 answerSaid (answer.Request n) number = nothing
 answerSaid answer.Ignored number = say phrase.Ignored
-answerSaid (answer.Closed w) number = Say phrase.Closed ∷ Closing w number ∷ Nothing ∷ Nothing ∷ []
-answerSaid (answer.Refused x) number = Say phrase.GivenNumber ∷ Number (refusalNumber x) ∷ Nothing ∷ Nothing ∷ []
+answerSaid (answer.Closed w) number = group phrase.Closed (Closing w number) Nothing Nothing
+answerSaid (answer.Refused x) number = group phrase.GivenNumber (Number (refusalNumber x)) Nothing Nothing
 
 -- what the client's call of a move answers
 abbrev pub answered : Act → End → List Part
@@ -181,7 +190,7 @@ answered ReplyLost e = nothing
 answered NoReply e = answerSaid (e .answer) (e .run .number)
 
 -- what the frame of a move says; no fields where a move has no frame
-abbrev pub fieldsOf : Act → Standing → End → Fields
+abbrev pub fieldsOf : Act → Exercise → End → Fields
 fieldsOf FilePut s e = noFields
 fieldsOf Begin s e = noFields
 fieldsOf RequestArrives s e = readRequest (frameIn (e .request))
@@ -202,7 +211,7 @@ lineWith call m b subscriber e q =
     ++ (groupText (answered (m .0) e) ++ (newline ∷ [])))))
 
 -- the line of a call's move, as the unit stands after it
-unfoldable pub lineOf : ℕ → Move → Standing → List ℕ
+unfoldable pub lineOf : ℕ → Move → Exercise → List ℕ
 lineOf call m s =
     lineWith call m (s .bank) (orderOf (m .1) .1) (endOf s (m .1)) (fieldsOf (m .0) s (endOf s (m .1)))
 

@@ -1,36 +1,35 @@
 // The line of a move: call, who to whom, what the frame says, lost, repeated or late, and what the client answers.
+use bank_openings::openings::file_length;
 use bank_state::state::Bank;
-use bank_step::openings::file_length;
 use client::run::Answer;
 use client::run::Direction;
-use client::run::Refusal;
+use client::run::refusal_number;
+use exercise_play::exercise::End;
+use exercise_play::exercise::Exercise;
+use exercise_play::exercise::Message;
+use exercise_play::exercise::end_of;
 use exercise_play::script::Act;
 use exercise_play::script::Move;
 use exercise_play::script::order_of;
-use exercise_play::standing::End;
-use exercise_play::standing::Message;
-use exercise_play::standing::Standing;
-use exercise_play::standing::end_of;
 use exercise_words::words::PARTS;
 use exercise_words::words::Part;
 use exercise_words::words::Phrase;
 use exercise_words::words::put_group;
-use frame::bytes::front;
-use frame::fields::Fields;
 use frame::reader::read_reply;
 use frame::reader::read_request;
-use frame::table::Form;
+use frame_table::fields::Fields;
+use frame_table::table::Form;
 use message::codes::ReturnCode;
 use message::codes::code_field;
+use octets::bytes::front;
 use text::print::put_byte;
 ghost use mathlib.Core.Path.{_≡_};
 ghost use Prim.Native.Nat.{_≤_};
 ghost use lib.ListN.{length};
 ghost use Rattle.frame.specs.Reader.{readRequest, readReply};
-ghost use Rattle.client.specs.Run.{refusalNumber};
 ghost use Rattle.text.specs.Print.{Put, printed, printedCount};
 ghost use Rattle.exercise_play.specs.Play.{frameIn};
-ghost use Rattle.exercise_lines.specs.Lines.{kindOf, nothing, say, head, lastOf, point};
+ghost use Rattle.exercise_lines.specs.Lines.{kindOf, nothing, group, say, callGroup, head, lastOf, point};
 ghost use Rattle.exercise_lines.specs.Lines.{frameSaid, beginSaid, fileSaid, said, codeSaid, arrivalOf};
 ghost use Rattle.exercise_lines.specs.Lines.{repeatedOf, exchangeSaid, answerSaid, answered, fieldsOf, lineWith, lineOf, lineRoom};
 
@@ -68,35 +67,38 @@ fn nothing() -> [Part; PARTS]
     [n; PARTS]
 }
 
+// A group that begins with a fixed text.
+fn group(p: Phrase, a: Part, b: Part, c: Part) -> [Part; PARTS]
+    ensures { λ r. ⌜ r ≡ group p a b c ⌝ }
+{
+    [Part::Say(p), a, b, c]
+}
+
 fn say(p: Phrase) -> [Part; PARTS]
     ensures { λ r. ⌜ r ≡ say p ⌝ }
 {
     let n = Part::Nothing;
-    let t = Part::Say(p);
-    [t, n, n, n]
+    group(p, n, n, n)
+}
+
+// A group that begins with the call's number: a fixed text, a number and what follows it.
+fn call_group(call: u64, p: Phrase, x: u64, end: Part) -> [Part; PARTS]
+    ensures { λ r. ⌜ r ≡ callGroup call p x end ⌝ }
+{
+    [Part::Number(call), Part::Say(p), Part::Number(x), end]
 }
 
 // Who to whom.
 fn head(call: u64, kind: Kind, run: u64, subscriber: u64) -> [Part; PARTS]
     ensures { λ r. ⌜ r ≡ head call kind run subscriber ⌝ }
 {
-    let c = Part::Number(call);
-    let r = Part::Number(run);
+    let n = Part::Nothing;
+    let colon = Part::Say(Phrase::Colon);
     match kind {
-        Kind::Host => [
-            c,
-            Part::Say(Phrase::FileForMailbox),
-            Part::Number(subscriber),
-            Part::Nothing,
-        ],
-        Kind::Own => [c, Part::Say(Phrase::Client), r, Part::Say(Phrase::Colon)],
-        Kind::Request => [c, Part::Say(Phrase::Client), r, Part::Say(Phrase::ToBank)],
-        Kind::Reply => [
-            c,
-            Part::Say(Phrase::BankToClient),
-            r,
-            Part::Say(Phrase::Colon),
-        ],
+        Kind::Host => call_group(call, Phrase::FileForMailbox, subscriber, n),
+        Kind::Own => call_group(call, Phrase::Client, run, colon),
+        Kind::Request => call_group(call, Phrase::Client, run, Part::Say(Phrase::ToBank)),
+        Kind::Reply => call_group(call, Phrase::BankToClient, run, colon),
     }
 }
 
@@ -113,21 +115,12 @@ fn last_of(mark: u64) -> Part
 fn point(q: Fields) -> [Part; PARTS]
     ensures { λ r. ⌜ r ≡ point q ⌝ }
 {
+    let n = Part::Nothing;
     let k = Part::Number(q.segment());
     if q.return_code() == code_field(ReturnCode::RecoverySync) {
-        return [
-            Part::Say(Phrase::RecoveryPoint),
-            k,
-            Part::Nothing,
-            Part::Nothing,
-        ];
+        return group(Phrase::RecoveryPoint, k, n, n);
     }
-    [
-        Part::Say(Phrase::Segment),
-        k,
-        Part::Say(Phrase::Taken),
-        Part::Nothing,
-    ]
+    group(Phrase::Segment, k, Part::Say(Phrase::Taken), n)
 }
 
 // What a request or a reply says, by its form.
@@ -138,33 +131,33 @@ fn frame_said(q: Fields) -> [Part; PARTS]
     let n = Part::Nothing;
     let segment = Part::Number(q.segment());
     let segments = Part::Number(q.segments());
+    let order = Part::OrderNumber(q.order_number());
     let last = last_of(q.last_mark());
     match form {
         Form::NoForm => say(Phrase::NoMessage),
-        Form::UploadOpening => [
-            Part::Say(Phrase::UploadOpening),
-            segments,
-            Part::Say(Phrase::Segments),
-            n,
-        ],
+        Form::UploadOpening => {
+            group(
+                Phrase::UploadOpening,
+                segments,
+                Part::Say(Phrase::Segments),
+                n,
+            )
+        }
         Form::DownloadOpening => say(Phrase::DownloadOpening),
-        Form::UploadTransfer => [Part::Say(Phrase::UploadSegment), segment, last, n],
-        Form::DownloadTransfer => [Part::Say(Phrase::DownloadSegment), segment, n, n],
+        Form::UploadTransfer => group(Phrase::UploadSegment, segment, last, n),
+        Form::DownloadTransfer => group(Phrase::DownloadSegment, segment, n, n),
         Form::Receipt => say(Phrase::Receipt),
-        Form::UploadOpened => [
-            Part::Say(Phrase::UploadOpened),
-            Part::OrderNumber(q.order_number()),
-            n,
-            n,
-        ],
-        Form::DownloadOpened => [
-            Part::Say(Phrase::DownloadOpened),
-            segment,
-            Part::Say(Phrase::Of),
-            segments,
-        ],
+        Form::UploadOpened => group(Phrase::UploadOpened, order, n, n),
+        Form::DownloadOpened => {
+            group(
+                Phrase::DownloadOpened,
+                segment,
+                Part::Say(Phrase::Of),
+                segments,
+            )
+        }
         Form::SegmentTaken => point(q),
-        Form::DownloadSegment => [Part::Say(Phrase::DownloadSegment), segment, last, n],
+        Form::DownloadSegment => group(Phrase::DownloadSegment, segment, last, n),
         Form::ReceiptAnswered => say(Phrase::ReceiptAnswered),
         Form::Unreadable => say(Phrase::Unreadable),
         Form::Refusal => say(Phrase::Refusal),
@@ -186,12 +179,8 @@ fn file_said(b: Bank, subscriber: u64) -> [Part; PARTS]
     ensures { λ r. ⌜ r ≡ fileSaid b subscriber ⌝ }
 {
     let files = b.files;
-    [
-        Part::Say(Phrase::Comma),
-        Part::Number(file_length(files, subscriber)),
-        Part::Say(Phrase::Bytes),
-        Part::Nothing,
-    ]
+    let size = Part::Number(file_length(files, subscriber));
+    group(Phrase::Comma, size, Part::Say(Phrase::Bytes), Part::Nothing)
 }
 
 // What a move says: of a file, of a run, or of a frame.
@@ -199,17 +188,21 @@ fn said(act: Act, b: Bank, subscriber: u64, e: End, q: Fields) -> [Part; PARTS]
     ensures { λ r. ⌜ r ≡ said act b subscriber e q ⌝ }
 {
     let run = e.run;
+    let file = file_said(b, subscriber);
     let way = run.direction;
+    let begun = begin_said(way);
+    let frame = frame_said(q);
+    let silent = say(Phrase::NoReply);
     match act {
-        Act::FilePut => file_said(b, subscriber),
-        Act::Begin => begin_said(way),
-        Act::RequestArrives => frame_said(q),
-        Act::RequestLost => frame_said(q),
-        Act::RequestCopied => frame_said(q),
-        Act::CopyArrives => frame_said(q),
-        Act::ReplyArrives => frame_said(q),
-        Act::ReplyLost => frame_said(q),
-        Act::NoReply => say(Phrase::NoReply),
+        Act::FilePut => file,
+        Act::Begin => begun,
+        Act::RequestArrives => frame,
+        Act::RequestLost => frame,
+        Act::RequestCopied => frame,
+        Act::CopyArrives => frame,
+        Act::ReplyArrives => frame,
+        Act::ReplyLost => frame,
+        Act::NoReply => silent,
     }
 }
 
@@ -222,12 +215,14 @@ fn code_said(kind: Kind, q: Fields) -> [Part; PARTS]
         Kind::Host => nothing(),
         Kind::Own => nothing(),
         Kind::Request => nothing(),
-        Kind::Reply => [
-            Part::Say(Phrase::Comma),
-            Part::Code(code),
-            Part::Say(Phrase::Space),
-            Part::Name(code),
-        ],
+        Kind::Reply => {
+            group(
+                Phrase::Comma,
+                Part::Code(code),
+                Part::Say(Phrase::Space),
+                Part::Name(code),
+            )
+        }
     }
 }
 
@@ -276,20 +271,8 @@ fn exchange_said(kind: Kind, q: Fields, repeated: Part, arrival: Part) -> [Part;
     match kind {
         Kind::Host => nothing(),
         Kind::Own => nothing(),
-        Kind::Request => [Part::Say(Phrase::Exchange), x, repeated, arrival],
-        Kind::Reply => [Part::Say(Phrase::Exchange), x, repeated, arrival],
-    }
-}
-
-// Document 01's number for a refusal.
-fn refusal_number(x: Refusal) -> u64
-    ensures { λ r. ⌜ r ≡ refusalNumber x ⌝ }
-{
-    match x {
-        Refusal::WrongBuffer => 5,
-        Refusal::ExchangeTooHigh => 6,
-        Refusal::NoSubscriber => 7,
-        Refusal::WrongStage => 8,
+        Kind::Request => group(Phrase::Exchange, x, repeated, arrival),
+        Kind::Reply => group(Phrase::Exchange, x, repeated, arrival),
     }
 }
 
@@ -301,13 +284,8 @@ fn answer_said(answer: Answer, number: u64) -> [Part; PARTS]
     match answer {
         Answer::Request(_) => nothing(),
         Answer::Ignored => say(Phrase::Ignored),
-        Answer::Closed(w) => [Part::Say(Phrase::Closed), Part::Closing(w, number), n, n],
-        Answer::Refused(x) => [
-            Part::Say(Phrase::GivenNumber),
-            Part::Number(refusal_number(x)),
-            n,
-            n,
-        ],
+        Answer::Closed(w) => group(Phrase::Closed, Part::Closing(w, number), n, n),
+        Answer::Refused(x) => { group(Phrase::GivenNumber, Part::Number(refusal_number(x)), n, n) }
     }
 }
 
@@ -315,18 +293,20 @@ fn answer_said(answer: Answer, number: u64) -> [Part; PARTS]
 fn answered(act: Act, e: End) -> [Part; PARTS]
     ensures { λ r. ⌜ r ≡ answered act e ⌝ }
 {
-    let answer = e.answer;
     let run = e.run;
+    let reply = e.answer;
+    let answer = answer_said(reply, run.number);
+    let none = nothing();
     match act {
-        Act::FilePut => nothing(),
-        Act::Begin => answer_said(answer, run.number),
-        Act::RequestArrives => nothing(),
-        Act::RequestLost => nothing(),
-        Act::RequestCopied => nothing(),
-        Act::CopyArrives => nothing(),
-        Act::ReplyArrives => answer_said(answer, run.number),
-        Act::ReplyLost => nothing(),
-        Act::NoReply => answer_said(answer, run.number),
+        Act::FilePut => none,
+        Act::Begin => answer,
+        Act::RequestArrives => none,
+        Act::RequestLost => none,
+        Act::RequestCopied => none,
+        Act::CopyArrives => none,
+        Act::ReplyArrives => answer,
+        Act::ReplyLost => none,
+        Act::NoReply => answer,
     }
 }
 
@@ -345,22 +325,23 @@ fn reply_in(q: Message) -> Fields
 }
 
 // What the frame of a move says; no fields where a move has no frame.
-fn fields_of(act: Act, s: Standing, e: End) -> Fields
+fn fields_of(act: Act, s: Exercise, e: End) -> Fields
     ensures { λ r. ⌜ r ≡ fieldsOf act s e ⌝ }
 {
-    let request = e.request;
-    let copy = s.copy;
-    let reply = s.reply;
+    let none = Fields::none();
+    let request = request_in(e.request);
+    let copy = request_in(s.copy);
+    let reply = reply_in(s.reply);
     match act {
-        Act::FilePut => Fields::none(),
-        Act::Begin => Fields::none(),
-        Act::RequestArrives => request_in(request),
-        Act::RequestLost => request_in(request),
-        Act::RequestCopied => request_in(request),
-        Act::CopyArrives => request_in(copy),
-        Act::ReplyArrives => reply_in(reply),
-        Act::ReplyLost => reply_in(reply),
-        Act::NoReply => Fields::none(),
+        Act::FilePut => none,
+        Act::Begin => none,
+        Act::RequestArrives => request,
+        Act::RequestLost => request,
+        Act::RequestCopied => request,
+        Act::CopyArrives => copy,
+        Act::ReplyArrives => reply,
+        Act::ReplyLost => reply,
+        Act::NoReply => none,
     }
 }
 
@@ -392,7 +373,7 @@ fn put_line(
 }
 
 // The line of a call's move at the front of the output, as the unit stands after it, and its length.
-pub fn line(call: u64, m: Move, s: Standing, output: &mut [u8]) -> usize
+pub fn line(call: u64, m: Move, s: Exercise, output: &mut [u8]) -> usize
     ensures { λ r. ⌜ (now (output .exit) ≡ printed lineRoom (lineOf call m s) (now (output .entry)))
         × (r ≡ printedCount lineRoom (lineOf call m s) (now (output .entry))) ⌝ }
 {

@@ -1,4 +1,4 @@
 -- The definitions of a move played.
 pub mod Script
-pub mod Standing
+pub mod Exercise
 pub mod Play

@@ -11,8 +11,8 @@ use Rattle.bank.specs.Call.{frameCall}
 use Rattle.bank.specs.Mailbox.{fileCall}
 use Rattle.client.specs.declared.run.Answer.{Answer}
 use Rattle.client.specs.declared.run.Answer.the-variants as answer
-use Rattle.client.specs.Calls.{beginCall, replyCall, silenceCall}
-use Rattle.client.specs.Run.{Lent, ClientCall, lentOf}
+use Rattle.client.specs.Calls.{beginCall, replyCall, noReplyCall}
+use Rattle.client.specs.Run.{Lent, ClientCall, lentOf, nonceBytes}
 use Rattle.exercise_play.specs.declared.script.Act.{Act}
 use Rattle.exercise_play.specs.declared.script.Act.the-variants.{
   FilePut,
@@ -25,19 +25,19 @@ use Rattle.exercise_play.specs.declared.script.Act.the-variants.{
   ReplyLost,
   NoReply,
 }
-use Rattle.exercise_play.specs.declared.standing.End.{End}
-use Rattle.exercise_play.specs.declared.standing.Message.{Message}
-use Rattle.exercise_play.specs.declared.standing.Standing.{Standing}
+use Rattle.exercise_play.specs.declared.exercise.End.{End}
+use Rattle.exercise_play.specs.declared.exercise.Message.{Message}
+use Rattle.exercise_play.specs.declared.exercise.Exercise.{Exercise}
 use Rattle.exercise_play.specs.Script.{orderOf}
-use Rattle.exercise_play.specs.Standing.{Scene, sceneOf, endOf, withEnd}
+use Rattle.exercise_play.specs.Exercise.{State, stateOf, endOf, withEnd}
 
 -- the time of every call, so that no transaction is dropped and every timestamp is in time
 abbrev pub callTime : ℕ
 callTime = 1000
 
 -- the 12 bytes that a client lends for its nonces
-abbrev pub nonceBytes : List ℕ
-nonceBytes = replicate 12 0
+abbrev pub lentNonce : List ℕ
+lentNonce = replicate nonceBytes 0
 
 -- the bytes of a run's order, its payload or its statement: a part of the text
 unfoldable pub contentOf : List ℕ → ℕ → List ℕ
@@ -53,11 +53,11 @@ replySize (Reply n) = n
 replySize WrongLength = 0
 
 -- a request arrives at the bank
-unfoldable pub delivered : Message → Scene → Scene
+unfoldable pub delivered : Message → State → State
 delivered q s =
-    let t = s .standing in
+    let t = s .exercise in
     let c = frameCall (world (t .bank) (s .orders) (s .boxes)) callTime (replicate idBytes 0) (frameIn q) (t .reply .bytes) in
-    sceneOf (record {
+    stateOf (record {
       bank = c .world .bank;
       ends = t .ends;
       reply = record { bytes = c .buffer; size = replySize (c .answer) };
@@ -65,15 +65,15 @@ delivered q s =
     }) (c .world .orders) (c .world .boxes)
 
 -- a copy of a request is held back
-abbrev pub heldBack : Message → Standing → Standing
+abbrev pub heldBack : Message → Exercise → Exercise
 heldBack q s = record { bank = s .bank; ends = s .ends; reply = s .reply; copy = q }
 
 -- the host puts the statement of a run into its subscriber's mailbox
-unfoldable pub statementPut : ℕ → List ℕ → Scene → Scene
+unfoldable pub statementPut : ℕ → List ℕ → State → State
 statementPut run text s =
-    let t = s .standing in
+    let t = s .exercise in
     let c = fileCall (t .bank) (orderOf run .1) (contentOf text run) (s .boxes) in
-    sceneOf (record { bank = c .bank; ends = t .ends; reply = t .reply; copy = t .copy }) (s .orders) (c .boxes)
+    stateOf (record { bank = c .bank; ends = t .ends; reply = t .reply; copy = t .copy }) (s .orders) (c .boxes)
 
 -- how long the last request is after a call
 abbrev pub requestSize : Answer → ℕ → ℕ
@@ -94,7 +94,7 @@ afterCall repeated e c = record {
 
 -- what a client end lends to a call
 abbrev pub lentBy : End → ℕ → List ℕ → Lent
-lentBy e run text = lentOf callTime nonceBytes (contentOf text run) (e .file) (e .request .bytes)
+lentBy e run text = lentOf callTime lentNonce (contentOf text run) (e .file) (e .request .bytes)
 
 -- the run begins its order
 unfoldable pub begun : ℕ → List ℕ → End → End
@@ -107,22 +107,22 @@ received run text r e = afterCall false e (replyCall (e .run) (frameIn r) (lentB
 
 -- no reply came: a request that is issued then repeats one
 unfoldable pub unanswered : ℕ → List ℕ → End → End
-unanswered run text e = afterCall true e (silenceCall (e .run) (lentBy e run text))
+unanswered run text e = afterCall true e (noReplyCall (e .run) (lentBy e run text))
 
--- the scene with this end of a client run
-abbrev pub withEndIn : ℕ → End → Scene → Scene
-withEndIn run e s = sceneOf (withEnd run e (s .standing)) (s .orders) (s .boxes)
+-- the state with this end of a client run
+abbrev pub withEndIn : ℕ → End → State → State
+withEndIn run e s = stateOf (withEnd run e (s .exercise)) (s .orders) (s .boxes)
 
 -- a move; a lost message makes no call
-abbrev pub playedBy : Act → ℕ → List ℕ → Scene → Scene
+unfoldable pub playedBy : Act → ℕ → List ℕ → State → State
 playedBy FilePut run text s = statementPut run text s
-playedBy Begin run text s = withEndIn run (begun run text (endOf (s .standing) run)) s
-playedBy RequestArrives run text s = delivered (endOf (s .standing) run .request) s
+playedBy Begin run text s = withEndIn run (begun run text (endOf (s .exercise) run)) s
+playedBy RequestArrives run text s = delivered (endOf (s .exercise) run .request) s
 playedBy RequestLost run text s = s
 playedBy RequestCopied run text s =
-    delivered (endOf (s .standing) run .request)
-    (sceneOf (heldBack (endOf (s .standing) run .request) (s .standing)) (s .orders) (s .boxes))
-playedBy CopyArrives run text s = delivered (s .standing .copy) s
-playedBy ReplyArrives run text s = withEndIn run (received run text (s .standing .reply) (endOf (s .standing) run)) s
+    delivered (endOf (s .exercise) run .request)
+    (stateOf (heldBack (endOf (s .exercise) run .request) (s .exercise)) (s .orders) (s .boxes))
+playedBy CopyArrives run text s = delivered (s .exercise .copy) s
+playedBy ReplyArrives run text s = withEndIn run (received run text (s .exercise .reply) (endOf (s .exercise) run)) s
 playedBy ReplyLost run text s = s
-playedBy NoReply run text s = withEndIn run (unanswered run text (endOf (s .standing) run)) s
+playedBy NoReply run text s = withEndIn run (unanswered run text (endOf (s .exercise) run)) s

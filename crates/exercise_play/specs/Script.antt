@@ -3,8 +3,9 @@ use Prim.Native.Nat.{ℕ, _-_}
 use mathlib.Core.Bool.{cond}
 use mathlib.Core.List.{List, [], _∷_, _++_}
 use lib.Dec.{eqb}
-use lib.ListN.{getD}
+use lib.ListN.{length, getD}
 use Rattle.client.specs.declared.run.Direction.the-variants.{Upload, Download}
+use Rattle.exercise_play.specs.declared.script.Act.{Act}
 use Rattle.exercise_play.specs.declared.script.Act.the-variants.{
   FilePut,
   Begin,
@@ -18,6 +19,24 @@ use Rattle.exercise_play.specs.declared.script.Act.the-variants.{
 }
 use Rattle.exercise_play.specs.declared.script.Move.{Move}
 use Rattle.exercise_play.specs.declared.script.Order.{Order}
+
+-- the acts in the order of their numbers
+abbrev pub acts : List Act
+acts =
+    FilePut
+    ∷ Begin
+    ∷ RequestArrives
+    ∷ RequestLost
+    ∷ RequestCopied
+    ∷ CopyArrives
+    ∷ ReplyArrives
+    ∷ ReplyLost
+    ∷ NoReply
+    ∷ []
+
+-- the act of a number; behind the last the loss of a reply
+unfoldable pub actAt : ℕ → Act
+actAt n = getD acts n ReplyLost
 
 -- the client runs, numbered from 1
 abbrev pub runCount : ℕ
@@ -100,6 +119,9 @@ exerciseB =
     ∷ (RequestArrives, 5)
     ∷ (ReplyArrives, 5)
     ∷ []
+
+abbrev pub moveCount : ℕ
+moveCount = length (exerciseA ++ exerciseB)
 
 -- the place of a client run in a row of runs; behind the row's end where there is no run 0
 abbrev pub indexOf : ℕ → ℕ

@@ -1,35 +1,33 @@
 // A move played on the unit.
+use crate::exercise::End;
+use crate::exercise::Exercise;
+use crate::exercise::Message;
+use crate::exercise::end_of;
+use crate::exercise::with_end;
 use crate::script::Act;
 use crate::script::Move;
 use crate::script::order_of;
-use crate::standing::End;
-use crate::standing::Message;
-use crate::standing::Standing;
-use crate::standing::end_of;
-use crate::standing::with_end;
 use bank::call::FrameAnswer;
 use bank::call::frame_arrives;
 use bank::mailbox::put_file;
 use bank_state::limits::ID_BYTES;
 use bank_state::limits::REPLY_ROOM;
 use client::run::Answer;
+use client::run::NONCE_BYTES;
 use client::run::Outcome;
-use frame::bytes::behind;
-use frame::bytes::front;
 use message::limits::FILE_BYTES;
+use octets::bytes::behind;
+use octets::bytes::front;
 ghost use mathlib.Core.Path.{_≡_};
 ghost use mathlib.Core.List.{List};
 ghost use Prim.Native.Nat.{ℕ};
 ghost use Rattle.client.specs.Run.{callOf};
-ghost use Rattle.exercise_play.specs.Standing.{sceneOf};
+ghost use Rattle.exercise_play.specs.Exercise.{stateOf};
 ghost use Rattle.exercise_play.specs.Play.{contentOf, replySize, delivered, heldBack, statementPut};
 ghost use Rattle.exercise_play.specs.Play.{requestSize, afterCall, begun, received, unanswered, playedBy};
 
 // The time of every call.
 const TIME: u32 = 1000;
-
-// The bytes that a client lends for its nonces.
-const NONCE_BYTES: usize = 12;
 
 // The bytes of a run's order, its payload or its statement, as a part of the text.
 pub fn content_of(text: &[u8], run: usize) -> &[u8]
@@ -50,9 +48,9 @@ fn reply_size(answer: FrameAnswer) -> usize
 }
 
 // A request arrives at the bank.
-fn deliver(s: Standing, q: Message, orders: &mut [u8], boxes: &mut [u8]) -> Standing
-    ensures { λ r. ⌜ sceneOf r (now (orders .exit)) (now (boxes .exit))
-        ≡ delivered q (sceneOf s (now (orders .entry)) (now (boxes .entry))) ⌝ }
+fn deliver(s: Exercise, q: Message, orders: &mut [u8], boxes: &mut [u8]) -> Exercise
+    ensures { λ r. ⌜ stateOf r (now (orders .exit)) (now (boxes .exit))
+        ≡ delivered q (stateOf s (now (orders .entry)) (now (boxes .entry))) ⌝ }
 {
     let ids = [0u8; ID_BYTES];
     let request = q.bytes;
@@ -76,7 +74,7 @@ fn deliver(s: Standing, q: Message, orders: &mut [u8], boxes: &mut [u8]) -> Stan
     let after = o.bank;
     let ends = s.ends;
     let copy = s.copy;
-    Standing {
+    Exercise {
         bank: after,
         ends,
         reply,
@@ -85,7 +83,7 @@ fn deliver(s: Standing, q: Message, orders: &mut [u8], boxes: &mut [u8]) -> Stan
 }
 
 // A copy of a request is held back.
-fn hold_back(s: Standing, q: Message) -> Standing
+fn hold_back(s: Exercise, q: Message) -> Exercise
     ensures { λ r. ⌜ r ≡ heldBack q s ⌝ }
 {
     let mut t = s;
@@ -94,9 +92,9 @@ fn hold_back(s: Standing, q: Message) -> Standing
 }
 
 // The host puts the statement of a client run into its subscriber's mailbox.
-fn put_statement(s: Standing, run: usize, text: &[u8], boxes: &mut [u8]) -> Standing
-    ensures { λ r. ⌜ ((o : List ℕ) → sceneOf r o (now (boxes .exit))
-        ≡ statementPut run (now (text .entry)) (sceneOf s o (now (boxes .entry)))) ⌝ }
+fn put_statement(s: Exercise, run: usize, text: &[u8], boxes: &mut [u8]) -> Exercise
+    ensures { λ r. ⌜ ((o : List ℕ) → stateOf r o (now (boxes .exit))
+        ≡ statementPut run (now (text .entry)) (stateOf s o (now (boxes .entry)))) ⌝ }
 {
     let o = order_of(run);
     let bank = s.bank;
@@ -204,9 +202,9 @@ fn unanswered(e: End, run: usize, text: &[u8]) -> End
 }
 
 // Plays a move; the bytes of the orders are parts of the text. A lost message makes no call.
-pub fn play(s: Standing, m: Move, text: &[u8], orders: &mut [u8], boxes: &mut [u8]) -> Standing
-    ensures { λ r. ⌜ sceneOf r (now (orders .exit)) (now (boxes .exit))
-        ≡ playedBy (m .0) (m .1) (now (text .entry)) (sceneOf s (now (orders .entry)) (now (boxes .entry))) ⌝ }
+pub fn play(s: Exercise, m: Move, text: &[u8], orders: &mut [u8], boxes: &mut [u8]) -> Exercise
+    ensures { λ r. ⌜ stateOf r (now (orders .exit)) (now (boxes .exit))
+        ≡ playedBy (m .0) (m .1) (now (text .entry)) (stateOf s (now (orders .entry)) (now (boxes .entry))) ⌝ }
 {
     let act = m.0;
     let run = m.1;

@@ -1,18 +1,20 @@
 // The parts of a line, and their texts written into a lent output.
 use client::run::Word;
-use frame::bytes::behind;
-use frame::bytes::front;
+use closing_words::closing::put_closing;
 use message::codes::ReturnCode;
 use message::codes::code_field;
+use octets::bytes::behind;
+use octets::bytes::front;
+use text::print::put_code;
 use text::print::put_decimal;
-use text::print::put_digits;
+use text::print::put_order_number;
 use text::print::put_text;
 ghost use mathlib.Core.Path.{_≡_};
 ghost use Prim.Native.Nat.{_+_, _≤_};
 ghost use lib.ListN.{length};
 ghost use Rattle.text.specs.Print.{Put};
-ghost use Rattle.exercise_words.specs.Words.{phraseText, phraseStart, phraseLength, codeName, nameStart, nameLength, findCode, nameOf};
-ghost use Rattle.exercise_words.specs.Words.{closingText, partText, groupText, partRoom, groupRoom};
+ghost use Rattle.exercise_words.specs.Words.{phraseText, phraseTexts, codeName, codeNames, spanText, findCode, nameOf};
+ghost use Rattle.exercise_words.specs.Words.{partText, groupText, partRoom, groupRoom};
 
 // The fixed texts.
 pub enum Phrase {
@@ -62,8 +64,7 @@ pub enum Phrase {
     IsFalse,
 }
 
-// A part of a line: nothing, a fixed text, a number, a return code or its name, an order number, or a closing word with its
-// order number.
+// A part of a line: nothing, a fixed text, a number, a return code or its name, an order number, a closing word with its number.
 pub enum Part {
     Nothing,
     Say(Phrase),
@@ -76,11 +77,6 @@ pub enum Part {
 
 // The parts of a group.
 pub const PARTS: usize = 4;
-
-// The digits of a return code, and the characters of an order number.
-const CODE_DIGITS: usize = 6;
-
-const ORDER_CHARACTERS: usize = 4;
 
 const CODE_COUNT: usize = 18;
 
@@ -105,200 +101,265 @@ const CODES: [ReturnCode; CODE_COUNT] = [
     ReturnCode::MaxTransactionsExceeded,
 ];
 
-// Where the fixed text begins in the row of all of them.
-fn phrase_start(p: Phrase) -> usize
-    ensures { λ r. ⌜ r ≡ phraseStart p ⌝ }
+// A text's place in a row of texts: where it begins, and how many bytes it has.
+struct Span {
+    from: usize,
+    size: usize,
+}
+
+// The fixed texts, one behind the other.
+const PHRASES: [u8; 483] = *b"\
+    \x20host -> bank: file for mailbox \
+    \x20client \
+    \x20bank -> client \
+    \x20-> bank: \
+    : \
+    , \
+    \x20\
+    upload begun\
+    download begun\
+    no reply\
+    upload opening of \
+    \x20segments\
+    download opening\
+    upload segment \
+    download segment \
+    \x20(last)\
+    receipt\
+    upload opened, order \
+    download opened with segment \
+    \x20of \
+    segment \
+    \x20taken\
+    recovery point at segment \
+    receipt answered\
+    unreadable request\
+    refusal\
+    no message\
+    , exchange \
+    , repeated\
+    , lost\
+    , late\
+    , ignored\
+    , closed: \
+    , number \
+    client \
+    , upload: \
+    , download: \
+    open\
+    ; book \
+    ; book nothing\
+    ; mailbox \
+    \x20bytes\
+    ; true\
+    ; false";
+
+// The names of the return codes, one behind the other.
+const NAMES: [u8; 434] = *b"\
+    EBICS_OK\
+    EBICS_DOWNLOAD_POSTPROCESS_DONE\
+    EBICS_DOWNLOAD_POSTPROCESS_SKIPPED\
+    EBICS_TX_SEGMENT_NUMBER_UNDERRUN\
+    EBICS_INVALID_REQUEST\
+    EBICS_INTERNAL_ERROR\
+    EBICS_TX_RECOVERY_SYNC\
+    EBICS_NO_DOWNLOAD_DATA_AVAILABLE\
+    EBICS_USER_UNKNOWN\
+    EBICS_INVALID_ORDER_TYPE\
+    EBICS_SEGMENT_SIZE_EXCEEDED\
+    EBICS_INVALID_XML\
+    EBICS_TX_UNKNOWN_TXID\
+    EBICS_TX_ABORT\
+    EBICS_TX_MESSAGE_REPLAY\
+    EBICS_TX_SEGMENT_NUMBER_EXCEEDED\
+    EBICS_MAX_SEGMENTS_EXCEEDED\
+    EBICS_MAX_TRANSACTIONS_EXCEEDED";
+
+// The place of a fixed text.
+fn phrase_span(p: Phrase) -> Span
+    ensures { λ r. ⌜ (spanText phraseTexts r ≡ phraseText p) × (r .size ≤ partRoom) ⌝ }
 {
     match p {
-        Phrase::FileForMailbox => 0,
-        Phrase::Client => 32,
-        Phrase::BankToClient => 40,
-        Phrase::ToBank => 56,
-        Phrase::Colon => 66,
-        Phrase::Comma => 68,
-        Phrase::Space => 70,
-        Phrase::UploadBegun => 71,
-        Phrase::DownloadBegun => 83,
-        Phrase::NoReply => 97,
-        Phrase::UploadOpening => 105,
-        Phrase::Segments => 123,
-        Phrase::DownloadOpening => 132,
-        Phrase::UploadSegment => 148,
-        Phrase::DownloadSegment => 163,
-        Phrase::Last => 180,
-        Phrase::Receipt => 187,
-        Phrase::UploadOpened => 194,
-        Phrase::DownloadOpened => 215,
-        Phrase::Of => 244,
-        Phrase::Segment => 248,
-        Phrase::Taken => 256,
-        Phrase::RecoveryPoint => 262,
-        Phrase::ReceiptAnswered => 288,
-        Phrase::Unreadable => 304,
-        Phrase::Refusal => 322,
-        Phrase::NoMessage => 329,
-        Phrase::Exchange => 339,
-        Phrase::Repeated => 350,
-        Phrase::Lost => 360,
-        Phrase::Late => 366,
-        Phrase::Ignored => 372,
-        Phrase::Closed => 381,
-        Phrase::GivenNumber => 391,
-        Phrase::RowClient => 400,
-        Phrase::Upload => 407,
-        Phrase::Download => 417,
-        Phrase::Open => 429,
-        Phrase::Book => 433,
-        Phrase::BookNothing => 440,
-        Phrase::Mailbox => 454,
-        Phrase::Bytes => 464,
-        Phrase::IsTrue => 470,
-        Phrase::IsFalse => 476,
+        Phrase::FileForMailbox => Span { from: 0, size: 32 },
+        Phrase::Client => Span { from: 32, size: 8 },
+        Phrase::BankToClient => Span { from: 40, size: 16 },
+        Phrase::ToBank => Span { from: 56, size: 10 },
+        Phrase::Colon => Span { from: 66, size: 2 },
+        Phrase::Comma => Span { from: 68, size: 2 },
+        Phrase::Space => Span { from: 70, size: 1 },
+        Phrase::UploadBegun => Span { from: 71, size: 12 },
+        Phrase::DownloadBegun => Span { from: 83, size: 14 },
+        Phrase::NoReply => Span { from: 97, size: 8 },
+        Phrase::UploadOpening => Span {
+            from: 105,
+            size: 18,
+        },
+        Phrase::Segments => Span { from: 123, size: 9 },
+        Phrase::DownloadOpening => Span {
+            from: 132,
+            size: 16,
+        },
+        Phrase::UploadSegment => Span {
+            from: 148,
+            size: 15,
+        },
+        Phrase::DownloadSegment => Span {
+            from: 163,
+            size: 17,
+        },
+        Phrase::Last => Span { from: 180, size: 7 },
+        Phrase::Receipt => Span { from: 187, size: 7 },
+        Phrase::UploadOpened => Span {
+            from: 194,
+            size: 21,
+        },
+        Phrase::DownloadOpened => Span {
+            from: 215,
+            size: 29,
+        },
+        Phrase::Of => Span { from: 244, size: 4 },
+        Phrase::Segment => Span { from: 248, size: 8 },
+        Phrase::Taken => Span { from: 256, size: 6 },
+        Phrase::RecoveryPoint => Span {
+            from: 262,
+            size: 26,
+        },
+        Phrase::ReceiptAnswered => Span {
+            from: 288,
+            size: 16,
+        },
+        Phrase::Unreadable => Span {
+            from: 304,
+            size: 18,
+        },
+        Phrase::Refusal => Span { from: 322, size: 7 },
+        Phrase::NoMessage => Span {
+            from: 329,
+            size: 10,
+        },
+        Phrase::Exchange => Span {
+            from: 339,
+            size: 11,
+        },
+        Phrase::Repeated => Span {
+            from: 350,
+            size: 10,
+        },
+        Phrase::Lost => Span { from: 360, size: 6 },
+        Phrase::Late => Span { from: 366, size: 6 },
+        Phrase::Ignored => Span { from: 372, size: 9 },
+        Phrase::Closed => Span {
+            from: 381,
+            size: 10,
+        },
+        Phrase::GivenNumber => Span { from: 391, size: 9 },
+        Phrase::RowClient => Span { from: 400, size: 7 },
+        Phrase::Upload => Span {
+            from: 407,
+            size: 10,
+        },
+        Phrase::Download => Span {
+            from: 417,
+            size: 12,
+        },
+        Phrase::Open => Span { from: 429, size: 4 },
+        Phrase::Book => Span { from: 433, size: 7 },
+        Phrase::BookNothing => Span {
+            from: 440,
+            size: 14,
+        },
+        Phrase::Mailbox => Span {
+            from: 454,
+            size: 10,
+        },
+        Phrase::Bytes => Span { from: 464, size: 6 },
+        Phrase::IsTrue => Span { from: 470, size: 6 },
+        Phrase::IsFalse => Span { from: 476, size: 7 },
     }
 }
 
-// How many bytes the fixed text has.
-fn phrase_length(p: Phrase) -> usize
-    ensures { λ r. ⌜ r ≡ phraseLength p ⌝ }
+// The place of the name of a return code.
+fn name_span(code: ReturnCode) -> Span
+    ensures { λ r. ⌜ (spanText codeNames r ≡ codeName code) × (r .size ≤ partRoom) ⌝ }
 {
-    match p {
-        Phrase::FileForMailbox => 32,
-        Phrase::Client => 8,
-        Phrase::BankToClient => 16,
-        Phrase::ToBank => 10,
-        Phrase::Colon => 2,
-        Phrase::Comma => 2,
-        Phrase::Space => 1,
-        Phrase::UploadBegun => 12,
-        Phrase::DownloadBegun => 14,
-        Phrase::NoReply => 8,
-        Phrase::UploadOpening => 18,
-        Phrase::Segments => 9,
-        Phrase::DownloadOpening => 16,
-        Phrase::UploadSegment => 15,
-        Phrase::DownloadSegment => 17,
-        Phrase::Last => 7,
-        Phrase::Receipt => 7,
-        Phrase::UploadOpened => 21,
-        Phrase::DownloadOpened => 29,
-        Phrase::Of => 4,
-        Phrase::Segment => 8,
-        Phrase::Taken => 6,
-        Phrase::RecoveryPoint => 26,
-        Phrase::ReceiptAnswered => 16,
-        Phrase::Unreadable => 18,
-        Phrase::Refusal => 7,
-        Phrase::NoMessage => 10,
-        Phrase::Exchange => 11,
-        Phrase::Repeated => 10,
-        Phrase::Lost => 6,
-        Phrase::Late => 6,
-        Phrase::Ignored => 9,
-        Phrase::Closed => 10,
-        Phrase::GivenNumber => 9,
-        Phrase::RowClient => 7,
-        Phrase::Upload => 10,
-        Phrase::Download => 12,
-        Phrase::Open => 4,
-        Phrase::Book => 7,
-        Phrase::BookNothing => 14,
-        Phrase::Mailbox => 10,
-        Phrase::Bytes => 6,
-        Phrase::IsTrue => 6,
-        Phrase::IsFalse => 7,
+    match code {
+        ReturnCode::Ok => Span { from: 0, size: 8 },
+        ReturnCode::DownloadPostprocessDone => Span { from: 8, size: 31 },
+        ReturnCode::DownloadPostprocessSkipped => Span { from: 39, size: 34 },
+        ReturnCode::SegmentNumberUnderrun => Span { from: 73, size: 32 },
+        ReturnCode::InvalidRequest => Span {
+            from: 105,
+            size: 21,
+        },
+        ReturnCode::InternalError => Span {
+            from: 126,
+            size: 20,
+        },
+        ReturnCode::RecoverySync => Span {
+            from: 146,
+            size: 22,
+        },
+        ReturnCode::NoDownloadDataAvailable => Span {
+            from: 168,
+            size: 32,
+        },
+        ReturnCode::UserUnknown => Span {
+            from: 200,
+            size: 18,
+        },
+        ReturnCode::InvalidOrderType => Span {
+            from: 218,
+            size: 24,
+        },
+        ReturnCode::SegmentSizeExceeded => Span {
+            from: 242,
+            size: 27,
+        },
+        ReturnCode::InvalidXml => Span {
+            from: 269,
+            size: 17,
+        },
+        ReturnCode::UnknownTransaction => Span {
+            from: 286,
+            size: 21,
+        },
+        ReturnCode::TransactionAbort => Span {
+            from: 307,
+            size: 14,
+        },
+        ReturnCode::MessageReplay => Span {
+            from: 321,
+            size: 23,
+        },
+        ReturnCode::SegmentNumberExceeded => Span {
+            from: 344,
+            size: 32,
+        },
+        ReturnCode::MaxSegmentsExceeded => Span {
+            from: 376,
+            size: 27,
+        },
+        ReturnCode::MaxTransactionsExceeded => Span {
+            from: 403,
+            size: 31,
+        },
     }
 }
 
-// Writes a fixed text, a part of the row of all of them.
+// Writes the text at a place in a row of texts.
+fn put_span(output: &mut [u8], at: usize, texts: &[u8], s: Span) -> usize
+    requires { ⌜ (at + partRoom ≤ length (now output)) × (s .size ≤ partRoom) ⌝ }
+    ensures { λ r. ⌜ Put (now (output .entry)) at (spanText (now (texts .entry)) s) (now (output .exit)) r × (r ≤ at + partRoom) ⌝ }
+{
+    put_text(output, at, front(behind(texts, s.from), s.size))
+}
+
+// Writes a fixed text.
 fn put_phrase(output: &mut [u8], at: usize, p: Phrase) -> usize
     requires { ⌜ at + partRoom ≤ length (now output) ⌝ }
-    ensures { λ r. ⌜ Put (now (output .entry)) at (phraseText p) (now (output .exit)) r ⌝ }
+    ensures { λ r. ⌜ Put (now (output .entry)) at (phraseText p) (now (output .exit)) r × (r ≤ at + partRoom) ⌝ }
 {
-    let from = phrase_start(p);
-    let n = phrase_length(p);
-    put_text(
-        output,
-        at,
-        front(
-            behind(
-                b" host -> bank: file for mailbox  client  bank -> client  -> bank: : ,  upload begundownload begunno replyupload opening of  segmentsdownload openingupload segment download segment  (last)receiptupload opened, order download opened with segment  of segment  takenrecovery point at segment receipt answeredunreadable requestrefusalno message, exchange , repeated, lost, late, ignored, closed: , number client , upload: , download: open; book ; book nothing; mailbox  bytes; true; false",
-                from,
-            ),
-            n,
-        ),
-    )
-}
-
-// Where the name of a return code begins in the row of all of them.
-fn name_start(code: ReturnCode) -> usize
-    ensures { λ r. ⌜ r ≡ nameStart code ⌝ }
-{
-    match code {
-        ReturnCode::Ok => 0,
-        ReturnCode::DownloadPostprocessDone => 8,
-        ReturnCode::DownloadPostprocessSkipped => 39,
-        ReturnCode::SegmentNumberUnderrun => 73,
-        ReturnCode::InvalidRequest => 105,
-        ReturnCode::InternalError => 126,
-        ReturnCode::RecoverySync => 146,
-        ReturnCode::NoDownloadDataAvailable => 168,
-        ReturnCode::UserUnknown => 200,
-        ReturnCode::InvalidOrderType => 218,
-        ReturnCode::SegmentSizeExceeded => 242,
-        ReturnCode::InvalidXml => 269,
-        ReturnCode::UnknownTransaction => 286,
-        ReturnCode::TransactionAbort => 307,
-        ReturnCode::MessageReplay => 321,
-        ReturnCode::SegmentNumberExceeded => 344,
-        ReturnCode::MaxSegmentsExceeded => 376,
-        ReturnCode::MaxTransactionsExceeded => 403,
-    }
-}
-
-// How many bytes the name of a return code has.
-fn name_length(code: ReturnCode) -> usize
-    ensures { λ r. ⌜ r ≡ nameLength code ⌝ }
-{
-    match code {
-        ReturnCode::Ok => 8,
-        ReturnCode::DownloadPostprocessDone => 31,
-        ReturnCode::DownloadPostprocessSkipped => 34,
-        ReturnCode::SegmentNumberUnderrun => 32,
-        ReturnCode::InvalidRequest => 21,
-        ReturnCode::InternalError => 20,
-        ReturnCode::RecoverySync => 22,
-        ReturnCode::NoDownloadDataAvailable => 32,
-        ReturnCode::UserUnknown => 18,
-        ReturnCode::InvalidOrderType => 24,
-        ReturnCode::SegmentSizeExceeded => 27,
-        ReturnCode::InvalidXml => 17,
-        ReturnCode::UnknownTransaction => 21,
-        ReturnCode::TransactionAbort => 14,
-        ReturnCode::MessageReplay => 23,
-        ReturnCode::SegmentNumberExceeded => 32,
-        ReturnCode::MaxSegmentsExceeded => 27,
-        ReturnCode::MaxTransactionsExceeded => 31,
-    }
-}
-
-// Writes the name of a return code, a part of the row of all of them.
-fn put_name(output: &mut [u8], at: usize, code: ReturnCode) -> usize
-    requires { ⌜ at + partRoom ≤ length (now output) ⌝ }
-    ensures { λ r. ⌜ Put (now (output .entry)) at (codeName code) (now (output .exit)) r ⌝ }
-{
-    let from = name_start(code);
-    let n = name_length(code);
-    put_text(
-        output,
-        at,
-        front(
-            behind(
-                b"EBICS_OKEBICS_DOWNLOAD_POSTPROCESS_DONEEBICS_DOWNLOAD_POSTPROCESS_SKIPPEDEBICS_TX_SEGMENT_NUMBER_UNDERRUNEBICS_INVALID_REQUESTEBICS_INTERNAL_ERROREBICS_TX_RECOVERY_SYNCEBICS_NO_DOWNLOAD_DATA_AVAILABLEEBICS_USER_UNKNOWNEBICS_INVALID_ORDER_TYPEEBICS_SEGMENT_SIZE_EXCEEDEDEBICS_INVALID_XMLEBICS_TX_UNKNOWN_TXIDEBICS_TX_ABORTEBICS_TX_MESSAGE_REPLAYEBICS_TX_SEGMENT_NUMBER_EXCEEDEDEBICS_MAX_SEGMENTS_EXCEEDEDEBICS_MAX_TRANSACTIONS_EXCEEDED",
-                from,
-            ),
-            n,
-        ),
-    )
+    put_span(output, at, &PHRASES, phrase_span(p))
 }
 
 // The place in the table of the return code with these digits; the table's length where there is none.
@@ -317,48 +378,30 @@ fn find_code(digits: u64) -> usize
 }
 
 // Writes the name of the return code with these digits; nothing where there is none.
-fn put_name_of(output: &mut [u8], at: usize, digits: u64) -> usize
+fn put_name(output: &mut [u8], at: usize, digits: u64) -> usize
     requires { ⌜ at + partRoom ≤ length (now output) ⌝ }
-    ensures { λ r. ⌜ Put (now (output .entry)) at (nameOf digits) (now (output .exit)) r ⌝ }
+    ensures { λ r. ⌜ Put (now (output .entry)) at (nameOf digits) (now (output .exit)) r × (r ≤ at + partRoom) ⌝ }
 {
     let i = find_code(digits);
     if CODE_COUNT <= i {
         return at;
     }
     let code = CODES[i];
-    put_name(output, at, code)
-}
-
-// Writes a closing word, "lodged" with its order number.
-fn put_closing(output: &mut [u8], at: usize, w: Word, number: u64) -> usize
-    requires { ⌜ at + partRoom ≤ length (now output) ⌝ }
-    ensures { λ r. ⌜ Put (now (output .entry)) at (closingText w number) (now (output .exit)) r ⌝ }
-{
-    match w {
-        Word::Lodged => {
-            let a = put_text(output, at, b"lodged ");
-            put_digits(output, a, 256, 0, ORDER_CHARACTERS, number)
-        }
-        Word::NotLodged => put_text(output, at, b"not lodged"),
-        Word::Unclear => put_text(output, at, b"unclear"),
-        Word::Fetched => put_text(output, at, b"fetched"),
-        Word::HeldUnconfirmed => put_text(output, at, b"held, unconfirmed"),
-        Word::NotFetched => put_text(output, at, b"not fetched"),
-    }
+    put_span(output, at, &NAMES, name_span(code))
 }
 
 // Writes a part of a line.
 fn put_part(output: &mut [u8], at: usize, p: Part) -> usize
     requires { ⌜ at + partRoom ≤ length (now output) ⌝ }
-    ensures { λ r. ⌜ Put (now (output .entry)) at (partText p) (now (output .exit)) r ⌝ }
+    ensures { λ r. ⌜ Put (now (output .entry)) at (partText p) (now (output .exit)) r × (r ≤ at + partRoom) ⌝ }
 {
     match p {
         Part::Nothing => at,
         Part::Say(x) => put_phrase(output, at, x),
         Part::Number(x) => put_decimal(output, at, x),
-        Part::Code(x) => put_digits(output, at, 256, 0, CODE_DIGITS, x),
-        Part::Name(x) => put_name_of(output, at, x),
-        Part::OrderNumber(x) => put_digits(output, at, 256, 0, ORDER_CHARACTERS, x),
+        Part::Code(x) => put_code(output, at, x),
+        Part::Name(x) => put_name(output, at, x),
+        Part::OrderNumber(x) => put_order_number(output, at, x),
         Part::Closing(w, x) => put_closing(output, at, w, x),
     }
 }

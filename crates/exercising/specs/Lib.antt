@@ -1,2 +1,3 @@
--- The definitions of the rows.
+-- The definitions of the rows and of the session.
 pub mod Rows
+pub mod Session

@@ -6,14 +6,13 @@ use lib.Dec.{ltb, eqb}
 use lib.ListN.{take}
 use Rattle.bank_state.specs.declared.state.Bank.{Bank}
 use Rattle.bank_state.specs.declared.state.Place.{Place}
-use Rattle.bank_state.specs.declared.state.Use.{Use}
-use Rattle.bank_state.specs.declared.state.Use.the-variants.{Free, Open, Booked}
+use Rattle.bank_state.specs.Search.{isBooked}
 use Rattle.bank_state.specs.Limits.{placeCount}
 use Rattle.bank_state.specs.Rows.{firstOf}
 use Rattle.bank_state.specs.State.{placeAt}
 use Rattle.bank_state.specs.Store.{fileOf}
-use Rattle.bank_step.specs.Openings.{fileLength}
-use Rattle.bank_step.specs.OrderNumbers.{orderNumberOf}
+use Rattle.bank_openings.specs.Openings.{fileLength}
+use Rattle.bank_openings.specs.OrderNumbers.{orderNumberOf}
 use Rattle.client.specs.declared.run.Client.{Client}
 use Rattle.client.specs.declared.run.Direction.{Direction}
 use Rattle.client.specs.declared.run.Direction.the-variants.{Upload, Download}
@@ -23,13 +22,13 @@ use Rattle.client.specs.declared.run.Word.{Word}
 use Rattle.client.specs.declared.run.Word.the-variants.{Lodged, NotLodged, Unclear, Fetched, HeldUnconfirmed, NotFetched}
 use Rattle.text.specs.Print.{newline}
 use Rattle.exercising.specs.declared.rows.Holding.{Holding}
-use Rattle.exercise_play.specs.declared.standing.End.{End}
-use Rattle.exercise_play.specs.declared.standing.Standing.{Standing}
+use Rattle.exercise_play.specs.declared.exercise.End.{End}
+use Rattle.exercise_play.specs.declared.exercise.Exercise.{Exercise}
 use Rattle.exercise_words.specs.declared.words.Part.{Part}
 use Rattle.exercise_words.specs.declared.words.Part.the-variants.{Nothing, Say, Number, OrderNumber, Closing}
 use Rattle.exercise_words.specs.declared.words.Phrase.the-variants as phrase
 use Rattle.exercise_play.specs.Play.{contentOf}
-use Rattle.exercise_play.specs.Standing.{endOf}
+use Rattle.exercise_play.specs.Exercise.{endOf}
 use Rattle.exercise_words.specs.Words.{groupText}
 
 -- two byte rows are the same
@@ -38,11 +37,6 @@ sameBytes [] [] = true
 sameBytes [] (y ∷ b) = false
 sameBytes (x ∷ a) [] = false
 sameBytes (x ∷ a) (y ∷ b) = eqb x y && sameBytes a b
-
-abbrev pub isBooked : Use → Bool
-isBooked Free = false
-isBooked Open = false
-isBooked Booked = true
 
 -- the booked order of this subscriber under this order number
 unfoldable pub isOrder : ℕ → ℕ → Place → Bool
@@ -138,7 +132,7 @@ rowWith run c h =
     groupText (wordSaid run c) ++ (groupText (bankSaid (c .direction) c h) ++ (groupText (truthSaid c h) ++ (newline ∷ [])))
 
 -- the row of a client run
-unfoldable pub rowOf : ℕ → Standing → List ℕ → List ℕ → List ℕ
+unfoldable pub rowOf : ℕ → Exercise → List ℕ → List ℕ → List ℕ
 rowOf run s text orders = rowWith run (endOf s run .run) (bankHas (s .bank) (endOf s run) (contentOf text run) orders)
 
 -- the most bytes that a row takes: three groups and a newline

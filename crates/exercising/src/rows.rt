@@ -1,24 +1,24 @@
 // Exercise C: a client run's closing word beside what the bank has, and whether the word is true of it.
+use bank_openings::openings::file_length;
+use bank_openings::order_numbers::order_number_of;
 use bank_state::limits::PLACES;
+use bank_state::search::is_booked;
 use bank_state::state::Bank;
 use bank_state::state::Place;
-use bank_state::state::Use;
 use bank_state::store::file_of;
-use bank_step::openings::file_length;
-use bank_step::order_numbers::order_number_of;
 use client::run::Client;
 use client::run::Direction;
 use client::run::Stage;
 use client::run::Word;
+use exercise_play::exercise::End;
+use exercise_play::exercise::Exercise;
+use exercise_play::exercise::end_of;
 use exercise_play::play::content_of;
-use exercise_play::standing::End;
-use exercise_play::standing::Standing;
-use exercise_play::standing::end_of;
 use exercise_words::words::PARTS;
 use exercise_words::words::Part;
 use exercise_words::words::Phrase;
 use exercise_words::words::put_group;
-use frame::bytes::front;
+use octets::bytes::front;
 use text::print::put_byte;
 ghost use mathlib.Core.Path.{_≡_};
 ghost use mathlib.Core.Bool.{cond};
@@ -27,7 +27,7 @@ ghost use lib.ListN.{length};
 ghost use Rattle.text.specs.Print.{Put, printed, printedCount};
 ghost use Rattle.exercise_words.specs.declared.words.Part.the-variants.{Nothing, Say};
 ghost use Rattle.exercise_words.specs.declared.words.Phrase.the-variants.{Bytes, IsTrue, IsFalse};
-ghost use Rattle.exercising.specs.Rows.{sameBytes, isBooked, isOrder, findOrder, bookHas};
+ghost use Rattle.exercising.specs.Rows.{sameBytes, isOrder, findOrder, bookHas};
 ghost use Rattle.exercising.specs.Rows.{mailboxHas, bankHas, isTrue, isTrueAt, wordOf};
 ghost use Rattle.exercising.specs.Rows.{wayPart, wordSaid, bookSaid, bankSaid, truthSaid, rowWith, rowOf, rowRoom};
 
@@ -49,16 +49,6 @@ fn same_bytes(a: &[u8], b: &[u8]) -> bool
         i += 1;
     }
     true
-}
-
-fn is_booked(used: Use) -> bool
-    ensures { λ r. ⌜ r ≡ isBooked used ⌝ }
-{
-    match used {
-        Use::Free => false,
-        Use::Open => false,
-        Use::Booked => true,
-    }
 }
 
 // Whether a place holds the booked order of this subscriber under this order number.
@@ -280,7 +270,7 @@ fn put_row(output: &mut [u8], run: u64, c: Client, h: Holding) -> usize
 }
 
 // The row of a client run at the front of the output, and its length.
-pub fn row(run: usize, s: Standing, text: &[u8], orders: &[u8], output: &mut [u8]) -> usize
+pub fn row(run: usize, s: Exercise, text: &[u8], orders: &[u8], output: &mut [u8]) -> usize
     ensures { λ r. ⌜ (now (output .exit) ≡ printed rowRoom (rowOf run s (now (text .entry)) (now (orders .entry))) (now (output .entry)))
         × (r ≡ printedCount rowRoom (rowOf run s (now (text .entry)) (now (orders .entry))) (now (output .entry))) ⌝ }
 {

@@ -10,11 +10,11 @@ use lib.Seq.{getD-set-same, getD-set-other}
 use lib.Arith.{digits-div, digits-mod, digits-lt}
 use borrow.Author.Tests.{eqb-true, eqb-false, ne-eqb, eq-eqb, le-leb, lt-ltb}
 use lib.Dec.{eqb}
-use Rattle.frame.specs.declared.fields.Bits128.{Bits128}
-use Rattle.frame.specs.declared.fields.Fields.{Fields}
+use Rattle.frame_table.specs.declared.fields.Bits128.{Bits128}
+use Rattle.frame_table.specs.declared.fields.Fields.{Fields}
 use Rattle.frame.specs.declared.writer.Written.the-variants.{Length}
-use Rattle.frame.specs.Bytes.{Bytes, number, numberFrom, bytesOf, overwrite}
-use Rattle.frame.specs.Table.{
+use Rattle.octets.specs.Bytes.{Bytes, number, numberFrom, bytesOf, overwrite}
+use Rattle.frame_table.specs.Table.{
   tagCount,
   frameLimit,
   dataTag,
@@ -25,9 +25,10 @@ use Rattle.frame.specs.Table.{
   has,
   isForm,
 }
-use Rattle.frame.specs.Names.{form, withTag, withWide, with}
+use Rattle.frame_table.specs.Names.{form, withTag, withWide, with}
 use Rattle.frame.specs.Row.{listed, wellFormed, highOf, lowOf, dataOf, join}
-use Rattle.frame.specs.Reader.{noFields, parse}
+use Rattle.frame.specs.Reader.{parse}
+use Rattle.frame_table.specs.Names.{noFields}
 use Rattle.frame.specs.Writer.{
   contentOf,
   contentsOf,
@@ -41,9 +42,9 @@ use Rattle.frame.specs.Writer.{
   writeAnswer,
   writeBuffer,
 }
-use Rattle.frame.proofs.Tests.{and-true, every-below, or-true}
-use Rattle.frame.proofs.Numbers.{length-bytesOf, number-bytesOf, number-lt}
-use Rattle.frame.proofs.Tags.{has-withTag, withTag-other}
+use Rattle.octets.proofs.Tests.{and-true, every-below, or-true}
+use Rattle.octets.proofs.Numbers.{length-bytesOf, number-bytesOf, number-lt}
+use Rattle.frame_table.proofs.Tags.{has-withTag, withTag-other}
 use Rattle.frame.proofs.Contents.{width-narrow, well-formed}
 use Rattle.frame.proofs.Loops.{FieldWritable, field-writable, content-number}
 use Rattle.frame.proofs.RoundTrip.{Sized, parsed-says, writable-at}

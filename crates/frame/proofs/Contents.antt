@@ -10,8 +10,8 @@ use lib.ListN.{drop-of-length-le, length, getD, take, drop, length-drop}
 use borrow.Author.Tests.{ltb-true, leb-true, eqb-true, eqb-false, ne-eqb, eq-eqb, not-true}
 use lib.Seq.{drop-cons, length-take-le}
 use lib.Dec.{ltb, leb, eqb}
-use Rattle.frame.specs.Bytes.{fieldBytes}
-use Rattle.frame.specs.Table.{tagCount, frameLimit, dataTag, width, allowed}
+use Rattle.octets.specs.Bytes.{fieldBytes}
+use Rattle.frame_table.specs.Table.{tagCount, frameLimit, dataTag, width, allowed}
 use Rattle.frame.specs.Row.{
   listed,
   wellFormed,
@@ -25,8 +25,8 @@ use Rattle.frame.specs.Row.{
   eachFrom,
   piece,
 }
-use Rattle.frame.proofs.Tests.{and-true, or-true, every-below}
-use Rattle.frame.proofs.Numbers.{length-fieldBytes}
+use Rattle.octets.proofs.Tests.{and-true, or-true, every-below}
+use Rattle.octets.proofs.Numbers.{length-fieldBytes}
 
 -- ---- the fields' table
 

@@ -7,12 +7,12 @@ use native.Mathlib.Omega.{arith}
 use lib.ListN.{length, length-append}
 use borrow.Author.Tests.{eqb-false, leb-true}
 use lib.Dec.{eqb, leb}
-use Rattle.frame.specs.declared.fields.Fields.{Fields}
-use Rattle.frame.specs.declared.table.Form.{Form}
-use Rattle.frame.specs.declared.table.Form.the-variants.{UploadOpening}
-use Rattle.frame.specs.declared.table.FormRow.{FormRow}
-use Rattle.frame.specs.Table.{tagCount, frameLimit, dataTag, width, has, isRequestForm, isForm}
-use Rattle.frame.specs.Names.{phase, form}
+use Rattle.frame_table.specs.declared.fields.Fields.{Fields}
+use Rattle.frame_table.specs.declared.table.Form.{Form}
+use Rattle.frame_table.specs.declared.table.Form.the-variants.{UploadOpening}
+use Rattle.frame_table.specs.declared.table.FormRow.{FormRow}
+use Rattle.frame_table.specs.Table.{tagCount, frameLimit, dataTag, width, has, isRequestForm, isForm}
+use Rattle.frame_table.specs.Names.{phase, form}
 use Rattle.frame.specs.Row.{piece, join}
 use Rattle.frame.specs.Writer.{
   contentOf,
@@ -28,9 +28,9 @@ use Rattle.frame.specs.Writer.{
   replyRoom,
   segmentBytes,
 }
-use Rattle.frame.proofs.Tests.{and-true}
-use Rattle.frame.proofs.Numbers.{length-bytesOf, length-fieldBytes}
-use Rattle.frame.proofs.Forms.{rowsHold, form-found, tagsOf, form-tags}
+use Rattle.octets.proofs.Tests.{and-true}
+use Rattle.octets.proofs.Numbers.{length-bytesOf, length-fieldBytes}
+use Rattle.frame_table.proofs.Forms.{rowsHold, form-found, tagsOf, form-tags}
 use Rattle.frame.proofs.Contents.{well-formed, piece-none, piece-some}
 use Rattle.frame.proofs.Loops.{FieldWritable, field-writable, content-absent, content-number}
 

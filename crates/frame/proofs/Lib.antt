@@ -1,9 +1,5 @@
 -- The laws of the definitions, and the crate's results in Theorems.
-pub mod Tests
-pub mod Numbers
-pub mod Tags
-pub mod Keys
-pub mod Forms
+pub mod Present
 pub mod Contents
 pub mod Loops
 pub mod RoundTrip

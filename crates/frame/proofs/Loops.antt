@@ -7,10 +7,10 @@ use native.Mathlib.Nat.{add-zero, mul-zero}
 use native.Mathlib.Omega.{arith}
 use lib.ListN.{length, getD, take, drop, set, length-set, length-append, replicate}
 use borrow.Author.Tests.{eqb-true, ne-eqb, le-leb, lt-leb}
-use Rattle.frame.specs.declared.fields.Fields.{Fields}
-use Rattle.frame.specs.Bytes.{bytesOf, overwrite}
-use Rattle.frame.specs.Table.{tagCount, frameLimit, dataTag, width, has, isForm}
-use Rattle.frame.specs.Names.{form}
+use Rattle.frame_table.specs.declared.fields.Fields.{Fields}
+use Rattle.octets.specs.Bytes.{bytesOf, overwrite}
+use Rattle.frame_table.specs.Table.{tagCount, frameLimit, dataTag, width, has, isForm}
+use Rattle.frame_table.specs.Names.{form}
 use Rattle.frame.specs.Row.{
   wellFormed,
   fieldSize,
@@ -27,8 +27,8 @@ use Rattle.frame.specs.Row.{
 }
 use Rattle.frame.specs.Reader.{fieldsOf}
 use Rattle.frame.specs.Writer.{contentOf, contentsOf, frameOf, dataWhole, fieldWritable, fieldsWritable, writable}
-use Rattle.frame.proofs.Tests.{and-true}
-use Rattle.frame.proofs.Numbers.{
+use Rattle.octets.proofs.Tests.{and-true}
+use Rattle.octets.proofs.Numbers.{
   overwrite-all,
   overwrite-nil,
   overwrite-set,
@@ -36,7 +36,8 @@ use Rattle.frame.proofs.Numbers.{
   length-overwrite,
   length-bytesOf,
 }
-use Rattle.frame.proofs.Tags.{twice, presentTags-next, present-lt}
+use Rattle.frame_table.proofs.Tags.{twice}
+use Rattle.frame.proofs.Present.{presentTags-next, present-lt}
 use Rattle.frame.proofs.Contents.{
   width-narrow,
   well-formed,

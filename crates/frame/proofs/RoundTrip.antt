@@ -12,10 +12,10 @@ use lib.Seq.{take-append-seam, drop-append-seam, drop-cons, drop-drop, drop-leng
 use lib.Arith.{digits-div, digits-mod}
 use borrow.Author.Tests.{leb-true, eqb-true, eqb-false, eq-eqb, ne-eqb, le-leb}
 use lib.Dec.{leb, eqb}
-use Rattle.frame.specs.declared.fields.Fields.{Fields}
-use Rattle.frame.specs.Bytes.{Bytes, number, bytesOf, fieldBytes}
-use Rattle.frame.specs.Table.{tagCount, frameLimit, dataTag, width, has, rowFits, findForm, formOf, isForm}
-use Rattle.frame.specs.Names.{form}
+use Rattle.frame_table.specs.declared.fields.Fields.{Fields}
+use Rattle.octets.specs.Bytes.{Bytes, number, bytesOf, fieldBytes}
+use Rattle.frame_table.specs.Table.{tagCount, frameLimit, dataTag, width, has, rowFits, findForm, formOf, isForm}
+use Rattle.frame_table.specs.Names.{form}
 use Rattle.frame.specs.Row.{
   wellFormed,
   announced,
@@ -33,12 +33,13 @@ use Rattle.frame.specs.Row.{
   piece,
   join,
 }
-use Rattle.frame.specs.Reader.{noFields, fieldsOf, parse}
+use Rattle.frame.specs.Reader.{fieldsOf, parse}
+use Rattle.frame_table.specs.Names.{noFields}
 use Rattle.frame.specs.Writer.{contentOf, contentsOf, frameOf, dataWhole, fieldWritable, fieldsWritable, writable}
-use Rattle.frame.proofs.Tests.{never, and-true}
-use Rattle.frame.proofs.Numbers.{length-fieldBytes, bytes-drop, bytes-take, bytesOf-number}
-use Rattle.frame.proofs.Tags.{halves, bit-is}
-use Rattle.frame.proofs.Forms.{form-tags-lt}
+use Rattle.octets.proofs.Tests.{never, and-true}
+use Rattle.octets.proofs.Numbers.{length-fieldBytes, bytes-drop, bytes-take, bytesOf-number}
+use Rattle.frame_table.proofs.Tags.{halves, bit-is}
+use Rattle.frame_table.proofs.Forms.{form-tags-lt}
 use Rattle.frame.proofs.Contents.{
   width-narrow,
   well-formed,

@@ -4,14 +4,33 @@ use mathlib.Core.List.{List, [], _∷_}
 use mathlib.Core.Bool.{Bool, true, false, cond}
 use mathlib.Core.Path.{_≡_, refl, sym, _∙_}
 use lib.ListN.{length, replicate}
-use Rattle.frame.specs.declared.fields.Fields.{Fields}
-use Rattle.frame.specs.declared.table.Form.{Form}
-use Rattle.frame.specs.declared.table.Form.the-variants.{NoForm, UploadOpening}
-use Rattle.frame.specs.Bytes.{Bytes, numberFrom, number, bytesOf, fieldBytes}
-use Rattle.frame.specs.Table.{phaseTag, subscriberTag, exchangeTag, segmentsTag, transactionTag, segmentTag, lastMarkTag, dataTag, returnCodeTag, width, inRange, allowed, rowFits, findForm, formOf, isRequestForm, isReplyForm}
-use Rattle.frame.specs.Names.{form, with}
+use Rattle.frame_table.specs.declared.fields.Fields.{Fields}
+use Rattle.frame_table.specs.declared.table.Form.{Form}
+use Rattle.frame_table.specs.declared.table.Form.the-variants.{NoForm, UploadOpening}
+use Rattle.octets.specs.Bytes.{Bytes, numberFrom, number, bytesOf, fieldBytes}
+use Rattle.frame_table.specs.Table.{
+  phaseTag,
+  subscriberTag,
+  exchangeTag,
+  segmentsTag,
+  transactionTag,
+  segmentTag,
+  lastMarkTag,
+  dataTag,
+  returnCodeTag,
+  width,
+  inRange,
+  allowed,
+  rowFits,
+  findForm,
+  formOf,
+  isRequestForm,
+  isReplyForm,
+}
+use Rattle.frame_table.specs.Names.{form, with}
 use Rattle.frame.specs.Row.{listed, wellFormed, dataOf, highOf, lowOf, piece, join}
-use Rattle.frame.specs.Reader.{noFields, parse, readRequest, readReply}
+use Rattle.frame.specs.Reader.{parse, readRequest, readReply}
+use Rattle.frame_table.specs.Names.{noFields}
 use Rattle.frame.specs.Writer.{
   contentOf,
   contentsOf,
@@ -26,8 +45,8 @@ use Rattle.frame.specs.Writer.{
   replyRoom,
   segmentBytes,
 }
-use Rattle.frame.proofs.Tests.{never}
-use Rattle.frame.proofs.Forms.{request-not-reply, reply-not-request, request-form, reply-form}
+use Rattle.octets.proofs.Tests.{never}
+use Rattle.frame_table.proofs.Forms.{request-not-reply, reply-not-request, request-form, reply-form}
 use Rattle.frame.proofs.RoundTrip.{Sized, parse-frameOf, dataOf-frameOf, frameOf-parse, writable-parse}
 use Rattle.frame.proofs.Lengths.{length-frameOf, length-limit, opening-length}
 

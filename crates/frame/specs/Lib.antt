@@ -1,7 +1,4 @@
--- Document 01, "The frame": bytes, tables, fields by name, a frame as a row of contents, reading, writing.
-pub mod Bytes
-pub mod Table
-pub mod Names
+-- Document 01, "The frame": a frame as a row of contents, reading, writing.
 pub mod Row
 pub mod Reader
 pub mod Writer

@@ -2,16 +2,12 @@
 use Prim.Native.Nat.{ℕ}
 use mathlib.Core.List.{List}
 use mathlib.Core.Bool.{cond, _&&_}
-use lib.ListN.{length, replicate}
+use lib.ListN.{length}
 use lib.Dec.{leb, eqb}
-use Rattle.frame.specs.declared.fields.Fields.{Fields}
-use Rattle.frame.specs.Table.{tagCount, frameLimit, isRequestForm, isReplyForm}
-use Rattle.frame.specs.Names.{form}
+use Rattle.frame_table.specs.declared.fields.Fields.{Fields}
+use Rattle.frame_table.specs.Table.{tagCount, frameLimit, isRequestForm, isReplyForm}
+use Rattle.frame_table.specs.Names.{form, noFields}
 use Rattle.frame.specs.Row.{contents, behind, presentTags, highOf, lowOf, eachFrom}
-
--- no fields: the empty set of tags, and every number 0
-abbrev pub noFields : Fields
-noFields = record { tags = 0; high = replicate tagCount 0; low = replicate tagCount 0 }
 
 -- the fields that a row of contents says
 unfoldable pub fieldsOf : List (List ℕ) → Fields

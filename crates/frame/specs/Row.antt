@@ -4,8 +4,8 @@ use mathlib.Core.List.{List, [], _∷_, _++_}
 use mathlib.Core.Bool.{Bool, true, cond, not, _&&_, _||_}
 use lib.ListN.{length, getD, take, drop}
 use lib.Dec.{leb, eqb}
-use Rattle.frame.specs.Bytes.{number, fieldBytes}
-use Rattle.frame.specs.Table.{frameLimit, dataTag, width, allowed}
+use Rattle.octets.specs.Bytes.{number, fieldBytes}
+use Rattle.frame_table.specs.Table.{frameLimit, dataTag, width, allowed}
 
 -- every byte is in the value list of the tag
 unfoldable pub listed : ℕ → List ℕ → Bool

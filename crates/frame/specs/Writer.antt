@@ -4,12 +4,12 @@ use mathlib.Core.List.{List, [], _∷_, _++_}
 use mathlib.Core.Bool.{Bool, true, cond, not, _&&_, _||_}
 use lib.ListN.{length, getD}
 use lib.Dec.{leb, eqb}
-use Rattle.frame.specs.declared.fields.Fields.{Fields}
+use Rattle.frame_table.specs.declared.fields.Fields.{Fields}
 use Rattle.frame.specs.declared.writer.Written.{Written}
 use Rattle.frame.specs.declared.writer.Written.the-variants.{Length, Refused}
-use Rattle.frame.specs.Bytes.{bytesOf, overwrite}
-use Rattle.frame.specs.Table.{frameLimit, tagCount, dataTag, width, has, isForm}
-use Rattle.frame.specs.Names.{form}
+use Rattle.octets.specs.Bytes.{bytesOf, overwrite}
+use Rattle.frame_table.specs.Table.{frameLimit, tagCount, dataTag, width, has, isForm}
+use Rattle.frame_table.specs.Names.{form}
 use Rattle.frame.specs.Row.{wellFormed, highOf, lowOf, piece, join}
 
 -- the content of tag t: the data d, its number, or nothing where the tag is absent

@@ -1,6 +1,3 @@
-// Frames: rows of fields. The tables say which fields and forms there are; reader and writer walk them.
-pub mod bytes;
-pub mod fields;
+// Frames: rows of fields. Reader and writer walk the tables.
 pub mod reader;
-pub mod table;
 pub mod writer;

@@ -1,22 +1,24 @@
 // Reading a frame: tag by tag, each field from where the one before it ended.
-use crate::bytes::inner;
-use crate::bytes::number;
-use crate::bytes::wide;
-use crate::fields::Bits128;
-use crate::fields::Fields;
-use crate::table;
-use crate::table::FRAME_LIMIT;
-use crate::table::TAGS;
-use crate::table::allowed;
-use crate::table::is_reply_form;
-use crate::table::is_request_form;
-use crate::table::width;
+use frame_table::fields::Bits128;
+use frame_table::fields::Fields;
+use frame_table::table;
+use frame_table::table::FRAME_LIMIT;
+use frame_table::table::TAGS;
+use frame_table::table::allowed;
+use frame_table::table::is_reply_form;
+use frame_table::table::is_request_form;
+use frame_table::table::width;
+use octets::bytes::inner;
+use octets::bytes::number;
+use octets::bytes::wide;
 ghost use mathlib.Core.Path.{_≡_};
+ghost use mathlib.Core.Bool.{cond};
 ghost use Prim.Native.Nat.{_*_, _^_, _≤_, _<_};
 ghost use lib.ListN.{length};
-ghost use Rattle.frame.specs.Table.{tagCount, dataTag};
+ghost use Rattle.frame_table.specs.Table.{tagCount, dataTag};
 ghost use Rattle.frame.specs.Row.{listed, wellFormed, fieldSize, behind, dataOf, present, highOf, lowOf};
 ghost use Rattle.frame.specs.Reader.{parse, readRequest, readReply};
+ghost use Rattle.frame_table.specs.Names.{noFields};
 
 // Whether each byte of the content is in the value list of the tag.
 fn listed(tag: usize, content: &[u8]) -> bool
@@ -146,16 +148,19 @@ fn behind(frame: &[u8], end: usize) -> &[u8]
     rest
 }
 
+// The fields where a test on them holds, else no fields.
+fn fields_if(test: bool, fields: Fields) -> Fields
+    ensures { λ r. ⌜ r ≡ cond test fields noFields ⌝ }
+{
+    if test { fields } else { Fields::none() }
+}
+
 // What a request says; no fields where the frame is of no request form.
 pub fn read_request(frame: &[u8]) -> Fields
     ensures { λ r. ⌜ r ≡ readRequest (now (frame .entry)) ⌝ }
 {
     let fields = parse(frame);
-    if is_request_form(fields.form()) {
-        fields
-    } else {
-        Fields::none()
-    }
+    fields_if(is_request_form(fields.form()), fields)
 }
 
 // What a reply says; no fields where the frame is of no reply form.
@@ -163,11 +168,7 @@ pub fn read_reply(frame: &[u8]) -> Fields
     ensures { λ r. ⌜ r ≡ readReply (now (frame .entry)) ⌝ }
 {
     let fields = parse(frame);
-    if is_reply_form(fields.form()) {
-        fields
-    } else {
-        Fields::none()
-    }
+    fields_if(is_reply_form(fields.form()), fields)
 }
 
 // The content of the data field: that part of the frame itself.

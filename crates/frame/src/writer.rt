@@ -1,24 +1,25 @@
 // Writing a frame: all fields are checked before the first byte is written.
-use crate::bytes::digits;
-use crate::bytes::put_field;
-use crate::fields::Fields;
-use crate::fields::has;
 use crate::reader::value;
 use crate::reader::well_formed;
-use crate::table::DATA;
-use crate::table::FRAME_LIMIT;
-use crate::table::Form;
-use crate::table::TAGS;
-use crate::table::is_reply_form;
-use crate::table::is_request_form;
-use crate::table::width;
+use frame_table::fields::Fields;
+use frame_table::fields::has;
+use frame_table::table::DATA;
+use frame_table::table::FRAME_LIMIT;
+use frame_table::table::Form;
+use frame_table::table::TAGS;
+use frame_table::table::is_reply_form;
+use frame_table::table::is_request_form;
+use frame_table::table::width;
+use octets::bytes::digits;
+use octets::bytes::put_field;
 ghost use mathlib.Core.Path.{_≡_};
 ghost use mathlib.Core.Bool.{cond};
 ghost use Prim.Native.Nat.{_+_, _^_, _≤_, _<_};
 ghost use lib.ListN.{length, getD};
-ghost use Rattle.frame.specs.Bytes.{overwrite};
-ghost use Rattle.frame.specs.Table.{tagCount, frameLimit, isForm};
-ghost use Rattle.frame.specs.Writer.{contentOf, numberBytes, pieceOf, frameOf, dataWhole, fieldWritable, fieldsWritable, writeAnswer, writeBuffer, writeNumber, writtenNumber};
+ghost use Rattle.octets.specs.Bytes.{overwrite};
+ghost use Rattle.frame_table.specs.Table.{tagCount, frameLimit, isForm};
+ghost use Rattle.frame.specs.Writer.{contentOf, numberBytes, pieceOf, frameOf, dataWhole, fieldWritable, fieldsWritable, writeAnswer};
+ghost use Rattle.frame.specs.Writer.{writeBuffer, writeNumber, writtenNumber};
 
 // The length of the frame written, or document 01's number 1: nothing written.
 pub enum Written {

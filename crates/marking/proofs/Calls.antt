@@ -1,116 +1,161 @@
--- What marking's loop keeps from call to call. Assumes nothing.
-use Prim.Native.Nat.{ℕ, zero, suc, _+_, _-_, _≤_, _<_}
-use mathlib.Core.Bool.{true, false, _&&_}
-use mathlib.Core.List.{List, [], _++_}
-use mathlib.Core.Path.{_≡_, sym, ap, _∙_}
+-- Laws of the calls of an input: enough calls are all of them, and an input in parts is the input whole. Assumes nothing.
+use Prim.Native.Nat.{ℕ, zero, suc, _+_, _-_, _*_, _≤_, _<_}
+use mathlib.Core.Bool.{Bool, true, false}
+use mathlib.Core.List.{List, [], _++_, append-assoc}
+use mathlib.Core.Path.{_≡_, refl, sym, ap, _∙_}
 use native.Mathlib.Omega.{arith}
 use lib.Dec.{ltb, leb}
-use lib.ListN.{length, drop, length-drop}
-use borrow.Author.Tests.{leb-true, ltb-true}
-use Rattle.frame.proofs.Tests.{and-true}
-use Rattle.bank_state.specs.State.{world}
-use Rattle.marking.specs.declared.mark.Marked.{Marked}
-use Rattle.text.specs.Print.{Put}
-use Rattle.marking.specs.Print.{headBytes, sizeOf, isWhole, lineRoom}
-use Rattle.marking.specs.Marking.{Standing, callsMost, isReady, marked, markedTo, standingOf, Print, printOf, leftAt}
-use Rattle.text.proofs.Texts.{put-length, put-then}
-use Rattle.marking.proofs.Texts.{line-most}
+use lib.ListN.{length, drop, length-append, length-drop}
+use lib.Seq.{take-append-le, drop-append-le}
+use borrow.Author.Tests.{leb-true, ltb-true, lt-ltb, le-leb}
+use Rattle.octets.specs.Bytes.{number}
+use Rattle.octets.proofs.Tests.{and-true}
+use Rattle.marking.specs.Print.{timeBytes, headBytes, timeOf, sizeOf, frameIn, isWhole}
+use Rattle.marking.specs.Marking.{Standing, callsMost, isReady, callOf, called, calledLine, callsTo, linesTo, callsOf}
+use Rattle.marking.specs.Session.{withMore, readOn}
 
 -- a call is ready
-pub record Readied (input : List ℕ) (room calls used written : ℕ) : Type 0 where
-  pub line : written + lineRoom ≤ room
+pub record Readied (calls : ℕ) (rest : List ℕ) : Type 0 where
   pub count : calls < callsMost
-  pub head : headBytes ≤ length (drop used input)
-  pub end : used + (headBytes + sizeOf (drop used input)) ≤ length input
+  pub head : headBytes ≤ length rest
+  pub end : headBytes + sizeOf rest ≤ length rest
 
-pub readied : (input : List ℕ) (room calls used written : ℕ) → isReady input room calls used written ≡ true → Readied input room calls used written
+pub readied : (calls : ℕ) (rest : List ℕ) → isReady calls rest ≡ true → Readied calls rest
 unfolding isReady isWhole
-readied input room calls used written h =
-    let rest = drop used input in
-    let a = and-true (leb (written + lineRoom) room && ltb calls callsMost) (isWhole rest) h in
-    let b = and-true (leb (written + lineRoom) room) (ltb calls callsMost) (a .0) in
+readied calls rest h =
+    let a = and-true (ltb calls callsMost) (isWhole rest) h in
     let w = and-true (leb headBytes (length rest)) (leb (headBytes + sizeOf rest) (length rest)) (a .1) in
-    let k = leb-true headBytes (length rest) (w .0) in
-    let e = leb-true (headBytes + sizeOf rest) (length rest) (w .1) in
     record {
-      line = leb-true (written + lineRoom) room (b .0);
-      count = ltb-true calls callsMost (b .1);
-      head = k;
-      end = omega (arith, k, e, length-drop used input);
+      count = ltb-true calls callsMost (a .0);
+      head = leb-true headBytes (length rest) (w .0);
+      end = leb-true (headBytes + sizeOf rest) (length rest) (w .1);
     }
 
--- a call and its line
-module _ (input : List ℕ) (m : Marked) (orders boxes buffer output : List ℕ) (m′ : Marked) (orders′ boxes′ buffer′ output′ : List ℕ)
-    (e : printOf m′ orders′ boxes′ buffer′ output′ ≡ leftAt (m .written) (marked input (standingOf m orders boxes buffer [])) output) where
-  used-next : m′ .used ≡ m .used + (headBytes + sizeOf (drop (m .used) input))
-  unfolding marked
-  used-next = ap (λ (p : Print). p .used) e
+-- a turn: the call that is ready, or none
+module _ (s : Standing) where
+  abbrev pub ready : Bool
+  ready = isReady (s .calls) (s .rest)
 
-  pub used-less : (room : ℕ) → isReady input room (m .calls) (m .used) (m .written) ≡ true → length input - m′ .used < length input - m .used
-  used-less room h = omega (arith, readied _ _ _ _ _ h .end, used-next)
+  pub calls-turn : (n : ℕ) → ready ≡ true → callsTo (suc n) s ≡ callsTo n (called s)
+  unfolding callsTo
+  calls-turn n e = rw e
 
-module _ (input : List ℕ) (old : List ℕ) (s : Standing) where
-  -- the marking that s ends is at m: left calls may come, and text is written
-  pub record Marking (left : ℕ) (text : List ℕ) (m : Marked) (orders boxes buffer output : List ℕ) : Type 0 where
-    pub enough : length input ≤ left + m .used
-    pub rest : s ≡ markedTo left input (length old) (standingOf m orders boxes buffer text)
-    pub put : Put old 0 text output (m .written)
+  pub lines-turn : (n : ℕ) → ready ≡ true → linesTo (suc n) s ≡ calledLine s ++ linesTo n (called s)
+  unfolding linesTo
+  lines-turn n e = rw e
 
-  module _ (text : List ℕ) (m : Marked) (orders boxes buffer output : List ℕ) where
-    abbrev now : Standing
-    now = standingOf m orders boxes buffer text
+  pub calls-none : (n : ℕ) → ready ≡ false → callsTo n s ≡ s
+  unfolding callsTo
+  calls-none zero e = refl
+  calls-none (suc n) e = rw e
 
-    -- the line of the call
-    abbrev pub line : List ℕ
-    line = marked input (standingOf m orders boxes buffer []) .text
+  pub lines-none : (n : ℕ) → ready ≡ false → linesTo n s ≡ []
+  unfolding linesTo
+  lines-none zero e = refl
+  lines-none (suc n) e = rw e
 
-    line-fits : length line ≤ lineRoom
-    unfolding marked
-    line-fits = line-most _ _ _
+  -- what a call leaves of the input
+  length-called : length (called s .rest) ≡ length (s .rest) - (headBytes + sizeOf (s .rest))
+  unfolding called
+  length-called = length-drop (headBytes + sizeOf (s .rest)) (s .rest)
 
-    module _ (m′ : Marked) (orders′ boxes′ buffer′ output′ : List ℕ)
-        (e : printOf m′ orders′ boxes′ buffer′ output′ ≡ leftAt (m .written) (marked input (standingOf m orders boxes buffer [])) output) where
-      standing : Print → Standing
-      standing p = record { world = p .world; buffer = p .buffer; calls = p .calls; used = p .used; text = text ++ line }
+-- so many calls that no whole record is left
+abbrev pub Enough : ℕ → Standing → Type 0
+Enough n s = length (s .rest) < headBytes * (n + 1)
 
-      after : standingOf m′ orders′ boxes′ buffer′ (text ++ line) ≡ marked input now
-      unfolding marked standing
-      after = ap standing e
+called-enough : (n : ℕ) (s : Standing) → ready s ≡ true → Enough (suc n) s → Enough n (called s)
+called-enough n s e h = omega (arith, readied (s .calls) (s .rest) e .end, length-called s)
 
-      pub marking-next : (left : ℕ) → isReady input (length old) (m .calls) (m .used) (m .written) ≡ true
-          → Marking left text m orders boxes buffer output → (n : ℕ) × Marking n (text ++ line) m′ orders′ boxes′ buffer′ output′
-      unfolding markedTo
-      marking-next zero h k = absurd (omega (arith, k .enough, readied _ _ _ _ _ h .end))
-      marking-next (suc n) h k =
-          let r = readied _ _ _ _ _ h in
-          let z : m .written ≡ length text = omega (arith, k .put .place) in
-          let ready : isReady input (length old) (m .calls) (m .used) (length text) ≡ true = rw (← z) h in (
-            n,
-            record {
-              enough = omega (arith, k .enough, used-next input m orders boxes buffer output m′ orders′ boxes′ buffer′ output′ e);
-              rest = k .rest ∙ rw ready (ap (markedTo n input (length old)) (sym after));
-              put = put-then (k .put) (record {
-                place = ap (λ (p : Print). p .written) e;
-                fits = omega (arith, put-length (k .put), r .line, line-fits, ap (λ (p : Print). p .written) e);
-                bytes = ap (λ (p : Print). p .output) e;
-              });
-            },
-          )
+short : (s : Standing) (t : Bool) → ready s ≡ t → Enough 0 s → ready s ≡ false
+short s true e h = absurd (omega (arith, readied (s .calls) (s .rest) e .head))
+short s false e h = e
 
-    ended : s ≡ now → Put old 0 text output (m .written) → printOf m orders boxes buffer output ≡ leftAt 0 s old
-    ended e p = rw (e, p .place, p .bytes)
+both-turn : (n m : ℕ) (s : Standing) (t : Bool) → ready s ≡ t → (ready s ≡ true → callsTo n (called s) ≡ callsTo m (called s))
+    → callsTo (suc n) s ≡ callsTo (suc m) s
+both-turn n m s true e f = calls-turn s n e ∙ f e ∙ sym (calls-turn s m e)
+both-turn n m s false e f = calls-none s (suc n) e ∙ sym (calls-none s (suc m) e)
 
-    pub marking-end : (left : ℕ) → isReady input (length old) (m .calls) (m .used) (m .written) ≡ false
-        → Marking left text m orders boxes buffer output → printOf m orders boxes buffer output ≡ leftAt 0 s old
-    unfolding markedTo
-    marking-end zero h k = ended (k .rest) (k .put)
-    marking-end (suc n) h k =
-        let z : m .written ≡ length text = omega (arith, k .put .place) in
-        let ready : isReady input (length old) (m .calls) (m .used) (length text) ≡ false = rw (← z) h in
-        ended (k .rest ∙ rw ready) (k .put)
+enough : (n m : ℕ) (s : Standing) → Enough n s → Enough m s → callsTo n s ≡ callsTo m s
+unfolding callsTo
+enough zero m s h k = sym (calls-none s m (short s (ready s) refl h))
+enough (suc n) zero s h k = calls-none s (suc n) (short s (ready s) refl k)
+enough (suc n) (suc m) s h k =
+    both-turn n m s (ready s) refl (λ e. enough n m (called s) (called-enough n s e h) (called-enough m s e k))
 
-  -- the same, whatever is left and written
-  pub record Marks (m : Marked) (orders boxes buffer output : List ℕ) : Type 0 where
-    pub left : ℕ
-    pub text : List ℕ
-    pub at : Marking left text m orders boxes buffer output
+pub calls-all : (n : ℕ) (s : Standing) → Enough n s → callsTo n s ≡ callsOf s
+unfolding callsOf
+calls-all n s h = enough n (length (s .rest)) s h (omega arith)
+
+all-turn : (s : Standing) → ready s ≡ true → callsOf s ≡ callsOf (called s)
+all-turn s e =
+    let n = length (s .rest) in
+    sym (calls-all (suc n) s (omega arith)) ∙ calls-turn s n e
+    ∙ calls-all n (called s) (called-enough n s e (omega arith))
+
+-- a record that is whole is the same record whatever comes behind it
+module _ (rest part : List ℕ) (h : headBytes ≤ length rest) where
+  time-more : timeOf (rest ++ part) ≡ timeOf rest
+  unfolding timeOf
+  time-more = ap number (take-append-le timeBytes rest part (omega arith))
+
+  size-more : sizeOf (rest ++ part) ≡ sizeOf rest
+  unfolding sizeOf
+  size-more =
+      let k : 2 ≤ length (drop timeBytes rest) = simp length-drop (omega arith) in
+      rw (drop-append-le timeBytes rest part (omega arith)) (ap number (take-append-le 2 (drop timeBytes rest) part k))
+
+  frame-more : headBytes + sizeOf rest ≤ length rest → frameIn (rest ++ part) ≡ frameIn rest
+  unfolding frameIn
+  frame-more e =
+      let k : sizeOf rest ≤ length (drop headBytes rest) = simp length-drop (omega arith) in
+      rw (size-more, drop-append-le headBytes rest part h) (take-append-le (sizeOf rest) (drop headBytes rest) part k)
+
+module _ (s : Standing) (part : List ℕ) (e : ready s ≡ true) where
+  r : Readied (s .calls) (s .rest)
+  r = readied (s .calls) (s .rest) e
+
+  ready-more : ready (withMore s part) ≡ true
+  unfolding isReady isWhole
+  ready-more =
+      let n : length (s .rest) ≤ length (s .rest ++ part) = simp length-append (omega arith) in
+      rw (
+        lt-ltb (s .calls) callsMost (r .count),
+        size-more (s .rest) part (r .head),
+        le-leb headBytes (length (s .rest ++ part)) (omega (arith, r .head)),
+        le-leb (headBytes + sizeOf (s .rest)) (length (s .rest ++ part)) (omega (arith, r .end)),
+      )
+
+  called-more : called (withMore s part) ≡ withMore (called s) part
+  unfolding called callOf
+  called-more =
+      rw (
+        time-more (s .rest) part (r .head),
+        size-more (s .rest) part (r .head),
+        frame-more (s .rest) part (r .head) (r .end),
+        drop-append-le (headBytes + sizeOf (s .rest)) (s .rest) part (r .end),
+      )
+
+-- the input goes on behind any number of calls
+module _ (part : List ℕ) where
+  more-turn : (n : ℕ) (s : Standing) (t : Bool) → ready s ≡ t
+      → callsOf (withMore (called s) part) ≡ readOn (callsTo n (called s)) part
+      → callsOf (withMore s part) ≡ readOn (callsTo (suc n) s) part
+  unfolding readOn
+  more-turn n s true e h =
+      all-turn (withMore s part) (ready-more s part e) ∙ ap callsOf (called-more s part e) ∙ h
+      ∙ ap (λ (x : Standing). readOn x part) (sym (calls-turn s n e))
+  more-turn n s false e h = ap (λ (x : Standing). readOn x part) (sym (calls-none s (suc n) e))
+
+  read-more : (n : ℕ) (s : Standing) → callsOf (withMore s part) ≡ readOn (callsTo n s) part
+  unfolding readOn callsTo
+  read-more zero s = refl
+  read-more (suc n) s = more-turn n s (ready s) refl (read-more n (called s))
+
+-- an input in parts is the input whole
+pub read-parts : (s : Standing) (a b : List ℕ) → readOn (readOn s a) b ≡ readOn s (a ++ b)
+unfolding readOn callsOf
+read-parts s a b =
+    let t = withMore s a in
+    let e = append-assoc (s .rest) a b in
+    sym (read-more b (length (t .rest)) t)
+    ∙ ap (λ (l : List ℕ). callsOf (record { world = s .world; buffer = s .buffer; calls = s .calls; rest = l })) e

@@ -7,8 +7,8 @@ use native.Mathlib.Numerals.{add-one}
 use native.Mathlib.Omega.{arith}
 use lib.ListN.{length, getD, take, drop, set, length-take, length-drop}
 use lib.Seq.{paste, paste-suc, drop-paste, getD-drop, getD-take}
-use Rattle.frame.specs.Bytes.{overwrite}
-use Rattle.frame.proofs.Numbers.{overwrite-paste}
+use Rattle.octets.specs.Bytes.{overwrite}
+use Rattle.octets.proofs.Numbers.{overwrite-paste}
 
 module _ (d : List ℕ) (from end : ℕ) (h : end ≤ length d) where
   abbrev pub kept : List ℕ
@@ -23,7 +23,8 @@ module _ (d : List ℕ) (from end : ℕ) (h : end ≤ length d) where
       let e : n + from ≡ from + n = omega arith in
       let z = sym (zero-add n) in
       let p : drop n (paste d 0 kept n) ≡ drop n d =
-      ap (λ (i : ℕ). drop i (paste d 0 kept n)) z ∙ drop-paste d 0 kept n (omega arith) (omega (arith, length-kept)) ∙ ap (λ (i : ℕ). drop i d) (sym z) in
+      ap (λ (i : ℕ). drop i (paste d 0 kept n)) z ∙ drop-paste d 0 kept n (omega arith) (omega (arith, length-kept))
+      ∙ ap (λ (i : ℕ). drop i d) (sym z) in
       ap (λ (i : ℕ). getD (paste d 0 kept n) i 0) (sym e) ∙ sym (getD-drop n (paste d 0 kept n) from 0)
       ∙ ap (λ (l : List ℕ). getD l from 0) p ∙ getD-drop n d from 0 ∙ ap (λ (i : ℕ). getD d i 0) e
 

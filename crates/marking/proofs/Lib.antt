@@ -1,5 +1,6 @@
 -- The laws that several proofs cite.
-pub mod Records
 pub mod Texts
 pub mod Kept
 pub mod Calls
+pub mod Lines
+pub mod Parts

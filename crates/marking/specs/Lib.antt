@@ -1,3 +1,4 @@
 -- The definitions of the marker's print.
 pub mod Print
 pub mod Marking
+pub mod Session

@@ -1,84 +1,92 @@
--- "The marker's print": what marking a part of the input leaves. "the lent ID bytes are 0"
-use Prim.Native.Nat.{ℕ, zero, suc, _+_}
+-- "The marker's print": the calls of the records of an input, one after the other, and their lines. "the lent ID bytes are 0"
+use Prim.Native.Nat.{ℕ, zero, suc, _+_, _/_}
 use mathlib.Core.Bool.{Bool, cond, _&&_}
 use mathlib.Core.List.{List, [], _++_}
-use lib.Dec.{ltb, leb}
+use lib.Dec.{ltb}
 use lib.ListN.{length, drop, replicate}
-use Rattle.frame.specs.Bytes.{overwrite}
+use Rattle.octets.specs.Bytes.{overwrite}
 use Rattle.bank_state.specs.declared.state.Bank.{Bank}
 use Rattle.bank_state.specs.Limits.{idBytes}
 use Rattle.bank_state.specs.State.{World, world}
-use Rattle.bank.specs.Call.{frameCall}
+use Rattle.bank.specs.Call.{FrameCall, frameCall}
 use Rattle.marking.specs.declared.mark.Marked.{Marked}
 use Rattle.marking.specs.Print.{headBytes, timeOf, sizeOf, frameIn, isWhole, lineOf, lineRoom}
 
--- between two calls: the bank and its stores, the reply buffer, the calls so far, the input bytes used, the text printed
+-- between two calls: the bank and its stores, the reply buffer, the calls so far, the input that is left
 pub record Standing : Type 0 where
   pub world : World
   pub buffer : List ℕ
   pub calls : ℕ
-  pub used : ℕ
-  pub text : List ℕ
+  pub rest : List ℕ
+
+abbrev pub standing : Bank → ℕ → List ℕ → List ℕ → List ℕ → List ℕ → Standing
+standing b calls rest orders boxes buffer = record { world = world b orders boxes; buffer = buffer; calls = calls; rest = rest }
 
 -- the calls that a number of 64 bits counts
 abbrev pub callsMost : ℕ
 callsMost = 18446744073709551615
 
--- a whole record stands at the place reached, room bytes of output hold one more line, and one more call can be counted
-unfoldable pub isReady : List ℕ → ℕ → ℕ → ℕ → ℕ → Bool
-isReady input room calls used written = leb (written + lineRoom) room && ltb calls callsMost && isWhole (drop used input)
+-- one more call can be counted, and a whole record stands in the input that is left
+unfoldable pub isReady : ℕ → List ℕ → Bool
+isReady calls rest = ltb calls callsMost && isWhole rest
 
--- one call, and its line
-unfoldable pub marked : List ℕ → Standing → Standing
-marked input s =
-    let rest = drop (s .used) input in
-    let c = frameCall (s .world) (timeOf rest) (replicate idBytes 0) (frameIn rest) (s .buffer) in
-    record {
-      world = c .world;
-      buffer = c .buffer;
-      calls = s .calls + 1;
-      used = s .used + (headBytes + sizeOf rest);
-      text = s .text ++ lineOf (s .calls + 1) (c .answer) (c .buffer);
-    }
+-- the call of the record that comes
+unfoldable pub callOf : Standing → FrameCall
+callOf s = frameCall (s .world) (timeOf (s .rest)) (replicate idBytes 0) (frameIn (s .rest)) (s .buffer)
+
+-- what it leaves
+unfoldable pub called : Standing → Standing
+called s = record {
+  world = callOf s .world;
+  buffer = callOf s .buffer;
+  calls = s .calls + 1;
+  rest = drop (headBytes + sizeOf (s .rest)) (s .rest);
+}
+
+-- and its line
+unfoldable pub calledLine : Standing → List ℕ
+calledLine s = lineOf (s .calls + 1) (callOf s .answer) (callOf s .buffer)
 
 -- at most n calls, while one is ready
-unfoldable pub markedTo : ℕ → List ℕ → ℕ → Standing → Standing
-markedTo zero input room s = s
-markedTo (suc n) input room s =
-    cond (isReady input room (s .calls) (s .used) (length (s .text))) (markedTo n input room (marked input s)) s
+unfoldable pub callsTo : ℕ → Standing → Standing
+callsTo zero s = s
+callsTo (suc n) s = cond (isReady (s .calls) (s .rest)) (callsTo n (called s)) s
 
--- what the code holds between two calls, with the text printed
-abbrev pub standingOf : Marked → List ℕ → List ℕ → List ℕ → List ℕ → Standing
-standingOf m orders boxes buffer text =
-    record { world = world (m .bank) orders boxes; buffer = buffer; calls = m .calls; used = m .used; text = text }
+-- and their lines
+unfoldable pub linesTo : ℕ → Standing → List ℕ
+linesTo zero s = []
+linesTo (suc n) s = cond (isReady (s .calls) (s .rest)) (calledLine s ++ linesTo n (called s)) []
 
--- a part of the input is marked: fewer calls stand in it than bytes
-unfoldable pub markedAll : Bank → ℕ → List ℕ → ℕ → List ℕ → List ℕ → List ℕ → Standing
-markedAll b calls input room orders boxes buffer =
-    markedTo (length input) input room
-    (record { world = world b orders boxes; buffer = buffer; calls = calls; used = 0; text = [] })
+-- the calls of all whole records: fewer stand in the input than bytes
+unfoldable pub callsOf : Standing → Standing
+callsOf s = callsTo (length (s .rest)) s
 
--- what marking leaves: the bank and its stores, the reply buffer, the numbers, and the output
+-- what marking leaves: the standing, the output, and how many bytes are written
 pub record Print : Type 0 where
-  pub world : World
-  pub buffer : List ℕ
-  pub calls : ℕ
-  pub used : ℕ
+  pub standing : Standing
   pub output : List ℕ
   pub written : ℕ
 
-abbrev pub printOf : Marked → List ℕ → List ℕ → List ℕ → List ℕ → Print
-printOf m orders boxes buffer output =
-    record { world = world (m .bank) orders boxes; buffer = buffer; calls = m .calls; used = m .used; output = output; written = m .written }
+-- what the code holds between two calls
+abbrev pub standingOf : Marked → List ℕ → List ℕ → List ℕ → List ℕ → Standing
+standingOf m input orders boxes buffer = standing (m .bank) (m .calls) (drop (m .used) input) orders boxes buffer
 
--- the text written into the output from a place on
-abbrev pub leftAt : ℕ → Standing → List ℕ → Print
-leftAt at s output =
-    record {
-      world = s .world;
-      buffer = s .buffer;
-      calls = s .calls;
-      used = s .used;
-      output = overwrite output at (s .text);
-      written = at + length (s .text);
-    }
+abbrev pub printOf : Marked → List ℕ → List ℕ → List ℕ → List ℕ → List ℕ → Print
+printOf m input orders boxes buffer output =
+    record { standing = standingOf m input orders boxes buffer; output = output; written = m .written }
+
+-- lines written into the output from a place on
+abbrev pub leftAt : ℕ → Standing → List ℕ → List ℕ → Print
+leftAt at s lines output = record { standing = s; output = overwrite output at lines; written = at + length lines }
+
+-- one call is marked
+abbrev pub markedNext : ℕ → Standing → List ℕ → Print
+markedNext at s output = leftAt at (called s) (calledLine s) output
+
+-- the lines that an output of so many bytes has room for
+abbrev pub linesIn : ℕ → ℕ
+linesIn room = room / lineRoom
+
+-- an input is marked, as far as the output has room
+abbrev pub markedAll : Standing → List ℕ → Print
+markedAll s output = leftAt 0 (callsTo (linesIn (length output)) s) (linesTo (linesIn (length output)) s) output

@@ -9,12 +9,14 @@ use crate::record::time_of;
 use bank::call::frame_arrives;
 use bank_state::limits::ID_BYTES;
 use bank_state::state::Bank;
-use frame::bytes::behind;
+use octets::bytes::behind;
 ghost use mathlib.Core.Path.{_≡_};
-ghost use mathlib.Core.Bool.{true};
-ghost use mathlib.Core.List.{[]};
-ghost use lib.ListN.{length};
-ghost use Rattle.marking.specs.Marking.{isReady, marked, markedAll, standingOf, printOf, leftAt};
+ghost use mathlib.Core.Bool.{true, _&&_};
+ghost use Prim.Native.Nat.{_+_, _≤_};
+ghost use lib.Dec.{ltb};
+ghost use lib.ListN.{length, drop};
+ghost use Rattle.marking.specs.Print.{lineRoom};
+ghost use Rattle.marking.specs.Marking.{isReady, standing, standingOf, printOf, markedNext, markedAll};
 
 // The calls that can be counted.
 const CALLS_MOST: u64 = 18446744073709551615;
@@ -27,14 +29,11 @@ pub struct Marked {
     pub written: usize,
 }
 
-// Whether a whole record stands at the place reached, and its line has room.
-fn is_ready(input: &[u8], room: usize, calls: u64, used: usize, written: usize) -> bool
-    ensures { λ r. ⌜ r ≡ isReady (now (input .entry)) room calls used written ⌝ }
+// Whether lines are left, and a whole record stands at the place reached.
+fn is_ready(input: &[u8], left: usize, calls: u64, used: usize) -> bool
+    ensures { λ r. ⌜ r ≡ (ltb 0 left && isReady calls (drop used (now (input .entry)))) ⌝ }
 {
-    if room < LINE_ROOM {
-        return false;
-    }
-    if room - LINE_ROOM < written {
+    if left == 0 {
         return false;
     }
     if CALLS_MOST <= calls {
@@ -52,8 +51,8 @@ fn mark_call(
     boxes: &mut [u8],
     buffer: &mut [u8],
 ) -> Marked
-    requires { ⌜ isReady (now input) (length (now output)) (m .calls) (m .used) (m .written) ≡ true ⌝ }
-    ensures { λ r. ⌜ printOf r (now (orders .exit)) (now (boxes .exit)) (now (buffer .exit)) (now (output .exit)) ≡ leftAt (m .written) (marked (now (input .entry)) (standingOf m (now (orders .entry)) (now (boxes .entry)) (now (buffer .entry)) [])) (now (output .entry)) ⌝ }
+    requires { ⌜ (isReady (m .calls) (drop (m .used) (now input)) ≡ true) × (m .written + lineRoom ≤ length (now output)) ⌝ }
+    ensures { λ r. ⌜ printOf r (now (input .entry)) (now (orders .exit)) (now (boxes .exit)) (now (buffer .exit)) (now (output .exit)) ≡ markedNext (m .written) (standingOf m (now (input .entry)) (now (orders .entry)) (now (boxes .entry)) (now (buffer .entry))) (now (output .entry)) ⌝ }
 {
     let used = m.used;
     let rest = behind(input, used);
@@ -80,7 +79,7 @@ fn mark_call(
     }
 }
 
-// The calls of the whole records of the input, while the output has room for a line.
+// The calls of the whole records of the input, as many as the output has room for lines.
 pub fn mark(
     b: Bank,
     calls: u64,
@@ -90,7 +89,7 @@ pub fn mark(
     boxes: &mut [u8],
     buffer: &mut [u8],
 ) -> Marked
-    ensures { λ r. ⌜ printOf r (now (orders .exit)) (now (boxes .exit)) (now (buffer .exit)) (now (output .exit)) ≡ leftAt 0 (markedAll b calls (now (input .entry)) (length (now (output .entry))) (now (orders .entry)) (now (boxes .entry)) (now (buffer .entry))) (now (output .entry)) ⌝ }
+    ensures { λ r. ⌜ printOf r (now (input .entry)) (now (orders .exit)) (now (boxes .exit)) (now (buffer .exit)) (now (output .exit)) ≡ markedAll (standing b calls (now (input .entry)) (now (orders .entry)) (now (boxes .entry)) (now (buffer .entry))) (now (output .entry)) ⌝ }
 {
     let mut m = Marked {
         bank: b,
@@ -98,8 +97,10 @@ pub fn mark(
         used: 0,
         written: 0,
     };
-    while is_ready(input, output.len(), m.calls, m.used, m.written) {
+    let mut left = output.len() / LINE_ROOM;
+    while is_ready(input, left, m.calls, m.used) {
         m = mark_call(m, input, output, orders, boxes, buffer);
+        left -= 1;
     }
     m
 }

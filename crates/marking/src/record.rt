@@ -1,6 +1,6 @@
 // A record of the input: time, frame length, frame.
-use frame::bytes::front;
-use frame::bytes::number;
+use octets::bytes::front;
+use octets::bytes::number;
 ghost use mathlib.Core.Path.{_≡_};
 ghost use Prim.Native.Nat.{_≤_};
 ghost use lib.ListN.{length};

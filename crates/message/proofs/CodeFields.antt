@@ -6,38 +6,16 @@ use mathlib.Core.Path.{_≡_, refl, sym, ap, _∙_}
 use lib.Dec.{eqb, ltb}
 use lib.ListN.{getD}
 use borrow.Author.Tests.{ltb-true}
-use Rattle.frame.specs.Bytes.{bytesOf}
-use Rattle.frame.specs.Table.{returnCodeTag, allowed, inRange, width}
+use Rattle.octets.specs.Bytes.{bytesOf}
+use Rattle.frame_table.specs.Table.{returnCodeTag, allowed, inRange, width}
 use Rattle.frame.specs.Row.{listed}
-use Rattle.frame.proofs.Tests.{and-true}
+use Rattle.octets.proofs.Tests.{and-true}
 use Rattle.message.specs.declared.codes.ReturnCode.{ReturnCode}
 use Rattle.message.specs.declared.codes.ReturnCode.the-variants as code
-use Rattle.message.specs.Codes.{codeField}
-
-abbrev codes : List ReturnCode
-codes =
-    code.Ok
-    ∷ code.DownloadPostprocessDone
-    ∷ code.DownloadPostprocessSkipped
-    ∷ code.SegmentNumberUnderrun
-    ∷ code.InvalidRequest
-    ∷ code.InternalError
-    ∷ code.RecoverySync
-    ∷ code.NoDownloadDataAvailable
-    ∷ code.UserUnknown
-    ∷ code.InvalidOrderType
-    ∷ code.SegmentSizeExceeded
-    ∷ code.InvalidXml
-    ∷ code.UnknownTransaction
-    ∷ code.TransactionAbort
-    ∷ code.MessageReplay
-    ∷ code.SegmentNumberExceeded
-    ∷ code.MaxSegmentsExceeded
-    ∷ code.MaxTransactionsExceeded
-    ∷ []
+use Rattle.message.specs.Codes.{returnCodes, codeField}
 
 abbrev codeAt : ℕ → ReturnCode
-codeAt i = getD codes i code.Ok
+codeAt i = getD returnCodes i code.Ok
 
 -- the place of the first code of l with this field
 abbrev placeIn : List ReturnCode → ℕ → ℕ
@@ -45,7 +23,7 @@ placeIn [] n = 0
 placeIn (c ∷ l) n = cond (eqb (codeField c) n) 0 (suc (placeIn l n))
 
 abbrev codeOf : ℕ → ReturnCode
-codeOf n = codeAt (placeIn codes n)
+codeOf n = codeAt (placeIn returnCodes n)
 
 codeOf-field : (c : ReturnCode) → codeOf (codeField c) ≡ c
 codeOf-field code.Ok = refl
@@ -82,8 +60,8 @@ all-at p (c ∷ l) zero k h = and-true (p c) (allOf p l) h .0
 all-at p (c ∷ l) (suc i) k h = all-at p l i k (and-true (p c) (allOf p l) h .1)
 
 -- a test computed for all codes holds of each
-every-code : (p : ReturnCode → Bool) → p code.Ok ≡ true → allOf p codes ≡ true → (c : ReturnCode) → p c ≡ true
-every-code p k h c = ap p (sym (codeOf-field c)) ∙ all-at p codes (placeIn codes (codeField c)) k h
+every-code : (p : ReturnCode → Bool) → p code.Ok ≡ true → allOf p returnCodes ≡ true → (c : ReturnCode) → p c ≡ true
+every-code p k h c = ap p (sym (codeOf-field c)) ∙ all-at p returnCodes (placeIn returnCodes (codeField c)) k h
 
 -- six digits, as document 01 lists the bytes of field 0D
 pub code-listed : (c : ReturnCode) → listed returnCodeTag (bytesOf (width returnCodeTag) (codeField c)) ≡ true

@@ -1,3 +1,5 @@
--- The laws of the return codes, and what the writer makes of each message.
+-- The laws of the return codes and of verdicts, and what the writer makes of each message.
 pub mod CodeFields
+pub mod Verdicts
 pub mod Writable
+pub mod SegmentNumbers

@@ -7,12 +7,12 @@ use native.Mathlib.Omega.{arith}
 use lib.ListN.{length, getD}
 use lib.Dec.{eqb, leb, ltb}
 use borrow.Author.Tests.{eqb-true, leb-true, ltb-true, le-leb}
-use Rattle.frame.specs.declared.fields.Bits128.{Bits128}
-use Rattle.frame.specs.declared.fields.Fields.{Fields}
-use Rattle.frame.specs.declared.table.Form.{Form}
-use Rattle.frame.specs.declared.table.Form.the-variants as forms
-use Rattle.frame.specs.Bytes.{Bytes, bytesOf}
-use Rattle.frame.specs.Table.{
+use Rattle.frame_table.specs.declared.fields.Bits128.{Bits128}
+use Rattle.frame_table.specs.declared.fields.Fields.{Fields}
+use Rattle.frame_table.specs.declared.table.Form.{Form}
+use Rattle.frame_table.specs.declared.table.Form.the-variants as forms
+use Rattle.octets.specs.Bytes.{Bytes, bytesOf}
+use Rattle.frame_table.specs.Table.{
   frameLimit,
   tagCount,
   phaseTag,
@@ -39,11 +39,11 @@ use Rattle.frame.specs.Table.{
   formOf,
   isForm,
 }
-use Rattle.frame.specs.Names.{form, with, withWide}
-use Rattle.frame.specs.Reader.{noFields}
+use Rattle.frame_table.specs.Names.{form, with, withWide}
+use Rattle.frame_table.specs.Names.{noFields}
 use Rattle.frame.specs.Row.{listed}
 use Rattle.frame.specs.Writer.{frameOf, lengthFrom, frameLength, fieldWritable, writable}
-use Rattle.frame.proofs.Tests.{and-true}
+use Rattle.octets.proofs.Tests.{and-true}
 use Rattle.frame.proofs.RoundTrip.{Sized}
 use Rattle.frame.proofs.Lengths.{length-frameOf}
 use Rattle.frame.proofs.Build.{

@@ -1,7 +1,31 @@
 -- The return codes of document 01 and the number of field 0D for each.
 use Prim.Native.Nat.{ℕ, zero, suc, _+_, _*_, _/_, _%_}
+use mathlib.Core.List.{List, [], _∷_}
 use Rattle.message.specs.declared.codes.ReturnCode.{ReturnCode}
 use Rattle.message.specs.declared.codes.ReturnCode.the-variants as code
+
+-- all of them, in the order of their numbers
+abbrev pub returnCodes : List ReturnCode
+returnCodes =
+    code.Ok
+    ∷ code.DownloadPostprocessDone
+    ∷ code.DownloadPostprocessSkipped
+    ∷ code.SegmentNumberUnderrun
+    ∷ code.InvalidRequest
+    ∷ code.InternalError
+    ∷ code.RecoverySync
+    ∷ code.NoDownloadDataAvailable
+    ∷ code.UserUnknown
+    ∷ code.InvalidOrderType
+    ∷ code.SegmentSizeExceeded
+    ∷ code.InvalidXml
+    ∷ code.UnknownTransaction
+    ∷ code.TransactionAbort
+    ∷ code.MessageReplay
+    ∷ code.SegmentNumberExceeded
+    ∷ code.MaxSegmentsExceeded
+    ∷ code.MaxTransactionsExceeded
+    ∷ []
 
 -- Document 01's six-digit code, as a decimal number
 abbrev pub codeValue : ReturnCode → ℕ

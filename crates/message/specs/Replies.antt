@@ -1,10 +1,10 @@
 -- The seven reply forms of document 01, each as the fields that it has.
 use Prim.Native.Nat.{ℕ}
-use Rattle.frame.specs.declared.fields.Fields.{Fields}
-use Rattle.frame.specs.declared.fields.Bits128.{Bits128}
-use Rattle.frame.specs.Table.{phaseTag, exchangeTag, segmentsTag, transactionTag, segmentTag, lastMarkTag, dataTag, returnCodeTag, orderNumberTag}
-use Rattle.frame.specs.Reader.{noFields}
-use Rattle.frame.specs.Names.{with, withWide}
+use Rattle.frame_table.specs.declared.fields.Fields.{Fields}
+use Rattle.frame_table.specs.declared.fields.Bits128.{Bits128}
+use Rattle.frame_table.specs.Table.{phaseTag, exchangeTag, segmentsTag, transactionTag, segmentTag, lastMarkTag, dataTag, returnCodeTag, orderNumberTag}
+use Rattle.frame_table.specs.Names.{noFields}
+use Rattle.frame_table.specs.Names.{with, withWide}
 use Rattle.message.specs.declared.codes.ReturnCode.{ReturnCode}
 use Rattle.message.specs.declared.codes.ReturnCode.the-variants as code
 use Rattle.message.specs.Codes.{codeField}

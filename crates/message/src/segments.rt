@@ -1,8 +1,10 @@
 // Files and payloads in segments.
 use crate::limits::SEGMENT_BYTES;
-use frame::bytes::behind_pieces;
-use frame::bytes::front;
+use octets::bytes::behind_pieces;
+use octets::bytes::front;
 ghost use mathlib.Core.Path.{_≡_};
+ghost use Prim.Native.Nat.{_+_};
+ghost use lib.Dec.{eqb};
 ghost use Rattle.message.specs.Segments.{segmentsOf, segmentOf, lastMarkOf};
 
 // The bytes of a segment but the last, as a count of a file's bytes.
@@ -36,4 +38,14 @@ pub fn last_mark_of(s: u64, n: u64) -> u64
         return 1;
     }
     0
+}
+
+// Whether the segment is the one behind the first `count`.
+pub fn is_next(segment: u64, count: u64) -> bool
+    ensures { λ r. ⌜ r ≡ eqb segment (count + 1) ⌝ }
+{
+    if segment == 0 {
+        return false;
+    }
+    segment - 1 == count
 }

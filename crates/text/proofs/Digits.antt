@@ -10,8 +10,21 @@ use lib.Dec.{ltb}
 use lib.ListN.{length, take, drop, set, length-append}
 use lib.Seq.{append-snoc, drop-cons, take-set-le, drop-set-add}
 use borrow.Author.Tests.{lt-ltb, le-ltb}
-use Rattle.frame.specs.Bytes.{overwrite}
-use Rattle.text.specs.Print.{digitsIn, digitsMost, digitCountTo, digitCount, decimal}
+use Rattle.octets.specs.Bytes.{overwrite}
+use Rattle.text.specs.Print.{
+  digitsIn,
+  digitsMost,
+  digitCountTo,
+  digitCount,
+  decimal,
+  orderCharacters,
+  orderNumberText,
+  space,
+  column,
+  columnRoom,
+  orderColumns,
+  orderColumnsRoom,
+}
 
 -- ---- how many digits
 
@@ -53,6 +66,20 @@ length-digitsIn b first (suc w) x =
 pub decimal-most : (x : ℕ) → length (decimal x) ≤ digitsMost
 unfolding decimal
 decimal-most x = omega (arith, length-digitsIn 10 48 (digitCount x) x, digitCount-most x)
+
+pub column-most : (x end : ℕ) → length (column x end) ≤ columnRoom
+unfolding column
+column-most x end = omega (arith, length-append (decimal x) (end ∷ []), decimal-most x)
+
+pub orderColumns-most : (number subscriber : ℕ) → length (orderColumns number subscriber) ≤ orderColumnsRoom
+unfolding orderColumns
+orderColumns-most number subscriber =
+    omega (
+      arith,
+      length-append (orderNumberText number) (space ∷ column subscriber space),
+      length-digitsIn 256 0 orderCharacters number,
+      column-most subscriber space,
+    )
 
 overwrite-last : (d : List ℕ) (at v : ℕ) (xs : List ℕ) → at + length xs < length d
     → overwrite d at (xs ++ (v ∷ [])) ≡ overwrite (set d (at + length xs) v) at xs

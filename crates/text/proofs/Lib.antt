@@ -1,3 +1,4 @@
 -- The laws that several proofs cite.
 pub mod Digits
 pub mod Texts
+pub mod Rows

@@ -5,7 +5,7 @@ use mathlib.Core.Bool.{cond}
 use mathlib.Core.List.{List, [], _∷_, _++_}
 use lib.Dec.{ltb, leb}
 use lib.ListN.{length}
-use Rattle.frame.specs.Bytes.{overwrite}
+use Rattle.octets.specs.Bytes.{overwrite}
 
 -- the last w digits of x in base b, the digit d as the byte first + d
 unfoldable pub digitsIn : ℕ → ℕ → ℕ → ℕ → List ℕ
@@ -28,11 +28,45 @@ digitCount x = digitCountTo 19 x
 unfoldable pub decimal : ℕ → List ℕ
 decimal x = digitsIn 10 48 (digitCount x) x
 
+-- "0D return code, 6 ASCII digits"; "0E order number, 4"
+abbrev pub codeDigits : ℕ
+codeDigits = 6
+
+abbrev pub orderCharacters : ℕ
+orderCharacters = 4
+
+-- a return code's digits and an order number's characters, from the number of the field
+abbrev pub codeText : ℕ → List ℕ
+codeText x = digitsIn 256 0 codeDigits x
+
+abbrev pub orderNumberText : ℕ → List ℕ
+orderNumberText x = digitsIn 256 0 orderCharacters x
+
 abbrev pub space : ℕ
 space = 32
 
 abbrev pub newline : ℕ
 newline = 10
+
+-- a number and the byte behind it: a space, or a newline at the row's end
+unfoldable pub column : ℕ → ℕ → List ℕ
+column x end = decimal x ++ (end ∷ [])
+
+-- the columns "order subscriber" of a booked order, from the number of field 0E
+unfoldable pub orderColumns : ℕ → ℕ → List ℕ
+orderColumns number subscriber = orderNumberText number ++ (space ∷ column subscriber space)
+
+-- the most bytes that a column takes, and those two
+abbrev pub columnRoom : ℕ
+columnRoom = 21
+
+abbrev pub orderColumnsRoom : ℕ
+orderColumnsRoom = 26
+
+-- the first n rows of a table, one behind the other
+unfoldable pub rowsTo : (ℕ → List ℕ) → ℕ → List ℕ
+rowsTo row zero = []
+rowsTo row (suc n) = rowsTo row n ++ row n
 
 -- a text written into the output old from a place on: the output then, and the place behind the text
 pub record Put (old : List ℕ) (at : ℕ) (text new : List ℕ) (behind : ℕ) : Type 0 where

@@ -1,13 +1,20 @@
 // Numbers in digits and texts, written into a lent output from a place on.
-use frame::bytes::copy;
+use octets::bytes::copy;
 ghost use mathlib.Core.Path.{_≡_};
 ghost use mathlib.Core.List.{[], _∷_};
 ghost use Prim.Native.Nat.{_+_, _≤_, _<_};
 ghost use lib.ListN.{length};
 ghost use Rattle.text.specs.Print.{Put, digitsIn, digitsMost, digitCount, decimal};
+ghost use Rattle.text.specs.Print.{codeDigits, orderCharacters, codeText, orderNumberText};
+ghost use Rattle.text.specs.Print.{column, orderColumns, columnRoom, orderColumnsRoom};
 
 // The most decimal digits of a number.
 const DIGITS_MOST: usize = 20;
+
+// The digits of a return code, and the characters of an order number.
+pub const CODE_DIGITS: usize = 6;
+
+pub const ORDER_CHARACTERS: usize = 4;
 
 // How many decimal digits x has.
 pub fn digit_count(x: u64) -> usize
@@ -45,6 +52,22 @@ pub fn put_decimal(output: &mut [u8], at: usize, x: u64) -> usize
     put_digits(output, at, 10, 48, digit_count(x), x)
 }
 
+// Writes the digits of a return code, given as the number of field 0D.
+pub fn put_code(output: &mut [u8], at: usize, code: u64) -> usize
+    requires { ⌜ at + codeDigits ≤ length (now output) ⌝ }
+    ensures { λ r. ⌜ Put (now (output .entry)) at (codeText code) (now (output .exit)) r ⌝ }
+{
+    put_digits(output, at, 256, 0, CODE_DIGITS, code)
+}
+
+// Writes the characters of an order number, given as the number of field 0E.
+pub fn put_order_number(output: &mut [u8], at: usize, number: u64) -> usize
+    requires { ⌜ at + orderCharacters ≤ length (now output) ⌝ }
+    ensures { λ r. ⌜ Put (now (output .entry)) at (orderNumberText number) (now (output .exit)) r ⌝ }
+{
+    put_digits(output, at, 256, 0, ORDER_CHARACTERS, number)
+}
+
 // Writes one byte.
 pub fn put_byte(output: &mut [u8], at: usize, b: u8) -> usize
     requires { ⌜ at < length (now output) ⌝ }
@@ -52,6 +75,25 @@ pub fn put_byte(output: &mut [u8], at: usize, b: u8) -> usize
 {
     output[at] = b;
     at + 1
+}
+
+// Writes a number and the byte behind it.
+pub fn put_column(output: &mut [u8], at: usize, x: u64, end: u8) -> usize
+    requires { ⌜ at + columnRoom ≤ length (now output) ⌝ }
+    ensures { λ r. ⌜ Put (now (output .entry)) at (column x end) (now (output .exit)) r ⌝ }
+{
+    let a = put_decimal(output, at, x);
+    put_byte(output, a, end)
+}
+
+// Writes the order number, given as the number of field 0E, and the subscriber of a booked order.
+pub fn put_order_columns(output: &mut [u8], at: usize, number: u64, subscriber: u64) -> usize
+    requires { ⌜ at + orderColumnsRoom ≤ length (now output) ⌝ }
+    ensures { λ r. ⌜ Put (now (output .entry)) at (orderColumns number subscriber) (now (output .exit)) r ⌝ }
+{
+    let a = put_order_number(output, at, number);
+    let b = put_byte(output, a, b' ');
+    put_column(output, b, subscriber, b' ')
 }
 
 // Writes a text.

@@ -1,5 +1,5 @@
 -- `lent_right` meets its contract. Assumes nothing.
-use Rattle.frame.proofs.Tests.{tests}
+use Rattle.octets.proofs.Tests.{tests}
 use Rattle.bank.proofs.call.lent_right.Statement.{statement}
 use Rattle.bank.proofs.call.lent_right.Tie as tie
 

@@ -2,8 +2,8 @@
 use mathlib.Core.Path.{_≡_, sym, _∙_}
 use mathlib.Core.Bool.{true}
 use borrow.Author.Tests.{not-true, not-false}
-use Rattle.frame.specs.Names.{form}
-use Rattle.frame.specs.Table.{isRequestForm}
+use Rattle.frame_table.specs.Names.{form}
+use Rattle.frame_table.specs.Table.{isRequestForm}
 use Rattle.bank.specs.Call.{respond}
 use Rattle.bank.proofs.Accepted.{request-known}
 use borrow.Author.Needs.{needs}

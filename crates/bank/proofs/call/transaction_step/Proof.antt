@@ -1,7 +1,7 @@
 -- `transaction_step` meets its contract. Assumes nothing.
 use mathlib.Core.Path.{_≡_, _∙_}
 use borrow.Author.Tests.{lt-ltb, le-ltb}
-use Rattle.frame.specs.Names.{subscriber, transaction}
+use Rattle.frame_table.specs.Names.{subscriber, transaction}
 use Rattle.bank_state.specs.Limits.{placeCount}
 use Rattle.bank_state.specs.Search.{findUpload, findDownload}
 use Rattle.bank.specs.Call.{transactionStep}

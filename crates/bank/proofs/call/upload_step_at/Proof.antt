@@ -6,7 +6,7 @@ use lib.ListN.{length}
 use Rattle.message.specs.Limits.{fileBytes}
 use Rattle.bank_state.specs.Store.{withPart}
 use Rattle.bank_state.proofs.Stores.{part-back, part-lent}
-use Rattle.bank_step.specs.Uploads.{uploadStep}
+use Rattle.bank_uploads.specs.Uploads.{uploadStep}
 use Rattle.bank.specs.Call.{uploadStepAt}
 use borrow.Author.Needs.{needs}
 use Rattle.bank.proofs.call.upload_step_at.Statement.{statement}

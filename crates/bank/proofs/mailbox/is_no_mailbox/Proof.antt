@@ -1,5 +1,5 @@
 -- `is_no_mailbox` meets its contract. Assumes nothing.
-use Rattle.frame.proofs.Tests.{tests}
+use Rattle.octets.proofs.Tests.{tests}
 use Rattle.bank.proofs.mailbox.is_no_mailbox.Statement.{statement}
 use Rattle.bank.proofs.mailbox.is_no_mailbox.Tie as tie
 

@@ -1,5 +1,5 @@
 -- `is_wrong_file` meets its contract. Assumes nothing.
-use Rattle.frame.proofs.Tests.{tests}
+use Rattle.octets.proofs.Tests.{tests}
 use Rattle.bank.proofs.mailbox.is_wrong_file.Statement.{statement}
 use Rattle.bank.proofs.mailbox.is_wrong_file.Tie as tie
 

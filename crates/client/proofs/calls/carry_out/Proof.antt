@@ -1,16 +1,17 @@
--- `carry_out` meets its contract: what a deed needs, its cause gives. Assumes nothing.
+-- `carry_out` meets its contract: what a decision needs, its cause gives. Assumes nothing.
 use Prim.Native.Nat.{_^_, _<_}
 use mathlib.Core.Path.{_≡_, refl, subst}
 use native.Mathlib.Omega.{arith}
 use lib.ListN.{length}
-use Rattle.client.specs.declared.run.Deed.{Deed}
+use Rattle.client.specs.declared.run.Decision.{Decision}
 use Rattle.client.proofs.Causes.{Cause, cause}
 use Rattle.client.proofs.Feasible.{opened-takes, advance-takes, return-fits, return-left, repeat-fits}
 use borrow.Author.Needs.{needs}
 use Rattle.client.proofs.calls.carry_out.Statement.{statement}
 use Rattle.client.proofs.calls.carry_out.Tie as tie
 
-cause-of : (s : tie.Start) {deed : Deed} → s .args .deed ≡ deed → Cause (s .args .c) (s .args .r) (length (s .args .d .now)) deed
+cause-of : (s : tie.Start) {decision : Decision} → s .args .decision ≡ decision
+    → Cause (s .args .c) (s .args .r) (length (s .args .d .now)) decision
 cause-of s e =
     let led = cause (s .args .c) (s .args .r) (length (s .args .d .now)) (s .pre .0) in
     subst (Cause (s .args .c) (s .args .r) (length (s .args .d .now))) e led
@@ -46,19 +47,19 @@ take-segment-requires-2 c κs =
     let led = cause-of s (c .before .before .enum-told3 .given .1) in
     advance-takes (a .c) (a .r) (length (a .d .now)) (length (a .file .now)) (s .pre .1) (s .pre .2) (segments-fit s) led
 
-enum-known-deed : tie.Need-enum-known-deed
-enum-known-deed c = search needs
+enum-known-decision : tie.Need-enum-known-decision
+enum-known-decision c = search needs
 
 add-go-on : tie.Need-add-go-on
 add-go-on c =
     let s = c .before .before .before .before .before .before .before .before in
-    let led = cause-of s (c .before .before .deed .given .1) in
+    let led = cause-of s (c .before .before .decision .given .1) in
     omega (arith, return-left (s .args .c) (s .args .r) (length (s .args .d .now)) _ led)
 
 go-on-requires : tie.Need-go-on-requires
 go-on-requires c κs =
     let s = c .before .before .before .before .before .before .before .before in
-    let led = cause-of s (c .before .before .deed .given .1) in
+    let led = cause-of s (c .before .before .decision .given .1) in
     (return-fits (s .args .c) (s .args .r) (length (s .args .d .now)) _ (segments-fit s) led, s .pre .1)
 
 issue-requires : tie.Need-issue-requires
@@ -76,8 +77,8 @@ repeated-requires c κs =
 issue-requires-2 : tie.Need-issue-requires-2
 issue-requires-2 c κs = tt
 
-enum-known-deed-2 : tie.Need-enum-known-deed-2
-enum-known-deed-2 c = search needs
+enum-known-decision-2 : tie.Need-enum-known-decision-2
+enum-known-decision-2 c = search needs
 
 close-requires : tie.Need-close-requires
 close-requires c κs = tt
@@ -115,7 +116,7 @@ returns-4 : tie.Need-returns-4
 returns-4 c =
     let i = c .before .before in
     let k = i .before .before in
-    rw (k .before .before .before .deed .given .1, ← k .go-on .ensures) (i .issue .ensures _)
+    rw (k .before .before .before .decision .given .1, ← k .go-on .ensures) (i .issue .ensures _)
 
 same-length-6 : tie.Need-same-length-6
 same-length-6 c = search needs
@@ -127,7 +128,7 @@ returns-5 c =
     rw (k .before .enum-told4 .given .1, ← k .repeated .ensures) (i .issue2 .ensures _)
 
 returns-6 : tie.Need-returns-6
-returns-6 c = rw (c .before .before .deed2 .given .1, c .close .ensures)
+returns-6 c = rw (c .before .before .decision2 .given .1, c .close .ensures)
 
 pub carry-out-spec : {M : Type 1} → statement M
 carry-out-spec =
@@ -139,14 +140,14 @@ carry-out-spec =
     take-segment-requires
     enum-told-3
     take-segment-requires-2
-    enum-known-deed
+    enum-known-decision
     add-go-on
     go-on-requires
     issue-requires
     enum-told-4
     repeated-requires
     issue-requires-2
-    enum-known-deed-2
+    enum-known-decision-2
     close-requires
     returns
     same-length

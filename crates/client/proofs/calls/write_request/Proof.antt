@@ -18,7 +18,8 @@ same-length c = search needs
 returns : tie.Need-returns
 returns c =
     let w = c .before .before in
-    simp (← w .before .before .before .request-of .ensures, ← w .before .before .data-of .ensures) (w .write .ensures .0, w .write .ensures .1)
+    simp (← w .before .before .before .request-of .ensures, ← w .before .before .data-of .ensures)
+    (w .write .ensures .0, w .write .ensures .1)
 
 pub write-request-spec : {M : Type 1} → statement M
 write-request-spec =

@@ -1,7 +1,7 @@
 -- `is_own` meets its contract. Assumes nothing.
 use mathlib.Core.Path.{ap, _∙_}
-use Rattle.frame.specs.declared.fields.Bits128.{Bits128}
-use Rattle.frame.specs.Names.{sameBits}
+use Rattle.frame_table.specs.declared.fields.Bits128.{Bits128}
+use Rattle.frame_table.specs.Names.{sameBits}
 use Rattle.client.specs.Decisions.{isOwn}
 use Rattle.client.proofs.decisions.is_own.Statement.{statement}
 use Rattle.client.proofs.decisions.is_own.Tie as tie

@@ -1,5 +1,5 @@
 -- `may_repeat` meets its contract. Assumes nothing.
-use Rattle.frame.proofs.Tests.{tests}
+use Rattle.octets.proofs.Tests.{tests}
 use Rattle.client.specs.Decisions.{mayRepeat}
 use Rattle.client.proofs.decisions.may_repeat.Statement.{statement}
 use Rattle.client.proofs.decisions.may_repeat.Tie as tie

@@ -1,5 +1,5 @@
 -- `point_phase` meets its contract. Assumes nothing.
-use Rattle.frame.proofs.Tests.{tests}
+use Rattle.octets.proofs.Tests.{tests}
 use Rattle.client.proofs.decisions.point_phase.Statement.{statement}
 use Rattle.client.proofs.decisions.point_phase.Tie as tie
 

@@ -1,5 +1,5 @@
 -- `upload_word` meets its contract. Assumes nothing.
-use Rattle.frame.proofs.Tests.{tests}
+use Rattle.octets.proofs.Tests.{tests}
 use Rattle.client.proofs.decisions.upload_word.Statement.{statement}
 use Rattle.client.proofs.decisions.upload_word.Tie as tie
 

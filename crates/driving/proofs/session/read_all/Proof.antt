@@ -1,8 +1,11 @@
--- `read_all` is safe and ends. The measure is the number of calls that are left. Assumes nothing.
+-- `read_all` meets its contract, by the calls made so far. The measure is the number of calls that are left. Assumes nothing.
 use native.Mathlib.Omega.{arith}
 use Prim.Native.Nat.{_-_}
 use mathlib.Core.Path.{_≡_, refl, _∙_}
 use lib.ListN.{length}
+use Rattle.driving_unit.specs.Unit.{fresh, stateOf}
+use Rattle.driving.specs.Session.{Calls}
+use Rattle.driving.proofs.Sessions.{start-calls, calls-on}
 use Rattle.driving.proofs.session.read_all.Statement.{statement}
 use Rattle.driving.proofs.session.read_all.Tie as tie
 
@@ -10,6 +13,7 @@ abbrev Inv-loop : tie.InvT-loop
 Inv-loop input₀ output₀ orders₀ boxes₀ payloads₀ files₀ buffer₀ t₀ calls₀ input output orders boxes payloads files buffer t calls =
     (length input ≡ length input₀) × (length output ≡ length output₀) × (length orders ≡ length orders₀) × (length boxes ≡ length boxes₀)
     × (length payloads ≡ length payloads₀) × (length files ≡ length files₀) × (length buffer ≡ length buffer₀)
+    × Calls (stateOf fresh orders₀ boxes₀ payloads₀ files₀ buffer₀) (stateOf (t .unit) orders boxes payloads files buffer)
 
 abbrev μ-loop : tie.MeasureT-loop
 μ-loop input₀ output₀ orders₀ boxes₀ payloads₀ files₀ buffer₀ t₀ calls₀ input output orders boxes payloads files buffer t calls =
@@ -19,7 +23,7 @@ fresh-requires : tie.Need-fresh-requires Inv-loop μ-loop
 fresh-requires c κs = tt
 
 loop-holds : tie.Need-loop-holds Inv-loop μ-loop
-loop-holds c = (refl, refl, refl, refl, refl, refl, refl)
+loop-holds c = (refl, refl, refl, refl, refl, refl, refl, start-calls _ _ _ _ _ _ _ (c .fresh .ensures))
 
 add-calls : tie.Need-add-calls Inv-loop μ-loop
 add-calls c = omega (arith, c .before .loop-test .taken)
@@ -50,6 +54,7 @@ loop-again c =
       payloads-back .payloads .given ∙ inv .4,
       files-back .files .given ∙ inv .5,
       buffer-back .buffer .given ∙ inv .6,
+      calls-on _ _ _ (inv .7) (input-back .before .step .ensures),
     )
 
 same-length : tie.Need-same-length Inv-loop μ-loop
@@ -74,7 +79,7 @@ same-length-7 : tie.Need-same-length-7 Inv-loop μ-loop
 same-length-7 c = c .before .before .loop .inv .6
 
 returns : tie.Need-returns Inv-loop μ-loop
-returns c = tt
+returns c = c .before .before .loop .inv .7
 
 pub read-all-spec : {M : Type 1} → statement M
 read-all-spec =

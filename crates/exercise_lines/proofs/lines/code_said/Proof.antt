@@ -1,10 +1,8 @@
 -- `code_said` meets its contract. Assumes nothing.
+use mathlib.Core.Path.{_∙_}
 use borrow.Author.Needs.{needs}
 use Rattle.exercise_lines.proofs.lines.code_said.Statement.{statement}
 use Rattle.exercise_lines.proofs.lines.code_said.Tie as tie
-
-returns-4 : tie.Need-returns-4
-returns-4 c = rw (c .enum-told4 .given .1, c .before .before .return-code .ensures)
 
 pub code-said-spec : {M : Type 1} → statement M
 code-said-spec =
@@ -18,7 +16,8 @@ code-said-spec =
     (λ c. search needs)
     (λ c κs. search needs)
     (λ c. search needs)
+    (λ c κs. search needs)
     (λ c. search needs)
     (λ c. search needs)
     (λ c. search needs)
-    returns-4)
+    (λ c. c .group .ensures ∙ rw (c .before .before .before .return-code .ensures, c .before .enum-told4 .given .1)))

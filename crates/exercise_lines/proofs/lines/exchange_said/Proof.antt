@@ -1,13 +1,8 @@
 -- `exchange_said` meets its contract. Assumes nothing.
+use mathlib.Core.Path.{_∙_}
 use borrow.Author.Needs.{needs}
 use Rattle.exercise_lines.proofs.lines.exchange_said.Statement.{statement}
 use Rattle.exercise_lines.proofs.lines.exchange_said.Tie as tie
-
-returns-3 : tie.Need-returns-3
-returns-3 c = rw (c .enum-told3 .given .1, c .before .before .exchange .ensures)
-
-returns-4 : tie.Need-returns-4
-returns-4 c = rw (c .enum-told4 .given .1, c .before .before .exchange .ensures)
 
 pub exchange-said-spec : {M : Type 1} → statement M
 exchange-said-spec =
@@ -19,8 +14,10 @@ exchange-said-spec =
     (λ c. search needs)
     (λ c κs. search needs)
     (λ c. search needs)
+    (λ c κs. search needs)
+    (λ c. search needs)
+    (λ c κs. search needs)
     (λ c. search needs)
     (λ c. search needs)
-    (λ c. search needs)
-    returns-3
-    returns-4)
+    (λ c. c .group .ensures ∙ rw (c .before .before .before .exchange .ensures, c .before .enum-told3 .given .1))
+    (λ c. c .group2 .ensures ∙ rw (c .before .before .before .exchange .ensures, c .before .enum-told4 .given .1)))

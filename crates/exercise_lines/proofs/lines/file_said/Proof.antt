@@ -1,4 +1,5 @@
 -- `file_said` meets its contract. Assumes nothing.
+use mathlib.Core.Path.{_∙_}
 use Rattle.exercise_lines.specs.Lines.{fileSaid}
 use borrow.Author.Needs.{needs}
 use Rattle.exercise_lines.proofs.lines.file_said.Statement.{statement}
@@ -6,7 +7,12 @@ use Rattle.exercise_lines.proofs.lines.file_said.Tie as tie
 
 returns : tie.Need-returns
 unfolding fileSaid
-returns c = rw (c .file-length .ensures)
+returns c = c .group .ensures ∙ rw (c .before .file-length .ensures)
 
 pub file-said-spec : {M : Type 1} → statement M
-file-said-spec = tie.close (tie.spec (λ c κs. search needs) returns)
+file-said-spec =
+    tie.close
+    (tie.spec
+    (λ c κs. search needs)
+    (λ c κs. search needs)
+    returns)

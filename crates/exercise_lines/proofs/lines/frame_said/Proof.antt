@@ -1,116 +1,34 @@
--- `frame_said` meets its contract. Assumes nothing.
-use Rattle.exercise_lines.specs.Lines.{frameSaid}
+-- `frame_said` meets its contract: each arm says what its form says. Assumes nothing.
+use mathlib.Core.Path.{_≡_, ap, _∙_}
+use Rattle.frame_table.specs.declared.table.Form.{Form}
+use Rattle.frame_table.specs.Names.{segments, segment, lastMark, orderNumber}
+use Rattle.exercise_lines.specs.Lines.{lastOf, formSaid, frameSaid}
 use borrow.Author.Needs.{needs}
 use Rattle.exercise_lines.proofs.lines.frame_said.Statement.{statement}
 use Rattle.exercise_lines.proofs.lines.frame_said.Tie as tie
 
-returns : tie.Need-returns
-unfolding frameSaid
-returns c =
-    let at-enum-told = c .before in
-    let at-form = at-enum-told .before .before .before .before .before .before in
-    rw (← at-form .form .ensures, at-enum-told .enum-told .given .1) (c .say .ensures)
+-- what is known of the fields where the arms begin
+segment-is : (c : tie.After-last-of)
+    → c .before .before .before .before .segment .result ≡ segment (c .before .before .before .before .before .before .args .q)
+segment-is c = c .before .before .before .before .segment .ensures
 
-returns-2 : tie.Need-returns-2
-unfolding frameSaid
-returns-2 c =
-    let at-segments = c .before .before .before .before in
-    let at-form = at-segments .before .before in
-    rw (← at-form .form .ensures, c .enum-told2 .given .1, at-segments .segments .ensures)
+count-is : (c : tie.After-last-of)
+    → c .before .before .before .segments .result ≡ segments (c .before .before .before .before .before .before .args .q)
+count-is c = c .before .before .before .segments .ensures
 
-returns-3 : tie.Need-returns-3
-unfolding frameSaid
-returns-3 c =
-    let at-enum-told3 = c .before in
-    let at-form = at-enum-told3 .before .before .before .before .before .before in
-    rw (← at-form .form .ensures, at-enum-told3 .enum-told3 .given .1) (c .say2 .ensures)
+order-is : (c : tie.After-last-of)
+    → c .before .before .order-number .result ≡ orderNumber (c .before .before .before .before .before .before .args .q)
+order-is c = c .before .before .order-number .ensures
 
-returns-4 : tie.Need-returns-4
-unfolding frameSaid
-returns-4 c =
-    let at-last-of = c .before .before in
-    let at-last-mark = at-last-of .before in
-    let at-segment = at-last-mark .before .before in
-    let at-form = at-segment .before in
-    rw (
-      ← at-form .form .ensures,
-      c .enum-told4 .given .1,
-      at-segment .segment .ensures,
-      at-last-of .last-of .ensures,
-      at-last-mark .last-mark .ensures,
-    )
+last-is : (c : tie.After-last-of) → c .last-of .result ≡ lastOf (lastMark (c .before .before .before .before .before .before .args .q))
+last-is c = c .last-of .ensures ∙ ap lastOf (c .before .last-mark .ensures)
 
-returns-5 : tie.Need-returns-5
+-- what the form that an arm knows says
+here : (c : tie.After-last-of) {T : Type 0} {f : Form} → T × (c .before .before .before .before .before .form .result ≡ f)
+    → formSaid f (c .before .before .before .before .before .before .args .q)
+    ≡ frameSaid (c .before .before .before .before .before .before .args .q)
 unfolding frameSaid
-returns-5 c =
-    let at-segment = c .before .before .before .before .before in
-    let at-form = at-segment .before in
-    rw (← at-form .form .ensures, c .enum-told5 .given .1, at-segment .segment .ensures)
-
-returns-6 : tie.Need-returns-6
-unfolding frameSaid
-returns-6 c =
-    let at-enum-told6 = c .before in
-    let at-form = at-enum-told6 .before .before .before .before .before .before in
-    rw (← at-form .form .ensures, at-enum-told6 .enum-told6 .given .1) (c .say3 .ensures)
-
-returns-7 : tie.Need-returns-7
-unfolding frameSaid
-returns-7 c =
-    let at-enum-told7 = c .before in
-    let at-form = at-enum-told7 .before .before .before .before .before .before in
-    rw (← at-form .form .ensures, at-enum-told7 .enum-told7 .given .1, c .order-number .ensures)
-
-returns-8 : tie.Need-returns-8
-unfolding frameSaid
-returns-8 c =
-    let at-segments = c .before .before .before .before in
-    let at-segment = at-segments .before in
-    let at-form = at-segment .before in
-    rw (← at-form .form .ensures, c .enum-told8 .given .1, at-segment .segment .ensures, at-segments .segments .ensures)
-
-returns-9 : tie.Need-returns-9
-unfolding frameSaid
-returns-9 c =
-    let at-enum-told9 = c .before in
-    let at-form = at-enum-told9 .before .before .before .before .before .before in
-    rw (← at-form .form .ensures, at-enum-told9 .enum-told9 .given .1) (c .point .ensures)
-
-returns-10 : tie.Need-returns-10
-unfolding frameSaid
-returns-10 c =
-    let at-last-of = c .before .before in
-    let at-last-mark = at-last-of .before in
-    let at-segment = at-last-mark .before .before in
-    let at-form = at-segment .before in
-    rw (
-      ← at-form .form .ensures,
-      c .enum-told10 .given .1,
-      at-segment .segment .ensures,
-      at-last-of .last-of .ensures,
-      at-last-mark .last-mark .ensures,
-    )
-
-returns-11 : tie.Need-returns-11
-unfolding frameSaid
-returns-11 c =
-    let at-enum-told11 = c .before in
-    let at-form = at-enum-told11 .before .before .before .before .before .before in
-    rw (← at-form .form .ensures, at-enum-told11 .enum-told11 .given .1) (c .say4 .ensures)
-
-returns-12 : tie.Need-returns-12
-unfolding frameSaid
-returns-12 c =
-    let at-enum-told12 = c .before in
-    let at-form = at-enum-told12 .before .before .before .before .before .before in
-    rw (← at-form .form .ensures, at-enum-told12 .enum-told12 .given .1) (c .say5 .ensures)
-
-returns-13 : tie.Need-returns-13
-unfolding frameSaid
-returns-13 c =
-    let at-enum-told13 = c .before in
-    let at-form = at-enum-told13 .before .before .before .before .before .before in
-    rw (← at-form .form .ensures, at-enum-told13 .enum-told13 .given .1) (c .say6 .ensures)
+here c given = rw (← c .before .before .before .before .before .form .ensures, given .1)
 
 pub frame-said-spec : {M : Type 1} → statement M
 frame-said-spec =
@@ -121,37 +39,43 @@ frame-said-spec =
     (λ c κs. search needs)
     (λ c κs. search needs)
     (λ c κs. search needs)
-    (λ c. search needs)
-    (λ c κs. search needs)
-    (λ c. search needs)
-    (λ c. search needs)
-    (λ c κs. search needs)
-    (λ c. search needs)
-    (λ c. search needs)
-    (λ c. search needs)
     (λ c κs. search needs)
     (λ c. search needs)
     (λ c κs. search needs)
     (λ c. search needs)
-    (λ c. search needs)
     (λ c κs. search needs)
-    (λ c. search needs)
     (λ c. search needs)
     (λ c κs. search needs)
     (λ c. search needs)
     (λ c κs. search needs)
     (λ c. search needs)
     (λ c κs. search needs)
-    returns
-    returns-2
-    returns-3
-    returns-4
-    returns-5
-    returns-6
-    returns-7
-    returns-8
-    returns-9
-    returns-10
-    returns-11
-    returns-12
-    returns-13)
+    (λ c. search needs)
+    (λ c κs. search needs)
+    (λ c. search needs)
+    (λ c κs. search needs)
+    (λ c. search needs)
+    (λ c κs. search needs)
+    (λ c. search needs)
+    (λ c κs. search needs)
+    (λ c. search needs)
+    (λ c κs. search needs)
+    (λ c. search needs)
+    (λ c κs. search needs)
+    (λ c. search needs)
+    (λ c κs. search needs)
+    (λ c. search needs)
+    (λ c κs. search needs)
+    (λ c. c .say .ensures ∙ here (c .before .before .before) (c .before .enum-told .given))
+    (λ c. let l = c .before .before .before in c .group .ensures ∙ rw (count-is l) (here l (c .before .enum-told2 .given)))
+    (λ c. c .say2 .ensures ∙ here (c .before .before .before) (c .before .enum-told3 .given))
+    (λ c. let l = c .before .before .before in c .group2 .ensures ∙ rw (segment-is l, last-is l) (here l (c .before .enum-told4 .given)))
+    (λ c. let l = c .before .before .before in c .group3 .ensures ∙ rw (segment-is l) (here l (c .before .enum-told5 .given)))
+    (λ c. c .say3 .ensures ∙ here (c .before .before .before) (c .before .enum-told6 .given))
+    (λ c. let l = c .before .before .before in c .group4 .ensures ∙ rw (order-is l) (here l (c .before .enum-told7 .given)))
+    (λ c. let l = c .before .before .before in c .group5 .ensures ∙ rw (segment-is l, count-is l) (here l (c .before .enum-told8 .given)))
+    (λ c. c .point .ensures ∙ here (c .before .before .before) (c .before .enum-told9 .given))
+    (λ c. let l = c .before .before .before in c .group6 .ensures ∙ rw (segment-is l, last-is l) (here l (c .before .enum-told10 .given)))
+    (λ c. c .say4 .ensures ∙ here (c .before .before .before) (c .before .enum-told11 .given))
+    (λ c. c .say5 .ensures ∙ here (c .before .before .before) (c .before .enum-told12 .given))
+    (λ c. c .say6 .ensures ∙ here (c .before .before .before) (c .before .enum-told13 .given)))

@@ -9,16 +9,27 @@ use Rattle.exercise_lines.proofs.lines.point.Tie as tie
 returns : tie.Need-returns
 unfolding point
 returns c =
-    let h = sym (c .before .before .return-code .ensures) ∙ c .if1 .taken ∙ c .before .code-field .ensures in
-    rw (eq-eqb _ _ h, c .before .before .before .segment .ensures)
+    let at-code-field = c .before .before in
+    let at-return-code = at-code-field .before in
+    let h = sym (at-return-code .return-code .ensures) ∙ c .before .if1 .taken ∙ at-code-field .code-field .ensures in
+    c .group .ensures ∙ rw (at-return-code .before .segment .ensures, eq-eqb _ _ h)
 
 returns-2 : tie.Need-returns-2
 unfolding point
 returns-2 c =
-    let h = ne-eqb _ _ (λ e. c .if1 .left (c .before .before .return-code .ensures ∙ e ∙ sym (c .before .code-field .ensures))) in
-    rw (h, c .before .before .before .segment .ensures)
+    let at-code-field = c .before .before in
+    let at-return-code = at-code-field .before in
+    let h = ne-eqb _ _ (λ e. c .before .if1 .left (at-return-code .return-code .ensures ∙ e ∙ sym (at-code-field .code-field .ensures))) in
+    c .group2 .ensures ∙ rw (at-return-code .before .segment .ensures, h)
 
 pub point-spec : {M : Type 1} → statement M
 point-spec =
     tie.close
-    (tie.spec (λ c κs. search needs) (λ c κs. search needs) (λ c κs. search needs) returns returns-2)
+    (tie.spec
+    (λ c κs. search needs)
+    (λ c κs. search needs)
+    (λ c κs. search needs)
+    (λ c κs. search needs)
+    returns
+    (λ c κs. search needs)
+    returns-2)

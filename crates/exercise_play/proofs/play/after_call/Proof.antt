@@ -1,5 +1,4 @@
 -- `after_call` meets its contract. Assumes nothing.
-use borrow.Author.Needs.{needs}
 use Rattle.exercise_play.proofs.play.after_call.Statement.{statement}
 use Rattle.exercise_play.proofs.play.after_call.Tie as tie
 
@@ -7,4 +6,4 @@ returns : tie.Need-returns
 returns c = rw (c .request-size .ensures)
 
 pub after-call-spec : {M : Type 1} → statement M
-after-call-spec = tie.close (tie.spec (λ c κs. search needs) returns)
+after-call-spec = tie.close (tie.spec (λ c κs. tt) returns)

@@ -15,4 +15,4 @@ returns c =
 pub put-statement-spec : {M : Type 1} → statement M
 put-statement-spec =
     tie.close
-    (tie.spec (λ c κs. search needs) (λ c κs. search needs) (λ c κs. search needs) (λ c. search needs) returns)
+    (tie.spec (λ c κs. tt) (λ c κs. tt) (λ c κs. tt) (λ c. search needs) returns)

@@ -16,4 +16,4 @@ returns-2 c = rw (← c .before .before .index-of .ensures)
 
 pub order-of-spec : {M : Type 1} → statement M
 order-of-spec =
-    tie.close (tie.spec (λ c κs. search needs) returns (λ c. search needs) (λ c. search needs) returns-2)
+    tie.close (tie.spec (λ c κs. tt) returns (λ c. search needs) (λ c. search needs) returns-2)

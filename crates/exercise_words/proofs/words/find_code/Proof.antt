@@ -3,14 +3,15 @@ use Prim.Native.Nat.{_-_}
 use mathlib.Core.Path.{sym, _∙_}
 use borrow.Author.Tests.{eq-eqb, ne-eqb}
 use Rattle.message.specs.declared.codes.ReturnCode.the-variants as code
+use Rattle.message.specs.Codes.{returnCodes}
 use Rattle.bank_state.proofs.Loops.{Searched, searched-start, searched-next, searched-hit, searched-end}
-use Rattle.exercise_words.specs.Words.{codeTable, codeCount, hasDigits, findCode}
+use Rattle.exercise_words.specs.Words.{codeCount, hasDigits, findCode}
 use borrow.Author.Needs.{needs}
 use Rattle.exercise_words.proofs.words.find_code.Statement.{statement}
 use Rattle.exercise_words.proofs.words.find_code.Tie as tie
 
 abbrev Inv-loop : tie.InvT-loop
-Inv-loop digits i₀ i = Searched (hasDigits digits) codeTable i
+Inv-loop digits i₀ i = Searched (hasDigits digits) returnCodes i
 
 abbrev μ-loop : tie.MeasureT-loop
 μ-loop digits i₀ i = codeCount - i

@@ -27,4 +27,4 @@ returns-2 c =
 pub bank-has-spec : {M : Type 1} → statement M
 bank-has-spec =
     tie.close
-    (tie.spec (λ c. search needs) (λ c κs. search needs) (λ c. search needs) (λ c κs. search needs) returns returns-2)
+    (tie.spec (λ c. search needs) (λ c κs. tt) (λ c. search needs) (λ c κs. tt) returns returns-2)

@@ -10,4 +10,4 @@ returns-2 : tie.Need-returns-2
 returns-2 c = rw (c .enum-told2 .given .1)
 
 pub bank-said-spec : {M : Type 1} → statement M
-bank-said-spec = tie.close (tie.spec (λ c. search needs) (λ c κs. search needs) (λ c. search needs) returns returns-2)
+bank-said-spec = tie.close (tie.spec (λ c. search needs) (λ c κs. tt) (λ c. search needs) returns returns-2)

@@ -1,7 +1,6 @@
 -- `is_order` meets its contract. Assumes nothing.
 use borrow.Author.Tests.{not-true, not-false, eq-eqb, ne-eqb}
 use Rattle.exercising.specs.Rows.{isOrder}
-use borrow.Author.Needs.{needs}
 use Rattle.exercising.proofs.rows.is_order.Statement.{statement}
 use Rattle.exercising.proofs.rows.is_order.Tie as tie
 
@@ -31,4 +30,4 @@ returns-3 c =
 
 pub is-order-spec : {M : Type 1} → statement M
 is-order-spec =
-    tie.close (tie.spec (λ c κs. search needs) returns returns-2 (λ c κs. search needs) returns-3)
+    tie.close (tie.spec (λ c κs. tt) returns returns-2 (λ c κs. tt) returns-3)

@@ -9,4 +9,4 @@ returns-3 c = rw (c .before .before .stage .given .1) (c .is-true .ensures)
 pub is-true-at-spec : {M : Type 1} → statement M
 is-true-at-spec =
     tie.close
-    (tie.spec (λ c. search needs) (λ c. search needs) (λ c. search needs) (λ c κs. search needs) (λ c. search needs) (λ c. search needs) returns-3)
+    (tie.spec (λ c. search needs) (λ c. search needs) (λ c. search needs) (λ c κs. tt) (λ c. search needs) (λ c. search needs) returns-3)

@@ -47,11 +47,11 @@ pub put-row-spec : {M : Type 1} → statement M
 put-row-spec =
     tie.close
     (tie.spec
+    (λ c κs. tt)
     (λ c κs. search needs)
-    (λ c κs. search needs)
-    (λ c κs. search needs)
+    (λ c κs. tt)
     put-group-requires-2
-    (λ c κs. search needs)
+    (λ c κs. tt)
     put-group-requires-3
     put-byte-requires
     (λ c. search needs)

@@ -5,7 +5,7 @@ use native.Mathlib.Omega.{arith}
 use lib.ListN.{length, drop}
 use borrow.Author.Needs.{needs}
 use Rattle.frame.specs.Row.{behind}
-use Rattle.frame.proofs.Numbers.{take-rest}
+use Rattle.octets.proofs.Numbers.{take-rest}
 use Rattle.frame.proofs.Contents.{size-le, behind-step, behind-end}
 use Rattle.frame.proofs.reader.behind.Statement.{statement}
 use Rattle.frame.proofs.reader.behind.Tie as tie

@@ -5,7 +5,7 @@ use Prim.Native.Nat.{ℕ, _-_}
 use native.Mathlib.Omega.{arith}
 use lib.ListN.{take, drop}
 use borrow.Author.Needs.{needs}
-use Rattle.frame.specs.Table.{dataTag}
+use Rattle.frame_table.specs.Table.{dataTag}
 use Rattle.frame.specs.Row.{content, dataOf}
 use Rattle.frame.proofs.Contents.{size-le}
 use Rattle.frame.proofs.reader.data.Statement.{statement}

@@ -6,7 +6,7 @@ use native.Mathlib.Omega.{arith}
 use borrow.Author.Needs.{needs}
 use borrow.Author.Tests.{le-leb, lt-leb, eq-eqb}
 use Rattle.frame.specs.Row.{stands, fieldSize}
-use Rattle.frame.proofs.Tests.{tests}
+use Rattle.octets.proofs.Tests.{tests}
 use Rattle.frame.proofs.reader.field_size.Statement.{statement}
 use Rattle.frame.proofs.reader.field_size.Tie as tie
 

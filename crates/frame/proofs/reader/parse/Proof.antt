@@ -8,11 +8,12 @@ use lib.Dec.{eqb}
 use lib.Pow.{pow-mono}
 use borrow.Author.Needs.{needs}
 use borrow.Author.Tests.{lt-leb, le-leb, eq-eqb, ne-eqb}
-use Rattle.frame.specs.Table.{tagCount}
+use Rattle.frame_table.specs.Table.{tagCount}
 use Rattle.frame.specs.Row.{content}
-use Rattle.frame.specs.Reader.{noFields, parse}
-use Rattle.frame.proofs.Numbers.{take-rest}
-use Rattle.frame.proofs.Tags.{present-lt}
+use Rattle.frame.specs.Reader.{parse}
+use Rattle.frame_table.specs.Names.{noFields}
+use Rattle.octets.proofs.Numbers.{take-rest}
+use Rattle.frame.proofs.Present.{present-lt}
 use Rattle.frame.proofs.Contents.{size-le, content-narrow}
 use Rattle.frame.proofs.Loops.{Reading, reading-start, reading-step, reading-end}
 use Rattle.frame.proofs.reader.parse.Statement.{statement}

@@ -2,7 +2,7 @@
 use native.Mathlib.Omega.{arith}
 use borrow.Author.Needs.{needs}
 use borrow.Author.Tests.{eq-eqb, ne-eqb}
-use Rattle.frame.proofs.Tags.{one-shifted}
+use Rattle.frame_table.proofs.Tags.{one-shifted}
 use Rattle.frame.proofs.reader.tag_bit.Statement.{statement}
 use Rattle.frame.proofs.reader.tag_bit.Tie as tie
 

@@ -7,9 +7,9 @@ use lib.ListN.{length, drop, length-take, length-drop}
 use lib.Arith.{digits-div, digits-mod}
 use borrow.Author.Needs.{needs}
 use borrow.Author.Tests.{eq-eqb, ne-eqb}
-use Rattle.frame.specs.Bytes.{number}
+use Rattle.octets.specs.Bytes.{number}
 use Rattle.frame.specs.Row.{highOf, lowOf}
-use Rattle.frame.proofs.Numbers.{take-rest, number-halves}
+use Rattle.octets.proofs.Numbers.{take-rest, number-halves}
 use Rattle.frame.proofs.reader.value.Statement.{statement}
 use Rattle.frame.proofs.reader.value.Tie as tie
 

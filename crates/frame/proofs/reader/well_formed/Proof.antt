@@ -1,7 +1,7 @@
 -- `well_formed` meets its contract. Assumes nothing.
 use borrow.Author.Needs.{needs}
 use Rattle.frame.specs.Row.{wellFormed}
-use Rattle.frame.proofs.Tests.{tests}
+use Rattle.octets.proofs.Tests.{tests}
 use Rattle.frame.proofs.reader.well_formed.Statement.{statement}
 use Rattle.frame.proofs.reader.well_formed.Tie as tie
 

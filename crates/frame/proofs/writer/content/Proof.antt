@@ -4,9 +4,9 @@ use Prim.Native.Nat.{_≤_}
 use native.Mathlib.Omega.{arith}
 use borrow.Author.Needs.{needs}
 use borrow.Author.Tests.{eq-eqb, ne-eqb}
-use Rattle.frame.specs.Table.{width}
+use Rattle.frame_table.specs.Table.{width}
 use Rattle.frame.specs.Writer.{contentOf}
-use Rattle.frame.proofs.Numbers.{last-bytes}
+use Rattle.octets.proofs.Numbers.{last-bytes}
 use Rattle.frame.proofs.Contents.{width-narrow}
 use Rattle.frame.proofs.writer.content.Statement.{statement}
 use Rattle.frame.proofs.writer.content.Tie as tie

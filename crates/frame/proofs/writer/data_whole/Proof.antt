@@ -1,6 +1,6 @@
 -- `data_whole` meets its contract. Assumes nothing.
 use Rattle.frame.specs.Writer.{dataWhole}
-use Rattle.frame.proofs.Tests.{tests}
+use Rattle.octets.proofs.Tests.{tests}
 use Rattle.frame.proofs.writer.data_whole.Statement.{statement}
 use Rattle.frame.proofs.writer.data_whole.Tie as tie
 

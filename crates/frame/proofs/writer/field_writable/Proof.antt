@@ -7,7 +7,7 @@ use native.Mathlib.Omega.{arith}
 use lib.ListN.{length}
 use borrow.Author.Needs.{needs}
 use borrow.Author.Tests.{eq-eqb, ne-eqb, not-true, not-false}
-use Rattle.frame.specs.Table.{has}
+use Rattle.frame_table.specs.Table.{has}
 use Rattle.frame.specs.Row.{wellFormed}
 use Rattle.frame.specs.Writer.{fieldWritable}
 use Rattle.frame.proofs.Loops.{contentOf-narrow}

@@ -6,7 +6,7 @@ use native.Mathlib.Omega.{arith}
 use lib.ListN.{length, length-append}
 use borrow.Author.Needs.{needs}
 use borrow.Author.Tests.{not-true, not-false}
-use Rattle.frame.specs.Table.{tagCount}
+use Rattle.frame_table.specs.Table.{tagCount}
 use Rattle.frame.specs.Row.{piece}
 use Rattle.frame.specs.Writer.{contentOf, frameOf, fieldWritable, fieldsWritable}
 use Rattle.frame.proofs.Contents.{piece-bound}

@@ -6,10 +6,10 @@ use native.Mathlib.Nat.{add-zero}
 use native.Mathlib.Omega.{arith}
 use lib.ListN.{length}
 use borrow.Author.Needs.{needs}
-use Rattle.frame.specs.Bytes.{fieldBytes, overwrite}
+use Rattle.octets.specs.Bytes.{fieldBytes, overwrite}
 use Rattle.frame.specs.Row.{piece}
 use Rattle.frame.specs.Writer.{contentOf}
-use Rattle.frame.proofs.Numbers.{length-fieldBytes, overwrite-nil}
+use Rattle.octets.proofs.Numbers.{length-fieldBytes, overwrite-nil}
 use Rattle.frame.proofs.Contents.{piece-none, piece-some}
 use Rattle.frame.proofs.writer.put.Statement.{statement}
 use Rattle.frame.proofs.writer.put.Tie as tie

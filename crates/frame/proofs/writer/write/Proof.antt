@@ -6,7 +6,7 @@ use native.Mathlib.Omega.{arith}
 use lib.ListN.{length}
 use borrow.Author.Needs.{needs}
 use borrow.Author.Tests.{le-leb, lt-leb, not-true, not-false}
-use Rattle.frame.specs.Table.{tagCount, isForm}
+use Rattle.frame_table.specs.Table.{tagCount, isForm}
 use Rattle.frame.specs.Writer.{contentOf, frameOf, writable, accepted, writeAnswer, writeBuffer, writeNumber}
 use Rattle.frame.proofs.Contents.{piece-bound}
 use Rattle.frame.proofs.Loops.{Writing, writing-start, writing-left, writing-step, writing-end, writable-over, writable-under}

@@ -1,73 +1,74 @@
--- `mark` meets its contract. The loop keeps that the calls left lead to the same end, and that the text so far is written. Assumes nothing.
-use Prim.Native.Nat.{_-_}
+-- `mark` meets its contract. The loop keeps that the lines left lead to the same end, and that the text so far is written. Assumes nothing.
+use Prim.Native.Nat.{_<_}
 use mathlib.Core.Path.{_≡_, refl, sym, _∙_}
 use mathlib.Core.List.{[]}
 use mathlib.Core.Bool.{true}
 use native.Mathlib.Omega.{arith}
-use lib.ListN.{length}
-use Rattle.marking.specs.Marking.{markedAll, isReady}
+use lib.Dec.{ltb}
+use lib.ListN.{length, drop}
+use borrow.Author.Tests.{ltb-true}
+use Rattle.octets.proofs.Tests.{and-true}
+use Rattle.marking.specs.Marking.{isReady, standing}
 use Rattle.text.proofs.Texts.{put-length, put-nothing}
-use Rattle.marking.proofs.Calls.{Marks, used-less, marking-next, marking-end}
+use Rattle.marking.proofs.Lines.{Marking, marking-next, marking-end}
 use Rattle.marking.proofs.mark.mark.Statement.{statement}
 use Rattle.marking.proofs.mark.mark.Tie as tie
 
 abbrev Inv-loop : tie.InvT-loop
-Inv-loop calls input output₀ orders₀ boxes₀ buffer₀ m₀ output orders boxes buffer m =
+Inv-loop calls input output₀ orders₀ boxes₀ buffer₀ m₀ left₀ output orders boxes buffer m left =
     (length orders ≡ length orders₀) × (length boxes ≡ length boxes₀) × (length buffer ≡ length buffer₀)
-    × Marks input output₀ (markedAll (m₀ .bank) calls input (length output₀) orders₀ boxes₀ buffer₀) m orders boxes buffer output
+    × Marking (standing (m₀ .bank) calls input orders₀ boxes₀ buffer₀) input output₀ left m orders boxes buffer output
 
 abbrev μ-loop : tie.MeasureT-loop
-μ-loop calls input output₀ orders₀ boxes₀ buffer₀ m₀ output orders boxes buffer m = length input - m .used
+μ-loop calls input output₀ orders₀ boxes₀ buffer₀ m₀ left₀ output orders boxes buffer m left = left
 
 loop-holds : tie.Need-loop-holds Inv-loop μ-loop
-unfolding markedAll
 loop-holds c =
-    let input = c .before .before .before .before .before .args .input .now in (
-      refl,
-      refl,
-      refl,
-      record {
-        left = length input;
-        text = [];
-        at = record { enough = omega arith; rest = refl; put = put-nothing _ _ (omega arith) };
-      },
-    )
+    (refl, refl, refl, record { text = []; calls = refl; lines = refl; put = put-nothing _ _ (omega arith); room = omega arith })
+
+-- a turn: the place where a call is ready
+abbrev at-if : tie.After-mark-call Inv-loop μ-loop → tie.Then1 Inv-loop μ-loop
+at-if c = c .before .before .before .before .before
 
 ready : (c : tie.Then1 Inv-loop μ-loop)
-    → let m = c .before .before .loop .m in
+    → let l = c .before .before .loop in
     let a = c .before .before .before .before .before .before .before .before .args in
-    isReady (a .input .now) (length (a .output .now)) (m .calls) (m .used) (m .written) ≡ true
+    (0 < l .left) × (isReady (l .m .calls) (drop (l .m .used) (a .input .now)) ≡ true)
 ready c =
-    let h = sym (c .before .is-ready .ensures) ∙ c .if1 .taken in
-    rw (put-length (c .before .before .loop .inv .3 .at .put)) at h
+    let l = c .before .before .loop in
+    let a = c .before .before .before .before .before .before .before .before .args in
+    let e = sym (c .before .is-ready .ensures) ∙ c .if1 .taken in
+    let b = and-true (ltb 0 (l .left)) (isReady (l .m .calls) (drop (l .m .used) (a .input .now))) e in
+    (ltb-true 0 (l .left) (b .0), b .1)
 
 is-ready-requires : tie.Need-is-ready-requires Inv-loop μ-loop
 is-ready-requires c κs = tt
 
 mark-call-requires : tie.Need-mark-call-requires Inv-loop μ-loop
-mark-call-requires c κs = sym (c .before .before .before .before .before .is-ready .ensures) ∙ c .before .before .before .before .if1 .taken
+mark-call-requires c κs =
+    let at-if = c .before .before .before .before in
+    let k = at-if .before .before .loop .inv .3 in
+    (ready at-if .1, omega (arith, put-length (k .put), k .room, ready at-if .0))
+
+sub-left : tie.Need-sub-left Inv-loop μ-loop
+sub-left c = omega (arith, ready (at-if (c .before .before .before .before .before .before .before .before)) .0)
 
 loop-less : tie.Need-loop-less Inv-loop μ-loop
-loop-less c =
-    let at-call = c .before .before .before .before .before .before .before .before in
-    let at-if = at-call .before .before .before .before .before in
-    used-less _ _ _ _ _ _ _ _ _ _ _ (at-call .mark-call .ensures) _ (ready at-if)
+loop-less c = omega (arith, ready (at-if (c .before .before .before .before .before .before .before .before)) .0)
 
 loop-again : tie.Need-loop-again Inv-loop μ-loop
 loop-again c =
     let at-call = c .before .before .before .before .before .before .before .before in
-    let at-if = at-call .before .before .before .before .before in
-    let inv = at-if .before .before .loop .inv in
-    let k = inv .3 in
-    let next = marking-next _ _ _ (k .text) _ _ _ _ _ _ _ _ _ _ (at-call .mark-call .ensures) (k .left) (ready at-if) (k .at) in (
+    let inv = at-if at-call .before .before .loop .inv in
+    let turn = ready (at-if at-call) in (
       c .before .before .before .before .before .orders .given ∙ inv .0,
       c .before .before .before .boxes .given ∙ inv .1,
       c .before .buffer .given ∙ inv .2,
-      record { left = next .0; text = _; at = next .1 },
+      marking-next _ _ _ _ _ _ _ _ _ (inv .3) (turn .0) (turn .1) _ _ _ _ _ (at-call .mark-call .ensures),
     )
 
 same-length : tie.Need-same-length Inv-loop μ-loop
-same-length c = put-length (c .before .before .loop .inv .3 .at .put)
+same-length c = put-length (c .before .before .loop .inv .3 .put)
 
 same-length-2 : tie.Need-same-length-2 Inv-loop μ-loop
 same-length-2 c = c .before .before .loop .inv .0
@@ -79,11 +80,7 @@ same-length-4 : tie.Need-same-length-4 Inv-loop μ-loop
 same-length-4 c = c .before .before .loop .inv .2
 
 returns : tie.Need-returns Inv-loop μ-loop
-returns c =
-    let l = c .before .before .loop in
-    let k = l .inv .3 in
-    let h = sym (c .before .is-ready .ensures) ∙ c .if1 .left in
-    marking-end _ _ _ _ _ _ _ _ _ (k .left) (rw (put-length (k .at .put)) at h) (k .at)
+returns c = marking-end _ _ _ _ _ _ _ _ _ (c .before .before .loop .inv .3) (sym (c .before .is-ready .ensures) ∙ c .if1 .left)
 
 pub mark-spec : {M : Type 1} → statement M
 mark-spec =
@@ -94,6 +91,7 @@ mark-spec =
     loop-holds
     is-ready-requires
     mark-call-requires
+    sub-left
     loop-less
     loop-again
     same-length

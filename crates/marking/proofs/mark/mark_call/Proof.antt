@@ -3,9 +3,10 @@ use mathlib.Core.Path.{ap}
 use native.Mathlib.Nat.{add-assoc}
 use native.Mathlib.Omega.{arith}
 use Prim.Native.Nat.{_+_, _^_, _≤_, _<_}
-use lib.ListN.{length}
+use lib.ListN.{length, drop, length-drop}
+use lib.Seq.{drop-drop}
 use Rattle.marking.specs.Print.{headBytes, sizeOf}
-use Rattle.marking.specs.Marking.{marked}
+use Rattle.marking.specs.Marking.{called, calledLine, callOf}
 use Rattle.marking.proofs.Calls.{Readied, readied}
 use borrow.Author.Needs.{needs}
 use Rattle.marking.proofs.mark.mark_call.Statement.{statement}
@@ -21,14 +22,17 @@ at-behind c = c .before .before .before .before .before .before .before .before
 abbrev at-start : tie.After-behind → tie.Start
 at-start c = c .before .before .before .before .before .before
 
-ready : (c : tie.Start) → let a = c .args in Readied (a .input .now) (length (a .output .now)) (a .m .calls) (a .m .used) (a .m .written)
-ready c = readied _ _ _ _ _ (c .pre)
+ready : (c : tie.Start) → let a = c .args in Readied (a .m .calls) (drop (a .m .used) (a .input .now))
+ready c = readied _ _ (c .pre .0)
 
 head-fits : (c : tie.After-behind) → headBytes ≤ length (c .behind .result .now)
 head-fits c = omega (arith, ap length (c .behind .ensures), ready (at-start c) .head)
 
 end-fits : (c : tie.After-behind) → at-start c .args .m .used + (headBytes + sizeOf (c .behind .result .now)) < 2 ^ 64
-end-fits c = omega (arith, ap sizeOf (c .behind .ensures), ready (at-start c) .end)
+end-fits c =
+    let a = at-start c .args in
+    let r = ready (at-start c) in
+    omega (arith, ap sizeOf (c .behind .ensures), r .end, length-drop (a .m .used) (a .input .now))
 
 behind-requires : tie.Need-behind-requires
 behind-requires c κs = search needs
@@ -49,7 +53,9 @@ add-calls : tie.Need-add-calls
 add-calls c = omega (arith, ready (at-start (at-behind (c .before .before .before .before .before .before .before))) .count)
 
 put-line-requires : tie.Need-put-line-requires
-put-line-requires c κs = omega (arith, ready (at-start (at-behind (c .before .before .before .before .before .before .before .before .before))) .line)
+put-line-requires c κs =
+    let frame = c .before .before .before .before .before .before .before .before .before in
+    omega (arith, at-start (at-behind frame) .pre .1)
 
 add-t30 : tie.Need-add-t30
 add-t30 c = omega (arith, end-fits (at-behind (at-frame (c .before .before .before))))
@@ -73,7 +79,7 @@ same-length-4 : tie.Need-same-length-4
 same-length-4 c = search needs
 
 returns : tie.Need-returns
-unfolding marked
+unfolding called calledLine callOf
 returns c =
     let at-line = c .before .before .before .before in
     let frame = at-line .before .before .before .before .before .before .before .before .before .before in
@@ -82,6 +88,7 @@ returns c =
     let behind = at-time .before .before in
     let put = at-line .put-line .ensures in
     rw (
+      drop-drop,
       ← behind .behind .ensures,
       ← at-time .time-of .ensures,
       ← at-read .frame-in .ensures,

@@ -1,11 +1,12 @@
 -- `header` meets its contract. Assumes nothing.
-use borrow.Author.Tests.{lt-leb, le-leb}
+use Rattle.marking.specs.Print.{headerRoom}
+use Rattle.text.proofs.Texts.{printed-put, printed-none}
 use borrow.Author.Needs.{needs}
 use Rattle.marking.proofs.print.header.Statement.{statement}
 use Rattle.marking.proofs.print.header.Tie as tie
 
 returns : tie.Need-returns
-returns c = let h = lt-leb _ _ (c .if1 .taken) in (rw h, rw h)
+returns c = printed-none _ _ _ (c .if1 .taken)
 
 slice-aggregate-put-text : tie.Need-slice-aggregate-put-text
 slice-aggregate-put-text c = search needs
@@ -19,8 +20,7 @@ same-length c = search needs
 returns-2 : tie.Need-returns-2
 returns-2 c =
     let at-text = c .before .before in
-    let h = le-leb _ _ (at-text .before .before .before .if1 .left) in
-    (rw h (at-text .put-text .ensures .bytes), rw h (at-text .put-text .ensures .place))
+    printed-put headerRoom (at-text .before .before .before .if1 .left) (at-text .put-text .ensures)
 
 pub header-spec : {M : Type 1} → statement M
 header-spec =

@@ -1,5 +1,5 @@
 -- `frame_in` meets its contract. Assumes nothing.
-use Rattle.frame.proofs.Numbers.{take-rest}
+use Rattle.octets.proofs.Numbers.{take-rest}
 use Rattle.marking.specs.Print.{frameIn}
 use borrow.Author.Needs.{needs}
 use Rattle.marking.proofs.record.frame_in.Statement.{statement}

@@ -1,7 +1,7 @@
 -- `is_whole` meets its contract. Assumes nothing.
 use borrow.Author.Tests.{lt-leb, le-leb}
 use Rattle.marking.specs.Print.{headBytes, isWhole}
-use Rattle.marking.proofs.Records.{leb-sub}
+use Rattle.octets.proofs.Tests.{leb-sub}
 use borrow.Author.Needs.{needs}
 use Rattle.marking.proofs.record.is_whole.Statement.{statement}
 use Rattle.marking.proofs.record.is_whole.Tie as tie

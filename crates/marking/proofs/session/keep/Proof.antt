@@ -17,7 +17,9 @@ abbrev μ-loop : tie.MeasureT-loop
 μ-loop input₀ from end n₀ i₀ input n i = end - i
 
 loop-holds : tie.Need-loop-holds Inv-loop μ-loop
-loop-holds c = (search needs, search needs, refl, paste-zero (c .args .input .now) 0 (drop (c .args .from) (take (c .args .end) (c .args .input .now))))
+loop-holds c =
+    let a = c .args in
+    (search needs, search needs, refl, paste-zero (a .input .now) 0 (drop (a .from) (take (a .end) (a .input .now))))
 
 slice-read-input : tie.Need-slice-read-input Inv-loop μ-loop
 slice-read-input c = omega arith

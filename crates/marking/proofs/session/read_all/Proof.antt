@@ -1,37 +1,37 @@
--- `read_all` is safe and ends. The measure is the number of reads that are left. Assumes nothing.
+-- `read_all` meets its contract. The loop keeps what was read so far; the measure is the number of reads that may follow. Assumes nothing.
 use mathlib.Core.Path.{_≡_, refl, _∙_}
 use native.Mathlib.Omega.{arith}
 use lib.ListN.{length}
+use Rattle.marking.specs.Session.{ReadFrom, freshStanding}
+use Rattle.marking.proofs.Parts.{reads-begin, reads-next}
 use Rattle.marking.proofs.session.read_all.Statement.{statement}
 use Rattle.marking.proofs.session.read_all.Tie as tie
 
 abbrev Inv-loop : tie.InvT-loop
-Inv-loop input₀ output₀ orders₀ boxes₀ buffer₀ t₀ turns₀ input output orders boxes buffer t turns =
+Inv-loop input₀ output₀ orders₀ boxes₀ buffer₀ t₀ input output orders boxes buffer t =
     (length input ≡ length input₀) × (length output ≡ length output₀) × (length orders ≡ length orders₀)
     × (length boxes ≡ length boxes₀) × (length buffer ≡ length buffer₀)
+    × ReadFrom (freshStanding orders₀ boxes₀ buffer₀) t input orders boxes buffer
 
 abbrev μ-loop : tie.MeasureT-loop
-μ-loop input₀ output₀ orders₀ boxes₀ buffer₀ t₀ turns₀ input output orders boxes buffer t turns = turns
-
-abbrev in-loop : tie.After-slice-known10 Inv-loop μ-loop → tie.In-loop Inv-loop μ-loop
-in-loop c =
-    let at-call = c .before .before .before .before .before .before .before .before .before .before in
-    at-call .before .before .before .before .before .before .before
+μ-loop input₀ output₀ orders₀ boxes₀ buffer₀ t₀ input output orders boxes buffer t = t .reads
 
 fresh-requires : tie.Need-fresh-requires Inv-loop μ-loop
 fresh-requires c κs = tt
 
 loop-holds : tie.Need-loop-holds Inv-loop μ-loop
-loop-holds c = (refl, refl, refl, refl, refl)
+loop-holds c = (refl, refl, refl, refl, refl, reads-begin _ _ _ _ _ (c .fresh .ensures) refl refl)
 
 read-on-requires : tie.Need-read-on-requires Inv-loop μ-loop
-read-on-requires c κs = tt
-
-sub-turns : tie.Need-sub-turns Inv-loop μ-loop
-sub-turns c = omega (arith, in-loop c .loop-test .taken)
+read-on-requires c κs =
+    let turn = c .before .before .before .before .before in
+    let loop = turn .before .before in
+    let inv = loop .loop .inv in
+    let start = loop .before .before .before .before .before .before .before in
+    (turn .if1 .taken, inv .5 .held, omega (arith, inv .0, inv .1, start .pre))
 
 loop-less : tie.Need-loop-less Inv-loop μ-loop
-loop-less c = omega (arith, in-loop c .loop-test .taken)
+loop-less c = c .before .before .before .before .before .before .before .before .before .before .read-on .ensures .0
 
 loop-again : tie.Need-loop-again Inv-loop μ-loop
 loop-again c =
@@ -40,12 +40,14 @@ loop-again c =
     let orders-back = boxes-back .before .before in
     let output-back = orders-back .before .before in
     let input-back = output-back .before .before in
-    let inv = input-back .before .before .before .before .before .before .before .before .before .loop .inv in (
+    let at-call = input-back .before in
+    let inv = at-call .before .before .before .before .before .before .before .before .loop .inv in (
       input-back .input .given ∙ inv .0,
       output-back .output .given ∙ inv .1,
       orders-back .orders .given ∙ inv .2,
       boxes-back .boxes .given ∙ inv .3,
       buffer-back .buffer .given ∙ inv .4,
+      reads-next _ _ _ _ _ _ _ _ _ _ _ (inv .5) (at-call .read-on .ensures .1),
     )
 
 same-length : tie.Need-same-length Inv-loop μ-loop
@@ -64,7 +66,7 @@ same-length-5 : tie.Need-same-length-5 Inv-loop μ-loop
 same-length-5 c = c .before .before .loop .inv .4
 
 returns : tie.Need-returns Inv-loop μ-loop
-returns c = tt
+returns c = c .before .before .loop .inv .5
 
 pub read-all-spec : {M : Type 1} → statement M
 read-all-spec =
@@ -75,7 +77,6 @@ read-all-spec =
     fresh-requires
     loop-holds
     read-on-requires
-    sub-turns
     loop-less
     loop-again
     same-length

@@ -1,12 +1,20 @@
--- `session` is safe: each array is lent whole. The lengths come by a lemma, since computing them writes the arrays out. Assumes nothing.
+-- `session` meets its contract. The arrays' lengths come by a lemma, since computing them writes the arrays out. Assumes nothing.
+use Prim.Native.Nat.{ℕ, _+_, _*_, _<_}
 use mathlib.Core.Path.{_≡_, sym}
+use native.Mathlib.Omega.{arith}
 use lib.ListN.{length, replicate, length-replicate}
-use Prim.Native.Nat.{ℕ}
+use Rattle.marking.specs.Print.{headBytes}
+use Rattle.marking.specs.Marking.{linesIn}
+use Rattle.marking.specs.Session.{HasRoom}
+use Rattle.marking.proofs.Parts.{session-of}
 use Rattle.marking.proofs.session.session.Statement.{statement}
 use Rattle.marking.proofs.session.session.Tie as tie
 
 zeros : (n : ℕ) → n ≡ length {A = ℕ} (replicate n 0)
 zeros n = sym (length-replicate {A = ℕ} n 0)
+
+has-room : (n m : ℕ) → n < headBytes * (linesIn m + 1) → HasRoom (replicate n 0) (replicate m 0)
+has-room n m h = omega (arith, zeros n, zeros m)
 
 slice-aggregate-print-all : tie.Need-slice-aggregate-print-all
 slice-aggregate-print-all c = zeros 65541
@@ -24,10 +32,10 @@ slice-aggregate-print-all-5 : tie.Need-slice-aggregate-print-all-5
 slice-aggregate-print-all-5 c = zeros 312
 
 print-all-requires : tie.Need-print-all-requires
-print-all-requires c κs = tt
+print-all-requires c κs = has-room 65541 305844 (omega arith)
 
 returns : tie.Need-returns
-returns c = tt
+returns c = session-of _ _ _ _ _ (c .before .before .before .before .before .before .print-all .ensures)
 
 pub session-spec : {M : Type 1} → statement M
 session-spec =

@@ -1,5 +1,5 @@
 -- `last_mark_of` meets its contract. Assumes nothing.
-use Rattle.frame.proofs.Tests.{tests}
+use Rattle.octets.proofs.Tests.{tests}
 use Rattle.message.proofs.segments.last_mark_of.Statement.{statement}
 use Rattle.message.proofs.segments.last_mark_of.Tie as tie
 

@@ -10,7 +10,9 @@ digit-count-requires : tie.Need-digit-count-requires
 digit-count-requires c κs = tt
 
 put-digits-requires : tie.Need-put-digits-requires
-put-digits-requires c κs = (omega (arith, c .digit-count .ensures, digitCount-most (c .before .before .before .args .x)), omega arith, omega arith)
+put-digits-requires c κs =
+    let most = digitCount-most (c .before .before .before .args .x) in
+    (omega (arith, c .digit-count .ensures), omega arith, omega arith)
 
 same-length : tie.Need-same-length
 same-length c = search needs

@@ -5,8 +5,8 @@ use native.Mathlib.Nat.{mod-lt}
 use native.Mathlib.Omega.{arith}
 use lib.ListN.{length, length-set}
 use borrow.Author.Needs.{needs}
-use Rattle.frame.specs.Bytes.{overwrite}
-use Rattle.frame.proofs.Numbers.{overwrite-nil}
+use Rattle.octets.specs.Bytes.{overwrite}
+use Rattle.octets.proofs.Numbers.{overwrite-nil}
 use Rattle.text.specs.Print.{digitsIn}
 use Rattle.text.proofs.Digits.{length-digitsIn, digits-step}
 use Rattle.text.proofs.print.put_digits.Statement.{statement}

@@ -1,43 +1,12 @@
 -- `no_reply` meets its contract. Assumes nothing.
 use mathlib.Core.Logic.{inr}
-use mathlib.Core.List.{[]}
-use mathlib.Core.Path.{sym, _∙_}
-use Rattle.client.specs.declared.run.Client.{Client}
-use Rattle.client.specs.declared.run.Lengths.{Lengths}
-use Rattle.client.specs.Calls.{silenceCall}
-use Rattle.client.specs.Run.{lentOf, lengthsOf}
-use Rattle.client.proofs.Accepted.{Accepted, accepted, file-served}
+use Rattle.client.specs.Calls.{noReplyCall}
 use borrow.Author.Needs.{needs}
 use Rattle.client.proofs.run.Client.no_reply.Statement.{statement}
 use Rattle.client.proofs.run.Client.no_reply.Tie as tie
 
-abbrev run-of : tie.Start → Client
-run-of s = s .args .self
-
-abbrev lengths : tie.Start → Lengths
-lengths s = lengthsOf (lentOf 0 [] (s .args .payload .now) (s .args .file .now) (s .args .request .now))
-
-abbrev start : tie.After-enum-told → tie.Start
-start c = c .before .before .before .before .before .before
-
-known : (c : tie.After-enum-told) → Accepted (run-of (start c)) (lengths (start c))
-known c =
-    accepted (run-of (start c)) (lengths (start c)) (sym (c .before .before .run-ruling .ensures) ∙ c .enum-told .given .1)
-
-run-ruling-requires : tie.Need-run-ruling-requires
-run-ruling-requires c κs = tt
-
-enum-known-ruling : tie.Need-enum-known-ruling
-enum-known-ruling c = search needs
-
-refused-requires : tie.Need-refused-requires
-refused-requires c κs = tt
-
-enum-told : tie.Need-enum-told
-enum-told c = search needs
-
-on-silence-requires : tie.Need-on-silence-requires
-on-silence-requires c κs = tt
+on-no-reply-requires : tie.Need-on-no-reply-requires
+on-no-reply-requires c κs = tt
 
 none-requires : tie.Need-none-requires
 none-requires c κs = tt
@@ -45,18 +14,8 @@ none-requires c κs = tt
 no-data-requires : tie.Need-no-data-requires
 no-data-requires c κs = tt
 
-carry-out-requires : tie.Need-carry-out-requires
-carry-out-requires c κs =
-    let t = c .before .before .before .before .before in
-    let s = start t in
-    let file = file-served (run-of s .direction) (lengths s) (known t .buffers) in
-    (inr (c .before .before .before .before .on-silence .ensures), known t .exchange, file)
-
-returns : tie.Need-returns
-unfolding silenceCall
-returns c =
-    let g = c .before .before in
-    rw (← g .before .before .run-ruling .ensures, g .ruling .given .1, c .refused .ensures)
+run-call-requires : tie.Need-run-call-requires
+run-call-requires c κs = inr (c .before .before .before .before .on-no-reply .ensures)
 
 same-length : tie.Need-same-length
 same-length c = search needs
@@ -64,33 +23,21 @@ same-length c = search needs
 same-length-2 : tie.Need-same-length-2
 same-length-2 c = search needs
 
-returns-2 : tie.Need-returns-2
-unfolding silenceCall
-returns-2 c =
+returns : tie.Need-returns
+unfolding noReplyCall
+returns c =
     let o = c .before .before .before .before in
     let d = o .before .before .before in
-    let t = d .before .before in
-    rw (
-      ← t .before .before .before .run-ruling .ensures,
-      t .before .enum-told .given .1,
-      ← d .before .none .ensures,
-      ← d .no-data .ensures,
-      ← t .on-silence .ensures,
-    ) (o .carry-out .ensures)
+    rw (← d .before .none .ensures, ← d .no-data .ensures, ← d .before .before .on-no-reply .ensures) (o .run-call .ensures)
 
 pub no-reply-spec : {M : Type 1} → statement M
 no-reply-spec =
     tie.close
     (tie.spec
-    run-ruling-requires
-    enum-known-ruling
-    refused-requires
-    enum-told
-    on-silence-requires
+    on-no-reply-requires
     none-requires
     no-data-requires
-    carry-out-requires
-    returns
+    run-call-requires
     same-length
     same-length-2
-    returns-2)
+    returns)

@@ -1,0 +1,2 @@
+-- The definitions of the steps of one download.
+pub mod Downloads

@@ -1,0 +1,2 @@
+// What each step of one download does: judged by document 01's refusals, then carried out on that transaction alone.
+pub mod downloads;

@@ -1,0 +1,20 @@
+-- `set_nonce` meets its contract. Assumes nothing.
+use mathlib.Core.Path.{_≡_, sym}
+use native.Mathlib.Omega.{arith}
+use lib.ListN.{length}
+use lib.Seq.{set-out}
+use borrow.Author.Needs.{needs}
+use Rattle.bank_state.specs.Limits.{nonceCount}
+use Rattle.bank_openings.proofs.openings.set_nonce.Statement.{statement}
+use Rattle.bank_openings.proofs.openings.set_nonce.Tie as tie
+
+sized : (c : tie.Start) → length (c .args .nonces) ≡ nonceCount
+sized c = c .good .0 .1 .0 .1
+
+returns-2 : tie.Need-returns-2
+returns-2 c =
+    let long = sized (c .before) in
+    sym (set-out (c .before .args .nonces) (c .before .args .i) (c .before .args .nonce) (omega arith))
+
+pub set-nonce-spec : {M : Type 1} → statement M
+set-nonce-spec = tie.close (tie.spec (λ c. search needs) (λ c. search needs) (λ c. search needs) returns-2)

@@ -1,0 +1,3 @@
+-- The definitions of openings and of order numbers.
+pub mod OrderNumbers
+pub mod Openings

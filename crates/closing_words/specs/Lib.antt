@@ -1,0 +1,2 @@
+-- The definitions of the closing words as text.
+pub mod Closing

@@ -1,0 +1,2 @@
+// The closing words of a client run as text.
+pub mod closing;

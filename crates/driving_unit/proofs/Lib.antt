@@ -1,0 +1,4 @@
+-- The laws that several proofs cite.
+pub mod Parts
+pub mod Begins
+pub mod Steps

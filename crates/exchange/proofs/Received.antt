@@ -1,0 +1,97 @@
+-- What a call leaves of the view that one run has: its requests that the bank received, and the replies to it. Assumes nothing.
+use Prim.Native.Nat.{ℕ}
+use mathlib.Core.List.{List, _∷_, List·Memᴰ as In, List·Memᴰ·head as here, List·Memᴰ·tail as there}
+use mathlib.Core.Path.{_≡_, refl, sym, ap, _∙_, subst}
+use native.Mathlib.Omega.{arith}
+use Rattle.frame_table.specs.declared.fields.Fields.{Fields}
+use Rattle.frame_table.specs.Names.{subscriber, exchange, form}
+use Rattle.frame.specs.Reader.{readRequest}
+use Rattle.frame_table.specs.Table.{isRequestForm}
+use Rattle.client.specs.declared.run.Answer.{Answer}
+use Rattle.client.specs.declared.run.Answer.the-variants as answer
+use Rattle.client.specs.Run.{Lent, ClientCall}
+use Rattle.exchange.specs.Course.{Call, Issue, Exchange, Arrival, Course, afterRun, exec}
+use Rattle.exchange.specs.Terms.{IssuedBy, Received}
+use Rattle.exchange.specs.Demand3.{Allowed, OneExchangeNumber}
+use Rattle.exchange.proofs.Clients.{runPast, issued-in, other-past, Parts}
+use Rattle.exchange.proofs.Courses.{Copied, one-issue, call-keeps, copied-call, run-issues, call-issues, in-more, run-leaves}
+use Rattle.exchange.proofs.Joint.{counts}
+use Rattle.exchange.proofs.Outcome.{request-of}
+
+-- a frame answered before a call is a copy of a request issued before it
+module _ (k : Call) (s : Course) (v : Parts s) (copies : Copied s) (q : Allowed k s) (numbers : OneExchangeNumber (exec k s))
+    (i : ℕ) where
+  pub received-earlier : (e : Exchange) → In e (s .exchanged) → IssuedBy i (e .request) (exec k s) → IssuedBy i (e .request) s
+  received-earlier e m (x, n, r, f) =
+      let w = call-keeps k s v q in
+      let c = copied-call k s copies q in
+      let y = request-of (exec k s) w c numbers i (issued-in i n r) in
+      let z : readRequest (x .frame) ≡ readRequest (e .request) = ap readRequest f in
+      let g = ap subscriber z in
+      let o = copies e m (counts (exec k s) w c numbers (e .request) (ap (λ (a : Fields). isRequestForm (form a)) (sym z) ∙ y .0)
+      (let l = y .1 in omega arith) (let l = y .2 in omega arith)) in
+      let same : o .1 .0 ≡ x =
+      one-issue (exec k s) numbers (in-more (call-issues k s) (o .1 .1)) n
+      (ap (λ (l : List ℕ). exchange (readRequest l)) (o .1 .3 ∙ sym f)) in
+      (o .1 .0, o .1 .1, ap (λ (u : Issue). u .run) same ∙ r, o .1 .3)
+
+-- the run, its requests received, its requests issued and the replies that reached it are the same in both courses
+pub record Same (i : ℕ) (s t : Course) : Type 0 where
+  pub past : runPast t i ≡ runPast s i
+  pub received : (e : Exchange) → Received i e t → Received i e s
+  pub keeps : (e : Exchange) → Received i e s → Received i e t
+  pub arrivals : (a : Arrival) → In a (t .arrived) → a .run ≡ i → In a (s .arrived)
+  pub arrived : (a : Arrival) → In a (s .arrived) → In a (t .arrived)
+  pub issued : (x : Issue) → In x (t .issued) → x .run ≡ i → In x (s .issued)
+
+pub same-refl : (i : ℕ) (s : Course) → Same i s s
+same-refl i s =
+    record { past = refl; received = λ e c. c; keeps = λ e c. c; arrivals = λ a m r. m; arrived = λ a m. m; issued = λ x m r. m }
+
+-- the call of another run
+module _ (s : Course) (i j : ℕ) (d : i ≡ j → ⊥) (k : ClientCall) (l : Lent) where
+  other-issued : (a : Answer) (x : Issue) → In x (afterRun a j k (l .payload) s .issued) → x .run ≡ i → In x (s .issued)
+  other-issued (answer.Request n) x (here e) r = absurd (d (sym r ∙ ap (λ (u : Issue). u .run) e))
+  other-issued (answer.Request n) x (there m) r = m
+  other-issued answer.Ignored x m r = m
+  other-issued (answer.Closed w) x m r = m
+  other-issued (answer.Refused f) x m r = m
+
+  pub other-same : (a : Answer) → Same i s (afterRun a j k (l .payload) s)
+  other-same a =
+      let w = run-leaves s j k (l .payload) a in
+      let more = run-issues s j k (l .payload) a in record {
+        past = other-past s j k l a i d;
+        received = λ e c. (
+          subst (In e) (w .0 .exchanged) (c .0),
+          (c .1 .0, other-issued a (c .1 .0) (c .1 .1) (c .1 .2), c .1 .2, c .1 .3),
+        );
+        keeps = λ e c. (subst (In e) (sym (w .0 .exchanged)) (c .0), (c .1 .0, in-more more (c .1 .1), c .1 .2, c .1 .3));
+        arrivals = λ b m r. subst (In b) (w .1) m;
+        arrived = λ b m. subst (In b) (sym (w .1)) m;
+        issued = other-issued a;
+      }
+
+-- a frame that is no copy of a request of the run
+pub foreign-same : {i : ℕ} {s t : Course} {e : Exchange} {frame : List ℕ} → t .exchanged ≡ e ∷ s .exchanged → e .request ≡ frame →
+    t .issued ≡ s .issued →
+    t .arrived ≡ s .arrived → runPast t i ≡ runPast s i → (IssuedBy i frame s → ⊥) → Same i s t
+foreign-same {i} {s} {t} {e} {frame} entered asked issues arrivals past foreign = record {
+  past = past;
+  received = λ x c. at x (back (x .request) (c .1)) (subst (In x) entered (c .0));
+  keeps = λ x c. (
+    subst (In x) (sym entered) (there (c .0)),
+    subst
+        (λ (l : List Issue). (y : Issue) × In y l × (y .run ≡ i) × (y .frame ≡ x .request)) (sym issues) (c .1),
+  );
+  arrivals = λ a m r. subst (In a) arrivals m;
+  arrived = λ a m. subst (In a) (sym arrivals) m;
+  issued = λ x m r. subst (In x) issues m;
+}
+  where
+    back : (f : List ℕ) → IssuedBy i f t → IssuedBy i f s
+    back f c = subst (λ (l : List Issue). (y : Issue) × In y l × (y .run ≡ i) × (y .frame ≡ f)) issues c
+
+    at : (x : Exchange) → IssuedBy i (x .request) s → In x (e ∷ s .exchanged) → Received i x s
+    at x c (here z) = absurd (foreign (c .0, c .1, c .2, c .3 ∙ ap (λ (y : Exchange). y .request) z ∙ asked))
+    at x c (there m) = (m, c)

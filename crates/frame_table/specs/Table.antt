@@ -1,0 +1,194 @@
+-- Document 01, "The frame": the fields by tag, and the forms as sets of tags.
+use Prim.Native.Nat.{ℕ, _+_, _/_, _%_, _^_}
+use mathlib.Core.List.{List, [], _∷_}
+use mathlib.Core.Bool.{Bool, true, false, cond, _&&_, _||_}
+use lib.ListN.{getD}
+use lib.Dec.{leb, eqb}
+use Rattle.frame_table.specs.declared.table.Field.{Field}
+use Rattle.frame_table.specs.declared.table.Form.{Form}
+use Rattle.frame_table.specs.declared.table.Form.the-variants.{
+  NoForm,
+  UploadOpening,
+  DownloadOpening,
+  UploadTransfer,
+  DownloadTransfer,
+  Receipt,
+  UploadOpened,
+  DownloadOpened,
+  SegmentTaken,
+  DownloadSegment,
+  ReceiptAnswered,
+  Unreadable,
+  Refusal,
+}
+use Rattle.frame_table.specs.declared.table.FormRow.{FormRow}
+
+-- "A frame has at most 1,024 bytes"
+abbrev pub frameLimit : ℕ
+frameLimit = 1024
+
+-- how many tags there are, from 0 on
+abbrev pub tagCount : ℕ
+tagCount = 15
+
+-- "Tags (hex)": 01 phase
+abbrev pub phaseTag : ℕ
+phaseTag = 1
+
+-- 02 subscriber
+abbrev pub subscriberTag : ℕ
+subscriberTag = 2
+
+-- 03 exchange number
+abbrev pub exchangeTag : ℕ
+exchangeTag = 3
+
+-- 04 order type
+abbrev pub orderTypeTag : ℕ
+orderTypeTag = 4
+
+-- 05 nonce
+abbrev pub nonceTag : ℕ
+nonceTag = 5
+
+-- 06 timestamp
+abbrev pub timestampTag : ℕ
+timestampTag = 6
+
+-- 07 number of segments
+abbrev pub segmentsTag : ℕ
+segmentsTag = 7
+
+-- 08 transaction ID
+abbrev pub transactionTag : ℕ
+transactionTag = 8
+
+-- 09 segment number
+abbrev pub segmentTag : ℕ
+segmentTag = 9
+
+-- 0A last mark
+abbrev pub lastMarkTag : ℕ
+lastMarkTag = 10
+
+-- 0B data
+abbrev pub dataTag : ℕ
+dataTag = 11
+
+-- 0C receipt code
+abbrev pub receiptCodeTag : ℕ
+receiptCodeTag = 12
+
+-- 0D return code
+abbrev pub returnCodeTag : ℕ
+returnCodeTag = 13
+
+-- 0E order number
+abbrev pub orderNumberTag : ℕ
+orderNumberTag = 14
+
+-- "content lengths" (0: 1 or more), and the two ranges in which each byte of the content is, for each tag from 0 on
+abbrev pub fieldTable : List Field
+fieldTable =
+    (1, 1, 0, 1, 0)  -- 00: no tag
+    ∷ (1, 1, 3, 1, 3)  -- "phase, 1 byte: 1 initialisation, 2 transfer, 3 receipt"
+    ∷ (2, 0, 255, 0, 255)  -- "subscriber, 2"
+    ∷ (4, 0, 255, 0, 255)  -- "exchange number, 4"
+    ∷ (3, 48, 57, 65, 90)  -- "order type, 3 capitals or digits"
+    ∷ (16, 0, 255, 0, 255)  -- "nonce, 16"
+    ∷ (4, 0, 255, 0, 255)  -- "timestamp, 4"
+    ∷ (2, 0, 255, 0, 255)  -- "number of segments, 2"
+    ∷ (16, 0, 255, 0, 255)  -- "transaction ID, 16"
+    ∷ (2, 0, 255, 0, 255)  -- "segment number, 2"
+    ∷ (1, 0, 1, 0, 1)  -- "last mark, 1, 0 or 1"
+    ∷ (0, 0, 255, 0, 255)  -- "data, 1 or more"
+    ∷ (1, 0, 1, 0, 1)  -- "receipt code, 1: 0 taken, 1 not taken"
+    ∷ (6, 48, 57, 48, 57)  -- "return code, 6 ASCII digits"
+    ∷ (4, 0, 255, 0, 255)  -- "order number, 4"
+    ∷ []
+
+abbrev pub fieldRow : ℕ → Field
+fieldRow t = getD fieldTable t (0, 0, 0, 0, 0)
+
+-- the content length of a tag
+unfoldable pub width : ℕ → ℕ
+width t = fieldRow t .0
+
+unfoldable pub inRange : ℕ → ℕ → ℕ → Bool
+inRange low high b = leb low b && leb b high
+
+-- the byte is in the value list of the tag
+unfoldable pub allowed : ℕ → ℕ → Bool
+allowed t b = inRange (fieldRow t .1) (fieldRow t .2) b || inRange (fieldRow t .3) (fieldRow t .4) b
+
+-- a set of tags as a number: bit t for tag t
+abbrev pub tagSet : List ℕ → ℕ
+tagSet [] = 0
+tagSet (t ∷ ts) = 2 ^ t + tagSet ts
+
+-- the tag is in the set
+abbrev pub has : ℕ → ℕ → Bool
+has m t = eqb (m / 2 ^ t % 2) 1
+
+-- "Request forms" and "Reply forms": tags, a request form's phase (0 in a reply form: any), name
+abbrev pub formTable : List FormRow
+formTable =
+    (tagSet (1 ∷ 2 ∷ 3 ∷ 4 ∷ 5 ∷ 6 ∷ 7 ∷ []), 1, UploadOpening)  -- "upload opening (phase 1): 01 to 07"
+    ∷ (tagSet (1 ∷ 2 ∷ 3 ∷ 4 ∷ 5 ∷ 6 ∷ []), 1, DownloadOpening)  -- "download opening (phase 1): 01 to 06"
+    ∷ (tagSet (1 ∷ 2 ∷ 3 ∷ 8 ∷ 9 ∷ 10 ∷ 11 ∷ []), 2, UploadTransfer)  -- "upload transfer (2): 01 02 03 08 09 0A 0B"
+    ∷ (tagSet (1 ∷ 2 ∷ 3 ∷ 8 ∷ 9 ∷ []), 2, DownloadTransfer)  -- "download transfer (2): 01 02 03 08 09"
+    ∷ (tagSet (1 ∷ 2 ∷ 3 ∷ 8 ∷ 12 ∷ []), 3, Receipt)  -- "receipt (3): 01 02 03 08 0C"
+    ∷ (tagSet (1 ∷ 3 ∷ 8 ∷ 13 ∷ 14 ∷ []), 0, UploadOpened)  -- "upload opened 01 03 08 0D 0E"
+    ∷ (tagSet (1 ∷ 3 ∷ 7 ∷ 8 ∷ 9 ∷ 10 ∷ 11 ∷ 13 ∷ []), 0, DownloadOpened)  -- "download opened 01 03 07 08 09 0A 0B 0D"
+    ∷ (tagSet (1 ∷ 3 ∷ 8 ∷ 9 ∷ 13 ∷ []), 0, SegmentTaken)  -- "upload segment taken and recovery point 01 03 08 09 0D"
+    ∷ (tagSet (1 ∷ 3 ∷ 8 ∷ 9 ∷ 10 ∷ 11 ∷ 13 ∷ []), 0, DownloadSegment)  -- "download segment 01 03 08 09 0A 0B 0D"
+    ∷ (tagSet (1 ∷ 3 ∷ 8 ∷ 13 ∷ []), 0, ReceiptAnswered)  -- "receipt answered 01 03 08 0D"
+    ∷ (tagSet (13 ∷ []), 0, Unreadable)  -- "unreadable request 0D"
+    ∷ (tagSet (1 ∷ 3 ∷ 13 ∷ []), 0, Refusal)  -- "any other refusal 01 03 0D"
+    ∷ []
+
+-- the row has these tags, and this phase or any
+unfoldable pub rowFits : FormRow → ℕ → ℕ → Bool
+rowFits r m p = eqb (r .0) m && (eqb (r .1) 0 || eqb (r .1) p)
+
+unfoldable pub findForm : List FormRow → ℕ → ℕ → Form
+findForm [] m p = NoForm
+findForm (r ∷ l) m p = cond (rowFits r m p) (r .2) (findForm l m p)
+
+-- the form with these tags and this phase
+unfoldable pub formOf : ℕ → ℕ → Form
+formOf m p = findForm formTable m p
+
+abbrev pub isRequestForm : Form → Bool
+isRequestForm NoForm = false
+isRequestForm UploadOpening = true
+isRequestForm DownloadOpening = true
+isRequestForm UploadTransfer = true
+isRequestForm DownloadTransfer = true
+isRequestForm Receipt = true
+isRequestForm UploadOpened = false
+isRequestForm DownloadOpened = false
+isRequestForm SegmentTaken = false
+isRequestForm DownloadSegment = false
+isRequestForm ReceiptAnswered = false
+isRequestForm Unreadable = false
+isRequestForm Refusal = false
+
+abbrev pub isReplyForm : Form → Bool
+isReplyForm NoForm = false
+isReplyForm UploadOpening = false
+isReplyForm DownloadOpening = false
+isReplyForm UploadTransfer = false
+isReplyForm DownloadTransfer = false
+isReplyForm Receipt = false
+isReplyForm UploadOpened = true
+isReplyForm DownloadOpened = true
+isReplyForm SegmentTaken = true
+isReplyForm DownloadSegment = true
+isReplyForm ReceiptAnswered = true
+isReplyForm Unreadable = true
+isReplyForm Refusal = true
+
+-- "these forms only"
+abbrev pub isForm : Form → Bool
+isForm x = isRequestForm x || isReplyForm x

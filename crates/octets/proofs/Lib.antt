@@ -1,0 +1,3 @@
+-- The laws of tests and of numbers of bytes.
+pub mod Tests
+pub mod Numbers

@@ -1,0 +1,2 @@
+-- The definitions of bytes as numbers and as fields, and of what a copy leaves.
+pub mod Bytes
