@@ -261,11 +261,17 @@ module _ (s : Course) (i : ℕ) (k : ClientCall) (l : Lent) where
   bank-past b (answer.Refused r) = (b, refl)
 
 module _ (s : Course) (v : Parts s) (i : ℕ) (e : Event) where
+  -- what a fair event leaves of the run
+  pub run-fair : Fair (Gave (v .bank .past .history)) e (runPast s i) → RunHolds (v .bank .past .history) (history.after e (runPast s i))
+  run-fair fair =
+      let h = v .bank .past .history in
+      kept (Gave h) (fileIn h) (bank-replies h (v .bank .holds .invariant .sound) (v .bank .proper)) (runPast s i) e fair (v .runs i)
+
   pub run-keeps : ((n : ℕ) → callOf e (s .runs i) .answer ≡ answer.Request n → Issued (callOf e (s .runs i)) (lentTo e) n) →
-      Fair (Gave (v .bank .past .history)) e (runPast s i) →
+      RunHolds (v .bank .past .history) (history.after e (runPast s i)) →
       Parts (afterRun (callOf e (s .runs i) .answer) i (callOf e (s .runs i)) (lentTo e .payload) s)
   unfolding history.after
-  run-keeps issues fair = record {
+  run-keeps issues own = record {
     bank = after .0;
     runs = λ j. subst (λ (p : bank.Past). RunHolds (p .history) (now j))
         (sym (after .1)) (at j (ℕ-discrete j i));
@@ -282,10 +288,6 @@ module _ (s : Course) (v : Parts s) (i : ℕ) (e : Event) where
 
       after : (n : BankPart (afterRun (k .answer) i k (lentTo e .payload) s)) × (n .past ≡ v .bank .past)
       after = bank-past s i k (lentTo e) (v .bank) (k .answer)
-
-      own : RunHolds h (history.after e (runPast s i))
-      own = kept (Gave h) (fileIn h) (bank-replies h (v .bank .holds .invariant .sound) (v .bank .proper)) (runPast s i) e fair
-          (v .runs i)
 
       at : (j : ℕ) → Dec (j ≡ i) → RunHolds h (now j)
       at j (yes z) = subst (λ (n : ℕ). RunHolds h (now n)) (sym z)

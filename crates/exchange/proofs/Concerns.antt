@@ -1,4 +1,4 @@
--- What a call is to one run: nothing, a copy of its request, its begin, or a reply to it. Assumes nothing.
+-- What a call is to one run: nothing, a copy of its request, its begin, or a reply to its request. Assumes nothing.
 use Prim.Native.Nat.{ℕ, _≤_}
 use mathlib.Core.Bool.{Bool, true, false}
 use mathlib.Core.List.{List, _∷_, List·Memᴰ as In, List·Memᴰ·head as here, List·Memᴰ·tail as there}
@@ -55,11 +55,13 @@ use Rattle.exchange.specs.Terms.{IssuedBy, Answered, NoIdleHour, InTurn}
 use Rattle.exchange.specs.Demand3.{isSubscribers, Left, Allowed, OneExchangeNumber}
 use Rattle.exchange.proofs.Bank.{Entered, frame-enters}
 use Rattle.exchange.proofs.Clients.{issuesOf, issued-in, OpenedBy, Parts}
-use Rattle.exchange.proofs.Courses.{Copied, one-issue, frame-runs, run-leaves, reached-leaves}
-use Rattle.exchange.proofs.Received.{Same, same-refl, other-same, foreign-same}
+use Rattle.exchange.proofs.Issues.{one-issue}
+use Rattle.exchange.proofs.Outstanding.{GivenFor, other-ignored, other-stays}
+use Rattle.exchange.proofs.Courses.{Copied, frame-runs, run-leaves, reached-leaves}
+use Rattle.exchange.proofs.Received.{ToAnother, or-another, Same, same-refl, other-same, foreign-same, ignored-same}
 use Rattle.exchange.proofs.Joint.{counts}
 use Rattle.exchange.proofs.Outcome.{request-of}
-use Rattle.exchange.proofs.Runs.{by-number}
+use Rattle.exchange.proofs.Runs.{by-number, reply-past}
 use Rattle.exchange.proofs.Standing.{Standing, upload-standing, download-standing}
 
 -- the transactions that the run has had opened stay as they are; a download where its subscriber has nothing else open
@@ -85,8 +87,8 @@ pub data Concern (s : Course) (v : Parts s) (i : ℕ) : Call → Type 0 where
   own-begin : {c : Client} {way : Direction} {u first : ℕ} {l : Lent} → c ≡ s .runs i →
       answerNumber (beginCall c way u first l .answer) ≡ 0 → Concern s v i (begins i c way u first l)
   own-reply : {c : Client} {reply : List ℕ} {l : Lent} → answerNumber (replyCall c reply l .answer) ≡ 0 → Left i c l s →
-      (e : Exchange) × In e (s .exchanged) × (e .reply ≡ reply) × IssuedBy i (e .request) s →
-      ((a : Arrival) → In a (s .arrived) → a .run ≡ i → a .reply ≡ reply → ⊥) → Concern s v i (replyArrives i c reply l)
+      GivenFor i reply s → ((a : Arrival) → In a (s .arrived) → a .run ≡ i → a .reply ≡ reply → ⊥) →
+      Concern s v i (replyArrives i c reply l)
 
 -- a call that changes nothing
 nothing-new : (s : Course) (v : Parts s) (i : ℕ) (t : Course) → t ≡ s → Same i s t × Untouched s v i t
@@ -217,7 +219,7 @@ module _ (s : Course) (v : Parts s) (copies : Copied s) (numbers : OneExchangeNu
 
   file-same : (k : FileCall) (m : ℕ) (file : List ℕ) (a : FileAnswer) → Same i s (afterFile a k m file s)
   file-same k m file fileAnswer.Done =
-      record { past = refl; received = λ e c. c; keeps = λ e c. c; arrivals = λ a m r. m; arrived = λ a m. m; issued = λ x m r. m }
+      record { past = refl; received = λ e c. c; keeps = λ j e c. c; arrivals = λ a m r. inl m; arrived = λ a m. m; issued = λ x m r. m }
   file-same k m file fileAnswer.WrongLength = same-refl i s
   file-same k m file fileAnswer.NoMailbox = same-refl i s
   file-same k m file fileAnswer.WrongFile = same-refl i s
@@ -274,9 +276,10 @@ module _ (s : Course) (v : Parts s) (copies : Copied s) (numbers : OneExchangeNu
   reached-same : (j : ℕ) → (i ≡ j → ⊥) → (reply : List ℕ) (a : Answer) (t : Course) → Same i s t → Same i s (reached a j reply t)
   reached-same j d reply a t z = go a
     where
-      behind : (b : Arrival) → In b (record { run = j; reply = reply } ∷ t .arrived) → b .run ≡ i → In b (s .arrived)
+      behind : (b : Arrival) → In b (record { run = j; reply = reply } ∷ t .arrived) → b .run ≡ i →
+          In b (s .arrived) ⊎ ToAnother i (b .reply) (arrive j reply t)
       behind b (here e) r = absurd (d (sym r ∙ ap (λ (x : Arrival). x .run) e))
-      behind b (there m) r = z .arrivals b m r
+      behind b (there m) r = or-another (λ n. n) (λ n e c. c) (z .arrivals b m r)
 
       new : Same i s (arrive j reply t)
       new = record {
@@ -293,6 +296,34 @@ module _ (s : Course) (v : Parts s) (copies : Copied s) (numbers : OneExchangeNu
       go answer.Ignored = new
       go (answer.Closed w) = new
       go (answer.Refused r) = z
+
+  -- a reply that reaches the run: to its own request, or to another run's
+  reply-concern : (c : Client) (reply : List ℕ) (l : Lent) → answerNumber (replyCall c reply l .answer) ≡ 0 → Left i c l s →
+      (e : Exchange) × In e (s .exchanged) × (e .reply ≡ reply) × ((j : ℕ) × IssuedBy j (e .request) s) →
+      ((a : Arrival) → In a (s .arrived) → a .run ≡ i → a .reply ≡ reply → ⊥) → Concern s v i (replyArrives i c reply l)
+  unfolding exec
+  reply-concern c reply l done left (e, m, z, (j, copy)) fresh = at (ℕ-discrete j i)
+    where
+      k : ClientCall
+      k = replyCall c reply l
+
+      t : Answer → Course
+      t a = reached a i reply (afterRun a i k (l .payload) s)
+
+      done-run : answerNumber (replyCall (s .runs i) reply l .answer) ≡ 0
+      done-run = subst (λ (x : Client). answerNumber (replyCall x reply l .answer) ≡ 0) (left .0) done
+
+      at : Dec (j ≡ i) → Concern s v i (replyArrives i c reply l)
+      at (yes same) = own-reply done left (e, m, z, subst (λ (n : ℕ). IssuedBy n (e .request) s) same copy) fresh
+      at (no other) =
+          let ignored : k .answer ≡ answer.Ignored = ap (λ (x : Client). replyCall x reply l .answer) (left .0)
+          ∙ other-ignored s v numbers i reply l done-run (left .1, left .2) j other (e, m, z, copy) in
+          elsewhere
+          (ignored-same (ap (λ (a : Answer). t a .exchanged) ignored) (ap (λ (a : Answer). t a .issued) ignored)
+          (ap (λ (a : Answer). t a .arrived) ignored)
+          (reply-past s i c reply l (left .0) ∙ other-stays s v numbers i reply l done-run (left .1, left .2) j other (e, m, z, copy))
+          (record { run = j; other = other; exchange = e; received = (m, copy); given = z }))
+          (bank-same s v i (t (k .answer)) (ap (λ (a : Answer). t a .bank) ignored))
 
   pub concern : (k : Call) → Allowed k s → InTurn i k s → Concern s v i k
   unfolding exec
@@ -328,7 +359,7 @@ module _ (s : Course) (v : Parts s) (copies : Copied s) (numbers : OneExchangeNu
           subst (λ (n : ℕ). Allowed (replyArrives n c reply l) s → InTurn i (replyArrives n c reply l) s →
           Concern s v i (replyArrives n c reply l)) z (λ a b.
           by-number (Concern s v i (replyArrives i c reply l)) (k .answer)
-          (λ e. let y = a e in own-reply e (y .0) (y .1) (b e refl))
+          (λ e. let y = a e in reply-concern c reply l e (y .0) (y .1) (b e refl))
           (λ r e. let n = nothing-new s v i (t i) (ap (λ (x : Answer). reached x i reply (afterRun x i k (l .payload) s)) e) in
           elsewhere (n .0) (n .1))) q turn
   concern (noReply j c l) q turn = at (ℕ-discrete i j)

@@ -1,11 +1,9 @@
 -- What holds of every course: both ends' parts, the frames that are copies, and what each call leaves as it was. Assumes nothing.
 use Prim.Native.Nat.{ℕ}
 use mathlib.Core.Bool.{true}
-use mathlib.Core.List.{List, [], _∷_, map, List·Memᴰ as In, List·Memᴰ·head as here, List·Memᴰ·tail as there, List·Memᴰ·not-nil as in-none}
-use mathlib.Core.Path.{_≡_, refl, sym, ap, _∙_, subst}
-use Rattle.frame_table.specs.Names.{exchange}
-use Rattle.frame.specs.Reader.{readRequest, readReply}
-use Rattle.frame.specs.Row.{dataOf}
+use mathlib.Core.List.{List, [], _∷_, List·Memᴰ as In, List·Memᴰ·head as here, List·Memᴰ·tail as there, List·Memᴰ·not-nil as in-none}
+use mathlib.Core.Path.{_≡_, refl, sym, subst}
+use native.Mathlib.Decide.{ℕ-discrete}
 use Rattle.bank_state.specs.declared.state.Bank.{Bank}
 use Rattle.bank_state.specs.Clock.{advanced}
 use Rattle.bank_state.specs.State.{World}
@@ -21,7 +19,8 @@ use Rattle.client.specs.declared.run.Client.{Client}
 use Rattle.client.specs.declared.run.Direction.{Direction}
 use Rattle.client.specs.Calls.{beginCall, replyCall, noReplyCall}
 use Rattle.client.specs.Run.{Lent, ClientCall, answerNumber}
-use Rattle.client_history.specs.History.{Begin, Reply, NoReply, GivenTo}
+use Rattle.client_history.specs.History.{Begin, Reply, NoReply}
+use Rattle.client_history.specs.History as history
 use Rattle.client_history.specs.Invariant.{not-begun}
 use Rattle.exchange.specs.Course.{
   Call,
@@ -30,7 +29,6 @@ use Rattle.exchange.specs.Course.{
   begins,
   replyArrives,
   noReply,
-  Issue,
   Exchange,
   Course,
   start,
@@ -43,11 +41,11 @@ use Rattle.exchange.specs.Course.{
 }
 use Rattle.exchange.specs.Terms.{IssuedBy, Answered}
 use Rattle.exchange.specs.Demand3.{isSubscribers, Allowed, AllAllowed, OneExchangeNumber}
-use Rattle.exchange.specs.Lists.{NoDup, more}
 use Rattle.exchange.proofs.Bytes.{begin-issues, reply-issues, no-reply-issues}
-use Rattle.exchange.proofs.Told.{Gave}
-use Rattle.exchange.proofs.Bank.{found, Later, frame-keeps, file-keeps, bank-start}
-use Rattle.exchange.proofs.Clients.{asIssue, issuesOf, runPast, issued-in, run-lifts, RunHolds, Parts, arrive-keeps, run-keeps}
+use Rattle.exchange.proofs.Bank.{Later, frame-keeps, file-keeps, bank-start}
+use Rattle.exchange.proofs.Clients.{issuesOf, runPast, run-lifts, RunHolds, Parts, arrive-keeps, run-fair, run-keeps}
+use Rattle.exchange.proofs.Issues.{issued-more, numbers-earlier, numbers-before}
+use Rattle.exchange.proofs.Outstanding.{given-to, other-stays}
 
 -- ---- both ends
 
@@ -72,26 +70,6 @@ reply-called s v i reply k payload = go (k .answer)
     go answer.Ignored f = arrive-keeps _ (f refl) i reply
     go (answer.Closed w) f = arrive-keeps _ (f refl) i reply
     go (answer.Refused r) f = v
-
--- a copy of a request of run i that the bank answered: its reply was given to it
-pub given-to : (s : Course) (v : Parts s) (i : ℕ) (reply : List ℕ) →
-    (e : Exchange) × In e (s .exchanged) × (e .reply ≡ reply) × IssuedBy i (e .request) s →
-    GivenTo (Gave (v .bank .past .history)) reply (runPast s i)
-given-to s v i reply (e, m, z, (x, n, r, c)) =
-    let f = found (v .bank .entries) m in
-    record {
-      issue = asIssue x;
-      own = issued-in i n r;
-      given = record {
-        exchange = f .exchange;
-        before = f .before;
-        stands = f .stands;
-        request = sym (f .same .request) ∙ ap readRequest (sym c);
-        requestData = sym (f .same .requestData) ∙ ap dataOf (sym c);
-        reply = sym (f .same .reply) ∙ ap readReply z;
-        replyData = sym (f .same .replyData) ∙ ap dataOf z;
-      };
-    }
 
 -- a call of the bank leaves the runs
 pub frame-runs : (s : Course) (w : World) (time : ℕ) (ids frame buffer : List ℕ) (i : ℕ) →
@@ -135,17 +113,35 @@ unfolding exec
 begin-keeps s v i c way subscriber first l a =
     run-called s v i (beginCall c way subscriber first l) (l .payload) (λ z.
     subst (λ (x : Client). let k = beginCall x way subscriber first l in Parts (afterRun (k .answer) i k (l .payload) s)) (sym (a z))
-    (run-keeps s v i (Begin way subscriber first l) (begin-issues (s .runs i) l way subscriber first) tt))
+    (run-keeps s v i (Begin way subscriber first l) (begin-issues (s .runs i) l way subscriber first)
+    (run-fair s v i (Begin way subscriber first l) tt)))
 
-reply-keeps : (s : Course) (v : Parts s) (i : ℕ) (c : Client) (reply : List ℕ) (l : Lent) →
+-- a reply to a request of the run is fair; one to a request of another run is ignored
+reply-holds : (s : Course) (v : Parts s) → OneExchangeNumber s → (i : ℕ) (reply : List ℕ) (l : Lent) →
+    answerNumber (replyCall (s .runs i) reply l .answer) ≡ 0 → (l .payload ≡ s .payloads i) × (l .file ≡ s .files i) →
+    (e : Exchange) × In e (s .exchanged) × (e .reply ≡ reply) × ((j : ℕ) × IssuedBy j (e .request) s) →
+    RunHolds (v .bank .past .history) (history.after (Reply reply l) (runPast s i))
+reply-holds s v numbers i reply l done left (e, m, z, (j, copy)) = at (ℕ-discrete j i)
+  where
+    at : Dec (j ≡ i) → RunHolds (v .bank .past .history) (history.after (Reply reply l) (runPast s i))
+    at (yes same) =
+        run-fair s v i (Reply reply l) (λ _. (
+          record { payload = left .0; file = left .1 },
+          given-to s v i reply (e, m, z, subst (λ (n : ℕ). IssuedBy n (e .request) s) same copy),
+        ))
+    at (no other) =
+        subst (RunHolds (v .bank .past .history)) (sym (other-stays s v numbers i reply l done left j other (e, m, z, copy))) (v .runs i)
+
+reply-keeps : (s : Course) (v : Parts s) → OneExchangeNumber s → (i : ℕ) (c : Client) (reply : List ℕ) (l : Lent) →
     Allowed (replyArrives i c reply l) s → Parts (exec (replyArrives i c reply l) s)
 unfolding exec
-reply-keeps s v i c reply l a =
+reply-keeps s v numbers i c reply l a =
     reply-called s v i reply (replyCall c reply l) (l .payload) (λ z.
     let q = a z in
     subst (λ (x : Client). let k = replyCall x reply l in Parts (afterRun (k .answer) i k (l .payload) s)) (sym (q .0 .0))
     (run-keeps s v i (Reply reply l) (reply-issues (s .runs i) l reply)
-    (λ _. (record { payload = q .0 .1; file = q .0 .2 }, given-to s v i reply (q .1)))))
+    (reply-holds s v numbers i reply l (subst (λ (x : Client). answerNumber (replyCall x reply l .answer) ≡ 0) (q .0 .0) z)
+    (q .0 .1, q .0 .2) (q .1))))
 
 no-reply-keeps : (s : Course) (v : Parts s) (i : ℕ) (c : Client) (l : Lent) → Allowed (noReply i c l) s → Parts (exec (noReply i c l) s)
 unfolding exec
@@ -153,72 +149,27 @@ no-reply-keeps s v i c l a =
     run-called s v i (noReplyCall c l) (l .payload) (λ z.
     let q = a z in
     subst (λ (x : Client). let k = noReplyCall x l in Parts (afterRun (k .answer) i k (l .payload) s)) (sym (q .0))
-    (run-keeps s v i (NoReply l) (no-reply-issues (s .runs i) l) (λ _. record { payload = q .1; file = q .2 })))
+    (run-keeps s v i (NoReply l) (no-reply-issues (s .runs i) l)
+    (run-fair s v i (NoReply l) (λ _. record { payload = q .1; file = q .2 }))))
 
-pub call-keeps : (k : Call) (s : Course) → Parts s → Allowed k s → Parts (exec k s)
-call-keeps (frameArrives w time ids frame buffer) s v a =
+pub call-keeps : (k : Call) (s : Course) → Parts s → OneExchangeNumber (exec k s) → Allowed k s → Parts (exec k s)
+call-keeps (frameArrives w time ids frame buffer) s v n a =
     bank-called v (frame-keeps s (v .bank) w time ids frame buffer _ a) (frame-runs s w time ids frame buffer)
-call-keeps (filePut b boxes m file) s v a = bank-called v (file-keeps s (v .bank) b boxes m file a) (file-runs s b boxes m file)
-call-keeps (begins i c way subscriber first l) s v a = begin-keeps s v i c way subscriber first l a
-call-keeps (replyArrives i c reply l) s v a = reply-keeps s v i c reply l a
-call-keeps (noReply i c l) s v a = no-reply-keeps s v i c l a
+call-keeps (filePut b boxes m file) s v n a = bank-called v (file-keeps s (v .bank) b boxes m file a) (file-runs s b boxes m file)
+call-keeps (begins i c way subscriber first l) s v n a = begin-keeps s v i c way subscriber first l a
+call-keeps (replyArrives i c reply l) s v n a = reply-keeps s v (numbers-earlier (replyArrives i c reply l) s n) i c reply l a
+call-keeps (noReply i c l) s v n a = no-reply-keeps s v i c l a
 
 pub parts-start : Parts start
 unfolding start issuesOf
 parts-start = record { bank = bank-start; runs = λ i. not-begun refl refl }
 
-pub parts : (ks : List Call) (s : Course) → Parts s → AllAllowed ks s → Parts (after ks s)
+pub parts : (ks : List Call) (s : Course) → Parts s → AllAllowed ks s → OneExchangeNumber (after ks s) → Parts (after ks s)
 unfolding after
-parts [] s v a = v
-parts (k ∷ ks) s v a = parts ks (exec k s) (call-keeps k s v (a .0)) (a .1)
+parts [] s v a n = v
+parts (k ∷ ks) s v a n = parts ks (exec k s) (call-keeps k s v (numbers-before ks (exec k s) n) (a .0)) (a .1) n
 
--- ---- what grows
-
--- the requests issued before a call stay: the call issues at most one more
-pub data Issues (l : List Issue) : List Issue → Type 0 where
-  same : Issues l l
-  one : {x : Issue} → Issues l (x ∷ l)
-
-pub in-more : {x : Issue} {l m : List Issue} → Issues l m → In x l → In x m
-in-more same k = k
-in-more one k = there k
-
-pub run-issues : (s : Course) (i : ℕ) (k : ClientCall) (payload : List ℕ) (a : Answer) →
-    Issues (s .issued) (afterRun a i k payload s .issued)
-run-issues s i k payload (answer.Request n) = one
-run-issues s i k payload answer.Ignored = same
-run-issues s i k payload (answer.Closed w) = same
-run-issues s i k payload (answer.Refused r) = same
-
-reached-issues : (s : Course) (i : ℕ) (reply : List ℕ) (k : ClientCall) (payload : List ℕ) (a : Answer) →
-    Issues (s .issued) (reached a i reply (afterRun a i k payload s) .issued)
-reached-issues s i reply k payload (answer.Request n) = one
-reached-issues s i reply k payload answer.Ignored = same
-reached-issues s i reply k payload (answer.Closed w) = same
-reached-issues s i reply k payload (answer.Refused r) = same
-
-pub call-issues : (k : Call) (s : Course) → Issues (s .issued) (exec k s .issued)
-unfolding exec
-call-issues (frameArrives w time ids frame buffer) s = go (frameCall w time ids frame buffer .answer)
-  where
-    go : (a : FrameAnswer) → Issues (s .issued) (afterFrame a (frameCall w time ids frame buffer) (advanced time w) frame s .issued)
-    go (frameAnswer.Reply n) = same
-    go frameAnswer.WrongLength = same
-call-issues (filePut b boxes m file) s = go (fileCall b m file boxes .answer)
-  where
-    go : (a : FileAnswer) → Issues (s .issued) (afterFile a (fileCall b m file boxes) m file s .issued)
-    go fileAnswer.Done = same
-    go fileAnswer.WrongLength = same
-    go fileAnswer.NoMailbox = same
-    go fileAnswer.WrongFile = same
-    go fileAnswer.MailboxFull = same
-call-issues (begins i c way subscriber first l) s =
-    let k = beginCall c way subscriber first l in run-issues s i k (l .payload) (k .answer)
-call-issues (replyArrives i c reply l) s = let k = replyCall c reply l in reached-issues s i reply k (l .payload) (k .answer)
-call-issues (noReply i c l) s = let k = noReplyCall c l in run-issues s i k (l .payload) (k .answer)
-
-pub issued-more : (k : Call) (s : Course) {i : ℕ} {frame : List ℕ} → IssuedBy i frame s → IssuedBy i frame (exec k s)
-issued-more k s (x, m, r, f) = (x, in-more (call-issues k s) m, r, f)
+-- ---- copies
 
 -- every frame that was answered under a subscriber's number is a copy of a request issued
 abbrev pub Copied : Course → Type 0
@@ -297,35 +248,3 @@ pub copied : (ks : List Call) (s : Course) → Copied s → AllAllowed ks s → 
 unfolding after
 copied [] s c q = c
 copied (k ∷ ks) s c q = copied ks (exec k s) (copied-call k s c (q .0)) (q .1)
-
--- ---- exchange numbers
-
-abbrev pub numberOf : Issue → ℕ
-numberOf x = exchange (readRequest (x .frame))
-
-mapped : {x : Issue} {l : List Issue} → In x l → In (numberOf x) (map numberOf l)
-mapped (here e) = here (ap numberOf e)
-mapped (there m) = there (mapped m)
-
-one-by-one : {x y : Issue} (l : List Issue) → NoDup (map numberOf l) → In x l → In y l → numberOf x ≡ numberOf y → x ≡ y
-one-by-one [] d m n e = absurd (in-none m)
-one-by-one (z ∷ l) (more f d) (here a) (here b) e = a ∙ sym b
-one-by-one (z ∷ l) (more f d) (here a) (there n) e = absurd (f (subst (λ (k : ℕ). In k (map numberOf l)) (sym e ∙ ap numberOf a)
-    (mapped n)))
-one-by-one (z ∷ l) (more f d) (there m) (here b) e = absurd (f (subst (λ (k : ℕ). In k (map numberOf l)) (e ∙ ap numberOf b) (mapped m)))
-one-by-one (z ∷ l) (more f d) (there m) (there n) e = one-by-one l d m n e
-
--- "no two requests of the list were issued under one exchange number"
-pub one-issue : (s : Course) → OneExchangeNumber s → {x y : Issue} → In x (s .issued) → In y (s .issued) → numberOf x ≡ numberOf y → x ≡ y
-unfolding OneExchangeNumber
-one-issue s n = one-by-one (s .issued) n
-
-fewer : {l m : List Issue} → Issues l m → NoDup (map numberOf m) → NoDup (map numberOf l)
-fewer same d = d
-fewer one (more f d) = d
-
--- it was so before the last calls too
-pub numbers-before : (ks : List Call) (s : Course) → OneExchangeNumber (after ks s) → OneExchangeNumber s
-unfolding after OneExchangeNumber
-numbers-before [] s n = n
-numbers-before (k ∷ ks) s n = fewer (call-issues k s) (numbers-before ks (exec k s) n)

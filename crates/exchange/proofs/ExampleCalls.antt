@@ -193,7 +193,7 @@ comes-replying s h = go (bankCalled s .answer)
 -- ---- the newest reply arrives
 
 allowed-answers : (s : Course) → Messages Replying s → Allowed (answers s) s
-allowed-answers s h = λ _. ((refl, refl, refl), replying-given h)
+allowed-answers s h = λ _. let g = replying-given h in ((refl, refl, refl), (g .0, g .1, g .2, (0, g .3)))
 
 pub allowed-no-reply : (s : Course) → Allowed (unanswered s) s
 allowed-no-reply s = λ _. (refl, refl, refl)

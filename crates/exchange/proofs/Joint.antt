@@ -88,7 +88,8 @@ use Rattle.exchange.proofs.Told.{
 }
 use Rattle.exchange.proofs.Bank.{Entry, found, listed}
 use Rattle.exchange.proofs.Clients.{asIssue, issuesOf, runPast, issued-in, issue-of, OpenedBy, opened-upload, Parts}
-use Rattle.exchange.proofs.Courses.{Copied, numberOf, one-issue}
+use Rattle.exchange.proofs.Issues.{numberOf, one-issue}
+use Rattle.exchange.proofs.Courses.{Copied}
 
 -- which actions these are
 pub upload-kind : (k : Action) → isUploadOpening k ≡ true → k ≡ OpenedUpload

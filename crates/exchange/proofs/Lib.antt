@@ -4,6 +4,8 @@ pub mod Events
 pub mod Told
 pub mod Bank
 pub mod Clients
+pub mod Issues
+pub mod Outstanding
 pub mod Courses
 pub mod Joint
 pub mod Numbers
@@ -15,7 +17,6 @@ pub mod Received
 pub mod Concerns
 pub mod Receipts
 pub mod Safety
-pub mod Outstanding
 pub mod OrderStates
 pub mod OwnRequests
 pub mod OwnReplies

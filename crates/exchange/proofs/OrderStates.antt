@@ -3,7 +3,8 @@ use Prim.Native.Nat.{ℕ, suc, _+_, _<_, _≤_}
 use mathlib.Core.Bool.{true}
 use mathlib.Core.List.{List, List·Memᴰ as In}
 use mathlib.Core.Logic.{_⊎_, inl, inr}
-use mathlib.Core.Path.{_≡_, refl, sym, ap, _∙_}
+use mathlib.Core.Path.{_≡_, refl, sym, ap, _∙_, subst}
+use native.Mathlib.Omega.{arith}
 use Rattle.frame_table.specs.declared.fields.Bits128.{Bits128}
 use Rattle.frame_table.specs.declared.fields.Fields.{Fields}
 use Rattle.frame_table.specs.declared.table.Form.{Form}
@@ -24,27 +25,29 @@ use Rattle.client.specs.declared.run.Stage.the-variants as stage
 use Rattle.client.specs.declared.run.Step.{Step}
 use Rattle.client.specs.declared.run.Step.the-variants as step
 use Rattle.client.specs.declared.run.Word.the-variants.{Lodged, Fetched}
+use Rattle.client.specs.Decisions.{isAnswer}
 use Rattle.client.specs.Rulings.{isBegun}
 use Rattle.client_history.specs.History.{Past}
 use Rattle.client_history.specs.InTurn.{InTurn}
+use Rattle.client_history.proofs.Fitting.{Fits, fits-answer, opened-fits, taken-fits, download-fits, segment-fits, receipt-fits}
 use Rattle.exchange.specs.Course.{Issue, Exchange, Arrival, Course}
 use Rattle.exchange.specs.Terms.{Received, Accepted}
 use Rattle.exchange.proofs.Told.{Opening}
 use Rattle.exchange.proofs.Bank.{Found, found}
 use Rattle.exchange.proofs.Clients.{asIssue, issuesOf, issued-in, OpenedBy, Parts}
-use Rattle.exchange.proofs.Courses.{numberOf}
-use Rattle.exchange.proofs.Received.{Same}
+use Rattle.exchange.proofs.Issues.{numberOf}
+use Rattle.exchange.proofs.Received.{ToAnother, another-more, or-another, Same}
 use Rattle.exchange.proofs.Concerns.{Untouched}
 use Rattle.exchange.proofs.Standing.{Standing}
 
 -- ---- THE MESSAGES
 
 -- the bank received the run's requests under numbers below top, and no others;
--- the replies to those below now have arrived, and no others
+-- the replies to those below now have arrived, and no others but such to other runs' requests
 pub record Messages (s : Course) (i top now : ℕ) : Type 0 where
   pub received : (e : Exchange) → Received i e s → exchange (readRequest (e .request)) < top
   pub all : (x : Issue) → In x (s .issued) → x .run ≡ i → numberOf x < top → (e : Exchange) × In e (s .exchanged) × (e .request ≡ x .frame)
-  pub arrived : (a : Arrival) → In a (s .arrived) → a .run ≡ i → exchange (readReply (a .reply)) < now
+  pub arrived : (a : Arrival) → In a (s .arrived) → a .run ≡ i → (exchange (readReply (a .reply)) < now) ⊎ ToAnother i (a .reply) s
   pub replied : (e : Exchange) → Received i e s → exchange (readRequest (e .request)) < now →
       (a : Arrival) × In a (s .arrived) × (a .run ≡ i) × (a .reply ≡ e .reply)
 
@@ -156,6 +159,22 @@ Behind Download step.Segment j s i c r =
     × Open Download s i (c .subscriber) (c .transaction) (c .segments) j
 Behind Download step.Receipt j s i c r = r ≡ receiptAnswered (c .exchange) (c .transaction) code.DownloadPostprocessDone
 
+-- such a reply answers the outstanding request
+behind-answers : (way : Direction) (at : Step) (j : ℕ) (s : Course) (i : ℕ) (c : Client) (r : Fields) → Behind way at j s i c r →
+    isAnswer c r ≡ true
+behind-answers Upload step.Opening j s i c r (t, n, e, o) =
+    fits-answer c r (subst (Fits _ _ _ _) (sym e) (opened-fits (c .exchange) n 0 0 t)) refl (λ z. omega arith)
+behind-answers Upload step.Segment j s i c r (e, within, o) =
+    fits-answer c r (subst (Fits _ _ _ _) (sym e) (taken-fits (c .exchange) 0 j 0 (c .transaction))) refl (λ z. omega arith)
+behind-answers Upload step.Receipt j s i c r b = absurd b
+behind-answers Download step.Opening j s i c r (t, n, e, o) =
+    fits-answer c r (subst (Fits _ _ _ _) (sym e) (download-fits (c .exchange) n 0 (lastMarkOf 1 n) t)) refl (λ z. omega arith)
+behind-answers Download step.Segment j s i c r (e, least, within, o) =
+    fits-answer c r (subst (Fits _ _ _ _) (sym e) (segment-fits (c .exchange) 0 j (lastMarkOf j (c .segments)) (c .transaction))) refl
+    (λ z. omega arith)
+behind-answers Download step.Receipt j s i c r e =
+    fits-answer c r (subst (Fits _ _ _ _) (sym e) (receipt-fits (c .exchange) 0 0 0 (c .transaction))) refl (λ z. omega arith)
+
 -- the outstanding request is not received; p is the run
 pub record Asks (s : Course) (i : ℕ) (p : Past) : Type 0 where
   pub way : Direction
@@ -174,8 +193,10 @@ pub record Told (s : Course) (i : ℕ) (p : Past) : Type 0 where
   pub messages : Messages s i (p .run .exchange + 1) (p .run .exchange)
   pub reply : List ℕ
   pub given : (e : Exchange) → Received i e s → exchange (readRequest (e .request)) ≡ p .run .exchange → e .reply ≡ reply
-  pub number : exchange (readReply reply) ≡ p .run .exchange
   pub behind : Behind way at j s i (p .run) (readReply reply)
+
+pub told-answers : (s : Course) (i : ℕ) (p : Past) (a : Told s i p) → isAnswer (p .run) (readReply (a .reply)) ≡ true
+told-answers s i p a = behind-answers (a .way) (a .at) (a .j) s i (p .run) (readReply (a .reply)) (a .behind)
 
 -- the opening was received and refused
 pub record Refused (s : Course) (i : ℕ) (p : Past) : Type 0 where
@@ -186,7 +207,7 @@ pub record Refused (s : Course) (i : ℕ) (p : Past) : Type 0 where
 
 -- where the run p of an order in turn stands
 pub data State (s : Course) (i : ℕ) (p : Past) : Type 0 where
-  idle : p .run .stage ≡ stage.NotBegun → ((a : Arrival) → In a (s .arrived) → a .run ≡ i → ⊥) → State s i p
+  idle : p .run .stage ≡ stage.NotBegun → ((a : Arrival) → In a (s .arrived) → a .run ≡ i → ToAnother i (a .reply) s) → State s i p
   asks : Asks s i p → State s i p
   told : Told s i p → State s i p
   refused : Refused s i p → State s i p
@@ -196,16 +217,21 @@ pub data State (s : Course) (i : ℕ) (p : Past) : Type 0 where
 
 pub exchanges-keep : {s t : Course} {i : ℕ} → Same i s t → (x : Issue) → In x (s .issued) → x .run ≡ i →
     (e : Exchange) × In e (s .exchanged) × (e .request ≡ x .frame) → (e : Exchange) × In e (t .exchanged) × (e .request ≡ x .frame)
-exchanges-keep same x m r (e, n, z) = (e, same .keeps e (n, (x, m, r, sym z)) .0, z)
+exchanges-keep {i = i} same x m r (e, n, z) = (e, same .keeps i e (n, (x, m, r, sym z)) .0, z)
 
 module _ {s t : Course} {i : ℕ} (same : Same i s t) where
   messages-stay : {top now : ℕ} → Messages s i top now → Messages t i top now
-  messages-stay m = record {
+  messages-stay {top} {now} m = record {
     received = λ e c. m .received e (same .received e c);
     all = λ x n r b. let y = same .issued x n r in exchanges-keep same x y r (m .all x y r b);
-    arrived = λ a n r. m .arrived a (same .arrivals a n r) r;
+    arrived = λ a n r. arrived-by a r (same .arrivals a n r);
     replied = λ e c b. let o = m .replied e (same .received e c) b in (o .0, same .arrived (o .0) (o .1), o .2, o .3);
   }
+    where
+      arrived-by : (a : Arrival) → a .run ≡ i → In a (s .arrived) ⊎ ToAnother i (a .reply) t →
+          (exchange (readReply (a .reply)) < now) ⊎ ToAnother i (a .reply) t
+      arrived-by a r (inl n) = or-another (λ b. b) (same .keeps) (m .arrived a n r)
+      arrived-by a r (inr o) = inr o
 
   module _ (v : Parts s) (untouched : Untouched s v i t) (p : Past)
       (alone : Accepted i s → p .run .stage ≡ stage.Running → openCountOf (p .run .subscriber) (s .bank .bank) ≤ 1)
@@ -214,7 +240,7 @@ module _ {s t : Course} {i : ℕ} (same : Same i s t) where
         Open way t i (p .run .subscriber) id n k
     open-same way {id} {n} {k} o =
         let b = opened-by s v way o in
-        open-stays (same .keeps) (same .received)
+        open-stays (same .keeps i) (same .received)
         (λ last a. untouched (b .0) id (b .1) way (p .run .subscriber) k n last
         (λ _. alone (o .opening, o .received, opened-form way (o .opened), o .ok) running) a) o
 
@@ -233,7 +259,11 @@ module _ {s t : Course} {i : ℕ} (same : Same i s t) where
 
   pub state-same : (v : Parts s) → Untouched s v i t → (p : Past) →
       (Accepted i s → p .run .stage ≡ stage.Running → openCountOf (p .run .subscriber) (s .bank .bank) ≤ 1) → State s i p → State t i p
-  state-same v u p alone (idle e n) = idle e (λ a m r. n a (same .arrivals a m r) r)
+  state-same v u p alone (idle e n) = idle e (λ a m r. at a r (same .arrivals a m r))
+    where
+      at : (a : Arrival) → a .run ≡ i → In a (s .arrived) ⊎ ToAnother i (a .reply) t → ToAnother i (a .reply) t
+      at a r (inl m) = another-more (same .keeps) (n a m r)
+      at a r (inr o) = o
   state-same v u p alone (asks a) = asks (record {
     way = a .way;
     at = a .at;
@@ -250,7 +280,6 @@ module _ {s t : Course} {i : ℕ} (same : Same i s t) where
     messages = messages-stay (a .messages);
     reply = a .reply;
     given = λ e c. a .given e (same .received e c);
-    number = a .number;
     behind = behind-same v u p alone (a .turn .running) (a .way) (a .at) (a .j) (readReply (a .reply)) (a .behind);
   })
   state-same v u p alone (refused a) = refused (record {

@@ -87,7 +87,8 @@ use Rattle.exchange.proofs.Told.{
 }
 use Rattle.exchange.proofs.Bank.{Entry, Entries, found, listed}
 use Rattle.exchange.proofs.Clients.{asIssue, issuesOf, runPast, issued-in, issue-of, opened-upload, opened-download, Parts}
-use Rattle.exchange.proofs.Courses.{Copied, one-issue}
+use Rattle.exchange.proofs.Issues.{one-issue}
+use Rattle.exchange.proofs.Courses.{Copied}
 use Rattle.exchange.proofs.Joint.{
   Uploads,
   one-opener,

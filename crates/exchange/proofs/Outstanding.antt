@@ -1,24 +1,36 @@
--- The request that a run has outstanding, among those that the bank received. Assumes nothing.
+-- The request that a run has outstanding, among those that the bank received, and replies to other requests. Assumes nothing.
 use Prim.Native.Nat.{ℕ}
-use mathlib.Core.Bool.{true}
+use mathlib.Core.Bool.{Bool, true, false}
 use mathlib.Core.List.{List, List·Memᴰ as In, List·Memᴰ·head as here}
 use mathlib.Core.Path.{_≡_, refl, sym, ap, _∙_, subst}
+use lib.ListN.{length}
 use Rattle.frame_table.specs.Names.{exchange}
-use Rattle.frame.specs.Reader.{readRequest}
+use Rattle.frame.specs.Reader.{readRequest, readReply}
 use Rattle.frame.specs.Row.{dataOf}
-use Rattle.client.specs.NextRun.{begun}
+use Rattle.client.specs.declared.run.Answer.the-variants as answer
+use Rattle.client.specs.declared.run.Client.{Client}
+use Rattle.client.specs.declared.run.Ruling.{Ruling}
+use Rattle.client.specs.declared.run.Ruling.the-variants.{Refuse, Accept}
+use Rattle.client.specs.declared.run.Stage.the-variants as stage
+use Rattle.client.specs.Calls.{runBy, replyCall}
+use Rattle.client.specs.Decisions.{isAnswer, onReply}
 use Rattle.client.specs.Requests.{outstanding, outstandingData}
-use Rattle.client.specs.Rulings.{isBegun}
-use Rattle.client_history.specs.History.{issueOf}
+use Rattle.client.specs.Rulings.{isBegun, runRuling}
+use Rattle.client.specs.Run.{Lent, lengthsOf, answerNumber}
+use Rattle.client.proofs.Accepted.{accepted}
+use Rattle.client.proofs.Replies.{is-answer}
+use Rattle.client_history.specs.History.{Reply, issueOf, GivenTo}
 use Rattle.client_history.specs.History as history
+use Rattle.client_history.proofs.Liveness.{numbered}
 use Rattle.client_history.proofs.Requests.{outstanding-exchange}
-use Rattle.client_history.proofs.Theorems.{newest-outstanding}
-use Rattle.exchange.specs.Course.{Issue, Course}
+use Rattle.client_history.proofs.Theorems.{newest-outstanding, ignored-stays}
+use Rattle.exchange.specs.Course.{Issue, Exchange, Course}
 use Rattle.exchange.specs.Terms.{IssuedBy}
 use Rattle.exchange.specs.Demand3.{OneExchangeNumber}
 use Rattle.exchange.proofs.Told.{Gave, fileIn, bank-replies}
-use Rattle.exchange.proofs.Clients.{asIssue, runPast, issue-of, Parts}
-use Rattle.exchange.proofs.Courses.{numberOf, one-issue}
+use Rattle.exchange.proofs.Bank.{found}
+use Rattle.exchange.proofs.Clients.{asIssue, runPast, issued-in, issue-of, Parts}
+use Rattle.exchange.proofs.Issues.{numberOf, one-issue}
 
 -- a copy of the run's request under its exchange number is a copy of the outstanding request
 pub record Asked (s : Course) (i : ℕ) (frame : List ℕ) : Type 0 where
@@ -68,3 +80,80 @@ own-outstanding s v numbers i frame begun (x, m, r, f) number =
           ∙ ap (λ (u : history.Issue). u .request) (y .same);
       bytes = ap dataOf (sym f) ∙ ap (λ (u : Issue). dataOf (u .frame)) (sym same) ∙ ap (λ (u : history.Issue). u .requestData) (y .same);
     }
+
+-- ---- A REPLY
+
+-- a reply that the bank gave to a copy of a request of run i
+abbrev pub GivenFor : ℕ → List ℕ → Course → Type 0
+GivenFor i reply s = (e : Exchange) × In e (s .exchanged) × (e .reply ≡ reply) × IssuedBy i (e .request) s
+
+-- as the run's part has it
+pub given-to : (s : Course) (v : Parts s) (i : ℕ) (reply : List ℕ) → GivenFor i reply s →
+    GivenTo (Gave (v .bank .past .history)) reply (runPast s i)
+given-to s v i reply (e, m, z, (x, n, r, c)) =
+    let f = found (v .bank .entries) m in
+    record {
+      issue = asIssue x;
+      own = issued-in i n r;
+      given = record {
+        exchange = f .exchange;
+        before = f .before;
+        stands = f .stands;
+        request = sym (f .same .request) ∙ ap readRequest (sym c);
+        requestData = sym (f .same .requestData) ∙ ap dataOf (sym c);
+        reply = sym (f .same .reply) ∙ ap readReply z;
+        replyData = sym (f .same .replyData) ∙ ap dataOf z;
+      };
+    }
+
+-- a call of a reply that is given no number comes to a run that goes on
+reply-running : (c : Client) (reply : List ℕ) (l : Lent) → answerNumber (replyCall c reply l .answer) ≡ 0 → c .stage ≡ stage.Running
+unfolding replyCall
+reply-running c reply l = go (runRuling (c .stage) c (lengthsOf l)) refl
+  where
+    go : (u : Ruling) → runRuling (c .stage) c (lengthsOf l) ≡ u →
+        answerNumber (runBy u (onReply c (readReply reply) (length (dataOf reply))) c (readReply reply) (dataOf reply) l .answer) ≡ 0 →
+        c .stage ≡ stage.Running
+    go (Refuse x) e h = numbered x h
+    go Accept e h = accepted c (lengthsOf l) e .running
+
+-- and its answer is Ignored if the reply does not answer the outstanding request
+reply-ignored : (c : Client) (reply : List ℕ) (l : Lent) → answerNumber (replyCall c reply l .answer) ≡ 0 →
+    isAnswer c (readReply reply) ≡ false → replyCall c reply l .answer ≡ answer.Ignored
+unfolding replyCall onReply
+reply-ignored c reply l done other = go (runRuling (c .stage) c (lengthsOf l)) done
+  where
+    go : (u : Ruling) →
+        answerNumber (runBy u (onReply c (readReply reply) (length (dataOf reply))) c (readReply reply) (dataOf reply) l .answer) ≡ 0 →
+        runBy u (onReply c (readReply reply) (length (dataOf reply))) c (readReply reply) (dataOf reply) l .answer ≡ answer.Ignored
+    go (Refuse x) h = numbered x h
+    go Accept h = rw other
+
+-- "A reply that ... lacks the outstanding request's exchange number is ignored": such is every reply to another run's request
+module _ (s : Course) (v : Parts s) (numbers : OneExchangeNumber s) (i : ℕ) (reply : List ℕ) where
+  pub other-no-answer : isBegun (s .runs i .stage) ≡ true → (j : ℕ) → (j ≡ i → ⊥) → GivenFor j reply s →
+      isAnswer (s .runs i) (readReply reply) ≡ false
+  unfolding given-to
+  other-no-answer begun j other (e, m, z, (x, n, r, f)) = at (isAnswer (s .runs i) (readReply reply)) refl
+    where
+      at : (b : Bool) → isAnswer (s .runs i) (readReply reply) ≡ b → b ≡ false
+      at false a = refl
+      at true a = absurd (
+          let h = v .bank .past .history in
+          let k = is-answer (s .runs i) (readReply reply) a in
+          let y = outstanding-issue s v i begun in
+          let number = bank-replies h (v .bank .holds .invariant .sound) (v .bank .proper) .sameExchange
+          (given-to s v j reply (e, m, z, (x, n, r, f)) .given) (k .reply) (k .readable) in
+          let same : x ≡ y .issue = one-issue s numbers n (y .own) (sym number ∙ k .number ∙ sym (y .number)) in
+          other (sym r ∙ ap (λ (u : Issue). u .run) same ∙ y .run))
+
+  module _ (l : Lent) (done : answerNumber (replyCall (s .runs i) reply l .answer) ≡ 0)
+      (left : (l .payload ≡ s .payloads i) × (l .file ≡ s .files i)) (j : ℕ) (other : j ≡ i → ⊥) (source : GivenFor j reply s) where
+    no-answer : isAnswer (s .runs i) (readReply reply) ≡ false
+    no-answer = other-no-answer (ap isBegun (reply-running (s .runs i) reply l done)) j other source
+
+    pub other-ignored : replyCall (s .runs i) reply l .answer ≡ answer.Ignored
+    other-ignored = reply-ignored (s .runs i) reply l done no-answer
+
+    pub other-stays : history.after (Reply reply l) (runPast s i) ≡ runPast s i
+    other-stays = ignored-stays (runPast s i) reply l done (record { payload = left .0; file = left .1 }) no-answer

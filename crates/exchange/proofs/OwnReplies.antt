@@ -33,6 +33,7 @@ use Rattle.client.specs.Calls.{beginCall, replyCall}
 use Rattle.client.specs.NextRun.{stepBehind}
 use Rattle.client.specs.Rulings.{isBegun}
 use Rattle.client.specs.Run.{Lent, ClientCall, answerNumber}
+use Rattle.client.proofs.Replies.{is-answer}
 use Rattle.client_history.specs.History.{Begin, Reply, Past, issueOf, GivenTo}
 use Rattle.client_history.specs.History as history
 use Rattle.client_history.specs.InTurn.{InTurn}
@@ -47,22 +48,9 @@ use Rattle.exchange.specs.Terms.{IssuedBy, Received}
 use Rattle.exchange.specs.Demand3.{Left, Allowed, OneExchangeNumber}
 use Rattle.exchange.proofs.Told.{Gave, fileIn, bank-replies}
 use Rattle.exchange.proofs.Clients.{asIssue, issuesOf, runPast, Parts}
-use Rattle.exchange.proofs.Courses.{
-  Copied,
-  Issues,
-  same,
-  one,
-  in-more,
-  call-issues,
-  issued-more,
-  given-to,
-  call-keeps,
-  numberOf,
-  one-issue,
-  Leaves,
-  run-leaves,
-}
-use Rattle.exchange.proofs.Received.{received-earlier}
+use Rattle.exchange.proofs.Issues.{Issues, same, one, in-more, call-issues, issued-more, numberOf, one-issue}
+use Rattle.exchange.proofs.Courses.{Copied, call-keeps, Leaves, run-leaves}
+use Rattle.exchange.proofs.Received.{received-earlier, ToAnother, another-more, or-another}
 use Rattle.exchange.proofs.OrderStates.{
   Messages,
   Open,
@@ -70,6 +58,7 @@ use Rattle.exchange.proofs.OrderStates.{
   Before,
   Behind,
   Told,
+  told-answers,
   Refused,
   State,
   idle,
@@ -78,7 +67,7 @@ use Rattle.exchange.proofs.OrderStates.{
   refused,
   closed,
 }
-use Rattle.exchange.proofs.Outstanding.{Pending, outstanding-issue}
+use Rattle.exchange.proofs.Outstanding.{Pending, outstanding-issue, GivenFor, given-to}
 use Rattle.exchange.proofs.OwnRequests.{issued-begun}
 use Rattle.exchange.proofs.Runs.{begin-past, reply-past, run-ended}
 use Rattle.exchange.proofs.Standing.{Standing}
@@ -119,8 +108,8 @@ module _ (k : Call) (s : Course) (v : Parts s) (copies : Copied s) (q : Allowed 
   received-back : (e : Exchange) → Received i e (exec k s) → Received i e s
   received-back e c = let m = subst (In e) (leaves .exchanged) (c .0) in (m, received-earlier k s v copies q later i e m (c .1))
 
-  received-more : (e : Exchange) → Received i e s → Received i e (exec k s)
-  received-more e c = (subst (In e) (sym (leaves .exchanged)) (c .0), issued-more k s (c .1))
+  received-more : (j : ℕ) (e : Exchange) → Received j e s → Received j e (exec k s)
+  received-more j e c = (subst (In e) (sym (leaves .exchanged)) (c .0), issued-more k s (c .1))
 
   exchange-more : (x : Issue) → (e : Exchange) × In e (s .exchanged) × (e .request ≡ x .frame) →
       (e : Exchange) × In e (exec k s .exchanged) × (e .request ≡ x .frame)
@@ -128,7 +117,7 @@ module _ (k : Call) (s : Course) (v : Parts s) (copies : Copied s) (q : Allowed 
 
   open-more : {way : Direction} {u n d : ℕ} {id : Bits128} → Open way s i u id n d → Open way (exec k s) i u id n d
   open-more {way} {u} {n} {d} {id} o =
-      open-stays received-more received-back (λ last a. subst (λ (w : World). Standing way w id u d n last) (sym (leaves .bank)) a) o
+      open-stays (received-more i) received-back (λ last a. subst (λ (w : World). Standing way w id u d n last) (sym (leaves .bank)) a) o
 
   -- a request of the run now: one issued before, or the outstanding one
   issued-new : isBegun (exec k s .runs i .stage) ≡ true → (x : Issue) → In x (exec k s .issued) → x .run ≡ i →
@@ -136,7 +125,7 @@ module _ (k : Call) (s : Course) (v : Parts s) (copies : Copied s) (q : Allowed 
   issued-new b x m r = at (added (call-issues k s) m r (n .are))
     where
       w : Parts (exec k s)
-      w = call-keeps k s v q
+      w = call-keeps k s v later q
 
       h : List bank.Exchange
       h = w .bank .past .history
@@ -169,7 +158,7 @@ module _ (s : Course) (v : Parts s) (copies : Copied s) (numbers : OneExchangeNu
   not-again : {A : Type 0} → isBegun (s .runs i .stage) ≡ true → A
   not-again b = never (sym (begin-fresh (s .runs i) way u first l done-run) ∙ b)
 
-  begin-first : s .runs i .stage ≡ stage.NotBegun → ((a : Arrival) → In a (s .arrived) → a .run ≡ i → ⊥) →
+  begin-first : s .runs i .stage ≡ stage.NotBegun → ((a : Arrival) → In a (s .arrived) → a .run ≡ i → ToAnother i (a .reply) s) →
       State (exec (begins i c way u first l) s) i (history.after (Begin way u first l) (runPast s i))
   begin-first e none = asks (record {
     way = way;
@@ -186,7 +175,8 @@ module _ (s : Course) (v : Parts s) (copies : Copied s) (numbers : OneExchangeNu
     messages = record {
       received = λ x m. absurd (nothing-received x m);
       all = λ x m r b. at x r b (issued-new begin s v copies q numbers later (begin-left .0) i begun x m r);
-      arrived = λ a m r. absurd (none a (subst (In a) (begin-left .1) m) r);
+      arrived = λ a m r. inr (another-more (received-more begin s v copies q numbers later (begin-left .0) i)
+          (none a (subst (In a) (begin-left .1) m) r));
       replied = λ x m b. absurd (nothing-received x m);
     };
     before = nothing-received;
@@ -232,7 +222,7 @@ module _ (s : Course) (v : Parts s) (copies : Copied s) (numbers : OneExchangeNu
 module _ (s : Course) (v : Parts s) (copies : Copied s) (numbers : OneExchangeNumber s) (i : ℕ) (c : Client) (reply : List ℕ) (l : Lent)
     (q : Allowed (replyArrives i c reply l) s) (later : OneExchangeNumber (exec (replyArrives i c reply l) s))
     (done : answerNumber (replyCall c reply l .answer) ≡ 0) (left : Left i c l s)
-    (source : (e : Exchange) × In e (s .exchanged) × (e .reply ≡ reply) × IssuedBy i (e .request) s)
+    (source : GivenFor i reply s)
     (fresh : (a : Arrival) → In a (s .arrived) → a .run ≡ i → a .reply ≡ reply → ⊥) where
   abbrev arrives : Call
   arrives = replyArrives i c reply l
@@ -321,7 +311,7 @@ module _ (s : Course) (v : Parts s) (copies : Copied s) (numbers : OneExchangeNu
     begun = ap isBegun (a .turn .running)
 
     number : exchange (readReply reply) ≡ s .runs i .exchange
-    number = ap (λ (x : List ℕ). exchange (readReply x)) is-it ∙ a .number
+    number = ap (λ (x : List ℕ). exchange (readReply x)) is-it ∙ is-answer run (readReply (a .reply)) (told-answers s i p a) .number
 
     -- the next request is outstanding
     module _ (way : Direction) (at : Step) (j : ℕ) (turn : InTurn then way at j (s .runs i .exchange + 1)) where
@@ -348,11 +338,13 @@ module _ (s : Course) (v : Parts s) (copies : Copied s) (numbers : OneExchangeNu
           all-by x r b (inr z) = absurd (let y = ap (λ (w : Past). w .run .exchange) past in omega arith)
 
           arrived-by : (y : Arrival) → y .run ≡ i → In y (record { run = i; reply = reply } ∷ s .arrived) →
-              exchange (readReply (y .reply)) < then .run .exchange
+              (exchange (readReply (y .reply)) < then .run .exchange) ⊎ ToAnother i (y .reply) (exec arrives s)
           arrived-by y r (here z) =
               let b = ap (λ (w : Arrival). exchange (readReply (w .reply))) z in
-              let m = number in let w = turn .number in omega arith
-          arrived-by y r (there m) = let b = a .messages .arrived y m r in let w = turn .number in omega arith
+              let m = number in let w = turn .number in inl (omega arith)
+          arrived-by y r (there m) =
+              or-another (λ b. let w = turn .number in omega arith) (received-more arrives s v copies q numbers later (reply-left .0) i)
+              (a .messages .arrived y m r)
 
           replied-by : (e : Exchange) → Received i e s → Dec (exchange (readRequest (e .request)) ≡ s .runs i .exchange) →
               (y : Arrival) × In y (exec arrives s .arrived) × (y .run ≡ i) × (y .reply ≡ e .reply)

@@ -61,9 +61,6 @@ use Rattle.client_history.proofs.Files.{segment-most}
 use Rattle.client_history.proofs.Fitting.{
   opened-fits,
   download-fits,
-  taken-fits,
-  segment-fits,
-  receipt-fits,
   opened-fields,
   download-fields,
 }
@@ -90,10 +87,12 @@ use Rattle.exchange.specs.Demand3.{OneExchangeNumber}
 use Rattle.exchange.proofs.Told.{Gave, fileIn, bank-replies, by-code}
 use Rattle.exchange.proofs.Bank.{Entered}
 use Rattle.exchange.proofs.Clients.{runPast, issued-in, Parts}
-use Rattle.exchange.proofs.Courses.{Copied, numberOf, one-issue}
+use Rattle.exchange.proofs.Issues.{numberOf, one-issue}
+use Rattle.exchange.proofs.Courses.{Copied}
 use Rattle.exchange.proofs.Foreign.{under-not, case-of}
 use Rattle.exchange.proofs.OrderStates.{openedForm, Messages, Open, Before, Behind, State, idle, asks, told, refused, closed}
 use Rattle.exchange.proofs.Outstanding.{Asked, own-outstanding}
+use Rattle.exchange.proofs.Received.{or-another}
 use Rattle.exchange.proofs.Standing.{Standing}
 
 -- ---- the fields of the requests
@@ -179,10 +178,10 @@ module _ (s : Course) (v : Parts s) (copies : Copied s) (numbers : OneExchangeNu
         at (here z) = inl z
         at (there m) = inr (m, back)
 
-    received-more : (e : Exchange) → Received i e s → Received i e t
-    received-more e k = (
+    received-more : (j : ℕ) (e : Exchange) → Received j e s → Received j e t
+    received-more j e k = (
       subst (In e) (sym (en .exchanged)) (there (k .0)),
-      subst (λ (l : List Issue). (y : Issue) × In y l × (y .run ≡ i) × (y .frame ≡ e .request)) (sym issued) (k .1),
+      subst (λ (l : List Issue). (y : Issue) × In y l × (y .run ≡ j) × (y .frame ≡ e .request)) (sym issued) (k .1),
     )
 
     received-now : Received i (en .exchange) t
@@ -236,7 +235,7 @@ module _ (s : Course) (v : Parts s) (copies : Copied s) (numbers : OneExchangeNu
       messages-now = record {
         received = λ e k. at-received e (received-cases e k);
         all = λ y k r b. all-received y k r;
-        arrived = λ a k r. m .arrived a (subst (In a) arrivals k) r;
+        arrived = λ a k r. or-another (λ b. b) received-more (m .arrived a (subst (In a) arrivals k) r);
         replied = λ e k b. at-replied e b (received-cases e k);
       }
         where
@@ -263,9 +262,9 @@ module _ (s : Course) (v : Parts s) (copies : Copied s) (numbers : OneExchangeNu
       unfolding exchangeOf
       replies z e = en .same .reply ∙ reply-is (en .sound) newest ∙ ap (λ (u : Event). replyTo u (readRequest frame)) e
 
-      told-by : (way : Direction) (at : Step) (j : ℕ) → InTurn p way at j (c .exchange) → exchange (readReply (f .reply)) ≡ c .exchange →
-          Behind way at j t i c (readReply (f .reply)) → State t i p
-      told-by way at j turn n b = told (record {
+      told-by : (way : Direction) (at : Step) (j : ℕ) → InTurn p way at j (c .exchange) → Behind way at j t i c (readReply (f .reply)) →
+          State t i p
+      told-by way at j turn b = told (record {
         way = way;
         at = at;
         j = j;
@@ -273,7 +272,6 @@ module _ (s : Course) (v : Parts s) (copies : Copied s) (numbers : OneExchangeNu
         messages = messages-now;
         reply = f .reply;
         given = given-now;
-        number = n;
         behind = b;
       })
 
@@ -324,7 +322,7 @@ module _ (s : Course) (v : Parts s) (copies : Copied s) (numbers : OneExchangeNu
           Standing way (answered time ids frame (v .bank .past) .world) id u m n (max (v .bank .past .world .bank .clock) time) →
           Open way t i u id n m
       open-on {way} {id} {u} {n} o m l z =
-          open-now way id u n m (o .opening) (received-more (o .opening) (o .received)) (o .opened) (o .ok) (o .id)
+          open-now way id u n m (o .opening) (received-more i (o .opening) (o .received)) (o .opened) (o .ok) (o .id)
           (latest-now (o .last) (o .latest) (let y = clock-is in omega arith)) z
 
       in-hour : {way : Direction} {id : Bits128} {u n k : ℕ} (o : Open way s i u id n k) →
@@ -378,7 +376,7 @@ module _ (s : Course) (v : Parts s) (copies : Copied s) (numbers : OneExchangeNu
               let r = replies (Of id OpenedUpload) e ∙ ap (λ (n : ℕ). uploadOpened n id (orderNumberOf (id .low))) is-outstanding in
               let y = opened-fits (c .exchange) (orderNumberOf (id .low)) 0 0 id in
               let there = bankTurn.upload-opens time ids frame (v .bank .past) (v .bank .holds) id e in
-              told-by Upload step.Opening j turn (ap exchange r ∙ y .number) (
+              told-by Upload step.Opening j turn (
                 id,
                 orderNumberOf (id .low),
                 r,
@@ -417,7 +415,7 @@ module _ (s : Course) (v : Parts s) (copies : Copied s) (numbers : OneExchangeNu
               let r = replies (Of id (OpenedDownload n)) e ∙ ap (λ (m : ℕ). downloadOpened m n id (lastMarkOf 1 n)) is-outstanding in
               let y = download-fits (c .exchange) n 0 (lastMarkOf 1 n) id in
               let there = bankTurn.download-opens time ids frame (v .bank .past) (v .bank .holds) id n e in
-              told-by Download step.Opening j turn (ap exchange r ∙ y .number) (
+              told-by Download step.Opening j turn (
                 id,
                 n,
                 r,
@@ -447,7 +445,7 @@ module _ (s : Course) (v : Parts s) (copies : Copied s) (numbers : OneExchangeNu
 
       upload-segment : (j : ℕ) → InTurn p Upload step.Segment j (c .exchange) → Before Upload step.Segment j s i c → State t i p
       upload-segment j turn (k, next, within, o) =
-          told-by Upload step.Segment j turn (ap exchange r ∙ taken-fits (c .exchange) 0 j 0 (c .transaction) .number) (
+          told-by Upload step.Segment j turn (
             r,
             within,
             λ below. open-on o j current (λ _. subst (λ (m : ℕ). UploadAt (answered time ids frame (v .bank .past) .world)
@@ -539,8 +537,7 @@ module _ (s : Course) (v : Parts s) (copies : Copied s) (numbers : OneExchangeNu
 
       download-segment : (j : ℕ) → InTurn p Download step.Segment j (c .exchange) → Before Download step.Segment j s i c → State t i p
       download-segment j turn (k, next, within, o) =
-          told-by Download step.Segment j turn
-          (ap exchange r ∙ segment-fits (c .exchange) 0 j (lastMarkOf j (c .segments)) (c .transaction) .number) (
+          told-by Download step.Segment j turn (
             r,
             omega arith,
             within,
@@ -593,7 +590,7 @@ module _ (s : Course) (v : Parts s) (copies : Copied s) (numbers : OneExchangeNu
 
       download-receipt : (j : ℕ) → InTurn p Download step.Receipt j (c .exchange) → Before Download step.Receipt j s i c → State t i p
       download-receipt j turn (way, o) =
-          told-by Download step.Receipt j turn (ap exchange r ∙ receipt-fits (c .exchange) 0 0 0 (c .transaction) .number) r
+          told-by Download step.Receipt j turn r
         where
           request : readRequest frame ≡ receipt (c .subscriber) (c .exchange) (c .transaction) 0
           request = asked .request ∙ is-receipt c (asked .time) (asked .nonce) [] (turn .direction) (turn .step)

@@ -109,16 +109,8 @@ use Rattle.exchange.proofs.Events.{case-empties}
 use Rattle.exchange.proofs.Told.{one-opened, opening-at, upload-opening, done-confirmed, Gave, fileIn, bank-replies}
 use Rattle.exchange.proofs.Bank.{BankPart, same-mailbox, Entered, frame-enters}
 use Rattle.exchange.proofs.Clients.{asIssue, issuesOf, runPast, issued-in, OpenedBy, Parts}
-use Rattle.exchange.proofs.Courses.{
-  call-keeps,
-  in-more,
-  call-issues,
-  Copied,
-  run-leaves,
-  reached-leaves,
-  copied-call,
-  numbers-before,
-}
+use Rattle.exchange.proofs.Issues.{in-more, call-issues, numbers-before}
+use Rattle.exchange.proofs.Courses.{call-keeps, Copied, run-leaves, reached-leaves, copied-call}
 use Rattle.exchange.proofs.Joint.{sound, upload-kind}
 use Rattle.exchange.proofs.Outcome.{receipt-id, inv, HeldWhole, AllHeldWhole, emptied-held}
 use Rattle.exchange.proofs.Foreign.{confirming, request-opened}
@@ -356,7 +348,7 @@ receipts-call k s v copies q numbers r = record { issued = issued; held = held }
     t = exec k s
 
     w : Parts t
-    w = call-keeps k s v q
+    w = call-keeps k s v numbers q
 
     later : Copied t
     later = copied-call k s copies q
@@ -416,5 +408,5 @@ pub receipts : (ks : List Call) (s : Course) → Parts s → Copied s → AllAll
 unfolding after
 receipts [] s v c q n r = r
 receipts (k ∷ ks) s v c q n r =
-    receipts ks (exec k s) (call-keeps k s v (q .0)) (copied-call k s c (q .0)) (q .1) n
-    (receipts-call k s v c (q .0) (numbers-before ks (exec k s) n) r)
+    let later = numbers-before ks (exec k s) n in
+    receipts ks (exec k s) (call-keeps k s v later (q .0)) (copied-call k s c (q .0)) (q .1) n (receipts-call k s v c (q .0) later r)

@@ -1,6 +1,7 @@
 -- What a call leaves of the view that one run has: its requests that the bank received, and the replies to it. Assumes nothing.
 use Prim.Native.Nat.{ℕ}
 use mathlib.Core.List.{List, _∷_, List·Memᴰ as In, List·Memᴰ·head as here, List·Memᴰ·tail as there}
+use mathlib.Core.Logic.{_⊎_, inl, inr}
 use mathlib.Core.Path.{_≡_, refl, sym, ap, _∙_, subst}
 use native.Mathlib.Omega.{arith}
 use Rattle.frame_table.specs.declared.fields.Fields.{Fields}
@@ -14,7 +15,8 @@ use Rattle.exchange.specs.Course.{Call, Issue, Exchange, Arrival, Course
 use Rattle.exchange.specs.Terms.{IssuedBy, Received}
 use Rattle.exchange.specs.Demand3.{Allowed, OneExchangeNumber}
 use Rattle.exchange.proofs.Clients.{runPast, issued-in, other-past, Parts}
-use Rattle.exchange.proofs.Courses.{Copied, one-issue, call-keeps, copied-call, run-issues, call-issues, in-more, run-leaves}
+use Rattle.exchange.proofs.Issues.{in-more, run-issues, call-issues, one-issue}
+use Rattle.exchange.proofs.Courses.{Copied, call-keeps, copied-call, run-leaves}
 use Rattle.exchange.proofs.Joint.{counts}
 use Rattle.exchange.proofs.Outcome.{request-of}
 
@@ -23,7 +25,7 @@ module _ (k : Call) (s : Course) (v : Parts s) (copies : Copied s) (q : Allowed 
     (i : ℕ) where
   pub received-earlier : (e : Exchange) → In e (s .exchanged) → IssuedBy i (e .request) (exec k s) → IssuedBy i (e .request) s
   received-earlier e m (x, n, r, f) =
-      let w = call-keeps k s v q in
+      let w = call-keeps k s v numbers q in
       let c = copied-call k s copies q in
       let y = request-of (exec k s) w c numbers i (issued-in i n r) in
       let z : readRequest (x .frame) ≡ readRequest (e .request) = ap readRequest f in
@@ -35,18 +37,41 @@ module _ (k : Call) (s : Course) (v : Parts s) (copies : Copied s) (q : Allowed 
       (ap (λ (l : List ℕ). exchange (readRequest l)) (o .1 .3 ∙ sym f)) in
       (o .1 .0, o .1 .1, ap (λ (u : Issue). u .run) same ∙ r, o .1 .3)
 
--- the run, its requests received, its requests issued and the replies that reached it are the same in both courses
+-- a reply that the bank gave to a request of another run
+pub record ToAnother (i : ℕ) (reply : List ℕ) (s : Course) : Type 0 where
+  pub run : ℕ
+  pub other : run ≡ i → ⊥
+  pub exchange : Exchange
+  pub received : Received run exchange s
+  pub given : exchange .reply ≡ reply
+
+pub another-more : {i : ℕ} {s t : Course} {reply : List ℕ} → ((j : ℕ) (e : Exchange) → Received j e s → Received j e t) →
+    ToAnother i reply s → ToAnother i reply t
+another-more keeps o = record {
+  run = o .run;
+  other = o .other;
+  exchange = o .exchange;
+  received = keeps (o .run) (o .exchange) (o .received);
+  given = o .given;
+}
+
+pub or-another : {A B : Type 0} {i : ℕ} {s t : Course} {reply : List ℕ} → (A → B) →
+    ((j : ℕ) (e : Exchange) → Received j e s → Received j e t) → A ⊎ ToAnother i reply s → B ⊎ ToAnother i reply t
+or-another f keeps (inl a) = inl (f a)
+or-another f keeps (inr o) = inr (another-more keeps o)
+
+-- the run, its requests received, its requests issued and the replies to them that reached it are the same in both courses
 pub record Same (i : ℕ) (s t : Course) : Type 0 where
   pub past : runPast t i ≡ runPast s i
   pub received : (e : Exchange) → Received i e t → Received i e s
-  pub keeps : (e : Exchange) → Received i e s → Received i e t
-  pub arrivals : (a : Arrival) → In a (t .arrived) → a .run ≡ i → In a (s .arrived)
+  pub keeps : (j : ℕ) (e : Exchange) → Received j e s → Received j e t
+  pub arrivals : (a : Arrival) → In a (t .arrived) → a .run ≡ i → In a (s .arrived) ⊎ ToAnother i (a .reply) t
   pub arrived : (a : Arrival) → In a (s .arrived) → In a (t .arrived)
   pub issued : (x : Issue) → In x (t .issued) → x .run ≡ i → In x (s .issued)
 
 pub same-refl : (i : ℕ) (s : Course) → Same i s s
 same-refl i s =
-    record { past = refl; received = λ e c. c; keeps = λ e c. c; arrivals = λ a m r. m; arrived = λ a m. m; issued = λ x m r. m }
+    record { past = refl; received = λ e c. c; keeps = λ j e c. c; arrivals = λ a m r. inl m; arrived = λ a m. m; issued = λ x m r. m }
 
 -- the call of another run
 module _ (s : Course) (i j : ℕ) (d : i ≡ j → ⊥) (k : ClientCall) (l : Lent) where
@@ -66,8 +91,8 @@ module _ (s : Course) (i j : ℕ) (d : i ≡ j → ⊥) (k : ClientCall) (l : Le
           subst (In e) (w .0 .exchanged) (c .0),
           (c .1 .0, other-issued a (c .1 .0) (c .1 .1) (c .1 .2), c .1 .2, c .1 .3),
         );
-        keeps = λ e c. (subst (In e) (sym (w .0 .exchanged)) (c .0), (c .1 .0, in-more more (c .1 .1), c .1 .2, c .1 .3));
-        arrivals = λ b m r. subst (In b) (w .1) m;
+        keeps = λ n e c. (subst (In e) (sym (w .0 .exchanged)) (c .0), (c .1 .0, in-more more (c .1 .1), c .1 .2, c .1 .3));
+        arrivals = λ b m r. inl (subst (In b) (w .1) m);
         arrived = λ b m. subst (In b) (sym (w .1)) m;
         issued = other-issued a;
       }
@@ -79,12 +104,12 @@ pub foreign-same : {i : ℕ} {s t : Course} {e : Exchange} {frame : List ℕ} �
 foreign-same {i} {s} {t} {e} {frame} entered asked issues arrivals past foreign = record {
   past = past;
   received = λ x c. at x (back (x .request) (c .1)) (subst (In x) entered (c .0));
-  keeps = λ x c. (
+  keeps = λ j x c. (
     subst (In x) (sym entered) (there (c .0)),
     subst
-        (λ (l : List Issue). (y : Issue) × In y l × (y .run ≡ i) × (y .frame ≡ x .request)) (sym issues) (c .1),
+        (λ (l : List Issue). (y : Issue) × In y l × (y .run ≡ j) × (y .frame ≡ x .request)) (sym issues) (c .1),
   );
-  arrivals = λ a m r. subst (In a) arrivals m;
+  arrivals = λ a m r. inl (subst (In a) arrivals m);
   arrived = λ a m. subst (In a) (sym arrivals) m;
   issued = λ x m r. subst (In x) issues m;
 }
@@ -95,3 +120,25 @@ foreign-same {i} {s} {t} {e} {frame} entered asked issues arrivals past foreign 
     at : (x : Exchange) → IssuedBy i (x .request) s → In x (e ∷ s .exchanged) → Received i x s
     at x c (here z) = absurd (foreign (c .0, c .1, c .2, c .3 ∙ ap (λ (y : Exchange). y .request) z ∙ asked))
     at x c (there m) = (m, c)
+
+-- a reply to another run's request, which the run ignores
+pub ignored-same : {i : ℕ} {s t : Course} {reply : List ℕ} → t .exchanged ≡ s .exchanged → t .issued ≡ s .issued →
+    t .arrived ≡ record { run = i; reply = reply } ∷ s .arrived → runPast t i ≡ runPast s i → ToAnother i reply s → Same i s t
+ignored-same {i} {s} {t} {reply} exchanges issues arrivals past another = record {
+  past = past;
+  received = λ e c. (subst (In e) exchanges (c .0), subst (Copied-in i e) issues (c .1));
+  keeps = keeps;
+  arrivals = λ a m r. at a (subst (In a) arrivals m);
+  arrived = λ a m. subst (In a) (sym arrivals) (there m);
+  issued = λ x m r. subst (In x) issues m;
+}
+  where
+    Copied-in : ℕ → Exchange → List Issue → Type 0
+    Copied-in j e l = (y : Issue) × In y l × (y .run ≡ j) × (y .frame ≡ e .request)
+
+    keeps : (j : ℕ) (e : Exchange) → Received j e s → Received j e t
+    keeps j e c = (subst (In e) (sym exchanges) (c .0), subst (Copied-in j e) (sym issues) (c .1))
+
+    at : (a : Arrival) → In a (record { run = i; reply = reply } ∷ s .arrived) → In a (s .arrived) ⊎ ToAnother i (a .reply) t
+    at a (here z) = inr (subst (λ (l : List ℕ). ToAnother i l t) (ap (λ (u : Arrival). u .reply) (sym z)) (another-more keeps another))
+    at a (there m) = inl m

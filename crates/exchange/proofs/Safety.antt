@@ -7,7 +7,8 @@ use Rattle.client.specs.declared.run.Word.the-variants.{NotLodged}
 use Rattle.exchange.specs.Course.{Call, Course, start, exec, after}
 use Rattle.exchange.specs.Terms.{Booked}
 use Rattle.exchange.specs.Demand3.{AllAllowed, OneExchangeNumber, Outcome}
-use Rattle.exchange.proofs.Courses.{parts, parts-start, copied, copied-start, numbers-before}
+use Rattle.exchange.proofs.Issues.{numbers-before}
+use Rattle.exchange.proofs.Courses.{parts, parts-start, copied, copied-start}
 use Rattle.exchange.proofs.Outcome.{outcome}
 use Rattle.exchange.proofs.Receipts.{receipts, receipts-start}
 use Rattle.exchange.proofs.Runs.{stays-ended}
@@ -32,7 +33,7 @@ allowed-rest (k ∷ ks) ls s a = allowed-rest ks ls (exec k s) (a .1)
 
 pub outcome-of : (ks : List Call) → AllAllowed ks start → OneExchangeNumber (after ks start) → Outcome (after ks start)
 outcome-of ks a n =
-    outcome (after ks start) (parts ks start parts-start a) (copied ks start copied-start a) n
+    outcome (after ks start) (parts ks start parts-start a n) (copied ks start copied-start a) n
     (receipts ks start parts-start copied-start a n receipts-start .held)
 
 module _ (ks ls : List Call) (a : AllAllowed (ks ++ ls) start) (n : OneExchangeNumber (after (ks ++ ls) start)) where

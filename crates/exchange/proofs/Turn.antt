@@ -1,7 +1,7 @@
 -- "an order in turn closes as lodged or fetched". Assumes nothing.
-use Prim.Native.Nat.{ℕ}
+use Prim.Native.Nat.{ℕ, _<_}
 use mathlib.Core.List.{List, [], _∷_, List·Memᴰ·not-nil as in-none}
-use mathlib.Core.Logic.{_⊎_}
+use mathlib.Core.Logic.{_⊎_, inl, inr}
 use mathlib.Core.Path.{_≡_, refl, sym, ap, _∙_, subst}
 use native.Mathlib.Omega.{arith}
 use Rattle.frame_table.specs.Names.{exchange}
@@ -10,7 +10,8 @@ use Rattle.octets.proofs.Tests.{never}
 use Rattle.client.specs.declared.run.Stage.the-variants as stage
 use Rattle.client.specs.declared.run.Word.the-variants.{Lodged, Fetched}
 use Rattle.client.specs.Rulings.{isBegun}
-use Rattle.exchange.specs.Course.{Call, frameArrives, Course, start, exec, after}
+use Rattle.client.proofs.Replies.{is-answer}
+use Rattle.exchange.specs.Course.{Call, frameArrives, Arrival, Course, start, exec, after}
 use Rattle.exchange.specs.Terms.{InTurn, Received, Accepted, Alone, AllInTurn, Settled}
 use Rattle.exchange.specs.Demand3.{Allowed, AllAllowed, OneExchangeNumber, ClosesInTurn}
 use Rattle.exchange.proofs.Clients.{runPast, Parts}
@@ -23,11 +24,12 @@ use Rattle.exchange.proofs.Courses.{
   copied,
   copied-start,
   frame-runs,
-  numbers-before,
 }
+use Rattle.exchange.proofs.Issues.{numbers-before}
+use Rattle.exchange.proofs.Received.{ToAnother}
 use Rattle.exchange.proofs.Concerns.{Concern, elsewhere, own-frame, own-begin, own-reply, concern}
-use Rattle.exchange.proofs.OrderStates.{State, idle, asks, told, refused, closed, state-same}
-use Rattle.exchange.proofs.Outstanding.{outstanding-issue}
+use Rattle.exchange.proofs.OrderStates.{told-answers, State, idle, asks, told, refused, closed, state-same}
+use Rattle.exchange.proofs.Outstanding.{outstanding-issue, other-no-answer}
 use Rattle.exchange.proofs.OwnRequests.{issued-begun, request-moves}
 use Rattle.exchange.proofs.OwnReplies.{begin-moves, reply-moves}
 
@@ -57,12 +59,12 @@ module _ (i : ℕ) where
   order-state (k ∷ ks) s v copies a n turn z =
       let later = numbers-before ks (exec k s) n in
       let now = numbers-before (k ∷ ks) s n in
-      order-state ks (exec k s) (call-keeps k s v (a .0)) (copied-call k s copies (a .0)) (a .1) n (turn .2)
+      order-state ks (exec k s) (call-keeps k s v later (a .0)) (copied-call k s copies (a .0)) (a .1) n (turn .2)
       (call-moves k s v copies now later (a .0) (turn .1) (turn .0) z)
 
   first-state : State start i (runPast start i)
   unfolding start
-  first-state = idle refl (λ a m r. in-none m)
+  first-state = idle refl (λ a m r. absurd (in-none m))
 
   -- ---- once none of its messages is under way
 
@@ -77,20 +79,26 @@ module _ (i : ℕ) where
       let b = a .messages .received (f .0) (f .1, (o .issue, o .own, o .run, sym (f .2))) in
       let n = ap (λ (l : List ℕ). exchange (readRequest l)) (f .2) in
       let m = o .number in omega arith)
-  settled-closed t v copies numbers (told a) accepted settled = absurd (
+  settled-closed t v copies numbers (told a) accepted settled =
       let o = outstanding-issue t v i (ap isBegun (a .turn .running)) in
       let f = a .messages .all (o .issue) (o .own) (o .run) (let m = o .number in omega arith) in
       let c : Received i (f .0) t = (f .1, (o .issue, o .own, o .run, sym (f .2))) in
       let g = settled .replies (f .0) c in
       let same = a .given (f .0) c (ap (λ (l : List ℕ). exchange (readRequest l)) (f .2) ∙ o .number) in
-      let b = a .messages .arrived (g .0) (g .1) (g .2) in
-      let n = ap (λ (l : List ℕ). exchange (readReply l)) (g .3 ∙ same) in
-      let m = a .number in omega arith)
+      absurd (at (g .0) (g .3 ∙ same) (a .messages .arrived (g .0) (g .1) (g .2)))
+    where
+      at : (y : Arrival) → y .reply ≡ a .reply → (exchange (readReply (y .reply)) < t .runs i .exchange) ⊎ ToAnother i (y .reply) t → ⊥
+      at y z (inl b) =
+          let n = ap (λ (l : List ℕ). exchange (readReply l)) z in
+          let m = is-answer (t .runs i) (readReply (a .reply)) (told-answers t i (runPast t i) a) .number in omega arith
+      at y z (inr o) =
+          never (sym (other-no-answer t v numbers i (a .reply) (ap isBegun (a .turn .running)) (o .run) (o .other)
+          (o .exchange, o .received .0, o .given ∙ z, o .received .1)) ∙ told-answers t i (runPast t i) a)
   settled-closed t v copies numbers (refused a) (x, c, kind, ok) settled = absurd (a .none x c ok)
   settled-closed t v copies numbers (closed w) accepted settled = w
 
 -- "an order whose opening is accepted and whose messages each arrive once, in turn, ... has closed as lodged or fetched"
 pub closes-in-turn : (ks : List Call) → AllAllowed ks start → OneExchangeNumber (after ks start) → ClosesInTurn ks
 closes-in-turn ks a n i turn accepted settled =
-    settled-closed i (after ks start) (parts ks start parts-start a) (copied ks start copied-start a) n
+    settled-closed i (after ks start) (parts ks start parts-start a n) (copied ks start copied-start a) n
     (order-state i ks start parts-start copied-start a n turn (first-state i)) accepted settled

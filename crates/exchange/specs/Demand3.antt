@@ -51,8 +51,7 @@ abbrev pub Left : ℕ → Client → Lent → Course → Type 0
 Left i c l s = (c ≡ s .runs i) × (l .payload ≡ s .payloads i) × (l .file ≡ s .files i)
 
 -- "A request that demand 3 names is a copy of one issued earlier in the list; a reply is a copy of one the bank gave earlier for such a
--- copy": each frame under a subscriber's number, and each reply that reaches a run, to the run's own request. A begin brings its own
--- payload and file buffer
+-- copy": each frame under a subscriber's number, and each reply that reaches a run. A begin brings its own payload and file buffer
 abbrev pub Allowed : Call → Course → Type 0
 Allowed (frameArrives w time ids frame buffer) s =
     Answered (frameCall w time ids frame buffer .answer) ((w ≡ s .bank) × (isSubscribers frame ≡ true → (i : ℕ) × IssuedBy i frame s))
@@ -61,7 +60,7 @@ Allowed (filePut b boxes m file) s = Unless (fileNumber (fileCall b m file boxes
 Allowed (begins i c way subscriber first l) s = Unless (answerNumber (beginCall c way subscriber first l .answer)) (c ≡ s .runs i)
 Allowed (replyArrives i c reply l) s =
     Unless (answerNumber (replyCall c reply l .answer))
-    (Left i c l s × ((e : Exchange) × In e (s .exchanged) × (e .reply ≡ reply) × IssuedBy i (e .request) s))
+    (Left i c l s × ((e : Exchange) × In e (s .exchanged) × (e .reply ≡ reply) × ((j : ℕ) × IssuedBy j (e .request) s)))
 Allowed (noReply i c l) s = Unless (answerNumber (noReplyCall c l .answer)) (Left i c l s)
 
 abbrev pub AllAllowed : List Call → Course → Type 0
