@@ -4,17 +4,17 @@ use mathlib.Core.Path.{_≡_}
 use mathlib.Core.Bool.{Bool, true, false, cond, _&&_, _||_}
 use mathlib.Core.List.{List, [], _∷_}
 use lib.Dec.{ltb, leb, eqb}
-use lib.ListN.{length, set}
+use lib.ListN.{length, set, take}
 use Rattle.frame_table.specs.declared.fields.Fields.{Fields}
 use Rattle.frame_table.specs.declared.table.Form.{Form}
 use Rattle.frame_table.specs.declared.table.Form.the-variants as forms
 use Rattle.frame.specs.declared.writer.Written.{Written}
 use Rattle.frame.specs.declared.writer.Written.the-variants as written
 use Rattle.octets.specs.Bytes.{number}
-use Rattle.frame_table.specs.Names.{phase, subscriber, exchange, transaction, form}
-use Rattle.frame.specs.Reader.{readRequest}
+use Rattle.frame_table.specs.Names.{phase, subscriber, exchange, transaction, returnCode, form}
+use Rattle.frame.specs.Reader.{readRequest, readReply}
 use Rattle.frame.specs.Row.{dataOf}
-use Rattle.frame_table.specs.Table.{isRequestForm}
+use Rattle.frame_table.specs.Table.{isRequestForm, isReplyForm}
 use Rattle.frame.specs.Writer.{writeAnswer, writeBuffer}
 use Rattle.message.specs.declared.codes.ReturnCode.{ReturnCode}
 use Rattle.message.specs.declared.codes.ReturnCode.the-variants as code
@@ -161,12 +161,28 @@ abbrev pub frameNumber : FrameAnswer → ℕ
 frameNumber (Reply n) = 0
 frameNumber WrongLength = 1
 
--- what a call leaves: the bank, both stores, the reply buffer, the answer, and document 01's number for it
+-- the return code of the reply in the buffer; 0 where there is none
+abbrev pub replyCode : FrameAnswer → List ℕ → ℕ
+replyCode (Reply n) buffer = returnCode (readReply (take n buffer))
+replyCode WrongLength buffer = 0
+
+-- the return code that a reader of these fields finds
+abbrev pub codeIn : Fields → ℕ
+codeIn f = cond (isReplyForm (form f)) (returnCode f) 0
+
+-- what is left where f with the data d was to be written into old
+pub record SentAs (f : Fields) (d old : List ℕ) (a : FrameAnswer) (code : ℕ) (buffer : List ℕ) : Type 0 where
+  pub answered : a ≡ answerOf (writeAnswer f d old)
+  pub written : buffer ≡ writeBuffer f d old
+  pub coded : code ≡ replyCode (answerOf (writeAnswer f d old)) (writeBuffer f d old)
+
+-- what a call leaves: the bank, both stores, the reply buffer, the answer, document 01's number for it, and the reply's return code
 pub record FrameCall : Type 0 where
   pub world : World
   pub buffer : List ℕ
   pub answer : FrameAnswer
   pub number : ℕ
+  pub code : ℕ
 
 abbrev pub frameCallOf : FrameOut → List ℕ → List ℕ → List ℕ → FrameCall
 frameCallOf r orders boxes buffer = record {
@@ -174,6 +190,7 @@ frameCallOf r orders boxes buffer = record {
   buffer = buffer;
   answer = r .answer;
   number = frameNumber (r .answer);
+  code = r .code;
 }
 
 abbrev pub replied : Step → List ℕ → FrameCall
@@ -182,6 +199,7 @@ replied s buffer = record {
   buffer = writeBuffer (s .reply) (s .replyData) buffer;
   answer = answerOf (writeAnswer (s .reply) (s .replyData) buffer);
   number = frameNumber (answerOf (writeAnswer (s .reply) (s .replyData) buffer));
+  code = replyCode (answerOf (writeAnswer (s .reply) (s .replyData) buffer)) (writeBuffer (s .reply) (s .replyData) buffer);
 }
 
 -- number 1: "a lent length differs from the above or is too short for what is to be written"
@@ -194,4 +212,4 @@ unfoldable pub frameCall : World → ℕ → List ℕ → List ℕ → List ℕ 
 frameCall w time ids frame buffer =
     cond (lentRight w ids buffer)
     (replied (respond (number ids) (advanced time w) (readRequest frame) (dataOf frame)) buffer)
-    (record { world = w; buffer = buffer; answer = WrongLength; number = frameNumber WrongLength })
+    (record { world = w; buffer = buffer; answer = WrongLength; number = frameNumber WrongLength; code = 0 })

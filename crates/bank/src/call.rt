@@ -27,6 +27,7 @@ use frame::writer::Written;
 use frame::writer::write;
 use frame_table::fields::Fields;
 use frame_table::table::Form;
+use frame_table::table::is_reply_form;
 use frame_table::table::is_request_form;
 use message::codes::ReturnCode;
 use message::limits::FILE_BYTES;
@@ -43,7 +44,6 @@ ghost use Prim.Native.Nat.{ℕ, _<_, _≤_};
 ghost use lib.Dec.{eqb, leb};
 ghost use lib.ListN.{length};
 ghost use Rattle.frame_table.specs.Names.{subscriber, form};
-ghost use Rattle.frame.specs.Writer.{writeAnswer, writeBuffer};
 ghost use Rattle.message.specs.Limits.{subscribers};
 ghost use Rattle.message.specs.Verdicts.{decide};
 ghost use Rattle.bank_state.specs.Limits.{placeCount, storeBytes, idBytes, replyRoom};
@@ -51,7 +51,7 @@ ghost use Rattle.bank_state.specs.State.{world, withDownload};
 ghost use Rattle.bank.specs.declared.call.RequestVerdict.the-variants.{Proceed};
 ghost use Rattle.bank.specs.Call.{refused, unread, mailboxSegment, requestRefusals, openingStep, uploadStepAt};
 ghost use Rattle.bank.specs.Call.{without, emptied, downloadsAfter, downloadStepAt, transactionStep};
-ghost use Rattle.bank.specs.Call.{byForm, respond, answerOf, frameCallOf, replied, frameCall, Ready};
+ghost use Rattle.bank.specs.Call.{byForm, respond, codeIn, SentAs, frameCallOf, replied, frameCall, Ready};
 
 // The reply's length in the lent buffer, or document 01's number 1.
 pub enum FrameAnswer {
@@ -65,26 +65,49 @@ pub enum RequestVerdict {
     Proceed,
 }
 
-// The bank after a call, and the call's answer.
+// The bank after a call, the call's answer, and the return code of its reply, 0 where there is none.
 pub struct FrameOut {
     pub bank: Bank,
     pub answer: FrameAnswer,
+    pub code: u64,
+}
+
+// The answer of a reply that was to be written, and its return code, 0 where it was not.
+struct Sent {
+    pub answer: FrameAnswer,
+    pub code: u64,
+}
+
+// The return code that a reader of these fields finds; 0 where they are of no reply form.
+fn code_in(fields: Fields) -> u64
+    ensures { λ r. ⌜ r ≡ codeIn fields ⌝ }
+{
+    if is_reply_form(fields.form()) {
+        return fields.return_code();
+    }
+    0
 }
 
 // The reply written into the lent buffer.
-fn reply_with(fields: Fields, bytes: &[u8], buffer: &mut [u8]) -> FrameAnswer
-    ensures { λ r. ⌜ (r ≡ answerOf (writeAnswer fields (now (bytes .entry)) (now (buffer .entry)))) × (now (buffer .exit) ≡ writeBuffer fields (now (bytes .entry)) (now (buffer .entry))) ⌝ }
+fn reply_with(fields: Fields, bytes: &[u8], buffer: &mut [u8]) -> Sent
+    ensures { λ r. ⌜ SentAs fields (now (bytes .entry)) (now (buffer .entry)) (r .answer) (r .code) (now (buffer .exit)) ⌝ }
 {
     let written = write(fields, bytes, buffer);
     match written {
-        Written::Length(n) => FrameAnswer::Reply(n),
-        Written::Refused => FrameAnswer::WrongLength,
+        Written::Length(n) => Sent {
+            answer: FrameAnswer::Reply(n),
+            code: code_in(fields),
+        },
+        Written::Refused => Sent {
+            answer: FrameAnswer::WrongLength,
+            code: 0,
+        },
     }
 }
 
 // A reply without data.
-fn reply_alone(fields: Fields, buffer: &mut [u8]) -> FrameAnswer
-    ensures { λ r. ⌜ (r ≡ answerOf (writeAnswer fields [] (now (buffer .entry)))) × (now (buffer .exit) ≡ writeBuffer fields [] (now (buffer .entry))) ⌝ }
+fn reply_alone(fields: Fields, buffer: &mut [u8]) -> Sent
+    ensures { λ r. ⌜ SentAs fields [] (now (buffer .entry)) (r .answer) (r .code) (now (buffer .exit)) ⌝ }
 {
     let nothing = [0u8; 0];
     reply_with(fields, &nothing, buffer)
@@ -94,16 +117,26 @@ fn reply_alone(fields: Fields, buffer: &mut [u8]) -> FrameAnswer
 fn unread(b: Bank, buffer: &mut [u8]) -> FrameOut
     ensures { λ r. ⌜ ((o m : List ℕ) → frameCallOf r o m (now (buffer .exit)) ≡ replied (unread (world b o m)) (now (buffer .entry))) ⌝ }
 {
-    let answer = reply_alone(unreadable(), buffer);
-    FrameOut { bank: b, answer }
+    let sent = reply_alone(unreadable(), buffer);
+    let answer = sent.answer;
+    FrameOut {
+        bank: b,
+        answer,
+        code: sent.code,
+    }
 }
 
 // A refusal that changes nothing.
 fn refused(b: Bank, q: Fields, code: ReturnCode, buffer: &mut [u8]) -> FrameOut
     ensures { λ r. ⌜ ((o m : List ℕ) → frameCallOf r o m (now (buffer .exit)) ≡ replied (refused (world b o m) q code) (now (buffer .entry))) ⌝ }
 {
-    let answer = reply_alone(refusal(q.phase(), q.exchange(), code), buffer);
-    FrameOut { bank: b, answer }
+    let sent = reply_alone(refusal(q.phase(), q.exchange(), code), buffer);
+    let answer = sent.answer;
+    FrameOut {
+        bank: b,
+        answer,
+        code: sent.code,
+    }
 }
 
 // The bytes of a segment of a subscriber's mailbox; none for segment 0.
@@ -148,9 +181,14 @@ fn opening_step(
     let o = opened(b, way, lent, q);
     let bytes = mailbox_segment(b, boxes, q.subscriber(), o.segment);
     let reply = o.reply;
-    let answer = reply_with(reply, bytes, buffer);
+    let sent = reply_with(reply, bytes, buffer);
     let bank = o.bank;
-    FrameOut { bank, answer }
+    let answer = sent.answer;
+    FrameOut {
+        bank,
+        answer,
+        code: sent.code,
+    }
 }
 
 // A request to the open upload in place i.
@@ -174,8 +212,13 @@ fn upload_step_at(
     let mut c = b;
     c.places[i] = place;
     let reply = u.reply;
-    let answer = reply_alone(reply, buffer);
-    FrameOut { bank: c, answer }
+    let sent = reply_alone(reply, buffer);
+    let answer = sent.answer;
+    FrameOut {
+        bank: c,
+        answer,
+        code: sent.code,
+    }
 }
 
 // The bank with this download in record i.
@@ -244,13 +287,18 @@ fn download_step_at(
     let n = segments_of(file_length(files, q.subscriber()));
     let s = download_step(b.clock, request, e, n, q);
     let reply = s.reply;
-    let answer = reply_with(
+    let sent = reply_with(
         reply,
         mailbox_segment(b, boxes, q.subscriber(), s.segment),
         buffer,
     );
     let c = downloads_after(b, i, s, q, boxes);
-    FrameOut { bank: c, answer }
+    let answer = sent.answer;
+    FrameOut {
+        bank: c,
+        answer,
+        code: sent.code,
+    }
 }
 
 // A request to a transaction: an open upload's, an open download's, or none that is open.
@@ -384,6 +432,7 @@ pub fn frame_arrives(
         return FrameOut {
             bank: b,
             answer: FrameAnswer::WrongLength,
+            code: 0,
         };
     }
     let c = advance(b, time as u64, orders);

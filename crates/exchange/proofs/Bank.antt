@@ -165,7 +165,7 @@ replied-by w time ids frame buffer n = go (lentRight w ids buffer)
     out written.Refused h = absurd (let z : _≡_ {A = ℕ} 0 1 = cc in omega arith)
 
     go : (b : Bool) → let k = cond b (replied s buffer)
-        (record { world = w; buffer = buffer; answer = frameAnswer.WrongLength; number = frameNumber frameAnswer.WrongLength }) in
+        (record { world = w; buffer = buffer; answer = frameAnswer.WrongLength; number = frameNumber frameAnswer.WrongLength; code = 0 }) in
         k .answer ≡ frameAnswer.Reply n → Replied k s buffer n
     go true h = record { world = refl; lent = refl; written = out (writeAnswer (s .reply) (s .replyData) buffer) h }
     go false h = absurd (let z : _≡_ {A = ℕ} 0 1 = cc in omega arith)

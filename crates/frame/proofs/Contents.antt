@@ -10,8 +10,8 @@ use lib.ListN.{drop-of-length-le, length, getD, take, drop, length-drop}
 use borrow.Author.Tests.{ltb-true, leb-true, eqb-true, eqb-false, ne-eqb, eq-eqb, not-true}
 use lib.Seq.{drop-cons, length-take-le}
 use lib.Dec.{ltb, leb, eqb}
-use Rattle.octets.specs.Bytes.{fieldBytes}
-use Rattle.frame_table.specs.Table.{tagCount, frameLimit, dataTag, width, allowed}
+use Rattle.octets.specs.Bytes.{Bytes, fieldBytes}
+use Rattle.frame_table.specs.Table.{tagCount, frameLimit, dataTag, width, anyByte, allowed}
 use Rattle.frame.specs.Row.{
   listed,
   wellFormed,
@@ -27,6 +27,7 @@ use Rattle.frame.specs.Row.{
 }
 use Rattle.octets.proofs.Tests.{and-true, or-true, every-below}
 use Rattle.octets.proofs.Numbers.{length-fieldBytes}
+use Rattle.frame_table.proofs.Values.{any-allowed}
 
 -- ---- the fields' table
 
@@ -51,6 +52,13 @@ module _ (t : ℕ) (c : List ℕ) (i : ℕ) where
   pub listed-end : length c ≤ i → listed t (drop i c) ≡ true
   unfolding listed
   listed-end h = rw (drop-of-length-le c {i = i} h)
+
+module _ (t : ℕ) (h : anyByte t ≡ true) where
+  -- where every byte is in the list, bytes are
+  pub any-listed : (c : List ℕ) → Bytes c → listed t c ≡ true
+  unfolding listed
+  any-listed [] k = refl
+  any-listed (b ∷ c) k = rw (any-allowed t h b (k 0)) (any-listed c (λ i. k (suc i)))
 
 pub record WellFormed (t : ℕ) (c : List ℕ) : Type 0 where
   pub most : length c ≤ frameLimit

@@ -6,7 +6,7 @@ use mathlib.Core.Path.{_≡_, refl, sym, ap, _∙_}
 use native.Mathlib.Nat.{add-zero, mul-zero}
 use native.Mathlib.Omega.{arith}
 use lib.ListN.{length, getD, take, drop, set, length-set, length-append, replicate}
-use borrow.Author.Tests.{eqb-true, ne-eqb, le-leb, lt-leb}
+use borrow.Author.Tests.{eqb-true, eq-eqb, ne-eqb, le-leb, lt-leb}
 use Rattle.frame_table.specs.declared.fields.Fields.{Fields}
 use Rattle.octets.specs.Bytes.{bytesOf, overwrite}
 use Rattle.frame_table.specs.Table.{tagCount, frameLimit, dataTag, width, has, isForm}
@@ -177,6 +177,12 @@ module _ (t : ℕ) (f : Fields) (d : List ℕ) where
 
   pub content-most : fieldWritable t f d ≡ true → length (contentOf t f d) ≤ frameLimit
   content-most h = most-at (has (f .tags) t) refl (field-writable h)
+
+  pub data-most : fieldWritable t f d ≡ true → has (f .tags) t ≡ true → t ≡ dataTag → length d ≤ frameLimit
+  unfolding contentOf
+  data-most h k e =
+      let c : contentOf t f d ≡ d = rw (k, eq-eqb t dataTag e) in
+      omega (arith, content-most h, ap length c)
 
   pub join-step : t < tagCount → rest-from f d t ≡ piece t (contentOf t f d) ++ rest-from f d (t + 1)
   unfolding contentsOf join

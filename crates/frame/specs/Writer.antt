@@ -12,13 +12,13 @@ use Rattle.frame_table.specs.Table.{frameLimit, tagCount, dataTag, width, has, 
 use Rattle.frame_table.specs.Names.{form}
 use Rattle.frame.specs.Row.{wellFormed, highOf, lowOf, piece, join}
 
--- the content of tag t: the data d, its number, or nothing where the tag is absent
-unfoldable pub contentOf : ℕ → Fields → List ℕ → List ℕ
-contentOf t f d = cond (has (f .tags) t) (cond (eqb t dataTag) d (bytesOf (width t) (getD (f .high) t 0 * 2 ^ 64 + getD (f .low) t 0))) []
+-- the content of tag t among the tags m: the data d, its number, or nothing where the tag is absent
+abbrev pub contentAt : ℕ → ℕ → ℕ → ℕ → List ℕ → List ℕ
+contentAt m t hi lo d = cond (has m t) (cond (eqb t dataTag) d (bytesOf (width t) (hi * 2 ^ 64 + lo))) []
 
--- the sixteen bytes of the number of tag t
-abbrev pub numberBytes : ℕ → Fields → List ℕ
-numberBytes t f = bytesOf 8 (getD (f .high) t 0) ++ bytesOf 8 (getD (f .low) t 0)
+-- the content of tag t of these fields
+unfoldable pub contentOf : ℕ → Fields → List ℕ → List ℕ
+contentOf t f d = contentAt (f .tags) t (getD (f .high) t 0) (getD (f .low) t 0) d
 
 -- the bytes that tag t takes in the frame
 abbrev pub pieceOf : ℕ → Fields → List ℕ → List ℕ
@@ -46,13 +46,14 @@ frameLength m n = lengthFrom tagCount 0 m n
 unfoldable pub dataWhole : ℕ → ℕ → ℕ → Bool
 dataWhole t n m = not (eqb t dataTag) || eqb n m
 
--- no "values outside their list": the content of tag t reads as its number, the data is whole, and a field that stands is well-formed
+-- the content c of tag t, which stands or not, reads as its number, the data d is whole, and a field that stands is well-formed
+abbrev pub contentFits : ℕ → Bool → List ℕ → ℕ → ℕ → List ℕ → Bool
+contentFits t stands c hi lo d =
+    eqb (highOf t c) hi && eqb (lowOf t c) lo && dataWhole t (length c) (length d) && (not stands || wellFormed t c)
+
+-- no "values outside their list"
 unfoldable pub fieldWritable : ℕ → Fields → List ℕ → Bool
-fieldWritable t f d =
-    eqb (highOf t (contentOf t f d)) (getD (f .high) t 0)
-    && eqb (lowOf t (contentOf t f d)) (getD (f .low) t 0)
-    && dataWhole t (length (contentOf t f d)) (length d)
-    && (not (has (f .tags) t) || wellFormed t (contentOf t f d))
+fieldWritable t f d = contentFits t (has (f .tags) t) (contentOf t f d) (getD (f .high) t 0) (getD (f .low) t 0) d
 
 -- the k fields from tag t on can be written
 unfoldable pub fieldsWritable : ℕ → ℕ → Fields → List ℕ → Bool

@@ -5,6 +5,7 @@ use frame_table::table;
 use frame_table::table::FRAME_LIMIT;
 use frame_table::table::TAGS;
 use frame_table::table::allowed;
+use frame_table::table::is_any;
 use frame_table::table::is_reply_form;
 use frame_table::table::is_request_form;
 use frame_table::table::width;
@@ -21,10 +22,13 @@ ghost use Rattle.frame.specs.Reader.{parse, readRequest, readReply};
 ghost use Rattle.frame_table.specs.Names.{noFields};
 
 // Whether each byte of the content is in the value list of the tag.
-fn listed(tag: usize, content: &[u8]) -> bool
+pub(crate) fn listed(tag: usize, content: &[u8]) -> bool
     requires { ⌜ tag < tagCount ⌝ }
     ensures { λ r. ⌜ r ≡ listed tag (now (content .entry)) ⌝ }
 {
+    if is_any(tag) {
+        return true;
+    }
     let mut i = 0;
     while i < content.len() {
         if !allowed(tag, content[i]) {
@@ -76,7 +80,7 @@ fn field_size(rest: &[u8], tag: usize) -> usize
 }
 
 // The number that the content of the field stands for. Data are no number.
-pub(crate) fn value(tag: usize, content: &[u8]) -> Bits128
+fn value(tag: usize, content: &[u8]) -> Bits128
     requires { ⌜ ((tag ≡ dataTag → ⊥) → length (now content) ≤ 16) ⌝ }
     ensures { λ r. ⌜ (r .high ≡ highOf tag (now (content .entry))) × (r .low ≡ lowOf tag (now (content .entry))) ⌝ }
 {

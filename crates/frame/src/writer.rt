@@ -1,5 +1,5 @@
 // Writing a frame: all fields are checked before the first byte is written.
-use crate::reader::value;
+use crate::reader::listed;
 use crate::reader::well_formed;
 use frame_table::fields::Fields;
 use frame_table::fields::has;
@@ -7,18 +7,22 @@ use frame_table::table::DATA;
 use frame_table::table::FRAME_LIMIT;
 use frame_table::table::Form;
 use frame_table::table::TAGS;
+use frame_table::table::is_any;
 use frame_table::table::is_reply_form;
 use frame_table::table::is_request_form;
 use frame_table::table::width;
 use octets::bytes::digits;
 use octets::bytes::put_field;
 ghost use mathlib.Core.Path.{_≡_};
-ghost use mathlib.Core.Bool.{cond};
-ghost use Prim.Native.Nat.{_+_, _^_, _≤_, _<_};
-ghost use lib.ListN.{length, getD};
-ghost use Rattle.octets.specs.Bytes.{overwrite};
-ghost use Rattle.frame_table.specs.Table.{tagCount, frameLimit, isForm};
-ghost use Rattle.frame.specs.Writer.{contentOf, numberBytes, pieceOf, frameOf, dataWhole, fieldWritable, fieldsWritable, writeAnswer};
+ghost use mathlib.Core.Bool.{true, false, cond};
+ghost use mathlib.Core.List.{[], _++_};
+ghost use Prim.Native.Nat.{ℕ, _+_, _*_, _^_, _≤_, _<_};
+ghost use lib.Dec.{ltb};
+ghost use lib.ListN.{length};
+ghost use Rattle.octets.specs.Bytes.{bytesOf, overwrite};
+ghost use Rattle.frame_table.specs.Table.{tagCount, frameLimit, dataTag, width, has, isForm};
+ghost use Rattle.frame.specs.Row.{listed, piece};
+ghost use Rattle.frame.specs.Writer.{contentAt, frameOf, dataWhole, contentFits, fieldsWritable, writeAnswer};
 ghost use Rattle.frame.specs.Writer.{writeBuffer, writeNumber, writtenNumber};
 
 // The length of the frame written, or document 01's number 1: nothing written.
@@ -27,22 +31,12 @@ pub enum Written {
     Refused,
 }
 
-// The sixteen bytes of the number of the tag.
-fn number_bytes(fields: Fields, tag: usize) -> [u8; 16]
-    requires { ⌜ tag < tagCount ⌝ }
-    ensures { λ r. ⌜ (r ≡ numberBytes tag fields) × (getD (fields .low) tag 0 < 2 ^ 64) ⌝ }
-{
-    let high = fields.high;
-    let low = fields.low;
-    digits(high[tag], low[tag])
-}
-
 // The content of the field: the data, the last bytes of its number, or nothing.
-fn content<'a>(fields: Fields, tag: usize, bytes: &'a [u8], data: &'a [u8]) -> &'a [u8]
-    requires { ⌜ (tag < tagCount) × (now bytes ≡ numberBytes tag fields) × (getD (fields .low) tag 0 < 2 ^ 64) × (length (now bytes) ≡ 16) ⌝ }
-    ensures { λ r. ⌜ now r ≡ contentOf tag fields (now («data» .entry)) ⌝ }
+fn content<'a>(tags: u32, tag: usize, bytes: &'a [u8], data: &'a [u8]) -> &'a [u8]
+    requires { ⌜ (tag < tagCount) × (length (now bytes) ≡ 16) ⌝ }
+    ensures { λ r. ⌜ ((hi lo : ℕ) → now (bytes .entry) ≡ bytesOf 8 hi ++ bytesOf 8 lo → lo < 2 ^ 64 → now r ≡ contentAt tags tag hi lo (now («data» .entry))) ⌝ }
 {
-    if has(fields.tags, tag) {
+    if has(tags, tag) {
         if tag == DATA {
             return data;
         }
@@ -62,39 +56,105 @@ fn data_whole(tag: usize, n: usize, m: usize) -> bool
     true
 }
 
-// Whether the field can be written: its content reads as its number, and is well-formed where the tag stands.
-fn field_writable(fields: Fields, tag: usize, data: &[u8]) -> bool
-    requires { ⌜ tag < tagCount ⌝ }
-    ensures { λ r. ⌜ r ≡ fieldWritable tag fields (now («data» .entry)) ⌝ }
+// Whether an absent field has the number 0, and no data is left over.
+fn absent_writable(tag: usize, high: u64, low: u64, data: &[u8]) -> bool
+    ensures { λ r. ⌜ r ≡ contentFits tag false [] high low (now («data» .entry)) ⌝ }
 {
-    let high = fields.high;
-    let low = fields.low;
-    let bytes = number_bytes(fields, tag);
-    let c = content(fields, tag, &bytes, data);
-    let v = value(tag, c);
-    if v.high != high[tag] {
+    if high != 0 {
         return false;
     }
-    if v.low != low[tag] {
+    if low != 0 {
         return false;
     }
-    if !data_whole(tag, c.len(), data.len()) {
+    data_whole(tag, 0, data.len())
+}
+
+// Whether the data can be written.
+fn data_writable(high: u64, low: u64, data: &[u8]) -> bool
+    ensures { λ r. ⌜ r ≡ contentFits dataTag true (now («data» .entry)) high low (now («data» .entry)) ⌝ }
+{
+    if high != 0 {
         return false;
     }
-    if has(fields.tags, tag) {
-        return well_formed(tag, c);
+    if low != 0 {
+        return false;
     }
-    true
+    well_formed(DATA, data)
+}
+
+// Whether a number has at most w bytes.
+fn is_below(x: u64, w: usize) -> bool
+    ensures { λ r. ⌜ r ≡ ltb x (256 ^ w) ⌝ }
+{
+    if 8 <= w {
+        return true;
+    }
+    x >> (8 * w) == 0
+}
+
+// Whether a number given as two of 64 bits has at most w bytes.
+fn fits(w: usize, high: u64, low: u64) -> bool
+    ensures { λ r. ⌜ r ≡ ltb (high * 2 ^ 64 + low) (256 ^ w) ⌝ }
+{
+    if 8 < w {
+        return is_below(high, w - 8);
+    }
+    if high != 0 {
+        return false;
+    }
+    is_below(low, w)
+}
+
+// Whether the bytes of a number are in the value list of the tag.
+fn number_listed(tag: usize, high: u64, low: u64) -> bool
+    requires { ⌜ (tag < tagCount) × (tag ≡ dataTag → ⊥) ⌝ }
+    ensures { λ r. ⌜ r ≡ listed tag (bytesOf (width tag) (high * 2 ^ 64 + low)) ⌝ }
+{
+    if is_any(tag) {
+        return true;
+    }
+    let bytes = digits(high, low);
+    let from = 16 - width(tag);
+    listed(tag, &bytes[from..])
+}
+
+// Whether a field that is not the data can be written.
+fn number_writable(tag: usize, high: u64, low: u64, data: &[u8]) -> bool
+    requires { ⌜ (tag < tagCount) × (tag ≡ dataTag → ⊥) ⌝ }
+    ensures { λ r. ⌜ r ≡ contentFits tag true (bytesOf (width tag) (high * 2 ^ 64 + low)) high low (now («data» .entry)) ⌝ }
+{
+    if !fits(width(tag), high, low) {
+        return false;
+    }
+    number_listed(tag, high, low)
+}
+
+// Whether the field can be written: its content reads as its number, and is well-formed where the tag stands.
+fn field_writable(tags: u32, tag: usize, high: u64, low: u64, data: &[u8]) -> bool
+    requires { ⌜ tag < tagCount ⌝ }
+    ensures { λ r. ⌜ r ≡ contentFits tag (has tags tag) (contentAt tags tag high low (now («data» .entry))) high low (now («data» .entry)) ⌝ }
+{
+    if !has(tags, tag) {
+        return absent_writable(tag, high, low, data);
+    }
+    if tag == DATA {
+        return data_writable(high, low, data);
+    }
+    number_writable(tag, high, low, data)
 }
 
 // How many bytes the field takes.
-fn piece_length(fields: Fields, tag: usize, data: &[u8]) -> usize
-    requires { ⌜ (tag < tagCount) × (length (contentOf tag fields (now «data»)) ≤ frameLimit) ⌝ }
-    ensures { λ r. ⌜ r ≡ length (pieceOf tag fields (now («data» .entry))) ⌝ }
+fn piece_length(tags: u32, tag: usize, data: &[u8]) -> usize
+    requires { ⌜ (tag < tagCount) × (has tags tag ≡ true → tag ≡ dataTag → length (now «data») ≤ frameLimit) ⌝ }
+    ensures { λ r. ⌜ ((hi lo : ℕ) → r ≡ length (piece tag (contentAt tags tag hi lo (now («data» .entry))))) ⌝ }
 {
-    let bytes = number_bytes(fields, tag);
-    let c = content(fields, tag, &bytes, data);
-    let n = c.len();
+    if !has(tags, tag) {
+        return 0;
+    }
+    if tag != DATA {
+        return 3 + width(tag);
+    }
+    let n = data.len();
     if n == 0 { 0 } else { 3 + n }
 }
 
@@ -105,22 +165,25 @@ fn frame_length(fields: Fields, data: &[u8]) -> usize
     let mut length = 0;
     let mut tag = 0;
     while tag < TAGS {
-        if !field_writable(fields, tag, data) {
+        if !field_writable(fields.tags, tag, fields.high[tag], fields.low[tag], data) {
             return FRAME_LIMIT + 1;
         }
-        length = length + piece_length(fields, tag, data);
+        length = length + piece_length(fields.tags, tag, data);
         tag += 1;
     }
     length
 }
 
 // Writes the field into out from a place on; the place behind it.
-fn put(out: &mut [u8], at: usize, fields: Fields, tag: usize, data: &[u8]) -> usize
-    requires { ⌜ (tag < tagCount) × (length (contentOf tag fields (now «data»)) < 65536) × (at + length (pieceOf tag fields (now «data»)) ≤ length (now out)) ⌝ }
-    ensures { λ r. ⌜ (r ≡ at + length (pieceOf tag fields (now («data» .entry)))) × (now (out .exit) ≡ overwrite (now (out .entry)) at (pieceOf tag fields (now («data» .entry)))) ⌝ }
+fn put(out: &mut [u8], at: usize, tags: u32, tag: usize, high: u64, low: u64, data: &[u8]) -> usize
+    requires { ⌜ (tag < tagCount) × (length (contentAt tags tag high low (now «data»)) < 65536) × (at + length (piece tag (contentAt tags tag high low (now «data»))) ≤ length (now out)) ⌝ }
+    ensures { λ r. ⌜ (r ≡ at + length (piece tag (contentAt tags tag high low (now («data» .entry))))) × (now (out .exit) ≡ overwrite (now (out .entry)) at (piece tag (contentAt tags tag high low (now («data» .entry))))) ⌝ }
 {
-    let bytes = number_bytes(fields, tag);
-    let c = content(fields, tag, &bytes, data);
+    if !has(tags, tag) {
+        return at;
+    }
+    let bytes = digits(high, low);
+    let c = content(tags, tag, &bytes, data);
     let n = c.len();
     if n == 0 {
         return at;
@@ -157,7 +220,15 @@ pub fn write(fields: Fields, data: &[u8], out: &mut [u8]) -> Written
     let mut at = 0;
     let mut tag = 0;
     while tag < TAGS {
-        at = put(out, at, fields, tag, data);
+        at = put(
+            out,
+            at,
+            fields.tags,
+            tag,
+            fields.high[tag],
+            fields.low[tag],
+            data,
+        );
         tag += 1;
     }
     Written::Length(n)

@@ -3,3 +3,4 @@ pub mod Tags
 pub mod Keys
 pub mod Forms
 pub mod Bits
+pub mod Values

@@ -114,6 +114,10 @@ fieldRow t = getD fieldTable t (0, 0, 0, 0, 0)
 unfoldable pub width : ℕ → ℕ
 width t = fieldRow t .0
 
+-- every byte is in the value list of a tag
+unfoldable pub anyByte : ℕ → Bool
+anyByte t = eqb (fieldRow t .1) 0 && eqb (fieldRow t .2) 255
+
 unfoldable pub inRange : ℕ → ℕ → ℕ → Bool
 inRange low high b = leb low b && leb b high
 

@@ -77,107 +77,91 @@ impl Fields {
     pub fn form(self) -> Form
         ensures { λ r. ⌜ r ≡ form self ⌝ }
     {
-        let low = self.low;
-        form_of(self.tags, low[PHASE])
+        form_of(self.tags, self.low[PHASE])
     }
 
     pub fn phase(self) -> u64
         ensures { λ r. ⌜ r ≡ phase self ⌝ }
     {
-        let low = self.low;
-        low[PHASE]
+        self.low[PHASE]
     }
 
     pub fn subscriber(self) -> u64
         ensures { λ r. ⌜ r ≡ subscriber self ⌝ }
     {
-        let low = self.low;
-        low[SUBSCRIBER]
+        self.low[SUBSCRIBER]
     }
 
     pub fn exchange(self) -> u64
         ensures { λ r. ⌜ r ≡ exchange self ⌝ }
     {
-        let low = self.low;
-        low[EXCHANGE]
+        self.low[EXCHANGE]
     }
 
     pub fn order_type(self) -> u64
         ensures { λ r. ⌜ r ≡ orderType self ⌝ }
     {
-        let low = self.low;
-        low[ORDER_TYPE]
+        self.low[ORDER_TYPE]
     }
 
     pub fn nonce(self) -> Bits128
         ensures { λ r. ⌜ r ≡ nonce self ⌝ }
     {
-        let high = self.high;
-        let low = self.low;
         Bits128 {
-            high: high[NONCE],
-            low: low[NONCE],
+            high: self.high[NONCE],
+            low: self.low[NONCE],
         }
     }
 
     pub fn timestamp(self) -> u64
         ensures { λ r. ⌜ r ≡ timestamp self ⌝ }
     {
-        let low = self.low;
-        low[TIMESTAMP]
+        self.low[TIMESTAMP]
     }
 
     pub fn segments(self) -> u64
         ensures { λ r. ⌜ r ≡ segments self ⌝ }
     {
-        let low = self.low;
-        low[SEGMENTS]
+        self.low[SEGMENTS]
     }
 
     pub fn transaction(self) -> Bits128
         ensures { λ r. ⌜ r ≡ transaction self ⌝ }
     {
-        let high = self.high;
-        let low = self.low;
         Bits128 {
-            high: high[TRANSACTION],
-            low: low[TRANSACTION],
+            high: self.high[TRANSACTION],
+            low: self.low[TRANSACTION],
         }
     }
 
     pub fn segment(self) -> u64
         ensures { λ r. ⌜ r ≡ segment self ⌝ }
     {
-        let low = self.low;
-        low[SEGMENT]
+        self.low[SEGMENT]
     }
 
     pub fn last_mark(self) -> u64
         ensures { λ r. ⌜ r ≡ lastMark self ⌝ }
     {
-        let low = self.low;
-        low[LAST_MARK]
+        self.low[LAST_MARK]
     }
 
     pub fn receipt_code(self) -> u64
         ensures { λ r. ⌜ r ≡ receiptCode self ⌝ }
     {
-        let low = self.low;
-        low[RECEIPT_CODE]
+        self.low[RECEIPT_CODE]
     }
 
     pub fn return_code(self) -> u64
         ensures { λ r. ⌜ r ≡ returnCode self ⌝ }
     {
-        let low = self.low;
-        low[RETURN_CODE]
+        self.low[RETURN_CODE]
     }
 
     pub fn order_number(self) -> u64
         ensures { λ r. ⌜ r ≡ orderNumber self ⌝ }
     {
-        let low = self.low;
-        low[ORDER_NUMBER]
+        self.low[ORDER_NUMBER]
     }
 
     // The fields with this tag, of this number; unchanged where there is no such tag.
@@ -200,11 +184,10 @@ impl Fields {
         if TAGS <= tag {
             return self;
         }
-        let tags = with_tag(self.tags, tag);
-        let mut high = self.high;
-        let mut low = self.low;
-        high[tag] = value.high;
-        low[tag] = value.low;
-        Fields { tags, high, low }
+        let mut next = self;
+        next.tags = with_tag(self.tags, tag);
+        next.high[tag] = value.high;
+        next.low[tag] = value.low;
+        next
     }
 }

@@ -51,6 +51,14 @@ answerText WrongLength buffer = decimal (frameNumber WrongLength)
 unfoldable pub lineOf : ℕ → FrameAnswer → List ℕ → List ℕ
 lineOf n a buffer = column n space ++ (answerText a buffer ++ (newline ∷ []))
 
+-- the same text and line, from the return code of the reply
+abbrev pub codedText : FrameAnswer → ℕ → List ℕ
+codedText (Reply n) code = codeText code
+codedText WrongLength code = decimal (frameNumber WrongLength)
+
+unfoldable pub codedLine : ℕ → FrameAnswer → ℕ → List ℕ
+codedLine n a code = column n space ++ (codedText a code ++ (newline ∷ []))
+
 -- the most bytes that a line takes: 20 digits, a space, six digits, a newline
 abbrev pub lineRoom : ℕ
 lineRoom = 28

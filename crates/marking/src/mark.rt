@@ -69,7 +69,7 @@ fn mark_call(
     );
     let calls = m.calls + 1;
     let answer = o.answer;
-    let written = put_line(output, m.written, calls, answer, buffer);
+    let written = put_line(output, m.written, calls, answer, o.code);
     let after = o.bank;
     Marked {
         bank: after,

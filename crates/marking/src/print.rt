@@ -5,8 +5,6 @@ use bank_state::limits::PLACES;
 use bank_state::search::is_booked;
 use bank_state::state::Bank;
 use bank_state::state::Place;
-use frame::reader::read_reply;
-use octets::bytes::front;
 use text::print::CODE_DIGITS;
 use text::print::put_byte;
 use text::print::put_code;
@@ -18,7 +16,7 @@ ghost use Prim.Native.Nat.{_+_, _*_, _≤_};
 ghost use lib.ListN.{length};
 ghost use Rattle.bank_state.specs.Limits.{placeCount};
 ghost use Rattle.text.specs.Print.{Put, codeDigits, codeText, rowsTo, printed, printedCount};
-ghost use Rattle.marking.specs.Print.{codeOf, answerText, lineOf, lineRoom};
+ghost use Rattle.marking.specs.Print.{codedText, codedLine, lineRoom};
 ghost use Rattle.marking.specs.Print.{callHeader, headerRoom, orderLine, orderRoom, lineAt, bookOf, bookRoom};
 
 // The most bytes of a line, and of the book.
@@ -38,39 +36,30 @@ pub fn code_digits(code: u64) -> [u8; CODE_DIGITS]
     text
 }
 
-// Writes the code of the reply in the first n bytes of the buffer.
-fn put_reply_code(output: &mut [u8], at: usize, buffer: &[u8], n: usize) -> usize
-    requires { ⌜ at + codeDigits ≤ length (now output) ⌝ }
-    ensures { λ r. ⌜ Put (now (output .entry)) at (codeOf (now (buffer .entry)) n) (now (output .exit)) r ⌝ }
-{
-    let reply = read_reply(front(buffer, n));
-    put_code(output, at, reply.return_code())
-}
-
 // Writes a call's code, or the number that it was given.
-fn put_answer(output: &mut [u8], at: usize, answer: FrameAnswer, buffer: &[u8]) -> usize
+fn put_answer(output: &mut [u8], at: usize, answer: FrameAnswer, code: u64) -> usize
     requires { ⌜ at + codeDigits ≤ length (now output) ⌝ }
-    ensures { λ r. ⌜ Put (now (output .entry)) at (answerText answer (now (buffer .entry))) (now (output .exit)) r ⌝ }
+    ensures { λ r. ⌜ Put (now (output .entry)) at (codedText answer code) (now (output .exit)) r ⌝ }
 {
     match answer {
-        FrameAnswer::Reply(n) => put_reply_code(output, at, buffer, n),
+        FrameAnswer::Reply(_) => put_code(output, at, code),
         FrameAnswer::WrongLength => put_byte(output, at, b'1'),
     }
 }
 
-// Writes the line of call n.
+// Writes the line of call n, whose reply has this return code.
 pub(crate) fn put_line(
     output: &mut [u8],
     at: usize,
     n: u64,
     answer: FrameAnswer,
-    buffer: &[u8],
+    code: u64,
 ) -> usize
     requires { ⌜ at + lineRoom ≤ length (now output) ⌝ }
-    ensures { λ r. ⌜ Put (now (output .entry)) at (lineOf n answer (now (buffer .entry))) (now (output .exit)) r ⌝ }
+    ensures { λ r. ⌜ Put (now (output .entry)) at (codedLine n answer code) (now (output .exit)) r ⌝ }
 {
     let a = put_column(output, at, n, b' ');
-    let b = put_answer(output, a, answer, buffer);
+    let b = put_answer(output, a, answer, code);
     put_byte(output, b, b'\n')
 }
 

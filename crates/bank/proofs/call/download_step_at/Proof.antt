@@ -15,8 +15,9 @@ returns c =
     let at-length = at-step .before .before in
     rw (
       at-after .downloads-after .ensures o,
-      at-reply .reply-with .ensures .0,
-      at-reply .reply-with .ensures .1,
+      at-reply .reply-with .ensures .answered,
+      at-reply .reply-with .ensures .written,
+      at-reply .reply-with .ensures .coded,
       at-segment .mailbox-segment .ensures o,
       at-segment .before .subscriber2 .ensures,
       at-step .download-step .ensures,

@@ -11,8 +11,9 @@ returns c =
     let at-reply = c .before .before .before in
     let at-segment = at-reply .before .before .before in
     rw (
-      at-reply .reply-with .ensures .0,
-      at-reply .reply-with .ensures .1,
+      at-reply .reply-with .ensures .answered,
+      at-reply .reply-with .ensures .written,
+      at-reply .reply-with .ensures .coded,
       at-segment .mailbox-segment .ensures o,
       at-segment .before .subscriber .ensures,
       at-segment .before .before .opened .ensures,

@@ -9,8 +9,9 @@ returns c =
     let at-reply = c .before .before in
     let at-refusal = at-reply .before .before in
     rw (
-      at-reply .reply-alone .ensures .0,
-      at-reply .reply-alone .ensures .1,
+      at-reply .reply-alone .ensures .answered,
+      at-reply .reply-alone .ensures .written,
+      at-reply .reply-alone .ensures .coded,
       at-refusal .refusal .ensures,
       at-refusal .before .exchange .ensures,
       at-refusal .before .before .phase .ensures,

@@ -26,7 +26,7 @@ returns c =
     let step =
     at-step .upload-step .ensures
     ∙ ap (uploadStep (a .t1 .clock) _ (a .transfer) (a .q) (a .bytes .now)) (part-lent (a .orders .now) (a .i)) in
-    rw (part-back, ← step, at-reply .reply-alone .ensures .0, at-reply .reply-alone .ensures .1)
+    rw (part-back, ← step, at-reply .reply-alone .ensures .answered, at-reply .reply-alone .ensures .written, at-reply .reply-alone .ensures .coded)
 
 pub upload-step-at-spec : {M : Type 1} → statement M
 upload-step-at-spec =

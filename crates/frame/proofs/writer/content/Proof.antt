@@ -1,11 +1,10 @@
 -- `content` meets its contract. Assumes nothing.
-use mathlib.Core.Path.{sym, _∙_}
-use Prim.Native.Nat.{_≤_}
+use mathlib.Core.Path.{_≡_, sym, ap, _∙_}
 use native.Mathlib.Omega.{arith}
 use borrow.Author.Needs.{needs}
+use Prim.Native.Nat.{_≤_}
 use borrow.Author.Tests.{eq-eqb, ne-eqb}
 use Rattle.frame_table.specs.Table.{width}
-use Rattle.frame.specs.Writer.{contentOf}
 use Rattle.octets.proofs.Numbers.{last-bytes}
 use Rattle.frame.proofs.Contents.{width-narrow}
 use Rattle.frame.proofs.writer.content.Statement.{statement}
@@ -15,8 +14,7 @@ has-requires : tie.Need-has-requires
 has-requires c κs = search needs
 
 returns : tie.Need-returns
-unfolding contentOf
-returns c = sym (rw (sym (c .before .before .has .ensures) ∙ c .before .if1 .taken, eq-eqb _ _ (c .if2 .taken)))
+returns c hi lo q m = sym (rw (sym (c .before .before .has .ensures) ∙ c .before .if1 .taken, eq-eqb _ _ (c .if2 .taken)))
 
 width-requires : tie.Need-width-requires
 width-requires c κs = search needs
@@ -36,14 +34,12 @@ part-result-end : tie.Need-part-result-end
 part-result-end c = search needs
 
 returns-2 : tie.Need-returns-2
-unfolding contentOf
-returns-2 c =
+returns-2 c hi lo q m =
     let start = c .before .before .before .before .before .before .before in
     let a = start .args in
-    let p = start .pre in
     let n = c .before .before .if2 .left in
-    let w : width (a .tag) ≤ 16 = omega (arith, width-narrow (a .tag) (p .0) n) in
-    let e = last-bytes (width (a .tag)) _ _ (a .bytes .now) (p .1) w (p .2) in
+    let w : width (a .tag) ≤ 16 = omega (arith, width-narrow (a .tag) (start .pre .0) n) in
+    let e = last-bytes (width (a .tag)) hi lo (a .bytes .now) q w m in
     let h = sym (c .before .before .before .before .has .ensures) ∙ c .before .before .before .if1 .taken in
     rw (c .before .width .ensures, h, ne-eqb _ _ n) e
 
@@ -51,8 +47,7 @@ slice-aggregate-result : tie.Need-slice-aggregate-result
 slice-aggregate-result c = search needs
 
 returns-3 : tie.Need-returns-3
-unfolding contentOf
-returns-3 c = sym (rw (sym (c .before .before .has .ensures) ∙ c .before .if1 .left))
+returns-3 c hi lo q m = sym (rw (sym (c .before .before .has .ensures) ∙ c .before .if1 .left))
 
 pub content-spec : {M : Type 1} → statement M
 content-spec =

@@ -14,10 +14,10 @@ use Rattle.frame.proofs.writer.write.Statement.{statement}
 use Rattle.frame.proofs.writer.write.Tie as tie
 
 abbrev Inv-loop : tie.InvT-loop
-Inv-loop fields «data» out₀ n at₀ tag₀ out at tag = Writing fields «data» out₀ out at tag
+Inv-loop «data» out₀ fields n at₀ tag₀ out at tag = Writing fields «data» out₀ out at tag
 
 abbrev μ-loop : tie.MeasureT-loop
-μ-loop fields «data» out₀ n at₀ tag₀ out at tag = tagCount - tag
+μ-loop «data» out₀ fields n at₀ tag₀ out at tag = tagCount - tag
 
 form-requires : tie.Need-form-requires Inv-loop μ-loop
 form-requires c κs = tt
@@ -40,20 +40,20 @@ returns-2 c =
     let start = c .before .before .before .before .before .before .before in
     let a = start .args in
     let n = c .before .frame-length in
-    let e = writable-over (a .fields) (a .«data» .now) (n .result) (n .ensures) (c .if2 .taken) in
+    let e = writable-over (a .t1) (a .«data» .now) (n .result) (n .ensures) (c .if2 .taken) in
     (sym (rw e), sym (rw e), sym (rw e))
 
 abbrev start : tie.Else2 Inv-loop μ-loop → tie.Start Inv-loop μ-loop
 start c = c .before .before .before .before .before .before .before
 
 -- past the first two tests the frame is writable, and this long
-writable-here : (c : tie.Else2 Inv-loop μ-loop) → (writable (start c .args .fields) (start c .args .«data» .now) ≡ true)
-    × (c .before .frame-length .result ≡ length (frameOf (start c .args .fields) (start c .args .«data» .now)))
+writable-here : (c : tie.Else2 Inv-loop μ-loop) → (writable (start c .args .t1) (start c .args .«data» .now) ≡ true)
+    × (c .before .frame-length .result ≡ length (frameOf (start c .args .t1) (start c .args .«data» .now)))
 writable-here c =
     let n = c .before .frame-length in
     let e = c .before .before .before .is-form .ensures ∙ ap isForm (c .before .before .before .before .form .ensures) in
     let p = sym e ∙ not-false _ (c .before .before .if1 .left) in
-    writable-under (start c .args .fields) (start c .args .«data» .now) (n .result) (n .ensures) p (search needs)
+    writable-under (start c .args .t1) (start c .args .«data» .now) (n .result) (n .ensures) p (search needs)
 
 returns-3 : tie.Need-returns-3 Inv-loop μ-loop
 unfolding writeAnswer writeBuffer writeNumber accepted
@@ -61,23 +61,37 @@ returns-3 c =
     let start = c .before .before .before .before .before .before .before .before in
     let a = start .args in
     let u = writable-here (c .before) in
-    let e = lt-leb (length (frameOf (a .fields) (a .«data» .now))) (length (a .out .now)) (omega (arith, u .1)) in
+    let e = lt-leb (length (frameOf (a .t1) (a .«data» .now))) (length (a .out .now)) (omega (arith, u .1)) in
     (sym (rw (u .0, e)), sym (rw (u .0, e)), sym (rw (u .0, e)))
 
 loop-holds : tie.Need-loop-holds Inv-loop μ-loop
 loop-holds c =
     let start = c .before .before .before .before .before .before .before .before in
     let a = start .args in
-    writing-start (a .fields) (a .«data» .now) (a .out .now)
+    writing-start (a .t1) (a .«data» .now) (a .out .now)
+
+mul-put : tie.Need-mul-put Inv-loop μ-loop
+mul-put c = search needs
+
+element-copy-out-put : tie.Need-element-copy-out-put Inv-loop μ-loop
+element-copy-out-put c = search needs
+
+mul-put-2 : tie.Need-mul-put-2 Inv-loop μ-loop
+mul-put-2 c = search needs
+
+element-copy-out-put-2 : tie.Need-element-copy-out-put-2 Inv-loop μ-loop
+element-copy-out-put-2 c = search needs
 
 put-requires : tie.Need-put-requires Inv-loop μ-loop
+unfolding contentOf
 put-requires c κs =
-    let start = c .before .before .before .before .before .before .before .before .before .before .before in
+    let at-loop = c .before .before .before .before in
+    let start = at-loop .before .before .before .before .before .before .before .before .before in
     let a = start .args in
-    let l = c .before .before .loop in
-    let u = writable-here (c .before .before .before .before) in
-    let b = piece-bound (l .tag) (contentOf (l .tag) (a .fields) (a .«data» .now)) in
-    let w = writing-left (a .fields) (a .«data» .now) (a .out .now) (l .out) (l .at) (l .tag) (l .inv) (search needs) in
+    let l = at-loop .loop in
+    let u = writable-here (at-loop .before .before) in
+    let b = piece-bound (l .tag) (contentOf (l .tag) (a .t1) (a .«data» .now)) in
+    let w = writing-left (a .t1) (a .«data» .now) (a .out .now) (l .out) (l .at) (l .tag) (l .inv) (search needs) in
     (search needs, omega (arith, u .1), omega (arith, u .1, l .inv .long))
 
 add-tag : tie.Need-add-tag Inv-loop μ-loop
@@ -87,15 +101,16 @@ loop-less : tie.Need-loop-less Inv-loop μ-loop
 loop-less c = search needs
 
 loop-again : tie.Need-loop-again Inv-loop μ-loop
+unfolding contentOf
 loop-again c =
-    let at-loop = c .before .before .before .before .before in
+    let at-loop = c .before .before .before .before .before .before .before in
     let at-if2 = at-loop .before .before in
     let start = at-if2 .before .before .before .before .before .before .before in
     let a = start .args in
     let l = at-loop .loop in
     let u = writable-here (at-if2) in
     let e = c .before .before .put .ensures in
-    writing-step (a .fields) (a .«data» .now) (a .out .now) (l .out) (l .at) (l .tag) (l .inv) (search needs)
+    writing-step (a .t1) (a .«data» .now) (a .out .now) (l .out) (l .at) (l .tag) (l .inv) (search needs)
     (omega (arith, u .1)) _ _ (e .0) (e .1)
 
 same-length : tie.Need-same-length Inv-loop μ-loop
@@ -108,8 +123,8 @@ returns-4 c =
     let a = start .args in
     let l = c .before .loop in
     let u = writable-here (c .before .before .before) in
-    let e = le-leb (length (frameOf (a .fields) (a .«data» .now))) (length (a .out .now)) (omega (arith, u .1)) in
-    let w = writing-end (a .fields) (a .«data» .now) (a .out .now) (l .out) (l .at) (l .tag) (l .inv) (search needs) in
+    let e = le-leb (length (frameOf (a .t1) (a .«data» .now))) (length (a .out .now)) (omega (arith, u .1)) in
+    let w = writing-end (a .t1) (a .«data» .now) (a .out .now) (l .out) (l .at) (l .tag) (l .inv) (search needs) in
     (sym (rw (u .0, e, u .1)), sym (rw (u .0, e) w), sym (rw (u .0, e)))
 
 pub write-spec : {M : Type 1} → statement M
@@ -125,6 +140,10 @@ write-spec =
     returns-2
     returns-3
     loop-holds
+    mul-put
+    element-copy-out-put
+    mul-put-2
+    element-copy-out-put-2
     put-requires
     add-tag
     loop-less

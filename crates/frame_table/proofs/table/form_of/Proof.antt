@@ -1,69 +1,114 @@
--- `form_of` meets its contract. The loop's invariant: no row passed fits. Assumes nothing.
-use mathlib.Core.Path.{_≡_, refl, sym, _∙_}
-use Prim.Native.Nat.{_≤_, _-_}
-use lib.ListN.{length, drop}
+-- `form_of` meets its contract. Assumes nothing.
+use mathlib.Core.Path.{_≡_, sym, _∙_}
 use borrow.Author.Needs.{needs}
-use Rattle.frame_table.specs.Table.{formTable, findForm, formOf}
-use Rattle.frame_table.proofs.Forms.{findForm-step, findForm-end}
+use borrow.Author.Tests.{ne-eqb}
+use Rattle.frame_table.specs.Table.{rowFits, findForm, formOf}
 use Rattle.frame_table.proofs.table.form_of.Statement.{statement}
 use Rattle.frame_table.proofs.table.form_of.Tie as tie
 
-abbrev Inv-loop : tie.InvT-loop
-Inv-loop tags phase i₀ i = (i ≤ length formTable) × (formOf tags phase ≡ findForm (drop i formTable) tags phase)
+of-phase-requires : tie.Need-of-phase-requires
+of-phase-requires c κs = search needs
 
-abbrev μ-loop : tie.MeasureT-loop
-μ-loop tags phase i₀ i = length formTable - i
+of-phase-requires-2 : tie.Need-of-phase-requires-2
+of-phase-requires-2 c κs = search needs
 
-loop-holds : tie.Need-loop-holds Inv-loop μ-loop
-unfolding formOf
-loop-holds c = (search needs, refl)
+of-phase-requires-3 : tie.Need-of-phase-requires-3
+of-phase-requires-3 c κs = search needs
 
-mul-row : tie.Need-mul-row Inv-loop μ-loop
-mul-row c = search needs
+of-phase-requires-4 : tie.Need-of-phase-requires-4
+of-phase-requires-4 c κs = search needs
 
-array-copy-out-row : tie.Need-array-copy-out-row Inv-loop μ-loop
-array-copy-out-row c = search needs
+of-phase-requires-5 : tie.Need-of-phase-requires-5
+of-phase-requires-5 c κs = search needs
 
-row-fits-requires : tie.Need-row-fits-requires Inv-loop μ-loop
-row-fits-requires c κs = tt
+returns : tie.Need-returns
+unfolding rowFits findForm formOf
+returns c = c .of-phase .ensures ∙ sym (rw (c .before .match .keys1))
 
-returns : tie.Need-returns Inv-loop μ-loop
-returns c =
-    let l = c .before .before .before .before .loop in
-    let a = c .before .before .before .before .before .args in
-    let fits = sym (c .before .row-fits .ensures) ∙ c .if1 .taken in
-    sym (l .inv .1 ∙ findForm-step formTable (l .i) (a .tags) (a .phase) (search needs) ∙ rw fits)
+returns-2 : tie.Need-returns-2
+unfolding rowFits findForm formOf
+returns-2 c = c .of-phase2 .ensures ∙ sym (rw (c .before .match .keys2))
 
-add-i : tie.Need-add-i Inv-loop μ-loop
-add-i c = search needs
+returns-3 : tie.Need-returns-3
+unfolding rowFits findForm formOf
+returns-3 c = c .of-phase3 .ensures ∙ sym (rw (c .before .match .keys3))
 
-loop-less : tie.Need-loop-less Inv-loop μ-loop
-loop-less c = search needs
+returns-4 : tie.Need-returns-4
+unfolding rowFits findForm formOf
+returns-4 c = c .of-phase4 .ensures ∙ sym (rw (c .before .match .keys4))
 
-loop-again : tie.Need-loop-again Inv-loop μ-loop
-loop-again c =
-    let l = c .before .before .before .before .loop in
-    let a = c .before .before .before .before .before .args in
-    let fits = sym (c .before .row-fits .ensures) ∙ c .if1 .left in
-    (search needs, l .inv .1 ∙ findForm-step formTable (l .i) (a .tags) (a .phase) (search needs) ∙ rw fits)
+returns-5 : tie.Need-returns-5
+unfolding rowFits findForm formOf
+returns-5 c = c .of-phase5 .ensures ∙ sym (rw (c .before .match .keys5))
 
-returns-2 : tie.Need-returns-2 Inv-loop μ-loop
-returns-2 c =
-    let a = c .before .before .args in
-    sym (c .before .loop .inv .1 ∙ findForm-end formTable (c .before .loop .i) (a .tags) (a .phase) (search needs))
+returns-6 : tie.Need-returns-6
+unfolding rowFits findForm formOf
+returns-6 c = sym (rw (c .match .keys6))
+
+returns-7 : tie.Need-returns-7
+unfolding rowFits findForm formOf
+returns-7 c = sym (rw (c .match .keys7))
+
+returns-8 : tie.Need-returns-8
+unfolding rowFits findForm formOf
+returns-8 c = sym (rw (c .match .keys8))
+
+returns-9 : tie.Need-returns-9
+unfolding rowFits findForm formOf
+returns-9 c = sym (rw (c .match .keys9))
+
+returns-10 : tie.Need-returns-10
+unfolding rowFits findForm formOf
+returns-10 c = sym (rw (c .match .keys10))
+
+returns-11 : tie.Need-returns-11
+unfolding rowFits findForm formOf
+returns-11 c = sym (rw (c .match .keys11))
+
+returns-12 : tie.Need-returns-12
+unfolding rowFits findForm formOf
+returns-12 c = sym (rw (c .match .keys12))
+
+returns-13 : tie.Need-returns-13
+unfolding rowFits findForm formOf
+returns-13 c =
+    let m = c .before .args .tags in
+    let r = c .match .rest in
+    sym
+    (rw (
+      ne-eqb 254 m (λ e. r .0 .0 .0 .0 .0 .0 .0 .0 .0 .0 .0 .1 (sym e)),
+      ne-eqb 126 m (λ e. r .0 .0 .0 .0 .0 .0 .0 .0 .0 .0 .1 (sym e)),
+      ne-eqb 3854 m (λ e. r .0 .0 .0 .0 .0 .0 .0 .0 .0 .1 (sym e)),
+      ne-eqb 782 m (λ e. r .0 .0 .0 .0 .0 .0 .0 .0 .1 (sym e)),
+      ne-eqb 4366 m (λ e. r .0 .0 .0 .0 .0 .0 .0 .1 (sym e)),
+      ne-eqb 24842 m (λ e. r .0 .0 .0 .0 .0 .0 .1 (sym e)),
+      ne-eqb 12170 m (λ e. r .0 .0 .0 .0 .0 .1 (sym e)),
+      ne-eqb 8970 m (λ e. r .0 .0 .0 .0 .1 (sym e)),
+      ne-eqb 12042 m (λ e. r .0 .0 .0 .1 (sym e)),
+      ne-eqb 8458 m (λ e. r .0 .0 .1 (sym e)),
+      ne-eqb 8192 m (λ e. r .0 .1 (sym e)),
+      ne-eqb 8202 m (λ e. r .1 (sym e)),
+    ))
 
 pub form-of-spec : {M : Type 1} → statement M
 form-of-spec =
     tie.close
     (tie.spec
-    Inv-loop
-    μ-loop
-    loop-holds
-    mul-row
-    array-copy-out-row
-    row-fits-requires
+    of-phase-requires
+    of-phase-requires-2
+    of-phase-requires-3
+    of-phase-requires-4
+    of-phase-requires-5
     returns
-    add-i
-    loop-less
-    loop-again
-    returns-2)
+    returns-2
+    returns-3
+    returns-4
+    returns-5
+    returns-6
+    returns-7
+    returns-8
+    returns-9
+    returns-10
+    returns-11
+    returns-12
+    returns-13)

@@ -8,13 +8,14 @@ use lib.Seq.{drop-drop}
 use Rattle.marking.specs.Print.{headBytes, sizeOf}
 use Rattle.marking.specs.Marking.{called, calledLine, callOf}
 use Rattle.marking.proofs.Calls.{Readied, readied}
+use Rattle.marking.proofs.Texts.{coded-line, call-code}
 use borrow.Author.Needs.{needs}
 use Rattle.marking.proofs.mark.mark_call.Statement.{statement}
 use Rattle.marking.proofs.mark.mark_call.Tie as tie
 
 -- the places of the body, from the last back to the first
 abbrev at-frame : tie.After-put-line → tie.After-frame-arrives
-at-frame c = c .before .before .before .before .before .before .before .before .before .before
+at-frame c = c .before .before .before .before .before .before .before .before .before
 
 abbrev at-behind : tie.After-frame-arrives → tie.After-behind
 at-behind c = c .before .before .before .before .before .before .before .before
@@ -54,17 +55,17 @@ add-calls c = omega (arith, ready (at-start (at-behind (c .before .before .befor
 
 put-line-requires : tie.Need-put-line-requires
 put-line-requires c κs =
-    let frame = c .before .before .before .before .before .before .before .before .before in
+    let frame = c .before .before .before .before .before .before .before .before in
     omega (arith, at-start (at-behind frame) .pre .1)
 
-add-t30 : tie.Need-add-t30
-add-t30 c = omega (arith, end-fits (at-behind (at-frame (c .before .before .before))))
+add-t28 : tie.Need-add-t28
+add-t28 c = omega (arith, end-fits (at-behind (at-frame (c .before .before .before))))
 
 size-of-requires : tie.Need-size-of-requires
 size-of-requires c κs = omega (arith, head-fits (at-behind (at-frame (c .before .before .before))))
 
-add-t32 : tie.Need-add-t32
-add-t32 c = omega (arith, c .size-of .ensures, end-fits (at-behind (at-frame (c .before .before .before .before))))
+add-t30 : tie.Need-add-t30
+add-t30 c = omega (arith, c .size-of .ensures, end-fits (at-behind (at-frame (c .before .before .before .before))))
 
 same-length : tie.Need-same-length
 same-length c = search needs
@@ -82,11 +83,12 @@ returns : tie.Need-returns
 unfolding called calledLine callOf
 returns c =
     let at-line = c .before .before .before .before in
-    let frame = at-line .before .before .before .before .before .before .before .before .before .before in
+    let frame = at-line .before .before .before .before .before .before .before .before .before in
     let at-read = frame .before .before .before .before in
     let at-time = at-read .before .before in
     let behind = at-time .before .before in
-    let put = at-line .put-line .ensures in
+    let code = call-code _ _ _ _ _ _ (frame .frame-arrives .ensures) in
+    let put = rw (coded-line _ _ _ _ code) at (at-line .put-line .ensures) in
     rw (
       drop-drop,
       ← behind .behind .ensures,
@@ -110,9 +112,9 @@ mark-call-spec =
     frame-arrives-requires
     add-calls
     put-line-requires
-    add-t30
+    add-t28
     size-of-requires
-    add-t32
+    add-t30
     same-length
     same-length-2
     same-length-3

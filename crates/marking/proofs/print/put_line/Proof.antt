@@ -3,10 +3,10 @@ use Prim.Native.Nat.{_+_, _≤_}
 use lib.ListN.{length}
 use native.Mathlib.Omega.{arith}
 use Rattle.text.specs.Print.{codeDigits, columnRoom}
-use Rattle.marking.specs.Print.{lineOf}
+use Rattle.marking.specs.Print.{codedLine}
 use Rattle.text.proofs.Digits.{column-most}
 use Rattle.text.proofs.Texts.{put-then, put-left}
-use Rattle.marking.proofs.Texts.{answer-most}
+use Rattle.marking.proofs.Texts.{coded-most}
 use borrow.Author.Needs.{needs}
 use Rattle.marking.proofs.print.put_line.Statement.{statement}
 use Rattle.marking.proofs.print.put_line.Tie as tie
@@ -25,14 +25,14 @@ put-byte-requires : tie.Need-put-byte-requires
 put-byte-requires c κs =
     let at-answer = c .before .before .before in
     let at-column = at-answer .before .before .before .before in
-    let a = at-column .before .before .before .before .args in
-    omega (arith, put-left codeDigits 1 (at-answer .put-answer .ensures) (answer-most (a .answer) (a .buffer .now)) (left at-column))
+    let a = at-column .before .before .before .args in
+    omega (arith, put-left codeDigits 1 (at-answer .put-answer .ensures) (coded-most (a .answer) (a .code)) (left at-column))
 
 same-length : tie.Need-same-length
 same-length c = search needs
 
 returns : tie.Need-returns
-unfolding lineOf
+unfolding codedLine
 returns c =
     let at-byte = c .before .before in
     let at-answer = at-byte .before .before .before .before in

@@ -10,20 +10,20 @@ returns c = search tests
 with-tag-requires : tie.Need-with-tag-requires
 with-tag-requires c κs = search needs
 
-mul-high : tie.Need-mul-high
-mul-high c = search needs
+mul-next : tie.Need-mul-next
+mul-next c = search needs
 
-array-write-high : tie.Need-array-write-high
-array-write-high c = search needs
+element-write-next : tie.Need-element-write-next
+element-write-next c = search needs
 
-mul-low : tie.Need-mul-low
-mul-low c = search needs
+mul-next-2 : tie.Need-mul-next-2
+mul-next-2 c = search needs
 
-array-write-low : tie.Need-array-write-low
-array-write-low c = search needs
+element-write-next-2 : tie.Need-element-write-next-2
+element-write-next-2 c = search needs
 
 returns-2 : tie.Need-returns-2
-returns-2 c = search (tests, c .before .before .with-tag .ensures)
+returns-2 c = search (tests, c .with-tag .ensures)
 
 pub with-wide-spec : {M : Type 1} → statement M
 with-wide-spec =
@@ -31,8 +31,8 @@ with-wide-spec =
     (tie.spec
     returns
     with-tag-requires
-    mul-high
-    array-write-high
-    mul-low
-    array-write-low
+    mul-next
+    element-write-next
+    mul-next-2
+    element-write-next-2
     returns-2)
