@@ -47,7 +47,8 @@ pub record Issue : Type 0 where
   pub file : List ℕ
   pub box : List ℕ
 
--- a frame and the reply that the bank gave it, the clock then, and the file that the mailbox of the frame's subscriber held
+-- a frame and the reply that the bank gave it, the clock then, and the file that the mailbox of the frame's subscriber held as the frame
+-- came: after clock and drops, before the answer
 pub record Exchange : Type 0 where
   pub request : List ℕ
   pub reply : List ℕ

@@ -6,7 +6,7 @@ use mathlib.Core.Logic.{_⊎_}
 use mathlib.Core.List.{List, [], _∷_, _++_, map, List·Memᴰ as In}
 use lib.Dec.{leb}
 use Rattle.frame_table.specs.declared.table.Form.the-variants as forms
-use Rattle.frame_table.specs.Names.{subscriber, exchange, transaction, returnCode, form}
+use Rattle.frame_table.specs.Names.{subscriber, exchange, returnCode, form}
 use Rattle.frame.specs.Reader.{readRequest, readReply}
 use Rattle.frame_table.specs.Table.{isRequestForm}
 use Rattle.message.specs.declared.codes.ReturnCode.the-variants as code
@@ -36,7 +36,7 @@ use Rattle.exchange.specs.Course.{
   heldOf,
 }
 use Rattle.exchange.specs.Lists.{AtMostOne, NoDup}
-use Rattle.exchange.specs.Terms.{Unless, Answered, IssuedBy, Books, Booked, Order, InBook, OrderOf, Accepted, AllInTurn, Settled}
+use Rattle.exchange.specs.Terms.{Unless, Answered, IssuedBy, Books, Booked, Opened, Order, InBook, OrderOf, Accepted, AllInTurn, Settled}
 
 -- ---- THE PREMISES
 
@@ -80,6 +80,8 @@ pub record Outcome (s : Course) : Type 0 where
   pub sound : (j : ℕ) (o : Order) → InBook s j o → (i : ℕ) × Booked s i × OrderOf s i o
   pub whole : (i : ℕ) → Booked s i → (j : ℕ) × (o : Order) × InBook s j o × OrderOf s i o
   pub single : (j j′ : ℕ) (o o′ : Order) → InBook s j o → InBook s j′ o′ → o .number ≡ o′ .number → j ≡ j′
+  -- no upload explains two places of the book, no two uploads one
+  pub place : (i j j′ : ℕ) (o o′ : Order) → InBook s j o → InBook s j′ o′ → OrderOf s i o → OrderOf s i o′ → j ≡ j′
   pub apart : (i i′ : ℕ) (o : Order) → Booked s i → Booked s i′ → OrderOf s i o → OrderOf s i′ o → i ≡ i′
   -- "'lodged' names its booked order"
   pub lodged : (i : ℕ) → s .runs i .stage ≡ stage.Ended Lodged →
@@ -87,17 +89,17 @@ pub record Outcome (s : Course) : Type 0 where
   -- "'not lodged' means never booked"
   pub notLodged : (i : ℕ) → s .runs i .stage ≡ stage.Ended NotLodged → Booked s i → ⊥
   -- "a fetched file is the mailbox's file at its transaction's opening"
-  pub fetched : (i : ℕ) → s .runs i .stage ≡ stage.Ended Fetched → (e : Exchange) × In e (s .exchanged)
-      × (form (readReply (e .reply)) ≡ forms.DownloadOpened) × (transaction (readReply (e .reply)) ≡ s .runs i .transaction)
+  pub fetched : (i : ℕ) → s .runs i .stage ≡ stage.Ended Fetched → (e : Exchange) × Opened forms.DownloadOpened s i e
       × (subscriber (readRequest (e .request)) ≡ s .runs i .subscriber) × (heldOf (s .runs i) (s .files i) ≡ e .box)
   -- "The bank's mailbox holds exactly the file last put in by a call given no number, until a receipt of its subscriber is answered
   -- 011000, which alone empties it"
   pub mailbox : (m : ℕ) → 1 ≤ m → m ≤ subscribers → mailboxOf (s .bank) m ≡ s .mailboxes m
-  -- "a mailbox is emptied only after its client held the whole": "as it issued that receipt, its file was the mailbox's"; and it is the
-  -- mailbox's file still as the bank answers
+  -- "a mailbox is emptied only after its client held the whole": "as it issued that receipt, its file was the mailbox's", a run of the
+  -- mailbox's subscriber; and it is the mailbox's file still as the bank answers
   pub emptied : (e : Exchange) → In e (s .exchanged) → returnCode (readReply (e .reply)) ≡ codeField code.DownloadPostprocessDone →
       (form (readRequest (e .request)) ≡ forms.Receipt)
-      × ((x : Issue) × In x (s .issued) × (x .frame ≡ e .request) × (x .file ≡ x .box) × (x .file ≡ e .box))
+      × ((x : Issue) × In x (s .issued) × (x .frame ≡ e .request) × (s .runs (x .run) .subscriber ≡ subscriber (readRequest (e .request)))
+      × (x .file ≡ x .box) × (x .file ≡ e .box))
 
 -- "an order in turn closes as lodged or fetched"
 abbrev pub ClosesInTurn : List Call → Type 0

@@ -4,6 +4,7 @@ use mathlib.Core.Path.{_≡_}
 use mathlib.Core.Logic.{_⊎_}
 use mathlib.Core.List.{List, [], _∷_, List·Memᴰ as In}
 use lib.ListN.{length, take}
+use Rattle.frame_table.specs.declared.table.Form.{Form}
 use Rattle.frame_table.specs.declared.table.Form.the-variants as forms
 use Rattle.frame_table.specs.Names.{subscriber, segment, transaction, returnCode, orderNumber, form}
 use Rattle.frame.specs.Reader.{readRequest, readReply}
@@ -41,6 +42,17 @@ Answered frameAnswer.WrongLength premise = Unit {0}
 abbrev pub IssuedBy : ℕ → List ℕ → Course → Type 0
 IssuedBy i frame s = (x : Issue) × In x (s .issued) × (x .run ≡ i) × (x .frame ≡ frame)
 
+-- a request of the run that the bank received, with the reply given
+abbrev pub Received : ℕ → Exchange → Course → Type 0
+Received i e s = In e (s .exchanged) × IssuedBy i (e .request) s
+
+-- the opening of the run's transaction: a request of the run, answered in the opening's form with 000000 and the run's transaction ID
+pub record Opened (answer : Form) (s : Course) (i : ℕ) (e : Exchange) : Type 0 where
+  pub received : Received i e s
+  pub answered : form (readReply (e .reply)) ≡ answer
+  pub ok : returnCode (readReply (e .reply)) ≡ codeField code.Ok
+  pub own : transaction (readReply (e .reply)) ≡ s .runs i .transaction
+
 -- ---- BOOKED
 
 -- "An upload is booked when a copy of its segment N gets 000000"
@@ -74,17 +86,11 @@ pub record InBook (s : Course) (j : ℕ) (o : Order) : Type 0 where
 pub record OrderOf (s : Course) (i : ℕ) (o : Order) : Type 0 where
   pub subscriber : o .subscriber ≡ s .runs i .subscriber
   pub bytes : o .bytes ≡ s .payloads i
-  pub opening : Exchange
-  pub given : In opening (s .exchanged)
-  pub opened : form (readReply (opening .reply)) ≡ forms.UploadOpened
-  pub own : transaction (readReply (opening .reply)) ≡ s .runs i .transaction
-  pub number : orderNumber (readReply (opening .reply)) ≡ o .number
+  pub exchange : Exchange
+  pub opened : Opened forms.UploadOpened s i exchange
+  pub number : orderNumber (readReply (exchange .reply)) ≡ o .number
 
 -- ---- AN ORDER IN TURN
-
--- a request of the run that the bank received, with the reply given
-abbrev pub Received : ℕ → Exchange → Course → Type 0
-Received i e s = In e (s .exchanged) × IssuedBy i (e .request) s
 
 -- "An idle hour is over 3,600 on the clock from the arrival of one of the order's requests to that of the next"
 abbrev pub NoIdleHour : ℕ → ℕ → Course → Type 0
