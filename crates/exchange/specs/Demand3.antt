@@ -12,13 +12,10 @@ use Rattle.frame_table.specs.Table.{isRequestForm}
 use Rattle.message.specs.declared.codes.ReturnCode.the-variants as code
 use Rattle.message.specs.Codes.{codeField}
 use Rattle.message.specs.Limits.{subscribers}
-use Rattle.bank.specs.Call.{frameCall}
-use Rattle.bank.specs.Mailbox.{fileNumber, fileCall}
 use Rattle.client.specs.declared.run.Client.{Client}
 use Rattle.client.specs.declared.run.Stage.the-variants as stage
 use Rattle.client.specs.declared.run.Word.the-variants.{Lodged, NotLodged, Fetched}
-use Rattle.client.specs.Calls.{beginCall, replyCall, noReplyCall}
-use Rattle.client.specs.Run.{Lent, answerNumber}
+use Rattle.client.specs.Run.{Lent}
 use Rattle.exchange.specs.Course.{
   Call,
   frameArrives,
@@ -30,13 +27,14 @@ use Rattle.exchange.specs.Course.{
   Exchange,
   Course,
   start,
+  callNumber,
   exec,
   after,
   mailboxOf,
   heldOf,
 }
 use Rattle.exchange.specs.Lists.{AtMostOne, NoDup}
-use Rattle.exchange.specs.Terms.{Unless, Answered, IssuedBy, Books, Booked, Opened, Order, InBook, OrderOf, Accepted, AllInTurn, Settled}
+use Rattle.exchange.specs.Terms.{IssuedBy, Books, Booked, Opened, Order, InBook, OrderOf, Accepted, AllInTurn, Settled}
 
 -- ---- THE PREMISES
 
@@ -52,16 +50,17 @@ Left i c l s = (c ≡ s .runs i) × (l .payload ≡ s .payloads i) × (l .file �
 
 -- "A request that demand 3 names is a copy of one issued earlier in the list; a reply is a copy of one the bank gave earlier for such a
 -- copy": each frame under a subscriber's number, and each reply that reaches a run. A begin brings its own payload and file buffer
+abbrev pub Premise : Call → Course → Type 0
+Premise (frameArrives w time ids frame buffer) s = (w ≡ s .bank) × (isSubscribers frame ≡ true → (i : ℕ) × IssuedBy i frame s)
+Premise (filePut b boxes m file) s = (b ≡ s .bank .bank) × (boxes ≡ s .bank .boxes)
+Premise (begins i c way subscriber first l) s = c ≡ s .runs i
+Premise (replyArrives i c reply l) s = Left i c l s
+    × ((e : Exchange) × In e (s .exchanged) × (e .reply ≡ reply) × ((j : ℕ) × IssuedBy j (e .request) s))
+Premise (noReply i c l) s = Left i c l s
+
+-- "a call given a number may be lent others"
 abbrev pub Allowed : Call → Course → Type 0
-Allowed (frameArrives w time ids frame buffer) s =
-    Answered (frameCall w time ids frame buffer .answer) ((w ≡ s .bank) × (isSubscribers frame ≡ true → (i : ℕ) × IssuedBy i frame s))
-Allowed (filePut b boxes m file) s = Unless (fileNumber (fileCall b m file boxes .answer))
-    ((b ≡ s .bank .bank) × (boxes ≡ s .bank .boxes))
-Allowed (begins i c way subscriber first l) s = Unless (answerNumber (beginCall c way subscriber first l .answer)) (c ≡ s .runs i)
-Allowed (replyArrives i c reply l) s =
-    Unless (answerNumber (replyCall c reply l .answer))
-    (Left i c l s × ((e : Exchange) × In e (s .exchanged) × (e .reply ≡ reply) × ((j : ℕ) × IssuedBy j (e .request) s)))
-Allowed (noReply i c l) s = Unless (answerNumber (noReplyCall c l .answer)) (Left i c l s)
+Allowed k s = callNumber k ≡ 0 → Premise k s
 
 abbrev pub AllAllowed : List Call → Course → Type 0
 AllAllowed [] s = Unit {0}
