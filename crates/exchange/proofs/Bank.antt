@@ -342,8 +342,8 @@ module _ (s : Course) (b : BankPart s) (mailbox : ℕ) (file : List ℕ) where
   abbrev put : FileCall
   put = carryOutFile fileAnswer.Done (b .past .world .bank) mailbox file (b .past .world .boxes)
 
-  file-by : FileSound bankBefore mailbox file boxesBefore fileAnswer.Done → Holds (placed fileAnswer.Done (put .bank) (put .boxes) (b .past)) →
-      Later b (afterFile put mailbox file s)
+  file-by : FileSound bankBefore mailbox file boxesBefore fileAnswer.Done →
+      Holds (placed fileAnswer.Done (put .bank) (put .boxes) (b .past)) → Later b (afterFile put mailbox file s)
   unfolding mailboxOf
   file-by (rejected l) holds = absurd (omega arith)
   file-by (done known most some short empty) holds = (

@@ -224,23 +224,25 @@ allowed (reaches i n) s h = λ _.
 allowed (silent i) s h = λ _. (refl, refl, refl)
 allowed (numbered k) s h = numbered-allowed k s (λ z. not-both h (eq-eqb (callNumber k) 0 z))
 
-abbrev pub allAllowed : List Move → Course → Bool
-allAllowed [] s = true
-allAllowed (m ∷ ms) s = isAllowed m s && allAllowed ms (next m s)
-
-pub all-allowed : (ms : List Move) (s : Course) → allAllowed ms s ≡ true → AllAllowed (callsOf ms s) s
-all-allowed [] s h = tt
-all-allowed (m ∷ ms) s h =
-    let a = and-true (isAllowed m s) (allAllowed ms (next m s)) h in
-    (allowed m s (a .0), all-allowed ms (next m s) (a .1))
-
 -- no two requests under one exchange number
-abbrev pub isNumbered : Course → Bool
+abbrev isNumbered : Course → Bool
 isNumbered s = distinct (map (λ (x : Issue). exchange (readRequest (x .frame))) (s .issued))
 
-pub numbers : (s : Course) → isNumbered s ≡ true → OneExchangeNumber s
+-- the test of a whole list
+abbrev pub isMet : List Move → Course → Bool
+isMet [] s = isNumbered s
+isMet (m ∷ ms) s = isAllowed m s && isMet ms (next m s)
+
+all-allowed : (ms : List Move) (s : Course) → isMet ms s ≡ true → AllAllowed (callsOf ms s) s
+all-allowed [] s h = tt
+all-allowed (m ∷ ms) s h =
+    let a = and-true (isAllowed m s) (isMet ms (next m s)) h in
+    (allowed m s (a .0), all-allowed ms (next m s) (a .1))
+
+numbers : (ms : List Move) (s : Course) → isMet ms s ≡ true → OneExchangeNumber (endOf ms s)
 unfolding OneExchangeNumber
-numbers s h = distinct-nodup _ h
+numbers [] s h = distinct-nodup _ h
+numbers (m ∷ ms) s h = numbers ms (next m s) (and-true (isAllowed m s) (isMet ms (next m s)) h .1)
 
 -- ---- in turn
 
@@ -329,26 +331,15 @@ module _ (i : ℕ) where
   abbrev isAlone : Course → Bool
   isAlone s = leb (openCountOf (s .runs i .subscriber) (s .bank .bank)) 1
 
-  abbrev pub allInTurn : List Move → Course → Bool
-  allInTurn [] s = isAlone s
-  allInTurn (m ∷ ms) s = isAlone s && isInTurn m s && allInTurn ms (next m s)
-
-  pub all-in-turn : (ms : List Move) (s : Course) → allInTurn ms s ≡ true → AllInTurn i (callsOf ms s) s
-  all-in-turn [] s h = λ accepted running. leb-true _ 1 h
-  all-in-turn (m ∷ ms) s h =
-      let a = and-true (isAlone s && isInTurn m s) (allInTurn ms (next m s)) h in
-      let b = and-true (isAlone s) (isInTurn m s) (a .0) in
-      (λ accepted running. leb-true _ 1 (b .0), in-turn m s (b .1), all-in-turn ms (next m s) (a .1))
-
   -- ---- at the end
 
-  abbrev pub isSettled : Course → Bool
+  abbrev isSettled : Course → Bool
   isSettled s =
       every (λ (x : Issue). implies (eqb (x .run) i) (some (λ (e : Exchange). sameBytes (e .request) (x .frame)) (s .exchanged)))
       (s .issued)
       && every (λ (e : Exchange). notOwn (e .request) s || hasArrived (e .reply) s) (s .exchanged)
 
-  pub settled : (s : Course) → isSettled s ≡ true → Settled s i
+  settled : (s : Course) → isSettled s ≡ true → Settled s i
   settled s h =
       let came : Issue → Bool = λ x.
       implies (eqb (x .run) i) (some (λ (e : Exchange). sameBytes (e .request) (x .frame)) (s .exchanged)) in
@@ -357,7 +348,8 @@ module _ (i : ℕ) where
       record {
         requests = λ x m r.
             let f : Exchange → Bool = λ e. sameBytes (e .request) (x .frame) in
-            let o = some-in f (s .exchanged) (then (eqb (x .run) i) (some f (s .exchanged)) (every-in came (a .0) m) (eq-eqb (x .run) i r)) in
+            let h = then (eqb (x .run) i) (some f (s .exchanged)) (every-in came (a .0) m) (eq-eqb (x .run) i r) in
+            let o = some-in f (s .exchanged) h in
             (o .0, o .1, same-bytes (o .0 .request) (x .frame) (o .2));
         replies = λ e c. arrival e (c .1) (every-in told (a .1) (c .0));
       }
@@ -374,26 +366,31 @@ module _ (i : ℕ) where
               let y = and-true (eqb (x .0 .run) i) (sameBytes (x .0 .reply) (e .reply)) (x .2) in
               (x .0, x .1, eqb-true (x .0 .run) i (y .0), same-bytes (x .0 .reply) (e .reply) (y .1))
 
-  -- its opening was accepted
-  pub accepted : (s : Course) (e : Exchange) → In e (s .exchanged) → isOwn (e .request) s ≡ true →
-      (form (readReply (e .reply)) ≡ forms.UploadOpened) ⊎ (form (readReply (e .reply)) ≡ forms.DownloadOpened) →
-      returnCode (readReply (e .reply)) ≡ codeField code.Ok → Accepted i s
-  accepted s e m h kind ok = (e, (m, own (e .request) s h), kind, ok)
+  -- ---- the test of a whole list
 
--- the list meets the premises
-pub record Meets (ms : List Move) : Type 0 where
-  pub allowed : allAllowed ms start ≡ true
-  pub numbers : isNumbered (endOf ms start) ≡ true
+  abbrev pub isInOrder : List Move → Course → Bool
+  isInOrder [] s = isAlone s && isSettled s
+  isInOrder (m ∷ ms) s = isAlone s && isInTurn m s && isInOrder ms (next m s)
 
--- and those of the clause on an order in turn
-pub record InOrder (i : ℕ) (ms : List Move) : Type 0 where
-  pub turn : allInTurn i ms start ≡ true
-  pub settled : isSettled i (endOf ms start) ≡ true
-  pub opening : Exchange
-  pub given : In opening (endOf ms start .exchanged)
-  pub own : isOwn i (opening .request) (endOf ms start) ≡ true
-  pub kind : (form (readReply (opening .reply)) ≡ forms.UploadOpened) ⊎ (form (readReply (opening .reply)) ≡ forms.DownloadOpened)
-  pub ok : returnCode (readReply (opening .reply)) ≡ codeField code.Ok
+  all-in-turn : (ms : List Move) (s : Course) → isInOrder ms s ≡ true → AllInTurn i (callsOf ms s) s
+  all-in-turn [] s h = λ accepted running. leb-true _ 1 (and-true (isAlone s) (isSettled s) h .0)
+  all-in-turn (m ∷ ms) s h =
+      let a = and-true (isAlone s && isInTurn m s) (isInOrder ms (next m s)) h in
+      let b = and-true (isAlone s) (isInTurn m s) (a .0) in
+      (λ accepted running. leb-true _ 1 (b .0), in-turn m s (b .1), all-in-turn ms (next m s) (a .1))
+
+  all-settled : (ms : List Move) (s : Course) → isInOrder ms s ≡ true → Settled (endOf ms s) i
+  all-settled [] s h = settled s (and-true (isAlone s) (isSettled s) h .1)
+  all-settled (m ∷ ms) s h =
+      all-settled ms (next m s) (and-true (isAlone s && isInTurn m s) (isInOrder ms (next m s)) h .1)
+
+-- its opening was accepted
+pub record Opening (i : ℕ) (s : Course) : Type 0 where
+  pub exchange : Exchange
+  pub given : In exchange (s .exchanged)
+  pub own : isOwn i (exchange .request) s ≡ true
+  pub kind : (form (readReply (exchange .reply)) ≡ forms.UploadOpened) ⊎ (form (readReply (exchange .reply)) ≡ forms.DownloadOpened)
+  pub ok : returnCode (readReply (exchange .reply)) ≡ codeField code.Ok
 
 -- ---- the theorem applied
 
@@ -401,22 +398,22 @@ pub record InOrder (i : ℕ) (ms : List Move) : Type 0 where
 abbrev pub Closed : ℕ → Course → Type 0
 Closed i s = (s .runs i .stage ≡ stage.Ended Lodged) ⊎ (s .runs i .stage ≡ stage.Ended Fetched)
 
-module _ (ms : List Move) (m : Meets ms) where
-  pub applied : Outcome (after (callsOf ms start) start) × ClosesInTurn (callsOf ms start)
+module _ (ms : List Move) (met : isMet ms start ≡ true) where
+  applied : Outcome (after (callsOf ms start) start) × ClosesInTurn (callsOf ms start)
   unfolding Demand3
   applied =
       let ks = callsOf ms start in
-      let all = subst (λ (l : List Call). AllAllowed l start) (sym (append-nil ks)) (all-allowed ms start (m .allowed)) in
+      let all = subst (λ (l : List Call). AllAllowed l start) (sym (append-nil ks)) (all-allowed ms start met) in
       let d = demand3 ks [] all (subst (λ (l : List Call). OneExchangeNumber (after l start)) (sym (append-nil ks))
-      (subst OneExchangeNumber (sym (ends ms start)) (numbers (endOf ms start) (m .numbers)))) in
+      (subst OneExchangeNumber (sym (ends ms start)) (numbers ms start met))) in
       (d .0, d .1)
 
   pub outcome : Outcome (endOf ms start)
   outcome = subst Outcome (ends ms start) (applied .0)
 
   -- "an order in turn closes as lodged or fetched"
-  pub closed : {i : ℕ} → InOrder i ms → Closed i (endOf ms start)
-  closed {i} o =
+  pub closed : {i : ℕ} → isInOrder i ms start ≡ true → Opening i (endOf ms start) → Closed i (endOf ms start)
+  closed {i} turn o =
       let end = endOf ms start in
-      subst (λ (s : Course). Accepted i s → Settled s i → Closed i s) (ends ms start) (applied .1 i (all-in-turn i ms start (o .turn)))
-      (accepted i end (o .opening) (o .given) (o .own) (o .kind) (o .ok)) (settled i end (o .settled))
+      subst (λ (s : Course). Accepted i s → Settled s i → Closed i s) (ends ms start) (applied .1 i (all-in-turn i ms start turn))
+      (o .exchange, (o .given, own i (o .exchange .request) end (o .own)), o .kind, o .ok) (all-settled i ms start turn)

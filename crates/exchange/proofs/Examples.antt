@@ -1,5 +1,6 @@
 -- Computed examples of demand 3: lists that meet its premises, what they come to, and the theorem applied to them.
 use Prim.Native.Nat.{ℕ}
+use mathlib.Core.Bool.{true}
 use mathlib.Core.List.{List, [], _∷_, _++_, List·Memᴰ·head as here, List·Memᴰ·tail as there}
 use mathlib.Core.Logic.{inl, inr}
 use mathlib.Core.Path.{_≡_, refl, sym, _∙_}
@@ -31,8 +32,9 @@ use Rattle.exchange.proofs.Checked.{
   callOf,
   callsOf,
   endOf,
-  Meets,
-  InOrder,
+  isMet,
+  isInOrder,
+  Opening,
   outcome,
   Closed,
   closed,
@@ -87,7 +89,7 @@ fetching =
     puts 1 (66 ∷ 67 ∷ []) ∷ begin 0 Download 1 7 [] ∷ comes 0 1000 ∷ reaches 0 0 ∷ comes 0 1000 ∷ reaches 0 0 ∷ []
 
 abbrev twoSegments : List ℕ
-twoSegments = replicate 257 68
+twoSegments = replicate 257 69
 
 -- an upload of 257 bytes beside one of a second subscriber
 abbrev crossing : List Move
@@ -147,30 +149,33 @@ codeNow s = at (s .exchanged)
     at (e ∷ l) = returnCode (readReply (e .reply))
 
 record Computed : Type 0 where
-  lodging-meets : Meets lodging
-  lodging-in-turn : InOrder 0 lodging
+  lodging-met : isMet lodging start ≡ true
+  lodging-in-turn : isInOrder 0 lodging start ≡ true
+  lodging-opening : Opening 0 (endOf lodging start)
   lodging-books : placeAt (endOf lodging start .bank .bank) 0 .used ≡ uses.Booked
-  repeating-meets : Meets repeating
+  repeating-met : isMet repeating start ≡ true
   repeating-ends : codeNow (endOf repeating start) ≡ codeField code.UnknownTransaction
-  losing-meets : Meets losing
+  losing-met : isMet losing start ≡ true
   -- the fourth call was the last before the first "no reply"
   no-reply-taken : callNumber (callOf (silent 0) (endOf segmentSent start)) ≡ 0
   losing-ends : (endOf losing start .runs 0 .stage ≡ stage.Ended Unclear) ×
       (placeAt (endOf losing start .bank .bank) 0 .used ≡ uses.Booked)
-  fetching-meets : Meets fetching
-  fetching-in-turn : InOrder 0 fetching
+  fetching-met : isMet fetching start ≡ true
+  fetching-in-turn : isInOrder 0 fetching start ≡ true
+  fetching-opening : Opening 0 (endOf fetching start)
   fetching-ends : (heldOf (endOf fetching start .runs 0) (endOf fetching start .files 0) ≡ 66 ∷ 67 ∷ []) ×
       (mailboxOf (endOf fetching start .bank) 1 ≡ [])
-  crossing-meets : Meets crossing
-  crossing-in-turn : InOrder 0 crossing
+  crossing-met : isMet crossing start ≡ true
+  crossing-in-turn : isInOrder 0 crossing start ≡ true
+  crossing-opening : Opening 0 (endOf crossing start)
   crossing-ends : endOf crossing start .runs 0 .stage ≡ stage.Ended Lodged
-  again-meets : Meets again
+  again-met : isMet again start ≡ true
   again-ends : (endOf again start .runs 0 .stage ≡ stage.Ended Fetched) ×
       (heldOf (endOf again start .runs 0) (endOf again start .files 0) ≡ twoSegments)
-  cancelled-meets : Meets cancelled
+  cancelled-met : isMet cancelled start ≡ true
   cancelled-ends : (codeNow (endOf cancelled start) ≡ codeField code.TransactionAbort) ×
       (endOf cancelled start .runs 0 .stage ≡ stage.Ended NotLodged)
-  unsent-meets : Meets unsent
+  unsent-met : isMet unsent start ≡ true
   unsent-ends : endOf unsent start .runs 0 .stage ≡ stage.Ended NotLodged
 
 computed : Computed
@@ -211,68 +216,60 @@ unfolding frameBytes.numberFrom frameBytes.number frameBytes.bytesOf frameBytes.
     clientRulings.beginRuling clientRulings.rulingNotBegun clientRulings.rulingRunning clientRulings.rulingEnded course.start
     course.mailboxOf course.heldOf course.emptied course.exec isSubscribers
 computed = record {
-  lodging-meets = record { allowed = refl; numbers = refl };
-  lodging-in-turn =
-      record { turn = refl; settled = refl; opening = _; given = there (here refl); own = refl; kind = inl refl; ok = refl };
+  lodging-met = refl;
+  lodging-in-turn = refl;
+  lodging-opening = record { exchange = _; given = there (here refl); own = refl; kind = inl refl; ok = refl };
   lodging-books = refl;
-  repeating-meets = record { allowed = refl; numbers = refl };
+  repeating-met = refl;
   repeating-ends = refl;
-  losing-meets = record { allowed = refl; numbers = refl };
+  losing-met = refl;
   no-reply-taken = refl;
   losing-ends = (refl, refl);
-  fetching-meets = record { allowed = refl; numbers = refl };
-  fetching-in-turn =
-      record { turn = refl; settled = refl; opening = _; given = there (here refl); own = refl; kind = inr refl; ok = refl };
+  fetching-met = refl;
+  fetching-in-turn = refl;
+  fetching-opening = record { exchange = _; given = there (here refl); own = refl; kind = inr refl; ok = refl };
   fetching-ends = (refl, refl);
-  crossing-meets = record { allowed = refl; numbers = refl };
-  crossing-in-turn =
-      record {
-        turn = refl;
-        settled = refl;
-        opening = _;
-        given = there (there (there (there (here refl))));
-        own = refl;
-        kind = inl refl;
-        ok = refl;
-      };
+  crossing-met = refl;
+  crossing-in-turn = refl;
+  crossing-opening = record { exchange = _; given = there (there (there (there (here refl)))); own = refl; kind = inl refl; ok = refl };
   crossing-ends = refl;
-  again-meets = record { allowed = refl; numbers = refl };
+  again-met = refl;
   again-ends = (refl, refl);
-  cancelled-meets = record { allowed = refl; numbers = refl };
+  cancelled-met = refl;
   cancelled-ends = (refl, refl);
-  unsent-meets = record { allowed = refl; numbers = refl };
+  unsent-met = refl;
   unsent-ends = refl;
 }
 
 -- ---- the theorem applied
 
 lodging-closed : Closed 0 (endOf lodging start)
-lodging-closed = closed lodging (computed .lodging-meets) (computed .lodging-in-turn)
+lodging-closed = closed lodging (computed .lodging-met) (computed .lodging-in-turn) (computed .lodging-opening)
 
 -- a call of "no reply" that is given no number is not in turn
 losing-not-in-turn : AllInTurn 0 (callsOf losing start) start → ⊥
 losing-not-in-turn h = h .2 .2 .2 .2 .1 (computed .no-reply-taken) refl
 
 fetching-closed : Closed 0 (endOf fetching start)
-fetching-closed = closed fetching (computed .fetching-meets) (computed .fetching-in-turn)
+fetching-closed = closed fetching (computed .fetching-met) (computed .fetching-in-turn) (computed .fetching-opening)
 
 crossing-closed : Closed 0 (endOf crossing start)
-crossing-closed = closed crossing (computed .crossing-meets) (computed .crossing-in-turn)
+crossing-closed = closed crossing (computed .crossing-met) (computed .crossing-in-turn) (computed .crossing-opening)
 
 -- and its order is in the book, with its bytes, under the number that the run names
 crossing-booked : (j : ℕ) × (o : Order) × InBook (endOf crossing start) j o × OrderOf (endOf crossing start) 0 o
 crossing-booked =
-    let o = outcome crossing (computed .crossing-meets) .lodged 0 (computed .crossing-ends) .1 in
+    let o = outcome crossing (computed .crossing-met) .lodged 0 (computed .crossing-ends) .1 in
     (o .0, o .1, o .2, o .3)
 
 -- the whole file is the mailbox's at the opening, of which the run holds every byte
 again-fetched : (e : Exchange) × Opened forms.DownloadOpened (endOf again start) 0 e × (twoSegments ≡ e .box)
 again-fetched =
-    let o = outcome again (computed .again-meets) .fetched 0 (computed .again-ends .0) in
+    let o = outcome again (computed .again-met) .fetched 0 (computed .again-ends .0) in
     (o .0, o .1, sym (computed .again-ends .1) ∙ o .3)
 
 cancelled-unbooked : Booked (endOf cancelled start) 0 → ⊥
-cancelled-unbooked = outcome cancelled (computed .cancelled-meets) .notLodged 0 (computed .cancelled-ends .1)
+cancelled-unbooked = outcome cancelled (computed .cancelled-met) .notLodged 0 (computed .cancelled-ends .1)
 
 unsent-unbooked : Booked (endOf unsent start) 0 → ⊥
-unsent-unbooked = outcome unsent (computed .unsent-meets) .notLodged 0 (computed .unsent-ends)
+unsent-unbooked = outcome unsent (computed .unsent-met) .notLodged 0 (computed .unsent-ends)
