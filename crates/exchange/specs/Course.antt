@@ -192,7 +192,7 @@ abbrev pub replyIn : FrameAnswer → List ℕ → List ℕ
 replyIn (frameAnswer.Reply n) buffer = take n buffer
 replyIn frameAnswer.WrongLength buffer = []
 
--- a frame answered with a reply by the bank that stood as before
+-- a frame answered: the reply, the bank after the answer, and after clock and drops before it
 abbrev pub afterFrame : List ℕ → World → World → List ℕ → Course → Course
 afterFrame reply now before request s =
     withBank now
@@ -206,7 +206,7 @@ abbrev pub afterFile : FileCall → ℕ → List ℕ → Course → Course
 afterFile k m file s =
     withBank (world (k .bank) (s .bank .orders) (k .boxes)) (withMailboxes (changed (s .mailboxes) m file) s)
 
--- the requests issued, with that of n bytes which a call of run i issues
+-- the requests issued, with the one of n bytes that a call of run i issues
 abbrev pub issuedBy : Answer → ℕ → ClientCall → Course → List Issue
 issuedBy (answer.Request n) i k s =
     record { run = i; frame = take n (k .request); file = heldOf (k .run) (k .file); box = mailboxOf (s .bank) (k .run .subscriber) }
@@ -230,7 +230,7 @@ carryOut (replyArrives i c reply l) s =
     withArrived (record { run = i; reply = reply } ∷ s .arrived) (afterRun i (replyCall c reply l) (l .payload) s)
 carryOut (noReply i c l) s = afterRun i (noReplyCall c l) (l .payload) s
 
--- the course after one call, and after a list of calls: "a number, nothing changed"
+-- the course after one call, "a number, nothing changed", and after a list of calls
 unfoldable pub exec : Call → Course → Course
 exec k s = cond (eqb (callNumber k) 0) (carryOut k s) s
 
