@@ -124,21 +124,26 @@ listed (more s r) (older p) = let o = listed r p in (o .0, there (o .1), o .2)
 
 -- ---- the bank's part
 
-pub record BankPart (s : Course) : Type 0 where
+-- of the bank, the exchanges and the file last put into each mailbox
+pub record BankEnd (bank : World) (exchanged : List Exchange) (lastPut : ℕ → List ℕ) : Type 0 where
   pub past : Past
   pub holds : Holds past
-  pub world : past .world ≡ s .bank
-  pub entries : Entries (s .exchanged) (past .history)
+  pub world : past .world ≡ bank
+  pub entries : Entries exchanged (past .history)
   pub proper : AllProper (past .history)
   -- "The bank's mailbox holds exactly the file last put in by a call given no number, until ..."
-  pub mailboxes : (m : ℕ) → 1 ≤ m → m ≤ subscribers → mailboxOf (s .bank) m ≡ s .mailboxes m
+  pub mailboxes : (m : ℕ) → 1 ≤ m → m ≤ subscribers → mailboxOf bank m ≡ lastPut m
+
+-- of a course: no call of a run touches it
+abbrev pub BankPart : Course → Type 0
+BankPart s = BankEnd (s .bank) (s .exchanged) (s .mailboxes)
 
 -- a call enters at most one exchange
 pub data Grows (h : List history.Exchange) : List history.Exchange → Type 0 where
   stays : Grows h h
   grows : {x : history.Exchange} → Grows h (x ∷ h)
 
-abbrev pub Later : {s : Course} → BankPart s → Course → Type 0
+abbrev pub Later : {w : World} {l : List Exchange} {m : ℕ → List ℕ} → BankEnd w l m → Course → Type 0
 Later b t = (n : BankPart t) × Grows (b .past .history) (n .past .history)
 
 pub same-mailbox : (w : World) (m : ℕ) → mailboxOf w m ≡ mailboxFile w m

@@ -46,7 +46,7 @@ use Rattle.exchange.specs.Course.{
   exec,
   after,
 }
-use Rattle.exchange.specs.Terms.{IssuedBy, Received, NoIdleHour, InTurn, Accepted, Alone, AllInTurn, Settled}
+use Rattle.exchange.specs.Terms.{IssuedBy, NoIdleHour, InTurn, Accepted, AllInTurn, Settled}
 use Rattle.exchange.specs.Demand3.{isSubscribers, Allowed, AllAllowed, OneExchangeNumber, Outcome, ClosesInTurn, Demand3}
 use Rattle.exchange.specs.Lists.{NoDup, none, more}
 use Rattle.exchange.proofs.Guards.{numbered-allowed, numbered-in-turn, stray-allowed}

@@ -31,7 +31,7 @@ use Rattle.client_history.specs.Invariant.{isOpen, UploadOpen, UploadStep, Held
 use Rattle.client_history.proofs.Lifting.{lifted}
 use Rattle.client_history.proofs.Liveness.{numbered}
 use Rattle.client_history.proofs.Theorems.{kept}
-use Rattle.exchange.specs.Course.{Issue, Exchange, Arrival, Course, withRun, withIssued, withArrived, heldOf, issuedBy, afterRun}
+use Rattle.exchange.specs.Course.{Issue, Exchange, Course, withRun, withIssued, heldOf, issuedBy, afterRun}
 use Rattle.exchange.proofs.Bytes.{Issued, issued-request, issued-data}
 use Rattle.exchange.proofs.Told.{Opening, opening-at, Gave, fileIn, bank-replies}
 use Rattle.exchange.proofs.Bank.{BankPart, Grows, stays, grows}
@@ -218,22 +218,6 @@ pub record Parts (s : Course) : Type 0 where
   pub bank : BankPart s
   pub runs : (i : ℕ) → RunHolds (bank .past .history) (runPast s i)
 
--- a course with the same bank, exchanges, mailboxes and runs
-pub arrive-keeps : (s : Course) (v : Parts s) (l : List Arrival) → Parts (withArrived l s)
-arrive-keeps s v l =
-    let b = v .bank in
-    record {
-      bank = record {
-        past = b .past;
-        holds = b .holds;
-        world = b .world;
-        entries = b .entries;
-        proper = b .proper;
-        mailboxes = b .mailboxes;
-      };
-      runs = v .runs;
-    }
-
 module _ (s : Course) (i : ℕ) (k : ClientCall) (l : Lent) where
   -- the run is left as its history says
   pub own-past : ((n : ℕ) → k .answer ≡ answer.Request n → Issued k l n) → answerNumber (k .answer) ≡ 0 →
@@ -265,21 +249,8 @@ module _ (s : Course) (v : Parts s) (i : ℕ) (e : Event) where
       answerNumber (callOf e (s .runs i) .answer) ≡ 0 → RunHolds (v .bank .past .history) (history.after e (runPast s i)) →
       Parts (afterRun i (callOf e (s .runs i)) (lentTo e .payload) s)
   unfolding history.after
-  run-keeps issues done own = record {
-    bank = record {
-      past = b .past;
-      holds = b .holds;
-      world = b .world;
-      entries = b .entries;
-      proper = b .proper;
-      mailboxes = b .mailboxes;
-    };
-    runs = λ j. at j (ℕ-discrete j i);
-  }
+  run-keeps issues done own = record { bank = v .bank; runs = λ j. at j (ℕ-discrete j i) }
     where
-      b : BankPart s
-      b = v .bank
-
       k : ClientCall
       k = callOf e (s .runs i)
 

@@ -33,7 +33,7 @@ use Rattle.exchange.specs.Demand3.{isSubscribers, Left, Premise, Allowed
 use Rattle.exchange.proofs.Bytes.{begin-issues, reply-issues, no-reply-issues}
 use Rattle.exchange.proofs.Calls.{by-number}
 use Rattle.exchange.proofs.Bank.{Later, frame-keeps, file-keeps, bank-start}
-use Rattle.exchange.proofs.Clients.{issuesOf, runPast, run-lifts, RunHolds, Parts, arrive-keeps, run-fair, run-keeps}
+use Rattle.exchange.proofs.Clients.{issuesOf, runPast, run-lifts, RunHolds, Parts, run-fair, run-keeps}
 use Rattle.exchange.proofs.Issues.{issued-more, numbers-earlier, numbers-before}
 use Rattle.exchange.proofs.Outstanding.{given-to, other-stays}
 
@@ -85,8 +85,8 @@ reply-keeps : (s : Course) (v : Parts s) → OneExchangeNumber s → (i : ℕ) (
     Premise (replyArrives i c reply l) s → callNumber (replyArrives i c reply l) ≡ 0 → Parts (carryOut (replyArrives i c reply l) s)
 reply-keeps s v numbers i c reply l q =
     subst (λ (x : Client). callNumber (replyArrives i x reply l) ≡ 0 → Parts (carryOut (replyArrives i x reply l) s)) (sym (q .0 .0))
-    (λ z. arrive-keeps _ (run-keeps s v i (Reply reply l) (reply-issues (s .runs i) l reply) z
-    (reply-holds s v numbers i reply l z (q .0 .1, q .0 .2) (q .1))) _)
+    (λ z. let p = run-keeps s v i (Reply reply l) (reply-issues (s .runs i) l reply) z
+    (reply-holds s v numbers i reply l z (q .0 .1, q .0 .2) (q .1)) in record { bank = p .bank; runs = p .runs })
 
 no-reply-keeps : (s : Course) (v : Parts s) (i : ℕ) (c : Client) (l : Lent) → Left i c l s → callNumber (noReply i c l) ≡ 0 →
     Parts (carryOut (noReply i c l) s)
