@@ -2,8 +2,8 @@
 use Prim.Native.Nat.{ℕ, _<_}
 use native.Mathlib.Omega.{arith}
 use lib.Dec.{ltb}
 use Rattle.message.proofs.Verdicts.{by-test}
-use Rattle.bank_openings.specs.OrderNumbers.{character, letter}
+use Rattle.message.specs.OrderNumbers.{character, letter}
 
 pub letter-lt : (d : ℕ) → letter d < 256
 unfolding letter

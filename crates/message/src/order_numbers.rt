@@ -1,7 +1,7 @@
 // Order numbers: the number of an opening in base 36, three characters behind a letter.
 ghost use mathlib.Core.Path.{_≡_};
 ghost use Prim.Native.Nat.{_<_};
-ghost use Rattle.bank_openings.specs.OrderNumbers.{character, letter, orderNumberOf};
+ghost use Rattle.message.specs.OrderNumbers.{character, letter, orderNumberOf};
 
 // The character of a base-36 digit.
 fn character(digit: u64) -> u64

@@ -1,9 +1,9 @@
 -- `letter` meets its contract. Assumes nothing.
 use mathlib.Core.Path.{refl}
 use borrow.Author.Needs.{needs}
-use Rattle.bank_openings.specs.OrderNumbers.{letter}
-use Rattle.bank_openings.proofs.order_numbers.letter.Statement.{statement}
-use Rattle.bank_openings.proofs.order_numbers.letter.Tie as tie
+use Rattle.message.specs.OrderNumbers.{letter}
+use Rattle.message.proofs.order_numbers.letter.Statement.{statement}
+use Rattle.message.proofs.order_numbers.letter.Tie as tie
 
 returns : tie.Need-returns
 unfolding letter

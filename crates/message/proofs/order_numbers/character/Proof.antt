@@ -1,9 +1,9 @@
 -- `character` meets its contract. Assumes nothing.
 use borrow.Author.Needs.{needs}
 use Rattle.octets.proofs.Tests.{tests}
-use Rattle.bank_openings.specs.OrderNumbers.{character}
-use Rattle.bank_openings.proofs.order_numbers.character.Statement.{statement}
-use Rattle.bank_openings.proofs.order_numbers.character.Tie as tie
+use Rattle.message.specs.OrderNumbers.{character}
+use Rattle.message.proofs.order_numbers.character.Statement.{statement}
+use Rattle.message.proofs.order_numbers.character.Tie as tie
 
 returns : tie.Need-returns
 unfolding character

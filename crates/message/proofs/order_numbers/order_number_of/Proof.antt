@@ -2,10 +2,10 @@
 use Prim.Native.Nat.{_<_}
 use native.Mathlib.Omega.{arith}
 use borrow.Author.Needs.{needs}
-use Rattle.bank_openings.specs.OrderNumbers.{character, letter, orderNumberOf}
-use Rattle.bank_openings.proofs.OrderNumbers.{letter-lt, character-lt}
-use Rattle.bank_openings.proofs.order_numbers.order_number_of.Statement.{statement}
-use Rattle.bank_openings.proofs.order_numbers.order_number_of.Tie as tie
+use Rattle.message.specs.OrderNumbers.{character, letter, orderNumberOf}
+use Rattle.message.proofs.OrderNumbers.{letter-lt, character-lt}
+use Rattle.message.proofs.order_numbers.order_number_of.Statement.{statement}
+use Rattle.message.proofs.order_numbers.order_number_of.Tie as tie
 
 below : (c : tie.After-character3) → (c .before .before .before .letter .result < 256) × (c .before .before .character .result < 256)
     × (c .before .character2 .result < 256) × (c .character3 .result < 256)
