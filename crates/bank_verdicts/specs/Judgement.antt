@@ -25,7 +25,7 @@ use Rattle.bank_verdicts.specs.declared.verdict.UploadAction.{UploadActi
 use Rattle.bank_verdicts.specs.declared.verdict.UploadAction.the-variants as up
 use Rattle.bank_verdicts.specs.declared.verdict.DownloadAction.{DownloadAction}
 use Rattle.bank_verdicts.specs.declared.verdict.DownloadAction.the-variants as down
-use Rattle.bank_verdicts.specs.declared.verdict.Action.the-variants.{Upload, Download}
+use Rattle.bank_verdicts.specs.declared.verdict.Action.the-variants as action
 use Rattle.bank_verdicts.specs.declared.verdict.Verdict.{Verdict}
 use Rattle.bank_verdicts.specs.declared.verdict.Verdict.the-variants.{Unreadable, Of}
 use Rattle.bank_verdicts.specs.Refusals.{Row, requestRows, openingRows, transactionRows, uploadRows, downloadRows}
@@ -50,8 +50,8 @@ mailboxSegments s b = segmentsOf (fileLength s (b .files))
 
 -- an accepted opening; "An upload's order number is that number", the number of the opening
 abbrev pub accepted : Direction → ℕ → Bank → Fields → Verdict
-accepted direction.Upload first b q = Of (transactionOf first b) (Upload (up.Opened (b .openings)))
-accepted direction.Download first b q = Of (transactionOf first b) (Download (down.Opened (mailboxSegments (subscriber q) b)))
+accepted direction.Upload first b q = Of (transactionOf first b) (action.Upload (up.Opened (b .openings)))
+accepted direction.Download first b q = Of (transactionOf first b) (action.Download (down.Opened (mailboxSegments (subscriber q) b)))
 
 -- an opening in the form of this direction
 unfoldable pub judgeOpening : Direction → ℕ → Bank → Fields → Verdict
@@ -82,8 +82,8 @@ judgeOpen r b q n =
     let p = placeAt b (uploadAt b q) in
     let e = downloadAt b (downloadOf b q) in
     cond (ltb (uploadAt b q) placeCount)
-    (Of (p .transaction) (Upload (judgeUpload r p q n)))
-    (Of (e .transaction) (Download (judgeDownload r e (mailboxSegments (subscriber q) b) q)))
+    (Of (p .transaction) (action.Upload (judgeUpload r p q n)))
+    (Of (e .transaction) (action.Download (judgeDownload r e (mailboxSegments (subscriber q) b) q)))
 
 -- a request to a transaction
 unfoldable pub judgeTransaction : TransactionRequest → Bank → Fields → ℕ → Verdict
