@@ -1,65 +1,51 @@
--- A frame arrives: the lent lengths, the clock and the drops, the reading, the refusals in document 01's order, and the reply.
+-- A frame arrives: the lent lengths, the clock and the drops, the reading, the verdict and what it does, and the reply.
 use Prim.Native.Nat.{ℕ, _-_, _<_, _≤_}
 use mathlib.Core.Path.{_≡_}
-use mathlib.Core.Bool.{Bool, true, false, cond, _&&_, _||_}
-use mathlib.Core.List.{List, [], _∷_}
-use lib.Dec.{ltb, leb, eqb}
+use mathlib.Core.Bool.{Bool, true, false, cond, _&&_}
+use mathlib.Core.List.{List, []}
+use lib.Dec.{leb, eqb}
 use lib.ListN.{length, set, take}
+use Rattle.frame_table.specs.declared.fields.Bits128.{Bits128}
 use Rattle.frame_table.specs.declared.fields.Fields.{Fields}
-use Rattle.frame_table.specs.declared.table.Form.{Form}
-use Rattle.frame_table.specs.declared.table.Form.the-variants as forms
 use Rattle.frame.specs.declared.writer.Written.{Written}
 use Rattle.frame.specs.declared.writer.Written.the-variants as written
 use Rattle.octets.specs.Bytes.{number}
-use Rattle.frame_table.specs.Names.{phase, subscriber, exchange, transaction, returnCode, form}
+use Rattle.frame_table.specs.Names.{subscriber, transaction, returnCode, form}
 use Rattle.frame.specs.Reader.{readRequest, readReply}
 use Rattle.frame.specs.Row.{dataOf}
-use Rattle.frame_table.specs.Table.{isRequestForm, isReplyForm}
+use Rattle.frame_table.specs.Table.{isReplyForm}
 use Rattle.frame.specs.Writer.{writeAnswer, writeBuffer}
-use Rattle.message.specs.declared.codes.ReturnCode.{ReturnCode}
-use Rattle.message.specs.declared.codes.ReturnCode.the-variants as code
-use Rattle.message.specs.Limits.{subscribers, segmentBytes}
-use Rattle.message.specs.Replies.{refusal, unreadable}
-use Rattle.message.specs.Segments.{segmentsOf, segmentOf}
-use Rattle.message.specs.Verdicts.{decide}
+use Rattle.message.specs.Limits.{subscribers}
+use Rattle.message.specs.Segments.{segmentOf}
 use Rattle.bank_state.specs.declared.clock.Ended.{Ended}
-use Rattle.bank_state.specs.declared.clock.Ended.the-variants as ended
-use Rattle.bank_state.specs.declared.state.Bank.{Bank}
+use Rattle.bank_state.specs.declared.clock.Ended.the-variants as ending
 use Rattle.bank_state.specs.Clock.{advanced, endDownloads}
-use Rattle.bank_state.specs.Limits.{placeCount, storeBytes, idBytes, replyRoom}
-use Rattle.bank_state.specs.Search.{findUpload, findDownload}
-use Rattle.bank_state.specs.State.{World, world, placeAt, downloadAt, withPlace, withDownload, withDownloads, withFiles}
+use Rattle.bank_state.specs.Limits.{storeBytes, idBytes, replyRoom}
+use Rattle.bank_state.specs.State.{World, world, placeAt, downloadAt, fileLength, withPlace, withDownload, withDownloads, withFiles}
 use Rattle.bank_state.specs.Store.{partAt, withPart, zeroed, fileOf}
-use Rattle.bank_downloads.specs.declared.downloads.DownloadStep.{DownloadStep}
-use Rattle.bank_downloads.specs.declared.downloads.DownloadRequest.{DownloadRequest}
-use Rattle.bank_downloads.specs.declared.downloads.DownloadRequest.the-variants as asked
-use Rattle.bank_downloads.specs.declared.downloads.Ending.{Ending}
-use Rattle.bank_downloads.specs.declared.downloads.Ending.the-variants.{Stays, Ends, Empties}
-use Rattle.bank_openings.specs.declared.openings.Direction.{Direction}
-use Rattle.bank_openings.specs.declared.openings.Direction.the-variants.{Upload, Download}
-use Rattle.bank_downloads.specs.Downloads.{downloadStep}
-use Rattle.bank_openings.specs.Openings.{fileLength, opened}
-use Rattle.bank_uploads.specs.Uploads.{uploadStep}
+use Rattle.bank_verdicts.specs.declared.verdict.UploadAction.{UploadAction}
+use Rattle.bank_verdicts.specs.declared.verdict.UploadAction.the-variants as up
+use Rattle.bank_verdicts.specs.declared.verdict.DownloadAction.{DownloadAction}
+use Rattle.bank_verdicts.specs.declared.verdict.DownloadAction.the-variants as down
+use Rattle.bank_verdicts.specs.declared.verdict.Action.{Action}
+use Rattle.bank_verdicts.specs.declared.verdict.Action.the-variants as action
+use Rattle.bank_verdicts.specs.declared.verdict.Verdict.{Verdict}
+use Rattle.bank_verdicts.specs.declared.verdict.Verdict.the-variants as verdict
+use Rattle.bank_verdicts.specs.Judgement.{uploadAt, downloadOf, judge}
+use Rattle.bank_verdicts.specs.Replies.{replyTo, segmentIn}
+use Rattle.bank_downloads.specs.Downloads.{downloadAfter}
+use Rattle.bank_openings.specs.Openings.{openUpload, openDownload}
+use Rattle.bank_uploads.specs.Uploads.{placeAfter, bytesAfter}
 use Rattle.bank.specs.declared.call.FrameAnswer.{FrameAnswer}
 use Rattle.bank.specs.declared.call.FrameAnswer.the-variants.{Reply, WrongLength}
 use Rattle.bank.specs.declared.call.FrameOut.{FrameOut}
-use Rattle.bank.specs.declared.call.RequestVerdict.{RequestVerdict}
-use Rattle.bank.specs.declared.call.RequestVerdict.the-variants.{Refuse, Proceed}
 
--- the bank and its stores after a request, and the reply: its fields, and its data
+-- what a request comes to: its verdict, the bank and its stores after it, and the reply's fields and data
 pub record Step : Type 0 where
+  pub verdict : Verdict
   pub world : World
   pub reply : Fields
   pub replyData : List ℕ
-
--- "any other refusal 01 03 0D": the request's phase and exchange number with the code
-abbrev pub refused : World → Fields → ReturnCode → Step
-refused w q c = record { world = w; reply = refusal (phase q) (exchange q) c; replyData = [] }
-
--- the bytes of segment s of a subscriber's mailbox; segment 0 stands for none
-unfoldable pub mailboxSegment : World → ℕ → ℕ → List ℕ
-mailboxSegment w subscriber s =
-    cond (eqb s 0) [] (segmentOf (fileOf (w .boxes) (subscriber - 1) (fileLength subscriber (w .bank .files))) s)
 
 -- a request of a subscriber, and both stores of their length: what its step asks
 pub record Ready (q : Fields) (orders boxes : List ℕ) : Type 0 where
@@ -68,88 +54,80 @@ pub record Ready (q : Fields) (orders boxes : List ℕ) : Type 0 where
   pub places : length orders ≡ storeBytes
   pub mailboxes : length boxes ≡ storeBytes
 
--- "Who can cause which refusal": what every readable request is checked for first
-unfoldable pub requestRefusals : Fields → List ℕ → List (Bool × RequestVerdict)
-requestRefusals q d =
-    -- The sender of a frame
-    (ltb (subscriber q) 1 || ltb subscribers (subscriber q), Refuse code.UserUnknown)
-    ∷ (ltb segmentBytes (length d), Refuse code.SegmentSizeExceeded)
-    ∷ []
+-- ---- what a verdict does to the bank and its stores
 
--- an opening
-unfoldable pub openingStep : Direction → ℕ → World → Fields → Step
-openingStep way lent w q =
-    let o = opened way lent q (w .bank) in
-    record { world = world (o .bank) (w .orders) (w .boxes); reply = o .reply; replyData = mailboxSegment w (subscriber q) (o .segment) }
+-- the open upload in place i, by an action with the data d
+abbrev pub onUpload : UploadAction → ℕ → World → List ℕ → World
+onUpload a i w d =
+    let p = placeAt (w .bank) i in
+    world (withPlace i (placeAfter a (w .bank .clock) (length d) p) (w .bank))
+    (withPart (w .orders) i (bytesAfter a p d (partAt (w .orders) i)))
+    (w .boxes)
 
--- a request to the open upload in place i
-unfoldable pub uploadStepAt : ℕ → World → Bool → Fields → List ℕ → Step
-uploadStepAt i w transfer q d =
-    let u = uploadStep (w .bank .clock) (placeAt (w .bank) i) transfer q d (partAt (w .orders) i) in
-    record {
-      world = world (withPlace i (u .place) (w .bank)) (withPart (w .orders) i (u .bytes)) (w .boxes);
-      reply = u .reply;
-      replyData = [];
-    }
+abbrev pub uploadActs : UploadAction → Bits128 → World → Fields → List ℕ → World
+uploadActs (up.Opened number) t w q d = world (openUpload t number q (w .bank)) (w .orders) (w .boxes)
+uploadActs up.Took t w q d = onUpload up.Took (uploadAt (w .bank) q) w d
+uploadActs up.TookLast t w q d = onUpload up.TookLast (uploadAt (w .bank) q) w d
+uploadActs (up.Point k) t w q d = onUpload (up.Point k) (uploadAt (w .bank) q) w d
+uploadActs (up.Cancelled c) t w q d = onUpload (up.Cancelled c) (uploadAt (w .bank) q) w d
+
+-- the open download of record j, which stays open
+abbrev pub onDownload : DownloadAction → ℕ → World → World
+onDownload a j w =
+    world (withDownload j (downloadAfter a (w .bank .clock) (downloadAt (w .bank) j)) (w .bank)) (w .orders) (w .boxes)
 
 -- the bank without the downloads that end
-abbrev pub without : Ended → Bank → Bank
-without which b = withDownloads (endDownloads which (b .downloads)) b
+abbrev pub without : Ended → World → World
+without which w = world (withDownloads (endDownloads which (w .bank .downloads)) (w .bank)) (w .orders) (w .boxes)
+
+-- "this transaction ended"
+abbrev pub ended : Fields → World → World
+ended q w = without (ending.Transaction (subscriber q) (transaction q)) w
 
 -- "mailbox emptied, every download of that mailbox ended"
 abbrev pub emptied : ℕ → World → World
 emptied s w =
-    world (withFiles (set (w .bank .files) (s - 1) 0) (without (ended.Mailbox s) (w .bank))) (w .orders) (zeroed (w .boxes) (s - 1))
+    let v = without (ending.Mailbox s) w in
+    world (withFiles (set (w .bank .files) (s - 1) 0) (v .bank)) (w .orders) (zeroed (w .boxes) (s - 1))
 
--- what an open download's step leaves of the downloads and of its mailbox
-abbrev pub downloadsAfter : Ending → ℕ → DownloadStep → World → Fields → World
-downloadsAfter Stays i s w q = world (withDownload i (s .entry) (w .bank)) (w .orders) (w .boxes)
-downloadsAfter Ends i s w q = world (without (ended.Transaction (subscriber q) (transaction q)) (w .bank)) (w .orders) (w .boxes)
-downloadsAfter Empties i s w q = emptied (subscriber q) w
+abbrev pub downloadActs : DownloadAction → Bits128 → World → Fields → World
+downloadActs (down.Opened n) t w q = world (openDownload t q (w .bank)) (w .orders) (w .boxes)
+downloadActs (down.Delivered n) t w q = onDownload (down.Delivered n) (downloadOf (w .bank) q) w
+downloadActs (down.SentAgain n) t w q = onDownload (down.SentAgain n) (downloadOf (w .bank) q) w
+downloadActs (down.Point d) t w q = onDownload (down.Point d) (downloadOf (w .bank) q) w
+downloadActs down.Cancelled t w q = ended q w
+downloadActs down.Confirmed t w q = emptied (subscriber q) w
+downloadActs down.Declined t w q = ended q w
 
--- a request to the open download of record i
-unfoldable pub downloadStepAt : ℕ → World → DownloadRequest → Fields → Step
-downloadStepAt i w r q =
-    let s = downloadStep (w .bank .clock) r (downloadAt (w .bank) i) (segmentsOf (fileLength (subscriber q) (w .bank .files))) q in
-    record { world = downloadsAfter (s .ending) i s w q; reply = s .reply; replyData = mailboxSegment w (subscriber q) (s .segment) }
+abbrev pub acts : Action → Bits128 → World → Fields → List ℕ → World
+acts (action.Upload a) t w q d = uploadActs a t w q d
+acts (action.Download a) t w q d = downloadActs a t w q
 
--- "091101: transaction ID not open for this subscriber"; else a step of that transaction
-unfoldable pub transactionStep : Bool → DownloadRequest → World → Fields → List ℕ → Step
-transactionStep transfer r w q d =
-    cond (ltb (findUpload (subscriber q) (transaction q) (w .bank)) placeCount)
-    (uploadStepAt (findUpload (subscriber q) (transaction q) (w .bank)) w transfer q d)
-    (cond (ltb (findDownload (subscriber q) (transaction q) (w .bank)) placeCount)
-    (downloadStepAt (findDownload (subscriber q) (transaction q) (w .bank)) w r q)
-    (refused w q code.UnknownTransaction))
+-- "beyond clock and drops only what is named changes"
+abbrev pub carryOut : Verdict → World → Fields → List ℕ → World
+carryOut verdict.Unreadable w q d = w
+carryOut (verdict.Refused c) w q d = w
+carryOut (verdict.Of t a) w q d = acts a t w q d
 
--- "unreadable request 0D"
-abbrev pub unread : World → Step
-unread w = record { world = w; reply = unreadable; replyData = [] }
+-- ---- the reply
 
--- a readable request by its form; the other forms are none of a request
-abbrev pub byForm : Form → ℕ → World → Fields → List ℕ → Step
-byForm forms.UploadOpening lent w q d = openingStep Upload lent w q
-byForm forms.DownloadOpening lent w q d = openingStep Download lent w q
-byForm forms.UploadTransfer lent w q d = transactionStep true asked.Other w q d
-byForm forms.DownloadTransfer lent w q d = transactionStep false asked.Transfer w q d
-byForm forms.Receipt lent w q d = transactionStep false asked.Receipt w q d
-byForm forms.NoForm lent w q d = unread w
-byForm forms.UploadOpened lent w q d = unread w
-byForm forms.DownloadOpened lent w q d = unread w
-byForm forms.SegmentTaken lent w q d = unread w
-byForm forms.DownloadSegment lent w q d = unread w
-byForm forms.ReceiptAnswered lent w q d = unread w
-byForm forms.Unreadable lent w q d = unread w
-byForm forms.Refusal lent w q d = unread w
+-- the bytes of segment s of a subscriber's mailbox; segment 0 stands for none
+unfoldable pub mailboxSegment : World → ℕ → ℕ → List ℕ
+mailboxSegment w subscriber s =
+    cond (eqb s 0) [] (segmentOf (fileOf (w .boxes) (subscriber - 1) (fileLength subscriber (w .bank .files))) s)
 
-abbrev pub byVerdict : RequestVerdict → ℕ → World → Fields → List ℕ → Step
-byVerdict (Refuse c) lent w q d = refused w q c
-byVerdict Proceed lent w q d = byForm (form q) lent w q d
+-- what a verdict on the request q with the data d comes to
+abbrev pub stepBy : Verdict → World → Fields → List ℕ → Step
+stepBy v w q d = record {
+  verdict = v;
+  world = carryOut v w q d;
+  reply = replyTo v q;
+  replyData = mailboxSegment w (subscriber q) (segmentIn v q);
+}
 
--- a request, read, at the clock that the call has set; d is its data.
--- "091010: no request form, over 1,024 bytes, or a value outside its list": what is read of it then has no form
+-- a request, read, at the clock that the call has set; d is its data, first the number of the lent ID bytes
 unfoldable pub respond : ℕ → World → Fields → List ℕ → Step
-respond lent w q d = cond (isRequestForm (form q)) (byVerdict (decide (requestRefusals q d) Proceed) lent w q d) (unread w)
+respond first w q d = stepBy (judge first (w .bank) q (length d)) w q d
 
 -- the reply written: "reply bytes behind the reply are untouched"
 abbrev pub answerOf : Written → FrameAnswer

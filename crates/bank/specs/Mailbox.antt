@@ -9,8 +9,7 @@ use Rattle.message.specs.Limits.{subscribers, fileBytes}
 use Rattle.message.specs.Verdicts.{decide}
 use Rattle.bank_state.specs.declared.state.Bank.{Bank}
 use Rattle.bank_state.specs.Limits.{storeBytes}
-use Rattle.bank_state.specs.State.{withFiles}
-use Rattle.bank_openings.specs.Openings.{fileLength}
+use Rattle.bank_state.specs.State.{fileLength, withFiles}
 use Rattle.bank.specs.declared.mailbox.FileAnswer.{FileAnswer}
 use Rattle.bank.specs.declared.mailbox.FileAnswer.the-variants.{Done, WrongLength, NoMailbox, WrongFile, MailboxFull}
 use Rattle.bank.specs.declared.mailbox.FileOut.{FileOut}

@@ -1,3 +1,2 @@
--- The definitions of openings and of order numbers.
-pub mod OrderNumbers
+-- The definitions of openings.
 pub mod Openings

@@ -1,3 +1,2 @@
 // What an opening does: judged by document 01's refusals, then carried out; and the order numbers.
 pub mod openings;
-pub mod order_numbers;

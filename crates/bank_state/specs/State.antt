@@ -1,5 +1,5 @@
 -- The bank's state with its two stores, a fresh bank, and the state with one part changed.
-use Prim.Native.Nat.{ℕ}
+use Prim.Native.Nat.{ℕ, _-_}
 use mathlib.Core.Bool.{false}
 use mathlib.Core.List.{List}
 use lib.ListN.{replicate, set, getD}
@@ -69,6 +69,10 @@ placeAt b i = getD (b .places) i noPlace
 
 abbrev pub downloadAt : Bank → ℕ → Download
 downloadAt b i = getD (b .downloads) i noDownload
+
+-- the length of the file in a subscriber's mailbox, 0 where it is empty
+unfoldable pub fileLength : ℕ → List ℕ → ℕ
+fileLength s files = getD files (s - 1) 0
 
 abbrev pub withPlace : ℕ → Place → Bank → Bank
 withPlace i p b = withPlaces (set (b .places) i p) b

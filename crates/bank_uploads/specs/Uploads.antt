@@ -1,63 +1,21 @@
--- "Upload." and "Recovery (5.4).": a request to an open upload.
+-- "Upload." and "Recovery (5.4).": what a request leaves of an open upload, by its action.
 use Prim.Native.Nat.{ℕ, _+_}
-use mathlib.Core.Bool.{Bool, not, cond, _&&_}
-use mathlib.Core.List.{List, [], _∷_}
-use lib.Dec.{ltb, eqb}
+use mathlib.Core.List.{List}
 use lib.ListN.{length, replicate}
 use Rattle.frame_table.specs.declared.fields.Fields.{Fields}
 use Rattle.octets.specs.Bytes.{overwrite}
-use Rattle.frame_table.specs.Names.{phase, exchange, segment, lastMark}
-use Rattle.message.specs.declared.codes.ReturnCode.the-variants as code
-use Rattle.message.specs.Limits.{attemptsMost, fileBytes, initialisation, transfer}
-use Rattle.message.specs.Replies.{segmentTaken, recoveryPoint, refusal}
-use Rattle.message.specs.Verdicts.{decide}
 use Rattle.bank_state.specs.declared.state.Place.{Place}
-use Rattle.bank_state.specs.declared.state.Use.the-variants.{Open, Booked}
+use Rattle.bank_state.specs.declared.state.Use.the-variants.{Booked}
 use Rattle.bank_state.specs.State.{noPlace}
-use Rattle.bank_uploads.specs.declared.uploads.UploadVerdict.{UploadVerdict}
-use Rattle.bank_uploads.specs.declared.uploads.UploadVerdict.the-variants.{Take, Point, Cancel}
+use Rattle.bank_verdicts.specs.declared.verdict.TransactionRequest.{TransactionRequest}
+use Rattle.bank_verdicts.specs.declared.verdict.UploadAction.{UploadAction}
+use Rattle.bank_verdicts.specs.declared.verdict.UploadAction.the-variants as up
+use Rattle.bank_verdicts.specs.Judgement.{judgeUpload}
 
--- an upload's place after a step, its bytes, and the reply
-pub record UploadStep : Type 0 where
-  pub place : Place
-  pub bytes : List ℕ
-  pub reply : Fields
-
--- a step of these parts
-abbrev pub stepOf : Place → List ℕ → Fields → UploadStep
-stepOf p b f = record { place = p; bytes = b; reply = f }
-
--- "With k segments taken of N, only segment k + 1 fits"; transfer is whether the request is an upload transfer
-unfoldable pub fitsUpload : Place → Bool → Fields → Bool
-fitsUpload p transfer q = transfer && eqb (segment q) (p .taken + 1)
-
--- the refusals of a segment of n bytes that fits; "Its last mark must be 1 exactly when k + 1 = N"
-unfoldable pub segmentRefusals : Place → Fields → ℕ → List (Bool × UploadVerdict)
-segmentRefusals p q n =
-    (ltb (segment q) (p .segments) && eqb (lastMark q) 1, Cancel code.SegmentNumberUnderrun)
-    ∷ (eqb (segment q) (p .segments) && eqb (lastMark q) 0, Cancel code.SegmentNumberExceeded)
-    -- a place without room for the n bytes of the segment: no call leaves one
-    ∷ (ltb fileBytes (p .length + n), Cancel code.InternalError)
-    ∷ []
-
--- the refusals of a request to an open upload; "Every other request to an open transaction of its subscriber ... is a recovery attempt"
-unfoldable pub uploadRefusals : Place → Bool → Fields → ℕ → List (Bool × UploadVerdict)
-uploadRefusals p transfer q n =
-    (not (fitsUpload p transfer q) && ltb (p .attempts) attemptsMost, Point)
-    ∷ (not (fitsUpload p transfer q), Cancel code.TransactionAbort)
-    ∷ segmentRefusals p q n
-
-unfoldable pub judgeUpload : Place → Bool → Fields → ℕ → UploadVerdict
-judgeUpload p transfer q n = decide (uploadRefusals p transfer q n) Take
-
--- a recovery point's phase: "1 for segment 0 of an upload, else 2"
-abbrev pub uploadPointPhase : ℕ → ℕ
-uploadPointPhase k = cond (eqb k 0) initialisation transfer
-
--- a place with one segment of n bytes more; "Segment N books the order ... the transaction ends, the place stays used"
+-- a place with one segment of n bytes more
 unfoldable pub grown : ℕ → ℕ → Place → Place
 grown clock n p = record {
-  used = cond (eqb (p .taken + 1) (p .segments)) Booked Open;
+  used = p .used;
   transaction = p .transaction;
   subscriber = p .subscriber;
   number = p .number;
@@ -65,6 +23,21 @@ grown clock n p = record {
   taken = p .taken + 1;
   attempts = p .attempts;
   last = clock;
+  length = p .length + n;
+}
+
+-- "Segment N books the order: subscriber, order number, length, bytes; the transaction ends, the place stays used"; it
+-- keeps its transaction ID, and what counted its steps is 0
+unfoldable pub booked : ℕ → Place → Place
+booked n p = record {
+  used = Booked;
+  transaction = p .transaction;
+  subscriber = p .subscriber;
+  number = p .number;
+  segments = 0;
+  taken = 0;
+  attempts = 0;
+  last = 0;
   length = p .length + n;
 }
 
@@ -82,24 +55,36 @@ attempted p = record {
   length = p .length;
 }
 
--- a verdict carried out on the place and its bytes; "A fitting segment is written directly behind the bytes already in its place"
-abbrev pub carryOutUpload : UploadVerdict → ℕ → Place → Fields → List ℕ → List ℕ → UploadStep
-carryOutUpload Take clock p q segmentData bytes = record {
-  place = grown clock (length segmentData) p;
-  bytes = overwrite bytes (p .length) segmentData;
-  reply = segmentTaken (exchange q) (p .transaction) (segment q);
-}
-carryOutUpload Point clock p q segmentData bytes = record {
-  place = attempted p;
-  bytes = bytes;
-  reply = recoveryPoint (uploadPointPhase (p .taken)) (exchange q) (p .transaction) (p .taken);
-}
-carryOutUpload (Cancel c) clock p q segmentData bytes = record {
-  place = noPlace;
-  bytes = replicate (length bytes) 0;
-  reply = refusal (phase q) (exchange q) c;
-}
+-- the place after a request with n bytes of data, at this clock
+abbrev pub placeAfter : UploadAction → ℕ → ℕ → Place → Place
+placeAfter (up.Opened number) clock n p = p
+placeAfter up.Took clock n p = grown clock n p
+placeAfter up.TookLast clock n p = booked n p
+placeAfter (up.Point k) clock n p = attempted p
+placeAfter (up.Cancelled c) clock n p = noPlace
+
+-- its bytes; "A fitting segment is written directly behind the bytes already in its place", "place zeroed and freed"
+abbrev pub bytesAfter : UploadAction → Place → List ℕ → List ℕ → List ℕ
+bytesAfter (up.Opened number) p segmentData bytes = bytes
+bytesAfter up.Took p segmentData bytes = overwrite bytes (p .length) segmentData
+bytesAfter up.TookLast p segmentData bytes = overwrite bytes (p .length) segmentData
+bytesAfter (up.Point k) p segmentData bytes = bytes
+bytesAfter (up.Cancelled c) p segmentData bytes = replicate (length bytes) 0
+
+-- what a request leaves: the upload's place, the place's bytes, and the action
+pub record UploadStep : Type 0 where
+  pub place : Place
+  pub bytes : List ℕ
+  pub action : UploadAction
+
+abbrev pub stepOf : Place → List ℕ → UploadAction → UploadStep
+stepOf p b a = record { place = p; bytes = b; action = a }
+
+-- an action carried out
+abbrev pub carriedOut : UploadAction → ℕ → Place → List ℕ → List ℕ → UploadStep
+carriedOut a clock p segmentData bytes =
+    stepOf (placeAfter a clock (length segmentData) p) (bytesAfter a p segmentData bytes) a
 
 -- a request to an open upload arrives
-unfoldable pub uploadStep : ℕ → Place → Bool → Fields → List ℕ → List ℕ → UploadStep
-uploadStep clock p transfer q segmentData bytes = carryOutUpload (judgeUpload p transfer q (length segmentData)) clock p q segmentData bytes
+unfoldable pub uploadStep : ℕ → TransactionRequest → Place → Fields → List ℕ → List ℕ → UploadStep
+uploadStep clock r p q segmentData bytes = carriedOut (judgeUpload r p q (length segmentData)) clock p segmentData bytes

@@ -1,6 +1,7 @@
 -- The definitions of the message crate.
 pub mod Limits
 pub mod Codes
+pub mod OrderNumbers
 pub mod Requests
 pub mod Replies
 pub mod Segments

@@ -1,0 +1,246 @@
+-- Document 01, "Who can cause which refusal": its list from top to bottom, each line with its test and its row.
+-- A row has the line's code, its test, and the verdict that it gives.
+use Prim.Native.Nat.{ℕ, _+_}
+use mathlib.Core.Bool.{Bool, true, false, not, _&&_, _||_}
+use mathlib.Core.List.{List, [], _∷_}
+use lib.Dec.{ltb, leb, eqb}
+use Rattle.frame_table.specs.declared.fields.Fields.{Fields}
+use Rattle.frame_table.specs.Names.{
+  subscriber,
+  orderType,
+  nonce,
+  timestamp,
+  segments,
+  transaction,
+  segment,
+  lastMark,
+  receiptCode,
+  form,
+}
+use Rattle.frame_table.specs.Table.{isRequestForm}
+use Rattle.message.specs.declared.codes.ReturnCode.{ReturnCode}
+use Rattle.message.specs.declared.codes.ReturnCode.the-variants as code
+use Rattle.message.specs.Limits.{ful, fdl, subscribers, segmentBytes, segmentsMost, attemptsMost, fileBytes}
+use Rattle.bank_state.specs.declared.state.Bank.{Bank}
+use Rattle.bank_state.specs.declared.state.Download.{Download}
+use Rattle.bank_state.specs.declared.state.Place.{Place}
+use Rattle.bank_state.specs.Limits.{placeCount, nonceCount, window, openMost, openPerSubscriber, openingsMost}
+use Rattle.bank_state.specs.Search.{
+  freePlace,
+  freeNonce,
+  openCount,
+  openCountOf,
+  isRemembered,
+  findUpload,
+  findDownload,
+}
+use Rattle.bank_state.specs.State.{fileLength}
+use Rattle.bank_verdicts.specs.declared.verdict.Direction.{Direction}
+use Rattle.bank_verdicts.specs.declared.verdict.Direction.the-variants as direction
+use Rattle.bank_verdicts.specs.declared.verdict.TransactionRequest.{TransactionRequest}
+use Rattle.bank_verdicts.specs.declared.verdict.TransactionRequest.the-variants as asked
+use Rattle.bank_verdicts.specs.declared.verdict.UploadAction.{UploadAction}
+use Rattle.bank_verdicts.specs.declared.verdict.UploadAction.the-variants as up
+use Rattle.bank_verdicts.specs.declared.verdict.DownloadAction.{DownloadAction}
+use Rattle.bank_verdicts.specs.declared.verdict.DownloadAction.the-variants as down
+use Rattle.bank_verdicts.specs.declared.verdict.Verdict.{Verdict}
+use Rattle.bank_verdicts.specs.declared.verdict.Verdict.the-variants.{Unreadable, Refused}
+
+-- a line of the list: its return code, its test, and what it gives where the test holds
+abbrev pub Row : Type 0 → Type 0
+Row A = ReturnCode × Bool × A
+
+-- a refusal that changes nothing
+abbrev pub refusing : ReturnCode → Bool → Row Verdict
+refusing c test = (c, test, Refused c)
+
+-- "transaction cancelled": 091102, 011101, 091104
+abbrev pub cancels : ReturnCode → Bool
+cancels code.Ok = false
+cancels code.DownloadPostprocessDone = false
+cancels code.DownloadPostprocessSkipped = false
+cancels code.SegmentNumberUnderrun = true
+cancels code.InvalidRequest = false
+cancels code.InternalError = false
+cancels code.RecoverySync = false
+cancels code.NoDownloadDataAvailable = false
+cancels code.UserUnknown = false
+cancels code.InvalidOrderType = false
+cancels code.SegmentSizeExceeded = false
+cancels code.InvalidXml = false
+cancels code.UnknownTransaction = false
+cancels code.TransactionAbort = true
+cancels code.MessageReplay = false
+cancels code.SegmentNumberExceeded = true
+cancels code.MaxSegmentsExceeded = false
+cancels code.MaxTransactionsExceeded = false
+
+-- ---- THE SENDER OF A FRAME: every request, with n bytes of data
+
+-- 091010: no request form, over 1,024 bytes, or a value outside its list (what is read of it then has no form)
+abbrev pub isUnreadable : Fields → Bool
+isUnreadable q = not (isRequestForm (form q))
+
+-- 091003: subscriber not 1 to 8
+unfoldable pub noSubscriber : Fields → Bool
+noSubscriber q = ltb (subscriber q) 1 || ltb subscribers (subscriber q)
+
+-- 091009: data over 256 bytes
+unfoldable pub longData : ℕ → Bool
+longData n = ltb segmentBytes n
+
+unfoldable pub requestRows : Fields → ℕ → List (Row Verdict)
+requestRows q n =
+    (code.InvalidXml, isUnreadable q, Unreadable)
+    ∷ refusing code.UserUnknown (noSubscriber q)
+    ∷ refusing code.SegmentSizeExceeded (longData n)
+    ∷ []
+
+-- ---- an opening, in the form of this direction, to the bank b
+
+-- 091005: order type neither FUL nor FDL
+unfoldable pub unknownType : Fields → Bool
+unknownType q = not (eqb (orderType q) ful || eqb (orderType q) fdl)
+
+-- 061002: opening form of the other direction, or 0 segments
+abbrev pub otherDirection : Direction → Fields → Bool
+otherDirection direction.Upload q = eqb (orderType q) fdl || eqb (segments q) 0
+otherDirection direction.Download q = eqb (orderType q) ful
+
+-- 091118: over 15 segments
+unfoldable pub manySegments : Fields → Bool
+manySegments q = ltb segmentsMost (segments q)
+
+-- 091103: timestamp not in time, or nonce remembered; "in time when it differs from the clock by at most 300"
+unfoldable pub inTime : ℕ → ℕ → Bool
+inTime time clock = leb time (clock + window) && leb clock (time + window)
+
+unfoldable pub isReplay : Bank → Fields → Bool
+isReplay b q = not (inTime (timestamp q) (b .clock)) || isRemembered (nonce q) b
+
+-- ---- THE SUBSCRIBER, BY THE COURSE OF THE ORDER: an opening
+
+-- 090005: download, mailbox empty
+abbrev pub emptyMailbox : Direction → Bank → Fields → Bool
+emptyMailbox direction.Upload b q = false
+emptyMailbox direction.Download b q = eqb (fileLength (subscriber q) (b .files)) 0
+
+-- 091119: the subscriber has 4 open transactions
+unfoldable pub manyOpen : Bank → Fields → Bool
+manyOpen b q = leb openPerSubscriber (openCountOf (subscriber q) b)
+
+-- ---- ALL SUBSCRIBERS TOGETHER
+
+-- "an upload with 8 places in use"
+abbrev pub noPlaceFree : Direction → Bank → Bool
+noPlaceFree direction.Upload b = leb placeCount (freePlace b)
+noPlaceFree direction.Download b = false
+
+-- 061099, after 091119: 8 transactions open, an upload with 8 places in use, 64 nonces remembered, or 1,213,056
+-- openings accepted
+unfoldable pub isFull : Direction → Bank → Bool
+isFull d b =
+    leb openMost (openCount b)
+    || (noPlaceFree d b || (leb nonceCount (freeNonce b) || leb openingsMost (b .openings)))
+
+unfoldable pub openingRows : Direction → Bank → Fields → List (Row Verdict)
+openingRows d b q =
+    refusing code.InvalidOrderType (unknownType q)
+    ∷ refusing code.InvalidRequest (otherDirection d q)
+    ∷ refusing code.MaxSegmentsExceeded (manySegments q)
+    ∷ refusing code.MessageReplay (isReplay b q)
+    ∷ refusing code.NoDownloadDataAvailable (emptyMailbox d b q)
+    ∷ refusing code.MaxTransactionsExceeded (manyOpen b q)
+    ∷ refusing code.InternalError (isFull d b)
+    ∷ []
+
+-- ---- THE SUBSCRIBER, BY THE COURSE OF THE ORDER: a request to a transaction
+
+-- 091101: transaction ID not open for this subscriber
+unfoldable pub notOpen : Bank → Fields → Bool
+notOpen b q =
+    leb placeCount (findUpload (subscriber q) (transaction q) b)
+    && leb placeCount (findDownload (subscriber q) (transaction q) b)
+
+unfoldable pub transactionRows : Bank → Fields → List (Row Verdict)
+transactionRows b q = refusing code.UnknownTransaction (notOpen b q) ∷ []
+
+-- ---- a request to the open upload in the place p, with n bytes of data
+
+-- "With k segments taken of N, only segment k + 1 fits"
+abbrev pub fitsUpload : TransactionRequest → Place → Fields → Bool
+fitsUpload asked.UploadTransfer p q = eqb (segment q) (p .taken + 1)
+fitsUpload asked.DownloadTransfer p q = false
+fitsUpload asked.Receipt p q = false
+
+-- "Every other request to an open transaction of its subscriber ... is a recovery attempt", "The first five get 061101"
+unfoldable pub uploadAttempt : TransactionRequest → Place → Fields → Bool
+uploadAttempt r p q = not (fitsUpload r p q) && ltb (p .attempts) attemptsMost
+
+-- 011101: fitting segment below N with last mark 1
+unfoldable pub isUnderrun : Place → Fields → Bool
+isUnderrun p q = ltb (segment q) (p .segments) && eqb (lastMark q) 1
+
+-- 091104: fitting segment N with last mark 0
+unfoldable pub isExceeded : Place → Fields → Bool
+isExceeded p q = eqb (segment q) (p .segments) && eqb (lastMark q) 0
+
+-- a place without room for the segment: no call leaves one
+unfoldable pub withoutRoom : Place → ℕ → Bool
+withoutRoom p n = ltb fileBytes (p .length + n)
+
+-- "cancelled, place zeroed and freed"
+abbrev pub cancelling : ReturnCode → Bool → Row UploadAction
+cancelling c test = (c, test, up.Cancelled c)
+
+-- the lines for a segment that fits
+unfoldable pub segmentRows : Place → Fields → ℕ → List (Row UploadAction)
+segmentRows p q n =
+    cancelling code.SegmentNumberUnderrun (isUnderrun p q)
+    ∷ cancelling code.SegmentNumberExceeded (isExceeded p q)
+    ∷ cancelling code.InternalError (withoutRoom p n)
+    ∷ []
+
+unfoldable pub uploadRows : TransactionRequest → Place → Fields → ℕ → List (Row UploadAction)
+uploadRows r p q n =
+    (code.RecoverySync, uploadAttempt r p q, up.Point (p .taken))
+    ∷ cancelling code.TransactionAbort (not (fitsUpload r p q))
+    ∷ segmentRows p q n
+
+-- ---- a request to the open download e of n segments
+
+-- "With d delivered, segment d + 1 (up to N) fits"; "A receipt fits when d = N"
+abbrev pub fitsDownload : TransactionRequest → Download → ℕ → Fields → Bool
+fitsDownload asked.UploadTransfer e n q = false
+fitsDownload asked.DownloadTransfer e n q = eqb (segment q) (e .delivered + 1) && leb (segment q) n
+fitsDownload asked.Receipt e n q = eqb (e .delivered) n
+
+-- "1 to d are sent again but count as recovery attempts"
+abbrev pub isSentAgain : TransactionRequest → Download → Fields → Bool
+isSentAgain asked.UploadTransfer e q = false
+isSentAgain asked.DownloadTransfer e q = ltb 0 (segment q) && leb (segment q) (e .delivered)
+isSentAgain asked.Receipt e q = false
+
+-- "The first five get 061101 with k or d (a download segment sent again carries 000000 instead)"
+unfoldable pub downloadAttempt : TransactionRequest → Download → ℕ → Fields → Bool
+downloadAttempt r e n q = not (fitsDownload r e n q) && ltb (e .attempts) attemptsMost
+
+-- "Code 0 is answered 011000"; "Code 1 is answered 011001"
+abbrev pub isReceipt : TransactionRequest → Bool
+isReceipt asked.UploadTransfer = false
+isReceipt asked.DownloadTransfer = false
+isReceipt asked.Receipt = true
+
+-- the lines for a request that fits
+unfoldable pub receiptRows : TransactionRequest → Fields → List (Row DownloadAction)
+receiptRows r q =
+    (code.DownloadPostprocessDone, isReceipt r && eqb (receiptCode q) 0, down.Confirmed)
+    ∷ (code.DownloadPostprocessSkipped, isReceipt r, down.Declined)
+    ∷ []
+
+unfoldable pub downloadRows : TransactionRequest → Download → ℕ → Fields → List (Row DownloadAction)
+downloadRows r e n q =
+    (code.RecoverySync, downloadAttempt r e n q && not (isSentAgain r e q), down.Point (e .delivered))
+    ∷ (code.Ok, downloadAttempt r e n q && isSentAgain r e q, down.SentAgain n)
+    ∷ (code.TransactionAbort, not (fitsDownload r e n q), down.Cancelled)
+    ∷ receiptRows r q

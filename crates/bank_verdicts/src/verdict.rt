@@ -1,0 +1,52 @@
+// The verdicts on a request. State, reply and history of a call are read off its verdict.
+use frame_table::fields::Bits128;
+use message::codes::ReturnCode;
+
+// The direction of a transaction.
+pub enum Direction {
+    Upload,
+    Download,
+}
+
+// A request to a transaction, by its form.
+pub enum TransactionRequest {
+    UploadTransfer,
+    DownloadTransfer,
+    Receipt,
+}
+
+// What a request does to an upload: opens it (with its order's number), has a segment taken, has the last one taken and
+// so books the order, gets the recovery point k, or has it cancelled with this code.
+pub enum UploadAction {
+    Opened(u64),
+    Took,
+    TookLast,
+    Point(u64),
+    Cancelled(ReturnCode),
+}
+
+// What a request does to a download: opens it, has a segment delivered or sent again (each with N), gets the recovery
+// point d, has it cancelled as the sixth attempt, or has its receipt answered 011000 (confirmed) or 011001 (declined).
+pub enum DownloadAction {
+    Opened(u64),
+    Delivered(u64),
+    SentAgain(u64),
+    Point(u64),
+    Cancelled,
+    Confirmed,
+    Declined,
+}
+
+// What a request does to one transaction.
+pub enum Action {
+    Upload(UploadAction),
+    Download(DownloadAction),
+}
+
+// What a request comes to: it is unreadable, it is refused with a code and changes nothing, or it acts on the
+// transaction with this ID.
+pub enum Verdict {
+    Unreadable,
+    Refused(ReturnCode),
+    Of(Bits128, Action),
+}
