@@ -28,7 +28,7 @@ use Rattle.bank_state.specs.Clock.{
 }
 use Rattle.bank_state.specs.Limits.{placeCount, idleLimit}
 use Rattle.bank_state.specs.Search.{isOpen, openCount, openCountOf}
-use Rattle.bank_state.specs.State.{World, world, noPlace, noDownload, placeAt, downloadAt}
+use Rattle.bank_state.specs.State.{World, world, noPlace, noDownload, placeAt, downloadAt, fileLength}
 use Rattle.bank_state.specs.Store.{partAt, zeroed}
 use Rattle.bank_state.proofs.Rows.{count-keepOnly}
 use Rattle.bank_state.proofs.Stores.{length-zeroed, zeroed-same, zeroed-other}
@@ -43,7 +43,6 @@ use Rattle.bank_state.proofs.Drops.{
   Spot,
   advanced-spot,
 }
-use Rattle.bank_openings.specs.Openings.{fileLength}
 use Rattle.bank_history.specs.History.{Exchange, mailboxFile}
 use Rattle.bank_history.specs.Invariant.{Sizes, PlaceHolds, DownloadHolds, Invariant, NoneIdle}
 use Rattle.bank_history.proofs.Rows.{count-set-le, packed-keepOnly}
@@ -59,7 +58,17 @@ place-later : (c c′ o : ℕ) (h : List Exchange) (p : Place) (bytes : List ℕ
     PlaceHolds u c′ o h p bytes
 place-later c c′ o h p bytes l Free s = s
 place-later c c′ o h p bytes l Open s =
-    record { place = s .place; below = s .below; current = let k = s .current in omega arith; unbooked = s .unbooked }
+    record {
+      place = s .place;
+      some = s .some;
+      few = s .few;
+      tries = s .tries;
+      below = s .below;
+      current = let k = s .current in omega arith;
+      size = s .size;
+      takings = s .takings;
+      unbooked = s .unbooked;
+    }
 place-later c c′ o h p bytes l Booked s = s
 
 download-later : (c c′ o : ℕ) (h : List Exchange) (file : List ℕ) (e : Download) → c ≤ c′ → (u : Bool) → DownloadHolds u c o h file e →
@@ -102,7 +111,7 @@ at-clock c w h l v = download-change w c (w .bank .openings) (endDownloads (ende
           (downloadAt (w .bank) j) l
           (downloadAt (w .bank) j .used) (v .downloads j));
       mailboxes = v .mailboxes;
-      apart = λ i j a f. each-endDownloads (λ (r : Download). r .used ≡ true → placeAt (w .bank) i .number ≡ r .transaction .low → ⊥)
+      apart = λ i j a f. each-endDownloads (λ (r : Download). r .used ≡ true → placeAt (w .bank) i .transaction .low ≡ r .transaction .low → ⊥)
           (λ g. never g) (ended.Idle c) (w .bank .downloads) (λ m _ g. v .apart i m a f) j;
       inOrder = packed-keepOnly (λ (r : Download). r .used) noDownload (λ (r : Download). r .transaction .low)
           (λ (r : Download). suc (r .transaction .low))

@@ -42,7 +42,7 @@ module _ (w : World) (c o : ℕ) (downs : List Download) (nonces : List Nonce) (
         (getD downs j noDownload)
     pub mailboxes : (i : ℕ) → i < placeCount → MailboxHolds (getD files i 0) (partAt boxes i)
     pub apart : (i j : ℕ) → i < placeCount → isFree (placeAt (w .bank) i .used) ≡ false → getD downs j noDownload .used ≡ true →
-        placeAt (w .bank) i .number ≡ getD downs j noDownload .transaction .low → ⊥
+        placeAt (w .bank) i .transaction .low ≡ getD downs j noDownload .transaction .low → ⊥
     pub inOrder : Packed (λ (e : Download). e .used) noDownload (λ (e : Download). e .transaction .low)
         (λ (e : Download). suc (e .transaction .low)) 0 downs
     pub memory : Memory c nonces g

@@ -9,7 +9,6 @@ use lib.Dec.{eqb}
 use lib.ListN.{length, getD, set, length-set, length-take, List·getD-eq-default}
 use borrow.Author.Tests.{ne-eqb, not-true}
 use Rattle.frame_table.specs.declared.fields.Bits128.{Bits128}
-use Rattle.frame_table.specs.Names.{subscriber, transaction}
 use Rattle.octets.proofs.Tests.{never, and-true}
 use Rattle.message.specs.Limits.{subscribers}
 use Rattle.message.specs.Segments.{segmentOf}
@@ -18,41 +17,24 @@ use Rattle.bank_state.specs.declared.state.Download.{Download}
 use Rattle.bank_state.specs.Clock.{ends, endDownloads}
 use Rattle.bank_state.specs.Limits.{placeCount, storeBytes}
 use Rattle.bank_state.specs.Search.{isFree, openCount, openCountOf}
-use Rattle.bank_state.specs.State.{World, noDownload, placeAt, downloadAt}
+use Rattle.bank_state.specs.State.{World, noDownload, placeAt, downloadAt, fileLength}
 use Rattle.bank_state.specs.Store.{partAt, fileOf}
 use Rattle.bank_downloads.specs.Downloads.{movedTo}
-use Rattle.bank_openings.specs.Openings.{fileLength}
 use Rattle.bank.specs.Call.{mailboxSegment}
-use Rattle.bank_history.specs.History.{
-  Action,
-  Of,
-  Exchange,
-  mailboxFile,
-  isBooking,
-  isOpening,
-  opens,
-  isAction,
-  did,
-  ever,
-}
+use Rattle.bank_verdicts.specs.declared.verdict.Action.{Action}
+use Rattle.bank_verdicts.specs.declared.verdict.Verdict.the-variants as verdict
+use Rattle.bank_history.specs.History.{Exchange, mailboxFile, isBooking, isOpening, opens, isAction, did, ever}
 use Rattle.bank_history.specs.Sound.{Sound, more}
 use Rattle.bank_history.specs.Invariant.{OpenDownload, PlaceHolds, DownloadHolds, MailboxHolds, Invariant}
 use Rattle.bank_history.proofs.Stores.{length-part}
 use Rattle.bank_state.proofs.Rows.{count-keepOnly}
 use Rattle.bank_state.proofs.Drops.{length-endDownloads, each-endDownloads}
-use Rattle.bank_history.proofs.Rows.{
-  each-set,
-  count-set-le,
-  packed-set,
-  packed-keepOnly,
-  packed-rises,
-}
+use Rattle.bank_history.proofs.Rows.{each-set, count-set-le, packed-set, packed-keepOnly, packed-rises}
 use Rattle.bank_history.proofs.Entries.{did-other, known-more, booked-more, accepted-own}
 use Rattle.bank_history.proofs.Memory.{memory-unchanged}
 use Rattle.bank_history.proofs.Places.{place-unchanged}
 use Rattle.bank_history.proofs.Records.{download-unchanged}
 use Rattle.bank_history.proofs.DownloadChange.{besides, download-change}
-use Rattle.bank_history.proofs.Uploads.{place-number}
 
 module _ (w : World) (h : List Exchange) (v : Invariant w h) where
   -- the file of a mailbox has the length that is kept for it
@@ -87,25 +69,24 @@ module _ (w : World) (h : List Exchange) (v : Invariant w h) where
       at (no g) (no l) = omega arith
 
   pub downloads-other : (i j : ℕ) (k : Action) → downloadAt (w .bank) i .used ≡ true → downloadAt (w .bank) j .used ≡ true → (j ≡ i → ⊥) →
-      did isAction (downloadAt (w .bank) j .transaction) (Of (downloadAt (w .bank) i .transaction) k) ≡ false
+      did isAction (downloadAt (w .bank) j .transaction) (verdict.Of (downloadAt (w .bank) i .transaction) k) ≡ false
   downloads-other i j k a b n =
       did-other (downloadAt (w .bank) j .transaction) (downloadAt (w .bank) i .transaction) k (λ z. n (downloads-apart j i b a z))
 
   pub places-other : (i j : ℕ) (k : Action) → i < placeCount → isFree (placeAt (w .bank) i .used) ≡ false →
       downloadAt (w .bank) j .used ≡ true →
-      did isAction (placeAt (w .bank) i .transaction) (Of (downloadAt (w .bank) j .transaction) k) ≡ false
+      did isAction (placeAt (w .bank) i .transaction) (verdict.Of (downloadAt (w .bank) j .transaction) k) ≡ false
   places-other i j k a e f =
-      did-other (placeAt (w .bank) i .transaction) (downloadAt (w .bank) j .transaction) k
-      (λ z. v .apart i j a e f (sym (place-number w h v i a e .0) ∙ z))
+      did-other (placeAt (w .bank) i .transaction) (downloadAt (w .bank) j .transaction) k (v .apart i j a e f)
 
 -- the download of record j does the action k
 module _ (w : World) (h : List Exchange) (v : Invariant w h) (j : ℕ) (used : downloadAt (w .bank) j .used ≡ true)
     (k : Action) (noOpening : isOpening k ≡ false) (unbooked : isBooking k ≡ false) (x : Exchange)
-    (own : x .event ≡ Of (downloadAt (w .bank) j .transaction) k) where
+    (own : x .verdict ≡ verdict.Of (downloadAt (w .bank) j .transaction) k) where
   abbrev e : Download
   e = downloadAt (w .bank) j
 
-  about : (t : Bits128) → did isAction t (Of (e .transaction) k) ≡ false → did isAction t (x .event) ≡ false
+  about : (t : Bits128) → did isAction t (verdict.Of (e .transaction) k) ≡ false → did isAction t (x .verdict) ≡ false
   about t z = ap (did isAction t) own ∙ z
 
   places-stay : (i : ℕ) → i < placeCount →
@@ -148,7 +129,7 @@ module _ (w : World) (h : List Exchange) (v : Invariant w h) (j : ℕ) (used : d
         (sym used) new)
         other-stays;
     mailboxes = v .mailboxes;
-    apart = λ i l a f. each (λ (m : ℕ) (r : Download). r .used ≡ true → placeAt (w .bank) i .number ≡ r .transaction .low → ⊥)
+    apart = λ i l a f. each (λ (m : ℕ) (r : Download). r .used ≡ true → placeAt (w .bank) i .transaction .low ≡ r .transaction .low → ⊥)
         (v .apart i j a f) (λ m n. v .apart i m a f) l;
     inOrder = packed-set (λ (r : Download). r .used) noDownload (λ (r : Download). r .transaction .low)
         (λ (r : Download). suc (r .transaction .low))
@@ -201,7 +182,7 @@ module _ (w : World) (h : List Exchange) (v : Invariant w h) (j : ℕ) (used : d
         (each-endDownloads (λ (r : Download). Holds (r .used) (mailboxFile w (r .subscriber)) r) refl which (w .bank .downloads)
         (λ l _ g. stays l g) i);
     mailboxes = mailboxes;
-    apart = λ i l a f. each-endDownloads (λ (r : Download). r .used ≡ true → placeAt (w .bank) i .number ≡ r .transaction .low → ⊥)
+    apart = λ i l a f. each-endDownloads (λ (r : Download). r .used ≡ true → placeAt (w .bank) i .transaction .low ≡ r .transaction .low → ⊥)
         (λ g. never g) which (w .bank .downloads) (λ m _ g. v .apart i m a f) l;
     inOrder = packed-keepOnly (λ (r : Download). r .used) noDownload (λ (r : Download). r .transaction .low)
         (λ (r : Download). suc (r .transaction .low))

@@ -2,14 +2,12 @@
 use Prim.Native.Nat.{ℕ, _+_, _<_, max}
 use mathlib.Core.Bool.{true, false}
 use mathlib.Core.List.{List}
+use mathlib.Core.Logic.{inl}
 use mathlib.Core.Path.{_≡_, refl, sym, ap, _∙_}
 use native.Mathlib.Decide.{decLt}
 use native.Mathlib.Omega.{arith}
 use lib.ListN.{List·getD-eq-default}
 use Rattle.frame_table.specs.declared.fields.Bits128.{Bits128}
-use Rattle.octets.specs.Bytes.{number}
-use Rattle.frame.specs.Reader.{readRequest}
-use Rattle.frame.specs.Row.{dataOf}
 use Rattle.octets.proofs.Tests.{never}
 use Rattle.bank_state.specs.declared.state.Download.{Download}
 use Rattle.bank_state.specs.declared.state.Place.{Place}
@@ -20,17 +18,15 @@ use Rattle.bank_state.specs.State.{World, noPlace, placeAt, downloadAt}
 use Rattle.bank_history.specs.History.{Exchange, Past}
 use Rattle.bank_history.specs.Invariant.{Invariant, Holds}
 use Rattle.bank_history.specs.Standing.{answered, Gone, UploadAt, DownloadAt}
-use Rattle.bank_history.proofs.Cases.{happens}
-use Rattle.bank_history.proofs.Changes.{case-gone}
+use Rattle.bank_history.proofs.Changes.{answered-gone}
 use Rattle.bank_history.proofs.Clock.{
   advanced-not-idle,
   advanced-clock,
   advanced-openings,
   each-advanced,
   each-download,
-  advanced-keeps,
 }
-use Rattle.bank_history.proofs.Uploads.{place-number}
+use Rattle.bank_history.proofs.Uploads.{place-counted}
 use Rattle.bank_history.proofs.Downloads.{download-open, downloads-apart}
 
 module _ (time : ℕ) (w : World) (h : List Exchange) (v : Invariant w h) (t : Bits128) where
@@ -55,20 +51,20 @@ module _ (time : ℕ) (w : World) (h : List Exchange) (v : Invariant w h) (t : B
       used : isFree (placeAt (w .bank) (u .place) .used) ≡ false
       used = ap isFree (u .used)
 
-      number : placeAt (w .bank) (u .place) .number ≡ t .low
-      number = sym (place-number w h v (u .place) (u .inside) used .0) ∙ ap (λ (b : Bits128). b .low) (u .transaction)
+      number : placeAt (w .bank) (u .place) .transaction .low ≡ t .low
+      number = ap (λ (b : Bits128). b .low) (u .transaction)
 
       known : t .low < advanced time w .bank .openings
-      known = let a = place-number w h v (u .place) (u .inside) used .1 in let b = advanced-openings time w in let c = number in omega arith
+      known = let a = place-counted w h v (u .place) (u .inside) used .0 in let b = advanced-openings time w in let c = number in omega arith
 
       places : (i : ℕ) → isFree (placeAt (advanced time w .bank) i .used) ≡ false → placeAt (advanced time w .bank) i .transaction ≡ t → ⊥
       places i f z =
           let e = places-or-not i f in
           let g : isFree (placeAt (w .bank) i .used) ≡ false = ap (λ (p : Place). isFree (p .used)) (sym e) ∙ f in
           let inside = inside-if-used i g in
-          let a : placeAt (w .bank) i .number ≡ t .low =
-          sym (place-number w h v i inside g .0) ∙ ap (λ (b : Bits128). b .low) (ap (λ (p : Place). p .transaction) (sym e) ∙ z) in
-          let same : i ≡ u .place = v .placesApart i (u .place) inside (u .inside) g used (a ∙ sym number) in
+          let a : placeAt (w .bank) i .transaction .low ≡ t .low =
+          ap (λ (b : Bits128). b .low) (ap (λ (p : Place). p .transaction) (sym e) ∙ z) in
+          let same : i ≡ u .place = v .placesApart i (u .place) inside (u .inside) g used (inl (a ∙ sym number)) in
           let now : placeAt (advanced time w .bank) i ≡ placeAt (w .bank) (u .place) = e ∙ ap (placeAt (w .bank)) same in
           let notIdle = advanced-not-idle time w (v .sizes) .places i inside
           (ap (λ (p : Place). isOpen (p .used)) now ∙ ap isOpen (u .used)) in
@@ -95,8 +91,8 @@ module _ (time : ℕ) (w : World) (h : List Exchange) (v : Invariant w h) (t : B
           let e = places-or-not i f in
           let g : isFree (placeAt (w .bank) i .used) ≡ false = ap (λ (p : Place). isFree (p .used)) (sym e) ∙ f in
           let inside = inside-if-used i g in
-          let a : placeAt (w .bank) i .number ≡ t .low =
-          sym (place-number w h v i inside g .0) ∙ ap (λ (b : Bits128). b .low) (ap (λ (p : Place). p .transaction) (sym e) ∙ z) in
+          let a : placeAt (w .bank) i .transaction .low ≡ t .low =
+          ap (λ (b : Bits128). b .low) (ap (λ (p : Place). p .transaction) (sym e) ∙ z) in
           v .apart i (u .row) inside g (u .used) (a ∙ sym number)
 
       still : (j : ℕ) → downloadAt (advanced time w .bank) j .used ≡ true → downloadAt (advanced time w .bank) j .transaction ≡ t →
@@ -115,7 +111,4 @@ module _ (time : ℕ) (w : World) (h : List Exchange) (v : Invariant w h) (t : B
 -- a frame call that finds it idle leaves it gone, whatever its request
 pub dropped-stays : (time : ℕ) (ids frame : List ℕ) (p : Past) (t : Bits128) → Holds p → Gone (advanced time (p .world)) t →
     Gone (answered time ids frame p .world) t
-dropped-stays time ids frame p t holds gone =
-    let v = advanced-keeps time (p .world) (p .history) (holds .invariant) in
-    case-gone t (advanced time (p .world)) gone (number ids) (readRequest frame) (dataOf frame)
-    (happens (number ids) (advanced time (p .world)) (readRequest frame) (dataOf frame) (v .sizes .places) (v .sizes .downloads))
+dropped-stays time ids frame p t holds gone = answered-gone t time ids frame p holds gone

@@ -15,9 +15,8 @@ use Rattle.message.specs.Verdicts.{decide}
 use Rattle.bank_state.specs.declared.state.Bank.{Bank}
 use Rattle.bank_state.specs.Limits.{placeCount, storeBytes}
 use Rattle.bank_state.specs.Search.{openCount, openCountOf}
-use Rattle.bank_state.specs.State.{World, downloadAt}
+use Rattle.bank_state.specs.State.{World, downloadAt, fileLength}
 use Rattle.bank_state.specs.Store.{partAt, fileOf}
-use Rattle.bank_openings.specs.Openings.{fileLength}
 use Rattle.bank.specs.declared.mailbox.FileAnswer.{FileAnswer}
 use Rattle.bank.specs.declared.mailbox.FileAnswer.the-variants as put
 use Rattle.bank.specs.Mailbox.{fileRefusals, fileNumber}

@@ -10,7 +10,7 @@ use Rattle.frame_table.specs.declared.fields.Bits128.{Bits128}
 use Rattle.frame_table.specs.declared.fields.Fields.{Fields}
 use Rattle.frame_table.specs.declared.table.Form.the-variants as forms
 use Rattle.octets.specs.Bytes.{number}
-use Rattle.frame_table.specs.Names.{form}
+use Rattle.frame_table.specs.Names.{subscriber, form}
 use Rattle.frame.specs.Reader.{readRequest}
 use Rattle.frame.specs.Row.{dataOf}
 use Rattle.octets.proofs.Tests.{never}
@@ -28,12 +28,11 @@ use Rattle.bank.specs.declared.call.FrameAnswer.{FrameAnswer}
 use Rattle.bank.specs.declared.call.FrameAnswer.the-variants.{Reply, WrongLength}
 use Rattle.bank.specs.declared.mailbox.FileAnswer.{FileAnswer}
 use Rattle.bank.specs.declared.mailbox.FileAnswer.the-variants as put
-use Rattle.bank.specs.Call.{Step, unread, refused, FrameCall, lentRight, replied, respond, frameCall}
+use Rattle.bank.specs.Call.{Step, FrameCall, lentRight, carryOut, replied, respond, frameCall}
 use Rattle.bank.specs.Mailbox.{fileNumber, carryOutFile, fileCall}
+use Rattle.bank_verdicts.specs.declared.verdict.Verdict.{Verdict}
+use Rattle.bank_verdicts.specs.declared.verdict.Verdict.the-variants as verdict
 use Rattle.bank_history.specs.History.{
-  Event,
-  Unreadable,
-  Refusal,
   Exchange,
   Past,
   BankCall,
@@ -61,7 +60,7 @@ use Rattle.message.proofs.Verdicts.{by-test}
 use Rattle.bank_history.proofs.Cases.{
   Happens,
   unreadable,
-  refusal,
+  refused,
   opensUpload,
   opensDownload,
   toUpload,
@@ -74,7 +73,7 @@ use Rattle.bank_history.proofs.Places.{drop-replicate, place-unchanged}
 use Rattle.bank_history.proofs.Rows.{getD-free, free-replicate}
 use Rattle.bank_history.proofs.Records.{download-unchanged}
 use Rattle.bank_history.proofs.DownloadChange.{download-change}
-use Rattle.bank_history.proofs.Uploads.{entry, upload-keeps}
+use Rattle.bank_history.proofs.Uploads.{entry, bare, upload-keeps}
 use Rattle.bank_history.proofs.DownloadVerdicts.{download-keeps}
 use Rattle.bank_history.proofs.Openings.{opens-upload, opens-download}
 use Rattle.bank_history.proofs.NotIdle.{case-not-idle}
@@ -83,8 +82,8 @@ use Rattle.bank_history.proofs.Reading.{transfer-data}
 use Rattle.bank_history.proofs.Files.{FileSound, rejected, done, judged-file, filled-keeps}
 
 -- a request that does nothing
-nothing-keeps : (w : World) (h : List Exchange) (x : Exchange) → ((t : Bits128) → did isAction t (x .event) ≡ false) →
-    opens (x .event) ≡ false → Sound x h →
+nothing-keeps : (w : World) (h : List Exchange) (x : Exchange) → ((t : Bits128) → did isAction t (x .verdict) ≡ false) →
+    opens (x .verdict) ≡ false → Sound x h →
     Invariant w h → Invariant w (x ∷ h)
 unfolding accepted
 nothing-keeps w h x no-action unopened sound v =
@@ -110,20 +109,25 @@ nothing-keeps w h x no-action unopened sound v =
       sound = more sound (v .sound);
     })
 
-module _ (lent : ℕ) (w : World) (h : List Exchange) (v : Invariant w h) (q : Fields) (d : List ℕ)
+module _ (first : ℕ) (w : World) (h : List Exchange) (v : Invariant w h) (q : Fields) (d : List ℕ)
     (some : form q ≡ forms.UploadTransfer → 1 ≤ length d) where
-  case-keeps : {e : Event} {s : Step} → Happens lent w q d e s → Invariant (s .world) (entry e s w q d ∷ h)
-  case-keeps unreadable = nothing-keeps w h (entry Unreadable (unread w) w q d) (λ t. refl) refl (record { reply = refl; event = refl }) v
-  case-keeps (refusal c e) = nothing-keeps w h (entry (Refusal c) (refused w q c) w q d) (λ t. refl) refl
-      (record { reply = refl; event = record { harmless = e; bare = refl } }) v
-  case-keeps (opensUpload asked a g n p) = opens-upload lent w h v q d a g asked n p
-  case-keeps (opensDownload asked a g n) = opens-download lent w h v q d a g asked n
-  case-keeps (toUpload i transfer r u a asked inside found sound) = upload-keeps w h v q d a i inside found transfer r asked some sound
-  case-keeps (toDownload j transfer r u a asked inside found sound) = download-keeps w h v q d a j found transfer r asked sound
+  case-keeps : {u : Verdict} → Happens first w q d u → Invariant (carryOut u w q d) (entry u w q d ∷ h)
+  case-keeps unreadable =
+      nothing-keeps w h (entry verdict.Unreadable w q d) (λ t. refl) refl (record { reply = refl; verdict = bare w (subscriber q) }) v
+  case-keeps (refused c e) = nothing-keeps w h (entry (verdict.Refused c) w q d) (λ t. refl) refl
+      (record { reply = refl; verdict = record { harmless = e; bare = bare w (subscriber q) } }) v
+  case-keeps (opensUpload asked a g n p) = opens-upload first w h v q d a g asked n p
+  case-keeps (opensDownload asked a g n) = opens-download first w h v q d a g asked n
+  case-keeps (toUpload r a t) = upload-keeps w h v q d r a some t
+  case-keeps (toDownload r a t) = download-keeps w h v q d r a t
 
-  pub respond-keeps : Invariant (respond lent w q d .world) (exchangeOf lent w q d ∷ h)
-  unfolding exchangeOf
-  respond-keeps = case-keeps (happens lent w q d (v .sizes .places) (v .sizes .downloads))
+  pub respond-keeps : Invariant (respond first w q d .world) (exchangeOf first w q d ∷ h)
+  unfolding exchangeOf respond
+  respond-keeps = case-keeps (happens first w q d (v .sizes .places) (v .sizes .downloads))
+
+  respond-not-idle : NoneIdle w → NoneIdle (respond first w q d .world)
+  unfolding respond
+  respond-not-idle n = case-not-idle w n first q d (v .sizes .places) (happens first w q d (v .sizes .places) (v .sizes .downloads))
 
 -- ---- the calls
 
@@ -155,10 +159,8 @@ frame-holds p time ids frame buffer old =
     kept = respond-keeps (number ids) w (p .history) v (readRequest frame) (dataOf frame) (transfer-data frame)
 
     notIdle : NoneIdle (s .world)
-    notIdle =
-        case-not-idle w (advanced-not-idle time (p .world) (old .invariant .sizes)) (number ids) (readRequest frame) (dataOf frame)
-        (v .sizes .places)
-        (happens (number ids) w (readRequest frame) (dataOf frame) (v .sizes .places) (v .sizes .downloads))
+    notIdle = respond-not-idle (number ids) w (p .history) v (readRequest frame) (dataOf frame) (transfer-data frame)
+        (advanced-not-idle time (p .world) (old .invariant .sizes))
 
 file-holds : (p : Past) (mailbox : ℕ) (file : List ℕ) → Holds p → Holds (after (File mailbox file) p)
 unfolding after fileCall

@@ -19,7 +19,7 @@ use Rattle.bank_history.specs.History.{Exchange, opens, nonceOf, opening
 use Rattle.bank_history.specs.Invariant.{Memory}
 
 -- a request that opens nothing
-pub memory-unchanged : (c : ℕ) (nonces : List Nonce) (x : Exchange) (h : List Exchange) → opens (x .event) ≡ false → Memory c nonces h →
+pub memory-unchanged : (c : ℕ) (nonces : List Nonce) (x : Exchange) (h : List Exchange) → opens (x .verdict) ≡ false → Memory c nonces h →
     Memory c nonces (x ∷ h)
 unfolding remembered openingNonces
 memory-unchanged c nonces x h noOpening m = record { held = rw noOpening (m .held) }
@@ -52,7 +52,7 @@ used-keep p (more {x = x} {l = l} e f) = at (p x) (used-keep p f)
 used-openings : (h : List Exchange) → AllUsed (openingNonces h)
 unfolding openingNonces
 used-openings [] = none
-used-openings (x ∷ h) = at (opens (x .event)) (used-openings h)
+used-openings (x ∷ h) = at (opens (x .verdict)) (used-openings h)
   where
     at : (b : Bool) → AllUsed (openingNonces h) → AllUsed (cond b (openingNonces h ++ (nonceOf x ∷ [])) (openingNonces h))
     at true g = used-append g (more refl none)
@@ -121,7 +121,7 @@ added l used y n (suc r) e free =
     set-at l noNonce (replicate r noNonce) y (length l + 0) (omega arith)
     ∙ (sym (append-assoc l (y ∷ []) (replicate r noNonce)) ∙ ap (λ (m : ℕ). (l ++ (y ∷ [])) ++ replicate m noNonce) (sym k))
 
-remembered-more : (c : ℕ) (h : List Exchange) (x : Exchange) → opens (x .event) ≡ true → leb c (nonceOf x .timestamp + window) ≡ true →
+remembered-more : (c : ℕ) (h : List Exchange) (x : Exchange) → opens (x .verdict) ≡ true → leb c (nonceOf x .timestamp + window) ≡ true →
     remembered c (x ∷ h) ≡ remembered c h ++ (nonceOf x ∷ [])
 unfolding remembered openingNonces keep
 remembered-more c h x opened timely = rw opened (keep-append (recent c) (openingNonces h) (nonceOf x ∷ []) ∙ rw timely refl)
@@ -131,7 +131,7 @@ unfolding remembered
 used-remembered c h = used-keep (recent c) (used-openings h)
 
 -- the nonce of an opening in time stands behind the others
-pub memory-added : (c : ℕ) (h : List Exchange) (x : Exchange) → opens (x .event) ≡ true → leb c (nonceOf x .timestamp + window) ≡ true →
+pub memory-added : (c : ℕ) (h : List Exchange) (x : Exchange) → opens (x .verdict) ≡ true → leb c (nonceOf x .timestamp + window) ≡ true →
     (nonces : List Nonce) → Memory c nonces h →
     firstOf (λ (e : Nonce). not (e .used)) nonces < nonceCount →
     Memory c (set nonces (firstOf (λ (e : Nonce). not (e .used)) nonces) (nonceOf x)) (x ∷ h)

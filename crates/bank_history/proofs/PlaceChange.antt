@@ -2,6 +2,7 @@
 use Prim.Native.Nat.{ℕ, _≤_, _<_}
 use mathlib.Core.Bool.{true, false}
 use mathlib.Core.List.{List}
+use mathlib.Core.Logic.{_⊎_, inl, inr}
 use mathlib.Core.Path.{_≡_, refl, sym, _∙_}
 use native.Mathlib.Omega.{arith}
 use lib.ListN.{length, getD, set, length-set}
@@ -10,13 +11,16 @@ use Rattle.bank_state.specs.declared.state.Nonce.{Nonce}
 use Rattle.bank_state.specs.declared.state.Place.{Place}
 use Rattle.bank_state.specs.Limits.{placeCount, storeBytes, nonceCount, openMost, openPerSubscriber, openingsMost}
 use Rattle.bank_state.specs.Search.{isFree, openCount, openCountOf}
-use Rattle.bank_state.specs.State.{World, world, noPlace, placeAt, downloadAt}
+use Rattle.bank_state.specs.State.{World, world, noPlace, placeAt, downloadAt, fileLength}
 use Rattle.bank_state.specs.Store.{partAt}
-use Rattle.bank_openings.specs.Openings.{fileLength}
 use Rattle.bank_history.proofs.Rows.{each-set}
 use Rattle.bank_history.specs.History.{Exchange, mailboxFile, accepted, ever, isAction, isBooking}
 use Rattle.bank_history.specs.Sound.{AllSound}
-use Rattle.bank_history.specs.Invariant.{PlaceHolds, DownloadHolds, Memory, BookedIn, Invariant}
+use Rattle.bank_history.specs.Invariant.{Alike, PlaceHolds, DownloadHolds, Memory, BookedIn, Invariant}
+
+pub either-sym : {A B : Type 0} {a b : A} {c d : B} → (a ≡ b) ⊎ (c ≡ d) → (b ≡ a) ⊎ (d ≡ c)
+either-sym (inl e) = inl (sym e)
+either-sym (inr e) = inr (sym e)
 
 -- the bank with place i changed, and with another number of openings, other nonces and another store of the places
 abbrev pub changedAt : ℕ → Place → ℕ → List Nonce → List ℕ → World → World
@@ -52,9 +56,9 @@ module _ (w : World) (i : ℕ) (p : Place) (o : ℕ) (nonces : List Nonce) (orde
         DownloadHolds (downloadAt (w .bank) j .used) (w .bank .clock) o g (mailboxFile w (downloadAt (w .bank) j .subscriber))
         (downloadAt (w .bank) j)
     pub apartPlace : (j : ℕ) → j < placeCount → (j ≡ i → ⊥) → isFree (p .used) ≡ false → isFree (placeAt (w .bank) j .used) ≡ false →
-        p .number ≡ placeAt (w .bank) j .number → ⊥
+        Alike p (placeAt (w .bank) j) → ⊥
     pub apartDownload : (j : ℕ) → isFree (p .used) ≡ false → downloadAt (w .bank) j .used ≡ true →
-        p .number ≡ downloadAt (w .bank) j .transaction .low → ⊥
+        p .transaction .low ≡ downloadAt (w .bank) j .transaction .low → ⊥
     pub openAll : openCount (changedAt i p o nonces orders w .bank) ≤ openMost
     pub openOf : (s : ℕ) → openCountOf s (changedAt i p o nonces orders w .bank) ≤ openPerSubscriber
     pub known : (t : Bits128) → ever isAction t g ≡ true → t .low < o
@@ -88,16 +92,16 @@ module _ (w : World) (i : ℕ) (p : Place) (o : ℕ) (nonces : List Nonce) (orde
     mailboxes = v .mailboxes;
     placesApart = λ j k a b. each
         (λ (m : ℕ) (r : Place). isFree (r .used) ≡ false → isFree (getD (set (w .bank .places) i p) k noPlace .used) ≡ false →
-        r .number ≡ getD (set (w .bank .places) i p) k noPlace .number → m ≡ k)
-        (each (λ (m : ℕ) (r : Place). isFree (p .used) ≡ false → isFree (r .used) ≡ false → p .number ≡ r .number → i ≡ m)
+        Alike r (getD (set (w .bank .places) i p) k noPlace) → m ≡ k)
+        (each (λ (m : ℕ) (r : Place). isFree (p .used) ≡ false → isFree (r .used) ≡ false → Alike p r → i ≡ m)
         (λ _ _ _. refl) (λ m d n x y z. absurd (c .apartPlace m d n x y z)) k b)
         (λ m d n. each (λ (l : ℕ) (r : Place). isFree (placeAt (w .bank) m .used) ≡ false → isFree (r .used) ≡ false →
-        placeAt (w .bank) m .number ≡ r .number → m ≡ l)
-        (λ x y z. absurd (c .apartPlace m d n y x (sym z))) (λ l e _. v .placesApart m l d e) k b)
+        Alike (placeAt (w .bank) m) r → m ≡ l)
+        (λ x y z. absurd (c .apartPlace m d n y x (either-sym z))) (λ l e _. v .placesApart m l d e) k b)
         j a;
     apart = λ j k a. each
         (λ (m : ℕ) (r : Place). isFree (r .used) ≡ false → downloadAt (w .bank) k .used ≡ true →
-        r .number ≡ downloadAt (w .bank) k .transaction .low → ⊥)
+        r .transaction .low ≡ downloadAt (w .bank) k .transaction .low → ⊥)
         (c .apartDownload k) (λ m d n. v .apart m k d) j a;
     inOrder = v .inOrder;
     memory = c .memory;

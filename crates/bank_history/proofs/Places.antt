@@ -5,10 +5,8 @@ use mathlib.Core.List.{List, [], _∷_, _++_, append-assoc}
 use mathlib.Core.Path.{_≡_, refl, sym, ap, _∙_}
 use native.Mathlib.Nat.{zero-add, suc-add}
 use native.Mathlib.Omega.{arith}
-use lib.Dec.{eqb}
 use lib.ListN.{length, drop, replicate, length-append}
 use lib.Seq.{take-at, drop-append-add}
-use borrow.Author.Tests.{eqb-true, eqb-false}
 use Rattle.frame_table.specs.declared.fields.Bits128.{Bits128}
 use Rattle.octets.specs.Bytes.{overwrite}
 use Rattle.frame_table.specs.Names.{subscriber, segments}
@@ -17,26 +15,28 @@ use Rattle.bank_state.specs.declared.state.Place.{Place}
 use Rattle.bank_state.specs.declared.state.Use.{Use}
 use Rattle.bank_state.specs.declared.state.Use.the-variants.{Free, Open, Booked}
 use Rattle.bank_state.specs.Search.{isFree}
-use Rattle.bank_uploads.specs.Uploads.{grown, attempted}
+use Rattle.bank_verdicts.specs.declared.verdict.UploadAction.{UploadAction}
+use Rattle.bank_verdicts.specs.declared.verdict.UploadAction.the-variants as up
+use Rattle.bank_verdicts.specs.declared.verdict.Action.the-variants as action
+use Rattle.bank_verdicts.specs.declared.verdict.Verdict.the-variants as verdict
+use Rattle.bank_openings.specs.Openings.{newPlace}
+use Rattle.bank_uploads.specs.Uploads.{grown, booked, attempted}
 use Rattle.bank_history.specs.History.{
-  Action,
-  OpenedUpload,
-  Took,
-  TookLast,
-  UploadPoint,
-  Of,
   Exchange,
+  numberIn,
+  uploadKind,
   isUploadOpening,
   isBooking,
   isTaking,
   isEnding,
-  isOpening,
   isAction,
   did,
   ever,
+  times,
   received,
+  segmentsAt,
 }
-use Rattle.bank_history.specs.Invariant.{UsedPlace, OpenUpload, PlaceHolds}
+use Rattle.bank_history.specs.Invariant.{UsedPlace, OpenUpload, BookedOrder, PlaceHolds}
 use Rattle.bank_history.proofs.Entries.{
   ever-other,
   times-other,
@@ -67,165 +67,195 @@ written-behind a d n m e h =
     ∙ (ap (λ (z : ℕ). drop (length d) (replicate z 0)) k ∙ drop-replicate (length d) (m - (n + length d)) 0)) in
     rw (take-at a (replicate (m - n) 0) n e, f) (sym (append-assoc a d (replicate (m - (n + length d)) 0)))
 
--- a request to another transaction
-module _ (x : Exchange) (h : List Exchange) (o o′ : ℕ) (grow : o ≤ o′) (p : Place) (bytes : List ℕ) where
-  pub used-unchanged : did isAction (p .transaction) (x .event) ≡ false → UsedPlace o h p bytes → UsedPlace o′ (x ∷ h) p bytes
-  used-unchanged n s = record {
-    numbered = s .numbered;
-    counted = let k = s .counted in omega arith;
-    known = s .known;
-    most = s .most;
+-- ---- a request to another transaction
+
+module _ (x : Exchange) (h : List Exchange) (o o′ : ℕ) (grow : o ≤ o′) where
+  used-unchanged : {t : Bits128} {s m n : ℕ} {bytes : List ℕ} → did isAction t (x .verdict) ≡ false →
+      UsedPlace o h t s m n bytes → UsedPlace o′ (x ∷ h) t s m n bytes
+  used-unchanged {t} {s} {m} {n} none u = record {
+    counted = let k = u .counted in omega arith;
+    numbered = let k = u .numbered in omega arith;
+    known = u .known;
+    most = u .most;
+    opened = ever-other t x h none isUploadOpening ∙ u .opened;
+    owner = opening-other t x h none _ _ ∙ u .owner;
+    order = opening-other t x h none _ _ ∙ u .order;
+    going = ever-other t x h none isEnding ∙ u .going;
+    least = let e = times-other t x h none isTaking in let l = u .least in omega arith;
+    largest = let e = times-other t x h none isTaking in let l = u .largest in omega arith;
+    long = ap length (received-other t x h none) ∙ u .long;
+    held = u .held ∙ ap (λ (r : List ℕ). r ++ replicate (fileBytes - n) 0) (sym (received-other t x h none));
+  }
+
+  pub place-unchanged : (p : Place) (bytes : List ℕ) (c : ℕ) (u : Use) →
+      (isFree u ≡ false → did isAction (p .transaction) (x .verdict) ≡ false) →
+      PlaceHolds u c o h p bytes → PlaceHolds u c o′ (x ∷ h) p bytes
+  place-unchanged p bytes c Free n s = s
+  place-unchanged p bytes c Open n s = let t = p .transaction in record {
+    place = used-unchanged (n refl) (s .place);
     some = s .some;
     few = s .few;
     tries = s .tries;
-    opened = ever-other (p .transaction) x h n isUploadOpening ∙ s .opened;
-    owner = opening-other (p .transaction) x h n _ _ ∙ s .owner;
-    size = opening-other (p .transaction) x h n _ _ ∙ s .size;
-    going = ever-other (p .transaction) x h n isEnding ∙ s .going;
-    takings = times-other (p .transaction) x h n isTaking ∙ s .takings;
-    least = s .least;
-    largest = s .largest;
-    long = ap length (received-other (p .transaction) x h n) ∙ s .long;
-    held = s .held ∙ ap (λ (r : List ℕ). r ++ replicate (fileBytes - p .length) 0) (sym (received-other (p .transaction) x h n));
-  }
-
-  pub place-unchanged : (c : ℕ) (u : Use) → (isFree u ≡ false → did isAction (p .transaction) (x .event) ≡ false) →
-      PlaceHolds u c o h p bytes → PlaceHolds u c o′ (x ∷ h) p bytes
-  place-unchanged c Free n s = s
-  place-unchanged c Open n s = record {
-    place = used-unchanged (n refl) (s .place);
     below = s .below;
     current = s .current;
-    unbooked = ever-other (p .transaction) x h (n refl) isBooking ∙ s .unbooked;
+    size = opening-other t x h (n refl) _ _ ∙ s .size;
+    takings = times-other t x h (n refl) isTaking ∙ s .takings;
+    unbooked = ever-other t x h (n refl) isBooking ∙ s .unbooked;
   }
-  place-unchanged c Booked n s = record {
-    place = used-unchanged (n refl) (s .place);
-    whole = s .whole;
-    booked = ever-other (p .transaction) x h (n refl) isBooking ∙ s .booked;
-  }
-
--- a recovery attempt of this upload
-module _ (x : Exchange) (h : List Exchange) (o : ℕ) (p : Place) (bytes : List ℕ) where
-  pub place-attempted : (c n : ℕ) → x .event ≡ Of (p .transaction) (UploadPoint n) → p .attempts < attemptsMost →
-      OpenUpload c o h p bytes → OpenUpload c o (x ∷ h) (attempted p) bytes
-  unfolding attempted
-  place-attempted c n own few u = record {
-    place =
-        let s = u .place in
-        let t = p .transaction in
-        record {
-          numbered = s .numbered;
-          counted = s .counted;
-          known = s .known;
-          most = s .most;
-          some = s .some;
-          few = s .few;
-          tries = omega arith;
-          opened = ever-own t (UploadPoint n) x h own isUploadOpening ∙ s .opened;
-          owner = opening-own t (UploadPoint n) x h own _ _ ∙ s .owner;
-          size = opening-own t (UploadPoint n) x h own _ _ ∙ s .size;
-          going = ever-own t (UploadPoint n) x h own isEnding ∙ s .going;
-          takings = times-own t (UploadPoint n) x h own isTaking ∙ s .takings;
-          least = s .least;
-          largest = s .largest;
-          long = ap length (received-own t (UploadPoint n) x h own) ∙ s .long;
-          held = s .held ∙ ap (λ (r : List ℕ). r ++ replicate (fileBytes - p .length) 0) (sym (received-own t (UploadPoint n) x h own));
-        };
-    below = u .below;
-    current = u .current;
-    unbooked = ever-own (p .transaction) (UploadPoint n) x h own isBooking ∙ u .unbooked;
-  }
-
-  -- a segment of this upload taken
-  used-grown : (c : ℕ) (k : Action) → x .event ≡ Of (p .transaction) k → isTaking k ≡ true → isEnding k ≡ false → isOpening k ≡ false →
-      isUploadOpening k ≡ false →
-      1 ≤ length (x .requestData) → length (x .requestData) ≤ segmentBytes → p .length + length (x .requestData) ≤ fileBytes →
-      UsedPlace o h p bytes → UsedPlace o (x ∷ h) (grown c (length (x .requestData)) p) (overwrite bytes (p .length) (x .requestData))
-  unfolding grown
-  used-grown c k own takes ends opens starts one short room s =
+  place-unchanged p bytes c Booked n s =
       let t = p .transaction in
+      let same : segmentsAt t (x ∷ h) ≡ segmentsAt t h = opening-other t x h (n refl) _ _ in
+      record {
+        place = used-unchanged (n refl) (s .place);
+        over = s .over;
+        some = let k = s .some in omega (arith, same);
+        few = let k = s .few in omega (arith, same);
+        whole = times-other t x h (n refl) isTaking ∙ (s .whole ∙ sym same);
+        booked = ever-other t x h (n refl) isBooking ∙ s .booked;
+      }
+
+-- ---- a request to this upload
+
+module _ (x : Exchange) (h : List Exchange) (o : ℕ) {t : Bits128} {s m n : ℕ} {bytes : List ℕ} where
+  -- that neither opens it, takes of it nor ends it
+  used-kept : (a : UploadAction) → x .verdict ≡ verdict.Of t (action.Upload a) → uploadKind a .opensUpload ≡ false →
+      uploadKind a .opensDownload ≡ false → uploadKind a .takes ≡ false → uploadKind a .ends ≡ false →
+      UsedPlace o h t s m n bytes → UsedPlace o (x ∷ h) t s m n bytes
+  used-kept a own opens downloads takes ends u =
+      let k = action.Upload a in
+      let got : received t (x ∷ h) ≡ received t h =
+      received-own t k x h own ∙ ap (λ (b : Bool). cond b (received t h ++ x .requestData) (received t h)) takes in
+      let count : times isTaking t (x ∷ h) ≡ times isTaking t h =
+      times-own t k x h own isTaking ∙ ap (λ (b : Bool). cond b (suc (times isTaking t h)) (times isTaking t h)) takes in
+      record {
+        counted = u .counted;
+        numbered = u .numbered;
+        known = u .known;
+        most = u .most;
+        opened = ever-own t k x h own isUploadOpening ∙ rw opens (u .opened);
+        owner = opening-own t k x h own _ _ ∙ rw (opens, downloads) (u .owner);
+        order = opening-own t k x h own _ _ ∙ rw (opens, downloads) (u .order);
+        going = ever-own t k x h own isEnding ∙ rw ends (u .going);
+        least = let l = u .least in omega arith;
+        largest = let l = u .largest in omega arith;
+        long = ap length got ∙ u .long;
+        held = u .held ∙ ap (λ (r : List ℕ). r ++ replicate (fileBytes - n) 0) (sym got);
+      }
+
+  -- that has a segment taken
+  used-grown : (a : UploadAction) → x .verdict ≡ verdict.Of t (action.Upload a) → uploadKind a .opensUpload ≡ false →
+      uploadKind a .opensDownload ≡ false → uploadKind a .takes ≡ true → uploadKind a .ends ≡ false →
+      1 ≤ length (x .requestData) → length (x .requestData) ≤ segmentBytes → n + length (x .requestData) ≤ fileBytes →
+      UsedPlace o h t s m n bytes →
+      UsedPlace o (x ∷ h) t s m (n + length (x .requestData)) (overwrite bytes n (x .requestData))
+  used-grown a own opens downloads takes ends one short room u =
+      let k = action.Upload a in
       let got : received t (x ∷ h) ≡ received t h ++ x .requestData =
       received-own t k x h own ∙ ap (λ (b : Bool). cond b (received t h ++ x .requestData) (received t h)) takes in
+      let count : times isTaking t (x ∷ h) ≡ suc (times isTaking t h) =
+      times-own t k x h own isTaking ∙ ap (λ (b : Bool). cond b (suc (times isTaking t h)) (times isTaking t h)) takes in
       record {
-        numbered = s .numbered;
-        counted = s .counted;
-        known = s .known;
-        most = s .most;
-        some = s .some;
-        few = s .few;
-        tries = s .tries;
-        opened = ever-own t k x h own isUploadOpening ∙ rw starts (s .opened);
-        owner = opening-own t k x h own _ _ ∙ rw opens (s .owner);
-        size = opening-own t k x h own _ _ ∙ rw opens (s .size);
-        going = ever-own t k x h own isEnding ∙ rw ends (s .going);
-        takings = times-own t k x h own isTaking ∙ rw takes (let e = s .takings in omega arith);
-        least = let l = s .least in omega arith;
-        largest = let l = s .largest in omega arith;
-        long = ap length got ∙ rw (length-append, s .long);
+        counted = u .counted;
+        numbered = u .numbered;
+        known = u .known;
+        most = u .most;
+        opened = ever-own t k x h own isUploadOpening ∙ rw opens (u .opened);
+        owner = opening-own t k x h own _ _ ∙ rw (opens, downloads) (u .owner);
+        order = opening-own t k x h own _ _ ∙ rw (opens, downloads) (u .order);
+        going = ever-own t k x h own isEnding ∙ rw ends (u .going);
+        least = let l = u .least in omega arith;
+        largest = let l = u .largest in omega arith;
+        long = ap length got ∙ rw (length-append, u .long);
         held =
-            ap (λ (l : List ℕ). overwrite l (p .length) (x .requestData)) (s .held)
-            ∙ (written-behind (received t h) (x .requestData) (p .length) fileBytes (s .long) room
-            ∙ ap (λ (r : List ℕ). r ++ replicate (fileBytes - (p .length + length (x .requestData))) 0) (sym got));
+            ap (λ (l : List ℕ). overwrite l n (x .requestData)) (u .held)
+            ∙ (written-behind (received t h) (x .requestData) n fileBytes (u .long) room
+            ∙ ap (λ (r : List ℕ). r ++ replicate (fileBytes - (n + length (x .requestData))) 0) (sym got));
       }
 
-  pub place-grown : (c : ℕ) (b : Bool) → eqb (p .taken + 1) (p .segments) ≡ b → x .event ≡ Of (p .transaction) (cond b TookLast Took) →
-      1 ≤ length (x .requestData) → length (x .requestData) ≤ segmentBytes → p .length + length (x .requestData) ≤ fileBytes →
-      OpenUpload c o h p bytes → PlaceHolds (cond b Booked Open) c o (x ∷ h) (grown c (length (x .requestData)) p)
-      (overwrite bytes (p .length) (x .requestData))
-  unfolding grown
-  place-grown c true last own one short room u = record {
-    place = used-grown c TookLast own refl refl refl refl one short room (u .place);
-    whole = eqb-true (p .taken + 1) (p .segments) last;
-    booked = ever-own (p .transaction) TookLast x h own isBooking;
-  }
-  place-grown c false last own one short room u = record {
-    place = used-grown c Took own refl refl refl refl one short room (u .place);
-    below = let k = u .below in let n = eqb-false (p .taken + 1) (p .segments) last in omega arith;
-    current = omega arith;
-    unbooked = ever-own (p .transaction) Took x h own isBooking ∙ u .unbooked;
+module _ (x : Exchange) (h : List Exchange) (o : ℕ) (p : Place) (bytes : List ℕ) (c : ℕ) where
+  abbrev t : Bits128
+  t = p .transaction
+
+  -- a recovery attempt
+  pub place-attempted : (k : ℕ) → x .verdict ≡ verdict.Of t (action.Upload (up.Point k)) → p .attempts < attemptsMost →
+      OpenUpload c o h p bytes → OpenUpload c o (x ∷ h) (attempted p) bytes
+  unfolding attempted
+  place-attempted k own few u = let a = action.Upload (up.Point k) in record {
+    place = used-kept x h o (up.Point k) own refl refl refl refl (u .place);
+    some = u .some;
+    few = u .few;
+    tries = omega arith;
+    below = u .below;
+    current = u .current;
+    size = opening-own t a x h own _ _ ∙ u .size;
+    takings = times-own t a x h own isTaking ∙ u .takings;
+    unbooked = ever-own t a x h own isBooking ∙ u .unbooked;
   }
 
--- the place of an upload just opened
-abbrev pub newPlace : Bits128 → ℕ → ℕ → ℕ → ℕ → Place
-newPlace t subscriber number segments clock = record {
-  used = Open;
-  transaction = t;
-  subscriber = subscriber;
-  number = number;
-  segments = segments;
-  taken = 0;
-  attempts = 0;
-  last = clock;
-  length = 0;
-}
+  module _ (one : 1 ≤ length (x .requestData)) (short : length (x .requestData) ≤ segmentBytes)
+      (room : p .length + length (x .requestData) ≤ fileBytes) (u : OpenUpload c o h p bytes) where
+    -- a segment below N taken
+    pub place-grown : x .verdict ≡ verdict.Of t (action.Upload up.Took) → (p .taken + 1 ≡ p .segments → ⊥) →
+        OpenUpload c o (x ∷ h) (grown c (length (x .requestData)) p) (overwrite bytes (p .length) (x .requestData))
+    unfolding grown
+    place-grown own below = let a = action.Upload up.Took in record {
+      place = used-grown x h o up.Took own refl refl refl refl one short room (u .place);
+      some = u .some;
+      few = u .few;
+      tries = u .tries;
+      below = let k = u .below in omega arith;
+      current = omega arith;
+      size = opening-own t a x h own _ _ ∙ u .size;
+      takings = times-own t a x h own isTaking ∙ (let e = u .takings in omega arith);
+      unbooked = ever-own t a x h own isBooking ∙ u .unbooked;
+    }
 
-module _ (x : Exchange) (h : List Exchange) (o c : ℕ) (t : Bits128) where
-  pub place-opened : x .event ≡ Of t OpenedUpload → t .low ≡ o → ever isAction t h ≡ false →
-      1 ≤ subscriber (x .request) → subscriber (x .request) ≤ subscribers → 1 ≤ segments (x .request) →
-      segments (x .request) ≤ segmentsMost →
-      OpenUpload c (o + 1) (x ∷ h) (newPlace t (subscriber (x .request)) o (segments (x .request)) c) (replicate fileBytes 0)
-  place-opened own number new known most some few =
-      let none : received t (x ∷ h) ≡ [] = received-own t OpenedUpload x h own ∙ received-unknown t h new in
-      record {
-        place = record {
-          numbered = number;
-          counted = omega arith;
-          known = known;
-          most = most;
-          some = some;
-          few = few;
-          tries = omega arith;
-          opened = ever-own t OpenedUpload x h own isUploadOpening;
-          owner = opening-own t OpenedUpload x h own _ _;
-          size = opening-own t OpenedUpload x h own _ _;
-          going = ever-own t OpenedUpload x h own isEnding ∙ ever-unknown t isEnding h new;
-          takings = times-own t OpenedUpload x h own isTaking ∙ times-unknown t isTaking h new;
-          least = omega arith;
-          largest = omega arith;
-          long = ap length none;
-          held = ap (λ (r : List ℕ). r ++ replicate fileBytes 0) (sym none);
-        };
-        below = some;
-        current = omega arith;
-        unbooked = ever-own t OpenedUpload x h own isBooking ∙ ever-unknown t isBooking h new;
-      }
+    -- segment N taken: "Segment N books the order"
+    pub place-booked : x .verdict ≡ verdict.Of t (action.Upload up.TookLast) → p .taken + 1 ≡ p .segments →
+        BookedOrder o (x ∷ h) (booked (length (x .requestData)) p) (overwrite bytes (p .length) (x .requestData))
+    unfolding booked
+    place-booked own last =
+        let a = action.Upload up.TookLast in
+        let size : segmentsAt t (x ∷ h) ≡ p .segments = opening-own t a x h own _ _ ∙ u .size in
+        record {
+          place = used-grown x h o up.TookLast own refl refl refl refl one short room (u .place);
+          over = record { segments = refl; taken = refl; attempts = refl; last = refl };
+          some = let k = u .some in omega (arith, size);
+          few = let k = u .few in omega (arith, size);
+          whole = times-own t a x h own isTaking ∙ ((let e = u .takings in omega arith) ∙ sym size);
+          booked = ever-own t a x h own isBooking;
+        }
+
+-- an upload just opened, with its transaction ID and its order's number
+pub place-opened : (x : Exchange) (h : List Exchange) (o c number : ℕ) (t : Bits128) →
+    x .verdict ≡ verdict.Of t (action.Upload (up.Opened number)) → t .low < o → number < o → ever isAction t h ≡ false →
+    1 ≤ subscriber (x .request) → subscriber (x .request) ≤ subscribers → 1 ≤ segments (x .request) →
+    segments (x .request) ≤ segmentsMost → OpenUpload c o (x ∷ h) (newPlace t number c (x .request)) (replicate fileBytes 0)
+place-opened x h o c number t own low counted new known most some few =
+    let a = action.Upload (up.Opened number) in
+    let none : received t (x ∷ h) ≡ [] = received-own t a x h own ∙ received-unknown t h new in
+    let zero-times : times isTaking t (x ∷ h) ≡ 0 = times-own t a x h own isTaking ∙ times-unknown t isTaking h new in
+    record {
+      place = record {
+        counted = low;
+        numbered = counted;
+        known = known;
+        most = most;
+        opened = ever-own t a x h own isUploadOpening;
+        owner = opening-own t a x h own _ _;
+        order = opening-own t a x h own _ _ ∙ ap numberIn own;
+        going = ever-own t a x h own isEnding ∙ ever-unknown t isEnding h new;
+        least = omega arith;
+        largest = omega arith;
+        long = ap length none;
+        held = ap (λ (r : List ℕ). r ++ replicate fileBytes 0) (sym none);
+      };
+      some = some;
+      few = few;
+      tries = omega arith;
+      below = some;
+      current = omega arith;
+      size = opening-own t a x h own _ _;
+      takings = zero-times;
+      unbooked = ever-own t a x h own isBooking ∙ ever-unknown t isBooking h new;
+    }

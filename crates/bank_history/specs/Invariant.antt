@@ -2,6 +2,7 @@
 use Prim.Native.Nat.{ℕ, suc, _+_, _-_, _*_, _<_, _≤_}
 use mathlib.Core.Bool.{Bool, true, false}
 use mathlib.Core.List.{List, _++_}
+use mathlib.Core.Logic.{_⊎_}
 use mathlib.Core.Path.{_≡_}
 use lib.ListN.{length, getD, take, replicate}
 use Rattle.frame_table.specs.declared.fields.Bits128.{Bits128}
@@ -40,6 +41,7 @@ use Rattle.bank_history.specs.History.{
   received,
   accepted,
   openedBy,
+  numberAt,
   segmentsAt,
   fileAtOpening,
   remembered,
@@ -61,44 +63,58 @@ pub record FreePlace (p : Place) (bytes : List ℕ) : Type 0 where
   pub empty : p ≡ noPlace
   pub zeros : bytes ≡ replicate fileBytes 0
 
--- a place in use, with the number of openings, the history and the place's bytes
-pub record UsedPlace (openings : ℕ) (h : List Exchange) (p : Place) (bytes : List ℕ) : Type 0 where
-  -- "The transaction ID is the 8 lent bytes, then the number"
-  pub numbered : p .transaction .low ≡ p .number
-  pub counted : p .number < openings
+-- the columns that count the steps of an open upload are 0
+pub record NoSteps (p : Place) : Type 0 where
+  pub segments : p .segments ≡ 0
+  pub taken : p .taken ≡ 0
+  pub attempts : p .attempts ≡ 0
+  pub last : p .last ≡ 0
+
+-- a place in use, with the number of openings, the history and the place's bytes: the columns that a booked order keeps,
+-- transaction ID, subscriber, number of its order and length
+pub record UsedPlace (openings : ℕ) (h : List Exchange) (t : Bits128) (subscriber number size : ℕ) (bytes : List ℕ) : Type 0 where
+  -- "The transaction ID is the 8 lent bytes, then the number", that of an accepted opening; so is the order's number
+  pub counted : t .low < openings
+  pub numbered : number < openings
   -- "Subscribers are 1 to 8"
-  pub known : 1 ≤ p .subscriber
-  pub most : p .subscriber ≤ subscribers
-  -- N is 1 to 15
+  pub known : 1 ≤ subscriber
+  pub most : subscriber ≤ subscribers
+  -- its transaction was opened by an accepted opening of this subscriber with this order number
+  pub opened : ever isUploadOpening t h ≡ true
+  pub owner : openedBy t h ≡ subscriber
+  pub order : numberAt t h ≡ number
+  -- nothing has cancelled it
+  pub going : ever isEnding t h ≡ false
+  -- each segment taken has 1 to 256 bytes
+  pub least : times isTaking t h ≤ size
+  pub largest : size ≤ times isTaking t h * segmentBytes
+  -- the place holds exactly their data, zeros behind
+  pub long : length (received t h) ≡ size
+  pub held : bytes ≡ received t h ++ replicate (fileBytes - size) 0
+
+abbrev pub UsedAs : ℕ → List Exchange → Place → List ℕ → Type 0
+UsedAs openings h p bytes = UsedPlace openings h (p .transaction) (p .subscriber) (p .number) (p .length) bytes
+
+-- an open upload: N is 1 to 15, k < N, at most five attempts
+pub record OpenUpload (clock openings : ℕ) (h : List Exchange) (p : Place) (bytes : List ℕ) : Type 0 where
+  pub place : UsedAs openings h p bytes
   pub some : 1 ≤ p .segments
   pub few : p .segments ≤ segmentsMost
-  -- at most five attempts; the sixth cancels
   pub tries : p .attempts ≤ attemptsMost
-  -- its transaction was opened by an accepted opening of this subscriber with this number of segments
-  pub opened : ever isUploadOpening (p .transaction) h ≡ true
-  pub owner : openedBy (p .transaction) h ≡ p .subscriber
-  pub size : segmentsAt (p .transaction) h ≡ p .segments
-  -- nothing has cancelled it
-  pub going : ever isEnding (p .transaction) h ≡ false
-  -- k segments were taken, each of 1 to 256 bytes
-  pub takings : times isTaking (p .transaction) h ≡ p .taken
-  pub least : p .taken ≤ p .length
-  pub largest : p .length ≤ p .taken * segmentBytes
-  -- the place holds exactly their data, zeros behind
-  pub long : length (received (p .transaction) h) ≡ p .length
-  pub held : bytes ≡ received (p .transaction) h ++ replicate (fileBytes - p .length) 0
-
--- an open upload: k < N
-pub record OpenUpload (clock openings : ℕ) (h : List Exchange) (p : Place) (bytes : List ℕ) : Type 0 where
-  pub place : UsedPlace openings h p bytes
   pub below : p .taken < p .segments
   pub current : p .last ≤ clock
+  -- N is that of its opening, k segments were taken, and the last one not
+  pub size : segmentsAt (p .transaction) h ≡ p .segments
+  pub takings : times isTaking (p .transaction) h ≡ p .taken
   pub unbooked : ever isBooking (p .transaction) h ≡ false
 
--- a booked order: its segments 1 to N
+-- a booked order: its segments 1 to N were taken; what counted its steps is 0
 pub record BookedOrder (openings : ℕ) (h : List Exchange) (p : Place) (bytes : List ℕ) : Type 0 where
-  pub place : UsedPlace openings h p bytes
-  pub whole : p .taken ≡ p .segments
+  pub place : UsedAs openings h p bytes
+  pub over : NoSteps p
+  pub some : 1 ≤ segmentsAt (p .transaction) h
+  pub few : segmentsAt (p .transaction) h ≤ segmentsMost
+  pub whole : times isTaking (p .transaction) h ≡ segmentsAt (p .transaction) h
   pub booked : ever isBooking (p .transaction) h ≡ true
 
 -- a place by its use
@@ -148,6 +164,10 @@ pub record BookedIn (w : World) (t : Bits128) : Type 0 where
   pub used : placeAt (w .bank) place .used ≡ Booked
   pub same : placeAt (w .bank) place .transaction ≡ t
 
+-- two places have one running number in their transaction IDs, or one order number
+abbrev pub Alike : Place → Place → Type 0
+Alike p r = (p .transaction .low ≡ r .transaction .low) ⊎ (p .number ≡ r .number)
+
 pub record Invariant (w : World) (h : List Exchange) : Type 0 where
   -- rows and stores have their lengths
   pub sizes : Sizes w
@@ -163,12 +183,11 @@ pub record Invariant (w : World) (h : List Exchange) : Type 0 where
       (mailboxFile w (downloadAt (w .bank) j .subscriber)) (downloadAt (w .bank) j)
   -- each mailbox holds at most 3,840 bytes, zeros behind
   pub mailboxes : (i : ℕ) → i < placeCount → MailboxHolds (getD (w .bank .files) i 0) (partAt (w .boxes) i)
-  -- no two places in use have one number, and no place that of an open download
+  -- no two places in use have one transaction or one order number, and no place has the transaction of an open download
   pub placesApart : (i j : ℕ) → i < placeCount → j < placeCount → isFree (placeAt (w .bank) i .used) ≡ false →
-      isFree (placeAt (w .bank) j .used) ≡ false →
-      placeAt (w .bank) i .number ≡ placeAt (w .bank) j .number → i ≡ j
+      isFree (placeAt (w .bank) j .used) ≡ false → Alike (placeAt (w .bank) i) (placeAt (w .bank) j) → i ≡ j
   pub apart : (i j : ℕ) → i < placeCount → isFree (placeAt (w .bank) i .used) ≡ false → downloadAt (w .bank) j .used ≡ true →
-      placeAt (w .bank) i .number ≡ downloadAt (w .bank) j .transaction .low → ⊥
+      placeAt (w .bank) i .transaction .low ≡ downloadAt (w .bank) j .transaction .low → ⊥
   -- open downloads stand first, in the order of their openings
   pub inOrder : Packed (λ (e : Download). e .used) noDownload (λ (e : Download). e .transaction .low)
       (λ (e : Download). suc (e .transaction .low)) 0 (w .bank .downloads)
