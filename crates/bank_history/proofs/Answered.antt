@@ -44,7 +44,7 @@ pub lent-right : (p : Past) (ids buffer : List ℕ) → Holds p → length ids �
     lentRight (p .world) ids buffer ≡ true
 unfolding lentRight
 lent-right p ids buffer holds right room =
-    let s = holds .invariant .sizes in
+    let s = holds .invariant .state .sizes in
     rw (
       eq-eqb (length (p .world .orders)) storeBytes (s .orders),
       eq-eqb (length (p .world .boxes)) storeBytes (s .boxes),

@@ -74,7 +74,7 @@ respond-written : (first : ℕ) (w : World) (h : List Exchange) → Invariant w 
     Bytes (w .boxes) → first < 2 ^ 64 → WrittenReply (respond first w q d .reply) (respond first w q d .replyData)
 unfolding respond
 respond-written first w h v q d r b small =
-    case-written w h v q r b small (happens first w q d (v .sizes .places) (v .sizes .downloads))
+    case-written w h v q r b small (happens first w q d (v .state .sizes .places) (v .state .sizes .downloads))
 
 module _ (p : Past) (holds : Holds p) (bytes : Bytes (p .world .boxes)) (time : ℕ) (ids frame : List ℕ) (idsBytes : Bytes ids)
     (frameBytes : Bytes frame) (right : length ids ≡ idBytes) where

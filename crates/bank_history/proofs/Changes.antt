@@ -172,10 +172,10 @@ module _ (first : ℕ) (w : World) (h : List Exchange) (v : Invariant w h) (q : 
         owner = e;
         empty = no-file (emptied (subscriber q) w) m
             (ap (λ (z : ℕ). getD (set (w .bank .files) (subscriber q - 1) 0) (z - 1) 0) (sym e)
-            ∙ getD-set-same (w .bank .files) (subscriber q - 1) 0 0 (let z = v .sizes .files in omega arith));
+            ∙ getD-set-same (w .bank .files) (subscriber q - 1) 0 0 (let z = v .state .sizes .files in omega arith));
       })
       own (no n) = inl (
-          mailbox-other w (subscriber q - 1) (v .sizes .boxes) (omega arith) (w .bank .clock) (w .bank .openings)
+          mailbox-other w (subscriber q - 1) (v .state .sizes .boxes) (omega arith) (w .bank .clock) (w .bank .openings)
           (endDownloads (ended.Mailbox (subscriber q)) (w .bank .downloads)) (w .bank .nonces) m (λ e. n (omega arith)))
 
   download-mailbox : 1 ≤ subscriber q → subscriber q ≤ subscribers → (t : Bits128) (a : DownloadAction) →
@@ -207,7 +207,7 @@ pub frame-mailbox : (time : ℕ) (ids frame : List ℕ) (p : Past) (m : ℕ) →
 unfolding exchangeOf respond
 frame-mailbox time ids frame p m holds one =
     at (case-mailbox (number ids) w (p .history) v (readRequest frame) (dataOf frame) m one
-    (happens (number ids) w (readRequest frame) (dataOf frame) (v .sizes .places) (v .sizes .downloads)))
+    (happens (number ids) w (readRequest frame) (dataOf frame) (v .state .sizes .places) (v .state .sizes .downloads)))
   where
     w : World
     w = advanced time (p .world)
@@ -301,14 +301,14 @@ module _ (t : Bits128) where
   answered-gone time ids frame p holds g =
       let v = advanced-keeps time (p .world) (p .history) (holds .invariant) in
       case-gone (advanced time (p .world)) g (number ids) (readRequest frame) (dataOf frame)
-      (happens (number ids) (advanced time (p .world)) (readRequest frame) (dataOf frame) (v .sizes .places) (v .sizes .downloads))
+      (happens (number ids) (advanced time (p .world)) (readRequest frame) (dataOf frame) (v .state .sizes .places) (v .state .sizes .downloads))
 
   -- what is gone stays gone, whatever the call
   pub gone-stays : (c : BankCall) (p : Past) → Holds p → Gone (p .world) t → Gone (after c p .world) t
   gone-stays (Frame time ids frame buffer) p holds g = at (after-frame time ids frame buffer p)
     where
       new : Gone (answered time ids frame p .world) t
-      new = answered-gone time ids frame p holds (advanced-gone time (p .world) (holds .invariant .sizes) g)
+      new = answered-gone time ids frame p holds (advanced-gone time (p .world) (holds .invariant .state .sizes) g)
 
       at : (after (Frame time ids frame buffer) p ≡ p) ⊎ (after (Frame time ids frame buffer) p ≡ answered time ids frame p) →
           Gone (after (Frame time ids frame buffer) p .world) t

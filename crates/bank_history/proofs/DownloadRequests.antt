@@ -44,7 +44,8 @@ use Rattle.bank_verdicts.proofs.Sound.{Readable}
 use Rattle.bank_openings.specs.Openings.{counted, openDownload}
 use Rattle.bank.specs.Call.{carryOut, respond}
 use Rattle.bank_history.specs.History.{Exchange, mailboxFile, opens}
-use Rattle.bank_history.specs.Invariant.{OpenDownload, Invariant}
+use Rattle.bank_history.specs.Invariant.{Invariant}
+use Rattle.bank_history.proofs.Parts.{OpenDownload}
 use Rattle.bank_history.specs.Standing.{DownloadAt}
 use Rattle.bank_state.proofs.Rows.{first-passes}
 use Rattle.bank_history.proofs.Rows.{first-at-most}
@@ -81,18 +82,18 @@ module _ (w : World) (h : List Exchange) (v : Invariant w h) (t : Bits128) (s d 
       at : Dec (findUpload s t (w .bank) < placeCount) → ltb (findUpload s t (w .bank)) placeCount ≡ false
       at (no n) = le-ltb (findUpload s t (w .bank)) placeCount (omega arith)
       at (yes l) =
-          let long = v .sizes .places in
+          let long = v .state .sizes .places in
           let passes = first-passes (isUpload s t) (w .bank .places) noPlace (omega arith) in
           let f = upload-found s t (placeAt (w .bank) (findUpload s t (w .bank))) passes in
           let a : isFree (placeAt (w .bank) (findUpload s t (w .bank)) .used) ≡ false = ap isFree (f .0) in
           let e : placeAt (w .bank) (findUpload s t (w .bank)) .transaction ≡ downloadAt (w .bank) (u .row) .transaction =
           bits-same _ t (f .2) ∙ sym (u .transaction) in
-          absurd (v .apart (findUpload s t (w .bank)) (u .row) l a (u .used) (ap (λ (z : Bits128). z .low) e))
+          absurd (v .state .apart (findUpload s t (w .bank)) (u .row) l a (u .used) (ap (λ (z : Bits128). z .low) e))
 
   find-own : findDownload s t (w .bank) ≡ u .row
   unfolding findDownload
   find-own =
-      let long = v .sizes .downloads in
+      let long = v .state .sizes .downloads in
       let inside = u .inside in
       let own = is-download s t (downloadAt (w .bank) (u .row)) (u .used) (u .subscriber) (u .transaction) in
       let most : findDownload s t (w .bank) ≤ u .row =
@@ -129,8 +130,8 @@ module _ (first : ℕ) (w : World) (h : List Exchange) (v : Invariant w h) (t : 
 
   readable : isRequestForm (form q) ≡ true → Readable q (length b)
   readable r =
-      let x = isOpen′ .known in
-      let y = isOpen′ .most in
+      let x = isOpen′ .0 .known in
+      let y = isOpen′ .0 .most in
       let z = u .subscriber in
       record { request = r; known = omega arith; most = omega arith; short = short }
 
@@ -187,7 +188,7 @@ module _ (first : ℕ) (w : World) (h : List Exchange) (v : Invariant w h) (t : 
         is : downloadAt (carryOut (verdict.Of t (action.Download (down.Delivered n))) w q b .bank) (downloadOf (w .bank) q)
             ≡ movedTo (own .delivered + 1) (own .attempts) (w .bank .clock) own
         is = getD-set-same (w .bank .downloads) (downloadOf (w .bank) q) _ noDownload
-            (let a = v .sizes .downloads in let i = found-inside in omega arith)
+            (let a = v .state .sizes .downloads in let i = found-inside in omega arith)
             ∙ ap (λ (j : ℕ). let e = downloadAt (w .bank) j in movedTo (e .delivered + 1) (e .attempts) (w .bank .clock) e) found
 
     pub deliver-open : DownloadAt (respond first w q b .world) t s (suc d) (w .bank .clock)
@@ -210,11 +211,11 @@ opened-open first w h v q b t n unreadable z = absurd (let y : _≡_ {A = ℕ} 0
 opened-open first w h v q b t n (refused c e) z = absurd (let y : _≡_ {A = ℕ} 0 1 = cc in omega arith)
 opened-open first w h v q b t n (opensUpload asked a g m inside) z = absurd (let y : _≡_ {A = ℕ} 0 1 = cc in omega arith)
 opened-open first w h v q b t n (opensDownload asked a g m) z =
-    let inside : freeDownload (w .bank) < length (w .bank .downloads) = free-inside-open (w .bank) (v .sizes .downloads) (g .ofAll) in
+    let inside : freeDownload (w .bank) < length (w .bank .downloads) = free-inside-open (w .bank) (v .state .sizes .downloads) (g .ofAll) in
     let is = getD-set-same (w .bank .downloads) (freeDownload (w .bank)) _ noDownload inside in
     record {
       row = freeDownload (w .bank);
-      inside = let l = v .sizes .downloads in omega arith;
+      inside = let l = v .state .sizes .downloads in omega arith;
       used = ap (λ (r : Download). r .used) is;
       transaction = ap (λ (r : Download). r .transaction) is ∙ cc;
       subscriber = ap (λ (r : Download). r .subscriber) is;

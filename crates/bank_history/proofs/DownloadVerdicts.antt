@@ -35,7 +35,8 @@ use Rattle.bank_verdicts.specs.Judgement.{mailboxSegments, downloadOf}
 use Rattle.bank.specs.Call.{ended, carryOut, mailboxSegment}
 use Rattle.bank_history.specs.History.{Exchange, downloadKind, mailboxFile, isDelivery, times}
 use Rattle.bank_history.specs.Sound.{SoundRequest, SoundDownload, SoundData, SoundReceipt, SoundDownloadAction}
-use Rattle.bank_history.specs.Invariant.{OpenDownload, MailboxHolds, Invariant}
+use Rattle.bank_history.specs.Invariant.{MailboxHolds, Invariant}
+use Rattle.bank_history.proofs.Parts.{OpenDownload}
 use Rattle.bank_state.proofs.Drops.{each-endDownloads}
 use Rattle.bank_state.proofs.Found.{download-found}
 use Rattle.bank_state.proofs.Stores.{length-zeroed, zeroed-same, zeroed-other}
@@ -125,17 +126,17 @@ module _ (w : World) (h : List Exchange) (v : Invariant w h) (q : Fields) (d : L
   sound-request : (a : DownloadAction) → SoundRequest (old .transaction) (now a) h
   sound-request a = record {
     same = bits-same (old .transaction) (transaction q) (download-found (subscriber q) (transaction q) old found .2);
-    owner = isOpen′ .owner ∙ owned;
-    going = isOpen′ .going;
-    unbooked = isOpen′ .unbooked;
+    owner = isOpen′ .1 .owner ∙ owned;
+    going = isOpen′ .1 .going;
+    unbooked = isOpen′ .1 .unbooked;
   }
 
   sound-download : (a : DownloadAction) → SoundDownload n (old .transaction) (now a) h
   sound-download a = record {
     request = sound-request a;
-    opened = isOpen′ .opened;
-    same = ap (mailboxFile w) (sym owned) ∙ sym (isOpen′ .unchanged);
-    count = count-now ∙ ap (λ (f : List ℕ). segmentsOf (length f)) (sym (isOpen′ .unchanged));
+    opened = isOpen′ .1 .opened;
+    same = ap (mailboxFile w) (sym owned) ∙ sym (isOpen′ .1 .unchanged);
+    count = count-now ∙ ap (λ (f : List ℕ). segmentsOf (length f)) (sym (isOpen′ .1 .unchanged));
   }
 
   sound-data : (a : DownloadAction) → form q ≡ forms.DownloadTransfer → 1 ≤ segment q → segment q ≤ n →
@@ -166,32 +167,32 @@ module _ (w : World) (h : List Exchange) (v : Invariant w h) (q : Fields) (d : L
       Invariant (left (down.Delivered n)) (now (down.Delivered n) ∷ h)
   delivered-keeps asked next within =
       moves (down.Delivered n) refl refl refl refl (old .delivered + 1) (old .attempts) (w .bank .clock) (omega arith) (omega arith)
-      (isOpen′ .tries) (omega arith)
+      (isOpen′ .0 .tries) (omega arith)
       (record {
         carried = sound-data (down.Delivered n) asked (omega arith) within refl;
-        next = let z = isOpen′ .deliveries in omega arith;
+        next = let z = isOpen′ .1 .deliveries in omega arith;
       })
 
   sent-again-keeps : form q ≡ forms.DownloadTransfer → 0 < segment q → segment q ≤ old .delivered → old .attempts < attemptsMost →
       Invariant (left (down.SentAgain n)) (now (down.SentAgain n) ∷ h)
   sent-again-keeps asked some again few =
-      let within : old .delivered ≤ n = (let z = count-now in let y = isOpen′ .within in omega arith) in
+      let within : old .delivered ≤ n = (let z = count-now in let y = isOpen′ .0 .within in omega arith) in
       moves (down.SentAgain n) refl refl refl refl (old .delivered) (old .attempts + 1) (old .last) refl within (omega arith)
-      (isOpen′ .current)
+      (isOpen′ .0 .current)
       (record {
         carried = sound-data (down.SentAgain n) asked (omega arith) (omega arith) refl;
-        again = let z = isOpen′ .deliveries in omega arith;
+        again = let z = isOpen′ .1 .deliveries in omega arith;
       })
 
   point-keeps : old .attempts < attemptsMost → Invariant (left (down.Point (old .delivered))) (now (down.Point (old .delivered)) ∷ h)
   point-keeps few =
-      let within : old .delivered ≤ n = (let z = count-now in let y = isOpen′ .within in omega arith) in
+      let within : old .delivered ≤ n = (let z = count-now in let y = isOpen′ .0 .within in omega arith) in
       moves (down.Point (old .delivered)) refl refl refl refl (old .delivered) (old .attempts + 1) (old .last) refl within (omega arith)
-      (isOpen′ .current)
+      (isOpen′ .0 .current)
       (record {
         request = sound-request (down.Point (old .delivered));
-        opened = isOpen′ .opened;
-        point = sym (isOpen′ .deliveries);
+        opened = isOpen′ .1 .opened;
+        point = sym (isOpen′ .1 .deliveries);
         bare = bare w (subscriber q);
       })
 
@@ -202,13 +203,13 @@ module _ (w : World) (h : List Exchange) (v : Invariant w h) (q : Fields) (d : L
   ends-keeps a up opens books sound =
       ended-step w h v j is-used (action.Download a) (rw (up, opens) refl) books (now a) refl
       (ending.Transaction (subscriber q) (transaction q)) (w .bank .files) (w .boxes)
-      found (λ i a f. refl) (v .sizes .files) (v .sizes .boxes) (v .mailboxes) (record { reply = refl; verdict = sound })
+      found (λ i a f. refl) (v .state .sizes .files) (v .state .sizes .boxes) (v .state .mailboxes) (record { reply = refl; verdict = sound })
 
   sound-receipt : (a : DownloadAction) → form q ≡ forms.Receipt → old .delivered ≡ n → now a .replyData ≡ [] →
       SoundReceipt (old .transaction) (now a) h
   sound-receipt a asked whole none = record {
     download =
-        let z : n ≡ times isDelivery (old .transaction) h = sym whole ∙ sym (isOpen′ .deliveries) in
+        let z : n ≡ times isDelivery (old .transaction) h = sym whole ∙ sym (isOpen′ .1 .deliveries) in
         subst (λ (m : ℕ). SoundDownload m (old .transaction) (now a) h) z (sound-download a);
     asked = asked;
     bare = none;
@@ -221,9 +222,9 @@ module _ (w : World) (h : List Exchange) (v : Invariant w h) (q : Fields) (d : L
   confirmed-keeps asked whole taken =
       ended-step w h v j is-used (action.Download down.Confirmed) refl refl (now down.Confirmed) refl (ending.Mailbox (subscriber q))
       files boxes (eq-eqb (old .subscriber) (subscriber q) owned) same
-      (length-set (w .bank .files) box 0 ∙ v .sizes .files)
-      (length-zeroed (w .boxes) box (v .sizes .boxes) inside ∙ v .sizes .boxes)
-      (mailbox-emptied w box (v .sizes .boxes) inside (v .sizes .files) (v .mailboxes))
+      (length-set (w .bank .files) box 0 ∙ v .state .sizes .files)
+      (length-zeroed (w .boxes) box (v .state .sizes .boxes) inside ∙ v .state .sizes .boxes)
+      (mailbox-emptied w box (v .state .sizes .boxes) inside (v .state .sizes .files) (v .state .mailboxes))
       (record {
         reply = refl;
         verdict = record { receipt = sound-receipt down.Confirmed asked whole (bare w (subscriber q)); taken = taken };
@@ -250,7 +251,7 @@ module _ (w : World) (h : List Exchange) (v : Invariant w h) (q : Fields) (d : L
           ≡ mailboxFile w (getD downs i noDownload .subscriber)
       same i a k =
           let m = readable .known in
-          mailbox-other w box (v .sizes .boxes) inside (w .bank .clock) (w .bank .openings) downs (w .bank .nonces)
+          mailbox-other w box (v .state .sizes .boxes) inside (w .bank .clock) (w .bank .openings) downs (w .bank .nonces)
           (getD downs i noDownload .subscriber)
           (λ e. emptied-ends w (subscriber q) i a (omega arith))
 

@@ -34,7 +34,7 @@ module _ (time : ℕ) (w : World) (h : List Exchange) (v : Invariant w h) (t : B
   places-or-not : (i : ℕ) → isFree (placeAt (advanced time w .bank) i .used) ≡ false →
       placeAt (advanced time w .bank) i ≡ placeAt (w .bank) i
   places-or-not = each-advanced time w (λ (i : ℕ) (p : Place). isFree (p .used) ≡ false → p ≡ placeAt (w .bank) i)
-      (λ i f. never (sym f)) (v .sizes) (λ i _ _. refl)
+      (λ i f. never (sym f)) (v .state .sizes) (λ i _ _. refl)
 
   inside-if-used : (i : ℕ) → isFree (placeAt (w .bank) i .used) ≡ false → i < placeCount
   inside-if-used i f = at (decLt i placeCount)
@@ -42,7 +42,7 @@ module _ (time : ℕ) (w : World) (h : List Exchange) (v : Invariant w h) (t : B
       at : Dec (i < placeCount) → i < placeCount
       at (yes l) = l
       at (no l) = never (sym f ∙ ap (λ (p : Place). isFree (p .used))
-          (List·getD-eq-default (w .bank .places) noPlace {n = i} (let z = v .sizes .places in omega arith)))
+          (List·getD-eq-default (w .bank .places) noPlace {n = i} (let z = v .state .sizes .places in omega arith)))
 
   -- an idle upload is dropped
   pub upload-dropped : (s k n last : ℕ) → UploadAt w t s k n last → last + idleLimit < max (w .bank .clock) time → Gone (advanced time w) t
@@ -64,9 +64,9 @@ module _ (time : ℕ) (w : World) (h : List Exchange) (v : Invariant w h) (t : B
           let inside = inside-if-used i g in
           let a : placeAt (w .bank) i .transaction .low ≡ t .low =
           ap (λ (b : Bits128). b .low) (ap (λ (p : Place). p .transaction) (sym e) ∙ z) in
-          let same : i ≡ u .place = v .placesApart i (u .place) inside (u .inside) g used (inl (a ∙ sym number)) in
+          let same : i ≡ u .place = v .state .placesApart i (u .place) inside (u .inside) g used (inl (a ∙ sym number)) in
           let now : placeAt (advanced time w .bank) i ≡ placeAt (w .bank) (u .place) = e ∙ ap (placeAt (w .bank)) same in
-          let notIdle = advanced-not-idle time w (v .sizes) .places i inside
+          let notIdle = advanced-not-idle time w (v .state .sizes) .places i inside
           (ap (λ (p : Place). isOpen (p .used)) now ∙ ap isOpen (u .used)) in
           let l : placeAt (advanced time w .bank) i .last ≡ last = ap (λ (p : Place). p .last) now ∙ u .fitting in
           let c = advanced-clock time w in
@@ -74,7 +74,7 @@ module _ (time : ℕ) (w : World) (h : List Exchange) (v : Invariant w h) (t : B
 
       downloads : (j : ℕ) → downloadAt (advanced time w .bank) j .used ≡ true → downloadAt (advanced time w .bank) j .transaction ≡ t → ⊥
       downloads = each-download time w (λ (e : Download). e .used ≡ true → e .transaction ≡ t → ⊥) (λ e. never e)
-          (λ j _ e z. v .apart (u .place) j (u .inside) used e (number ∙ ap (λ (b : Bits128). b .low) (sym z)))
+          (λ j _ e z. v .state .apart (u .place) j (u .inside) used e (number ∙ ap (λ (b : Bits128). b .low) (sym z)))
 
   -- an idle download is dropped
   pub download-dropped : (s d last : ℕ) → DownloadAt w t s d last → last + idleLimit < max (w .bank .clock) time → Gone (advanced time w) t
@@ -84,7 +84,7 @@ module _ (time : ℕ) (w : World) (h : List Exchange) (v : Invariant w h) (t : B
       number = ap (λ (b : Bits128). b .low) (u .transaction)
 
       known : t .low < advanced time w .bank .openings
-      known = let a = download-open w h v (u .row) (u .used) .counted in let b = advanced-openings time w in let c = number in omega arith
+      known = let a = download-open w h v (u .row) (u .used) .0 .counted in let b = advanced-openings time w in let c = number in omega arith
 
       places : (i : ℕ) → isFree (placeAt (advanced time w .bank) i .used) ≡ false → placeAt (advanced time w .bank) i .transaction ≡ t → ⊥
       places i f z =
@@ -93,7 +93,7 @@ module _ (time : ℕ) (w : World) (h : List Exchange) (v : Invariant w h) (t : B
           let inside = inside-if-used i g in
           let a : placeAt (w .bank) i .transaction .low ≡ t .low =
           ap (λ (b : Bits128). b .low) (ap (λ (p : Place). p .transaction) (sym e) ∙ z) in
-          v .apart i (u .row) inside g (u .used) (a ∙ sym number)
+          v .state .apart i (u .row) inside g (u .used) (a ∙ sym number)
 
       still : (j : ℕ) → downloadAt (advanced time w .bank) j .used ≡ true → downloadAt (advanced time w .bank) j .transaction ≡ t →
           downloadAt (advanced time w .bank) j .last ≡ last
@@ -104,7 +104,7 @@ module _ (time : ℕ) (w : World) (h : List Exchange) (v : Invariant w h) (t : B
       downloads : (j : ℕ) → downloadAt (advanced time w .bank) j .used ≡ true → downloadAt (advanced time w .bank) j .transaction ≡ t → ⊥
       downloads j e z =
           let l = still j e z in
-          let notIdle = advanced-not-idle time w (v .sizes) .downloads j e in
+          let notIdle = advanced-not-idle time w (v .state .sizes) .downloads j e in
           let c = advanced-clock time w in
           omega arith
 

@@ -1,4 +1,5 @@
 -- Every call keeps the invariant: each case of a request, a frame call, a file call, and every list of calls.
+use Prim.{tt}
 use Prim.Native.Nat.{ℕ, zero, suc, _+_, _-_, _*_, _≤_, _<_}
 use mathlib.Core.Bool.{false}
 use mathlib.Core.List.{List, [], _∷_}
@@ -19,10 +20,10 @@ use Rattle.bank_state.specs.declared.state.Bank.{Bank}
 use Rattle.bank_state.specs.declared.state.Download.{Download}
 use Rattle.bank_state.specs.declared.state.Place.{Place}
 use Rattle.bank_state.specs.Clock.{advanced}
-use Rattle.bank_state.specs.Limits.{placeCount, storeBytes}
+use Rattle.bank_state.specs.Limits.{placeCount, storeBytes, nonceCount}
 use Rattle.bank_state.specs.Rows.{countOf, keep}
 use Rattle.bank_state.specs.Search.{isFree, isOpen, openCount, openCountOf}
-use Rattle.bank_state.specs.State.{World, noPlace, noDownload, fresh, placeAt, downloadAt}
+use Rattle.bank_state.specs.State.{World, noPlace, noDownload, noNonce, fresh, placeAt, downloadAt}
 use Rattle.bank_state.specs.Store.{partAt}
 use Rattle.bank.specs.declared.call.FrameAnswer.{FrameAnswer}
 use Rattle.bank.specs.declared.call.FrameAnswer.the-variants.{Reply, WrongLength}
@@ -56,6 +57,7 @@ use Rattle.bank_history.specs.History.{
 use Rattle.bank_history.specs.Packed.{rest}
 use Rattle.bank_history.specs.Sound.{Sound, none, more}
 use Rattle.bank_history.specs.Invariant.{Invariant, NoneIdle, Holds}
+use Rattle.bank_history.proofs.Parts.{place-kept, download-kept}
 use Rattle.message.proofs.Verdicts.{by-test}
 use Rattle.bank_history.proofs.Cases.{
   Happens,
@@ -68,7 +70,7 @@ use Rattle.bank_history.proofs.Cases.{
   happens,
 }
 use Rattle.bank_history.proofs.Entries.{ever-other}
-use Rattle.bank_history.proofs.Memory.{memory-unchanged}
+use Rattle.bank_history.proofs.Memory.{memory-unchanged, memory-nonces}
 use Rattle.bank_history.proofs.Places.{drop-replicate, place-unchanged}
 use Rattle.bank_history.proofs.Rows.{getD-free, free-replicate}
 use Rattle.bank_history.proofs.Records.{download-unchanged}
@@ -88,22 +90,22 @@ nothing-keeps : (w : World) (h : List Exchange) (x : Exchange) → ((t : Bits128
 unfolding accepted
 nothing-keeps w h x no-action unopened sound v =
     download-change w (w .bank .clock) (w .bank .openings) (w .bank .downloads) (w .bank .nonces) (w .bank .files) (w .boxes) v (record {
-      listed = v .sizes .downloads;
-      remembered = v .sizes .nonces;
-      filed = v .sizes .files;
-      stored = v .sizes .boxes;
+      listed = v .state .sizes .downloads;
+      remembered = v .state .sizes .nonces;
+      filed = v .state .sizes .files;
+      stored = v .state .sizes .boxes;
       counted = rw unopened (v .counted);
-      numbers = v .numbers;
+      numbers = v .state .numbers;
       places = λ i a. place-unchanged x h _ _ (omega arith) _ _ _ (placeAt (w .bank) i .used)
-          (λ _. no-action (placeAt (w .bank) i .transaction)) (v .places i a);
-      downloads = λ j. download-unchanged x h _ _ (omega arith) _ _ _ (downloadAt (w .bank) j .used)
-          (λ _. no-action (downloadAt (w .bank) j .transaction)) (v .downloads j);
-      mailboxes = v .mailboxes;
-      apart = v .apart;
-      inOrder = v .inOrder;
+          (λ _. no-action (placeAt (w .bank) i .transaction)) (place-kept v i a);
+      downloads = λ j. download-unchanged x h _ _ _ _ (omega arith) _ (downloadAt (w .bank) j .used)
+          (λ _. no-action (downloadAt (w .bank) j .transaction)) (download-kept v j);
+      mailboxes = v .state .mailboxes;
+      apart = v .state .apart;
+      inOrder = v .state .inOrder;
       memory = memory-unchanged _ _ x h unopened (v .memory);
-      openAll = v .openAll;
-      openOf = v .openOf;
+      openAll = v .state .openAll;
+      openOf = v .state .openOf;
       known = λ t e. v .known t (sym (ever-other t x h (no-action t) isAction) ∙ e);
       booked = λ t e. v .booked t (sym (ever-other t x h (no-action t) isBooking) ∙ e);
       sound = more sound (v .sound);
@@ -123,11 +125,11 @@ module _ (first : ℕ) (w : World) (h : List Exchange) (v : Invariant w h) (q : 
 
   pub respond-keeps : Invariant (respond first w q d .world) (exchangeOf first w q d ∷ h)
   unfolding exchangeOf respond
-  respond-keeps = case-keeps (happens first w q d (v .sizes .places) (v .sizes .downloads))
+  respond-keeps = case-keeps (happens first w q d (v .state .sizes .places) (v .state .sizes .downloads))
 
   respond-not-idle : NoneIdle w → NoneIdle (respond first w q d .world)
   unfolding respond
-  respond-not-idle n = case-not-idle w n first q d (v .sizes .places) (happens first w q d (v .sizes .places) (v .sizes .downloads))
+  respond-not-idle n = case-not-idle w n first q d (v .state .sizes .places) (happens first w q d (v .state .sizes .places) (v .state .sizes .downloads))
 
 -- ---- the calls
 
@@ -160,7 +162,7 @@ frame-holds p time ids frame buffer old =
 
     notIdle : NoneIdle (s .world)
     notIdle = respond-not-idle (number ids) w (p .history) v (readRequest frame) (dataOf frame) (transfer-data frame)
-        (advanced-not-idle time (p .world) (old .invariant .sizes))
+        (advanced-not-idle time (p .world) (old .invariant .state .sizes))
 
 file-holds : (p : Past) (mailbox : ℕ) (file : List ℕ) → Holds p → Holds (after (File mailbox file) p)
 unfolding after fileCall
@@ -222,26 +224,30 @@ start-holds : Holds start
 unfolding start fresh openCount openCountOf countOf accepted ever remembered openingNonces keep
 start-holds = record {
   invariant = record {
-    sizes = record {
-      places = refl;
-      downloads = refl;
-      nonces = refl;
-      files = refl;
-      orders =
-          length-replicate {A = ℕ} storeBytes 0;
-      boxes = length-replicate {A = ℕ} storeBytes 0;
+    state = record {
+      sizes = record {
+        places = refl;
+        downloads = refl;
+        nonces = refl;
+        files = refl;
+        orders = length-replicate {A = ℕ} storeBytes 0;
+        boxes = length-replicate {A = ℕ} storeBytes 0;
+      };
+      numbers = omega arith;
+      places = λ i a. rw (fresh-place i a) (record { empty = refl; zeros = zeros-part i a });
+      downloads = λ j. rw (fresh-download j) refl;
+      mailboxes = λ i a. rw (getD-replicate {A = ℕ} placeCount i 0 0 a) (record { room = omega arith; zeros = zeros-part i a });
+      placesApart = λ i j a b f. never (sym f ∙ ap (λ (p : Place). isFree (p .used)) (fresh-place i a));
+      apart = λ i j a f. never (sym f ∙ ap (λ (p : Place). isFree (p .used)) (fresh-place i a));
+      inOrder = rest (free-replicate noDownload placeCount);
+      nonces = memory-nonces 0 (replicate nonceCount noNonce) [] (record { held = refl });
+      openAll = omega arith;
+      openOf = λ s. omega arith;
     };
     counted = refl;
-    numbers = omega arith;
-    places = λ i a. rw (fresh-place i a) (record { empty = refl; zeros = zeros-part i a });
-    downloads = λ j. rw (fresh-download j) refl;
-    mailboxes = λ i a. rw (getD-replicate {A = ℕ} placeCount i 0 0 a) (record { room = omega arith; zeros = zeros-part i a });
-    placesApart = λ i j a b f. never (sym f ∙ ap (λ (p : Place). isFree (p .used)) (fresh-place i a));
-    apart = λ i j a f. never (sym f ∙ ap (λ (p : Place). isFree (p .used)) (fresh-place i a));
-    inOrder = rest (free-replicate noDownload placeCount);
+    places = λ i a. rw (fresh-place i a) tt;
+    downloads = λ j. rw (fresh-download j) tt;
     memory = record { held = refl };
-    openAll = omega arith;
-    openOf = λ s. omega arith;
     known = λ t e. never e;
     booked = λ t e. never e;
     sound = none;

@@ -4,6 +4,7 @@ pub mod Rows
 pub mod Cases
 pub mod Entries
 pub mod Memory
+pub mod Parts
 pub mod Places
 pub mod Records
 pub mod PlaceChange

@@ -125,7 +125,7 @@ module _ (time : ℕ) (ids frame : List ℕ) (p : Past) (holds : Holds p) where
 
   the-case : Happens (number ids) judged (readRequest frame) (dataOf frame) (newest .verdict)
   unfolding exchangeOf respond
-  the-case = happens (number ids) judged (readRequest frame) (dataOf frame) (judged-holds .sizes .places) (judged-holds .sizes .downloads)
+  the-case = happens (number ids) judged (readRequest frame) (dataOf frame) (judged-holds .state .sizes .places) (judged-holds .state .sizes .downloads)
 
   pub answered-clock : answered time ids frame p .world .bank .clock ≡ max (p .world .bank .clock) time
   unfolding exchangeOf respond
@@ -149,13 +149,13 @@ module _ (time : ℕ) (ids frame : List ℕ) (p : Past) (holds : Holds p) where
       (mark : lastMark (readRequest frame) ≡ lastMarkOf (segment (readRequest frame)) n) (short : length (dataOf frame) ≤ segmentBytes)
       (notIdle : max (p .world .bank .clock) time ≤ last + idleLimit) where
     there : UploadAt judged t s k n last
-    there = uploads.advanced-open t s k n last time (p .world) (holds .invariant .sizes) before
+    there = uploads.advanced-open t s k n last time (p .world) (holds .invariant .state .sizes) before
         (let c = advanced-clock time (p .world) in omega arith)
 
     pub upload-current : last ≤ max (p .world .bank .clock) time
     upload-current =
         let u = there in
-        let a = own.upload-is-open judged (p .history) judged-holds t s k n last u .current in
+        let a = own.upload-is-open judged (p .history) judged-holds t s k n last u .0 .current in
         let b = u .fitting in
         let c = advanced-clock time (p .world) in omega arith
 
@@ -182,13 +182,13 @@ module _ (time : ℕ) (ids frame : List ℕ) (p : Past) (holds : Holds p) where
       (to : transaction (readRequest frame) ≡ t) (short : length (dataOf frame) ≤ segmentBytes)
       (notIdle : max (p .world .bank .clock) time ≤ last + idleLimit) where
     there-download : DownloadAt judged t s d last
-    there-download = downloads.advanced-open t s d last time (p .world) (holds .invariant .sizes .downloads) before
+    there-download = downloads.advanced-open t s d last time (p .world) (holds .invariant .state .sizes .downloads) before
         (let c = advanced-clock time (p .world) in omega arith)
 
     pub download-current : last ≤ max (p .world .bank .clock) time
     download-current =
         let u = there-download in
-        let a = download-open judged (p .history) judged-holds (u .row) (u .used) .current in
+        let a = download-open judged (p .history) judged-holds (u .row) (u .used) .0 .current in
         let b = u .fitting in
         let c = advanced-clock time (p .world) in omega arith
 
@@ -199,8 +199,8 @@ module _ (time : ℕ) (ids frame : List ℕ) (p : Past) (holds : Holds p) where
         let o = download-open judged (p .history) judged-holds (u .row) (u .used) in
         let own : subscriber (readRequest frame) ≡ downloadAt (judged .bank) (u .row) .subscriber = from ∙ sym (u .subscriber) in
         ap (λ (m : ℕ). segmentsOf (fileLength m (judged .bank .files))) own
-        ∙ ap segmentsOf (sym (file-long judged (p .history) judged-holds _ (o .known) (o .most)))
-        ∙ ap (λ (f : List ℕ). segmentsOf (length f)) (sym (o .unchanged))
+        ∙ ap segmentsOf (sym (file-long judged (p .history) judged-holds _ (o .0 .known) (o .0 .most)))
+        ∙ ap (λ (f : List ℕ). segmentsOf (length f)) (sym (o .1 .unchanged))
         ∙ ap (λ (i : Bits128). segmentsOf (length (fileAtOpening i (p .history)))) (u .transaction)
 
     -- its next segment
@@ -241,7 +241,7 @@ upload-stays t s k n last c p holds before noAction =
         UploadUnlessIdle (answered time ids frame p .world) t s k n last
     frames time ids frame buffer e z h =
         uploads.case-open t s k n last (advanced time (p .world)) (p .history) (judged-holds time ids frame p holds)
-        (uploads.advanced-open t s k n last time (p .world) (holds .invariant .sizes) before
+        (uploads.advanced-open t s k n last time (p .world) (holds .invariant .state .sizes) before
         (let a = case-clock (the-case time ids frame p holds) in omega arith))
         (number ids) (readRequest frame) (dataOf frame) (the-case time ids frame p holds)
         (noAction (newest time ids frame p holds) (ap (λ (r : Past). r .history) z))
@@ -260,7 +260,7 @@ download-stays t s d last c p holds before noAction kept =
         DownloadUnlessIdle (answered time ids frame p .world) t s d last
     frames time ids frame buffer e z h =
         downloads.case-open t s d last (advanced time (p .world)) (p .history) (judged-holds time ids frame p holds)
-        (downloads.advanced-open t s d last time (p .world) (holds .invariant .sizes .downloads) before
+        (downloads.advanced-open t s d last time (p .world) (holds .invariant .state .sizes .downloads) before
         (let a = case-clock (the-case time ids frame p holds) in omega arith))
         (number ids) (readRequest frame) (dataOf frame) (the-case time ids frame p holds)
         (noAction (newest time ids frame p holds) (ap (λ (r : Past). r .history) z))

@@ -16,7 +16,7 @@ use Rattle.bank_state.specs.Rows.{firstOf, keep, keepOnly}
 use Rattle.bank_state.specs.State.{noNonce}
 use Rattle.bank_state.proofs.Rows.{keep-append}
 use Rattle.bank_history.specs.History.{Exchange, opens, nonceOf, openingNonces, remembered}
-use Rattle.bank_history.specs.Invariant.{Memory}
+use Rattle.bank_history.specs.Invariant.{AllRemembered, end, next, NoncesHold, Memory}
 
 -- a request that opens nothing
 pub memory-unchanged : (c : ℕ) (nonces : List Nonce) (x : Exchange) (h : List Exchange) → opens (x .verdict) ≡ false → Memory c nonces h →
@@ -147,3 +147,19 @@ memory-added c h x opened timely nonces m free =
           ∙ (added l (used-remembered c h) (nonceOf x) nonceCount r refl (omega arith)
           ∙ ap (λ (k : List Nonce). k ++ replicate (nonceCount - length k) noNonce) (sym (remembered-more c h x opened timely))));
     }
+
+-- ---- the rows alone
+
+keep-recent : (c : ℕ) {l : List Nonce} → AllUsed l → AllRemembered c (keep (recent c) l)
+unfolding keep
+keep-recent c none = end
+keep-recent c (more {x = x} {l = l} e f) = at (recent c x) refl (keep-recent c f)
+  where
+    at : (t : Bool) → recent c x ≡ t → AllRemembered c (keep (recent c) l) → AllRemembered c (cond t (x ∷ keep (recent c) l) (keep (recent c) l))
+    at true r g = next e r g
+    at false r g = g
+
+pub memory-nonces : (c : ℕ) (nonces : List Nonce) (h : List Exchange) → Memory c nonces h → NoncesHold c nonces
+unfolding remembered
+memory-nonces c nonces h m =
+    record { first = keep (recent c) (openingNonces h); used = keep-recent c (used-openings h); rows = m .held }

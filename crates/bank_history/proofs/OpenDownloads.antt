@@ -136,10 +136,10 @@ module _ (t : Bits128) (s d last : ℕ) where
         at (down.SentAgain m) e n = record-moved u (u .row) (u .inside) (set-other _)
         at (down.Point m) e n = record-moved u (u .row) (u .inside) (set-other _)
         at down.Cancelled e n =
-            kept-open w (v .sizes .downloads) u (ended.Transaction (subscriber q) (transaction q)) _ refl (no-found _ refl)
-        at down.Confirmed e n = kept-open w (v .sizes .downloads) u (ended.Mailbox (subscriber q)) _ refl (no-owner (n refl) _ refl)
+            kept-open w (v .state .sizes .downloads) u (ended.Transaction (subscriber q) (transaction q)) _ refl (no-found _ refl)
+        at down.Confirmed e n = kept-open w (v .state .sizes .downloads) u (ended.Mailbox (subscriber q)) _ refl (no-owner (n refl) _ refl)
         at down.Declined e n =
-            kept-open w (v .sizes .downloads) u (ended.Transaction (subscriber q) (transaction q)) _ refl (no-found _ refl)
+            kept-open w (v .state .sizes .downloads) u (ended.Transaction (subscriber q) (transaction q)) _ refl (no-found _ refl)
 
     -- a request to another transaction, and no receipt of this subscriber answered 011000
     pub case-open : (first : ℕ) (q : Fields) (b : List ℕ) {x : Verdict} → Happens first w q b x → did isAction t x ≡ false →
@@ -155,7 +155,7 @@ module _ (t : Bits128) (s d last : ℕ) where
         taken-free : u .row ≡ freeDownload (w .bank) → ⊥
         taken-free z =
             let i = u .inside in
-            let l = v .sizes .downloads in
+            let l = v .state .sizes .downloads in
             let a = free-record (w .bank) (omega arith) in
             never (sym (ap not (u .used)) ∙ (ap (λ (m : ℕ). not (downloadAt (w .bank) m .used)) z ∙ a))
     case-open first q b (toUpload r a c) f n =

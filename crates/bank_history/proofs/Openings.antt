@@ -48,7 +48,8 @@ use Rattle.bank_history.specs.History.{
   accepted,
 }
 use Rattle.bank_history.specs.Sound.{SoundOpening, more}
-use Rattle.bank_history.specs.Invariant.{Alike, FreePlace, PlaceHolds, DownloadHolds, Memory, Invariant}
+use Rattle.bank_history.specs.Invariant.{Alike, PlaceHolds, FreePlace, Memory, Invariant}
+use Rattle.bank_history.proofs.Parts.{PlaceKept, DownloadKept, place-kept, download-kept}
 use Rattle.bank_state.proofs.Rows.{first-passes}
 use Rattle.bank_history.proofs.Rows.{each-set, first-if-few, count-set-le, count-set-suc, packed-add}
 use Rattle.bank_verdicts.proofs.Sound.{Acceptable, Readable}
@@ -127,23 +128,23 @@ module _ (first : ℕ) (w : World) (h : List Exchange) (v : Invariant w h) (q : 
         ∙ rw starts refl in let b = v .counted in omega arith
 
     places-stay : (i : ℕ) → i < placeCount →
-        PlaceHolds (placeAt (w .bank) i .used) (w .bank .clock) (o + 1) (x ∷ h) (placeAt (w .bank) i) (partAt (w .orders) i)
+        PlaceKept (placeAt (w .bank) i .used) (w .bank .clock) (o + 1) (x ∷ h) (placeAt (w .bank) i) (partAt (w .orders) i)
     places-stay i a =
         place-unchanged x h o (o + 1) (omega arith) (placeAt (w .bank) i) (partAt (w .orders) i) (w .bank .clock)
         (placeAt (w .bank) i .used)
         (λ f. ap (did isAction (placeAt (w .bank) i .transaction)) own
         ∙ did-other (placeAt (w .bank) i .transaction) t k (λ z. let n = place-counted w h v i a f .0 in omega arith))
-        (v .places i a)
+        (place-kept v i a)
 
     downloads-stay : (j : ℕ) →
-        DownloadHolds (downloadAt (w .bank) j .used) (w .bank .clock) (o + 1) (x ∷ h)
+        DownloadKept (downloadAt (w .bank) j .used) (w .bank .clock) (o + 1) (x ∷ h)
         (mailboxFile w (downloadAt (w .bank) j .subscriber)) (downloadAt (w .bank) j)
     downloads-stay j =
-        download-unchanged x h o (o + 1) (omega arith) (mailboxFile w (downloadAt (w .bank) j .subscriber)) (downloadAt (w .bank) j)
+        download-unchanged x h (mailboxFile w (downloadAt (w .bank) j .subscriber)) (downloadAt (w .bank) j) o (o + 1) (omega arith)
         (w .bank .clock) (downloadAt (w .bank) j .used)
         (λ f. ap (did isAction (downloadAt (w .bank) j .transaction)) own
-        ∙ did-other (downloadAt (w .bank) j .transaction) t k (λ z. let n = download-open w h v j f .counted in omega arith))
-        (v .downloads j)
+        ∙ did-other (downloadAt (w .bank) j .transaction) t k (λ z. let n = download-open w h v j f .0 .counted in omega arith))
+        (download-kept v j)
 
     known-stays : (u : Bits128) → ever isAction u (x ∷ h) ≡ true → u .low < o + 1
     known-stays = known-more t k x h own (o + 1) (omega arith) (λ u e. let z = v .known u e in omega arith)
@@ -163,10 +164,10 @@ module _ (first : ℕ) (w : World) (h : List Exchange) (v : Invariant w h) (q : 
   opens-upload asked some inside = place-change w i new (o + 1) nonces (w .orders) {g = x ∷ h} v (record {
     bytes = replicate fileBytes 0;
     inside = inside;
-    stored = v .sizes .orders;
+    stored = v .state .sizes .orders;
     here = wasFree .zeros;
     elsewhere = λ j n. refl;
-    remembered = length-set (w .bank .nonces) (freeNonce (w .bank)) _ ∙ v .sizes .nonces;
+    remembered = length-set (w .bank .nonces) (freeNonce (w .bank)) _ ∙ v .state .sizes .nonces;
     memory = memory-kept x refl refl;
     counted = counted-more k refl refl x refl;
     numbers = let z = acceptable .numbers in omega arith;
@@ -175,7 +176,7 @@ module _ (first : ℕ) (w : World) (h : List Exchange) (v : Invariant w h) (q : 
     others = λ j a n. places-stay k refl refl x refl j a;
     downloads = downloads-stay k refl refl x refl;
     apartPlace = λ j a n f g. not-alike (placeAt (w .bank) j) (place-counted w h v j a g);
-    apartDownload = λ j f g e. let z = download-open w h v j g .counted in omega arith;
+    apartDownload = λ j f g e. let z = download-open w h v j g .0 .counted in omega arith;
     openAll = let m = count-set-suc (λ (r : Place). isOpen (r .used)) (w .bank .places) i new in let a = acceptable .ofAll in omega arith;
     openOf = λ s. openOf s (eqb (subscriber q) s) refl;
     known = known-stays k refl refl x refl;
@@ -211,11 +212,11 @@ module _ (first : ℕ) (w : World) (h : List Exchange) (v : Invariant w h) (q : 
       not-alike r (l, n) (inr e) = omega arith
 
       isFree′ : placeAt (w .bank) (freePlace (w .bank)) .used ≡ Free
-      isFree′ = is-free _ (free-passes (w .bank) (let z = v .sizes .places in omega arith))
+      isFree′ = is-free _ (free-passes (w .bank) (let z = v .state .sizes .places in omega arith))
 
       wasFree : FreePlace (placeAt (w .bank) (freePlace (w .bank))) (partAt (w .orders) (freePlace (w .bank)))
-      wasFree = subst (λ (u : Use). PlaceHolds u (w .bank .clock) o h (placeAt (w .bank) (freePlace (w .bank)))
-          (partAt (w .orders) (freePlace (w .bank)))) isFree′ (v .places i inside)
+      wasFree = subst (λ (u : Use). PlaceHolds u (w .bank .clock) o (placeAt (w .bank) (freePlace (w .bank)))
+          (partAt (w .orders) (freePlace (w .bank)))) isFree′ (v .state .places i inside)
 
       openOf : (s : ℕ) (b : Bool) → eqb (subscriber q) s ≡ b →
           countOf (λ (p : Place). isOpen (p .used) && eqb (p .subscriber) s) (set (w .bank .places) i new)
@@ -227,7 +228,7 @@ module _ (first : ℕ) (w : World) (h : List Exchange) (v : Invariant w h) (q : 
           omega arith
       openOf s false e =
           let m = count-other (λ (p : Place). isOpen (p .used)) (λ (p : Place). p .subscriber) (w .bank .places) i new noPlace s e in
-          omega (arith, v .openOf s)
+          omega (arith, v .state .openOf s)
 
   -- a download opened
   pub opens-download : form q ≡ forms.DownloadOpening → (fileLength (subscriber q) (w .bank .files) ≡ 0 → ⊥) →
@@ -235,25 +236,25 @@ module _ (first : ℕ) (w : World) (h : List Exchange) (v : Invariant w h) (q : 
       Invariant (carryOut u w q d) (entry u w q d ∷ h)
   unfolding openDownload counted openCount openCountOf mailboxFile fileLength freeDownload
   opens-download asked some = download-change w _ (o + 1) _ nonces _ _ {g = x ∷ h} v (record {
-    listed = length-set (w .bank .downloads) j new ∙ v .sizes .downloads;
-    remembered = length-set (w .bank .nonces) (freeNonce (w .bank)) _ ∙ v .sizes .nonces;
-    filed = v .sizes .files;
-    stored = v .sizes .boxes;
+    listed = length-set (w .bank .downloads) j new ∙ v .state .sizes .downloads;
+    remembered = length-set (w .bank .nonces) (freeNonce (w .bank)) _ ∙ v .state .sizes .nonces;
+    filed = v .state .sizes .files;
+    stored = v .state .sizes .boxes;
     counted = counted-more k refl refl x refl;
     numbers = let z = acceptable .numbers in omega arith;
     places = places-stay k refl refl x refl;
     downloads = each-set (w .bank .downloads) j new noDownload inside
-        (λ (i : ℕ) (r : Download). DownloadHolds (r .used) (w .bank .clock) (o + 1) (x ∷ h) (mailboxFile w (r .subscriber)) r)
+        (λ (i : ℕ) (r : Download). DownloadKept (r .used) (w .bank .clock) (o + 1) (x ∷ h) (mailboxFile w (r .subscriber)) r)
         (download-opened x h (o + 1) (w .bank .clock) (mailboxSegments (subscriber q) (w .bank)) t refl (omega arith) unknown
         (readable .known) (readable .most) full (some-segment _ full))
         (λ i n. downloads-stay k refl refl x refl i);
-    mailboxes = v .mailboxes;
+    mailboxes = v .state .mailboxes;
     apart = λ i l a f. each-set (w .bank .downloads) j new noDownload inside
         (λ (m : ℕ) (r : Download). r .used ≡ true → placeAt (w .bank) i .transaction .low ≡ r .transaction .low → ⊥)
-        (λ g e. let z = place-counted w h v i a f .0 in omega arith) (λ m n. v .apart i m a f) l;
+        (λ g e. let z = place-counted w h v i a f .0 in omega arith) (λ m n. v .state .apart i m a f) l;
     inOrder = packed-add (λ (r : Download). r .used) noDownload (λ (r : Download). r .transaction .low)
         (λ (r : Download). suc (r .transaction .low))
-        new (v .inOrder) refl refl (omega arith) (λ i u. download-open w h v i u .counted);
+        new (v .state .inOrder) refl refl (omega arith) (λ i u. download-open w h v i u .0 .counted);
     memory = memory-kept x refl refl;
     openAll = let m = count-set-suc (λ (r : Download). r .used) (w .bank .downloads) j new in let a = acceptable .ofAll in omega arith;
     openOf = λ s. openOf s (eqb (subscriber q) s) refl;
@@ -283,7 +284,7 @@ module _ (first : ℕ) (w : World) (h : List Exchange) (v : Invariant w h) (q : 
       x = entry (verdict.Of t k) w q d
 
       inside : j < length (w .bank .downloads)
-      inside = free-inside-open (w .bank) (v .sizes .downloads) (acceptable .ofAll)
+      inside = free-inside-open (w .bank) (v .state .sizes .downloads) (acceptable .ofAll)
 
       long : length (mailboxFile w (subscriber q)) ≡ fileLength (subscriber q) (w .bank .files)
       long = file-long w h v (subscriber q) (readable .known) (readable .most)
@@ -301,4 +302,4 @@ module _ (first : ℕ) (w : World) (h : List Exchange) (v : Invariant w h) (q : 
           omega arith
       openOf s false e =
           let m = count-other (λ (r : Download). r .used) (λ (r : Download). r .subscriber) (w .bank .downloads) j new noDownload s e in
-          omega (arith, v .openOf s)
+          omega (arith, v .state .openOf s)

@@ -32,11 +32,11 @@ use Rattle.bank_history.specs.History.{
   isAction,
   did,
   ever,
-  times,
   received,
   segmentsAt,
 }
-use Rattle.bank_history.specs.Invariant.{UsedPlace, OpenUpload, BookedOrder, PlaceHolds}
+use Rattle.bank_history.specs.Invariant.{UsedPlace, UsedTold, PlaceTold}
+use Rattle.bank_history.proofs.Parts.{PlaceKept, OpenUpload, BookedOrder, place-later, zeros-behind}
 use Rattle.bank_history.proofs.Entries.{
   ever-other,
   times-other,
@@ -69,102 +69,81 @@ written-behind a d n m e h =
 
 -- ---- a request to another transaction
 
-module _ (x : Exchange) (h : List Exchange) (o o′ : ℕ) (grow : o ≤ o′) where
-  used-unchanged : {t : Bits128} {s m n : ℕ} {bytes : List ℕ} → did isAction t (x .verdict) ≡ false →
-      UsedPlace o h t s m n bytes → UsedPlace o′ (x ∷ h) t s m n bytes
-  used-unchanged {t} {s} {m} {n} none u = record {
-    counted = let k = u .counted in omega arith;
-    numbered = let k = u .numbered in omega arith;
-    known = u .known;
-    most = u .most;
+module _ (x : Exchange) (h : List Exchange) where
+  told-other : {t : Bits128} {s m n : ℕ} {bytes : List ℕ} → did isAction t (x .verdict) ≡ false →
+      UsedTold h t s m n bytes → UsedTold (x ∷ h) t s m n bytes
+  told-other {t} {s} {m} {n} none u = record {
     opened = ever-other t x h none isUploadOpening ∙ u .opened;
     owner = opening-other t x h none _ _ ∙ u .owner;
     order = opening-other t x h none _ _ ∙ u .order;
     going = ever-other t x h none isEnding ∙ u .going;
-    least = let e = times-other t x h none isTaking in let l = u .least in omega arith;
-    largest = let e = times-other t x h none isTaking in let l = u .largest in omega arith;
     long = ap length (received-other t x h none) ∙ u .long;
     held = u .held ∙ ap (λ (r : List ℕ). r ++ replicate (fileBytes - n) 0) (sym (received-other t x h none));
   }
 
-  pub place-unchanged : (p : Place) (bytes : List ℕ) (c : ℕ) (u : Use) →
-      (isFree u ≡ false → did isAction (p .transaction) (x .verdict) ≡ false) →
-      PlaceHolds u c o h p bytes → PlaceHolds u c o′ (x ∷ h) p bytes
-  place-unchanged p bytes c Free n s = s
-  place-unchanged p bytes c Open n s = let t = p .transaction in record {
-    place = used-unchanged (n refl) (s .place);
-    some = s .some;
-    few = s .few;
-    tries = s .tries;
-    below = s .below;
-    current = s .current;
-    size = opening-other t x h (n refl) _ _ ∙ s .size;
-    takings = times-other t x h (n refl) isTaking ∙ s .takings;
-    unbooked = ever-other t x h (n refl) isBooking ∙ s .unbooked;
-  }
-  place-unchanged p bytes c Booked n s =
+  place-other : (p : Place) (bytes : List ℕ) (u : Use) → (isFree u ≡ false → did isAction (p .transaction) (x .verdict) ≡ false) →
+      PlaceTold u h p bytes → PlaceTold u (x ∷ h) p bytes
+  place-other p bytes Free n s = s
+  place-other p bytes Open n s =
+      let t = p .transaction in
+      record {
+        place = told-other (n refl) (s .place);
+        size = opening-other t x h (n refl) _ _ ∙ s .size;
+        takings = times-other t x h (n refl) isTaking ∙ s .takings;
+        unbooked = ever-other t x h (n refl) isBooking ∙ s .unbooked;
+      }
+  place-other p bytes Booked n s =
       let t = p .transaction in
       let same : segmentsAt t (x ∷ h) ≡ segmentsAt t h = opening-other t x h (n refl) _ _ in
       record {
-        place = used-unchanged (n refl) (s .place);
-        over = s .over;
+        place = told-other (n refl) (s .place);
         some = let k = s .some in omega (arith, same);
         few = let k = s .few in omega (arith, same);
         whole = times-other t x h (n refl) isTaking ∙ (s .whole ∙ sym same);
+        least = let k = s .least in omega (arith, same);
+        largest = let k = s .largest in omega (arith, same);
         booked = ever-other t x h (n refl) isBooking ∙ s .booked;
       }
 
+  pub place-unchanged : (o o′ : ℕ) → o ≤ o′ → (p : Place) (bytes : List ℕ) (c : ℕ) (u : Use) →
+      (isFree u ≡ false → did isAction (p .transaction) (x .verdict) ≡ false) →
+      PlaceKept u c o h p bytes → PlaceKept u c o′ (x ∷ h) p bytes
+  place-unchanged o o′ grow p bytes c u n s = (place-later c c o o′ (omega arith) grow p bytes u (s .0), place-other p bytes u n (s .1))
+
 -- ---- a request to this upload
 
-module _ (x : Exchange) (h : List Exchange) (o : ℕ) {t : Bits128} {s m n : ℕ} {bytes : List ℕ} where
+module _ (x : Exchange) (h : List Exchange) {t : Bits128} {s m n : ℕ} {bytes : List ℕ} where
   -- that neither opens it, takes of it nor ends it
-  used-kept : (a : UploadAction) → x .verdict ≡ verdict.Of t (action.Upload a) → uploadKind a .opensUpload ≡ false →
+  told-kept : (a : UploadAction) → x .verdict ≡ verdict.Of t (action.Upload a) → uploadKind a .opensUpload ≡ false →
       uploadKind a .opensDownload ≡ false → uploadKind a .takes ≡ false → uploadKind a .ends ≡ false →
-      UsedPlace o h t s m n bytes → UsedPlace o (x ∷ h) t s m n bytes
-  used-kept a own opens downloads takes ends u =
+      UsedTold h t s m n bytes → UsedTold (x ∷ h) t s m n bytes
+  told-kept a own opens downloads takes ends u =
       let k = action.Upload a in
       let got : received t (x ∷ h) ≡ received t h =
       received-own t k x h own ∙ ap (λ (b : Bool). cond b (received t h ++ x .requestData) (received t h)) takes in
-      let count : times isTaking t (x ∷ h) ≡ times isTaking t h =
-      times-own t k x h own isTaking ∙ ap (λ (b : Bool). cond b (suc (times isTaking t h)) (times isTaking t h)) takes in
       record {
-        counted = u .counted;
-        numbered = u .numbered;
-        known = u .known;
-        most = u .most;
         opened = ever-own t k x h own isUploadOpening ∙ rw opens (u .opened);
         owner = opening-own t k x h own _ _ ∙ rw (opens, downloads) (u .owner);
         order = opening-own t k x h own _ _ ∙ rw (opens, downloads) (u .order);
         going = ever-own t k x h own isEnding ∙ rw ends (u .going);
-        least = let l = u .least in omega arith;
-        largest = let l = u .largest in omega arith;
         long = ap length got ∙ u .long;
         held = u .held ∙ ap (λ (r : List ℕ). r ++ replicate (fileBytes - n) 0) (sym got);
       }
 
   -- that has a segment taken
-  used-grown : (a : UploadAction) → x .verdict ≡ verdict.Of t (action.Upload a) → uploadKind a .opensUpload ≡ false →
+  told-grown : (a : UploadAction) → x .verdict ≡ verdict.Of t (action.Upload a) → uploadKind a .opensUpload ≡ false →
       uploadKind a .opensDownload ≡ false → uploadKind a .takes ≡ true → uploadKind a .ends ≡ false →
-      1 ≤ length (x .requestData) → length (x .requestData) ≤ segmentBytes → n + length (x .requestData) ≤ fileBytes →
-      UsedPlace o h t s m n bytes →
-      UsedPlace o (x ∷ h) t s m (n + length (x .requestData)) (overwrite bytes n (x .requestData))
-  used-grown a own opens downloads takes ends one short room u =
+      n + length (x .requestData) ≤ fileBytes → UsedTold h t s m n bytes →
+      UsedTold (x ∷ h) t s m (n + length (x .requestData)) (overwrite bytes n (x .requestData))
+  told-grown a own opens downloads takes ends room u =
       let k = action.Upload a in
       let got : received t (x ∷ h) ≡ received t h ++ x .requestData =
       received-own t k x h own ∙ ap (λ (b : Bool). cond b (received t h ++ x .requestData) (received t h)) takes in
-      let count : times isTaking t (x ∷ h) ≡ suc (times isTaking t h) =
-      times-own t k x h own isTaking ∙ ap (λ (b : Bool). cond b (suc (times isTaking t h)) (times isTaking t h)) takes in
       record {
-        counted = u .counted;
-        numbered = u .numbered;
-        known = u .known;
-        most = u .most;
         opened = ever-own t k x h own isUploadOpening ∙ rw opens (u .opened);
         owner = opening-own t k x h own _ _ ∙ rw (opens, downloads) (u .owner);
         order = opening-own t k x h own _ _ ∙ rw (opens, downloads) (u .order);
         going = ever-own t k x h own isEnding ∙ rw ends (u .going);
-        least = let l = u .least in omega arith;
-        largest = let l = u .largest in omega arith;
         long = ap length got ∙ rw (length-append, u .long);
         held =
             ap (λ (l : List ℕ). overwrite l n (x .requestData)) (u .held)
@@ -180,51 +159,103 @@ module _ (x : Exchange) (h : List Exchange) (o : ℕ) (p : Place) (bytes : List 
   pub place-attempted : (k : ℕ) → x .verdict ≡ verdict.Of t (action.Upload (up.Point k)) → p .attempts < attemptsMost →
       OpenUpload c o h p bytes → OpenUpload c o (x ∷ h) (attempted p) bytes
   unfolding attempted
-  place-attempted k own few u = let a = action.Upload (up.Point k) in record {
-    place = used-kept x h o (up.Point k) own refl refl refl refl (u .place);
-    some = u .some;
-    few = u .few;
-    tries = omega arith;
-    below = u .below;
-    current = u .current;
-    size = opening-own t a x h own _ _ ∙ u .size;
-    takings = times-own t a x h own isTaking ∙ u .takings;
-    unbooked = ever-own t a x h own isBooking ∙ u .unbooked;
-  }
+  place-attempted k own few u =
+      let a = action.Upload (up.Point k) in
+      let s = u .0 in
+      let l = u .1 in (
+        record {
+          place = record {
+            counted = s .place .counted;
+            numbered = s .place .numbered;
+            known = s .place .known;
+            most = s .place .most;
+            zeros = s .place .zeros;
+          };
+          some = s .some;
+          few = s .few;
+          below = s .below;
+          tries = omega arith;
+          current = s .current;
+          least = s .least;
+          largest = s .largest;
+        },
+        record {
+          place = told-kept x h (up.Point k) own refl refl refl refl (l .place);
+          size = opening-own t a x h own _ _ ∙ l .size;
+          takings = times-own t a x h own isTaking ∙ l .takings;
+          unbooked = ever-own t a x h own isBooking ∙ l .unbooked;
+        },
+      )
 
   module _ (one : 1 ≤ length (x .requestData)) (short : length (x .requestData) ≤ segmentBytes)
       (room : p .length + length (x .requestData) ≤ fileBytes) (u : OpenUpload c o h p bytes) where
+    abbrev n : ℕ
+    n = p .length + length (x .requestData)
+
+    abbrev written : List ℕ
+    written = overwrite bytes (p .length) (x .requestData)
+
+    used-grown : UsedTold (x ∷ h) t (p .subscriber) (p .number) n written →
+        UsedPlace o t (p .subscriber) (p .number) n written
+    used-grown l = let s = u .0 .place in record {
+      counted = s .counted;
+      numbered = s .numbered;
+      known = s .known;
+      most = s .most;
+      zeros = zeros-behind (received t (x ∷ h)) written n (fileBytes - n) (l .long) (l .held);
+    }
+
     -- a segment below N taken
     pub place-grown : x .verdict ≡ verdict.Of t (action.Upload up.Took) → (p .taken + 1 ≡ p .segments → ⊥) →
-        OpenUpload c o (x ∷ h) (grown c (length (x .requestData)) p) (overwrite bytes (p .length) (x .requestData))
+        OpenUpload c o (x ∷ h) (grown c (length (x .requestData)) p) written
     unfolding grown
-    place-grown own below = let a = action.Upload up.Took in record {
-      place = used-grown x h o up.Took own refl refl refl refl one short room (u .place);
-      some = u .some;
-      few = u .few;
-      tries = u .tries;
-      below = let k = u .below in omega arith;
-      current = omega arith;
-      size = opening-own t a x h own _ _ ∙ u .size;
-      takings = times-own t a x h own isTaking ∙ (let e = u .takings in omega arith);
-      unbooked = ever-own t a x h own isBooking ∙ u .unbooked;
-    }
+    place-grown own below =
+        let a = action.Upload up.Took in
+        let s = u .0 in
+        let l = told-grown x h up.Took own refl refl refl refl room (u .1 .place) in (
+          record {
+            place = used-grown l;
+            some = s .some;
+            few = s .few;
+            below = let k = s .below in omega arith;
+            tries = s .tries;
+            current = omega arith;
+            least = let k = s .least in omega arith;
+            largest = let k = s .largest in omega arith;
+          },
+          record {
+            place = l;
+            size = opening-own t a x h own _ _ ∙ u .1 .size;
+            takings = times-own t a x h own isTaking ∙ (let e = u .1 .takings in omega arith);
+            unbooked = ever-own t a x h own isBooking ∙ u .1 .unbooked;
+          },
+        )
 
     -- segment N taken: "Segment N books the order"
     pub place-booked : x .verdict ≡ verdict.Of t (action.Upload up.TookLast) → p .taken + 1 ≡ p .segments →
-        BookedOrder o (x ∷ h) (booked (length (x .requestData)) p) (overwrite bytes (p .length) (x .requestData))
+        BookedOrder o (x ∷ h) (booked (length (x .requestData)) p) written
     unfolding booked
     place-booked own last =
         let a = action.Upload up.TookLast in
-        let size : segmentsAt t (x ∷ h) ≡ p .segments = opening-own t a x h own _ _ ∙ u .size in
-        record {
-          place = used-grown x h o up.TookLast own refl refl refl refl one short room (u .place);
-          over = record { segments = refl; taken = refl; attempts = refl; last = refl };
-          some = let k = u .some in omega (arith, size);
-          few = let k = u .few in omega (arith, size);
-          whole = times-own t a x h own isTaking ∙ ((let e = u .takings in omega arith) ∙ sym size);
-          booked = ever-own t a x h own isBooking;
-        }
+        let s = u .0 in
+        let l = told-grown x h up.TookLast own refl refl refl refl room (u .1 .place) in
+        let size : segmentsAt t (x ∷ h) ≡ p .segments = opening-own t a x h own _ _ ∙ u .1 .size in (
+          record {
+            place = used-grown l;
+            over = record { segments = refl; taken = refl; attempts = refl; last = refl };
+            some = omega arith;
+            room = room;
+          },
+          record {
+            place = l;
+            some = let k = s .some in omega (arith, size);
+            few = let k = s .few in omega (arith, size);
+            whole = times-own t a x h own isTaking ∙ ((let e = u .1 .takings in omega arith) ∙ sym size);
+            least = let k = s .least in omega (arith, size);
+            largest = let k = s .largest in omega (arith, size);
+            booked = ever-own t a x h own isBooking;
+          },
+        )
 
 -- an upload just opened, with its transaction ID and its order's number
 pub place-opened : (x : Exchange) (h : List Exchange) (o c number : ℕ) (t : Bits128) →
@@ -233,29 +264,28 @@ pub place-opened : (x : Exchange) (h : List Exchange) (o c number : ℕ) (t : Bi
     segments (x .request) ≤ segmentsMost → OpenUpload c o (x ∷ h) (newPlace t number c (x .request)) (replicate fileBytes 0)
 place-opened x h o c number t own low counted new known most some few =
     let a = action.Upload (up.Opened number) in
-    let none : received t (x ∷ h) ≡ [] = received-own t a x h own ∙ received-unknown t h new in
-    let zero-times : times isTaking t (x ∷ h) ≡ 0 = times-own t a x h own isTaking ∙ times-unknown t isTaking h new in
-    record {
-      place = record {
-        counted = low;
-        numbered = counted;
-        known = known;
-        most = most;
-        opened = ever-own t a x h own isUploadOpening;
-        owner = opening-own t a x h own _ _;
-        order = opening-own t a x h own _ _ ∙ ap numberIn own;
-        going = ever-own t a x h own isEnding ∙ ever-unknown t isEnding h new;
+    let none : received t (x ∷ h) ≡ [] = received-own t a x h own ∙ received-unknown t h new in (
+      record {
+        place = record { counted = low; numbered = counted; known = known; most = most; zeros = refl };
+        some = some;
+        few = few;
+        below = some;
+        tries = omega arith;
+        current = omega arith;
         least = omega arith;
         largest = omega arith;
-        long = ap length none;
-        held = ap (λ (r : List ℕ). r ++ replicate fileBytes 0) (sym none);
-      };
-      some = some;
-      few = few;
-      tries = omega arith;
-      below = some;
-      current = omega arith;
-      size = opening-own t a x h own _ _;
-      takings = zero-times;
-      unbooked = ever-own t a x h own isBooking ∙ ever-unknown t isBooking h new;
-    }
+      },
+      record {
+        place = record {
+          opened = ever-own t a x h own isUploadOpening;
+          owner = opening-own t a x h own _ _;
+          order = opening-own t a x h own _ _ ∙ ap numberIn own;
+          going = ever-own t a x h own isEnding ∙ ever-unknown t isEnding h new;
+          long = ap length none;
+          held = ap (λ (r : List ℕ). r ++ replicate fileBytes 0) (sym none);
+        };
+        size = opening-own t a x h own _ _;
+        takings = times-own t a x h own isTaking ∙ times-unknown t isTaking h new;
+        unbooked = ever-own t a x h own isBooking ∙ ever-unknown t isBooking h new;
+      },
+    )

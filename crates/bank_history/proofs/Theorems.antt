@@ -60,7 +60,7 @@ use Rattle.bank_history.specs.Sound.{
   SoundVerdict,
   AllSound,
 }
-use Rattle.bank_history.specs.Invariant.{PlaceHolds, DownloadHolds, BookedOrder, Invariant}
+use Rattle.bank_history.specs.Invariant.{OrderTold, PlaceTold, DownloadTold, Invariant}
 use Rattle.bank_history.specs.Standing.{Gone, Order}
 use Rattle.bank_history.proofs.Entries.{ever-action}
 use Rattle.bank_history.proofs.Positions.{sound-at, action-sound}
@@ -117,8 +117,8 @@ module _ {w : World} {h : List Exchange} (v : Invariant w h) where
   pub booked-order : (i : ℕ) → i < placeCount → placeAt (w .bank) i .used ≡ Booked → Order w h (placeAt (w .bank) i .transaction) i
   booked-order i inside used =
       let p = placeAt (w .bank) i in
-      let b : BookedOrder (w .bank .openings) h p (partAt (w .orders) i) =
-      subst (λ (u : Use). PlaceHolds u (w .bank .clock) (w .bank .openings) h p (partAt (w .orders) i)) used (v .places i inside) in
+      let b : OrderTold h p (partAt (w .orders) i) =
+      subst (λ (u : Use). PlaceTold u h p (partAt (w .orders) i)) used (v .places i inside) in
       let s = b .place in
       record {
         inside = inside;
@@ -142,7 +142,7 @@ module _ {w : World} {h : List Exchange} (v : Invariant w h) where
   -- no order stands twice in the book
   pub one-order : (t : Bits128) (i j : ℕ) → Order w h t i → Order w h t j → i ≡ j
   one-order t i j a b =
-      v .placesApart i j (a .inside) (b .inside) (ap isFree (a .used)) (ap isFree (b .used))
+      v .state .placesApart i j (a .inside) (b .inside) (ap isFree (a .used)) (ap isFree (b .used))
       (inl (ap (λ (u : Bits128). u .low) (a .same ∙ sym (b .same))))
 
   -- what was cancelled, confirmed or declined is neither open nor booked
@@ -154,14 +154,13 @@ module _ {w : World} {h : List Exchange} (v : Invariant w h) where
   }
     where
       at : (j : ℕ) (b : Bool) → b ≡ true →
-          DownloadHolds b (w .bank .clock) (w .bank .openings) h (mailboxFile w (downloadAt (w .bank) j .subscriber))
-          (downloadAt (w .bank) j) →
+          DownloadTold b h (mailboxFile w (downloadAt (w .bank) j .subscriber)) (downloadAt (w .bank) j) →
           downloadAt (w .bank) j .transaction ≡ t → ⊥
       at j false u s z = never u
       at j true u s z = never (sym (s .going) ∙ (ap (λ (i : Bits128). ever isEnding i h) z ∙ e))
 
       used : (i : ℕ) (u : Use) → isFree u ≡ false →
-          PlaceHolds u (w .bank .clock) (w .bank .openings) h (placeAt (w .bank) i) (partAt (w .orders) i) →
+          PlaceTold u h (placeAt (w .bank) i) (partAt (w .orders) i) →
           placeAt (w .bank) i .transaction ≡ t → ⊥
       used i Free f s z = never (sym f)
       used i Open f s z = never (sym (s .place .going) ∙ (ap (λ (b : Bits128). ever isEnding b h) z ∙ e))
@@ -173,7 +172,7 @@ module _ {w : World} {h : List Exchange} (v : Invariant w h) where
           inside-or-free : Dec (i < placeCount) → placeAt (w .bank) i .transaction ≡ t → ⊥
           inside-or-free (yes l) = used i (placeAt (w .bank) i .used) f (v .places i l)
           inside-or-free (no l) = λ _. never (sym f ∙ ap (λ (p : Place). isFree (p .used))
-              (List·getD-eq-default (w .bank .places) noPlace {n = i} (let z = v .sizes .places in omega arith)))
+              (List·getD-eq-default (w .bank .places) noPlace {n = i} (let z = v .state .sizes .places in omega arith)))
 
 -- ---- what a reply tells: the exchange e of a sound history, g before it
 

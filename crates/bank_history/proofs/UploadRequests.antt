@@ -51,7 +51,8 @@ use Rattle.bank_openings.specs.Openings.{counted, openUpload}
 use Rattle.bank_uploads.specs.Uploads.{grown}
 use Rattle.bank.specs.Call.{carryOut, respond}
 use Rattle.bank_history.specs.History.{Exchange, opens}
-use Rattle.bank_history.specs.Invariant.{OpenUpload, PlaceHolds, Invariant}
+use Rattle.bank_history.specs.Invariant.{Invariant}
+use Rattle.bank_history.proofs.Parts.{OpenUpload, PlaceKept, place-kept}
 use Rattle.bank_history.specs.Standing.{UploadAt}
 use Rattle.bank_state.proofs.Rows.{first-passes}
 use Rattle.bank_history.proofs.Rows.{first-at-most}
@@ -98,13 +99,13 @@ module _ (w : World) (h : List Exchange) (v : Invariant w h) (t : Bits128) (s k 
   p = placeAt (w .bank) (u .place)
 
   pub upload-is-open : OpenUpload (w .bank .clock) (w .bank .openings) h p (partAt (w .orders) (u .place))
-  upload-is-open = subst (λ (z : Use). PlaceHolds z (w .bank .clock) (w .bank .openings) h p (partAt (w .orders) (u .place))) (u .used)
-      (v .places (u .place) (u .inside))
+  upload-is-open = subst (λ (z : Use). PlaceKept z (w .bank .clock) (w .bank .openings) h p (partAt (w .orders) (u .place))) (u .used)
+      (place-kept v (u .place) (u .inside))
 
   find-own : findUpload s t (w .bank) ≡ u .place
   unfolding findUpload
   find-own =
-      let long = v .sizes .places in
+      let long = v .state .sizes .places in
       let own = is-upload s t p (u .used) (u .subscriber) (u .transaction) in
       let inside = u .inside in
       let most : findUpload s t (w .bank) ≤ u .place =
@@ -114,7 +115,7 @@ module _ (w : World) (h : List Exchange) (v : Invariant w h) (t : Bits128) (s k 
       let a : isFree (placeAt (w .bank) (findUpload s t (w .bank)) .used) ≡ false = ap isFree (f .0) in
       let b : isFree (p .used) ≡ false = ap isFree (u .used) in
       let e : placeAt (w .bank) (findUpload s t (w .bank)) .transaction ≡ p .transaction = bits-same _ t (f .2) ∙ sym (u .transaction) in
-      v .placesApart (findUpload s t (w .bank)) (u .place) (omega arith) (u .inside) a b (inl (ap (λ (z : Bits128). z .low) e))
+      v .state .placesApart (findUpload s t (w .bank)) (u .place) (omega arith) (u .inside) a b (inl (ap (λ (z : Bits128). z .low) e))
 
 -- ---- the next segment fits
 
@@ -154,8 +155,8 @@ module _ (first : ℕ) (w : World) (h : List Exchange) (v : Invariant w h) (t : 
 
   readable : Readable q (length d)
   readable =
-      let a = isOpenNow .place .known in
-      let b = isOpenNow .place .most in
+      let a = isOpenNow .0 .place .known in
+      let b = isOpenNow .0 .place .most in
       let c = u .subscriber in
       record { request = ap isRequestForm asked; known = omega arith; most = omega arith; short = short }
 
@@ -168,10 +169,10 @@ module _ (first : ℕ) (w : World) (h : List Exchange) (v : Invariant w h) (t : 
 
   judged : judgeUpload asks.UploadTransfer own q (length d) ≡ takes own
   judged = judge-take own q (length d) (let e = u .taken in omega arith) (mark ∙ ap (lastMarkOf (segment q)) (sym (u .segments)))
-      (let a = isOpenNow .below in
-      let b = isOpenNow .few in
-      let c = isOpenNow .place .largest in
-      let e = isOpenNow .takings in
+      (let a = isOpenNow .0 .below in
+      let b = isOpenNow .0 .few in
+      let c = isOpenNow .0 .largest in
+      let e = isOpenNow .1 .takings in
       omega arith)
 
   at-place : judgeTransaction asks.UploadTransfer (w .bank) q (length d)
@@ -210,7 +211,7 @@ module _ (first : ℕ) (w : World) (h : List Exchange) (v : Invariant w h) (t : 
       is : placeAt (carryOut (verdict.Of t (action.Upload up.Took)) w q d .bank) (uploadAt (w .bank) q)
           ≡ grown (w .bank .clock) (length d) own
       is = getD-set-same (w .bank .places) (uploadAt (w .bank) q) _ noPlace
-          (let a = v .sizes .places in let b = found-inside in omega arith)
+          (let a = v .state .sizes .places in let b = found-inside in omega arith)
           ∙ ap (λ (i : ℕ). grown (w .bank .clock) (length d) (placeAt (w .bank) i)) found
 
   -- and the upload is open with one segment more, where that was not the last
@@ -232,7 +233,7 @@ unfolding openUpload counted
 opened-open first w h v q d t m unreadable z = absurd (let y : _≡_ {A = ℕ} 0 1 = cc in omega arith)
 opened-open first w h v q d t m (refused c e) z = absurd (let y : _≡_ {A = ℕ} 0 1 = cc in omega arith)
 opened-open first w h v q d t m (opensUpload asked a g n inside) z =
-    let is = getD-set-same (w .bank .places) (freePlace (w .bank)) _ noPlace (let b = v .sizes .places in omega arith) in
+    let is = getD-set-same (w .bank .places) (freePlace (w .bank)) _ noPlace (let b = v .state .sizes .places in omega arith) in
     record {
       place = freePlace (w .bank);
       inside = inside;

@@ -1,4 +1,5 @@
 -- A request to an open upload keeps the invariant, whatever the verdict.
+use Prim.{tt}
 use Prim.Native.Nat.{ℕ, _+_, _≤_, _<_}
 use mathlib.Core.Bool.{true, false, _&&_}
 use mathlib.Core.List.{List, [], _∷_}
@@ -50,7 +51,8 @@ use Rattle.bank_history.specs.History.{
 }
 use Rattle.bank_verdicts.specs.Refusals.{cancels}
 use Rattle.bank_history.specs.Sound.{SoundRequest, SoundUpload, SoundTaking, Sound, more}
-use Rattle.bank_history.specs.Invariant.{Alike, OpenUpload, PlaceHolds, BookedIn, Invariant}
+use Rattle.bank_history.specs.Invariant.{Alike, BookedIn, Invariant}
+use Rattle.bank_history.proofs.Parts.{OpenUpload, PlaceKept, place-kept, download-kept}
 use Rattle.bank_state.proofs.Found.{upload-found}
 use Rattle.bank_state.proofs.Stores.{length-withPart, part-same, part-other}
 use Rattle.bank_history.proofs.Stores.{length-part}
@@ -91,28 +93,28 @@ module _ (w : World) (h : List Exchange) (v : Invariant w h) where
   -- a place in use has a transaction and an order number of an accepted opening
   pub place-counted : (i : ℕ) → i < placeCount → isFree (placeAt (w .bank) i .used) ≡ false →
       (placeAt (w .bank) i .transaction .low < w .bank .openings) × (placeAt (w .bank) i .number < w .bank .openings)
-  place-counted i a = at (placeAt (w .bank) i .used) (v .places i a)
+  place-counted i a = at (placeAt (w .bank) i .used) (place-kept v i a)
     where
       Is : Place → Type 0
       Is p = (p .transaction .low < w .bank .openings) × (p .number < w .bank .openings)
 
-      at : (u : Use) → PlaceHolds u (w .bank .clock) (w .bank .openings) h (placeAt (w .bank) i) (partAt (w .orders) i) →
+      at : (u : Use) → PlaceKept u (w .bank .clock) (w .bank .openings) h (placeAt (w .bank) i) (partAt (w .orders) i) →
           isFree u ≡ false → Is (placeAt (w .bank) i)
       at Free s e = never (sym e)
-      at Open s e = (s .place .counted, s .place .numbered)
-      at Booked s e = (s .place .counted, s .place .numbered)
+      at Open s e = (s .0 .place .counted, s .0 .place .numbered)
+      at Booked s e = (s .0 .place .counted, s .0 .place .numbered)
 
   pub place-other : (i j : ℕ) (k : Action) → i < placeCount → j < placeCount → (j ≡ i → ⊥) → isFree (placeAt (w .bank) i .used) ≡ false →
       isFree (placeAt (w .bank) j .used) ≡ false →
       did isAction (placeAt (w .bank) j .transaction) (verdict.Of (placeAt (w .bank) i .transaction) k) ≡ false
   place-other i j k a b n e f =
-      did-other (placeAt (w .bank) j .transaction) (placeAt (w .bank) i .transaction) k (λ z. n (v .placesApart j i b a f e (inl z)))
+      did-other (placeAt (w .bank) j .transaction) (placeAt (w .bank) i .transaction) k (λ z. n (v .state .placesApart j i b a f e (inl z)))
 
   pub download-other : (i j : ℕ) (k : Action) → i < placeCount → isFree (placeAt (w .bank) i .used) ≡ false →
       downloadAt (w .bank) j .used ≡ true →
       did isAction (downloadAt (w .bank) j .transaction) (verdict.Of (placeAt (w .bank) i .transaction) k) ≡ false
   download-other i j k a e f =
-      did-other (downloadAt (w .bank) j .transaction) (placeAt (w .bank) i .transaction) k (λ z. v .apart i j a e f (sym z))
+      did-other (downloadAt (w .bank) j .transaction) (placeAt (w .bank) i .transaction) k (λ z. v .state .apart i j a e f (sym z))
 
   -- a booked place stays, where another place changes
   pub still-booked : (i : ℕ) (p : Place) (w′ : World) → w′ .bank .places ≡ set (w .bank .places) i p →
@@ -148,7 +150,7 @@ module _ (w : World) (h : List Exchange) (v : Invariant w h) (i : ℕ) (inside :
   alike same f r (inl e) = inl (sym e ∙ same f .0)
   alike same f r (inr e) = inr (sym e ∙ same f .1)
 
-  upload-step : PlaceHolds (p .used) (w .bank .clock) (w .bank .openings) (x ∷ h) p bytes → Same →
+  upload-step : PlaceKept (p .used) (w .bank .clock) (w .bank .openings) (x ∷ h) p bytes → Same →
       (isOpen (p .used) ≡ true → p .subscriber ≡ before .subscriber) →
       ((t : Bits128) → ever isBooking t (x ∷ h) ≡ true → BookedIn changed t) → Sound x h → Invariant changed (x ∷ h)
   unfolding openCount openCountOf
@@ -156,28 +158,27 @@ module _ (w : World) (h : List Exchange) (v : Invariant w h) (i : ℕ) (inside :
       place-change w i p (w .bank .openings) (w .bank .nonces) (withPart (w .orders) i bytes) v (record {
         bytes = bytes;
         inside = inside;
-        stored = length-withPart (w .orders) i bytes (v .sizes .orders) full inside ∙ v .sizes .orders;
-        here = part-same (w .orders) i bytes (v .sizes .orders) full inside;
-        elsewhere = part-other (w .orders) i bytes (v .sizes .orders) full inside;
-        remembered = v .sizes .nonces;
+        stored = length-withPart (w .orders) i bytes (v .state .sizes .orders) full inside ∙ v .state .sizes .orders;
+        here = part-same (w .orders) i bytes (v .state .sizes .orders) full inside;
+        elsewhere = part-other (w .orders) i bytes (v .state .sizes .orders) full inside;
+        remembered = v .state .sizes .nonces;
         memory = memory-unchanged _ _ x h (ap opens own ∙ noOpening) (v .memory);
         counted = v .counted ∙ sym (accepted-own _ k x h own ∙ rw noOpening refl);
-        numbers = v .numbers;
+        numbers = v .state .numbers;
         new = new;
         others = λ j a n. place-unchanged x h o o (omega arith) (placeAt (w .bank) j) (partAt (w .orders) j) (w .bank .clock)
             (placeAt (w .bank) j .used) (λ f. about (placeAt (w .bank) j .transaction) (place-other w h v i j k inside a n used f))
-            (v .places j a);
-        downloads = λ j. download-unchanged x h o o (omega arith) (mailboxFile w (downloadAt (w .bank) j .subscriber))
-            (downloadAt (w .bank) j)
+            (place-kept v j a);
+        downloads = λ j. download-unchanged x h (mailboxFile w (downloadAt (w .bank) j .subscriber)) (downloadAt (w .bank) j) o o (omega arith)
             (w .bank .clock) (downloadAt (w .bank) j .used)
-            (λ f. about (downloadAt (w .bank) j .transaction) (download-other w h v i j k inside used f)) (v .downloads j);
-        apartPlace = λ j a n f g e. n (v .placesApart j i a inside g used (alike same f (placeAt (w .bank) j) e));
-        apartDownload = λ j f g e. v .apart i j inside used g (sym (same f .0) ∙ e);
+            (λ f. about (downloadAt (w .bank) j .transaction) (download-other w h v i j k inside used f)) (download-kept v j);
+        apartPlace = λ j a n f g e. n (v .state .placesApart j i a inside g used (alike same f (placeAt (w .bank) j) e));
+        apartDownload = λ j f g e. v .state .apart i j inside used g (sym (same f .0) ∙ e);
         openAll = let m = count-set-le (λ (r : Place). isOpen (r .used)) (w .bank .places) i p noPlace (λ _. ap isOpen opened) in omega
-            (arith, v .openAll);
+            (arith, v .state .openAll);
         openOf = λ s. let m = count-set-le (λ (r : Place). isOpen (r .used) && eqb (r .subscriber) s) (w .bank .places) i p noPlace
             (of s) in
-            omega (arith, v .openOf s);
+            omega (arith, v .state .openOf s);
         known = known-more _ k x h own (w .bank .openings) (place-counted w h v i inside used .0) (v .known);
         booked = booked;
         sound = more sound (v .sound);
@@ -210,8 +211,8 @@ module _ (w : World) (h : List Exchange) (v : Invariant w h) (q : Fields) (d : L
   used-open = upload-found (subscriber q) (transaction q) old found .0
 
   upload-open : OpenUpload (w .bank .clock) (w .bank .openings) h old (partAt (w .orders) i)
-  upload-open = subst (λ (u : Use). PlaceHolds u (w .bank .clock) (w .bank .openings) h old (partAt (w .orders) i)) used-open
-      (v .places i inside)
+  upload-open = subst (λ (u : Use). PlaceKept u (w .bank .clock) (w .bank .openings) h old (partAt (w .orders) i)) used-open
+      (place-kept v i inside)
 
   not-booked : old .used ≡ Booked → ⊥
   not-booked e = let z : _≡_ {A = ℕ} 0 1 = clash (sym used-open ∙ e) in omega arith
@@ -230,7 +231,7 @@ module _ (w : World) (h : List Exchange) (v : Invariant w h) (q : Fields) (d : L
   now a = entry (by a) w q d
 
   part-long : length (partAt (w .orders) i) ≡ fileBytes
-  part-long = length-part (w .orders) (v .sizes .orders) i inside
+  part-long = length-part (w .orders) (v .state .sizes .orders) i inside
 
   -- what was booked stays, where the action books nothing
   others-booked : (a : UploadAction) → uploadKind a .books ≡ false → (t : Bits128) → ever isBooking t (now a ∷ h) ≡ true →
@@ -244,13 +245,13 @@ module _ (w : World) (h : List Exchange) (v : Invariant w h) (q : Fields) (d : L
       let f = upload-found (subscriber q) (transaction q) old found in
       record {
         same = bits-same (old .transaction) (transaction q) (f .2);
-        owner = upload-open .place .owner ∙ f .1;
-        going = upload-open .place .going;
-        unbooked = upload-open .unbooked;
+        owner = upload-open .1 .place .owner ∙ f .1;
+        going = upload-open .1 .place .going;
+        unbooked = upload-open .1 .unbooked;
       }
 
   sound-upload : (a : UploadAction) → SoundUpload (old .transaction) (now a) h
-  sound-upload a = record { request = sound-request a; opened = upload-open .place .opened; bare = bare w (subscriber q) }
+  sound-upload a = record { request = sound-request a; opened = upload-open .1 .place .opened; bare = bare w (subscriber q) }
 
   -- a segment taken
   module _ (asked : form q ≡ forms.UploadTransfer) (some : 1 ≤ length d) (next : segment q ≡ old .taken + 1)
@@ -259,7 +260,7 @@ module _ (w : World) (h : List Exchange) (v : Invariant w h) (q : Fields) (d : L
     sound-taking a = record {
       upload = sound-upload a;
       asked = asked;
-      next = let e = upload-open .takings in omega arith;
+      next = let e = upload-open .1 .takings in omega arith;
       short = readable .short;
     }
 
@@ -273,15 +274,15 @@ module _ (w : World) (h : List Exchange) (v : Invariant w h) (q : Fields) (d : L
     unfolding grown
     took-keeps below early =
         upload-step w h v i inside used-open _ _ full (action.Upload up.Took) refl (now up.Took) refl
-        (subst (λ (u : Use). PlaceHolds u (w .bank .clock) (w .bank .openings) (now up.Took ∷ h) (grown (w .bank .clock) (length d) old)
+        (subst (λ (u : Use). PlaceKept u (w .bank .clock) (w .bank .openings) (now up.Took ∷ h) (grown (w .bank .clock) (length d) old)
         (overwrite (partAt (w .orders) i) (old .length) d)) (sym used-open)
         (place-grown (now up.Took) h (w .bank .openings) old (partAt (w .orders) i) (w .bank .clock) some (readable .short) room
         upload-open refl (λ e. below (next ∙ e))))
         (λ _. (refl, refl)) (λ _. refl) (others-booked up.Took refl)
         (record {
           reply = refl;
-          verdict = let l : segment q < old .segments = (let b = upload-open .below in omega arith) in
-              let z = upload-open .size in
+          verdict = let l : segment q < old .segments = (let b = upload-open .0 .below in omega arith) in
+              let z = upload-open .1 .size in
               record { taking = sound-taking up.Took; below = omega arith; mark = early l };
         })
 
@@ -293,7 +294,7 @@ module _ (w : World) (h : List Exchange) (v : Invariant w h) (q : Fields) (d : L
         (λ t g. still-booked w h v i _ (left up.TookLast) refl not-booked t (v .booked t g))
       where
         here : placeAt (left up.TookLast .bank) i ≡ booked (length d) old
-        here = getD-set-same (w .bank .places) i _ noPlace (let z = v .sizes .places in omega arith)
+        here = getD-set-same (w .bank .places) i _ noPlace (let z = v .state .sizes .places in omega arith)
 
     took-last-keeps : segment q ≡ old .segments → (lastMark q ≡ 0 → ⊥) → Invariant (left up.TookLast) (now up.TookLast ∷ h)
     unfolding booked
@@ -304,7 +305,7 @@ module _ (w : World) (h : List Exchange) (v : Invariant w h) (q : Fields) (d : L
         (λ _. (refl, refl)) (λ e. never e) last-booked
         (record {
           reply = refl;
-          verdict = record { taking = sound-taking up.TookLast; last = last ∙ sym (upload-open .size); mark = mark };
+          verdict = record { taking = sound-taking up.TookLast; last = last ∙ sym (upload-open .1 .size); mark = mark };
         })
 
   -- a recovery attempt
@@ -313,11 +314,11 @@ module _ (w : World) (h : List Exchange) (v : Invariant w h) (q : Fields) (d : L
   point-keeps few =
       let a : UploadAction = up.Point (old .taken) in
       upload-step w h v i inside used-open _ _ part-long (action.Upload a) refl (now a) refl
-      (subst (λ (u : Use). PlaceHolds u (w .bank .clock) (w .bank .openings) (now a ∷ h) (attempted old) (partAt (w .orders) i))
+      (subst (λ (u : Use). PlaceKept u (w .bank .clock) (w .bank .openings) (now a ∷ h) (attempted old) (partAt (w .orders) i))
       (sym used-open)
       (place-attempted (now a) h (w .bank .openings) old (partAt (w .orders) i) (w .bank .clock) (old .taken) refl few upload-open))
       (λ _. (refl, refl)) (λ _. refl) (others-booked a refl)
-      (record { reply = refl; verdict = record { upload = sound-upload a; point = sym (upload-open .takings) } })
+      (record { reply = refl; verdict = record { upload = sound-upload a; point = sym (upload-open .1 .takings) } })
 
   -- the transaction cancelled: "place zeroed and freed"
   cancel-keeps : (c : ReturnCode) → cancels c ≡ true → Invariant (left (up.Cancelled c)) (now (up.Cancelled c) ∷ h)
@@ -325,7 +326,7 @@ module _ (w : World) (h : List Exchange) (v : Invariant w h) (q : Fields) (d : L
       let a : UploadAction = up.Cancelled c in
       upload-step w h v i inside used-open _ _ (length-replicate (length (partAt (w .orders) i)) 0 ∙ part-long)
       (action.Upload a) refl (now a) refl
-      (record { empty = refl; zeros = ap (λ (n : ℕ). replicate n 0) part-long })
+      (record { empty = refl; zeros = ap (λ (n : ℕ). replicate n 0) part-long }, tt)
       (λ e. never (sym e)) (λ e. never e) (others-booked a refl)
       (record { reply = refl; verdict = record { request = sound-request a; cancelling = cancelling; bare = bare w (subscriber q) } })
 
@@ -345,10 +346,10 @@ module _ (w : World) (h : List Exchange) (v : Invariant w h) (q : Fields) (d : L
   upload-sound-keeps asked some (exceeded f last mark) = cancel-keeps code.SegmentNumberExceeded refl
   -- a place always has room for a segment more
   upload-sound-keeps asked some (overfull e) = absurd (
-      let a = upload-open .below in
-      let b = upload-open .few in
-      let k = upload-open .takings in
-      let l = upload-open .place .largest in
+      let a = upload-open .0 .below in
+      let b = upload-open .0 .few in
+      let k = upload-open .1 .takings in
+      let l = upload-open .0 .largest in
       let m = readable .short in
       omega arith)
 

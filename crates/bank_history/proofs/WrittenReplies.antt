@@ -59,7 +59,8 @@ use Rattle.bank_verdicts.proofs.Sound as sound
 use Rattle.message.specs.OrderNumbers.{orderNumberOf}
 use Rattle.bank.specs.Call.{stepBy, mailboxSegment}
 use Rattle.bank_history.specs.History.{Exchange, mailboxFile}
-use Rattle.bank_history.specs.Invariant.{OpenUpload, PlaceHolds, Invariant}
+use Rattle.bank_history.specs.Invariant.{Invariant}
+use Rattle.bank_history.proofs.Parts.{OpenUpload, PlaceKept, place-kept}
 use Rattle.bank_history.specs.Answers.{smallestReply}
 use Rattle.bank_history.proofs.Cases.{
   Happens,
@@ -151,16 +152,16 @@ module _ (w : World) (h : List Exchange) (v : Invariant w h) (q : Fields) (r : I
     is-upload = upload-found (subscriber q) (transaction q) p (c .found)
 
     upload-open : OpenUpload (w .bank .clock) (w .bank .openings) h p (partAt (w .orders) (uploadAt (w .bank) q))
-    upload-open = subst (λ (z : Use). PlaceHolds z (w .bank .clock) (w .bank .openings) h p (partAt (w .orders) (uploadAt (w .bank) q)))
-        (is-upload .0) (v .places (uploadAt (w .bank) q) (c .inside))
+    upload-open = subst (λ (z : Use). PlaceKept z (w .bank .clock) (w .bank .openings) h p (partAt (w .orders) (uploadAt (w .bank) q)))
+        (is-upload .0) (place-kept v (uploadAt (w .bank) q) (c .inside))
 
     upload-wide : Wide (p .transaction)
     upload-wide = subst Wide (sym (bits-same (p .transaction) (transaction q) (is-upload .2))) (r .wide k (c .asked))
 
     taken-written : segment q ≡ p .taken + 1 → WrittenReply (segmentTaken (exchange q) (p .transaction) (segment q)) []
     taken-written next =
-        let a = upload-open .below in
-        let b = upload-open .few in
+        let a = upload-open .0 .below in
+        let b = upload-open .0 .few in
         sent refl (omega arith) (omega arith)
         (segment-taken-written (exchange q) (r .numbered) (p .transaction) upload-wide (segment q) (omega arith))
 
@@ -168,8 +169,8 @@ module _ (w : World) (h : List Exchange) (v : Invariant w h) (q : Fields) (r : I
     sound-upload-written (sound.took f below early room) = taken-written (f .next)
     sound-upload-written (sound.tookLast f last mark room) = taken-written (f .next)
     sound-upload-written (sound.uploadPoint fits few) =
-        let a = upload-open .below in
-        let b = upload-open .few in
+        let a = upload-open .0 .below in
+        let b = upload-open .0 .few in
         let c = phase-range (eqb (p .taken) 0) in
         sent refl (omega arith) (omega arith)
         (recovery-point-written (exchange q) (r .numbered) (p .transaction) upload-wide (uploadPointPhase (p .taken)) (p .taken)
@@ -201,7 +202,7 @@ module _ (w : World) (h : List Exchange) (v : Invariant w h) (q : Fields) (r : I
 
     within : e .delivered ≤ segmentsOf (length (mailboxFile w (subscriber q)))
     within = subst (λ (s : ℕ). e .delivered ≤ segmentsOf (length (mailboxFile w s))) (is-found .1)
-        (download-open w h v (downloadOf (w .bank) q) (is-found .0) .within)
+        (download-open w h v (downloadOf (w .bank) q) (is-found .0) .0 .within)
 
     segments-now : n ≡ segmentsOf (length (mailboxFile w (subscriber q)))
     segments-now = ap segmentsOf (sym (file-long w h v (subscriber q) (c .readable .known) (c .readable .most)))
