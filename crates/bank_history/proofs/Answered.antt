@@ -17,31 +17,23 @@ use Rattle.message.specs.Segments.{segmentsOf, segmentOf}
 use Rattle.bank_state.specs.Clock.{advanced}
 use Rattle.bank_state.specs.Limits.{storeBytes, idBytes, replyRoom}
 use Rattle.bank.specs.Call.{Step, respond, lentRight, frameCall}
-use Rattle.bank_history.specs.History.{
-  Action,
-  OpenedUpload,
-  OpenedDownload,
-  Took,
-  TookLast,
-  UploadPoint,
-  DownloadPoint,
-  Cancelled,
-  Delivered,
-  SentAgain,
-  Confirmed,
-  Declined,
-  Event,
-  Unreadable,
-  Refusal,
-  Of,
-  Exchange,
-  Stands,
-  Past,
-  Frame,
-  after,
-  fileAtOpening,
+use Rattle.bank_verdicts.specs.declared.verdict.UploadAction.{UploadAction}
+use Rattle.bank_verdicts.specs.declared.verdict.UploadAction.the-variants as up
+use Rattle.bank_verdicts.specs.declared.verdict.DownloadAction.{DownloadAction}
+use Rattle.bank_verdicts.specs.declared.verdict.DownloadAction.the-variants as down
+use Rattle.bank_verdicts.specs.declared.verdict.Action.{Action}
+use Rattle.bank_verdicts.specs.declared.verdict.Action.the-variants as action
+use Rattle.bank_verdicts.specs.declared.verdict.Verdict.{Verdict}
+use Rattle.bank_verdicts.specs.declared.verdict.Verdict.the-variants as verdict
+use Rattle.bank_history.specs.History.{Exchange, Stands, Past, Frame, after, fileAtOpening}
+use Rattle.bank_history.specs.Sound.{
+  SoundData,
+  SoundUploadAction,
+  SoundDownloadAction,
+  SoundAction,
+  SoundVerdict,
+  AllSound,
 }
-use Rattle.bank_history.specs.Sound.{SoundData, SoundAction, SoundEvent, AllSound}
 use Rattle.bank_history.specs.Invariant.{Holds}
 use Rattle.bank_history.specs.Standing.{answered}
 use Rattle.message.proofs.SegmentNumbers.{some-segment}
@@ -52,7 +44,7 @@ pub lent-right : (p : Past) (ids buffer : List ℕ) → Holds p → length ids �
     lentRight (p .world) ids buffer ≡ true
 unfolding lentRight
 lent-right p ids buffer holds right room =
-    let s = holds .invariant .sizes in
+    let s = holds .invariant .state .sizes in
     rw (
       eq-eqb (length (p .world .orders)) storeBytes (s .orders),
       eq-eqb (length (p .world .boxes)) storeBytes (s .boxes),
@@ -95,27 +87,34 @@ module _ (e : Exchange) (g : List Exchange) where
   bare : e .replyData ≡ [] → length (e .replyData) ≤ segmentBytes
   bare z = let l = ap length z in omega arith
 
-  action-short : (k : Action) (t : Bits128) → SoundAction k t e g → length (e .replyData) ≤ segmentBytes
-  action-short OpenedUpload t s = bare (s .bare)
-  action-short (OpenedDownload n) t s =
+  upload-short : (a : UploadAction) (t : Bits128) → SoundUploadAction a t e g → length (e .replyData) ≤ segmentBytes
+  upload-short (up.Opened n) t s = bare (s .bare)
+  upload-short up.Took t s = bare (s .taking .upload .bare)
+  upload-short up.TookLast t s = bare (s .taking .upload .bare)
+  upload-short (up.Point k) t s = bare (s .upload .bare)
+  upload-short (up.Cancelled c) t s = bare (s .bare)
+
+  download-short : (a : DownloadAction) (t : Bits128) → SoundDownloadAction a t e g → length (e .replyData) ≤ segmentBytes
+  download-short (down.Opened n) t s =
       let l = segment-length (e .file) 1 (omega arith) (some-segment (length (e .file)) (s .full)) .1 in
       let z = ap length (s .part) in
       omega arith
-  action-short Took t s = bare (s .taking .upload .bare)
-  action-short TookLast t s = bare (s .taking .upload .bare)
-  action-short (UploadPoint k) t s = bare (s .upload .bare)
-  action-short (DownloadPoint d) t s = bare (s .bare)
-  action-short (Cancelled c) t s = bare (s .bare)
-  action-short (Delivered n) t s = carried n t (s .carried)
-  action-short (SentAgain n) t s = carried n t (s .carried)
-  action-short Confirmed t s = bare (s .receipt .bare)
-  action-short Declined t s = bare (s .bare)
+  download-short (down.Delivered n) t s = carried n t (s .carried)
+  download-short (down.SentAgain n) t s = carried n t (s .carried)
+  download-short (down.Point d) t s = bare (s .bare)
+  download-short down.Cancelled t s = bare (s .bare)
+  download-short down.Confirmed t s = bare (s .receipt .bare)
+  download-short down.Declined t s = bare (s .bare)
 
-  event-short : (v : Event) → SoundEvent v e g → length (e .replyData) ≤ segmentBytes
-  event-short Unreadable s = bare s
-  event-short (Refusal c) s = bare (s .bare)
-  event-short (Of t k) s = action-short k t s
+  action-short : (k : Action) (t : Bits128) → SoundAction k t e g → length (e .replyData) ≤ segmentBytes
+  action-short (action.Upload a) t s = upload-short a t s
+  action-short (action.Download a) t s = download-short a t s
+
+  verdict-short : (v : Verdict) → SoundVerdict v e g → length (e .replyData) ≤ segmentBytes
+  verdict-short verdict.Unreadable s = bare s
+  verdict-short (verdict.Refused c) s = bare (s .bare)
+  verdict-short (verdict.Of t k) s = action-short k t s
 
 -- no reply of the history carries more than 256 bytes of data
 pub data-short : {e : Exchange} {g h : List Exchange} → AllSound h → Stands e g h → length (e .replyData) ≤ segmentBytes
-data-short {e} {g} sound stands = event-short e g (e .event) (sound-at sound stands .event)
+data-short {e} {g} sound stands = verdict-short e g (e .verdict) (sound-at sound stands .verdict)

@@ -8,10 +8,10 @@ use native.Mathlib.Omega.{arith}
 use lib.Dec.{leb, eqb}
 use lib.ListN.{length, take, drop}
 use lib.Seq.{take-at, drop-at}
-use borrow.Author.Tests.{leb-true}
+use borrow.Author.Tests.{eqb-true, leb-true}
 use Rattle.frame_table.specs.declared.fields.Fields.{Fields}
 use Rattle.octets.specs.Bytes.{Bytes, number, overwrite}
-use Rattle.frame_table.specs.Names.{form}
+use Rattle.frame_table.specs.Names.{subscriber, form}
 use Rattle.frame.specs.Reader.{readRequest, readReply}
 use Rattle.frame.specs.Row.{dataOf}
 use Rattle.frame_table.specs.Table.{isRequestForm, isReplyForm}
@@ -20,38 +20,43 @@ use Rattle.octets.proofs.Tests.{and-true}
 use Rattle.octets.proofs.Numbers.{bytesOf-number, number-lt}
 use Rattle.frame.proofs.Build.{written-in-front}
 use Rattle.frame.proofs.Theorems.{written-reply, written-data}
+use Rattle.message.specs.Replies.{unreadable}
 use Rattle.message.proofs.Writable.{unreadable-written}
 use Rattle.bank_state.specs.Clock.{advanced}
 use Rattle.bank_state.specs.Limits.{storeBytes, idBytes, replyRoom}
 use Rattle.bank_state.specs.State.{World}
-use Rattle.bank.specs.Call.{Step, unread, respond, lentRight, frameCall}
-use Rattle.bank.proofs.Accepted.{lengths-right}
-use Rattle.bank_history.specs.History.{Past, BankCall, Frame, exchangeOf, after, pastOf}
+use Rattle.bank_verdicts.specs.declared.verdict.Verdict.the-variants as verdict
+use Rattle.bank_verdicts.specs.Refusals.{requestRows}
+use Rattle.bank_verdicts.specs.Judgement.{judge}
+use Rattle.bank.specs.Call.{Step, stepBy, respond, lentRight, frameCall}
+use Rattle.bank_history.specs.History.{Exchange, Past, BankCall, Frame, exchangeOf, after, pastOf}
 use Rattle.bank_history.specs.Invariant.{Invariant, Holds}
 use Rattle.bank_history.specs.Standing.{answered}
 use Rattle.bank_history.specs.Answers.{AllBytes, FrameAnswered}
 use Rattle.bank_history.proofs.Cases.{happens}
 use Rattle.bank_history.proofs.Clock.{advanced-keeps}
+use Rattle.bank_history.proofs.Uploads.{bare}
 use Rattle.bank_history.proofs.Keeps.{past-holds}
 use Rattle.bank_history.proofs.Answered.{lent-right, frame-answered}
-use Rattle.bank_history.proofs.RequestBounds.{request-in-width}
+use Rattle.bank_history.proofs.RequestBounds.{InWidth, request-in-width}
 use Rattle.bank_history.proofs.MailboxBytes.{advanced-bytes, past-bytes}
 use Rattle.bank_history.proofs.WrittenReplies.{WrittenReply, sent, case-written}
 
 -- ---- the lent bytes
 
 -- the lent ID bytes are a number of 64 bits
-lent-lt : (ids : List ℕ) → Bytes ids → length ids ≡ idBytes → number ids < 2 ^ 64
-lent-lt ids b long =
+ids-lt : (ids : List ℕ) → Bytes ids → length ids ≡ idBytes → number ids < 2 ^ 64
+ids-lt ids b long =
     subst (λ (l : List ℕ). number l < 2 ^ 64) (bytesOf-number idBytes ids b long) (number-lt idBytes (number ids))
 
 -- what right lent lengths tell of those of a call
 call-lengths : (w : World) (ids buffer : List ℕ) → lentRight w ids buffer ≡ true → (length ids ≡ idBytes) × (replyRoom ≤ length buffer)
 unfolding lentRight
 call-lengths w ids buffer h =
-    let others : Bool = eqb (length (w .orders)) storeBytes && eqb (length (w .boxes)) storeBytes && eqb (length ids) idBytes in
-    let right = lengths-right (length (w .orders)) (length (w .boxes)) (length ids) (length buffer) h in
-    (right .2, leb-true _ _ (and-true others (leb replyRoom (length buffer)) h .1))
+    let stores : Bool = eqb (length (w .orders)) storeBytes && eqb (length (w .boxes)) storeBytes in
+    let others : Bool = stores && eqb (length ids) idBytes in
+    let a = and-true others (leb replyRoom (length buffer)) h in
+    (eqb-true (length ids) idBytes (and-true stores (eqb (length ids) idBytes) (a .0) .1), leb-true _ _ (a .1))
 
 -- ---- every reply
 
@@ -59,9 +64,17 @@ call-lengths w ids buffer h =
 abbrev pub stepOf : World → ℕ → List ℕ → List ℕ → Step
 stepOf w time ids frame = respond (number ids) (advanced time w) (readRequest frame) (dataOf frame)
 
-unread-is : (lent : ℕ) (w : World) (q : Fields) (d : List ℕ) → isRequestForm (form q) ≡ false → respond lent w q d ≡ unread w
+unread-is : (first : ℕ) (w : World) (q : Fields) (d : List ℕ) → isRequestForm (form q) ≡ false →
+    respond first w q d ≡ stepBy verdict.Unreadable w q d
+unfolding respond judge requestRows
+unread-is first w q d e = rw e
+
+-- the answer to a readable request
+respond-written : (first : ℕ) (w : World) (h : List Exchange) → Invariant w h → (q : Fields) (d : List ℕ) → InWidth q →
+    Bytes (w .boxes) → first < 2 ^ 64 → WrittenReply (respond first w q d .reply) (respond first w q d .replyData)
 unfolding respond
-unread-is lent w q d e = rw e
+respond-written first w h v q d r b small =
+    case-written w h v q r b small (happens first w q d (v .state .sizes .places) (v .state .sizes .downloads))
 
 module _ (p : Past) (holds : Holds p) (bytes : Bytes (p .world .boxes)) (time : ℕ) (ids frame : List ℕ) (idsBytes : Bytes ids)
     (frameBytes : Bytes frame) (right : length ids ≡ idBytes) where
@@ -77,12 +90,12 @@ module _ (p : Past) (holds : Holds p) (bytes : Bytes (p .world .boxes)) (time : 
       at : (b : Bool) → isRequestForm (form (readRequest frame)) ≡ b →
           WrittenReply (stepOf (p .world) time ids frame .reply) (stepOf (p .world) time ids frame .replyData)
       at true e =
-          case-written w (p .history) v (readRequest frame) (request-in-width frame frameBytes e) (advanced-bytes time (p .world) bytes)
-          (lent-lt ids idsBytes right)
-          (happens (number ids) w (readRequest frame) (dataOf frame) (v .sizes .places) (v .sizes .downloads))
+          respond-written (number ids) w (p .history) v (readRequest frame) (dataOf frame) (request-in-width frame frameBytes e)
+          (advanced-bytes time (p .world) bytes) (ids-lt ids idsBytes right)
       at false e =
           subst (λ (s : Step). WrittenReply (s .reply) (s .replyData)) (sym (unread-is (number ids) w (readRequest frame) (dataOf frame) e))
-          (sent refl (omega arith) (omega arith) unreadable-written)
+          (subst (WrittenReply unreadable) (sym (bare w (subscriber (readRequest frame))))
+          (sent refl (omega arith) (omega arith) unreadable-written))
 
   module _ (buffer : List ℕ) (room : replyRoom ≤ length buffer) where
     abbrev out : List ℕ

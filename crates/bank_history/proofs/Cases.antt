@@ -1,199 +1,212 @@
--- What a request comes to: its event and its step, case by case, each with the tests that led there. The other proofs take these cases
--- only.
-use Prim.Native.Nat.{ℕ, _≤_, _<_}
-use mathlib.Core.Bool.{Bool, true, false, _||_}
-use mathlib.Core.List.{List, []}
+-- What a request comes to: its verdict, case by case, each with the tests that led there; its step is `stepBy` of the verdict. The other
+-- proofs take these cases only.
+use Prim.Native.Nat.{ℕ, _<_}
+use mathlib.Core.Bool.{true, false}
+use mathlib.Core.List.{List}
 use mathlib.Core.Path.{_≡_, refl}
 use native.Mathlib.Omega.{arith}
-use lib.Dec.{ltb}
+use lib.Dec.{ltb, leb}
 use lib.ListN.{length}
-use borrow.Author.Tests.{ltb-true, ltb-false}
+use borrow.Author.Tests.{ltb-true, ltb-false, leb-false, le-leb}
+use Rattle.frame_table.specs.declared.fields.Bits128.{Bits128}
 use Rattle.frame_table.specs.declared.fields.Fields.{Fields}
 use Rattle.frame_table.specs.declared.table.Form.{Form}
 use Rattle.frame_table.specs.declared.table.Form.the-variants as forms
-use Rattle.frame_table.specs.Names.{subscriber, transaction, segments, segment, form}
-use Rattle.frame_table.specs.Table.{isRequestForm}
-use Rattle.octets.proofs.Tests.{or-neither}
+use Rattle.frame_table.specs.Names.{subscriber, transaction, segments, form}
 use Rattle.message.specs.declared.codes.ReturnCode.{ReturnCode}
 use Rattle.message.specs.declared.codes.ReturnCode.the-variants as code
-use Rattle.message.specs.Limits.{subscribers, segmentBytes}
-use Rattle.message.specs.Verdicts.{decide}
+use Rattle.message.proofs.Verdicts.{by-test, and-false}
 use Rattle.bank_state.specs.declared.state.Download.{Download}
+use Rattle.bank_state.specs.declared.state.Place.{Place}
 use Rattle.bank_state.specs.Limits.{placeCount}
 use Rattle.bank_state.specs.Search.{freePlace, isUpload, findUpload, isDownload, findDownload}
-use Rattle.bank_state.specs.State.{World, world, placeAt, downloadAt, withPlace}
-use Rattle.bank_state.specs.Store.{partAt, withPart}
-use Rattle.bank_downloads.specs.declared.downloads.DownloadRequest.{DownloadRequest}
-use Rattle.bank_downloads.specs.declared.downloads.DownloadRequest.the-variants as asked
-use Rattle.bank_downloads.specs.declared.downloads.DownloadVerdict.{DownloadVerdict}
-use Rattle.bank_openings.specs.declared.openings.Direction.the-variants as way
-use Rattle.bank_openings.specs.declared.openings.Opening.{Opening}
-use Rattle.bank_openings.specs.declared.openings.OpeningVerdict.{OpeningVerdict}
-use Rattle.bank_uploads.specs.declared.uploads.UploadVerdict.{UploadVerdict}
-use Rattle.bank_downloads.specs.Downloads.{carryOutDownload, downloadStep}
-use Rattle.bank_openings.specs.Openings.{fileLength, transactionOf, openUpload, openDownload, carryOut, opened}
-use Rattle.bank_uploads.specs.Uploads.{carryOutUpload, uploadStep}
-use Rattle.bank.specs.declared.call.RequestVerdict.{RequestVerdict}
-use Rattle.bank.specs.declared.call.RequestVerdict.the-variants as request
-use Rattle.bank.specs.Call.{
-  Step,
-  refused,
-  unread,
-  mailboxSegment,
-  requestRefusals,
-  openingStep,
-  uploadStepAt,
-  downloadsAfter,
-  downloadStepAt,
-  transactionStep,
-  byForm,
-  byVerdict,
-  respond,
-}
-use Rattle.bank_history.specs.Sound.{cancels}
+use Rattle.bank_state.specs.State.{World, placeAt, downloadAt, fileLength}
 use Rattle.bank_state.proofs.Rows.{first-passes}
-use Rattle.bank_history.specs.History.{
-  Event,
-  Unreadable,
-  Refusal,
-  Of,
-  OpenedUpload,
-  OpenedDownload,
-  uploadAction,
-  downloadAction,
-  openingEvent,
-  transactionEvent,
-  eventByForm,
-  eventByVerdict,
-  eventOf,
-  segmentsNow,
+use Rattle.bank_verdicts.specs.declared.verdict.Direction.the-variants as direction
+use Rattle.bank_verdicts.specs.declared.verdict.TransactionRequest.{TransactionRequest}
+use Rattle.bank_verdicts.specs.declared.verdict.TransactionRequest.the-variants as asked
+use Rattle.bank_verdicts.specs.declared.verdict.UploadAction.{UploadAction}
+use Rattle.bank_verdicts.specs.declared.verdict.UploadAction.the-variants as up
+use Rattle.bank_verdicts.specs.declared.verdict.DownloadAction.{DownloadAction}
+use Rattle.bank_verdicts.specs.declared.verdict.DownloadAction.the-variants as down
+use Rattle.bank_verdicts.specs.declared.verdict.Action.the-variants as action
+use Rattle.bank_verdicts.specs.declared.verdict.Verdict.{Verdict}
+use Rattle.bank_verdicts.specs.declared.verdict.Verdict.the-variants as verdict
+use Rattle.bank_verdicts.specs.Refusals.{notOpen, cancels}
+use Rattle.bank_verdicts.specs.Judgement.{
+  transactionOf,
+  mailboxSegments,
+  uploadAt,
+  downloadOf,
+  judgeOpen,
+  judgeTransaction,
+  judgeForm,
+  judge,
 }
-use Rattle.message.proofs.Verdicts.{by-test}
-use Rattle.bank_uploads.proofs.UploadVerdicts.{UploadSound, judged-upload}
-use Rattle.bank_history.proofs.Judged.{
+use Rattle.bank.specs.Call.{onUpload, uploadActs}
+use Rattle.bank_history.specs.History.{isOpening}
+use Rattle.bank_verdicts.proofs.Sound.{
+  Readable,
   Acceptable,
+  UploadSound,
+  took,
+  tookLast,
+  uploadPoint,
+  abort,
+  underrun,
+  exceeded,
+  overfull,
   DownloadSound,
+  delivered,
+  sentAgain,
+  downloadPoint,
+  cancelled,
+  confirmed,
+  declined,
   OpeningSound,
-  by-test-two,
-  download,
-  judged-download,
+  judged-request,
   judged-opening,
-  refuse,
-  upload,
+  judged-transaction,
+  judged-upload,
+  judged-download,
 }
+use Rattle.bank_verdicts.proofs.Sound as opening
 
--- ---- the whole request
+-- the form of a request to a transaction
+abbrev pub requestForm : TransactionRequest → Form
+requestForm asked.UploadTransfer = forms.UploadTransfer
+requestForm asked.DownloadTransfer = forms.DownloadTransfer
+requestForm asked.Receipt = forms.Receipt
 
--- the step of a verdict on a request to the upload in place i
-abbrev pub uploadStepBy : UploadVerdict → ℕ → World → Fields → List ℕ → Step
-uploadStepBy v i w q d =
-    let u = carryOutUpload v (w .bank .clock) (placeAt (w .bank) i) q d (partAt (w .orders) i) in
-    record {
-      world = world (withPlace i (u .place) (w .bank)) (withPart (w .orders) i (u .bytes)) (w .boxes);
-      reply =
-          u .reply;
-      replyData = [];
-    }
+-- a request to the open upload that is found
+pub record ToUpload (w : World) (q : Fields) (d : List ℕ) (r : TransactionRequest) (a : UploadAction) : Type 0 where
+  pub readable : Readable q (length d)
+  pub asked : form q ≡ requestForm r
+  pub inside : uploadAt (w .bank) q < placeCount
+  pub found : isUpload (subscriber q) (transaction q) (placeAt (w .bank) (uploadAt (w .bank) q)) ≡ true
+  pub sound : UploadSound r (placeAt (w .bank) (uploadAt (w .bank) q)) q (length d) a
 
--- the step of a verdict on a request to the download of record j
-abbrev pub downloadStepBy : DownloadVerdict → ℕ → World → Fields → Step
-downloadStepBy v j w q =
-    let s = carryOutDownload v (w .bank .clock) (downloadAt (w .bank) j) (segmentsNow w q) q in
-    record { world = downloadsAfter (s .ending) j s w q; reply = s .reply; replyData = mailboxSegment w (subscriber q) (s .segment) }
+-- a request to the open download that is found
+pub record ToDownload (w : World) (q : Fields) (d : List ℕ) (r : TransactionRequest) (a : DownloadAction) : Type 0 where
+  pub readable : Readable q (length d)
+  pub asked : form q ≡ requestForm r
+  pub inside : downloadOf (w .bank) q < placeCount
+  pub found : isDownload (subscriber q) (transaction q) (downloadAt (w .bank) (downloadOf (w .bank) q)) ≡ true
+  pub sound : DownloadSound r (downloadAt (w .bank) (downloadOf (w .bank) q)) (mailboxSegments (subscriber q) (w .bank)) q a
 
--- the step of an accepted opening
-abbrev pub openingStepBy : Opening → World → Fields → Step
-openingStepBy o w q = record {
-  world = world (o .bank) (w .orders) (w .boxes);
-  reply = o .reply;
-  replyData =
-      mailboxSegment w (subscriber q) (o .segment);
-}
+-- what an action leaves of the upload that is found
+pub upload-acts : {w : World} {q : Fields} {d : List ℕ} {r : TransactionRequest} {a : UploadAction} (t : Bits128) → ToUpload w q d r a →
+    uploadActs a t w q d ≡ onUpload a (uploadAt (w .bank) q) w d
+upload-acts {w} {q} {d} {r} {a} t c = at (c .sound)
+  where
+    at : {b : UploadAction} → UploadSound r (placeAt (w .bank) (uploadAt (w .bank) q)) q (length d) b →
+        uploadActs b t w q d ≡ onUpload b (uploadAt (w .bank) q) w d
+    at (took f below early room) = refl
+    at (tookLast f last mark room) = refl
+    at (uploadPoint fits few) = refl
+    at (abort fits many) = refl
+    at (underrun f below mark) = refl
+    at (exceeded f last mark) = refl
+    at (overfull over) = refl
 
--- how the form of a request to a transaction is asked of an upload and of a download
-pub data AskedBy (q : Fields) : Bool → DownloadRequest → Type 0 where
-  uploadTransfer : form q ≡ forms.UploadTransfer → AskedBy q true asked.Other
-  downloadTransfer : form q ≡ forms.DownloadTransfer → AskedBy q false asked.Transfer
-  receipt : form q ≡ forms.Receipt → AskedBy q false asked.Receipt
+-- a request to an open upload opens none
+pub upload-goes-on : {r : TransactionRequest} {p : Place} {q : Fields} {n : ℕ} {a : UploadAction} → UploadSound r p q n a →
+    isOpening (action.Upload a) ≡ false
+upload-goes-on (took f below early room) = refl
+upload-goes-on (tookLast f last mark room) = refl
+upload-goes-on (uploadPoint fits few) = refl
+upload-goes-on (abort fits many) = refl
+upload-goes-on (underrun f below mark) = refl
+upload-goes-on (exceeded f last mark) = refl
+upload-goes-on (overfull over) = refl
 
--- what every request that is not refused at once has
-pub record Admitted (q : Fields) (d : List ℕ) : Type 0 where
-  pub known : 1 ≤ subscriber q
-  pub most : subscriber q ≤ subscribers
-  pub short : length d ≤ segmentBytes
+-- a request to an open download opens none
+pub download-goes-on : {r : TransactionRequest} {e : Download} {n : ℕ} {q : Fields} {a : DownloadAction} → DownloadSound r e n q a →
+    isOpening (action.Download a) ≡ false
+download-goes-on (delivered t next within) = refl
+download-goes-on (sentAgain t some again few) = refl
+download-goes-on (downloadPoint fits few) = refl
+download-goes-on (cancelled fits many) = refl
+download-goes-on (confirmed t whole taken) = refl
+download-goes-on (declined t whole other) = refl
 
-pub data Happens (lent : ℕ) (w : World) (q : Fields) (d : List ℕ) : Event → Step → Type 0 where
-  unreadable : Happens lent w q d Unreadable (unread w)
-  refusal : (c : ReturnCode) → cancels c ≡ false → Happens lent w q d (Refusal c) (refused w q c)
-  opensUpload : form q ≡ forms.UploadOpening → Admitted q d → Acceptable (w .bank) q → (segments q ≡ 0 → ⊥) →
+pub data Happens (first : ℕ) (w : World) (q : Fields) (d : List ℕ) : Verdict → Type 0 where
+  unreadable : Happens first w q d verdict.Unreadable
+  refused : (c : ReturnCode) → cancels c ≡ false → Happens first w q d (verdict.Refused c)
+  opensUpload : form q ≡ forms.UploadOpening → Readable q (length d) → Acceptable (w .bank) q → (segments q ≡ 0 → ⊥) →
       freePlace (w .bank) < placeCount →
-      Happens lent w q d (Of (transactionOf lent (w .bank)) OpenedUpload) (openingStepBy (openUpload lent q (w .bank)) w q)
-  opensDownload : form q ≡ forms.DownloadOpening → Admitted q d → Acceptable (w .bank) q →
+      Happens first w q d (verdict.Of (transactionOf first (w .bank)) (action.Upload (up.Opened (w .bank .openings))))
+  opensDownload : form q ≡ forms.DownloadOpening → Readable q (length d) → Acceptable (w .bank) q →
       (fileLength (subscriber q) (w .bank .files) ≡ 0 → ⊥) →
-      Happens lent w q d (Of (transactionOf lent (w .bank)) (OpenedDownload (segmentsNow w q)))
-      (openingStepBy (openDownload lent q (w .bank)) w q)
-  toUpload : (i : ℕ) (transfer : Bool) (r : DownloadRequest) (v : UploadVerdict) → Admitted q d → AskedBy q transfer r → i < placeCount →
-      isUpload (subscriber q) (transaction q) (placeAt (w .bank) i) ≡ true → UploadSound (placeAt (w .bank) i) transfer q (length d) v →
-      Happens lent w q d (Of (placeAt (w .bank) i .transaction) (uploadAction v (placeAt (w .bank) i))) (uploadStepBy v i w q d)
-  toDownload : (j : ℕ) (transfer : Bool) (r : DownloadRequest) (v : DownloadVerdict) → Admitted q d → AskedBy q transfer r →
-      j < placeCount →
-      isDownload (subscriber q) (transaction q) (downloadAt (w .bank) j) ≡ true →
-      DownloadSound r (downloadAt (w .bank) j) (segmentsNow w q) q v →
-      Happens lent w q d (Of (downloadAt (w .bank) j .transaction) (downloadAction v (downloadAt (w .bank) j) (segmentsNow w q)))
-      (downloadStepBy v j w q)
+      Happens first w q d
+      (verdict.Of (transactionOf first (w .bank)) (action.Download (down.Opened (mailboxSegments (subscriber q) (w .bank)))))
+  toUpload : (r : TransactionRequest) (a : UploadAction) → ToUpload w q d r a →
+      Happens first w q d (verdict.Of (placeAt (w .bank) (uploadAt (w .bank) q) .transaction) (action.Upload a))
+  toDownload : (r : TransactionRequest) (a : DownloadAction) → ToDownload w q d r a →
+      Happens first w q d (verdict.Of (downloadAt (w .bank) (downloadOf (w .bank) q) .transaction) (action.Download a))
 
-module _ (lent : ℕ) (w : World) (q : Fields) (d : List ℕ) (rowed : length (w .bank .places) ≡ placeCount)
+module _ (first : ℕ) (w : World) (q : Fields) (d : List ℕ) (rowed : length (w .bank .places) ≡ placeCount)
     (listed : length (w .bank .downloads) ≡ placeCount) where
-  abbrev Comes : Event → Step → Type 0
-  Comes v s = Happens lent w q d v s
+  abbrev Comes : Verdict → Type 0
+  Comes v = Happens first w q d v
 
-  found-upload : findUpload (subscriber q) (transaction q) (w .bank) < placeCount →
-      isUpload (subscriber q) (transaction q) (placeAt (w .bank) (findUpload (subscriber q) (transaction q) (w .bank))) ≡ true
+  abbrev i : ℕ
+  i = uploadAt (w .bank) q
+
+  abbrev j : ℕ
+  j = downloadOf (w .bank) q
+
+  found-upload : i < placeCount → isUpload (subscriber q) (transaction q) (placeAt (w .bank) i) ≡ true
   unfolding findUpload
   found-upload h = first-passes (isUpload (subscriber q) (transaction q)) (w .bank .places) _ (omega arith)
 
-  found-download : findDownload (subscriber q) (transaction q) (w .bank) < placeCount →
-      isDownload (subscriber q) (transaction q) (downloadAt (w .bank) (findDownload (subscriber q) (transaction q) (w .bank))) ≡ true
+  found-download : j < placeCount → isDownload (subscriber q) (transaction q) (downloadAt (w .bank) j) ≡ true
   unfolding findDownload
   found-download h = first-passes (isDownload (subscriber q) (transaction q)) (w .bank .downloads) _ (omega arith)
 
-  transaction-happens : (transfer : Bool) (r : DownloadRequest) → Admitted q d → AskedBy q transfer r →
-      Comes (transactionEvent transfer r w q d) (transactionStep transfer r w q d)
-  unfolding transactionEvent transactionStep uploadStepAt uploadStep downloadStepAt downloadStep
-  transaction-happens transfer r a f =
-      by-test-two Comes (ltb i placeCount)
-      (λ h. toUpload i transfer r _ a f (ltb-true i placeCount h) (found-upload (ltb-true i placeCount h))
-      (judged-upload (placeAt (w .bank) i) transfer q (length d)))
-      (λ _. by-test-two Comes (ltb j placeCount)
-      (λ h. toDownload j transfer r _ a f (ltb-true j placeCount h) (found-download (ltb-true j placeCount h))
-      (judged-download r (downloadAt (w .bank) j) (segmentsNow w q) q))
-      (λ _. refusal code.UnknownTransaction refl))
-    where
-      i : ℕ
-      i = findUpload (subscriber q) (transaction q) (w .bank)
+  -- what is open for this subscriber and is no upload is a download
+  open-download : notOpen (w .bank) q ≡ false → ltb i placeCount ≡ false → j < placeCount
+  unfolding notOpen
+  open-download some n =
+      leb-false placeCount j
+      (and-false (leb placeCount i) (leb placeCount j) some (le-leb placeCount i (ltb-false i placeCount n)))
 
-      j : ℕ
-      j = findDownload (subscriber q) (transaction q) (w .bank)
+  transaction-happens : (r : TransactionRequest) → Readable q (length d) → form q ≡ requestForm r →
+      Comes (judgeTransaction r (w .bank) q (length d))
+  unfolding judgeTransaction judgeOpen
+  transaction-happens r a f =
+      judged-transaction Comes (w .bank) q _ (refused code.UnknownTransaction refl)
+      (λ some. by-test Comes (ltb i placeCount)
+      (λ h. toUpload r _ (record {
+        readable = a;
+        asked = f;
+        inside = ltb-true i placeCount h;
+        found = found-upload (ltb-true i placeCount h);
+        sound = judged-upload r (placeAt (w .bank) i) q (length d);
+      }))
+      (λ n. toDownload r _ (record {
+        readable = a;
+        asked = f;
+        inside = open-download some n;
+        found = found-download (open-download some n);
+        sound = judged-download (downloadAt (w .bank) j) (mailboxSegments (subscriber q) (w .bank)) q r;
+      })))
 
-  upload-happens : {o : OpeningVerdict} → form q ≡ forms.UploadOpening → Admitted q d → OpeningSound (w .bank) q way.Upload o →
-      Comes (openingEvent o way.Upload lent (w .bank) q) (openingStepBy (carryOut o way.Upload lent q (w .bank)) w q)
-  unfolding mailboxSegment
-  upload-happens f a (refuse _ c e) = refusal c e
-  upload-happens f a (upload g n p) = opensUpload f a g n p
+  upload-happens : {v : Verdict} → form q ≡ forms.UploadOpening → Readable q (length d) → OpeningSound first (w .bank) q direction.Upload v → Comes v
+  upload-happens f a (opening.refused d c e) = refused c e
+  upload-happens f a (opening.upload g n p) = opensUpload f a g n p
 
-  download-happens : {o : OpeningVerdict} → form q ≡ forms.DownloadOpening → Admitted q d → OpeningSound (w .bank) q way.Download o →
-      Comes (openingEvent o way.Download lent (w .bank) q) (openingStepBy (carryOut o way.Download lent q (w .bank)) w q)
-  unfolding mailboxSegment
-  download-happens f a (refuse _ c e) = refusal c e
-  download-happens f a (download g n) = opensDownload f a g n
+  download-happens : {v : Verdict} → form q ≡ forms.DownloadOpening → Readable q (length d) →
+      OpeningSound first (w .bank) q direction.Download v → Comes v
+  download-happens f a (opening.refused d c e) = refused c e
+  download-happens f a (opening.download g n) = opensDownload f a g n
 
-  form-happens : (f : Form) → form q ≡ f → Admitted q d → Comes (eventByForm f lent w q d) (byForm f lent w q d)
-  unfolding openingStep opened
-  form-happens forms.UploadOpening e a = upload-happens e a (judged-opening (w .bank) q way.Upload)
-  form-happens forms.DownloadOpening e a = download-happens e a (judged-opening (w .bank) q way.Download)
-  form-happens forms.UploadTransfer e a = transaction-happens true asked.Other a (uploadTransfer e)
-  form-happens forms.DownloadTransfer e a = transaction-happens false asked.Transfer a (downloadTransfer e)
-  form-happens forms.Receipt e a = transaction-happens false asked.Receipt a (receipt e)
+  form-happens : (f : Form) → form q ≡ f → Readable q (length d) → Comes (judgeForm f first (w .bank) q (length d))
+  form-happens forms.UploadOpening e a = upload-happens e a (judged-opening first (w .bank) q direction.Upload)
+  form-happens forms.DownloadOpening e a = download-happens e a (judged-opening first (w .bank) q direction.Download)
+  form-happens forms.UploadTransfer e a = transaction-happens asked.UploadTransfer a e
+  form-happens forms.DownloadTransfer e a = transaction-happens asked.DownloadTransfer a e
+  form-happens forms.Receipt e a = transaction-happens asked.Receipt a e
   form-happens forms.NoForm e a = unreadable
   form-happens forms.UploadOpened e a = unreadable
   form-happens forms.DownloadOpened e a = unreadable
@@ -203,22 +216,7 @@ module _ (lent : ℕ) (w : World) (q : Fields) (d : List ℕ) (rowed : length (w
   form-happens forms.Unreadable e a = unreadable
   form-happens forms.Refusal e a = unreadable
 
-  verdict-happens : Comes (eventByVerdict (decide (requestRefusals q d) request.Proceed) lent w q d)
-      (byVerdict (decide (requestRefusals q d) request.Proceed) lent w q d)
-  unfolding requestRefusals
-  verdict-happens =
-      by-test P (ltb (subscriber q) 1 || ltb subscribers (subscriber q)) (λ _. refusal code.UserUnknown refl)
-      (λ from. by-test P (ltb segmentBytes (length d)) (λ _. refusal code.SegmentSizeExceeded refl)
-      (λ long. form-happens (form q) refl (admitted (or-neither (ltb (subscriber q) 1) (ltb subscribers (subscriber q)) from) long)))
-    where
-      P : RequestVerdict → Type 0
-      P v = Happens lent w q d (eventByVerdict v lent w q d) (byVerdict v lent w q d)
-
-      admitted : (ltb (subscriber q) 1 ≡ false) × (ltb subscribers (subscriber q) ≡ false) → ltb segmentBytes (length d) ≡ false →
-          Admitted q d
-      admitted k l = record { known = ltb-false _ _ (k .0); most = ltb-false _ _ (k .1); short = ltb-false _ _ l }
-
   -- every request comes to one of these cases
-  pub happens : Happens lent w q d (eventOf lent w q d) (respond lent w q d)
-  unfolding eventOf respond
-  happens = by-test-two Comes (isRequestForm (form q)) (λ _. verdict-happens) (λ _. unreadable)
+  pub happens : Happens first w q d (judge first (w .bank) q (length d))
+  unfolding judge
+  happens = judged-request Comes q (length d) _ (λ _. unreadable) refused (form-happens (form q) refl)

@@ -6,7 +6,7 @@ use mathlib.Core.Logic.{_⊎_, inl, inr}
 use mathlib.Core.Path.{_≡_, refl, sym, ap, _∙_, subst}
 use native.Mathlib.Decide.{ℕ-discrete}
 use native.Mathlib.Omega.{arith}
-use lib.ListN.{getD, set, take}
+use lib.ListN.{length, getD, set, take}
 use lib.Seq.{getD-set-same}
 use Rattle.frame_table.specs.declared.fields.Bits128.{Bits128}
 use Rattle.frame_table.specs.declared.fields.Fields.{Fields}
@@ -15,6 +15,7 @@ use Rattle.frame_table.specs.Names.{subscriber, transaction}
 use Rattle.frame.specs.Reader.{readRequest}
 use Rattle.frame.specs.Row.{dataOf}
 use Rattle.octets.proofs.Tests.{never}
+use Rattle.message.specs.Limits.{subscribers}
 use Rattle.bank_state.specs.declared.clock.Ended.{Ended}
 use Rattle.bank_state.specs.declared.clock.Ended.the-variants as ended
 use Rattle.bank_state.specs.declared.state.Download.{Download}
@@ -22,36 +23,47 @@ use Rattle.bank_state.specs.declared.state.Place.{Place}
 use Rattle.bank_state.specs.declared.state.Use.the-variants.{Open}
 use Rattle.bank_state.specs.Clock.{advanced, endDownloads}
 use Rattle.bank_state.specs.Search.{isFree}
-use Rattle.bank_state.specs.State.{World, world, noPlace, noDownload, placeAt, downloadAt}
+use Rattle.bank_state.specs.State.{World, world, noPlace, noDownload, placeAt, fileLength, withDownload}
 use Rattle.bank_state.specs.Store.{partAt, fileOf}
-use Rattle.bank_downloads.specs.declared.downloads.DownloadVerdict.{DownloadVerdict}
-use Rattle.bank_downloads.specs.declared.downloads.DownloadVerdict.the-variants as down
-use Rattle.bank_uploads.specs.declared.uploads.UploadVerdict.{UploadVerdict}
-use Rattle.bank_uploads.specs.declared.uploads.UploadVerdict.the-variants as up
-use Rattle.bank_openings.specs.Openings.{fileLength, counted, openUpload, openDownload}
-use Rattle.bank_uploads.specs.Uploads.{grown, attempted}
+use Rattle.bank_openings.specs.Openings.{counted, openUpload, openDownload}
+use Rattle.bank_verdicts.specs.declared.verdict.UploadAction.{UploadAction}
+use Rattle.bank_verdicts.specs.declared.verdict.UploadAction.the-variants as up
+use Rattle.bank_verdicts.specs.declared.verdict.DownloadAction.{DownloadAction}
+use Rattle.bank_verdicts.specs.declared.verdict.DownloadAction.the-variants as down
+use Rattle.bank_verdicts.specs.declared.verdict.Action.the-variants as action
+use Rattle.bank_verdicts.specs.declared.verdict.Verdict.{Verdict}
+use Rattle.bank_verdicts.specs.declared.verdict.Verdict.the-variants as verdict
+use Rattle.bank_verdicts.specs.Judgement.{uploadAt, downloadOf}
+use Rattle.bank_uploads.specs.Uploads.{grown, booked, attempted, placeAfter}
 use Rattle.bank.specs.declared.call.FrameAnswer.{FrameAnswer}
 use Rattle.bank.specs.declared.call.FrameAnswer.the-variants.{Reply, WrongLength}
 use Rattle.bank.specs.declared.mailbox.FileAnswer.{FileAnswer}
 use Rattle.bank.specs.declared.mailbox.FileAnswer.the-variants as put
-use Rattle.bank.specs.Call.{Step, FrameCall, lentRight, replied, respond, frameCall}
+use Rattle.bank.specs.Call.{
+  Step,
+  FrameCall,
+  onUpload,
+  downloadActs,
+  emptied,
+  lentRight,
+  carryOut,
+  replied,
+  respond,
+  frameCall,
+}
 use Rattle.bank.specs.Mailbox.{fileNumber, carryOutFile, fileCall}
 use Rattle.bank_history.specs.History.{
-  Confirmed,
-  Event,
-  Of,
   Exchange,
   Past,
   BankCall,
   Frame,
   File,
-  downloadAction,
+  isOpening,
   mailboxFile,
   exchangeOf,
   entered,
   placed,
   after,
-  segmentsNow,
 }
 use Rattle.bank_history.specs.Invariant.{Sizes, Invariant, Holds}
 use Rattle.bank_history.specs.Standing.{Emptied, Filled, Gone, filled, answered}
@@ -61,13 +73,13 @@ use Rattle.message.proofs.Verdicts.{by-test}
 use Rattle.bank_history.proofs.Cases.{
   Happens,
   unreadable,
-  refusal,
+  refused,
   opensUpload,
   opensDownload,
   toUpload,
   toDownload,
-  uploadStepBy,
-  downloadStepBy,
+  upload-acts,
+  download-goes-on,
   happens,
 }
 use Rattle.bank_state.proofs.Found.{upload-found}
@@ -143,55 +155,59 @@ after-file mailbox file p holds = at (judged-file (p .world .bank) mailbox file 
 
 -- ---- mailboxes
 
--- a request empties the mailbox of its subscriber by 011000, or leaves it; it leaves the others
-case-mailbox : (lent : ℕ) (w : World) (h : List Exchange) (v : Invariant w h) (q : Fields) (d : List ℕ) (m : ℕ) → 1 ≤ m →
-    {e : Event} {s : Step} → Happens lent w q d e s →
-    (mailboxFile (s .world) m ≡ mailboxFile w m) ⊎ Emptied (s .world) m (entry e s w q d)
-unfolding mailboxFile fileLength openUpload openDownload counted
-case-mailbox lent w h v q d m one unreadable = inl refl
-case-mailbox lent w h v q d m one (refusal c e) = inl refl
-case-mailbox lent w h v q d m one (opensUpload asked a g n inside) = inl refl
-case-mailbox lent w h v q d m one (opensDownload asked a g n) = inl refl
-case-mailbox lent w h v q d m one (toUpload i transfer r u a asked inside found sound) = inl refl
-case-mailbox lent w h v q d m one (toDownload j transfer r u a asked inside found sound) = at u
-  where
-    at : (u : DownloadVerdict) → (mailboxFile (downloadStepBy u j w q .world) m ≡ mailboxFile w m)
-        ⊎ Emptied (downloadStepBy u j w q .world) m
-        (entry (Of (downloadAt (w .bank) j .transaction) (downloadAction u (downloadAt (w .bank) j) (segmentsNow w q)))
-        (downloadStepBy u j w q) w q d)
-    at down.Deliver = inl refl
-    at down.Resend = inl refl
-    at down.Point = inl refl
-    at down.Abort = inl refl
-    at down.Skipped = inl refl
-    at down.Done = own (ℕ-discrete (subscriber q) m)
-      where
-        own : Dec (subscriber q ≡ m) → (mailboxFile (downloadStepBy down.Done j w q .world) m ≡ mailboxFile w m)
-            ⊎ Emptied (downloadStepBy down.Done j w q .world) m
-            (entry (Of (downloadAt (w .bank) j .transaction) Confirmed) (downloadStepBy down.Done j w q) w q d)
-        own (yes e) = inr (record {
-          id = downloadAt (w .bank) j .transaction;
-          confirmed = refl;
-          owner = e;
-          empty = no-file (downloadStepBy down.Done j w q .world) m
-              (ap (λ (z : ℕ). getD (set (w .bank .files) (subscriber q - 1) 0) (z - 1) 0) (sym e)
-              ∙ getD-set-same (w .bank .files) (subscriber q - 1) 0 0
-              (let k = a .most in let l = a .known in let z = v .sizes .files in omega arith));
-        })
-        own (no n) = inl (
-            let k = a .most in
-            let l = a .known in
-            mailbox-other w (subscriber q - 1) (v .sizes .boxes) (omega arith) (w .bank .clock) (w .bank .openings)
-            (endDownloads (ended.Mailbox (subscriber q)) (w .bank .downloads)) (w .bank .nonces) m (λ e. n (omega arith)))
+module _ (first : ℕ) (w : World) (h : List Exchange) (v : Invariant w h) (q : Fields) (d : List ℕ) (m : ℕ) (one : 1 ≤ m) where
+  -- a verdict leaves the mailbox m, or has emptied it
+  abbrev Mailbox : Verdict → Type 0
+  Mailbox u = (mailboxFile (carryOut u w q d) m ≡ mailboxFile w m) ⊎ Emptied (carryOut u w q d) m (entry u w q d)
+
+  -- a receipt of the subscriber of m, answered 011000, empties m; one of another subscriber leaves it
+  confirmed-mailbox : 1 ≤ subscriber q → subscriber q ≤ subscribers → (t : Bits128) → Mailbox (verdict.Of t (action.Download down.Confirmed))
+  unfolding fileLength
+  confirmed-mailbox known most t = own (ℕ-discrete (subscriber q) m)
+    where
+      own : Dec (subscriber q ≡ m) → Mailbox (verdict.Of t (action.Download down.Confirmed))
+      own (yes e) = inr (record {
+        id = t;
+        confirmed = refl;
+        owner = e;
+        empty = no-file (emptied (subscriber q) w) m
+            (ap (λ (z : ℕ). getD (set (w .bank .files) (subscriber q - 1) 0) (z - 1) 0) (sym e)
+            ∙ getD-set-same (w .bank .files) (subscriber q - 1) 0 0 (let z = v .state .sizes .files in omega arith));
+      })
+      own (no n) = inl (
+          mailbox-other w (subscriber q - 1) (v .state .sizes .boxes) (omega arith) (w .bank .clock) (w .bank .openings)
+          (endDownloads (ended.Mailbox (subscriber q)) (w .bank .downloads)) (w .bank .nonces) m (λ e. n (omega arith)))
+
+  download-mailbox : 1 ≤ subscriber q → subscriber q ≤ subscribers → (t : Bits128) (a : DownloadAction) →
+      Mailbox (verdict.Of t (action.Download a))
+  unfolding mailboxFile fileLength openDownload counted
+  download-mailbox known most t (down.Opened n) = inl refl
+  download-mailbox known most t (down.Delivered n) = inl refl
+  download-mailbox known most t (down.SentAgain n) = inl refl
+  download-mailbox known most t (down.Point k) = inl refl
+  download-mailbox known most t down.Cancelled = inl refl
+  download-mailbox known most t down.Confirmed = confirmed-mailbox known most t
+  download-mailbox known most t down.Declined = inl refl
+
+  -- a request empties the mailbox of its subscriber by 011000, or leaves it; it leaves the others
+  case-mailbox : {u : Verdict} → Happens first w q d u → Mailbox u
+  unfolding mailboxFile fileLength openUpload openDownload counted
+  case-mailbox unreadable = inl refl
+  case-mailbox (refused c e) = inl refl
+  case-mailbox (opensUpload asked a g n inside) = inl refl
+  case-mailbox (opensDownload asked a g n) = inl refl
+  case-mailbox (toUpload r a t) =
+      inl (ap (λ (z : World). mailboxFile z m) (upload-acts (placeAt (w .bank) (uploadAt (w .bank) q) .transaction) t))
+  case-mailbox (toDownload r a t) = download-mailbox (t .readable .known) (t .readable .most) _ a
 
 -- a mailbox changes by a file put in, or by a receipt of its subscriber answered 011000
 pub frame-mailbox : (time : ℕ) (ids frame : List ℕ) (p : Past) (m : ℕ) → Holds p → 1 ≤ m →
     (mailboxFile (answered time ids frame p .world) m ≡ mailboxFile (p .world) m)
     ⊎ Emptied (answered time ids frame p .world) m (exchangeOf (number ids) (advanced time (p .world)) (readRequest frame) (dataOf frame))
-unfolding exchangeOf
+unfolding exchangeOf respond
 frame-mailbox time ids frame p m holds one =
     at (case-mailbox (number ids) w (p .history) v (readRequest frame) (dataOf frame) m one
-    (happens (number ids) w (readRequest frame) (dataOf frame) (v .sizes .places) (v .sizes .downloads)))
+    (happens (number ids) w (readRequest frame) (dataOf frame) (v .state .sizes .places) (v .state .sizes .downloads)))
   where
     w : World
     w = advanced time (p .world)
@@ -228,53 +244,71 @@ module _ (t : Bits128) where
     download-gone : (j : ℕ) (e : Download) → DownloadNot e → (k : ℕ) → DownloadNot (getD (set (w .bank .downloads) j e) k noDownload)
     download-gone j e new = each-set-all DownloadNot (w .bank .downloads) j e noDownload new (g .downloads)
 
+    moved-gone : (j : ℕ) (e : Download) → DownloadNot e →
+        Gone (world (withDownload j e (w .bank)) (w .orders) (w .boxes)) t
+    moved-gone j e new = record { known = g .known; places = g .places; downloads = download-gone j e new }
+
     ended-gone : (which : Ended) (k : ℕ) → DownloadNot (getD (endDownloads which (w .bank .downloads)) k noDownload)
     ended-gone which = each-endDownloads DownloadNot (λ e. never e) which (w .bank .downloads) (λ i _ _. g .downloads i)
 
-    upload-gone : (i : ℕ) (q : Fields) (d : List ℕ) → placeAt (w .bank) i .used ≡ Open → (u : UploadVerdict) →
-        Gone (uploadStepBy u i w q d .world) t
-    unfolding grown attempted
-    upload-gone i q d opened up.Take =
-        record { known = g .known; places = place-gone i _ (λ _. g .places i (ap isFree opened)); downloads = g .downloads }
-    upload-gone i q d opened up.Point = record { known = g .known; places = place-gone i _ (g .places i); downloads = g .downloads }
-    upload-gone i q d opened (up.Cancel c) =
-        record { known = g .known; places = place-gone i noPlace (λ e. never (sym e)); downloads = g .downloads }
+    after-not : (a : UploadAction) (clock n : ℕ) (p : Place) → p .used ≡ Open → PlaceNot p → PlaceNot (placeAfter a clock n p)
+    unfolding grown booked attempted
+    after-not (up.Opened m) clock n p opened old = old
+    after-not up.Took clock n p opened old = old
+    after-not up.TookLast clock n p opened old = λ _. old (ap isFree opened)
+    after-not (up.Point k) clock n p opened old = old
+    after-not (up.Cancelled c) clock n p opened old = λ e. never (sym e)
 
-    download-step-gone : (j : ℕ) (q : Fields) (u : DownloadVerdict) → Gone (downloadStepBy u j w q .world) t
-    download-step-gone j q down.Deliver = record { known = g .known; places = g .places; downloads = download-gone j _ (g .downloads j) }
-    download-step-gone j q down.Resend = record { known = g .known; places = g .places; downloads = download-gone j _ (g .downloads j) }
-    download-step-gone j q down.Point = record { known = g .known; places = g .places; downloads = download-gone j _ (g .downloads j) }
-    download-step-gone j q down.Abort = record { known = g .known; places = g .places; downloads = ended-gone _ }
-    download-step-gone j q down.Done = record { known = g .known; places = g .places; downloads = ended-gone _ }
-    download-step-gone j q down.Skipped = record { known = g .known; places = g .places; downloads = ended-gone _ }
+    upload-gone : (i : ℕ) (d : List ℕ) → placeAt (w .bank) i .used ≡ Open → (a : UploadAction) → Gone (onUpload a i w d) t
+    upload-gone i d opened a = record {
+      known = g .known;
+      places = place-gone i _ (after-not a (w .bank .clock) (length d) (placeAt (w .bank) i) opened (g .places i));
+      downloads = g .downloads;
+    }
+
+    download-step-gone : (q : Fields) (u : Bits128) (a : DownloadAction) → isOpening (action.Download a) ≡ false →
+        Gone (downloadActs a u w q) t
+    download-step-gone q u (down.Opened n) e = never (sym e)
+    download-step-gone q u (down.Delivered n) e = moved-gone (downloadOf (w .bank) q) _ (g .downloads (downloadOf (w .bank) q))
+    download-step-gone q u (down.SentAgain n) e = moved-gone (downloadOf (w .bank) q) _ (g .downloads (downloadOf (w .bank) q))
+    download-step-gone q u (down.Point d) e = moved-gone (downloadOf (w .bank) q) _ (g .downloads (downloadOf (w .bank) q))
+    download-step-gone q u down.Cancelled e = record { known = g .known; places = g .places; downloads = ended-gone _ }
+    download-step-gone q u down.Confirmed e = record { known = g .known; places = g .places; downloads = ended-gone _ }
+    download-step-gone q u down.Declined e = record { known = g .known; places = g .places; downloads = ended-gone _ }
 
     -- a new transaction has a new number
     fresh-number : (u : Bits128) → u .low ≡ w .bank .openings → u ≡ t → ⊥
     fresh-number u n e = let k = g .known in let z = ap (λ (b : Bits128). b .low) e in omega arith
 
-    pub case-gone : (lent : ℕ) (q : Fields) (d : List ℕ) {e : Event} {s : Step} → Happens lent w q d e s → Gone (s .world) t
+    pub case-gone : (first : ℕ) (q : Fields) (d : List ℕ) {v : Verdict} → Happens first w q d v → Gone (carryOut v w q d) t
     unfolding openUpload openDownload counted
-    case-gone lent q d unreadable = g
-    case-gone lent q d (refusal c e) = g
-    case-gone lent q d (opensUpload asked a f n inside) =
+    case-gone first q d unreadable = g
+    case-gone first q d (refused c e) = g
+    case-gone first q d (opensUpload asked a f n inside) =
         record { known = let k = g .known in omega arith; places = place-gone _ _ (λ _. fresh-number _ refl); downloads = g .downloads }
-    case-gone lent q d (opensDownload asked a f n) =
+    case-gone first q d (opensDownload asked a f n) =
         record { known = let k = g .known in omega arith; places = g .places; downloads = download-gone _ _ (λ _. fresh-number _ refl) }
-    case-gone lent q d (toUpload i transfer r u a asked inside found sound) =
-        upload-gone i q d (upload-found (subscriber q) (transaction q) (placeAt (w .bank) i) found .0) u
-    case-gone lent q d (toDownload j transfer r u a asked inside found sound) = download-step-gone j q u
+    case-gone first q d (toUpload r a c) =
+        let i = uploadAt (w .bank) q in
+        subst (λ (z : World). Gone z t) (sym (upload-acts (placeAt (w .bank) i .transaction) c))
+        (upload-gone i d (upload-found (subscriber q) (transaction q) (placeAt (w .bank) i) (c .found) .0) a)
+    case-gone first q d (toDownload r a c) = download-step-gone q _ a (download-goes-on (c .sound))
+
+  -- an answered frame brings back nothing that is gone when its request is judged
+  pub answered-gone : (time : ℕ) (ids frame : List ℕ) (p : Past) → Holds p → Gone (advanced time (p .world)) t →
+      Gone (answered time ids frame p .world) t
+  unfolding respond
+  answered-gone time ids frame p holds g =
+      let v = advanced-keeps time (p .world) (p .history) (holds .invariant) in
+      case-gone (advanced time (p .world)) g (number ids) (readRequest frame) (dataOf frame)
+      (happens (number ids) (advanced time (p .world)) (readRequest frame) (dataOf frame) (v .state .sizes .places) (v .state .sizes .downloads))
 
   -- what is gone stays gone, whatever the call
   pub gone-stays : (c : BankCall) (p : Past) → Holds p → Gone (p .world) t → Gone (after c p .world) t
   gone-stays (Frame time ids frame buffer) p holds g = at (after-frame time ids frame buffer p)
     where
-      v : Invariant (advanced time (p .world)) (p .history)
-      v = advanced-keeps time (p .world) (p .history) (holds .invariant)
-
       new : Gone (answered time ids frame p .world) t
-      new = case-gone (advanced time (p .world)) (advanced-gone time (p .world) (holds .invariant .sizes) g) (number ids)
-          (readRequest frame) (dataOf frame)
-          (happens (number ids) (advanced time (p .world)) (readRequest frame) (dataOf frame) (v .sizes .places) (v .sizes .downloads))
+      new = answered-gone time ids frame p holds (advanced-gone time (p .world) (holds .invariant .state .sizes) g)
 
       at : (after (Frame time ids frame buffer) p ≡ p) ⊎ (after (Frame time ids frame buffer) p ≡ answered time ids frame p) →
           Gone (after (Frame time ids frame buffer) p .world) t

@@ -1,4 +1,5 @@
 -- The clock, the drops and the forgetting keep the invariant, and leave no open transaction idle.
+use Prim.{tt}
 use Prim.Native.Nat.{ℕ, zero, suc, _+_, _≤_, _<_, max}
 use mathlib.Core.Bool.{Bool, true, false, not, _&&_}
 use mathlib.Core.List.{List}
@@ -13,8 +14,7 @@ use Rattle.message.specs.Limits.{fileBytes}
 use Rattle.bank_state.specs.declared.clock.Ended.the-variants as ended
 use Rattle.bank_state.specs.declared.state.Download.{Download}
 use Rattle.bank_state.specs.declared.state.Place.{Place}
-use Rattle.bank_state.specs.declared.state.Use.{Use}
-use Rattle.bank_state.specs.declared.state.Use.the-variants.{Free, Open, Booked}
+use Rattle.bank_state.specs.declared.state.Use.the-variants.{Booked}
 use Rattle.bank_state.specs.Clock.{
   isIdle,
   freed,
@@ -28,7 +28,7 @@ use Rattle.bank_state.specs.Clock.{
 }
 use Rattle.bank_state.specs.Limits.{placeCount, idleLimit}
 use Rattle.bank_state.specs.Search.{isOpen, openCount, openCountOf}
-use Rattle.bank_state.specs.State.{World, world, noPlace, noDownload, placeAt, downloadAt}
+use Rattle.bank_state.specs.State.{World, world, noPlace, noDownload, placeAt, downloadAt, fileLength}
 use Rattle.bank_state.specs.Store.{partAt, zeroed}
 use Rattle.bank_state.proofs.Rows.{count-keepOnly}
 use Rattle.bank_state.proofs.Stores.{length-zeroed, zeroed-same, zeroed-other}
@@ -43,9 +43,9 @@ use Rattle.bank_state.proofs.Drops.{
   Spot,
   advanced-spot,
 }
-use Rattle.bank_openings.specs.Openings.{fileLength}
 use Rattle.bank_history.specs.History.{Exchange, mailboxFile}
-use Rattle.bank_history.specs.Invariant.{Sizes, PlaceHolds, DownloadHolds, Invariant, NoneIdle}
+use Rattle.bank_history.specs.Invariant.{Sizes, Invariant, NoneIdle}
+use Rattle.bank_history.proofs.Parts.{DownloadKept, place-kept, download-kept, place-later, download-later}
 use Rattle.bank_history.proofs.Rows.{count-set-le, packed-keepOnly}
 use Rattle.message.proofs.Verdicts.{by-test, and-false}
 use Rattle.bank_history.proofs.Memory.{memory-later}
@@ -55,63 +55,43 @@ use Rattle.bank_history.proofs.Uploads.{still-booked}
 
 -- ---- a later clock
 
-place-later : (c c′ o : ℕ) (h : List Exchange) (p : Place) (bytes : List ℕ) → c ≤ c′ → (u : Use) → PlaceHolds u c o h p bytes →
-    PlaceHolds u c′ o h p bytes
-place-later c c′ o h p bytes l Free s = s
-place-later c c′ o h p bytes l Open s =
-    record { place = s .place; below = s .below; current = let k = s .current in omega arith; unbooked = s .unbooked }
-place-later c c′ o h p bytes l Booked s = s
-
-download-later : (c c′ o : ℕ) (h : List Exchange) (file : List ℕ) (e : Download) → c ≤ c′ → (u : Bool) → DownloadHolds u c o h file e →
-    DownloadHolds u c′ o h file e
-download-later c c′ o h file e l false s = s
-download-later c c′ o h file e l true s = record {
-  counted = s .counted;
-  known = s .known;
-  most = s .most;
-  tries = s .tries;
-  some = s .some;
-  within = s .within;
-  current = let k = s .current in omega arith;
-  opened = s .opened;
-  owner = s .owner;
-  deliveries = s .deliveries;
-  going = s .going;
-  unbooked = s .unbooked;
-  unchanged = s .unchanged;
-  full = s .full;
-}
-
 -- the state at a later clock, but for its uploads
 at-clock : (c : ℕ) (w : World) (h : List Exchange) → w .bank .clock ≤ c → Invariant w h →
     Invariant (world (atClock c (w .bank)) (w .orders) (w .boxes)) h
 unfolding atClock endDownloads openCount openCountOf mailboxFile fileLength
 at-clock c w h l v = download-change w c (w .bank .openings) (endDownloads (ended.Idle c) (w .bank .downloads))
     (forget c (w .bank .nonces)) (w .bank .files) (w .boxes) v (record {
-      listed = length-endDownloads (ended.Idle c) (w .bank .downloads) ∙ v .sizes .downloads;
-      remembered = length-forget c (w .bank .nonces) ∙ v .sizes .nonces;
-      filed = v .sizes .files;
-      stored = v .sizes .boxes;
+      listed = length-endDownloads (ended.Idle c) (w .bank .downloads) ∙ v .state .sizes .downloads;
+      remembered = length-forget c (w .bank .nonces) ∙ v .state .sizes .nonces;
+      filed = v .state .sizes .files;
+      stored = v .state .sizes .boxes;
       counted = v .counted;
-      numbers = v .numbers;
-      places = λ i a. place-later (w .bank .clock) c (w .bank .openings) h (placeAt (w .bank) i) (partAt (w .orders) i) l
-          (placeAt (w .bank) i .used) (v .places i a);
-      downloads = each-endDownloads (λ (r : Download). DownloadHolds (r .used) c (w .bank .openings) h (mailboxFile w (r .subscriber)) r)
-          refl (ended.Idle c) (w .bank .downloads)
-          (λ j _ g. download-later (w .bank .clock) c (w .bank .openings) h (mailboxFile w (downloadAt (w .bank) j .subscriber))
-          (downloadAt (w .bank) j) l
-          (downloadAt (w .bank) j .used) (v .downloads j));
-      mailboxes = v .mailboxes;
-      apart = λ i j a f. each-endDownloads (λ (r : Download). r .used ≡ true → placeAt (w .bank) i .number ≡ r .transaction .low → ⊥)
-          (λ g. never g) (ended.Idle c) (w .bank .downloads) (λ m _ g. v .apart i m a f) j;
+      numbers = v .state .numbers;
+      places = λ i a. (
+        place-later (w .bank .clock) c (w .bank .openings) (w .bank .openings) l (omega arith) (placeAt (w .bank) i) (partAt (w .orders) i)
+            (placeAt (w .bank) i .used) (v .state .places i a),
+        v .places i a,
+      );
+      downloads = each-endDownloads
+          (λ (r : Download). DownloadKept (r .used) c (w .bank .openings) h (mailboxFile w (r .subscriber)) r)
+          (refl, tt) (ended.Idle c) (w .bank .downloads)
+          (λ j _ g. (
+            download-later (w .bank .clock) c (w .bank .openings) (w .bank .openings) l (omega arith)
+                (mailboxFile w (downloadAt (w .bank) j .subscriber)) (downloadAt (w .bank) j) (downloadAt (w .bank) j .used)
+                (v .state .downloads j),
+            v .downloads j,
+          ));
+      mailboxes = v .state .mailboxes;
+      apart = λ i j a f. each-endDownloads (λ (r : Download). r .used ≡ true → placeAt (w .bank) i .transaction .low ≡ r .transaction .low → ⊥)
+          (λ g. never g) (ended.Idle c) (w .bank .downloads) (λ m _ g. v .state .apart i m a f) j;
       inOrder = packed-keepOnly (λ (r : Download). r .used) noDownload (λ (r : Download). r .transaction .low)
           (λ (r : Download). suc (r .transaction .low))
-          stays (λ r. omega arith) (v .inOrder);
-      memory = memory-later (w .bank .clock) c h l (w .bank .nonces) (v .sizes .nonces) (v .memory);
-      openAll = let m = count-keepOnly stays noDownload (λ (r : Download). r .used) refl (w .bank .downloads) in omega (arith, v .openAll);
+          stays (λ r. omega arith) (v .state .inOrder);
+      memory = memory-later (w .bank .clock) c h l (w .bank .nonces) (v .state .sizes .nonces) (v .memory);
+      openAll = let m = count-keepOnly stays noDownload (λ (r : Download). r .used) refl (w .bank .downloads) in omega (arith, v .state .openAll);
       openOf = λ s. let m = count-keepOnly stays noDownload (λ (r : Download). r .used && eqb (r .subscriber) s) refl
           (w .bank .downloads) in
-          omega (arith, v .openOf s);
+          omega (arith, v .state .openOf s);
       known = v .known;
       booked = v .booked;
       sound = v .sound;
@@ -129,22 +109,22 @@ freed-keeps i w h inside opened v =
     place-change w i noPlace (w .bank .openings) (w .bank .nonces) (zeroed (w .orders) i) {g = h} v (record {
       bytes = replicate fileBytes 0;
       inside = inside;
-      stored = length-zeroed (w .orders) i (v .sizes .orders) inside ∙ v .sizes .orders;
-      here = zeroed-same (w .orders) i (v .sizes .orders) inside;
-      elsewhere = zeroed-other (w .orders) i (v .sizes .orders) inside;
-      remembered = v .sizes .nonces;
+      stored = length-zeroed (w .orders) i (v .state .sizes .orders) inside ∙ v .state .sizes .orders;
+      here = zeroed-same (w .orders) i (v .state .sizes .orders) inside;
+      elsewhere = zeroed-other (w .orders) i (v .state .sizes .orders) inside;
+      remembered = v .state .sizes .nonces;
       memory = v .memory;
       counted = v .counted;
-      numbers = v .numbers;
-      new = record { empty = refl; zeros = refl };
-      others = λ j a n. v .places j a;
-      downloads = v .downloads;
+      numbers = v .state .numbers;
+      new = (record { empty = refl; zeros = refl }, tt);
+      others = λ j a n. place-kept v j a;
+      downloads = download-kept v;
       apartPlace = λ j a n f. never (sym f);
       apartDownload = λ j f. never (sym f);
       openAll = let m = count-set-le (λ (r : Place). isOpen (r .used)) (w .bank .places) i noPlace noPlace (λ z. never z) in omega
-          (arith, v .openAll);
+          (arith, v .state .openAll);
       openOf = λ s. let m = count-set-le (λ (r : Place). isOpen (r .used) && eqb (r .subscriber) s) (w .bank .places) i noPlace noPlace
-          (λ z. never z) in omega (arith, v .openOf s);
+          (λ z. never z) in omega (arith, v .state .openOf s);
       known = v .known;
       booked = λ t g. still-booked w h v i noPlace (freed i w) refl open-not-booked t (v .booked t g);
       sound = v .sound;

@@ -14,7 +14,9 @@ use Rattle.bank_state.specs.Store.{partAt}
 use Rattle.bank_history.specs.History.{Exchange, mailboxFile, accepted, ever, isAction, isBooking}
 use Rattle.bank_history.specs.Packed.{Packed}
 use Rattle.bank_history.specs.Sound.{AllSound}
-use Rattle.bank_history.specs.Invariant.{PlaceHolds, DownloadHolds, MailboxHolds, Memory, BookedIn, Invariant}
+use Rattle.bank_history.specs.Invariant.{MailboxHolds, Memory, BookedIn, Invariant}
+use Rattle.bank_history.proofs.Memory.{memory-nonces}
+use Rattle.bank_history.proofs.Parts.{PlaceKept, DownloadKept}
 
 -- the bank with these parts, its places and their store as they are
 abbrev pub besides : ℕ → ℕ → List Download → List Nonce → List ℕ → List ℕ → World → World
@@ -36,13 +38,13 @@ module _ (w : World) (c o : ℕ) (downs : List Download) (nonces : List Nonce) (
     pub stored : length boxes ≡ storeBytes
     pub counted : o ≡ accepted g
     pub numbers : o ≤ openingsMost
-    pub places : (i : ℕ) → i < placeCount → PlaceHolds (placeAt (w .bank) i .used) c o g (placeAt (w .bank) i) (partAt (w .orders) i)
+    pub places : (i : ℕ) → i < placeCount → PlaceKept (placeAt (w .bank) i .used) c o g (placeAt (w .bank) i) (partAt (w .orders) i)
     pub downloads : (j : ℕ) →
-        DownloadHolds (getD downs j noDownload .used) c o g (mailboxFile after (getD downs j noDownload .subscriber))
+        DownloadKept (getD downs j noDownload .used) c o g (mailboxFile after (getD downs j noDownload .subscriber))
         (getD downs j noDownload)
     pub mailboxes : (i : ℕ) → i < placeCount → MailboxHolds (getD files i 0) (partAt boxes i)
     pub apart : (i j : ℕ) → i < placeCount → isFree (placeAt (w .bank) i .used) ≡ false → getD downs j noDownload .used ≡ true →
-        placeAt (w .bank) i .number ≡ getD downs j noDownload .transaction .low → ⊥
+        placeAt (w .bank) i .transaction .low ≡ getD downs j noDownload .transaction .low → ⊥
     pub inOrder : Packed (λ (e : Download). e .used) noDownload (λ (e : Download). e .transaction .low)
         (λ (e : Download). suc (e .transaction .low)) 0 downs
     pub memory : Memory c nonces g
@@ -54,25 +56,30 @@ module _ (w : World) (c o : ℕ) (downs : List Download) (nonces : List Nonce) (
 
   pub download-change : {h g : List Exchange} → Invariant w h → DownloadChange g → Invariant (besides c o downs nonces files boxes w) g
   download-change v k = record {
-    sizes = record {
-      places = v .sizes .places;
-      downloads = k .listed;
-      nonces = k .remembered;
-      files = k .filed;
-      orders = v .sizes .orders;
-      boxes = k .stored;
+    state = record {
+      sizes = record {
+        places = v .state .sizes .places;
+        downloads = k .listed;
+        nonces = k .remembered;
+        files = k .filed;
+        orders = v .state .sizes .orders;
+        boxes = k .stored;
+      };
+      numbers = k .numbers;
+      places = λ i a. k .places i a .0;
+      downloads = λ j. k .downloads j .0;
+      mailboxes = k .mailboxes;
+      placesApart = v .state .placesApart;
+      apart = k .apart;
+      inOrder = k .inOrder;
+      nonces = memory-nonces _ _ _ (k .memory);
+      openAll = k .openAll;
+      openOf = k .openOf;
     };
     counted = k .counted;
-    numbers = k .numbers;
-    places = k .places;
-    downloads = k .downloads;
-    mailboxes = k .mailboxes;
-    placesApart = v .placesApart;
-    apart = k .apart;
-    inOrder = k .inOrder;
+    places = λ i a. k .places i a .1;
+    downloads = λ j. k .downloads j .1;
     memory = k .memory;
-    openAll = k .openAll;
-    openOf = k .openOf;
     known = k .known;
     booked = λ t e. let z = k .booked t e in record { place = z .place; inside = z .inside; used = z .used; same = z .same };
     sound = k .sound;

@@ -5,14 +5,15 @@ use mathlib.Core.List.{List}
 use mathlib.Core.Path.{_≡_, refl, sym, ap, _∙_, subst}
 use native.Mathlib.Decide.{decLt}
 use native.Mathlib.Omega.{arith}
-use lib.Dec.{ltb, eqb}
+use lib.Dec.{ltb, leb, eqb}
 use lib.ListN.{length}
 use lib.Seq.{getD-set-same}
-use borrow.Author.Tests.{eq-eqb, lt-ltb, le-ltb, le-leb}
+use borrow.Author.Tests.{eq-eqb, le-ltb, le-leb, lt-leb}
 use Rattle.frame_table.specs.declared.fields.Bits128.{Bits128}
 use Rattle.frame_table.specs.declared.fields.Fields.{Fields}
 use Rattle.frame_table.specs.declared.table.Form.the-variants as forms
 use Rattle.frame_table.specs.Names.{subscriber, transaction, segment, receiptCode, form, sameBits}
+use Rattle.frame_table.specs.Table.{isRequestForm}
 use Rattle.octets.proofs.Tests.{never}
 use Rattle.frame_table.proofs.Bits.{bits-same}
 use Rattle.message.specs.Limits.{segmentBytes}
@@ -20,49 +21,50 @@ use Rattle.bank_state.specs.declared.state.Download.{Download}
 use Rattle.bank_state.specs.Limits.{placeCount}
 use Rattle.bank_state.specs.Search.{isFree, isUpload, isDownload, findUpload, findDownload, freeDownload}
 use Rattle.bank_state.specs.State.{World, noPlace, noDownload, placeAt, downloadAt}
-use Rattle.bank_downloads.specs.declared.downloads.DownloadRequest.{DownloadRequest}
-use Rattle.bank_downloads.specs.declared.downloads.DownloadRequest.the-variants as asks
-use Rattle.bank_downloads.specs.declared.downloads.DownloadVerdict.{DownloadVerdict}
-use Rattle.bank_downloads.specs.declared.downloads.DownloadVerdict.the-variants as down
-use Rattle.bank_downloads.specs.Downloads.{receiptAnswers, downloadRefusals, judgeDownload, downloadStep, movedTo}
-use Rattle.bank_openings.specs.Openings.{counted, openDownload}
-use Rattle.bank.specs.Call.{Step, downloadStepAt, transactionStep, respond}
-use Rattle.bank_history.specs.History.{
-  OpenedDownload,
-  Delivered,
-  Confirmed,
-  Event,
-  Of,
-  Exchange,
-  uploadAction,
-  downloadAction,
-  mailboxFile,
-  transactionEvent,
-  eventOf,
-  isOpening,
-  segmentsNow,
+use Rattle.bank_downloads.specs.Downloads.{movedTo}
+use Rattle.bank_verdicts.specs.declared.verdict.TransactionRequest.{TransactionRequest}
+use Rattle.bank_verdicts.specs.declared.verdict.TransactionRequest.the-variants as asks
+use Rattle.bank_verdicts.specs.declared.verdict.DownloadAction.{DownloadAction}
+use Rattle.bank_verdicts.specs.declared.verdict.DownloadAction.the-variants as down
+use Rattle.bank_verdicts.specs.declared.verdict.Action.the-variants as action
+use Rattle.bank_verdicts.specs.declared.verdict.Verdict.{Verdict}
+use Rattle.bank_verdicts.specs.declared.verdict.Verdict.the-variants as verdict
+use Rattle.bank_verdicts.specs.Refusals.{notOpen, transactionRows, downloadAttempt, receiptRows, downloadRows}
+use Rattle.bank_verdicts.specs.Judgement.{
+  mailboxSegments,
+  uploadAt,
+  downloadOf,
+  judgeDownload,
+  judgeOpen,
+  judgeTransaction,
+  judgeForm,
+  judge,
 }
-use Rattle.bank_history.specs.Invariant.{OpenDownload, Invariant}
+use Rattle.bank_verdicts.proofs.Sound.{Readable}
+use Rattle.bank_openings.specs.Openings.{counted, openDownload}
+use Rattle.bank.specs.Call.{carryOut, respond}
+use Rattle.bank_history.specs.History.{Exchange, mailboxFile, opens}
+use Rattle.bank_history.specs.Invariant.{Invariant}
+use Rattle.bank_history.proofs.Parts.{OpenDownload}
 use Rattle.bank_history.specs.Standing.{DownloadAt}
 use Rattle.bank_state.proofs.Rows.{first-passes}
 use Rattle.bank_history.proofs.Rows.{first-at-most}
 use Rattle.bank_history.proofs.Cases.{
   Happens,
   unreadable,
-  refusal,
+  refused,
   opensUpload,
   opensDownload,
   toUpload,
   toDownload,
-  Admitted,
-  downloadStepBy,
+  requestForm,
+  download-goes-on,
 }
-use Rattle.bank_history.proofs.Entries.{same-bits}
+use Rattle.bank_history.proofs.Entries.{and-no, same-bits}
 use Rattle.bank_state.proofs.Found.{upload-found, download-found}
-use Rattle.bank_history.proofs.Uploads.{place-number}
 use Rattle.bank_history.proofs.Downloads.{download-open, downloads-apart}
 use Rattle.bank_history.proofs.Openings.{free-inside-open}
-use Rattle.bank_history.proofs.UploadRequests.{event-by-form, respond-by-form, upload-opens-not, download-opens-not}
+use Rattle.bank_history.proofs.UploadRequests.{verdict-by-form}
 
 is-download : (s : ℕ) (t : Bits128) (e : Download) → e .used ≡ true → e .subscriber ≡ s → e .transaction ≡ t → isDownload s t e ≡ true
 unfolding isDownload
@@ -80,19 +82,18 @@ module _ (w : World) (h : List Exchange) (v : Invariant w h) (t : Bits128) (s d 
       at : Dec (findUpload s t (w .bank) < placeCount) → ltb (findUpload s t (w .bank)) placeCount ≡ false
       at (no n) = le-ltb (findUpload s t (w .bank)) placeCount (omega arith)
       at (yes l) =
-          let long = v .sizes .places in
+          let long = v .state .sizes .places in
           let passes = first-passes (isUpload s t) (w .bank .places) noPlace (omega arith) in
           let f = upload-found s t (placeAt (w .bank) (findUpload s t (w .bank))) passes in
           let a : isFree (placeAt (w .bank) (findUpload s t (w .bank)) .used) ≡ false = ap isFree (f .0) in
           let e : placeAt (w .bank) (findUpload s t (w .bank)) .transaction ≡ downloadAt (w .bank) (u .row) .transaction =
           bits-same _ t (f .2) ∙ sym (u .transaction) in
-          absurd (v .apart (findUpload s t (w .bank)) (u .row) l a (u .used)
-          (sym (place-number w h v (findUpload s t (w .bank)) l a .0) ∙ ap (λ (z : Bits128). z .low) e))
+          absurd (v .state .apart (findUpload s t (w .bank)) (u .row) l a (u .used) (ap (λ (z : Bits128). z .low) e))
 
   find-own : findDownload s t (w .bank) ≡ u .row
   unfolding findDownload
   find-own =
-      let long = v .sizes .downloads in
+      let long = v .state .sizes .downloads in
       let inside = u .inside in
       let own = is-download s t (downloadAt (w .bank) (u .row)) (u .used) (u .subscriber) (u .transaction) in
       let most : findDownload s t (w .bank) ≤ u .row =
@@ -103,128 +104,123 @@ module _ (w : World) (h : List Exchange) (v : Invariant w h) (t : Bits128) (s d 
       bits-same _ t (f .2) ∙ sym (u .transaction) in
       downloads-apart w h v (findDownload s t (w .bank)) (u .row) (f .0) (u .used) (ap (λ (z : Bits128). z .low) e)
 
--- what a request to a download comes to at record j
-abbrev eventAt : DownloadRequest → World → Fields → ℕ → Event
-eventAt r w q j = let e = downloadAt (w .bank) j in Of (e .transaction)
-    (downloadAction (judgeDownload r e (segmentsNow w q) q) e (segmentsNow w q))
-
-abbrev stepAt : DownloadRequest → World → Fields → ℕ → Step
-stepAt r w q j = downloadStepBy (judgeDownload r (downloadAt (w .bank) j) (segmentsNow w q) q) j w q
-
 -- "segment d + 1 (up to N) fits"; "A receipt fits when d = N. Code 0 is answered 011000"
-judge-deliver : (e : Download) (n : ℕ) (q : Fields) → segment q ≡ e .delivered + 1 → segment q ≤ n →
-    judgeDownload asks.Transfer e n q ≡ down.Deliver
-unfolding judgeDownload downloadRefusals receiptAnswers
-judge-deliver e n q next within = rw (eq-eqb (segment q) (e .delivered + 1) next, le-leb (segment q) n within)
+judge-next : (e : Download) (n : ℕ) (q : Fields) → segment q ≡ e .delivered + 1 → segment q ≤ n →
+    judgeDownload asks.DownloadTransfer e n q ≡ down.Delivered n
+unfolding judgeDownload downloadRows receiptRows downloadAttempt
+judge-next e n q next within = rw (eq-eqb (segment q) (e .delivered + 1) next, le-leb (segment q) n within)
 
-judge-done : (e : Download) (n : ℕ) (q : Fields) → e .delivered ≡ n → receiptCode q ≡ 0 → judgeDownload asks.Receipt e n q ≡ down.Done
-unfolding judgeDownload downloadRefusals receiptAnswers
-judge-done e n q whole taken = rw (eq-eqb (e .delivered) n whole, eq-eqb (receiptCode q) 0 taken)
+judge-receipt : (e : Download) (n : ℕ) (q : Fields) → e .delivered ≡ n → receiptCode q ≡ 0 →
+    judgeDownload asks.Receipt e n q ≡ down.Confirmed
+unfolding judgeDownload downloadRows receiptRows downloadAttempt
+judge-receipt e n q whole taken = rw (eq-eqb (e .delivered) n whole, eq-eqb (receiptCode q) 0 taken)
 
-module _ (lent : ℕ) (w : World) (h : List Exchange) (v : Invariant w h) (t : Bits128) (s d last : ℕ) (u : DownloadAt w t s d last)
+module _ (first : ℕ) (w : World) (h : List Exchange) (v : Invariant w h) (t : Bits128) (s d last : ℕ) (u : DownloadAt w t s d last)
     (q : Fields) (b : List ℕ)
     (from : subscriber q ≡ s) (to : transaction q ≡ t) (short : length b ≤ segmentBytes) where
   abbrev own : Download
   own = downloadAt (w .bank) (u .row)
 
+  -- N of its mailbox
+  abbrev n : ℕ
+  n = mailboxSegments (subscriber q) (w .bank)
+
   isOpen′ : OpenDownload (w .bank .clock) (w .bank .openings) h (mailboxFile w (own .subscriber)) own
   isOpen′ = download-open w h v (u .row) (u .used)
 
-  admitted : Admitted q b
-  admitted =
-      let x = isOpen′ .known in
-      let y = isOpen′ .most in
+  readable : isRequestForm (form q) ≡ true → Readable q (length b)
+  readable r =
+      let x = isOpen′ .0 .known in
+      let y = isOpen′ .0 .most in
       let z = u .subscriber in
-      record { known = omega arith; most = omega arith; short = short }
+      record { request = r; known = omega arith; most = omega arith; short = short }
 
-  not-upload : ltb (findUpload (subscriber q) (transaction q) (w .bank)) placeCount ≡ false
+  not-upload : ltb (uploadAt (w .bank) q) placeCount ≡ false
   not-upload = ap (λ (m : ℕ). ltb (findUpload m (transaction q) (w .bank)) placeCount) from
       ∙ (ap (λ (i : Bits128). ltb (findUpload s i (w .bank)) placeCount) to ∙ no-upload w h v t s d last u)
 
-  found : findDownload (subscriber q) (transaction q) (w .bank) ≡ u .row
+  found : downloadOf (w .bank) q ≡ u .row
   found = ap (λ (m : ℕ). findDownload m (transaction q) (w .bank)) from
       ∙ (ap (λ (i : Bits128). findDownload s i (w .bank)) to ∙ find-own w h v t s d last u)
 
-  found-inside : ltb (findDownload (subscriber q) (transaction q) (w .bank)) placeCount ≡ true
-  found-inside = lt-ltb (findDownload (subscriber q) (transaction q) (w .bank)) placeCount
-      (let e = found in let i = u .inside in omega arith)
+  found-inside : downloadOf (w .bank) q < placeCount
+  found-inside = let e = found in let i = u .inside in omega arith
 
-  event-at : (r : DownloadRequest) → transactionEvent false r w q b ≡ eventAt r w q (findDownload (subscriber q) (transaction q) (w .bank))
-  unfolding transactionEvent
-  event-at r = rw (not-upload, found-inside)
+  at-record : (r : TransactionRequest) → judgeTransaction r (w .bank) q (length b)
+      ≡ verdict.Of (downloadAt (w .bank) (downloadOf (w .bank) q) .transaction)
+      (action.Download (judgeDownload r (downloadAt (w .bank) (downloadOf (w .bank) q)) n q))
+  unfolding judgeTransaction transactionRows judgeOpen notOpen
+  at-record r = rw (
+    lt-leb placeCount (downloadOf (w .bank) q) found-inside,
+    and-no (leb placeCount (uploadAt (w .bank) q)),
+    not-upload,
+  )
 
-  step-at : (r : DownloadRequest) → transactionStep false r w q b ≡ stepAt r w q (findDownload (subscriber q) (transaction q) (w .bank))
-  unfolding transactionStep downloadStepAt downloadStep
-  step-at r = rw (not-upload, found-inside)
+  -- the verdict on a request in this form, by that on the record
+  own-verdict : (r : TransactionRequest) (a : DownloadAction) → form q ≡ requestForm r → isRequestForm (requestForm r) ≡ true →
+      judgeForm (requestForm r) first (w .bank) q (length b) ≡ judgeTransaction r (w .bank) q (length b) →
+      judgeDownload r own n q ≡ a → judge first (w .bank) q (length b) ≡ verdict.Of t (action.Download a)
+  own-verdict r a asked request by judged =
+      verdict-by-form first w q b (requestForm r) asked (readable (ap isRequestForm asked ∙ request))
+      ∙ (by ∙ (at-record r
+      ∙ (ap (λ (j : ℕ). verdict.Of (downloadAt (w .bank) j .transaction) (action.Download (judgeDownload r (downloadAt (w .bank) j) n q)))
+      found
+      ∙ (ap (λ (x : DownloadAction). verdict.Of (own .transaction) (action.Download x)) judged
+      ∙ ap (λ (i : Bits128). verdict.Of i (action.Download a)) (u .transaction)))))
 
   -- the next segment is delivered
-  module _ (asked : form q ≡ forms.DownloadTransfer) (next : segment q ≡ suc d) (within : segment q ≤ segmentsNow w q) where
-    judged : judgeDownload asks.Transfer own (segmentsNow w q) q ≡ down.Deliver
-    judged = judge-deliver own (segmentsNow w q) q (let e = u .delivered in omega arith) within
+  module _ (asked : form q ≡ forms.DownloadTransfer) (next : segment q ≡ suc d) (within : segment q ≤ n) where
+    pub deliver-verdict : judge first (w .bank) q (length b) ≡ verdict.Of t (action.Download (down.Delivered n))
+    deliver-verdict = own-verdict asks.DownloadTransfer (down.Delivered n) asked refl refl
+        (judge-next own n q (let e = u .delivered in omega arith) within)
 
-    pub deliver-event : eventOf lent w q b ≡ Of t (Delivered (segmentsNow w q))
-    deliver-event =
-        event-by-form lent w q b forms.DownloadTransfer asked refl admitted
-        ∙ (event-at asks.Transfer
-        ∙ (ap (eventAt asks.Transfer w q) found
-        ∙ (ap (λ (x : DownloadVerdict). Of (own .transaction) (downloadAction x own (segmentsNow w q))) judged
-        ∙ ap (λ (i : Bits128). Of i (Delivered (segmentsNow w q))) (u .transaction))))
-
-    deliver-step : respond lent w q b ≡ downloadStepBy down.Deliver (u .row) w q
-    deliver-step =
-        respond-by-form lent w q b forms.DownloadTransfer asked refl admitted
-        ∙ (step-at asks.Transfer ∙ (ap (stepAt asks.Transfer w q) found
-        ∙ ap (λ (x : DownloadVerdict). downloadStepBy x (u .row) w q) judged))
-
-    pub deliver-open : DownloadAt (respond lent w q b .world) t s (suc d) (w .bank .clock)
-    deliver-open = subst (λ (z : Step). DownloadAt (z .world) t s (suc d) (w .bank .clock)) (sym deliver-step) (record {
-      row = u .row;
-      inside = u .inside;
+    delivered-open : DownloadAt (carryOut (verdict.Of t (action.Download (down.Delivered n))) w q b) t s (suc d) (w .bank .clock)
+    delivered-open = record {
+      row = downloadOf (w .bank) q;
+      inside = found-inside;
       used = ap (λ (r : Download). r .used) is ∙ u .used;
       transaction = ap (λ (r : Download). r .transaction) is ∙ u .transaction;
       subscriber = ap (λ (r : Download). r .subscriber) is ∙ u .subscriber;
       delivered = ap (λ (r : Download). r .delivered) is ∙ (let a = u .delivered in omega arith);
       fitting = ap (λ (r : Download). r .last) is;
-    })
+    }
       where
-        is : downloadAt (downloadStepBy down.Deliver (u .row) w q .world .bank) (u .row) ≡ movedTo (own .delivered + 1) (own .attempts)
-            (w .bank .clock) own
-        is = getD-set-same (w .bank .downloads) (u .row) _ noDownload (let a = v .sizes .downloads in let i = u .inside in omega arith)
+        is : downloadAt (carryOut (verdict.Of t (action.Download (down.Delivered n))) w q b .bank) (downloadOf (w .bank) q)
+            ≡ movedTo (own .delivered + 1) (own .attempts) (w .bank .clock) own
+        is = getD-set-same (w .bank .downloads) (downloadOf (w .bank) q) _ noDownload
+            (let a = v .state .sizes .downloads in let i = found-inside in omega arith)
+            ∙ ap (λ (j : ℕ). let e = downloadAt (w .bank) j in movedTo (e .delivered + 1) (e .attempts) (w .bank .clock) e) found
+
+    pub deliver-open : DownloadAt (respond first w q b .world) t s (suc d) (w .bank .clock)
+    unfolding respond
+    deliver-open =
+        subst (λ (x : Verdict). DownloadAt (carryOut x w q b) t s (suc d) (w .bank .clock)) (sym deliver-verdict) delivered-open
 
   -- the receipt is answered 011000
-  module _ (asked : form q ≡ forms.Receipt) (whole : d ≡ segmentsNow w q) (taken : receiptCode q ≡ 0) where
-    pub receipt-event : eventOf lent w q b ≡ Of t Confirmed
-    receipt-event =
-        event-by-form lent w q b forms.Receipt asked refl admitted
-        ∙ (event-at asks.Receipt
-        ∙ (ap (eventAt asks.Receipt w q) found
-        ∙ (ap (λ (x : DownloadVerdict). Of (own .transaction) (downloadAction x own (segmentsNow w q)))
-        (judge-done own (segmentsNow w q) q (u .delivered ∙ whole) taken)
-        ∙ ap (λ (i : Bits128). Of i Confirmed) (u .transaction))))
+  pub receipt-verdict : form q ≡ forms.Receipt → d ≡ n → receiptCode q ≡ 0 →
+      judge first (w .bank) q (length b) ≡ verdict.Of t (action.Download down.Confirmed)
+  receipt-verdict asked whole taken = own-verdict asks.Receipt down.Confirmed asked refl refl
+      (judge-receipt own n q (u .delivered ∙ whole) taken)
 
 -- a download just opened is open with segment 1 delivered
-pub opened-open : (lent : ℕ) (w : World) (h : List Exchange) → Invariant w h →
-    (q : Fields) (b : List ℕ) (t : Bits128) (n : ℕ) {e : Event} {g : Step} → Happens lent w q b e g →
-    e ≡ Of t (OpenedDownload n) → DownloadAt (g .world) t (subscriber q) 1 (w .bank .clock)
+pub opened-open : (first : ℕ) (w : World) (h : List Exchange) → Invariant w h →
+    (q : Fields) (b : List ℕ) (t : Bits128) (n : ℕ) {x : Verdict} → Happens first w q b x →
+    x ≡ verdict.Of t (action.Download (down.Opened n)) → DownloadAt (carryOut x w q b) t (subscriber q) 1 (w .bank .clock)
 unfolding openDownload counted
-opened-open lent w h v q b t n unreadable z = absurd (let y : _≡_ {A = ℕ} 0 1 = cc in omega arith)
-opened-open lent w h v q b t n (refusal c e) z = absurd (let y : _≡_ {A = ℕ} 0 1 = cc in omega arith)
-opened-open lent w h v q b t n (opensUpload asked a g m inside) z = absurd (let y : _≡_ {A = ℕ} 0 1 = cc in omega arith)
-opened-open lent w h v q b t n (opensDownload asked a g m) z =
-    let inside : freeDownload (w .bank) < length (w .bank .downloads) = free-inside-open (w .bank) (v .sizes .downloads) (g .ofAll) in
+opened-open first w h v q b t n unreadable z = absurd (let y : _≡_ {A = ℕ} 0 1 = cc in omega arith)
+opened-open first w h v q b t n (refused c e) z = absurd (let y : _≡_ {A = ℕ} 0 1 = cc in omega arith)
+opened-open first w h v q b t n (opensUpload asked a g m inside) z = absurd (let y : _≡_ {A = ℕ} 0 1 = cc in omega arith)
+opened-open first w h v q b t n (opensDownload asked a g m) z =
+    let inside : freeDownload (w .bank) < length (w .bank .downloads) = free-inside-open (w .bank) (v .state .sizes .downloads) (g .ofAll) in
     let is = getD-set-same (w .bank .downloads) (freeDownload (w .bank)) _ noDownload inside in
     record {
       row = freeDownload (w .bank);
-      inside = let l = v .sizes .downloads in omega arith;
+      inside = let l = v .state .sizes .downloads in omega arith;
       used = ap (λ (r : Download). r .used) is;
       transaction = ap (λ (r : Download). r .transaction) is ∙ cc;
       subscriber = ap (λ (r : Download). r .subscriber) is;
       delivered = ap (λ (r : Download). r .delivered) is;
       fitting = ap (λ (r : Download). r .last) is;
     }
-opened-open lent w h v q b t n (toUpload i transfer r x a asked inside found sound) z =
-    let y : uploadAction x (placeAt (w .bank) i) ≡ OpenedDownload n = cc in
-    never (sym (upload-opens-not x (placeAt (w .bank) i)) ∙ ap isOpening y)
-opened-open lent w h v q b t n (toDownload j transfer r x a asked inside found sound) z =
-    let y : downloadAction x (downloadAt (w .bank) j) (segmentsNow w q) ≡ OpenedDownload n = cc in
-    never (sym (download-opens-not x (downloadAt (w .bank) j) (segmentsNow w q)) ∙ ap isOpening y)
+opened-open first w h v q b t n (toUpload r a c) z = absurd (let y : _≡_ {A = ℕ} 0 1 = cc in omega arith)
+opened-open first w h v q b t n (toDownload r a c) z = never (sym (download-goes-on (c .sound)) ∙ ap opens z)

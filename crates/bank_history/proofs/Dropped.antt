@@ -2,14 +2,12 @@
 use Prim.Native.Nat.{ℕ, _+_, _<_, max}
 use mathlib.Core.Bool.{true, false}
 use mathlib.Core.List.{List}
+use mathlib.Core.Logic.{inl}
 use mathlib.Core.Path.{_≡_, refl, sym, ap, _∙_}
 use native.Mathlib.Decide.{decLt}
 use native.Mathlib.Omega.{arith}
 use lib.ListN.{List·getD-eq-default}
 use Rattle.frame_table.specs.declared.fields.Bits128.{Bits128}
-use Rattle.octets.specs.Bytes.{number}
-use Rattle.frame.specs.Reader.{readRequest}
-use Rattle.frame.specs.Row.{dataOf}
 use Rattle.octets.proofs.Tests.{never}
 use Rattle.bank_state.specs.declared.state.Download.{Download}
 use Rattle.bank_state.specs.declared.state.Place.{Place}
@@ -20,17 +18,15 @@ use Rattle.bank_state.specs.State.{World, noPlace, placeAt, downloadAt}
 use Rattle.bank_history.specs.History.{Exchange, Past}
 use Rattle.bank_history.specs.Invariant.{Invariant, Holds}
 use Rattle.bank_history.specs.Standing.{answered, Gone, UploadAt, DownloadAt}
-use Rattle.bank_history.proofs.Cases.{happens}
-use Rattle.bank_history.proofs.Changes.{case-gone}
+use Rattle.bank_history.proofs.Changes.{answered-gone}
 use Rattle.bank_history.proofs.Clock.{
   advanced-not-idle,
   advanced-clock,
   advanced-openings,
   each-advanced,
   each-download,
-  advanced-keeps,
 }
-use Rattle.bank_history.proofs.Uploads.{place-number}
+use Rattle.bank_history.proofs.Uploads.{place-counted}
 use Rattle.bank_history.proofs.Downloads.{download-open, downloads-apart}
 
 module _ (time : ℕ) (w : World) (h : List Exchange) (v : Invariant w h) (t : Bits128) where
@@ -38,7 +34,7 @@ module _ (time : ℕ) (w : World) (h : List Exchange) (v : Invariant w h) (t : B
   places-or-not : (i : ℕ) → isFree (placeAt (advanced time w .bank) i .used) ≡ false →
       placeAt (advanced time w .bank) i ≡ placeAt (w .bank) i
   places-or-not = each-advanced time w (λ (i : ℕ) (p : Place). isFree (p .used) ≡ false → p ≡ placeAt (w .bank) i)
-      (λ i f. never (sym f)) (v .sizes) (λ i _ _. refl)
+      (λ i f. never (sym f)) (v .state .sizes) (λ i _ _. refl)
 
   inside-if-used : (i : ℕ) → isFree (placeAt (w .bank) i .used) ≡ false → i < placeCount
   inside-if-used i f = at (decLt i placeCount)
@@ -46,7 +42,7 @@ module _ (time : ℕ) (w : World) (h : List Exchange) (v : Invariant w h) (t : B
       at : Dec (i < placeCount) → i < placeCount
       at (yes l) = l
       at (no l) = never (sym f ∙ ap (λ (p : Place). isFree (p .used))
-          (List·getD-eq-default (w .bank .places) noPlace {n = i} (let z = v .sizes .places in omega arith)))
+          (List·getD-eq-default (w .bank .places) noPlace {n = i} (let z = v .state .sizes .places in omega arith)))
 
   -- an idle upload is dropped
   pub upload-dropped : (s k n last : ℕ) → UploadAt w t s k n last → last + idleLimit < max (w .bank .clock) time → Gone (advanced time w) t
@@ -55,22 +51,22 @@ module _ (time : ℕ) (w : World) (h : List Exchange) (v : Invariant w h) (t : B
       used : isFree (placeAt (w .bank) (u .place) .used) ≡ false
       used = ap isFree (u .used)
 
-      number : placeAt (w .bank) (u .place) .number ≡ t .low
-      number = sym (place-number w h v (u .place) (u .inside) used .0) ∙ ap (λ (b : Bits128). b .low) (u .transaction)
+      number : placeAt (w .bank) (u .place) .transaction .low ≡ t .low
+      number = ap (λ (b : Bits128). b .low) (u .transaction)
 
       known : t .low < advanced time w .bank .openings
-      known = let a = place-number w h v (u .place) (u .inside) used .1 in let b = advanced-openings time w in let c = number in omega arith
+      known = let a = place-counted w h v (u .place) (u .inside) used .0 in let b = advanced-openings time w in let c = number in omega arith
 
       places : (i : ℕ) → isFree (placeAt (advanced time w .bank) i .used) ≡ false → placeAt (advanced time w .bank) i .transaction ≡ t → ⊥
       places i f z =
           let e = places-or-not i f in
           let g : isFree (placeAt (w .bank) i .used) ≡ false = ap (λ (p : Place). isFree (p .used)) (sym e) ∙ f in
           let inside = inside-if-used i g in
-          let a : placeAt (w .bank) i .number ≡ t .low =
-          sym (place-number w h v i inside g .0) ∙ ap (λ (b : Bits128). b .low) (ap (λ (p : Place). p .transaction) (sym e) ∙ z) in
-          let same : i ≡ u .place = v .placesApart i (u .place) inside (u .inside) g used (a ∙ sym number) in
+          let a : placeAt (w .bank) i .transaction .low ≡ t .low =
+          ap (λ (b : Bits128). b .low) (ap (λ (p : Place). p .transaction) (sym e) ∙ z) in
+          let same : i ≡ u .place = v .state .placesApart i (u .place) inside (u .inside) g used (inl (a ∙ sym number)) in
           let now : placeAt (advanced time w .bank) i ≡ placeAt (w .bank) (u .place) = e ∙ ap (placeAt (w .bank)) same in
-          let notIdle = advanced-not-idle time w (v .sizes) .places i inside
+          let notIdle = advanced-not-idle time w (v .state .sizes) .places i inside
           (ap (λ (p : Place). isOpen (p .used)) now ∙ ap isOpen (u .used)) in
           let l : placeAt (advanced time w .bank) i .last ≡ last = ap (λ (p : Place). p .last) now ∙ u .fitting in
           let c = advanced-clock time w in
@@ -78,7 +74,7 @@ module _ (time : ℕ) (w : World) (h : List Exchange) (v : Invariant w h) (t : B
 
       downloads : (j : ℕ) → downloadAt (advanced time w .bank) j .used ≡ true → downloadAt (advanced time w .bank) j .transaction ≡ t → ⊥
       downloads = each-download time w (λ (e : Download). e .used ≡ true → e .transaction ≡ t → ⊥) (λ e. never e)
-          (λ j _ e z. v .apart (u .place) j (u .inside) used e (number ∙ ap (λ (b : Bits128). b .low) (sym z)))
+          (λ j _ e z. v .state .apart (u .place) j (u .inside) used e (number ∙ ap (λ (b : Bits128). b .low) (sym z)))
 
   -- an idle download is dropped
   pub download-dropped : (s d last : ℕ) → DownloadAt w t s d last → last + idleLimit < max (w .bank .clock) time → Gone (advanced time w) t
@@ -88,16 +84,16 @@ module _ (time : ℕ) (w : World) (h : List Exchange) (v : Invariant w h) (t : B
       number = ap (λ (b : Bits128). b .low) (u .transaction)
 
       known : t .low < advanced time w .bank .openings
-      known = let a = download-open w h v (u .row) (u .used) .counted in let b = advanced-openings time w in let c = number in omega arith
+      known = let a = download-open w h v (u .row) (u .used) .0 .counted in let b = advanced-openings time w in let c = number in omega arith
 
       places : (i : ℕ) → isFree (placeAt (advanced time w .bank) i .used) ≡ false → placeAt (advanced time w .bank) i .transaction ≡ t → ⊥
       places i f z =
           let e = places-or-not i f in
           let g : isFree (placeAt (w .bank) i .used) ≡ false = ap (λ (p : Place). isFree (p .used)) (sym e) ∙ f in
           let inside = inside-if-used i g in
-          let a : placeAt (w .bank) i .number ≡ t .low =
-          sym (place-number w h v i inside g .0) ∙ ap (λ (b : Bits128). b .low) (ap (λ (p : Place). p .transaction) (sym e) ∙ z) in
-          v .apart i (u .row) inside g (u .used) (a ∙ sym number)
+          let a : placeAt (w .bank) i .transaction .low ≡ t .low =
+          ap (λ (b : Bits128). b .low) (ap (λ (p : Place). p .transaction) (sym e) ∙ z) in
+          v .state .apart i (u .row) inside g (u .used) (a ∙ sym number)
 
       still : (j : ℕ) → downloadAt (advanced time w .bank) j .used ≡ true → downloadAt (advanced time w .bank) j .transaction ≡ t →
           downloadAt (advanced time w .bank) j .last ≡ last
@@ -108,14 +104,11 @@ module _ (time : ℕ) (w : World) (h : List Exchange) (v : Invariant w h) (t : B
       downloads : (j : ℕ) → downloadAt (advanced time w .bank) j .used ≡ true → downloadAt (advanced time w .bank) j .transaction ≡ t → ⊥
       downloads j e z =
           let l = still j e z in
-          let notIdle = advanced-not-idle time w (v .sizes) .downloads j e in
+          let notIdle = advanced-not-idle time w (v .state .sizes) .downloads j e in
           let c = advanced-clock time w in
           omega arith
 
 -- a frame call that finds it idle leaves it gone, whatever its request
 pub dropped-stays : (time : ℕ) (ids frame : List ℕ) (p : Past) (t : Bits128) → Holds p → Gone (advanced time (p .world)) t →
     Gone (answered time ids frame p .world) t
-dropped-stays time ids frame p t holds gone =
-    let v = advanced-keeps time (p .world) (p .history) (holds .invariant) in
-    case-gone t (advanced time (p .world)) gone (number ids) (readRequest frame) (dataOf frame)
-    (happens (number ids) (advanced time (p .world)) (readRequest frame) (dataOf frame) (v .sizes .places) (v .sizes .downloads))
+dropped-stays time ids frame p t holds gone = answered-gone t time ids frame p holds gone

@@ -10,13 +10,12 @@ use Rattle.frame_table.specs.declared.fields.Bits128.{Bits128}
 use Rattle.frame_table.specs.Names.{sameBits}
 use Rattle.octets.proofs.Tests.{never, and-true}
 use Rattle.frame_table.proofs.Bits.{bits-same}
+use Rattle.bank_verdicts.specs.declared.verdict.UploadAction.the-variants as up
+use Rattle.bank_verdicts.specs.declared.verdict.Action.{Action}
+use Rattle.bank_verdicts.specs.declared.verdict.Action.the-variants as action
+use Rattle.bank_verdicts.specs.declared.verdict.Verdict.{Verdict}
+use Rattle.bank_verdicts.specs.declared.verdict.Verdict.the-variants as verdict
 use Rattle.bank_history.specs.History.{
-  Action,
-  TookLast,
-  Event,
-  Unreadable,
-  Refusal,
-  Of,
   Exchange,
   isAction,
   isTaking,
@@ -45,42 +44,42 @@ other-bits t u h = rw (ne-eqb (t .low) (u .low) h) (and-no (eqb (t .high) (u .hi
 
 -- ---- one exchange more
 
-pub did-none : (f : Action → Bool) (t : Bits128) (v : Event) → did isAction t v ≡ false → did f t v ≡ false
-did-none f t Unreadable h = refl
-did-none f t (Refusal c) h = refl
-did-none f t (Of u k) h = at (sameBits t u) h
+pub did-none : (f : Action → Bool) (t : Bits128) (v : Verdict) → did isAction t v ≡ false → did f t v ≡ false
+did-none f t verdict.Unreadable h = refl
+did-none f t (verdict.Refused c) h = refl
+did-none f t (verdict.Of u k) h = at (sameBits t u) h
   where
     at : (b : Bool) → b && true ≡ false → b && f k ≡ false
     at true g = never (sym g)
     at false g = refl
 
-pub did-same : (f : Action → Bool) (t : Bits128) (k : Action) → did f t (Of t k) ≡ f k
+pub did-same : (f : Action → Bool) (t : Bits128) (k : Action) → did f t (verdict.Of t k) ≡ f k
 did-same f t k = rw (same-bits t)
 
-pub did-other : (t u : Bits128) (k : Action) → (t .low ≡ u .low → ⊥) → did isAction t (Of u k) ≡ false
+pub did-other : (t u : Bits128) (k : Action) → (t .low ≡ u .low → ⊥) → did isAction t (verdict.Of u k) ≡ false
 did-other t u k h = rw (other-bits t u h)
 
 -- an exchange that is not of t
-module _ (t : Bits128) (x : Exchange) (h : List Exchange) (none : did isAction t (x .event) ≡ false) where
+module _ (t : Bits128) (x : Exchange) (h : List Exchange) (none : did isAction t (x .verdict) ≡ false) where
   pub ever-other : (f : Action → Bool) → ever f t (x ∷ h) ≡ ever f t h
   unfolding ever
-  ever-other f = rw (did-none f t (x .event) none)
+  ever-other f = rw (did-none f t (x .verdict) none)
 
   pub times-other : (f : Action → Bool) → times f t (x ∷ h) ≡ times f t h
   unfolding times
-  times-other f = rw (did-none f t (x .event) none)
+  times-other f = rw (did-none f t (x .verdict) none)
 
   pub received-other : received t (x ∷ h) ≡ received t h
   unfolding received
-  received-other = rw (did-none isTaking t (x .event) none)
+  received-other = rw (did-none isTaking t (x .verdict) none)
 
   pub opening-other : {A : Type 0} (g : Exchange → A) (d : A) → atOpening g d t (x ∷ h) ≡ atOpening g d t h
   unfolding atOpening
-  opening-other g d = rw (did-none isOpening t (x .event) none)
+  opening-other g d = rw (did-none isOpening t (x .verdict) none)
 
 -- an exchange that is of t
-module _ (t : Bits128) (k : Action) (x : Exchange) (h : List Exchange) (own : x .event ≡ Of t k) where
-  own-did : (f : Action → Bool) → did f t (x .event) ≡ f k
+module _ (t : Bits128) (k : Action) (x : Exchange) (h : List Exchange) (own : x .verdict ≡ verdict.Of t k) where
+  own-did : (f : Action → Bool) → did f t (x .verdict) ≡ f k
   own-did f = ap (did f t) own ∙ did-same f t k
 
   pub ever-own : (f : Action → Bool) → ever f t (x ∷ h) ≡ cond (f k) true (ever f t h)
@@ -101,31 +100,31 @@ module _ (t : Bits128) (k : Action) (x : Exchange) (h : List Exchange) (own : x 
 
 -- ---- a transaction that the history does not know
 
-ever-less : (f : Action → Bool) (t : Bits128) (v : Event) → did f t v ≡ true → did isAction t v ≡ true
-ever-less f t Unreadable h = h
-ever-less f t (Refusal c) h = h
-ever-less f t (Of u k) h = rw (and-true (sameBits t u) (f k) h .0)
+ever-less : (f : Action → Bool) (t : Bits128) (v : Verdict) → did f t v ≡ true → did isAction t v ≡ true
+ever-less f t verdict.Unreadable h = h
+ever-less f t (verdict.Refused c) h = h
+ever-less f t (verdict.Of u k) h = rw (and-true (sameBits t u) (f k) h .0)
 
 -- an action of one kind is an action
 pub ever-action : (f : Action → Bool) (t : Bits128) (h : List Exchange) → ever f t h ≡ true → ever isAction t h ≡ true
 unfolding ever
 ever-action f t [] e = e
-ever-action f t (x ∷ h) e = at (did f t (x .event)) refl (ever-action f t h) e
+ever-action f t (x ∷ h) e = at (did f t (x .verdict)) refl (ever-action f t h) e
   where
     any : (c : Bool) → cond c true true ≡ true
     any true = refl
     any false = refl
 
-    at : (b : Bool) → did f t (x .event) ≡ b → (ever f t h ≡ true → ever isAction t h ≡ true) → cond b true (ever f t h) ≡ true →
-        cond (did isAction t (x .event)) true (ever isAction t h) ≡ true
-    at true g later z = rw (ever-less f t (x .event) g)
-    at false g later z = rw (later z) (any (did isAction t (x .event)))
+    at : (b : Bool) → did f t (x .verdict) ≡ b → (ever f t h ≡ true → ever isAction t h ≡ true) → cond b true (ever f t h) ≡ true →
+        cond (did isAction t (x .verdict)) true (ever isAction t h) ≡ true
+    at true g later z = rw (ever-less f t (x .verdict) g)
+    at false g later z = rw (later z) (any (did isAction t (x .verdict)))
 
 module _ (t : Bits128) where
   head-none : (x : Exchange) (h : List Exchange) → ever isAction t (x ∷ h) ≡ false →
-      (did isAction t (x .event) ≡ false) × (ever isAction t h ≡ false)
+      (did isAction t (x .verdict) ≡ false) × (ever isAction t h ≡ false)
   unfolding ever
-  head-none x h e = at (did isAction t (x .event)) e
+  head-none x h e = at (did isAction t (x .verdict)) e
     where
       at : (b : Bool) → cond b true (ever isAction t h) ≡ false → (b ≡ false) × (ever isAction t h ≡ false)
       at true g = never (sym g)
@@ -148,13 +147,13 @@ module _ (t : Bits128) where
 
 -- ---- what the history knows, behind an exchange of the transaction u
 
-module _ (u : Bits128) (k : Action) (x : Exchange) (h : List Exchange) (own : x .event ≡ Of u k) where
+module _ (u : Bits128) (k : Action) (x : Exchange) (h : List Exchange) (own : x .verdict ≡ verdict.Of u k) where
   pub known-more : (o : ℕ) → u .low < o → ((t : Bits128) → ever isAction t h ≡ true → t .low < o) → (t : Bits128) →
       ever isAction t (x ∷ h) ≡ true → t .low < o
   unfolding ever
-  known-more o low old t e = at (did isAction t (x .event)) refl e
+  known-more o low old t e = at (did isAction t (x .verdict)) refl e
     where
-      at : (b : Bool) → did isAction t (x .event) ≡ b → cond b true (ever isAction t h) ≡ true → t .low < o
+      at : (b : Bool) → did isAction t (x .verdict) ≡ b → cond b true (ever isAction t h) ≡ true → t .low < o
       at true g z =
           let f = bits-same t u (and-true (sameBits t u) true (sym (ap (did isAction t) own) ∙ g) .0) in
           let q = ap (λ (b : Bits128). b .low) f in
@@ -164,19 +163,19 @@ module _ (u : Bits128) (k : Action) (x : Exchange) (h : List Exchange) (own : x 
   pub booked-more : isBooking k ≡ false → (t : Bits128) → ever isBooking t (x ∷ h) ≡ true → ever isBooking t h ≡ true
   unfolding ever
   booked-more n t e =
-      let z : did isBooking t (x .event) ≡ false = ap (did isBooking t) own ∙ rw n (and-no (sameBits t u)) in
+      let z : did isBooking t (x .verdict) ≡ false = ap (did isBooking t) own ∙ rw n (and-no (sameBits t u)) in
       rw z at e
 
   pub accepted-own : accepted (x ∷ h) ≡ cond (isOpening k) (suc (accepted h)) (accepted h)
   unfolding accepted
-  accepted-own = ap (λ (v : Event). cond (opens v) (suc (accepted h)) (accepted h)) own
+  accepted-own = ap (λ (v : Verdict). cond (opens v) (suc (accepted h)) (accepted h)) own
 
 -- behind the exchange that took segment N of u
-pub booked-last : (u : Bits128) (x : Exchange) (h : List Exchange) → x .event ≡ Of u TookLast → (P : Bits128 → Type 0) → P u →
+pub booked-last : (u : Bits128) (x : Exchange) (h : List Exchange) → x .verdict ≡ verdict.Of u (action.Upload up.TookLast) → (P : Bits128 → Type 0) → P u →
     ((t : Bits128) → ever isBooking t h ≡ true → P t) → (t : Bits128) → ever isBooking t (x ∷ h) ≡ true → P t
 unfolding ever
-booked-last u x h own P new old t e = at (did isBooking t (x .event)) refl e
+booked-last u x h own P new old t e = at (did isBooking t (x .verdict)) refl e
   where
-    at : (b : Bool) → did isBooking t (x .event) ≡ b → cond b true (ever isBooking t h) ≡ true → P t
+    at : (b : Bool) → did isBooking t (x .verdict) ≡ b → cond b true (ever isBooking t h) ≡ true → P t
     at true g z = rw (bits-same t u (and-true (sameBits t u) true (sym (ap (did isBooking t) own) ∙ g) .0)) new
     at false g z = old t z

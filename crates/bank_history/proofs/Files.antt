@@ -15,15 +15,15 @@ use Rattle.message.specs.Verdicts.{decide}
 use Rattle.bank_state.specs.declared.state.Bank.{Bank}
 use Rattle.bank_state.specs.Limits.{placeCount, storeBytes}
 use Rattle.bank_state.specs.Search.{openCount, openCountOf}
-use Rattle.bank_state.specs.State.{World, downloadAt}
+use Rattle.bank_state.specs.State.{World, downloadAt, fileLength}
 use Rattle.bank_state.specs.Store.{partAt, fileOf}
-use Rattle.bank_openings.specs.Openings.{fileLength}
 use Rattle.bank.specs.declared.mailbox.FileAnswer.{FileAnswer}
 use Rattle.bank.specs.declared.mailbox.FileAnswer.the-variants as put
 use Rattle.bank.specs.Mailbox.{fileRefusals, fileNumber}
 use Rattle.bank_history.specs.Standing.{filled}
 use Rattle.bank_history.specs.History.{Exchange, mailboxFile}
-use Rattle.bank_history.specs.Invariant.{DownloadHolds, MailboxHolds, Invariant}
+use Rattle.bank_history.specs.Invariant.{MailboxHolds, Invariant}
+use Rattle.bank_history.proofs.Parts.{DownloadKept, download-kept, place-kept}
 use Rattle.bank_history.proofs.Stores.{length-written, part-written, part-unwritten}
 use Rattle.message.proofs.Verdicts.{by-test}
 use Rattle.bank_history.proofs.Places.{drop-replicate}
@@ -72,19 +72,19 @@ module _ (w : World) (h : List Exchange) (v : Invariant w h) (mailbox : ℕ) (fi
   filled-other s n =
       rw (
         getD-set-other (w .bank .files) (mailbox - 1) (s - 1) (length file) 0 n,
-        part-unwritten (w .boxes) (v .sizes .boxes) (mailbox - 1) inside file short (s - 1) n,
+        part-unwritten (w .boxes) (v .state .sizes .boxes) (mailbox - 1) inside file short (s - 1) n,
       )
 
   was-zeros : partAt (w .boxes) (mailbox - 1) ≡ replicate fileBytes 0
   unfolding fileLength
   was-zeros =
-      v .mailboxes (mailbox - 1) inside .zeros
+      v .state .mailboxes (mailbox - 1) inside .zeros
       ∙ ap (λ (n : ℕ). take n (partAt (w .boxes) (mailbox - 1)) ++ replicate (fileBytes - n) 0) empty
 
   now-held : partAt (filled mailbox file w .boxes) (mailbox - 1) ≡ file ++ replicate (fileBytes - length file) 0
   now-held =
       let e : fileBytes ≡ length file + (fileBytes - length file) = omega arith in
-      part-written (w .boxes) (v .sizes .boxes) (mailbox - 1) inside file short
+      part-written (w .boxes) (v .state .sizes .boxes) (mailbox - 1) inside file short
       ∙ ap (λ (l : List ℕ). file ++ l)
       (ap (drop (length file)) was-zeros
       ∙ (ap (λ (n : ℕ). drop (length file) (replicate n 0)) e ∙ drop-replicate (length file) (fileBytes - length file) 0))
@@ -93,7 +93,7 @@ module _ (w : World) (h : List Exchange) (v : Invariant w h) (mailbox : ℕ) (fi
   pub filled-same : mailboxFile (filled mailbox file w) mailbox ≡ file
   unfolding mailboxFile fileLength fileOf
   filled-same =
-      rw (getD-set-same (w .bank .files) (mailbox - 1) (length file) 0 (let z = v .sizes .files in omega arith), now-held)
+      rw (getD-set-same (w .bank .files) (mailbox - 1) (length file) 0 (let z = v .state .sizes .files in omega arith), now-held)
       (take-append-seam file (replicate (fileBytes - length file) 0))
 
   mailboxes-hold : (i : ℕ) → i < placeCount →
@@ -103,7 +103,7 @@ module _ (w : World) (h : List Exchange) (v : Invariant w h) (mailbox : ℕ) (fi
       at : Dec (i ≡ mailbox - 1) → MailboxHolds (getD (set (w .bank .files) (mailbox - 1) (length file)) i 0)
           (partAt (filled mailbox file w .boxes) i)
       at (yes z) = rw z (rw (
-        getD-set-same (w .bank .files) (mailbox - 1) (length file) 0 (let y = v .sizes .files in omega arith),
+        getD-set-same (w .bank .files) (mailbox - 1) (length file) 0 (let y = v .state .sizes .files in omega arith),
         now-held,
       ) (record {
         room = short;
@@ -113,24 +113,24 @@ module _ (w : World) (h : List Exchange) (v : Invariant w h) (mailbox : ℕ) (fi
       at (no n) =
           rw (
             getD-set-other (w .bank .files) (mailbox - 1) i (length file) 0 n,
-            part-unwritten (w .boxes) (v .sizes .boxes) (mailbox - 1) inside file short i n,
-          ) (v .mailboxes i a)
+            part-unwritten (w .boxes) (v .state .sizes .boxes) (mailbox - 1) inside file short i n,
+          ) (v .state .mailboxes i a)
 
   -- no download of this mailbox is open: it is empty
-  downloads-stay : (j : ℕ) → DownloadHolds (downloadAt (w .bank) j .used) (w .bank .clock) (w .bank .openings) h
+  downloads-stay : (j : ℕ) → DownloadKept (downloadAt (w .bank) j .used) (w .bank .clock) (w .bank .openings) h
       (mailboxFile (filled mailbox file w) (downloadAt (w .bank) j .subscriber)) (downloadAt (w .bank) j)
-  downloads-stay j = at (downloadAt (w .bank) j .used) refl (v .downloads j)
+  downloads-stay j = at (downloadAt (w .bank) j .used) refl (download-kept v j)
     where
       at : (u : Bool) → downloadAt (w .bank) j .used ≡ u →
-          DownloadHolds u (w .bank .clock) (w .bank .openings) h (mailboxFile w (downloadAt (w .bank) j .subscriber))
+          DownloadKept u (w .bank .clock) (w .bank .openings) h (mailboxFile w (downloadAt (w .bank) j .subscriber))
           (downloadAt (w .bank) j) →
-          DownloadHolds u (w .bank .clock) (w .bank .openings) h
+          DownloadKept u (w .bank .clock) (w .bank .openings) h
           (mailboxFile (filled mailbox file w) (downloadAt (w .bank) j .subscriber)) (downloadAt (w .bank) j)
       at false e s = s
       at true e s =
-          let k = s .known in
-          let l = file-long w h v (downloadAt (w .bank) j .subscriber) (s .known) (s .most) in
-          let f = s .full in
+          let k = s .0 .known in
+          let l = file-long w h v (downloadAt (w .bank) j .subscriber) (s .0 .known) (s .0 .most) in
+          let f = s .0 .full in
           let n : downloadAt (w .bank) j .subscriber ≡ mailbox →
           ⊥ = λ z. (let y = ap (λ (m : ℕ). fileLength m (w .bank .files)) z in omega arith) in
           rw (filled-other (downloadAt (w .bank) j .subscriber) (λ z. n (omega arith))) s
@@ -140,20 +140,20 @@ module _ (w : World) (h : List Exchange) (v : Invariant w h) (mailbox : ℕ) (fi
   filled-keeps =
       download-change w (w .bank .clock) (w .bank .openings) (w .bank .downloads) (w .bank .nonces) (filled mailbox file w .bank .files)
       (filled mailbox file w .boxes) v (record {
-        listed = v .sizes .downloads;
-        remembered = v .sizes .nonces;
-        filed = length-set (w .bank .files) (mailbox - 1) (length file) ∙ v .sizes .files;
-        stored = length-written (w .boxes) (v .sizes .boxes) (mailbox - 1) inside file short;
+        listed = v .state .sizes .downloads;
+        remembered = v .state .sizes .nonces;
+        filed = length-set (w .bank .files) (mailbox - 1) (length file) ∙ v .state .sizes .files;
+        stored = length-written (w .boxes) (v .state .sizes .boxes) (mailbox - 1) inside file short;
         counted = v .counted;
-        numbers = v .numbers;
-        places = v .places;
+        numbers = v .state .numbers;
+        places = place-kept v;
         downloads = downloads-stay;
         mailboxes = mailboxes-hold;
-        apart = v .apart;
-        inOrder = v .inOrder;
+        apart = v .state .apart;
+        inOrder = v .state .inOrder;
         memory = v .memory;
-        openAll = v .openAll;
-        openOf = v .openOf;
+        openAll = v .state .openAll;
+        openOf = v .state .openOf;
         known = v .known;
         booked = v .booked;
         sound = v .sound;

@@ -1,4 +1,5 @@
 -- Every call keeps the invariant: each case of a request, a frame call, a file call, and every list of calls.
+use Prim.{tt}
 use Prim.Native.Nat.{ℕ, zero, suc, _+_, _-_, _*_, _≤_, _<_}
 use mathlib.Core.Bool.{false}
 use mathlib.Core.List.{List, [], _∷_}
@@ -10,7 +11,7 @@ use Rattle.frame_table.specs.declared.fields.Bits128.{Bits128}
 use Rattle.frame_table.specs.declared.fields.Fields.{Fields}
 use Rattle.frame_table.specs.declared.table.Form.the-variants as forms
 use Rattle.octets.specs.Bytes.{number}
-use Rattle.frame_table.specs.Names.{form}
+use Rattle.frame_table.specs.Names.{subscriber, form}
 use Rattle.frame.specs.Reader.{readRequest}
 use Rattle.frame.specs.Row.{dataOf}
 use Rattle.octets.proofs.Tests.{never}
@@ -19,21 +20,20 @@ use Rattle.bank_state.specs.declared.state.Bank.{Bank}
 use Rattle.bank_state.specs.declared.state.Download.{Download}
 use Rattle.bank_state.specs.declared.state.Place.{Place}
 use Rattle.bank_state.specs.Clock.{advanced}
-use Rattle.bank_state.specs.Limits.{placeCount, storeBytes}
+use Rattle.bank_state.specs.Limits.{placeCount, storeBytes, nonceCount}
 use Rattle.bank_state.specs.Rows.{countOf, keep}
 use Rattle.bank_state.specs.Search.{isFree, isOpen, openCount, openCountOf}
-use Rattle.bank_state.specs.State.{World, noPlace, noDownload, fresh, placeAt, downloadAt}
+use Rattle.bank_state.specs.State.{World, noPlace, noDownload, noNonce, fresh, placeAt, downloadAt}
 use Rattle.bank_state.specs.Store.{partAt}
 use Rattle.bank.specs.declared.call.FrameAnswer.{FrameAnswer}
 use Rattle.bank.specs.declared.call.FrameAnswer.the-variants.{Reply, WrongLength}
 use Rattle.bank.specs.declared.mailbox.FileAnswer.{FileAnswer}
 use Rattle.bank.specs.declared.mailbox.FileAnswer.the-variants as put
-use Rattle.bank.specs.Call.{Step, unread, refused, FrameCall, lentRight, replied, respond, frameCall}
+use Rattle.bank.specs.Call.{Step, FrameCall, lentRight, carryOut, replied, respond, frameCall}
 use Rattle.bank.specs.Mailbox.{fileNumber, carryOutFile, fileCall}
+use Rattle.bank_verdicts.specs.declared.verdict.Verdict.{Verdict}
+use Rattle.bank_verdicts.specs.declared.verdict.Verdict.the-variants as verdict
 use Rattle.bank_history.specs.History.{
-  Event,
-  Unreadable,
-  Refusal,
   Exchange,
   Past,
   BankCall,
@@ -57,11 +57,12 @@ use Rattle.bank_history.specs.History.{
 use Rattle.bank_history.specs.Packed.{rest}
 use Rattle.bank_history.specs.Sound.{Sound, none, more}
 use Rattle.bank_history.specs.Invariant.{Invariant, NoneIdle, Holds}
+use Rattle.bank_history.proofs.Parts.{place-kept, download-kept}
 use Rattle.message.proofs.Verdicts.{by-test}
 use Rattle.bank_history.proofs.Cases.{
   Happens,
   unreadable,
-  refusal,
+  refused,
   opensUpload,
   opensDownload,
   toUpload,
@@ -69,12 +70,12 @@ use Rattle.bank_history.proofs.Cases.{
   happens,
 }
 use Rattle.bank_history.proofs.Entries.{ever-other}
-use Rattle.bank_history.proofs.Memory.{memory-unchanged}
+use Rattle.bank_history.proofs.Memory.{memory-unchanged, memory-nonces}
 use Rattle.bank_history.proofs.Places.{drop-replicate, place-unchanged}
 use Rattle.bank_history.proofs.Rows.{getD-free, free-replicate}
 use Rattle.bank_history.proofs.Records.{download-unchanged}
 use Rattle.bank_history.proofs.DownloadChange.{download-change}
-use Rattle.bank_history.proofs.Uploads.{entry, upload-keeps}
+use Rattle.bank_history.proofs.Uploads.{entry, bare, upload-keeps}
 use Rattle.bank_history.proofs.DownloadVerdicts.{download-keeps}
 use Rattle.bank_history.proofs.Openings.{opens-upload, opens-download}
 use Rattle.bank_history.proofs.NotIdle.{case-not-idle}
@@ -83,47 +84,52 @@ use Rattle.bank_history.proofs.Reading.{transfer-data}
 use Rattle.bank_history.proofs.Files.{FileSound, rejected, done, judged-file, filled-keeps}
 
 -- a request that does nothing
-nothing-keeps : (w : World) (h : List Exchange) (x : Exchange) → ((t : Bits128) → did isAction t (x .event) ≡ false) →
-    opens (x .event) ≡ false → Sound x h →
+nothing-keeps : (w : World) (h : List Exchange) (x : Exchange) → ((t : Bits128) → did isAction t (x .verdict) ≡ false) →
+    opens (x .verdict) ≡ false → Sound x h →
     Invariant w h → Invariant w (x ∷ h)
 unfolding accepted
 nothing-keeps w h x no-action unopened sound v =
     download-change w (w .bank .clock) (w .bank .openings) (w .bank .downloads) (w .bank .nonces) (w .bank .files) (w .boxes) v (record {
-      listed = v .sizes .downloads;
-      remembered = v .sizes .nonces;
-      filed = v .sizes .files;
-      stored = v .sizes .boxes;
+      listed = v .state .sizes .downloads;
+      remembered = v .state .sizes .nonces;
+      filed = v .state .sizes .files;
+      stored = v .state .sizes .boxes;
       counted = rw unopened (v .counted);
-      numbers = v .numbers;
+      numbers = v .state .numbers;
       places = λ i a. place-unchanged x h _ _ (omega arith) _ _ _ (placeAt (w .bank) i .used)
-          (λ _. no-action (placeAt (w .bank) i .transaction)) (v .places i a);
-      downloads = λ j. download-unchanged x h _ _ (omega arith) _ _ _ (downloadAt (w .bank) j .used)
-          (λ _. no-action (downloadAt (w .bank) j .transaction)) (v .downloads j);
-      mailboxes = v .mailboxes;
-      apart = v .apart;
-      inOrder = v .inOrder;
+          (λ _. no-action (placeAt (w .bank) i .transaction)) (place-kept v i a);
+      downloads = λ j. download-unchanged x h _ _ _ _ (omega arith) _ (downloadAt (w .bank) j .used)
+          (λ _. no-action (downloadAt (w .bank) j .transaction)) (download-kept v j);
+      mailboxes = v .state .mailboxes;
+      apart = v .state .apart;
+      inOrder = v .state .inOrder;
       memory = memory-unchanged _ _ x h unopened (v .memory);
-      openAll = v .openAll;
-      openOf = v .openOf;
+      openAll = v .state .openAll;
+      openOf = v .state .openOf;
       known = λ t e. v .known t (sym (ever-other t x h (no-action t) isAction) ∙ e);
       booked = λ t e. v .booked t (sym (ever-other t x h (no-action t) isBooking) ∙ e);
       sound = more sound (v .sound);
     })
 
-module _ (lent : ℕ) (w : World) (h : List Exchange) (v : Invariant w h) (q : Fields) (d : List ℕ)
+module _ (first : ℕ) (w : World) (h : List Exchange) (v : Invariant w h) (q : Fields) (d : List ℕ)
     (some : form q ≡ forms.UploadTransfer → 1 ≤ length d) where
-  case-keeps : {e : Event} {s : Step} → Happens lent w q d e s → Invariant (s .world) (entry e s w q d ∷ h)
-  case-keeps unreadable = nothing-keeps w h (entry Unreadable (unread w) w q d) (λ t. refl) refl (record { reply = refl; event = refl }) v
-  case-keeps (refusal c e) = nothing-keeps w h (entry (Refusal c) (refused w q c) w q d) (λ t. refl) refl
-      (record { reply = refl; event = record { harmless = e; bare = refl } }) v
-  case-keeps (opensUpload asked a g n p) = opens-upload lent w h v q d a g asked n p
-  case-keeps (opensDownload asked a g n) = opens-download lent w h v q d a g asked n
-  case-keeps (toUpload i transfer r u a asked inside found sound) = upload-keeps w h v q d a i inside found transfer r asked some sound
-  case-keeps (toDownload j transfer r u a asked inside found sound) = download-keeps w h v q d a j found transfer r asked sound
+  case-keeps : {u : Verdict} → Happens first w q d u → Invariant (carryOut u w q d) (entry u w q d ∷ h)
+  case-keeps unreadable =
+      nothing-keeps w h (entry verdict.Unreadable w q d) (λ t. refl) refl (record { reply = refl; verdict = bare w (subscriber q) }) v
+  case-keeps (refused c e) = nothing-keeps w h (entry (verdict.Refused c) w q d) (λ t. refl) refl
+      (record { reply = refl; verdict = record { harmless = e; bare = bare w (subscriber q) } }) v
+  case-keeps (opensUpload asked a g n p) = opens-upload first w h v q d a g asked n p
+  case-keeps (opensDownload asked a g n) = opens-download first w h v q d a g asked n
+  case-keeps (toUpload r a t) = upload-keeps w h v q d r a some t
+  case-keeps (toDownload r a t) = download-keeps w h v q d r a t
 
-  pub respond-keeps : Invariant (respond lent w q d .world) (exchangeOf lent w q d ∷ h)
-  unfolding exchangeOf
-  respond-keeps = case-keeps (happens lent w q d (v .sizes .places) (v .sizes .downloads))
+  pub respond-keeps : Invariant (respond first w q d .world) (exchangeOf first w q d ∷ h)
+  unfolding exchangeOf respond
+  respond-keeps = case-keeps (happens first w q d (v .state .sizes .places) (v .state .sizes .downloads))
+
+  respond-not-idle : NoneIdle w → NoneIdle (respond first w q d .world)
+  unfolding respond
+  respond-not-idle n = case-not-idle w n first q d (v .state .sizes .places) (happens first w q d (v .state .sizes .places) (v .state .sizes .downloads))
 
 -- ---- the calls
 
@@ -155,10 +161,8 @@ frame-holds p time ids frame buffer old =
     kept = respond-keeps (number ids) w (p .history) v (readRequest frame) (dataOf frame) (transfer-data frame)
 
     notIdle : NoneIdle (s .world)
-    notIdle =
-        case-not-idle w (advanced-not-idle time (p .world) (old .invariant .sizes)) (number ids) (readRequest frame) (dataOf frame)
-        (v .sizes .places)
-        (happens (number ids) w (readRequest frame) (dataOf frame) (v .sizes .places) (v .sizes .downloads))
+    notIdle = respond-not-idle (number ids) w (p .history) v (readRequest frame) (dataOf frame) (transfer-data frame)
+        (advanced-not-idle time (p .world) (old .invariant .state .sizes))
 
 file-holds : (p : Past) (mailbox : ℕ) (file : List ℕ) → Holds p → Holds (after (File mailbox file) p)
 unfolding after fileCall
@@ -220,26 +224,30 @@ start-holds : Holds start
 unfolding start fresh openCount openCountOf countOf accepted ever remembered openingNonces keep
 start-holds = record {
   invariant = record {
-    sizes = record {
-      places = refl;
-      downloads = refl;
-      nonces = refl;
-      files = refl;
-      orders =
-          length-replicate {A = ℕ} storeBytes 0;
-      boxes = length-replicate {A = ℕ} storeBytes 0;
+    state = record {
+      sizes = record {
+        places = refl;
+        downloads = refl;
+        nonces = refl;
+        files = refl;
+        orders = length-replicate {A = ℕ} storeBytes 0;
+        boxes = length-replicate {A = ℕ} storeBytes 0;
+      };
+      numbers = omega arith;
+      places = λ i a. rw (fresh-place i a) (record { empty = refl; zeros = zeros-part i a });
+      downloads = λ j. rw (fresh-download j) refl;
+      mailboxes = λ i a. rw (getD-replicate {A = ℕ} placeCount i 0 0 a) (record { room = omega arith; zeros = zeros-part i a });
+      placesApart = λ i j a b f. never (sym f ∙ ap (λ (p : Place). isFree (p .used)) (fresh-place i a));
+      apart = λ i j a f. never (sym f ∙ ap (λ (p : Place). isFree (p .used)) (fresh-place i a));
+      inOrder = rest (free-replicate noDownload placeCount);
+      nonces = memory-nonces 0 (replicate nonceCount noNonce) [] (record { held = refl });
+      openAll = omega arith;
+      openOf = λ s. omega arith;
     };
     counted = refl;
-    numbers = omega arith;
-    places = λ i a. rw (fresh-place i a) (record { empty = refl; zeros = zeros-part i a });
-    downloads = λ j. rw (fresh-download j) refl;
-    mailboxes = λ i a. rw (getD-replicate {A = ℕ} placeCount i 0 0 a) (record { room = omega arith; zeros = zeros-part i a });
-    placesApart = λ i j a b f. never (sym f ∙ ap (λ (p : Place). isFree (p .used)) (fresh-place i a));
-    apart = λ i j a f. never (sym f ∙ ap (λ (p : Place). isFree (p .used)) (fresh-place i a));
-    inOrder = rest (free-replicate noDownload placeCount);
+    places = λ i a. rw (fresh-place i a) tt;
+    downloads = λ j. rw (fresh-download j) tt;
     memory = record { held = refl };
-    openAll = omega arith;
-    openOf = λ s. omega arith;
     known = λ t e. never e;
     booked = λ t e. never e;
     sound = none;

@@ -1,10 +1,10 @@
 -- The laws of rows, stores and histories, and the theorems on the bank's invariant.
 pub mod Stores
 pub mod Rows
-pub mod Judged
 pub mod Cases
 pub mod Entries
 pub mod Memory
+pub mod Parts
 pub mod Places
 pub mod Records
 pub mod PlaceChange

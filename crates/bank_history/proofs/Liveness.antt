@@ -18,20 +18,17 @@ use Rattle.message.specs.Limits.{segmentBytes}
 use Rattle.message.specs.Segments.{segmentsOf, lastMarkOf}
 use Rattle.bank_state.specs.Clock.{advanced}
 use Rattle.bank_state.specs.Limits.{idleLimit}
-use Rattle.bank_state.specs.State.{World, downloadAt}
-use Rattle.bank_downloads.specs.declared.downloads.DownloadVerdict.{DownloadVerdict}
-use Rattle.bank_downloads.specs.declared.downloads.DownloadVerdict.the-variants as down
-use Rattle.bank_openings.specs.Openings.{fileLength, counted, openUpload, openDownload}
-use Rattle.bank.specs.Call.{Step, respond}
+use Rattle.bank_state.specs.State.{World, placeAt, downloadAt, fileLength}
+use Rattle.bank_verdicts.specs.declared.verdict.UploadAction.the-variants as up
+use Rattle.bank_verdicts.specs.declared.verdict.DownloadAction.{DownloadAction}
+use Rattle.bank_verdicts.specs.declared.verdict.DownloadAction.the-variants as down
+use Rattle.bank_verdicts.specs.declared.verdict.Action.the-variants as action
+use Rattle.bank_verdicts.specs.declared.verdict.Verdict.{Verdict}
+use Rattle.bank_verdicts.specs.declared.verdict.Verdict.the-variants as verdict
+use Rattle.bank_verdicts.specs.Judgement.{mailboxSegments, uploadAt}
+use Rattle.bank_openings.specs.Openings.{counted, openUpload, openDownload}
+use Rattle.bank.specs.Call.{downloadActs, carryOut, respond}
 use Rattle.bank_history.specs.History.{
-  Took,
-  TookLast,
-  OpenedUpload,
-  OpenedDownload,
-  Delivered,
-  Confirmed,
-  Event,
-  Of,
   Exchange,
   Past,
   BankCall,
@@ -42,19 +39,26 @@ use Rattle.bank_history.specs.History.{
   exchangeOf,
   after,
   fileAtOpening,
-  segmentsNow,
 }
 use Rattle.bank_history.specs.Invariant.{Invariant, Holds}
-use Rattle.bank_history.specs.Standing.{Filled, UploadAt, DownloadAt, UploadUnlessIdle, DownloadUnlessIdle, filled, answered}
+use Rattle.bank_history.specs.Standing.{
+  Filled,
+  UploadAt,
+  DownloadAt,
+  UploadUnlessIdle,
+  DownloadUnlessIdle,
+  filled,
+  answered,
+}
 use Rattle.bank_history.proofs.Cases.{
   Happens,
   unreadable,
-  refusal,
+  refused,
   opensUpload,
   opensDownload,
   toUpload,
   toDownload,
-  downloadStepBy,
+  upload-acts,
   happens,
 }
 use Rattle.bank_history.proofs.Clock.{advanced-keeps, advanced-clock}
@@ -66,23 +70,26 @@ use Rattle.bank_history.proofs.UploadRequests as own
 use Rattle.bank_history.proofs.DownloadRequests as ownDownload
 
 -- a request does not move the clock that its call has set
-case-clock : {lent : ℕ} {w : World} {q : Fields} {d : List ℕ} {e : Event} {s : Step} → Happens lent w q d e s →
-    s .world .bank .clock ≡ w .bank .clock
+download-clock : (w : World) (q : Fields) (t : Bits128) (a : DownloadAction) → downloadActs a t w q .bank .clock ≡ w .bank .clock
+unfolding openDownload counted
+download-clock w q t (down.Opened n) = refl
+download-clock w q t (down.Delivered n) = refl
+download-clock w q t (down.SentAgain n) = refl
+download-clock w q t (down.Point d) = refl
+download-clock w q t down.Cancelled = refl
+download-clock w q t down.Confirmed = refl
+download-clock w q t down.Declined = refl
+
+case-clock : {first : ℕ} {w : World} {q : Fields} {d : List ℕ} {x : Verdict} → Happens first w q d x →
+    carryOut x w q d .bank .clock ≡ w .bank .clock
 unfolding openUpload openDownload counted
 case-clock unreadable = refl
-case-clock (refusal c e) = refl
+case-clock (refused c e) = refl
 case-clock (opensUpload asked a g n inside) = refl
 case-clock (opensDownload asked a g n) = refl
-case-clock (toUpload i transfer r u a asked inside found sound) = refl
-case-clock {w = w} {q = q} (toDownload j transfer r u a asked inside found sound) = at u
-  where
-    at : (x : DownloadVerdict) → downloadStepBy x j w q .world .bank .clock ≡ w .bank .clock
-    at down.Deliver = refl
-    at down.Resend = refl
-    at down.Point = refl
-    at down.Abort = refl
-    at down.Done = refl
-    at down.Skipped = refl
+case-clock {w = w} {q = q} (toUpload r a c) =
+    ap (λ (z : World). z .bank .clock) (upload-acts (placeAt (w .bank) (uploadAt (w .bank) q) .transaction) c)
+case-clock {w = w} {q = q} (toDownload r a c) = download-clock w q _ a
 
 -- what is true of the past before and of each past that a call can leave is true after the call
 pub by-call : (P : Past → Type 0) (c : BankCall) (p : Past) → Holds p → P p →
@@ -116,23 +123,24 @@ module _ (time : ℕ) (ids frame : List ℕ) (p : Past) (holds : Holds p) where
   judged-holds : Invariant judged (p .history)
   judged-holds = advanced-keeps time (p .world) (p .history) (holds .invariant)
 
-  the-case : Happens (number ids) judged (readRequest frame) (dataOf frame) (newest .event)
-      (respond (number ids) judged (readRequest frame) (dataOf frame))
-  unfolding exchangeOf
-  the-case = happens (number ids) judged (readRequest frame) (dataOf frame) (judged-holds .sizes .places) (judged-holds .sizes .downloads)
+  the-case : Happens (number ids) judged (readRequest frame) (dataOf frame) (newest .verdict)
+  unfolding exchangeOf respond
+  the-case = happens (number ids) judged (readRequest frame) (dataOf frame) (judged-holds .state .sizes .places) (judged-holds .state .sizes .downloads)
 
   pub answered-clock : answered time ids frame p .world .bank .clock ≡ max (p .world .bank .clock) time
+  unfolding exchangeOf respond
   answered-clock = case-clock the-case ∙ advanced-clock time (p .world)
 
   -- ---- the requests of an upload that fit
 
   -- its opening
-  pub upload-opens : (t : Bits128) → newest .event ≡ Of t OpenedUpload →
+  pub upload-opens : (t : Bits128) (m : ℕ) → newest .verdict ≡ verdict.Of t (action.Upload (up.Opened m)) →
       UploadAt (answered time ids frame p .world) t (subscriber (readRequest frame)) 0 (segments (readRequest frame))
       (max (p .world .bank .clock) time)
-  upload-opens t e = subst (UploadAt (answered time ids frame p .world) t (subscriber (readRequest frame)) 0
+  unfolding exchangeOf respond
+  upload-opens t m e = subst (UploadAt (answered time ids frame p .world) t (subscriber (readRequest frame)) 0
       (segments (readRequest frame))) (advanced-clock time (p .world))
-      (own.opened-open (number ids) judged (p .history) judged-holds (readRequest frame) (dataOf frame) t the-case e)
+      (own.opened-open (number ids) judged (p .history) judged-holds (readRequest frame) (dataOf frame) t m the-case e)
 
   -- its next segment, within the idle hour
   module _ (t : Bits128) (s k n last : ℕ) (before : UploadUnlessIdle (p .world) t s k n last)
@@ -141,19 +149,19 @@ module _ (time : ℕ) (ids frame : List ℕ) (p : Past) (holds : Holds p) where
       (mark : lastMark (readRequest frame) ≡ lastMarkOf (segment (readRequest frame)) n) (short : length (dataOf frame) ≤ segmentBytes)
       (notIdle : max (p .world .bank .clock) time ≤ last + idleLimit) where
     there : UploadAt judged t s k n last
-    there = uploads.advanced-open t s k n last time (p .world) (holds .invariant .sizes) before
+    there = uploads.advanced-open t s k n last time (p .world) (holds .invariant .state .sizes) before
         (let c = advanced-clock time (p .world) in omega arith)
 
     pub upload-current : last ≤ max (p .world .bank .clock) time
     upload-current =
         let u = there in
-        let a = own.upload-is-open judged (p .history) judged-holds t s k n last u .current in
+        let a = own.upload-is-open judged (p .history) judged-holds t s k n last u .0 .current in
         let b = u .fitting in
         let c = advanced-clock time (p .world) in omega arith
 
-    pub upload-takes : newest .event ≡ Of t (cond (eqb (k + 1) n) TookLast Took)
-    unfolding exchangeOf
-    upload-takes = own.own-event (number ids) judged (p .history) judged-holds t s k n last there (readRequest frame) (dataOf frame)
+    pub upload-takes : newest .verdict ≡ verdict.Of t (action.Upload (cond (eqb (k + 1) n) up.TookLast up.Took))
+    unfolding exchangeOf respond
+    upload-takes = own.own-verdict (number ids) judged (p .history) judged-holds t s k n last there (readRequest frame) (dataOf frame)
         asked from to next mark short
 
     pub upload-goes-on : suc k < n → UploadAt (answered time ids frame p .world) t s (suc k) n (max (p .world .bank .clock) time)
@@ -163,8 +171,9 @@ module _ (time : ℕ) (ids frame : List ℕ) (p : Past) (holds : Holds p) where
 
   -- ---- the requests of a download that fit
 
-  pub download-opens : (t : Bits128) (n : ℕ) → newest .event ≡ Of t (OpenedDownload n) →
+  pub download-opens : (t : Bits128) (n : ℕ) → newest .verdict ≡ verdict.Of t (action.Download (down.Opened n)) →
       DownloadAt (answered time ids frame p .world) t (subscriber (readRequest frame)) 1 (max (p .world .bank .clock) time)
+  unfolding exchangeOf respond
   download-opens t n e = subst (DownloadAt (answered time ids frame p .world) t (subscriber (readRequest frame)) 1)
       (advanced-clock time (p .world))
       (ownDownload.opened-open (number ids) judged (p .history) judged-holds (readRequest frame) (dataOf frame) t n the-case e)
@@ -173,34 +182,35 @@ module _ (time : ℕ) (ids frame : List ℕ) (p : Past) (holds : Holds p) where
       (to : transaction (readRequest frame) ≡ t) (short : length (dataOf frame) ≤ segmentBytes)
       (notIdle : max (p .world .bank .clock) time ≤ last + idleLimit) where
     there-download : DownloadAt judged t s d last
-    there-download = downloads.advanced-open t s d last time (p .world) (holds .invariant .sizes .downloads) before
+    there-download = downloads.advanced-open t s d last time (p .world) (holds .invariant .state .sizes .downloads) before
         (let c = advanced-clock time (p .world) in omega arith)
 
     pub download-current : last ≤ max (p .world .bank .clock) time
     download-current =
         let u = there-download in
-        let a = download-open judged (p .history) judged-holds (u .row) (u .used) .current in
+        let a = download-open judged (p .history) judged-holds (u .row) (u .used) .0 .current in
         let b = u .fitting in
         let c = advanced-clock time (p .world) in omega arith
 
     -- N is still that of the file at its opening
-    pub download-segments : segmentsNow judged (readRequest frame) ≡ segmentsOf (length (fileAtOpening t (p .history)))
+    pub download-segments : mailboxSegments (subscriber (readRequest frame)) (judged .bank) ≡ segmentsOf (length (fileAtOpening t (p .history)))
     download-segments =
         let u = there-download in
         let o = download-open judged (p .history) judged-holds (u .row) (u .used) in
         let own : subscriber (readRequest frame) ≡ downloadAt (judged .bank) (u .row) .subscriber = from ∙ sym (u .subscriber) in
         ap (λ (m : ℕ). segmentsOf (fileLength m (judged .bank .files))) own
-        ∙ ap segmentsOf (sym (file-long judged (p .history) judged-holds _ (o .known) (o .most)))
-        ∙ ap (λ (f : List ℕ). segmentsOf (length f)) (sym (o .unchanged))
+        ∙ ap segmentsOf (sym (file-long judged (p .history) judged-holds _ (o .0 .known) (o .0 .most)))
+        ∙ ap (λ (f : List ℕ). segmentsOf (length f)) (sym (o .1 .unchanged))
         ∙ ap (λ (i : Bits128). segmentsOf (length (fileAtOpening i (p .history)))) (u .transaction)
 
     -- its next segment
     module _ (asked : form (readRequest frame) ≡ forms.DownloadTransfer) (next : segment (readRequest frame) ≡ suc d)
-        (within : segment (readRequest frame) ≤ segmentsNow judged (readRequest frame)) where
-      pub download-delivers : newest .event ≡ Of t (Delivered (segmentsNow judged (readRequest frame)))
-      unfolding exchangeOf
+        (within : segment (readRequest frame) ≤ mailboxSegments (subscriber (readRequest frame)) (judged .bank)) where
+      pub download-delivers : newest .verdict
+          ≡ verdict.Of t (action.Download (down.Delivered (mailboxSegments (subscriber (readRequest frame)) (judged .bank))))
+      unfolding exchangeOf respond
       download-delivers =
-          ownDownload.deliver-event (number ids) judged (p .history) judged-holds t s d last there-download (readRequest frame)
+          ownDownload.deliver-verdict (number ids) judged (p .history) judged-holds t s d last there-download (readRequest frame)
           (dataOf frame) from to short asked next within
 
       pub download-goes-on : DownloadAt (answered time ids frame p .world) t s (suc d) (max (p .world .bank .clock) time)
@@ -209,19 +219,20 @@ module _ (time : ℕ) (ids frame : List ℕ) (p : Past) (holds : Holds p) where
           (dataOf frame) from to short asked next within)
 
     -- its receipt
-    pub download-confirms : form (readRequest frame) ≡ forms.Receipt → d ≡ segmentsNow judged (readRequest frame) →
+    pub download-confirms : form (readRequest frame) ≡ forms.Receipt → d ≡ mailboxSegments (subscriber (readRequest frame)) (judged .bank) →
         receiptCode (readRequest frame) ≡ 0 →
-        newest .event ≡ Of t Confirmed
-    unfolding exchangeOf
-    download-confirms = ownDownload.receipt-event (number ids) judged (p .history) judged-holds t s d last there-download
+        newest .verdict ≡ verdict.Of t (action.Download down.Confirmed)
+    unfolding exchangeOf respond
+    download-confirms = ownDownload.receipt-verdict (number ids) judged (p .history) judged-holds t s d last there-download
         (readRequest frame) (dataOf frame) from to short
 
 -- ---- whatever comes from elsewhere
 
 -- an upload stays, unless the call's request is to it
 pub upload-stays : (t : Bits128) (s k n last : ℕ) (c : BankCall) (p : Past) → Holds p → UploadUnlessIdle (p .world) t s k n last →
-    ((e : Exchange) → after c p .history ≡ e ∷ p .history → did isAction t (e .event) ≡ false) →
+    ((e : Exchange) → after c p .history ≡ e ∷ p .history → did isAction t (e .verdict) ≡ false) →
     UploadUnlessIdle (after c p .world) t s k n last
+unfolding exchangeOf respond
 upload-stays t s k n last c p holds before noAction =
     by-call (λ (r : Past). UploadUnlessIdle (r .world) t s k n last) c p holds before frames
     (λ m f e h. uploads.upload-moved (before h) refl)
@@ -230,17 +241,17 @@ upload-stays t s k n last c p holds before noAction =
         UploadUnlessIdle (answered time ids frame p .world) t s k n last
     frames time ids frame buffer e z h =
         uploads.case-open t s k n last (advanced time (p .world)) (p .history) (judged-holds time ids frame p holds)
-        (uploads.advanced-open t s k n last time (p .world) (holds .invariant .sizes) before
+        (uploads.advanced-open t s k n last time (p .world) (holds .invariant .state .sizes) before
         (let a = case-clock (the-case time ids frame p holds) in omega arith))
         (number ids) (readRequest frame) (dataOf frame) (the-case time ids frame p holds)
         (noAction (newest time ids frame p holds) (ap (λ (r : Past). r .history) z))
 
 -- a download stays, unless the call's request is to it or is a receipt of its subscriber answered 011000
 pub download-stays : (t : Bits128) (s d last : ℕ) (c : BankCall) (p : Past) → Holds p → DownloadUnlessIdle (p .world) t s d last →
-    ((e : Exchange) → after c p .history ≡ e ∷ p .history → did isAction t (e .event) ≡ false) →
-    ((e : Exchange) (id : Bits128) → after c p .history ≡ e ∷ p .history → e .event ≡ Of id Confirmed → subscriber (e .request) ≡ s → ⊥) →
+    ((e : Exchange) → after c p .history ≡ e ∷ p .history → did isAction t (e .verdict) ≡ false) →
+    ((e : Exchange) (id : Bits128) → after c p .history ≡ e ∷ p .history → e .verdict ≡ verdict.Of id (action.Download down.Confirmed) → subscriber (e .request) ≡ s → ⊥) →
     DownloadUnlessIdle (after c p .world) t s d last
-unfolding exchangeOf
+unfolding exchangeOf respond
 download-stays t s d last c p holds before noAction kept =
     by-call (λ (r : Past). DownloadUnlessIdle (r .world) t s d last) c p holds before frames
     (λ m f e h. let u = before h in downloads.record-moved u (u .row) (u .inside) refl)
@@ -249,7 +260,7 @@ download-stays t s d last c p holds before noAction kept =
         DownloadUnlessIdle (answered time ids frame p .world) t s d last
     frames time ids frame buffer e z h =
         downloads.case-open t s d last (advanced time (p .world)) (p .history) (judged-holds time ids frame p holds)
-        (downloads.advanced-open t s d last time (p .world) (holds .invariant .sizes .downloads) before
+        (downloads.advanced-open t s d last time (p .world) (holds .invariant .state .sizes .downloads) before
         (let a = case-clock (the-case time ids frame p holds) in omega arith))
         (number ids) (readRequest frame) (dataOf frame) (the-case time ids frame p holds)
         (noAction (newest time ids frame p holds) (ap (λ (r : Past). r .history) z))

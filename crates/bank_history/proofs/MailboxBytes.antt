@@ -5,6 +5,7 @@ use mathlib.Core.Logic.{_⊎_, inl, inr}
 use mathlib.Core.Path.{_≡_, sym, subst}
 use native.Mathlib.Omega.{arith}
 use lib.ListN.{length, take, drop, replicate}
+use Rattle.frame_table.specs.declared.fields.Bits128.{Bits128}
 use Rattle.frame_table.specs.declared.fields.Fields.{Fields}
 use Rattle.octets.specs.Bytes.{Bytes, number, overwrite}
 use Rattle.frame_table.specs.Names.{subscriber}
@@ -14,14 +15,15 @@ use Rattle.octets.proofs.Numbers.{bytes-take, bytes-drop}
 use Rattle.message.specs.Limits.{fileBytes}
 use Rattle.bank_state.specs.Clock.{advanced}
 use Rattle.bank_state.specs.Limits.{storeBytes}
-use Rattle.bank_state.specs.State.{World}
+use Rattle.bank_state.specs.State.{World, placeAt, fileLength}
 use Rattle.bank_state.specs.Store.{partAt, withPart, zeroed, fileOf}
 use Rattle.bank_state.proofs.Drops.{advanced-at-clock}
-use Rattle.bank_downloads.specs.declared.downloads.DownloadVerdict.{DownloadVerdict}
-use Rattle.bank_downloads.specs.declared.downloads.DownloadVerdict.the-variants as down
-use Rattle.bank_openings.specs.Openings.{fileLength}
-use Rattle.bank.specs.Call.{Step}
-use Rattle.bank_history.specs.History.{Event, Past, BankCall, Frame, File, mailboxFile, after, start, pastOf}
+use Rattle.bank_verdicts.specs.declared.verdict.DownloadAction.{DownloadAction}
+use Rattle.bank_verdicts.specs.declared.verdict.DownloadAction.the-variants as down
+use Rattle.bank_verdicts.specs.declared.verdict.Verdict.{Verdict}
+use Rattle.bank_verdicts.specs.Judgement.{uploadAt}
+use Rattle.bank.specs.Call.{downloadActs, carryOut, respond}
+use Rattle.bank_history.specs.History.{Past, BankCall, Frame, File, mailboxFile, after, start, pastOf}
 use Rattle.bank_history.specs.Invariant.{Holds}
 use Rattle.bank_history.specs.Standing.{answered, filled}
 use Rattle.bank_history.specs.Answers.{BytesIn, AllBytes, none, more}
@@ -29,12 +31,12 @@ use Rattle.bank_history.proofs.Rows.{getD-free}
 use Rattle.bank_history.proofs.Cases.{
   Happens,
   unreadable,
-  refusal,
+  refused,
   opensUpload,
   opensDownload,
   toUpload,
   toDownload,
-  downloadStepBy,
+  upload-acts,
   happens,
 }
 use Rattle.bank_history.proofs.Clock.{advanced-keeps}
@@ -63,23 +65,36 @@ file-bytes w s b =
     bytes-take (fileLength s (w .bank .files)) (take fileBytes (drop from (w .boxes)))
     (bytes-take fileBytes (drop from (w .boxes)) (bytes-drop from (w .boxes) b))
 
-case-bytes : {lent : ℕ} {w : World} {q : Fields} {d : List ℕ} {e : Event} {s : Step} → Bytes (w .boxes) → Happens lent w q d e s →
-    Bytes (s .world .boxes)
+-- 011000 alone changes the store of the mailboxes
+download-bytes : (w : World) (q : Fields) (t : Bits128) (a : DownloadAction) → Bytes (w .boxes) → Bytes (downloadActs a t w q .boxes)
 unfolding zeroed withPart
+download-bytes w q t (down.Opened n) b = b
+download-bytes w q t (down.Delivered n) b = b
+download-bytes w q t (down.SentAgain n) b = b
+download-bytes w q t (down.Point d) b = b
+download-bytes w q t down.Cancelled b = b
+download-bytes w q t down.Confirmed b =
+    bytes-overwrite (w .boxes) ((subscriber q - 1) * fileBytes) (replicate fileBytes 0) b (bytes-zeros fileBytes)
+download-bytes w q t down.Declined b = b
+
+case-bytes : {first : ℕ} {w : World} {q : Fields} {d : List ℕ} {x : Verdict} → Bytes (w .boxes) → Happens first w q d x →
+    Bytes (carryOut x w q d .boxes)
 case-bytes b unreadable = b
-case-bytes b (refusal c e) = b
+case-bytes b (refused c e) = b
 case-bytes b (opensUpload asked a g n p) = b
 case-bytes b (opensDownload asked a g n) = b
-case-bytes b (toUpload i transfer r v a asked inside found sound) = b
-case-bytes {w = w} {q = q} b (toDownload j transfer r v a asked inside found sound) = at v
-  where
-    at : (v : DownloadVerdict) → Bytes (downloadStepBy v j w q .world .boxes)
-    at down.Deliver = b
-    at down.Resend = b
-    at down.Point = b
-    at down.Abort = b
-    at down.Skipped = b
-    at down.Done = bytes-overwrite (w .boxes) ((subscriber q - 1) * fileBytes) (replicate fileBytes 0) b (bytes-zeros fileBytes)
+case-bytes {w = w} {q = q} b (toUpload r a c) =
+    subst (λ (z : World). Bytes (z .boxes)) (sym (upload-acts (placeAt (w .bank) (uploadAt (w .bank) q) .transaction) c)) b
+case-bytes {w = w} {q = q} b (toDownload r a c) = download-bytes w q _ a b
+
+-- an answered frame
+answered-bytes : (time : ℕ) (ids frame : List ℕ) (p : Past) → Holds p → Bytes (advanced time (p .world) .boxes) →
+    Bytes (answered time ids frame p .world .boxes)
+unfolding respond
+answered-bytes time ids frame p holds b =
+    let v = advanced-keeps time (p .world) (p .history) (holds .invariant) in
+    case-bytes b
+    (happens (number ids) (advanced time (p .world)) (readRequest frame) (dataOf frame) (v .state .sizes .places) (v .state .sizes .downloads))
 
 pub advanced-bytes : (time : ℕ) (w : World) → Bytes (w .boxes) → Bytes (advanced time w .boxes)
 advanced-bytes time w b = subst Bytes (sym (advanced-at-clock time w .boxes)) b
@@ -87,14 +102,8 @@ advanced-bytes time w b = subst Bytes (sym (advanced-at-clock time w .boxes)) b
 after-bytes : (c : BankCall) (p : Past) → Holds p → BytesIn c → Bytes (p .world .boxes) → Bytes (after c p .world .boxes)
 after-bytes (Frame time ids frame buffer) p holds given b = at (after-frame time ids frame buffer p)
   where
-    w : World
-    w = advanced time (p .world)
-
     new : Bytes (answered time ids frame p .world .boxes)
-    new =
-        let v = advanced-keeps time (p .world) (p .history) (holds .invariant) in
-        case-bytes (advanced-bytes time (p .world) b)
-        (happens (number ids) w (readRequest frame) (dataOf frame) (v .sizes .places) (v .sizes .downloads))
+    new = answered-bytes time ids frame p holds (advanced-bytes time (p .world) b)
 
     at : (after (Frame time ids frame buffer) p ≡ p) ⊎ (after (Frame time ids frame buffer) p ≡ answered time ids frame p) →
         Bytes (after (Frame time ids frame buffer) p .world .boxes)

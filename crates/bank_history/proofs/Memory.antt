@@ -16,10 +16,10 @@ use Rattle.bank_state.specs.Rows.{firstOf, keep, keepOnly}
 use Rattle.bank_state.specs.State.{noNonce}
 use Rattle.bank_state.proofs.Rows.{keep-append}
 use Rattle.bank_history.specs.History.{Exchange, opens, nonceOf, openingNonces, remembered}
-use Rattle.bank_history.specs.Invariant.{Memory}
+use Rattle.bank_history.specs.Invariant.{AllRemembered, end, next, NoncesHold, Memory}
 
 -- a request that opens nothing
-pub memory-unchanged : (c : ℕ) (nonces : List Nonce) (x : Exchange) (h : List Exchange) → opens (x .event) ≡ false → Memory c nonces h →
+pub memory-unchanged : (c : ℕ) (nonces : List Nonce) (x : Exchange) (h : List Exchange) → opens (x .verdict) ≡ false → Memory c nonces h →
     Memory c nonces (x ∷ h)
 unfolding remembered openingNonces
 memory-unchanged c nonces x h noOpening m = record { held = rw noOpening (m .held) }
@@ -52,7 +52,7 @@ used-keep p (more {x = x} {l = l} e f) = at (p x) (used-keep p f)
 used-openings : (h : List Exchange) → AllUsed (openingNonces h)
 unfolding openingNonces
 used-openings [] = none
-used-openings (x ∷ h) = at (opens (x .event)) (used-openings h)
+used-openings (x ∷ h) = at (opens (x .verdict)) (used-openings h)
   where
     at : (b : Bool) → AllUsed (openingNonces h) → AllUsed (cond b (openingNonces h ++ (nonceOf x ∷ [])) (openingNonces h))
     at true g = used-append g (more refl none)
@@ -121,7 +121,7 @@ added l used y n (suc r) e free =
     set-at l noNonce (replicate r noNonce) y (length l + 0) (omega arith)
     ∙ (sym (append-assoc l (y ∷ []) (replicate r noNonce)) ∙ ap (λ (m : ℕ). (l ++ (y ∷ [])) ++ replicate m noNonce) (sym k))
 
-remembered-more : (c : ℕ) (h : List Exchange) (x : Exchange) → opens (x .event) ≡ true → leb c (nonceOf x .timestamp + window) ≡ true →
+remembered-more : (c : ℕ) (h : List Exchange) (x : Exchange) → opens (x .verdict) ≡ true → leb c (nonceOf x .timestamp + window) ≡ true →
     remembered c (x ∷ h) ≡ remembered c h ++ (nonceOf x ∷ [])
 unfolding remembered openingNonces keep
 remembered-more c h x opened timely = rw opened (keep-append (recent c) (openingNonces h) (nonceOf x ∷ []) ∙ rw timely refl)
@@ -131,7 +131,7 @@ unfolding remembered
 used-remembered c h = used-keep (recent c) (used-openings h)
 
 -- the nonce of an opening in time stands behind the others
-pub memory-added : (c : ℕ) (h : List Exchange) (x : Exchange) → opens (x .event) ≡ true → leb c (nonceOf x .timestamp + window) ≡ true →
+pub memory-added : (c : ℕ) (h : List Exchange) (x : Exchange) → opens (x .verdict) ≡ true → leb c (nonceOf x .timestamp + window) ≡ true →
     (nonces : List Nonce) → Memory c nonces h →
     firstOf (λ (e : Nonce). not (e .used)) nonces < nonceCount →
     Memory c (set nonces (firstOf (λ (e : Nonce). not (e .used)) nonces) (nonceOf x)) (x ∷ h)
@@ -147,3 +147,19 @@ memory-added c h x opened timely nonces m free =
           ∙ (added l (used-remembered c h) (nonceOf x) nonceCount r refl (omega arith)
           ∙ ap (λ (k : List Nonce). k ++ replicate (nonceCount - length k) noNonce) (sym (remembered-more c h x opened timely))));
     }
+
+-- ---- the rows alone
+
+keep-recent : (c : ℕ) {l : List Nonce} → AllUsed l → AllRemembered c (keep (recent c) l)
+unfolding keep
+keep-recent c none = end
+keep-recent c (more {x = x} {l = l} e f) = at (recent c x) refl (keep-recent c f)
+  where
+    at : (t : Bool) → recent c x ≡ t → AllRemembered c (keep (recent c) l) → AllRemembered c (cond t (x ∷ keep (recent c) l) (keep (recent c) l))
+    at true r g = next e r g
+    at false r g = g
+
+pub memory-nonces : (c : ℕ) (nonces : List Nonce) (h : List Exchange) → Memory c nonces h → NoncesHold c nonces
+unfolding remembered
+memory-nonces c nonces h m =
+    record { first = keep (recent c) (openingNonces h); used = keep-recent c (used-openings h); rows = m .held }

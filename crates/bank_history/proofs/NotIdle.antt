@@ -1,43 +1,46 @@
 -- A request leaves no open transaction idle where none was.
 use Prim.Native.Nat.{ℕ, _+_, _≤_, _<_}
-use mathlib.Core.Bool.{true}
+use mathlib.Core.Bool.{true, false}
 use mathlib.Core.List.{List}
-use mathlib.Core.Path.{_≡_}
+use mathlib.Core.Path.{_≡_, sym, subst}
 use native.Mathlib.Decide.{decLt}
 use native.Mathlib.Omega.{arith}
 use lib.ListN.{length, getD, set}
 use lib.Seq.{set-out}
+use Rattle.frame_table.specs.declared.fields.Bits128.{Bits128}
 use Rattle.frame_table.specs.declared.fields.Fields.{Fields}
-use Rattle.frame_table.specs.Names.{subscriber, transaction}
 use Rattle.octets.proofs.Tests.{never}
 use Rattle.bank_state.specs.declared.clock.Ended.{Ended}
 use Rattle.bank_state.specs.declared.state.Download.{Download}
 use Rattle.bank_state.specs.declared.state.Place.{Place}
 use Rattle.bank_state.specs.Clock.{endDownloads}
 use Rattle.bank_state.specs.Limits.{placeCount, idleLimit}
-use Rattle.bank_state.specs.Search.{isOpen, isUpload, freePlace, freeDownload}
-use Rattle.bank_state.specs.State.{World, world, noPlace, noDownload, placeAt}
-use Rattle.bank_downloads.specs.declared.downloads.DownloadVerdict.{DownloadVerdict}
-use Rattle.bank_downloads.specs.declared.downloads.DownloadVerdict.the-variants as down
-use Rattle.bank_uploads.specs.declared.uploads.UploadVerdict.{UploadVerdict}
-use Rattle.bank_uploads.specs.declared.uploads.UploadVerdict.the-variants as up
+use Rattle.bank_state.specs.Search.{isOpen, freePlace, freeDownload}
+use Rattle.bank_state.specs.State.{World, noPlace, noDownload, placeAt}
 use Rattle.bank_openings.specs.Openings.{counted, openUpload, openDownload}
-use Rattle.bank_uploads.specs.Uploads.{grown, attempted}
-use Rattle.bank.specs.Call.{Step}
-use Rattle.bank_history.specs.History.{Event}
+use Rattle.bank_verdicts.specs.declared.verdict.UploadAction.{UploadAction}
+use Rattle.bank_verdicts.specs.declared.verdict.UploadAction.the-variants as up
+use Rattle.bank_verdicts.specs.declared.verdict.DownloadAction.{DownloadAction}
+use Rattle.bank_verdicts.specs.declared.verdict.DownloadAction.the-variants as down
+use Rattle.bank_verdicts.specs.declared.verdict.Action.the-variants as action
+use Rattle.bank_verdicts.specs.declared.verdict.Verdict.{Verdict}
+use Rattle.bank_verdicts.specs.Judgement.{uploadAt, downloadOf}
+use Rattle.bank_uploads.specs.Uploads.{grown, booked, attempted, placeAfter}
+use Rattle.bank.specs.Call.{onUpload, downloadActs, carryOut}
+use Rattle.bank_history.specs.History.{isOpening}
 use Rattle.bank_history.specs.Invariant.{NoneIdle}
 use Rattle.bank_state.proofs.Drops.{each-endDownloads}
 use Rattle.bank_history.proofs.Rows.{each-set}
 use Rattle.bank_history.proofs.Cases.{
   Happens,
   unreadable,
-  refusal,
+  refused,
   opensUpload,
   opensDownload,
   toUpload,
   toDownload,
-  uploadStepBy,
-  downloadStepBy,
+  upload-acts,
+  download-goes-on,
 }
 
 module _ (w : World) (notIdle : NoneIdle w) where
@@ -67,32 +70,44 @@ module _ (w : World) (notIdle : NoneIdle w) where
   download-ended which =
       each-endDownloads (λ (r : Download). DownloadNotIdle r) (λ z. never z) which (w .bank .downloads) (λ i _ _. notIdle .downloads i)
 
-  upload-not-idle : (i : ℕ) → i < placeCount → length (w .bank .places) ≡ placeCount → (q : Fields) (d : List ℕ) →
-      isUpload (subscriber q) (transaction q) (placeAt (w .bank) i) ≡ true → (u : UploadVerdict) → NoneIdle (uploadStepBy u i w q d .world)
-  unfolding grown attempted
-  upload-not-idle i inside long q d found up.Take =
-      record { places = place-set long i _ inside (λ _. omega arith); downloads = notIdle .downloads }
-  upload-not-idle i inside long q d found up.Point =
-      record { places = place-set long i _ inside (notIdle .places i inside); downloads = notIdle .downloads }
-  upload-not-idle i inside long q d found (up.Cancel c) =
-      record { places = place-set long i noPlace inside (λ z. never z); downloads = notIdle .downloads }
+  -- the place of an open upload, after an action
+  after-not-idle : (a : UploadAction) (n : ℕ) (p : Place) → PlaceNotIdle p → PlaceNotIdle (placeAfter a (w .bank .clock) n p)
+  unfolding grown booked attempted
+  after-not-idle (up.Opened m) n p old = old
+  after-not-idle up.Took n p old = λ _. omega arith
+  after-not-idle up.TookLast n p old = λ z. never z
+  after-not-idle (up.Point k) n p old = old
+  after-not-idle (up.Cancelled c) n p old = λ z. never z
 
-  download-not-idle : (j : ℕ) (q : Fields) (u : DownloadVerdict) → NoneIdle (downloadStepBy u j w q .world)
-  download-not-idle j q down.Deliver = record { places = notIdle .places; downloads = download-set j _ (λ _. omega arith) }
-  download-not-idle j q down.Resend = record { places = notIdle .places; downloads = download-set j _ (notIdle .downloads j) }
-  download-not-idle j q down.Point = record { places = notIdle .places; downloads = download-set j _ (notIdle .downloads j) }
-  download-not-idle j q down.Abort = record { places = notIdle .places; downloads = download-ended _ }
-  download-not-idle j q down.Done = record { places = notIdle .places; downloads = download-ended _ }
-  download-not-idle j q down.Skipped = record { places = notIdle .places; downloads = download-ended _ }
+  upload-not-idle : length (w .bank .places) ≡ placeCount → (i : ℕ) → i < placeCount → (a : UploadAction) (d : List ℕ) →
+      NoneIdle (onUpload a i w d)
+  upload-not-idle long i inside a d = record {
+    places = place-set long i _ inside (after-not-idle a (length d) (placeAt (w .bank) i) (notIdle .places i inside));
+    downloads = notIdle .downloads;
+  }
 
-  pub case-not-idle : (lent : ℕ) (q : Fields) (d : List ℕ) {v : Event} {s : Step} → length (w .bank .places) ≡ placeCount →
-      Happens lent w q d v s → NoneIdle (s .world)
+  download-not-idle : (q : Fields) (t : Bits128) (a : DownloadAction) → isOpening (action.Download a) ≡ false →
+      NoneIdle (downloadActs a t w q)
+  download-not-idle q t (down.Opened n) e = never (sym e)
+  download-not-idle q t (down.Delivered n) e = record { places = notIdle .places; downloads = download-set _ _ (λ _. omega arith) }
+  download-not-idle q t (down.SentAgain n) e =
+      record { places = notIdle .places; downloads = download-set _ _ (notIdle .downloads (downloadOf (w .bank) q)) }
+  download-not-idle q t (down.Point d) e =
+      record { places = notIdle .places; downloads = download-set _ _ (notIdle .downloads (downloadOf (w .bank) q)) }
+  download-not-idle q t down.Cancelled e = record { places = notIdle .places; downloads = download-ended _ }
+  download-not-idle q t down.Confirmed e = record { places = notIdle .places; downloads = download-ended _ }
+  download-not-idle q t down.Declined e = record { places = notIdle .places; downloads = download-ended _ }
+
+  pub case-not-idle : (first : ℕ) (q : Fields) (d : List ℕ) {v : Verdict} → length (w .bank .places) ≡ placeCount →
+      Happens first w q d v → NoneIdle (carryOut v w q d)
   unfolding openUpload openDownload counted
-  case-not-idle lent q d long unreadable = notIdle
-  case-not-idle lent q d long (refusal c e) = notIdle
-  case-not-idle lent q d long (opensUpload asked a g n inside) =
+  case-not-idle first q d long unreadable = notIdle
+  case-not-idle first q d long (refused c e) = notIdle
+  case-not-idle first q d long (opensUpload asked a g n inside) =
       record { places = place-set long (freePlace (w .bank)) _ inside (λ _. omega arith); downloads = notIdle .downloads }
-  case-not-idle lent q d long (opensDownload asked a g n) =
+  case-not-idle first q d long (opensDownload asked a g n) =
       record { places = notIdle .places; downloads = download-set (freeDownload (w .bank)) _ (λ _. omega arith) }
-  case-not-idle lent q d long (toUpload i transfer r u a asked inside found sound) = upload-not-idle i inside long q d found u
-  case-not-idle lent q d long (toDownload j transfer r u a asked inside found sound) = download-not-idle j q u
+  case-not-idle first q d long (toUpload r a t) =
+      subst NoneIdle (sym (upload-acts (placeAt (w .bank) (uploadAt (w .bank) q) .transaction) t))
+      (upload-not-idle long (uploadAt (w .bank) q) (t .inside) a d)
+  case-not-idle first q d long (toDownload r a t) = download-not-idle q _ a (download-goes-on (t .sound))

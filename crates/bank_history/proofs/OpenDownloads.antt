@@ -2,7 +2,7 @@
 use Prim.Native.Nat.{ℕ, _+_, _<_, max}
 use mathlib.Core.Bool.{Bool, true, false, not, _&&_}
 use mathlib.Core.List.{List}
-use mathlib.Core.Path.{_≡_, refl, sym, ap, _∙_}
+use mathlib.Core.Path.{_≡_, refl, sym, ap, _∙_, subst}
 use native.Mathlib.Omega.{arith}
 use lib.Dec.{eqb}
 use lib.ListN.{length, getD, set}
@@ -11,7 +11,7 @@ use borrow.Author.Tests.{le-ltb, eqb-true}
 use Rattle.frame_table.specs.declared.fields.Bits128.{Bits128}
 use Rattle.frame_table.specs.declared.fields.Fields.{Fields}
 use Rattle.frame_table.specs.Names.{subscriber, transaction, sameBits}
-use Rattle.octets.proofs.Tests.{never}
+use Rattle.octets.proofs.Tests.{never, and-true-right}
 use Rattle.frame_table.proofs.Bits.{bits-same}
 use Rattle.bank_state.specs.declared.clock.Ended.{Ended}
 use Rattle.bank_state.specs.declared.clock.Ended.the-variants as ended
@@ -20,12 +20,16 @@ use Rattle.bank_state.specs.declared.state.Download.{Download}
 use Rattle.bank_state.specs.Clock.{isIdle, ends, endDownloads, advanced}
 use Rattle.bank_state.specs.Limits.{placeCount, idleLimit}
 use Rattle.bank_state.specs.Search.{isDownload, freeDownload}
-use Rattle.bank_state.specs.State.{World, noDownload, downloadAt}
-use Rattle.bank_downloads.specs.declared.downloads.DownloadVerdict.{DownloadVerdict}
-use Rattle.bank_downloads.specs.declared.downloads.DownloadVerdict.the-variants as down
+use Rattle.bank_state.specs.State.{World, noDownload, placeAt, downloadAt}
+use Rattle.bank_verdicts.specs.declared.verdict.DownloadAction.{DownloadAction}
+use Rattle.bank_verdicts.specs.declared.verdict.DownloadAction.the-variants as down
+use Rattle.bank_verdicts.specs.declared.verdict.Action.the-variants as action
+use Rattle.bank_verdicts.specs.declared.verdict.Verdict.{Verdict}
+use Rattle.bank_verdicts.specs.declared.verdict.Verdict.the-variants as verdict
+use Rattle.bank_verdicts.specs.Judgement.{uploadAt, downloadOf}
 use Rattle.bank_openings.specs.Openings.{counted, openUpload, openDownload}
-use Rattle.bank.specs.Call.{Step}
-use Rattle.bank_history.specs.History.{Confirmed, Event, Of, Exchange, downloadAction, isAction, did, segmentsNow}
+use Rattle.bank.specs.Call.{downloadActs, carryOut}
+use Rattle.bank_history.specs.History.{Exchange, isOpening, isAction, did}
 use Rattle.bank_history.specs.Invariant.{Invariant}
 use Rattle.bank_history.specs.Standing.{DownloadAt, DownloadUnlessIdle}
 use Rattle.bank_state.proofs.Drops.{length-endDownloads, advanced-at-clock}
@@ -33,17 +37,17 @@ use Rattle.bank_state.proofs.Rows.{first-passes, keepOnly-holds}
 use Rattle.bank_history.proofs.Cases.{
   Happens,
   unreadable,
-  refusal,
+  refused,
   opensUpload,
   opensDownload,
   toUpload,
   toDownload,
-  downloadStepBy,
+  upload-acts,
+  download-goes-on,
 }
 use Rattle.bank_history.proofs.Entries.{same-bits}
 use Rattle.bank_history.proofs.Clock.{advanced-clock}
 use Rattle.bank_state.proofs.Found.{download-found}
-use Rattle.octets.proofs.Tests.{and-true-right}
 
 -- the same record at another place of the row
 pub record-moved : {w w′ : World} {t : Bits128} {s d last : ℕ} → (u : DownloadAt w t s d last) (j : ℕ) → j < placeCount →
@@ -96,13 +100,17 @@ module _ (t : Bits128) (s d last : ℕ) where
         never (sym (and-true-right (sameBits t q) ∙ f)
         ∙ (ap (λ (b : Bits128). sameBits t b) (sym e ∙ u .transaction) ∙ same-bits t))
 
-    step-open : (j : ℕ) (q : Fields) (x : DownloadVerdict) → isDownload (subscriber q) (transaction q) (downloadAt (w .bank) j) ≡ true →
-        did isAction t (Of (downloadAt (w .bank) j .transaction) (downloadAction x (downloadAt (w .bank) j) (segmentsNow w q))) ≡ false →
-        (x ≡ down.Done → subscriber q ≡ s → ⊥) →
-        DownloadAt (downloadStepBy x j w q .world) t s d last
+    step-open : (q : Fields) (a : DownloadAction) → let j = downloadOf (w .bank) q in
+        isDownload (subscriber q) (transaction q) (downloadAt (w .bank) j) ≡ true → isOpening (action.Download a) ≡ false →
+        did isAction t (verdict.Of (downloadAt (w .bank) j .transaction) (action.Download a)) ≡ false →
+        (a ≡ down.Confirmed → subscriber q ≡ s → ⊥) →
+        DownloadAt (downloadActs a (downloadAt (w .bank) j .transaction) w q) t s d last
     unfolding ends
-    step-open j q x found f emptied = at x emptied
+    step-open q a found goes f emptied = at a goes emptied
       where
+        j : ℕ
+        j = downloadOf (w .bank) q
+
         other : u .row ≡ j → ⊥
         other z = other-id (downloadAt (w .bank) j .transaction) f (ap (λ (m : ℕ). downloadAt (w .bank) m .transaction) z)
 
@@ -121,32 +129,39 @@ module _ (t : Bits128) (s d last : ℕ) where
         no-owner n false e = refl
         no-owner n true e = absurd (n (sym (eqb-true _ (subscriber q) e) ∙ u .subscriber))
 
-        at : (x : DownloadVerdict) → (x ≡ down.Done → subscriber q ≡ s → ⊥) → DownloadAt (downloadStepBy x j w q .world) t s d last
-        at down.Deliver n = record-moved u (u .row) (u .inside) (set-other _)
-        at down.Resend n = record-moved u (u .row) (u .inside) (set-other _)
-        at down.Point n = record-moved u (u .row) (u .inside) (set-other _)
-        at down.Abort n = kept-open w (v .sizes .downloads) u (ended.Transaction (subscriber q) (transaction q)) _ refl (no-found _ refl)
-        at down.Done n = kept-open w (v .sizes .downloads) u (ended.Mailbox (subscriber q)) _ refl (no-owner (n refl) _ refl)
-        at down.Skipped n = kept-open w (v .sizes .downloads) u (ended.Transaction (subscriber q) (transaction q)) _ refl (no-found _ refl)
+        at : (a : DownloadAction) → isOpening (action.Download a) ≡ false → (a ≡ down.Confirmed → subscriber q ≡ s → ⊥) →
+            DownloadAt (downloadActs a (downloadAt (w .bank) j .transaction) w q) t s d last
+        at (down.Opened m) e n = never (sym e)
+        at (down.Delivered m) e n = record-moved u (u .row) (u .inside) (set-other _)
+        at (down.SentAgain m) e n = record-moved u (u .row) (u .inside) (set-other _)
+        at (down.Point m) e n = record-moved u (u .row) (u .inside) (set-other _)
+        at down.Cancelled e n =
+            kept-open w (v .state .sizes .downloads) u (ended.Transaction (subscriber q) (transaction q)) _ refl (no-found _ refl)
+        at down.Confirmed e n = kept-open w (v .state .sizes .downloads) u (ended.Mailbox (subscriber q)) _ refl (no-owner (n refl) _ refl)
+        at down.Declined e n =
+            kept-open w (v .state .sizes .downloads) u (ended.Transaction (subscriber q) (transaction q)) _ refl (no-found _ refl)
 
     -- a request to another transaction, and no receipt of this subscriber answered 011000
-    pub case-open : (lent : ℕ) (q : Fields) (b : List ℕ) {e : Event} {g : Step} → Happens lent w q b e g → did isAction t e ≡ false →
-        ((id : Bits128) → e ≡ Of id Confirmed → subscriber q ≡ s → ⊥) → DownloadAt (g .world) t s d last
+    pub case-open : (first : ℕ) (q : Fields) (b : List ℕ) {x : Verdict} → Happens first w q b x → did isAction t x ≡ false →
+        ((id : Bits128) → x ≡ verdict.Of id (action.Download down.Confirmed) → subscriber q ≡ s → ⊥) →
+        DownloadAt (carryOut x w q b) t s d last
     unfolding openUpload openDownload counted
-    case-open lent q b unreadable f n = u
-    case-open lent q b (refusal c e) f n = u
-    case-open lent q b (opensUpload asked a g m inside) f n = record-moved u (u .row) (u .inside) refl
-    case-open lent q b (opensDownload asked a g m) f n =
+    case-open first q b unreadable f n = u
+    case-open first q b (refused c e) f n = u
+    case-open first q b (opensUpload asked a g m inside) f n = record-moved u (u .row) (u .inside) refl
+    case-open first q b (opensDownload asked a g m) f n =
         record-moved u (u .row) (u .inside) (getD-set-other (w .bank .downloads) (freeDownload (w .bank)) (u .row) _ noDownload taken-free)
       where
         taken-free : u .row ≡ freeDownload (w .bank) → ⊥
         taken-free z =
             let i = u .inside in
-            let l = v .sizes .downloads in
+            let l = v .state .sizes .downloads in
             let a = free-record (w .bank) (omega arith) in
             never (sym (ap not (u .used)) ∙ (ap (λ (m : ℕ). not (downloadAt (w .bank) m .used)) z ∙ a))
-    case-open lent q b (toUpload i transfer r x a asked inside found sound) f n = record-moved u (u .row) (u .inside) refl
-    case-open lent q b (toDownload j transfer r x a asked inside found sound) f n =
-        let e : Download = downloadAt (w .bank) j in
-        step-open j q x found f (λ z. n (e .transaction)
-        (ap (λ (y : DownloadVerdict). Of (e .transaction) (downloadAction y e (segmentsNow w q))) z))
+    case-open first q b (toUpload r a c) f n =
+        subst (λ (z : World). DownloadAt z t s d last) (sym (upload-acts (placeAt (w .bank) (uploadAt (w .bank) q) .transaction) c))
+        (record-moved u (u .row) (u .inside) refl)
+    case-open first q b (toDownload r a c) f n =
+        let i = downloadAt (w .bank) (downloadOf (w .bank) q) .transaction in
+        step-open q a (c .found) (download-goes-on (c .sound)) f
+        (λ z. n i (ap (λ (y : DownloadAction). verdict.Of i (action.Download y)) z))

@@ -2,37 +2,38 @@
 use Prim.Native.Nat.{ℕ, _+_, max}
 use mathlib.Core.Bool.{false}
 use mathlib.Core.List.{List}
-use mathlib.Core.Path.{_≡_, refl, sym, ap, _∙_}
+use mathlib.Core.Path.{_≡_, refl, sym, ap, _∙_, subst}
 use native.Mathlib.Omega.{arith}
 use lib.Seq.{getD-set-other}
 use borrow.Author.Tests.{le-ltb}
 use Rattle.frame_table.specs.declared.fields.Bits128.{Bits128}
 use Rattle.frame_table.specs.declared.fields.Fields.{Fields}
 use Rattle.frame_table.specs.Names.{subscriber, transaction, sameBits}
-use Rattle.octets.proofs.Tests.{never}
+use Rattle.octets.proofs.Tests.{never, and-true-right}
 use Rattle.bank_state.specs.declared.state.Place.{Place}
 use Rattle.bank_state.specs.Clock.{isIdle, advanced}
 use Rattle.bank_state.specs.Limits.{idleLimit}
 use Rattle.bank_state.specs.Search.{isFree, freePlace}
 use Rattle.bank_state.specs.State.{World, noPlace, placeAt}
 use Rattle.bank_state.proofs.Drops.{isIdlePlace, Spot, advanced-spot}
-use Rattle.bank_downloads.specs.declared.downloads.DownloadVerdict.{DownloadVerdict}
-use Rattle.bank_downloads.specs.declared.downloads.DownloadVerdict.the-variants as down
+use Rattle.bank_verdicts.specs.declared.verdict.DownloadAction.{DownloadAction}
+use Rattle.bank_verdicts.specs.declared.verdict.DownloadAction.the-variants as down
+use Rattle.bank_verdicts.specs.declared.verdict.Verdict.{Verdict}
+use Rattle.bank_verdicts.specs.Judgement.{uploadAt}
 use Rattle.bank_openings.specs.Openings.{counted, openUpload, openDownload}
-use Rattle.octets.proofs.Tests.{and-true-right}
-use Rattle.bank.specs.Call.{Step}
-use Rattle.bank_history.specs.History.{Event, Exchange, isAction, did}
+use Rattle.bank.specs.Call.{downloadActs, carryOut}
+use Rattle.bank_history.specs.History.{Exchange, isAction, did}
 use Rattle.bank_history.specs.Invariant.{Sizes, Invariant}
 use Rattle.bank_history.specs.Standing.{UploadAt, UploadUnlessIdle}
 use Rattle.bank_history.proofs.Cases.{
   Happens,
   unreadable,
-  refusal,
+  refused,
   opensUpload,
   opensDownload,
   toUpload,
   toDownload,
-  downloadStepBy,
+  upload-acts,
 }
 use Rattle.bank_history.proofs.Entries.{same-bits}
 use Rattle.bank_history.proofs.Clock.{sized, advanced-clock}
@@ -75,28 +76,34 @@ module _ (t : Bits128) (s k n last : ℕ) where
         never (sym f ∙ (ap (λ (b : Bits128). sameBits t b)
         (sym e ∙ (ap (λ (m : ℕ). placeAt (w .bank) m .transaction) (sym z) ∙ u .transaction)) ∙ same-bits t))
 
-    pub case-open : (lent : ℕ) (q : Fields) (d : List ℕ) {e : Event} {g : Step} → Happens lent w q d e g → did isAction t e ≡ false →
-        UploadAt (g .world) t s k n last
+    -- a request to a download leaves the places
+    places-stay : (q : Fields) (i : Bits128) (a : DownloadAction) →
+        placeAt (downloadActs a i w q .bank) (u .place) ≡ placeAt (w .bank) (u .place)
+    unfolding openDownload counted
+    places-stay q i (down.Opened m) = refl
+    places-stay q i (down.Delivered m) = refl
+    places-stay q i (down.SentAgain m) = refl
+    places-stay q i (down.Point m) = refl
+    places-stay q i down.Cancelled = refl
+    places-stay q i down.Confirmed = refl
+    places-stay q i down.Declined = refl
+
+    pub case-open : (first : ℕ) (q : Fields) (d : List ℕ) {x : Verdict} → Happens first w q d x → did isAction t x ≡ false →
+        UploadAt (carryOut x w q d) t s k n last
     unfolding openUpload openDownload counted
-    case-open lent q d unreadable f = u
-    case-open lent q d (refusal c e) f = u
-    case-open lent q d (opensUpload asked a g m inside) f =
+    case-open first q d unreadable f = u
+    case-open first q d (refused c e) f = u
+    case-open first q d (opensUpload asked a g m inside) f =
         upload-moved u (getD-set-other (w .bank .places) (freePlace (w .bank)) (u .place) _ noPlace (λ z. taken-free z))
       where
         taken-free : u .place ≡ freePlace (w .bank) → ⊥
         taken-free z =
             never (sym (ap isFree (u .used))
-            ∙ (ap (λ (i : ℕ). isFree (placeAt (w .bank) i .used)) z ∙ free-passes (w .bank) (let y = v .sizes .places in omega arith)))
-    case-open lent q d (opensDownload asked a g m) f = upload-moved u refl
-    case-open lent q d (toUpload i transfer r x a asked inside found sound) f =
-        upload-moved u (getD-set-other (w .bank .places) i (u .place) _ noPlace
-        (other-place i (placeAt (w .bank) i .transaction) refl (and-true-right (sameBits t (placeAt (w .bank) i .transaction)) ∙ f)))
-    case-open lent q d (toDownload j transfer r x a asked inside found sound) f = upload-moved u (at x)
-      where
-        at : (x : DownloadVerdict) → placeAt (downloadStepBy x j w q .world .bank) (u .place) ≡ placeAt (w .bank) (u .place)
-        at down.Deliver = refl
-        at down.Resend = refl
-        at down.Point = refl
-        at down.Abort = refl
-        at down.Done = refl
-        at down.Skipped = refl
+            ∙ (ap (λ (i : ℕ). isFree (placeAt (w .bank) i .used)) z ∙ free-passes (w .bank) (let y = v .state .sizes .places in omega arith)))
+    case-open first q d (opensDownload asked a g m) f = upload-moved u refl
+    case-open first q d (toUpload r a c) f =
+        let i = uploadAt (w .bank) q in
+        subst (λ (z : World). UploadAt z t s k n last) (sym (upload-acts (placeAt (w .bank) i .transaction) c))
+        (upload-moved u (getD-set-other (w .bank .places) i (u .place) _ noPlace
+        (other-place i (placeAt (w .bank) i .transaction) refl (and-true-right (sameBits t (placeAt (w .bank) i .transaction)) ∙ f))))
+    case-open first q d (toDownload r a c) f = upload-moved u (places-stay q _ a)

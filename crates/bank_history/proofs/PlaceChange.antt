@@ -2,6 +2,7 @@
 use Prim.Native.Nat.{ℕ, _≤_, _<_}
 use mathlib.Core.Bool.{true, false}
 use mathlib.Core.List.{List}
+use mathlib.Core.Logic.{_⊎_, inl, inr}
 use mathlib.Core.Path.{_≡_, refl, sym, _∙_}
 use native.Mathlib.Omega.{arith}
 use lib.ListN.{length, getD, set, length-set}
@@ -10,13 +11,18 @@ use Rattle.bank_state.specs.declared.state.Nonce.{Nonce}
 use Rattle.bank_state.specs.declared.state.Place.{Place}
 use Rattle.bank_state.specs.Limits.{placeCount, storeBytes, nonceCount, openMost, openPerSubscriber, openingsMost}
 use Rattle.bank_state.specs.Search.{isFree, openCount, openCountOf}
-use Rattle.bank_state.specs.State.{World, world, noPlace, placeAt, downloadAt}
+use Rattle.bank_state.specs.State.{World, world, noPlace, placeAt, downloadAt, fileLength}
 use Rattle.bank_state.specs.Store.{partAt}
-use Rattle.bank_openings.specs.Openings.{fileLength}
 use Rattle.bank_history.proofs.Rows.{each-set}
 use Rattle.bank_history.specs.History.{Exchange, mailboxFile, accepted, ever, isAction, isBooking}
 use Rattle.bank_history.specs.Sound.{AllSound}
-use Rattle.bank_history.specs.Invariant.{PlaceHolds, DownloadHolds, Memory, BookedIn, Invariant}
+use Rattle.bank_history.specs.Invariant.{Alike, Memory, BookedIn, Invariant}
+use Rattle.bank_history.proofs.Memory.{memory-nonces}
+use Rattle.bank_history.proofs.Parts.{PlaceKept, DownloadKept}
+
+pub either-sym : {A B : Type 0} {a b : A} {c d : B} → (a ≡ b) ⊎ (c ≡ d) → (b ≡ a) ⊎ (d ≡ c)
+either-sym (inl e) = inl (sym e)
+either-sym (inr e) = inr (sym e)
 
 -- the bank with place i changed, and with another number of openings, other nonces and another store of the places
 abbrev pub changedAt : ℕ → Place → ℕ → List Nonce → List ℕ → World → World
@@ -45,16 +51,16 @@ module _ (w : World) (i : ℕ) (p : Place) (o : ℕ) (nonces : List Nonce) (orde
     pub memory : Memory (w .bank .clock) nonces g
     pub counted : o ≡ accepted g
     pub numbers : o ≤ openingsMost
-    pub new : PlaceHolds (p .used) (w .bank .clock) o g p bytes
+    pub new : PlaceKept (p .used) (w .bank .clock) o g p bytes
     pub others : (j : ℕ) → j < placeCount → (j ≡ i → ⊥) →
-        PlaceHolds (placeAt (w .bank) j .used) (w .bank .clock) o g (placeAt (w .bank) j) (partAt (w .orders) j)
+        PlaceKept (placeAt (w .bank) j .used) (w .bank .clock) o g (placeAt (w .bank) j) (partAt (w .orders) j)
     pub downloads : (j : ℕ) →
-        DownloadHolds (downloadAt (w .bank) j .used) (w .bank .clock) o g (mailboxFile w (downloadAt (w .bank) j .subscriber))
+        DownloadKept (downloadAt (w .bank) j .used) (w .bank .clock) o g (mailboxFile w (downloadAt (w .bank) j .subscriber))
         (downloadAt (w .bank) j)
     pub apartPlace : (j : ℕ) → j < placeCount → (j ≡ i → ⊥) → isFree (p .used) ≡ false → isFree (placeAt (w .bank) j .used) ≡ false →
-        p .number ≡ placeAt (w .bank) j .number → ⊥
+        Alike p (placeAt (w .bank) j) → ⊥
     pub apartDownload : (j : ℕ) → isFree (p .used) ≡ false → downloadAt (w .bank) j .used ≡ true →
-        p .number ≡ downloadAt (w .bank) j .transaction .low → ⊥
+        p .transaction .low ≡ downloadAt (w .bank) j .transaction .low → ⊥
     pub openAll : openCount (changedAt i p o nonces orders w .bank) ≤ openMost
     pub openOf : (s : ℕ) → openCountOf s (changedAt i p o nonces orders w .bank) ≤ openPerSubscriber
     pub known : (t : Bits128) → ever isAction t g ≡ true → t .low < o
@@ -72,37 +78,41 @@ module _ (w : World) (i : ℕ) (p : Place) (o : ℕ) (nonces : List Nonce) (orde
   pub place-change : {h g : List Exchange} → Invariant w h → PlaceChange g → Invariant (changedAt i p o nonces orders w) g
   unfolding mailboxFile fileLength
   place-change {h} {g} v c = record {
-    sizes = record {
-      places = length-set (w .bank .places) i p ∙ v .sizes .places;
-      downloads = v .sizes .downloads;
-      nonces = c .remembered;
-      files = v .sizes .files;
-      orders = c .stored;
-      boxes = v .sizes .boxes;
+    state = record {
+      sizes = record {
+        places = length-set (w .bank .places) i p ∙ v .state .sizes .places;
+        downloads = v .state .sizes .downloads;
+        nonces = c .remembered;
+        files = v .state .sizes .files;
+        orders = c .stored;
+        boxes = v .state .sizes .boxes;
+      };
+      numbers = c .numbers;
+      places = λ j a. kept j a .0;
+      downloads = λ j. c .downloads j .0;
+      mailboxes = v .state .mailboxes;
+      placesApart = λ j k a b. each
+          (λ (m : ℕ) (r : Place). isFree (r .used) ≡ false → isFree (getD (set (w .bank .places) i p) k noPlace .used) ≡ false →
+          Alike r (getD (set (w .bank .places) i p) k noPlace) → m ≡ k)
+          (each (λ (m : ℕ) (r : Place). isFree (p .used) ≡ false → isFree (r .used) ≡ false → Alike p r → i ≡ m)
+          (λ _ _ _. refl) (λ m d n x y z. absurd (c .apartPlace m d n x y z)) k b)
+          (λ m d n. each (λ (l : ℕ) (r : Place). isFree (placeAt (w .bank) m .used) ≡ false → isFree (r .used) ≡ false →
+          Alike (placeAt (w .bank) m) r → m ≡ l)
+          (λ x y z. absurd (c .apartPlace m d n y x (either-sym z))) (λ l e _. v .state .placesApart m l d e) k b)
+          j a;
+      apart = λ j k a. each
+          (λ (m : ℕ) (r : Place). isFree (r .used) ≡ false → downloadAt (w .bank) k .used ≡ true →
+          r .transaction .low ≡ downloadAt (w .bank) k .transaction .low → ⊥)
+          (c .apartDownload k) (λ m d n. v .state .apart m k d) j a;
+      inOrder = v .state .inOrder;
+      nonces = memory-nonces _ _ _ (c .memory);
+      openAll = c .openAll;
+      openOf = c .openOf;
     };
     counted = c .counted;
-    numbers = c .numbers;
-    places = each (λ (j : ℕ) (r : Place). PlaceHolds (r .used) (w .bank .clock) o g r (partAt orders j)) (rw (c .here) (c .new))
-        (λ j a n. rw (c .elsewhere j n) (c .others j a n));
-    downloads = c .downloads;
-    mailboxes = v .mailboxes;
-    placesApart = λ j k a b. each
-        (λ (m : ℕ) (r : Place). isFree (r .used) ≡ false → isFree (getD (set (w .bank .places) i p) k noPlace .used) ≡ false →
-        r .number ≡ getD (set (w .bank .places) i p) k noPlace .number → m ≡ k)
-        (each (λ (m : ℕ) (r : Place). isFree (p .used) ≡ false → isFree (r .used) ≡ false → p .number ≡ r .number → i ≡ m)
-        (λ _ _ _. refl) (λ m d n x y z. absurd (c .apartPlace m d n x y z)) k b)
-        (λ m d n. each (λ (l : ℕ) (r : Place). isFree (placeAt (w .bank) m .used) ≡ false → isFree (r .used) ≡ false →
-        placeAt (w .bank) m .number ≡ r .number → m ≡ l)
-        (λ x y z. absurd (c .apartPlace m d n y x (sym z))) (λ l e _. v .placesApart m l d e) k b)
-        j a;
-    apart = λ j k a. each
-        (λ (m : ℕ) (r : Place). isFree (r .used) ≡ false → downloadAt (w .bank) k .used ≡ true →
-        r .number ≡ downloadAt (w .bank) k .transaction .low → ⊥)
-        (c .apartDownload k) (λ m d n. v .apart m k d) j a;
-    inOrder = v .inOrder;
+    places = λ j a. kept j a .1;
+    downloads = λ j. c .downloads j .1;
     memory = c .memory;
-    openAll = c .openAll;
-    openOf = c .openOf;
     known = c .known;
     booked = c .booked;
     sound = c .sound;
@@ -110,4 +120,9 @@ module _ (w : World) (i : ℕ) (p : Place) (o : ℕ) (nonces : List Nonce) (orde
     where
       each : (P : ℕ → Place → Type 0) → P i p → ((j : ℕ) → j < placeCount → (j ≡ i → ⊥) → P j (placeAt (w .bank) j)) →
           (j : ℕ) → j < placeCount → P j (getD (set (w .bank .places) i p) j noPlace)
-      each = each-place (v .sizes .places) (c .inside)
+      each = each-place (v .state .sizes .places) (c .inside)
+
+      kept : (j : ℕ) → j < placeCount →
+          let r = getD (set (w .bank .places) i p) j noPlace in PlaceKept (r .used) (w .bank .clock) o g r (partAt orders j)
+      kept = each (λ (j : ℕ) (r : Place). PlaceKept (r .used) (w .bank .clock) o g r (partAt orders j)) (rw (c .here) (c .new))
+          (λ j a n. rw (c .elsewhere j n) (c .others j a n))

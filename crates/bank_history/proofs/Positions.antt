@@ -12,23 +12,17 @@ use Rattle.octets.proofs.Tests.{never, and-true}
 use Rattle.frame_table.proofs.Bits.{bits-same}
 use Rattle.message.specs.Limits.{segmentBytes}
 use Rattle.message.specs.Segments.{segmentOf}
+use Rattle.bank_verdicts.specs.declared.verdict.UploadAction.{UploadAction}
+use Rattle.bank_verdicts.specs.declared.verdict.UploadAction.the-variants as up
+use Rattle.bank_verdicts.specs.declared.verdict.DownloadAction.{DownloadAction}
+use Rattle.bank_verdicts.specs.declared.verdict.DownloadAction.the-variants as down
+use Rattle.bank_verdicts.specs.declared.verdict.Action.{Action}
+use Rattle.bank_verdicts.specs.declared.verdict.Action.the-variants as action
+use Rattle.bank_verdicts.specs.declared.verdict.Verdict.{Verdict}
+use Rattle.bank_verdicts.specs.declared.verdict.Verdict.the-variants as verdict
 use Rattle.bank_history.specs.History.{
-  Action,
-  OpenedUpload,
-  OpenedDownload,
-  Took,
-  TookLast,
-  UploadPoint,
-  DownloadPoint,
-  Cancelled,
-  Delivered,
-  SentAgain,
-  Confirmed,
-  Declined,
-  Event,
-  Unreadable,
-  Refusal,
-  Of,
+  uploadKind,
+  downloadKind,
   Exchange,
   Stands,
   newest,
@@ -48,8 +42,10 @@ use Rattle.bank_history.specs.History.{
   ActionIn,
 }
 use Rattle.bank_history.specs.Sound.{
+  SoundUploadAction,
+  SoundDownloadAction,
   SoundAction,
-  SoundEvent,
+  SoundVerdict,
   SoundRequest,
   SoundTaking,
   Sound,
@@ -64,10 +60,10 @@ pub sound-at : {e : Exchange} {g h : List Exchange} → AllSound h → Stands e 
 sound-at (more s r) newest = s
 sound-at (more s r) (older p) = sound-at r p
 
--- what the event of a standing exchange says
-pub action-sound : {e : Exchange} {g h : List Exchange} {t : Bits128} {k : Action} → AllSound h → Stands e g h → e .event ≡ Of t k →
+-- what the verdict of a standing exchange says
+pub action-sound : {e : Exchange} {g h : List Exchange} {t : Bits128} {k : Action} → AllSound h → Stands e g h → e .verdict ≡ verdict.Of t k →
     SoundAction k t e g
-action-sound {e} {g} r p own = subst (λ (v : Event). SoundEvent v e g) own (sound-at r p .event)
+action-sound {e} {g} r p own = subst (λ (v : Verdict). SoundVerdict v e g) own (sound-at r p .verdict)
 
 -- at most one exchange with one value, where the value is a measure of what came before it that each such exchange raises
 module _ (P : Exchange → Type 0) (value : Exchange → ℕ) (measure : List Exchange → ℕ)
@@ -89,19 +85,28 @@ module _ (P : Exchange → Type 0) (value : Exchange → ℕ) (measure : List Ex
 
 -- ---- openings
 
+upload-number : (t : Bits128) (e : Exchange) (g : List Exchange) (a : UploadAction) → isOpening (action.Upload a) ≡ true →
+    SoundUploadAction a t e g → t .low ≡ accepted g
+upload-number t e g (up.Opened n) o s = s .opening .numbered
+upload-number t e g up.Took o s = never o
+upload-number t e g up.TookLast o s = never o
+upload-number t e g (up.Point k) o s = never o
+upload-number t e g (up.Cancelled c) o s = never o
+
+download-number : (t : Bits128) (e : Exchange) (g : List Exchange) (a : DownloadAction) → isOpening (action.Download a) ≡ true →
+    SoundDownloadAction a t e g → t .low ≡ accepted g
+download-number t e g (down.Opened n) o s = s .opening .numbered
+download-number t e g (down.Delivered n) o s = never o
+download-number t e g (down.SentAgain n) o s = never o
+download-number t e g (down.Point d) o s = never o
+download-number t e g down.Cancelled o s = never o
+download-number t e g down.Confirmed o s = never o
+download-number t e g down.Declined o s = never o
+
 opening-number : (t : Bits128) (e : Exchange) (g : List Exchange) (k : Action) → isOpening k ≡ true → SoundAction k t e g →
     t .low ≡ accepted g
-opening-number t e g OpenedUpload o s = s .opening .numbered
-opening-number t e g (OpenedDownload n) o s = s .opening .numbered
-opening-number t e g Took o s = never o
-opening-number t e g TookLast o s = never o
-opening-number t e g (UploadPoint k) o s = never o
-opening-number t e g (DownloadPoint d) o s = never o
-opening-number t e g (Cancelled c) o s = never o
-opening-number t e g (Delivered n) o s = never o
-opening-number t e g (SentAgain n) o s = never o
-opening-number t e g Confirmed o s = never o
-opening-number t e g Declined o s = never o
+opening-number t e g (action.Upload a) o s = upload-number t e g a o s
+opening-number t e g (action.Download a) o s = download-number t e g a o s
 
 -- "The accepted openings are numbered from 0": each has its own number
 pub one-opening : (n : ℕ) {e f : Exchange} {g k h : List Exchange} → AllSound h → Stands e g h → Stands f k h → OpensNumber n e →
@@ -111,13 +116,13 @@ one-opening n r a b p q = one-place (OpensNumber n) (λ _. n) accepted known rai
   where
     known : (e : Exchange) (g : List Exchange) → Sound e g → OpensNumber n e → n ≡ accepted g
     known e g s p = sym (p .numbered)
-        ∙ opening-number (p .id) e g (p .action) (p .opening) (subst (λ (v : Event). SoundEvent v e g) (p .is) (s .event))
+        ∙ opening-number (p .id) e g (p .action) (p .opening) (subst (λ (v : Verdict). SoundVerdict v e g) (p .is) (s .verdict))
 
     raises : (e : Exchange) (g : List Exchange) → OpensNumber n e → accepted g < accepted (e ∷ g)
     raises e g p = rw (p .is) (rw (p .opening) (omega arith))
 
     grows : (e : Exchange) (g : List Exchange) → accepted g ≤ accepted (e ∷ g)
-    grows e g = by-test (λ (m : ℕ). accepted g ≤ m) (opens (e .event)) (λ _. omega arith) (λ _. omega arith)
+    grows e g = by-test (λ (m : ℕ). accepted g ≤ m) (opens (e .verdict)) (λ _. omega arith) (λ _. omega arith)
 
 -- ---- one kind of actions of one transaction
 
@@ -125,35 +130,53 @@ module _ (f : Action → Bool) (t : Bits128) where
   times-raises : (e : Exchange) (g : List Exchange) → ActionIn f t e → times f t g < times f t (e ∷ g)
   unfolding times
   times-raises e g p =
-      let z : did f t (e .event) ≡ true = ap (did f t) (p .is) ∙ (did-same f t (p .action) ∙ p .kind) in
+      let z : did f t (e .verdict) ≡ true = ap (did f t) (p .is) ∙ (did-same f t (p .action) ∙ p .kind) in
       rw z (omega arith)
 
   times-grows : (e : Exchange) (g : List Exchange) → times f t g ≤ times f t (e ∷ g)
   unfolding times
-  times-grows e g = by-test (λ (m : ℕ). times f t g ≤ m) (did f t (e .event)) (λ _. omega arith) (λ _. omega arith)
+  times-grows e g = by-test (λ (m : ℕ). times f t g ≤ m) (did f t (e .verdict)) (λ _. omega arith) (λ _. omega arith)
 
   never-times : (h : List Exchange) → ever f t h ≡ false → times f t h ≡ 0
   unfolding ever times
   never-times [] e = refl
-  never-times (x ∷ h) e = at (did f t (x .event)) (never-times h) e
+  never-times (x ∷ h) e = at (did f t (x .verdict)) (never-times h) e
     where
       at : (b : Bool) → (ever f t h ≡ false → times f t h ≡ 0) → cond b true (ever f t h) ≡ false →
           cond b (suc (times f t h)) (times f t h) ≡ 0
       at true later z = never (sym z)
       at false later z = later z
 
+-- a download takes no segment and books none
+download-takes-not : (a : DownloadAction) → downloadKind a .takes ≡ false
+download-takes-not (down.Opened n) = refl
+download-takes-not (down.Delivered n) = refl
+download-takes-not (down.SentAgain n) = refl
+download-takes-not (down.Point d) = refl
+download-takes-not down.Cancelled = refl
+download-takes-not down.Confirmed = refl
+download-takes-not down.Declined = refl
+
+download-books-not : (a : DownloadAction) → downloadKind a .books ≡ false
+download-books-not (down.Opened n) = refl
+download-books-not (down.Delivered n) = refl
+download-books-not (down.SentAgain n) = refl
+download-books-not (down.Point d) = refl
+download-books-not down.Cancelled = refl
+download-books-not down.Confirmed = refl
+download-books-not down.Declined = refl
+
+upload-next : (a : UploadAction) {t : Bits128} {e : Exchange} {g : List Exchange} → uploadKind a .takes ≡ true →
+    SoundUploadAction a t e g → SoundTaking t e g
+upload-next (up.Opened n) o s = never o
+upload-next up.Took o s = s .taking
+upload-next up.TookLast o s = s .taking
+upload-next (up.Point k) o s = never o
+upload-next (up.Cancelled c) o s = never o
+
 taking-next : (k : Action) {t : Bits128} {e : Exchange} {g : List Exchange} → isTaking k ≡ true → SoundAction k t e g → SoundTaking t e g
-taking-next OpenedUpload o s = never o
-taking-next (OpenedDownload n) o s = never o
-taking-next Took o s = s .taking
-taking-next TookLast o s = s .taking
-taking-next (UploadPoint k) o s = never o
-taking-next (DownloadPoint d) o s = never o
-taking-next (Cancelled c) o s = never o
-taking-next (Delivered n) o s = never o
-taking-next (SentAgain n) o s = never o
-taking-next Confirmed o s = never o
-taking-next Declined o s = never o
+taking-next (action.Upload a) o s = upload-next a o s
+taking-next (action.Download a) o s = never (sym (download-takes-not a) ∙ o)
 
 -- the segments of a transaction were taken in the order 1, 2, 3 ..., so each at most once
 pub taking-sound : {t : Bits128} {e : Exchange} {g h : List Exchange} → AllSound h → Stands e g h → ActionIn isTaking t e →
@@ -164,36 +187,33 @@ pub one-taking : (t : Bits128) {e f : Exchange} {g k h : List Exchange} → AllS
     ActionIn isTaking t e → ActionIn isTaking t f →
     segment (e .request) ≡ segment (f .request) → (e ≡ f) × (g ≡ k)
 one-taking t = one-place (ActionIn isTaking t) (λ (e : Exchange). segment (e .request)) (λ (g : List Exchange). suc (times isTaking t g))
-    (λ e g s p. taking-next (p .action) (p .kind) (subst (λ (v : Event). SoundEvent v e g) (p .is) (s .event)) .next)
+    (λ e g s p. taking-next (p .action) (p .kind) (subst (λ (v : Verdict). SoundVerdict v e g) (p .is) (s .verdict)) .next)
     (λ e g p. let z = times-raises isTaking t e g p in omega arith) (λ e g. let z = times-grows isTaking t e g in omega arith)
 
-pub booking-last : (k : Action) → isBooking k ≡ true → k ≡ TookLast
-booking-last OpenedUpload o = never o
-booking-last (OpenedDownload n) o = never o
-booking-last Took o = never o
-booking-last TookLast o = refl
-booking-last (UploadPoint k) o = never o
-booking-last (DownloadPoint d) o = never o
-booking-last (Cancelled c) o = never o
-booking-last (Delivered n) o = never o
-booking-last (SentAgain n) o = never o
-booking-last Confirmed o = never o
-booking-last Declined o = never o
+upload-books-last : (a : UploadAction) → uploadKind a .books ≡ true → a ≡ up.TookLast
+upload-books-last (up.Opened n) o = never o
+upload-books-last up.Took o = never o
+upload-books-last up.TookLast o = refl
+upload-books-last (up.Point k) o = never o
+upload-books-last (up.Cancelled c) o = never o
+
+pub booking-last : (k : Action) → isBooking k ≡ true → k ≡ action.Upload up.TookLast
+booking-last (action.Upload a) o = ap action.Upload (upload-books-last a o)
+booking-last (action.Download a) o = never (sym (download-books-not a) ∙ o)
 
 -- "Segment N books the order": the segment taken is the last one of its opening exactly when it books
+upload-last-books : (t : Bits128) (e : Exchange) (g : List Exchange) (a : UploadAction) → uploadKind a .takes ≡ true →
+    SoundUploadAction a t e g → segment (e .request) ≡ segmentsAt t g → uploadKind a .books ≡ true
+upload-last-books t e g (up.Opened n) o s z = never o
+upload-last-books t e g up.Took o s z = absurd (let b = s .below in omega arith)
+upload-last-books t e g up.TookLast o s z = refl
+upload-last-books t e g (up.Point k) o s z = never o
+upload-last-books t e g (up.Cancelled c) o s z = never o
+
 last-books : (t : Bits128) (e : Exchange) (g : List Exchange) (k : Action) → isTaking k ≡ true → SoundAction k t e g →
     segment (e .request) ≡ segmentsAt t g → isBooking k ≡ true
-last-books t e g OpenedUpload o s z = never o
-last-books t e g (OpenedDownload n) o s z = never o
-last-books t e g Took o s z = absurd (let b = s .below in omega arith)
-last-books t e g TookLast o s z = refl
-last-books t e g (UploadPoint k) o s z = never o
-last-books t e g (DownloadPoint d) o s z = never o
-last-books t e g (Cancelled c) o s z = never o
-last-books t e g (Delivered n) o s z = never o
-last-books t e g (SentAgain n) o s z = never o
-last-books t e g Confirmed o s z = never o
-last-books t e g Declined o s z = never o
+last-books t e g (action.Upload a) o s z = upload-last-books t e g a o s z
+last-books t e g (action.Download a) o s z = never (sym (download-takes-not a) ∙ o)
 
 pub taken-last-books : (t : Bits128) {e : Exchange} {g h : List Exchange} → AllSound h → Stands e g h → ActionIn isTaking t e →
     segment (e .request) ≡ segmentsAt t g → ActionIn isBooking t e
@@ -202,7 +222,7 @@ taken-last-books t {e} {g} r p d z =
 
 pub booking-takes-last : (t : Bits128) {e : Exchange} {g h : List Exchange} → AllSound h → Stands e g h → ActionIn isBooking t e →
     segment (e .request) ≡ segmentsAt t g
-booking-takes-last t r p d = action-sound r p (d .is ∙ ap (Of t) (booking-last (d .action) (d .kind))) .last
+booking-takes-last t r p d = action-sound r p (d .is ∙ ap (verdict.Of t) (booking-last (d .action) (d .kind))) .last
 
 -- a transaction is booked at most once
 pub one-booking : (t : Bits128) {e f : Exchange} {g k h : List Exchange} → AllSound h → Stands e g h → Stands f k h →
@@ -212,34 +232,34 @@ one-booking t r a b p q = one-place (ActionIn isBooking t) (λ _. 0) (times isBo
   where
     known : (e : Exchange) (g : List Exchange) → Sound e g → ActionIn isBooking t e → 0 ≡ times isBooking t g
     known e g s p =
-        let last = subst (λ (v : Event). SoundEvent v e g) (p .is ∙ ap (Of t) (booking-last (p .action) (p .kind))) (s .event) in
+        let last = subst (λ (v : Verdict). SoundVerdict v e g) (p .is ∙ ap (verdict.Of t) (booking-last (p .action) (p .kind))) (s .verdict) in
         sym (never-times isBooking t g (last .taking .upload .request .unbooked))
 
 -- ---- from the truth values to exchanges
 
-action-in : (f : Action → Bool) (t : Bits128) (x : Exchange) (v : Event) → x .event ≡ v → did f t v ≡ true → ActionIn f t x
-action-in f t x Unreadable e d = never d
-action-in f t x (Refusal c) e d = never d
-action-in f t x (Of u k) e d =
+action-in : (f : Action → Bool) (t : Bits128) (x : Exchange) (v : Verdict) → x .verdict ≡ v → did f t v ≡ true → ActionIn f t x
+action-in f t x verdict.Unreadable e d = never d
+action-in f t x (verdict.Refused c) e d = never d
+action-in f t x (verdict.Of u k) e d =
     let a = and-true (sameBits t u) (f k) d in
-    record { action = k; is = e ∙ ap (λ (b : Bits128). Of b k) (sym (bits-same t u (a .0))); kind = a .1 }
+    record { action = k; is = e ∙ ap (λ (b : Bits128). verdict.Of b k) (sym (bits-same t u (a .0))); kind = a .1 }
 
 pub ever-stands : (f : Action → Bool) (t : Bits128) (h : List Exchange) → ever f t h ≡ true →
     (e : Exchange) × (g : List Exchange) × Stands e g h × ActionIn f t e
 unfolding ever
 ever-stands f t [] z = never z
-ever-stands f t (x ∷ h) z = at (did f t (x .event)) refl (ever-stands f t h) z
+ever-stands f t (x ∷ h) z = at (did f t (x .verdict)) refl (ever-stands f t h) z
   where
-    at : (b : Bool) → did f t (x .event) ≡ b → (ever f t h ≡ true → (e : Exchange) × (g : List Exchange) × Stands e g h × ActionIn f t e) →
+    at : (b : Bool) → did f t (x .verdict) ≡ b → (ever f t h ≡ true → (e : Exchange) × (g : List Exchange) × Stands e g h × ActionIn f t e) →
         cond b true (ever f t h) ≡ true →
         (e : Exchange) × (g : List Exchange) × Stands e g (x ∷ h) × ActionIn f t e
-    at true d later y = (x, h, newest, action-in f t x (x .event) refl d)
+    at true d later y = (x, h, newest, action-in f t x (x .verdict) refl d)
     at false d later y = let r = later y in (r .0, r .1, older (r .2), r .3)
 
 pub stands-ever : (f : Action → Bool) (t : Bits128) {e : Exchange} {g h : List Exchange} → Stands e g h → ActionIn f t e → ever f t h ≡ true
 unfolding ever
 stands-ever f t {e} {g} newest p = ever-own t (p .action) e g (p .is) f ∙ ap (λ (b : Bool). cond b true (ever f t g)) (p .kind)
-stands-ever f t (older {x = x} {h = h} s) p = rw (stands-ever f t s p) (any (did f t (x .event)))
+stands-ever f t (older {x = x} {h = h} s) p = rw (stands-ever f t s p) (any (did f t (x .verdict)))
   where
     any : (b : Bool) → cond b true true ≡ true
     any true = refl
@@ -248,32 +268,48 @@ stands-ever f t (older {x = x} {h = h} s) p = rw (stands-ever f t s p) (any (did
 -- ---- what is ended was not booked, and what is booked was not ended
 
 -- every action but an opening answers a request to an open transaction of its subscriber
+upload-request-of : (a : UploadAction) {t : Bits128} {e : Exchange} {g : List Exchange} → isOpening (action.Upload a) ≡ false →
+    SoundUploadAction a t e g → SoundRequest t e g
+upload-request-of (up.Opened n) o s = never (sym o)
+upload-request-of up.Took o s = s .taking .upload .request
+upload-request-of up.TookLast o s = s .taking .upload .request
+upload-request-of (up.Point k) o s = s .upload .request
+upload-request-of (up.Cancelled c) o s = s .request
+
+download-request-of : (a : DownloadAction) {t : Bits128} {e : Exchange} {g : List Exchange} → isOpening (action.Download a) ≡ false →
+    SoundDownloadAction a t e g → SoundRequest t e g
+download-request-of (down.Opened n) o s = never (sym o)
+download-request-of (down.Delivered n) o s = s .carried .download .request
+download-request-of (down.SentAgain n) o s = s .carried .download .request
+download-request-of (down.Point d) o s = s .request
+download-request-of down.Cancelled o s = s .request
+download-request-of down.Confirmed o s = s .receipt .download .request
+download-request-of down.Declined o s = s .download .request
+
 pub request-of : (k : Action) {t : Bits128} {e : Exchange} {g : List Exchange} → isOpening k ≡ false → SoundAction k t e g →
     SoundRequest t e g
-request-of OpenedUpload o s = never (sym o)
-request-of (OpenedDownload n) o s = never (sym o)
-request-of Took o s = s .taking .upload .request
-request-of TookLast o s = s .taking .upload .request
-request-of (UploadPoint k) o s = s .upload .request
-request-of (DownloadPoint d) o s = s .request
-request-of (Cancelled c) o s = s .request
-request-of (Delivered n) o s = s .carried .download .request
-request-of (SentAgain n) o s = s .carried .download .request
-request-of Confirmed o s = s .receipt .download .request
-request-of Declined o s = s .download .request
+request-of (action.Upload a) o s = upload-request-of a o s
+request-of (action.Download a) o s = download-request-of a o s
+
+upload-ends-opened : (a : UploadAction) → uploadKind a .ends ≡ true → isOpening (action.Upload a) ≡ false
+upload-ends-opened (up.Opened n) o = never o
+upload-ends-opened up.Took o = refl
+upload-ends-opened up.TookLast o = refl
+upload-ends-opened (up.Point k) o = refl
+upload-ends-opened (up.Cancelled c) o = refl
+
+download-ends-opened : (a : DownloadAction) → downloadKind a .ends ≡ true → isOpening (action.Download a) ≡ false
+download-ends-opened (down.Opened n) o = never o
+download-ends-opened (down.Delivered n) o = refl
+download-ends-opened (down.SentAgain n) o = refl
+download-ends-opened (down.Point d) o = refl
+download-ends-opened down.Cancelled o = refl
+download-ends-opened down.Confirmed o = refl
+download-ends-opened down.Declined o = refl
 
 ending-opens-not : (k : Action) → isEnding k ≡ true → isOpening k ≡ false
-ending-opens-not OpenedUpload o = never o
-ending-opens-not (OpenedDownload n) o = never o
-ending-opens-not Took o = refl
-ending-opens-not TookLast o = refl
-ending-opens-not (UploadPoint k) o = refl
-ending-opens-not (DownloadPoint d) o = refl
-ending-opens-not (Cancelled c) o = refl
-ending-opens-not (Delivered n) o = refl
-ending-opens-not (SentAgain n) o = refl
-ending-opens-not Confirmed o = refl
-ending-opens-not Declined o = refl
+ending-opens-not (action.Upload a) o = upload-ends-opened a o
+ending-opens-not (action.Download a) o = download-ends-opened a o
 
 pub ended-unbooked : (t : Bits128) {h : List Exchange} → AllSound h → ever isEnding t h ≡ true → ever isBooking t h ≡ true → ⊥
 ended-unbooked t {h} r e b = let x = ever-stands isEnding t h e in let y = ever-stands isBooking t h b in at r (x .2) (x .3) (y .2) (y .3)
@@ -281,19 +317,19 @@ ended-unbooked t {h} r e b = let x = ever-stands isEnding t h e in let y = ever-
     at : {e f : Exchange} {g k h : List Exchange} → AllSound h → Stands e g h → ActionIn isEnding t e → Stands f k h →
         ActionIn isBooking t f → ⊥
     at {e} {f} {g} {k} (more s r) newest p newest q =
-        let z : Of t (p .action) ≡ Of t TookLast = sym (p .is) ∙ (q .is ∙ ap (Of t) (booking-last (q .action) (q .kind))) in
+        let z : verdict.Of t (p .action) ≡ verdict.Of t (action.Upload up.TookLast) = sym (p .is) ∙ (q .is ∙ ap (verdict.Of t) (booking-last (q .action) (q .kind))) in
         never (sym (ap ending z) ∙ p .kind)
       where
-        ending : Event → Bool
-        ending Unreadable = false
-        ending (Refusal c) = false
-        ending (Of u d) = isEnding d
+        ending : Verdict → Bool
+        ending verdict.Unreadable = false
+        ending (verdict.Refused c) = false
+        ending (verdict.Of u d) = isEnding d
     at {e} {f} {g} (more s r) newest p (older b) q =
         let z = request-of (p .action) (ending-opens-not (p .action) (p .kind))
-        (subst (λ (v : Event). SoundEvent v e g) (p .is) (s .event)) in
+        (subst (λ (v : Verdict). SoundVerdict v e g) (p .is) (s .verdict)) in
         never (sym (z .unbooked) ∙ stands-ever isBooking t b q)
     at {e} {f} {g} {k} (more s r) (older a) p newest q =
-        let z = subst (λ (v : Event). SoundEvent v f k) (q .is ∙ ap (Of t) (booking-last (q .action) (q .kind))) (s .event) in
+        let z = subst (λ (v : Verdict). SoundVerdict v f k) (q .is ∙ ap (verdict.Of t) (booking-last (q .action) (q .kind))) (s .verdict) in
         never (sym (z .taking .upload .request .going) ∙ stands-ever isEnding t a p)
     at (more s r) (older a) p (older b) q = at r a p b q
 
@@ -311,21 +347,21 @@ pub received-payload : (t : Bits128) (payload : List ℕ) {h : List Exchange} �
 unfolding received times
 received-payload t payload none cut = refl
 received-payload t payload (more {e = e} {h = h} s r) cut =
-    at (did isTaking t (e .event)) refl (received-payload t payload r (λ x g p. cut x g (older p)))
+    at (did isTaking t (e .verdict)) refl (received-payload t payload r (λ x g p. cut x g (older p)))
   where
     more-data : ActionIn isTaking t e → received t h ≡ take (times isTaking t h * segmentBytes) payload →
         received t h ++ e .requestData ≡ take (suc (times isTaking t h) * segmentBytes) payload
     more-data d z =
         let n = times isTaking t h in
-        let next = taking-next (d .action) (d .kind) (subst (λ (v : Event). SoundEvent v e h) (d .is) (s .event)) .next in
+        let next = taking-next (d .action) (d .kind) (subst (λ (v : Verdict). SoundVerdict v e h) (d .is) (s .verdict)) .next in
         let a : suc n * segmentBytes ≡ n * segmentBytes + segmentBytes = omega arith in
         let b = cut e h newest d ∙ (ap (segmentOf payload) next ∙ segment-behind payload n) in
         ap (λ (l : List ℕ). l ++ e .requestData) z
         ∙ (ap (λ (l : List ℕ). take (n * segmentBytes) payload ++ l) b
         ∙ (sym (take-add (n * segmentBytes) segmentBytes payload) ∙ ap (λ (m : ℕ). take m payload) (sym a)))
 
-    at : (b : Bool) → did isTaking t (e .event) ≡ b → received t h ≡ take (times isTaking t h * segmentBytes) payload →
+    at : (b : Bool) → did isTaking t (e .verdict) ≡ b → received t h ≡ take (times isTaking t h * segmentBytes) payload →
         cond b (received t h ++ e .requestData) (received t h) ≡ take
         (cond b (suc (times isTaking t h)) (times isTaking t h) * segmentBytes) payload
-    at true d z = more-data (action-in isTaking t e (e .event) refl d) z
+    at true d z = more-data (action-in isTaking t e (e .verdict) refl d) z
     at false d z = z

@@ -1,4 +1,4 @@
--- What a reply tells of its event: its form, its return code, its exchange number, and the event back from the form.
+-- What a reply tells of its verdict: its form, its return code, its exchange number, and the verdict back from the form.
 use Prim.Native.Nat.{ℕ}
 use mathlib.Core.Bool.{Bool, true, false}
 use mathlib.Core.Logic.{_⊎_, inl, inr}
@@ -24,65 +24,69 @@ use Rattle.message.specs.Replies.{
   unreadable,
   refusal,
 }
-use Rattle.bank_history.specs.Sound.{cancels, isCancelling}
-use Rattle.bank_history.specs.History.{
-  Action,
-  OpenedUpload,
-  OpenedDownload,
-  Took,
-  TookLast,
-  UploadPoint,
-  DownloadPoint,
-  Cancelled,
-  Delivered,
-  SentAgain,
-  Confirmed,
-  Declined,
-  Event,
-  Unreadable,
-  Refusal,
-  Of,
-  actionReply,
-  replyTo,
-}
+use Rattle.bank_verdicts.specs.declared.verdict.UploadAction.{UploadAction}
+use Rattle.bank_verdicts.specs.declared.verdict.UploadAction.the-variants as up
+use Rattle.bank_verdicts.specs.declared.verdict.DownloadAction.{DownloadAction}
+use Rattle.bank_verdicts.specs.declared.verdict.DownloadAction.the-variants as down
+use Rattle.bank_verdicts.specs.declared.verdict.Action.{Action}
+use Rattle.bank_verdicts.specs.declared.verdict.Action.the-variants as action
+use Rattle.bank_verdicts.specs.declared.verdict.Verdict.{Verdict}
+use Rattle.bank_verdicts.specs.declared.verdict.Verdict.the-variants as verdict
+use Rattle.bank_verdicts.specs.Replies.{uploadReply, downloadReply, actionReply, replyTo}
+use Rattle.bank_verdicts.specs.Refusals.{cancels}
+use Rattle.bank_history.specs.Sound.{isCancelling}
 
--- the reply form of an action and of an event
+-- the reply form of an action and of a verdict
+abbrev pub uploadForm : UploadAction → Form
+uploadForm (up.Opened n) = forms.UploadOpened
+uploadForm up.Took = forms.SegmentTaken
+uploadForm up.TookLast = forms.SegmentTaken
+uploadForm (up.Point k) = forms.SegmentTaken
+uploadForm (up.Cancelled c) = forms.Refusal
+
+abbrev pub downloadForm : DownloadAction → Form
+downloadForm (down.Opened n) = forms.DownloadOpened
+downloadForm (down.Delivered n) = forms.DownloadSegment
+downloadForm (down.SentAgain n) = forms.DownloadSegment
+downloadForm (down.Point d) = forms.SegmentTaken
+downloadForm down.Cancelled = forms.Refusal
+downloadForm down.Confirmed = forms.ReceiptAnswered
+downloadForm down.Declined = forms.ReceiptAnswered
+
 abbrev pub actionForm : Action → Form
-actionForm OpenedUpload = forms.UploadOpened
-actionForm (OpenedDownload n) = forms.DownloadOpened
-actionForm Took = forms.SegmentTaken
-actionForm TookLast = forms.SegmentTaken
-actionForm (UploadPoint k) = forms.SegmentTaken
-actionForm (DownloadPoint d) = forms.SegmentTaken
-actionForm (Cancelled c) = forms.Refusal
-actionForm (Delivered n) = forms.DownloadSegment
-actionForm (SentAgain n) = forms.DownloadSegment
-actionForm Confirmed = forms.ReceiptAnswered
-actionForm Declined = forms.ReceiptAnswered
+actionForm (action.Upload a) = uploadForm a
+actionForm (action.Download a) = downloadForm a
 
-abbrev pub eventForm : Event → Form
-eventForm Unreadable = forms.Unreadable
-eventForm (Refusal c) = forms.Refusal
-eventForm (Of t k) = actionForm k
+abbrev pub verdictForm : Verdict → Form
+verdictForm verdict.Unreadable = forms.Unreadable
+verdictForm (verdict.Refused c) = forms.Refusal
+verdictForm (verdict.Of t k) = actionForm k
 
--- the return code of an action and of an event
+-- the return code of an action and of a verdict
+abbrev pub uploadCode : UploadAction → ReturnCode
+uploadCode (up.Opened n) = code.Ok
+uploadCode up.Took = code.Ok
+uploadCode up.TookLast = code.Ok
+uploadCode (up.Point k) = code.RecoverySync
+uploadCode (up.Cancelled c) = c
+
+abbrev pub downloadCode : DownloadAction → ReturnCode
+downloadCode (down.Opened n) = code.Ok
+downloadCode (down.Delivered n) = code.Ok
+downloadCode (down.SentAgain n) = code.Ok
+downloadCode (down.Point d) = code.RecoverySync
+downloadCode down.Cancelled = code.TransactionAbort
+downloadCode down.Confirmed = code.DownloadPostprocessDone
+downloadCode down.Declined = code.DownloadPostprocessSkipped
+
 abbrev pub actionCode : Action → ReturnCode
-actionCode OpenedUpload = code.Ok
-actionCode (OpenedDownload n) = code.Ok
-actionCode Took = code.Ok
-actionCode TookLast = code.Ok
-actionCode (UploadPoint k) = code.RecoverySync
-actionCode (DownloadPoint d) = code.RecoverySync
-actionCode (Cancelled c) = c
-actionCode (Delivered n) = code.Ok
-actionCode (SentAgain n) = code.Ok
-actionCode Confirmed = code.DownloadPostprocessDone
-actionCode Declined = code.DownloadPostprocessSkipped
+actionCode (action.Upload a) = uploadCode a
+actionCode (action.Download a) = downloadCode a
 
-abbrev pub eventCode : Event → ReturnCode
-eventCode Unreadable = code.InvalidXml
-eventCode (Refusal c) = c
-eventCode (Of t k) = actionCode k
+abbrev pub verdictCode : Verdict → ReturnCode
+verdictCode verdict.Unreadable = code.InvalidXml
+verdictCode (verdict.Refused c) = c
+verdictCode (verdict.Of t k) = actionCode k
 
 -- what an action's reply says
 pub record ActionReply (k : Action) (t : Bits128) (q : Fields) (r : Fields) : Type 0 where
@@ -93,71 +97,90 @@ pub record ActionReply (k : Action) (t : Bits128) (q : Fields) (r : Fields) : Ty
   pub same-exchange : exchange r ≡ exchange q
 
 module _ (t : Bits128) (q : Fields) where
+  upload-reply : (a : UploadAction) → ActionReply (action.Upload a) t q (uploadReply a t q)
+  unfolding uploadOpened segmentTaken recoveryPoint refusal formOf findForm rowFits
+  upload-reply (up.Opened n) = record { sized = (refl, refl); kind = refl; formed = refl; coded = refl; same-exchange = refl }
+  upload-reply up.Took = record { sized = (refl, refl); kind = refl; formed = refl; coded = refl; same-exchange = refl }
+  upload-reply up.TookLast = record { sized = (refl, refl); kind = refl; formed = refl; coded = refl; same-exchange = refl }
+  upload-reply (up.Point k) = record { sized = (refl, refl); kind = refl; formed = refl; coded = refl; same-exchange = refl }
+  upload-reply (up.Cancelled c) = record { sized = (refl, refl); kind = refl; formed = refl; coded = refl; same-exchange = refl }
+
+  download-reply : (a : DownloadAction) → ActionReply (action.Download a) t q (downloadReply a t q)
+  unfolding downloadOpened recoveryPoint downloadSegment receiptAnswered refusal formOf findForm rowFits
+  download-reply (down.Opened n) = record { sized = (refl, refl); kind = refl; formed = refl; coded = refl; same-exchange = refl }
+  download-reply (down.Delivered n) = record { sized = (refl, refl); kind = refl; formed = refl; coded = refl; same-exchange = refl }
+  download-reply (down.SentAgain n) = record { sized = (refl, refl); kind = refl; formed = refl; coded = refl; same-exchange = refl }
+  download-reply (down.Point d) = record { sized = (refl, refl); kind = refl; formed = refl; coded = refl; same-exchange = refl }
+  download-reply down.Cancelled = record { sized = (refl, refl); kind = refl; formed = refl; coded = refl; same-exchange = refl }
+  download-reply down.Confirmed = record { sized = (refl, refl); kind = refl; formed = refl; coded = refl; same-exchange = refl }
+  download-reply down.Declined = record { sized = (refl, refl); kind = refl; formed = refl; coded = refl; same-exchange = refl }
+
   pub action-reply : (k : Action) → ActionReply k t q (actionReply k t q)
-  unfolding uploadOpened downloadOpened segmentTaken recoveryPoint downloadSegment receiptAnswered refusal formOf findForm rowFits
-  action-reply OpenedUpload = record { sized = (refl, refl); kind = refl; formed = refl; coded = refl; same-exchange = refl }
-  action-reply (OpenedDownload n) = record { sized = (refl, refl); kind = refl; formed = refl; coded = refl; same-exchange = refl }
-  action-reply Took = record { sized = (refl, refl); kind = refl; formed = refl; coded = refl; same-exchange = refl }
-  action-reply TookLast = record { sized = (refl, refl); kind = refl; formed = refl; coded = refl; same-exchange = refl }
-  action-reply (UploadPoint k) = record { sized = (refl, refl); kind = refl; formed = refl; coded = refl; same-exchange = refl }
-  action-reply (DownloadPoint d) = record { sized = (refl, refl); kind = refl; formed = refl; coded = refl; same-exchange = refl }
-  action-reply (Cancelled c) = record { sized = (refl, refl); kind = refl; formed = refl; coded = refl; same-exchange = refl }
-  action-reply (Delivered n) = record { sized = (refl, refl); kind = refl; formed = refl; coded = refl; same-exchange = refl }
-  action-reply (SentAgain n) = record { sized = (refl, refl); kind = refl; formed = refl; coded = refl; same-exchange = refl }
-  action-reply Confirmed = record { sized = (refl, refl); kind = refl; formed = refl; coded = refl; same-exchange = refl }
-  action-reply Declined = record { sized = (refl, refl); kind = refl; formed = refl; coded = refl; same-exchange = refl }
+  action-reply (action.Upload a) = upload-reply a
+  action-reply (action.Download a) = download-reply a
+
+  upload-transaction : (a : UploadAction) → (uploadForm a ≡ forms.Refusal → ⊥) → transaction (uploadReply a t q) ≡ t
+  unfolding uploadOpened segmentTaken recoveryPoint refusal
+  upload-transaction (up.Opened n) f = refl
+  upload-transaction up.Took f = refl
+  upload-transaction up.TookLast f = refl
+  upload-transaction (up.Point k) f = refl
+  upload-transaction (up.Cancelled c) f = absurd (f refl)
+
+  download-transaction : (a : DownloadAction) → (downloadForm a ≡ forms.Refusal → ⊥) → transaction (downloadReply a t q) ≡ t
+  unfolding downloadOpened recoveryPoint downloadSegment receiptAnswered refusal
+  download-transaction (down.Opened n) f = refl
+  download-transaction (down.Delivered n) f = refl
+  download-transaction (down.SentAgain n) f = refl
+  download-transaction (down.Point d) f = refl
+  download-transaction down.Cancelled f = absurd (f refl)
+  download-transaction down.Confirmed f = refl
+  download-transaction down.Declined f = refl
 
   -- every reply of an action but a cancellation carries the transaction ID
   pub action-transaction : (k : Action) → (actionForm k ≡ forms.Refusal → ⊥) → transaction (actionReply k t q) ≡ t
-  unfolding uploadOpened downloadOpened segmentTaken recoveryPoint downloadSegment receiptAnswered refusal
-  action-transaction OpenedUpload n = refl
-  action-transaction (OpenedDownload m) n = refl
-  action-transaction Took n = refl
-  action-transaction TookLast n = refl
-  action-transaction (UploadPoint k) n = refl
-  action-transaction (DownloadPoint d) n = refl
-  action-transaction (Cancelled c) n = absurd (n refl)
-  action-transaction (Delivered m) n = refl
-  action-transaction (SentAgain m) n = refl
-  action-transaction Confirmed n = refl
-  action-transaction Declined n = refl
+  action-transaction (action.Upload a) f = upload-transaction a f
+  action-transaction (action.Download a) f = download-transaction a f
 
 -- every reply is of a reply form
-pub reply-form : (v : Event) (q : Fields) → Sized (replyTo v q) × (isReplyForm (form (replyTo v q)) ≡ true)
+pub reply-form : (v : Verdict) (q : Fields) → Sized (replyTo v q) × (isReplyForm (form (replyTo v q)) ≡ true)
 unfolding unreadable refusal formOf findForm rowFits
-reply-form Unreadable q = ((refl, refl), refl)
-reply-form (Refusal c) q = ((refl, refl), refl)
-reply-form (Of t k) q = let r = action-reply t q k in (r .sized, r .kind)
+reply-form verdict.Unreadable q = ((refl, refl), refl)
+reply-form (verdict.Refused c) q = ((refl, refl), refl)
+reply-form (verdict.Of t k) q = let r = action-reply t q k in (r .sized, r .kind)
 
-pub event-form : (v : Event) (q : Fields) → form (replyTo v q) ≡ eventForm v
+pub verdict-form : (v : Verdict) (q : Fields) → form (replyTo v q) ≡ verdictForm v
 unfolding unreadable refusal formOf findForm rowFits
-event-form Unreadable q = refl
-event-form (Refusal c) q = refl
-event-form (Of t k) q = action-reply t q k .formed
+verdict-form verdict.Unreadable q = refl
+verdict-form (verdict.Refused c) q = refl
+verdict-form (verdict.Of t k) q = action-reply t q k .formed
 
-pub event-code : (v : Event) (q : Fields) → returnCode (replyTo v q) ≡ codeField (eventCode v)
+pub verdict-code : (v : Verdict) (q : Fields) → returnCode (replyTo v q) ≡ codeField (verdictCode v)
 unfolding unreadable refusal
-event-code Unreadable q = refl
-event-code (Refusal c) q = refl
-event-code (Of t k) q = action-reply t q k .coded
+verdict-code verdict.Unreadable q = refl
+verdict-code (verdict.Refused c) q = refl
+verdict-code (verdict.Of t k) q = action-reply t q k .coded
 
 -- every reply but the one to an unreadable request carries its exchange number
-pub event-exchange : (v : Event) (q : Fields) → (eventForm v ≡ forms.Unreadable → ⊥) → exchange (replyTo v q) ≡ exchange q
+pub verdict-exchange : (v : Verdict) (q : Fields) → (verdictForm v ≡ forms.Unreadable → ⊥) → exchange (replyTo v q) ≡ exchange q
 unfolding refusal
-event-exchange Unreadable q n = absurd (n refl)
-event-exchange (Refusal c) q n = refl
-event-exchange (Of t k) q n = action-reply t q k .same-exchange
+verdict-exchange verdict.Unreadable q n = absurd (n refl)
+verdict-exchange (verdict.Refused c) q n = refl
+verdict-exchange (verdict.Of t k) q n = action-reply t q k .same-exchange
 
--- ---- the event back from the reply's form
+-- ---- the verdict back from the reply's form
 
 -- which actions are answered in this form
 abbrev pub ActionOf : Form → Action → Type 0
-ActionOf forms.UploadOpened k = k ≡ OpenedUpload
-ActionOf forms.DownloadOpened k = (n : ℕ) × (k ≡ OpenedDownload n)
-ActionOf forms.SegmentTaken k = ((k ≡ Took) ⊎ (k ≡ TookLast)) ⊎ (((n : ℕ) × (k ≡ UploadPoint n)) ⊎ ((d : ℕ) × (k ≡ DownloadPoint d)))
-ActionOf forms.DownloadSegment k = ((n : ℕ) × (k ≡ Delivered n)) ⊎ ((n : ℕ) × (k ≡ SentAgain n))
-ActionOf forms.ReceiptAnswered k = (k ≡ Confirmed) ⊎ (k ≡ Declined)
-ActionOf forms.Refusal k = (c : ReturnCode) × (k ≡ Cancelled c)
+ActionOf forms.UploadOpened k = (n : ℕ) × (k ≡ action.Upload (up.Opened n))
+ActionOf forms.DownloadOpened k = (n : ℕ) × (k ≡ action.Download (down.Opened n))
+ActionOf forms.SegmentTaken k =
+    ((k ≡ action.Upload up.Took) ⊎ (k ≡ action.Upload up.TookLast))
+    ⊎ (((n : ℕ) × (k ≡ action.Upload (up.Point n))) ⊎ ((d : ℕ) × (k ≡ action.Download (down.Point d))))
+ActionOf forms.DownloadSegment k =
+    ((n : ℕ) × (k ≡ action.Download (down.Delivered n))) ⊎ ((n : ℕ) × (k ≡ action.Download (down.SentAgain n)))
+ActionOf forms.ReceiptAnswered k = (k ≡ action.Download down.Confirmed) ⊎ (k ≡ action.Download down.Declined)
+ActionOf forms.Refusal k = ((c : ReturnCode) × (k ≡ action.Upload (up.Cancelled c))) ⊎ (k ≡ action.Download down.Cancelled)
 ActionOf forms.NoForm k = ⊥
 ActionOf forms.UploadOpening k = ⊥
 ActionOf forms.DownloadOpening k = ⊥
@@ -166,24 +189,31 @@ ActionOf forms.DownloadTransfer k = ⊥
 ActionOf forms.Receipt k = ⊥
 ActionOf forms.Unreadable k = ⊥
 
-pub action-of : (k : Action) → ActionOf (actionForm k) k
-action-of OpenedUpload = refl
-action-of (OpenedDownload n) = (n, refl)
-action-of Took = inl (inl refl)
-action-of TookLast = inl (inr refl)
-action-of (UploadPoint n) = inr (inl (n, refl))
-action-of (DownloadPoint d) = inr (inr (d, refl))
-action-of (Cancelled c) = (c, refl)
-action-of (Delivered n) = inl (n, refl)
-action-of (SentAgain n) = inr (n, refl)
-action-of Confirmed = inl refl
-action-of Declined = inr refl
+upload-of : (a : UploadAction) → ActionOf (uploadForm a) (action.Upload a)
+upload-of (up.Opened n) = (n, refl)
+upload-of up.Took = inl (inl refl)
+upload-of up.TookLast = inl (inr refl)
+upload-of (up.Point n) = inr (inl (n, refl))
+upload-of (up.Cancelled c) = inl (c, refl)
 
--- an event that is an action answered in this form
-pub record IsAction (v : Event) (f : Form) : Type 0 where
+download-of : (a : DownloadAction) → ActionOf (downloadForm a) (action.Download a)
+download-of (down.Opened n) = (n, refl)
+download-of (down.Delivered n) = inl (n, refl)
+download-of (down.SentAgain n) = inr (n, refl)
+download-of (down.Point d) = inr (inr (d, refl))
+download-of down.Cancelled = inr refl
+download-of down.Confirmed = inl refl
+download-of down.Declined = inr refl
+
+pub action-of : (k : Action) → ActionOf (actionForm k) k
+action-of (action.Upload a) = upload-of a
+action-of (action.Download a) = download-of a
+
+-- a verdict that is an action answered in this form
+pub record IsAction (v : Verdict) (f : Form) : Type 0 where
   pub id : Bits128
   pub action : Action
-  pub is : v ≡ Of id action
+  pub is : v ≡ verdict.Of id action
   pub kind : ActionOf f action
 
 -- the forms that only an action is answered in
@@ -202,10 +232,10 @@ ofAction forms.DownloadTransfer = false
 ofAction forms.Receipt = false
 ofAction forms.Unreadable = false
 
-pub is-action : (v : Event) (f : Form) → eventForm v ≡ f → ofAction f ≡ true → IsAction v f
-is-action Unreadable f e d = never (ap ofAction e ∙ d)
-is-action (Refusal c) f e d = never (ap ofAction e ∙ d)
-is-action (Of t k) f e d = record { id = t; action = k; is = refl; kind = subst (λ (g : Form). ActionOf g k) e (action-of k) }
+pub is-action : (v : Verdict) (f : Form) → verdictForm v ≡ f → ofAction f ≡ true → IsAction v f
+is-action verdict.Unreadable f e d = never (ap ofAction e ∙ d)
+is-action (verdict.Refused c) f e d = never (ap ofAction e ∙ d)
+is-action (verdict.Of t k) f e d = record { id = t; action = k; is = refl; kind = subst (λ (g : Form). ActionOf g k) e (action-of k) }
 
 -- the three codes that cancel, told by field 0D
 pub cancelling-code : (c : ReturnCode) → isCancelling (codeField c) ≡ cancels c

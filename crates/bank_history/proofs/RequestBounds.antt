@@ -1,6 +1,6 @@
 -- The numbers of a request that was read: phase, exchange number and transaction ID in their widths.
 use Prim.Native.Nat.{ℕ, zero, suc, _+_, _*_, _^_, _≤_, _<_}
-use mathlib.Core.Bool.{Bool, true, _&&_}
+use mathlib.Core.Bool.{true, _&&_}
 use mathlib.Core.List.{List, [], _∷_}
 use mathlib.Core.Path.{_≡_, refl, sym, ap, _∙_, subst}
 use native.Mathlib.Nat.{mod-lt, zero-lt-suc, div-lt-iff-lt-mul}
@@ -12,27 +12,36 @@ use Rattle.frame_table.specs.declared.fields.Fields.{Fields}
 use Rattle.frame_table.specs.declared.table.Form.{Form}
 use Rattle.frame_table.specs.declared.table.Form.the-variants as forms
 use Rattle.octets.specs.Bytes.{Bytes, number}
-use Rattle.frame_table.specs.Names.{phase, exchange, transaction, form}
+use Rattle.frame_table.specs.Names.{phase, exchange, transaction, form, noFields}
 use Rattle.frame.specs.Reader.{fieldsOf, parse, readRequest}
-use Rattle.frame_table.specs.Names.{noFields}
 use Rattle.frame.specs.Row.{contents, behind, lowOf, eachFrom}
-use Rattle.frame_table.specs.Table.{tagCount, frameLimit, exchangeTag, transactionTag, dataTag, width, has, isRequestForm}
+use Rattle.frame_table.specs.Table.{
+  tagCount,
+  frameLimit,
+  exchangeTag,
+  transactionTag,
+  dataTag,
+  width,
+  has,
+  isRequestForm,
+}
 use Rattle.octets.proofs.Tests.{never}
 use Rattle.frame_table.proofs.Forms.{tagsOf, phaseOf, form-tags, request-phase, request-form}
 use Rattle.frame.proofs.Build.{numberOf, read-value}
 use Rattle.frame.proofs.Theorems.{request-parsed}
 use Rattle.message.proofs.Writable.{Wide}
-use Rattle.bank_downloads.specs.declared.downloads.DownloadRequest.{DownloadRequest}
 use Rattle.bank_history.proofs.Rows.{getD-free}
 use Rattle.message.proofs.Verdicts.{by-test}
-use Rattle.bank_history.proofs.Cases.{AskedBy, uploadTransfer, downloadTransfer, receipt}
+use Rattle.bank_verdicts.specs.declared.verdict.TransactionRequest.{TransactionRequest}
+use Rattle.bank_verdicts.specs.declared.verdict.TransactionRequest.the-variants as asks
+use Rattle.bank_history.proofs.Cases.{requestForm}
 
 -- what a reply takes over from a readable request
 pub record InWidth (q : Fields) : Type 0 where
   pub some : 1 ≤ phase q
   pub most : phase q ≤ 3
   pub numbered : exchange q < 2 ^ 32
-  pub wide : {transfer : Bool} {r : DownloadRequest} → AskedBy q transfer r → Wide (transaction q)
+  pub wide : (r : TransactionRequest) → form q ≡ requestForm r → Wide (transaction q)
 
 -- ---- both halves of a number
 
@@ -116,10 +125,10 @@ module _ (s : List ℕ) (bytes : Bytes s) (readable : isRequestForm (form (readR
   in-form : (x : Form) → form q ≡ x → has (tagsOf x) transactionTag ≡ true → Wide (transaction q)
   in-form x e k = transaction-wide (ap (λ (m : ℕ). has m transactionTag) (tags ∙ ap tagsOf e) ∙ k)
 
-  asked-wide : {transfer : Bool} {r : DownloadRequest} → AskedBy q transfer r → Wide (transaction q)
-  asked-wide (uploadTransfer e) = in-form forms.UploadTransfer e refl
-  asked-wide (downloadTransfer e) = in-form forms.DownloadTransfer e refl
-  asked-wide (receipt e) = in-form forms.Receipt e refl
+  asked-wide : (r : TransactionRequest) → form q ≡ requestForm r → Wide (transaction q)
+  asked-wide asks.UploadTransfer e = in-form forms.UploadTransfer e refl
+  asked-wide asks.DownloadTransfer e = in-form forms.DownloadTransfer e refl
+  asked-wide asks.Receipt e = in-form forms.Receipt e refl
 
   pub request-in-width : InWidth q
   unfolding width

@@ -2,12 +2,13 @@
 use Prim.Native.Nat.{ℕ, suc, _+_, _≤_, _<_}
 use mathlib.Core.Bool.{Bool, true, false, cond, _&&_}
 use mathlib.Core.List.{List}
+use mathlib.Core.Logic.{inl}
 use mathlib.Core.Path.{_≡_, refl, sym, ap, _∙_, subst}
 use native.Mathlib.Omega.{arith}
 use lib.Dec.{ltb, eqb}
 use lib.ListN.{length}
 use lib.Seq.{getD-set-same}
-use borrow.Author.Tests.{eqb-true, eq-eqb, ne-eqb, lt-ltb, le-ltb}
+use borrow.Author.Tests.{eqb-true, eq-eqb, ne-eqb, lt-ltb, le-ltb, lt-leb}
 use Rattle.frame_table.specs.declared.fields.Bits128.{Bits128}
 use Rattle.frame_table.specs.declared.fields.Fields.{Fields}
 use Rattle.frame_table.specs.declared.table.Form.{Form}
@@ -18,87 +19,70 @@ use Rattle.octets.proofs.Tests.{never}
 use Rattle.frame_table.proofs.Bits.{bits-same}
 use Rattle.message.specs.Limits.{subscribers, segmentBytes, fileBytes}
 use Rattle.message.specs.Segments.{lastMarkOf}
-use Rattle.message.specs.Verdicts.{decide}
-use Rattle.bank_state.specs.declared.state.Download.{Download}
 use Rattle.bank_state.specs.declared.state.Place.{Place}
 use Rattle.bank_state.specs.declared.state.Use.{Use}
-use Rattle.bank_state.specs.declared.state.Use.the-variants.{Open, Booked}
+use Rattle.bank_state.specs.declared.state.Use.the-variants.{Open}
 use Rattle.bank_state.specs.Limits.{placeCount}
 use Rattle.bank_state.specs.Search.{isFree, isOpen, isUpload, findUpload, freePlace}
-use Rattle.bank_state.specs.State.{World, noPlace, placeAt, downloadAt}
+use Rattle.bank_state.specs.State.{World, noPlace, placeAt}
 use Rattle.bank_state.specs.Store.{partAt}
-use Rattle.bank_downloads.specs.declared.downloads.DownloadRequest.the-variants as asks
-use Rattle.bank_downloads.specs.declared.downloads.DownloadVerdict.{DownloadVerdict}
-use Rattle.bank_downloads.specs.declared.downloads.DownloadVerdict.the-variants as down
-use Rattle.bank_uploads.specs.declared.uploads.UploadVerdict.{UploadVerdict}
-use Rattle.bank_uploads.specs.declared.uploads.UploadVerdict.the-variants as up
-use Rattle.bank_openings.specs.Openings.{counted, openUpload}
-use Rattle.bank_uploads.specs.Uploads.{fitsUpload, segmentRefusals, uploadRefusals, judgeUpload, uploadStep, grown}
-use Rattle.bank.specs.declared.call.RequestVerdict.{RequestVerdict}
-use Rattle.bank.specs.declared.call.RequestVerdict.the-variants as request
-use Rattle.bank.specs.Call.{Step, unread, requestRefusals, uploadStepAt, transactionStep, byForm, byVerdict, respond}
-use Rattle.bank_history.specs.History.{
-  OpenedUpload,
-  Took,
-  TookLast,
-  Event,
-  Unreadable,
-  Of,
-  Exchange,
-  uploadAction,
-  downloadAction,
-  transactionEvent,
-  eventByForm,
-  eventByVerdict,
-  eventOf,
-  isOpening,
-  segmentsNow,
+use Rattle.bank_verdicts.specs.declared.verdict.TransactionRequest.the-variants as asks
+use Rattle.bank_verdicts.specs.declared.verdict.UploadAction.{UploadAction}
+use Rattle.bank_verdicts.specs.declared.verdict.UploadAction.the-variants as up
+use Rattle.bank_verdicts.specs.declared.verdict.Action.the-variants as action
+use Rattle.bank_verdicts.specs.declared.verdict.Verdict.{Verdict}
+use Rattle.bank_verdicts.specs.declared.verdict.Verdict.the-variants as verdict
+use Rattle.bank_verdicts.specs.Refusals.{
+  noSubscriber,
+  longData,
+  requestRows,
+  notOpen,
+  transactionRows,
+  uploadAttempt,
+  isUnderrun,
+  isExceeded,
+  withoutRoom,
+  segmentRows,
+  uploadRows,
 }
-use Rattle.bank_history.specs.Invariant.{OpenUpload, PlaceHolds, Invariant}
+use Rattle.bank_verdicts.specs.Judgement.{uploadAt, takes, judgeUpload, judgeOpen, judgeTransaction, judgeForm, judge}
+use Rattle.bank_verdicts.proofs.Sound.{Readable}
+use Rattle.bank_openings.specs.Openings.{counted, openUpload}
+use Rattle.bank_uploads.specs.Uploads.{grown}
+use Rattle.bank.specs.Call.{carryOut, respond}
+use Rattle.bank_history.specs.History.{Exchange, opens}
+use Rattle.bank_history.specs.Invariant.{Invariant}
+use Rattle.bank_history.proofs.Parts.{OpenUpload, PlaceKept, place-kept}
 use Rattle.bank_history.specs.Standing.{UploadAt}
 use Rattle.bank_state.proofs.Rows.{first-passes}
 use Rattle.bank_history.proofs.Rows.{first-at-most}
 use Rattle.bank_history.proofs.Cases.{
   Happens,
   unreadable,
-  refusal,
+  refused,
   opensUpload,
   opensDownload,
   toUpload,
   toDownload,
-  Admitted,
-  uploadStepBy,
+  upload-goes-on,
 }
 use Rattle.bank_history.proofs.Entries.{and-no, same-bits}
 use Rattle.bank_state.proofs.Found.{upload-found}
-use Rattle.bank_history.proofs.Uploads.{place-number}
 
 -- ---- a readable request that is not refused at once
 
-module _ (lent : ℕ) (w : World) (q : Fields) (d : List ℕ) (f : Form) (asked : form q ≡ f) (request′ : isRequestForm f ≡ true)
-    (admitted : Admitted q d) where
-  proceeds : decide (requestRefusals q d) request.Proceed ≡ request.Proceed
-  unfolding requestRefusals
+module _ (first : ℕ) (w : World) (q : Fields) (d : List ℕ) (f : Form) (asked : form q ≡ f) (readable : Readable q (length d)) where
+  proceeds : judge first (w .bank) q (length d) ≡ judgeForm (form q) first (w .bank) q (length d)
+  unfolding judge requestRows noSubscriber longData
   proceeds = rw (
-    le-ltb (subscriber q) 1 (admitted .known),
-    le-ltb subscribers (subscriber q) (admitted .most),
-    le-ltb segmentBytes
-        (length d) (admitted .short),
+    readable .request,
+    le-ltb (subscriber q) 1 (readable .known),
+    le-ltb subscribers (subscriber q) (readable .most),
+    le-ltb segmentBytes (length d) (readable .short),
   )
 
-  pub event-by-form : eventOf lent w q d ≡ eventByForm f lent w q d
-  unfolding eventOf
-  event-by-form =
-      ap (λ (b : Bool). cond b (eventByVerdict (decide (requestRefusals q d) request.Proceed) lent w q d) Unreadable)
-      (ap isRequestForm asked ∙ request′)
-      ∙ (ap (λ (v : RequestVerdict). eventByVerdict v lent w q d) proceeds ∙ ap (λ (g : Form). eventByForm g lent w q d) asked)
-
-  pub respond-by-form : respond lent w q d ≡ byForm f lent w q d
-  unfolding respond
-  respond-by-form =
-      ap (λ (b : Bool). cond b (byVerdict (decide (requestRefusals q d) request.Proceed) lent w q d) (unread w))
-      (ap isRequestForm asked ∙ request′)
-      ∙ (ap (λ (v : RequestVerdict). byVerdict v lent w q d) proceeds ∙ ap (λ (g : Form). byForm g lent w q d) asked)
+  pub verdict-by-form : judge first (w .bank) q (length d) ≡ judgeForm f first (w .bank) q (length d)
+  verdict-by-form = proceeds ∙ ap (λ (g : Form). judgeForm g first (w .bank) q (length d)) asked
 
 -- ---- the upload is found
 
@@ -115,13 +99,13 @@ module _ (w : World) (h : List Exchange) (v : Invariant w h) (t : Bits128) (s k 
   p = placeAt (w .bank) (u .place)
 
   pub upload-is-open : OpenUpload (w .bank .clock) (w .bank .openings) h p (partAt (w .orders) (u .place))
-  upload-is-open = subst (λ (z : Use). PlaceHolds z (w .bank .clock) (w .bank .openings) h p (partAt (w .orders) (u .place))) (u .used)
-      (v .places (u .place) (u .inside))
+  upload-is-open = subst (λ (z : Use). PlaceKept z (w .bank .clock) (w .bank .openings) h p (partAt (w .orders) (u .place))) (u .used)
+      (place-kept v (u .place) (u .inside))
 
   find-own : findUpload s t (w .bank) ≡ u .place
   unfolding findUpload
   find-own =
-      let long = v .sizes .places in
+      let long = v .state .sizes .places in
       let own = is-upload s t p (u .used) (u .subscriber) (u .transaction) in
       let inside = u .inside in
       let most : findUpload s t (w .bank) ≤ u .place =
@@ -131,16 +115,14 @@ module _ (w : World) (h : List Exchange) (v : Invariant w h) (t : Bits128) (s k 
       let a : isFree (placeAt (w .bank) (findUpload s t (w .bank)) .used) ≡ false = ap isFree (f .0) in
       let b : isFree (p .used) ≡ false = ap isFree (u .used) in
       let e : placeAt (w .bank) (findUpload s t (w .bank)) .transaction ≡ p .transaction = bits-same _ t (f .2) ∙ sym (u .transaction) in
-      v .placesApart (findUpload s t (w .bank)) (u .place) (omega arith) (u .inside) a b
-      (sym (place-number w h v (findUpload s t (w .bank)) (omega arith) a .0)
-      ∙ (ap (λ (z : Bits128). z .low) e ∙ place-number w h v (u .place) (u .inside) b .0))
+      v .state .placesApart (findUpload s t (w .bank)) (u .place) (omega arith) (u .inside) a b (inl (ap (λ (z : Bits128). z .low) e))
 
 -- ---- the next segment fits
 
 judge-take : (p : Place) (q : Fields) (n : ℕ) → segment q ≡ p .taken + 1 → lastMark q ≡ lastMarkOf (segment q) (p .segments) →
     p .length + n ≤ fileBytes →
-    judgeUpload p true q n ≡ up.Take
-unfolding judgeUpload uploadRefusals segmentRefusals fitsUpload
+    judgeUpload asks.UploadTransfer p q n ≡ takes p
+unfolding judgeUpload uploadRows segmentRows uploadAttempt isUnderrun isExceeded withoutRoom
 judge-take p q n next mark room = rw (eq-eqb (segment q) (p .taken + 1) next, early, missing, le-ltb fileBytes (p .length + n) room)
   where
     early : ltb (segment q) (p .segments) && eqb (lastMark q) 1 ≡ false
@@ -161,14 +143,7 @@ judge-take p q n next mark room = rw (eq-eqb (segment q) (p .taken + 1) next, ea
             rw (ne-eqb (lastMark q) 0 (λ z. omega arith)) (and-no (eqb (segment q) (p .segments)))
         at false e = rw e
 
--- what an upload transfer comes to at place i
-abbrev eventAt : World → Fields → List ℕ → ℕ → Event
-eventAt w q d i = let r = placeAt (w .bank) i in Of (r .transaction) (uploadAction (judgeUpload r true q (length d)) r)
-
-abbrev stepAt : World → Fields → List ℕ → ℕ → Step
-stepAt w q d i = uploadStepBy (judgeUpload (placeAt (w .bank) i) true q (length d)) i w q d
-
-module _ (lent : ℕ) (w : World) (h : List Exchange) (v : Invariant w h) (t : Bits128) (s k n last : ℕ) (u : UploadAt w t s k n last)
+module _ (first : ℕ) (w : World) (h : List Exchange) (v : Invariant w h) (t : Bits128) (s k n last : ℕ) (u : UploadAt w t s k n last)
     (q : Fields) (d : List ℕ)
     (asked : form q ≡ forms.UploadTransfer) (from : subscriber q ≡ s) (to : transaction q ≡ t) (next : segment q ≡ suc k)
     (mark : lastMark q ≡ lastMarkOf (segment q) n) (short : length d ≤ segmentBytes) where
@@ -178,93 +153,87 @@ module _ (lent : ℕ) (w : World) (h : List Exchange) (v : Invariant w h) (t : B
   isOpenNow : OpenUpload (w .bank .clock) (w .bank .openings) h own (partAt (w .orders) (u .place))
   isOpenNow = upload-is-open w h v t s k n last u
 
-  admitted : Admitted q d
-  admitted =
-      let a = isOpenNow .place .known in
-      let b = isOpenNow .place .most in
+  readable : Readable q (length d)
+  readable =
+      let a = isOpenNow .0 .place .known in
+      let b = isOpenNow .0 .place .most in
       let c = u .subscriber in
-      record { known = omega arith; most = omega arith; short = short }
+      record { request = ap isRequestForm asked; known = omega arith; most = omega arith; short = short }
 
-  found : findUpload (subscriber q) (transaction q) (w .bank) ≡ u .place
+  found : uploadAt (w .bank) q ≡ u .place
   found = ap (λ (m : ℕ). findUpload m (transaction q) (w .bank)) from
       ∙ (ap (λ (b : Bits128). findUpload s b (w .bank)) to ∙ find-own w h v t s k n last u)
 
-  found-inside : ltb (findUpload (subscriber q) (transaction q) (w .bank)) placeCount ≡ true
-  found-inside = lt-ltb (findUpload (subscriber q) (transaction q) (w .bank)) placeCount (let e = found in let i = u .inside in omega arith)
+  found-inside : uploadAt (w .bank) q < placeCount
+  found-inside = let e = found in let i = u .inside in omega arith
 
-  judged : judgeUpload own true q (length d) ≡ up.Take
+  judged : judgeUpload asks.UploadTransfer own q (length d) ≡ takes own
   judged = judge-take own q (length d) (let e = u .taken in omega arith) (mark ∙ ap (lastMarkOf (segment q)) (sym (u .segments)))
-      (let a = isOpenNow .below in let b = isOpenNow .place .few in let c = isOpenNow .place .largest in omega arith)
+      (let a = isOpenNow .0 .below in
+      let b = isOpenNow .0 .few in
+      let c = isOpenNow .0 .largest in
+      let e = isOpenNow .1 .takings in
+      omega arith)
 
-  event-at : transactionEvent true asks.Other w q d ≡ eventAt w q d (findUpload (subscriber q) (transaction q) (w .bank))
-  unfolding transactionEvent
-  event-at = rw found-inside
-
-  step-at : transactionStep true asks.Other w q d ≡ stepAt w q d (findUpload (subscriber q) (transaction q) (w .bank))
-  unfolding transactionStep uploadStepAt uploadStep
-  step-at = rw found-inside
+  at-place : judgeTransaction asks.UploadTransfer (w .bank) q (length d)
+      ≡ verdict.Of (placeAt (w .bank) (uploadAt (w .bank) q) .transaction)
+      (action.Upload (judgeUpload asks.UploadTransfer (placeAt (w .bank) (uploadAt (w .bank) q)) q (length d)))
+  unfolding judgeTransaction transactionRows judgeOpen notOpen
+  at-place = rw (lt-leb placeCount (uploadAt (w .bank) q) found-inside, lt-ltb (uploadAt (w .bank) q) placeCount found-inside)
 
   -- the segment is taken
-  pub own-event : eventOf lent w q d ≡ Of t (cond (eqb (k + 1) n) TookLast Took)
-  own-event =
-      event-by-form lent w q d forms.UploadTransfer asked refl admitted
-      ∙ (event-at ∙ (ap (eventAt w q d) found ∙ (ap (λ (x : UploadVerdict). Of (own .transaction) (uploadAction x own)) judged ∙ same)))
+  pub own-verdict : judge first (w .bank) q (length d) ≡ verdict.Of t (action.Upload (cond (eqb (k + 1) n) up.TookLast up.Took))
+  unfolding takes
+  own-verdict =
+      verdict-by-form first w q d forms.UploadTransfer asked readable
+      ∙ (at-place
+      ∙ (ap (λ (i : ℕ). verdict.Of (placeAt (w .bank) i .transaction)
+      (action.Upload (judgeUpload asks.UploadTransfer (placeAt (w .bank) i) q (length d)))) found
+      ∙ (ap (λ (a : UploadAction). verdict.Of (own .transaction) (action.Upload a)) judged ∙ same)))
     where
-      same : Of (own .transaction) (cond (eqb (own .taken + 1) (own .segments)) TookLast Took) ≡ Of t (cond (eqb (k + 1) n) TookLast Took)
+      same : verdict.Of (own .transaction) (action.Upload (cond (eqb (own .taken + 1) (own .segments)) up.TookLast up.Took))
+          ≡ verdict.Of t (action.Upload (cond (eqb (k + 1) n) up.TookLast up.Took))
       same = rw (u .transaction, u .taken, u .segments)
 
-  own-step : respond lent w q d ≡ uploadStepBy up.Take (u .place) w q d
-  own-step =
-      respond-by-form lent w q d forms.UploadTransfer asked refl admitted
-      ∙ (step-at ∙ (ap (stepAt w q d) found ∙ ap (λ (x : UploadVerdict). uploadStepBy x (u .place) w q d) judged))
-
-  -- and the upload is open with one segment more, where that was not the last
-  pub own-open : suc k < n → UploadAt (respond lent w q d .world) t s (suc k) n (w .bank .clock)
+  taken-open : UploadAt (carryOut (verdict.Of t (action.Upload up.Took)) w q d) t s (suc k) n (w .bank .clock)
   unfolding grown
-  own-open below = subst (λ (z : Step). UploadAt (z .world) t s (suc k) n (w .bank .clock)) (sym own-step) (record {
-    place = u .place;
-    inside = u .inside;
-    used = ap (λ (r : Place). r .used) is
-        ∙ ap (λ (b : Bool). cond b Booked Open)
-        (ne-eqb (own .taken + 1) (own .segments) (λ e. let a = u .taken in let b = u .segments in omega arith));
+  taken-open = record {
+    place = uploadAt (w .bank) q;
+    inside = found-inside;
+    used = ap (λ (r : Place). r .used) is ∙ u .used;
     transaction = ap (λ (r : Place). r .transaction) is ∙ u .transaction;
     subscriber = ap (λ (r : Place). r .subscriber) is ∙ u .subscriber;
     taken = ap (λ (r : Place). r .taken) is ∙ (let a = u .taken in omega arith);
     segments = ap (λ (r : Place). r .segments) is ∙ u .segments;
     fitting = ap (λ (r : Place). r .last) is;
-  })
+  }
     where
-      is : placeAt (uploadStepBy up.Take (u .place) w q d .world .bank) (u .place) ≡ grown (w .bank .clock) (length d) own
-      is = getD-set-same (w .bank .places) (u .place) _ noPlace (let a = v .sizes .places in let b = u .inside in omega arith)
+      is : placeAt (carryOut (verdict.Of t (action.Upload up.Took)) w q d .bank) (uploadAt (w .bank) q)
+          ≡ grown (w .bank .clock) (length d) own
+      is = getD-set-same (w .bank .places) (uploadAt (w .bank) q) _ noPlace
+          (let a = v .state .sizes .places in let b = found-inside in omega arith)
+          ∙ ap (λ (i : ℕ). grown (w .bank .clock) (length d) (placeAt (w .bank) i)) found
+
+  -- and the upload is open with one segment more, where that was not the last
+  pub own-open : suc k < n → UploadAt (respond first w q d .world) t s (suc k) n (w .bank .clock)
+  unfolding respond
+  own-open below =
+      subst (λ (x : Verdict). UploadAt (carryOut x w q d) t s (suc k) n (w .bank .clock)) (sym (own-verdict ∙ taken)) taken-open
+    where
+      taken : verdict.Of t (action.Upload (cond (eqb (k + 1) n) up.TookLast up.Took)) ≡ verdict.Of t (action.Upload up.Took)
+      taken = ap (λ (b : Bool). verdict.Of t (action.Upload (cond b up.TookLast up.Took))) (ne-eqb (k + 1) n (λ e. omega arith))
 
 -- ---- an opening
 
-pub upload-opens-not : (x : UploadVerdict) (p : Place) → isOpening (uploadAction x p) ≡ false
-upload-opens-not up.Take p = at (eqb (p .taken + 1) (p .segments))
-  where
-    at : (b : Bool) → isOpening (cond b TookLast Took) ≡ false
-    at true = refl
-    at false = refl
-upload-opens-not up.Point p = refl
-upload-opens-not (up.Cancel c) p = refl
-
-pub download-opens-not : (x : DownloadVerdict) (e : Download) (n : ℕ) → isOpening (downloadAction x e n) ≡ false
-download-opens-not down.Deliver e n = refl
-download-opens-not down.Resend e n = refl
-download-opens-not down.Point e n = refl
-download-opens-not down.Abort e n = refl
-download-opens-not down.Done e n = refl
-download-opens-not down.Skipped e n = refl
-
 -- an upload just opened is open with no segment taken
-pub opened-open : (lent : ℕ) (w : World) (h : List Exchange) → Invariant w h →
-    (q : Fields) (d : List ℕ) (t : Bits128) {e : Event} {g : Step} → Happens lent w q d e g →
-    e ≡ Of t OpenedUpload → UploadAt (g .world) t (subscriber q) 0 (segments q) (w .bank .clock)
+pub opened-open : (first : ℕ) (w : World) (h : List Exchange) → Invariant w h →
+    (q : Fields) (d : List ℕ) (t : Bits128) (m : ℕ) {x : Verdict} → Happens first w q d x →
+    x ≡ verdict.Of t (action.Upload (up.Opened m)) → UploadAt (carryOut x w q d) t (subscriber q) 0 (segments q) (w .bank .clock)
 unfolding openUpload counted
-opened-open lent w h v q d t unreadable z = absurd (let y : _≡_ {A = ℕ} 0 1 = cc in omega arith)
-opened-open lent w h v q d t (refusal c e) z = absurd (let y : _≡_ {A = ℕ} 0 1 = cc in omega arith)
-opened-open lent w h v q d t (opensUpload asked a g n inside) z =
-    let is = getD-set-same (w .bank .places) (freePlace (w .bank)) _ noPlace (let b = v .sizes .places in omega arith) in
+opened-open first w h v q d t m unreadable z = absurd (let y : _≡_ {A = ℕ} 0 1 = cc in omega arith)
+opened-open first w h v q d t m (refused c e) z = absurd (let y : _≡_ {A = ℕ} 0 1 = cc in omega arith)
+opened-open first w h v q d t m (opensUpload asked a g n inside) z =
+    let is = getD-set-same (w .bank .places) (freePlace (w .bank)) _ noPlace (let b = v .state .sizes .places in omega arith) in
     record {
       place = freePlace (w .bank);
       inside = inside;
@@ -275,10 +244,6 @@ opened-open lent w h v q d t (opensUpload asked a g n inside) z =
       segments = ap (λ (r : Place). r .segments) is;
       fitting = ap (λ (r : Place). r .last) is;
     }
-opened-open lent w h v q d t (opensDownload asked a g n) z = absurd (let y : _≡_ {A = ℕ} 0 1 = cc in omega arith)
-opened-open lent w h v q d t (toUpload i transfer r x a asked inside found sound) z =
-    let y : uploadAction x (placeAt (w .bank) i) ≡ OpenedUpload = cc in
-    never (sym (upload-opens-not x (placeAt (w .bank) i)) ∙ ap isOpening y)
-opened-open lent w h v q d t (toDownload j transfer r x a asked inside found sound) z =
-    let y : downloadAction x (downloadAt (w .bank) j) (segmentsNow w q) ≡ OpenedUpload = cc in
-    never (sym (download-opens-not x (downloadAt (w .bank) j) (segmentsNow w q)) ∙ ap isOpening y)
+opened-open first w h v q d t m (opensDownload asked a g n) z = absurd (let y : _≡_ {A = ℕ} 0 1 = cc in omega arith)
+opened-open first w h v q d t m (toUpload r a c) z = never (sym (upload-goes-on (c .sound)) ∙ ap opens z)
+opened-open first w h v q d t m (toDownload r a c) z = absurd (let y : _≡_ {A = ℕ} 0 1 = cc in omega arith)

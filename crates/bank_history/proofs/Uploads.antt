@@ -1,13 +1,14 @@
 -- A request to an open upload keeps the invariant, whatever the verdict.
+use Prim.{tt}
 use Prim.Native.Nat.{ℕ, _+_, _≤_, _<_}
-use mathlib.Core.Bool.{Bool, true, false, cond, _&&_}
+use mathlib.Core.Bool.{true, false, _&&_}
 use mathlib.Core.List.{List, [], _∷_}
+use mathlib.Core.Logic.{inl, inr}
 use mathlib.Core.Path.{_≡_, refl, sym, ap, _∙_, subst}
 use native.Mathlib.Omega.{arith}
 use lib.Dec.{eqb}
 use lib.ListN.{length, getD, set, replicate, length-replicate}
 use lib.Seq.{getD-set-same, getD-set-other}
-use borrow.Author.Tests.{eqb-true, eqb-false}
 use Rattle.frame_table.specs.declared.fields.Bits128.{Bits128}
 use Rattle.frame_table.specs.declared.fields.Fields.{Fields}
 use Rattle.frame_table.specs.declared.table.Form.the-variants as forms
@@ -24,24 +25,22 @@ use Rattle.bank_state.specs.declared.state.Use.{Use}
 use Rattle.bank_state.specs.declared.state.Use.the-variants.{Free, Open, Booked}
 use Rattle.bank_state.specs.Limits.{placeCount}
 use Rattle.bank_state.specs.Search.{isFree, isOpen, isUpload, openCount, openCountOf}
-use Rattle.bank_state.specs.State.{World, world, noPlace, placeAt, downloadAt}
+use Rattle.bank_state.specs.State.{World, noPlace, placeAt, downloadAt}
 use Rattle.bank_state.specs.Store.{partAt, withPart}
-use Rattle.bank_downloads.specs.declared.downloads.DownloadRequest.{DownloadRequest}
-use Rattle.bank_uploads.specs.declared.uploads.UploadVerdict.{UploadVerdict}
-use Rattle.bank_uploads.specs.declared.uploads.UploadVerdict.the-variants as up
-use Rattle.bank_uploads.specs.Uploads.{grown, attempted}
-use Rattle.bank.specs.Call.{Step}
+use Rattle.bank_verdicts.specs.declared.verdict.TransactionRequest.{TransactionRequest}
+use Rattle.bank_verdicts.specs.declared.verdict.UploadAction.{UploadAction}
+use Rattle.bank_verdicts.specs.declared.verdict.UploadAction.the-variants as up
+use Rattle.bank_verdicts.specs.declared.verdict.Action.{Action}
+use Rattle.bank_verdicts.specs.declared.verdict.Action.the-variants as action
+use Rattle.bank_verdicts.specs.declared.verdict.Verdict.{Verdict}
+use Rattle.bank_verdicts.specs.declared.verdict.Verdict.the-variants as verdict
+use Rattle.bank_verdicts.specs.Judgement.{uploadAt}
+use Rattle.bank_uploads.specs.Uploads.{grown, booked, attempted}
+use Rattle.bank.specs.Call.{onUpload, carryOut, mailboxSegment, stepBy}
 use Rattle.bank_history.specs.History.{
-  Action,
-  Took,
-  TookLast,
-  UploadPoint,
-  Cancelled,
-  Event,
-  Of,
   Exchange,
-  uploadAction,
-  actionReply,
+  exchangeBy,
+  uploadKind,
   mailboxFile,
   isBooking,
   isOpening,
@@ -50,72 +49,72 @@ use Rattle.bank_history.specs.History.{
   did,
   ever,
 }
-use Rattle.bank_history.specs.Sound.{
-  cancels,
-  SoundRequest,
-  SoundUpload,
-  SoundTaking,
-  SoundAction,
-  Sound,
-  more,
-}
-use Rattle.bank_history.specs.Invariant.{OpenUpload, PlaceHolds, BookedIn, Invariant}
+use Rattle.bank_verdicts.specs.Refusals.{cancels}
+use Rattle.bank_history.specs.Sound.{SoundRequest, SoundUpload, SoundTaking, Sound, more}
+use Rattle.bank_history.specs.Invariant.{Alike, BookedIn, Invariant}
+use Rattle.bank_history.proofs.Parts.{OpenUpload, PlaceKept, place-kept, download-kept}
 use Rattle.bank_state.proofs.Found.{upload-found}
 use Rattle.bank_state.proofs.Stores.{length-withPart, part-same, part-other}
 use Rattle.bank_history.proofs.Stores.{length-part}
 use Rattle.bank_history.proofs.Rows.{count-set-le}
-use Rattle.bank_uploads.proofs.Safety.{freed-zero}
-use Rattle.bank_uploads.proofs.UploadVerdicts.{UploadSound, take, point, abort, underrun, exceeded, overfull}
-use Rattle.bank_history.proofs.Cases.{AskedBy, uploadTransfer, downloadTransfer, receipt, Admitted, uploadStepBy}
+use Rattle.bank_verdicts.proofs.Sound.{
+  Readable,
+  UploadFits,
+  UploadSound,
+  took,
+  tookLast,
+  uploadPoint,
+  abort,
+  underrun,
+  exceeded,
+  overfull,
+}
+use Rattle.bank_history.proofs.Cases.{requestForm, ToUpload}
 use Rattle.bank_history.proofs.Entries.{did-other, known-more, booked-more, booked-last, accepted-own}
 use Rattle.bank_history.proofs.Memory.{memory-unchanged}
-use Rattle.bank_history.proofs.Places.{place-unchanged, place-attempted, place-grown}
+use Rattle.bank_history.proofs.Places.{place-unchanged, place-attempted, place-grown, place-booked}
 use Rattle.bank_history.proofs.Records.{download-unchanged}
 use Rattle.bank_history.proofs.PlaceChange.{changedAt, place-change}
 
--- the exchange of an event and a step
-abbrev pub entry : Event → Step → World → Fields → List ℕ → Exchange
-entry v s w q d = record {
-  request = q;
-  requestData = d;
-  reply = s .reply;
-  replyData = s .replyData;
-  clock = w .bank .clock;
-  file = mailboxFile w (subscriber q);
-  event = v;
-}
+-- the exchange of a verdict
+abbrev pub entry : Verdict → World → Fields → List ℕ → Exchange
+entry v w q d = exchangeBy (stepBy v w q d) w q d
+
+-- a reply without a segment has no data
+pub bare : (w : World) (s : ℕ) → mailboxSegment w s 0 ≡ []
+unfolding mailboxSegment
+bare w s = refl
 
 pub not-free : (u : Use) → u ≡ Open → isFree u ≡ false
 not-free u e = ap isFree e
 
 -- no request to place i is one to another place or to a download
 module _ (w : World) (h : List Exchange) (v : Invariant w h) where
-  -- a place in use has the number of its transaction ID, below that of the next opening
-  pub place-number : (i : ℕ) → i < placeCount → isFree (placeAt (w .bank) i .used) ≡ false →
-      (placeAt (w .bank) i .transaction .low ≡ placeAt (w .bank) i .number) × (placeAt (w .bank) i .number < w .bank .openings)
-  place-number i a = at (placeAt (w .bank) i .used) (v .places i a)
+  -- a place in use has a transaction and an order number of an accepted opening
+  pub place-counted : (i : ℕ) → i < placeCount → isFree (placeAt (w .bank) i .used) ≡ false →
+      (placeAt (w .bank) i .transaction .low < w .bank .openings) × (placeAt (w .bank) i .number < w .bank .openings)
+  place-counted i a = at (placeAt (w .bank) i .used) (place-kept v i a)
     where
       Is : Place → Type 0
-      Is p = (p .transaction .low ≡ p .number) × (p .number < w .bank .openings)
+      Is p = (p .transaction .low < w .bank .openings) × (p .number < w .bank .openings)
 
-      at : (u : Use) → PlaceHolds u (w .bank .clock) (w .bank .openings) h (placeAt (w .bank) i) (partAt (w .orders) i) →
+      at : (u : Use) → PlaceKept u (w .bank .clock) (w .bank .openings) h (placeAt (w .bank) i) (partAt (w .orders) i) →
           isFree u ≡ false → Is (placeAt (w .bank) i)
       at Free s e = never (sym e)
-      at Open s e = (s .place .numbered, s .place .counted)
-      at Booked s e = (s .place .numbered, s .place .counted)
+      at Open s e = (s .0 .place .counted, s .0 .place .numbered)
+      at Booked s e = (s .0 .place .counted, s .0 .place .numbered)
 
   pub place-other : (i j : ℕ) (k : Action) → i < placeCount → j < placeCount → (j ≡ i → ⊥) → isFree (placeAt (w .bank) i .used) ≡ false →
       isFree (placeAt (w .bank) j .used) ≡ false →
-      did isAction (placeAt (w .bank) j .transaction) (Of (placeAt (w .bank) i .transaction) k) ≡ false
+      did isAction (placeAt (w .bank) j .transaction) (verdict.Of (placeAt (w .bank) i .transaction) k) ≡ false
   place-other i j k a b n e f =
-      did-other (placeAt (w .bank) j .transaction) (placeAt (w .bank) i .transaction) k
-      (λ z. n (v .placesApart j i b a f e (sym (place-number j b f .0) ∙ (z ∙ place-number i a e .0))))
+      did-other (placeAt (w .bank) j .transaction) (placeAt (w .bank) i .transaction) k (λ z. n (v .state .placesApart j i b a f e (inl z)))
 
   pub download-other : (i j : ℕ) (k : Action) → i < placeCount → isFree (placeAt (w .bank) i .used) ≡ false →
       downloadAt (w .bank) j .used ≡ true →
-      did isAction (downloadAt (w .bank) j .transaction) (Of (placeAt (w .bank) i .transaction) k) ≡ false
-  download-other i j k a e f = did-other (downloadAt (w .bank) j .transaction) (placeAt (w .bank) i .transaction) k
-      (λ z. v .apart i j a e f (sym (z ∙ place-number i a e .0)))
+      did isAction (downloadAt (w .bank) j .transaction) (verdict.Of (placeAt (w .bank) i .transaction) k) ≡ false
+  download-other i j k a e f =
+      did-other (downloadAt (w .bank) j .transaction) (placeAt (w .bank) i .transaction) k (λ z. v .state .apart i j a e f (sym z))
 
   -- a booked place stays, where another place changes
   pub still-booked : (i : ℕ) (p : Place) (w′ : World) → w′ .bank .places ≡ set (w .bank .places) i p →
@@ -136,42 +135,51 @@ module _ (w : World) (h : List Exchange) (v : Invariant w h) where
 -- the upload in place i changes to p with these bytes by an action k
 module _ (w : World) (h : List Exchange) (v : Invariant w h) (i : ℕ) (inside : i < placeCount) (opened : placeAt (w .bank) i .used ≡ Open)
     (p : Place) (bytes : List ℕ) (full : length bytes ≡ fileBytes) (k : Action) (noOpening : isOpening k ≡ false) (x : Exchange)
-    (own : x .event ≡ Of (placeAt (w .bank) i .transaction) k) where
+    (own : x .verdict ≡ verdict.Of (placeAt (w .bank) i .transaction) k) where
+  abbrev before : Place
+  before = placeAt (w .bank) i
+
   abbrev changed : World
   changed = changedAt i p (w .bank .openings) (w .bank .nonces) (withPart (w .orders) i bytes) w
 
-  upload-step : PlaceHolds (p .used) (w .bank .clock) (w .bank .openings) (x ∷ h) p bytes →
-      (isFree (p .used) ≡ false → p .number ≡ placeAt (w .bank) i .number) →
-      (isOpen (p .used) ≡ true → p .subscriber ≡ placeAt (w .bank) i .subscriber) →
+  -- a place in use stays that of its transaction and its order
+  abbrev Same : Type 0
+  Same = isFree (p .used) ≡ false → (p .transaction .low ≡ before .transaction .low) × (p .number ≡ before .number)
+
+  alike : Same → isFree (p .used) ≡ false → (r : Place) → Alike p r → Alike r before
+  alike same f r (inl e) = inl (sym e ∙ same f .0)
+  alike same f r (inr e) = inr (sym e ∙ same f .1)
+
+  upload-step : PlaceKept (p .used) (w .bank .clock) (w .bank .openings) (x ∷ h) p bytes → Same →
+      (isOpen (p .used) ≡ true → p .subscriber ≡ before .subscriber) →
       ((t : Bits128) → ever isBooking t (x ∷ h) ≡ true → BookedIn changed t) → Sound x h → Invariant changed (x ∷ h)
   unfolding openCount openCountOf
-  upload-step new number owner booked sound =
+  upload-step new same owner booked sound =
       place-change w i p (w .bank .openings) (w .bank .nonces) (withPart (w .orders) i bytes) v (record {
         bytes = bytes;
         inside = inside;
-        stored = length-withPart (w .orders) i bytes (v .sizes .orders) full inside ∙ v .sizes .orders;
-        here = part-same (w .orders) i bytes (v .sizes .orders) full inside;
-        elsewhere = part-other (w .orders) i bytes (v .sizes .orders) full inside;
-        remembered = v .sizes .nonces;
+        stored = length-withPart (w .orders) i bytes (v .state .sizes .orders) full inside ∙ v .state .sizes .orders;
+        here = part-same (w .orders) i bytes (v .state .sizes .orders) full inside;
+        elsewhere = part-other (w .orders) i bytes (v .state .sizes .orders) full inside;
+        remembered = v .state .sizes .nonces;
         memory = memory-unchanged _ _ x h (ap opens own ∙ noOpening) (v .memory);
         counted = v .counted ∙ sym (accepted-own _ k x h own ∙ rw noOpening refl);
-        numbers = v .numbers;
+        numbers = v .state .numbers;
         new = new;
         others = λ j a n. place-unchanged x h o o (omega arith) (placeAt (w .bank) j) (partAt (w .orders) j) (w .bank .clock)
             (placeAt (w .bank) j .used) (λ f. about (placeAt (w .bank) j .transaction) (place-other w h v i j k inside a n used f))
-            (v .places j a);
-        downloads = λ j. download-unchanged x h o o (omega arith) (mailboxFile w (downloadAt (w .bank) j .subscriber))
-            (downloadAt (w .bank) j)
+            (place-kept v j a);
+        downloads = λ j. download-unchanged x h (mailboxFile w (downloadAt (w .bank) j .subscriber)) (downloadAt (w .bank) j) o o (omega arith)
             (w .bank .clock) (downloadAt (w .bank) j .used)
-            (λ f. about (downloadAt (w .bank) j .transaction) (download-other w h v i j k inside used f)) (v .downloads j);
-        apartPlace = λ j a n f g e. n (v .placesApart j i a inside g used (sym (sym (number f) ∙ e)));
-        apartDownload = λ j f g e. v .apart i j inside used g (sym (number f) ∙ e);
+            (λ f. about (downloadAt (w .bank) j .transaction) (download-other w h v i j k inside used f)) (download-kept v j);
+        apartPlace = λ j a n f g e. n (v .state .placesApart j i a inside g used (alike same f (placeAt (w .bank) j) e));
+        apartDownload = λ j f g e. v .state .apart i j inside used g (sym (same f .0) ∙ e);
         openAll = let m = count-set-le (λ (r : Place). isOpen (r .used)) (w .bank .places) i p noPlace (λ _. ap isOpen opened) in omega
-            (arith, v .openAll);
+            (arith, v .state .openAll);
         openOf = λ s. let m = count-set-le (λ (r : Place). isOpen (r .used) && eqb (r .subscriber) s) (w .bank .places) i p noPlace
             (of s) in
-            omega (arith, v .openOf s);
-        known = known-more _ k x h own (w .bank .openings) (let z = place-number w h v i inside used in omega arith) (v .known);
+            omega (arith, v .state .openOf s);
+        known = known-more _ k x h own (w .bank .openings) (place-counted w h v i inside used .0) (v .known);
         booked = booked;
         sound = more sound (v .sound);
       })
@@ -179,32 +187,23 @@ module _ (w : World) (h : List Exchange) (v : Invariant w h) (i : ℕ) (inside :
       o : ℕ
       o = w .bank .openings
 
-      used : isFree (placeAt (w .bank) i .used) ≡ false
+      used : isFree (before .used) ≡ false
       used = not-free _ opened
 
-      about : (t : Bits128) → did isAction t (Of (placeAt (w .bank) i .transaction) k) ≡ false → did isAction t (x .event) ≡ false
+      about : (t : Bits128) → did isAction t (verdict.Of (before .transaction) k) ≡ false → did isAction t (x .verdict) ≡ false
       about t e = ap (did isAction t) own ∙ e
 
-      of : (s : ℕ) → isOpen (p .used) && eqb (p .subscriber) s ≡ true →
-          isOpen (placeAt (w .bank) i .used) && eqb (placeAt (w .bank) i .subscriber) s ≡ true
+      of : (s : ℕ) → isOpen (p .used) && eqb (p .subscriber) s ≡ true → isOpen (before .used) && eqb (before .subscriber) s ≡ true
       of s e =
           let a = and-true (isOpen (p .used)) (eqb (p .subscriber) s) e in
           rw (opened, sym (owner (a .0))) (a .1)
 
--- only an upload transfer has a segment taken
-pub asked-upload : {q : Fields} {transfer : Bool} {r : DownloadRequest} → AskedBy q transfer r → transfer ≡ true →
-    form q ≡ forms.UploadTransfer
-asked-upload (uploadTransfer e) t = e
-asked-upload (downloadTransfer e) t = never t
-asked-upload (receipt e) t = never t
+module _ (w : World) (h : List Exchange) (v : Invariant w h) (q : Fields) (d : List ℕ) (readable : Readable q (length d))
+    (inside : uploadAt (w .bank) q < placeCount)
+    (found : isUpload (subscriber q) (transaction q) (placeAt (w .bank) (uploadAt (w .bank) q)) ≡ true) where
+  abbrev i : ℕ
+  i = uploadAt (w .bank) q
 
-took-opens-not : (b : Bool) → isOpening (cond b TookLast Took) ≡ false
-took-opens-not true = refl
-took-opens-not false = refl
-
-module _ (w : World) (h : List Exchange) (v : Invariant w h) (q : Fields) (d : List ℕ) (admitted : Admitted q d) (i : ℕ)
-    (inside : i < placeCount)
-    (found : isUpload (subscriber q) (transaction q) (placeAt (w .bank) i) ≡ true) where
   abbrev old : Place
   old = placeAt (w .bank) i
 
@@ -212,8 +211,8 @@ module _ (w : World) (h : List Exchange) (v : Invariant w h) (q : Fields) (d : L
   used-open = upload-found (subscriber q) (transaction q) old found .0
 
   upload-open : OpenUpload (w .bank .clock) (w .bank .openings) h old (partAt (w .orders) i)
-  upload-open = subst (λ (u : Use). PlaceHolds u (w .bank .clock) (w .bank .openings) h old (partAt (w .orders) i)) used-open
-      (v .places i inside)
+  upload-open = subst (λ (u : Use). PlaceKept u (w .bank .clock) (w .bank .openings) h old (partAt (w .orders) i)) used-open
+      (place-kept v i inside)
 
   not-booked : old .used ≡ Booked → ⊥
   not-booked e = let z : _≡_ {A = ℕ} 0 1 = clash (sym used-open ∙ e) in omega arith
@@ -221,144 +220,143 @@ module _ (w : World) (h : List Exchange) (v : Invariant w h) (q : Fields) (d : L
       clash : _≡_ {A = Use} Open Booked → _≡_ {A = ℕ} 0 1
       clash z = cc
 
-  sound-request : (x : Exchange) → x .request ≡ q → SoundRequest (old .transaction) x h
-  sound-request x e =
+  -- the verdict of an action, what it leaves, and its exchange
+  abbrev by : UploadAction → Verdict
+  by a = verdict.Of (old .transaction) (action.Upload a)
+
+  abbrev left : UploadAction → World
+  left a = onUpload a i w d
+
+  abbrev now : UploadAction → Exchange
+  now a = entry (by a) w q d
+
+  part-long : length (partAt (w .orders) i) ≡ fileBytes
+  part-long = length-part (w .orders) (v .state .sizes .orders) i inside
+
+  -- what was booked stays, where the action books nothing
+  others-booked : (a : UploadAction) → uploadKind a .books ≡ false → (t : Bits128) → ever isBooking t (now a ∷ h) ≡ true →
+      BookedIn (left a) t
+  others-booked a e t g =
+      still-booked w h v i _ (left a) refl not-booked t
+      (v .booked t (booked-more (old .transaction) (action.Upload a) (now a) h refl e t g))
+
+  sound-request : (a : UploadAction) → SoundRequest (old .transaction) (now a) h
+  sound-request a =
       let f = upload-found (subscriber q) (transaction q) old found in
       record {
-        same = bits-same (old .transaction) (transaction q) (f .2) ∙ ap transaction (sym e);
-        owner = upload-open .place .owner ∙ (f .1 ∙ ap subscriber (sym e));
-        going = upload-open .place .going;
-        unbooked = upload-open .unbooked;
+        same = bits-same (old .transaction) (transaction q) (f .2);
+        owner = upload-open .1 .place .owner ∙ f .1;
+        going = upload-open .1 .place .going;
+        unbooked = upload-open .1 .unbooked;
       }
 
-  module _ (k : Action) (s : Step) where
-    abbrev now : Exchange
-    now = entry (Of (old .transaction) k) s w q d
-
-    sound-upload : s .replyData ≡ [] → SoundUpload (old .transaction) now h
-    sound-upload e = record { request = sound-request now refl; opened = upload-open .place .opened; bare = e }
+  sound-upload : (a : UploadAction) → SoundUpload (old .transaction) (now a) h
+  sound-upload a = record { request = sound-request a; opened = upload-open .1 .place .opened; bare = bare w (subscriber q) }
 
   -- a segment taken
   module _ (asked : form q ≡ forms.UploadTransfer) (some : 1 ≤ length d) (next : segment q ≡ old .taken + 1)
-      (early : segment q < old .segments → lastMark q ≡ 1 → ⊥) (missing : segment q ≡ old .segments → lastMark q ≡ 0 → ⊥)
       (room : old .length + length d ≤ fileBytes) where
-    abbrev taken : Step
-    taken = uploadStepBy up.Take i w q d
-
-    sound-taking : (k : Action) → SoundTaking (old .transaction) (now k taken) h
-    sound-taking k = record {
-      upload = sound-upload k taken refl;
+    sound-taking : (a : UploadAction) → SoundTaking (old .transaction) (now a) h
+    sound-taking a = record {
+      upload = sound-upload a;
       asked = asked;
-      next = let e = upload-open .place .takings in omega arith;
-      short = admitted .short;
+      next = let e = upload-open .1 .takings in omega arith;
+      short = readable .short;
     }
 
-    sound-took : (b : Bool) → eqb (old .taken + 1) (old .segments) ≡ b →
-        SoundAction (cond b TookLast Took) (old .transaction) (now (cond b TookLast Took) taken) h
-    sound-took true e =
-        let last : segment q ≡ old .segments = next ∙ eqb-true _ _ e in
-        record { taking = sound-taking TookLast; last = last ∙ sym (upload-open .place .size); mark = missing last }
-    sound-took false e =
-        let n = eqb-false (old .taken + 1) (old .segments) e in
-        let l = upload-open .below in
-        let z = upload-open .place .size in
-        record { taking = sound-taking Took; below = omega arith; mark = early (omega arith) }
+    full : length (overwrite (partAt (w .orders) i) (old .length) d) ≡ fileBytes
+    full =
+        let l = part-long in
+        length-overwrite (partAt (w .orders) i) (old .length) d (omega arith) ∙ l
 
-    taken-reply : (b : Bool) → taken .reply ≡ actionReply (cond b TookLast Took) (old .transaction) q
-    taken-reply true = refl
-    taken-reply false = refl
-
-    abbrev last : Bool
-    last = eqb (old .taken + 1) (old .segments)
-
-    abbrev action : Action
-    action = cond last TookLast Took
-
-    taken-booked : (b : Bool) → last ≡ b → (t : Bits128) → ever isBooking t (now action taken ∷ h) ≡ true → BookedIn (taken .world) t
+    took-keeps : (segment q ≡ old .segments → ⊥) → (segment q < old .segments → lastMark q ≡ 1 → ⊥) →
+        Invariant (left up.Took) (now up.Took ∷ h)
     unfolding grown
-    taken-booked true e =
-        booked-last (old .transaction) (now action taken) h (ap (λ (b : Bool). Of (old .transaction) (cond b TookLast Took)) e)
-        (BookedIn (taken .world))
+    took-keeps below early =
+        upload-step w h v i inside used-open _ _ full (action.Upload up.Took) refl (now up.Took) refl
+        (subst (λ (u : Use). PlaceKept u (w .bank .clock) (w .bank .openings) (now up.Took ∷ h) (grown (w .bank .clock) (length d) old)
+        (overwrite (partAt (w .orders) i) (old .length) d)) (sym used-open)
+        (place-grown (now up.Took) h (w .bank .openings) old (partAt (w .orders) i) (w .bank .clock) some (readable .short) room
+        upload-open refl (λ e. below (next ∙ e))))
+        (λ _. (refl, refl)) (λ _. refl) (others-booked up.Took refl)
         (record {
-          place = i;
-          inside = inside;
-          used = ap (λ (r : Place). r .used) here ∙ ap (λ (b : Bool). cond b Booked Open) e;
-          same = ap (λ (r : Place). r .transaction) here;
+          reply = refl;
+          verdict = let l : segment q < old .segments = (let b = upload-open .0 .below in omega arith) in
+              let z = upload-open .1 .size in
+              record { taking = sound-taking up.Took; below = omega arith; mark = early l };
         })
-        (λ t g. still-booked w h v i _ (taken .world) refl not-booked t (v .booked t g))
-      where
-        here : placeAt (taken .world .bank) i ≡ grown (w .bank .clock) (length d) old
-        here = getD-set-same (w .bank .places) i _ noPlace (let z = v .sizes .places in omega arith)
-    taken-booked false e = λ t g.
-        still-booked w h v i _ (taken .world) refl not-booked t
-        (v .booked t (booked-more (old .transaction) action (now action taken) h refl
-        (ap (λ (b : Bool). isBooking (cond b TookLast Took)) e)
-        t g))
 
-    taken-keeps : Invariant (taken .world) (now action taken ∷ h)
-    unfolding grown
-    taken-keeps =
-        upload-step w h v i inside used-open _ _ full action (took-opens-not last) (now action taken) refl
-        (place-grown (now action taken) h (w .bank .openings) old (partAt (w .orders) i) (w .bank .clock) last refl refl some
-        (admitted .short) room upload-open)
-        (λ _. refl) (λ _. refl) (taken-booked last refl) (record { reply = taken-reply last; event = sound-took last refl })
+    last-booked : (t : Bits128) → ever isBooking t (now up.TookLast ∷ h) ≡ true → BookedIn (left up.TookLast) t
+    unfolding booked
+    last-booked =
+        booked-last (old .transaction) (now up.TookLast) h refl (BookedIn (left up.TookLast))
+        (record { place = i; inside = inside; used = ap (λ (r : Place). r .used) here; same = ap (λ (r : Place). r .transaction) here })
+        (λ t g. still-booked w h v i _ (left up.TookLast) refl not-booked t (v .booked t g))
       where
-        full : length (overwrite (partAt (w .orders) i) (old .length) d) ≡ fileBytes
-        full =
-            let l = length-part (w .orders) (v .sizes .orders) i inside in
-            length-overwrite (partAt (w .orders) i) (old .length) d (omega arith) ∙ l
+        here : placeAt (left up.TookLast .bank) i ≡ booked (length d) old
+        here = getD-set-same (w .bank .places) i _ noPlace (let z = v .state .sizes .places in omega arith)
+
+    took-last-keeps : segment q ≡ old .segments → (lastMark q ≡ 0 → ⊥) → Invariant (left up.TookLast) (now up.TookLast ∷ h)
+    unfolding booked
+    took-last-keeps last mark =
+        upload-step w h v i inside used-open _ _ full (action.Upload up.TookLast) refl (now up.TookLast) refl
+        (place-booked (now up.TookLast) h (w .bank .openings) old (partAt (w .orders) i) (w .bank .clock) some (readable .short)
+        room upload-open refl (sym next ∙ last))
+        (λ _. (refl, refl)) (λ e. never e) last-booked
+        (record {
+          reply = refl;
+          verdict = record { taking = sound-taking up.TookLast; last = last ∙ sym (upload-open .1 .size); mark = mark };
+        })
 
   -- a recovery attempt
-  point-keeps : old .attempts < attemptsMost →
-      Invariant (uploadStepBy up.Point i w q d .world) (now (UploadPoint (old .taken)) (uploadStepBy up.Point i w q d) ∷ h)
+  point-keeps : old .attempts < attemptsMost → Invariant (left (up.Point (old .taken))) (now (up.Point (old .taken)) ∷ h)
   unfolding attempted
   point-keeps few =
-      let x : Exchange = now (UploadPoint (old .taken)) (uploadStepBy up.Point i w q d) in
-      upload-step w h v i inside used-open _ _ (length-part (w .orders) (v .sizes .orders) i inside) (UploadPoint (old .taken)) refl x refl
-      (subst (λ (u : Use). PlaceHolds u (w .bank .clock) (w .bank .openings) (x ∷ h) (attempted old) (partAt (w .orders) i)) (sym used-open)
-      (place-attempted x h (w .bank .openings) old (partAt (w .orders) i) (w .bank .clock) (old .taken) refl few upload-open))
-      (λ _. refl) (λ _. refl)
-      (λ t g. still-booked w h v i _ (uploadStepBy up.Point i w q d .world) refl not-booked t
-      (v .booked t (booked-more (old .transaction) (UploadPoint (old .taken)) x h refl refl t g)))
-      (record {
-        reply = refl;
-        event =
-            record {
-              upload = sound-upload (UploadPoint (old .taken)) (uploadStepBy up.Point i w q d) refl;
-              point =
-                  sym (upload-open .place .takings);
-            };
-      })
+      let a : UploadAction = up.Point (old .taken) in
+      upload-step w h v i inside used-open _ _ part-long (action.Upload a) refl (now a) refl
+      (subst (λ (u : Use). PlaceKept u (w .bank .clock) (w .bank .openings) (now a ∷ h) (attempted old) (partAt (w .orders) i))
+      (sym used-open)
+      (place-attempted (now a) h (w .bank .openings) old (partAt (w .orders) i) (w .bank .clock) (old .taken) refl few upload-open))
+      (λ _. (refl, refl)) (λ _. refl) (others-booked a refl)
+      (record { reply = refl; verdict = record { upload = sound-upload a; point = sym (upload-open .1 .takings) } })
 
-  -- the transaction cancelled
-  cancel-keeps : (c : ReturnCode) → cancels c ≡ true →
-      Invariant (uploadStepBy (up.Cancel c) i w q d .world) (now (Cancelled c) (uploadStepBy (up.Cancel c) i w q d) ∷ h)
+  -- the transaction cancelled: "place zeroed and freed"
+  cancel-keeps : (c : ReturnCode) → cancels c ≡ true → Invariant (left (up.Cancelled c)) (now (up.Cancelled c) ∷ h)
   cancel-keeps c cancelling =
-      let x : Exchange = now (Cancelled c) (uploadStepBy (up.Cancel c) i w q d) in
-      let l = length-part (w .orders) (v .sizes .orders) i inside in
-      let f = freed-zero (w .bank .clock) old used-open q d (partAt (w .orders) i) (up.Cancel c) refl in
-      upload-step w h v i inside used-open _ _ (ap length (f .zeros) ∙ (length-replicate (length (partAt (w .orders) i)) 0 ∙ l))
-      (Cancelled c) refl x refl
-      (record { empty = f .place; zeros = f .zeros ∙ ap (λ (n : ℕ). replicate n 0) l })
-      (λ e. never (sym e)) (λ e. never e)
-      (λ t g. still-booked w h v i _ (uploadStepBy (up.Cancel c) i w q d .world) refl not-booked t
-      (v .booked t (booked-more (old .transaction) (Cancelled c) x h refl refl t g)))
-      (record { reply = refl; event = record { request = sound-request x refl; cancelling = cancelling; bare = refl } })
+      let a : UploadAction = up.Cancelled c in
+      upload-step w h v i inside used-open _ _ (length-replicate (length (partAt (w .orders) i)) 0 ∙ part-long)
+      (action.Upload a) refl (now a) refl
+      (record { empty = refl; zeros = ap (λ (n : ℕ). replicate n 0) part-long }, tt)
+      (λ e. never (sym e)) (λ e. never e) (others-booked a refl)
+      (record { reply = refl; verdict = record { request = sound-request a; cancelling = cancelling; bare = bare w (subscriber q) } })
 
-  pub upload-keeps : (transfer : Bool) (r : DownloadRequest) {u : UploadVerdict} → AskedBy q transfer r →
-      (form q ≡ forms.UploadTransfer → 1 ≤ length d) →
-      UploadSound old transfer q (length d) u →
-      Invariant (uploadStepBy u i w q d .world) (now (uploadAction u old) (uploadStepBy u i w q d) ∷ h)
-  upload-keeps transfer r asked some (take t next early missing room) =
-      let f = asked-upload asked t in taken-keeps f (some f) next early missing room
-  upload-keeps transfer r asked some (point few) = point-keeps few
-  upload-keeps transfer r asked some abort = cancel-keeps code.TransactionAbort refl
-  upload-keeps transfer r asked some underrun = cancel-keeps code.SegmentNumberUnderrun refl
-  upload-keeps transfer r asked some exceeded = cancel-keeps code.SegmentNumberExceeded refl
+  -- only an upload transfer has a segment taken
+  upload-asked : {r : TransactionRequest} → form q ≡ requestForm r → UploadFits r old q → form q ≡ forms.UploadTransfer
+  upload-asked asked f = asked ∙ ap requestForm (f .transfer)
+
+  upload-sound-keeps : {r : TransactionRequest} {a : UploadAction} → form q ≡ requestForm r →
+      (form q ≡ forms.UploadTransfer → 1 ≤ length d) → UploadSound r old q (length d) a → Invariant (carryOut (by a) w q d) (now a ∷ h)
+  upload-sound-keeps asked some (took f below early room) =
+      let t = upload-asked asked f in took-keeps t (some t) (f .next) room below early
+  upload-sound-keeps asked some (tookLast f last mark room) =
+      let t = upload-asked asked f in took-last-keeps t (some t) (f .next) room last mark
+  upload-sound-keeps asked some (uploadPoint fits few) = point-keeps few
+  upload-sound-keeps asked some (abort fits many) = cancel-keeps code.TransactionAbort refl
+  upload-sound-keeps asked some (underrun f below mark) = cancel-keeps code.SegmentNumberUnderrun refl
+  upload-sound-keeps asked some (exceeded f last mark) = cancel-keeps code.SegmentNumberExceeded refl
   -- a place always has room for a segment more
-  upload-keeps transfer r asked some (overfull e) = absurd (
-      let a = upload-open .below in
-      let b = upload-open .place .few in
-      let l = upload-open .place .largest in
-      let m = admitted .short in
+  upload-sound-keeps asked some (overfull e) = absurd (
+      let a = upload-open .0 .below in
+      let b = upload-open .0 .few in
+      let k = upload-open .1 .takings in
+      let l = upload-open .0 .largest in
+      let m = readable .short in
       omega arith)
+
+pub upload-keeps : (w : World) (h : List Exchange) → Invariant w h → (q : Fields) (d : List ℕ) (r : TransactionRequest)
+    (a : UploadAction) →
+    (form q ≡ forms.UploadTransfer → 1 ≤ length d) → ToUpload w q d r a →
+    let v = verdict.Of (placeAt (w .bank) (uploadAt (w .bank) q) .transaction) (action.Upload a) in
+    Invariant (carryOut v w q d) (entry v w q d ∷ h)
+upload-keeps w h v q d r a some t =
+    upload-sound-keeps w h v q d (t .readable) (t .inside) (t .found) (t .asked) some (t .sound)

@@ -1,14 +1,15 @@
 -- Each reply of the bank can be written, in 9 to 312 bytes.
-use Prim.Native.Nat.{ℕ, _-_, _*_, _/_, _%_, _^_, _≤_, _<_}
+use Prim.Native.Nat.{ℕ, _+_, _-_, _*_, _/_, _%_, _^_, _≤_, _<_}
 use mathlib.Core.Bool.{Bool, true, false, cond}
 use mathlib.Core.List.{List, []}
 use mathlib.Core.Path.{_≡_, refl, sym, ap, _∙_, subst}
 use native.Mathlib.Omega.{arith}
 use lib.Dec.{eqb}
-use lib.ListN.{length, take, drop, length-take, length-drop}
+use lib.ListN.{length, drop, length-take, length-drop}
+use Rattle.frame_table.specs.declared.fields.Bits128.{Bits128}
 use Rattle.frame_table.specs.declared.fields.Fields.{Fields}
 use Rattle.frame_table.specs.declared.table.Form.{Form}
-use Rattle.frame_table.specs.Names.{phase, subscriber, exchange, transaction, segment}
+use Rattle.frame_table.specs.Names.{phase, subscriber, exchange, transaction, segment, sameBits}
 use Rattle.frame_table.specs.Table.{isReplyForm}
 use Rattle.frame.specs.Writer.{replyRoom}
 use Rattle.octets.specs.Bytes.{Bytes}
@@ -17,10 +18,10 @@ use Rattle.frame_table.proofs.Bits.{bits-same}
 use Rattle.message.specs.declared.codes.ReturnCode.{ReturnCode}
 use Rattle.message.specs.declared.codes.ReturnCode.the-variants as code
 use Rattle.message.specs.Limits.{segmentBytes, segmentsMost}
-use Rattle.message.specs.Replies.{receiptAnswered, refusal}
+use Rattle.message.specs.Replies.{uploadOpened, downloadOpened, segmentTaken, receiptAnswered, refusal}
 use Rattle.message.specs.Segments.{segmentsOf, segmentOf, lastMarkOf}
 use Rattle.message.proofs.SegmentNumbers.{some-segment, mark-most}
-use Rattle.bank_openings.proofs.OrderNumbers.{letter-lt, character-lt}
+use Rattle.message.proofs.OrderNumbers.{letter-lt, character-lt}
 use Rattle.message.proofs.Writable.{
   WrittenAs,
   Wide,
@@ -37,36 +38,38 @@ use Rattle.message.proofs.Writable.{
 use Rattle.bank_state.specs.declared.state.Download.{Download}
 use Rattle.bank_state.specs.declared.state.Place.{Place}
 use Rattle.bank_state.specs.declared.state.Use.{Use}
-use Rattle.bank_state.specs.Limits.{placeCount}
-use Rattle.bank_state.specs.Search.{isUpload, isDownload}
-use Rattle.bank_state.specs.State.{World, placeAt, downloadAt}
+use Rattle.bank_state.specs.declared.state.Use.the-variants.{Open}
+use Rattle.bank_state.specs.State.{World, placeAt, downloadAt, fileLength}
 use Rattle.bank_state.specs.Store.{partAt, fileOf}
-use Rattle.bank_downloads.specs.declared.downloads.DownloadRequest.{DownloadRequest}
-use Rattle.bank_downloads.specs.declared.downloads.DownloadVerdict.{DownloadVerdict}
-use Rattle.bank_uploads.specs.declared.uploads.UploadVerdict.{UploadVerdict}
-use Rattle.bank_downloads.specs.Downloads.{downloadPointPhase, segmentReply}
-use Rattle.bank_openings.specs.Openings.{fileLength, transactionOf, openUpload, openDownload}
-use Rattle.bank_openings.specs.OrderNumbers.{character, letter, orderNumberOf}
-use Rattle.bank_uploads.specs.Uploads.{uploadPointPhase}
-use Rattle.bank.specs.Call.{Step, mailboxSegment}
-use Rattle.bank_history.specs.History.{Event, Exchange, mailboxFile, segmentsNow}
-use Rattle.bank_history.specs.Invariant.{OpenUpload, PlaceHolds, Invariant}
+use Rattle.bank_verdicts.specs.declared.verdict.TransactionRequest.{TransactionRequest}
+use Rattle.bank_verdicts.specs.declared.verdict.UploadAction.{UploadAction}
+use Rattle.bank_verdicts.specs.declared.verdict.DownloadAction.{DownloadAction}
+use Rattle.bank_verdicts.specs.declared.verdict.Verdict.{Verdict}
+use Rattle.bank_verdicts.specs.Judgement.{transactionOf, mailboxSegments, uploadAt, downloadOf}
+use Rattle.bank_verdicts.specs.Replies.{
+  uploadPointPhase,
+  downloadPointPhase,
+  segmentReply,
+  uploadReply,
+  downloadReply,
+  downloadSegmentIn,
+}
+use Rattle.bank_verdicts.proofs.Sound.{Readable, Acceptable, UploadSound, DownloadSound}
+use Rattle.bank_verdicts.proofs.Sound as sound
+use Rattle.message.specs.OrderNumbers.{orderNumberOf}
+use Rattle.bank.specs.Call.{stepBy, mailboxSegment}
+use Rattle.bank_history.specs.History.{Exchange, mailboxFile}
+use Rattle.bank_history.specs.Invariant.{Invariant}
+use Rattle.bank_history.proofs.Parts.{OpenUpload, PlaceKept, place-kept}
 use Rattle.bank_history.specs.Answers.{smallestReply}
-use Rattle.bank_uploads.proofs.UploadVerdicts.{UploadSound}
-use Rattle.bank_uploads.proofs.UploadVerdicts as upload
-use Rattle.bank_history.proofs.Judged.{Acceptable, DownloadSound}
-use Rattle.bank_history.proofs.Judged as judged
 use Rattle.bank_history.proofs.Cases.{
-  AskedBy,
-  Admitted,
   Happens,
+  ToUpload,
+  ToDownload,
   opensUpload,
   opensDownload,
   toUpload,
   toDownload,
-  openingStepBy,
-  uploadStepBy,
-  downloadStepBy,
 }
 use Rattle.bank_history.proofs.Cases as cases
 use Rattle.bank_state.proofs.Found.{upload-found, download-found}
@@ -140,123 +143,137 @@ module _ (w : World) (h : List Exchange) (v : Invariant w h) (q : Fields) (r : I
     part-content : (rest : ℕ) → rest ≤ 56 → Content part rest
     part-content rest few = let l = part-long in record { some = l .0; most = omega arith; bytes = part-bytes }
 
-  -- to the open upload in place i
-  module _ (d : List ℕ) (transfer : Bool) (k : DownloadRequest) (i : ℕ) (asked : AskedBy q transfer k) (inside : i < placeCount)
-      (found : isUpload (subscriber q) (transaction q) (placeAt (w .bank) i) ≡ true) where
+  -- to the open upload that is found
+  module _ (d : List ℕ) (k : TransactionRequest) (u : UploadAction) (c : ToUpload w q d k u) where
     abbrev p : Place
-    p = placeAt (w .bank) i
+    p = placeAt (w .bank) (uploadAt (w .bank) q)
 
-    upload-open : OpenUpload (w .bank .clock) (w .bank .openings) h p (partAt (w .orders) i)
-    upload-open = subst (λ (u : Use). PlaceHolds u (w .bank .clock) (w .bank .openings) h p (partAt (w .orders) i))
-        (upload-found (subscriber q) (transaction q) p found .0) (v .places i inside)
+    is-upload : (p .used ≡ Open) × (p .subscriber ≡ subscriber q) × (sameBits (p .transaction) (transaction q) ≡ true)
+    is-upload = upload-found (subscriber q) (transaction q) p (c .found)
+
+    upload-open : OpenUpload (w .bank .clock) (w .bank .openings) h p (partAt (w .orders) (uploadAt (w .bank) q))
+    upload-open = subst (λ (z : Use). PlaceKept z (w .bank .clock) (w .bank .openings) h p (partAt (w .orders) (uploadAt (w .bank) q)))
+        (is-upload .0) (place-kept v (uploadAt (w .bank) q) (c .inside))
 
     upload-wide : Wide (p .transaction)
-    upload-wide = subst Wide (sym (bits-same (p .transaction) (transaction q) (upload-found (subscriber q) (transaction q) p found .2)))
-        (r .wide asked)
+    upload-wide = subst Wide (sym (bits-same (p .transaction) (transaction q) (is-upload .2))) (r .wide k (c .asked))
 
-    upload-written : {u : UploadVerdict} → UploadSound p transfer q (length d) u →
-        WrittenReply (uploadStepBy u i w q d .reply) (uploadStepBy u i w q d .replyData)
-    upload-written (upload.take t next early missing room) =
-        let a = upload-open .below in
-        let b = upload-open .place .few in
+    taken-written : segment q ≡ p .taken + 1 → WrittenReply (segmentTaken (exchange q) (p .transaction) (segment q)) []
+    taken-written next =
+        let a = upload-open .0 .below in
+        let b = upload-open .0 .few in
         sent refl (omega arith) (omega arith)
         (segment-taken-written (exchange q) (r .numbered) (p .transaction) upload-wide (segment q) (omega arith))
-    upload-written (upload.point few) =
-        let a = upload-open .below in
-        let b = upload-open .place .few in
+
+    sound-upload-written : {a : UploadAction} → UploadSound k p q (length d) a → WrittenReply (uploadReply a (p .transaction) q) []
+    sound-upload-written (sound.took f below early room) = taken-written (f .next)
+    sound-upload-written (sound.tookLast f last mark room) = taken-written (f .next)
+    sound-upload-written (sound.uploadPoint fits few) =
+        let a = upload-open .0 .below in
+        let b = upload-open .0 .few in
         let c = phase-range (eqb (p .taken) 0) in
         sent refl (omega arith) (omega arith)
         (recovery-point-written (exchange q) (r .numbered) (p .transaction) upload-wide (uploadPointPhase (p .taken)) (p .taken)
         (c .0) (c .1) (omega arith))
-    upload-written upload.abort = refused-written code.TransactionAbort
-    upload-written upload.underrun = refused-written code.SegmentNumberUnderrun
-    upload-written upload.exceeded = refused-written code.SegmentNumberExceeded
-    upload-written (upload.overfull over) = refused-written code.InternalError
+    sound-upload-written (sound.abort fits many) = refused-written code.TransactionAbort
+    sound-upload-written (sound.underrun f below mark) = refused-written code.SegmentNumberUnderrun
+    sound-upload-written (sound.exceeded f last mark) = refused-written code.SegmentNumberExceeded
+    sound-upload-written (sound.overfull over) = refused-written code.InternalError
 
-  -- to the open download of record j
-  module _ (d : List ℕ) (transfer : Bool) (k : DownloadRequest) (j : ℕ) (a : Admitted q d) (asked : AskedBy q transfer k)
-      (found : isDownload (subscriber q) (transaction q) (downloadAt (w .bank) j) ≡ true) where
+    upload-written : WrittenReply (uploadReply u (p .transaction) q) []
+    upload-written = sound-upload-written (c .sound)
+
+  -- to the open download that is found
+  module _ (d : List ℕ) (k : TransactionRequest) (u : DownloadAction) (c : ToDownload w q d k u) where
     abbrev e : Download
-    e = downloadAt (w .bank) j
+    e = downloadAt (w .bank) (downloadOf (w .bank) q)
+
+    -- N of its mailbox
+    abbrev n : ℕ
+    n = mailboxSegments (subscriber q) (w .bank)
 
     is-found : (e .used ≡ true) × (e .subscriber ≡ subscriber q) × (e .transaction ≡ transaction q)
     is-found =
-        let f = download-found (subscriber q) (transaction q) e found in
+        let f = download-found (subscriber q) (transaction q) e (c .found) in
         (f .0, f .1, bits-same (e .transaction) (transaction q) (f .2))
 
     download-wide : Wide (e .transaction)
-    download-wide = subst Wide (sym (is-found .2)) (r .wide asked)
+    download-wide = subst Wide (sym (is-found .2)) (r .wide k (c .asked))
 
     within : e .delivered ≤ segmentsOf (length (mailboxFile w (subscriber q)))
     within = subst (λ (s : ℕ). e .delivered ≤ segmentsOf (length (mailboxFile w s))) (is-found .1)
-        (download-open w h v j (is-found .0) .within)
+        (download-open w h v (downloadOf (w .bank) q) (is-found .0) .0 .within)
 
-    segments-now : segmentsNow w q ≡ segmentsOf (length (mailboxFile w (subscriber q)))
-    segments-now = ap segmentsOf (sym (file-long w h v (subscriber q) (a .known) (a .most)))
+    segments-now : n ≡ segmentsOf (length (mailboxFile w (subscriber q)))
+    segments-now = ap segmentsOf (sym (file-long w h v (subscriber q) (c .readable .known) (c .readable .most)))
 
     segment-written : 1 ≤ segment q → segment q ≤ segmentsOf (length (mailboxFile w (subscriber q))) →
-        WrittenReply (segmentReply e (segmentsNow w q) q) (mailboxSegment w (subscriber q) (segment q))
+        WrittenReply (segmentReply n (e .transaction) q) (mailboxSegment w (subscriber q) (segment q))
     segment-written some most =
         let b = segments-most (subscriber q) in
         let l = part-long (segment q) some most in
         sent refl (omega arith) (omega arith)
         (download-segment-written (exchange q) (r .numbered) (e .transaction) download-wide (segment q)
-        (lastMarkOf (segment q) (segmentsNow w q)) (mailboxSegment w (subscriber q) (segment q)) (omega arith)
-        (mark-most (segment q) (segmentsNow w q)) (part-content (segment q) some most 51 (omega arith)))
+        (lastMarkOf (segment q) n) (mailboxSegment w (subscriber q) (segment q)) (omega arith)
+        (mark-most (segment q) n) (part-content (segment q) some most 51 (omega arith)))
 
-    receipt-written : (c : ReturnCode) → WrittenReply (receiptAnswered (exchange q) (e .transaction) c) []
-    receipt-written c =
-        sent refl (omega arith) (omega arith) (receipt-answered-written (exchange q) (r .numbered) (e .transaction) download-wide c)
+    receipt-written : (x : ReturnCode) → WrittenReply (receiptAnswered (exchange q) (e .transaction) x) []
+    receipt-written x =
+        sent refl (omega arith) (omega arith) (receipt-answered-written (exchange q) (r .numbered) (e .transaction) download-wide x)
 
-    download-written : {u : DownloadVerdict} → DownloadSound k e (segmentsNow w q) q u →
-        WrittenReply (downloadStepBy u j w q .reply) (downloadStepBy u j w q .replyData)
+    sound-download-written : {a : DownloadAction} → DownloadSound k e n q a →
+        WrittenReply (downloadReply a (e .transaction) q) (mailboxSegment w (subscriber q) (downloadSegmentIn a q))
     unfolding mailboxSegment
-    download-written (judged.deliver t next most) = segment-written (omega arith) (omega (arith, segments-now))
-    download-written (judged.resend t some most few) = segment-written some (omega (arith, within))
-    download-written (judged.point few) =
+    sound-download-written (sound.delivered t next most) = segment-written (omega arith) (omega (arith, segments-now))
+    sound-download-written (sound.sentAgain t some most few) = segment-written some (omega (arith, within))
+    sound-download-written (sound.downloadPoint fits few) =
         let b = segments-most (subscriber q) in
         let l = within in
         let c = phase-range (eqb (e .delivered) 1) in
         sent refl (omega arith) (omega arith)
         (recovery-point-written (exchange q) (r .numbered) (e .transaction) download-wide (downloadPointPhase (e .delivered))
         (e .delivered) (c .0) (c .1) (omega arith))
-    download-written judged.abort = refused-written code.TransactionAbort
-    download-written (judged.done t whole taken) = receipt-written code.DownloadPostprocessDone
-    download-written (judged.skipped t whole) = receipt-written code.DownloadPostprocessSkipped
+    sound-download-written (sound.cancelled fits many) = refused-written code.TransactionAbort
+    sound-download-written (sound.confirmed t whole taken) = receipt-written code.DownloadPostprocessDone
+    sound-download-written (sound.declined t whole other) = receipt-written code.DownloadPostprocessSkipped
+
+    download-written : WrittenReply (downloadReply u (e .transaction) q) (mailboxSegment w (subscriber q) (downloadSegmentIn u q))
+    download-written = sound-download-written (c .sound)
 
   -- an opening
-  module _ (d : List ℕ) (lent : ℕ) (small : lent < 2 ^ 64) (a : Admitted q d) (g : Acceptable (w .bank) q) where
-    opening-wide : Wide (transactionOf lent (w .bank))
+  module _ (d : List ℕ) (first : ℕ) (small : first < 2 ^ 64) (a : Readable q (length d)) (g : Acceptable (w .bank) q) where
+    abbrev t : Bits128
+    t = transactionOf first (w .bank)
+
+    opening-wide : Wide t
     opening-wide = (small, let n = g .numbers in omega arith)
 
-    upload-opening-written : WrittenReply (openingStepBy (openUpload lent q (w .bank)) w q .reply)
-        (openingStepBy (openUpload lent q (w .bank)) w q .replyData)
-    unfolding openUpload mailboxSegment
+    upload-opening-written : WrittenReply (uploadOpened (exchange q) t (orderNumberOf (w .bank .openings))) []
     upload-opening-written =
         sent refl (omega arith) (omega arith)
-        (upload-opened-written (exchange q) (r .numbered) (transactionOf lent (w .bank)) opening-wide
+        (upload-opened-written (exchange q) (r .numbered) t opening-wide
         (orderNumberOf (w .bank .openings)) (order-number-lt (w .bank .openings)))
 
     download-opening-written : (fileLength (subscriber q) (w .bank .files) ≡ 0 → ⊥) →
-        WrittenReply (openingStepBy (openDownload lent q (w .bank)) w q .reply)
-        (openingStepBy (openDownload lent q (w .bank)) w q .replyData)
-    unfolding openDownload
+        let n = mailboxSegments (subscriber q) (w .bank) in
+        WrittenReply (downloadOpened (exchange q) n t (lastMarkOf 1 n)) (mailboxSegment w (subscriber q) 1)
     download-opening-written full =
+        let n : ℕ = mailboxSegments (subscriber q) (w .bank) in
         let f = file-long w h v (subscriber q) (a .known) (a .most) in
         let b = segments-most (subscriber q) in
-        let n : segmentsNow w q ≡ segmentsOf (length (mailboxFile w (subscriber q))) = ap segmentsOf (sym f) in
+        let m : n ≡ segmentsOf (length (mailboxFile w (subscriber q))) = ap segmentsOf (sym f) in
         let s = some-segment (length (mailboxFile w (subscriber q))) (not-zero _ (λ z. full (sym f ∙ z))) in
         let l = part-long 1 (omega arith) s in
         sent refl (omega arith) (omega arith)
-        (download-opened-written (exchange q) (r .numbered) (transactionOf lent (w .bank)) opening-wide (segmentsNow w q)
-        (lastMarkOf 1 (segmentsNow w q)) (mailboxSegment w (subscriber q) 1) (omega arith) (mark-most 1 (segmentsNow w q))
-        (part-content 1 (omega arith) s 56 (omega arith)))
+        (download-opened-written (exchange q) (r .numbered) t opening-wide n (lastMarkOf 1 n) (mailboxSegment w (subscriber q) 1)
+        (omega arith) (mark-most 1 n) (part-content 1 (omega arith) s 56 (omega arith)))
 
-  pub case-written : {lent : ℕ} {d : List ℕ} {x : Event} {s : Step} → lent < 2 ^ 64 → Happens lent w q d x s →
-      WrittenReply (s .reply) (s .replyData)
+  pub case-written : {first : ℕ} {d : List ℕ} {x : Verdict} → first < 2 ^ 64 → Happens first w q d x →
+      WrittenReply (stepBy x w q d .reply) (stepBy x w q d .replyData)
+  unfolding mailboxSegment
   case-written small cases.unreadable = sent refl (omega arith) (omega arith) unreadable-written
-  case-written small (cases.refusal c e) = refused-written c
-  case-written {lent = lent} {d = d} small (opensUpload asked a g n p) = upload-opening-written d lent small a g
-  case-written {lent = lent} {d = d} small (opensDownload asked a g n) = download-opening-written d lent small a g n
-  case-written {d = d} small (toUpload i transfer k u a asked inside found sound) = upload-written d transfer k i asked inside found sound
-  case-written {d = d} small (toDownload j transfer k u a asked inside found sound) = download-written d transfer k j a asked found sound
+  case-written small (cases.refused c e) = refused-written c
+  case-written {first = first} {d = d} small (opensUpload asked a g n p) = upload-opening-written d first small a g
+  case-written {first = first} {d = d} small (opensDownload asked a g n) = download-opening-written d first small a g n
+  case-written {d = d} small (toUpload k u c) = upload-written d k u c
+  case-written {d = d} small (toDownload k u c) = download-written d k u c

@@ -1,8 +1,10 @@
--- The bank's invariant: what holds of the state, the stores and the history after every list of calls.
+-- The bank's invariant: what holds of the state and the stores after every list of calls, and what the history tells of them.
 use Prim.Native.Nat.{ℕ, suc, _+_, _-_, _*_, _<_, _≤_}
 use mathlib.Core.Bool.{Bool, true, false}
-use mathlib.Core.List.{List, _++_}
+use mathlib.Core.List.{List, [], _∷_, _++_}
+use mathlib.Core.Logic.{_⊎_}
 use mathlib.Core.Path.{_≡_}
+use lib.Dec.{leb}
 use lib.ListN.{length, getD, take, replicate}
 use Rattle.frame_table.specs.declared.fields.Bits128.{Bits128}
 use Rattle.message.specs.Limits.{subscribers, segmentBytes, segmentsMost, fileBytes, attemptsMost}
@@ -20,6 +22,7 @@ use Rattle.bank_state.specs.Limits.{
   openMost,
   openPerSubscriber,
   openingsMost,
+  window,
 }
 use Rattle.bank_state.specs.Search.{isFree, isOpen, openCount, openCountOf}
 use Rattle.bank_state.specs.State.{World, noPlace, noDownload, noNonce, placeAt, downloadAt}
@@ -40,12 +43,15 @@ use Rattle.bank_history.specs.History.{
   received,
   accepted,
   openedBy,
+  numberAt,
   segmentsAt,
   fileAtOpening,
   remembered,
 }
 use Rattle.bank_history.specs.Packed.{Packed}
 use Rattle.bank_history.specs.Sound.{AllSound}
+
+-- ---- the state and the stores
 
 -- rows and stores have their lengths
 pub record Sizes (w : World) : Type 0 where
@@ -61,83 +67,175 @@ pub record FreePlace (p : Place) (bytes : List ℕ) : Type 0 where
   pub empty : p ≡ noPlace
   pub zeros : bytes ≡ replicate fileBytes 0
 
--- a place in use, with the number of openings, the history and the place's bytes
-pub record UsedPlace (openings : ℕ) (h : List Exchange) (p : Place) (bytes : List ℕ) : Type 0 where
-  -- "The transaction ID is the 8 lent bytes, then the number"
-  pub numbered : p .transaction .low ≡ p .number
-  pub counted : p .number < openings
+-- the columns that count the steps of an open upload are 0
+pub record NoSteps (p : Place) : Type 0 where
+  pub segments : p .segments ≡ 0
+  pub taken : p .taken ≡ 0
+  pub attempts : p .attempts ≡ 0
+  pub last : p .last ≡ 0
+
+-- a place in use, with the number of openings and the place's bytes: the columns that a booked order keeps, transaction ID,
+-- subscriber, number of its order and length
+pub record UsedPlace (openings : ℕ) (t : Bits128) (subscriber number size : ℕ) (bytes : List ℕ) : Type 0 where
+  -- "The transaction ID is the 8 lent bytes, then the number", that of an accepted opening; so is the order's number
+  pub counted : t .low < openings
+  pub numbered : number < openings
   -- "Subscribers are 1 to 8"
-  pub known : 1 ≤ p .subscriber
-  pub most : p .subscriber ≤ subscribers
-  -- N is 1 to 15
+  pub known : 1 ≤ subscriber
+  pub most : subscriber ≤ subscribers
+  pub zeros : bytes ≡ take size bytes ++ replicate (fileBytes - size) 0
+
+abbrev pub UsedAs : ℕ → Place → List ℕ → Type 0
+UsedAs openings p bytes = UsedPlace openings (p .transaction) (p .subscriber) (p .number) (p .length) bytes
+
+-- the place of an open upload: N is 1 to 15, k < N, at most five attempts, each of the k segments has 1 to 256 bytes
+pub record OpenPlace (clock openings : ℕ) (p : Place) (bytes : List ℕ) : Type 0 where
+  pub place : UsedAs openings p bytes
   pub some : 1 ≤ p .segments
   pub few : p .segments ≤ segmentsMost
-  -- at most five attempts; the sixth cancels
+  pub below : p .taken < p .segments
   pub tries : p .attempts ≤ attemptsMost
-  -- its transaction was opened by an accepted opening of this subscriber with this number of segments
-  pub opened : ever isUploadOpening (p .transaction) h ≡ true
-  pub owner : openedBy (p .transaction) h ≡ p .subscriber
-  pub size : segmentsAt (p .transaction) h ≡ p .segments
-  -- nothing has cancelled it
-  pub going : ever isEnding (p .transaction) h ≡ false
-  -- k segments were taken, each of 1 to 256 bytes
-  pub takings : times isTaking (p .transaction) h ≡ p .taken
+  pub current : p .last ≤ clock
   pub least : p .taken ≤ p .length
   pub largest : p .length ≤ p .taken * segmentBytes
-  -- the place holds exactly their data, zeros behind
-  pub long : length (received (p .transaction) h) ≡ p .length
-  pub held : bytes ≡ received (p .transaction) h ++ replicate (fileBytes - p .length) 0
 
--- an open upload: k < N
-pub record OpenUpload (clock openings : ℕ) (h : List Exchange) (p : Place) (bytes : List ℕ) : Type 0 where
-  pub place : UsedPlace openings h p bytes
-  pub below : p .taken < p .segments
-  pub current : p .last ≤ clock
-  pub unbooked : ever isBooking (p .transaction) h ≡ false
-
--- a booked order: its segments 1 to N
-pub record BookedOrder (openings : ℕ) (h : List Exchange) (p : Place) (bytes : List ℕ) : Type 0 where
-  pub place : UsedPlace openings h p bytes
-  pub whole : p .taken ≡ p .segments
-  pub booked : ever isBooking (p .transaction) h ≡ true
+-- the place of a booked order: what counted its steps is 0
+pub record BookedPlace (openings : ℕ) (p : Place) (bytes : List ℕ) : Type 0 where
+  pub place : UsedAs openings p bytes
+  pub over : NoSteps p
+  pub some : 1 ≤ p .length
+  pub room : p .length ≤ fileBytes
 
 -- a place by its use
-abbrev pub PlaceHolds : Use → ℕ → ℕ → List Exchange → Place → List ℕ → Type 0
-PlaceHolds Free clock openings h p bytes = FreePlace p bytes
-PlaceHolds Open clock openings h p bytes = OpenUpload clock openings h p bytes
-PlaceHolds Booked clock openings h p bytes = BookedOrder openings h p bytes
+abbrev pub PlaceHolds : Use → ℕ → ℕ → Place → List ℕ → Type 0
+PlaceHolds Free clock openings p bytes = FreePlace p bytes
+PlaceHolds Open clock openings p bytes = OpenPlace clock openings p bytes
+PlaceHolds Booked clock openings p bytes = BookedPlace openings p bytes
 
--- an open download, with the clock, the number of openings, the history and the file now in its mailbox
-pub record OpenDownload (clock openings : ℕ) (h : List Exchange) (file : List ℕ) (e : Download) : Type 0 where
+-- the record of an open download, with the clock, the number of openings and the file now in its mailbox
+pub record OpenRecord (clock openings : ℕ) (file : List ℕ) (e : Download) : Type 0 where
   pub counted : e .transaction .low < openings
   pub known : 1 ≤ e .subscriber
   pub most : e .subscriber ≤ subscribers
   pub tries : e .attempts ≤ attemptsMost
-  -- d is 1 to N
+  -- d is 1 to N of a file that is not empty
   pub some : 1 ≤ e .delivered
   pub within : e .delivered ≤ segmentsOf (length file)
-  pub current : e .last ≤ clock
-  -- its transaction was opened by an accepted opening of this subscriber; d segments were delivered; nothing has ended it
-  pub opened : ever isDownloadOpening (e .transaction) h ≡ true
-  pub owner : openedBy (e .transaction) h ≡ e .subscriber
-  pub deliveries : times isDelivery (e .transaction) h ≡ e .delivered
-  pub going : ever isEnding (e .transaction) h ≡ false
-  pub unbooked : ever isBooking (e .transaction) h ≡ false
-  -- the mailbox holds exactly the file of its opening, which is not empty
-  pub unchanged : fileAtOpening (e .transaction) h ≡ file
   pub full : 1 ≤ length file
+  pub current : e .last ≤ clock
 
 -- a record of downloads by its use
-abbrev pub DownloadHolds : Bool → ℕ → ℕ → List Exchange → List ℕ → Download → Type 0
-DownloadHolds true clock openings h file e = OpenDownload clock openings h file e
-DownloadHolds false clock openings h file e = e ≡ noDownload
+abbrev pub DownloadHolds : Bool → ℕ → ℕ → List ℕ → Download → Type 0
+DownloadHolds true clock openings file e = OpenRecord clock openings file e
+DownloadHolds false clock openings file e = e ≡ noDownload
 
 -- a mailbox with a file of n bytes: zeros behind it
 pub record MailboxHolds (n : ℕ) (bytes : List ℕ) : Type 0 where
   pub room : n ≤ fileBytes
   pub zeros : bytes ≡ take n bytes ++ replicate (fileBytes - n) 0
 
+-- each nonce of a list is used, "while its timestamp is at most 300 behind the clock"
+pub data AllRemembered (clock : ℕ) : List Nonce → Type 0 where
+  end : AllRemembered clock []
+  next : {e : Nonce} {l : List Nonce} → e .used ≡ true → leb clock (e .timestamp + window) ≡ true → AllRemembered clock l →
+      AllRemembered clock (e ∷ l)
+
 -- the nonces remembered at a clock stand first, and the others are free
+pub record NoncesHold (clock : ℕ) (nonces : List Nonce) : Type 0 where
+  pub first : List Nonce
+  pub used : AllRemembered clock first
+  pub rows : nonces ≡ first ++ replicate (nonceCount - length first) noNonce
+
+-- two places have one running number in their transaction IDs, or one order number
+abbrev pub Alike : Place → Place → Type 0
+Alike p r = (p .transaction .low ≡ r .transaction .low) ⊎ (p .number ≡ r .number)
+
+-- What an image may hold: the state and the stores alone, without the history
+pub record StateHolds (w : World) : Type 0 where
+  -- rows and stores have their lengths
+  pub sizes : Sizes w
+  -- at most 1,213,056 openings
+  pub numbers : w .bank .openings ≤ openingsMost
+  -- each place is free and zero, or in use with its columns in their ranges and zeros behind its bytes
+  pub places : (i : ℕ) → i < placeCount →
+      PlaceHolds (placeAt (w .bank) i .used) (w .bank .clock) (w .bank .openings) (placeAt (w .bank) i) (partAt (w .orders) i)
+  -- each record of downloads is zero, or an open download with its columns in their ranges
+  pub downloads : (j : ℕ) →
+      DownloadHolds (downloadAt (w .bank) j .used) (w .bank .clock) (w .bank .openings)
+      (mailboxFile w (downloadAt (w .bank) j .subscriber)) (downloadAt (w .bank) j)
+  -- each mailbox holds at most 3,840 bytes, zeros behind
+  pub mailboxes : (i : ℕ) → i < placeCount → MailboxHolds (getD (w .bank .files) i 0) (partAt (w .boxes) i)
+  -- no two places in use have one transaction or one order number, and no place has the transaction of an open download
+  pub placesApart : (i j : ℕ) → i < placeCount → j < placeCount → isFree (placeAt (w .bank) i .used) ≡ false →
+      isFree (placeAt (w .bank) j .used) ≡ false → Alike (placeAt (w .bank) i) (placeAt (w .bank) j) → i ≡ j
+  pub apart : (i j : ℕ) → i < placeCount → isFree (placeAt (w .bank) i .used) ≡ false → downloadAt (w .bank) j .used ≡ true →
+      placeAt (w .bank) i .transaction .low ≡ downloadAt (w .bank) j .transaction .low → ⊥
+  -- open downloads stand first, in the order of their openings
+  pub inOrder : Packed (λ (e : Download). e .used) noDownload (λ (e : Download). e .transaction .low)
+      (λ (e : Download). suc (e .transaction .low)) 0 (w .bank .downloads)
+  -- the nonces in use stand first, and each is still to be remembered
+  pub nonces : NoncesHold (w .bank .clock) (w .bank .nonces)
+  -- at most 8 transactions are open, at most 4 of one subscriber
+  pub openAll : openCount (w .bank) ≤ openMost
+  pub openOf : (s : ℕ) → openCountOf s (w .bank) ≤ openPerSubscriber
+
+-- ---- what the history tells of the state
+
+-- of a place in use, by the columns that a booked order keeps
+pub record UsedTold (h : List Exchange) (t : Bits128) (subscriber number size : ℕ) (bytes : List ℕ) : Type 0 where
+  -- its transaction was opened by an accepted opening of this subscriber with this order number
+  pub opened : ever isUploadOpening t h ≡ true
+  pub owner : openedBy t h ≡ subscriber
+  pub order : numberAt t h ≡ number
+  -- nothing has cancelled it
+  pub going : ever isEnding t h ≡ false
+  -- the place holds exactly the data of the segments taken, zeros behind
+  pub long : length (received t h) ≡ size
+  pub held : bytes ≡ received t h ++ replicate (fileBytes - size) 0
+
+abbrev pub ToldAs : List Exchange → Place → List ℕ → Type 0
+ToldAs h p bytes = UsedTold h (p .transaction) (p .subscriber) (p .number) (p .length) bytes
+
+-- of an open upload: N is that of its opening, k segments were taken, and the last one not
+pub record UploadTold (h : List Exchange) (p : Place) (bytes : List ℕ) : Type 0 where
+  pub place : ToldAs h p bytes
+  pub size : segmentsAt (p .transaction) h ≡ p .segments
+  pub takings : times isTaking (p .transaction) h ≡ p .taken
+  pub unbooked : ever isBooking (p .transaction) h ≡ false
+
+-- of a booked order: its segments 1 to N were taken, each of 1 to 256 bytes
+pub record OrderTold (h : List Exchange) (p : Place) (bytes : List ℕ) : Type 0 where
+  pub place : ToldAs h p bytes
+  pub some : 1 ≤ segmentsAt (p .transaction) h
+  pub few : segmentsAt (p .transaction) h ≤ segmentsMost
+  pub whole : times isTaking (p .transaction) h ≡ segmentsAt (p .transaction) h
+  pub least : segmentsAt (p .transaction) h ≤ p .length
+  pub largest : p .length ≤ segmentsAt (p .transaction) h * segmentBytes
+  pub booked : ever isBooking (p .transaction) h ≡ true
+
+-- of a place by its use
+abbrev pub PlaceTold : Use → List Exchange → Place → List ℕ → Type 0
+PlaceTold Free h p bytes = Unit
+PlaceTold Open h p bytes = UploadTold h p bytes
+PlaceTold Booked h p bytes = OrderTold h p bytes
+
+-- of an open download, with the file now in its mailbox
+pub record OpenTold (h : List Exchange) (file : List ℕ) (e : Download) : Type 0 where
+  -- its transaction was opened by an accepted opening of this subscriber; d segments were delivered; nothing has ended it
+  pub opened : ever isDownloadOpening (e .transaction) h ≡ true
+  pub owner : openedBy (e .transaction) h ≡ e .subscriber
+  pub deliveries : times isDelivery (e .transaction) h ≡ e .delivered
+  pub going : ever isEnding (e .transaction) h ≡ false
+  pub unbooked : ever isBooking (e .transaction) h ≡ false
+  -- the mailbox holds exactly the file of its opening
+  pub unchanged : fileAtOpening (e .transaction) h ≡ file
+
+-- of a record of downloads by its use
+abbrev pub DownloadTold : Bool → List Exchange → List ℕ → Download → Type 0
+DownloadTold true h file e = OpenTold h file e
+DownloadTold false h file e = Unit
+
+-- the nonces are exactly those remembered at the clock, in the order of their openings
 pub record Memory (clock : ℕ) (nonces : List Nonce) (h : List Exchange) : Type 0 where
   pub held : nonces ≡ remembered clock h ++ replicate (nonceCount - length (remembered clock h)) noNonce
 
@@ -148,35 +246,17 @@ pub record BookedIn (w : World) (t : Bits128) : Type 0 where
   pub used : placeAt (w .bank) place .used ≡ Booked
   pub same : placeAt (w .bank) place .transaction ≡ t
 
+-- The state, and what ties it to the history
 pub record Invariant (w : World) (h : List Exchange) : Type 0 where
-  -- rows and stores have their lengths
-  pub sizes : Sizes w
-  -- the openings are counted, at most 1,213,056
+  pub state : StateHolds w
+  -- the openings are counted
   pub counted : w .bank .openings ≡ accepted h
-  pub numbers : w .bank .openings ≤ openingsMost
-  -- each place is free and zero, or holds exactly what was taken for it
-  pub places : (i : ℕ) → i < placeCount →
-      PlaceHolds (placeAt (w .bank) i .used) (w .bank .clock) (w .bank .openings) h (placeAt (w .bank) i) (partAt (w .orders) i)
-  -- each record of downloads is zero, or an open download of the file at its opening
+  -- each place in use holds exactly what was taken for it
+  pub places : (i : ℕ) → i < placeCount → PlaceTold (placeAt (w .bank) i .used) h (placeAt (w .bank) i) (partAt (w .orders) i)
+  -- each open download is one of the file at its opening
   pub downloads : (j : ℕ) →
-      DownloadHolds (downloadAt (w .bank) j .used) (w .bank .clock) (w .bank .openings) h
-      (mailboxFile w (downloadAt (w .bank) j .subscriber)) (downloadAt (w .bank) j)
-  -- each mailbox holds at most 3,840 bytes, zeros behind
-  pub mailboxes : (i : ℕ) → i < placeCount → MailboxHolds (getD (w .bank .files) i 0) (partAt (w .boxes) i)
-  -- no two places in use have one number, and no place that of an open download
-  pub placesApart : (i j : ℕ) → i < placeCount → j < placeCount → isFree (placeAt (w .bank) i .used) ≡ false →
-      isFree (placeAt (w .bank) j .used) ≡ false →
-      placeAt (w .bank) i .number ≡ placeAt (w .bank) j .number → i ≡ j
-  pub apart : (i j : ℕ) → i < placeCount → isFree (placeAt (w .bank) i .used) ≡ false → downloadAt (w .bank) j .used ≡ true →
-      placeAt (w .bank) i .number ≡ downloadAt (w .bank) j .transaction .low → ⊥
-  -- open downloads stand first, in the order of their openings
-  pub inOrder : Packed (λ (e : Download). e .used) noDownload (λ (e : Download). e .transaction .low)
-      (λ (e : Download). suc (e .transaction .low)) 0 (w .bank .downloads)
-  -- the nonces are exactly those remembered, in the order of their openings
+      DownloadTold (downloadAt (w .bank) j .used) h (mailboxFile w (downloadAt (w .bank) j .subscriber)) (downloadAt (w .bank) j)
   pub memory : Memory (w .bank .clock) (w .bank .nonces) h
-  -- at most 8 transactions are open, at most 4 of one subscriber
-  pub openAll : openCount (w .bank) ≤ openMost
-  pub openOf : (s : ℕ) → openCountOf s (w .bank) ≤ openPerSubscriber
   -- every transaction of the history has a number below that of the next opening
   pub known : (t : Bits128) → ever isAction t h ≡ true → t .low < w .bank .openings
   -- a transaction whose segment N was taken is booked

@@ -14,25 +14,18 @@ use Rattle.message.specs.declared.codes.ReturnCode.the-variants as code
 use Rattle.message.specs.Codes.{codeField}
 use Rattle.message.specs.Limits.{subscribers, segmentBytes, segmentsMost}
 use Rattle.message.specs.Segments.{segmentsOf, segmentOf}
+use Rattle.bank_verdicts.specs.declared.verdict.UploadAction.{UploadAction}
+use Rattle.bank_verdicts.specs.declared.verdict.UploadAction.the-variants as up
+use Rattle.bank_verdicts.specs.declared.verdict.DownloadAction.{DownloadAction}
+use Rattle.bank_verdicts.specs.declared.verdict.DownloadAction.the-variants as down
+use Rattle.bank_verdicts.specs.declared.verdict.Action.{Action}
+use Rattle.bank_verdicts.specs.declared.verdict.Action.the-variants as action
+use Rattle.bank_verdicts.specs.declared.verdict.Verdict.{Verdict}
+use Rattle.bank_verdicts.specs.declared.verdict.Verdict.the-variants as verdict
+use Rattle.bank_verdicts.specs.Refusals.{cancels}
+use Rattle.bank_verdicts.specs.Replies.{replyTo}
 use Rattle.bank_history.specs.History.{
-  Action,
-  OpenedUpload,
-  OpenedDownload,
-  Took,
-  TookLast,
-  UploadPoint,
-  DownloadPoint,
-  Cancelled,
-  Delivered,
-  SentAgain,
-  Confirmed,
-  Declined,
-  Event,
-  Unreadable,
-  Refusal,
-  Of,
   Exchange,
-  replyTo,
   isUploadOpening,
   isDownloadOpening,
   isBooking,
@@ -47,28 +40,7 @@ use Rattle.bank_history.specs.History.{
   fileAtOpening,
 }
 
--- "transaction cancelled": 091102, 011101, 091104
-abbrev pub cancels : ReturnCode → Bool
-cancels code.Ok = false
-cancels code.DownloadPostprocessDone = false
-cancels code.DownloadPostprocessSkipped = false
-cancels code.SegmentNumberUnderrun = true
-cancels code.InvalidRequest = false
-cancels code.InternalError = false
-cancels code.RecoverySync = false
-cancels code.NoDownloadDataAvailable = false
-cancels code.UserUnknown = false
-cancels code.InvalidOrderType = false
-cancels code.SegmentSizeExceeded = false
-cancels code.InvalidXml = false
-cancels code.UnknownTransaction = false
-cancels code.TransactionAbort = true
-cancels code.MessageReplay = false
-cancels code.SegmentNumberExceeded = true
-cancels code.MaxSegmentsExceeded = false
-cancels code.MaxTransactionsExceeded = false
-
--- field 0D is one of these three codes
+-- field 0D is 091102, 011101 or 091104, the codes that cancel
 abbrev pub isCancelling : ℕ → Bool
 isCancelling n = eqb n (codeField code.TransactionAbort) || eqb n (codeField code.SegmentNumberUnderrun) || eqb n
     (codeField code.SegmentNumberExceeded)
@@ -80,9 +52,10 @@ pub record SoundOpening (f : Form) (t : Bits128) (e : Exchange) (h : List Exchan
   pub known : 1 ≤ subscriber (e .request)
   pub most : subscriber (e .request) ≤ subscribers
 
--- an upload opened: "0 segments" and "over 15 segments" are refused
-pub record SoundUploadOpening (t : Bits128) (e : Exchange) (h : List Exchange) : Type 0 where
+-- an upload opened: "An upload's order number is that number"; "0 segments" and "over 15 segments" are refused
+pub record SoundUploadOpening (n : ℕ) (t : Bits128) (e : Exchange) (h : List Exchange) : Type 0 where
   pub opening : SoundOpening forms.UploadOpening t e h
+  pub number : n ≡ accepted h
   pub some : 1 ≤ segments (e .request)
   pub few : segments (e .request) ≤ segmentsMost
   pub bare : e .replyData ≡ []
@@ -179,29 +152,36 @@ pub record SoundRefusal (c : ReturnCode) (e : Exchange) : Type 0 where
   pub harmless : cancels c ≡ false
   pub bare : e .replyData ≡ []
 
+abbrev pub SoundUploadAction : UploadAction → Bits128 → Exchange → List Exchange → Type 0
+SoundUploadAction (up.Opened n) t e h = SoundUploadOpening n t e h
+SoundUploadAction up.Took t e h = SoundTook t e h
+SoundUploadAction up.TookLast t e h = SoundTookLast t e h
+SoundUploadAction (up.Point k) t e h = SoundUploadPoint k t e h
+SoundUploadAction (up.Cancelled c) t e h = SoundCancelled c t e h
+
+abbrev pub SoundDownloadAction : DownloadAction → Bits128 → Exchange → List Exchange → Type 0
+SoundDownloadAction (down.Opened n) t e h = SoundDownloadOpening n t e h
+SoundDownloadAction (down.Delivered n) t e h = SoundDelivery n t e h
+SoundDownloadAction (down.SentAgain n) t e h = SoundAgain n t e h
+SoundDownloadAction (down.Point d) t e h = SoundDownloadPoint d t e h
+SoundDownloadAction down.Cancelled t e h = SoundCancelled code.TransactionAbort t e h
+SoundDownloadAction down.Confirmed t e h = SoundConfirmed t e h
+SoundDownloadAction down.Declined t e h = SoundReceipt t e h
+
 abbrev pub SoundAction : Action → Bits128 → Exchange → List Exchange → Type 0
-SoundAction OpenedUpload t e h = SoundUploadOpening t e h
-SoundAction (OpenedDownload n) t e h = SoundDownloadOpening n t e h
-SoundAction Took t e h = SoundTook t e h
-SoundAction TookLast t e h = SoundTookLast t e h
-SoundAction (UploadPoint k) t e h = SoundUploadPoint k t e h
-SoundAction (DownloadPoint d) t e h = SoundDownloadPoint d t e h
-SoundAction (Cancelled c) t e h = SoundCancelled c t e h
-SoundAction (Delivered n) t e h = SoundDelivery n t e h
-SoundAction (SentAgain n) t e h = SoundAgain n t e h
-SoundAction Confirmed t e h = SoundConfirmed t e h
-SoundAction Declined t e h = SoundReceipt t e h
+SoundAction (action.Upload a) t e h = SoundUploadAction a t e h
+SoundAction (action.Download a) t e h = SoundDownloadAction a t e h
 
--- an event by its kind
-abbrev pub SoundEvent : Event → Exchange → List Exchange → Type 0
-SoundEvent Unreadable e h = e .replyData ≡ []
-SoundEvent (Refusal c) e h = SoundRefusal c e
-SoundEvent (Of t k) e h = SoundAction k t e h
+-- a verdict by its kind
+abbrev pub SoundVerdict : Verdict → Exchange → List Exchange → Type 0
+SoundVerdict verdict.Unreadable e h = e .replyData ≡ []
+SoundVerdict (verdict.Refused c) e h = SoundRefusal c e
+SoundVerdict (verdict.Of t k) e h = SoundAction k t e h
 
--- an exchange behind the history h: its reply's fields are those of its event, and what its event says is so
+-- an exchange after the history h: its reply's fields are those of its verdict, and what its verdict says is so
 pub record Sound (e : Exchange) (h : List Exchange) : Type 0 where
-  pub reply : e .reply ≡ replyTo (e .event) (e .request)
-  pub event : SoundEvent (e .event) e h
+  pub reply : e .reply ≡ replyTo (e .verdict) (e .request)
+  pub verdict : SoundVerdict (e .verdict) e h
 
 -- every exchange of a history is sound
 pub data AllSound : List Exchange → Type 0 where

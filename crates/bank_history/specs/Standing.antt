@@ -17,9 +17,10 @@ use Rattle.bank_state.specs.Search.{isFree}
 use Rattle.bank_state.specs.State.{World, world, placeAt, downloadAt, withFiles}
 use Rattle.bank_state.specs.Store.{partAt}
 use Rattle.bank.specs.Call.{respond}
+use Rattle.bank_verdicts.specs.declared.verdict.DownloadAction.the-variants as down
+use Rattle.bank_verdicts.specs.declared.verdict.Action.the-variants as action
+use Rattle.bank_verdicts.specs.declared.verdict.Verdict.the-variants as verdict
 use Rattle.bank_history.specs.History.{
-  Of,
-  Confirmed,
   Exchange,
   mailboxFile,
   Past,
@@ -31,6 +32,7 @@ use Rattle.bank_history.specs.History.{
   times,
   received,
   openedBy,
+  numberAt,
   segmentsAt,
 }
 
@@ -52,7 +54,7 @@ pub record Order (w : World) (h : List Exchange) (t : Bits128) (i : ℕ) : Type 
   pub inside : i < placeCount
   pub used : placeAt (w .bank) i .used ≡ Booked
   pub same : placeAt (w .bank) i .transaction ≡ t
-  pub number : placeAt (w .bank) i .number ≡ t .low
+  pub number : placeAt (w .bank) i .number ≡ numberAt t h
   pub owner : placeAt (w .bank) i .subscriber ≡ openedBy t h
   pub long : placeAt (w .bank) i .length ≡ length (received t h)
   pub held : partAt (w .orders) i ≡ received t h ++ replicate (fileBytes - length (received t h)) 0
@@ -63,7 +65,7 @@ pub record Order (w : World) (h : List Exchange) (t : Bits128) (i : ℕ) : Type 
 -- "until a receipt of its subscriber is answered 011000, which alone empties it": the exchange e has emptied mailbox m of the bank w
 pub record Emptied (w : World) (m : ℕ) (e : Exchange) : Type 0 where
   pub id : Bits128
-  pub confirmed : e .event ≡ Of id Confirmed
+  pub confirmed : e .verdict ≡ verdict.Of id (action.Download down.Confirmed)
   pub owner : Names.subscriber (e .request) ≡ m
   pub empty : mailboxFile w m ≡ []
 
