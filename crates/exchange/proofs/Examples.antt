@@ -14,6 +14,7 @@ use Rattle.bank_state.specs.declared.state.Use.the-variants as uses
 use Rattle.bank_state.specs.State.{placeAt}
 use Rattle.client.specs.declared.run.Direction.the-variants.{Upload, Download}
 use Rattle.client.specs.declared.run.Stage.the-variants as stage
+use Rattle.client.specs.declared.run.Word.{Word}
 use Rattle.client.specs.declared.run.Word.the-variants.{Lodged, NotLodged, Unclear, Fetched}
 use Rattle.client.specs.Run.{notBegun}
 use Rattle.exchange.specs.Course.{noReply, Exchange, Course, start, callNumber, mailboxOf, heldOf}
@@ -89,7 +90,7 @@ fetching =
     puts 1 (66 ∷ 67 ∷ []) ∷ begin 0 Download 1 7 [] ∷ comes 0 1000 ∷ reaches 0 0 ∷ comes 0 1000 ∷ reaches 0 0 ∷ []
 
 abbrev twoSegments : List ℕ
-twoSegments = replicate 257 69
+twoSegments = replicate 257 68
 
 -- an upload of 257 bytes beside one of a second subscriber
 abbrev crossing : List Move
@@ -134,9 +135,9 @@ again =
 abbrev cancelled : List Move
 cancelled = (begin 0 Upload 1 7 twoSegments ∷ comes 0 1000 ∷ reaches 0 0 ∷ []) ++ replicate 7 (comes 0 1000) ++ (reaches 0 0 ∷ [])
 
--- segment 1 is taken, no reply comes, segment 2 is never issued
+-- the opening is accepted, no reply comes, no segment is ever issued
 abbrev unsent : List Move
-unsent = (begin 0 Upload 1 7 twoSegments ∷ comes 0 1000 ∷ reaches 0 0 ∷ comes 0 1000 ∷ []) ++ replicate 6 (silent 0)
+unsent = (begin 0 Upload 1 7 (65 ∷ []) ∷ comes 0 1000 ∷ []) ++ replicate 6 (silent 0)
 
 -- ---- what they compute to
 
@@ -148,35 +149,40 @@ codeNow s = at (s .exchanged)
     at [] = 0
     at (e ∷ l) = returnCode (readReply (e .reply))
 
+-- run 0 has closed with this word
+abbrev Ended : Word → Course → Type 0
+Ended w s = s .runs 0 .stage ≡ stage.Ended w
+
+-- the first place of the book
+abbrev InFirstPlace : Course → Type 0
+InFirstPlace s = placeAt (s .bank .bank) 0 .used ≡ uses.Booked
+
+-- run 0 holds this file
+abbrev Holds : List ℕ → Course → Type 0
+Holds file s = heldOf (s .runs 0) (s .files 0) ≡ file
+
 record Computed : Type 0 where
   lodging-met : isMet lodging start ≡ true
   lodging-in-turn : isInOrder 0 lodging start ≡ true
-  lodging-opening : Opening 0 (endOf lodging start)
-  lodging-books : placeAt (endOf lodging start .bank .bank) 0 .used ≡ uses.Booked
+  lodging-ends : let s = endOf lodging start in Opening 0 s × InFirstPlace s
   repeating-met : isMet repeating start ≡ true
   repeating-ends : codeNow (endOf repeating start) ≡ codeField code.UnknownTransaction
   losing-met : isMet losing start ≡ true
+  losing-ends : let s = endOf losing start in Ended Unclear s × InFirstPlace s
   -- the fourth call was the last before the first "no reply"
   no-reply-taken : callNumber (callOf (silent 0) (endOf segmentSent start)) ≡ 0
-  losing-ends : (endOf losing start .runs 0 .stage ≡ stage.Ended Unclear) ×
-      (placeAt (endOf losing start .bank .bank) 0 .used ≡ uses.Booked)
   fetching-met : isMet fetching start ≡ true
   fetching-in-turn : isInOrder 0 fetching start ≡ true
-  fetching-opening : Opening 0 (endOf fetching start)
-  fetching-ends : (heldOf (endOf fetching start .runs 0) (endOf fetching start .files 0) ≡ 66 ∷ 67 ∷ []) ×
-      (mailboxOf (endOf fetching start .bank) 1 ≡ [])
+  fetching-ends : let s = endOf fetching start in Opening 0 s × Holds (66 ∷ 67 ∷ []) s × (mailboxOf (s .bank) 1 ≡ [])
   crossing-met : isMet crossing start ≡ true
   crossing-in-turn : isInOrder 0 crossing start ≡ true
-  crossing-opening : Opening 0 (endOf crossing start)
-  crossing-ends : endOf crossing start .runs 0 .stage ≡ stage.Ended Lodged
+  crossing-ends : let s = endOf crossing start in Opening 0 s × Ended Lodged s
   again-met : isMet again start ≡ true
-  again-ends : (endOf again start .runs 0 .stage ≡ stage.Ended Fetched) ×
-      (heldOf (endOf again start .runs 0) (endOf again start .files 0) ≡ twoSegments)
+  again-ends : let s = endOf again start in Ended Fetched s × Holds twoSegments s
   cancelled-met : isMet cancelled start ≡ true
-  cancelled-ends : (codeNow (endOf cancelled start) ≡ codeField code.TransactionAbort) ×
-      (endOf cancelled start .runs 0 .stage ≡ stage.Ended NotLodged)
+  cancelled-ends : let s = endOf cancelled start in (codeNow s ≡ codeField code.TransactionAbort) × Ended NotLodged s
   unsent-met : isMet unsent start ≡ true
-  unsent-ends : endOf unsent start .runs 0 .stage ≡ stage.Ended NotLodged
+  unsent-ends : Ended NotLodged (endOf unsent start)
 
 computed : Computed
 unfolding frameBytes.numberFrom frameBytes.number frameBytes.bytesOf frameBytes.fieldBytes frameBytes.overwrite frameReader.fieldsOf
@@ -218,21 +224,21 @@ unfolding frameBytes.numberFrom frameBytes.number frameBytes.bytesOf frameBytes.
 computed = record {
   lodging-met = refl;
   lodging-in-turn = refl;
-  lodging-opening = record { exchange = _; given = there (here refl); own = refl; kind = inl refl; ok = refl };
-  lodging-books = refl;
+  lodging-ends = (record { exchange = _; given = there (here refl); own = refl; kind = inl refl; ok = refl }, refl);
   repeating-met = refl;
   repeating-ends = refl;
   losing-met = refl;
-  no-reply-taken = refl;
   losing-ends = (refl, refl);
+  no-reply-taken = refl;
   fetching-met = refl;
   fetching-in-turn = refl;
-  fetching-opening = record { exchange = _; given = there (here refl); own = refl; kind = inr refl; ok = refl };
-  fetching-ends = (refl, refl);
+  fetching-ends = (record { exchange = _; given = there (here refl); own = refl; kind = inr refl; ok = refl }, refl, refl);
   crossing-met = refl;
   crossing-in-turn = refl;
-  crossing-opening = record { exchange = _; given = there (there (there (there (here refl)))); own = refl; kind = inl refl; ok = refl };
-  crossing-ends = refl;
+  crossing-ends = (
+    record { exchange = _; given = there (there (there (there (here refl)))); own = refl; kind = inl refl; ok = refl },
+    refl,
+  );
   again-met = refl;
   again-ends = (refl, refl);
   cancelled-met = refl;
@@ -244,22 +250,22 @@ computed = record {
 -- ---- the theorem applied
 
 lodging-closed : Closed 0 (endOf lodging start)
-lodging-closed = closed lodging (computed .lodging-met) (computed .lodging-in-turn) (computed .lodging-opening)
+lodging-closed = closed lodging (computed .lodging-met) (computed .lodging-in-turn) (computed .lodging-ends .0)
 
 -- a call of "no reply" that is given no number is not in turn
 losing-not-in-turn : AllInTurn 0 (callsOf losing start) start → ⊥
 losing-not-in-turn h = h .2 .2 .2 .2 .1 (computed .no-reply-taken) refl
 
 fetching-closed : Closed 0 (endOf fetching start)
-fetching-closed = closed fetching (computed .fetching-met) (computed .fetching-in-turn) (computed .fetching-opening)
+fetching-closed = closed fetching (computed .fetching-met) (computed .fetching-in-turn) (computed .fetching-ends .0)
 
 crossing-closed : Closed 0 (endOf crossing start)
-crossing-closed = closed crossing (computed .crossing-met) (computed .crossing-in-turn) (computed .crossing-opening)
+crossing-closed = closed crossing (computed .crossing-met) (computed .crossing-in-turn) (computed .crossing-ends .0)
 
 -- and its order is in the book, with its bytes, under the number that the run names
 crossing-booked : (j : ℕ) × (o : Order) × InBook (endOf crossing start) j o × OrderOf (endOf crossing start) 0 o
 crossing-booked =
-    let o = outcome crossing (computed .crossing-met) .lodged 0 (computed .crossing-ends) .1 in
+    let o = outcome crossing (computed .crossing-met) .lodged 0 (computed .crossing-ends .1) .1 in
     (o .0, o .1, o .2, o .3)
 
 -- the whole file is the mailbox's at the opening, of which the run holds every byte
