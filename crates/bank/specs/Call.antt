@@ -8,6 +8,8 @@ use lib.ListN.{length, set, take}
 use Rattle.frame_table.specs.declared.fields.Fields.{Fields}
 use Rattle.frame_table.specs.declared.table.Form.{Form}
 use Rattle.frame_table.specs.declared.table.Form.the-variants as forms
+use Rattle.frame_table.specs.declared.table.RequestForm.{RequestForm}
+use Rattle.frame_table.specs.declared.table.RequestForm.the-variants as requests
 use Rattle.frame.specs.declared.writer.Written.{Written}
 use Rattle.frame.specs.declared.writer.Written.the-variants as written
 use Rattle.octets.specs.Bytes.{number}
@@ -126,21 +128,18 @@ transactionStep transfer r w q d =
 abbrev pub unread : World → Step
 unread w = record { world = w; reply = unreadable; replyData = [] }
 
--- a readable request by its form; the other forms are none of a request
+-- a readable request by its form
+abbrev pub byRequest : RequestForm → ℕ → World → Fields → List ℕ → Step
+byRequest requests.UploadOpening lent w q d = openingStep Upload lent w q
+byRequest requests.DownloadOpening lent w q d = openingStep Download lent w q
+byRequest requests.UploadTransfer lent w q d = transactionStep true asked.Other w q d
+byRequest requests.DownloadTransfer lent w q d = transactionStep false asked.Transfer w q d
+byRequest requests.Receipt lent w q d = transactionStep false asked.Receipt w q d
+
 abbrev pub byForm : Form → ℕ → World → Fields → List ℕ → Step
-byForm forms.UploadOpening lent w q d = openingStep Upload lent w q
-byForm forms.DownloadOpening lent w q d = openingStep Download lent w q
-byForm forms.UploadTransfer lent w q d = transactionStep true asked.Other w q d
-byForm forms.DownloadTransfer lent w q d = transactionStep false asked.Transfer w q d
-byForm forms.Receipt lent w q d = transactionStep false asked.Receipt w q d
 byForm forms.NoForm lent w q d = unread w
-byForm forms.UploadOpened lent w q d = unread w
-byForm forms.DownloadOpened lent w q d = unread w
-byForm forms.SegmentTaken lent w q d = unread w
-byForm forms.DownloadSegment lent w q d = unread w
-byForm forms.ReceiptAnswered lent w q d = unread w
-byForm forms.Unreadable lent w q d = unread w
-byForm forms.Refusal lent w q d = unread w
+byForm (forms.Request x) lent w q d = byRequest x lent w q d
+byForm (forms.Reply x) lent w q d = unread w
 
 abbrev pub byVerdict : RequestVerdict → ℕ → World → Fields → List ℕ → Step
 byVerdict (Refuse c) lent w q d = refused w q c

@@ -10,7 +10,10 @@ use lib.ListN.{length}
 use borrow.Author.Tests.{ltb-true, ltb-false}
 use Rattle.frame_table.specs.declared.fields.Fields.{Fields}
 use Rattle.frame_table.specs.declared.table.Form.{Form}
-use Rattle.frame_table.specs.declared.table.Form.the-variants as forms
+use Rattle.frame_table.specs.declared.table.Form.the-variants.{NoForm, Request, Reply}
+use Rattle.frame_table.specs.declared.table.RequestForm.{RequestForm}
+use Rattle.frame_table.specs.declared.table.RequestForm.the-variants as requests
+use Rattle.frame_table.specs.Forms as forms
 use Rattle.frame_table.specs.Names.{subscriber, transaction, segments, segment, form}
 use Rattle.frame_table.specs.Table.{isRequestForm}
 use Rattle.octets.proofs.Tests.{or-neither}
@@ -46,6 +49,7 @@ use Rattle.bank.specs.Call.{
   downloadsAfter,
   downloadStepAt,
   transactionStep,
+  byRequest,
   byForm,
   byVerdict,
   respond,
@@ -63,6 +67,7 @@ use Rattle.bank_history.specs.History.{
   downloadAction,
   openingEvent,
   transactionEvent,
+  eventByRequest,
   eventByForm,
   eventByVerdict,
   eventOf,
@@ -187,21 +192,18 @@ module _ (lent : ℕ) (w : World) (q : Fields) (d : List ℕ) (rowed : length (w
   download-happens f a (refuse _ c e) = refusal c e
   download-happens f a (download g n) = opensDownload f a g n
 
-  form-happens : (f : Form) → form q ≡ f → Admitted q d → Comes (eventByForm f lent w q d) (byForm f lent w q d)
+  request-happens : (x : RequestForm) → form q ≡ Request x → Admitted q d → Comes (eventByRequest x lent w q d) (byRequest x lent w q d)
   unfolding openingStep opened
-  form-happens forms.UploadOpening e a = upload-happens e a (judged-opening (w .bank) q way.Upload)
-  form-happens forms.DownloadOpening e a = download-happens e a (judged-opening (w .bank) q way.Download)
-  form-happens forms.UploadTransfer e a = transaction-happens true asked.Other a (uploadTransfer e)
-  form-happens forms.DownloadTransfer e a = transaction-happens false asked.Transfer a (downloadTransfer e)
-  form-happens forms.Receipt e a = transaction-happens false asked.Receipt a (receipt e)
-  form-happens forms.NoForm e a = unreadable
-  form-happens forms.UploadOpened e a = unreadable
-  form-happens forms.DownloadOpened e a = unreadable
-  form-happens forms.SegmentTaken e a = unreadable
-  form-happens forms.DownloadSegment e a = unreadable
-  form-happens forms.ReceiptAnswered e a = unreadable
-  form-happens forms.Unreadable e a = unreadable
-  form-happens forms.Refusal e a = unreadable
+  request-happens requests.UploadOpening e a = upload-happens e a (judged-opening (w .bank) q way.Upload)
+  request-happens requests.DownloadOpening e a = download-happens e a (judged-opening (w .bank) q way.Download)
+  request-happens requests.UploadTransfer e a = transaction-happens true asked.Other a (uploadTransfer e)
+  request-happens requests.DownloadTransfer e a = transaction-happens false asked.Transfer a (downloadTransfer e)
+  request-happens requests.Receipt e a = transaction-happens false asked.Receipt a (receipt e)
+
+  form-happens : (f : Form) → form q ≡ f → Admitted q d → Comes (eventByForm f lent w q d) (byForm f lent w q d)
+  form-happens NoForm e a = unreadable
+  form-happens (Request x) e a = request-happens x e a
+  form-happens (Reply x) e a = unreadable
 
   verdict-happens : Comes (eventByVerdict (decide (requestRefusals q d) request.Proceed) lent w q d)
       (byVerdict (decide (requestRefusals q d) request.Proceed) lent w q d)

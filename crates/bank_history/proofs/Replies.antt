@@ -6,7 +6,10 @@ use mathlib.Core.Path.{_≡_, refl, ap, _∙_, subst}
 use Rattle.frame_table.specs.declared.fields.Bits128.{Bits128}
 use Rattle.frame_table.specs.declared.fields.Fields.{Fields}
 use Rattle.frame_table.specs.declared.table.Form.{Form}
-use Rattle.frame_table.specs.declared.table.Form.the-variants as forms
+use Rattle.frame_table.specs.declared.table.Form.the-variants.{NoForm, Request, Reply}
+use Rattle.frame_table.specs.declared.table.ReplyForm.{ReplyForm}
+use Rattle.frame_table.specs.declared.table.ReplyForm.the-variants as replies
+use Rattle.frame_table.specs.Forms as forms
 use Rattle.frame_table.specs.Names.{exchange, transaction, returnCode, form}
 use Rattle.frame_table.specs.Table.{isReplyForm, rowFits, findForm, formOf}
 use Rattle.frame.proofs.RoundTrip.{Sized}
@@ -151,20 +154,19 @@ event-exchange (Of t k) q n = action-reply t q k .same-exchange
 -- ---- the event back from the reply's form
 
 -- which actions are answered in this form
+abbrev pub ActionOfReply : ReplyForm → Action → Type 0
+ActionOfReply replies.UploadOpened k = k ≡ OpenedUpload
+ActionOfReply replies.DownloadOpened k = (n : ℕ) × (k ≡ OpenedDownload n)
+ActionOfReply replies.SegmentTaken k = ((k ≡ Took) ⊎ (k ≡ TookLast)) ⊎ (((n : ℕ) × (k ≡ UploadPoint n)) ⊎ ((d : ℕ) × (k ≡ DownloadPoint d)))
+ActionOfReply replies.DownloadSegment k = ((n : ℕ) × (k ≡ Delivered n)) ⊎ ((n : ℕ) × (k ≡ SentAgain n))
+ActionOfReply replies.ReceiptAnswered k = (k ≡ Confirmed) ⊎ (k ≡ Declined)
+ActionOfReply replies.Refusal k = (c : ReturnCode) × (k ≡ Cancelled c)
+ActionOfReply replies.Unreadable k = ⊥
+
 abbrev pub ActionOf : Form → Action → Type 0
-ActionOf forms.UploadOpened k = k ≡ OpenedUpload
-ActionOf forms.DownloadOpened k = (n : ℕ) × (k ≡ OpenedDownload n)
-ActionOf forms.SegmentTaken k = ((k ≡ Took) ⊎ (k ≡ TookLast)) ⊎ (((n : ℕ) × (k ≡ UploadPoint n)) ⊎ ((d : ℕ) × (k ≡ DownloadPoint d)))
-ActionOf forms.DownloadSegment k = ((n : ℕ) × (k ≡ Delivered n)) ⊎ ((n : ℕ) × (k ≡ SentAgain n))
-ActionOf forms.ReceiptAnswered k = (k ≡ Confirmed) ⊎ (k ≡ Declined)
-ActionOf forms.Refusal k = (c : ReturnCode) × (k ≡ Cancelled c)
-ActionOf forms.NoForm k = ⊥
-ActionOf forms.UploadOpening k = ⊥
-ActionOf forms.DownloadOpening k = ⊥
-ActionOf forms.UploadTransfer k = ⊥
-ActionOf forms.DownloadTransfer k = ⊥
-ActionOf forms.Receipt k = ⊥
-ActionOf forms.Unreadable k = ⊥
+ActionOf NoForm k = ⊥
+ActionOf (Request x) k = ⊥
+ActionOf (Reply x) k = ActionOfReply x k
 
 pub action-of : (k : Action) → ActionOf (actionForm k) k
 action-of OpenedUpload = refl
@@ -187,20 +189,19 @@ pub record IsAction (v : Event) (f : Form) : Type 0 where
   pub kind : ActionOf f action
 
 -- the forms that only an action is answered in
+abbrev pub replyOfAction : ReplyForm → Bool
+replyOfAction replies.UploadOpened = true
+replyOfAction replies.DownloadOpened = true
+replyOfAction replies.SegmentTaken = true
+replyOfAction replies.DownloadSegment = true
+replyOfAction replies.ReceiptAnswered = true
+replyOfAction replies.Refusal = false
+replyOfAction replies.Unreadable = false
+
 abbrev pub ofAction : Form → Bool
-ofAction forms.UploadOpened = true
-ofAction forms.DownloadOpened = true
-ofAction forms.SegmentTaken = true
-ofAction forms.DownloadSegment = true
-ofAction forms.ReceiptAnswered = true
-ofAction forms.Refusal = false
-ofAction forms.NoForm = false
-ofAction forms.UploadOpening = false
-ofAction forms.DownloadOpening = false
-ofAction forms.UploadTransfer = false
-ofAction forms.DownloadTransfer = false
-ofAction forms.Receipt = false
-ofAction forms.Unreadable = false
+ofAction NoForm = false
+ofAction (Request x) = false
+ofAction (Reply x) = replyOfAction x
 
 pub is-action : (v : Event) (f : Form) → eventForm v ≡ f → ofAction f ≡ true → IsAction v f
 is-action Unreadable f e d = never (ap ofAction e ∙ d)

@@ -8,7 +8,9 @@ use lib.ListN.{length, replicate}
 use Rattle.frame_table.specs.declared.fields.Bits128.{Bits128}
 use Rattle.frame_table.specs.declared.fields.Fields.{Fields}
 use Rattle.frame_table.specs.declared.table.Form.{Form}
-use Rattle.frame_table.specs.declared.table.Form.the-variants as forms
+use Rattle.frame_table.specs.declared.table.Form.the-variants.{NoForm, Request, Reply}
+use Rattle.frame_table.specs.declared.table.RequestForm.{RequestForm}
+use Rattle.frame_table.specs.declared.table.RequestForm.the-variants as requests
 use Rattle.octets.specs.Bytes.{number}
 use Rattle.frame_table.specs.Names.{
   phase,
@@ -133,20 +135,17 @@ transactionEvent transfer r w q d =
     (cond (ltb j placeCount) (Of (e .transaction) (downloadAction (judgeDownload r e n q) e n)) (Refusal code.UnknownTransaction))
 
 -- the event of a readable request, by its form
+abbrev pub eventByRequest : RequestForm → ℕ → World → Fields → List ℕ → Event
+eventByRequest requests.UploadOpening lent w q d = openingEvent (judgeOpening (w .bank) way.Upload q) way.Upload lent (w .bank) q
+eventByRequest requests.DownloadOpening lent w q d = openingEvent (judgeOpening (w .bank) way.Download q) way.Download lent (w .bank) q
+eventByRequest requests.UploadTransfer lent w q d = transactionEvent true asked.Other w q d
+eventByRequest requests.DownloadTransfer lent w q d = transactionEvent false asked.Transfer w q d
+eventByRequest requests.Receipt lent w q d = transactionEvent false asked.Receipt w q d
+
 abbrev pub eventByForm : Form → ℕ → World → Fields → List ℕ → Event
-eventByForm forms.UploadOpening lent w q d = openingEvent (judgeOpening (w .bank) way.Upload q) way.Upload lent (w .bank) q
-eventByForm forms.DownloadOpening lent w q d = openingEvent (judgeOpening (w .bank) way.Download q) way.Download lent (w .bank) q
-eventByForm forms.UploadTransfer lent w q d = transactionEvent true asked.Other w q d
-eventByForm forms.DownloadTransfer lent w q d = transactionEvent false asked.Transfer w q d
-eventByForm forms.Receipt lent w q d = transactionEvent false asked.Receipt w q d
-eventByForm forms.NoForm lent w q d = Unreadable
-eventByForm forms.UploadOpened lent w q d = Unreadable
-eventByForm forms.DownloadOpened lent w q d = Unreadable
-eventByForm forms.SegmentTaken lent w q d = Unreadable
-eventByForm forms.DownloadSegment lent w q d = Unreadable
-eventByForm forms.ReceiptAnswered lent w q d = Unreadable
-eventByForm forms.Unreadable lent w q d = Unreadable
-eventByForm forms.Refusal lent w q d = Unreadable
+eventByForm NoForm lent w q d = Unreadable
+eventByForm (Request x) lent w q d = eventByRequest x lent w q d
+eventByForm (Reply x) lent w q d = Unreadable
 
 abbrev pub eventByVerdict : RequestVerdict → ℕ → World → Fields → List ℕ → Event
 eventByVerdict (request.Refuse c) lent w q d = Refusal c
