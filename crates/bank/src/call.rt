@@ -27,6 +27,7 @@ use frame::writer::Written;
 use frame::writer::write;
 use frame_table::fields::Fields;
 use frame_table::table::Form;
+use frame_table::table::RequestForm;
 use frame_table::table::is_reply_form;
 use frame_table::table::is_request_form;
 use message::codes::ReturnCode;
@@ -51,7 +52,7 @@ ghost use Rattle.bank_state.specs.State.{world, withDownload};
 ghost use Rattle.bank.specs.declared.call.RequestVerdict.the-variants.{Proceed};
 ghost use Rattle.bank.specs.Call.{refused, unread, mailboxSegment, requestRefusals, openingStep, uploadStepAt};
 ghost use Rattle.bank.specs.Call.{without, emptied, downloadsAfter, downloadStepAt, transactionStep};
-ghost use Rattle.bank.specs.Call.{byForm, respond, codeIn, SentAs, frameCallOf, replied, frameCall, Ready};
+ghost use Rattle.bank.specs.Call.{byRequest, byForm, respond, codeIn, SentAs, frameCallOf, replied, frameCall, Ready};
 
 // The reply's length in the lent buffer, or document 01's number 1.
 pub enum FrameAnswer {
@@ -327,6 +328,63 @@ fn transaction_step(
 }
 
 // A readable request of a subscriber, by its form.
+fn by_request(
+    b: Bank,
+    form: RequestForm,
+    lent: u64,
+    q: Fields,
+    bytes: &[u8],
+    orders: &mut [u8],
+    boxes: &mut [u8],
+    buffer: &mut [u8],
+) -> FrameOut
+    requires { ⌜ Ready q (now orders) (now boxes) ⌝ }
+    ensures { λ r. ⌜ frameCallOf r (now (orders .exit)) (now (boxes .exit)) (now (buffer .exit)) ≡ replied (byRequest form lent (world b (now (orders .entry)) (now (boxes .entry))) q (now (bytes .entry))) (now (buffer .entry)) ⌝ }
+{
+    match form {
+        RequestForm::UploadOpening => opening_step(b, Direction::Upload, lent, q, boxes, buffer),
+        RequestForm::DownloadOpening => opening_step(
+            b,
+            Direction::Download,
+            lent,
+            q,
+            boxes,
+            buffer,
+        ),
+        RequestForm::UploadTransfer => transaction_step(
+            b,
+            true,
+            DownloadRequest::Other,
+            q,
+            bytes,
+            orders,
+            boxes,
+            buffer,
+        ),
+        RequestForm::DownloadTransfer => transaction_step(
+            b,
+            false,
+            DownloadRequest::Transfer,
+            q,
+            bytes,
+            orders,
+            boxes,
+            buffer,
+        ),
+        RequestForm::Receipt => transaction_step(
+            b,
+            false,
+            DownloadRequest::Receipt,
+            q,
+            bytes,
+            orders,
+            boxes,
+            buffer,
+        ),
+    }
+}
+
+// Frames that are no request are unreadable.
 fn by_form(
     b: Bank,
     lent: u64,
@@ -341,39 +399,9 @@ fn by_form(
 {
     let form = q.form();
     match form {
-        Form::UploadOpening => opening_step(b, Direction::Upload, lent, q, boxes, buffer),
-        Form::DownloadOpening => opening_step(b, Direction::Download, lent, q, boxes, buffer),
-        Form::UploadTransfer => transaction_step(
-            b,
-            true,
-            DownloadRequest::Other,
-            q,
-            bytes,
-            orders,
-            boxes,
-            buffer,
-        ),
-        Form::DownloadTransfer => transaction_step(
-            b,
-            false,
-            DownloadRequest::Transfer,
-            q,
-            bytes,
-            orders,
-            boxes,
-            buffer,
-        ),
-        Form::Receipt => transaction_step(
-            b,
-            false,
-            DownloadRequest::Receipt,
-            q,
-            bytes,
-            orders,
-            boxes,
-            buffer,
-        ),
-        _ => unread(b, buffer),
+        Form::NoForm => unread(b, buffer),
+        Form::Request(x) => by_request(b, x, lent, q, bytes, orders, boxes, buffer),
+        Form::Reply(_) => unread(b, buffer),
     }
 }
 

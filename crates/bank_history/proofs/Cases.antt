@@ -11,7 +11,10 @@ use borrow.Author.Tests.{ltb-true, ltb-false, leb-false, le-leb}
 use Rattle.frame_table.specs.declared.fields.Bits128.{Bits128}
 use Rattle.frame_table.specs.declared.fields.Fields.{Fields}
 use Rattle.frame_table.specs.declared.table.Form.{Form}
-use Rattle.frame_table.specs.declared.table.Form.the-variants as forms
+use Rattle.frame_table.specs.declared.table.Form.the-variants.{NoForm, Request, Reply}
+use Rattle.frame_table.specs.declared.table.RequestForm.{RequestForm}
+use Rattle.frame_table.specs.declared.table.RequestForm.the-variants as requests
+use Rattle.frame_table.specs.Forms as forms
 use Rattle.frame_table.specs.Names.{subscriber, transaction, segments, form}
 use Rattle.message.specs.declared.codes.ReturnCode.{ReturnCode}
 use Rattle.message.specs.declared.codes.ReturnCode.the-variants as code
@@ -40,6 +43,7 @@ use Rattle.bank_verdicts.specs.Judgement.{
   downloadOf,
   judgeOpen,
   judgeTransaction,
+  judgeRequest,
   judgeForm,
   judge,
 }
@@ -201,20 +205,17 @@ module _ (first : ℕ) (w : World) (q : Fields) (d : List ℕ) (rowed : length (
   download-happens f a (opening.refused d c e) = refused c e
   download-happens f a (opening.download g n) = opensDownload f a g n
 
+  request-happens : (x : RequestForm) → form q ≡ Request x → Readable q (length d) → Comes (judgeRequest x first (w .bank) q (length d))
+  request-happens requests.UploadOpening e a = upload-happens e a (judged-opening first (w .bank) q direction.Upload)
+  request-happens requests.DownloadOpening e a = download-happens e a (judged-opening first (w .bank) q direction.Download)
+  request-happens requests.UploadTransfer e a = transaction-happens asked.UploadTransfer a e
+  request-happens requests.DownloadTransfer e a = transaction-happens asked.DownloadTransfer a e
+  request-happens requests.Receipt e a = transaction-happens asked.Receipt a e
+
   form-happens : (f : Form) → form q ≡ f → Readable q (length d) → Comes (judgeForm f first (w .bank) q (length d))
-  form-happens forms.UploadOpening e a = upload-happens e a (judged-opening first (w .bank) q direction.Upload)
-  form-happens forms.DownloadOpening e a = download-happens e a (judged-opening first (w .bank) q direction.Download)
-  form-happens forms.UploadTransfer e a = transaction-happens asked.UploadTransfer a e
-  form-happens forms.DownloadTransfer e a = transaction-happens asked.DownloadTransfer a e
-  form-happens forms.Receipt e a = transaction-happens asked.Receipt a e
-  form-happens forms.NoForm e a = unreadable
-  form-happens forms.UploadOpened e a = unreadable
-  form-happens forms.DownloadOpened e a = unreadable
-  form-happens forms.SegmentTaken e a = unreadable
-  form-happens forms.DownloadSegment e a = unreadable
-  form-happens forms.ReceiptAnswered e a = unreadable
-  form-happens forms.Unreadable e a = unreadable
-  form-happens forms.Refusal e a = unreadable
+  form-happens NoForm e a = unreadable
+  form-happens (Request x) e a = request-happens x e a
+  form-happens (Reply x) e a = unreadable
 
   -- every request comes to one of these cases
   pub happens : Happens first w q d (judge first (w .bank) q (length d))

@@ -11,7 +11,7 @@ use lib.Seq.{getD-set-same}
 use borrow.Author.Tests.{eq-eqb, le-ltb, le-leb, lt-leb}
 use Rattle.frame_table.specs.declared.fields.Bits128.{Bits128}
 use Rattle.frame_table.specs.declared.fields.Fields.{Fields}
-use Rattle.frame_table.specs.declared.table.Form.the-variants as forms
+use Rattle.frame_table.specs.Forms as forms
 use Rattle.frame_table.specs.Names.{subscriber, transaction, segment, receiptCode, form, sameBits}
 use Rattle.frame_table.specs.Table.{isRequestForm}
 use Rattle.octets.proofs.Tests.{never}

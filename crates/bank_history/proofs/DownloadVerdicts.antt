@@ -11,7 +11,7 @@ use borrow.Author.Tests.{eq-eqb, eqb-false, not-true}
 use lib.Dec.{eqb}
 use Rattle.octets.proofs.Tests.{never, and-true}
 use Rattle.frame_table.specs.declared.fields.Fields.{Fields}
-use Rattle.frame_table.specs.declared.table.Form.the-variants as forms
+use Rattle.frame_table.specs.Forms as forms
 use Rattle.frame_table.specs.Names.{subscriber, transaction, segment, receiptCode, form}
 use Rattle.frame_table.proofs.Bits.{bits-same}
 use Rattle.message.specs.Limits.{attemptsMost}

@@ -11,7 +11,7 @@ use borrow.Author.Tests.{eqb-true}
 use Rattle.frame_table.specs.declared.fields.Bits128.{Bits128}
 use Rattle.frame_table.specs.declared.fields.Fields.{Fields}
 use Rattle.frame_table.specs.declared.table.Form.{Form}
-use Rattle.frame_table.specs.declared.table.Form.the-variants as forms
+use Rattle.frame_table.specs.Forms as forms
 use Rattle.frame_table.specs.Names.{subscriber, nonce, timestamp, segments, form}
 use Rattle.octets.proofs.Tests.{never, and-true}
 use Rattle.message.specs.Limits.{fileBytes}

@@ -7,14 +7,14 @@ use native.Mathlib.Omega.{arith}
 use lib.Dec.{leb, eqb}
 use lib.ListN.{length, getD}
 use Rattle.frame_table.specs.declared.fields.Fields.{Fields}
-use Rattle.frame_table.specs.declared.table.Form.the-variants as forms
+use Rattle.frame_table.specs.Forms as forms
 use Rattle.frame_table.specs.Names.{phase, form}
 use Rattle.frame.specs.Reader.{fieldsOf, parse, readRequest}
 use Rattle.frame_table.specs.Names.{noFields}
 use Rattle.frame.specs.Row.{contents, behind, dataOf, present, presentTags}
-use Rattle.frame_table.specs.Table.{tagCount, frameLimit, dataTag, rowFits, findForm, formOf, isRequestForm, isForm}
+use Rattle.frame_table.specs.Table.{tagCount, frameLimit, dataTag, tagsOf, rowFits, findForm, formOf, isRequestForm, isForm}
 use Rattle.octets.proofs.Tests.{never}
-use Rattle.frame_table.proofs.Forms.{tagsOf, form-tags}
+use Rattle.frame_table.proofs.Forms.{form-tags}
 use Rattle.frame.proofs.Theorems.{request-parsed}
 use Rattle.message.proofs.Verdicts.{by-test}
 

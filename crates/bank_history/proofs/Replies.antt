@@ -6,7 +6,10 @@ use mathlib.Core.Path.{_≡_, refl, ap, _∙_, subst}
 use Rattle.frame_table.specs.declared.fields.Bits128.{Bits128}
 use Rattle.frame_table.specs.declared.fields.Fields.{Fields}
 use Rattle.frame_table.specs.declared.table.Form.{Form}
-use Rattle.frame_table.specs.declared.table.Form.the-variants as forms
+use Rattle.frame_table.specs.declared.table.Form.the-variants.{NoForm, Request, Reply}
+use Rattle.frame_table.specs.declared.table.ReplyForm.{ReplyForm}
+use Rattle.frame_table.specs.declared.table.ReplyForm.the-variants as replies
+use Rattle.frame_table.specs.Forms as forms
 use Rattle.frame_table.specs.Names.{exchange, transaction, returnCode, form}
 use Rattle.frame_table.specs.Table.{isReplyForm, rowFits, findForm, formOf}
 use Rattle.frame.proofs.RoundTrip.{Sized}
@@ -171,23 +174,22 @@ verdict-exchange (verdict.Of t k) q n = action-reply t q k .same-exchange
 -- ---- the verdict back from the reply's form
 
 -- which actions are answered in this form
-abbrev pub ActionOf : Form → Action → Type 0
-ActionOf forms.UploadOpened k = (n : ℕ) × (k ≡ action.Upload (up.Opened n))
-ActionOf forms.DownloadOpened k = (n : ℕ) × (k ≡ action.Download (down.Opened n))
-ActionOf forms.SegmentTaken k =
+abbrev pub ActionOfReply : ReplyForm → Action → Type 0
+ActionOfReply replies.UploadOpened k = (n : ℕ) × (k ≡ action.Upload (up.Opened n))
+ActionOfReply replies.DownloadOpened k = (n : ℕ) × (k ≡ action.Download (down.Opened n))
+ActionOfReply replies.SegmentTaken k =
     ((k ≡ action.Upload up.Took) ⊎ (k ≡ action.Upload up.TookLast))
     ⊎ (((n : ℕ) × (k ≡ action.Upload (up.Point n))) ⊎ ((d : ℕ) × (k ≡ action.Download (down.Point d))))
-ActionOf forms.DownloadSegment k =
+ActionOfReply replies.DownloadSegment k =
     ((n : ℕ) × (k ≡ action.Download (down.Delivered n))) ⊎ ((n : ℕ) × (k ≡ action.Download (down.SentAgain n)))
-ActionOf forms.ReceiptAnswered k = (k ≡ action.Download down.Confirmed) ⊎ (k ≡ action.Download down.Declined)
-ActionOf forms.Refusal k = ((c : ReturnCode) × (k ≡ action.Upload (up.Cancelled c))) ⊎ (k ≡ action.Download down.Cancelled)
-ActionOf forms.NoForm k = ⊥
-ActionOf forms.UploadOpening k = ⊥
-ActionOf forms.DownloadOpening k = ⊥
-ActionOf forms.UploadTransfer k = ⊥
-ActionOf forms.DownloadTransfer k = ⊥
-ActionOf forms.Receipt k = ⊥
-ActionOf forms.Unreadable k = ⊥
+ActionOfReply replies.ReceiptAnswered k = (k ≡ action.Download down.Confirmed) ⊎ (k ≡ action.Download down.Declined)
+ActionOfReply replies.Refusal k = ((c : ReturnCode) × (k ≡ action.Upload (up.Cancelled c))) ⊎ (k ≡ action.Download down.Cancelled)
+ActionOfReply replies.Unreadable k = ⊥
+
+abbrev pub ActionOf : Form → Action → Type 0
+ActionOf NoForm k = ⊥
+ActionOf (Request x) k = ⊥
+ActionOf (Reply x) k = ActionOfReply x k
 
 upload-of : (a : UploadAction) → ActionOf (uploadForm a) (action.Upload a)
 upload-of (up.Opened n) = (n, refl)
@@ -217,20 +219,19 @@ pub record IsAction (v : Verdict) (f : Form) : Type 0 where
   pub kind : ActionOf f action
 
 -- the forms that only an action is answered in
+abbrev pub replyOfAction : ReplyForm → Bool
+replyOfAction replies.UploadOpened = true
+replyOfAction replies.DownloadOpened = true
+replyOfAction replies.SegmentTaken = true
+replyOfAction replies.DownloadSegment = true
+replyOfAction replies.ReceiptAnswered = true
+replyOfAction replies.Refusal = false
+replyOfAction replies.Unreadable = false
+
 abbrev pub ofAction : Form → Bool
-ofAction forms.UploadOpened = true
-ofAction forms.DownloadOpened = true
-ofAction forms.SegmentTaken = true
-ofAction forms.DownloadSegment = true
-ofAction forms.ReceiptAnswered = true
-ofAction forms.Refusal = false
-ofAction forms.NoForm = false
-ofAction forms.UploadOpening = false
-ofAction forms.DownloadOpening = false
-ofAction forms.UploadTransfer = false
-ofAction forms.DownloadTransfer = false
-ofAction forms.Receipt = false
-ofAction forms.Unreadable = false
+ofAction NoForm = false
+ofAction (Request x) = false
+ofAction (Reply x) = replyOfAction x
 
 pub is-action : (v : Verdict) (f : Form) → verdictForm v ≡ f → ofAction f ≡ true → IsAction v f
 is-action verdict.Unreadable f e d = never (ap ofAction e ∙ d)

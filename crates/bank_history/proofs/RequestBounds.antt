@@ -10,7 +10,10 @@ use lib.Dec.{leb, eqb}
 use lib.ListN.{length, getD}
 use Rattle.frame_table.specs.declared.fields.Fields.{Fields}
 use Rattle.frame_table.specs.declared.table.Form.{Form}
-use Rattle.frame_table.specs.declared.table.Form.the-variants as forms
+use Rattle.frame_table.specs.declared.table.Form.the-variants.{NoForm, Request, Reply}
+use Rattle.frame_table.specs.declared.table.RequestForm.{RequestForm}
+use Rattle.frame_table.specs.declared.table.RequestForm.the-variants as requests
+use Rattle.frame_table.specs.Forms as forms
 use Rattle.octets.specs.Bytes.{Bytes, number}
 use Rattle.frame_table.specs.Names.{phase, exchange, transaction, form, noFields}
 use Rattle.frame.specs.Reader.{fieldsOf, parse, readRequest}
@@ -26,7 +29,7 @@ use Rattle.frame_table.specs.Table.{
   isRequestForm,
 }
 use Rattle.octets.proofs.Tests.{never}
-use Rattle.frame_table.proofs.Forms.{tagsOf, phaseOf, form-tags, request-phase, request-form}
+use Rattle.frame_table.proofs.Forms.{phaseOf, form-tags, request-phase, request-form}
 use Rattle.frame.proofs.Build.{numberOf, read-value}
 use Rattle.frame.proofs.Theorems.{request-parsed}
 use Rattle.message.proofs.Writable.{Wide}
@@ -68,35 +71,29 @@ high-lt high low small n = subst (λ (x : ℕ). x < 2 ^ 64) (digits-div high sma
 
 -- ---- the forms of requests
 
+request-has-exchange : (x : RequestForm) → has (requestRow x .1) exchangeTag ≡ true
+request-has-exchange requests.UploadOpening = refl
+request-has-exchange requests.DownloadOpening = refl
+request-has-exchange requests.UploadTransfer = refl
+request-has-exchange requests.DownloadTransfer = refl
+request-has-exchange requests.Receipt = refl
+
 has-exchange : (x : Form) → isRequestForm x ≡ true → has (tagsOf x) exchangeTag ≡ true
-has-exchange forms.UploadOpening h = refl
-has-exchange forms.DownloadOpening h = refl
-has-exchange forms.UploadTransfer h = refl
-has-exchange forms.DownloadTransfer h = refl
-has-exchange forms.Receipt h = refl
-has-exchange forms.NoForm h = never h
-has-exchange forms.UploadOpened h = never h
-has-exchange forms.DownloadOpened h = never h
-has-exchange forms.SegmentTaken h = never h
-has-exchange forms.DownloadSegment h = never h
-has-exchange forms.ReceiptAnswered h = never h
-has-exchange forms.Unreadable h = never h
-has-exchange forms.Refusal h = never h
+has-exchange NoForm h = never h
+has-exchange (Request x) h = request-has-exchange x
+has-exchange (Reply x) h = never h
+
+request-phase-range : (x : RequestForm) → (1 ≤ requestRow x .0) × (requestRow x .0 ≤ 3)
+request-phase-range requests.UploadOpening = (omega arith, omega arith)
+request-phase-range requests.DownloadOpening = (omega arith, omega arith)
+request-phase-range requests.UploadTransfer = (omega arith, omega arith)
+request-phase-range requests.DownloadTransfer = (omega arith, omega arith)
+request-phase-range requests.Receipt = (omega arith, omega arith)
 
 phase-range : (x : Form) → isRequestForm x ≡ true → (1 ≤ phaseOf x) × (phaseOf x ≤ 3)
-phase-range forms.UploadOpening h = (omega arith, omega arith)
-phase-range forms.DownloadOpening h = (omega arith, omega arith)
-phase-range forms.UploadTransfer h = (omega arith, omega arith)
-phase-range forms.DownloadTransfer h = (omega arith, omega arith)
-phase-range forms.Receipt h = (omega arith, omega arith)
-phase-range forms.NoForm h = never h
-phase-range forms.UploadOpened h = never h
-phase-range forms.DownloadOpened h = never h
-phase-range forms.SegmentTaken h = never h
-phase-range forms.DownloadSegment h = never h
-phase-range forms.ReceiptAnswered h = never h
-phase-range forms.Unreadable h = never h
-phase-range forms.Refusal h = never h
+phase-range NoForm h = never h
+phase-range (Request x) h = request-phase-range x
+phase-range (Reply x) h = never h
 
 -- ---- a request of a frame of bytes
 

@@ -11,7 +11,7 @@ use lib.ListN.{length, getD, set, replicate, length-replicate}
 use lib.Seq.{getD-set-same, getD-set-other}
 use Rattle.frame_table.specs.declared.fields.Bits128.{Bits128}
 use Rattle.frame_table.specs.declared.fields.Fields.{Fields}
-use Rattle.frame_table.specs.declared.table.Form.the-variants as forms
+use Rattle.frame_table.specs.Forms as forms
 use Rattle.octets.specs.Bytes.{overwrite}
 use Rattle.frame_table.specs.Names.{subscriber, transaction, segment, lastMark, form}
 use Rattle.octets.proofs.Numbers.{length-overwrite}

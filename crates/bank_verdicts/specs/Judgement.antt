@@ -6,7 +6,9 @@ use lib.Dec.{ltb, eqb}
 use Rattle.frame_table.specs.declared.fields.Bits128.{Bits128}
 use Rattle.frame_table.specs.declared.fields.Fields.{Fields}
 use Rattle.frame_table.specs.declared.table.Form.{Form}
-use Rattle.frame_table.specs.declared.table.Form.the-variants as forms
+use Rattle.frame_table.specs.declared.table.Form.the-variants.{NoForm, Request, Reply}
+use Rattle.frame_table.specs.declared.table.RequestForm.{RequestForm}
+use Rattle.frame_table.specs.declared.table.RequestForm.the-variants as requests
 use Rattle.frame_table.specs.Names.{subscriber, transaction, form}
 use Rattle.message.specs.declared.codes.ReturnCode.{ReturnCode}
 use Rattle.message.specs.Codes.{codeValue}
@@ -90,21 +92,18 @@ judgeOpen r b q n =
 unfoldable pub judgeTransaction : TransactionRequest → Bank → Fields → ℕ → Verdict
 judgeTransaction r b q n = judged (transactionRows b q) (judgeOpen r b q n)
 
--- a readable request by its form; the other forms are none of a request
+-- a readable request by its form
+abbrev pub judgeRequest : RequestForm → ℕ → Bank → Fields → ℕ → Verdict
+judgeRequest requests.UploadOpening first b q n = judgeOpening direction.Upload first b q
+judgeRequest requests.DownloadOpening first b q n = judgeOpening direction.Download first b q
+judgeRequest requests.UploadTransfer first b q n = judgeTransaction asked.UploadTransfer b q n
+judgeRequest requests.DownloadTransfer first b q n = judgeTransaction asked.DownloadTransfer b q n
+judgeRequest requests.Receipt first b q n = judgeTransaction asked.Receipt b q n
+
 abbrev pub judgeForm : Form → ℕ → Bank → Fields → ℕ → Verdict
-judgeForm forms.UploadOpening first b q n = judgeOpening direction.Upload first b q
-judgeForm forms.DownloadOpening first b q n = judgeOpening direction.Download first b q
-judgeForm forms.UploadTransfer first b q n = judgeTransaction asked.UploadTransfer b q n
-judgeForm forms.DownloadTransfer first b q n = judgeTransaction asked.DownloadTransfer b q n
-judgeForm forms.Receipt first b q n = judgeTransaction asked.Receipt b q n
-judgeForm forms.NoForm first b q n = Unreadable
-judgeForm forms.UploadOpened first b q n = Unreadable
-judgeForm forms.DownloadOpened first b q n = Unreadable
-judgeForm forms.SegmentTaken first b q n = Unreadable
-judgeForm forms.DownloadSegment first b q n = Unreadable
-judgeForm forms.ReceiptAnswered first b q n = Unreadable
-judgeForm forms.Unreadable first b q n = Unreadable
-judgeForm forms.Refusal first b q n = Unreadable
+judgeForm NoForm first b q n = Unreadable
+judgeForm (Request x) first b q n = judgeRequest x first b q n
+judgeForm (Reply x) first b q n = Unreadable
 
 -- a request with n bytes of data; first is the number of the lent ID bytes
 unfoldable pub judge : ℕ → Bank → Fields → ℕ → Verdict

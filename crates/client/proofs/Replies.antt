@@ -1,7 +1,7 @@
 -- What the tests on a reply tell of its fields. Assumes nothing.
 use Prim.Native.Nat.{ℕ}
 use mathlib.Core.Bool.{Bool, true, false, not, _||_}
-use mathlib.Core.List.{List, [], _∷_}
+use mathlib.Core.List.{_∷_}
 use mathlib.Core.Logic.{_⊎_, inl, inr}
 use mathlib.Core.Path.{_≡_, refl, sym, ap, _∙_}
 use lib.Dec.{leb, eqb}
@@ -9,9 +9,14 @@ use lib.ListN.{getD}
 use borrow.Author.Tests.{eqb-true, eq-eqb, not-true}
 use Rattle.frame_table.specs.declared.fields.Fields.{Fields}
 use Rattle.frame_table.specs.declared.table.Form.{Form}
-use Rattle.frame_table.specs.declared.table.Form.the-variants as forms
+use Rattle.frame_table.specs.declared.table.Form.the-variants.{NoForm, Request, Reply}
+use Rattle.frame_table.specs.declared.table.ReplyForm.{ReplyForm}
+use Rattle.frame_table.specs.declared.table.ReplyForm.the-variants as reply
+use Rattle.frame_table.specs.declared.table.RequestForm.{RequestForm}
+use Rattle.frame_table.specs.declared.table.RequestForm.the-variants as request
+use Rattle.frame_table.specs.Forms as forms
 use Rattle.frame_table.specs.Names.{phase, exchange, segments, transaction, segment, returnCode, form}
-use Rattle.frame_table.specs.Table.{isReplyForm}
+use Rattle.frame_table.specs.Table.{formTable, isReplyForm}
 use Rattle.octets.proofs.Tests.{never, and-true}
 use Rattle.frame_table.proofs.Bits.{bits-same}
 use Rattle.message.specs.declared.codes.ReturnCode.{ReturnCode}
@@ -19,44 +24,36 @@ use Rattle.message.specs.declared.codes.ReturnCode.the-variants as code
 use Rattle.message.specs.Codes.{codeField}
 use Rattle.message.specs.Limits.{segmentsMost, initialisation, transfer}
 use Rattle.client.specs.declared.run.Client.{Client}
-use Rattle.client.specs.Decisions.{formIndex, says, isOwn, endsUpload, fitsSegment, opensDownload, isAnswer}
+use Rattle.client.specs.Decisions.{requestIndex, replyIndex, formIndex, says, isOwn, endsUpload, fitsSegment, opensDownload, isAnswer}
 
--- the forms by their index
-abbrev formList : List Form
-formList =
-    forms.NoForm
-    ∷ forms.UploadOpening
-    ∷ forms.DownloadOpening
-    ∷ forms.UploadTransfer
-    ∷ forms.DownloadTransfer
-    ∷ forms.Receipt
-    ∷ forms.UploadOpened
-    ∷ forms.DownloadOpened
-    ∷ forms.SegmentTaken
-    ∷ forms.DownloadSegment
-    ∷ forms.ReceiptAnswered
-    ∷ forms.Unreadable
-    ∷ forms.Refusal
-    ∷ []
+-- the form of an index
+abbrev formAt : ℕ → Form
+formAt i = getD (NoForm ∷ formTable) i NoForm
 
-indexed : (x : Form) → getD formList (formIndex x) forms.NoForm ≡ x
-indexed forms.NoForm = refl
-indexed forms.UploadOpening = refl
-indexed forms.DownloadOpening = refl
-indexed forms.UploadTransfer = refl
-indexed forms.DownloadTransfer = refl
-indexed forms.Receipt = refl
-indexed forms.UploadOpened = refl
-indexed forms.DownloadOpened = refl
-indexed forms.SegmentTaken = refl
-indexed forms.DownloadSegment = refl
-indexed forms.ReceiptAnswered = refl
-indexed forms.Unreadable = refl
-indexed forms.Refusal = refl
+request-indexed : (x : RequestForm) → formAt (requestIndex x) ≡ Request x
+request-indexed request.UploadOpening = refl
+request-indexed request.DownloadOpening = refl
+request-indexed request.UploadTransfer = refl
+request-indexed request.DownloadTransfer = refl
+request-indexed request.Receipt = refl
+
+reply-indexed : (x : ReplyForm) → formAt (replyIndex x) ≡ Reply x
+reply-indexed reply.UploadOpened = refl
+reply-indexed reply.DownloadOpened = refl
+reply-indexed reply.SegmentTaken = refl
+reply-indexed reply.DownloadSegment = refl
+reply-indexed reply.ReceiptAnswered = refl
+reply-indexed reply.Unreadable = refl
+reply-indexed reply.Refusal = refl
+
+indexed : (x : Form) → formAt (formIndex x) ≡ x
+indexed NoForm = refl
+indexed (Request x) = request-indexed x
+indexed (Reply x) = reply-indexed x
 
 -- two forms of one index are one
 pub one-form : (x y : Form) → formIndex x ≡ formIndex y → x ≡ y
-one-form x y e = sym (indexed x) ∙ ap (λ (i : ℕ). getD formList i forms.NoForm) e ∙ indexed y
+one-form x y e = sym (indexed x) ∙ ap formAt e ∙ indexed y
 
 -- "A reply fits only in its step's form, with code ..., with that step's phase"
 pub record Says (x : Form) (c : ReturnCode) (p : ℕ) (r : Fields) : Type 0 where

@@ -5,7 +5,12 @@ use mathlib.Core.List.{List, [], _∷_}
 use lib.Dec.{ltb, leb, eqb}
 use Rattle.frame_table.specs.declared.fields.Fields.{Fields}
 use Rattle.frame_table.specs.declared.table.Form.{Form}
-use Rattle.frame_table.specs.declared.table.Form.the-variants as forms
+use Rattle.frame_table.specs.declared.table.Form.the-variants.{NoForm, Request, Reply}
+use Rattle.frame_table.specs.declared.table.ReplyForm.{ReplyForm}
+use Rattle.frame_table.specs.declared.table.ReplyForm.the-variants as reply
+use Rattle.frame_table.specs.declared.table.RequestForm.{RequestForm}
+use Rattle.frame_table.specs.declared.table.RequestForm.the-variants as request
+use Rattle.frame_table.specs.Forms as forms
 use Rattle.frame_table.specs.Names.{phase, exchange, segments, transaction, segment, lastMark, returnCode, form, sameBits}
 use Rattle.frame_table.specs.Table.{isReplyForm}
 use Rattle.message.specs.declared.codes.ReturnCode.{ReturnCode}
@@ -25,20 +30,26 @@ use Rattle.client.specs.declared.run.Word.{Word}
 use Rattle.client.specs.declared.run.Word.the-variants.{Lodged, NotLodged, Unclear, Fetched, HeldUnconfirmed, NotFetched}
 
 -- the place of a form in document 01's list, by which two forms are compared
+abbrev pub requestIndex : RequestForm → ℕ
+requestIndex request.UploadOpening = 1
+requestIndex request.DownloadOpening = 2
+requestIndex request.UploadTransfer = 3
+requestIndex request.DownloadTransfer = 4
+requestIndex request.Receipt = 5
+
+abbrev pub replyIndex : ReplyForm → ℕ
+replyIndex reply.UploadOpened = 6
+replyIndex reply.DownloadOpened = 7
+replyIndex reply.SegmentTaken = 8
+replyIndex reply.DownloadSegment = 9
+replyIndex reply.ReceiptAnswered = 10
+replyIndex reply.Unreadable = 11
+replyIndex reply.Refusal = 12
+
 abbrev pub formIndex : Form → ℕ
-formIndex forms.NoForm = 0
-formIndex forms.UploadOpening = 1
-formIndex forms.DownloadOpening = 2
-formIndex forms.UploadTransfer = 3
-formIndex forms.DownloadTransfer = 4
-formIndex forms.Receipt = 5
-formIndex forms.UploadOpened = 6
-formIndex forms.DownloadOpened = 7
-formIndex forms.SegmentTaken = 8
-formIndex forms.DownloadSegment = 9
-formIndex forms.ReceiptAnswered = 10
-formIndex forms.Unreadable = 11
-formIndex forms.Refusal = 12
+formIndex NoForm = 0
+formIndex (Request x) = requestIndex x
+formIndex (Reply x) = replyIndex x
 
 -- the reply is of this form with this code and this phase:
 -- "A reply fits only in its step's form, with code 000000 ..., with that step's phase"

@@ -7,6 +7,8 @@ use crate::run::Word;
 use frame_table::fields::Fields;
 use frame_table::fields::same;
 use frame_table::table::Form;
+use frame_table::table::ReplyForm;
+use frame_table::table::RequestForm;
 use frame_table::table::is_reply_form;
 use message::codes::ReturnCode;
 use message::codes::code_field;
@@ -21,29 +23,45 @@ ghost use mathlib.Core.Path.{_≡_};
 ghost use mathlib.Core.Bool.{cond};
 ghost use lib.Dec.{eqb};
 ghost use Rattle.message.specs.Limits.{initialisation, transfer};
-ghost use Rattle.client.specs.Decisions.{formIndex, says, isOwn, closingWord, restWord, mayRepeat};
+ghost use Rattle.client.specs.Decisions.{requestIndex, replyIndex, formIndex, says, isOwn, closingWord, restWord, mayRepeat};
 ghost use Rattle.client.specs.Decisions.{endsUpload, answersSegment, fitsData, fitsSegment, isPoint, goesBack, uploadReturns};
 ghost use Rattle.client.specs.Decisions.{downloadReturns, opensDownload, lodges, takesSegment, bringsSegment, confirms};
 ghost use Rattle.client.specs.Decisions.{onUpload, onDownload, onAnswer, isAnswer, onReply, onNoReply};
 
-// The place of a form in document 01's list.
+// The place of a form in document 01's list, requests first.
+fn request_index(form: RequestForm) -> u64
+    ensures { λ r. ⌜ r ≡ requestIndex form ⌝ }
+{
+    match form {
+        RequestForm::UploadOpening => 1,
+        RequestForm::DownloadOpening => 2,
+        RequestForm::UploadTransfer => 3,
+        RequestForm::DownloadTransfer => 4,
+        RequestForm::Receipt => 5,
+    }
+}
+
+fn reply_index(form: ReplyForm) -> u64
+    ensures { λ r. ⌜ r ≡ replyIndex form ⌝ }
+{
+    match form {
+        ReplyForm::UploadOpened => 6,
+        ReplyForm::DownloadOpened => 7,
+        ReplyForm::SegmentTaken => 8,
+        ReplyForm::DownloadSegment => 9,
+        ReplyForm::ReceiptAnswered => 10,
+        ReplyForm::Unreadable => 11,
+        ReplyForm::Refusal => 12,
+    }
+}
+
 fn form_index(form: Form) -> u64
     ensures { λ r. ⌜ r ≡ formIndex form ⌝ }
 {
     match form {
         Form::NoForm => 0,
-        Form::UploadOpening => 1,
-        Form::DownloadOpening => 2,
-        Form::UploadTransfer => 3,
-        Form::DownloadTransfer => 4,
-        Form::Receipt => 5,
-        Form::UploadOpened => 6,
-        Form::DownloadOpened => 7,
-        Form::SegmentTaken => 8,
-        Form::DownloadSegment => 9,
-        Form::ReceiptAnswered => 10,
-        Form::Unreadable => 11,
-        Form::Refusal => 12,
+        Form::Request(x) => request_index(x),
+        Form::Reply(x) => reply_index(x),
     }
 }
 
@@ -110,11 +128,16 @@ pub(crate) fn may_repeat(c: Client) -> bool
 fn ends_upload(r: Fields) -> bool
     ensures { λ b. ⌜ b ≡ endsUpload r ⌝ }
 {
-    if says(Form::Refusal, ReturnCode::TransactionAbort, TRANSFER, r) {
+    if says(
+        Form::Reply(ReplyForm::Refusal),
+        ReturnCode::TransactionAbort,
+        TRANSFER,
+        r,
+    ) {
         return true;
     }
     if says(
-        Form::Refusal,
+        Form::Reply(ReplyForm::Refusal),
         ReturnCode::SegmentNumberExceeded,
         TRANSFER,
         r,
@@ -122,7 +145,7 @@ fn ends_upload(r: Fields) -> bool
         return true;
     }
     says(
-        Form::Refusal,
+        Form::Reply(ReplyForm::Refusal),
         ReturnCode::SegmentNumberUnderrun,
         TRANSFER,
         r,
@@ -183,7 +206,12 @@ fn is_point(first: u64, c: Client, r: Fields) -> bool
     ensures { λ b. ⌜ b ≡ isPoint first c r ⌝ }
 {
     let phase = point_phase(r.segment(), first);
-    if !says(Form::SegmentTaken, ReturnCode::RecoverySync, phase, r) {
+    if !says(
+        Form::Reply(ReplyForm::SegmentTaken),
+        ReturnCode::RecoverySync,
+        phase,
+        r,
+    ) {
         return false;
     }
     is_own(c, r)
@@ -224,7 +252,12 @@ fn download_returns(c: Client, r: Fields) -> bool
 fn opens_download(d: usize, r: Fields) -> bool
     ensures { λ b. ⌜ b ≡ opensDownload d r ⌝ }
 {
-    if !says(Form::DownloadOpened, ReturnCode::Ok, INITIALISATION, r) {
+    if !says(
+        Form::Reply(ReplyForm::DownloadOpened),
+        ReturnCode::Ok,
+        INITIALISATION,
+        r,
+    ) {
         return false;
     }
     if r.segment() != 1 {
@@ -244,7 +277,12 @@ fn opens_download(d: usize, r: Fields) -> bool
 fn on_upload_opening(c: Client, r: Fields) -> Decision
     ensures { λ e. ⌜ e ≡ onUpload Step.Opening c r ⌝ }
 {
-    if says(Form::UploadOpened, ReturnCode::Ok, INITIALISATION, r) {
+    if says(
+        Form::Reply(ReplyForm::UploadOpened),
+        ReturnCode::Ok,
+        INITIALISATION,
+        r,
+    ) {
         return Decision::Opened;
     }
     Decision::Close(rest_word(c))
@@ -254,7 +292,7 @@ fn on_upload_opening(c: Client, r: Fields) -> Decision
 fn lodges(c: Client, r: Fields) -> bool
     ensures { λ b. ⌜ b ≡ lodges c r ⌝ }
 {
-    if !answers_segment(Form::SegmentTaken, c, r) {
+    if !answers_segment(Form::Reply(ReplyForm::SegmentTaken), c, r) {
         return false;
     }
     c.segment == c.segments
@@ -264,7 +302,7 @@ fn lodges(c: Client, r: Fields) -> bool
 fn takes_segment(c: Client, r: Fields) -> bool
     ensures { λ b. ⌜ b ≡ takesSegment c r ⌝ }
 {
-    if !answers_segment(Form::SegmentTaken, c, r) {
+    if !answers_segment(Form::Reply(ReplyForm::SegmentTaken), c, r) {
         return false;
     }
     c.segment < c.segments
@@ -303,7 +341,7 @@ fn on_download_opening(c: Client, r: Fields, d: usize) -> Decision
 fn brings_segment(c: Client, r: Fields, d: usize) -> bool
     ensures { λ b. ⌜ b ≡ bringsSegment c r d ⌝ }
 {
-    if !answers_segment(Form::DownloadSegment, c, r) {
+    if !answers_segment(Form::Reply(ReplyForm::DownloadSegment), c, r) {
         return false;
     }
     fits_segment(c.segment, c.segments, d, r)
@@ -327,7 +365,7 @@ fn confirms(c: Client, r: Fields) -> bool
     ensures { λ b. ⌜ b ≡ confirms c r ⌝ }
 {
     if !says(
-        Form::ReceiptAnswered,
+        Form::Reply(ReplyForm::ReceiptAnswered),
         ReturnCode::DownloadPostprocessDone,
         RECEIPT,
         r,
@@ -378,7 +416,7 @@ fn is_answer(c: Client, r: Fields) -> bool
     if !is_reply_form(form) {
         return false;
     }
-    if form_index(form) == form_index(Form::Unreadable) {
+    if form_index(form) == form_index(Form::Reply(ReplyForm::Unreadable)) {
         return false;
     }
     r.exchange() == c.exchange

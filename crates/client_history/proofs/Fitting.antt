@@ -10,7 +10,7 @@ use borrow.Author.Tests.{le-leb, eq-eqb, ne-eqb, eqb-false}
 use Rattle.frame_table.specs.declared.fields.Bits128.{Bits128}
 use Rattle.frame_table.specs.declared.fields.Fields.{Fields}
 use Rattle.frame_table.specs.declared.table.Form.{Form}
-use Rattle.frame_table.specs.declared.table.Form.the-variants as forms
+use Rattle.frame_table.specs.Forms as forms
 use Rattle.frame_table.specs.Names.{phase, exchange, segments, transaction, segment, lastMark, returnCode, orderNumber, form}
 use Rattle.frame_table.specs.Table.{isReplyForm, rowFits, findForm, formOf}
 use Rattle.message.specs.declared.codes.ReturnCode.{ReturnCode}

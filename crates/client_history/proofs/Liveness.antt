@@ -8,7 +8,7 @@ use lib.ListN.{length}
 use borrow.Author.Tests.{lt-ltb, le-leb, eq-eqb, ne-eqb}
 use Rattle.frame_table.specs.declared.fields.Bits128.{Bits128}
 use Rattle.frame_table.specs.declared.fields.Fields.{Fields}
-use Rattle.frame_table.specs.declared.table.Form.the-variants as forms
+use Rattle.frame_table.specs.Forms as forms
 use Rattle.frame.specs.declared.writer.Written.{Written}
 use Rattle.frame.specs.declared.writer.Written.the-variants as written
 use Rattle.frame_table.specs.Names.{returnCode, exchange, segments, transaction, segment, lastMark, orderNumber}

@@ -6,7 +6,7 @@ use mathlib.Core.Path.{_≡_}
 use lib.ListN.{length, take}
 use Rattle.frame_table.specs.declared.fields.Bits128.{Bits128}
 use Rattle.frame_table.specs.declared.fields.Fields.{Fields}
-use Rattle.frame_table.specs.declared.table.Form.the-variants as forms
+use Rattle.frame_table.specs.Forms as forms
 use Rattle.frame_table.specs.Names.{exchange, segments, transaction, segment, form}
 use Rattle.frame.specs.Reader.{readReply}
 use Rattle.frame.specs.Row.{dataOf}

@@ -16,7 +16,7 @@ use mathlib.Core.Path.{_≡_, refl, sym, ap, _∙_, subst}
 use lib.Dec.{eqb, leb}
 use lib.ListN.{replicate}
 use borrow.Author.Tests.{eq-eqb, eqb-true, leb-true}
-use Rattle.frame_table.specs.declared.table.Form.the-variants as forms
+use Rattle.frame_table.specs.Forms as forms
 use Rattle.frame_table.specs.Names.{exchange, returnCode, form}
 use Rattle.frame.specs.Reader.{readRequest, readReply}
 use Rattle.octets.proofs.Tests.{never, and-true, or-true}

@@ -11,7 +11,9 @@ use borrow.Author.Tests.{eqb-true}
 use Rattle.frame_table.specs.declared.fields.Bits128.{Bits128}
 use Rattle.frame_table.specs.declared.fields.Fields.{Fields}
 use Rattle.frame_table.specs.declared.table.Form.{Form}
-use Rattle.frame_table.specs.declared.table.Form.the-variants as forms
+use Rattle.frame_table.specs.declared.table.Form.the-variants.{NoForm, Request, Reply}
+use Rattle.frame_table.specs.declared.table.RequestForm.{RequestForm}
+use Rattle.frame_table.specs.declared.table.RequestForm.the-variants as requests
 use Rattle.frame_table.specs.Names.{subscriber, transaction, form, sameBits}
 use Rattle.frame_table.specs.Table.{isRequestForm}
 use Rattle.octets.proofs.Tests.{and-true}
@@ -50,6 +52,7 @@ use Rattle.bank_history.specs.History.{
   segmentsNow,
   openingEvent,
   transactionEvent,
+  eventByRequest,
   eventByForm,
   eventByVerdict,
   eventOf,
@@ -142,20 +145,17 @@ module _ (lent : ℕ) (w : World) (q : Fields) (d : List ℕ) where
       by-test Refuses (ltb (findUpload (subscriber q) (transaction q) (w .bank)) placeCount) (λ _. tt)
       (λ _. by-test Refuses (ltb (findDownload (subscriber q) (transaction q) (w .bank)) placeCount) (λ _. tt) (λ _. refl))
 
+  request-refuses : (x : RequestForm) → Refuses (eventByRequest x lent w q d)
+  request-refuses requests.UploadOpening = opening-refuses way.Upload
+  request-refuses requests.DownloadOpening = opening-refuses way.Download
+  request-refuses requests.UploadTransfer = transaction-refuses true asked.Other
+  request-refuses requests.DownloadTransfer = transaction-refuses false asked.Transfer
+  request-refuses requests.Receipt = transaction-refuses false asked.Receipt
+
   form-refuses : (f : Form) → Refuses (eventByForm f lent w q d)
-  form-refuses forms.UploadOpening = opening-refuses way.Upload
-  form-refuses forms.DownloadOpening = opening-refuses way.Download
-  form-refuses forms.UploadTransfer = transaction-refuses true asked.Other
-  form-refuses forms.DownloadTransfer = transaction-refuses false asked.Transfer
-  form-refuses forms.Receipt = transaction-refuses false asked.Receipt
-  form-refuses forms.NoForm = tt
-  form-refuses forms.UploadOpened = tt
-  form-refuses forms.DownloadOpened = tt
-  form-refuses forms.SegmentTaken = tt
-  form-refuses forms.DownloadSegment = tt
-  form-refuses forms.ReceiptAnswered = tt
-  form-refuses forms.Unreadable = tt
-  form-refuses forms.Refusal = tt
+  form-refuses NoForm = tt
+  form-refuses (Request x) = request-refuses x
+  form-refuses (Reply x) = tt
 
   pub event-refuses : Refuses (eventOf lent w q d)
   unfolding eventOf requestRefusals

@@ -11,7 +11,7 @@ use lib.Seq.{take-at}
 use Rattle.frame_table.specs.declared.fields.Bits128.{Bits128}
 use Rattle.frame_table.specs.declared.fields.Fields.{Fields}
 use Rattle.frame_table.specs.declared.table.Form.{Form}
-use Rattle.frame_table.specs.declared.table.Form.the-variants as forms
+use Rattle.frame_table.specs.Forms as forms
 use Rattle.frame_table.specs.Names.{subscriber, exchange, transaction, segments, segment, returnCode, orderNumber, form}
 use Rattle.frame.specs.Reader.{readRequest, readReply}
 use Rattle.frame_table.specs.Table.{isRequestForm}

@@ -7,6 +7,10 @@ use lib.ListN.{replicate}
 use Rattle.frame_table.specs.declared.fields.Fields.{Fields}
 use Rattle.frame_table.specs.declared.table.Form.{Form}
 use Rattle.frame_table.specs.declared.table.Form.the-variants as forms
+use Rattle.frame_table.specs.declared.table.RequestForm.{RequestForm}
+use Rattle.frame_table.specs.declared.table.RequestForm.the-variants as requests
+use Rattle.frame_table.specs.declared.table.ReplyForm.{ReplyForm}
+use Rattle.frame_table.specs.declared.table.ReplyForm.the-variants as replies
 use Rattle.frame_table.specs.Names.{exchange, segments, segment, lastMark, returnCode, orderNumber, form}
 use Rattle.frame.specs.Reader.{readRequest, readReply}
 use Rattle.frame_table.specs.Names.{noFields}
@@ -90,20 +94,26 @@ point q =
     (group phrase.Segment (Number (segment q)) (Say phrase.Taken) Nothing)
 
 -- what a request or a reply says, by its form
+abbrev pub requestSaid : RequestForm → Fields → List Part
+requestSaid requests.UploadOpening q = group phrase.UploadOpening (Number (segments q)) (Say phrase.Segments) Nothing
+requestSaid requests.DownloadOpening q = say phrase.DownloadOpening
+requestSaid requests.UploadTransfer q = group phrase.UploadSegment (Number (segment q)) (lastOf (lastMark q)) Nothing
+requestSaid requests.DownloadTransfer q = group phrase.DownloadSegment (Number (segment q)) Nothing Nothing
+requestSaid requests.Receipt q = say phrase.Receipt
+
+abbrev pub replySaid : ReplyForm → Fields → List Part
+replySaid replies.UploadOpened q = group phrase.UploadOpened (OrderNumber (orderNumber q)) Nothing Nothing
+replySaid replies.DownloadOpened q = group phrase.DownloadOpened (Number (segment q)) (Say phrase.Of) (Number (segments q))
+replySaid replies.SegmentTaken q = point q
+replySaid replies.DownloadSegment q = group phrase.DownloadSegment (Number (segment q)) (lastOf (lastMark q)) Nothing
+replySaid replies.ReceiptAnswered q = say phrase.ReceiptAnswered
+replySaid replies.Unreadable q = say phrase.Unreadable
+replySaid replies.Refusal q = say phrase.Refusal
+
 abbrev pub formSaid : Form → Fields → List Part
 formSaid forms.NoForm q = say phrase.NoMessage
-formSaid forms.UploadOpening q = group phrase.UploadOpening (Number (segments q)) (Say phrase.Segments) Nothing
-formSaid forms.DownloadOpening q = say phrase.DownloadOpening
-formSaid forms.UploadTransfer q = group phrase.UploadSegment (Number (segment q)) (lastOf (lastMark q)) Nothing
-formSaid forms.DownloadTransfer q = group phrase.DownloadSegment (Number (segment q)) Nothing Nothing
-formSaid forms.Receipt q = say phrase.Receipt
-formSaid forms.UploadOpened q = group phrase.UploadOpened (OrderNumber (orderNumber q)) Nothing Nothing
-formSaid forms.DownloadOpened q = group phrase.DownloadOpened (Number (segment q)) (Say phrase.Of) (Number (segments q))
-formSaid forms.SegmentTaken q = point q
-formSaid forms.DownloadSegment q = group phrase.DownloadSegment (Number (segment q)) (lastOf (lastMark q)) Nothing
-formSaid forms.ReceiptAnswered q = say phrase.ReceiptAnswered
-formSaid forms.Unreadable q = say phrase.Unreadable
-formSaid forms.Refusal q = say phrase.Refusal
+formSaid (forms.Request x) q = requestSaid x q
+formSaid (forms.Reply x) q = replySaid x q
 
 unfoldable pub frameSaid : Fields → List Part
 frameSaid q = formSaid (form q) q

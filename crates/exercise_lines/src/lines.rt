@@ -19,6 +19,8 @@ use frame::reader::read_reply;
 use frame::reader::read_request;
 use frame_table::fields::Fields;
 use frame_table::table::Form;
+use frame_table::table::ReplyForm;
+use frame_table::table::RequestForm;
 use message::codes::ReturnCode;
 use message::codes::code_field;
 use octets::bytes::front;
@@ -30,7 +32,7 @@ ghost use Rattle.frame.specs.Reader.{readRequest, readReply};
 ghost use Rattle.text.specs.Print.{Put, printed, printedCount};
 ghost use Rattle.exercise_play.specs.Play.{frameIn};
 ghost use Rattle.exercise_lines.specs.Lines.{kindOf, nothing, group, say, callGroup, head, lastOf, point};
-ghost use Rattle.exercise_lines.specs.Lines.{frameSaid, beginSaid, fileSaid, said, codeSaid, arrivalOf};
+ghost use Rattle.exercise_lines.specs.Lines.{requestSaid, replySaid, frameSaid, beginSaid, fileSaid, said, codeSaid, arrivalOf};
 ghost use Rattle.exercise_lines.specs.Lines.{repeatedOf, exchangeSaid, answerSaid, answered, fieldsOf, lineWith, lineOf, lineRoom};
 
 // The most bytes of a line.
@@ -123,19 +125,16 @@ fn point(q: Fields) -> [Part; PARTS]
     group(Phrase::Segment, k, Part::Say(Phrase::Taken), n)
 }
 
-// What a request or a reply says, by its form.
-fn frame_said(q: Fields) -> [Part; PARTS]
-    ensures { λ r. ⌜ r ≡ frameSaid q ⌝ }
+// What a request says, by its form.
+fn request_said(form: RequestForm, q: Fields) -> [Part; PARTS]
+    ensures { λ r. ⌜ r ≡ requestSaid form q ⌝ }
 {
-    let form = q.form();
     let n = Part::Nothing;
     let segment = Part::Number(q.segment());
     let segments = Part::Number(q.segments());
-    let order = Part::OrderNumber(q.order_number());
     let last = last_of(q.last_mark());
     match form {
-        Form::NoForm => say(Phrase::NoMessage),
-        Form::UploadOpening => {
+        RequestForm::UploadOpening => {
             group(
                 Phrase::UploadOpening,
                 segments,
@@ -143,12 +142,25 @@ fn frame_said(q: Fields) -> [Part; PARTS]
                 n,
             )
         }
-        Form::DownloadOpening => say(Phrase::DownloadOpening),
-        Form::UploadTransfer => group(Phrase::UploadSegment, segment, last, n),
-        Form::DownloadTransfer => group(Phrase::DownloadSegment, segment, n, n),
-        Form::Receipt => say(Phrase::Receipt),
-        Form::UploadOpened => group(Phrase::UploadOpened, order, n, n),
-        Form::DownloadOpened => {
+        RequestForm::DownloadOpening => say(Phrase::DownloadOpening),
+        RequestForm::UploadTransfer => group(Phrase::UploadSegment, segment, last, n),
+        RequestForm::DownloadTransfer => group(Phrase::DownloadSegment, segment, n, n),
+        RequestForm::Receipt => say(Phrase::Receipt),
+    }
+}
+
+// What a reply says, by its form.
+fn reply_said(form: ReplyForm, q: Fields) -> [Part; PARTS]
+    ensures { λ r. ⌜ r ≡ replySaid form q ⌝ }
+{
+    let n = Part::Nothing;
+    let segment = Part::Number(q.segment());
+    let segments = Part::Number(q.segments());
+    let order = Part::OrderNumber(q.order_number());
+    let last = last_of(q.last_mark());
+    match form {
+        ReplyForm::UploadOpened => group(Phrase::UploadOpened, order, n, n),
+        ReplyForm::DownloadOpened => {
             group(
                 Phrase::DownloadOpened,
                 segment,
@@ -156,11 +168,23 @@ fn frame_said(q: Fields) -> [Part; PARTS]
                 segments,
             )
         }
-        Form::SegmentTaken => point(q),
-        Form::DownloadSegment => group(Phrase::DownloadSegment, segment, last, n),
-        Form::ReceiptAnswered => say(Phrase::ReceiptAnswered),
-        Form::Unreadable => say(Phrase::Unreadable),
-        Form::Refusal => say(Phrase::Refusal),
+        ReplyForm::SegmentTaken => point(q),
+        ReplyForm::DownloadSegment => group(Phrase::DownloadSegment, segment, last, n),
+        ReplyForm::ReceiptAnswered => say(Phrase::ReceiptAnswered),
+        ReplyForm::Unreadable => say(Phrase::Unreadable),
+        ReplyForm::Refusal => say(Phrase::Refusal),
+    }
+}
+
+// What a request or a reply says.
+fn frame_said(q: Fields) -> [Part; PARTS]
+    ensures { λ r. ⌜ r ≡ frameSaid q ⌝ }
+{
+    let form = q.form();
+    match form {
+        Form::NoForm => say(Phrase::NoMessage),
+        Form::Request(x) => request_said(x, q),
+        Form::Reply(x) => reply_said(x, q),
     }
 }
 

@@ -9,9 +9,13 @@ use borrow.Author.Tests.{eqb-false, leb-true}
 use lib.Dec.{eqb, leb}
 use Rattle.frame_table.specs.declared.fields.Fields.{Fields}
 use Rattle.frame_table.specs.declared.table.Form.{Form}
-use Rattle.frame_table.specs.declared.table.Form.the-variants.{UploadOpening}
-use Rattle.frame_table.specs.declared.table.FormRow.{FormRow}
-use Rattle.frame_table.specs.Table.{tagCount, frameLimit, dataTag, width, has, isRequestForm, isForm}
+use Rattle.frame_table.specs.declared.table.Form.the-variants.{NoForm, Request, Reply}
+use Rattle.frame_table.specs.declared.table.RequestForm.{RequestForm}
+use Rattle.frame_table.specs.declared.table.RequestForm.the-variants as request
+use Rattle.frame_table.specs.declared.table.ReplyForm.{ReplyForm}
+use Rattle.frame_table.specs.declared.table.ReplyForm.the-variants as reply
+use Rattle.frame_table.specs.Forms as forms
+use Rattle.frame_table.specs.Table.{tagCount, frameLimit, dataTag, width, has, requestRow, replyRow, tagsOf, isRequestForm, isForm}
 use Rattle.frame_table.specs.Names.{phase, form}
 use Rattle.frame.specs.Row.{piece, join}
 use Rattle.frame.specs.Writer.{
@@ -28,9 +32,9 @@ use Rattle.frame.specs.Writer.{
   replyRoom,
   segmentBytes,
 }
-use Rattle.octets.proofs.Tests.{and-true}
+use Rattle.octets.proofs.Tests.{never, and-true}
 use Rattle.octets.proofs.Numbers.{length-bytesOf, length-fieldBytes}
-use Rattle.frame_table.proofs.Forms.{rowsHold, form-found, tagsOf, form-tags}
+use Rattle.frame_table.proofs.Forms.{form-tags}
 use Rattle.frame.proofs.Contents.{well-formed, piece-none, piece-some}
 use Rattle.frame.proofs.Loops.{FieldWritable, field-writable, content-absent, content-number}
 
@@ -87,30 +91,47 @@ frameLength-grows : (m n n' : ℕ) → n ≤ n' → frameLength m n ≤ frameLen
 unfolding frameLength
 frameLength-grows m n n' h = lengthFrom-grows tagCount 0 m n n' h
 
--- ---- the lengths that document 01 names, each a test over the table of forms
+-- ---- the lengths that document 01 names, each computed from the tables
+
+requests-fit : (x : RequestForm) → frameLength (requestRow x .1) segmentBytes ≤ requestRoom
+unfolding frameLength lengthFrom width
+requests-fit request.UploadOpening = omega arith
+requests-fit request.DownloadOpening = omega arith
+requests-fit request.UploadTransfer = omega arith
+requests-fit request.DownloadTransfer = omega arith
+requests-fit request.Receipt = omega arith
+
+replies-fit : (x : ReplyForm) → frameLength (replyRow x) segmentBytes ≤ replyRoom
+unfolding frameLength lengthFrom width
+replies-fit reply.UploadOpened = omega arith
+replies-fit reply.DownloadOpened = omega arith
+replies-fit reply.SegmentTaken = omega arith
+replies-fit reply.DownloadSegment = omega arith
+replies-fit reply.ReceiptAnswered = omega arith
+replies-fit reply.Unreadable = omega arith
+replies-fit reply.Refusal = omega arith
 
 abbrev limit : Form → ℕ
 limit x = cond (isRequestForm x) requestRoom replyRoom
 
-inLimit : FormRow → Bool
-inLimit r = leb (frameLength (r .0) segmentBytes) (limit (r .2))
+in-limit : (x : Form) → isForm x ≡ true → frameLength (tagsOf x) segmentBytes ≤ limit x
+in-limit NoForm h = never h
+in-limit (Request x) h = requests-fit x
+in-limit (Reply x) h = replies-fit x
+
+opening-tags : (n : ℕ) → frameLength (tagsOf forms.UploadOpening) n ≡ uploadOpeningLength
+unfolding frameLength lengthFrom width
+opening-tags n = refl
 
 module _ (f : Fields) (d : List ℕ) (h : writable f d ≡ true) where
-  in-limit : frameLength (f .tags) segmentBytes ≤ limit (form f)
-  unfolding rowsHold inLimit frameLength lengthFrom width
-  in-limit =
-      let x = form-found inLimit (f .tags) (phase f) refl (writable-parts f d h .0) in
-      let e : leb (frameLength (f .tags) segmentBytes) (limit (form f)) ≡ true = rw (x .tags, x .name) at (x .holds) in
-      leb-true _ _ e
+  -- a frame of a form is as long as the tables say of that form
+  pub form-length : length (frameOf f d) ≡ frameLength (tagsOf (form f)) (length d)
+  form-length =
+      length-frameOf f d h ∙ ap (λ (m : ℕ). frameLength m (length d)) (form-tags (f .tags) (phase f) (writable-parts f d h .0))
 
   pub length-limit : length d ≤ segmentBytes → length (frameOf f d) ≤ limit (form f)
-  length-limit k = omega (arith, length-frameOf f d h, frameLength-grows (f .tags) (length d) segmentBytes k, in-limit)
+  length-limit k =
+      omega (arith, form-length, frameLength-grows (tagsOf (form f)) (length d) segmentBytes k, in-limit (form f) (writable-parts f d h .0))
 
-  opening-tags : (n : ℕ) → frameLength (tagsOf UploadOpening) n ≡ uploadOpeningLength
-  unfolding frameLength lengthFrom width
-  opening-tags n = refl
-
-  pub opening-length : form f ≡ UploadOpening → length (frameOf f d) ≡ uploadOpeningLength
-  opening-length e =
-      let t = form-tags (f .tags) (phase f) (writable-parts f d h .0) ∙ ap tagsOf e in
-      length-frameOf f d h ∙ ap (λ (m : ℕ). frameLength m (length d)) t ∙ opening-tags (length d)
+  pub opening-length : form f ≡ forms.UploadOpening → length (frameOf f d) ≡ uploadOpeningLength
+  opening-length e = form-length ∙ ap (λ (x : Form). frameLength (tagsOf x) (length d)) e ∙ opening-tags (length d)

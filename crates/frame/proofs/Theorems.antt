@@ -6,7 +6,8 @@ use mathlib.Core.Path.{_≡_, refl, sym, _∙_}
 use lib.ListN.{length, replicate}
 use Rattle.frame_table.specs.declared.fields.Fields.{Fields}
 use Rattle.frame_table.specs.declared.table.Form.{Form}
-use Rattle.frame_table.specs.declared.table.Form.the-variants.{NoForm, UploadOpening}
+use Rattle.frame_table.specs.declared.table.Form.the-variants.{NoForm}
+use Rattle.frame_table.specs.Forms as forms
 use Rattle.octets.specs.Bytes.{Bytes, numberFrom, number, bytesOf, fieldBytes}
 use Rattle.frame_table.specs.Table.{
   phaseTag,
@@ -130,7 +131,7 @@ module _ (f : Fields) (d : List ℕ) (h : writable f d ≡ true) where
   pub frame-length : length (frameOf f d) ≡ frameLength (f .tags) (length d)
   frame-length = length-frameOf f d h
 
-  pub upload-opening-length : form f ≡ UploadOpening → length (frameOf f d) ≡ uploadOpeningLength
+  pub upload-opening-length : form f ≡ forms.UploadOpening → length (frameOf f d) ≡ uploadOpeningLength
   upload-opening-length = opening-length f d h
 
   pub request-length : isRequestForm (form f) ≡ true → length d ≤ segmentBytes → length (frameOf f d) ≤ requestRoom

@@ -5,14 +5,10 @@ use mathlib.Core.Bool.{Bool, true, false, cond, _&&_, _||_}
 use lib.ListN.{getD}
 use lib.Dec.{leb, eqb}
 use Rattle.frame_table.specs.declared.table.Field.{Field}
-use Rattle.frame_table.specs.declared.table.Form.{Form}
-use Rattle.frame_table.specs.declared.table.Form.the-variants.{
-  NoForm,
-  UploadOpening,
-  DownloadOpening,
-  UploadTransfer,
-  DownloadTransfer,
-  Receipt,
+use Rattle.frame_table.specs.declared.table.RequestForm.{RequestForm}
+use Rattle.frame_table.specs.declared.table.RequestForm.the-variants.{UploadOpening, DownloadOpening, UploadTransfer, DownloadTransfer, Receipt}
+use Rattle.frame_table.specs.declared.table.ReplyForm.{ReplyForm}
+use Rattle.frame_table.specs.declared.table.ReplyForm.the-variants.{
   UploadOpened,
   DownloadOpened,
   SegmentTaken,
@@ -21,7 +17,8 @@ use Rattle.frame_table.specs.declared.table.Form.the-variants.{
   Unreadable,
   Refusal,
 }
-use Rattle.frame_table.specs.declared.table.FormRow.{FormRow}
+use Rattle.frame_table.specs.declared.table.Form.{Form}
+use Rattle.frame_table.specs.declared.table.Form.the-variants.{NoForm, Request, Reply}
 
 -- "A frame has at most 1,024 bytes"
 abbrev pub frameLimit : ℕ
@@ -134,30 +131,67 @@ tagSet (t ∷ ts) = 2 ^ t + tagSet ts
 abbrev pub has : ℕ → ℕ → Bool
 has m t = eqb (m / 2 ^ t % 2) 1
 
--- "Request forms" and "Reply forms": tags, a request form's phase (0 in a reply form: any), name
-abbrev pub formTable : List FormRow
+-- "Request forms": the phase and the tags of each
+abbrev pub requestRow : RequestForm → ℕ × ℕ
+-- "upload opening (phase 1): 01 to 07"
+requestRow UploadOpening =
+    (1, tagSet (phaseTag ∷ subscriberTag ∷ exchangeTag ∷ orderTypeTag ∷ nonceTag ∷ timestampTag ∷ segmentsTag ∷ []))
+-- "download opening (phase 1): 01 to 06"
+requestRow DownloadOpening =
+    (1, tagSet (phaseTag ∷ subscriberTag ∷ exchangeTag ∷ orderTypeTag ∷ nonceTag ∷ timestampTag ∷ []))
+-- "upload transfer (2): 01 02 03 08 09 0A 0B"
+requestRow UploadTransfer =
+    (2, tagSet (phaseTag ∷ subscriberTag ∷ exchangeTag ∷ transactionTag ∷ segmentTag ∷ lastMarkTag ∷ dataTag ∷ []))
+-- "download transfer (2): 01 02 03 08 09"
+requestRow DownloadTransfer = (2, tagSet (phaseTag ∷ subscriberTag ∷ exchangeTag ∷ transactionTag ∷ segmentTag ∷ []))
+-- "receipt (3): 01 02 03 08 0C"
+requestRow Receipt = (3, tagSet (phaseTag ∷ subscriberTag ∷ exchangeTag ∷ transactionTag ∷ receiptCodeTag ∷ []))
+
+-- "Reply forms": the tags of each
+abbrev pub replyRow : ReplyForm → ℕ
+-- "upload opened 01 03 08 0D 0E"
+replyRow UploadOpened = tagSet (phaseTag ∷ exchangeTag ∷ transactionTag ∷ returnCodeTag ∷ orderNumberTag ∷ [])
+-- "download opened 01 03 07 08 09 0A 0B 0D"
+replyRow DownloadOpened =
+    tagSet (phaseTag ∷ exchangeTag ∷ segmentsTag ∷ transactionTag ∷ segmentTag ∷ lastMarkTag ∷ dataTag ∷ returnCodeTag ∷ [])
+-- "upload segment taken and recovery point 01 03 08 09 0D"
+replyRow SegmentTaken = tagSet (phaseTag ∷ exchangeTag ∷ transactionTag ∷ segmentTag ∷ returnCodeTag ∷ [])
+-- "download segment 01 03 08 09 0A 0B 0D"
+replyRow DownloadSegment =
+    tagSet (phaseTag ∷ exchangeTag ∷ transactionTag ∷ segmentTag ∷ lastMarkTag ∷ dataTag ∷ returnCodeTag ∷ [])
+-- "receipt answered 01 03 08 0D"
+replyRow ReceiptAnswered = tagSet (phaseTag ∷ exchangeTag ∷ transactionTag ∷ returnCodeTag ∷ [])
+-- "unreadable request 0D"
+replyRow Unreadable = tagSet (returnCodeTag ∷ [])
+-- "any other refusal 01 03 0D"
+replyRow Refusal = tagSet (phaseTag ∷ exchangeTag ∷ returnCodeTag ∷ [])
+
+-- the tags of a form
+abbrev pub tagsOf : Form → ℕ
+tagsOf NoForm = 0
+tagsOf (Request x) = requestRow x .1
+tagsOf (Reply x) = replyRow x
+
+-- a request form has its own phase, a reply form any
+abbrev pub hasPhase : Form → ℕ → Bool
+hasPhase NoForm p = false
+hasPhase (Request x) p = eqb (requestRow x .0) p
+hasPhase (Reply x) p = true
+
+-- "these forms only"
+abbrev pub formTable : List Form
 formTable =
-    (tagSet (1 ∷ 2 ∷ 3 ∷ 4 ∷ 5 ∷ 6 ∷ 7 ∷ []), 1, UploadOpening)  -- "upload opening (phase 1): 01 to 07"
-    ∷ (tagSet (1 ∷ 2 ∷ 3 ∷ 4 ∷ 5 ∷ 6 ∷ []), 1, DownloadOpening)  -- "download opening (phase 1): 01 to 06"
-    ∷ (tagSet (1 ∷ 2 ∷ 3 ∷ 8 ∷ 9 ∷ 10 ∷ 11 ∷ []), 2, UploadTransfer)  -- "upload transfer (2): 01 02 03 08 09 0A 0B"
-    ∷ (tagSet (1 ∷ 2 ∷ 3 ∷ 8 ∷ 9 ∷ []), 2, DownloadTransfer)  -- "download transfer (2): 01 02 03 08 09"
-    ∷ (tagSet (1 ∷ 2 ∷ 3 ∷ 8 ∷ 12 ∷ []), 3, Receipt)  -- "receipt (3): 01 02 03 08 0C"
-    ∷ (tagSet (1 ∷ 3 ∷ 8 ∷ 13 ∷ 14 ∷ []), 0, UploadOpened)  -- "upload opened 01 03 08 0D 0E"
-    ∷ (tagSet (1 ∷ 3 ∷ 7 ∷ 8 ∷ 9 ∷ 10 ∷ 11 ∷ 13 ∷ []), 0, DownloadOpened)  -- "download opened 01 03 07 08 09 0A 0B 0D"
-    ∷ (tagSet (1 ∷ 3 ∷ 8 ∷ 9 ∷ 13 ∷ []), 0, SegmentTaken)  -- "upload segment taken and recovery point 01 03 08 09 0D"
-    ∷ (tagSet (1 ∷ 3 ∷ 8 ∷ 9 ∷ 10 ∷ 11 ∷ 13 ∷ []), 0, DownloadSegment)  -- "download segment 01 03 08 09 0A 0B 0D"
-    ∷ (tagSet (1 ∷ 3 ∷ 8 ∷ 13 ∷ []), 0, ReceiptAnswered)  -- "receipt answered 01 03 08 0D"
-    ∷ (tagSet (13 ∷ []), 0, Unreadable)  -- "unreadable request 0D"
-    ∷ (tagSet (1 ∷ 3 ∷ 13 ∷ []), 0, Refusal)  -- "any other refusal 01 03 0D"
-    ∷ []
+    Request UploadOpening ∷ Request DownloadOpening ∷ Request UploadTransfer ∷ Request DownloadTransfer ∷ Request Receipt
+    ∷ Reply UploadOpened ∷ Reply DownloadOpened ∷ Reply SegmentTaken ∷ Reply DownloadSegment ∷ Reply ReceiptAnswered
+    ∷ Reply Unreadable ∷ Reply Refusal ∷ []
 
--- the row has these tags, and this phase or any
-unfoldable pub rowFits : FormRow → ℕ → ℕ → Bool
-rowFits r m p = eqb (r .0) m && (eqb (r .1) 0 || eqb (r .1) p)
+-- the form has these tags, and this phase or any
+unfoldable pub rowFits : Form → ℕ → ℕ → Bool
+rowFits x m p = eqb (tagsOf x) m && hasPhase x p
 
-unfoldable pub findForm : List FormRow → ℕ → ℕ → Form
+unfoldable pub findForm : List Form → ℕ → ℕ → Form
 findForm [] m p = NoForm
-findForm (r ∷ l) m p = cond (rowFits r m p) (r .2) (findForm l m p)
+findForm (x ∷ l) m p = cond (rowFits x m p) x (findForm l m p)
 
 -- the form with these tags and this phase
 unfoldable pub formOf : ℕ → ℕ → Form
@@ -165,34 +199,13 @@ formOf m p = findForm formTable m p
 
 abbrev pub isRequestForm : Form → Bool
 isRequestForm NoForm = false
-isRequestForm UploadOpening = true
-isRequestForm DownloadOpening = true
-isRequestForm UploadTransfer = true
-isRequestForm DownloadTransfer = true
-isRequestForm Receipt = true
-isRequestForm UploadOpened = false
-isRequestForm DownloadOpened = false
-isRequestForm SegmentTaken = false
-isRequestForm DownloadSegment = false
-isRequestForm ReceiptAnswered = false
-isRequestForm Unreadable = false
-isRequestForm Refusal = false
+isRequestForm (Request x) = true
+isRequestForm (Reply x) = false
 
 abbrev pub isReplyForm : Form → Bool
 isReplyForm NoForm = false
-isReplyForm UploadOpening = false
-isReplyForm DownloadOpening = false
-isReplyForm UploadTransfer = false
-isReplyForm DownloadTransfer = false
-isReplyForm Receipt = false
-isReplyForm UploadOpened = true
-isReplyForm DownloadOpened = true
-isReplyForm SegmentTaken = true
-isReplyForm DownloadSegment = true
-isReplyForm ReceiptAnswered = true
-isReplyForm Unreadable = true
-isReplyForm Refusal = true
+isReplyForm (Request x) = false
+isReplyForm (Reply x) = true
 
--- "these forms only"
 abbrev pub isForm : Form → Bool
 isForm x = isRequestForm x || isReplyForm x

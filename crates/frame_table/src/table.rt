@@ -2,7 +2,7 @@
 ghost use mathlib.Core.Path.{_≡_};
 ghost use Prim.Native.Nat.{_<_};
 ghost use Rattle.frame_table.specs.Table.{tagCount, fieldRow, width, anyByte, inRange, allowed, formOf, isRequestForm, isReplyForm};
-ghost use Rattle.frame_table.specs.declared.table.Form.the-variants.{NoForm};
+ghost use Rattle.frame_table.specs.declared.table.Form.the-variants.{NoForm, Request};
 ghost use mathlib.Core.Bool.{cond};
 ghost use lib.Dec.{eqb};
 
@@ -43,14 +43,16 @@ pub const ORDER_NUMBER: usize = 14;
 // A field's content length (0: one byte or more), and the two ranges in which each byte of the content is.
 struct Field(pub usize, pub u8, pub u8, pub u8, pub u8);
 
-// The forms by name; SegmentTaken is also the recovery point, which has the same fields.
-pub enum Form {
-    NoForm,
+pub enum RequestForm {
     UploadOpening,
     DownloadOpening,
     UploadTransfer,
     DownloadTransfer,
     Receipt,
+}
+
+// SegmentTaken is also the recovery point, which has the same fields.
+pub enum ReplyForm {
     UploadOpened,
     DownloadOpened,
     SegmentTaken,
@@ -60,8 +62,82 @@ pub enum Form {
     Refusal,
 }
 
-// A form's tags (bit t for tag t), a request form's phase (0 in a reply form: any), and its name.
-pub struct FormRow(pub u32, pub u64, pub Form);
+pub enum Form {
+    NoForm,
+    Request(RequestForm),
+    Reply(ReplyForm),
+}
+
+// The tags of each form as a set: bit t for tag t.
+const UPLOAD_OPENING: u32 = 1 << PHASE
+    | 1 << SUBSCRIBER
+    | 1 << EXCHANGE
+    | 1 << ORDER_TYPE
+    | 1 << NONCE
+    | 1 << TIMESTAMP
+    | 1 << SEGMENTS;
+
+const DOWNLOAD_OPENING: u32 = 1 << PHASE
+    | 1 << SUBSCRIBER
+    | 1 << EXCHANGE
+    | 1 << ORDER_TYPE
+    | 1 << NONCE
+    | 1 << TIMESTAMP;
+
+const UPLOAD_TRANSFER: u32 = 1 << PHASE
+    | 1 << SUBSCRIBER
+    | 1 << EXCHANGE
+    | 1 << TRANSACTION
+    | 1 << SEGMENT
+    | 1 << LAST_MARK
+    | 1 << DATA;
+
+const DOWNLOAD_TRANSFER: u32 = 1 << PHASE
+    | 1 << SUBSCRIBER
+    | 1 << EXCHANGE
+    | 1 << TRANSACTION
+    | 1 << SEGMENT;
+
+const RECEIPT: u32 = 1 << PHASE
+    | 1 << SUBSCRIBER
+    | 1 << EXCHANGE
+    | 1 << TRANSACTION
+    | 1 << RECEIPT_CODE;
+
+const UPLOAD_OPENED: u32 = 1 << PHASE
+    | 1 << EXCHANGE
+    | 1 << TRANSACTION
+    | 1 << RETURN_CODE
+    | 1 << ORDER_NUMBER;
+
+const DOWNLOAD_OPENED: u32 = 1 << PHASE
+    | 1 << EXCHANGE
+    | 1 << SEGMENTS
+    | 1 << TRANSACTION
+    | 1 << SEGMENT
+    | 1 << LAST_MARK
+    | 1 << DATA
+    | 1 << RETURN_CODE;
+
+const SEGMENT_TAKEN: u32 = 1 << PHASE
+    | 1 << EXCHANGE
+    | 1 << TRANSACTION
+    | 1 << SEGMENT
+    | 1 << RETURN_CODE;
+
+const DOWNLOAD_SEGMENT: u32 = 1 << PHASE
+    | 1 << EXCHANGE
+    | 1 << TRANSACTION
+    | 1 << SEGMENT
+    | 1 << LAST_MARK
+    | 1 << DATA
+    | 1 << RETURN_CODE;
+
+const RECEIPT_ANSWERED: u32 = 1 << PHASE | 1 << EXCHANGE | 1 << TRANSACTION | 1 << RETURN_CODE;
+
+const UNREADABLE: u32 = 1 << RETURN_CODE;
+
+const REFUSAL: u32 = 1 << PHASE | 1 << EXCHANGE | 1 << RETURN_CODE;
 
 // The row of the tag: the table of fields. As a match it is looked up in place; an array would be built anew at each use.
 fn field_row(tag: usize) -> Field
@@ -130,29 +206,33 @@ pub fn allowed(tag: usize, byte: u8) -> bool
 }
 
 // The request form, where the phase is its own.
-fn of_phase(phase: u64, own: u64, form: Form) -> Form
-    ensures { λ r. ⌜ r ≡ cond (eqb own phase) form NoForm ⌝ }
+fn of_phase(phase: u64, own: u64, form: RequestForm) -> Form
+    ensures { λ r. ⌜ r ≡ cond (eqb own phase) (Request form) NoForm ⌝ }
 {
-    if own == phase { form } else { Form::NoForm }
+    if own == phase {
+        Form::Request(form)
+    } else {
+        Form::NoForm
+    }
 }
 
-// The form with these tags (bit t for tag t) and this phase: the table of forms. A reply form has any phase.
+// The form with these tags and this phase: the table of forms. A request form has its own phase, a reply form any.
 pub(crate) fn form_of(tags: u32, phase: u64) -> Form
     ensures { λ r. ⌜ r ≡ formOf tags phase ⌝ }
 {
     match tags {
-        0x00FE => of_phase(phase, 1, Form::UploadOpening), // 01 to 07
-        0x007E => of_phase(phase, 1, Form::DownloadOpening), // 01 to 06
-        0x0F0E => of_phase(phase, 2, Form::UploadTransfer), // 01 02 03 08 09 0A 0B
-        0x030E => of_phase(phase, 2, Form::DownloadTransfer), // 01 02 03 08 09
-        0x110E => of_phase(phase, 3, Form::Receipt), // 01 02 03 08 0C
-        0x610A => Form::UploadOpened, // 01 03 08 0D 0E
-        0x2F8A => Form::DownloadOpened, // 01 03 07 08 09 0A 0B 0D
-        0x230A => Form::SegmentTaken, // 01 03 08 09 0D
-        0x2F0A => Form::DownloadSegment, // 01 03 08 09 0A 0B 0D
-        0x210A => Form::ReceiptAnswered, // 01 03 08 0D
-        0x2000 => Form::Unreadable, // 0D
-        0x200A => Form::Refusal, // 01 03 0D
+        UPLOAD_OPENING => of_phase(phase, 1, RequestForm::UploadOpening),
+        DOWNLOAD_OPENING => of_phase(phase, 1, RequestForm::DownloadOpening),
+        UPLOAD_TRANSFER => of_phase(phase, 2, RequestForm::UploadTransfer),
+        DOWNLOAD_TRANSFER => of_phase(phase, 2, RequestForm::DownloadTransfer),
+        RECEIPT => of_phase(phase, 3, RequestForm::Receipt),
+        UPLOAD_OPENED => Form::Reply(ReplyForm::UploadOpened),
+        DOWNLOAD_OPENED => Form::Reply(ReplyForm::DownloadOpened),
+        SEGMENT_TAKEN => Form::Reply(ReplyForm::SegmentTaken),
+        DOWNLOAD_SEGMENT => Form::Reply(ReplyForm::DownloadSegment),
+        RECEIPT_ANSWERED => Form::Reply(ReplyForm::ReceiptAnswered),
+        UNREADABLE => Form::Reply(ReplyForm::Unreadable),
+        REFUSAL => Form::Reply(ReplyForm::Refusal),
         _ => Form::NoForm,
     }
 }
@@ -161,12 +241,9 @@ pub fn is_request_form(form: Form) -> bool
     ensures { λ r. ⌜ r ≡ isRequestForm form ⌝ }
 {
     match form {
-        Form::UploadOpening
-        | Form::DownloadOpening
-        | Form::UploadTransfer
-        | Form::DownloadTransfer
-        | Form::Receipt => true,
-        _ => false,
+        Form::NoForm => false,
+        Form::Request(_) => true,
+        Form::Reply(_) => false,
     }
 }
 
@@ -174,12 +251,8 @@ pub fn is_reply_form(form: Form) -> bool
     ensures { λ r. ⌜ r ≡ isReplyForm form ⌝ }
 {
     match form {
-        Form::NoForm
-        | Form::UploadOpening
-        | Form::DownloadOpening
-        | Form::UploadTransfer
-        | Form::DownloadTransfer
-        | Form::Receipt => false,
-        _ => true,
+        Form::NoForm => false,
+        Form::Request(_) => false,
+        Form::Reply(_) => true,
     }
 }
