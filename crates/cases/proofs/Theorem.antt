@@ -45,7 +45,7 @@ use Rattle.bank_openings.specs.Openings.{
   openDownload,
   opened,
 }
-use Rattle.bank_openings.specs.OrderNumbers.{character, letter, orderNumberOf}
+use Rattle.message.specs.OrderNumbers.{character, letter, orderNumberOf}
 use Rattle.bank_uploads.specs.Uploads.{fitsUpload, segmentRefusals, uploadRefusals, judgeUpload, grown, attempted, uploadStep}
 use Rattle.bank.specs.Call.{mailboxSegment, requestRefusals, openingStep, uploadStepAt, downloadStepAt, transactionStep, respond}
 use Rattle.cases.specs.Table.{steps, each, bookedAfter, largest, requestLengths, replyLengths, cases, Holds}

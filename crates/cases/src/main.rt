@@ -13,12 +13,12 @@ use frame_table::fields::Bits128;
 use frame_table::fields::Fields;
 use frame_table::table::FRAME_LIMIT;
 use libc::STDOUT_FILENO;
-use marking::print::code_digits;
 use message::codes::ReturnCode;
 use message::codes::code_field;
 use message::requests::upload_opening;
 use message::requests::upload_transfer;
 use octets::bytes::front;
+use print::text::code_digits;
 
 // The bank time of every call, and every timestamp.
 const CLOCK: u32 = 1000;

@@ -1,5 +1,5 @@
 // The driver: calls from standard input, a line for each and the closing tables on standard output.
-use driving::session::session;
+use driver_session::session::session;
 
 fn main() {
     session();

@@ -55,7 +55,7 @@ use Rattle.bank_state.specs.State as bankstateState
 use Rattle.bank_state.specs.Store as bankstateStore
 use Rattle.bank_downloads.specs.Downloads as bankstepDownloads
 use Rattle.bank_openings.specs.Openings as bankstepOpenings
-use Rattle.bank_openings.specs.OrderNumbers as bankstepOrderNumbers
+use Rattle.message.specs.OrderNumbers as bankstepOrderNumbers
 use Rattle.bank_uploads.specs.Uploads as bankstepUploads
 use Rattle.bank.specs.Call as bankCall
 use Rattle.bank.specs.Mailbox as bankMailbox

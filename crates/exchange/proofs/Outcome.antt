@@ -25,7 +25,7 @@ use Rattle.bank_state.specs.Limits.{openingsMost}
 use Rattle.bank_state.specs.Search.{isFree}
 use Rattle.bank_state.specs.State.{World, placeAt}
 use Rattle.bank_state.specs.Store.{partAt}
-use Rattle.bank_openings.specs.OrderNumbers.{orderNumberOf}
+use Rattle.message.specs.OrderNumbers.{orderNumberOf}
 use Rattle.bank_history.specs.History.{Of, Stands, newest, older, ActionIn, isBooking, isEnding, did, ever, received}
 use Rattle.bank_history.specs.History as bank
 use Rattle.bank_history.specs.Invariant as whole

@@ -25,7 +25,7 @@ use Rattle.message.specs.Segments.{lastMarkOf}
 use Rattle.bank_state.specs.Clock.{advanced}
 use Rattle.bank_state.specs.Limits.{idleLimit}
 use Rattle.bank_state.specs.State.{World}
-use Rattle.bank_openings.specs.OrderNumbers.{orderNumberOf}
+use Rattle.message.specs.OrderNumbers.{orderNumberOf}
 use Rattle.bank_history.specs.History.{
   Action,
   OpenedUpload,

@@ -1,5 +1,5 @@
 // The marker: records from standard input, the marker's print on standard output.
-use marking::session::session;
+use marker_session::session::session;
 
 fn main() {
     session();

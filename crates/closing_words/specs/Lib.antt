@@ -1,2 +1,0 @@
--- The definitions of the closing words as text.
-pub mod Closing

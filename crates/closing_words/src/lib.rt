@@ -1,2 +1,0 @@
-// The closing words of a client run as text.
-pub mod closing;

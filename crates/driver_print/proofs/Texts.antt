@@ -1,0 +1,144 @@
+-- Laws of the texts of the lines and tables: bytes in hexadecimal, and how long a text is at most. Assumes nothing.
+use Prim.Native.Nat.{ℕ, _+_, _*_, _/_, _%_, _≤_, _<_}
+use mathlib.Core.List.{List, [], _∷_, _++_}
+use mathlib.Core.Path.{_≡_, refl, ap}
+use native.Mathlib.Numerals.{add-one}
+use native.Mathlib.Omega.{arith}
+use lib.Dec.{eqb}
+use lib.ListN.{length, getD, take, set, length-append, length-take, length-set}
+use lib.Seq.{take-suc}
+use Rattle.message.specs.Limits.{fileBytes}
+use Rattle.bank_state.specs.declared.state.Place.{Place}
+use Rattle.bank_state.specs.Search.{isBooked}
+use Rattle.bank_state.specs.State.{placeAt}
+use Rattle.bank_state.specs.Store.{partAt, fileOf}
+use Rattle.client.specs.declared.run.Client.{Client}
+use Rattle.client.specs.declared.run.Stage.{Stage}
+use Rattle.client.specs.declared.run.Stage.the-variants as stage
+use Rattle.client.specs.Rulings.{isBegun}
+use Rattle.print.specs.Text.{Put, space, newline, column, columnRoom}
+use Rattle.print.specs.Book.{orderColumns}
+use Rattle.print.proofs.Digits.{decimal-most, column-most}
+use Rattle.print.proofs.Texts.{put-then, put-one, cond-most}
+use Rattle.print.specs.Closing.{closingRoom}
+use Rattle.print.proofs.Lengths.{closing-most, columns-most}
+use Rattle.unit.specs.declared.call.Answer.{Answer}
+use Rattle.unit.specs.declared.call.Answer.the-variants as answer
+use Rattle.unit.specs.declared.state.UnitState.{UnitState}
+use Rattle.unit.specs.Records.{runCount}
+use Rattle.unit.specs.State.{runAt}
+use Rattle.driver_print.specs.declared.tables.Table.{Table}
+use Rattle.driver_print.specs.declared.tables.Table.the-variants.{Book, Mailboxes, Words, Files}
+use Rattle.driver_print.specs.Line.{hexDigit, hexOf, answerText, answerRoom}
+use Rattle.driver_print.specs.Tables.{
+  headerText,
+  contentText,
+  orderRow,
+  fileRow,
+  stageText,
+  wordRow,
+  rowAt,
+  rowCount,
+  headerRoom,
+  contentRoom,
+  rowRoom,
+}
+
+-- ---- hexadecimal
+
+hexOf-append : (l r : List ℕ) → hexOf (l ++ r) ≡ hexOf l ++ hexOf r
+unfolding hexOf
+hexOf-append [] r = refl
+hexOf-append (b ∷ l) r = ap (λ (t : List ℕ). hexDigit (b / 16) ∷ hexDigit (b % 16) ∷ t) (hexOf-append l r)
+
+-- the digits of one byte more
+pub hexOf-next : (l : List ℕ) (i : ℕ) → i < length l
+    → hexOf (take (i + 1) l) ≡ hexOf (take i l) ++ (hexDigit (getD l i 0 / 16) ∷ hexDigit (getD l i 0 % 16) ∷ [])
+unfolding hexOf
+hexOf-next l i h = rw (add-one i, take-suc l i 0 h) (hexOf-append (take i l) (getD l i 0 ∷ []))
+
+pub length-hexOf : (l : List ℕ) → length (hexOf l) ≡ 2 * length l
+unfolding hexOf
+length-hexOf [] = refl
+length-hexOf (b ∷ l) = omega (arith, length-hexOf l)
+
+pub put-two : (old : List ℕ) (at v w : ℕ) → at + 1 < length old → Put old at (v ∷ w ∷ []) (set (set old at v) (at + 1) w) (at + 2)
+put-two old at v w h =
+    let n : length (set old at v) ≡ length old = simp length-set in
+    let p = put-then (put-one old at v (omega arith)) (put-one (set old at v) (at + 1) w (omega arith)) in
+    record { place = omega arith; fits = omega arith; bytes = p .bytes }
+
+-- ---- how long a text is
+
+hex-front : (n : ℕ) (buffer : List ℕ) → length (hexOf (take n buffer)) ≤ 2 * length buffer
+hex-front n buffer = omega (arith, length-hexOf (take n buffer), length-take n buffer)
+
+pub answer-most : (a : Answer) (buffer : List ℕ) → length (answerText a buffer) ≤ answerRoom (length buffer)
+answer-most (answer.Frame n) buffer = omega (arith, hex-front n buffer)
+answer-most answer.Put buffer = omega arith
+answer-most (answer.Request n) buffer = omega (arith, hex-front n buffer)
+answer-most answer.Ignored buffer = omega arith
+answer-most (answer.Closed w x) buffer = omega (arith, closing-most w x)
+answer-most (answer.Number n) buffer = omega (arith, decimal-most n)
+answer-most answer.NoCall buffer = omega arith
+
+pub header-most : (t : Table) → length (headerText t) ≤ headerRoom
+header-most Book = omega arith
+header-most Mailboxes = omega arith
+header-most Words = omega arith
+header-most Files = omega arith
+
+pub count-most : (t : Table) → rowCount t ≤ runCount
+count-most Book = omega arith
+count-most Mailboxes = omega arith
+count-most Words = omega arith
+count-most Files = omega arith
+
+-- a number in front of a text, a text and the newline behind it
+length-numbered : (n : ℕ) (text : List ℕ) → length (column n space ++ text) ≤ columnRoom + length text
+length-numbered n text = omega (arith, length-append (column n space) text, column-most n space)
+
+length-ended : (text : List ℕ) → length (text ++ (newline ∷ [])) ≡ length text + 1
+length-ended text = length-append text (newline ∷ [])
+
+pub content-most : (content : List ℕ) → length content ≤ fileBytes → length (contentText content) ≤ contentRoom
+unfolding contentText
+content-most content h = omega (arith, length-ended (hexOf content), length-hexOf content)
+
+order-most : (p : Place) (content : List ℕ) → length content ≤ fileBytes → length (orderRow p content) ≤ rowRoom
+unfolding orderRow
+order-most p content h =
+    let columns = orderColumns p (length content) space in
+    let e = length-append columns (contentText content) in
+    cond-most (isBooked (p .used)) (columns ++ contentText content) [] rowRoom
+    (omega (arith, columns-most p (length content) space, content-most content h)) (omega arith)
+
+file-most : (n : ℕ) (content : List ℕ) → length content ≤ fileBytes → length (fileRow n content) ≤ rowRoom
+unfolding fileRow
+file-most n content h =
+    let columns = column (length content) space ++ contentText content in
+    cond-most (eqb (length content) 0) [] (column n space ++ columns) rowRoom (omega arith)
+    (omega (arith, length-numbered n columns, length-numbered (length content) (contentText content), content-most content h))
+
+pub stage-most : (s : Stage) (x : ℕ) → length (stageText s x) ≤ closingRoom
+stage-most stage.NotBegun x = omega arith
+stage-most stage.Running x = omega arith
+stage-most (stage.Ended w) x = closing-most w x
+
+word-most : (n : ℕ) (c : Client) → length (wordRow n c) ≤ rowRoom
+unfolding wordRow
+word-most n c =
+    let text = stageText (c .stage) (c .number) in
+    cond-most (isBegun (c .stage)) (column n space ++ (text ++ (newline ∷ []))) [] rowRoom
+    (omega (arith, length-numbered n (text ++ (newline ∷ [])), length-ended text, stage-most (c .stage) (c .number))) (omega arith)
+
+-- a file of a store is no longer than its place
+pub file-fits : (store : List ℕ) (i n : ℕ) → length (fileOf store i n) ≤ fileBytes
+unfolding fileOf partAt
+file-fits store i n = simp (length-take) (omega arith)
+
+pub row-most : (t : Table) (u : UnitState) (orders boxes files : List ℕ) (i : ℕ) → length (rowAt t u orders boxes files i) ≤ rowRoom
+row-most Book u orders boxes files i = order-most (placeAt (u .bank) i) _ (file-fits _ _ _)
+row-most Mailboxes u orders boxes files i = file-most (i + 1) _ (file-fits _ _ _)
+row-most Words u orders boxes files i = word-most (i + 1) (runAt (u .runs) i .client)
+row-most Files u orders boxes files i = file-most (i + 1) _ (file-fits _ _ _)

@@ -1,0 +1,3 @@
+-- The definitions of the driver's print: lines, closing tables.
+pub mod Line
+pub mod Tables

@@ -1,0 +1,93 @@
+-- "At the end of the input": the book, the mailboxes, the runs' closing words and the runs' files.
+use Prim.Native.Nat.{ℕ, _+_, _*_}
+use mathlib.Core.Bool.{cond}
+use mathlib.Core.List.{List, [], _∷_, _++_}
+use lib.Dec.{eqb}
+use lib.ListN.{length, getD}
+use Rattle.message.specs.Limits.{fileBytes}
+use Rattle.bank_state.specs.declared.state.Place.{Place}
+use Rattle.bank_state.specs.Limits.{placeCount}
+use Rattle.bank_state.specs.Search.{isBooked}
+use Rattle.bank_state.specs.State.{placeAt}
+use Rattle.bank_state.specs.Store.{fileOf}
+use Rattle.client.specs.declared.run.Client.{Client}
+use Rattle.client.specs.declared.run.Direction.{Direction}
+use Rattle.client.specs.declared.run.Direction.the-variants.{Upload, Download}
+use Rattle.client.specs.declared.run.Stage.{Stage}
+use Rattle.client.specs.declared.run.Stage.the-variants as stage
+use Rattle.client.specs.Rulings.{isBegun}
+use Rattle.print.specs.Text.{ascii, space, newline, column, rowsTo}
+use Rattle.print.specs.Book.{bookHeader, bookHeaderRoom, orderColumns, orderColumnsRoom}
+use Rattle.print.specs.Closing.{closingText}
+use Rattle.unit.specs.declared.state.UnitState.{UnitState}
+use Rattle.unit.specs.Records.{runCount}
+use Rattle.unit.specs.State.{runAt}
+use Rattle.driver_print.specs.declared.tables.Table.{Table}
+use Rattle.driver_print.specs.declared.tables.Table.the-variants.{Book, Mailboxes, Words, Files}
+use Rattle.driver_print.specs.Line.{hexOf}
+
+abbrev pub headerText : Table → List ℕ
+headerText Book = bookHeader space ++ ascii "content\n"
+headerText Mailboxes = ascii "mailbox bytes content\n"
+headerText Words = ascii "run word\n"
+headerText Files = ascii "run bytes content\n"
+
+-- the column "content", the last of its row
+unfoldable pub contentText : List ℕ → List ℕ
+contentText content = hexOf content ++ (newline ∷ [])
+
+-- a booked order: the book's columns, content; a place that holds none has no row
+unfoldable pub orderRow : Place → List ℕ → List ℕ
+orderRow p content = cond (isBooked (p .used)) (orderColumns p (length content) space ++ contentText content) []
+
+-- a mailbox or a run with its file, "where it is not empty"
+unfoldable pub fileRow : ℕ → List ℕ → List ℕ
+fileRow n content =
+    cond (eqb (length content) 0) [] (column n space ++ (column (length content) space ++ contentText content))
+
+-- "the runs that have begun, with their closing word or `open`"; x is the order number
+abbrev pub stageText : Stage → ℕ → List ℕ
+stageText stage.NotBegun x = []
+stageText stage.Running x = ascii "open"
+stageText (stage.Ended w) x = closingText w x
+
+unfoldable pub wordRow : ℕ → Client → List ℕ
+wordRow n c = cond (isBegun (c .stage)) (column n space ++ (stageText (c .stage) (c .number) ++ (newline ∷ []))) []
+
+-- "its file buffer up to the end of the last segment held"; an upload holds none
+abbrev pub heldBy : Direction → Client → ℕ
+heldBy Upload c = 0
+heldBy Download c = c .length
+
+-- row i of a table: "The book in place order; the mailboxes that hold a file; the runs that have begun ...; and each run's file"
+abbrev pub rowAt : Table → UnitState → List ℕ → List ℕ → List ℕ → ℕ → List ℕ
+rowAt Book u orders boxes files i = orderRow (placeAt (u .bank) i) (fileOf orders i (placeAt (u .bank) i .length))
+rowAt Mailboxes u orders boxes files i = fileRow (i + 1) (fileOf boxes i (getD (u .bank .files) i 0))
+rowAt Words u orders boxes files i = wordRow (i + 1) (runAt (u .runs) i .client)
+rowAt Files u orders boxes files i =
+    let c = runAt (u .runs) i .client in
+    fileRow (i + 1) (fileOf files i (heldBy (c .direction) c))
+
+-- how many rows a table has at most: one for each place, mailbox or run
+abbrev pub rowCount : Table → ℕ
+rowCount Book = placeCount
+rowCount Mailboxes = placeCount
+rowCount Words = runCount
+rowCount Files = runCount
+
+-- a table of the unit, its stores of orders and mailboxes, and the runs' file buffers
+unfoldable pub tableOf : Table → UnitState → List ℕ → List ℕ → List ℕ → List ℕ
+tableOf t u orders boxes files = headerText t ++ rowsTo (rowAt t u orders boxes files) (rowCount t)
+
+-- the most bytes that a header takes, the column "content" with a file of 3,840 bytes, a row of any table, and a table
+abbrev pub headerRoom : ℕ
+headerRoom = bookHeaderRoom + 8
+
+abbrev pub contentRoom : ℕ
+contentRoom = 2 * fileBytes + 1
+
+abbrev pub rowRoom : ℕ
+rowRoom = orderColumnsRoom + contentRoom
+
+abbrev pub tableRoom : ℕ
+tableRoom = headerRoom + runCount * rowRoom

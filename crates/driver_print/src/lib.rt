@@ -1,0 +1,3 @@
+// The driver's print: the line of a call, and the closing tables.
+pub mod line;
+pub mod tables;

@@ -1,0 +1,104 @@
+// Bytes in hexadecimal, and the line of a call, written into a lent output.
+use octets::bytes::front;
+use print::closing::put_closing;
+use print::text::put_byte;
+use print::text::put_column;
+use print::text::put_decimal;
+use print::text::put_text;
+use unit::call::Answer;
+ghost use mathlib.Core.Path.{_≡_};
+ghost use mathlib.Core.List.{_++_};
+ghost use Prim.Native.Nat.{_+_, _*_, _≤_, _<_};
+ghost use lib.ListN.{length};
+ghost use Rattle.print.specs.Text.{Put, printed, printedCount};
+ghost use Rattle.driver_print.specs.Line.{hexDigit, hexOf, answerText, lineOf, answerRoom, lineRoom};
+
+// The most bytes of a line but for those of a reply or request.
+const LINE_BYTES: usize = 21 + 7 + 20 + 1;
+
+// The character of a hexadecimal digit.
+fn hex_digit(d: u8) -> u8
+    requires { ⌜ d < 16 ⌝ }
+    ensures { λ r. ⌜ r ≡ hexDigit d ⌝ }
+{
+    if d < 10 {
+        return 48 + d;
+    }
+    87 + d
+}
+
+// Writes bytes in hexadecimal.
+pub(crate) fn put_hex(output: &mut [u8], at: usize, bytes: &[u8]) -> usize
+    requires { ⌜ at + 2 * length (now bytes) ≤ length (now output) ⌝ }
+    ensures { λ r. ⌜ Put (now (output .entry)) at (hexOf (now (bytes .entry))) (now (output .exit)) r ⌝ }
+{
+    let mut end = at;
+    let mut i = 0;
+    while i < bytes.len() {
+        let b = bytes[i];
+        output[end] = hex_digit(b / 16);
+        output[end + 1] = hex_digit(b % 16);
+        end += 2;
+        i += 1;
+    }
+    end
+}
+
+// Writes a name and the bytes behind it in hexadecimal.
+fn put_named(output: &mut [u8], at: usize, name: &[u8], bytes: &[u8]) -> usize
+    requires { ⌜ at + (length (now name) + 2 * length (now bytes)) ≤ length (now output) ⌝ }
+    ensures { λ r. ⌜ Put (now (output .entry)) at (now (name .entry) ++ hexOf (now (bytes .entry))) (now (output .exit)) r ⌝ }
+{
+    let a = put_text(output, at, name);
+    put_hex(output, a, bytes)
+}
+
+// Writes what an answer says.
+fn put_answer(output: &mut [u8], at: usize, answer: Answer, buffer: &[u8]) -> usize
+    requires { ⌜ at + answerRoom (length (now buffer)) ≤ length (now output) ⌝ }
+    ensures { λ r. ⌜ Put (now (output .entry)) at (answerText answer (now (buffer .entry))) (now (output .exit)) r ⌝ }
+{
+    match answer {
+        Answer::Frame(n) => put_named(output, at, b"frame ", front(buffer, n)),
+        Answer::Put => put_text(output, at, b"put"),
+        Answer::Request(n) => put_named(output, at, b"request ", front(buffer, n)),
+        Answer::Ignored => put_text(output, at, b"ignored"),
+        Answer::Closed(word, number) => {
+            let a = put_text(output, at, b"closed ");
+            put_closing(output, a, word, number)
+        }
+        Answer::Number(n) => {
+            let a = put_text(output, at, b"number ");
+            put_decimal(output, a, n)
+        }
+        Answer::NoCall => at,
+    }
+}
+
+// Writes the line of call n.
+fn put_line(output: &mut [u8], n: u64, answer: Answer, buffer: &[u8]) -> usize
+    requires { ⌜ lineRoom (length (now buffer)) ≤ length (now output) ⌝ }
+    ensures { λ r. ⌜ Put (now (output .entry)) 0 (lineOf n answer (now (buffer .entry))) (now (output .exit)) r ⌝ }
+{
+    let a = put_column(output, 0, n, b' ');
+    let b = put_answer(output, a, answer, buffer);
+    put_byte(output, b, b'\n')
+}
+
+// The line of call n at the front of the output, and its length.
+pub fn line(n: u64, answer: Answer, buffer: &[u8], output: &mut [u8]) -> usize
+    ensures { λ r. ⌜
+        (now (output .exit)
+        ≡ printed (lineRoom (length (now (buffer .entry)))) (lineOf n answer (now (buffer .entry))) (now (output .entry)))
+        × (r ≡ printedCount (lineRoom (length (now (buffer .entry)))) (lineOf n answer (now (buffer .entry))) (now (output .entry)))
+        ⌝ }
+{
+    let room = output.len();
+    if room < LINE_BYTES {
+        return 0;
+    }
+    if (room - LINE_BYTES) / 2 < buffer.len() {
+        return 0;
+    }
+    put_line(output, n, answer, buffer)
+}

@@ -1,0 +1,223 @@
+// The closing tables: the book, the mailboxes, the runs' closing words and the runs' files, written into a lent output.
+use crate::line::put_hex;
+use bank_state::limits::PLACES;
+use bank_state::search::is_booked;
+use bank_state::state::Place;
+use bank_state::store::file_of;
+use client::rulings::is_begun;
+use client::run::Client;
+use client::run::Direction;
+use client::run::Stage;
+use message::limits::FILE_BYTES;
+use print::book::BOOK_HEADER_ROOM;
+use print::book::ORDER_COLUMNS_ROOM;
+use print::book::put_book_header;
+use print::book::put_order_columns;
+use print::closing::put_closing;
+use print::text::put_byte;
+use print::text::put_column;
+use print::text::put_text;
+use unit::record::RUNS;
+use unit::state::UnitState;
+use unit::state::file_length_of;
+use unit::state::place_of;
+ghost use mathlib.Core.Path.{_≡_};
+ghost use Prim.Native.Nat.{_+_, _*_, _≤_, _<_};
+ghost use lib.ListN.{length};
+ghost use Rattle.message.specs.Limits.{fileBytes};
+ghost use Rattle.print.specs.Text.{Put, rowsTo, printed, printedCount};
+ghost use Rattle.print.specs.Closing.{closingRoom};
+ghost use Rattle.driver_print.specs.Tables.{headerText, contentText, orderRow, fileRow, stageText, wordRow, heldBy};
+ghost use Rattle.driver_print.specs.Tables.{rowAt, rowCount, tableOf, headerRoom, contentRoom, rowRoom, tableRoom};
+
+// The most bytes of a table: the book's header and 16 of its rows.
+pub const TABLE_ROOM: usize = BOOK_HEADER_ROOM
+    + 8
+    + RUNS * (ORDER_COLUMNS_ROOM + 2 * FILE_BYTES + 1);
+
+// The closing tables.
+pub enum Table {
+    Book,
+    Mailboxes,
+    Words,
+    Files,
+}
+
+// Writes the header of a table at the front of the output.
+fn put_header(output: &mut [u8], t: Table) -> usize
+    requires { ⌜ headerRoom ≤ length (now output) ⌝ }
+    ensures { λ r. ⌜ Put (now (output .entry)) 0 (headerText t) (now (output .exit)) r ⌝ }
+{
+    match t {
+        Table::Book => {
+            let a = put_book_header(output, 0, b' ');
+            put_text(output, a, b"content\n")
+        }
+        Table::Mailboxes => put_text(output, 0, b"mailbox bytes content\n"),
+        Table::Words => put_text(output, 0, b"run word\n"),
+        Table::Files => put_text(output, 0, b"run bytes content\n"),
+    }
+}
+
+// Writes a file's bytes, to the line's end.
+fn put_content(output: &mut [u8], at: usize, content: &[u8]) -> usize
+    requires { ⌜ (at + contentRoom ≤ length (now output)) × (length (now content) ≤ fileBytes) ⌝ }
+    ensures { λ r. ⌜ Put (now (output .entry)) at (contentText (now (content .entry))) (now (output .exit)) r ⌝ }
+{
+    let a = put_hex(output, at, content);
+    put_byte(output, a, b'\n')
+}
+
+// Writes the row of a place, where it holds a booked order.
+fn put_order(output: &mut [u8], at: usize, p: Place, content: &[u8]) -> usize
+    requires { ⌜ (at + rowRoom ≤ length (now output)) × (length (now content) ≤ fileBytes) ⌝ }
+    ensures { λ r. ⌜ Put (now (output .entry)) at (orderRow p (now (content .entry))) (now (output .exit)) r ⌝ }
+{
+    let used = p.used;
+    if !is_booked(used) {
+        return at;
+    }
+    let a = put_order_columns(output, at, p, content.len() as u64, b' ');
+    put_content(output, a, content)
+}
+
+// Writes the row of a mailbox's or a run's file, where it is not empty.
+fn put_file(output: &mut [u8], at: usize, n: u64, content: &[u8]) -> usize
+    requires { ⌜ (at + rowRoom ≤ length (now output)) × (length (now content) ≤ fileBytes) ⌝ }
+    ensures { λ r. ⌜ Put (now (output .entry)) at (fileRow n (now (content .entry))) (now (output .exit)) r ⌝ }
+{
+    if content.len() == 0 {
+        return at;
+    }
+    let a = put_column(output, at, n, b' ');
+    let b = put_column(output, a, content.len() as u64, b' ');
+    put_content(output, b, content)
+}
+
+// Writes what a run that has begun came to.
+fn put_stage(output: &mut [u8], at: usize, stage: Stage, number: u64) -> usize
+    requires { ⌜ at + closingRoom ≤ length (now output) ⌝ }
+    ensures { λ r. ⌜ Put (now (output .entry)) at (stageText stage number) (now (output .exit)) r ⌝ }
+{
+    match stage {
+        Stage::NotBegun => at,
+        Stage::Running => put_text(output, at, b"open"),
+        Stage::Ended(word) => put_closing(output, at, word, number),
+    }
+}
+
+// Writes the row of a run that has begun.
+fn put_word(output: &mut [u8], at: usize, n: u64, c: Client) -> usize
+    requires { ⌜ at + rowRoom ≤ length (now output) ⌝ }
+    ensures { λ r. ⌜ Put (now (output .entry)) at (wordRow n c) (now (output .exit)) r ⌝ }
+{
+    let stage = c.stage;
+    if !is_begun(stage) {
+        return at;
+    }
+    let a = put_column(output, at, n, b' ');
+    let b = put_stage(output, a, stage, c.number);
+    put_byte(output, b, b'\n')
+}
+
+// How many bytes of its file a run holds.
+fn held_by(c: Client) -> u64
+    ensures { λ r. ⌜ r ≡ heldBy (c .direction) c ⌝ }
+{
+    let direction = c.direction;
+    match direction {
+        Direction::Upload => 0,
+        Direction::Download => c.length,
+    }
+}
+
+// Writes row i of a table.
+fn put_row(
+    output: &mut [u8],
+    at: usize,
+    t: Table,
+    u: UnitState,
+    orders: &[u8],
+    boxes: &[u8],
+    files: &[u8],
+    i: usize,
+) -> usize
+    requires { ⌜ (at + rowRoom ≤ length (now output)) × (i < rowCount t) ⌝ }
+    ensures { λ r. ⌜
+        Put (now (output .entry)) at (rowAt t u (now (orders .entry)) (now (boxes .entry)) (now (files .entry)) i) (now (output .exit)) r
+        ⌝ }
+{
+    let n = i as u64 + 1;
+    let run = u.runs[i];
+    let client = run.client;
+    match t {
+        Table::Book => {
+            let p = place_of(u, i);
+            put_order(output, at, p, file_of(orders, i, p.length))
+        }
+        Table::Mailboxes => put_file(output, at, n, file_of(boxes, i, file_length_of(u, i))),
+        Table::Words => put_word(output, at, n, client),
+        Table::Files => put_file(output, at, n, file_of(files, i, held_by(client))),
+    }
+}
+
+// How many rows a table has at most.
+fn row_count(t: Table) -> usize
+    ensures { λ r. ⌜ r ≡ rowCount t ⌝ }
+{
+    match t {
+        Table::Book => PLACES,
+        Table::Mailboxes => PLACES,
+        Table::Words => RUNS,
+        Table::Files => RUNS,
+    }
+}
+
+// Writes all rows of a table.
+fn put_rows(
+    output: &mut [u8],
+    at: usize,
+    t: Table,
+    u: UnitState,
+    orders: &[u8],
+    boxes: &[u8],
+    files: &[u8],
+) -> usize
+    requires { ⌜ at + rowCount t * rowRoom ≤ length (now output) ⌝ }
+    ensures { λ r. ⌜
+        Put (now (output .entry)) at
+        (rowsTo (rowAt t u (now (orders .entry)) (now (boxes .entry)) (now (files .entry))) (rowCount t)) (now (output .exit)) r
+        ⌝ }
+{
+    let n = row_count(t);
+    let mut end = at;
+    let mut i = 0;
+    while i < n {
+        end = put_row(output, end, t, u, orders, boxes, files, i);
+        i += 1;
+    }
+    end
+}
+
+// A closing table at the front of the output, and its length.
+pub fn table_of(
+    t: Table,
+    u: UnitState,
+    orders: &[u8],
+    boxes: &[u8],
+    files: &[u8],
+    output: &mut [u8],
+) -> usize
+    ensures { λ r. ⌜
+        (now (output .exit)
+        ≡ printed tableRoom (tableOf t u (now (orders .entry)) (now (boxes .entry)) (now (files .entry))) (now (output .entry)))
+        × (r
+        ≡ printedCount tableRoom (tableOf t u (now (orders .entry)) (now (boxes .entry)) (now (files .entry))) (now (output .entry)))
+        ⌝ }
+{
+    if output.len() < TABLE_ROOM {
+        return 0;
+    }
+    let at = put_header(output, t);
+    put_rows(output, at, t, u, orders, boxes, files)
+}

@@ -1,0 +1,44 @@
+-- A session: the calls of the records read, made one after the other on a fresh unit.
+use Prim.Native.Nat.{ℕ}
+use mathlib.Core.Path.{_≡_}
+use mathlib.Core.Bool.{Bool, true, _&&_}
+use mathlib.Core.List.{List, [], _∷_}
+use lib.ListN.{replicate}
+use Rattle.bank_state.specs.Limits.{storeBytes, replyRoom}
+use Rattle.unit.specs.declared.state.UnitState.{UnitState}
+use Rattle.unit.specs.Records.{callOf, isCall}
+use Rattle.unit.specs.State.{State, fresh, roomsBytes, stateOf}
+use Rattle.unit.specs.Call.{unitCall}
+
+-- the unit after the calls of these records, one after the other
+unfoldable pub unitAfter : State → List (List ℕ) → State
+unitAfter s [] = s
+unitAfter s (r ∷ rs) = unitAfter (unitCall s r .state) rs
+
+-- each of these records is a call
+unfoldable pub allCalls : List (List ℕ) → Bool
+allCalls [] = true
+allCalls (r ∷ rs) = isCall (callOf r) && allCalls rs
+
+-- the calls of some records, which are what happens to stand in the input, make the state after of the state before
+pub record Calls (before after : State) : Type 0 where
+  pub records : List (List ℕ)
+  pub each : allCalls records ≡ true
+  pub left : after ≡ unitAfter before records
+
+abbrev zeros : ℕ → List ℕ
+zeros n = replicate n 0
+
+-- "one fresh bank (8 places, 8 mailboxes) and 16 client runs", and all that is lent to them zeroed
+unfoldable pub start : State
+start = stateOf fresh (zeros storeBytes) (zeros storeBytes) (zeros roomsBytes) (zeros roomsBytes) (zeros replyRoom)
+
+-- the bank and the runs of a state
+abbrev pub unitOf : State → UnitState
+unitOf s = record { bank = s .world .bank; runs = s .runs }
+
+-- a unit that a session leaves
+pub record Session (u : UnitState) : Type 0 where
+  pub last : State
+  pub calls : Calls start last
+  pub unit : u ≡ unitOf last

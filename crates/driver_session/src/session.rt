@@ -1,0 +1,184 @@
+// The driver's session: each record from standard input, its line to standard output; at the end the closing tables.
+use bank_state::limits::REPLY_ROOM;
+use bank_state::limits::STORE_BYTES;
+use driver_print::line::line;
+use driver_print::tables::TABLE_ROOM;
+use driver_print::tables::Table;
+use driver_print::tables::table_of;
+use libc::STDIN_FILENO;
+use libc::STDOUT_FILENO;
+use octets::bytes::front;
+use unit::call::call;
+use unit::record::RECORD_BYTES;
+use unit::record::call_of;
+use unit::record::head_of;
+use unit::record::is_call;
+use unit::record::kind_of;
+use unit::record::size_of;
+use unit::state::ROOMS_BYTES;
+use unit::state::UnitState;
+use unit::state::fresh;
+ghost use Rattle.unit.specs.State.{fresh, stateOf};
+ghost use Rattle.driver_session.specs.Session.{Calls, Session};
+
+// Between two records: the unit, and whether the input may go on.
+struct Reading {
+    pub unit: UnitState,
+    pub more: bool,
+}
+
+// Reads the bytes from a place up to an end, and says whether all came.
+fn read_part(input: &mut [u8], from: usize, end: usize) -> bool {
+    if input.len() < end {
+        return false;
+    }
+    if end < from {
+        return false;
+    }
+    let n = io::read_full(STDIN_FILENO, &mut input[from..end]);
+    n == end - from
+}
+
+// Reads a record into the input, and gives its length; 0 where it is cut short or its letter is none.
+fn read_record(input: &mut [u8]) -> usize {
+    if !read_part(input, 0, 1) {
+        return 0;
+    }
+    let kind = kind_of(first(input));
+    let head = head_of(kind);
+    if !read_part(input, 1, head) {
+        return 0;
+    }
+    let end = head + size_of(kind, input);
+    if !read_part(input, head, end) {
+        return 0;
+    }
+    end
+}
+
+// The first byte, 0 where there is none.
+fn first(input: &[u8]) -> u8 {
+    if input.len() == 0 {
+        return 0;
+    }
+    input[0]
+}
+
+// One record: its call, the call's line, and whether the input may go on.
+fn step(
+    u: UnitState,
+    n: u64,
+    input: &mut [u8],
+    output: &mut [u8],
+    orders: &mut [u8],
+    boxes: &mut [u8],
+    payloads: &mut [u8],
+    files: &mut [u8],
+    buffer: &mut [u8],
+) -> Reading
+    ensures { λ r. ⌜ Calls
+        (stateOf u (now (orders .entry)) (now (boxes .entry)) (now (payloads .entry)) (now (files .entry)) (now (buffer .entry)))
+        (stateOf (r .unit) (now (orders .exit)) (now (boxes .exit)) (now (payloads .exit)) (now (files .exit)) (now (buffer .exit))) ⌝ }
+{
+    let size = read_record(input);
+    if !is_call(call_of(front(input, size))) {
+        return Reading {
+            unit: u,
+            more: false,
+        };
+    }
+    let o = call(
+        u,
+        front(input, size),
+        orders,
+        boxes,
+        payloads,
+        files,
+        buffer,
+    );
+    let unit = o.unit;
+    let answer = o.answer;
+    let k = line(n, answer, buffer, output);
+    let more = io::write_all(STDOUT_FILENO, front(output, k));
+    Reading { unit, more }
+}
+
+// The calls of all records. Nothing says that an input ends, so the calls are counted up to a number that no run reaches.
+fn read_all(
+    input: &mut [u8],
+    output: &mut [u8],
+    orders: &mut [u8],
+    boxes: &mut [u8],
+    payloads: &mut [u8],
+    files: &mut [u8],
+    buffer: &mut [u8],
+) -> UnitState
+    ensures { λ r. ⌜ Calls
+        (stateOf fresh (now (orders .entry)) (now (boxes .entry)) (now (payloads .entry)) (now (files .entry)) (now (buffer .entry)))
+        (stateOf r (now (orders .exit)) (now (boxes .exit)) (now (payloads .exit)) (now (files .exit)) (now (buffer .exit))) ⌝ }
+{
+    let unit = fresh();
+    let mut t = Reading { unit, more: true };
+    let mut calls = 0;
+    while calls < u64::MAX && t.more {
+        calls += 1;
+        let u = t.unit;
+        t = step(
+            u,
+            calls,
+            input,
+            output,
+            orders,
+            boxes,
+            payloads,
+            files,
+            buffer,
+        );
+    }
+    t.unit
+}
+
+// Writes a closing table.
+fn close_table(
+    t: Table,
+    u: UnitState,
+    output: &mut [u8],
+    orders: &[u8],
+    boxes: &[u8],
+    files: &[u8],
+) {
+    let n = table_of(t, u, orders, boxes, files, output);
+    io::write_all(STDOUT_FILENO, front(output, n));
+}
+
+// Writes the closing tables.
+fn close(u: UnitState, output: &mut [u8], orders: &[u8], boxes: &[u8], files: &[u8]) {
+    close_table(Table::Book, u, output, orders, boxes, files);
+    close_table(Table::Mailboxes, u, output, orders, boxes, files);
+    close_table(Table::Words, u, output, orders, boxes, files);
+    close_table(Table::Files, u, output, orders, boxes, files);
+}
+
+// Makes the calls of all records, prints, and gives the unit as it is then.
+pub fn session() -> UnitState
+    ensures { λ r. ⌜ Session r ⌝ }
+{
+    let mut input = [0u8; RECORD_BYTES];
+    let mut output = [0u8; TABLE_ROOM];
+    let mut orders = [0u8; STORE_BYTES];
+    let mut boxes = [0u8; STORE_BYTES];
+    let mut payloads = [0u8; ROOMS_BYTES];
+    let mut files = [0u8; ROOMS_BYTES];
+    let mut buffer = [0u8; REPLY_ROOM];
+    let u = read_all(
+        &mut input,
+        &mut output,
+        &mut orders,
+        &mut boxes,
+        &mut payloads,
+        &mut files,
+        &mut buffer,
+    );
+    close(u, &mut output, &orders, &boxes, &files);
+    u
+}

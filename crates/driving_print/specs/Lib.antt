@@ -1,3 +1,0 @@
--- The definitions of the driver's print: lines, closing tables.
-pub mod Lines
-pub mod Tables

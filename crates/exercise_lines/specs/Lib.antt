@@ -1,2 +1,0 @@
--- The definitions of a line.
-pub mod Lines

@@ -1,2 +1,0 @@
--- The definitions of the exercises' words.
-pub mod Words

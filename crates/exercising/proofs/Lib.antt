@@ -1,3 +1,0 @@
--- The laws that several proofs cite.
-pub mod Elements
-pub mod Moves

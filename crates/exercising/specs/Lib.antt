@@ -1,3 +1,0 @@
--- The definitions of the rows and of the session.
-pub mod Rows
-pub mod Session

@@ -1,0 +1,71 @@
+-- What marking's loop keeps from call to call. Assumes nothing.
+use Prim.Native.Nat.{ℕ, zero, suc, _+_, _-_, _*_, _≤_, _<_}
+use mathlib.Core.Bool.{true, false, _&&_}
+use mathlib.Core.List.{List, [], _++_, append-assoc, append-nil}
+use mathlib.Core.Path.{_≡_, refl, sym, ap, _∙_}
+use native.Mathlib.Omega.{arith}
+use lib.Dec.{ltb}
+use lib.ListN.{length, drop}
+use borrow.Author.Tests.{lt-ltb}
+use Rattle.print.specs.Text.{Put}
+use Rattle.print.proofs.Texts.{put-length, put-then}
+use Rattle.marker_session.specs.declared.mark.Marked.{Marked}
+use Rattle.marker_session.specs.Lines.{lineRoom}
+use Rattle.marker_session.specs.Marking.{Standing, isReady, called, calledLine, callsTo, linesTo, linesIn}
+use Rattle.marker_session.specs.Marking.{standingOf, Print, printOf, markedNext, markedAll}
+use Rattle.marker_session.proofs.Calls.{calls-turn, lines-turn, calls-none, lines-none}
+use Rattle.marker_session.proofs.Texts.{line-most}
+
+line-fits : (s : Standing) → length (calledLine s) ≤ lineRoom
+unfolding calledLine
+line-fits s = line-most _ _ _
+
+-- marking from s into the output old: so many lines are left, and the text is written
+pub record Marking (s : Standing) (input old : List ℕ) (left : ℕ) (m : Marked) (orders boxes buffer output : List ℕ) : Type 0 where
+  pub text : List ℕ
+  pub calls : callsTo (linesIn (length old)) s ≡ callsTo left (standingOf m input orders boxes buffer)
+  pub lines : linesTo (linesIn (length old)) s ≡ text ++ linesTo left (standingOf m input orders boxes buffer)
+  pub put : Put old 0 text output (m .written)
+  pub room : m .written + left * lineRoom ≤ length old
+
+module _ (s : Standing) (input old : List ℕ) (m : Marked) (orders boxes buffer output : List ℕ) where
+  abbrev now : Standing
+  now = standingOf m input orders boxes buffer
+
+  pub marking-next : (left : ℕ) → Marking s input old left m orders boxes buffer output
+      → 0 < left → isReady (m .calls) (drop (m .used) input) ≡ true
+      → (m′ : Marked) (orders′ boxes′ buffer′ output′ : List ℕ)
+      → printOf m′ input orders′ boxes′ buffer′ output′ ≡ markedNext (m .written) now output
+      → Marking s input old (left - 1) m′ orders′ boxes′ buffer′ output′
+  marking-next zero k h e m′ orders′ boxes′ buffer′ output′ p = absurd (omega arith)
+  marking-next (suc n) k h e m′ orders′ boxes′ buffer′ output′ p =
+      let there : called now ≡ standingOf m′ input orders′ boxes′ buffer′ = ap (λ (x : Print). x .standing) (sym p) in
+      let z : suc n - 1 ≡ n = omega arith in
+      let fit = line-fits now in
+      let place = ap (λ (x : Print). x .written) p in
+      record {
+        text = k .text ++ calledLine now;
+        calls = k .calls ∙ calls-turn now n e ∙ rw (there, z);
+        lines = k .lines ∙ ap (λ (l : List ℕ). k .text ++ l) (lines-turn now n e)
+            ∙ sym (append-assoc (k .text) (calledLine now) (linesTo n (called now))) ∙ rw (there, z);
+        put = put-then (k .put) (record {
+          place = place;
+          fits = omega (arith, put-length (k .put), k .room);
+          bytes = ap (λ (x : Print). x .output) p;
+        });
+        room = omega (arith, k .room);
+      }
+
+  ended : (left : ℕ) → Marking s input old left m orders boxes buffer output → callsTo left now ≡ now → linesTo left now ≡ []
+      → printOf m input orders boxes buffer output ≡ markedAll s old
+  ended left k c l =
+      rw (k .calls ∙ c, k .lines ∙ ap (λ (x : List ℕ). k .text ++ x) l ∙ append-nil (k .text), k .put .place, k .put .bytes)
+
+  pub marking-end : (left : ℕ) → Marking s input old left m orders boxes buffer output
+      → (ltb 0 left && isReady (m .calls) (drop (m .used) input)) ≡ false
+      → printOf m input orders boxes buffer output ≡ markedAll s old
+  unfolding callsTo linesTo
+  marking-end zero k e = ended zero k refl refl
+  marking-end (suc n) k e =
+      let none = rw (lt-ltb 0 (suc n) (omega arith)) at e in
+      ended (suc n) k (calls-none now (suc n) none) (lines-none now (suc n) none)

@@ -1,0 +1,56 @@
+-- How long the lines are at most, and their code. Assumes nothing.
+use Prim.Native.Nat.{ℕ, _≤_}
+use mathlib.Core.List.{List, [], _∷_, _++_}
+use mathlib.Core.Bool.{Bool, true, false, cond}
+use mathlib.Core.Path.{_≡_, refl}
+use native.Mathlib.Omega.{arith}
+use lib.ListN.{length, take, length-append}
+use Rattle.frame_table.specs.Names.{returnCode}
+use Rattle.frame.specs.Reader.{readRequest, readReply}
+use Rattle.print.specs.Text.{codeDigits, digitCountTo, digitCount, decimal, space, newline, column}
+use Rattle.print.proofs.Digits.{length-digitsIn, column-most}
+use Rattle.bank.specs.declared.call.FrameAnswer.{FrameAnswer}
+use Rattle.bank.specs.declared.call.FrameAnswer.the-variants.{Reply, WrongLength}
+use Rattle.octets.specs.Bytes.{number}
+use Rattle.frame.specs.Row.{dataOf}
+use Rattle.bank_state.specs.State.{World}
+use Rattle.bank_state.specs.Clock.{advanced}
+use Rattle.bank.specs.Call.{Step, FrameCall, respond, replied, replyCode, lentRight, frameCall}
+use Rattle.marker_session.specs.Lines.{codeOf, answerText, lineOf, codedText, codedLine, lineRoom}
+
+pub answer-most : (a : FrameAnswer) (buffer : List ℕ) → length (answerText a buffer) ≤ codeDigits
+unfolding codeOf decimal digitCount digitCountTo
+answer-most (Reply n) buffer = omega (arith, length-digitsIn 256 0 codeDigits (returnCode (readReply (take n buffer))))
+answer-most WrongLength buffer = omega (arith, length-digitsIn 10 48 1 1)
+
+pub coded-most : (a : FrameAnswer) (code : ℕ) → length (codedText a code) ≤ codeDigits
+unfolding decimal digitCount digitCountTo
+coded-most (Reply n) code = omega (arith, length-digitsIn 256 0 codeDigits code)
+coded-most WrongLength code = omega (arith, length-digitsIn 10 48 1 1)
+
+-- the line goes by the return code of the reply in the buffer
+pub coded-line : (n : ℕ) (a : FrameAnswer) (buffer : List ℕ) (code : ℕ) → code ≡ replyCode a buffer → codedLine n a code ≡ lineOf n a buffer
+unfolding codedLine lineOf codeOf
+coded-line n (Reply k) buffer code e = rw e
+coded-line n WrongLength buffer code e = refl
+
+module _ (s : Step) (w : World) (buffer : List ℕ) where
+  code-at : (b : Bool)
+      → let r : FrameCall = cond b (replied s buffer) (record { world = w; buffer = buffer; answer = WrongLength; number = 1; code = 0 }) in
+      r .code ≡ replyCode (r .answer) (r .buffer)
+  code-at true = refl
+  code-at false = refl
+
+-- a call's code is that of the reply that it leaves in the buffer
+pub call-code : (r : FrameCall) (w : World) (time : ℕ) (ids frame buffer : List ℕ) → r ≡ frameCall w time ids frame buffer
+    → r .code ≡ replyCode (r .answer) (r .buffer)
+unfolding frameCall
+call-code r w time ids frame buffer e =
+    rw e (code-at (respond (number ids) (advanced time w) (readRequest frame) (dataOf frame)) w buffer (lentRight w ids buffer))
+
+pub line-most : (n : ℕ) (a : FrameAnswer) (buffer : List ℕ) → length (lineOf n a buffer) ≤ lineRoom
+unfolding lineOf
+line-most n a buffer =
+    let e = length-append (column n space) (answerText a buffer ++ (newline ∷ [])) in
+    let f = length-append (answerText a buffer) (newline ∷ []) in
+    omega (arith, column-most n space, answer-most a buffer)

@@ -1,0 +1,87 @@
+-- `read_all` meets its contract. The loop keeps what was read so far; the measure is the number of reads that may follow. Assumes nothing.
+use mathlib.Core.Path.{_≡_, refl, _∙_}
+use native.Mathlib.Omega.{arith}
+use lib.ListN.{length}
+use Rattle.marker_session.specs.Session.{ReadFrom, freshStanding}
+use Rattle.marker_session.proofs.Parts.{reads-begin, reads-next}
+use Rattle.marker_session.proofs.session.read_all.Statement.{statement}
+use Rattle.marker_session.proofs.session.read_all.Tie as tie
+
+abbrev Inv-loop : tie.InvT-loop
+Inv-loop input₀ output₀ orders₀ boxes₀ buffer₀ t₀ input output orders boxes buffer t =
+    (length input ≡ length input₀) × (length output ≡ length output₀) × (length orders ≡ length orders₀)
+    × (length boxes ≡ length boxes₀) × (length buffer ≡ length buffer₀)
+    × ReadFrom (freshStanding orders₀ boxes₀ buffer₀) t input orders boxes buffer
+
+abbrev μ-loop : tie.MeasureT-loop
+μ-loop input₀ output₀ orders₀ boxes₀ buffer₀ t₀ input output orders boxes buffer t = t .reads
+
+fresh-requires : tie.Need-fresh-requires Inv-loop μ-loop
+fresh-requires c κs = tt
+
+loop-holds : tie.Need-loop-holds Inv-loop μ-loop
+loop-holds c = (refl, refl, refl, refl, refl, reads-begin _ _ _ _ _ (c .fresh .ensures) refl refl)
+
+read-on-requires : tie.Need-read-on-requires Inv-loop μ-loop
+read-on-requires c κs =
+    let turn = c .before .before .before .before .before in
+    let loop = turn .before .before in
+    let inv = loop .loop .inv in
+    let start = loop .before .before .before .before .before .before .before in
+    (turn .if1 .taken, inv .5 .held, omega (arith, inv .0, inv .1, start .pre))
+
+loop-less : tie.Need-loop-less Inv-loop μ-loop
+loop-less c = c .before .before .before .before .before .before .before .before .before .before .read-on .ensures .0
+
+loop-again : tie.Need-loop-again Inv-loop μ-loop
+loop-again c =
+    let buffer-back = c .before in
+    let boxes-back = buffer-back .before .before in
+    let orders-back = boxes-back .before .before in
+    let output-back = orders-back .before .before in
+    let input-back = output-back .before .before in
+    let at-call = input-back .before in
+    let inv = at-call .before .before .before .before .before .before .before .before .loop .inv in (
+      input-back .input .given ∙ inv .0,
+      output-back .output .given ∙ inv .1,
+      orders-back .orders .given ∙ inv .2,
+      boxes-back .boxes .given ∙ inv .3,
+      buffer-back .buffer .given ∙ inv .4,
+      reads-next _ _ _ _ _ _ _ _ _ _ _ (inv .5) (at-call .read-on .ensures .1),
+    )
+
+same-length : tie.Need-same-length Inv-loop μ-loop
+same-length c = c .before .before .loop .inv .0
+
+same-length-2 : tie.Need-same-length-2 Inv-loop μ-loop
+same-length-2 c = c .before .before .loop .inv .1
+
+same-length-3 : tie.Need-same-length-3 Inv-loop μ-loop
+same-length-3 c = c .before .before .loop .inv .2
+
+same-length-4 : tie.Need-same-length-4 Inv-loop μ-loop
+same-length-4 c = c .before .before .loop .inv .3
+
+same-length-5 : tie.Need-same-length-5 Inv-loop μ-loop
+same-length-5 c = c .before .before .loop .inv .4
+
+returns : tie.Need-returns Inv-loop μ-loop
+returns c = c .before .before .loop .inv .5
+
+pub read-all-spec : {M : Type 1} → statement M
+read-all-spec =
+    tie.close
+    (tie.spec
+    Inv-loop
+    μ-loop
+    fresh-requires
+    loop-holds
+    read-on-requires
+    loop-less
+    loop-again
+    same-length
+    same-length-2
+    same-length-3
+    same-length-4
+    same-length-5
+    returns)

@@ -1,0 +1,64 @@
+-- "The marker's print": a record of the input, and the line of a call. The book follows (`print`, `Book`).
+use Prim.Native.Nat.{ℕ, _+_}
+use mathlib.Core.Bool.{Bool, cond, _&&_}
+use mathlib.Core.List.{List, [], _∷_, _++_}
+use lib.Dec.{leb}
+use lib.ListN.{length, take, drop}
+use Rattle.octets.specs.Bytes.{number}
+use Rattle.frame_table.specs.Names.{returnCode}
+use Rattle.frame.specs.Reader.{readReply}
+use Rattle.print.specs.Text.{ascii, digitsMost, codeDigits, codeText, decimal, space, newline, column}
+use Rattle.bank.specs.declared.call.FrameAnswer.{FrameAnswer}
+use Rattle.bank.specs.declared.call.FrameAnswer.the-variants.{Reply, WrongLength}
+use Rattle.bank.specs.Call.{frameNumber}
+
+-- "records from standard input: time (4 bytes), frame length (2), frame"; s is the input from the record on
+abbrev pub timeBytes : ℕ
+timeBytes = 4
+
+abbrev pub headBytes : ℕ
+headBytes = 6
+
+unfoldable pub timeOf : List ℕ → ℕ
+timeOf s = number (take timeBytes s)
+
+unfoldable pub sizeOf : List ℕ → ℕ
+sizeOf s = number (take 2 (drop timeBytes s))
+
+unfoldable pub frameIn : List ℕ → List ℕ
+frameIn s = take (sizeOf s) (drop headBytes s)
+
+-- "A record cut short ends the input"
+unfoldable pub isWhole : List ℕ → Bool
+isWhole s = leb headBytes (length s) && leb (headBytes + sizeOf s) (length s)
+
+-- the code of the reply in the first n bytes of the buffer: its field 0D
+unfoldable pub codeOf : List ℕ → ℕ → List ℕ
+codeOf buffer n = codeText (returnCode (readReply (take n buffer)))
+
+-- "a call given a number prints it in place of the code"
+abbrev pub answerText : FrameAnswer → List ℕ → List ℕ
+answerText (Reply n) buffer = codeOf buffer n
+answerText WrongLength buffer = decimal (frameNumber WrongLength)
+
+-- "Calls count from 1": the line of call n
+unfoldable pub lineOf : ℕ → FrameAnswer → List ℕ → List ℕ
+lineOf n a buffer = column n space ++ (answerText a buffer ++ (newline ∷ []))
+
+-- the same text and line, from the return code of the reply
+abbrev pub codedText : FrameAnswer → ℕ → List ℕ
+codedText (Reply n) code = codeText code
+codedText WrongLength code = decimal (frameNumber WrongLength)
+
+unfoldable pub codedLine : ℕ → FrameAnswer → ℕ → List ℕ
+codedLine n a code = column n space ++ (codedText a code ++ (newline ∷ []))
+
+-- the most bytes that a line takes: a number, a space, a return code, a newline
+abbrev pub lineRoom : ℕ
+lineRoom = digitsMost + 1 + codeDigits + 1
+
+abbrev pub callHeader : List ℕ
+callHeader = ascii "call code\n"
+
+abbrev pub headerRoom : ℕ
+headerRoom = 10

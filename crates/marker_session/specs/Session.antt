@@ -1,0 +1,54 @@
+-- "The program reads records from standard input": what a session has read, and what it leaves.
+use Prim.Native.Nat.{ℕ, _+_, _*_, _/_, _≤_, _<_}
+use mathlib.Core.Path.{_≡_}
+use mathlib.Core.List.{List, [], _++_}
+use lib.ListN.{length, take, replicate}
+use Rattle.bank_state.specs.declared.state.Bank.{Bank}
+use Rattle.bank_state.specs.Limits.{storeBytes, replyRoom}
+use Rattle.bank_state.specs.State.{fresh}
+use Rattle.marker_session.specs.declared.session.Reading.{Reading}
+use Rattle.marker_session.specs.Lines.{headBytes, lineRoom}
+use Rattle.marker_session.specs.Marking.{Standing, standing, callsOf, linesIn}
+
+-- a part of the input comes behind what is left
+abbrev pub withMore : Standing → List ℕ → Standing
+withMore s part = record { world = s .world; buffer = s .buffer; calls = s .calls; rest = s .rest ++ part }
+
+-- and the records that are whole then are called
+unfoldable pub readOn : Standing → List ℕ → Standing
+readOn s part = callsOf (withMore s part)
+
+-- what the code holds between two reads: of a record cut short the bytes at the front of the input
+abbrev pub readingOf : Reading → List ℕ → List ℕ → List ℕ → List ℕ → Standing
+readingOf t input orders boxes buffer = standing (t .bank) (t .calls) (take (t .held) input) orders boxes buffer
+
+-- the input held, a record of the longest frame; the output, a line for each record that it can hold
+abbrev pub inputBytes : ℕ
+inputBytes = headBytes + 65535
+
+abbrev pub outputBytes : ℕ
+outputBytes = inputBytes / headBytes * lineRoom
+
+-- the output has room for a line for each record that the input can hold
+abbrev pub HasRoom : List ℕ → List ℕ → Type 0
+HasRoom input output = length input < headBytes * (linesIn (length output) + 1)
+
+-- what stands after reading on from s. No contract says what a read brings: it is the part that came
+pub record ReadFrom (s : Standing) (t : Reading) (input orders boxes buffer : List ℕ) : Type 0 where
+  pub part : List ℕ
+  pub result : readingOf t input orders boxes buffer ≡ readOn s part
+  pub held : t .held ≤ length input
+
+-- a fresh bank with these stores, and nothing read
+abbrev pub freshStanding : List ℕ → List ℕ → List ℕ → Standing
+freshStanding orders boxes buffer = standing fresh 0 [] orders boxes buffer
+
+-- the calls of the whole records of an input, one after the other: "Fresh means clock 0, .. and every lent byte kept between calls 0"
+unfoldable pub session : List ℕ → Standing
+session input = readOn (freshStanding (replicate storeBytes 0) (replicate storeBytes 0) (replicate replyRoom 0)) input
+
+-- what a session leaves, of the input that came
+pub record SessionOf (b : Bank) (calls : ℕ) : Type 0 where
+  pub input : List ℕ
+  pub bank : b ≡ session input .world .bank
+  pub count : calls ≡ session input .calls

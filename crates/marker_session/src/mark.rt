@@ -1,0 +1,123 @@
+// Marking: the calls of a part of the input, and their lines in a lent output.
+use crate::line::LINE_ROOM;
+use crate::line::put_line;
+use crate::record::HEAD_BYTES;
+use crate::record::frame_in;
+use crate::record::is_whole;
+use crate::record::size_of;
+use crate::record::time_of;
+use bank::call::frame_arrives;
+use bank_state::limits::ID_BYTES;
+use bank_state::state::Bank;
+use octets::bytes::behind;
+ghost use mathlib.Core.Path.{_≡_};
+ghost use mathlib.Core.Bool.{true, _&&_};
+ghost use Prim.Native.Nat.{_+_, _≤_};
+ghost use lib.Dec.{ltb};
+ghost use lib.ListN.{length, drop};
+ghost use Rattle.marker_session.specs.Lines.{lineRoom};
+ghost use Rattle.marker_session.specs.Marking.{isReady, standing, standingOf, printOf, markedNext, markedAll};
+
+// The calls that can be counted.
+const CALLS_MOST: u64 = u64::MAX;
+
+// Between two calls: the bank, the calls so far, the input bytes used, the output bytes written.
+pub struct Marked {
+    pub bank: Bank,
+    pub calls: u64,
+    pub used: usize,
+    pub written: usize,
+}
+
+// Whether lines are left, and a whole record stands at the place reached.
+fn is_ready(input: &[u8], left: usize, calls: u64, used: usize) -> bool
+    ensures { λ r. ⌜ r ≡ (ltb 0 left && isReady calls (drop used (now (input .entry)))) ⌝ }
+{
+    if left == 0 {
+        return false;
+    }
+    if CALLS_MOST <= calls {
+        return false;
+    }
+    is_whole(behind(input, used))
+}
+
+// One call, and its line.
+fn mark_call(
+    m: Marked,
+    input: &[u8],
+    output: &mut [u8],
+    orders: &mut [u8],
+    boxes: &mut [u8],
+    buffer: &mut [u8],
+) -> Marked
+    requires { ⌜
+        (isReady (m .calls) (drop (m .used) (now input)) ≡ true) × (m .written + lineRoom ≤ length (now output))
+        ⌝ }
+    ensures { λ r. ⌜
+        (printOf r (now (input .entry))
+        (now (orders .exit)) (now (boxes .exit)) (now (buffer .exit)) (now (output .exit))
+        ≡ markedNext (m .written)
+        (standingOf m (now (input .entry)) (now (orders .entry)) (now (boxes .entry)) (now (buffer .entry)))
+        (now (output .entry)))
+        × (r .used ≤ length (now (input .entry)))
+        ⌝ }
+{
+    let used = m.used;
+    let rest = behind(input, used);
+    let ids = [0u8; ID_BYTES];
+    let bank = m.bank;
+    let o = frame_arrives(
+        bank,
+        time_of(rest),
+        &ids,
+        frame_in(rest),
+        orders,
+        boxes,
+        buffer,
+    );
+    let calls = m.calls + 1;
+    let answer = o.answer;
+    let written = put_line(output, m.written, calls, answer, o.code);
+    let after = o.bank;
+    Marked {
+        bank: after,
+        calls,
+        used: used + HEAD_BYTES + size_of(rest),
+        written,
+    }
+}
+
+// The calls of the whole records of the input, as many as the output has room for lines; no more than the input is
+// used.
+pub fn mark(
+    b: Bank,
+    calls: u64,
+    input: &[u8],
+    output: &mut [u8],
+    orders: &mut [u8],
+    boxes: &mut [u8],
+    buffer: &mut [u8],
+) -> Marked
+    ensures { λ r. ⌜
+        (printOf r (now (input .entry))
+        (now (orders .exit)) (now (boxes .exit)) (now (buffer .exit)) (now (output .exit))
+        ≡ markedAll
+        (standing b calls (now (input .entry)) (now (orders .entry)) (now (boxes .entry)) (now (buffer .entry)))
+        (now (output .entry)))
+        × (r .used ≤ length (now (input .entry)))
+        ⌝ }
+{
+    let mut m = Marked {
+        bank: b,
+        calls,
+        used: 0,
+        written: 0,
+    };
+    let mut left = output.len() / LINE_ROOM;
+    while is_ready(input, left, m.calls, m.used) {
+        m = mark_call(m, input, output, orders, boxes, buffer);
+        left -= 1;
+    }
+    m
+}

@@ -1,6 +1,0 @@
-// The marker on the recorded calls of session1, held to their recorded print.
-use marking::session::session;
-
-fn main() {
-    session();
-}

@@ -1,0 +1,5 @@
+-- The laws that several proofs cite.
+pub mod Digits
+pub mod Texts
+pub mod Rows
+pub mod Lengths

@@ -1,0 +1,41 @@
+-- The book: "order subscriber bytes", "in place order, its last column the order's length".
+use Prim.Native.Nat.{ℕ, _+_, _*_}
+use mathlib.Core.Bool.{cond}
+use mathlib.Core.List.{List, [], _∷_, _++_}
+use Rattle.bank_state.specs.declared.state.Bank.{Bank}
+use Rattle.bank_state.specs.declared.state.Place.{Place}
+use Rattle.bank_state.specs.Limits.{placeCount}
+use Rattle.bank_state.specs.Search.{isBooked}
+use Rattle.bank_state.specs.State.{placeAt}
+use Rattle.message.specs.OrderNumbers.{orderNumberOf}
+use Rattle.print.specs.Text.{ascii, orderCharacters, orderNumberText, space, newline, column, columnRoom, rowsTo}
+
+-- the names of the columns, and the byte after them: a newline, or a space where more columns follow
+abbrev pub bookHeader : ℕ → List ℕ
+bookHeader end = ascii "order subscriber bytes" ++ (end ∷ [])
+
+-- the columns of an order of so many bytes, and the byte after them
+unfoldable pub orderColumns : Place → ℕ → ℕ → List ℕ
+orderColumns p bytes end =
+    orderNumberText (orderNumberOf (p .number)) ++ (space ∷ column (p .subscriber) space ++ column bytes end)
+
+-- the line of a place; one that holds no booked order has none
+unfoldable pub orderLine : Place → List ℕ
+orderLine p = cond (isBooked (p .used)) (orderColumns p (p .length) newline) []
+
+-- "the book follows in place order"
+abbrev pub lineAt : Bank → ℕ → List ℕ
+lineAt b i = orderLine (placeAt b i)
+
+unfoldable pub bookOf : Bank → List ℕ
+bookOf b = bookHeader newline ++ rowsTo (lineAt b) placeCount
+
+-- the most bytes of the columns' names with the byte after them, of an order's columns, and of the book
+abbrev pub bookHeaderRoom : ℕ
+bookHeaderRoom = 22 + 1
+
+abbrev pub orderColumnsRoom : ℕ
+orderColumnsRoom = orderCharacters + 1 + columnRoom + columnRoom
+
+abbrev pub bookRoom : ℕ
+bookRoom = bookHeaderRoom + placeCount * orderColumnsRoom

@@ -1,0 +1,85 @@
+// The book: the names of its columns, the columns of an order, and the whole, written into a lent output.
+use crate::text::put_byte;
+use crate::text::put_column;
+use crate::text::put_order_number;
+use crate::text::put_text;
+use message::order_numbers::order_number_of;
+use bank_state::limits::PLACES;
+use bank_state::search::is_booked;
+use bank_state::state::Bank;
+use bank_state::state::Place;
+ghost use mathlib.Core.Path.{_≡_};
+ghost use Prim.Native.Nat.{_+_, _*_, _≤_};
+ghost use lib.ListN.{length};
+ghost use Rattle.bank_state.specs.Limits.{placeCount};
+ghost use Rattle.print.specs.Text.{Put, rowsTo, printed, printedCount};
+ghost use Rattle.print.specs.Book.{bookHeader, bookHeaderRoom, orderColumns, orderColumnsRoom};
+ghost use Rattle.print.specs.Book.{orderLine, lineAt, bookOf, bookRoom};
+
+// The most bytes of the columns' names with the byte after them, of an order's columns, and of the book.
+pub const BOOK_HEADER_ROOM: usize = 22 + 1;
+
+pub const ORDER_COLUMNS_ROOM: usize = 4 + 1 + 21 + 21;
+
+pub const BOOK_ROOM: usize = BOOK_HEADER_ROOM + PLACES * ORDER_COLUMNS_ROOM;
+
+// Writes the names of the columns, and the byte after them.
+pub fn put_book_header(output: &mut [u8], at: usize, end: u8) -> usize
+    requires { ⌜ at + bookHeaderRoom ≤ length (now output) ⌝ }
+    ensures { λ r. ⌜ Put (now (output .entry)) at (bookHeader end) (now (output .exit)) r ⌝ }
+{
+    let a = put_text(output, at, b"order subscriber bytes");
+    put_byte(output, a, end)
+}
+
+// Writes the columns of an order of so many bytes, and the byte after them.
+pub fn put_order_columns(output: &mut [u8], at: usize, p: Place, bytes: u64, end: u8) -> usize
+    requires { ⌜ at + orderColumnsRoom ≤ length (now output) ⌝ }
+    ensures { λ r. ⌜ Put (now (output .entry)) at (orderColumns p bytes end) (now (output .exit)) r ⌝ }
+{
+    let a = put_order_number(output, at, order_number_of(p.number));
+    let b = put_byte(output, a, b' ');
+    let c = put_column(output, b, p.subscriber, b' ');
+    put_column(output, c, bytes, end)
+}
+
+// Writes the line of a place, where it holds a booked order.
+fn put_order(output: &mut [u8], at: usize, p: Place) -> usize
+    requires { ⌜ at + orderColumnsRoom ≤ length (now output) ⌝ }
+    ensures { λ r. ⌜ Put (now (output .entry)) at (orderLine p) (now (output .exit)) r ⌝ }
+{
+    let used = p.used;
+    if !is_booked(used) {
+        return at;
+    }
+    put_order_columns(output, at, p, p.length, b'\n')
+}
+
+// Writes the lines of all places.
+fn put_orders(output: &mut [u8], at: usize, b: Bank) -> usize
+    requires { ⌜ at + placeCount * orderColumnsRoom ≤ length (now output) ⌝ }
+    ensures { λ r. ⌜ Put (now (output .entry)) at (rowsTo (lineAt b) placeCount) (now (output .exit)) r ⌝ }
+{
+    let mut end = at;
+    let mut i = 0;
+    while i < PLACES {
+        let p = b.places[i];
+        end = put_order(output, end, p);
+        i += 1;
+    }
+    end
+}
+
+// The book at the front of the output, and its length.
+pub fn book(b: Bank, output: &mut [u8]) -> usize
+    ensures { λ r. ⌜
+        (now (output .exit) ≡ printed bookRoom (bookOf b) (now (output .entry)))
+        × (r ≡ printedCount bookRoom (bookOf b) (now (output .entry)))
+        ⌝ }
+{
+    if output.len() < BOOK_ROOM {
+        return 0;
+    }
+    let at = put_book_header(output, 0, b'\n');
+    put_orders(output, at, b)
+}

@@ -1,4 +1,0 @@
--- The laws that several proofs cite.
-pub mod Digits
-pub mod Texts
-pub mod Rows

@@ -1,2 +1,0 @@
--- The definitions of texts.
-pub mod Print

@@ -1,2 +1,0 @@
-// Texts in a lent output: numbers in digits, bytes.
-pub mod print;

@@ -1,0 +1,74 @@
+-- What is known of a begin that is given no number, and of rooms of the right lengths. Assumes nothing.
+use Prim.Native.Nat.{ℕ, _≤_}
+use mathlib.Core.Bool.{Bool, true, false, cond}
+use mathlib.Core.List.{List}
+use mathlib.Core.Path.{_≡_, refl, sym, ap, _∙_}
+use native.Mathlib.Omega.{arith}
+use lib.ListN.{length}
+use lib.Dec.{eqb}
+use borrow.Author.Tests.{eqb-true}
+use Rattle.octets.proofs.Tests.{never, and-true}
+use Rattle.message.specs.Limits.{fileBytes}
+use Rattle.client.specs.declared.run.Client.{Client}
+use Rattle.client.specs.declared.run.Direction.{Direction}
+use Rattle.client.specs.declared.run.Ruling.{Ruling}
+use Rattle.client.specs.declared.run.Ruling.the-variants.{Refuse, Accept}
+use Rattle.client.specs.Run.{Lent, ClientCall, lengthsOf}
+use Rattle.client.specs.Rulings.{beginRuling}
+use Rattle.client.specs.Calls.{beginBy, beginCall}
+use Rattle.client.proofs.Accepted as accepted
+use Rattle.client.proofs.Accepted.{Serves}
+use Rattle.client.specs.declared.run.Answer.{Answer}
+use Rattle.client.specs.declared.run.Answer.the-variants as answer
+use Rattle.unit.specs.declared.record.Event.{Event}
+use Rattle.unit.specs.declared.record.Event.the-variants.{Upload, Download, Reply, NoReply}
+use Rattle.unit.specs.declared.record.Kind.the-variants.{Run}
+use Rattle.unit.specs.Records.{headOf, sizeOf, bodyOf}
+use Rattle.unit.specs.State.{roomsBytes}
+use Rattle.unit.specs.Call.{begins, roomCall, keeps, roomsRight}
+
+module _ (c : Client) (way : Direction) (subscriber first : ℕ) (l : Lent) where
+  serves-at : (u : Ruling) → beginRuling c way subscriber first (lengthsOf l) ≡ u
+      → keeps true (beginBy u c way subscriber first l .answer) ≡ true → Serves way (lengthsOf l)
+  serves-at (Refuse x) e h = never h
+  serves-at Accept e h = accepted.begins c way subscriber first (lengthsOf l) e .buffers
+
+  kept-serves : keeps true (beginCall c way subscriber first l .answer) ≡ true → Serves way (lengthsOf l)
+  unfolding beginCall
+  kept-serves h = serves-at (beginRuling c way subscriber first (lengthsOf l)) refl h
+
+only-begin : (begin : Bool) (a : Answer) → keeps begin a ≡ true → begin ≡ true
+only-begin begin (answer.Request n) h = h
+only-begin begin answer.Ignored h = h
+only-begin begin (answer.Closed w) h = h
+only-begin begin (answer.Refused x) h = never h
+
+kept-fits-at : (e : Event) (c : Client) (i : ℕ) (r : List ℕ) (l : Lent) (body held : List ℕ)
+    → l .payload ≡ cond (begins e) body held → body ≡ bodyOf (Run e) r → keeps (begins e) (roomCall e c i r l .answer) ≡ true
+    → length body ≤ fileBytes
+unfolding roomCall bodyOf sizeOf
+kept-fits-at Upload c i r l body held p q h = omega (arith, ap length p, kept-serves c _ _ _ _ h .1)
+kept-fits-at Download c i r l body held p q h = omega (arith, ap length q)
+kept-fits-at Reply c i r l body held p q h = never (only-begin false (roomCall Reply c i r l .answer) h)
+kept-fits-at NoReply c i r l body held p q h = never (only-begin false (roomCall NoReply c i r l .answer) h)
+
+-- the payload that a begin keeps fits into its room
+pub kept-fits : (e : Event) (c : Client) (i : ℕ) (r : List ℕ) (l : Lent) (body held : List ℕ) (begin kept : Bool) (o : ClientCall)
+    → begin ≡ begins e → l .payload ≡ cond begin body held → body ≡ bodyOf (Run e) r → o ≡ roomCall e c i r l
+    → kept ≡ keeps begin (o .answer) → kept ≡ true → length body ≤ fileBytes
+kept-fits e c i r l body held begin kept o eb p q eo ek h =
+    kept-fits-at e c i r l body held (rw eb at p) q (rw (eb, eo) at (sym ek ∙ h))
+
+-- a begin has nonce bytes
+pub begin-head : (e : Event) → begins e ≡ true → headOf (Run Download) ≤ headOf (Run e)
+begin-head Upload h = omega arith
+begin-head Download h = omega arith
+begin-head Reply h = never h
+begin-head NoReply h = never h
+
+-- rooms of their lengths
+pub rooms-lengths : (payloads files : ℕ) → roomsRight payloads files ≡ true → (payloads ≡ roomsBytes) × (files ≡ roomsBytes)
+unfolding roomsRight
+rooms-lengths payloads files h =
+    let a = and-true (eqb payloads roomsBytes) (eqb files roomsBytes) h in
+    (eqb-true payloads roomsBytes (a .0), eqb-true files roomsBytes (a .1))

@@ -1,0 +1,73 @@
+-- The unit behind a call, from what each part of the call leaves. Assumes nothing.
+use Prim.Native.Nat.{ℕ, _+_, _-_, _*_, _≤_}
+use mathlib.Core.Bool.{Bool, false, not, cond}
+use mathlib.Core.List.{List}
+use mathlib.Core.Path.{_≡_, refl, sym, _∙_}
+use lib.ListN.{length, set}
+use borrow.Author.Tests.{not-false}
+use borrow.Rule.Slice.PartMut.{putMid, midOf}
+use Rattle.message.specs.Limits.{fileBytes}
+use Rattle.bank_state.specs.Store.{partAt, withPart, fileOf}
+use Rattle.bank_state.proofs.Stores.{part-back}
+use Rattle.client.specs.declared.run.Client.{Client}
+use Rattle.client.specs.declared.run.Outcome.{Outcome}
+use Rattle.client.specs.Run as client
+use Rattle.client.specs.Run.{lentOf}
+use Rattle.unit.specs.declared.record.Event.{Event}
+use Rattle.unit.specs.declared.record.Kind.{Kind}
+use Rattle.unit.specs.declared.record.Kind.the-variants as kind
+use Rattle.unit.specs.declared.call.Answer.{Answer}
+use Rattle.unit.specs.declared.state.Run.{Run}
+use Rattle.unit.specs.declared.state.UnitState.{UnitState}
+use Rattle.unit.specs.Records.{timeOf, nonceOf, bodyOf, callOf}
+use Rattle.unit.specs.State.{State, stateOf, runAt}
+use Rattle.unit.specs.Call.{UnitCall, Ready, roomsRight, unitCallOf, runAnswer, indexOf, begins, eventCall, roomCall, keeps, nextRun, keptPayloads, runStep, stepOf, unitCall}
+use Rattle.unit.proofs.Begins.{rooms-lengths}
+use Rattle.unit.proofs.Parts.{callable, whole-head}
+
+-- the part of a run, lent and come back as x
+pub part-kept : (files x : List ℕ) (i : ℕ) → i * fileBytes + fileBytes ≤ length files
+    → length x ≡ length (midOf (i * fileBytes) (i * fileBytes + fileBytes - i * fileBytes) files)
+    → putMid (i * fileBytes) (i * fileBytes + fileBytes - i * fileBytes) files x ≡ withPart files i x
+unfolding withPart
+part-kept files x i h e = part-back files x (i * fileBytes) fileBytes h e
+
+-- a client's call with the file buffer of run i
+pub roomed : (e : Event) (c : Client) (i : ℕ) (r : List ℕ) (time : ℕ) (nonce payload files buffer : List ℕ)
+    (out : Outcome) (file file′ files′ buffer′ : List ℕ)
+    → file ≡ partAt files i → files′ ≡ withPart files i file′
+    → client.callOf out file′ buffer′ ≡ eventCall e c r (lentOf time nonce payload file buffer)
+    → client.callOf out files′ buffer′ ≡ roomCall e c i r (lentOf time nonce payload files buffer)
+unfolding roomCall
+roomed e c i r time nonce payload files buffer out file file′ files′ buffer′ lent back o = rw (back, ← lent, ← o)
+
+-- a call to a client run
+pub ran : (u : UnitState) (o m payloads files buffer r : List ℕ) (e : Event)
+    (i : ℕ) (begin : Bool) (nonce body held payload : List ℕ) (out : Outcome) (files′ buffer′ : List ℕ)
+    (kept : Bool) (payloads′ : List ℕ) (run : Run) (u′ : UnitState) (answer : Answer)
+    → i ≡ indexOf r → begin ≡ begins e → nonce ≡ cond begin (nonceOf r) (runAt (u .runs) i .nonce) → body ≡ bodyOf (kind.Run e) r
+    → held ≡ fileOf payloads i (runAt (u .runs) i .payload) → payload ≡ cond begin body held
+    → client.callOf out files′ buffer′ ≡ roomCall e (runAt (u .runs) i .client) i r (lentOf (timeOf r) nonce payload files buffer)
+    → kept ≡ keeps begin (out .answer) → payloads′ ≡ keptPayloads kept payloads i body
+    → run ≡ nextRun kept (runAt (u .runs) i) (out .run) nonce (length body)
+    → u′ ≡ record { bank = u .bank; runs = set (u .runs) i run } → answer ≡ runAnswer (out .answer) (out .run)
+    → unitCallOf (record { unit = u′; answer = answer }) o m payloads′ files′ buffer′ ≡ runStep e (stateOf u o m payloads files buffer) r
+unfolding runStep
+ran u o m payloads files buffer r e i begin nonce body held payload out files′ buffer′ kept payloads′ run u′ answer
+    at eb en ey eh ep ec ek es er eu ea =
+    rw (eu, ea, er, es, ek, ← at, ← eb, ← en, ← ey, ← eh, ← ep, ← ec)
+
+-- what a call to a run asks, where the rooms are of their lengths
+pub ready : (e : Event) (r payloads files : List ℕ) (right : Bool) (k : Kind)
+    → right ≡ roomsRight (length payloads) (length files) → not right ≡ false → k ≡ callOf r → k ≡ kind.Run e → Ready e r payloads files
+ready e r payloads files right k rooms h ek told =
+    let known = callable r (kind.Run e) refl (sym ek ∙ told) in
+    let lengths = rooms-lengths _ _ (sym rooms ∙ not-false right h) in
+    record { run = known .run; head = whole-head _ r (known .whole); payload-rooms = lengths .0; file-rooms = lengths .1 }
+
+-- the call of a record, where the rooms are of their lengths
+pub called : (s : State) (r : List ℕ) (right : Bool) (k g : Kind) (o : UnitCall)
+    → right ≡ roomsRight (length (s .payloads)) (length (s .files)) → not right ≡ false
+    → k ≡ callOf r → k ≡ g → o ≡ stepOf g s r → o ≡ unitCall s r
+unfolding unitCall
+called s r right k g o rooms h ek told step = rw (← rooms, not-false right h, ← ek, told) step

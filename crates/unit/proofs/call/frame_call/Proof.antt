@@ -1,0 +1,35 @@
+-- `frame_call` meets its contract. Assumes nothing.
+use Rattle.unit.specs.Call.{frameStep}
+use borrow.Author.Needs.{needs}
+use Rattle.unit.proofs.call.frame_call.Statement.{statement}
+use Rattle.unit.proofs.call.frame_call.Tie as tie
+
+returns : tie.Need-returns
+unfolding frameStep
+returns c =
+    λ p f.
+    let at-frame = c .before .before .before .before .before .before .before .before .before in
+    let at-body = at-frame .before .before .before .before in
+    rw (
+      c .frame-answer .ensures,
+      c .before .with-bank .ensures,
+      ← at-body .before .before .time-at .ensures,
+      ← at-body .before .bytes-at .ensures,
+      ← at-body .body-of .ensures,
+      ← at-frame .frame-arrives .ensures,
+    )
+
+pub frame-call-spec : {M : Type 1} → statement M
+frame-call-spec =
+    tie.close
+    (tie.spec
+    (λ c κs. tt)
+    (λ c κs. tt)
+    (λ c κs. tt)
+    (λ c κs. tt)
+    (λ c κs. tt)
+    (λ c κs. tt)
+    (λ c. search needs)
+    (λ c. search needs)
+    (λ c. search needs)
+    returns)

@@ -1,0 +1,20 @@
+-- `rooms_right` meets its contract. Assumes nothing.
+use Rattle.octets.proofs.Tests.{tests}
+use Rattle.unit.specs.Call.{roomsRight}
+use Rattle.unit.proofs.call.rooms_right.Statement.{statement}
+use Rattle.unit.proofs.call.rooms_right.Tie as tie
+
+returns : tie.Need-returns
+unfolding roomsRight
+returns c = search tests
+
+returns-2 : tie.Need-returns-2
+unfolding roomsRight
+returns-2 c = search tests
+
+pub rooms-right-spec : {M : Type 1} → statement M
+rooms-right-spec =
+    tie.close
+    (tie.spec
+    returns
+    returns-2)

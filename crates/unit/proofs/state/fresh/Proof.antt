@@ -1,0 +1,16 @@
+-- `fresh` meets its contract. Assumes nothing.
+use Rattle.unit.specs.State.{fresh}
+use Rattle.unit.proofs.state.fresh.Statement.{statement}
+use Rattle.unit.proofs.state.fresh.Tie as tie
+
+returns : tie.Need-returns
+unfolding fresh
+returns c = rw (c .new .ensures, c .before .fresh .ensures)
+
+pub fresh-spec : {M : Type 1} → statement M
+fresh-spec =
+    tie.close
+    (tie.spec
+    (λ c κs. tt)
+    (λ c κs. tt)
+    returns)

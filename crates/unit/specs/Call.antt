@@ -1,0 +1,182 @@
+-- One call of a record on the unit.
+use Prim.Native.Nat.{ℕ, _-_, _≤_}
+use mathlib.Core.Path.{_≡_}
+use mathlib.Core.Bool.{Bool, true, false, cond, _&&_}
+use mathlib.Core.List.{List}
+use lib.Dec.{eqb}
+use lib.ListN.{length, set}
+use Rattle.bank_state.specs.State.{world}
+use Rattle.bank_state.specs.Store.{partAt, withPart, fileOf}
+use Rattle.bank.specs.declared.call.FrameAnswer.{FrameAnswer}
+use Rattle.bank.specs.declared.call.FrameAnswer.the-variants as frame-answer
+use Rattle.bank.specs.declared.mailbox.FileAnswer.{FileAnswer}
+use Rattle.bank.specs.declared.mailbox.FileAnswer.the-variants as file-answer
+use Rattle.bank.specs.Call.{frameCall, frameNumber}
+use Rattle.bank.specs.Mailbox.{fileCall, fileNumber}
+use Rattle.client.specs.declared.run.Answer as client
+use Rattle.client.specs.declared.run.Answer.the-variants as client-answer
+use Rattle.client.specs.declared.run.Client.{Client}
+use Rattle.client.specs.declared.run.Direction.the-variants as direction
+use Rattle.client.specs.Run.{Lent, ClientCall, lentOf, refusalNumber}
+use Rattle.client.specs.Calls.{beginCall, replyCall, noReplyCall}
+use Rattle.unit.specs.declared.record.Event.{Event}
+use Rattle.unit.specs.declared.record.Event.the-variants.{Upload, Download, Reply, NoReply}
+use Rattle.unit.specs.declared.record.Kind.{Kind}
+use Rattle.unit.specs.declared.record.Kind.the-variants as kind
+use Rattle.unit.specs.declared.call.Answer.{Answer}
+use Rattle.unit.specs.declared.call.Answer.the-variants.{Frame, Put, Request, Ignored, Closed, Number, NoCall}
+use Rattle.unit.specs.declared.call.Called.{Called}
+use Rattle.unit.specs.declared.state.Run.{Run}
+use Rattle.unit.specs.Records.{
+  headOf,
+  bankTimeOf,
+  idsOf,
+  mailboxOf,
+  runOf,
+  timeOf,
+  subscriberOf,
+  firstOf,
+  nonceOf,
+  bodyOf,
+  isRun,
+  callOf,
+}
+use Rattle.unit.specs.State.{State, roomsBytes, stateOf, runAt}
+
+-- the rooms lent for the runs are of their lengths
+unfoldable pub roomsRight : ℕ → ℕ → Bool
+roomsRight payloads files = eqb payloads roomsBytes && eqb files roomsBytes
+
+-- what a call to a run asks: a record that names one of the runs and has its head, and rooms of their lengths
+pub record Ready (e : Event) (r payloads files : List ℕ) : Type 0 where
+  pub run : isRun (runOf r) ≡ true
+  pub head : headOf (kind.Run e) ≤ length r
+  pub payload-rooms : length payloads ≡ roomsBytes
+  pub file-rooms : length files ≡ roomsBytes
+
+-- what a call leaves, and its answer
+pub record UnitCall : Type 0 where
+  pub state : State
+  pub answer : Answer
+
+abbrev pub unitCallOf : Called → List ℕ → List ℕ → List ℕ → List ℕ → List ℕ → UnitCall
+unitCallOf r orders boxes payloads files buffer =
+    record { state = stateOf (r .unit) orders boxes payloads files buffer; answer = r .answer }
+
+-- the answers of the bank's two calls, and of a client's; a run that ends as lodged has its order number
+abbrev pub frameAnswer : FrameAnswer → Answer
+frameAnswer (frame-answer.Reply n) = Frame n
+frameAnswer frame-answer.WrongLength = Number (frameNumber frame-answer.WrongLength)
+
+abbrev pub fileAnswer : FileAnswer → Answer
+fileAnswer file-answer.Done = Put
+fileAnswer file-answer.WrongLength = Number (fileNumber file-answer.WrongLength)
+fileAnswer file-answer.NoMailbox = Number (fileNumber file-answer.NoMailbox)
+fileAnswer file-answer.WrongFile = Number (fileNumber file-answer.WrongFile)
+fileAnswer file-answer.MailboxFull = Number (fileNumber file-answer.MailboxFull)
+
+abbrev pub runAnswer : client.Answer → Client → Answer
+runAnswer (client-answer.Request n) c = Request n
+runAnswer client-answer.Ignored c = Ignored
+runAnswer (client-answer.Closed w) c = Closed w (c .number)
+runAnswer (client-answer.Refused x) c = Number (refusalNumber x)
+
+-- `F`: a frame to the bank
+unfoldable pub frameStep : State → List ℕ → UnitCall
+frameStep s r =
+    let o = frameCall (s .world) (bankTimeOf r) (idsOf r) (bodyOf kind.Frame r) (s .buffer) in
+    record {
+      state = record { world = o .world; runs = s .runs; payloads = s .payloads; files = s .files; buffer = o .buffer };
+      answer = frameAnswer (o .answer);
+    }
+
+-- `M`: a file into a mailbox
+unfoldable pub fileStep : State → List ℕ → UnitCall
+fileStep s r =
+    let o = fileCall (s .world .bank) (mailboxOf r) (bodyOf kind.File r) (s .world .boxes) in
+    record {
+      state = record {
+        world = world (o .bank) (s .world .orders) (o .boxes);
+        runs = s .runs;
+        payloads = s .payloads;
+        files = s .files;
+        buffer = s .buffer;
+      };
+      answer = fileAnswer (o .answer);
+    }
+
+-- the run that a record names, from 0 on
+abbrev pub indexOf : List ℕ → ℕ
+indexOf r = runOf r - 1
+
+-- whether an event begins its run
+abbrev pub begins : Event → Bool
+begins Upload = true
+begins Download = true
+begins Reply = false
+begins NoReply = false
+
+-- "begin, as an upload", "begin, as a download", "reply arrived", "no reply": a client's call by the event of the record r
+abbrev pub eventCall : Event → Client → List ℕ → Lent → ClientCall
+eventCall Upload c r l = beginCall c direction.Upload (subscriberOf r) (firstOf r) l
+eventCall Download c r l = beginCall c direction.Download (subscriberOf r) (firstOf r) l
+eventCall Reply c r l = replyCall c (bodyOf (kind.Run Reply) r) l
+eventCall NoReply c r l = noReplyCall c l
+
+-- the same where the file buffers of all runs are lent, of which the client has that of run i
+unfoldable pub roomCall : Event → Client → ℕ → List ℕ → Lent → ClientCall
+roomCall e c i r l =
+    let o = eventCall e c r (lentOf (l .time) (l .nonce) (l .payload) (partAt (l .file) i) (l .request)) in
+    record { run = o .run; file = withPart (l .file) i (o .file); request = o .request; answer = o .answer; number = o .number }
+
+-- "A begin that is given a number leaves the run's payload and nonce bytes as they were; one that is not keeps them"
+abbrev pub keeps : Bool → client.Answer → Bool
+keeps begin (client-answer.Request n) = begin
+keeps begin client-answer.Ignored = begin
+keeps begin (client-answer.Closed w) = begin
+keeps begin (client-answer.Refused x) = false
+
+abbrev pub nextRun : Bool → Run → Client → List ℕ → ℕ → Run
+nextRun true run next nonce n = record { client = next; nonce = nonce; payload = n }
+nextRun false run next nonce n = record { client = next; nonce = run .nonce; payload = run .payload }
+
+abbrev pub keptPayloads : Bool → List ℕ → ℕ → List ℕ → List ℕ
+keptPayloads true payloads i payload = withPart payloads i payload
+keptPayloads false payloads i payload = payloads
+
+-- `U`, `D`: begin, with the record's nonce bytes and payload; `R`, `N`: a later call, with those kept
+unfoldable pub runStep : Event → State → List ℕ → UnitCall
+runStep e s r =
+    let i = indexOf r in
+    let run = runAt (s .runs) i in
+    let body = bodyOf (kind.Run e) r in
+    let nonce = cond (begins e) (nonceOf r) (run .nonce) in
+    let payload = cond (begins e) body (fileOf (s .payloads) i (run .payload)) in
+    let o = roomCall e (run .client) i r (lentOf (timeOf r) nonce payload (s .files) (s .buffer)) in
+    let kept = keeps (begins e) (o .answer) in
+    record {
+      state = record {
+        world = s .world;
+        runs = set (s .runs) i (nextRun kept run (o .run) nonce (length body));
+        payloads = keptPayloads kept (s .payloads) i body;
+        files = o .file;
+        buffer = o .request;
+      };
+      answer = runAnswer (o .answer) (o .run);
+    }
+
+-- nothing changes
+abbrev pub unchanged : State → Answer → UnitCall
+unchanged s a = record { state = s; answer = a }
+
+abbrev pub stepOf : Kind → State → List ℕ → UnitCall
+stepOf kind.Frame s r = frameStep s r
+stepOf kind.File s r = fileStep s r
+stepOf (kind.Run e) s r = runStep e s r
+stepOf kind.NoCall s r = unchanged s NoCall
+
+-- one call of the record r on the unit; rooms of another length get number 1, "a lent length differs"
+unfoldable pub unitCall : State → List ℕ → UnitCall
+unitCall s r =
+    cond (roomsRight (length (s .payloads)) (length (s .files))) (stepOf (callOf r) s r)
+    (unchanged s (Number (frameNumber frame-answer.WrongLength)))

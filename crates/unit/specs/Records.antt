@@ -1,0 +1,124 @@
+-- A record of the input: a letter, its parts, and as many bytes as its length says. "Numbers are high byte first."
+use Prim.Native.Nat.{ℕ, _+_, _-_}
+use mathlib.Core.Bool.{Bool, true, false, cond, _&&_}
+use mathlib.Core.List.{List, [], _∷_}
+use lib.Dec.{leb, eqb}
+use lib.ListN.{length, getD, take, drop}
+use Rattle.octets.specs.Bytes.{number}
+use Rattle.message.specs.Verdicts.{decide}
+use Rattle.unit.specs.declared.record.Event.the-variants.{Upload, Download, Reply, NoReply}
+use Rattle.unit.specs.declared.record.Kind.{Kind}
+use Rattle.unit.specs.declared.record.Kind.the-variants.{Frame, File, Run, NoCall}
+
+-- the letters F, M, U, D, R and N
+unfoldable pub kindOf : ℕ → Kind
+kindOf letter =
+    decide
+    ((eqb letter 70, Frame)
+    ∷ (eqb letter 77, File)
+    ∷ (eqb letter 85, Run Upload)
+    ∷ (eqb letter 68, Run Download)
+    ∷ (eqb letter 82, Run Reply)
+    ∷ (eqb letter 78, Run NoReply)
+    ∷ [])
+    NoCall
+
+-- the bytes of a record before those that its length counts: the letter, then the parts in their order
+abbrev pub headOf : Kind → ℕ
+-- bank time 4, ID bytes 8, length 2
+headOf Frame = 1 + 4 + 8 + 2
+-- mailbox 2, length 2
+headOf File = 1 + 2 + 2
+-- run 1, time 4, subscriber 2, first exchange number 4, nonce bytes 12, length 2
+headOf (Run Upload) = 1 + 1 + 4 + 2 + 4 + 12 + 2
+-- run 1, time 4, subscriber 2, first exchange number 4, nonce bytes 12
+headOf (Run Download) = 1 + 1 + 4 + 2 + 4 + 12
+-- run 1, time 4, length 2
+headOf (Run Reply) = 1 + 1 + 4 + 2
+-- run 1, time 4
+headOf (Run NoReply) = 1 + 1 + 4
+headOf NoCall = 1
+
+-- whether a length stands at the end of the head
+abbrev pub hasLength : Kind → Bool
+hasLength Frame = true
+hasLength File = true
+hasLength (Run Upload) = true
+hasLength (Run Download) = false
+hasLength (Run Reply) = true
+hasLength (Run NoReply) = false
+hasLength NoCall = false
+
+-- n bytes of a record r from a place on, and their number
+abbrev pub bytesAt : ℕ → ℕ → List ℕ → List ℕ
+bytesAt from n r = take n (drop from r)
+
+unfoldable pub numberAt : ℕ → ℕ → List ℕ → ℕ
+numberAt from n r = number (bytesAt from n r)
+
+abbrev pub letterOf : List ℕ → ℕ
+letterOf r = getD r 0 0
+
+-- F: bank time and ID bytes; M: the mailbox
+abbrev pub bankTimeOf : List ℕ → ℕ
+bankTimeOf r = numberAt 1 4 r
+
+abbrev pub idsOf : List ℕ → List ℕ
+idsOf r = bytesAt 5 8 r
+
+abbrev pub mailboxOf : List ℕ → ℕ
+mailboxOf r = numberAt 1 2 r
+
+-- U, D, R and N: the run, "numbered 1 to 16", and the time; U and D: subscriber, first exchange number and nonce bytes
+abbrev pub runOf : List ℕ → ℕ
+runOf r = numberAt 1 1 r
+
+abbrev pub timeOf : List ℕ → ℕ
+timeOf r = numberAt 2 4 r
+
+abbrev pub subscriberOf : List ℕ → ℕ
+subscriberOf r = numberAt 6 2 r
+
+abbrev pub firstOf : List ℕ → ℕ
+firstOf r = numberAt 8 4 r
+
+abbrev pub nonceOf : List ℕ → List ℕ
+nonceOf r = bytesAt 12 12 r
+
+-- what the length says, and the frame, file, payload or reply that it counts
+unfoldable pub sizeOf : Kind → List ℕ → ℕ
+sizeOf k r = cond (hasLength k) (numberAt (headOf k - 2) 2 r) 0
+
+unfoldable pub bodyOf : Kind → List ℕ → List ℕ
+bodyOf k r = take (sizeOf k r) (drop (headOf k) r)
+
+-- "16 client runs"
+abbrev pub runCount : ℕ
+runCount = 16
+
+abbrev pub isRun : ℕ → Bool
+isRun n = leb 1 n && leb n runCount
+
+-- a run is one of the 16, where the record names one; another letter is no call
+abbrev pub namesRun : Kind → List ℕ → Bool
+namesRun Frame r = true
+namesRun File r = true
+namesRun (Run e) r = isRun (runOf r)
+namesRun NoCall r = false
+
+-- a record of this kind that is not cut short
+unfoldable pub isWhole : Kind → List ℕ → Bool
+isWhole k r = leb (headOf k) (length r) && leb (headOf k + sizeOf k r) (length r)
+
+-- "A record that is cut short, another letter, and a run outside 1 to 16 end the input": they are no call
+unfoldable pub callOf : List ℕ → Kind
+callOf r =
+    let k = kindOf (letterOf r) in
+    cond (isWhole k r && namesRun k r) k NoCall
+
+-- what ends the input
+abbrev pub isCall : Kind → Bool
+isCall Frame = true
+isCall File = true
+isCall (Run e) = true
+isCall NoCall = false

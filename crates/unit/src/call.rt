@@ -1,0 +1,413 @@
+// One call of a record on the unit.
+use crate::record::Event;
+use crate::record::Kind;
+use crate::record::body_of;
+use crate::record::bytes_at;
+use crate::record::call_of;
+use crate::record::number_at;
+use crate::record::time_at;
+use crate::state::ROOMS_BYTES;
+use crate::state::Run;
+use crate::state::UnitState;
+use crate::state::with_bank;
+use crate::state::with_run;
+use bank::call::FrameAnswer;
+use bank::call::frame_arrives;
+use bank::mailbox::FileAnswer;
+use bank::mailbox::put_file;
+use bank_state::store::append;
+use bank_state::store::file_of;
+use client::run::Answer as ClientAnswer;
+use client::run::Client;
+use client::run::Direction;
+use client::run::NONCE_BYTES;
+use client::run::Outcome;
+use client::run::Word;
+use client::run::refusal_number;
+use message::limits::FILE_BYTES;
+use octets::bytes::copy;
+ghost use mathlib.Core.Path.{_≡_};
+ghost use mathlib.Core.Bool.{true, cond};
+ghost use mathlib.Core.List.{List};
+ghost use Prim.Native.Nat.{ℕ, _≤_, _<_};
+ghost use lib.ListN.{length, set};
+ghost use Rattle.message.specs.Limits.{fileBytes};
+ghost use Rattle.client.specs.Calls.{beginCall};
+ghost use Rattle.client.specs.Run.{lentOf, callOf};
+ghost use Rattle.unit.specs.Records.{headOf, timeOf, subscriberOf, firstOf, nonceOf, runOf, isRun, runCount};
+ghost use Rattle.unit.specs.State.{roomsBytes, stateOf};
+ghost use Rattle.unit.specs.Call.{Ready, roomsRight, unitCallOf, frameAnswer, fileAnswer, runAnswer, frameStep, fileStep};
+ghost use Rattle.unit.specs.Call.{indexOf, begins, eventCall, roomCall, keeps, nextRun, keptPayloads, runStep, unitCall};
+
+// What a call answers: the length of the reply in the buffer, the file is in the mailbox, the length of the request, the run
+// stays, its closing word with its order number, or the number that the call was given. A record that is no call has none.
+pub enum Answer {
+    Frame(usize),
+    Put,
+    Request(usize),
+    Ignored,
+    Closed(Word, u64),
+    Number(u64),
+    NoCall,
+}
+
+// The unit after a call, and the call's answer.
+pub struct Called {
+    pub unit: UnitState,
+    pub answer: Answer,
+}
+
+// What the bank's answer to a frame says.
+fn frame_answer(answer: FrameAnswer) -> Answer
+    ensures { λ r. ⌜ r ≡ frameAnswer answer ⌝ }
+{
+    match answer {
+        FrameAnswer::Reply(n) => Answer::Frame(n),
+        FrameAnswer::WrongLength => Answer::Number(1),
+    }
+}
+
+// What the bank's answer to a file says.
+fn file_answer(answer: FileAnswer) -> Answer
+    ensures { λ r. ⌜ r ≡ fileAnswer answer ⌝ }
+{
+    match answer {
+        FileAnswer::Done => Answer::Put,
+        FileAnswer::WrongLength => Answer::Number(1),
+        FileAnswer::NoMailbox => Answer::Number(2),
+        FileAnswer::WrongFile => Answer::Number(3),
+        FileAnswer::MailboxFull => Answer::Number(4),
+    }
+}
+
+// What a client's answer says.
+fn run_answer(answer: ClientAnswer, client: Client) -> Answer
+    ensures { λ r. ⌜ r ≡ runAnswer answer client ⌝ }
+{
+    match answer {
+        ClientAnswer::Request(n) => Answer::Request(n),
+        ClientAnswer::Ignored => Answer::Ignored,
+        ClientAnswer::Closed(w) => Answer::Closed(w, client.number),
+        ClientAnswer::Refused(x) => Answer::Number(refusal_number(x)),
+    }
+}
+
+// The nonce bytes of a record.
+fn nonce_of(record: &[u8]) -> [u8; NONCE_BYTES]
+    requires { ⌜ headOf (Kind.Run Event.Download) ≤ length (now «record») ⌝ }
+    ensures { λ r. ⌜ r ≡ nonceOf (now («record» .entry)) ⌝ }
+{
+    let mut nonce = [0u8; NONCE_BYTES];
+    copy(&mut nonce, 0, bytes_at(record, 12, NONCE_BYTES));
+    nonce
+}
+
+// The index of the run that a record names.
+fn index_of(record: &[u8]) -> usize
+    requires { ⌜ isRun (runOf (now «record»)) ≡ true ⌝ }
+    ensures { λ r. ⌜ (r ≡ indexOf (now («record» .entry))) × (r < runCount) ⌝ }
+{
+    (number_at(record, 1, 1) - 1) as usize
+}
+
+// A frame to the bank.
+fn frame_call(
+    u: UnitState,
+    record: &[u8],
+    orders: &mut [u8],
+    boxes: &mut [u8],
+    buffer: &mut [u8],
+) -> Called
+    ensures { λ r. ⌜ ((p f : List ℕ) → unitCallOf r (now (orders .exit)) (now (boxes .exit)) p f (now (buffer .exit))
+        ≡ frameStep (stateOf u (now (orders .entry)) (now (boxes .entry)) p f (now (buffer .entry))) (now («record» .entry))) ⌝ }
+{
+    let bank = u.bank;
+    let o = frame_arrives(
+        bank,
+        time_at(record, 1),
+        bytes_at(record, 5, 8),
+        body_of(Kind::Frame, record),
+        orders,
+        boxes,
+        buffer,
+    );
+    let after = o.bank;
+    let answer = o.answer;
+    Called {
+        unit: with_bank(u, after),
+        answer: frame_answer(answer),
+    }
+}
+
+// A file into a mailbox.
+fn file_call(u: UnitState, record: &[u8], boxes: &mut [u8]) -> Called
+    ensures { λ r. ⌜ ((o p f b : List ℕ) → unitCallOf r o (now (boxes .exit)) p f b
+        ≡ fileStep (stateOf u o (now (boxes .entry)) p f b) (now («record» .entry))) ⌝ }
+{
+    let bank = u.bank;
+    let o = put_file(
+        bank,
+        number_at(record, 1, 2),
+        body_of(Kind::File, record),
+        boxes,
+    );
+    let after = o.bank;
+    let answer = o.answer;
+    Called {
+        unit: with_bank(u, after),
+        answer: file_answer(answer),
+    }
+}
+
+// Whether an event begins its run.
+fn begins(event: Event) -> bool
+    ensures { λ r. ⌜ r ≡ begins event ⌝ }
+{
+    match event {
+        Event::Upload => true,
+        Event::Download => true,
+        Event::Reply => false,
+        Event::NoReply => false,
+    }
+}
+
+// The nonce bytes lent to a call: the record's to a begin, those kept to a later call.
+fn nonce_for(begin: bool, record: &[u8], kept: [u8; NONCE_BYTES]) -> [u8; NONCE_BYTES]
+    requires { ⌜ (begin ≡ true → headOf (Kind.Run Event.Download) ≤ length (now «record»)) ⌝ }
+    ensures { λ r. ⌜ r ≡ cond begin (nonceOf (now («record» .entry))) kept ⌝ }
+{
+    if begin {
+        return nonce_of(record);
+    }
+    kept
+}
+
+// The payload lent to a call: the record's to a begin, the one kept to a later call.
+fn payload_for<'a>(begin: bool, body: &'a [u8], kept: &'a [u8]) -> &'a [u8]
+    ensures { λ r. ⌜ now r ≡ cond begin (now (body .entry)) (now (kept .entry)) ⌝ }
+{
+    if begin {
+        return body;
+    }
+    kept
+}
+
+// Begins a client's run with what the record says.
+fn begin(
+    client: Client,
+    way: Direction,
+    record: &[u8],
+    nonce: [u8; NONCE_BYTES],
+    payload: &[u8],
+    file: &mut [u8],
+    buffer: &mut [u8],
+) -> Outcome
+    ensures { λ r. ⌜ callOf r (now (file .exit)) (now (buffer .exit))
+        ≡ beginCall client way (subscriberOf (now («record» .entry))) (firstOf (now («record» .entry)))
+        (lentOf (timeOf (now («record» .entry))) nonce (now (payload .entry)) (now (file .entry)) (now (buffer .entry))) ⌝ }
+{
+    client.begin(
+        way,
+        number_at(record, 6, 2),
+        number_at(record, 8, 4),
+        time_at(record, 2),
+        nonce,
+        payload,
+        file,
+        buffer,
+    )
+}
+
+// A client's call by the event of a record.
+fn event_call(
+    event: Event,
+    client: Client,
+    record: &[u8],
+    nonce: [u8; NONCE_BYTES],
+    payload: &[u8],
+    file: &mut [u8],
+    buffer: &mut [u8],
+) -> Outcome
+    ensures { λ r. ⌜ callOf r (now (file .exit)) (now (buffer .exit))
+        ≡ eventCall event client (now («record» .entry))
+        (lentOf (timeOf (now («record» .entry))) nonce (now (payload .entry)) (now (file .entry)) (now (buffer .entry))) ⌝ }
+{
+    let time = time_at(record, 2);
+    let body = body_of(Kind::Run(event), record);
+    match event {
+        Event::Upload => begin(
+            client,
+            Direction::Upload,
+            record,
+            nonce,
+            payload,
+            file,
+            buffer,
+        ),
+        Event::Download => begin(
+            client,
+            Direction::Download,
+            record,
+            nonce,
+            payload,
+            file,
+            buffer,
+        ),
+        Event::Reply => client.reply(body, time, nonce, payload, file, buffer),
+        Event::NoReply => client.no_reply(time, nonce, payload, file, buffer),
+    }
+}
+
+// A client's call with the file buffer of run i.
+fn room_call(
+    event: Event,
+    client: Client,
+    i: usize,
+    record: &[u8],
+    nonce: [u8; NONCE_BYTES],
+    payload: &[u8],
+    files: &mut [u8],
+    buffer: &mut [u8],
+) -> Outcome
+    requires { ⌜ (i < runCount) × (length (now files) ≡ roomsBytes) ⌝ }
+    ensures { λ r. ⌜ callOf r (now (files .exit)) (now (buffer .exit))
+        ≡ roomCall event client i (now («record» .entry))
+        (lentOf (timeOf (now («record» .entry))) nonce (now (payload .entry)) (now (files .entry)) (now (buffer .entry))) ⌝ }
+{
+    let from = i * FILE_BYTES;
+    let end = from + FILE_BYTES;
+    event_call(
+        event,
+        client,
+        record,
+        nonce,
+        payload,
+        &mut files[from..end],
+        buffer,
+    )
+}
+
+// Whether a call keeps its nonce bytes and payload: a begin that was given no number.
+fn keeps(begin: bool, answer: ClientAnswer) -> bool
+    ensures { λ r. ⌜ r ≡ keeps begin answer ⌝ }
+{
+    match answer {
+        ClientAnswer::Request(_) => begin,
+        ClientAnswer::Ignored => begin,
+        ClientAnswer::Closed(_) => begin,
+        ClientAnswer::Refused(_) => false,
+    }
+}
+
+// The run behind a call.
+fn next_run(kept: bool, run: Run, client: Client, nonce: [u8; NONCE_BYTES], payload: u64) -> Run
+    ensures { λ r. ⌜ r ≡ nextRun kept run client nonce payload ⌝ }
+{
+    if kept {
+        return Run {
+            client,
+            nonce,
+            payload,
+        };
+    }
+    let before = run.nonce;
+    Run {
+        client,
+        nonce: before,
+        payload: run.payload,
+    }
+}
+
+// Keeps the payload of a begin in the room of run i.
+fn keep_payload(kept: bool, payloads: &mut [u8], i: usize, payload: &[u8])
+    requires { ⌜ (i < runCount) × (length (now payloads) ≡ roomsBytes) × (kept ≡ true → length (now payload) ≤ fileBytes) ⌝ }
+    ensures { λ _. ⌜ now (payloads .exit) ≡ keptPayloads kept (now (payloads .entry)) i (now (payload .entry)) ⌝ }
+{
+    if kept {
+        append(payloads, i * FILE_BYTES, payload);
+    }
+}
+
+// A call to the client run that a record names.
+fn run_call(
+    u: UnitState,
+    event: Event,
+    record: &[u8],
+    payloads: &mut [u8],
+    files: &mut [u8],
+    buffer: &mut [u8],
+) -> Called
+    requires { ⌜ Ready event (now «record») (now payloads) (now files) ⌝ }
+    ensures { λ r. ⌜ ((o m : List ℕ) → unitCallOf r o m (now (payloads .exit)) (now (files .exit)) (now (buffer .exit))
+        ≡ runStep event (stateOf u o m (now (payloads .entry)) (now (files .entry)) (now (buffer .entry))) (now («record» .entry))) ⌝ }
+{
+    let i = index_of(record);
+    let run = u.runs[i];
+    let client = run.client;
+    let held = run.nonce;
+    let begin = begins(event);
+    let nonce = nonce_for(begin, record, held);
+    let body = body_of(Kind::Run(event), record);
+    let o = room_call(
+        event,
+        client,
+        i,
+        record,
+        nonce,
+        payload_for(begin, body, file_of(payloads, i, run.payload)),
+        files,
+        buffer,
+    );
+    let answer = o.answer;
+    let after = o.run;
+    let kept = keeps(begin, answer);
+    keep_payload(kept, payloads, i, body);
+    let next = next_run(kept, run, after, nonce, body.len() as u64);
+    Called {
+        unit: with_run(u, i, next),
+        answer: run_answer(answer, after),
+    }
+}
+
+// Whether the rooms lent for the runs are of their lengths.
+fn rooms_right(payloads: usize, files: usize) -> bool
+    ensures { λ r. ⌜ r ≡ roomsRight payloads files ⌝ }
+{
+    if payloads != ROOMS_BYTES {
+        return false;
+    }
+    files == ROOMS_BYTES
+}
+
+// One call of a record on the unit. Rooms of another length get number 1.
+pub fn call(
+    u: UnitState,
+    record: &[u8],
+    orders: &mut [u8],
+    boxes: &mut [u8],
+    payloads: &mut [u8],
+    files: &mut [u8],
+    buffer: &mut [u8],
+) -> Called
+    ensures { λ r. ⌜ unitCallOf r (now (orders .exit)) (now (boxes .exit)) (now (payloads .exit)) (now (files .exit)) (now (buffer .exit))
+        ≡ unitCall
+        (stateOf u (now (orders .entry)) (now (boxes .entry)) (now (payloads .entry)) (now (files .entry)) (now (buffer .entry)))
+        (now («record» .entry)) ⌝ }
+{
+    if !rooms_right(payloads.len(), files.len()) {
+        return Called {
+            unit: u,
+            answer: Answer::Number(1),
+        };
+    }
+    let kind = call_of(record);
+    match kind {
+        Kind::Frame => frame_call(u, record, orders, boxes, buffer),
+        Kind::File => file_call(u, record, boxes),
+        Kind::Run(event) => run_call(u, event, record, payloads, files, buffer),
+        Kind::NoCall => Called {
+            unit: u,
+            answer: Answer::NoCall,
+        },
+    }
+}

@@ -1,0 +1,194 @@
+// A record of the input: its letter, its parts, and the call that it is.
+use octets::bytes::behind;
+use octets::bytes::front;
+use octets::bytes::number;
+ghost use mathlib.Core.Path.{_≡_};
+ghost use Prim.Native.Nat.{_≤_};
+ghost use Rattle.unit.specs.Records.{kindOf, headOf, hasLength, bytesAt, numberAt, sizeOf, bodyOf};
+ghost use Rattle.unit.specs.Records.{isRun, namesRun, isWhole, callOf, isCall};
+
+// The client runs, numbered from 1.
+pub const RUNS: usize = 16;
+
+// The bytes of the longest record: an upload's head and a payload of 65,535.
+pub const RECORD_BYTES: usize = 26 + 65535;
+
+// What happens to a client run: it begins an upload or a download, a reply arrived, or no reply came.
+pub enum Event {
+    Upload,
+    Download,
+    Reply,
+    NoReply,
+}
+
+// What a record is: a call to the bank, a call to a client run, or no call.
+pub enum Kind {
+    Frame,
+    File,
+    Run(Event),
+    NoCall,
+}
+
+// The kind of a letter.
+pub fn kind_of(letter: u8) -> Kind
+    ensures { λ r. ⌜ r ≡ kindOf letter ⌝ }
+{
+    match letter {
+        b'F' => Kind::Frame,
+        b'M' => Kind::File,
+        b'U' => Kind::Run(Event::Upload),
+        b'D' => Kind::Run(Event::Download),
+        b'R' => Kind::Run(Event::Reply),
+        b'N' => Kind::Run(Event::NoReply),
+        _ => Kind::NoCall,
+    }
+}
+
+// The bytes of a client run's record before those that its length counts.
+fn run_head_of(event: Event) -> usize
+    ensures { λ r. ⌜ r ≡ headOf (Kind.Run event) ⌝ }
+{
+    match event {
+        Event::Upload => 26,
+        Event::Download => 24,
+        Event::Reply => 8,
+        Event::NoReply => 6,
+    }
+}
+
+// The bytes of a record before those that its length counts.
+pub fn head_of(kind: Kind) -> usize
+    ensures { λ r. ⌜ r ≡ headOf kind ⌝ }
+{
+    match kind {
+        Kind::Frame => 15,
+        Kind::File => 5,
+        Kind::Run(event) => run_head_of(event),
+        Kind::NoCall => 1,
+    }
+}
+
+// Whether a length stands at the end of the head of a client run's record.
+fn run_has_length(event: Event) -> bool
+    ensures { λ r. ⌜ r ≡ hasLength (Kind.Run event) ⌝ }
+{
+    match event {
+        Event::Upload => true,
+        Event::Download => false,
+        Event::Reply => true,
+        Event::NoReply => false,
+    }
+}
+
+// Whether a length stands at the end of the head.
+fn has_length(kind: Kind) -> bool
+    ensures { λ r. ⌜ r ≡ hasLength kind ⌝ }
+{
+    match kind {
+        Kind::Frame => true,
+        Kind::File => true,
+        Kind::Run(event) => run_has_length(event),
+        Kind::NoCall => false,
+    }
+}
+
+// At most n bytes of a record from a place on.
+pub(crate) fn bytes_at(s: &[u8], from: usize, n: usize) -> &[u8]
+    ensures { λ r. ⌜ now r ≡ bytesAt from n (now (s .entry)) ⌝ }
+{
+    front(behind(s, from), n)
+}
+
+// The number of at most 8 bytes from a place on.
+pub(crate) fn number_at(s: &[u8], from: usize, n: usize) -> u64
+    requires { ⌜ n ≤ 8 ⌝ }
+    ensures { λ r. ⌜ r ≡ numberAt from n (now (s .entry)) ⌝ }
+{
+    number(bytes_at(s, from, n))
+}
+
+// The number of the 4 bytes from a place on.
+pub(crate) fn time_at(s: &[u8], from: usize) -> u32
+    ensures { λ r. ⌜ r ≡ numberAt from 4 (now (s .entry)) ⌝ }
+{
+    number_at(s, from, 4) as u32
+}
+
+// What the length of a record says, 0 where it has none.
+pub fn size_of(kind: Kind, s: &[u8]) -> usize
+    ensures { λ r. ⌜ r ≡ sizeOf kind (now (s .entry)) ⌝ }
+{
+    if !has_length(kind) {
+        return 0;
+    }
+    number_at(s, head_of(kind) - 2, 2) as usize
+}
+
+// The frame, file, payload or reply of a record.
+pub(crate) fn body_of(kind: Kind, s: &[u8]) -> &[u8]
+    ensures { λ r. ⌜ now r ≡ bodyOf kind (now (s .entry)) ⌝ }
+{
+    front(behind(s, head_of(kind)), size_of(kind, s))
+}
+
+// Whether a run is one of the runs.
+fn is_run(n: u64) -> bool
+    ensures { λ r. ⌜ r ≡ isRun n ⌝ }
+{
+    if n < 1 {
+        return false;
+    }
+    n <= RUNS as u64
+}
+
+// Whether the record names a run that there is, where it names one.
+fn names_run(kind: Kind, s: &[u8]) -> bool
+    ensures { λ r. ⌜ r ≡ namesRun kind (now (s .entry)) ⌝ }
+{
+    match kind {
+        Kind::Frame => true,
+        Kind::File => true,
+        Kind::Run(_) => is_run(number_at(s, 1, 1)),
+        Kind::NoCall => false,
+    }
+}
+
+// Whether a record of this kind is not cut short.
+fn is_whole(kind: Kind, s: &[u8]) -> bool
+    ensures { λ r. ⌜ r ≡ isWhole kind (now (s .entry)) ⌝ }
+{
+    let head = head_of(kind);
+    if s.len() < head {
+        return false;
+    }
+    size_of(kind, s) <= s.len() - head
+}
+
+// The call that the record is.
+pub fn call_of(s: &[u8]) -> Kind
+    ensures { λ r. ⌜ r ≡ callOf (now (s .entry)) ⌝ }
+{
+    if s.len() < 1 {
+        return Kind::NoCall;
+    }
+    let kind = kind_of(s[0]);
+    if !is_whole(kind, s) {
+        return Kind::NoCall;
+    }
+    if !names_run(kind, s) {
+        return Kind::NoCall;
+    }
+    kind
+}
+
+// Whether there is a call.
+pub fn is_call(kind: Kind) -> bool
+    ensures { λ r. ⌜ r ≡ isCall kind ⌝ }
+{
+    match kind {
+        Kind::Frame => true,
+        Kind::File => true,
+        Kind::Run(_) => true,
+        Kind::NoCall => false,
+    }
+}
