@@ -1,1 +1,3 @@
--- The laws of verdicts.
+-- The laws that several proofs, and the crates above, cite.
+pub mod Lines
+pub mod Sound

@@ -35,6 +35,27 @@ Row A = ReturnCode × Bool × A
 abbrev pub refusing : ReturnCode → Bool → Row Verdict
 refusing c test = (c, test, Refused c)
 
+-- "transaction cancelled": 091102, 011101, 091104
+abbrev pub cancels : ReturnCode → Bool
+cancels code.Ok = false
+cancels code.DownloadPostprocessDone = false
+cancels code.DownloadPostprocessSkipped = false
+cancels code.SegmentNumberUnderrun = true
+cancels code.InvalidRequest = false
+cancels code.InternalError = false
+cancels code.RecoverySync = false
+cancels code.NoDownloadDataAvailable = false
+cancels code.UserUnknown = false
+cancels code.InvalidOrderType = false
+cancels code.SegmentSizeExceeded = false
+cancels code.InvalidXml = false
+cancels code.UnknownTransaction = false
+cancels code.TransactionAbort = true
+cancels code.MessageReplay = false
+cancels code.SegmentNumberExceeded = true
+cancels code.MaxSegmentsExceeded = false
+cancels code.MaxTransactionsExceeded = false
+
 -- ---- THE SENDER OF A FRAME: every request, with n bytes of data
 
 -- 091010: no request form, over 1,024 bytes, or a value outside its list (what is read of it then has no form)
@@ -149,14 +170,19 @@ withoutRoom p n = ltb fileBytes (p .length + n)
 abbrev pub cancelling : ReturnCode → Bool → Row UploadAction
 cancelling c test = (c, test, up.Cancelled c)
 
+-- the lines for a segment that fits
+unfoldable pub segmentRows : Place → Fields → ℕ → List (Row UploadAction)
+segmentRows p q n =
+    cancelling code.SegmentNumberUnderrun (isUnderrun p q)
+    ∷ cancelling code.SegmentNumberExceeded (isExceeded p q)
+    ∷ cancelling code.InternalError (withoutRoom p n)
+    ∷ []
+
 unfoldable pub uploadRows : TransactionRequest → Place → Fields → ℕ → List (Row UploadAction)
 uploadRows r p q n =
     (code.RecoverySync, uploadAttempt r p q, up.Point (p .taken))
     ∷ cancelling code.TransactionAbort (not (fitsUpload r p q))
-    ∷ cancelling code.SegmentNumberUnderrun (isUnderrun p q)
-    ∷ cancelling code.SegmentNumberExceeded (isExceeded p q)
-    ∷ cancelling code.InternalError (withoutRoom p n)
-    ∷ []
+    ∷ segmentRows p q n
 
 -- ---- a request to the open download e of n segments
 
@@ -182,11 +208,16 @@ isReceipt asked.UploadTransfer = false
 isReceipt asked.DownloadTransfer = false
 isReceipt asked.Receipt = true
 
+-- the lines for a request that fits
+unfoldable pub receiptRows : TransactionRequest → Fields → List (Row DownloadAction)
+receiptRows r q =
+    (code.DownloadPostprocessDone, isReceipt r && eqb (receiptCode q) 0, down.Confirmed)
+    ∷ (code.DownloadPostprocessSkipped, isReceipt r, down.Declined)
+    ∷ []
+
 unfoldable pub downloadRows : TransactionRequest → Download → ℕ → Fields → List (Row DownloadAction)
 downloadRows r e n q =
     (code.RecoverySync, downloadAttempt r e n q && not (isSentAgain r e q), down.Point (e .delivered))
-    ∷ (code.Ok, downloadAttempt r e n q, down.SentAgain n)
+    ∷ (code.Ok, downloadAttempt r e n q && isSentAgain r e q, down.SentAgain n)
     ∷ (code.TransactionAbort, not (fitsDownload r e n q), down.Cancelled)
-    ∷ (code.DownloadPostprocessDone, isReceipt r && eqb (receiptCode q) 0, down.Confirmed)
-    ∷ (code.DownloadPostprocessSkipped, isReceipt r, down.Declined)
-    ∷ []
+    ∷ receiptRows r q

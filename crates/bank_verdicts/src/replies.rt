@@ -21,7 +21,7 @@ use message::segments::last_mark_of;
 ghost use mathlib.Core.Path.{_≡_};
 ghost use Rattle.bank_verdicts.specs.Replies.{uploadPointPhase, downloadPointPhase, segmentReply};
 ghost use Rattle.bank_verdicts.specs.Replies.{uploadReply, downloadReply, actionReply, replyTo};
-ghost use Rattle.bank_verdicts.specs.Replies.{downloadSegmentIn, segmentIn};
+ghost use Rattle.bank_verdicts.specs.Replies.{downloadSegmentIn, actionSegmentIn, segmentIn};
 
 // The phase of an upload's recovery point k.
 fn upload_point_phase(taken: u64) -> u64
@@ -74,13 +74,22 @@ fn download_reply(action: DownloadAction, transaction: Bits128, q: Fields) -> Fi
         DownloadAction::Opened(n) => download_opened(exchange, n, transaction, last_mark_of(1, n)),
         DownloadAction::Delivered(n) => segment_reply(n, transaction, q),
         DownloadAction::SentAgain(n) => segment_reply(n, transaction, q),
-        DownloadAction::Point(d) => recovery_point(download_point_phase(d), exchange, transaction, d),
+        DownloadAction::Point(d) => recovery_point(
+            download_point_phase(d),
+            exchange,
+            transaction,
+            d,
+        ),
         DownloadAction::Cancelled => refusal(q.phase(), exchange, ReturnCode::TransactionAbort),
         DownloadAction::Confirmed => {
             receipt_answered(exchange, transaction, ReturnCode::DownloadPostprocessDone)
         }
         DownloadAction::Declined => {
-            receipt_answered(exchange, transaction, ReturnCode::DownloadPostprocessSkipped)
+            receipt_answered(
+                exchange,
+                transaction,
+                ReturnCode::DownloadPostprocessSkipped,
+            )
         }
     }
 }
@@ -114,7 +123,20 @@ fn download_segment_in(action: DownloadAction, q: Fields) -> u64
         DownloadAction::Opened(_) => 1,
         DownloadAction::Delivered(_) => q.segment(),
         DownloadAction::SentAgain(_) => q.segment(),
-        _ => 0,
+        DownloadAction::Point(_) => 0,
+        DownloadAction::Cancelled => 0,
+        DownloadAction::Confirmed => 0,
+        DownloadAction::Declined => 0,
+    }
+}
+
+// The segment whose bytes a reply about a transaction carries; 0 where it carries none.
+fn action_segment_in(action: Action, q: Fields) -> u64
+    ensures { λ r. ⌜ r ≡ actionSegmentIn action q ⌝ }
+{
+    match action {
+        Action::Upload(_) => 0,
+        Action::Download(a) => download_segment_in(a, q),
     }
 }
 
@@ -122,11 +144,9 @@ fn download_segment_in(action: DownloadAction, q: Fields) -> u64
 pub fn segment_in(verdict: Verdict, q: Fields) -> u64
     ensures { λ r. ⌜ r ≡ segmentIn verdict q ⌝ }
 {
-    let Verdict::Of(_, action) = verdict else {
-        return 0;
-    };
-    match action {
-        Action::Upload(_) => 0,
-        Action::Download(a) => download_segment_in(a, q),
+    match verdict {
+        Verdict::Unreadable => 0,
+        Verdict::Refused(_) => 0,
+        Verdict::Of(_, action) => action_segment_in(action, q),
     }
 }

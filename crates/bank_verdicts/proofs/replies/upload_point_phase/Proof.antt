@@ -1,0 +1,17 @@
+-- Phase 1 where k is 0, else 2. Assumes nothing.
+use Rattle.octets.proofs.Tests.{tests}
+use Rattle.bank_verdicts.proofs.replies.upload_point_phase.Statement.{statement}
+use Rattle.bank_verdicts.proofs.replies.upload_point_phase.Tie as tie
+
+returns : tie.Need-returns
+returns c = search tests
+
+returns-2 : tie.Need-returns-2
+returns-2 c = search tests
+
+pub upload-point-phase-spec : {M : Type 1} → statement M
+upload-point-phase-spec =
+    tie.close
+    (tie.spec
+    returns
+    returns-2)
