@@ -1,12 +1,9 @@
 -- What a step of an open upload never does: free a place that is not zero, or book an order by any segment but its next and last.
 -- Assumes nothing.
 use Prim.Native.Nat.{ℕ, _+_}
-use mathlib.Core.Bool.{Bool, true, false, cond}
 use mathlib.Core.List.{List}
 use mathlib.Core.Path.{_≡_, refl, sym, ap, _∙_}
-use lib.Dec.{eqb}
 use lib.ListN.{length, replicate}
-use borrow.Author.Tests.{eqb-true}
 use Rattle.frame_table.specs.declared.fields.Fields.{Fields}
 use Rattle.frame_table.specs.Names.{segment}
 use Rattle.octets.proofs.Tests.{never}
@@ -14,18 +11,12 @@ use Rattle.bank_state.specs.declared.state.Place.{Place}
 use Rattle.bank_state.specs.declared.state.Use.the-variants.{Free, Open, Booked}
 use Rattle.bank_state.specs.Search.{isFree, isBooked}
 use Rattle.bank_state.specs.State.{noPlace}
-use Rattle.bank_uploads.specs.declared.uploads.UploadVerdict.{UploadVerdict}
-use Rattle.bank_uploads.specs.declared.uploads.UploadVerdict.the-variants.{Take, Point, Cancel}
-use Rattle.bank_uploads.specs.Uploads.{UploadStep, grown, attempted, carryOutUpload, judgeUpload, uploadStep}
-use Rattle.bank_uploads.proofs.UploadVerdicts.{take-fits}
-
-grown-free : (t : Bool) → isFree (cond t Booked Open) ≡ false
-grown-free true = refl
-grown-free false = refl
-
-grown-booked : (t : Bool) → isBooked (cond t Booked Open) ≡ true → t ≡ true
-grown-booked true e = refl
-grown-booked false e = never e
+use Rattle.bank_verdicts.specs.declared.verdict.TransactionRequest.{TransactionRequest}
+use Rattle.bank_verdicts.specs.declared.verdict.UploadAction.{UploadAction}
+use Rattle.bank_verdicts.specs.declared.verdict.UploadAction.the-variants as up
+use Rattle.bank_verdicts.specs.Judgement.{judgeUpload}
+use Rattle.bank_uploads.specs.Uploads.{UploadStep, grown, booked, attempted, carriedOut, uploadStep}
+use Rattle.bank_uploads.proofs.UploadVerdicts.{last-fits}
 
 -- "place zeroed and freed"
 pub record ZeroedAndFreed (s : UploadStep) (bytes : List ℕ) : Type 0 where
@@ -34,23 +25,31 @@ pub record ZeroedAndFreed (s : UploadStep) (bytes : List ℕ) : Type 0 where
 
 -- a request with the data d to the open upload in the place p of these bytes
 module _ (clock : ℕ) (p : Place) (opened : p .used ≡ Open) (q : Fields) (d bytes : List ℕ) where
-  -- a place that a step leaves free is zero, whatever the verdict
-  pub freed-zero : (v : UploadVerdict) → let s = carryOutUpload v clock p q d bytes in s .place .used ≡ Free → ZeroedAndFreed s bytes
-  unfolding grown attempted
-  freed-zero Take e = never (sym (grown-free (eqb (p .taken + 1) (p .segments))) ∙ ap isFree e)
-  freed-zero Point e = never (sym (ap isFree opened) ∙ ap isFree e)
-  freed-zero (Cancel c) e = record { place = refl; zeros = refl }
+  not-free : {A : Type 0} → p .used ≡ Free → A
+  not-free e = never (sym (ap isFree opened) ∙ ap isFree e)
+
+  not-booked : {A : Type 0} → p .used ≡ Booked → A
+  not-booked e = never (sym (ap isBooked opened) ∙ ap isBooked e)
+
+  -- a place that a request leaves free is zero, whatever the action
+  pub freed-zero : (a : UploadAction) → let s = carriedOut a clock p d bytes in s .place .used ≡ Free → ZeroedAndFreed s bytes
+  unfolding grown booked attempted
+  freed-zero (up.Opened number) e = not-free e
+  freed-zero up.Took e = not-free e
+  freed-zero up.TookLast e = never (ap isFree e)
+  freed-zero (up.Point k) e = not-free e
+  freed-zero (up.Cancelled c) e = record { place = refl; zeros = refl }
 
   -- "Segment N books the order": a segment that is not the next one, or not the last, books nothing
-  pub booked-by-last : (transfer : Bool) → uploadStep clock p transfer q d bytes .place .used ≡ Booked
-      → (segment q ≡ p .taken + 1) × (segment q ≡ p .segments)
-  unfolding uploadStep grown attempted
-  booked-by-last transfer = at (judgeUpload p transfer q (length d)) refl
+  pub booked-by-last : (r : TransactionRequest) → uploadStep clock r p q d bytes .place .used ≡ Booked →
+      (segment q ≡ p .taken + 1) × (segment q ≡ p .segments)
+  unfolding uploadStep grown booked attempted
+  booked-by-last r = at (judgeUpload r p q (length d)) refl
     where
-      at : (v : UploadVerdict) → judgeUpload p transfer q (length d) ≡ v → carryOutUpload v clock p q d bytes .place .used ≡ Booked
-          → (segment q ≡ p .taken + 1) × (segment q ≡ p .segments)
-      at Take h e =
-          let next = take-fits p transfer q (length d) h .0 in
-          (next, next ∙ eqb-true (p .taken + 1) (p .segments) (grown-booked (eqb (p .taken + 1) (p .segments)) (ap isBooked e)))
-      at Point h e = never (sym (ap isBooked opened) ∙ ap isBooked e)
-      at (Cancel c) h e = never (ap isBooked e)
+      at : (a : UploadAction) → judgeUpload r p q (length d) ≡ a → carriedOut a clock p d bytes .place .used ≡ Booked →
+          (segment q ≡ p .taken + 1) × (segment q ≡ p .segments)
+      at (up.Opened number) h e = not-booked e
+      at up.Took h e = not-booked e
+      at up.TookLast h e = let fits = last-fits r p q (length d) h in (fits .0, fits .1)
+      at (up.Point k) h e = not-booked e
+      at (up.Cancelled c) h e = never (ap isBooked e)

@@ -4,57 +4,44 @@ use bank_state::state::Use;
 use bank_state::state::no_place;
 use bank_state::store::append;
 use bank_state::store::clear;
+use bank_verdicts::verdict::TransactionRequest;
+use bank_verdicts::verdict::UploadAction;
 use frame_table::fields::Fields;
 use message::codes::ReturnCode;
 use message::limits::ATTEMPTS_MOST;
 use message::limits::FILE_BYTES;
-use message::limits::INITIALISATION;
-use message::limits::TRANSFER;
-use message::replies::recovery_point;
-use message::replies::refusal;
-use message::replies::segment_taken;
 use message::segments::is_next;
 ghost use mathlib.Core.Path.{_≡_};
-ghost use mathlib.Core.Bool.{cond, _&&_};
-ghost use mathlib.Core.List.{List, []};
-ghost use Prim.Native.Nat.{ℕ, _+_, _<_, _≤_};
-ghost use lib.Dec.{eqb, ltb};
-ghost use lib.ListN.{length};
-ghost use Rattle.frame_table.specs.Names.{exchange, segment, lastMark};
+ghost use Prim.Native.Nat.{_+_, _<_, _≤_};
+ghost use lib.ListN.{length, replicate};
+ghost use Rattle.frame_table.specs.Names.{segment};
 ghost use Rattle.message.specs.Limits.{attemptsMost, fileBytes};
-ghost use Rattle.message.specs.Replies.{recoveryPoint};
-ghost use Rattle.message.specs.Verdicts.{decide};
-ghost use Rattle.bank_state.specs.declared.state.Use.the-variants.{Open, Booked};
+ghost use Rattle.octets.specs.Bytes.{overwrite};
 ghost use Rattle.bank_state.specs.State.{noPlace};
-ghost use Rattle.bank_uploads.specs.declared.uploads.UploadVerdict.the-variants.{Take, Point, Cancel};
-ghost use Rattle.bank_uploads.specs.Uploads.{stepOf, carryOutUpload, fitsUpload, segmentRefusals, judgeUpload, uploadPointPhase, grown, attempted, uploadStep};
+ghost use Rattle.bank_verdicts.specs.Refusals.{fitsUpload, isUnderrun, isExceeded, withoutRoom, segmentRows};
+ghost use Rattle.bank_verdicts.specs.Judgement.{judged, takes, judgeUpload};
+ghost use Rattle.bank_uploads.specs.Uploads.{grown, booked, attempted, stepOf, uploadStep};
 
-// What a request to an open upload gets: its segment taken, the recovery point, or the transaction cancelled with this code.
-pub enum UploadVerdict {
-    Take,
-    Point,
-    Cancel(ReturnCode),
-}
-
-// The upload's place after a step, and the reply's fields.
+// The upload's place after a request, and what the request did.
 pub struct UploadOut {
     pub place: Place,
-    pub reply: Fields,
+    pub action: UploadAction,
 }
 
 // Whether the request is the segment that fits.
-fn fits_upload(p: Place, transfer: bool, q: Fields) -> bool
-    ensures { λ r. ⌜ r ≡ fitsUpload p transfer q ⌝ }
+fn fits_upload(r: TransactionRequest, p: Place, q: Fields) -> bool
+    ensures { λ a. ⌜ a ≡ fitsUpload r p q ⌝ }
 {
-    if transfer {
-        return is_next(q.segment(), p.taken);
+    match r {
+        TransactionRequest::UploadTransfer => is_next(q.segment(), p.taken),
+        TransactionRequest::DownloadTransfer => false,
+        TransactionRequest::Receipt => false,
     }
-    false
 }
 
 // Whether a segment below N has last mark 1.
 fn is_underrun(p: Place, q: Fields) -> bool
-    ensures { λ r. ⌜ r ≡ (ltb (segment q) (p .segments) && eqb (lastMark q) 1) ⌝ }
+    ensures { λ r. ⌜ r ≡ isUnderrun p q ⌝ }
 {
     if p.segments <= q.segment() {
         return false;
@@ -64,7 +51,7 @@ fn is_underrun(p: Place, q: Fields) -> bool
 
 // Whether segment N has last mark 0.
 fn is_exceeded(p: Place, q: Fields) -> bool
-    ensures { λ r. ⌜ r ≡ (eqb (segment q) (p .segments) && eqb (lastMark q) 0) ⌝ }
+    ensures { λ r. ⌜ r ≡ isExceeded p q ⌝ }
 {
     if q.segment() != p.segments {
         return false;
@@ -72,64 +59,56 @@ fn is_exceeded(p: Place, q: Fields) -> bool
     q.last_mark() == 0
 }
 
-// Whether n bytes more are too many for a place.
-fn is_full(length: u64, n: usize) -> bool
-    ensures { λ r. ⌜ r ≡ ltb fileBytes (length + n) ⌝ }
+// Whether n bytes more are too many for the place.
+fn is_without_room(p: Place, n: usize) -> bool
+    ensures { λ r. ⌜ r ≡ withoutRoom p n ⌝ }
 {
     if FILE_BYTES < n {
         return true;
     }
     let room = (FILE_BYTES - n) as u64;
-    room < length
+    room < p.length
 }
 
-// What a segment of n bytes that fits gets, checked in document 01's order.
-fn judge_segment(p: Place, q: Fields, n: usize) -> UploadVerdict
-    ensures { λ r. ⌜ r ≡ decide (segmentRefusals p q n) Take ⌝ }
+// Segment N books the order.
+fn takes(p: Place, segment: u64) -> UploadAction
+    requires { ⌜ segment ≡ p .taken + 1 ⌝ }
+    ensures { λ r. ⌜ r ≡ takes p ⌝ }
+{
+    if segment == p.segments {
+        return UploadAction::TookLast;
+    }
+    UploadAction::Took
+}
+
+// What a segment of n bytes that fits does, checked in document 01's order.
+fn judge_segment(p: Place, q: Fields, n: usize) -> UploadAction
+    requires { ⌜ segment q ≡ p .taken + 1 ⌝ }
+    ensures { λ r. ⌜ r ≡ judged (segmentRows p q n) (takes p) ⌝ }
 {
     if is_underrun(p, q) {
-        return UploadVerdict::Cancel(ReturnCode::SegmentNumberUnderrun);
+        return UploadAction::Cancelled(ReturnCode::SegmentNumberUnderrun);
     }
     if is_exceeded(p, q) {
-        return UploadVerdict::Cancel(ReturnCode::SegmentNumberExceeded);
+        return UploadAction::Cancelled(ReturnCode::SegmentNumberExceeded);
     }
-    if is_full(p.length, n) {
-        return UploadVerdict::Cancel(ReturnCode::InternalError);
+    if is_without_room(p, n) {
+        return UploadAction::Cancelled(ReturnCode::InternalError);
     }
-    UploadVerdict::Take
+    takes(p, q.segment())
 }
 
-// What a request with n bytes of data gets.
-fn judge_upload(p: Place, transfer: bool, q: Fields, n: usize) -> UploadVerdict
-    ensures { λ r. ⌜ r ≡ judgeUpload p transfer q n ⌝ }
+// What a request with n bytes of data does.
+pub fn judge_upload(r: TransactionRequest, p: Place, q: Fields, n: usize) -> UploadAction
+    ensures { λ a. ⌜ a ≡ judgeUpload r p q n ⌝ }
 {
-    if fits_upload(p, transfer, q) {
+    if fits_upload(r, p, q) {
         return judge_segment(p, q, n);
     }
     if p.attempts < ATTEMPTS_MOST {
-        return UploadVerdict::Point;
+        return UploadAction::Point(p.taken);
     }
-    UploadVerdict::Cancel(ReturnCode::TransactionAbort)
-}
-
-// The phase of an upload's recovery point.
-fn upload_point_phase(taken: u64) -> u64
-    ensures { λ r. ⌜ r ≡ uploadPointPhase taken ⌝ }
-{
-    if taken == 0 {
-        return INITIALISATION;
-    }
-    TRANSFER
-}
-
-// What a place is used for when its segments are taken up to this one.
-fn used_with(taken: u64, segments: u64) -> Use
-    ensures { λ r. ⌜ r ≡ cond (eqb taken segments) Booked Open ⌝ }
-{
-    if taken == segments {
-        return Use::Booked;
-    }
-    Use::Open
+    UploadAction::Cancelled(ReturnCode::TransactionAbort)
 }
 
 // The place with one segment of n bytes more, which is segment `taken`.
@@ -137,17 +116,28 @@ fn grown(p: Place, clock: u64, taken: u64, n: usize) -> Place
     requires { ⌜ (taken ≡ p .taken + 1) × (p .length + n ≤ fileBytes) ⌝ }
     ensures { λ r. ⌜ r ≡ grown clock n p ⌝ }
 {
-    let used = used_with(taken, p.segments);
+    let mut g = p;
+    g.taken = taken;
+    g.last = clock;
+    g.length = p.length + n as u64;
+    g
+}
+
+// The place with the order booked, after its last segment of n bytes.
+fn booked(p: Place, n: usize) -> Place
+    requires { ⌜ p .length + n ≤ fileBytes ⌝ }
+    ensures { λ r. ⌜ r ≡ booked n p ⌝ }
+{
     let transaction = p.transaction;
     Place {
-        used,
+        used: Use::Booked,
         transaction,
         subscriber: p.subscriber,
         number: p.number,
-        segments: p.segments,
-        taken,
-        attempts: p.attempts,
-        last: clock,
+        segments: 0,
+        taken: 0,
+        attempts: 0,
+        last: 0,
         length: p.length + n as u64,
     }
 }
@@ -162,68 +152,49 @@ fn attempted(p: Place) -> Place
     a
 }
 
-// The recovery point of an open upload.
-fn upload_point(p: Place, q: Fields) -> Fields
-    ensures { λ r. ⌜ r ≡ recoveryPoint (uploadPointPhase (p .taken)) (exchange q) (p .transaction) (p .taken) ⌝ }
-{
-    let transaction = p.transaction;
-    recovery_point(
-        upload_point_phase(p.taken),
-        q.exchange(),
-        transaction,
-        p.taken,
-    )
-}
-
 // The segment is written directly behind the bytes already in its place.
-fn take(clock: u64, p: Place, q: Fields, data: &[u8], bytes: &mut [u8]) -> UploadOut
-    requires { ⌜ (segment q ≡ p .taken + 1) × (p .length + length (now «data») ≤ fileBytes) × (length (now bytes) ≡ fileBytes) ⌝ }
-    ensures { λ r. ⌜ stepOf (r .place) (now (bytes .exit)) (r .reply) ≡ carryOutUpload Take clock p q (now («data» .entry)) (now (bytes .entry)) ⌝ }
+fn take(p: Place, data: &[u8], bytes: &mut [u8])
+    requires { ⌜ p .length + length (now «data») ≤ length (now bytes) ⌝ }
+    ensures { λ _. ⌜ now (bytes .exit) ≡ overwrite (now (bytes .entry)) (p .length) (now («data» .entry)) ⌝ }
 {
     let at = p.length as usize;
     append(bytes, at, data);
-    let place = grown(p, clock, q.segment(), data.len());
-    let transaction = p.transaction;
-    let reply = segment_taken(q.exchange(), transaction, q.segment());
-    UploadOut { place, reply }
 }
 
-// The recovery point is answered, and the attempt counted.
-fn point(p: Place, q: Fields) -> UploadOut
-    requires { ⌜ p .attempts < attemptsMost ⌝ }
-    ensures { λ r. ⌜ ((bytes : List ℕ) → stepOf (r .place) bytes (r .reply) ≡ carryOutUpload Point 0 p q [] bytes) ⌝ }
-{
-    let place = attempted(p);
-    let reply = upload_point(p, q);
-    UploadOut { place, reply }
-}
-
-// The transaction is cancelled, its place zeroed and freed.
-fn cancel(q: Fields, code: ReturnCode, bytes: &mut [u8]) -> UploadOut
-    ensures { λ r. ⌜ stepOf (r .place) (now (bytes .exit)) (r .reply) ≡ carryOutUpload (Cancel code) 0 noPlace q [] (now (bytes .entry)) ⌝ }
+// The place is zeroed and freed.
+fn free(bytes: &mut [u8]) -> Place
+    ensures { λ r. ⌜ (r ≡ noPlace) × (now (bytes .exit) ≡ replicate (length (now (bytes .entry))) 0) ⌝ }
 {
     clear(bytes);
-    let place = no_place();
-    let reply = refusal(q.phase(), q.exchange(), code);
-    UploadOut { place, reply }
+    no_place()
 }
 
 // A request to an open upload arrives; `segment` is its data, and `bytes` are the place's bytes.
 pub fn upload_step(
     clock: u64,
+    r: TransactionRequest,
     p: Place,
-    transfer: bool,
     q: Fields,
     segment: &[u8],
     bytes: &mut [u8],
 ) -> UploadOut
     requires { ⌜ length (now bytes) ≡ fileBytes ⌝ }
-    ensures { λ r. ⌜ stepOf (r .place) (now (bytes .exit)) (r .reply) ≡ uploadStep clock p transfer q (now (segment .entry)) (now (bytes .entry)) ⌝ }
+    ensures { λ o. ⌜ stepOf (o .place) (now (bytes .exit)) (o .action)
+        ≡ uploadStep clock r p q (now (segment .entry)) (now (bytes .entry)) ⌝ }
 {
-    let verdict = judge_upload(p, transfer, q, segment.len());
-    match verdict {
-        UploadVerdict::Take => take(clock, p, q, segment, bytes),
-        UploadVerdict::Point => point(p, q),
-        UploadVerdict::Cancel(code) => cancel(q, code, bytes),
-    }
+    let action = judge_upload(r, p, q, segment.len());
+    let place = match action {
+        UploadAction::Opened(_) => p,
+        UploadAction::Took => {
+            take(p, segment, bytes);
+            grown(p, clock, q.segment(), segment.len())
+        }
+        UploadAction::TookLast => {
+            take(p, segment, bytes);
+            booked(p, segment.len())
+        }
+        UploadAction::Point(_) => attempted(p),
+        UploadAction::Cancelled(_) => free(bytes),
+    };
+    UploadOut { place, action }
 }

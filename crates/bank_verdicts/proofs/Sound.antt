@@ -190,10 +190,10 @@ pub data UploadSound (r : TransactionRequest) (p : Place) (q : Fields) (n : ℕ)
   exceeded : UploadFits r p q → segment q ≡ p .segments → lastMark q ≡ 0 → UploadSound r p q n (up.Cancelled code.SegmentNumberExceeded)
   overfull : fileBytes < p .length + n → UploadSound r p q n (up.Cancelled code.InternalError)
 
-upload-fits : (r : TransactionRequest) (p : Place) (q : Fields) → not (fitsUpload r p q) ≡ false → UploadFits r p q
-upload-fits asked.UploadTransfer p q h = record { transfer = refl; next = eqb-true (segment q) (p .taken + 1) (not-false _ h) }
-upload-fits asked.DownloadTransfer p q h = never (sym h)
-upload-fits asked.Receipt p q h = never (sym h)
+pub upload-fits : (r : TransactionRequest) (p : Place) (q : Fields) → fitsUpload r p q ≡ true → UploadFits r p q
+upload-fits asked.UploadTransfer p q h = record { transfer = refl; next = eqb-true (segment q) (p .taken + 1) h }
+upload-fits asked.DownloadTransfer p q h = never h
+upload-fits asked.Receipt p q h = never h
 
 module _ (r : TransactionRequest) (p : Place) (q : Fields) (n : ℕ) where
   abbrev P : UploadAction → Type 0
@@ -210,6 +210,9 @@ module _ (r : TransactionRequest) (p : Place) (q : Fields) (n : ℕ) where
   sixth h e =
       abort (not-true (fitsUpload r p q) h)
       (ltb-false (p .attempts) attemptsMost (and-false (not (fitsUpload r p q)) (ltb (p .attempts) attemptsMost) e h))
+
+  fitting : not (fitsUpload r p q) ≡ false → UploadFits r p q
+  fitting h = upload-fits r p q (not-false (fitsUpload r p q) h)
 
   early : UploadFits r p q → isUnderrun p q ≡ true → P (up.Cancelled code.SegmentNumberUnderrun)
   unfolding isUnderrun
@@ -234,7 +237,7 @@ module _ (r : TransactionRequest) (p : Place) (q : Fields) (n : ℕ) where
   taken : Fail (uploadRows r p q n) → P (takes p)
   unfolding uploadRows segmentRows withoutRoom takes
   taken failed =
-      let fits = upload-fits r p q (failed code.TransactionAbort) in
+      let fits = fitting (failed code.TransactionAbort) in
       let room = ltb-false fileBytes (p .length + n) (failed code.InternalError) in
       by-test P (eqb (p .taken + 1) (p .segments))
       (λ h. let last = fits .next ∙ eqb-true (p .taken + 1) (p .segments) h in
@@ -247,8 +250,8 @@ module _ (r : TransactionRequest) (p : Place) (q : Fields) (n : ℕ) where
       judged-by P (uploadRows r p q n) (takes p)
       (line (λ h _. attempt h)
       (line (λ h above. sixth h (above code.RecoverySync))
-      (line (λ h above. early (upload-fits r p q (above code.TransactionAbort)) h)
-      (line (λ h above. missing (upload-fits r p q (above code.TransactionAbort)) h)
+      (line (λ h above. early (fitting (above code.TransactionAbort)) h)
+      (line (λ h above. missing (fitting (above code.TransactionAbort)) h)
       (line (λ h _. overfull (ltb-true fileBytes (p .length + n) h))
       end)))))
       taken

@@ -1,4 +1,4 @@
--- `is_among` meets its contract. Assumes nothing.
+-- Segment 0 is none of them. Assumes nothing.
 use native.Mathlib.Omega.{arith}
 use borrow.Author.Tests.{lt-ltb}
 use Rattle.bank_downloads.proofs.downloads.is_among.Statement.{statement}

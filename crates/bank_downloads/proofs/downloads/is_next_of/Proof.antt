@@ -1,4 +1,4 @@
--- `is_next_of` meets its contract. Assumes nothing.
+-- The next segment counts where it is at most n. Assumes nothing.
 use Rattle.bank_downloads.proofs.downloads.is_next_of.Statement.{statement}
 use Rattle.bank_downloads.proofs.downloads.is_next_of.Tie as tie
 

@@ -1,4 +1,4 @@
--- `attempted` meets its contract. Assumes nothing.
+-- The place counts one attempt more. Assumes nothing.
 use mathlib.Core.Path.{refl}
 use borrow.Author.Needs.{needs}
 use Rattle.bank_uploads.specs.Uploads.{attempted}

@@ -1,15 +1,20 @@
--- `fits_upload` meets its contract. Assumes nothing.
-use Rattle.bank_uploads.specs.Uploads.{fitsUpload}
+-- By the request's form: an upload transfer with the next segment fits, no other request does. Assumes nothing.
+use borrow.Author.Needs.{needs}
 use Rattle.bank_uploads.proofs.uploads.fits_upload.Statement.{statement}
 use Rattle.bank_uploads.proofs.uploads.fits_upload.Tie as tie
 
 returns : tie.Need-returns
-unfolding fitsUpload
-returns c = rw (c .before .before .if1 .taken, c .is-next .ensures, c .before .segment .ensures)
-
-returns-2 : tie.Need-returns-2
-unfolding fitsUpload
-returns-2 c = rw (c .if1 .left)
+returns c = rw (c .before .before .enum-told .given .1, c .is-next .ensures, c .before .segment .ensures)
 
 pub fits-upload-spec : {M : Type 1} → statement M
-fits-upload-spec = tie.close (tie.spec (λ c κs. tt) (λ c κs. tt) returns returns-2)
+fits-upload-spec =
+    tie.close
+    (tie.spec
+    (λ c. search needs)
+    (λ c κs. tt)
+    (λ c κs. tt)
+    (λ c. search needs)
+    (λ c. search needs)
+    returns
+    (λ c. search needs)
+    (λ c. search needs))

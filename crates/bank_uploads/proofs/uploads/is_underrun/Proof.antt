@@ -1,15 +1,18 @@
--- `is_underrun` meets its contract. Assumes nothing.
+-- Last mark 1 counts where the segment is below N. Assumes nothing.
 use borrow.Author.Tests.{le-ltb, lt-ltb}
+use Rattle.bank_verdicts.specs.Refusals.{isUnderrun}
 use Rattle.bank_uploads.proofs.uploads.is_underrun.Statement.{statement}
 use Rattle.bank_uploads.proofs.uploads.is_underrun.Tie as tie
 
 returns : tie.Need-returns
+unfolding isUnderrun
 returns c =
     let at-segment = c .before .before in
     let start = at-segment .before in
     rw (← at-segment .segment .ensures, le-ltb (at-segment .segment .result) (start .args .p .segments) (c .if1 .taken))
 
 returns-2 : tie.Need-returns-2
+unfolding isUnderrun
 returns-2 c =
     let at-segment = c .before .before .before in
     let start = at-segment .before in
