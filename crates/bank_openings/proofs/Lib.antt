@@ -1,2 +1,1 @@
 -- The laws that several proofs, and the crates above, cite.
-pub mod OpeningVerdicts

@@ -1,2 +1,3 @@
-// What an opening does: judged by document 01's refusals, then carried out; and the order numbers.
+// Openings: how they are judged, and what an accepted one leaves.
+pub mod judgement;
 pub mod openings;

@@ -3,7 +3,7 @@ use crate::limits::NONCES;
 use crate::limits::PLACES;
 use frame_table::fields::Bits128;
 ghost use mathlib.Core.Path.{_≡_};
-ghost use Rattle.bank_state.specs.State.{noPlace, noDownload, noNonce, fresh};
+ghost use Rattle.bank_state.specs.State.{noPlace, noDownload, noNonce, fresh, fileLength};
 
 // What an order place is used for.
 pub enum Use {
@@ -116,4 +116,18 @@ pub fn fresh() -> Bank
         nonces,
         files: [0u64; PLACES],
     }
+}
+
+// The length of the file in a subscriber's mailbox, 0 where it is empty.
+pub fn file_length(files: [u64; PLACES], subscriber: u64) -> u64
+    ensures { λ r. ⌜ r ≡ fileLength subscriber files ⌝ }
+{
+    if subscriber == 0 {
+        return files[0];
+    }
+    let i = (subscriber - 1) as usize;
+    if i < PLACES {
+        return files[i];
+    }
+    0
 }

@@ -1,4 +1,4 @@
--- `counted` meets its contract. Assumes nothing.
+-- What the calls give stands where the definition has it. Assumes nothing.
 use borrow.Author.Needs.{needs}
 use Rattle.bank_openings.specs.Openings.{counted}
 use Rattle.bank_openings.proofs.openings.counted.Statement.{statement}

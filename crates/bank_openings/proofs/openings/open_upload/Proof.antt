@@ -1,40 +1,42 @@
--- `open_upload` meets its contract. Assumes nothing.
-use borrow.Author.Needs.{needs}
+-- What the calls give stands where the definition has it. Assumes nothing.
 use Rattle.bank_openings.specs.Openings.{openUpload, counted}
+use borrow.Author.Needs.{needs}
 use Rattle.bank_openings.proofs.openings.open_upload.Statement.{statement}
 use Rattle.bank_openings.proofs.openings.open_upload.Tie as tie
+
+subscriber-requires : tie.Need-subscriber-requires
+subscriber-requires c κs = tt
+
+segments-requires : tie.Need-segments-requires
+segments-requires c κs = tt
+
+free-place-requires : tie.Need-free-place-requires
+free-place-requires c κs = tt
+
+set-place-requires : tie.Need-set-place-requires
+set-place-requires c κs = tt
+
+counted-requires : tie.Need-counted-requires
+counted-requires c κs = search needs
 
 returns : tie.Need-returns
 unfolding openUpload counted
 returns c =
-    let at-order-number-of = c .before in
-    let at-exchange = at-order-number-of .before in
-    let at-counted = at-exchange .before in
-    let at-set-place = at-counted .before in
-    let at-free-place = at-set-place .before in
-    let at-segments = at-free-place .before .before in
-    let at-subscriber = at-segments .before in
     rw (
-      c .upload-opened .ensures,
-      at-order-number-of .order-number-of .ensures,
-      at-exchange .exchange .ensures,
-      at-counted .counted .ensures,
-      at-set-place .set-place .ensures,
-      at-free-place .free-place .ensures,
-      at-segments .segments .ensures,
-      at-subscriber .subscriber .ensures,
+      c .counted .ensures,
+      c .before .set-place .ensures,
+      c .before .before .free-place .ensures,
+      c .before .before .before .before .segments .ensures,
+      c .before .before .before .before .before .subscriber .ensures,
     )
 
 pub open-upload-spec : {M : Type 1} → statement M
 open-upload-spec =
     tie.close
     (tie.spec
-    (λ c κs. tt)
-    (λ c κs. tt)
-    (λ c κs. tt)
-    (λ c κs. tt)
-    (λ c κs. search needs)
-    (λ c κs. tt)
-    (λ c κs. tt)
-    (λ c κs. tt)
+    subscriber-requires
+    segments-requires
+    free-place-requires
+    set-place-requires
+    counted-requires
     returns)

@@ -1,4 +1,4 @@
--- `set_nonce` meets its contract. Assumes nothing.
+-- Behind the row nothing is set, as the definition has it. Assumes nothing.
 use mathlib.Core.Path.{_≡_, sym}
 use native.Mathlib.Omega.{arith}
 use lib.ListN.{length}

@@ -1,8 +1,10 @@
--- `is_replay` meets its contract. Assumes nothing.
-use Rattle.bank_openings.proofs.openings.is_replay.Statement.{statement}
-use Rattle.bank_openings.proofs.openings.is_replay.Tie as tie
+-- The nonces are looked through only where the timestamp is in time. Assumes nothing.
+use Rattle.bank_verdicts.specs.Refusals.{isReplay}
+use Rattle.bank_openings.proofs.judgement.is_replay.Statement.{statement}
+use Rattle.bank_openings.proofs.judgement.is_replay.Tie as tie
 
 returns : tie.Need-returns
+unfolding isReplay
 returns c =
     let at-if1 = c .before .before in
     let at-in-time = at-if1 .before in
@@ -16,6 +18,7 @@ returns c =
     )
 
 returns-2 : tie.Need-returns-2
+unfolding isReplay
 returns-2 c = rw (← c .before .before .timestamp .ensures, ← c .before .in-time .ensures, c .if1 .left)
 
 pub is-replay-spec : {M : Type 1} → statement M

@@ -1,4 +1,4 @@
--- `in_time` meets its contract. Assumes nothing.
+-- The earlier time is taken from the later one; the other bound then holds by itself. Assumes nothing.
 use mathlib.Core.Path.{_≡_, _∙_}
 use Prim.Native.Nat.{ℕ, _+_, _-_, _<_, _≤_}
 use native.Mathlib.Omega.{arith}
@@ -6,10 +6,10 @@ use lib.Dec.{leb}
 use borrow.Author.Tests.{le-leb}
 use borrow.Author.Needs.{needs}
 use Rattle.bank_state.specs.Limits.{window}
-use Rattle.bank_openings.specs.Openings.{inTime}
+use Rattle.bank_verdicts.specs.Refusals.{inTime}
 use Rattle.octets.proofs.Tests.{leb-same, and-true-right}
-use Rattle.bank_openings.proofs.openings.in_time.Statement.{statement}
-use Rattle.bank_openings.proofs.openings.in_time.Tie as tie
+use Rattle.bank_openings.proofs.judgement.in_time.Statement.{statement}
+use Rattle.bank_openings.proofs.judgement.in_time.Tie as tie
 
 behind : (t k : ℕ) → t ≤ k → leb (k - t) window ≡ inTime t k
 unfolding inTime
@@ -21,7 +21,8 @@ ahead : (t k : ℕ) → k < t → leb (t - k) window ≡ inTime t k
 unfolding inTime
 ahead t k h =
     rw (le-leb k (t + window) (omega arith))
-    (leb-same {a = t - k} {b = window} {c = t} {d = k + window} (λ e. omega arith) (λ e. omega arith) ∙ and-true-right (leb t (k + window)))
+    (leb-same {a = t - k} {b = window} {c = t} {d = k + window} (λ e. omega arith) (λ e. omega arith)
+    ∙ and-true-right (leb t (k + window)))
 
 returns : tie.Need-returns
 returns c = behind (c .before .args .time) (c .before .args .clock) (c .if1 .taken)

@@ -1,0 +1,33 @@
+-- Each direction by its own verdict. Assumes nothing.
+use borrow.Author.Needs.{needs}
+use Rattle.bank_openings.proofs.judgement.accepted.Statement.{statement}
+use Rattle.bank_openings.proofs.judgement.accepted.Tie as tie
+
+enum-told : tie.Need-enum-told
+enum-told c = search needs
+
+enum-told-2 : tie.Need-enum-told-2
+enum-told-2 c = search needs
+
+subscriber-requires : tie.Need-subscriber-requires
+subscriber-requires c κs = tt
+
+mailbox-segments-requires : tie.Need-mailbox-segments-requires
+mailbox-segments-requires c κs = tt
+
+returns : tie.Need-returns
+returns c = rw (c .enum-told .given .1)
+
+returns-2 : tie.Need-returns-2
+returns-2 c = rw (c .before .before .enum-told2 .given .1, c .mailbox-segments .ensures, c .before .subscriber .ensures)
+
+pub accepted-spec : {M : Type 1} → statement M
+accepted-spec =
+    tie.close
+    (tie.spec
+    enum-told
+    enum-told-2
+    subscriber-requires
+    mailbox-segments-requires
+    returns
+    returns-2)
