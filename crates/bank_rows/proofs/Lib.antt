@@ -1,0 +1,5 @@
+-- The laws of the rows.
+pub mod General
+pub mod InUse
+pub mod Records
+pub mod State

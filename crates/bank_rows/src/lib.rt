@@ -1,0 +1,2 @@
+// The bank's state in lent rows of numbers.
+pub mod layout;
