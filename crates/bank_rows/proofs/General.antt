@@ -4,6 +4,7 @@ use mathlib.Core.Bool.{Bool, true, false, cond}
 use mathlib.Core.List.{List, [], _∷_, _++_, append-assoc, append-nil}
 use mathlib.Core.Path.{_≡_, refl, sym, ap, _∙_}
 use native.Mathlib.Nat.{zero-add, add-zero, mul-zero, mul-suc, add-comm, mul-le-mul-left}
+use native.Mathlib.Numerals.{add-one}
 use native.Mathlib.Omega.{arith}
 use lib.Dec.{ltb}
 use borrow.Author.Tests.{ltb-true, ltb-false}
@@ -18,6 +19,7 @@ use lib.ListN.{
   length-take,
   length-drop,
   length-replicate,
+  replicate-append-replicate,
   getD-replicate,
   take-append-drop,
   List·getD-append,
@@ -28,6 +30,9 @@ use lib.Seq.{
   drop-cons,
   drop-at,
   take-at,
+  take-suc,
+  set-at,
+  length-take-le,
   take-add,
   take-append-le,
   drop-append-le,
@@ -60,6 +65,62 @@ overwrite-within a b k xs h =
 pub overwrite-front : (a b xs : List ℕ) → length xs ≡ length a → overwrite (a ++ b) 0 xs ≡ xs ++ b
 unfolding overwrite
 overwrite-front a b xs e = rw (zero-add (length xs), e, drop-at a b (length a) refl)
+
+-- one number more
+pub overwrite-next : (d : List ℕ) (at : ℕ) (z : List ℕ) (x : ℕ) → at + length z < length d
+    → set (overwrite d at z) (at + length z) x ≡ overwrite d at (z ++ (x ∷ []))
+unfolding overwrite
+overwrite-next d at z x h =
+    let i : ℕ = at + length z in
+    let f : List ℕ = take at d ++ z in
+    let r : List ℕ = drop (suc i) d in
+    let n : length f ≡ i = simp (length-append, length-take) (omega arith) in
+    let e : at + length (z ++ (x ∷ [])) ≡ suc i = simp length-append (omega arith) in
+    ap (λ (t : List ℕ). set (take at d ++ (z ++ t)) i x) (drop-cons d i 0 h)
+    ∙ ap (λ (t : List ℕ). set t i x) (sym (append-assoc (take at d) z (getD d i 0 ∷ r)))
+    ∙ set-at f (getD d i 0) r x i n ∙ append-assoc (take at d) z (x ∷ r)
+    ∙ ap (λ (t : List ℕ). take at d ++ t) (sym (append-assoc z (x ∷ []) r))
+    ∙ ap (λ (k : ℕ). take at d ++ ((z ++ (x ∷ [])) ++ drop k d)) (sym e)
+
+-- a wipe's next number
+pub wiped-next : (d : List ℕ) (from i : ℕ) → from ≤ i → i < length d
+    → set (overwrite d from (replicate (i - from) 0)) i 0 ≡ overwrite d from (replicate (i + 1 - from) 0)
+wiped-next d from i h k =
+    let z : List ℕ = replicate (i - from) 0 in
+    let n : length z ≡ i - from = length-replicate (i - from) 0 in
+    let e : from + length z ≡ i = omega arith in
+    let m : i - from + 1 ≡ i + 1 - from = omega arith in
+    ap (λ (j : ℕ). set (overwrite d from z) j 0) (sym e) ∙ overwrite-next d from z 0 (omega arith)
+    ∙ ap (overwrite d from) (replicate-append-replicate {A = ℕ} (i - from) 1 0 ∙ ap (λ (j : ℕ). replicate j 0) m)
+
+-- what stands after the place written is unchanged
+overwrite-beyond : (d : List ℕ) (at : ℕ) (z : List ℕ) (j : ℕ) → at ≤ length d → at + length z ≤ j → getD (overwrite d at z) j 0 ≡ getD d j 0
+unfolding overwrite
+overwrite-beyond d at z j h k =
+    let f : List ℕ = take at d ++ z in
+    let n : length f ≡ at + length z = simp (length-append, length-take) (omega arith) in
+    let e : j ≡ length f + (j - (at + length z)) = omega arith in
+    let o : at + length z + (j - (at + length z)) ≡ j = omega arith in
+    ap (λ (t : List ℕ). getD t j 0) (sym (append-assoc (take at d) z (drop (at + length z) d)))
+    ∙ ap (λ (i : ℕ). getD (f ++ drop (at + length z) d) i 0) e
+    ∙ getD-append-add f (drop (at + length z) d) (j - (at + length z)) 0
+    ∙ getD-drop (at + length z) d (j - (at + length z)) 0 ∙ ap (λ (i : ℕ). getD d i 0) o
+
+-- a move's next number
+pub moved-next : (d : List ℕ) (w from to i : ℕ) → i < w → to + w ≤ from → from + w ≤ length d
+    → set (overwrite d to (take i (drop from d))) (to + i) (getD (overwrite d to (take i (drop from d))) (from + i) 0)
+    ≡ overwrite d to (take (i + 1) (drop from d))
+moved-next d w from to i h k l =
+    let r : List ℕ = drop from d in
+    let m : length r ≡ length d - from = length-drop from d in
+    let z : List ℕ = take i r in
+    let n : length z ≡ i = length-take-le i r (omega arith) in
+    let e : to + length z ≡ to + i = omega arith in
+    let v : getD (overwrite d to z) (from + i) 0 ≡ getD r i 0 =
+    overwrite-beyond d to z (from + i) (omega arith) (omega arith) ∙ sym (getD-drop from d i 0) in
+    ap (λ (x : ℕ). set (overwrite d to z) (to + i) x) v ∙ ap (λ (j : ℕ). set (overwrite d to z) j (getD r i 0)) (sym e)
+    ∙ overwrite-next d to z (getD r i 0) (omega arith)
+    ∙ ap (overwrite d to) (sym (ap (λ (j : ℕ). take j r) (add-one i) ∙ take-suc r i 0 (omega arith)))
 
 -- ---- the numbers of a row, listed
 

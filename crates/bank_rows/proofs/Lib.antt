@@ -3,3 +3,5 @@ pub mod General
 pub mod InUse
 pub mod Records
 pub mod State
+pub mod Writing
+pub mod Reading

@@ -202,7 +202,7 @@ module _ (c o : ℕ) (F : List ℕ) (d n : ℕ) (h : length F ≡ placeCount) wh
 -- ---- the rows themselves
 
 -- number j of a part of n numbers
-part-at : (from n : ℕ) (s : List ℕ) (j : ℕ) → j < n → getD (take n (drop from s)) j 0 ≡ getD s (from + j) 0
+pub part-at : (from n : ℕ) (s : List ℕ) (j : ℕ) → j < n → getD (take n (drop from s)) j 0 ≡ getD s (from + j) 0
 part-at from n s j h = getD-take n (drop from s) j 0 h ∙ getD-drop from s j 0
 
 pub places-at : (s : List ℕ) (j : ℕ) → j < placesSize → getD (placesPart s) j 0 ≡ getD s (placesAt + j) 0
