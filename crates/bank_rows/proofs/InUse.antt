@@ -3,7 +3,7 @@ use Prim.Native.Nat.{ℕ, zero, suc, _+_, _-_, _*_, max, _≤_, _<_}
 use mathlib.Core.Bool.{Bool, true, false, cond}
 use mathlib.Core.List.{List, [], _∷_, _++_, append-assoc, append-nil}
 use mathlib.Core.Path.{_≡_, refl, sym, ap, _∙_}
-use native.Mathlib.Nat.{zero-add, add-zero}
+use native.Mathlib.Nat.{zero-add, add-zero, suc-add}
 use native.Mathlib.Omega.{arith}
 use lib.ListN.{length, getD, drop, set, replicate, length-append, length-replicate, List·getD-append}
 use lib.Seq.{drop-at, set-at, set-append-left}
@@ -36,7 +36,7 @@ module _ {A : Type 0} (p : A → Bool) (free : A) (no : p free ≡ false) where
       s .rest ∙ ap (λ (r : List A). length l + firstOf p r) (drop-at l (replicate m free) (length l) refl)
       ∙ ap (λ (k : ℕ). length l + k) (first-free m)
 
-  count-free : (m : ℕ) → countOf p (replicate m free) ≡ 0
+  pub count-free : (m : ℕ) → countOf p (replicate m free) ≡ 0
   unfolding countOf
   count-free zero = refl
   count-free (suc m) = rw (no, count-free m)
@@ -134,6 +134,55 @@ module _ {A : Type 0} (w : ℕ) (f : List ℕ → A) (free : A) where
       keep-changed most n i s h =
           ap (keep used) (set-append-left (rowsOf w f n s) _ i x (omega (arith, length-rows w f n s)))
           ∙ keep-then-free used free no (set (rowsOf w f n s) i x) (most - n) ∙ keep-set n i s
+
+-- ---- what is searched and counted among rows in use
+
+module _ {A : Type 0} (w : ℕ) (f : List ℕ → A) (free : A) (p : A → Bool) (most n : ℕ) (s : List ℕ) (h : n ≤ most) where
+  abbrev rows : List A
+  rows = rowsInUse w f free most n s
+
+  -- a search that passes the rows in use finds none where a free one does not pass
+  pub none-in-use : p free ≡ false → Searched p rows n → most ≡ firstOf p rows
+  unfolding rowsInUse
+  none-in-use fails d =
+      let k = length-rows w f n s in
+      let e : length (rowsOf w f n s) + (most - n) ≡ most = omega arith in
+      sym (searched-free p free fails (rowsOf w f n s) (most - n) (rw k d) ∙ e)
+
+  -- and a count that passes them is done
+  pub all-in-use : p free ≡ false → (m : ℕ) → Counted p rows m n → m ≡ countOf p rows
+  unfolding rowsInUse
+  all-in-use fails m d =
+      let k = length-rows w f n s in
+      counted-free p free fails (rowsOf w f n s) (most - n) m (rw k d)
+
+module _ {A : Type 0} (w : ℕ) (f : List ℕ → A) (free : A) (p : A → Bool) where
+  first-rows : ((s : List ℕ) → p (f s) ≡ false) → (n : ℕ) (s : List ℕ) (r : List A) → firstOf p (rowsOf w f n s ++ r) ≡ n + firstOf p r
+  unfolding rowsOf firstOf
+  first-rows fails zero s r = sym (zero-add (firstOf p r))
+  first-rows fails (suc n) s r = rw (fails s, first-rows fails n (drop w s) r) (sym (suc-add n (firstOf p r)))
+
+  first-passing : p free ≡ true → (m : ℕ) → firstOf p (replicate m free) ≡ 0
+  unfolding firstOf
+  first-passing passes zero = refl
+  first-passing passes (suc m) = rw passes
+
+  -- the first free one stands after the rows in use
+  pub first-after : ((s : List ℕ) → p (f s) ≡ false) → p free ≡ true → (most n : ℕ) (s : List ℕ) → firstOf p (rowsInUse w f free most n s) ≡ n
+  unfolding rowsInUse
+  first-after fails passes most n s =
+      first-rows fails n s (replicate (most - n) free) ∙ rw (first-passing passes (most - n), add-zero n)
+
+  count-rows : ((s : List ℕ) → p (f s) ≡ true) → (n : ℕ) (s : List ℕ) (r : List A) → countOf p (rowsOf w f n s ++ r) ≡ n + countOf p r
+  unfolding rowsOf countOf
+  count-rows passes zero s r = sym (zero-add (countOf p r))
+  count-rows passes (suc n) s r = rw (passes s, count-rows passes n (drop w s) r) (omega arith)
+
+  -- as many as the rows in use
+  pub count-in-use : ((s : List ℕ) → p (f s) ≡ true) → p free ≡ false → (most n : ℕ) (s : List ℕ) → countOf p (rowsInUse w f free most n s) ≡ n
+  unfolding rowsInUse
+  count-in-use passes fails most n s =
+      count-rows passes n s (replicate (most - n) free) ∙ rw (count-free p free fails (most - n), add-zero n)
 
 -- ---- rows of the elements in use
 

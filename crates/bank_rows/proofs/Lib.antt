@@ -5,3 +5,5 @@ pub mod Records
 pub mod State
 pub mod Writing
 pub mod Reading
+pub mod Keeping
+pub mod Calls

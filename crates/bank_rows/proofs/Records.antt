@@ -1,22 +1,27 @@
 -- Laws of the records' rows: a row says its record, and a record's row is its numbers. Assumes nothing.
 use Prim.Native.Nat.{ℕ, _+_, _*_, _≤_, _<_}
-use mathlib.Core.Bool.{Bool, true, false}
+use mathlib.Core.Bool.{Bool, true, false, not}
 use mathlib.Core.List.{List, [], _∷_, _++_}
 use mathlib.Core.Path.{_≡_, refl, sym, ap, _∙_}
 use native.Mathlib.Nat.{add-zero}
 use native.Mathlib.Omega.{arith}
-use lib.Dec.{eqb}
+use lib.Dec.{eqb, ltb}
 use lib.ListN.{length, getD, take, drop}
 use lib.Seq.{getD-drop}
 use borrow.Author.Tests.{eqb-true, eqb-false}
+use Rattle.bank_state.specs.declared.clock.Ended.{Ended}
 use Rattle.bank_state.specs.declared.state.Use.{Use}
 use Rattle.bank_state.specs.declared.state.Use.the-variants.{Free, Open, Booked}
 use Rattle.bank_state.specs.declared.state.Place.{Place}
 use Rattle.bank_state.specs.declared.state.Download.{Download}
 use Rattle.bank_state.specs.declared.state.Nonce.{Nonce}
+use Rattle.octets.proofs.Tests.{and-true}
+use Rattle.bank_state.specs.Clock.{ends}
+use Rattle.bank_state.specs.Limits.{window}
 use Rattle.bank_state.specs.Search.{isFree, isOpen}
-use Rattle.bank_rows.specs.Layout.{placeUse, placeWidth, downloadWidth, nonceWidth}
-use Rattle.bank_rows.specs.Records.{useOf, numberOfUse, placeOf, placeRow, downloadOf, downloadRow, nonceOf, nonceRow}
+use Rattle.bank_state.proofs.Tests.{not-ltb}
+use Rattle.bank_rows.specs.Layout.{placeUse, placeWidth, downloadWidth, nonceWidth, nonceTimestamp}
+use Rattle.bank_rows.specs.Records.{useOf, numberOfUse, placeOf, placeRow, downloadOf, downloadRow, nonceOf, nonceRow, staysOpen, staysRemembered}
 use Rattle.bank_rows.proofs.General.{take-listed}
 
 -- ---- a place's use
@@ -86,3 +91,16 @@ nonce-row s h = sym (take-listed nonceWidth s h)
 
 pub nonce-back : (e : Nonce) → e .used ≡ true → (r : List ℕ) → nonceOf (nonceRow e ++ r) ≡ e
 nonce-back e u r = rw (← u)
+
+-- a nonce stays remembered where its timestamp is not behind the clock
+pub stays-remembered : (clock : ℕ) (area : List ℕ) (at : ℕ) {r : Bool} → r ≡ ltb (getD area (at + nonceTimestamp) 0 + window) clock
+    → staysRemembered clock (nonceOf (drop at area)) ≡ not r
+stays-remembered clock area at e =
+    rw (getD-drop at area nonceTimestamp 0, e) (sym (not-ltb (getD area (at + nonceTimestamp) 0 + window) clock))
+
+-- what stays is in use
+pub stays-open : (which : Ended) (e : Download) → staysOpen which e ≡ true → e .used ≡ true
+stays-open which e h = and-true (e .used) (not (ends which e)) h .0
+
+pub stays-kept : (clock : ℕ) (e : Nonce) → staysRemembered clock e ≡ true → e .used ≡ true
+stays-kept clock e h = and-true (e .used) _ h .0

@@ -8,6 +8,7 @@ use native.Mathlib.Numerals.{add-one}
 use native.Mathlib.Omega.{arith}
 use lib.ListN.{length, getD, take, drop, set, replicate, length-append, length-take, length-set, take-append-drop}
 use lib.Seq.{drop-at, take-at, length-take-le}
+use borrow.Rule.Slice.PartMut.{putMid, midOf}
 use Rattle.octets.specs.Bytes.{overwrite}
 use Rattle.octets.proofs.Numbers.{length-overwrite, overwrite-all}
 use Rattle.octets.proofs.Tests.{and-true}
@@ -17,6 +18,8 @@ use Rattle.bank_state.specs.declared.state.Nonce.{Nonce}
 use Rattle.bank_state.specs.declared.state.Bank.{Bank}
 use Rattle.bank_state.specs.Limits.{placeCount, nonceCount}
 use Rattle.bank_state.specs.Rows.{keep, keepOnly}
+use Rattle.bank_state.proofs.Rows.{length-keep}
+use Rattle.bank_state.proofs.Stores.{part-back}
 use Rattle.bank_state.specs.State.{
   noDownload,
   noNonce,
@@ -44,7 +47,7 @@ use Rattle.bank_rows.specs.Layout.{
   nonceWidth,
   noncesSize,
 }
-use Rattle.bank_rows.specs.Rows.{rowsOf, rowsInUse, numbersOf, written}
+use Rattle.bank_rows.specs.Rows.{rowsOf, rowsInUse, numbersOf, written, KeptRows}
 use Rattle.bank_rows.specs.Records.{placeRow, downloadOf, downloadRow, nonceOf, nonceRow}
 use Rattle.bank_rows.specs.State.{
   downloadsPart,
@@ -306,6 +309,25 @@ module _ (s : List ℕ) (l : Laid s) where
         downloads-write 0 (length kept) area (keepOnly p noDownload (b .downloads)) (omega arith) (ap length (sym kept-open))
         (whole ∙ e ∙ ap (λ (d : List Download). written (downloadWidth * downloadCountOf s) (numbersOf downloadRow d) (downloadsPart s)) (sym kept-open))
 
+    -- an area lent for it
+    pub downloads-lent : (n k : ℕ) (x : List ℕ) → n ≡ downloadCountOf s
+        → KeptRows downloadWidth downloadOf downloadRow p n k (midOf downloadsAt downloadsSize s) x
+        → set (putMid downloadsAt downloadsSize s x) downloadCountAt k ≡ stored (withDownloads (keepOnly p noDownload (b .downloads)) b) s
+    downloads-lent n k x e r =
+        let is : x ≡ written (downloadWidth * downloadCountOf s) (numbersOf downloadRow kept) (downloadsPart s) =
+        r .is ∙ ap (λ (m : ℕ). written (downloadWidth * m) (numbersOf downloadRow (keep p (rowsOf downloadWidth downloadOf m (downloadsPart s)))) (downloadsPart s)) e in
+        let count : k ≡ length kept = r .count ∙ ap (λ (m : ℕ). length (keep p (rowsOf downloadWidth downloadOf m (downloadsPart s)))) e in
+        let few = length-keep p (rowsOf downloadWidth downloadOf (downloadCountOf s) (downloadsPart s)) in
+        let rows = length-rows downloadWidth downloadOf (downloadCountOf s) (downloadsPart s) in
+        let numbers = length-numbers downloadRow downloadWidth download-wide kept in
+        let all = length-downloads s l in
+        let most = l .downloads in
+        let long : length x ≡ downloadsSize =
+        ap length is
+        ∙ length-written (downloadWidth * downloadCountOf s) (numbersOf downloadRow kept) (downloadsPart s) (omega arith) (omega arith) ∙ all in
+        ap (λ (t : List ℕ). set t downloadCountAt k) (part-back s x downloadsAt downloadsSize (omega (arith, l .long)) (long ∙ sym all))
+        ∙ ap (set (overwrite s downloadsAt x) downloadCountAt) count ∙ downloads-kept x is long
+
   module _ (p : Nonce → Bool) (strong : (e : Nonce) → p e ≡ true → e .used ≡ true) (no : p noNonce ≡ false) where
     abbrev keptNonces : List Nonce
     keptNonces = keep p (rowsOf nonceWidth nonceOf (nonceCountOf s) (noncesPart s))
@@ -324,3 +346,21 @@ module _ (s : List ℕ) (l : Laid s) where
         let whole : overwrite (noncesPart s) 0 area ≡ area = overwrite-all (noncesPart s) area (length-nonces s l ∙ sym long) in
         nonces-write 0 (length keptNonces) area (keepOnly p noNonce (b .nonces)) (omega arith) (ap length (sym kept-remembered))
         (whole ∙ e ∙ ap (λ (d : List Nonce). written (nonceWidth * nonceCountOf s) (numbersOf nonceRow d) (noncesPart s)) (sym kept-remembered))
+
+    pub nonces-lent : (n k : ℕ) (x : List ℕ) → n ≡ nonceCountOf s
+        → KeptRows nonceWidth nonceOf nonceRow p n k (midOf noncesAt noncesSize s) x
+        → set (putMid noncesAt noncesSize s x) nonceCountAt k ≡ stored (withNonces (keepOnly p noNonce (b .nonces)) b) s
+    nonces-lent n k x e r =
+        let is : x ≡ written (nonceWidth * nonceCountOf s) (numbersOf nonceRow keptNonces) (noncesPart s) =
+        r .is ∙ ap (λ (m : ℕ). written (nonceWidth * m) (numbersOf nonceRow (keep p (rowsOf nonceWidth nonceOf m (noncesPart s)))) (noncesPart s)) e in
+        let count : k ≡ length keptNonces = r .count ∙ ap (λ (m : ℕ). length (keep p (rowsOf nonceWidth nonceOf m (noncesPart s)))) e in
+        let few = length-keep p (rowsOf nonceWidth nonceOf (nonceCountOf s) (noncesPart s)) in
+        let rows = length-rows nonceWidth nonceOf (nonceCountOf s) (noncesPart s) in
+        let numbers = length-numbers nonceRow nonceWidth nonce-wide keptNonces in
+        let all = length-nonces s l in
+        let most = l .nonces in
+        let long : length x ≡ noncesSize =
+        ap length is
+        ∙ length-written (nonceWidth * nonceCountOf s) (numbersOf nonceRow keptNonces) (noncesPart s) (omega arith) (omega arith) ∙ all in
+        ap (λ (t : List ℕ). set t nonceCountAt k) (part-back s x noncesAt noncesSize (omega (arith, l .long)) (long ∙ sym all))
+        ∙ ap (set (overwrite s noncesAt x) nonceCountAt) count ∙ nonces-kept x is long

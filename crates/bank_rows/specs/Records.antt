@@ -1,15 +1,18 @@
 -- An order place, an open download and a nonce as the numbers of a row.
-use Prim.Native.Nat.{ℕ}
-use mathlib.Core.Bool.{true, cond}
+use Prim.Native.Nat.{ℕ, _+_}
+use mathlib.Core.Bool.{Bool, true, not, cond, _&&_}
 use mathlib.Core.List.{List, [], _∷_}
-use lib.Dec.{eqb}
+use lib.Dec.{eqb, leb}
 use lib.ListN.{getD}
 use Rattle.frame_table.specs.declared.fields.Bits128.{Bits128}
+use Rattle.bank_state.specs.declared.clock.Ended.{Ended}
 use Rattle.bank_state.specs.declared.state.Use.{Use}
 use Rattle.bank_state.specs.declared.state.Use.the-variants.{Free, Open, Booked}
 use Rattle.bank_state.specs.declared.state.Place.{Place}
 use Rattle.bank_state.specs.declared.state.Download.{Download}
 use Rattle.bank_state.specs.declared.state.Nonce.{Nonce}
+use Rattle.bank_state.specs.Clock.{ends}
+use Rattle.bank_state.specs.Limits.{window}
 use Rattle.bank_rows.specs.Layout.{
   placeUse,
   placeHigh,
@@ -87,3 +90,14 @@ nonceOf s = record {
 
 abbrev pub nonceRow : Nonce → List ℕ
 nonceRow e = e .value .high ∷ e .value .low ∷ e .timestamp ∷ []
+
+abbrev pub nonceRecord : Bits128 → ℕ → Nonce
+nonceRecord value timestamp = record { used = true; value = value; timestamp = timestamp }
+
+-- the tests of `endDownloads` and of `forget`: what stays
+
+abbrev pub staysOpen : Ended → Download → Bool
+staysOpen which e = e .used && not (ends which e)
+
+abbrev pub staysRemembered : ℕ → Nonce → Bool
+staysRemembered clock e = e .used && leb clock (e .timestamp + window)

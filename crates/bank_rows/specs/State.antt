@@ -9,7 +9,7 @@ use Rattle.bank_state.specs.declared.state.Nonce.{Nonce}
 use Rattle.bank_state.specs.declared.state.Bank.{Bank}
 use Rattle.bank_state.specs.Limits.{placeCount, nonceCount}
 use Rattle.bank_state.specs.Rows.{keep, keepOnly}
-use Rattle.bank_state.specs.State.{noDownload, noNonce}
+use Rattle.bank_state.specs.State.{World, noDownload, noNonce}
 use Rattle.bank_rows.specs.Layout.{
   clockAt,
   openingsAt,
@@ -58,6 +58,9 @@ bankOf s = record {
   files = take placeCount (drop filesAt s);
 }
 
+abbrev pub nonceAt : Bank → ℕ → Nonce
+nonceAt b i = getD (b .nonces) i noNonce
+
 -- the records in use, in the order of their openings
 abbrev pub openDownloads : Bank → List Download
 openDownloads b = keep (λ (e : Download). e .used) (b .downloads)
@@ -81,6 +84,11 @@ stored b old =
     (numbersOf placeRow (b .places))
     (written (downloadWidth * downloadCountOf old) (numbersOf downloadRow (openDownloads b)) (downloadsPart old))
     (written (nonceWidth * nonceCountOf old) (numbersOf nonceRow (rememberedNonces b)) (noncesPart old))
+
+-- the rows and the orders' store after a call that leaves the world w
+pub record StoredWith (w : World) (old new orders : List ℕ) : Type 0 where
+  pub rows : new ≡ stored (w .bank) old
+  pub store : orders ≡ w .orders
 
 -- rows that are a bank's: their length, both counts within their rows, and each place's use one of the three
 pub record Laid (s : List ℕ) : Type 0 where

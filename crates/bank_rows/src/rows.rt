@@ -16,8 +16,8 @@ pub(crate) fn put(rows: &mut [u64], at: usize, numbers: &[u64])
     }
 }
 
-// Moves a row of this width towards the front.
-pub(crate) fn move_row(rows: &mut [u64], width: usize, from: usize, to: usize)
+// Copies a row of this width towards the front.
+fn copy_row(rows: &mut [u64], width: usize, from: usize, to: usize)
     requires { ⌜ (to + width ≤ from) × (from + width ≤ length (now rows)) ⌝ }
     ensures { λ _. ⌜ now (rows .exit) ≡ overwrite (now (rows .entry)) to (take width (drop from (now (rows .entry)))) ⌝ }
 {
@@ -26,6 +26,17 @@ pub(crate) fn move_row(rows: &mut [u64], width: usize, from: usize, to: usize)
         rows[to + i] = rows[from + i];
         i += 1;
     }
+}
+
+// Moves a row of this width towards the front, where it does not stand there already.
+pub(crate) fn move_row(rows: &mut [u64], width: usize, from: usize, to: usize)
+    requires { ⌜ ((to ≡ from → ⊥) → to + width ≤ from) × (from + width ≤ length (now rows)) ⌝ }
+    ensures { λ _. ⌜ now (rows .exit) ≡ overwrite (now (rows .entry)) to (take width (drop from (now (rows .entry)))) ⌝ }
+{
+    if to == from {
+        return;
+    }
+    copy_row(rows, width, from, to);
 }
 
 // Sets the numbers from a place up to another to 0.
