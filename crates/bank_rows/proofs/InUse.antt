@@ -6,7 +6,7 @@ use mathlib.Core.Path.{_≡_, refl, sym, ap, _∙_}
 use native.Mathlib.Nat.{zero-add, add-zero, suc-add}
 use native.Mathlib.Omega.{arith}
 use lib.ListN.{length, getD, drop, set, replicate, length-append, length-replicate, List·getD-append}
-use lib.Seq.{drop-at, set-at, set-append-left}
+use lib.Seq.{drop-at, set-at, set-append-left, getD-append-add}
 use Rattle.bank_state.specs.Rows.{firstOf, countOf, keep, keepOnly}
 use Rattle.bank_state.proofs.Rows.{keep-append, length-keep, length-keepOnly}
 use Rattle.bank_state.proofs.Loops.{Searched, Counted}
@@ -85,6 +85,20 @@ module _ {A : Type 0} (w : ℕ) (f : List ℕ → A) (free : A) where
   unfolding rowsInUse
   in-use-at most n i s h =
       List·getD-append (rowsOf w f n s) _ free i (omega (arith, length-rows w f n s)) ∙ rows-at w f n i s free h
+
+  free-beyond : (m j : ℕ) → getD (replicate m free) j free ≡ free
+  free-beyond zero j = refl
+  free-beyond (suc m) zero = refl
+  free-beyond (suc m) (suc j) = free-beyond m j
+
+  -- and the free element after them
+  pub free-at : (most n : ℕ) (s : List ℕ) (i : ℕ) → n ≤ i → getD (rowsInUse w f free most n s) i free ≡ free
+  unfolding rowsInUse
+  free-at most n s i h =
+      let k = length-rows w f n s in
+      let e : i ≡ length (rowsOf w f n s) + (i - n) = omega arith in
+      ap (λ (j : ℕ). getD (rowsOf w f n s ++ replicate (most - n) free) j free) e
+      ∙ getD-append-add (rowsOf w f n s) (replicate (most - n) free) (i - n) free ∙ free-beyond (most - n) (i - n)
 
   module _ (used : A → Bool) (yes : (s : List ℕ) → used (f s) ≡ true) (no : used free ≡ false) where
     pub keep-rows : (n : ℕ) (s : List ℕ) → keep used (rowsOf w f n s) ≡ rowsOf w f n s

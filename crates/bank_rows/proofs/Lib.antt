@@ -7,3 +7,4 @@ pub mod Writing
 pub mod Reading
 pub mod Keeping
 pub mod Calls
+pub mod Test

@@ -63,17 +63,17 @@ use Rattle.bank_rows.specs.State.{
   Laid,
 }
 use Rattle.bank_rows.proofs.General.{rows-at, length-rows}
-use Rattle.bank_rows.proofs.InUse.{in-use-at, none-in-use, all-in-use, first-after, count-in-use}
+use Rattle.bank_rows.proofs.InUse.{in-use-at, free-at, none-in-use, all-in-use, first-after, count-in-use}
 use Rattle.bank_rows.proofs.Records.{open-is, free-is}
 use Rattle.bank_rows.proofs.State.{part-at, held-rows}
 
 -- ---- tests in any order
 
-and-no : (a : Bool) {b : Bool} → b ≡ false → (a && b) ≡ false
+pub and-no : (a : Bool) {b : Bool} → b ≡ false → (a && b) ≡ false
 and-no true e = e
 and-no false e = refl
 
-no-and : {a : Bool} (b : Bool) → a ≡ false → (a && b) ≡ false
+pub no-and : {a : Bool} (b : Bool) → a ≡ false → (a && b) ≡ false
 no-and b e = rw e
 
 -- ---- a column of a row
@@ -230,6 +230,11 @@ module _ (s : List ℕ) where
   unfolding freeDownload bankOf
   free-download =
       first-after downloadWidth downloadOf noDownload (λ (e : Download). not (e .used)) (λ r. refl) refl placeCount (downloadCountOf s) (downloadsPart s)
+
+  -- after the open downloads stand free records
+  pub free-download-at : (i : ℕ) → downloadCountOf s ≤ i → downloadAt (bankOf s) i ≡ noDownload
+  unfolding bankOf
+  free-download-at i h = free-at downloadWidth downloadOf noDownload placeCount (downloadCountOf s) (downloadsPart s) i h
 
   pub open-downloads : countOf (λ (e : Download). e .used) (bankOf s .downloads) ≡ downloadCountOf s
   unfolding bankOf

@@ -3,3 +3,4 @@ pub mod Layout
 pub mod Rows
 pub mod Records
 pub mod State
+pub mod Sound

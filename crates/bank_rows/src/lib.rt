@@ -7,3 +7,4 @@ pub mod nonces;
 pub mod numbers;
 pub mod places;
 pub mod rows;
+pub mod sound;
