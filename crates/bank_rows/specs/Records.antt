@@ -64,8 +64,8 @@ placeOf s = record {
 
 abbrev pub placeRow : Place → List ℕ
 placeRow p =
-    numberOfUse (p .used) ∷ p .transaction .high ∷ p .transaction .low ∷ p .subscriber ∷ p .number ∷ p .segments ∷ p .taken
-    ∷ p .attempts ∷ p .last ∷ p .length ∷ []
+    numberOfUse (p .used) ∷ p .transaction .high ∷ p .transaction .low ∷ p .subscriber ∷ p .number ∷ p .segments
+    ∷ p .taken ∷ p .attempts ∷ p .last ∷ p .length ∷ []
 
 abbrev pub downloadOf : List ℕ → Download
 downloadOf s = record {

@@ -1,4 +1,4 @@
--- Rows of w numbers in lent memory, for any w: what they are, their numbers one after another, and rows wiped where they are freed.
+-- Rows of w numbers in lent memory, for any w: what they are, their numbers, and rows wiped where they are freed.
 use Prim.Native.Nat.{ℕ, zero, suc, _-_, _*_, max}
 use mathlib.Core.Bool.{Bool}
 use mathlib.Core.List.{List, [], _∷_, _++_}
@@ -25,6 +25,7 @@ unfoldable pub written : ℕ → List ℕ → List ℕ → List ℕ
 written n ns area = ns ++ (replicate (n - length ns) 0 ++ drop (max n (length ns)) area)
 
 -- of the first n rows of an area those that pass a test are left at its front, in their order, and the others are wiped
-pub record KeptRows {A : Type 0} (w : ℕ) (f : List ℕ → A) (g : A → List ℕ) (p : A → Bool) (n left : ℕ) (area after : List ℕ) : Type 0 where
+pub record KeptRows {A : Type 0} (w : ℕ) (f : List ℕ → A) (g : A → List ℕ) (p : A → Bool) (n left : ℕ)
+    (area after : List ℕ) : Type 0 where
   pub count : left ≡ length (keep p (rowsOf w f n area))
   pub is : after ≡ written (w * n) (numbersOf g (keep p (rowsOf w f n area))) area

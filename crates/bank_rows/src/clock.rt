@@ -51,7 +51,8 @@ fn is_idle_upload(rows: &[u64], i: usize, clock: u64) -> bool
 // Drops the upload in place i where it is idle.
 fn drop_upload(rows: &mut [u64], i: usize, orders: &mut [u8])
     requires { ⌜ Laid (now rows) × (length (now orders) ≡ storeBytes) × (i < placeCount) ⌝ }
-    ensures { λ _. ⌜ ((boxes : List ℕ) → StoredWith (dropUpload i (world (bankOf (now (rows .entry))) (now (orders .entry)) boxes))
+    ensures { λ _. ⌜ ((boxes : List ℕ) → StoredWith
+        (dropUpload i (world (bankOf (now (rows .entry))) (now (orders .entry)) boxes))
         (now (rows .entry)) (now (rows .exit)) (now (orders .exit))) ⌝ }
 {
     let at = clock(rows);
@@ -64,7 +65,8 @@ fn drop_upload(rows: &mut [u64], i: usize, orders: &mut [u8])
 // Drops every idle upload.
 fn drop_uploads(rows: &mut [u64], orders: &mut [u8])
     requires { ⌜ Laid (now rows) × (length (now orders) ≡ storeBytes) ⌝ }
-    ensures { λ _. ⌜ ((boxes : List ℕ) → StoredWith (dropUploads placeCount (world (bankOf (now (rows .entry))) (now (orders .entry)) boxes))
+    ensures { λ _. ⌜ ((boxes : List ℕ) → StoredWith
+        (dropUploads placeCount (world (bankOf (now (rows .entry))) (now (orders .entry)) boxes))
         (now (rows .entry)) (now (rows .exit)) (now (orders .exit))) ⌝ }
 {
     let mut i = 0;
@@ -93,7 +95,8 @@ fn set_to(rows: &mut [u64], clock: u64)
 // Sets the clock to the larger of its old value and the time given, and drops what is idle and forgets what is old.
 pub fn advance(rows: &mut [u64], time: u64, orders: &mut [u8])
     requires { ⌜ Laid (now rows) × (length (now orders) ≡ storeBytes) ⌝ }
-    ensures { λ _. ⌜ ((boxes : List ℕ) → StoredWith (advanced time (world (bankOf (now (rows .entry))) (now (orders .entry)) boxes))
+    ensures { λ _. ⌜ ((boxes : List ℕ) → StoredWith
+        (advanced time (world (bankOf (now (rows .entry))) (now (orders .entry)) boxes))
         (now (rows .entry)) (now (rows .exit)) (now (orders .exit))) ⌝ }
 {
     let at = larger(clock(rows), time);

@@ -91,8 +91,9 @@ pub fn set_download(rows: &mut [u64], i: usize, e: Download)
 // One more open download.
 pub fn add_download(rows: &mut [u64], e: Download)
     requires { ⌜ Laid (now rows) × (downloadCountOf (now rows) < placeCount) × (e .used ≡ true) ⌝ }
-    ensures { λ _. ⌜ now (rows .exit)
-        ≡ stored (withDownload (freeDownload (bankOf (now (rows .entry)))) e (bankOf (now (rows .entry)))) (now (rows .entry)) ⌝ }
+    ensures { λ _. ⌜ now (rows .exit) ≡ stored
+        (withDownload (freeDownload (bankOf (now (rows .entry)))) e (bankOf (now (rows .entry))))
+        (now (rows .entry)) ⌝ }
 {
     let n = rows[DOWNLOAD_COUNT_AT] as usize;
     put_download(rows, n, e);
@@ -190,7 +191,8 @@ fn ends_at(area: &[u64], at: usize, which: Ended) -> bool
 // Keeps those of the first n rows that do not end, in their order, and wipes what is freed.
 fn keep_downloads(area: &mut [u64], n: usize, which: Ended) -> usize
     requires { ⌜ (n ≤ placeCount) × (length (now area) ≡ downloadsSize) ⌝ }
-    ensures { λ r. ⌜ KeptRows downloadWidth downloadOf downloadRow (staysOpen which) n r (now (area .entry)) (now (area .exit)) ⌝ }
+    ensures { λ r. ⌜ KeptRows downloadWidth downloadOf downloadRow (staysOpen which) n r
+        (now (area .entry)) (now (area .exit)) ⌝ }
 {
     let mut kept = 0;
     let mut i = 0;

@@ -78,10 +78,11 @@ pub fn add_nonce(rows: &mut [u64], high: u64, low: u64, timestamp: u64)
     rows[NONCE_COUNT_AT] = (n + 1) as u64;
 }
 
-// Keeps those of the first n rows whose timestamp is not too far behind the clock, in their order, and wipes what is freed.
+// Keeps those of the first n rows whose timestamp is not too far behind the clock, and wipes what is freed.
 fn keep_nonces(area: &mut [u64], n: usize, clock: u64) -> usize
     requires { ⌜ (n ≤ nonceCount) × (length (now area) ≡ noncesSize) ⌝ }
-    ensures { λ r. ⌜ KeptRows nonceWidth nonceOf nonceRow (staysRemembered clock) n r (now (area .entry)) (now (area .exit)) ⌝ }
+    ensures { λ r. ⌜ KeptRows nonceWidth nonceOf nonceRow (staysRemembered clock) n r
+        (now (area .entry)) (now (area .exit)) ⌝ }
 {
     let mut kept = 0;
     let mut i = 0;
@@ -101,7 +102,8 @@ fn keep_nonces(area: &mut [u64], n: usize, clock: u64) -> usize
 pub(crate) fn forget(rows: &mut [u64], clock: u64)
     requires { ⌜ Laid (now rows) ⌝ }
     ensures { λ _. ⌜ now (rows .exit) ≡ stored
-        (withNonces (forget clock (bankOf (now (rows .entry)) .nonces)) (bankOf (now (rows .entry)))) (now (rows .entry)) ⌝ }
+        (withNonces (forget clock (bankOf (now (rows .entry)) .nonces)) (bankOf (now (rows .entry))))
+        (now (rows .entry)) ⌝ }
 {
     let n = rows[NONCE_COUNT_AT] as usize;
     let kept = keep_nonces(&mut rows[NONCES_AT..STATE_SIZE], n, clock);

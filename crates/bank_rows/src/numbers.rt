@@ -49,7 +49,8 @@ pub fn file_length(rows: &[u64], i: usize) -> u64
 pub fn set_file_length(rows: &mut [u64], i: usize, n: u64)
     requires { ⌜ Laid (now rows) × (i < placeCount) ⌝ }
     ensures { λ _. ⌜ now (rows .exit)
-        ≡ stored (withFiles (set (bankOf (now (rows .entry)) .files) i n) (bankOf (now (rows .entry)))) (now (rows .entry)) ⌝ }
+        ≡ stored (withFiles (set (bankOf (now (rows .entry)) .files) i n) (bankOf (now (rows .entry))))
+        (now (rows .entry)) ⌝ }
 {
     rows[FILES_AT + i] = n;
 }

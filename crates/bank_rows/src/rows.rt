@@ -19,7 +19,8 @@ pub(crate) fn put(rows: &mut [u64], at: usize, numbers: &[u64])
 // Copies a row of this width towards the front.
 fn copy_row(rows: &mut [u64], width: usize, from: usize, to: usize)
     requires { ⌜ (to + width ≤ from) × (from + width ≤ length (now rows)) ⌝ }
-    ensures { λ _. ⌜ now (rows .exit) ≡ overwrite (now (rows .entry)) to (take width (drop from (now (rows .entry)))) ⌝ }
+    ensures { λ _. ⌜ now (rows .exit)
+        ≡ overwrite (now (rows .entry)) to (take width (drop from (now (rows .entry)))) ⌝ }
 {
     let mut i = 0;
     while i < width {
@@ -31,7 +32,8 @@ fn copy_row(rows: &mut [u64], width: usize, from: usize, to: usize)
 // Moves a row of this width towards the front, where it does not stand there already.
 pub(crate) fn move_row(rows: &mut [u64], width: usize, from: usize, to: usize)
     requires { ⌜ ((to ≡ from → ⊥) → to + width ≤ from) × (from + width ≤ length (now rows)) ⌝ }
-    ensures { λ _. ⌜ now (rows .exit) ≡ overwrite (now (rows .entry)) to (take width (drop from (now (rows .entry)))) ⌝ }
+    ensures { λ _. ⌜ now (rows .exit)
+        ≡ overwrite (now (rows .entry)) to (take width (drop from (now (rows .entry)))) ⌝ }
 {
     if to == from {
         return;
