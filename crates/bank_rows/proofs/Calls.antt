@@ -1,0 +1,275 @@
+-- One change after another: what holds the rows together between the steps of a call. Assumes nothing.
+use Prim.Native.Nat.{ℕ, zero, suc, _+_, max, _≤_, _<_}
+use mathlib.Core.Bool.{Bool, true, false, not, cond, _&&_}
+use mathlib.Core.List.{List, [], _∷_}
+use mathlib.Core.Path.{_≡_, refl, sym, ap, _∙_, subst}
+use native.Mathlib.Numerals.{add-one}
+use native.Mathlib.Omega.{arith}
+use lib.Dec.{leb}
+use lib.ListN.{length, length-set}
+use Rattle.bank_state.specs.declared.clock.Ended.{Ended}
+use Rattle.bank_state.specs.declared.clock.Ended.the-variants.{Idle}
+use Rattle.bank_state.specs.declared.state.Place.{Place}
+use Rattle.bank_state.specs.declared.state.Download.{Download}
+use Rattle.bank_state.specs.declared.state.Nonce.{Nonce}
+use Rattle.bank_state.specs.declared.state.Bank.{Bank}
+use Rattle.bank_state.specs.Limits.{placeCount}
+use Rattle.bank_state.specs.Rows.{keep, keepOnly}
+use Rattle.bank_state.specs.Clock.{isIdle, freed, dropUpload, dropUploads, endDownloads, forget, atClock, advanced}
+use Rattle.bank_state.specs.Search.{isOpen}
+use Rattle.bank_state.specs.Store.{zeroed}
+use Rattle.bank_state.specs.State.{World, world, noPlace, noDownload, noNonce, withClock, withDownloads, withNonces, withPlace, placeAt}
+use Rattle.bank_state.proofs.Rows.{length-keepOnly}
+use Rattle.bank_rows.specs.Layout.{downloadWidth, nonceWidth}
+use Rattle.bank_rows.specs.Records.{downloadOf, nonceOf, staysOpen, staysRemembered}
+use Rattle.bank_rows.specs.State.{
+  downloadCountOf,
+  nonceCountOf,
+  downloadsPart,
+  noncesPart,
+  bankOf,
+  openDownloads,
+  rememberedNonces,
+  stored,
+  Laid,
+  Held,
+  StoredWith,
+}
+use Rattle.bank_rows.proofs.General.{length-rows}
+use Rattle.bank_rows.proofs.InUse.{keep-keepOnly, keepOnly-first}
+use Rattle.bank_rows.proofs.Records.{stays-open, stays-kept}
+use Rattle.bank_rows.proofs.State.{open-are, remembered-are, held-rows, stored-own, stored-back, stored-laid, stored-twice}
+
+-- a bank that is stored over the rows s with no download and no nonce more than they have
+pub record Within (s : List ℕ) (b : Bank) : Type 0 where
+  pub held : Held b
+  pub downloads : length (openDownloads b) ≤ downloadCountOf s
+  pub nonces : length (rememberedNonces b) ≤ nonceCountOf s
+
+module _ (s : List ℕ) (l : Laid s) where
+  pub within-own : Within s (bankOf s)
+  within-own = record {
+    held = held-rows s l;
+    downloads = omega (arith, ap length (open-are s l), length-rows downloadWidth downloadOf (downloadCountOf s) (downloadsPart s));
+    nonces = omega (arith, ap length (remembered-are s l), length-rows nonceWidth nonceOf (nonceCountOf s) (noncesPart s));
+  }
+
+  module _ (b : Bank) (k : Within s b) where
+    -- a change of the bank stored, stored after it
+    pub stored-next : (c : Bank → Bank) → Held (c b) → (t u : List ℕ) → t ≡ stored b s → u ≡ stored (c (bankOf t)) t → u ≡ stored (c b) s
+    stored-next c h t u e f =
+        f ∙ ap (λ (r : List ℕ). stored (c (bankOf r)) r) e ∙ ap (λ (x : Bank). stored (c x) (stored b s)) (stored-back b (k .held) s l)
+        ∙ stored-twice b (c b) s (k .held) h l (omega (arith, k .downloads)) (omega (arith, k .nonces))
+
+    pub laid-next : (t : List ℕ) → t ≡ stored b s → Laid t
+    laid-next t e = rw e (stored-laid b (k .held) s l)
+
+  -- and the same with the orders' store
+  pub world-next : (w : World) → Within s (w .bank) → (f : World → World) → Held (f w .bank) → (t u o p : List ℕ) → StoredWith w s t o
+      → ((boxes : List ℕ) → StoredWith (f (world (bankOf t) o boxes)) t u p) → StoredWith (f w) s u p
+  world-next w k f h t u o p e g =
+      let back : bankOf t ≡ w .bank = ap bankOf (e .rows) ∙ stored-back (w .bank) (k .held) s l in
+      let at : f (world (bankOf t) o (w .boxes)) ≡ f w = ap f (rw (back, e .store)) in
+      let x = g (w .boxes) in
+      record {
+        rows = x .rows ∙ ap (λ (v : World). stored (v .bank) t) at ∙ ap (stored (f w .bank)) (e .rows)
+            ∙ stored-twice (w .bank) (f w .bank) s (k .held) h l (omega (arith, k .downloads)) (omega (arith, k .nonces));
+        store = x .store ∙ ap (λ (v : World). v .orders) at;
+      }
+
+-- ---- the changes of the clock
+
+pub held-clock : (c : ℕ) {b : Bank} → Held b → Held (withClock c b)
+held-clock c k = record {
+  places = k .places;
+  downloads = k .downloads;
+  nonces = k .nonces;
+  files = k .files;
+  downloadsFirst = k .downloadsFirst;
+  noncesFirst = k .noncesFirst;
+}
+
+pub held-place : (i : ℕ) (p : Place) {b : Bank} → Held b → Held (withPlace i p b)
+held-place i p {b} k = record {
+  places = length-set (b .places) i p ∙ k .places;
+  downloads = k .downloads;
+  nonces = k .nonces;
+  files = k .files;
+  downloadsFirst = k .downloadsFirst;
+  noncesFirst = k .noncesFirst;
+}
+
+keep-fewer : {A : Type 0} (used p : A → Bool) → ((x : A) → p x ≡ true → used x ≡ true) → (l : List A) → length (keep p l) ≤ length (keep used l)
+unfolding keep
+keep-fewer used p strong [] = omega arith
+keep-fewer {A} used p strong (x ∷ l) = at (p x) (used x) refl refl (keep-fewer used p strong l)
+  where
+    at : (a b : Bool) → p x ≡ a → used x ≡ b → length (keep p l) ≤ length (keep used l)
+        → length (cond a (x ∷ keep p l) (keep p l)) ≤ length (cond b (x ∷ keep used l) (keep used l))
+    at true true e f h = omega arith
+    at true false e f h = absurd (let z : _≡_ {A = Bool} true false = sym (strong x e) ∙ f in let y : _≡_ {A = ℕ} 0 1 = cc in omega arith)
+    at false true e f h = omega arith
+    at false false e f h = h
+
+pub held-ended : (which : Ended) {b : Bank} → Held b → Held (withDownloads (endDownloads which (b .downloads)) b)
+unfolding endDownloads
+held-ended which {b} k = record {
+  places = k .places;
+  downloads = length-keepOnly (staysOpen which) noDownload (b .downloads) ∙ k .downloads;
+  nonces = k .nonces;
+  files = k .files;
+  downloadsFirst = keepOnly-first (λ (e : Download). e .used) (staysOpen which) (stays-open which) noDownload refl (b .downloads);
+  noncesFirst = k .noncesFirst;
+}
+
+pub held-forgotten : (clock : ℕ) {b : Bank} → Held b → Held (withNonces (forget clock (b .nonces)) b)
+unfolding forget
+held-forgotten clock {b} k = record {
+  places = k .places;
+  downloads = k .downloads;
+  nonces = length-keepOnly (staysRemembered clock) noNonce (b .nonces) ∙ k .nonces;
+  files = k .files;
+  downloadsFirst = k .downloadsFirst;
+  noncesFirst = keepOnly-first (λ (e : Nonce). e .used) (staysRemembered clock) (stays-kept clock) noNonce refl (b .nonces);
+}
+
+module _ (s : List ℕ) where
+  pub within-clock : (c : ℕ) {b : Bank} → Within s b → Within s (withClock c b)
+  within-clock c k = record { held = held-clock c (k .held); downloads = k .downloads; nonces = k .nonces }
+
+  pub within-place : (i : ℕ) (p : Place) {b : Bank} → Within s b → Within s (withPlace i p b)
+  within-place i p k = record { held = held-place i p (k .held); downloads = k .downloads; nonces = k .nonces }
+
+  pub within-ended : (which : Ended) {b : Bank} → Within s b → Within s (withDownloads (endDownloads which (b .downloads)) b)
+  unfolding endDownloads
+  within-ended which {b} k = record {
+    held = held-ended which (k .held);
+    downloads =
+        let used : Download → Bool = λ (e : Download). e .used in
+        omega (
+          arith,
+          ap length (keep-keepOnly used (staysOpen which) (stays-open which) noDownload refl (b .downloads)),
+          keep-fewer used (staysOpen which) (stays-open which) (b .downloads),
+          k .downloads,
+        );
+    nonces = k .nonces;
+  }
+
+  pub within-forgotten : (clock : ℕ) {b : Bank} → Within s b → Within s (withNonces (forget clock (b .nonces)) b)
+  unfolding forget
+  within-forgotten clock {b} k = record {
+    held = held-forgotten clock (k .held);
+    downloads = k .downloads;
+    nonces =
+        let used : Nonce → Bool = λ (e : Nonce). e .used in
+        omega (
+          arith,
+          ap length (keep-keepOnly used (staysRemembered clock) (stays-kept clock) noNonce refl (b .nonces)),
+          keep-fewer used (staysRemembered clock) (stays-kept clock) (b .nonces),
+          k .nonces,
+        );
+  }
+
+  pub within-at-clock : (clock : ℕ) {b : Bank} → Within s b → Within s (atClock clock b)
+  unfolding atClock
+  within-at-clock clock k = within-forgotten clock (within-ended (Idle clock) (within-clock clock k))
+
+  -- a drop changes places alone
+  either : {A : Type 0} (P : A → Type 0) (t : Bool) {a b : A} → P a → P b → P (cond t a b)
+  either P true x y = x
+  either P false x y = y
+
+  pub within-drop : (i : ℕ) (w : World) → Within s (w .bank) → Within s (dropUpload i w .bank)
+  unfolding dropUpload freed
+  within-drop i w k =
+      either (λ (v : World). Within s (v .bank)) (isOpen (placeAt (w .bank) i .used) && isIdle (w .bank .clock) (placeAt (w .bank) i .last))
+      {a = freed i w} {b = w} (within-place i noPlace k) k
+
+  pub within-drops : (n : ℕ) (w : World) → Within s (w .bank) → Within s (dropUploads n w .bank)
+  unfolding dropUploads
+  within-drops zero w k = k
+  within-drops (suc n) w k = within-drop n (dropUploads n w) (within-drops n w k)
+
+-- ---- the clock's steps, one after another
+
+module _ (s : List ℕ) (l : Laid s) where
+  abbrev b : Bank
+  b = bankOf s
+
+  module _ (c : ℕ) (t : List ℕ) (e : t ≡ stored (withClock c b) s) where
+    clocked : Within s (withClock c b)
+    clocked = within-clock s c (within-own s l)
+
+    pub clocked-laid : Laid t
+    clocked-laid = laid-next s l (withClock c b) clocked t e
+
+    module _ (u : List ℕ) (f : u ≡ stored (withDownloads (endDownloads (Idle c) (bankOf t .downloads)) (bankOf t)) t) where
+      abbrev ended : Bank
+      ended = withDownloads (endDownloads (Idle c) (b .downloads)) (withClock c b)
+
+      ended-within : Within s ended
+      ended-within = within-ended s (Idle c) clocked
+
+      ended-stored : u ≡ stored ended s
+      ended-stored =
+          stored-next s l (withClock c b) clocked (λ (x : Bank). withDownloads (endDownloads (Idle c) (x .downloads)) x) (ended-within .held) t u e f
+
+      pub ended-laid : Laid u
+      ended-laid = laid-next s l ended ended-within u ended-stored
+
+      pub at-clock-stored : (v : List ℕ) → v ≡ stored (withNonces (forget c (bankOf u .nonces)) (bankOf u)) u → v ≡ stored (atClock c b) s
+      unfolding atClock
+      at-clock-stored v g =
+          stored-next s l ended ended-within (λ (x : Bank). withNonces (forget c (x .nonces)) x) (held-forgotten c (ended-within .held)) u v ended-stored g
+
+  -- a drop
+  module _ (o : List ℕ) (i c : ℕ) {idle : Bool} (k : c ≡ b .clock)
+      (test : idle ≡ (isOpen (placeAt b i .used) && isIdle c (placeAt b i .last))) where
+    tested : (isOpen (placeAt b i .used) && isIdle (b .clock) (placeAt b i .last)) ≡ idle
+    tested = sym (test ∙ ap (λ (x : ℕ). isOpen (placeAt b i .used) && isIdle x (placeAt b i .last)) k)
+
+    pub dropped-idle : idle ≡ true → (p : Place) (t q : List ℕ) → p ≡ noPlace → t ≡ stored (withPlace i p b) s → q ≡ zeroed o i
+        → (boxes : List ℕ) → StoredWith (dropUpload i (world b o boxes)) s t q
+    unfolding dropUpload freed
+    dropped-idle y p t q e f g boxes =
+        rw (tested ∙ y) (record { rows = f ∙ ap (λ (r : Place). stored (withPlace i r b) s) e; store = g })
+
+    pub dropped-none : idle ≡ false → (boxes : List ℕ) → StoredWith (dropUpload i (world b o boxes)) s s o
+    unfolding dropUpload
+    dropped-none y boxes = rw (tested ∙ y) (record { rows = sym (stored-own s l); store = refl })
+
+  -- the drops of all places
+  module _ (o : List ℕ) where
+    pub drops-start : (boxes : List ℕ) → StoredWith (dropUploads 0 (world b o boxes)) s s o
+    unfolding dropUploads
+    drops-start boxes = record { rows = sym (stored-own s l); store = refl }
+
+    drops-within : (n : ℕ) (boxes : List ℕ) → Within s (dropUploads n (world b o boxes) .bank)
+    drops-within n boxes = within-drops s n (world b o boxes) (within-own s l)
+
+    module _ (n : ℕ) (t q : List ℕ) (inv : (boxes : List ℕ) → StoredWith (dropUploads n (world b o boxes)) s t q) where
+      pub drops-laid : Laid t
+      drops-laid = laid-next s l (dropUploads n (world b o []) .bank) (drops-within n []) t (inv [] .rows)
+
+      pub drops-next : (u p : List ℕ) → ((boxes : List ℕ) → StoredWith (dropUpload n (world (bankOf t) q boxes)) t u p)
+          → (boxes : List ℕ) → StoredWith (dropUploads (n + 1) (world b o boxes)) s u p
+      unfolding dropUploads
+      drops-next u p f boxes =
+          let w = dropUploads n (world b o boxes) in
+          rw (add-one n) (world-next s l w (drops-within n boxes) (dropUpload n) (within-drop s n w (drops-within n boxes) .held) t u q p (inv boxes) f)
+
+    -- the whole step of the clock
+    module _ (time c : ℕ) (k : c ≡ max (b .clock) time) (t : List ℕ) (e : t ≡ stored (atClock c b) s) where
+      at-clock : Within s (atClock c b)
+      at-clock = within-at-clock s c (within-own s l)
+
+      pub at-clock-laid : Laid t
+      at-clock-laid = laid-next s l (atClock c b) at-clock t e
+
+      pub advanced-stored : (u p : List ℕ) → ((boxes : List ℕ) → StoredWith (dropUploads placeCount (world (bankOf t) o boxes)) t u p)
+          → (boxes : List ℕ) → StoredWith (advanced time (world b o boxes)) s u p
+      unfolding advanced
+      advanced-stored u p f boxes =
+          let w = world (atClock c b) o boxes in
+          rw (← k)
+          (world-next s l w at-clock (dropUploads placeCount) (within-drops s placeCount w at-clock .held) t u o p (record { rows = e; store = refl }) f)

@@ -1,0 +1,53 @@
+-- The state at the new clock, then the drops: two changes stored as one.
+use borrow.Author.Needs.{needs}
+use Prim.Native.Nat.{ℕ, max}
+use mathlib.Core.Path.{ap, _∙_}
+use Rattle.bank_rows.proofs.Calls.{at-clock-laid, advanced-stored}
+use Rattle.bank_rows.proofs.clock.advance.Statement.{statement}
+use Rattle.bank_rows.proofs.clock.advance.Tie as tie
+
+clock-requires : tie.Need-clock-requires
+clock-requires c κs = search needs
+
+larger-requires : tie.Need-larger-requires
+larger-requires c κs = search needs
+
+set-to-requires : tie.Need-set-to-requires
+set-to-requires c κs = search needs
+
+drop-uploads-requires : tie.Need-drop-uploads-requires
+drop-uploads-requires c κs =
+    let set = c .before .before .before .before in
+    let start = c .before .before .before .before .before .before .before .before .before .before .before in
+    let a = start .args in (
+      at-clock-laid (a .rows .now) (start .pre .0) (a .orders .now) (a .time) _
+          (set .before .before .larger .ensures ∙ ap (λ (n : ℕ). max n (a .time)) (set .before .before .before .clock .ensures)) _ (set .set-to .ensures),
+      start .pre .1,
+    )
+
+same-length : tie.Need-same-length
+same-length c = search needs
+
+same-length-2 : tie.Need-same-length-2
+same-length-2 c = search needs
+
+returns : tie.Need-returns
+returns c =
+    let set = c .before .before .before .before .before .before .before .before .before in
+    let start = c .before .before .before .before .before .before .before .before .before .before .before .before .before .before .before .before in
+    let a = start .args in
+    advanced-stored (a .rows .now) (start .pre .0) (a .orders .now) (a .time) _
+    (set .before .before .larger .ensures ∙ ap (λ (n : ℕ). max n (a .time)) (set .before .before .before .clock .ensures)) _ (set .set-to .ensures) _ _
+    (c .before .before .before .before .drop-uploads .ensures)
+
+pub advance-spec : {M : Type 1} → statement M
+advance-spec =
+    tie.close
+    (tie.spec
+    clock-requires
+    larger-requires
+    set-to-requires
+    drop-uploads-requires
+    same-length
+    same-length-2
+    returns)

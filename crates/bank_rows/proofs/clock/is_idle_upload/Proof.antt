@@ -1,0 +1,64 @@
+-- An open upload, then the time of its last fitting request.
+use mathlib.Core.Bool.{true, false}
+use mathlib.Core.Path.{_≡_, sym, _∙_}
+use borrow.Author.Tests.{not-true, not-false}
+use Rattle.bank_state.specs.Clock.{isIdle}
+use Rattle.bank_state.specs.Search.{isOpen}
+use Rattle.bank_state.specs.State.{placeAt}
+use Rattle.bank_rows.specs.State.{bankOf}
+use Rattle.bank_rows.proofs.Reading.{place-read}
+use borrow.Author.Needs.{needs}
+use Rattle.bank_rows.proofs.clock.is_idle_upload.Statement.{statement}
+use Rattle.bank_rows.proofs.clock.is_idle_upload.Tie as tie
+
+is-open-at-requires : tie.Need-is-open-at-requires
+is-open-at-requires c κs = search needs
+
+returns : tie.Need-returns
+unfolding isIdle
+returns c =
+    let a = c .before .before .before .args in
+    let e : isOpen (placeAt (bankOf (a .rows .now)) (a .i) .used) ≡ false =
+    sym (c .before .is-open-at .ensures) ∙ not-true _ (c .if1 .taken) in
+    rw e
+
+mul-at : tie.Need-mul-at
+mul-at c = search needs
+
+add-at : tie.Need-add-at
+add-at c = search needs
+
+add-is-behind : tie.Need-add-is-behind
+add-is-behind c = search needs
+
+mul-is-behind : tie.Need-mul-is-behind
+mul-is-behind c = search needs
+
+shared-slice-read-is-behind : tie.Need-shared-slice-read-is-behind
+shared-slice-read-is-behind c = search needs
+
+is-behind-requires : tie.Need-is-behind-requires
+is-behind-requires c κs = search needs
+
+returns-2 : tie.Need-returns-2
+unfolding isIdle
+returns-2 c =
+    let start = c .before .before .before .before .before in
+    let a = start .args in
+    let e : isOpen (placeAt (bankOf (a .rows .now)) (a .i) .used) ≡ true =
+    sym (c .before .before .before .is-open-at .ensures) ∙ not-false _ (c .before .before .if1 .left) in
+    rw (e, place-read (a .rows .now) (a .i) (start .pre .1)) (c .is-behind .ensures)
+
+pub is-idle-upload-spec : {M : Type 1} → statement M
+is-idle-upload-spec =
+    tie.close
+    (tie.spec
+    is-open-at-requires
+    returns
+    mul-at
+    add-at
+    add-is-behind
+    mul-is-behind
+    shared-slice-read-is-behind
+    is-behind-requires
+    returns-2)

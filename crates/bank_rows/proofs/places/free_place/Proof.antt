@@ -1,0 +1,66 @@
+-- The search passes the places in use.
+use native.Mathlib.Omega.{arith}
+use borrow.Author.Needs.{needs}
+use Prim.Native.Nat.{_-_}
+use mathlib.Core.Path.{sym, _∙_}
+use Rattle.bank_state.specs.declared.state.Place.{Place}
+use Rattle.bank_state.specs.Search.{isFree, freePlace}
+use Rattle.bank_state.specs.Limits.{placeCount}
+use Rattle.bank_state.specs.State.{noPlace}
+use Rattle.bank_state.proofs.Loops.{Searched, searched-start, searched-next, searched-hit, searched-end}
+use Rattle.bank_rows.specs.State.{bankOf}
+use Rattle.bank_rows.proofs.Reading.{length-places-of}
+use Rattle.bank_rows.proofs.places.free_place.Statement.{statement}
+use Rattle.bank_rows.proofs.places.free_place.Tie as tie
+
+abbrev Inv-loop : tie.InvT-loop
+Inv-loop rows i₀ i = Searched (λ (p : Place). isFree (p .used)) (bankOf rows .places) i
+
+abbrev μ-loop : tie.MeasureT-loop
+μ-loop rows i₀ i = placeCount - i
+
+loop-holds : tie.Need-loop-holds Inv-loop μ-loop
+loop-holds c = searched-start _ _
+
+is-free-at-requires : tie.Need-is-free-at-requires Inv-loop μ-loop
+is-free-at-requires c κs = search needs
+
+returns : tie.Need-returns Inv-loop μ-loop
+unfolding freePlace
+returns c =
+    let at = c .before .before .before in
+    let h = length-places-of (at .before .before .args .rows .now) in
+    searched-hit _ _ noPlace _ (at .loop .inv) (omega arith) (sym (c .before .is-free-at .ensures) ∙ c .if1 .taken)
+
+add-i : tie.Need-add-i Inv-loop μ-loop
+add-i c = search needs
+
+loop-less : tie.Need-loop-less Inv-loop μ-loop
+loop-less c = search needs
+
+loop-again : tie.Need-loop-again Inv-loop μ-loop
+loop-again c =
+    let at = c .before .before .before in
+    let h = length-places-of (at .before .before .args .rows .now) in
+    searched-next _ _ noPlace _ (at .loop .inv) (omega arith) (sym (c .before .is-free-at .ensures) ∙ c .if1 .left)
+
+returns-2 : tie.Need-returns-2 Inv-loop μ-loop
+unfolding freePlace
+returns-2 c =
+    let at = c .before in
+    let h = length-places-of (at .before .before .args .rows .now) in
+    searched-end _ _ noPlace _ (at .loop .inv) (omega arith)
+
+pub free-place-spec : {M : Type 1} → statement M
+free-place-spec =
+    tie.close
+    (tie.spec
+    Inv-loop
+    μ-loop
+    loop-holds
+    is-free-at-requires
+    returns
+    add-i
+    loop-less
+    loop-again
+    returns-2)

@@ -1,0 +1,74 @@
+-- Of the places passed, so many hold an open upload of the subscriber.
+use native.Mathlib.Omega.{arith}
+use borrow.Author.Needs.{needs}
+use Prim.Native.Nat.{_-_}
+use mathlib.Core.Path.{sym, _∙_}
+use mathlib.Core.Bool.{_&&_}
+use lib.Dec.{eqb}
+use Rattle.bank_state.specs.Search.{isOpen}
+use Rattle.bank_state.specs.declared.state.Place.{Place}
+use Rattle.bank_state.specs.Limits.{placeCount}
+use Rattle.bank_state.specs.State.{noPlace}
+use Rattle.bank_state.proofs.Loops.{Counted, counted-start, counted-one, counted-none, counted-end}
+use Rattle.bank_rows.specs.State.{bankOf}
+use Rattle.bank_rows.proofs.Reading.{length-places-of}
+use Rattle.bank_rows.proofs.places.open_uploads_of.Statement.{statement}
+use Rattle.bank_rows.proofs.places.open_uploads_of.Tie as tie
+
+abbrev Inv-loop : tie.InvT-loop
+Inv-loop rows subscriber n₀ i₀ n i = Counted (λ (p : Place). isOpen (p .used) && eqb (p .subscriber) subscriber) (bankOf rows .places) n i
+
+abbrev μ-loop : tie.MeasureT-loop
+μ-loop rows subscriber n₀ i₀ n i = placeCount - i
+
+loop-holds : tie.Need-loop-holds Inv-loop μ-loop
+loop-holds c = counted-start _ _
+
+add-i : tie.Need-add-i Inv-loop μ-loop
+add-i c = search needs
+
+is-open-of-requires : tie.Need-is-open-of-requires Inv-loop μ-loop
+is-open-of-requires c κs = search needs
+
+add-n : tie.Need-add-n Inv-loop μ-loop
+add-n c = let at = c .before .before .before in omega (arith, at .loop .inv .most)
+
+loop-less : tie.Need-loop-less Inv-loop μ-loop
+loop-less c = search needs
+
+loop-again : tie.Need-loop-again Inv-loop μ-loop
+loop-again c =
+    let at = c .before .before .before in
+    let h = length-places-of (at .before .before .args .rows .now) in
+    counted-one _ _ noPlace _ _ (at .loop .inv) (omega arith) (sym (c .before .is-open-of .ensures) ∙ c .if1 .taken)
+
+loop-less-2 : tie.Need-loop-less-2 Inv-loop μ-loop
+loop-less-2 c = search needs
+
+loop-again-2 : tie.Need-loop-again-2 Inv-loop μ-loop
+loop-again-2 c =
+    let at = c .before .before .before in
+    let h = length-places-of (at .before .before .args .rows .now) in
+    counted-none _ _ noPlace _ _ (at .loop .inv) (omega arith) (sym (c .before .is-open-of .ensures) ∙ c .if1 .left)
+
+returns : tie.Need-returns Inv-loop μ-loop
+returns c =
+    let at = c .before in
+    let h = length-places-of (at .before .before .args .rows .now) in
+    counted-end _ _ noPlace _ _ (at .loop .inv) (omega arith)
+
+pub open-uploads-of-spec : {M : Type 1} → statement M
+open-uploads-of-spec =
+    tie.close
+    (tie.spec
+    Inv-loop
+    μ-loop
+    loop-holds
+    add-i
+    is-open-of-requires
+    add-n
+    loop-less
+    loop-again
+    loop-less-2
+    loop-again-2
+    returns)

@@ -1,0 +1,105 @@
+// The clock, and the transactions and nonces that it drops.
+use crate::downloads::end_downloads;
+use crate::layout::PLACE_LAST;
+use crate::layout::PLACE_WIDTH;
+use crate::layout::PLACES_AT;
+use crate::nonces::forget;
+use crate::numbers::clock;
+use crate::numbers::set_clock;
+use crate::places::is_open_at;
+use crate::places::set_place;
+use bank_state::clock::Ended;
+use bank_state::limits::IDLE_LIMIT;
+use bank_state::limits::PLACES;
+use bank_state::state::no_place;
+use bank_state::store::zero;
+ghost use mathlib.Core.Path.{_≡_};
+ghost use mathlib.Core.Bool.{_&&_};
+ghost use mathlib.Core.List.{List};
+ghost use Prim.Native.Nat.{ℕ, _+_, _<_, max};
+ghost use lib.Dec.{ltb};
+ghost use lib.ListN.{length};
+ghost use Rattle.bank_state.specs.Limits.{placeCount, storeBytes};
+ghost use Rattle.bank_state.specs.Clock.{isIdle, dropUpload, dropUploads, atClock, advanced};
+ghost use Rattle.bank_state.specs.Search.{isOpen};
+ghost use Rattle.bank_state.specs.State.{world, placeAt};
+ghost use Rattle.bank_rows.specs.State.{bankOf, stored, Laid, StoredWith};
+
+// Whether a time is more than this many seconds behind the clock.
+pub(crate) fn is_behind(clock: u64, time: u64, seconds: u64) -> bool
+    ensures { λ r. ⌜ r ≡ ltb (time + seconds) clock ⌝ }
+{
+    if clock < seconds {
+        return false;
+    }
+    time < clock - seconds
+}
+
+// Whether place i holds an open upload that is idle at this clock.
+fn is_idle_upload(rows: &[u64], i: usize, clock: u64) -> bool
+    requires { ⌜ Laid (now rows) × (i < placeCount) ⌝ }
+    ensures { λ r. ⌜ r ≡ (isOpen (placeAt (bankOf (now (rows .entry))) i .used)
+        && isIdle clock (placeAt (bankOf (now (rows .entry))) i .last)) ⌝ }
+{
+    if !is_open_at(rows, i) {
+        return false;
+    }
+    let at = PLACES_AT + PLACE_WIDTH * i;
+    is_behind(clock, rows[at + PLACE_LAST], IDLE_LIMIT)
+}
+
+// Drops the upload in place i where it is idle.
+fn drop_upload(rows: &mut [u64], i: usize, orders: &mut [u8])
+    requires { ⌜ Laid (now rows) × (length (now orders) ≡ storeBytes) × (i < placeCount) ⌝ }
+    ensures { λ _. ⌜ ((boxes : List ℕ) → StoredWith
+        (dropUpload i (world (bankOf (now (rows .entry))) (now (orders .entry)) boxes))
+        (now (rows .entry)) (now (rows .exit)) (now (orders .exit))) ⌝ }
+{
+    let at = clock(rows);
+    if is_idle_upload(rows, i, at) {
+        set_place(rows, i, no_place());
+        zero(orders, i);
+    }
+}
+
+// Drops every idle upload.
+fn drop_uploads(rows: &mut [u64], orders: &mut [u8])
+    requires { ⌜ Laid (now rows) × (length (now orders) ≡ storeBytes) ⌝ }
+    ensures { λ _. ⌜ ((boxes : List ℕ) → StoredWith
+        (dropUploads placeCount (world (bankOf (now (rows .entry))) (now (orders .entry)) boxes))
+        (now (rows .entry)) (now (rows .exit)) (now (orders .exit))) ⌝ }
+{
+    let mut i = 0;
+    while i < PLACES {
+        drop_upload(rows, i, orders);
+        i += 1;
+    }
+}
+
+fn larger(x: u64, y: u64) -> u64
+    ensures { λ r. ⌜ r ≡ max x y ⌝ }
+{
+    if x < y { y } else { x }
+}
+
+// The state at a clock, but for its uploads.
+fn set_to(rows: &mut [u64], clock: u64)
+    requires { ⌜ Laid (now rows) ⌝ }
+    ensures { λ _. ⌜ now (rows .exit) ≡ stored (atClock clock (bankOf (now (rows .entry)))) (now (rows .entry)) ⌝ }
+{
+    set_clock(rows, clock);
+    end_downloads(rows, Ended::Idle(clock));
+    forget(rows, clock);
+}
+
+// Sets the clock to the larger of its old value and the time given, and drops what is idle and forgets what is old.
+pub fn advance(rows: &mut [u64], time: u64, orders: &mut [u8])
+    requires { ⌜ Laid (now rows) × (length (now orders) ≡ storeBytes) ⌝ }
+    ensures { λ _. ⌜ ((boxes : List ℕ) → StoredWith
+        (advanced time (world (bankOf (now (rows .entry))) (now (orders .entry)) boxes))
+        (now (rows .entry)) (now (rows .exit)) (now (orders .exit))) ⌝ }
+{
+    let at = larger(clock(rows), time);
+    set_to(rows, at);
+    drop_uploads(rows, orders);
+}

@@ -1,0 +1,56 @@
+// The numbers of the state that stand alone: the clock, the openings accepted, and the lengths of the files.
+use crate::layout::CLOCK_AT;
+use crate::layout::FILES_AT;
+use crate::layout::OPENINGS_AT;
+ghost use mathlib.Core.Path.{_≡_};
+ghost use Prim.Native.Nat.{_<_};
+ghost use lib.ListN.{getD, set};
+ghost use Rattle.bank_state.specs.Limits.{placeCount};
+ghost use Rattle.bank_state.specs.State.{withClock, withOpenings, withFiles};
+ghost use Rattle.bank_rows.specs.State.{bankOf, stored, Laid};
+
+pub fn clock(rows: &[u64]) -> u64
+    requires { ⌜ Laid (now rows) ⌝ }
+    ensures { λ r. ⌜ r ≡ bankOf (now (rows .entry)) .clock ⌝ }
+{
+    rows[CLOCK_AT]
+}
+
+pub(crate) fn set_clock(rows: &mut [u64], clock: u64)
+    requires { ⌜ Laid (now rows) ⌝ }
+    ensures { λ _. ⌜ now (rows .exit) ≡ stored (withClock clock (bankOf (now (rows .entry)))) (now (rows .entry)) ⌝ }
+{
+    rows[CLOCK_AT] = clock;
+}
+
+// The openings accepted.
+pub fn openings(rows: &[u64]) -> u64
+    requires { ⌜ Laid (now rows) ⌝ }
+    ensures { λ r. ⌜ r ≡ bankOf (now (rows .entry)) .openings ⌝ }
+{
+    rows[OPENINGS_AT]
+}
+
+pub fn set_openings(rows: &mut [u64], n: u64)
+    requires { ⌜ Laid (now rows) ⌝ }
+    ensures { λ _. ⌜ now (rows .exit) ≡ stored (withOpenings n (bankOf (now (rows .entry)))) (now (rows .entry)) ⌝ }
+{
+    rows[OPENINGS_AT] = n;
+}
+
+// The length of the file in mailbox i.
+pub fn file_length(rows: &[u64], i: usize) -> u64
+    requires { ⌜ Laid (now rows) × (i < placeCount) ⌝ }
+    ensures { λ r. ⌜ r ≡ getD (bankOf (now (rows .entry)) .files) i 0 ⌝ }
+{
+    rows[FILES_AT + i]
+}
+
+pub fn set_file_length(rows: &mut [u64], i: usize, n: u64)
+    requires { ⌜ Laid (now rows) × (i < placeCount) ⌝ }
+    ensures { λ _. ⌜ now (rows .exit)
+        ≡ stored (withFiles (set (bankOf (now (rows .entry)) .files) i n) (bankOf (now (rows .entry))))
+        (now (rows .entry)) ⌝ }
+{
+    rows[FILES_AT + i] = n;
+}

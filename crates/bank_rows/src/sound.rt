@@ -1,0 +1,106 @@
+// The one test of the rows: the numbers that the code relies on.
+use crate::layout::DOWNLOAD_COUNT_AT;
+use crate::layout::DOWNLOAD_DELIVERED;
+use crate::layout::DOWNLOAD_WIDTH;
+use crate::layout::DOWNLOADS_AT;
+use crate::layout::FILES_AT;
+use crate::layout::NONCE_COUNT_AT;
+use crate::layout::PLACE_LENGTH;
+use crate::layout::PLACE_TAKEN;
+use crate::layout::PLACE_USE;
+use crate::layout::PLACE_WIDTH;
+use crate::layout::PLACES_AT;
+use crate::layout::STATE_SIZE;
+use bank_state::limits::NONCES;
+use bank_state::limits::PLACES;
+use message::limits::FILE_BYTES;
+use message::limits::SEGMENTS_MOST;
+ghost use mathlib.Core.Path.{_≡_};
+ghost use Prim.Native.Nat.{_≤_, _<_};
+ghost use lib.ListN.{length};
+ghost use Rattle.bank_state.specs.Limits.{placeCount};
+ghost use Rattle.bank_rows.specs.Layout.{stateSize};
+ghost use Rattle.bank_rows.specs.Sound.{allBelow, isSoundFile, isSoundPlace, isSoundDownload, isSound};
+ghost use Rattle.bank_rows.specs.State.{downloadCountOf};
+
+// The number of the last use, booked.
+const USE_MOST: u64 = 2;
+
+fn are_sound_files(rows: &[u64]) -> bool
+    requires { ⌜ length (now rows) ≡ stateSize ⌝ }
+    ensures { λ r. ⌜ r ≡ allBelow (isSoundFile (now (rows .entry))) placeCount ⌝ }
+{
+    let mut i = 0;
+    while i < PLACES {
+        if (FILE_BYTES as u64) < rows[FILES_AT + i] {
+            return false;
+        }
+        i += 1;
+    }
+    true
+}
+
+fn is_sound_place(rows: &[u64], i: usize) -> bool
+    requires { ⌜ (length (now rows) ≡ stateSize) × (i < placeCount) ⌝ }
+    ensures { λ r. ⌜ r ≡ isSoundPlace (now (rows .entry)) i ⌝ }
+{
+    let at = PLACES_AT + PLACE_WIDTH * i;
+    if USE_MOST < rows[at + PLACE_USE] {
+        return false;
+    }
+    if (FILE_BYTES as u64) < rows[at + PLACE_LENGTH] {
+        return false;
+    }
+    rows[at + PLACE_TAKEN] <= SEGMENTS_MOST
+}
+
+fn are_sound_places(rows: &[u64]) -> bool
+    requires { ⌜ length (now rows) ≡ stateSize ⌝ }
+    ensures { λ r. ⌜ r ≡ allBelow (isSoundPlace (now (rows .entry))) placeCount ⌝ }
+{
+    let mut i = 0;
+    while i < PLACES {
+        if !is_sound_place(rows, i) {
+            return false;
+        }
+        i += 1;
+    }
+    true
+}
+
+fn are_sound_downloads(rows: &[u64]) -> bool
+    requires { ⌜ (length (now rows) ≡ stateSize) × (downloadCountOf (now rows) ≤ placeCount) ⌝ }
+    ensures { λ r. ⌜ r ≡ allBelow (isSoundDownload (now (rows .entry))) (downloadCountOf (now (rows .entry))) ⌝ }
+{
+    let n = rows[DOWNLOAD_COUNT_AT] as usize;
+    let mut i = 0;
+    while i < n {
+        if SEGMENTS_MOST < rows[DOWNLOADS_AT + DOWNLOAD_WIDTH * i + DOWNLOAD_DELIVERED] {
+            return false;
+        }
+        i += 1;
+    }
+    true
+}
+
+// Whether the rows can be a bank's.
+pub fn is_sound(rows: &[u64]) -> bool
+    ensures { λ r. ⌜ r ≡ isSound (now (rows .entry)) ⌝ }
+{
+    if rows.len() != STATE_SIZE {
+        return false;
+    }
+    if (PLACES as u64) < rows[DOWNLOAD_COUNT_AT] {
+        return false;
+    }
+    if (NONCES as u64) < rows[NONCE_COUNT_AT] {
+        return false;
+    }
+    if !are_sound_files(rows) {
+        return false;
+    }
+    if !are_sound_places(rows) {
+        return false;
+    }
+    are_sound_downloads(rows)
+}
