@@ -6,19 +6,19 @@ use mathlib.Core.Path.{_≡_, refl, sym, ap, _∙_, subst}
 use native.Mathlib.Numerals.{add-one}
 use native.Mathlib.Omega.{arith}
 use lib.Dec.{leb}
-use lib.ListN.{length, length-set}
+use lib.ListN.{length, set, length-set}
 use Rattle.bank_state.specs.declared.clock.Ended.{Ended}
 use Rattle.bank_state.specs.declared.clock.Ended.the-variants.{Idle}
 use Rattle.bank_state.specs.declared.state.Place.{Place}
 use Rattle.bank_state.specs.declared.state.Download.{Download}
 use Rattle.bank_state.specs.declared.state.Nonce.{Nonce}
 use Rattle.bank_state.specs.declared.state.Bank.{Bank}
-use Rattle.bank_state.specs.Limits.{placeCount}
+use Rattle.bank_state.specs.Limits.{placeCount, nonceCount}
 use Rattle.bank_state.specs.Rows.{keep, keepOnly}
 use Rattle.bank_state.specs.Clock.{isIdle, freed, dropUpload, dropUploads, endDownloads, forget, atClock, advanced}
 use Rattle.bank_state.specs.Search.{isOpen}
 use Rattle.bank_state.specs.Store.{zeroed}
-use Rattle.bank_state.specs.State.{World, world, noPlace, noDownload, noNonce, withClock, withDownloads, withNonces, withPlace, placeAt}
+use Rattle.bank_state.specs.State.{World, world, noPlace, noDownload, noNonce, withClock, withOpenings, withFiles, withDownload, withDownloads, withNonces, withPlace, placeAt}
 use Rattle.bank_state.proofs.Rows.{length-keepOnly}
 use Rattle.bank_rows.specs.Layout.{downloadWidth, nonceWidth}
 use Rattle.bank_rows.specs.Records.{downloadOf, nonceOf, staysOpen, staysRemembered}
@@ -36,7 +36,7 @@ use Rattle.bank_rows.specs.State.{
   StoredWith,
 }
 use Rattle.bank_rows.proofs.General.{length-rows}
-use Rattle.bank_rows.proofs.InUse.{keep-keepOnly, keepOnly-first}
+use Rattle.bank_rows.proofs.InUse.{keep-keepOnly, keepOnly-first, changed-first, added-first}
 use Rattle.bank_rows.proofs.Records.{stays-open, stays-kept}
 use Rattle.bank_rows.proofs.State.{open-are, remembered-are, held-rows, stored-own, stored-back, stored-laid, stored-twice}
 
@@ -97,6 +97,61 @@ held-place i p {b} k = record {
   files = k .files;
   downloadsFirst = k .downloadsFirst;
   noncesFirst = k .noncesFirst;
+}
+
+-- ---- the other changes of a call
+
+pub held-openings : (n : ℕ) {b : Bank} → Held b → Held (withOpenings n b)
+held-openings n k = record {
+  places = k .places;
+  downloads = k .downloads;
+  nonces = k .nonces;
+  files = k .files;
+  downloadsFirst = k .downloadsFirst;
+  noncesFirst = k .noncesFirst;
+}
+
+pub held-file : (i n : ℕ) {b : Bank} → Held b → Held (withFiles (set (b .files) i n) b)
+held-file i n {b} k = record {
+  places = k .places;
+  downloads = k .downloads;
+  nonces = k .nonces;
+  files = length-set (b .files) i n ∙ k .files;
+  downloadsFirst = k .downloadsFirst;
+  noncesFirst = k .noncesFirst;
+}
+
+pub held-download : (i : ℕ) (e : Download) {b : Bank} → Held b → e .used ≡ true → i < length (openDownloads b) → Held (withDownload i e b)
+held-download i e {b} k u h = record {
+  places = k .places;
+  downloads = length-set (b .downloads) i e ∙ k .downloads;
+  nonces = k .nonces;
+  files = k .files;
+  downloadsFirst = changed-first (λ (x : Download). x .used) noDownload refl e u (b .downloads) (k .downloadsFirst) i h;
+  noncesFirst = k .noncesFirst;
+}
+
+pub held-download-added : (e : Download) {b : Bank} → Held b → e .used ≡ true → length (openDownloads b) < placeCount
+    → Held (withDownload (length (openDownloads b)) e b)
+held-download-added e {b} k u h = record {
+  places = k .places;
+  downloads = length-set (b .downloads) (length (openDownloads b)) e ∙ k .downloads;
+  nonces = k .nonces;
+  files = k .files;
+  downloadsFirst =
+      added-first (λ (x : Download). x .used) noDownload refl e u (b .downloads) (k .downloadsFirst) (omega (arith, k .downloads));
+  noncesFirst = k .noncesFirst;
+}
+
+pub held-nonce-added : (e : Nonce) {b : Bank} → Held b → e .used ≡ true → length (rememberedNonces b) < nonceCount
+    → Held (withNonces (set (b .nonces) (length (rememberedNonces b)) e) b)
+held-nonce-added e {b} k u h = record {
+  places = k .places;
+  downloads = k .downloads;
+  nonces = length-set (b .nonces) (length (rememberedNonces b)) e ∙ k .nonces;
+  files = k .files;
+  downloadsFirst = k .downloadsFirst;
+  noncesFirst = added-first (λ (x : Nonce). x .used) noNonce refl e u (b .nonces) (k .noncesFirst) (omega (arith, k .nonces));
 }
 
 keep-fewer : {A : Type 0} (used p : A → Bool) → ((x : A) → p x ≡ true → used x ≡ true) → (l : List A) → length (keep p l) ≤ length (keep used l)

@@ -5,7 +5,7 @@ use mathlib.Core.List.{List, [], _∷_, _++_, append-assoc, append-nil}
 use mathlib.Core.Path.{_≡_, refl, sym, ap, _∙_}
 use native.Mathlib.Nat.{zero-add, add-zero, suc-add}
 use native.Mathlib.Omega.{arith}
-use lib.ListN.{length, getD, drop, set, replicate, length-append, length-replicate, List·getD-append}
+use lib.ListN.{length, getD, drop, set, replicate, length-append, length-set, length-replicate, List·getD-append}
 use lib.Seq.{drop-at, set-at, set-append-left, getD-append-add}
 use Rattle.bank_state.specs.Rows.{firstOf, countOf, keep, keepOnly}
 use Rattle.bank_state.proofs.Rows.{keep-append, length-keep, length-keepOnly}
@@ -72,6 +72,61 @@ module _ {A : Type 0} (used p : A → Bool) (strong : (x : A) → p x ≡ true �
         let n = length-keepOnly p free l in
         ap (λ (r : List A). r ++ replicate (length (keepOnly p free l) - length r) free) k
         ∙ ap (λ (m : ℕ). keep p l ++ replicate (m - length (keep p l)) free) n
+
+-- ---- elements in use that stand first
+
+module _ {A : Type 0} (used : A → Bool) (free : A) (no : used free ≡ false) (x : A) (u : used x ≡ true) where
+  pub keep-own : (l : List A) → keep used (keep used l) ≡ keep used l
+  keep-own = keep-keep used used (λ y e. e)
+
+  set-kept : (l : List A) (i : ℕ) → keep used (set (keep used l) i x) ≡ set (keep used l) i x
+  unfolding keep
+  set-kept [] i = refl
+  set-kept (y ∷ l) i = at (used y) refl i (keep-own l) (set-kept l)
+    where
+      at : (t : Bool) → used y ≡ t → (i : ℕ) → keep used (keep used l) ≡ keep used l
+          → ((j : ℕ) → keep used (set (keep used l) j x) ≡ set (keep used l) j x)
+          → keep used (set (cond t (y ∷ keep used l) (keep used l)) i x) ≡ set (cond t (y ∷ keep used l) (keep used l)) i x
+      at true e zero own later = rw (u, own)
+      at true e (suc j) own later = rw (e, later j)
+      at false e j own later = later j
+
+  module _ (l : List A) (first : keepOnly used free l ≡ l) where
+    abbrev kept : List A
+    kept = keep used l
+
+    split-first : l ≡ kept ++ replicate (length l - length kept) free
+    unfolding keepOnly
+    split-first = sym first
+
+    -- one of them changed
+    pub changed-first : (i : ℕ) → i < length kept → keepOnly used free (set l i x) ≡ set l i x
+    unfolding keepOnly
+    changed-first i h =
+        let m : ℕ = length l - length kept in
+        let e : set l i x ≡ set kept i x ++ replicate m free =
+        ap (λ (r : List A). set r i x) split-first ∙ set-append-left kept (replicate m free) i x h in
+        let k : keep used (set l i x) ≡ set kept i x =
+        ap (keep used) e ∙ keep-then-free used free no (set kept i x) m ∙ set-kept l i in
+        rw (k, length-set l i x, length-set kept i x) (sym e)
+
+    -- one more
+    pub added-first : length kept < length l → keepOnly used free (set l (length kept) x) ≡ set l (length kept) x
+    unfolding keepOnly keep
+    added-first h =
+        let n : ℕ = length kept in
+        let m : ℕ = length l - (n + 1) in
+        let z : length l - n ≡ suc m = omega arith in
+        let e : set l n x ≡ (kept ++ (x ∷ [])) ++ replicate m free =
+        ap (λ (r : List A). set r n x) (split-first ∙ ap (λ (j : ℕ). kept ++ replicate j free) z)
+        ∙ set-at kept free (replicate m free) x n refl ∙ sym (append-assoc kept (x ∷ []) (replicate m free)) in
+        let k : keep used (set l n x) ≡ kept ++ (x ∷ []) =
+        ap (keep used) e ∙ keep-then-free used free no (kept ++ (x ∷ [])) m ∙ keep-append used kept (x ∷ []) ∙ rw (keep-own l, keep-last) in
+        let c : length (kept ++ (x ∷ [])) ≡ n + 1 = length-append kept (x ∷ []) in
+        rw (k, length-set l n x, c) (sym e)
+      where
+        keep-last : keep used (x ∷ []) ≡ x ∷ []
+        keep-last = rw u
 
 -- ---- rows in use
 

@@ -5,11 +5,11 @@ use mathlib.Core.List.{List}
 use mathlib.Core.Path.{_≡_, refl, sym, ap, _∙_}
 use native.Mathlib.Nat.{add-assoc}
 use native.Mathlib.Omega.{arith}
-use lib.Dec.{eqb}
-use borrow.Author.Tests.{lt-ltb, le-ltb}
+use lib.Dec.{eqb, ltb}
+use borrow.Author.Tests.{lt-ltb, le-ltb, ltb-true, ltb-false}
 use lib.ListN.{length, getD, take, drop}
 use lib.Seq.{getD-drop}
-use Rattle.octets.proofs.Tests.{and-true-right}
+use Rattle.octets.proofs.Tests.{never, and-true-right}
 use Rattle.frame_table.specs.Names.{sameBits}
 use Rattle.frame_table.specs.declared.fields.Bits128.{Bits128}
 use Rattle.bank_state.specs.declared.state.Place.{Place}
@@ -20,6 +20,7 @@ use Rattle.bank_state.specs.Rows.{firstOf, countOf}
 use Rattle.bank_state.specs.Search.{isOpen, isFree, isUpload, isDownload, freeDownload, freeNonce, isRemembered}
 use Rattle.bank_state.specs.State.{noPlace, noDownload, noNonce, placeAt, downloadAt}
 use Rattle.bank_state.proofs.Loops.{Searched, Counted}
+use Rattle.bank_state.proofs.Rows.{first-passes}
 use Rattle.bank_rows.specs.Layout.{
   filesAt,
   placesAt,
@@ -315,3 +316,17 @@ module _ (s : List ℕ) (value : Bits128) where
   pub not-remembered : nonceCount ≡ firstOf isNonce (bankOf s .nonces) → false ≡ isRemembered value (bankOf s)
   unfolding isRemembered
   not-remembered e = sym (le-ltb (firstOf isNonce (bankOf s .nonces)) nonceCount (omega arith))
+
+-- a download that is found is one of those in use
+module _ (s : List ℕ) (l : Laid s) (p : Download → Bool) (fails : p noDownload ≡ false) where
+  found-at : (t : Bool) → ltb (firstOf p (bankOf s .downloads)) (downloadCountOf s) ≡ t → firstOf p (bankOf s .downloads) < placeCount
+      → firstOf p (bankOf s .downloads) < downloadCountOf s
+  found-at true e h = ltb-true (firstOf p (bankOf s .downloads)) (downloadCountOf s) e
+  found-at false e h =
+      let i : ℕ = firstOf p (bankOf s .downloads) in
+      let free = free-download-at s i (ltb-false i (downloadCountOf s) e) in
+      let passes = first-passes p (bankOf s .downloads) noDownload (omega (arith, length-downloads-of s l)) in
+      never (sym fails ∙ ap p (sym free) ∙ passes)
+
+  pub found-download : firstOf p (bankOf s .downloads) < placeCount → firstOf p (bankOf s .downloads) < downloadCountOf s
+  found-download = found-at (ltb (firstOf p (bankOf s .downloads)) (downloadCountOf s)) refl
