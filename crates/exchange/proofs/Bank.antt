@@ -69,11 +69,13 @@ use Rattle.exchange.specs.Course.{
   mailboxOf,
   changed,
   emptied,
+  callNumber,
+  replyIn,
   afterFrame,
   afterFile,
-  exec,
+  carryOut,
 }
-use Rattle.exchange.specs.Terms.{Answered}
+use Rattle.exchange.proofs.Calls.{file-done, frame-replied}
 use Rattle.exchange.proofs.Bytes.{reply-read, data-read}
 use Rattle.exchange.proofs.Events.{event-refuses, mailbox-short, case-empties}
 use Rattle.exchange.proofs.Told.{Proper, AllProper, coded, done-confirmed}
@@ -122,21 +124,26 @@ listed (more s r) (older p) = let o = listed r p in (o .0, there (o .1), o .2)
 
 -- ---- the bank's part
 
-pub record BankPart (s : Course) : Type 0 where
+-- of the bank, the exchanges and the file last put into each mailbox
+pub record BankEnd (bank : World) (exchanged : List Exchange) (lastPut : ℕ → List ℕ) : Type 0 where
   pub past : Past
   pub holds : Holds past
-  pub world : past .world ≡ s .bank
-  pub entries : Entries (s .exchanged) (past .history)
+  pub world : past .world ≡ bank
+  pub entries : Entries exchanged (past .history)
   pub proper : AllProper (past .history)
   -- "The bank's mailbox holds exactly the file last put in by a call given no number, until ..."
-  pub mailboxes : (m : ℕ) → 1 ≤ m → m ≤ subscribers → mailboxOf (s .bank) m ≡ s .mailboxes m
+  pub mailboxes : (m : ℕ) → 1 ≤ m → m ≤ subscribers → mailboxOf bank m ≡ lastPut m
+
+-- of a course: no call of a run touches it
+abbrev pub BankPart : Course → Type 0
+BankPart s = BankEnd (s .bank) (s .exchanged) (s .mailboxes)
 
 -- a call enters at most one exchange
 pub data Grows (h : List history.Exchange) : List history.Exchange → Type 0 where
   stays : Grows h h
   grows : {x : history.Exchange} → Grows h (x ∷ h)
 
-abbrev pub Later : {s : Course} → BankPart s → Course → Type 0
+abbrev pub Later : {w : World} {l : List Exchange} {m : ℕ → List ℕ} → BankEnd w l m → Course → Type 0
 Later b t = (n : BankPart t) × Grows (b .past .history) (n .past .history)
 
 pub same-mailbox : (w : World) (m : ℕ) → mailboxOf w m ≡ mailboxFile w m
@@ -272,7 +279,7 @@ module _ (s : Course) (b : BankPart s) (time : ℕ) (ids frame buffer : List ℕ
               (ap returnCode next-reply ∙ coded next-sound newest ∙ ap (λ (v : Event). codeField (eventCode v)) (z .confirmed)))
 
     -- the course behind the answered frame
-    frame-part : BankPart (afterFrame (frameAnswer.Reply n) k (advanced time (p .world)) frame s)
+    frame-part : BankPart (afterFrame (take n (k .buffer)) (k .world) (advanced time (p .world)) frame s)
     unfolding exchangeOf
     frame-part = record {
       past = answered time ids frame p;
@@ -305,8 +312,9 @@ pub record Entered (s : Course) (b : BankPart s) (time : ℕ) (ids frame buffer 
 
 entered-by : (s : Course) (b : BankPart s) (time : ℕ) (ids frame buffer : List ℕ) (n : ℕ)
     (h : frameCall (b .past .world) time ids frame buffer .answer ≡ frameAnswer.Reply n) →
-    Entered s b time ids frame buffer (afterFrame (frameAnswer.Reply n) (frameCall (b .past .world) time ids frame buffer)
-    (advanced time (b .past .world)) frame s)
+    Entered s b time ids frame buffer
+    (let k = frameCall (b .past .world) time ids frame buffer in
+    afterFrame (take n (k .buffer)) (k .world) (advanced time (b .past .world)) frame s)
 unfolding exchangeOf
 entered-by s b time ids frame buffer n h = record {
   exchange = _;
@@ -336,19 +344,18 @@ module _ (s : Course) (b : BankPart s) (mailbox : ℕ) (file : List ℕ) where
   abbrev boxesBefore : List ℕ
   boxesBefore = b .past .world .boxes
 
-  abbrev put : FileAnswer → FileCall
-  put a = carryOutFile a (b .past .world .bank) mailbox file (b .past .world .boxes)
+  abbrev put : FileCall
+  put = carryOutFile fileAnswer.Done (b .past .world .bank) mailbox file (b .past .world .boxes)
 
-  file-by : (a : FileAnswer) → FileSound bankBefore mailbox file boxesBefore a →
-      Holds (placed (put a .answer) (put a .bank) (put a .boxes) (b .past)) →
-      put a .answer ≡ fileAnswer.Done → Later b (afterFile fileAnswer.Done (put a) mailbox file s)
+  file-by : FileSound bankBefore mailbox file boxesBefore fileAnswer.Done →
+      Holds (placed fileAnswer.Done (put .bank) (put .boxes) (b .past)) → Later b (afterFile put mailbox file s)
   unfolding mailboxOf
-  file-by fileAnswer.Done (rejected l) holds h = absurd (omega arith)
-  file-by fileAnswer.Done (done known most some short empty) holds h = (
+  file-by (rejected l) holds = absurd (omega arith)
+  file-by (done known most some short empty) holds = (
     record {
       past = record { world = filled mailbox file (b .past .world); history = b .past .history };
       holds = holds;
-      world = ap (λ (w : World). world (put fileAnswer.Done .bank) (w .orders) (put fileAnswer.Done .boxes)) (b .world);
+      world = ap (λ (w : World). world (put .bank) (w .orders) (put .boxes)) (b .world);
       entries = b .entries;
       proper = b .proper;
       mailboxes = λ m low high. same-mailbox _ m ∙ at m low high (eqb m mailbox) refl;
@@ -368,75 +375,56 @@ module _ (s : Course) (b : BankPart s) (mailbox : ℕ) (file : List ℕ) where
           filled-other (b .past .world) (b .past .history) v mailbox file known most some short empty m
           (λ z. eqb-false m mailbox e (omega arith))
           ∙ sym (same-mailbox (b .past .world) m) ∙ ap (λ (w : World). mailboxOf w m) (b .world) ∙ b .mailboxes m low high
-  file-by fileAnswer.WrongLength l holds h = absurd (let z : _≡_ {A = ℕ} 0 1 = cc in omega arith)
-  file-by fileAnswer.NoMailbox l holds h = absurd (let z : _≡_ {A = ℕ} 0 1 = cc in omega arith)
-  file-by fileAnswer.WrongFile l holds h = absurd (let z : _≡_ {A = ℕ} 0 1 = cc in omega arith)
-  file-by fileAnswer.MailboxFull l holds h = absurd (let z : _≡_ {A = ℕ} 0 1 = cc in omega arith)
 
-  file-part : fileCall bankBefore mailbox file boxesBefore .answer ≡ fileAnswer.Done →
-      Later b (afterFile fileAnswer.Done (fileCall bankBefore mailbox file boxesBefore) mailbox file s)
+  file-part : fileNumber (fileCall bankBefore mailbox file boxesBefore .answer) ≡ 0 →
+      Later b (afterFile (fileCall bankBefore mailbox file boxesBefore) mailbox file s)
   unfolding fileCall history.after
   file-part h =
-      file-by (decide (fileRefusals bankBefore mailbox file boxesBefore) fileAnswer.Done)
-      (judged-file bankBefore mailbox file boxesBefore)
-      (after-holds (File mailbox file) (b .past) (b .holds)) h
+      let a = decide (fileRefusals bankBefore mailbox file boxesBefore) fileAnswer.Done in
+      let e : a ≡ fileAnswer.Done = file-done a bankBefore mailbox file boxesBefore h in
+      let k : FileAnswer → FileCall = λ x. carryOutFile x bankBefore mailbox file boxesBefore in
+      subst (λ (x : FileAnswer). FileSound bankBefore mailbox file boxesBefore x →
+      Holds (placed (k x .answer) (k x .bank) (k x .boxes) (b .past)) → Later b (afterFile (k x) mailbox file s)) (sym e) file-by
+      (judged-file bankBefore mailbox file boxesBefore) (after-holds (File mailbox file) (b .past) (b .holds))
 
--- ---- over the calls of a list
+-- ---- what calls given no number leave
 
--- a frame call, lent the bank as it was left
-pub frame-keeps : (s : Course) (b : BankPart s) (w : World) (time : ℕ) (ids frame buffer : List ℕ) (X : Type 0) →
-    Answered (frameCall w time ids frame buffer .answer) ((w ≡ s .bank) × X) → Later b (exec (frameArrives w time ids frame buffer) s)
-unfolding exec frame-part
-frame-keeps s b w time ids frame buffer X = go (frameCall w time ids frame buffer .answer) refl
-  where
-    go : (a : FrameAnswer) → frameCall w time ids frame buffer .answer ≡ a → Answered a ((w ≡ s .bank) × X) →
-        Later b (afterFrame a (frameCall w time ids frame buffer) (advanced time w) frame s)
-    go (frameAnswer.Reply n) e q =
-        subst (λ (v : World). frameCall v time ids frame buffer .answer ≡ frameAnswer.Reply n →
-        Later b (afterFrame (frameAnswer.Reply n) (frameCall v time ids frame buffer) (advanced time v) frame s)) (b .world ∙ sym (q .0))
-        (λ h. (frame-part s b time ids frame buffer n h, grows)) e
-    go frameAnswer.WrongLength e q = (b, stays)
+module _ (s : Course) (b : BankPart s) (w : World) (time : ℕ) (ids frame buffer : List ℕ) (same : w ≡ s .bank)
+    (done : callNumber (frameArrives w time ids frame buffer) ≡ 0) where
+  -- what holds after the frame is answered to the bank as it was left holds after the call
+  answered-so : (P : Course → Type 0) → ((n : ℕ) → let k = frameCall (b .past .world) time ids frame buffer in
+      k .answer ≡ frameAnswer.Reply n → P (afterFrame (take n (k .buffer)) (k .world) (advanced time (b .past .world)) frame s)) →
+      P (carryOut (frameArrives w time ids frame buffer) s)
+  answered-so P f =
+      subst (λ (v : World). (n : ℕ) × (frameCall v time ids frame buffer .answer ≡ frameAnswer.Reply n) →
+      P (carryOut (frameArrives v time ids frame buffer) s)) (b .world ∙ sym same) at
+      (frame-replied (frameCall w time ids frame buffer .answer) done)
+    where
+      k : FrameCall
+      k = frameCall (b .past .world) time ids frame buffer
 
--- a frame call is given a number and changes nothing, or it is answered
-pub frame-enters : (s : Course) (b : BankPart s) (w : World) (time : ℕ) (ids frame buffer : List ℕ) (X : Type 0) →
-    Answered (frameCall w time ids frame buffer .answer) ((w ≡ s .bank) × X) → let t = exec (frameArrives w time ids frame buffer) s in
-    (t ≡ s) ⊎ (Entered s b time ids frame buffer t × X)
-unfolding exec
-frame-enters s b w time ids frame buffer X = go (frameCall w time ids frame buffer .answer) refl
-  where
-    go : (a : FrameAnswer) → frameCall w time ids frame buffer .answer ≡ a → Answered a ((w ≡ s .bank) × X) →
-        let t = afterFrame a (frameCall w time ids frame buffer) (advanced time w) frame s in (t ≡ s) ⊎
-        (Entered s b time ids frame buffer t × X)
-    go (frameAnswer.Reply n) e q = inr (
-      subst (λ (v : World). frameCall v time ids frame buffer .answer ≡ frameAnswer.Reply n →
-          Entered s b time ids frame buffer (afterFrame (frameAnswer.Reply n) (frameCall v time ids frame buffer)
-          (advanced time v) frame s)) (b .world ∙ sym (q .0))
-          (λ h. entered-by s b time ids frame buffer n h) e,
-      q .1,
-    )
-    go frameAnswer.WrongLength e q = inl refl
+      at : (n : ℕ) × (k .answer ≡ frameAnswer.Reply n) → P (carryOut (frameArrives (b .past .world) time ids frame buffer) s)
+      at (n, e) = subst (λ (a : FrameAnswer). P (afterFrame (replyIn a (k .buffer)) (k .world) (advanced time (b .past .world)) frame s))
+          (sym e) (f n e)
+
+  -- a frame call, lent the bank as it was left
+  pub frame-keeps : Later b (carryOut (frameArrives w time ids frame buffer) s)
+  unfolding frame-part
+  frame-keeps = answered-so (Later b) (λ n h. (frame-part s b time ids frame buffer n h, grows))
+
+  pub frame-enters : Entered s b time ids frame buffer (carryOut (frameArrives w time ids frame buffer) s)
+  frame-enters = answered-so (Entered s b time ids frame buffer) (λ n h. entered-by s b time ids frame buffer n h)
 
 -- a file call, lent the bank and the mailboxes as they were left
 pub file-keeps : (s : Course) (b : BankPart s) (bank : Bank) (boxes : List ℕ) (m : ℕ) (file : List ℕ) →
-    (fileNumber (fileCall bank m file boxes .answer) ≡ 0 → (bank ≡ s .bank .bank) × (boxes ≡ s .bank .boxes)) →
-    Later b (exec (filePut bank boxes m file) s)
-unfolding exec
-file-keeps s b bank boxes m file = go (fileCall bank m file boxes .answer) refl
+    (bank ≡ s .bank .bank) × (boxes ≡ s .bank .boxes) → callNumber (filePut bank boxes m file) ≡ 0 →
+    Later b (carryOut (filePut bank boxes m file) s)
+file-keeps s b bank boxes m file same =
+    subst (λ (c : Bank). P c boxes) (ap (λ (w : World). w .bank) (b .world) ∙ sym (same .0))
+    (subst (P (b .past .world .bank)) (ap (λ (w : World). w .boxes) (b .world) ∙ sym (same .1)) (file-part s b m file))
   where
     P : Bank → List ℕ → Type 0
-    P c l = fileCall c m file l .answer ≡ fileAnswer.Done → Later b (afterFile fileAnswer.Done (fileCall c m file l) m file s)
-
-    go : (a : FileAnswer) → fileCall bank m file boxes .answer ≡ a →
-        (fileNumber a ≡ 0 → (bank ≡ s .bank .bank) × (boxes ≡ s .bank .boxes)) →
-        Later b (afterFile a (fileCall bank m file boxes) m file s)
-    go fileAnswer.Done e q =
-        let same = q refl in
-        subst (λ (c : Bank). P c boxes) (ap (λ (w : World). w .bank) (b .world) ∙ sym (same .0))
-        (subst (P (b .past .world .bank)) (ap (λ (w : World). w .boxes) (b .world) ∙ sym (same .1)) (file-part s b m file)) e
-    go fileAnswer.WrongLength e q = (b, stays)
-    go fileAnswer.NoMailbox e q = (b, stays)
-    go fileAnswer.WrongFile e q = (b, stays)
-    go fileAnswer.MailboxFull e q = (b, stays)
+    P c l = fileNumber (fileCall c m file l .answer) ≡ 0 → Later b (afterFile (fileCall c m file l) m file s)
 
 -- before the first call
 fresh-mailbox : (m : ℕ) → 1 ≤ m → m ≤ subscribers → mailboxOf (start .bank) m ≡ []

@@ -24,13 +24,14 @@ use Rattle.client.specs.declared.run.Answer.the-variants as answer
 use Rattle.client.specs.declared.run.Client.{Client}
 use Rattle.client.specs.declared.run.Step.{Step}
 use Rattle.client.specs.declared.run.Step.the-variants as step
-use Rattle.client.specs.Run.{Lent, ClientCall}
+use Rattle.client.specs.Run.{Lent, ClientCall, answerNumber}
 use Rattle.client_history.specs.History.{Event, Past, issueOf, left, callOf, lentTo, Fair}
 use Rattle.client_history.specs.History as history
 use Rattle.client_history.specs.Invariant.{isOpen, UploadOpen, UploadStep, HeldFile, DownloadStep, Invariant, not-begun, upload, download}
 use Rattle.client_history.proofs.Lifting.{lifted}
+use Rattle.client_history.proofs.Liveness.{numbered}
 use Rattle.client_history.proofs.Theorems.{kept}
-use Rattle.exchange.specs.Course.{Issue, Exchange, Course, heldOf, leaving, newIssue, afterRun, arrive}
+use Rattle.exchange.specs.Course.{Issue, Exchange, Course, withRun, withIssued, heldOf, issuedBy, afterRun}
 use Rattle.exchange.proofs.Bytes.{Issued, issued-request, issued-data}
 use Rattle.exchange.proofs.Told.{Opening, opening-at, Gave, fileIn, bank-replies}
 use Rattle.exchange.proofs.Bank.{BankPart, Grows, stays, grows}
@@ -182,83 +183,60 @@ same-run : (i : ℕ) → eqb i i ≡ true
 same-run i = eq-eqb i i refl
 
 module _ (s : Course) (i : ℕ) (k : ClientCall) (payload : List ℕ) where
+  -- what a call of run i leaves, with these requests issued
+  abbrev leaving : List Issue → Course
+  leaving l = withRun i (k .run) payload (k .file) (withIssued l s)
+
   -- the other runs stay
-  other-run : (issued : List Issue) (j : ℕ) → (j ≡ i → ⊥) → issuesOf j issued ≡ issuesOf j (s .issued) →
-      runPast (leaving i k payload issued s) j ≡ runPast s j
-  other-run issued j n e = rw (ne-eqb j i n) (λ x. record { run = s .runs j; payload = s .payloads j; file = s .files j; issues = e x })
+  other-run : (l : List Issue) (j : ℕ) → (j ≡ i → ⊥) → issuesOf j l ≡ issuesOf j (s .issued) → runPast (leaving l) j ≡ runPast s j
+  other-run l j n e = rw (ne-eqb j i n) (λ x. record { run = s .runs j; payload = s .payloads j; file = s .files j; issues = e x })
 
   -- run i as its call leaves it
-  own-run : (issued : List Issue) →
-      runPast (leaving i k payload issued s) i ≡ record { run = k .run; payload = payload; file = k .file; issues = issuesOf i issued }
-  own-run issued = rw (same-run i)
+  own-run : (l : List Issue) →
+      runPast (leaving l) i ≡ record { run = k .run; payload = payload; file = k .file; issues = issuesOf i l }
+  own-run l = rw (same-run i)
 
-new-own : (s : Course) (i n : ℕ) (k : ClientCall) (l : Lent) (issues : List Issue) → Issued k l n →
-    issuesOf i (newIssue s i k n ∷ issues) ≡ issueOf (k .run) (l .payload) (k .file) (l .time) (l .nonce) ∷ issuesOf i issues
+new-own : (s : Course) (i n : ℕ) (k : ClientCall) (l : Lent) → Issued k l n →
+    issuesOf i (issuedBy (answer.Request n) i k s)
+    ≡ issueOf (k .run) (l .payload) (k .file) (l .time) (l .nonce) ∷ issuesOf i (s .issued)
 unfolding issuesOf heldOf
-new-own s i n k l issues w =
+new-own s i n k l w =
     rw (same-run i)
     (let q = issued-request w in
     let d = issued-data w in
-    λ x. record { request = q x; requestData = d x; file = take (k .run .length) (k .file) } ∷ issuesOf i issues)
+    λ x. record { request = q x; requestData = d x; file = take (k .run .length) (k .file) } ∷ issuesOf i (s .issued))
 
-new-other : (s : Course) (i j n : ℕ) (k : ClientCall) (issues : List Issue) → (j ≡ i → ⊥) →
-    issuesOf j (newIssue s i k n ∷ issues) ≡ issuesOf j issues
+new-other : (s : Course) (i j : ℕ) (k : ClientCall) (a : Answer) → (j ≡ i → ⊥) → issuesOf j (issuedBy a i k s) ≡ issuesOf j (s .issued)
 unfolding issuesOf
-new-other s i j n k issues h = rw (ne-eqb i j (λ e. h (sym e)))
-
--- the bank's part does not hang on the runs
-bank-leaving : (s : Course) (b : BankPart s) (i : ℕ) (k : ClientCall) (payload : List ℕ) (issued : List Issue) →
-    BankPart (leaving i k payload issued s)
-bank-leaving s b i k payload issued =
-    record { past = b .past; holds = b .holds; world = b .world; entries = b .entries; proper = b .proper; mailboxes = b .mailboxes }
+new-other s i j k (answer.Request n) h = rw (ne-eqb i j (λ e. h (sym e)))
+new-other s i j k answer.Ignored h = refl
+new-other s i j k (answer.Closed w) h = refl
+new-other s i j k (answer.Refused r) h = refl
 
 -- both ends of a course
 pub record Parts (s : Course) : Type 0 where
   pub bank : BankPart s
   pub runs : (i : ℕ) → RunHolds (bank .past .history) (runPast s i)
 
-pub arrive-keeps : (s : Course) (v : Parts s) (i : ℕ) (reply : List ℕ) → Parts (arrive i reply s)
-arrive-keeps s v i reply =
-    let b = v .bank in
-    record {
-      bank = record {
-        past = b .past;
-        holds = b .holds;
-        world = b .world;
-        entries = b .entries;
-        proper = b .proper;
-        mailboxes =
-            b .mailboxes;
-      };
-      runs = v .runs;
-    }
-
 module _ (s : Course) (i : ℕ) (k : ClientCall) (l : Lent) where
   -- the run is left as its history says
-  pub own-past : ((n : ℕ) → k .answer ≡ answer.Request n → Issued k l n) → (a : Answer) → k .answer ≡ a →
-      runPast (afterRun a i k (l .payload) s) i ≡ left a k l (runPast s i)
-  own-past issues (answer.Request n) e =
-      own-run s i k (l .payload) (newIssue s i k n ∷ s .issued)
-      ∙ ap (λ (x : List history.Issue). record { run = k .run; payload = l .payload; file = k .file; issues = x })
-      (new-own s i n k l (s .issued) (issues n e))
-  own-past issues answer.Ignored e = own-run s i k (l .payload) (s .issued)
-  own-past issues (answer.Closed w) e = own-run s i k (l .payload) (s .issued)
-  own-past issues (answer.Refused r) e = refl
+  pub own-past : ((n : ℕ) → k .answer ≡ answer.Request n → Issued k l n) → answerNumber (k .answer) ≡ 0 →
+      runPast (afterRun i k (l .payload) s) i ≡ left (k .answer) k l (runPast s i)
+  own-past issues = go (k .answer) refl
+    where
+      go : (a : Answer) → k .answer ≡ a → answerNumber a ≡ 0 →
+          runPast (leaving s i k (l .payload) (issuedBy a i k s)) i ≡ left a k l (runPast s i)
+      go (answer.Request n) e z =
+          own-run s i k (l .payload) (issuedBy (answer.Request n) i k s)
+          ∙ ap (λ (x : List history.Issue). record { run = k .run; payload = l .payload; file = k .file; issues = x })
+          (new-own s i n k l (issues n e))
+      go answer.Ignored e z = own-run s i k (l .payload) (s .issued)
+      go (answer.Closed w) e z = own-run s i k (l .payload) (s .issued)
+      go (answer.Refused r) e z = numbered r z
 
   -- the others stay
-  pub other-past : (a : Answer) (j : ℕ) → (j ≡ i → ⊥) → runPast (afterRun a i k (l .payload) s) j ≡ runPast s j
-  other-past (answer.Request n) j d = other-run s i k (l .payload) (newIssue s i k n ∷ s .issued) j d (new-other s i j n k (s .issued) d)
-  other-past answer.Ignored j d = other-run s i k (l .payload) (s .issued) j d refl
-  other-past (answer.Closed w) j d = other-run s i k (l .payload) (s .issued) j d refl
-  other-past (answer.Refused r) j d = refl
-
-  -- and so does the bank
-  bank-past : (b : BankPart s) (a : Answer) → (n : BankPart (afterRun a i k (l .payload) s)) × (n .past ≡ b .past)
-  unfolding bank-leaving
-  bank-past b (answer.Request n) = (bank-leaving s b i k (l .payload) (newIssue s i k n ∷ s .issued), refl)
-  bank-past b answer.Ignored = (bank-leaving s b i k (l .payload) (s .issued), refl)
-  bank-past b (answer.Closed w) = (bank-leaving s b i k (l .payload) (s .issued), refl)
-  bank-past b (answer.Refused r) = (b, refl)
+  pub other-past : (j : ℕ) → (j ≡ i → ⊥) → runPast (afterRun i k (l .payload) s) j ≡ runPast s j
+  other-past j d = other-run s i k (l .payload) (issuedBy (k .answer) i k s) j d (new-other s i j k (k .answer) d)
 
 module _ (s : Course) (v : Parts s) (i : ℕ) (e : Event) where
   -- what a fair event leaves of the run
@@ -268,14 +246,10 @@ module _ (s : Course) (v : Parts s) (i : ℕ) (e : Event) where
       kept (Gave h) (fileIn h) (bank-replies h (v .bank .holds .invariant .sound) (v .bank .proper)) (runPast s i) e fair (v .runs i)
 
   pub run-keeps : ((n : ℕ) → callOf e (s .runs i) .answer ≡ answer.Request n → Issued (callOf e (s .runs i)) (lentTo e) n) →
-      RunHolds (v .bank .past .history) (history.after e (runPast s i)) →
-      Parts (afterRun (callOf e (s .runs i) .answer) i (callOf e (s .runs i)) (lentTo e .payload) s)
+      answerNumber (callOf e (s .runs i) .answer) ≡ 0 → RunHolds (v .bank .past .history) (history.after e (runPast s i)) →
+      Parts (afterRun i (callOf e (s .runs i)) (lentTo e .payload) s)
   unfolding history.after
-  run-keeps issues own = record {
-    bank = after .0;
-    runs = λ j. subst (λ (p : bank.Past). RunHolds (p .history) (now j))
-        (sym (after .1)) (at j (ℕ-discrete j i));
-  }
+  run-keeps issues done own = record { bank = v .bank; runs = λ j. at j (ℕ-discrete j i) }
     where
       k : ClientCall
       k = callOf e (s .runs i)
@@ -284,12 +258,8 @@ module _ (s : Course) (v : Parts s) (i : ℕ) (e : Event) where
       h = v .bank .past .history
 
       now : ℕ → Past
-      now j = runPast (afterRun (callOf e (s .runs i) .answer) i (callOf e (s .runs i)) (lentTo e .payload) s) j
-
-      after : (n : BankPart (afterRun (k .answer) i k (lentTo e .payload) s)) × (n .past ≡ v .bank .past)
-      after = bank-past s i k (lentTo e) (v .bank) (k .answer)
+      now j = runPast (afterRun i k (lentTo e .payload) s) j
 
       at : (j : ℕ) → Dec (j ≡ i) → RunHolds h (now j)
-      at j (yes z) = subst (λ (n : ℕ). RunHolds h (now n)) (sym z)
-          (subst (RunHolds h) (sym (own-past s i k (lentTo e) issues (k .answer) refl)) own)
-      at j (no z) = subst (RunHolds h) (sym (other-past s i k (lentTo e) (k .answer) j z)) (v .runs j)
+      at j (yes z) = subst (λ (n : ℕ). RunHolds h (now n)) (sym z) (subst (RunHolds h) (sym (own-past s i k (lentTo e) issues done)) own)
+      at j (no z) = subst (RunHolds h) (sym (other-past s i k (lentTo e) j z)) (v .runs j)

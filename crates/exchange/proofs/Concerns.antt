@@ -12,17 +12,14 @@ use Rattle.frame_table.specs.declared.table.Form.{Form}
 use Rattle.frame_table.specs.Names.{exchange}
 use Rattle.frame.specs.Reader.{readRequest}
 use Rattle.octets.proofs.Tests.{never}
+use Rattle.message.specs.Verdicts.{decide}
 use Rattle.bank_state.specs.declared.state.Bank.{Bank}
-use Rattle.bank_state.specs.Clock.{advanced}
 use Rattle.bank_state.specs.Search.{openCountOf}
 use Rattle.bank_state.specs.State.{World, world}
-use Rattle.bank.specs.declared.call.FrameAnswer.{FrameAnswer}
-use Rattle.bank.specs.declared.call.FrameAnswer.the-variants as frameAnswer
 use Rattle.bank.specs.declared.mailbox.FileAnswer.{FileAnswer}
 use Rattle.bank.specs.declared.mailbox.FileAnswer.the-variants as fileAnswer
-use Rattle.bank.specs.Call.{frameCall}
-use Rattle.bank.specs.Mailbox.{FileCall, fileCall, fileNumber}
-use Rattle.bank_history.specs.History.{BankCall, File, placed}
+use Rattle.bank.specs.Mailbox.{FileCall, fileCall, carryOutFile, fileRefusals}
+use Rattle.bank_history.specs.History.{Past, File, placed}
 use Rattle.bank_history.specs.History as bank
 use Rattle.bank_history.specs.Standing.{UploadUnlessIdle, DownloadUnlessIdle}
 use Rattle.bank_history.proofs.Liveness.{upload-stays, download-stays}
@@ -44,24 +41,24 @@ use Rattle.exchange.specs.Course.{
   Exchange,
   Arrival,
   Course,
-  afterFrame,
-  afterFile,
-  afterRun,
-  arrive,
-  reached,
+  withArrived,
+  callNumber,
+  issuedBy,
+  carryOut,
   exec,
 }
-use Rattle.exchange.specs.Terms.{IssuedBy, Answered, NoIdleHour, InTurn}
-use Rattle.exchange.specs.Demand3.{isSubscribers, Left, Allowed, OneExchangeNumber}
+use Rattle.exchange.specs.Terms.{IssuedBy, NoIdleHour, Turn, InTurn}
+use Rattle.exchange.specs.Demand3.{isSubscribers, Left, Premise, Allowed, OneExchangeNumber}
+use Rattle.exchange.proofs.Calls.{carried, number-or-none, file-done}
 use Rattle.exchange.proofs.Bank.{Entered, frame-enters}
-use Rattle.exchange.proofs.Clients.{issuesOf, issued-in, OpenedBy, Parts}
+use Rattle.exchange.proofs.Clients.{issuesOf, runPast, issued-in, OpenedBy, Parts}
 use Rattle.exchange.proofs.Issues.{one-issue}
 use Rattle.exchange.proofs.Outstanding.{GivenFor, other-ignored, other-stays}
-use Rattle.exchange.proofs.Courses.{Copied, frame-runs, run-leaves, reached-leaves}
-use Rattle.exchange.proofs.Received.{ToAnother, or-another, Same, same-refl, other-same, foreign-same, ignored-same}
+use Rattle.exchange.proofs.Courses.{Copied, frame-runs}
+use Rattle.exchange.proofs.Received.{ToAnother, Same, same-refl, other-same, foreign-same, ignored-same}
 use Rattle.exchange.proofs.Joint.{counts}
 use Rattle.exchange.proofs.Outcome.{request-of}
-use Rattle.exchange.proofs.Runs.{by-number, reply-past}
+use Rattle.exchange.proofs.Runs.{reply-past}
 use Rattle.exchange.proofs.Standing.{Standing, upload-standing, download-standing}
 
 -- the transactions that the run has had opened stay as they are; a download where its subscriber has nothing else open
@@ -85,8 +82,8 @@ pub data Concern (s : Course) (v : Parts s) (i : ℕ) : Call → Type 0 where
       exec (frameArrives w time ids frame buffer) s .arrived ≡ s .arrived →
       Concern s v i (frameArrives w time ids frame buffer)
   own-begin : {c : Client} {way : Direction} {u first : ℕ} {l : Lent} → c ≡ s .runs i →
-      answerNumber (beginCall c way u first l .answer) ≡ 0 → Concern s v i (begins i c way u first l)
-  own-reply : {c : Client} {reply : List ℕ} {l : Lent} → answerNumber (replyCall c reply l .answer) ≡ 0 → Left i c l s →
+      callNumber (begins i c way u first l) ≡ 0 → Concern s v i (begins i c way u first l)
+  own-reply : {c : Client} {reply : List ℕ} {l : Lent} → callNumber (replyArrives i c reply l) ≡ 0 → Left i c l s →
       GivenFor i reply s → ((a : Arrival) → In a (s .arrived) → a .run ≡ i → a .reply ≡ reply → ⊥) →
       Concern s v i (replyArrives i c reply l)
 
@@ -97,58 +94,36 @@ nothing-new s v i t e =
 
 -- ---- a frame
 
--- what is known of an answered frame, together
-joined : (a : FrameAnswer) (P Q R : Type 0) → Answered a (P × Q) → Answered a R → Answered a (P × (Q × R))
-joined (frameAnswer.Reply n) P Q R p r = (p .0, (p .1, r))
-joined frameAnswer.WrongLength P Q R p r = tt
-
--- the bank behind a frame that is answered
-pub frame-world : (s : Course) (w : World) (time : ℕ) (ids frame buffer : List ℕ) → let t = exec (frameArrives w time ids frame buffer) s in
-    (t ≡ s) ⊎ ((t .bank ≡ frameCall w time ids frame buffer .world) × (t .issued ≡ s .issued) × (t .arrived ≡ s .arrived))
-unfolding exec
-frame-world s w time ids frame buffer = go (frameCall w time ids frame buffer .answer)
+-- a file put moves the bank as its history says, which enters nothing
+pub file-bank : (s : Course) (v : Parts s) (b : Bank) (boxes : List ℕ) (m : ℕ) (file : List ℕ) → Premise (filePut b boxes m file) s →
+    callNumber (filePut b boxes m file) ≡ 0 → let p = bank.after (File m file) (v .bank .past) in
+    (carryOut (filePut b boxes m file) s .bank ≡ p .world) × (p .history ≡ v .bank .past .history)
+unfolding fileCall bank.after
+file-bank s v b boxes m file same =
+    subst (λ (c : Bank). P c boxes) (ap (λ (w : World). w .bank) (v .bank .world) ∙ sym (same .0))
+    (subst (P (v .bank .past .world .bank)) (ap (λ (w : World). w .boxes) (v .bank .world) ∙ sym (same .1)) done)
   where
-    go : (a : FrameAnswer) → let t = afterFrame a (frameCall w time ids frame buffer) (advanced time w) frame s in
-        (t ≡ s) ⊎ ((t .bank ≡ frameCall w time ids frame buffer .world) × (t .issued ≡ s .issued) × (t .arrived ≡ s .arrived))
-    go (frameAnswer.Reply n) = inr (refl, refl, refl)
-    go frameAnswer.WrongLength = inl refl
+    before : World
+    before = v .bank .past .world
 
--- a file put moves the bank as its history says
-pub file-bank : (s : Course) (v : Parts s) (b : Bank) (boxes : List ℕ) (m : ℕ) (file : List ℕ) → Allowed (filePut b boxes m file) s →
-    let t = exec (filePut b boxes m file) s in
-    (t ≡ s) ⊎ ((t .bank ≡ bank.after (File m file) (v .bank .past) .world) × (t .exchanged ≡ s .exchanged))
-unfolding exec bank.after
-file-bank s v b boxes m file = go (fileCall b m file boxes .answer) refl
-  where
-    Out : FileAnswer → Bank → List ℕ → Type 0
-    Out a c l = afterFile a (fileCall c m file l) m file s .bank
-        ≡ (let d = fileCall (v .bank .past .world .bank) m file (v .bank .past .world .boxes) in
-        placed (d .answer) (d .bank) (d .boxes) (v .bank .past) .world)
+    k : FileAnswer → FileCall
+    k a = carryOutFile a (before .bank) m file (before .boxes)
 
-    left-so : fileCall (v .bank .past .world .bank) m file (v .bank .past .world .boxes) .answer ≡ fileAnswer.Done →
-        Out fileAnswer.Done (v .bank .past .world .bank) (v .bank .past .world .boxes)
-    left-so e =
-        let d = fileCall (v .bank .past .world .bank) m file (v .bank .past .world .boxes) in
-        ap (λ (w : World). world (d .bank) (w .orders) (d .boxes)) (sym (v .bank .world))
-        ∙ ap (λ (a : FileAnswer). placed a (d .bank) (d .boxes) (v .bank .past) .world) (sym e)
+    next : FileAnswer → Past
+    next a = placed (k a .answer) (k a .bank) (k a .boxes) (v .bank .past)
 
-    go : (a : FileAnswer) → fileCall b m file boxes .answer ≡ a →
-        (fileNumber a ≡ 0 → (b ≡ s .bank .bank) × (boxes ≡ s .bank .boxes)) →
-        let t = afterFile a (fileCall b m file boxes) m file s in (t ≡ s) ⊎ (Out a b boxes × (t .exchanged ≡ s .exchanged))
-    go fileAnswer.Done e q =
-        let same = q refl in
-        let x : v .bank .past .world .bank ≡ b = ap (λ (w : World). w .bank) (v .bank .world) ∙ sym (same .0) in
-        let y : v .bank .past .world .boxes ≡ boxes = ap (λ (w : World). w .boxes) (v .bank .world) ∙ sym (same .1) in
-        inr (
-          subst (λ (c : Bank). fileCall c m file boxes .answer ≡ fileAnswer.Done → Out fileAnswer.Done c boxes) x
-              (subst (λ (l : List ℕ). fileCall (v .bank .past .world .bank) m file l .answer ≡ fileAnswer.Done →
-              Out fileAnswer.Done (v .bank .past .world .bank) l) y left-so) e,
-          refl,
-        )
-    go fileAnswer.WrongLength e q = inl refl
-    go fileAnswer.NoMailbox e q = inl refl
-    go fileAnswer.WrongFile e q = inl refl
-    go fileAnswer.MailboxFull e q = inl refl
+    a : FileAnswer
+    a = decide (fileRefusals (before .bank) m file (before .boxes)) fileAnswer.Done
+
+    P : Bank → List ℕ → Type 0
+    P c l = callNumber (filePut c l m file) ≡ 0 →
+        (carryOut (filePut c l m file) s .bank ≡ next a .world) × (next a .history ≡ v .bank .past .history)
+
+    done : P (before .bank) (before .boxes)
+    done z =
+        subst (λ (x : FileAnswer). (world (k x .bank) (s .bank .orders) (k x .boxes) ≡ next x .world)
+        × (next x .history ≡ v .bank .past .history)) (sym (file-done a (before .bank) m file (before .boxes) z))
+        (ap (λ (w : World). world (k fileAnswer.Done .bank) (w .orders) (k fileAnswer.Done .boxes)) (sym (v .bank .world)), refl)
 
 module _ (s : Course) (v : Parts s) (copies : Copied s) (numbers : OneExchangeNumber s) (i : ℕ) where
   -- whether a frame is a copy of the run's request
@@ -177,201 +152,144 @@ module _ (s : Course) (v : Parts s) (copies : Copied s) (numbers : OneExchangeNu
   foreign-untouched time ids frame buffer given t en foreign y id o Download u k n last few a =
       download-standing s v copies numbers time ids frame buffer given t en o foreign (few refl) a
 
-  frame-concern : (w : World) (time : ℕ) (ids frame buffer : List ℕ) → Allowed (frameArrives w time ids frame buffer) s →
-      InTurn i (frameArrives w time ids frame buffer) s → Concern s v i (frameArrives w time ids frame buffer)
-  frame-concern w time ids frame buffer q turn =
-      at (frame-world s w time ids frame buffer)
-      (frame-enters s (v .bank) w time ids frame buffer _
-      (joined (frameCall w time ids frame buffer .answer) _ _ (Turn (clock (frameCall w time ids frame buffer .world))) q turn))
+  frame-concern : (w : World) (time : ℕ) (ids frame buffer : List ℕ) → Premise (frameArrives w time ids frame buffer) s →
+      Turn i (frameArrives w time ids frame buffer) s → callNumber (frameArrives w time ids frame buffer) ≡ 0 →
+      Concern s v i (frameArrives w time ids frame buffer)
+  frame-concern w time ids frame buffer q turn z = at (own-or-not frame (q .1))
     where
       k : Call
       k = frameArrives w time ids frame buffer
 
-      t : Course
-      t = exec k s
+      now : carryOut k s ≡ exec k s
+      now = sym (carried k s z)
 
-      same : (t ≡ s) → Concern s v i k
-      same z = let n = nothing-new s v i t z in elsewhere (n .0) (n .1)
+      en : Entered s (v .bank) time ids frame buffer (exec k s)
+      en = subst (Entered s (v .bank) time ids frame buffer) now (frame-enters s (v .bank) w time ids frame buffer (q .0) z)
 
-      clock : World → ℕ
-      clock x = x .bank .clock
+      issued : exec k s .issued ≡ s .issued
+      issued = ap (λ (t : Course). t .issued) (carried k s z)
 
-      Turn : ℕ → Type 0
-      Turn now = IssuedBy i frame s → ((e : Exchange) → In e (s .exchanged) → e .request ≡ frame → ⊥) × NoIdleHour i now s
+      arrivals : exec k s .arrived ≡ s .arrived
+      arrivals = ap (λ (t : Course). t .arrived) (carried k s z)
 
-      by : Entered s (v .bank) time ids frame buffer t → (isSubscribers frame ≡ true → (j : ℕ) × IssuedBy j frame s) →
-          Turn (clock (t .bank)) → t .issued ≡ s .issued → t .arrived ≡ s .arrived → IssuedBy i frame s ⊎ (IssuedBy i frame s → ⊥) →
-          Concern s v i k
-      by en given turn issues arrivals (inl own) = let x = turn own in own-frame en own (x .0) (x .1) issues arrivals
-      by en given turn issues arrivals (inr foreign) =
-          elsewhere (foreign-same (en .exchanged) (en .request) issues arrivals (frame-runs s w time ids frame buffer i) foreign)
-          (foreign-untouched time ids frame buffer given t en foreign)
-
-      at : (t ≡ s) ⊎ ((t .bank ≡ frameCall w time ids frame buffer .world) × (t .issued ≡ s .issued) × (t .arrived ≡ s .arrived)) →
-          (t ≡ s) ⊎ (Entered s (v .bank) time ids frame buffer t × ((isSubscribers frame ≡ true → (j : ℕ) × IssuedBy j frame s)
-          × Turn (clock (frameCall w time ids frame buffer .world)))) → Concern s v i k
-      at (inl z) e = same z
-      at (inr z) (inl e) = same e
-      at (inr z) (inr e) =
-          by (e .0) (e .1 .0) (subst (λ (x : World). Turn (clock x)) (sym (z .0)) (e .1 .1)) (z .1) (z .2) (own-or-not frame (e .1 .0))
+      at : IssuedBy i frame s ⊎ (IssuedBy i frame s → ⊥) → Concern s v i k
+      at (inl own) =
+          let x = turn own in
+          own-frame en own (x .0) (subst (λ (t : Course). NoIdleHour i (t .bank .bank .clock) s) now (x .1)) issued arrivals
+      at (inr foreign) =
+          elsewhere (foreign-same (en .exchanged) (en .request) issued arrivals (frame-runs s w time ids frame buffer i) foreign)
+          (foreign-untouched time ids frame buffer (q .1) (exec k s) en foreign)
 
   -- ---- a file
 
-  file-same : (k : FileCall) (m : ℕ) (file : List ℕ) (a : FileAnswer) → Same i s (afterFile a k m file s)
-  file-same k m file fileAnswer.Done =
-      record { past = refl; received = λ e c. c; keeps = λ j e c. c; arrivals = λ a m r. inl m; arrived = λ a m. m; issued = λ x m r. m }
-  file-same k m file fileAnswer.WrongLength = same-refl i s
-  file-same k m file fileAnswer.NoMailbox = same-refl i s
-  file-same k m file fileAnswer.WrongFile = same-refl i s
-  file-same k m file fileAnswer.MailboxFull = same-refl i s
-
-  no-exchange : (c : BankCall) → bank.after c (v .bank .past) .history ≡ v .bank .past .history → (e : bank.Exchange) →
-      bank.after c (v .bank .past) .history ≡ e ∷ v .bank .past .history → ⊥
-  no-exchange c z e y = let n = ap length (sym z ∙ y) in omega arith
-
-  file-history : (m : ℕ) (file : List ℕ) → bank.after (File m file) (v .bank .past) .history ≡ v .bank .past .history
-  unfolding bank.after
-  file-history m file = go (fileCall (v .bank .past .world .bank) m file (v .bank .past .world .boxes) .answer)
+  file-untouched : (m : ℕ) (file : List ℕ) (t : Course) → let p = bank.after (File m file) (v .bank .past) in
+      (t .bank ≡ p .world) × (p .history ≡ v .bank .past .history) → Untouched s v i t
+  file-untouched m file t (z, h) = at
     where
-      d : FileCall
-      d = fileCall (v .bank .past .world .bank) m file (v .bank .past .world .boxes)
+      no-exchange : (e : bank.Exchange) → bank.after (File m file) (v .bank .past) .history ≡ e ∷ v .bank .past .history → ⊥
+      no-exchange e y = let n = ap length (sym h ∙ y) in omega arith
 
-      go : (a : FileAnswer) → placed a (d .bank) (d .boxes) (v .bank .past) .history ≡ v .bank .past .history
-      go fileAnswer.Done = refl
-      go fileAnswer.WrongLength = refl
-      go fileAnswer.NoMailbox = refl
-      go fileAnswer.WrongFile = refl
-      go fileAnswer.MailboxFull = refl
-
-  file-untouched : (m : ℕ) (file : List ℕ) (t : Course) → t .bank ≡ bank.after (File m file) (v .bank .past) .world → Untouched s v i t
-  file-untouched m file t z y id o Upload u k n last few a =
-      subst (λ (w : World). UploadUnlessIdle w id u k n last) (sym z)
-      (upload-stays id u k n last (File m file) (v .bank .past) (v .bank .holds)
-      (subst (λ (w : World). UploadUnlessIdle w id u k n last) (sym (v .bank .world)) a)
-      (λ e x. absurd (no-exchange (File m file) (file-history m file) e x)))
-  file-untouched m file t z y id o Download u k n last few a =
-      subst (λ (w : World). DownloadUnlessIdle w id u k last) (sym z)
-      (download-stays id u k last (File m file) (v .bank .past) (v .bank .holds)
-      (subst (λ (w : World). DownloadUnlessIdle w id u k last) (sym (v .bank .world)) a)
-      (λ e x. absurd (no-exchange (File m file) (file-history m file) e x))
-      (λ e _ x. absurd (no-exchange (File m file) (file-history m file) e x)))
-
-  file-concern : (b : Bank) (boxes : List ℕ) (m : ℕ) (file : List ℕ) → Allowed (filePut b boxes m file) s →
-      Concern s v i (filePut b boxes m file)
-  unfolding exec
-  file-concern b boxes m file q = at (file-bank s v b boxes m file q)
-    where
-      t : Course
-      t = exec (filePut b boxes m file) s
-
-      at : (t ≡ s) ⊎ ((t .bank ≡ bank.after (File m file) (v .bank .past) .world) × (t .exchanged ≡ s .exchanged)) →
-          Concern s v i (filePut b boxes m file)
-      at (inl z) = let n = nothing-new s v i t z in elsewhere (n .0) (n .1)
-      at (inr z) =
-          elsewhere (file-same (fileCall b m file boxes) m file (fileCall b m file boxes .answer)) (file-untouched m file t (z .0))
+      at : Untouched s v i t
+      at y id o Upload u k n last few a =
+          subst (λ (w : World). UploadUnlessIdle w id u k n last) (sym z)
+          (upload-stays id u k n last (File m file) (v .bank .past) (v .bank .holds)
+          (subst (λ (w : World). UploadUnlessIdle w id u k n last) (sym (v .bank .world)) a) (λ e x. absurd (no-exchange e x)))
+      at y id o Download u k n last few a =
+          subst (λ (w : World). DownloadUnlessIdle w id u k last) (sym z)
+          (download-stays id u k last (File m file) (v .bank .past) (v .bank .holds)
+          (subst (λ (w : World). DownloadUnlessIdle w id u k last) (sym (v .bank .world)) a) (λ e x. absurd (no-exchange e x))
+          (λ e _ x. absurd (no-exchange e x)))
 
   -- ---- a call of a run
 
   -- a reply that reaches another run
-  reached-same : (j : ℕ) → (i ≡ j → ⊥) → (reply : List ℕ) (a : Answer) (t : Course) → Same i s t → Same i s (reached a j reply t)
-  reached-same j d reply a t z = go a
+  reached-same : (j : ℕ) → (i ≡ j → ⊥) → (reply : List ℕ) (t : Course) → Same i s t →
+      Same i s (withArrived (record { run = j; reply = reply } ∷ s .arrived) t)
+  reached-same j d reply t z = record {
+    past = z .past;
+    received = z .received;
+    keeps = z .keeps;
+    arrivals = arrivals;
+    arrived = λ b m. there m;
+    issued = z .issued;
+  }
     where
-      behind : (b : Arrival) → In b (record { run = j; reply = reply } ∷ t .arrived) → b .run ≡ i →
-          In b (s .arrived) ⊎ ToAnother i (b .reply) (arrive j reply t)
-      behind b (here e) r = absurd (d (sym r ∙ ap (λ (x : Arrival). x .run) e))
-      behind b (there m) r = or-another (λ n. n) (λ n e c. c) (z .arrivals b m r)
-
-      new : Same i s (arrive j reply t)
-      new = record {
-        past = z .past;
-        received = z .received;
-        keeps = z .keeps;
-        arrivals = behind;
-        arrived = λ b m. there (z .arrived b m);
-        issued = z .issued;
-      }
-
-      go : (x : Answer) → Same i s (reached x j reply t)
-      go (answer.Request n) = new
-      go answer.Ignored = new
-      go (answer.Closed w) = new
-      go (answer.Refused r) = z
+      arrivals : (b : Arrival) → In b (record { run = j; reply = reply } ∷ s .arrived) → b .run ≡ i →
+          In b (s .arrived) ⊎ ToAnother i (b .reply) (withArrived (record { run = j; reply = reply } ∷ s .arrived) t)
+      arrivals b (here e) r = absurd (d (sym r ∙ ap (λ (x : Arrival). x .run) e))
+      arrivals b (there m) r = inl m
 
   -- a reply that reaches the run: to its own request, or to another run's
-  reply-concern : (c : Client) (reply : List ℕ) (l : Lent) → answerNumber (replyCall c reply l .answer) ≡ 0 → Left i c l s →
-      (e : Exchange) × In e (s .exchanged) × (e .reply ≡ reply) × ((j : ℕ) × IssuedBy j (e .request) s) →
-      ((a : Arrival) → In a (s .arrived) → a .run ≡ i → a .reply ≡ reply → ⊥) → Concern s v i (replyArrives i c reply l)
-  unfolding exec
-  reply-concern c reply l done left (e, m, z, (j, copy)) fresh = at (ℕ-discrete j i)
+  reply-concern : (c : Client) (reply : List ℕ) (l : Lent) → callNumber (replyArrives i c reply l) ≡ 0 →
+      Premise (replyArrives i c reply l) s → Turn i (replyArrives i c reply l) s → Concern s v i (replyArrives i c reply l)
+  reply-concern c reply l done (left, (e, m, z, (j, copy))) fresh = at (ℕ-discrete j i)
     where
       k : ClientCall
       k = replyCall c reply l
 
-      t : Answer → Course
-      t a = reached a i reply (afterRun a i k (l .payload) s)
+      t : Course
+      t = carryOut (replyArrives i c reply l) s
+
+      now : t ≡ exec (replyArrives i c reply l) s
+      now = sym (carried (replyArrives i c reply l) s done)
 
       done-run : answerNumber (replyCall (s .runs i) reply l .answer) ≡ 0
       done-run = subst (λ (x : Client). answerNumber (replyCall x reply l .answer) ≡ 0) (left .0) done
 
       at : Dec (j ≡ i) → Concern s v i (replyArrives i c reply l)
-      at (yes same) = own-reply done left (e, m, z, subst (λ (n : ℕ). IssuedBy n (e .request) s) same copy) fresh
+      at (yes same) = own-reply done left (e, m, z, subst (λ (n : ℕ). IssuedBy n (e .request) s) same copy) (fresh refl)
       at (no other) =
           let ignored : k .answer ≡ answer.Ignored = ap (λ (x : Client). replyCall x reply l .answer) (left .0)
           ∙ other-ignored s v numbers i reply l done-run (left .1, left .2) j other (e, m, z, copy) in
           elsewhere
-          (ignored-same (ap (λ (a : Answer). t a .exchanged) ignored) (ap (λ (a : Answer). t a .issued) ignored)
-          (ap (λ (a : Answer). t a .arrived) ignored)
-          (reply-past s i c reply l (left .0) ∙ other-stays s v numbers i reply l done-run (left .1, left .2) j other (e, m, z, copy))
-          (record { run = j; other = other; exchange = e; received = (m, copy); given = z }))
-          (bank-same s v i (t (k .answer)) (ap (λ (a : Answer). t a .bank) ignored))
+          (subst (Same i s) now (ignored-same refl (ap (λ (a : Answer). issuedBy a i k s) ignored) refl
+          (ap (λ (x : Course). runPast x i) now ∙ reply-past s i c (left .0) reply l done
+          ∙ other-stays s v numbers i reply l done-run (left .1, left .2) j other (e, m, z, copy))
+          (record { run = j; other = other; exchange = e; received = (m, copy); given = z })))
+          (bank-same s v i (exec (replyArrives i c reply l) s) (ap (λ (x : Course). x .bank) (sym now)))
+
+  -- a call of run j: of another run, or of run i
+  run-concern : (k : ℕ → Call) (j : ℕ) → callNumber (k j) ≡ 0 → Premise (k j) s → Turn i (k j) s →
+      ((i ≡ j → ⊥) → Same i s (carryOut (k j) s) × (carryOut (k j) s .bank ≡ s .bank)) →
+      (callNumber (k i) ≡ 0 → Premise (k i) s → Turn i (k i) s → Concern s v i (k i)) → Concern s v i (k j)
+  run-concern k j z q turn other own = at (ℕ-discrete i j)
+    where
+      now : carryOut (k j) s ≡ exec (k j) s
+      now = sym (carried (k j) s z)
+
+      at : Dec (i ≡ j) → Concern s v i (k j)
+      at (no d) =
+          elsewhere (subst (Same i s) now (other d .0))
+          (bank-same s v i (exec (k j) s) (ap (λ (x : Course). x .bank) (sym now) ∙ other d .1))
+      at (yes e) = subst (λ (n : ℕ). callNumber (k n) ≡ 0 → Premise (k n) s → Turn i (k n) s → Concern s v i (k n)) e own z q turn
+
+  carried-concern : (k : Call) → callNumber k ≡ 0 → Premise k s → Turn i k s → Concern s v i k
+  carried-concern (frameArrives w time ids frame buffer) z q turn = frame-concern w time ids frame buffer q turn z
+  carried-concern (filePut b boxes m file) z q turn =
+      let k = filePut b boxes m file in
+      let now = sym (carried k s z) in
+      elsewhere
+      (subst (Same i s) now (record {
+        past = refl;
+        received = λ e c. c;
+        keeps = λ j e c. c;
+        arrivals = λ a m r. inl m;
+        arrived = λ a m. m;
+        issued = λ x m r. m;
+      }))
+      (subst (Untouched s v i) now (file-untouched m file (carryOut k s) (file-bank s v b boxes m file q z)))
+  carried-concern (begins j c way u first l) z q turn =
+      run-concern (λ n. begins n c way u first l) j z q turn (λ d. (other-same s i j d (beginCall c way u first l) l, refl))
+      (λ y own _. own-begin own y)
+  carried-concern (replyArrives j c reply l) z q turn =
+      run-concern (λ n. replyArrives n c reply l) j z q turn
+      (λ d. (reached-same j d reply _ (other-same s i j d (replyCall c reply l) l), refl)) (reply-concern c reply l)
+  carried-concern (noReply j c l) z q turn =
+      run-concern (λ n. noReply n c l) j z q turn (λ d. (other-same s i j d (noReplyCall c l) l, refl)) (λ y own not. absurd (not refl))
 
   pub concern : (k : Call) → Allowed k s → InTurn i k s → Concern s v i k
-  unfolding exec
-  concern (frameArrives w time ids frame buffer) q turn = frame-concern w time ids frame buffer q turn
-  concern (filePut b boxes m file) q turn = file-concern b boxes m file q
-  concern (begins j c way u first l) q turn = at (ℕ-discrete i j)
+  concern k q turn = at (number-or-none k s)
     where
-      k : ClientCall
-      k = beginCall c way u first l
-
-      at : Dec (i ≡ j) → Concern s v i (begins j c way u first l)
-      at (no d) = elsewhere (other-same s i j d k l (k .answer)) (bank-same s v i (afterRun (k .answer) j k (l .payload) s)
-          (run-leaves s j k (l .payload) (k .answer) .0 .bank))
-      at (yes z) =
-          subst (λ (n : ℕ). (answerNumber (k .answer) ≡ 0 → c ≡ s .runs n) → Concern s v i (begins n c way u first l)) z (λ a.
-          by-number (Concern s v i (begins i c way u first l)) (k .answer) (λ e. own-begin (a e) e)
-          (λ r e. let n = nothing-new s v i (afterRun (k .answer) i k (l .payload) s)
-          (ap (λ (x : Answer). afterRun x i k (l .payload) s) e) in
-          elsewhere (n .0) (n .1))) q
-  concern (replyArrives j c reply l) q turn = at (ℕ-discrete i j)
-    where
-      k : ClientCall
-      k = replyCall c reply l
-
-      t : ℕ → Course
-      t n = reached (k .answer) n reply (afterRun (k .answer) n k (l .payload) s)
-
-      at : Dec (i ≡ j) → Concern s v i (replyArrives j c reply l)
-      at (no d) =
-          elsewhere (reached-same j d reply (k .answer) (afterRun (k .answer) j k (l .payload) s) (other-same s i j d k l (k .answer)))
-          (bank-same s v i (t j) (reached-leaves s j reply k (l .payload) (k .answer) .bank))
-      at (yes z) =
-          subst (λ (n : ℕ). Allowed (replyArrives n c reply l) s → InTurn i (replyArrives n c reply l) s →
-          Concern s v i (replyArrives n c reply l)) z (λ a b.
-          by-number (Concern s v i (replyArrives i c reply l)) (k .answer)
-          (λ e. let y = a e in reply-concern c reply l e (y .0) (y .1) (b e refl))
-          (λ r e. let n = nothing-new s v i (t i) (ap (λ (x : Answer). reached x i reply (afterRun x i k (l .payload) s)) e) in
-          elsewhere (n .0) (n .1))) q turn
-  concern (noReply j c l) q turn = at (ℕ-discrete i j)
-    where
-      k : ClientCall
-      k = noReplyCall c l
-
-      at : Dec (i ≡ j) → Concern s v i (noReply j c l)
-      at (no d) = elsewhere (other-same s i j d k l (k .answer)) (bank-same s v i (afterRun (k .answer) j k (l .payload) s)
-          (run-leaves s j k (l .payload) (k .answer) .0 .bank))
-      at (yes z) =
-          by-number (Concern s v i (noReply j c l)) (k .answer) (λ e. absurd (turn e (sym z)))
-          (λ r e. let n = nothing-new s v i (afterRun (k .answer) j k (l .payload) s)
-          (ap (λ (x : Answer). afterRun x j k (l .payload) s) e) in
-          elsewhere (n .0) (n .1))
+      at : (exec k s ≡ s) ⊎ ((callNumber k ≡ 0) × (exec k s ≡ carryOut k s)) → Concern s v i k
+      at (inl e) = let n = nothing-new s v i (exec k s) e in elsewhere (n .0) (n .1)
+      at (inr (z, _)) = carried-concern k z (q z) (turn z)

@@ -5,20 +5,11 @@ use mathlib.Core.List.{List, [], _∷_, List·Memᴰ as In, List·Memᴰ·head a
 use mathlib.Core.Path.{_≡_, refl, sym, subst}
 use native.Mathlib.Decide.{ℕ-discrete}
 use Rattle.bank_state.specs.declared.state.Bank.{Bank}
-use Rattle.bank_state.specs.Clock.{advanced}
 use Rattle.bank_state.specs.State.{World}
-use Rattle.bank.specs.declared.call.FrameAnswer.{FrameAnswer}
-use Rattle.bank.specs.declared.call.FrameAnswer.the-variants as frameAnswer
-use Rattle.bank.specs.declared.mailbox.FileAnswer.{FileAnswer}
-use Rattle.bank.specs.declared.mailbox.FileAnswer.the-variants as fileAnswer
-use Rattle.bank.specs.Call.{FrameCall, frameCall}
-use Rattle.bank.specs.Mailbox.{FileCall, fileCall}
-use Rattle.client.specs.declared.run.Answer.{Answer}
-use Rattle.client.specs.declared.run.Answer.the-variants as answer
 use Rattle.client.specs.declared.run.Client.{Client}
 use Rattle.client.specs.declared.run.Direction.{Direction}
-use Rattle.client.specs.Calls.{beginCall, replyCall, noReplyCall}
-use Rattle.client.specs.Run.{Lent, ClientCall, answerNumber}
+use Rattle.client.specs.Calls.{replyCall}
+use Rattle.client.specs.Run.{Lent, answerNumber}
 use Rattle.client_history.specs.History.{Begin, Reply, NoReply}
 use Rattle.client_history.specs.History as history
 use Rattle.client_history.specs.Invariant.{not-begun}
@@ -32,72 +23,31 @@ use Rattle.exchange.specs.Course.{
   Exchange,
   Course,
   start,
-  afterFrame,
-  afterFile,
-  afterRun,
-  reached,
+  callNumber,
+  carryOut,
   exec,
   after,
 }
-use Rattle.exchange.specs.Terms.{IssuedBy, Answered}
-use Rattle.exchange.specs.Demand3.{isSubscribers, Allowed, AllAllowed, OneExchangeNumber}
+use Rattle.exchange.specs.Terms.{IssuedBy}
+use Rattle.exchange.specs.Demand3.{isSubscribers, Left, Premise, Allowed, AllAllowed, OneExchangeNumber}
 use Rattle.exchange.proofs.Bytes.{begin-issues, reply-issues, no-reply-issues}
+use Rattle.exchange.proofs.Calls.{by-number}
 use Rattle.exchange.proofs.Bank.{Later, frame-keeps, file-keeps, bank-start}
-use Rattle.exchange.proofs.Clients.{issuesOf, runPast, run-lifts, RunHolds, Parts, arrive-keeps, run-fair, run-keeps}
+use Rattle.exchange.proofs.Clients.{issuesOf, runPast, run-lifts, RunHolds, Parts, run-fair, run-keeps}
 use Rattle.exchange.proofs.Issues.{issued-more, numbers-earlier, numbers-before}
 use Rattle.exchange.proofs.Outstanding.{given-to, other-stays}
 
 -- ---- both ends
 
--- a call of a run that is given a number leaves all as it was
-run-called : (s : Course) (v : Parts s) (i : ℕ) (k : ClientCall) (payload : List ℕ) →
-    (answerNumber (k .answer) ≡ 0 → Parts (afterRun (k .answer) i k payload s)) → Parts (afterRun (k .answer) i k payload s)
-run-called s v i k payload = go (k .answer)
-  where
-    go : (a : Answer) → (answerNumber a ≡ 0 → Parts (afterRun a i k payload s)) → Parts (afterRun a i k payload s)
-    go (answer.Request n) f = f refl
-    go answer.Ignored f = f refl
-    go (answer.Closed w) f = f refl
-    go (answer.Refused r) f = v
-
-reply-called : (s : Course) (v : Parts s) (i : ℕ) (reply : List ℕ) (k : ClientCall) (payload : List ℕ) →
-    (answerNumber (k .answer) ≡ 0 → Parts (afterRun (k .answer) i k payload s)) →
-    Parts (reached (k .answer) i reply (afterRun (k .answer) i k payload s))
-reply-called s v i reply k payload = go (k .answer)
-  where
-    go : (a : Answer) → (answerNumber a ≡ 0 → Parts (afterRun a i k payload s)) → Parts (reached a i reply (afterRun a i k payload s))
-    go (answer.Request n) f = arrive-keeps _ (f refl) i reply
-    go answer.Ignored f = arrive-keeps _ (f refl) i reply
-    go (answer.Closed w) f = arrive-keeps _ (f refl) i reply
-    go (answer.Refused r) f = v
-
 -- a call of the bank leaves the runs
 pub frame-runs : (s : Course) (w : World) (time : ℕ) (ids frame buffer : List ℕ) (i : ℕ) →
     runPast (exec (frameArrives w time ids frame buffer) s) i ≡ runPast s i
-unfolding exec
-frame-runs s w time ids frame buffer i = go (k .answer)
-  where
-    k : FrameCall
-    k = frameCall w time ids frame buffer
-
-    go : (a : FrameAnswer) → runPast (afterFrame a k (advanced time w) frame s) i ≡ runPast s i
-    go (frameAnswer.Reply n) = refl
-    go frameAnswer.WrongLength = refl
+frame-runs s w time ids frame buffer i =
+    by-number (frameArrives w time ids frame buffer) s (λ (t : Course). runPast t i ≡ runPast s i) refl (λ _. refl)
 
 pub file-runs : (s : Course) (b : Bank) (boxes : List ℕ) (m : ℕ) (file : List ℕ) (i : ℕ) →
     runPast (exec (filePut b boxes m file) s) i ≡ runPast s i
-unfolding exec
-file-runs s b boxes m file i = go (k .answer)
-  where
-    k : FileCall
-    k = fileCall b m file boxes
-
-    go : (a : FileAnswer) → runPast (afterFile a k m file s) i ≡ runPast s i
-    go fileAnswer.Done = refl
-    go fileAnswer.WrongLength = refl
-    go fileAnswer.NoMailbox = refl
-    go fileAnswer.WrongFile = refl
-    go fileAnswer.MailboxFull = refl
+file-runs s b boxes m file i = by-number (filePut b boxes m file) s (λ (t : Course). runPast t i ≡ runPast s i) refl (λ _. refl)
 
 bank-called : {s t : Course} (v : Parts s) → Later (v .bank) t → ((i : ℕ) → runPast t i ≡ runPast s i) → Parts t
 bank-called {s} {t} v n same = record {
@@ -107,14 +57,13 @@ bank-called {s} {t} v n same = record {
 }
 
 -- a call of a run
-begin-keeps : (s : Course) (v : Parts s) (i : ℕ) (c : Client) (way : Direction) (subscriber first : ℕ) (l : Lent) →
-    Allowed (begins i c way subscriber first l) s → Parts (exec (begins i c way subscriber first l) s)
-unfolding exec
-begin-keeps s v i c way subscriber first l a =
-    run-called s v i (beginCall c way subscriber first l) (l .payload) (λ z.
-    subst (λ (x : Client). let k = beginCall x way subscriber first l in Parts (afterRun (k .answer) i k (l .payload) s)) (sym (a z))
-    (run-keeps s v i (Begin way subscriber first l) (begin-issues (s .runs i) l way subscriber first)
-    (run-fair s v i (Begin way subscriber first l) tt)))
+begin-keeps : (s : Course) (v : Parts s) (i : ℕ) (c : Client) (way : Direction) (subscriber first : ℕ) (l : Lent) → c ≡ s .runs i →
+    callNumber (begins i c way subscriber first l) ≡ 0 → Parts (carryOut (begins i c way subscriber first l) s)
+begin-keeps s v i c way subscriber first l own =
+    subst (λ (x : Client). callNumber (begins i x way subscriber first l) ≡ 0 → Parts (carryOut (begins i x way subscriber first l) s))
+    (sym own)
+    (λ z. run-keeps s v i (Begin way subscriber first l) (begin-issues (s .runs i) l way subscriber first) z
+    (run-fair s v i (Begin way subscriber first l) tt))
 
 -- a reply to a request of the run is fair; one to a request of another run is ignored
 reply-holds : (s : Course) (v : Parts s) → OneExchangeNumber s → (i : ℕ) (reply : List ℕ) (l : Lent) →
@@ -133,32 +82,29 @@ reply-holds s v numbers i reply l done left (e, m, z, (j, copy)) = at (ℕ-discr
         subst (RunHolds (v .bank .past .history)) (sym (other-stays s v numbers i reply l done left j other (e, m, z, copy))) (v .runs i)
 
 reply-keeps : (s : Course) (v : Parts s) → OneExchangeNumber s → (i : ℕ) (c : Client) (reply : List ℕ) (l : Lent) →
-    Allowed (replyArrives i c reply l) s → Parts (exec (replyArrives i c reply l) s)
-unfolding exec
-reply-keeps s v numbers i c reply l a =
-    reply-called s v i reply (replyCall c reply l) (l .payload) (λ z.
-    let q = a z in
-    subst (λ (x : Client). let k = replyCall x reply l in Parts (afterRun (k .answer) i k (l .payload) s)) (sym (q .0 .0))
-    (run-keeps s v i (Reply reply l) (reply-issues (s .runs i) l reply)
-    (reply-holds s v numbers i reply l (subst (λ (x : Client). answerNumber (replyCall x reply l .answer) ≡ 0) (q .0 .0) z)
-    (q .0 .1, q .0 .2) (q .1))))
+    Premise (replyArrives i c reply l) s → callNumber (replyArrives i c reply l) ≡ 0 → Parts (carryOut (replyArrives i c reply l) s)
+reply-keeps s v numbers i c reply l q =
+    subst (λ (x : Client). callNumber (replyArrives i x reply l) ≡ 0 → Parts (carryOut (replyArrives i x reply l) s)) (sym (q .0 .0))
+    (λ z. let p = run-keeps s v i (Reply reply l) (reply-issues (s .runs i) l reply) z
+    (reply-holds s v numbers i reply l z (q .0 .1, q .0 .2) (q .1)) in record { bank = p .bank; runs = p .runs })
 
-no-reply-keeps : (s : Course) (v : Parts s) (i : ℕ) (c : Client) (l : Lent) → Allowed (noReply i c l) s → Parts (exec (noReply i c l) s)
-unfolding exec
-no-reply-keeps s v i c l a =
-    run-called s v i (noReplyCall c l) (l .payload) (λ z.
-    let q = a z in
-    subst (λ (x : Client). let k = noReplyCall x l in Parts (afterRun (k .answer) i k (l .payload) s)) (sym (q .0))
-    (run-keeps s v i (NoReply l) (no-reply-issues (s .runs i) l)
-    (run-fair s v i (NoReply l) (λ _. record { payload = q .1; file = q .2 }))))
+no-reply-keeps : (s : Course) (v : Parts s) (i : ℕ) (c : Client) (l : Lent) → Left i c l s → callNumber (noReply i c l) ≡ 0 →
+    Parts (carryOut (noReply i c l) s)
+no-reply-keeps s v i c l q =
+    subst (λ (x : Client). callNumber (noReply i x l) ≡ 0 → Parts (carryOut (noReply i x l) s)) (sym (q .0))
+    (λ z. run-keeps s v i (NoReply l) (no-reply-issues (s .runs i) l) z
+    (run-fair s v i (NoReply l) (λ _. record { payload = q .1; file = q .2 })))
+
+carried-keeps : (k : Call) (s : Course) → Parts s → OneExchangeNumber s → Premise k s → callNumber k ≡ 0 → Parts (carryOut k s)
+carried-keeps (frameArrives w time ids frame buffer) s v n q z =
+    bank-called v (frame-keeps s (v .bank) w time ids frame buffer (q .0) z) (λ i. refl)
+carried-keeps (filePut b boxes m file) s v n q z = bank-called v (file-keeps s (v .bank) b boxes m file q z) (λ i. refl)
+carried-keeps (begins i c way subscriber first l) s v n q z = begin-keeps s v i c way subscriber first l q z
+carried-keeps (replyArrives i c reply l) s v n q z = reply-keeps s v n i c reply l q z
+carried-keeps (noReply i c l) s v n q z = no-reply-keeps s v i c l q z
 
 pub call-keeps : (k : Call) (s : Course) → Parts s → OneExchangeNumber (exec k s) → Allowed k s → Parts (exec k s)
-call-keeps (frameArrives w time ids frame buffer) s v n a =
-    bank-called v (frame-keeps s (v .bank) w time ids frame buffer _ a) (frame-runs s w time ids frame buffer)
-call-keeps (filePut b boxes m file) s v n a = bank-called v (file-keeps s (v .bank) b boxes m file a) (file-runs s b boxes m file)
-call-keeps (begins i c way subscriber first l) s v n a = begin-keeps s v i c way subscriber first l a
-call-keeps (replyArrives i c reply l) s v n a = reply-keeps s v (numbers-earlier (replyArrives i c reply l) s n) i c reply l a
-call-keeps (noReply i c l) s v n a = no-reply-keeps s v i c l a
+call-keeps k s v n a = by-number k s Parts v (λ z. carried-keeps k s v (numbers-earlier k s n) (a z) z)
 
 pub parts-start : Parts start
 unfolding start issuesOf
@@ -179,56 +125,20 @@ copied-later : (k : Call) (s : Course) → Copied s → (e : Exchange) → In e 
     (i : ℕ) × IssuedBy i (e .request) (exec k s)
 copied-later k s c e m z = let o = c e m z in (o .0, issued-more k s (o .1))
 
--- what a run's call leaves
-pub record Leaves (s t : Course) : Type 0 where
-  pub exchanged : t .exchanged ≡ s .exchanged
-  pub bank : t .bank ≡ s .bank
-
-pub run-leaves : (s : Course) (i : ℕ) (k : ClientCall) (payload : List ℕ) (a : Answer) → let t = afterRun a i k payload s in
-    Leaves s t × (t .arrived ≡ s .arrived)
-run-leaves s i k payload (answer.Request n) = (record { exchanged = refl; bank = refl }, refl)
-run-leaves s i k payload answer.Ignored = (record { exchanged = refl; bank = refl }, refl)
-run-leaves s i k payload (answer.Closed w) = (record { exchanged = refl; bank = refl }, refl)
-run-leaves s i k payload (answer.Refused r) = (record { exchanged = refl; bank = refl }, refl)
-
-pub reached-leaves : (s : Course) (i : ℕ) (reply : List ℕ) (k : ClientCall) (payload : List ℕ) (a : Answer) →
-    Leaves s (reached a i reply (afterRun a i k payload s))
-reached-leaves s i reply k payload (answer.Request n) = record { exchanged = refl; bank = refl }
-reached-leaves s i reply k payload answer.Ignored = record { exchanged = refl; bank = refl }
-reached-leaves s i reply k payload (answer.Closed w) = record { exchanged = refl; bank = refl }
-reached-leaves s i reply k payload (answer.Refused r) = record { exchanged = refl; bank = refl }
-
 -- what is exchanged after a call: as before, or one frame more, which was allowed
 pub data Exchanges (k : Call) (s : Course) : List Exchange → Type 0 where
   nothing : Exchanges k s (s .exchanged)
   enters : {e : Exchange} → (isSubscribers (e .request) ≡ true → (i : ℕ) × IssuedBy i (e .request) s) → Exchanges k s (e ∷ s .exchanged)
 
+carried-exchanges : (k : Call) (s : Course) → Premise k s → Exchanges k s (carryOut k s .exchanged)
+carried-exchanges (frameArrives w time ids frame buffer) s q = enters (q .1)
+carried-exchanges (filePut b boxes m file) s q = nothing
+carried-exchanges (begins i c way subscriber first l) s q = nothing
+carried-exchanges (replyArrives i c reply l) s q = nothing
+carried-exchanges (noReply i c l) s q = nothing
+
 pub call-exchanges : (k : Call) (s : Course) → Allowed k s → Exchanges k s (exec k s .exchanged)
-unfolding exec
-call-exchanges (frameArrives w time ids frame buffer) s q = go (frameCall w time ids frame buffer .answer) q
-  where
-    go : (a : FrameAnswer) → Answered a ((w ≡ s .bank) × (isSubscribers frame ≡ true → (i : ℕ) × IssuedBy i frame s)) →
-        Exchanges (frameArrives w time ids frame buffer) s (afterFrame a (frameCall w time ids frame buffer)
-        (advanced time w) frame s .exchanged)
-    go (frameAnswer.Reply n) p = enters (p .1)
-    go frameAnswer.WrongLength p = nothing
-call-exchanges (filePut b boxes m file) s q = go (fileCall b m file boxes .answer)
-  where
-    go : (a : FileAnswer) → Exchanges (filePut b boxes m file) s (afterFile a (fileCall b m file boxes) m file s .exchanged)
-    go fileAnswer.Done = nothing
-    go fileAnswer.WrongLength = nothing
-    go fileAnswer.NoMailbox = nothing
-    go fileAnswer.WrongFile = nothing
-    go fileAnswer.MailboxFull = nothing
-call-exchanges (begins i c way subscriber first l) s q =
-    let k = beginCall c way subscriber first l in
-    subst (Exchanges (begins i c way subscriber first l) s) (sym (run-leaves s i k (l .payload) (k .answer) .0 .exchanged)) nothing
-call-exchanges (replyArrives i c reply l) s q =
-    let k = replyCall c reply l in
-    subst (Exchanges (replyArrives i c reply l) s) (sym (reached-leaves s i reply k (l .payload) (k .answer) .exchanged)) nothing
-call-exchanges (noReply i c l) s q =
-    let k = noReplyCall c l in
-    subst (Exchanges (noReply i c l) s) (sym (run-leaves s i k (l .payload) (k .answer) .0 .exchanged)) nothing
+call-exchanges k s q = by-number k s (λ (t : Course). Exchanges k s (t .exchanged)) nothing (λ z. carried-exchanges k s (q z))
 
 pub copied-call : (k : Call) (s : Course) → Copied s → Allowed k s → Copied (exec k s)
 copied-call k s c q e m z = go (call-exchanges k s q) m

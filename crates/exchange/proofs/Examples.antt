@@ -1,50 +1,45 @@
--- Computed examples of demand 3: lists that meet its premises, and what they come to.
-use Prim.Native.Nat.{ℕ, zero, suc}
+-- Computed examples of demand 3: lists that meet its premises, what they come to, and the theorem applied to them.
+use Prim.Native.Nat.{ℕ}
 use mathlib.Core.Bool.{true}
-use mathlib.Core.List.{List, [], _∷_, List·Memᴰ·head as here, List·Memᴰ·tail as there}
-use mathlib.Core.Logic.{_⊎_, inl, inr}
-use mathlib.Core.Path.{_≡_, refl}
+use mathlib.Core.List.{List, [], _∷_, _++_, List·Memᴰ·head as here, List·Memᴰ·tail as there}
+use mathlib.Core.Logic.{inl, inr}
+use mathlib.Core.Path.{_≡_, refl, sym, _∙_}
 use lib.ListN.{replicate}
+use Rattle.frame_table.specs.declared.table.Form.the-variants as forms
 use Rattle.frame_table.specs.Names.{returnCode}
 use Rattle.frame.specs.Reader.{readReply}
 use Rattle.message.specs.declared.codes.ReturnCode.the-variants as code
 use Rattle.message.specs.Codes.{codeField}
-use Rattle.message.specs.Limits.{fileBytes}
 use Rattle.bank_state.specs.declared.state.Use.the-variants as uses
 use Rattle.bank_state.specs.State.{placeAt}
 use Rattle.client.specs.declared.run.Direction.the-variants.{Upload, Download}
 use Rattle.client.specs.declared.run.Stage.the-variants as stage
-use Rattle.client.specs.declared.run.Word.the-variants.{Lodged, Unclear, Fetched}
-use Rattle.client.specs.Calls.{noReplyCall}
-use Rattle.client.specs.Run.{answerNumber}
-use Rattle.exchange.specs.Course.{Call, filePut, begins, Course, start, mailboxOf, heldOf, exec, after}
-use Rattle.exchange.specs.Terms.{Accepted, AllInTurn, Settled}
-use Rattle.exchange.specs.Demand3.{isSubscribers, AllAllowed, OneExchangeNumber, Demand3}
-use Rattle.exchange.proofs.ExampleCalls.{
-  distinct-nodup,
-  newestExchange,
-  lent,
+use Rattle.client.specs.declared.run.Word.{Word}
+use Rattle.client.specs.declared.run.Word.the-variants.{Lodged, NotLodged, Unclear, Fetched}
+use Rattle.client.specs.Run.{notBegun}
+use Rattle.exchange.specs.Course.{noReply, Exchange, Course, start, callNumber, mailboxOf, heldOf}
+use Rattle.exchange.specs.Terms.{Opened, Booked, Order, InBook, OrderOf, AllInTurn}
+use Rattle.exchange.specs.Demand3.{isSubscribers}
+use Rattle.exchange.proofs.Checked.{
+  Move,
   comes,
-  answers,
-  unanswered,
-  nothing,
-  asking,
-  asking-issued,
-  replying-issued,
-  allowed-comes,
-  allowed-no-reply,
-  isAlone,
-  alone,
-  turn-allowed,
-  TwoTurns,
-  order-asking,
-  order-replying,
-  order-allowed,
-  order-in-turn,
-  order-accepted,
-  order-settled,
+  stray,
+  puts,
+  begin,
+  reaches,
+  silent,
+  numbered,
+  lent,
+  callOf,
+  callsOf,
+  endOf,
+  isMet,
+  isInOrder,
+  Opening,
+  outcome,
+  Closed,
+  closed,
 }
-use Rattle.exchange.proofs.Theorem.{demand3}
 use Rattle.octets.specs.Bytes as frameBytes
 use Rattle.frame.specs.Reader as frameReader
 use Rattle.frame.specs.Row as frameRow
@@ -72,87 +67,122 @@ use Rattle.client.specs.Requests as clientRequests
 use Rattle.client.specs.Rulings as clientRulings
 use Rattle.exchange.specs.Course as course
 
--- ---- how run 0 begins, and a file put into the mailbox of its subscriber
+-- ---- the lists
 
-abbrev uploading : Course → Call
-uploading s = begins 0 (s .runs 0) Upload 1 7 (lent (65 ∷ []) [])
+-- an upload of one byte, up to its segment, and lodged
+abbrev segmentSent : List Move
+segmentSent = begin 0 Upload 1 7 (65 ∷ []) ∷ comes 0 1000 ∷ reaches 0 0 ∷ comes 0 1000 ∷ []
 
-abbrev downloading : Course → Call
-downloading s = begins 0 (s .runs 0) Download 1 7 (lent [] (replicate fileBytes 0))
+abbrev lodging : List Move
+lodging = segmentSent ++ (reaches 0 0 ∷ [])
 
-abbrev filling : Course → Call
-filling s = filePut (s .bank .bank) (s .bank .boxes) 1 (66 ∷ 67 ∷ [])
+-- its last segment comes twice
+abbrev repeating : List Move
+repeating = segmentSent ++ (comes 0 1000 ∷ [])
 
--- ---- an upload that is lodged, and one whose last segment is repeated
+-- its last reply is lost: unclear, and the order is booked
+abbrev losing : List Move
+losing = segmentSent ++ replicate 6 (silent 0)
 
-abbrev up1 : Course
-up1 = exec (uploading start) start
+-- a download of two bytes is fetched
+abbrev fetching : List Move
+fetching =
+    puts 1 (66 ∷ 67 ∷ []) ∷ begin 0 Download 1 7 [] ∷ comes 0 1000 ∷ reaches 0 0 ∷ comes 0 1000 ∷ reaches 0 0 ∷ []
 
-abbrev up2 : Course
-up2 = exec (comes up1) up1
+abbrev twoSegments : List ℕ
+twoSegments = replicate 257 68
 
-abbrev up3 : Course
-up3 = exec (answers up2) up2
+-- an upload of 257 bytes beside one of a second subscriber
+abbrev crossing : List Move
+crossing =
+    begin 0 Upload 1 7 twoSegments
+    ∷ comes 0 1000
+    ∷ begin 1 Upload 2 100 (66 ∷ [])
+    ∷ reaches 0 0
+    ∷ comes 1 1000
+    -- an unreadable frame
+    ∷ stray (1 ∷ 2 ∷ 3 ∷ []) 1000
+    -- the reply to run 1 reaches run 0
+    ∷ reaches 0 1
+    ∷ comes 0 1000
+    -- a call given number 8, lent a run not begun
+    ∷ numbered (noReply 0 notBegun (lent [] []))
+    ∷ reaches 1 2
+    -- a late copy of it is ignored
+    ∷ reaches 1 2
+    ∷ reaches 0 0
+    -- exactly 3,600 after the segment before
+    ∷ comes 0 4600
+    ∷ reaches 0 0
+    ∷ []
 
-abbrev up4 : Course
-up4 = exec (comes up3) up3
+-- a download of two segments, the second sent again
+abbrev again : List Move
+again =
+    puts 1 twoSegments
+    ∷ begin 0 Download 1 7 []
+    ∷ comes 0 1000
+    ∷ reaches 0 0
+    ∷ comes 0 1000
+    ∷ silent 0
+    ∷ comes 0 1000
+    ∷ reaches 0 0
+    ∷ comes 0 1000
+    ∷ reaches 0 0
+    ∷ []
 
-abbrev lodging : List Call
-lodging = uploading start ∷ comes up1 ∷ answers up2 ∷ comes up3 ∷ answers up4 ∷ []
+-- segment 1 comes seven times: it is taken, gets 061101 five times, then 091102, which reaches the run
+abbrev cancelled : List Move
+cancelled = (begin 0 Upload 1 7 twoSegments ∷ comes 0 1000 ∷ reaches 0 0 ∷ []) ++ replicate 7 (comes 0 1000) ++ (reaches 0 0 ∷ [])
 
-abbrev repeating : List Call
-repeating = uploading start ∷ comes up1 ∷ answers up2 ∷ comes up3 ∷ comes up4 ∷ []
+-- the opening is accepted, no reply comes, no segment is ever issued
+abbrev unsent : List Move
+unsent = (begin 0 Upload 1 7 (65 ∷ []) ∷ comes 0 1000 ∷ []) ++ replicate 6 (silent 0)
 
--- ---- an upload whose last reply is lost ends unclear, and its order is booked
+-- ---- what they compute to
 
-abbrev noReplies : ℕ → Course → List Call
-noReplies zero s = []
-noReplies (suc n) s = unanswered s ∷ noReplies n (exec (unanswered s) s)
+-- the return code of the newest reply
+abbrev codeNow : Course → ℕ
+codeNow s = at (s .exchanged)
+  where
+    at : List Exchange → ℕ
+    at [] = 0
+    at (e ∷ l) = returnCode (readReply (e .reply))
 
-abbrev losing : List Call
-losing = uploading start ∷ comes up1 ∷ answers up2 ∷ comes up3 ∷ noReplies 6 up4
+-- run 0 has closed with this word
+abbrev Ended : Word → Course → Type 0
+Ended w s = s .runs 0 .stage ≡ stage.Ended w
 
--- ---- a download is fetched
+-- the first place of the book
+abbrev InFirstPlace : Course → Type 0
+InFirstPlace s = placeAt (s .bank .bank) 0 .used ≡ uses.Booked
 
-abbrev down0 : Course
-down0 = exec (filling start) start
-
-abbrev down1 : Course
-down1 = exec (downloading down0) down0
-
-abbrev down2 : Course
-down2 = exec (comes down1) down1
-
-abbrev down3 : Course
-down3 = exec (answers down2) down2
-
-abbrev down4 : Course
-down4 = exec (comes down3) down3
-
-abbrev fetching : List Call
-fetching = filling start ∷ downloading down0 ∷ comes down1 ∷ answers down2 ∷ comes down3 ∷ answers down4 ∷ []
-
--- ---- what the lists compute to
+-- run 0 holds this file
+abbrev Holds : List ℕ → Course → Type 0
+Holds file s = heldOf (s .runs 0) (s .files 0) ≡ file
 
 record Computed : Type 0 where
-  start-alone : isAlone start ≡ true
-  -- 48 and 39: the lengths of the upload transfer of one byte and of the receipt
-  up1-turns : TwoTurns up1 48 Lodged
-  lodging-numbers : OneExchangeNumber (after lodging start)
-  lodging-ends : (after lodging start .runs 0 .stage ≡ stage.Ended Lodged) ×
-      (placeAt (after lodging start .bank .bank) 0 .used ≡ uses.Booked)
-  repeating-numbers : OneExchangeNumber (after repeating start)
-  repeating-ends : returnCode (readReply (newestExchange (after repeating start .exchanged) .reply)) ≡ codeField code.UnknownTransaction
-  no-reply-taken : answerNumber (noReplyCall (up4 .runs 0) (lent (up4 .payloads 0) (up4 .files 0)) .answer) ≡ 0
-  losing-numbers : OneExchangeNumber (after losing start)
-  losing-ends : (after losing start .runs 0 .stage ≡ stage.Ended Unclear) ×
-      (placeAt (after losing start .bank .bank) 0 .used ≡ uses.Booked)
-  down0-alone : isAlone down0 ≡ true
-  down1-turns : TwoTurns down1 39 Fetched
-  fetching-numbers : OneExchangeNumber (after fetching start)
-  fetching-ends : (after fetching start .runs 0 .stage ≡ stage.Ended Fetched) ×
-      (heldOf (after fetching start .runs 0) (after fetching start .files 0) ≡ 66 ∷ 67 ∷ []) ×
-      (mailboxOf (after fetching start .bank) 1 ≡ [])
+  lodging-met : isMet lodging start ≡ true
+  lodging-in-turn : isInOrder 0 lodging start ≡ true
+  lodging-ends : let s = endOf lodging start in Opening 0 s × InFirstPlace s
+  repeating-met : isMet repeating start ≡ true
+  repeating-ends : codeNow (endOf repeating start) ≡ codeField code.UnknownTransaction
+  losing-met : isMet losing start ≡ true
+  losing-ends : let s = endOf losing start in Ended Unclear s × InFirstPlace s
+  -- the fourth call was the last before the first "no reply"
+  no-reply-taken : callNumber (callOf (silent 0) (endOf segmentSent start)) ≡ 0
+  fetching-met : isMet fetching start ≡ true
+  fetching-in-turn : isInOrder 0 fetching start ≡ true
+  fetching-ends : let s = endOf fetching start in Opening 0 s × Holds (66 ∷ 67 ∷ []) s × (mailboxOf (s .bank) 1 ≡ [])
+  crossing-met : isMet crossing start ≡ true
+  crossing-in-turn : isInOrder 0 crossing start ≡ true
+  crossing-ends : let s = endOf crossing start in Opening 0 s × Ended Lodged s
+  again-met : isMet again start ≡ true
+  again-ends : let s = endOf again start in Ended Fetched s × Holds twoSegments s
+  cancelled-met : isMet cancelled start ≡ true
+  cancelled-ends : let s = endOf cancelled start in (codeNow s ≡ codeField code.TransactionAbort) × Ended NotLodged s
+  unsent-met : isMet unsent start ≡ true
+  unsent-ends : Ended NotLodged (endOf unsent start)
 
 computed : Computed
 unfolding frameBytes.numberFrom frameBytes.number frameBytes.bytesOf frameBytes.fieldBytes frameBytes.overwrite frameReader.fieldsOf
@@ -190,100 +220,62 @@ unfolding frameBytes.numberFrom frameBytes.number frameBytes.bytesOf frameBytes.
     clientNextRun.goOn clientNextRun.repeated clientNextRun.holding clientNextRun.fileWith clientNextRun.ended clientRequests.nonceOf
     clientRequests.outstanding clientRequests.outstandingData clientRulings.wrongLengths clientRulings.noSubscriber
     clientRulings.beginRuling clientRulings.rulingNotBegun clientRulings.rulingRunning clientRulings.rulingEnded course.start
-    course.mailboxOf course.heldOf course.emptied course.exec course.after OneExchangeNumber isSubscribers
+    course.mailboxOf course.heldOf course.emptied course.exec isSubscribers
 computed = record {
-  start-alone = refl;
-  up1-turns = record {
-    begun = asking refl nothing;
-    first = record { reply = refl; request-new = refl; hour = refl; reply-new = refl; answer = refl; alone = refl; alone-received = refl };
-    second = record { reply = refl; request-new = refl; hour = refl; reply-new = refl; answer = refl; alone = refl; alone-received = refl };
-    alone-closed = refl;
-    opening = (_, there (here refl), inl refl, refl);
-  };
-  lodging-numbers = distinct-nodup (8 ∷ 7 ∷ []) refl;
-  lodging-ends = (refl, refl);
-  repeating-numbers = distinct-nodup (8 ∷ 7 ∷ []) refl;
+  lodging-met = refl;
+  lodging-in-turn = refl;
+  lodging-ends = (record { exchange = _; given = there (here refl); own = refl; kind = inl refl; ok = refl }, refl);
+  repeating-met = refl;
   repeating-ends = refl;
-  no-reply-taken = refl;
-  losing-numbers = distinct-nodup (13 ∷ 12 ∷ 11 ∷ 10 ∷ 9 ∷ 8 ∷ 7 ∷ []) refl;
+  losing-met = refl;
   losing-ends = (refl, refl);
-  down0-alone = refl;
-  down1-turns = record {
-    begun = asking refl nothing;
-    first = record { reply = refl; request-new = refl; hour = refl; reply-new = refl; answer = refl; alone = refl; alone-received = refl };
-    second = record { reply = refl; request-new = refl; hour = refl; reply-new = refl; answer = refl; alone = refl; alone-received = refl };
-    alone-closed = refl;
-    opening = (_, there (here refl), inr refl, refl);
-  };
-  fetching-numbers = distinct-nodup (8 ∷ 7 ∷ []) refl;
-  fetching-ends = (refl, refl, refl);
+  no-reply-taken = refl;
+  fetching-met = refl;
+  fetching-in-turn = refl;
+  fetching-ends = (record { exchange = _; given = there (here refl); own = refl; kind = inr refl; ok = refl }, refl, refl);
+  crossing-met = refl;
+  crossing-in-turn = refl;
+  crossing-ends = (
+    record { exchange = _; given = there (there (there (there (here refl)))); own = refl; kind = inl refl; ok = refl },
+    refl,
+  );
+  again-met = refl;
+  again-ends = (refl, refl);
+  cancelled-met = refl;
+  cancelled-ends = (refl, refl);
+  unsent-met = refl;
+  unsent-ends = refl;
 }
 
--- ---- the lists meet the premises
+-- ---- the theorem applied
 
-lodging-allowed : AllAllowed lodging start
-lodging-allowed = (λ _. refl, order-allowed up1 (computed .up1-turns))
-
--- up to the arrival of the segment, repeating and losing are the same
-segment-allowed : (ks : List Call) → AllAllowed ks up4 → AllAllowed (uploading start ∷ comes up1 ∷ answers up2 ∷ comes up3 ∷ ks) start
-segment-allowed ks rest =
-    let o = computed .up1-turns in
-    (λ _. refl, turn-allowed up1 (o .begun) (o .first) (comes up3 ∷ ks) (allowed-comes up3 (asking-issued (order-asking up1 o)), rest))
-
-repeating-allowed : AllAllowed repeating start
-repeating-allowed =
-    segment-allowed (comes up4 ∷ []) (allowed-comes up4 (replying-issued (order-replying up1 (computed .up1-turns))), tt)
-
-no-replies-allowed : (n : ℕ) (s : Course) → AllAllowed (noReplies n s) s
-no-replies-allowed zero s = tt
-no-replies-allowed (suc n) s = (allowed-no-reply s, no-replies-allowed n (exec (unanswered s) s))
-
-losing-allowed : AllAllowed losing start
-losing-allowed = segment-allowed (noReplies 6 up4) (no-replies-allowed 6 up4)
-
-fetching-allowed : AllAllowed fetching start
-fetching-allowed = (λ _. (refl, refl), (λ _. refl, order-allowed down1 (computed .down1-turns)))
-
--- ---- an order in turn: lodging and fetching meet the premises of the clause, losing does not
-
--- "has closed as lodged or fetched"
-abbrev Closed : List Call → Type 0
-Closed ks = (after ks start .runs 0 .stage ≡ stage.Ended Lodged) ⊎ (after ks start .runs 0 .stage ≡ stage.Ended Fetched)
-
-lodging-in-turn : AllInTurn 0 lodging start
-lodging-in-turn = (alone start (computed .start-alone), tt, order-in-turn up1 (computed .up1-turns))
-
-lodging-accepted : Accepted 0 (after lodging start)
-unfolding after
-lodging-accepted = order-accepted up1 (computed .up1-turns)
-
-lodging-settled : Settled (after lodging start) 0
-unfolding after
-lodging-settled = order-settled up1 (computed .up1-turns)
-
-lodging-closed : Closed lodging
-unfolding Demand3
-lodging-closed = demand3 lodging [] lodging-allowed (computed .lodging-numbers) .1 0 lodging-in-turn lodging-accepted lodging-settled
-
-fetching-in-turn : AllInTurn 0 fetching start
-fetching-in-turn = (
-  alone start (computed .start-alone),
-  tt,
-  (alone down0 (computed .down0-alone), tt, order-in-turn down1 (computed .down1-turns)),
-)
-
-fetching-accepted : Accepted 0 (after fetching start)
-unfolding after
-fetching-accepted = order-accepted down1 (computed .down1-turns)
-
-fetching-settled : Settled (after fetching start) 0
-unfolding after
-fetching-settled = order-settled down1 (computed .down1-turns)
-
-fetching-closed : Closed fetching
-unfolding Demand3
-fetching-closed = demand3 fetching [] fetching-allowed (computed .fetching-numbers) .1 0 fetching-in-turn fetching-accepted fetching-settled
+lodging-closed : Closed 0 (endOf lodging start)
+lodging-closed = closed lodging (computed .lodging-met) (computed .lodging-in-turn) (computed .lodging-ends .0)
 
 -- a call of "no reply" that is given no number is not in turn
-losing-not-in-turn : AllInTurn 0 losing start → ⊥
+losing-not-in-turn : AllInTurn 0 (callsOf losing start) start → ⊥
 losing-not-in-turn h = h .2 .2 .2 .2 .1 (computed .no-reply-taken) refl
+
+fetching-closed : Closed 0 (endOf fetching start)
+fetching-closed = closed fetching (computed .fetching-met) (computed .fetching-in-turn) (computed .fetching-ends .0)
+
+crossing-closed : Closed 0 (endOf crossing start)
+crossing-closed = closed crossing (computed .crossing-met) (computed .crossing-in-turn) (computed .crossing-ends .0)
+
+-- and its order is in the book, with its bytes, under the number that the run names
+crossing-booked : (j : ℕ) × (o : Order) × InBook (endOf crossing start) j o × OrderOf (endOf crossing start) 0 o
+crossing-booked =
+    let o = outcome crossing (computed .crossing-met) .lodged 0 (computed .crossing-ends .1) .1 in
+    (o .0, o .1, o .2, o .3)
+
+-- the whole file is the mailbox's at the opening, of which the run holds every byte
+again-fetched : (e : Exchange) × Opened forms.DownloadOpened (endOf again start) 0 e × (twoSegments ≡ e .box)
+again-fetched =
+    let o = outcome again (computed .again-met) .fetched 0 (computed .again-ends .0) in
+    (o .0, o .1, sym (computed .again-ends .1) ∙ o .3)
+
+cancelled-unbooked : Booked (endOf cancelled start) 0 → ⊥
+cancelled-unbooked = outcome cancelled (computed .cancelled-met) .notLodged 0 (computed .cancelled-ends .1)
+
+unsent-unbooked : Booked (endOf unsent start) 0 → ⊥
+unsent-unbooked = outcome unsent (computed .unsent-met) .notLodged 0 (computed .unsent-ends)

@@ -4,13 +4,6 @@ use mathlib.Core.List.{List, [], _∷_, map, List·Memᴰ as In, List·Memᴰ·h
 use mathlib.Core.Path.{_≡_, sym, ap, _∙_, subst}
 use Rattle.frame_table.specs.Names.{exchange}
 use Rattle.frame.specs.Reader.{readRequest}
-use Rattle.bank_state.specs.Clock.{advanced}
-use Rattle.bank.specs.declared.call.FrameAnswer.{FrameAnswer}
-use Rattle.bank.specs.declared.call.FrameAnswer.the-variants as frameAnswer
-use Rattle.bank.specs.declared.mailbox.FileAnswer.{FileAnswer}
-use Rattle.bank.specs.declared.mailbox.FileAnswer.the-variants as fileAnswer
-use Rattle.bank.specs.Call.{frameCall}
-use Rattle.bank.specs.Mailbox.{fileCall}
 use Rattle.client.specs.declared.run.Answer.{Answer}
 use Rattle.client.specs.declared.run.Answer.the-variants as answer
 use Rattle.client.specs.Calls.{beginCall, replyCall, noReplyCall}
@@ -24,16 +17,15 @@ use Rattle.exchange.specs.Course.{
   noReply,
   Issue,
   Course,
-  afterFrame,
-  afterFile,
-  afterRun,
-  reached,
+  issuedBy,
+  carryOut,
   exec,
   after,
 }
 use Rattle.exchange.specs.Terms.{IssuedBy}
 use Rattle.exchange.specs.Demand3.{OneExchangeNumber}
 use Rattle.exchange.specs.Lists.{NoDup, more}
+use Rattle.exchange.proofs.Calls.{by-number}
 
 -- ---- what grows
 
@@ -46,39 +38,21 @@ pub in-more : {x : Issue} {l m : List Issue} → Issues l m → In x l → In x 
 in-more same k = k
 in-more one k = there k
 
-pub run-issues : (s : Course) (i : ℕ) (k : ClientCall) (payload : List ℕ) (a : Answer) →
-    Issues (s .issued) (afterRun a i k payload s .issued)
-run-issues s i k payload (answer.Request n) = one
-run-issues s i k payload answer.Ignored = same
-run-issues s i k payload (answer.Closed w) = same
-run-issues s i k payload (answer.Refused r) = same
+pub run-issues : (s : Course) (i : ℕ) (k : ClientCall) (a : Answer) → Issues (s .issued) (issuedBy a i k s)
+run-issues s i k (answer.Request n) = one
+run-issues s i k answer.Ignored = same
+run-issues s i k (answer.Closed w) = same
+run-issues s i k (answer.Refused r) = same
 
-reached-issues : (s : Course) (i : ℕ) (reply : List ℕ) (k : ClientCall) (payload : List ℕ) (a : Answer) →
-    Issues (s .issued) (reached a i reply (afterRun a i k payload s) .issued)
-reached-issues s i reply k payload (answer.Request n) = one
-reached-issues s i reply k payload answer.Ignored = same
-reached-issues s i reply k payload (answer.Closed w) = same
-reached-issues s i reply k payload (answer.Refused r) = same
+carried-issues : (k : Call) (s : Course) → Issues (s .issued) (carryOut k s .issued)
+carried-issues (frameArrives w time ids frame buffer) s = same
+carried-issues (filePut b boxes m file) s = same
+carried-issues (begins i c way subscriber first l) s = let k = beginCall c way subscriber first l in run-issues s i k (k .answer)
+carried-issues (replyArrives i c reply l) s = let k = replyCall c reply l in run-issues s i k (k .answer)
+carried-issues (noReply i c l) s = let k = noReplyCall c l in run-issues s i k (k .answer)
 
 pub call-issues : (k : Call) (s : Course) → Issues (s .issued) (exec k s .issued)
-unfolding exec
-call-issues (frameArrives w time ids frame buffer) s = go (frameCall w time ids frame buffer .answer)
-  where
-    go : (a : FrameAnswer) → Issues (s .issued) (afterFrame a (frameCall w time ids frame buffer) (advanced time w) frame s .issued)
-    go (frameAnswer.Reply n) = same
-    go frameAnswer.WrongLength = same
-call-issues (filePut b boxes m file) s = go (fileCall b m file boxes .answer)
-  where
-    go : (a : FileAnswer) → Issues (s .issued) (afterFile a (fileCall b m file boxes) m file s .issued)
-    go fileAnswer.Done = same
-    go fileAnswer.WrongLength = same
-    go fileAnswer.NoMailbox = same
-    go fileAnswer.WrongFile = same
-    go fileAnswer.MailboxFull = same
-call-issues (begins i c way subscriber first l) s =
-    let k = beginCall c way subscriber first l in run-issues s i k (l .payload) (k .answer)
-call-issues (replyArrives i c reply l) s = let k = replyCall c reply l in reached-issues s i reply k (l .payload) (k .answer)
-call-issues (noReply i c l) s = let k = noReplyCall c l in run-issues s i k (l .payload) (k .answer)
+call-issues k s = by-number k s (λ (t : Course). Issues (s .issued) (t .issued)) same (λ _. carried-issues k s)
 
 pub issued-more : (k : Call) (s : Course) {i : ℕ} {frame : List ℕ} → IssuedBy i frame s → IssuedBy i frame (exec k s)
 issued-more k s (x, m, r, f) = (x, in-more (call-issues k s) m, r, f)

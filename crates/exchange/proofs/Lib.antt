@@ -2,6 +2,8 @@
 pub mod Bytes
 pub mod Events
 pub mod Told
+pub mod Calls
+pub mod Guards
 pub mod Bank
 pub mod Clients
 pub mod Issues
@@ -22,5 +24,5 @@ pub mod OwnRequests
 pub mod OwnReplies
 pub mod Turn
 pub mod Theorem
-pub mod ExampleCalls
+pub mod Checked
 pub mod Examples

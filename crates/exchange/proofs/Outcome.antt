@@ -10,6 +10,7 @@ use lib.ListN.{length, take}
 use lib.Seq.{take-at}
 use Rattle.frame_table.specs.declared.fields.Bits128.{Bits128}
 use Rattle.frame_table.specs.declared.fields.Fields.{Fields}
+use Rattle.frame_table.specs.declared.table.Form.{Form}
 use Rattle.frame_table.specs.declared.table.Form.the-variants as forms
 use Rattle.frame_table.specs.Names.{subscriber, exchange, transaction, segments, segment, returnCode, orderNumber, form}
 use Rattle.frame.specs.Reader.{readRequest, readReply}
@@ -54,6 +55,7 @@ use Rattle.client_history.specs.Invariant.{
   asks,
   confirms,
   ReceiptIssued,
+  Got,
   Invariant,
   Cancelled,
   not-begun,
@@ -71,7 +73,7 @@ use Rattle.client_history.proofs.Requests.{
 }
 use Rattle.client_history.proofs.Theorems.{lodged, not-lodged, last-not-sent, fetched, fetched-file, receipt-issued, one-subscriber}
 use Rattle.exchange.specs.Course.{Issue, Exchange, Course, heldOf}
-use Rattle.exchange.specs.Terms.{IssuedBy, Books, Booked, Order, InBook, OrderOf}
+use Rattle.exchange.specs.Terms.{IssuedBy, Opened, Books, Booked, Order, InBook, OrderOf}
 use Rattle.exchange.specs.Demand3.{OneExchangeNumber, Outcome}
 use Rattle.exchange.specs.Lists.{AtMostOne}
 use Rattle.exchange.proofs.Told.{
@@ -86,7 +88,7 @@ use Rattle.exchange.proofs.Told.{
   bank-replies,
 }
 use Rattle.exchange.proofs.Bank.{Entry, Entries, found, listed}
-use Rattle.exchange.proofs.Clients.{asIssue, issuesOf, runPast, issued-in, issue-of, opened-upload, opened-download, Parts}
+use Rattle.exchange.proofs.Clients.{asIssue, issuesOf, runPast, issued-in, issue-of, opened-upload, Parts}
 use Rattle.exchange.proofs.Issues.{one-issue}
 use Rattle.exchange.proofs.Courses.{Copied}
 use Rattle.exchange.proofs.Joint.{
@@ -147,110 +149,7 @@ module _ (s : Course) (v : Parts s) (copies : Copied s) (numbers : OneExchangeNu
   pub inv : whole.Invariant (s .bank) (v .bank .past .history)
   inv = subst (λ (w : World). whole.Invariant w (v .bank .past .history)) (v .bank .world) (v .bank .holds .invariant)
 
-  -- ---- the book
-
-  -- the place of a run's booked upload holds its order
-  order-of : {i j : ℕ} {t : Bits128} → Uploads s v copies numbers i t → standing.Order (s .bank) (v .bank .past .history) t j →
-      (o : Order) → InBook s j o → OrderOf s i o
-  order-of {i} {j} {t} u r o b =
-      let a = u .opened .got .given in
-      let l = listed (v .bank .entries) (a .stands) in
-      let p = placeAt (s .bank .bank) j in
-      let f = upload-opened sound (a .stands) (ap form (a .reply) ∙ u .opened .got .answered) in
-      let id : transaction (a .exchange .reply) ≡ s .runs i .transaction = ap transaction (a .reply) ∙ u .opened .id in
-      record {
-        subscriber = ap (λ (x : Order). x .subscriber) (b .is) ∙ r .owner ∙ upload-owner s v copies numbers u;
-        bytes = ap (λ (x : Order). x .bytes) (b .is) ∙ ap (take (p .length)) (r .held)
-            ∙ take-at (received t h) _ (p .length) (sym (r .long)) ∙ taken-payload s v copies numbers u
-            ∙ ap (λ (n : ℕ). take n (s .payloads i)) (ap (λ (n : ℕ). n * segmentBytes) (r .whole ∙ upload-size s v copies numbers u)
-            ∙ mul-comm _ segmentBytes)
-            ∙ all-held (s .payloads i) (segmentsOf (length (s .payloads i))) refl;
-        opening = l .0;
-        given = l .1;
-        opened = ap form (l .2 .reply ∙ a .reply) ∙ u .opened .got .answered;
-        own = ap transaction (l .2 .reply) ∙ id;
-        number = ap orderNumber (l .2 .reply) ∙ f .2
-            ∙ ap orderNumberOf (ap (λ (x : Bits128). x .low) (id ∙ u .own) ∙ sym (r .number))
-            ∙ ap (λ (x : Order). x .number) (sym (b .is));
-      }
-
-  pub book-sound : (j : ℕ) (o : Order) → InBook s j o → (i : ℕ) × Booked s i × OrderOf s i o
-  book-sound j o b =
-      let r = booked-order inv j (b .place) (b .booked) in
-      let k = ever-booked s v copies numbers (r .last) in
-      (k .0, k .2, order-of (k .1) r o b)
-
-  pub book-whole : (i : ℕ) → Booked s i → (j : ℕ) × (o : Order) × InBook s j o × OrderOf s i o
-  book-whole i b =
-      let k = booked-ever s v copies numbers b in
-      let r = in-book inv (s .runs i .transaction) (k .1) in
-      let p = placeAt (s .bank .bank) (r .0) in
-      let o : Order = record {
-        subscriber = p .subscriber;
-        number = orderNumberOf (p .number);
-        bytes =
-            take (p .length) (partAt (s .bank .orders) (r .0));
-      } in
-      let n : InBook s (r .0) o = record { place = r .1 .inside; booked = r .1 .used; is = refl } in
-      (r .0, o, n, order-of (k .0) (r .1) o n)
-
-  place-number : {j : ℕ} {o : Order} → InBook s j o → placeAt (s .bank .bank) j .number < openingsMost
-  place-number {j} b =
-      let r = booked-order inv j (b .place) (b .booked) in
-      let k = inv .known (placeAt (s .bank .bank) j .transaction) (ever-action isBooking _ h (r .last)) in
-      omega (arith, r .number, inv .numbers)
-
-  pub book-single : (j j′ : ℕ) (o o′ : Order) → InBook s j o → InBook s j′ o′ → o .number ≡ o′ .number → j ≡ j′
-  book-single j j′ o o′ a b e =
-      inv .placesApart j j′ (a .place) (b .place) (ap isFree (a .booked)) (ap isFree (b .booked))
-      (one-order-number _ _ (place-number a) (place-number b)
-      (ap (λ (x : Order). x .number) (sym (a .is)) ∙ e ∙ ap (λ (x : Order). x .number) (b .is)))
-
-  -- the number of an order is that of its transaction
-  number-of : {i : ℕ} {o : Order} → OrderOf s i o → o .number ≡ orderNumberOf (s .runs i .transaction .low)
-  number-of d =
-      let f = found (v .bank .entries) (d .given) in
-      let u = upload-opened sound (f .stands) (ap form (sym (f .same .reply)) ∙ d .opened) in
-      sym (d .number) ∙ ap orderNumber (f .same .reply) ∙ u .2
-      ∙ ap (λ (x : Bits128). orderNumberOf (x .low)) (ap transaction (sym (f .same .reply)) ∙ d .own)
-
-  booked-low : {i : ℕ} → Booked s i → s .runs i .transaction .low < openingsMost
-  booked-low {i} b =
-      let k = inv .known (s .runs i .transaction) (ever-action isBooking _ h (booked-ever s v copies numbers b .1)) in
-      omega (arith, inv .numbers)
-
-  pub book-apart : (i i′ : ℕ) (o : Order) → Booked s i → Booked s i′ → OrderOf s i o → OrderOf s i′ o → i ≡ i′
-  book-apart i i′ o a b c d =
-      one-opener s v copies numbers (opened-upload sound (booked-ever s v copies numbers a .0 .opened))
-      (opened-upload sound (booked-ever s v copies numbers b .0 .opened))
-      (one-order-number _ _ (booked-low a) (booked-low b) (sym (number-of c) ∙ number-of d))
-
-  -- "each upload is booked at most once"
-  pub booked-once : (i : ℕ) → AtMostOne (Books s i) (s .exchanged)
-  booked-once i = at (v .bank .entries) (λ f k p. p)
-    where
-      t : Bits128
-      t = s .runs i .transaction
-
-      at : {l : List Exchange} {g : List bank.Exchange} → Entries l g →
-          ((f : bank.Exchange) (k : List bank.Exchange) → Stands f k g → Stands f k (v .bank .past .history)) → AtMostOne (Books s i) l
-      at Entries.none up = AtMostOne.none
-      at (Entries.more {e = e} {f = f} {l = l} {h = g} same r) up =
-          by (did isBooking t (f .event)) refl (at r (λ x k p. up x k (older p)))
-        where
-          by : (b : Bool) → did isBooking t (f .event) ≡ b → AtMostOne (Books s i) l → AtMostOne (Books s i) (e ∷ l)
-          by true z rest = AtMostOne.only (λ y m k.
-              let x = found r m in
-              ⊥-of (did-action isBooking t f z) (stands-ever isBooking t (x .stands)
-              (books-booking s v copies numbers (up _ _ (older (x .stands))) (x .same) k)))
-            where
-              ⊥-of : ActionIn isBooking t f → ever isBooking t g ≡ true → ⊥
-              ⊥-of d k = never (sym (action-sound sound (up _ _ newest)
-                  (d .is ∙ ap (Of t) (booking-last (d .action) (d .kind))) .taking .upload .request .unbooked) ∙ k)
-          by false z rest = AtMostOne.skip (λ k.
-              let d = books-booking s v copies numbers (up _ _ newest) same k in never (sym z ∙ did-of isBooking t f d)) rest
-
-  -- ---- the closing words
+  -- ---- a run's requests
 
   -- a request of a run, and the copy of it that was given a reply
   pub record Copy (i : ℕ) (f : bank.Exchange) : Type 0 where
@@ -297,6 +196,133 @@ module _ (s : Course) (v : Parts s) (copies : Copied s) (numbers : OneExchangeNu
 
   replies : BankReplies (Gave (v .bank .past .history)) (fileIn (v .bank .past .history))
   replies = bank-replies h sound (v .bank .proper)
+
+  -- each request of a run is under its subscriber's number
+  own-subscriber : (x : Issue) → In x (s .issued) → s .runs (x .run) .subscriber ≡ subscriber (readRequest (x .frame))
+  own-subscriber x m =
+      let i = x .run in
+      sym (one-subscriber (Gave h) (fileIn h) replies (runPast s i) (v .runs i) (asIssue x) (issued-in i m refl))
+
+  -- the reply that opened the run's transaction was given to a copy of the run's own request
+  opened-by : {i : ℕ} {x y : Form} (g : Got (Gave (v .bank .past .history)) (issuesOf i (s .issued)) x y code.Ok) →
+      transaction (g .reply) ≡ s .runs i .transaction → Opened y s i (copied-reply (g .own) (g .given) .exchange)
+  opened-by g id =
+      let c = copied-reply (g .own) (g .given) in
+      let r : readReply (c .exchange .reply) ≡ g .reply = c .same .reply ∙ g .given .reply in
+      record {
+        received = (c .given, c .copy);
+        answered = ap form r ∙ g .answered;
+        ok = ap returnCode r ∙ g .code;
+        own = ap transaction r ∙ id;
+      }
+
+  -- ---- the book
+
+  -- the place of a run's booked upload holds its order
+  order-of : {i j : ℕ} {t : Bits128} → Uploads s v copies numbers i t → standing.Order (s .bank) (v .bank .past .history) t j →
+      (o : Order) → InBook s j o → OrderOf s i o
+  order-of {i} {j} {t} u r o b =
+      let a = u .opened .got .given in
+      let c = copied-reply (u .opened .got .own) a in
+      let p = placeAt (s .bank .bank) j in
+      let f = upload-opened sound (a .stands) (ap form (a .reply) ∙ u .opened .got .answered) in
+      let id : transaction (a .exchange .reply) ≡ s .runs i .transaction = ap transaction (a .reply) ∙ u .opened .id in
+      record {
+        subscriber = ap (λ (x : Order). x .subscriber) (b .is) ∙ r .owner ∙ upload-owner s v copies numbers u;
+        bytes = ap (λ (x : Order). x .bytes) (b .is) ∙ ap (take (p .length)) (r .held)
+            ∙ take-at (received t h) _ (p .length) (sym (r .long)) ∙ taken-payload s v copies numbers u
+            ∙ ap (λ (n : ℕ). take n (s .payloads i)) (ap (λ (n : ℕ). n * segmentBytes) (r .whole ∙ upload-size s v copies numbers u)
+            ∙ mul-comm _ segmentBytes)
+            ∙ all-held (s .payloads i) (segmentsOf (length (s .payloads i))) refl;
+        exchange = c .exchange;
+        opened = opened-by (u .opened .got) (u .opened .id);
+        number = ap orderNumber (c .same .reply) ∙ f .2
+            ∙ ap orderNumberOf (ap (λ (x : Bits128). x .low) (id ∙ u .own) ∙ sym (r .number))
+            ∙ ap (λ (x : Order). x .number) (sym (b .is));
+      }
+
+  pub book-sound : (j : ℕ) (o : Order) → InBook s j o → (i : ℕ) × Booked s i × OrderOf s i o
+  book-sound j o b =
+      let r = booked-order inv j (b .place) (b .booked) in
+      let k = ever-booked s v copies numbers (r .last) in
+      (k .0, k .2, order-of (k .1) r o b)
+
+  pub book-whole : (i : ℕ) → Booked s i → (j : ℕ) × (o : Order) × InBook s j o × OrderOf s i o
+  book-whole i b =
+      let k = booked-ever s v copies numbers b in
+      let r = in-book inv (s .runs i .transaction) (k .1) in
+      let p = placeAt (s .bank .bank) (r .0) in
+      let o : Order = record {
+        subscriber = p .subscriber;
+        number = orderNumberOf (p .number);
+        bytes =
+            take (p .length) (partAt (s .bank .orders) (r .0));
+      } in
+      let n : InBook s (r .0) o = record { place = r .1 .inside; booked = r .1 .used; is = refl } in
+      (r .0, o, n, order-of (k .0) (r .1) o n)
+
+  place-number : {j : ℕ} {o : Order} → InBook s j o → placeAt (s .bank .bank) j .number < openingsMost
+  place-number {j} b =
+      let r = booked-order inv j (b .place) (b .booked) in
+      let k = inv .known (placeAt (s .bank .bank) j .transaction) (ever-action isBooking _ h (r .last)) in
+      omega (arith, r .number, inv .numbers)
+
+  pub book-single : (j j′ : ℕ) (o o′ : Order) → InBook s j o → InBook s j′ o′ → o .number ≡ o′ .number → j ≡ j′
+  book-single j j′ o o′ a b e =
+      inv .placesApart j j′ (a .place) (b .place) (ap isFree (a .booked)) (ap isFree (b .booked))
+      (one-order-number _ _ (place-number a) (place-number b)
+      (ap (λ (x : Order). x .number) (sym (a .is)) ∙ e ∙ ap (λ (x : Order). x .number) (b .is)))
+
+  -- the number of an order is that of its transaction
+  number-of : {i : ℕ} {o : Order} → OrderOf s i o → o .number ≡ orderNumberOf (s .runs i .transaction .low)
+  number-of d =
+      let o = d .opened in
+      let f = found (v .bank .entries) (o .received .0) in
+      let u = upload-opened sound (f .stands) (ap form (sym (f .same .reply)) ∙ o .answered) in
+      sym (d .number) ∙ ap orderNumber (f .same .reply) ∙ u .2
+      ∙ ap (λ (x : Bits128). orderNumberOf (x .low)) (ap transaction (sym (f .same .reply)) ∙ o .own)
+
+  -- one upload explains one place of the book
+  pub book-place : (i j j′ : ℕ) (o o′ : Order) → InBook s j o → InBook s j′ o′ → OrderOf s i o → OrderOf s i o′ → j ≡ j′
+  book-place i j j′ o o′ a b c d = book-single j j′ o o′ a b (number-of c ∙ sym (number-of d))
+
+  booked-low : {i : ℕ} → Booked s i → s .runs i .transaction .low < openingsMost
+  booked-low {i} b =
+      let k = inv .known (s .runs i .transaction) (ever-action isBooking _ h (booked-ever s v copies numbers b .1)) in
+      omega (arith, inv .numbers)
+
+  pub book-apart : (i i′ : ℕ) (o : Order) → Booked s i → Booked s i′ → OrderOf s i o → OrderOf s i′ o → i ≡ i′
+  book-apart i i′ o a b c d =
+      one-opener s v copies numbers (opened-upload sound (booked-ever s v copies numbers a .0 .opened))
+      (opened-upload sound (booked-ever s v copies numbers b .0 .opened))
+      (one-order-number _ _ (booked-low a) (booked-low b) (sym (number-of c) ∙ number-of d))
+
+  -- "each upload is booked at most once"
+  pub booked-once : (i : ℕ) → AtMostOne (Books s i) (s .exchanged)
+  booked-once i = at (v .bank .entries) (λ f k p. p)
+    where
+      t : Bits128
+      t = s .runs i .transaction
+
+      at : {l : List Exchange} {g : List bank.Exchange} → Entries l g →
+          ((f : bank.Exchange) (k : List bank.Exchange) → Stands f k g → Stands f k (v .bank .past .history)) → AtMostOne (Books s i) l
+      at Entries.none up = AtMostOne.none
+      at (Entries.more {e = e} {f = f} {l = l} {h = g} same r) up =
+          by (did isBooking t (f .event)) refl (at r (λ x k p. up x k (older p)))
+        where
+          by : (b : Bool) → did isBooking t (f .event) ≡ b → AtMostOne (Books s i) l → AtMostOne (Books s i) (e ∷ l)
+          by true z rest = AtMostOne.only (λ y m k.
+              let x = found r m in
+              ⊥-of (did-action isBooking t f z) (stands-ever isBooking t (x .stands)
+              (books-booking s v copies numbers (up _ _ (older (x .stands))) (x .same) k)))
+            where
+              ⊥-of : ActionIn isBooking t f → ever isBooking t g ≡ true → ⊥
+              ⊥-of d k = never (sym (action-sound sound (up _ _ newest)
+                  (d .is ∙ ap (Of t) (booking-last (d .action) (d .kind))) .taking .upload .request .unbooked) ∙ k)
+          by false z rest = AtMostOne.skip (λ k.
+              let d = books-booking s v copies numbers (up _ _ newest) same k in never (sym z ∙ did-of isBooking t f d)) rest
+
+  -- ---- the closing words
 
   -- "'lodged' names its booked order"
   pub lodged-booked : (i : ℕ) → s .runs i .stage ≡ stage.Ended Lodged →
@@ -364,22 +390,18 @@ module _ (s : Course) (v : Parts s) (copies : Copied s) (numbers : OneExchangeNu
           (booked-ever s v copies numbers b .1)
 
   -- "a fetched file is the mailbox's file at its transaction's opening"
-  pub fetched-box : (i : ℕ) → s .runs i .stage ≡ stage.Ended Fetched → (e : Exchange) × In e (s .exchanged)
-      × (form (readReply (e .reply)) ≡ forms.DownloadOpened) × (transaction (readReply (e .reply)) ≡ s .runs i .transaction)
+  pub fetched-box : (i : ℕ) → s .runs i .stage ≡ stage.Ended Fetched → (e : Exchange) × Opened forms.DownloadOpened s i e
       × (subscriber (readRequest (e .request)) ≡ s .runs i .subscriber) × (heldOf (s .runs i) (s .files i) ≡ e .box)
   unfolding heldOf
   fetched-box i z =
       let k = fetched (Gave h) (fileIn h) replies (runPast s i) (v .runs i) z .1 .held in
-      let o = opened-download sound k in
       let a = k .got .given in
-      let l = listed (v .bank .entries) (a .stands) in
+      let c = copied-reply (k .got .own) a in
       let d = download-opened sound (a .stands) (ap form (a .reply) ∙ k .got .answered) in
       let id : transaction (a .exchange .reply) ≡ s .runs i .transaction = ap transaction (a .reply) ∙ k .id in (
-        l .0,
-        l .1,
-        ap form (l .2 .reply ∙ a .reply) ∙ k .got .answered,
-        ap transaction (l .2 .reply) ∙ id,
-        ap subscriber (l .2 .request ∙ a .request)
+        c .exchange,
+        opened-by (k .got) (k .id),
+        ap subscriber (c .same .request ∙ a .request)
             ∙ one-subscriber (Gave h) (fileIn h) replies (runPast s i) (v .runs i) (k .got .issue) (k .got .own),
         fetched-file (Gave h) (fileIn h) replies (runPast s i) (v .runs i) z
             ∙ opening-at (λ (x : bank.Exchange). x .file) [] sound (a .stands)
@@ -389,7 +411,7 @@ module _ (s : Course) (v : Parts s) (copies : Copied s) (numbers : OneExchangeNu
                   (bank.OpenedDownload (segments (a .exchange .reply)))) id;
               opening = refl;
             })
-            ∙ sym (l .2 .box),
+            ∙ sym (c .same .box),
       )
 
   -- ---- mailboxes
@@ -430,10 +452,13 @@ module _ (s : Course) (v : Parts s) (copies : Copied s) (numbers : OneExchangeNu
     sound = book-sound;
     whole = book-whole;
     single = book-single;
+    place = book-place;
     apart = book-apart;
     lodged = lodged-booked;
     notLodged = not-lodged-unbooked;
     fetched = fetched-box;
     mailbox = v .bank .mailboxes;
-    emptied = held;
+    emptied = λ e m z.
+        let (asked, (x, n, same, whole, still)) = held e m z in
+        (asked, (x, n, same, own-subscriber x n ∙ ap (λ (l : List ℕ). subscriber (readRequest l)) same, whole, still));
   }

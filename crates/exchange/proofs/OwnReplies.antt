@@ -19,8 +19,6 @@ use Rattle.message.specs.Limits.{fileBytes}
 use Rattle.message.specs.Segments.{segmentsOf, segmentOf, lastMarkOf}
 use Rattle.bank_state.specs.State.{World}
 use Rattle.bank_history.specs.History as bank
-use Rattle.client.specs.declared.run.Answer.{Answer}
-use Rattle.client.specs.declared.run.Answer.the-variants as answer
 use Rattle.client.specs.declared.run.Client.{Client}
 use Rattle.client.specs.declared.run.Direction.{Direction}
 use Rattle.client.specs.declared.run.Direction.the-variants.{Upload, Download}
@@ -32,7 +30,7 @@ use Rattle.client.specs.declared.run.Word.the-variants.{Lodged, Fetched}
 use Rattle.client.specs.Calls.{beginCall, replyCall}
 use Rattle.client.specs.NextRun.{stepBehind}
 use Rattle.client.specs.Rulings.{isBegun}
-use Rattle.client.specs.Run.{Lent, ClientCall, answerNumber}
+use Rattle.client.specs.Run.{Lent, answerNumber}
 use Rattle.client.proofs.Replies.{is-answer}
 use Rattle.client_history.specs.History.{Begin, Reply, Past, issueOf, GivenTo}
 use Rattle.client_history.specs.History as history
@@ -43,13 +41,14 @@ use Rattle.client_history.proofs.Fitting.{download-fits, segment-fits, download
 use Rattle.client_history.proofs.Requests.{outstanding-exchange}
 use Rattle.client_history.proofs.Theorems.{newest-outstanding, steady, upload-run, file-held, begin-fresh}
 use Rattle.client_history.proofs.Liveness as clientTurn
-use Rattle.exchange.specs.Course.{Call, begins, replyArrives, Issue, Exchange, Arrival, Course, afterRun, reached, exec}
+use Rattle.exchange.specs.Course.{Call, begins, replyArrives, Issue, Exchange, Arrival, Course, callNumber, exec}
 use Rattle.exchange.specs.Terms.{IssuedBy, Received}
 use Rattle.exchange.specs.Demand3.{Left, Allowed, OneExchangeNumber}
 use Rattle.exchange.proofs.Told.{Gave, fileIn, bank-replies}
+use Rattle.exchange.proofs.Calls.{carried}
 use Rattle.exchange.proofs.Clients.{asIssue, issuesOf, runPast, Parts}
 use Rattle.exchange.proofs.Issues.{Issues, same, one, in-more, call-issues, issued-more, numberOf, one-issue}
-use Rattle.exchange.proofs.Courses.{Copied, call-keeps, Leaves, run-leaves}
+use Rattle.exchange.proofs.Courses.{Copied, call-keeps}
 use Rattle.exchange.proofs.Received.{received-earlier, ToAnother, another-more, or-another}
 use Rattle.exchange.proofs.OrderStates.{
   Messages,
@@ -74,12 +73,10 @@ use Rattle.exchange.proofs.Standing.{Standing}
 
 -- ---- what a run's call leaves
 
-reply-leaves : (s : Course) (i : ℕ) (reply : List ℕ) (k : ClientCall) (payload : List ℕ) (a : Answer) → answerNumber a ≡ 0 →
-    let t = reached a i reply (afterRun a i k payload s) in Leaves s t × (t .arrived ≡ record { run = i; reply = reply } ∷ s .arrived)
-reply-leaves s i reply k payload (answer.Request n) e = (record { exchanged = refl; bank = refl }, refl)
-reply-leaves s i reply k payload answer.Ignored e = (record { exchanged = refl; bank = refl }, refl)
-reply-leaves s i reply k payload (answer.Closed w) e = (record { exchanged = refl; bank = refl }, refl)
-reply-leaves s i reply k payload (answer.Refused r) e = clientTurn.numbered r e
+-- the bank and the exchanges stay
+record Leaves (s t : Course) : Type 0 where
+  exchanged : t .exchanged ≡ s .exchanged
+  bank : t .bank ≡ s .bank
 
 -- the request that a call adds is the newest
 added : {i : ℕ} {x : Issue} {l m : List Issue} {o : history.Issue} {older : List history.Issue} → Issues l m → In x m → x .run ≡ i →
@@ -144,7 +141,7 @@ module _ (k : Call) (s : Course) (v : Parts s) (copies : Copied s) (q : Allowed 
 
 module _ (s : Course) (v : Parts s) (copies : Copied s) (numbers : OneExchangeNumber s) (i : ℕ) (c : Client) (way : Direction) (u first : ℕ)
     (l : Lent) (q : Allowed (begins i c way u first l) s) (later : OneExchangeNumber (exec (begins i c way u first l) s))
-    (own : c ≡ s .runs i) (done : answerNumber (beginCall c way u first l .answer) ≡ 0) where
+    (own : c ≡ s .runs i) (done : callNumber (begins i c way u first l) ≡ 0) where
   abbrev begin : Call
   begin = begins i c way u first l
 
@@ -152,8 +149,9 @@ module _ (s : Course) (v : Parts s) (copies : Copied s) (numbers : OneExchangeNu
   done-run = subst (λ (x : Client). answerNumber (beginCall x way u first l .answer) ≡ 0) own done
 
   begin-left : Leaves s (exec (begins i c way u first l) s) × (exec (begins i c way u first l) s .arrived ≡ s .arrived)
-  unfolding exec
-  begin-left = let k = beginCall c way u first l in run-leaves s i k (l .payload) (k .answer)
+  begin-left =
+      subst (λ (t : Course). Leaves s t × (t .arrived ≡ s .arrived)) (sym (carried begin s done))
+      (record { exchanged = refl; bank = refl }, refl)
 
   not-again : {A : Type 0} → isBegun (s .runs i .stage) ≡ true → A
   not-again b = never (sym (begin-fresh (s .runs i) way u first l done-run) ∙ b)
@@ -186,7 +184,7 @@ module _ (s : Course) (v : Parts s) (copies : Copied s) (numbers : OneExchangeNu
       then = history.after (Begin way u first l) (runPast s i)
 
       past : runPast (exec begin s) i ≡ then
-      past = begin-past s i c way u first l own
+      past = begin-past s i c own way u first l done
 
       turn : InTurn then way step.Opening 0 first
       turn = clientTurn.begins (runPast s i) way u first l done-run .0
@@ -207,7 +205,7 @@ module _ (s : Course) (v : Parts s) (copies : Copied s) (numbers : OneExchangeNu
       at x r b (inr z) = absurd (let w = ap (λ (p : Past). p .run .exchange) past in omega arith)
 
   pub begin-moves : State s i (runPast s i) → State (exec (begins i c way u first l) s) i (runPast (exec (begins i c way u first l) s) i)
-  begin-moves z = subst (State (exec begin s) i) (sym (begin-past s i c way u first l own)) (at z)
+  begin-moves z = subst (State (exec begin s) i) (sym (begin-past s i c own way u first l done)) (at z)
     where
       at : State s i (runPast s i) → State (exec begin s) i (history.after (Begin way u first l) (runPast s i))
       at (idle e none) = begin-first e none
@@ -221,7 +219,7 @@ module _ (s : Course) (v : Parts s) (copies : Copied s) (numbers : OneExchangeNu
 
 module _ (s : Course) (v : Parts s) (copies : Copied s) (numbers : OneExchangeNumber s) (i : ℕ) (c : Client) (reply : List ℕ) (l : Lent)
     (q : Allowed (replyArrives i c reply l) s) (later : OneExchangeNumber (exec (replyArrives i c reply l) s))
-    (done : answerNumber (replyCall c reply l .answer) ≡ 0) (left : Left i c l s)
+    (done : callNumber (replyArrives i c reply l) ≡ 0) (left : Left i c l s)
     (source : GivenFor i reply s)
     (fresh : (a : Arrival) → In a (s .arrived) → a .run ≡ i → a .reply ≡ reply → ⊥) where
   abbrev arrives : Call
@@ -244,11 +242,12 @@ module _ (s : Course) (v : Parts s) (copies : Copied s) (numbers : OneExchangeNu
 
   reply-left : Leaves s (exec (replyArrives i c reply l) s)
       × (exec (replyArrives i c reply l) s .arrived ≡ record { run = i; reply = reply } ∷ s .arrived)
-  unfolding exec
-  reply-left = let k = replyCall c reply l in reply-leaves s i reply k (l .payload) (k .answer) done
+  reply-left =
+      subst (λ (t : Course). Leaves s t × (t .arrived ≡ record { run = i; reply = reply } ∷ s .arrived)) (sym (carried arrives s done))
+      (record { exchanged = refl; bank = refl }, refl)
 
   past : runPast (exec (replyArrives i c reply l) s) i ≡ history.after (Reply reply l) (runPast s i)
-  past = reply-past s i c reply l (left .0)
+  past = reply-past s i c (left .0) reply l done
 
   given : GivenTo (Gave (v .bank .past .history)) reply (runPast s i)
   given = given-to s v i reply source

@@ -36,12 +36,6 @@ use Rattle.bank_state.specs.Limits.{placeCount}
 use Rattle.bank_state.specs.Search.{isFree}
 use Rattle.bank_state.specs.State.{World, noPlace, placeAt, downloadAt}
 use Rattle.bank_state.specs.Store.{partAt}
-use Rattle.bank.specs.declared.call.FrameAnswer.{FrameAnswer}
-use Rattle.bank.specs.declared.call.FrameAnswer.the-variants as frameAnswer
-use Rattle.bank.specs.declared.mailbox.FileAnswer.{FileAnswer}
-use Rattle.bank.specs.declared.mailbox.FileAnswer.the-variants as fileAnswer
-use Rattle.bank.specs.Call.{frameCall}
-use Rattle.bank.specs.Mailbox.{fileCall}
 use Rattle.bank_history.specs.History.{
   OpenedUpload,
   Of,
@@ -97,24 +91,25 @@ use Rattle.exchange.specs.Course.{
   Course,
   start,
   mailboxOf,
-  afterFrame,
-  afterFile,
+  callNumber,
+  issuedBy,
   afterRun,
-  reached,
+  carryOut,
   exec,
   after,
 }
-use Rattle.exchange.specs.Demand3.{Allowed, AllAllowed, OneExchangeNumber}
+use Rattle.exchange.specs.Demand3.{Premise, Allowed, AllAllowed, OneExchangeNumber}
 use Rattle.exchange.proofs.Events.{case-empties}
 use Rattle.exchange.proofs.Told.{one-opened, opening-at, upload-opening, done-confirmed, Gave, fileIn, bank-replies}
+use Rattle.exchange.proofs.Calls.{by-number}
 use Rattle.exchange.proofs.Bank.{BankPart, same-mailbox, Entered, frame-enters}
 use Rattle.exchange.proofs.Clients.{asIssue, issuesOf, runPast, issued-in, OpenedBy, Parts}
 use Rattle.exchange.proofs.Issues.{in-more, call-issues, numbers-before}
-use Rattle.exchange.proofs.Courses.{call-keeps, Copied, run-leaves, reached-leaves, copied-call}
+use Rattle.exchange.proofs.Courses.{call-keeps, Copied, copied-call}
 use Rattle.exchange.proofs.Joint.{sound, upload-kind}
 use Rattle.exchange.proofs.Outcome.{receipt-id, inv, HeldWhole, AllHeldWhole, emptied-held}
 use Rattle.exchange.proofs.Foreign.{confirming, request-opened}
-use Rattle.exchange.proofs.Concerns.{frame-world, file-bank}
+use Rattle.exchange.proofs.Concerns.{file-bank}
 
 -- the mailbox of the subscriber of the request's run, now
 abbrev boxNow : Course → Issue → List ℕ
@@ -220,8 +215,8 @@ module _ (s : Course) (v : Parts s) (copies : Copied s) (numbers : OneExchangeNu
 -- ---- what a call issues
 
 -- a request is issued with the mailbox of its run's subscriber
-run-box : (s : Course) (i : ℕ) (k : ClientCall) (payload : List ℕ) (a : Answer) (x : Issue) → let t = afterRun a i k payload s in
-    In x (t .issued) → In x (s .issued) ⊎ (x .box ≡ boxNow t x)
+run-box : (s : Course) (i : ℕ) (k : ClientCall) (payload : List ℕ) (a : Answer) (x : Issue) → In x (issuedBy a i k s) →
+    In x (s .issued) ⊎ (x .box ≡ boxNow (afterRun i k payload s) x)
 run-box s i k payload (answer.Request n) x (here z) =
     inr (rw (eq-eqb (x .run) i (ap (λ (y : Issue). y .run) z)) (ap (λ (y : Issue). y .box) z))
 run-box s i k payload (answer.Request n) x (there m) = inl m
@@ -229,36 +224,16 @@ run-box s i k payload answer.Ignored x m = inl m
 run-box s i k payload (answer.Closed w) x m = inl m
 run-box s i k payload (answer.Refused r) x m = inl m
 
-call-box : (k : Call) (s : Course) (x : Issue) → In x (exec k s .issued) → In x (s .issued) ⊎ (x .box ≡ boxNow (exec k s) x)
-unfolding exec
-call-box (frameArrives w time ids frame buffer) s x = go (frameCall w time ids frame buffer .answer)
-  where
-    go : (a : FrameAnswer) → let t = afterFrame a (frameCall w time ids frame buffer) (advanced time w) frame s in
-        In x (t .issued) → In x (s .issued) ⊎ (x .box ≡ boxNow t x)
-    go (frameAnswer.Reply n) m = inl m
-    go frameAnswer.WrongLength m = inl m
-call-box (filePut b boxes n file) s x = go (fileCall b n file boxes .answer)
-  where
-    go : (a : FileAnswer) → let t = afterFile a (fileCall b n file boxes) n file s in
-        In x (t .issued) → In x (s .issued) ⊎ (x .box ≡ boxNow t x)
-    go fileAnswer.Done m = inl m
-    go fileAnswer.WrongLength m = inl m
-    go fileAnswer.NoMailbox m = inl m
-    go fileAnswer.WrongFile m = inl m
-    go fileAnswer.MailboxFull m = inl m
-call-box (begins i c way u first l) s x = let k = beginCall c way u first l in run-box s i k (l .payload) (k .answer) x
-call-box (replyArrives i c reply l) s x = go (k .answer)
-  where
-    k : ClientCall
-    k = replyCall c reply l
+carried-box : (k : Call) (s : Course) (x : Issue) → In x (carryOut k s .issued) → In x (s .issued) ⊎ (x .box ≡ boxNow (carryOut k s) x)
+carried-box (frameArrives w time ids frame buffer) s x m = inl m
+carried-box (filePut b boxes n file) s x m = inl m
+carried-box (begins i c way u first l) s x m = let k = beginCall c way u first l in run-box s i k (l .payload) (k .answer) x m
+carried-box (replyArrives i c reply l) s x m = let k = replyCall c reply l in run-box s i k (l .payload) (k .answer) x m
+carried-box (noReply i c l) s x m = let k = noReplyCall c l in run-box s i k (l .payload) (k .answer) x m
 
-    go : (a : Answer) → let t = reached a i reply (afterRun a i k (l .payload) s) in
-        In x (t .issued) → In x (s .issued) ⊎ (x .box ≡ boxNow t x)
-    go (answer.Request n) m = run-box s i k (l .payload) (answer.Request n) x m
-    go answer.Ignored m = inl m
-    go (answer.Closed w) m = inl m
-    go (answer.Refused r) m = inl m
-call-box (noReply i c l) s x = let k = noReplyCall c l in run-box s i k (l .payload) (k .answer) x
+call-box : (k : Call) (s : Course) (x : Issue) → In x (exec k s .issued) → In x (s .issued) ⊎ (x .box ≡ boxNow (exec k s) x)
+call-box k s x =
+    by-number k s (λ (t : Course). In x (t .issued) → In x (s .issued) ⊎ (x .box ≡ boxNow t x)) (λ m. inl m) (λ _. carried-box k s x)
 
 -- ---- what a call is to the bank
 
@@ -268,43 +243,16 @@ data BankMove (s : Course) (b : BankPart s) (t : Course) : Type 0 where
   puts : (m : ℕ) (file : List ℕ) → t .bank ≡ bank.after (File m file) (b .past) .world → t .exchanged ≡ s .exchanged → BankMove s b t
   answers : (time : ℕ) (ids frame buffer : List ℕ) → Entered s b time ids frame buffer t → t .issued ≡ s .issued → BankMove s b t
 
-nothing-moves : (s : Course) (b : BankPart s) (t : Course) → t ≡ s → BankMove s b t
-nothing-moves s b t e = rests (ap (λ (x : Course). x .bank) e) (ap (λ (x : Course). x .exchanged) e)
+carried-move : (k : Call) (s : Course) (v : Parts s) → Premise k s → callNumber k ≡ 0 → BankMove s (v .bank) (carryOut k s)
+carried-move (frameArrives w time ids frame buffer) s v q z =
+    answers time ids frame buffer (frame-enters s (v .bank) w time ids frame buffer (q .0) z) refl
+carried-move (filePut b boxes m file) s v q z = puts m file (file-bank s v b boxes m file q z .0) refl
+carried-move (begins i c way u first l) s v q z = rests refl refl
+carried-move (replyArrives i c reply l) s v q z = rests refl refl
+carried-move (noReply i c l) s v q z = rests refl refl
 
 bank-move : (k : Call) (s : Course) (v : Parts s) → Allowed k s → BankMove s (v .bank) (exec k s)
-unfolding exec
-bank-move (frameArrives w time ids frame buffer) s v q =
-    at (frame-world s w time ids frame buffer) (frame-enters s (v .bank) w time ids frame buffer _ q)
-  where
-    t : Course
-    t = exec (frameArrives w time ids frame buffer) s
-
-    at : {X : Type 0} → (t ≡ s) ⊎ ((t .bank ≡ frameCall w time ids frame buffer .world) × (t .issued ≡ s .issued)
-        × (t .arrived ≡ s .arrived)) →
-        (t ≡ s) ⊎ (Entered s (v .bank) time ids frame buffer t × X) → BankMove s (v .bank) t
-    at (inl z) e = nothing-moves s (v .bank) t z
-    at (inr z) (inl e) = nothing-moves s (v .bank) t e
-    at (inr z) (inr e) = answers time ids frame buffer (e .0) (z .1)
-bank-move (filePut b boxes m file) s v q = at (file-bank s v b boxes m file q)
-  where
-    t : Course
-    t = exec (filePut b boxes m file) s
-
-    at : (t ≡ s) ⊎ ((t .bank ≡ bank.after (File m file) (v .bank .past) .world) × (t .exchanged ≡ s .exchanged)) → BankMove s (v .bank) t
-    at (inl z) = nothing-moves s (v .bank) t z
-    at (inr z) = puts m file (z .0) (z .1)
-bank-move (begins i c way u first l) s v q =
-    let k = beginCall c way u first l in
-    let r = run-leaves s i k (l .payload) (k .answer) .0 in
-    rests (r .bank) (r .exchanged)
-bank-move (replyArrives i c reply l) s v q =
-    let k = replyCall c reply l in
-    let r = reached-leaves s i reply k (l .payload) (k .answer) in
-    rests (r .bank) (r .exchanged)
-bank-move (noReply i c l) s v q =
-    let k = noReplyCall c l in
-    let r = run-leaves s i k (l .payload) (k .answer) .0 in
-    rests (r .bank) (r .exchanged)
+bank-move k s v q = by-number k s (BankMove s (v .bank)) (rests refl refl) (λ z. carried-move k s v (q z) z)
 
 -- what is gone stays gone
 move-gone : {s t : Course} (b : BankPart s) → BankMove s b t → {u : Bits128} → Gone (s .bank) u → Gone (t .bank) u

@@ -11,12 +11,12 @@ use Rattle.frame_table.specs.Table.{isRequestForm}
 use Rattle.client.specs.declared.run.Answer.{Answer}
 use Rattle.client.specs.declared.run.Answer.the-variants as answer
 use Rattle.client.specs.Run.{Lent, ClientCall}
-use Rattle.exchange.specs.Course.{Call, Issue, Exchange, Arrival, Course, afterRun, exec}
+use Rattle.exchange.specs.Course.{Call, Issue, Exchange, Arrival, Course, issuedBy, afterRun, exec}
 use Rattle.exchange.specs.Terms.{IssuedBy, Received}
 use Rattle.exchange.specs.Demand3.{Allowed, OneExchangeNumber}
 use Rattle.exchange.proofs.Clients.{runPast, issued-in, other-past, Parts}
 use Rattle.exchange.proofs.Issues.{in-more, run-issues, call-issues, one-issue}
-use Rattle.exchange.proofs.Courses.{Copied, call-keeps, copied-call, run-leaves}
+use Rattle.exchange.proofs.Courses.{Copied, call-keeps, copied-call}
 use Rattle.exchange.proofs.Joint.{counts}
 use Rattle.exchange.proofs.Outcome.{request-of}
 
@@ -75,27 +75,22 @@ same-refl i s =
 
 -- the call of another run
 module _ (s : Course) (i j : ℕ) (d : i ≡ j → ⊥) (k : ClientCall) (l : Lent) where
-  other-issued : (a : Answer) (x : Issue) → In x (afterRun a j k (l .payload) s .issued) → x .run ≡ i → In x (s .issued)
+  other-issued : (a : Answer) (x : Issue) → In x (issuedBy a j k s) → x .run ≡ i → In x (s .issued)
   other-issued (answer.Request n) x (here e) r = absurd (d (sym r ∙ ap (λ (u : Issue). u .run) e))
   other-issued (answer.Request n) x (there m) r = m
   other-issued answer.Ignored x m r = m
   other-issued (answer.Closed w) x m r = m
   other-issued (answer.Refused f) x m r = m
 
-  pub other-same : (a : Answer) → Same i s (afterRun a j k (l .payload) s)
-  other-same a =
-      let w = run-leaves s j k (l .payload) a in
-      let more = run-issues s j k (l .payload) a in record {
-        past = other-past s j k l a i d;
-        received = λ e c. (
-          subst (In e) (w .0 .exchanged) (c .0),
-          (c .1 .0, other-issued a (c .1 .0) (c .1 .1) (c .1 .2), c .1 .2, c .1 .3),
-        );
-        keeps = λ n e c. (subst (In e) (sym (w .0 .exchanged)) (c .0), (c .1 .0, in-more more (c .1 .1), c .1 .2, c .1 .3));
-        arrivals = λ b m r. inl (subst (In b) (w .1) m);
-        arrived = λ b m. subst (In b) (sym (w .1)) m;
-        issued = other-issued a;
-      }
+  pub other-same : Same i s (afterRun j k (l .payload) s)
+  other-same = record {
+    past = other-past s j k l i d;
+    received = λ e c. (c .0, (c .1 .0, other-issued (k .answer) (c .1 .0) (c .1 .1) (c .1 .2), c .1 .2, c .1 .3));
+    keeps = λ n e c. (c .0, (c .1 .0, in-more (run-issues s j k (k .answer)) (c .1 .1), c .1 .2, c .1 .3));
+    arrivals = λ b m r. inl m;
+    arrived = λ b m. m;
+    issued = other-issued (k .answer);
+  }
 
 -- a frame that is no copy of a request of the run
 pub foreign-same : {i : ℕ} {s t : Course} {e : Exchange} {frame : List ℕ} → t .exchanged ≡ e ∷ s .exchanged → e .request ≡ frame →

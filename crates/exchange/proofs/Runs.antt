@@ -1,17 +1,16 @@
 -- What one call leaves of one run: as it was, or one event further. Assumes nothing.
 use Prim.Native.Nat.{ℕ}
 use mathlib.Core.List.{List, [], _∷_}
-use mathlib.Core.Path.{_≡_, refl, ap, _∙_, subst}
+use mathlib.Core.Logic.{_⊎_, inl, inr}
+use mathlib.Core.Path.{_≡_, sym, ap, _∙_, subst}
 use native.Mathlib.Decide.{ℕ-discrete}
-use Rattle.client.specs.declared.run.Answer.{Answer}
 use Rattle.client.specs.declared.run.Answer.the-variants as answer
 use Rattle.client.specs.declared.run.Client.{Client}
 use Rattle.client.specs.declared.run.Direction.{Direction}
-use Rattle.client.specs.declared.run.Refusal.{Refusal}
 use Rattle.client.specs.declared.run.Stage.the-variants as stage
 use Rattle.client.specs.declared.run.Word.{Word}
 use Rattle.client.specs.Calls.{beginCall, replyCall, noReplyCall}
-use Rattle.client.specs.Run.{Lent, ClientCall, answerNumber}
+use Rattle.client.specs.Run.{Lent, answerNumber}
 use Rattle.client_history.specs.History.{Event, Begin, Reply, NoReply, Past, callOf, lentTo}
 use Rattle.client_history.specs.History as history
 use Rattle.client_history.proofs.Stays.{ended-stays}
@@ -23,12 +22,14 @@ use Rattle.exchange.specs.Course.{
   replyArrives,
   noReply,
   Course,
+  callNumber,
   afterRun,
-  reached,
+  carryOut,
   exec,
   after,
 }
-use Rattle.exchange.specs.Demand3.{Allowed, AllAllowed}
+use Rattle.exchange.specs.Demand3.{Premise, Allowed, AllAllowed}
+use Rattle.exchange.proofs.Calls.{carried, number-or-none}
 use Rattle.exchange.proofs.Bytes.{Issued, begin-issues, reply-issues, no-reply-issues}
 use Rattle.exchange.proofs.Clients.{runPast, own-past, other-past}
 use Rattle.exchange.proofs.Courses.{frame-runs, file-runs}
@@ -37,119 +38,78 @@ use Rattle.exchange.proofs.Courses.{frame-runs, file-runs}
 pub data RunStep (s : Course) (i : ℕ) : Call → Past → Type 0 where
   rests : {k : Call} {p : Past} → p ≡ runPast s i → RunStep s i k p
   begun : {c : Client} {way : Direction} {subscriber first : ℕ} {l : Lent} {p : Past} → c ≡ s .runs i →
-      answerNumber (beginCall c way subscriber first l .answer) ≡ 0 → p ≡ history.after (Begin way subscriber first l) (runPast s i) →
-      RunStep s i (begins i c way subscriber first l) p
-  replied : {c : Client} {reply : List ℕ} {l : Lent} {p : Past} → c ≡ s .runs i → answerNumber (replyCall c reply l .answer) ≡ 0 →
+      p ≡ history.after (Begin way subscriber first l) (runPast s i) → RunStep s i (begins i c way subscriber first l) p
+  replied : {c : Client} {reply : List ℕ} {l : Lent} {p : Past} → c ≡ s .runs i →
       p ≡ history.after (Reply reply l) (runPast s i) → RunStep s i (replyArrives i c reply l) p
-  no-reply : {c : Client} {l : Lent} {p : Past} → c ≡ s .runs i → answerNumber (noReplyCall c l .answer) ≡ 0 →
-      p ≡ history.after (NoReply l) (runPast s i) → RunStep s i (noReply i c l) p
-
--- an answer is a number, or none
-pub by-number : (P : Type 0) (a : Answer) → (answerNumber a ≡ 0 → P) → ((r : Refusal) → a ≡ answer.Refused r → P) → P
-by-number P (answer.Request n) f g = f refl
-by-number P answer.Ignored f g = f refl
-by-number P (answer.Closed w) f g = f refl
-by-number P (answer.Refused r) f g = g r refl
-
-reached-past : (s : Course) (i j : ℕ) (reply : List ℕ) (a : Answer) → runPast (reached a i reply s) j ≡ runPast s j
-reached-past s i j reply (answer.Request n) = refl
-reached-past s i j reply answer.Ignored = refl
-reached-past s i j reply (answer.Closed w) = refl
-reached-past s i j reply (answer.Refused r) = refl
+  no-reply : {c : Client} {l : Lent} {p : Past} → c ≡ s .runs i → p ≡ history.after (NoReply l) (runPast s i) →
+      RunStep s i (noReply i c l) p
 
 -- run i after its own event
 own-step : (s : Course) (i : ℕ) (e : Event) → ((n : ℕ) → callOf e (s .runs i) .answer ≡ answer.Request n →
     Issued (callOf e (s .runs i)) (lentTo e) n) →
-    let k = callOf e (s .runs i) in runPast (afterRun (k .answer) i k (lentTo e .payload) s) i ≡ history.after e (runPast s i)
+    answerNumber (callOf e (s .runs i) .answer) ≡ 0 →
+    runPast (afterRun i (callOf e (s .runs i)) (lentTo e .payload) s) i ≡ history.after e (runPast s i)
 unfolding history.after
-own-step s i e issues = own-past s i (callOf e (s .runs i)) (lentTo e) issues (callOf e (s .runs i) .answer) refl
+own-step s i e issues done = own-past s i (callOf e (s .runs i)) (lentTo e) issues done
 
--- and after its begin, or a reply to it
-pub begin-past : (s : Course) (i : ℕ) (c : Client) (way : Direction) (subscriber first : ℕ) (l : Lent) → c ≡ s .runs i →
-    runPast (exec (begins i c way subscriber first l) s) i ≡ history.after (Begin way subscriber first l) (runPast s i)
-unfolding exec
-begin-past s i c way subscriber first l z =
-    ap (λ (x : Client). let k = beginCall x way subscriber first l in runPast (afterRun (k .answer) i k (l .payload) s) i) z
-    ∙ own-step s i (Begin way subscriber first l) (begin-issues (s .runs i) l way subscriber first)
+module _ (s : Course) (i : ℕ) (c : Client) (own : c ≡ s .runs i) where
+  -- a call that is made of the run as it was left
+  by-run : (k : Client → Call) (p : Past) → (callNumber (k (s .runs i)) ≡ 0 → runPast (carryOut (k (s .runs i)) s) i ≡ p) →
+      callNumber (k c) ≡ 0 → runPast (exec (k c) s) i ≡ p
+  by-run k p f z =
+      ap (λ (t : Course). runPast t i) (carried (k c) s z)
+      ∙ subst (λ (x : Client). callNumber (k x) ≡ 0 → runPast (carryOut (k x) s) i ≡ p) (sym own) f z
 
-pub reply-past : (s : Course) (i : ℕ) (c : Client) (reply : List ℕ) (l : Lent) → c ≡ s .runs i →
-    runPast (exec (replyArrives i c reply l) s) i ≡ history.after (Reply reply l) (runPast s i)
-unfolding exec
-reply-past s i c reply l z =
-    reached-past (let k = replyCall c reply l in afterRun (k .answer) i k (l .payload) s) i i reply (replyCall c reply l .answer)
-    ∙ ap (λ (x : Client). let k = replyCall x reply l in runPast (afterRun (k .answer) i k (l .payload) s) i) z
-    ∙ own-step s i (Reply reply l) (reply-issues (s .runs i) l reply)
+  pub begin-past : (way : Direction) (subscriber first : ℕ) (l : Lent) → callNumber (begins i c way subscriber first l) ≡ 0 →
+      runPast (exec (begins i c way subscriber first l) s) i ≡ history.after (Begin way subscriber first l) (runPast s i)
+  begin-past way subscriber first l =
+      by-run (λ x. begins i x way subscriber first l) _
+      (own-step s i (Begin way subscriber first l) (begin-issues (s .runs i) l way subscriber first))
 
--- a call given a number
-refused-past : (s : Course) (i : ℕ) (k : ClientCall) (payload : List ℕ) (a : Answer) → k .answer ≡ a → (r : Refusal) →
-    a ≡ answer.Refused r →
-    runPast (afterRun (k .answer) i k payload s) i ≡ runPast s i
-refused-past s i k payload a e r z = ap (λ (x : Answer). runPast (afterRun x i k payload s) i) (e ∙ z)
+  pub reply-past : (reply : List ℕ) (l : Lent) → callNumber (replyArrives i c reply l) ≡ 0 →
+      runPast (exec (replyArrives i c reply l) s) i ≡ history.after (Reply reply l) (runPast s i)
+  reply-past reply l = by-run (λ x. replyArrives i x reply l) _ (own-step s i (Reply reply l) (reply-issues (s .runs i) l reply))
+
+  no-reply-past : (l : Lent) → callNumber (noReply i c l) ≡ 0 → runPast (exec (noReply i c l) s) i ≡ history.after (NoReply l) (runPast s i)
+  no-reply-past l = by-run (λ x. noReply i x l) _ (own-step s i (NoReply l) (no-reply-issues (s .runs i) l))
+
+-- a call of run j to the run as it was left: run i stays, or it is that run
+other-or-own : (k : ℕ → Call) (s : Course) (i j : ℕ) → ((i ≡ j → ⊥) → runPast (carryOut (k j) s) i ≡ runPast s i) → Premise (k j) s →
+    callNumber (k j) ≡ 0 →
+    (Premise (k i) s → callNumber (k i) ≡ 0 → RunStep s i (k i) (runPast (exec (k i) s) i)) →
+    RunStep s i (k j) (runPast (exec (k j) s) i)
+other-or-own k s i j stays q z own = at (ℕ-discrete i j)
+  where
+    at : Dec (i ≡ j) → RunStep s i (k j) (runPast (exec (k j) s) i)
+    at (no n) = rests (ap (λ (t : Course). runPast t i) (carried (k j) s z) ∙ stays n)
+    at (yes e) = subst (λ (n : ℕ). Premise (k n) s → callNumber (k n) ≡ 0 → RunStep s i (k n) (runPast (exec (k n) s) i)) e own q z
+
+carried-step : (k : Call) (s : Course) → Premise k s → (i : ℕ) → callNumber k ≡ 0 → RunStep s i k (runPast (exec k s) i)
+carried-step (frameArrives w time ids frame buffer) s q i z = rests (frame-runs s w time ids frame buffer i)
+carried-step (filePut b boxes m file) s q i z = rests (file-runs s b boxes m file i)
+carried-step (begins j c way subscriber first l) s q i z =
+    other-or-own (λ n. begins n c way subscriber first l) s i j (other-past s j (beginCall c way subscriber first l) l i) q z
+    (λ own y. begun own (begin-past s i c own way subscriber first l y))
+carried-step (replyArrives j c reply l) s q i z =
+    other-or-own (λ n. replyArrives n c reply l) s i j (other-past s j (replyCall c reply l) l i) q z
+    (λ left y. replied (left .0 .0) (reply-past s i c (left .0 .0) reply l y))
+carried-step (noReply j c l) s q i z =
+    other-or-own (λ n. noReply n c l) s i j (other-past s j (noReplyCall c l) l i) q z
+    (λ left y. no-reply (left .0) (no-reply-past s i c (left .0) l y))
 
 pub run-step : (k : Call) (s : Course) → Allowed k s → (i : ℕ) → RunStep s i k (runPast (exec k s) i)
-unfolding exec
-run-step (frameArrives w time ids frame buffer) s q i = rests (frame-runs s w time ids frame buffer i)
-run-step (filePut b boxes m file) s q i = rests (file-runs s b boxes m file i)
-run-step (begins j c way subscriber first l) s q i = at (ℕ-discrete i j)
+run-step k s q i = at (number-or-none k s)
   where
-    k : Client → ClientCall
-    k x = beginCall x way subscriber first l
-
-    now : ℕ → Client → Past
-    now n x = runPast (afterRun (k x .answer) n (k x) (l .payload) s) i
-
-    at : Dec (i ≡ j) → RunStep s i (begins j c way subscriber first l) (now j c)
-    at (no n) = rests (other-past s j (k c) l (k c .answer) i n)
-    at (yes z) =
-        subst (λ (n : ℕ). (answerNumber (k c .answer) ≡ 0 → c ≡ s .runs n) →
-        RunStep s i (begins n c way subscriber first l) (now n c)) z (λ a.
-        by-number (RunStep s i (begins i c way subscriber first l) (now i c)) (k c .answer)
-        (λ e. begun (a e) e (begin-past s i c way subscriber first l (a e)))
-        (λ r e. rests (refused-past s i (k c) (l .payload) (k c .answer) refl r e))) q
-run-step (replyArrives j c reply l) s q i = at (ℕ-discrete i j)
-  where
-    k : Client → ClientCall
-    k x = replyCall x reply l
-
-    now : ℕ → Client → Past
-    now n x = runPast (afterRun (k x .answer) n (k x) (l .payload) s) i
-
-    gone : (n : ℕ) (x : Client) → runPast (reached (k x .answer) n reply (afterRun (k x .answer) n (k x) (l .payload) s)) i ≡ now n x
-    gone n x = reached-past (afterRun (k x .answer) n (k x) (l .payload) s) n i reply (k x .answer)
-
-    at : Dec (i ≡ j) → RunStep s i (replyArrives j c reply l) (runPast
-        (reached (k c .answer) j reply (afterRun (k c .answer) j (k c) (l .payload) s)) i)
-    at (no n) = rests (gone j c ∙ other-past s j (k c) l (k c .answer) i n)
-    at (yes z) =
-        subst (λ (n : ℕ). (answerNumber (k c .answer) ≡ 0 → c ≡ s .runs n) →
-        RunStep s i (replyArrives n c reply l) (runPast (reached (k c .answer) n reply
-        (afterRun (k c .answer) n (k c) (l .payload) s)) i)) z (λ a.
-        by-number (RunStep s i (replyArrives i c reply l) (runPast
-        (reached (k c .answer) i reply (afterRun (k c .answer) i (k c) (l .payload) s)) i)) (k c .answer)
-        (λ e. replied (a e) e (reply-past s i c reply l (a e)))
-        (λ r e. rests (gone i c ∙ refused-past s i (k c) (l .payload) (k c .answer) refl r e))) (λ e. q e .0 .0)
-run-step (noReply j c l) s q i = at (ℕ-discrete i j)
-  where
-    k : Client → ClientCall
-    k x = noReplyCall x l
-
-    now : ℕ → Client → Past
-    now n x = runPast (afterRun (k x .answer) n (k x) (l .payload) s) i
-
-    at : Dec (i ≡ j) → RunStep s i (noReply j c l) (now j c)
-    at (no n) = rests (other-past s j (k c) l (k c .answer) i n)
-    at (yes z) =
-        subst (λ (n : ℕ). (answerNumber (k c .answer) ≡ 0 → c ≡ s .runs n) → RunStep s i (noReply n c l) (now n c)) z (λ a.
-        by-number (RunStep s i (noReply i c l) (now i c)) (k c .answer)
-        (λ e. no-reply (a e) e (ap (now i) (a e) ∙ own-step s i (NoReply l) (no-reply-issues (s .runs i) l)))
-        (λ r e. rests (refused-past s i (k c) (l .payload) (k c .answer) refl r e))) (λ e. q e .0)
+    at : (exec k s ≡ s) ⊎ ((callNumber k ≡ 0) × (exec k s ≡ carryOut k s)) → RunStep s i k (runPast (exec k s) i)
+    at (inl e) = rests (ap (λ (t : Course). runPast t i) e)
+    at (inr (z, _)) = carried-step k s (q z) i z
 
 -- "An ended run stays as it is"
 step-ended : (s : Course) (i : ℕ) (k : Call) (p : Past) (w : Word) → s .runs i .stage ≡ stage.Ended w → RunStep s i k p → p ≡ runPast s i
 step-ended s i k p w e (rests z) = z
-step-ended s i k p w e (begun c n z) = z ∙ ended-stays (runPast s i) w e _
-step-ended s i k p w e (replied c n z) = z ∙ ended-stays (runPast s i) w e _
-step-ended s i k p w e (no-reply c n z) = z ∙ ended-stays (runPast s i) w e _
+step-ended s i k p w e (begun c z) = z ∙ ended-stays (runPast s i) w e _
+step-ended s i k p w e (replied c z) = z ∙ ended-stays (runPast s i) w e _
+step-ended s i k p w e (no-reply c z) = z ∙ ended-stays (runPast s i) w e _
 
 pub run-ended : (k : Call) (s : Course) → Allowed k s → (i : ℕ) (w : Word) → s .runs i .stage ≡ stage.Ended w →
     exec k s .runs i ≡ s .runs i

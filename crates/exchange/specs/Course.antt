@@ -16,16 +16,14 @@ use Rattle.bank_state.specs.Store.{fileOf}
 use Rattle.bank_openings.specs.Openings.{fileLength}
 use Rattle.bank.specs.declared.call.FrameAnswer.{FrameAnswer}
 use Rattle.bank.specs.declared.call.FrameAnswer.the-variants as frameAnswer
-use Rattle.bank.specs.declared.mailbox.FileAnswer.{FileAnswer}
-use Rattle.bank.specs.declared.mailbox.FileAnswer.the-variants as fileAnswer
-use Rattle.bank.specs.Call.{FrameCall, frameCall}
-use Rattle.bank.specs.Mailbox.{FileCall, fileCall}
+use Rattle.bank.specs.Call.{frameNumber, frameCall}
+use Rattle.bank.specs.Mailbox.{fileNumber, FileCall, fileCall}
 use Rattle.client.specs.declared.run.Answer.{Answer}
 use Rattle.client.specs.declared.run.Answer.the-variants as answer
 use Rattle.client.specs.declared.run.Client.{Client}
 use Rattle.client.specs.declared.run.Direction.{Direction}
 use Rattle.client.specs.Calls.{beginCall, replyCall, noReplyCall}
-use Rattle.client.specs.Run.{Lent, ClientCall, notBegun}
+use Rattle.client.specs.Run.{Lent, ClientCall, notBegun, answerNumber}
 
 -- A call with everything that it brings and is lent; client runs are told apart by a number
 pub data Call : Type 0 where
@@ -47,7 +45,8 @@ pub record Issue : Type 0 where
   pub file : List ℕ
   pub box : List ℕ
 
--- a frame and the reply that the bank gave it, the clock then, and the file that the mailbox of the frame's subscriber held
+-- a frame and the reply that the bank gave it, the clock then, and the file that the mailbox of the frame's subscriber held as the frame
+-- came: after clock and drops, before the answer
 pub record Exchange : Type 0 where
   pub request : List ℕ
   pub reply : List ℕ
@@ -87,6 +86,83 @@ start = record {
 abbrev pub changed : {A : Type 0} → (ℕ → A) → ℕ → A → ℕ → A
 changed f i a j = cond (eqb j i) a (f j)
 
+-- ---- THE COURSE WITH ONE PART CHANGED
+
+abbrev pub withBank : World → Course → Course
+withBank w s = record {
+  bank = w;
+  runs = s .runs;
+  payloads = s .payloads;
+  files = s .files;
+  mailboxes = s .mailboxes;
+  issued = s .issued;
+  exchanged = s .exchanged;
+  arrived = s .arrived;
+}
+
+-- run i, its payload and its file buffer
+abbrev pub withRun : ℕ → Client → List ℕ → List ℕ → Course → Course
+withRun i c payload file s = record {
+  bank = s .bank;
+  runs = changed (s .runs) i c;
+  payloads = changed (s .payloads) i payload;
+  files = changed (s .files) i file;
+  mailboxes = s .mailboxes;
+  issued = s .issued;
+  exchanged = s .exchanged;
+  arrived = s .arrived;
+}
+
+abbrev pub withMailboxes : (ℕ → List ℕ) → Course → Course
+withMailboxes m s = record {
+  bank = s .bank;
+  runs = s .runs;
+  payloads = s .payloads;
+  files = s .files;
+  mailboxes = m;
+  issued = s .issued;
+  exchanged = s .exchanged;
+  arrived = s .arrived;
+}
+
+abbrev pub withIssued : List Issue → Course → Course
+withIssued l s = record {
+  bank = s .bank;
+  runs = s .runs;
+  payloads = s .payloads;
+  files = s .files;
+  mailboxes = s .mailboxes;
+  issued = l;
+  exchanged = s .exchanged;
+  arrived = s .arrived;
+}
+
+abbrev pub withExchanged : List Exchange → Course → Course
+withExchanged l s = record {
+  bank = s .bank;
+  runs = s .runs;
+  payloads = s .payloads;
+  files = s .files;
+  mailboxes = s .mailboxes;
+  issued = s .issued;
+  exchanged = l;
+  arrived = s .arrived;
+}
+
+abbrev pub withArrived : List Arrival → Course → Course
+withArrived l s = record {
+  bank = s .bank;
+  runs = s .runs;
+  payloads = s .payloads;
+  files = s .files;
+  mailboxes = s .mailboxes;
+  issued = s .issued;
+  exchanged = s .exchanged;
+  arrived = l;
+}
+
+-- ---- FILES
+
 -- the file that a subscriber's mailbox holds
 unfoldable pub mailboxOf : World → ℕ → List ℕ
 mailboxOf w m = fileOf (w .boxes) (m - 1) (fileLength m (w .bank .files))
@@ -101,98 +177,62 @@ emptied request reply mailboxes =
     cond (eqb (returnCode (readReply reply)) (codeField code.DownloadPostprocessDone))
     (changed mailboxes (subscriber (readRequest request)) []) mailboxes
 
--- a frame call: answered by a frame, or given number 1 and nothing changed
-abbrev pub afterFrame : FrameAnswer → FrameCall → World → List ℕ → Course → Course
-afterFrame (frameAnswer.Reply n) k before request s = record {
-  bank = k .world;
-  runs = s .runs;
-  payloads = s .payloads;
-  files = s .files;
-  mailboxes = emptied request (take n (k .buffer)) (s .mailboxes);
-  issued = s .issued;
-  exchanged =
-      record {
-        request = request;
-        reply = take n (k .buffer);
-        clock = k .world .bank .clock;
-        box =
-            mailboxOf before (subscriber (readRequest request));
-      }
-      ∷ s .exchanged;
-  arrived = s .arrived;
-}
-afterFrame frameAnswer.WrongLength k before request s = s
+-- ---- ONE CALL
 
--- a file put: done, or given a number and nothing changed
-abbrev pub afterFile : FileAnswer → FileCall → ℕ → List ℕ → Course → Course
-afterFile fileAnswer.Done k m file s = record {
-  bank = world (k .bank) (s .bank .orders) (k .boxes);
-  runs = s .runs;
-  payloads = s .payloads;
-  files = s .files;
-  mailboxes = changed (s .mailboxes) m file;
-  issued = s .issued;
-  exchanged = s .exchanged;
-  arrived = s .arrived;
-}
-afterFile fileAnswer.WrongLength k m file s = s
-afterFile fileAnswer.NoMailbox k m file s = s
-afterFile fileAnswer.WrongFile k m file s = s
-afterFile fileAnswer.MailboxFull k m file s = s
+-- document 01's number for a call, 0 where it is given none
+abbrev pub callNumber : Call → ℕ
+callNumber (frameArrives w time ids frame buffer) = frameNumber (frameCall w time ids frame buffer .answer)
+callNumber (filePut b boxes m file) = fileNumber (fileCall b m file boxes .answer)
+callNumber (begins i c way subscriber first l) = answerNumber (beginCall c way subscriber first l .answer)
+callNumber (replyArrives i c reply l) = answerNumber (replyCall c reply l .answer)
+callNumber (noReply i c l) = answerNumber (noReplyCall c l .answer)
 
--- what a run's call leaves, with the requests issued
-abbrev pub leaving : ℕ → ClientCall → List ℕ → List Issue → Course → Course
-leaving i k payload issued s = record {
-  bank = s .bank;
-  runs = changed (s .runs) i (k .run);
-  payloads = changed (s .payloads) i payload;
-  files = changed (s .files) i (k .file);
-  mailboxes = s .mailboxes;
-  issued = issued;
-  exchanged = s .exchanged;
-  arrived = s .arrived;
-}
+-- the reply in the lent buffer
+abbrev pub replyIn : FrameAnswer → List ℕ → List ℕ
+replyIn (frameAnswer.Reply n) buffer = take n buffer
+replyIn frameAnswer.WrongLength buffer = []
 
--- the request of n bytes that a call of run i issues
-abbrev pub newIssue : Course → ℕ → ClientCall → ℕ → Issue
-newIssue s i k n =
+-- a frame answered: the reply, the bank after the answer, and after clock and drops before it
+abbrev pub afterFrame : List ℕ → World → World → List ℕ → Course → Course
+afterFrame reply now before request s =
+    withBank now
+    (withMailboxes (emptied request reply (s .mailboxes))
+    (withExchanged
+    (record { request = request; reply = reply; clock = now .bank .clock; box = mailboxOf before (subscriber (readRequest request)) }
+    ∷ s .exchanged) s))
+
+-- a file put into mailbox m
+abbrev pub afterFile : FileCall → ℕ → List ℕ → Course → Course
+afterFile k m file s =
+    withBank (world (k .bank) (s .bank .orders) (k .boxes)) (withMailboxes (changed (s .mailboxes) m file) s)
+
+-- the requests issued, with the one of n bytes that a call of run i issues
+abbrev pub issuedBy : Answer → ℕ → ClientCall → Course → List Issue
+issuedBy (answer.Request n) i k s =
     record { run = i; frame = take n (k .request); file = heldOf (k .run) (k .file); box = mailboxOf (s .bank) (k .run .subscriber) }
+    ∷ s .issued
+issuedBy answer.Ignored i k s = s .issued
+issuedBy (answer.Closed w) i k s = s .issued
+issuedBy (answer.Refused r) i k s = s .issued
 
--- a run's call: a request issued, nothing, the run's end, or given a number and nothing changed
-abbrev pub afterRun : Answer → ℕ → ClientCall → List ℕ → Course → Course
-afterRun (answer.Request n) i k payload s = leaving i k payload (newIssue s i k n ∷ s .issued) s
-afterRun answer.Ignored i k payload s = leaving i k payload (s .issued) s
-afterRun (answer.Closed w) i k payload s = leaving i k payload (s .issued) s
-afterRun (answer.Refused r) i k payload s = s
+-- a call of run i
+abbrev pub afterRun : ℕ → ClientCall → List ℕ → Course → Course
+afterRun i k payload s = withRun i (k .run) payload (k .file) (withIssued (issuedBy (k .answer) i k s) s)
 
-abbrev pub arrive : ℕ → List ℕ → Course → Course
-arrive i reply s = record {
-  bank = s .bank;
-  runs = s .runs;
-  payloads = s .payloads;
-  files = s .files;
-  mailboxes = s .mailboxes;
-  issued = s .issued;
-  exchanged = s .exchanged;
-  arrived = record { run = i; reply = reply } ∷ s .arrived;
-}
-
--- a reply has reached the run unless its call is given a number
-abbrev pub reached : Answer → ℕ → List ℕ → Course → Course
-reached (answer.Refused r) i reply s = s
-reached (answer.Request n) i reply s = arrive i reply s
-reached answer.Ignored i reply s = arrive i reply s
-reached (answer.Closed w) i reply s = arrive i reply s
-
--- the course after one call, and after a list of calls
-unfoldable pub exec : Call → Course → Course
-exec (frameArrives w time ids frame buffer) s =
+-- what a call given no number leaves
+abbrev pub carryOut : Call → Course → Course
+carryOut (frameArrives w time ids frame buffer) s =
     let k = frameCall w time ids frame buffer in
-    afterFrame (k .answer) k (advanced time w) frame s
-exec (filePut b boxes m file) s = let k = fileCall b m file boxes in afterFile (k .answer) k m file s
-exec (begins i c way subscriber first l) s = let k = beginCall c way subscriber first l in afterRun (k .answer) i k (l .payload) s
-exec (replyArrives i c reply l) s = let k = replyCall c reply l in reached (k .answer) i reply (afterRun (k .answer) i k (l .payload) s)
-exec (noReply i c l) s = let k = noReplyCall c l in afterRun (k .answer) i k (l .payload) s
+    afterFrame (replyIn (k .answer) (k .buffer)) (k .world) (advanced time w) frame s
+carryOut (filePut b boxes m file) s = afterFile (fileCall b m file boxes) m file s
+carryOut (begins i c way subscriber first l) s = afterRun i (beginCall c way subscriber first l) (l .payload) s
+carryOut (replyArrives i c reply l) s =
+    withArrived (record { run = i; reply = reply } ∷ s .arrived) (afterRun i (replyCall c reply l) (l .payload) s)
+carryOut (noReply i c l) s = afterRun i (noReplyCall c l) (l .payload) s
+
+-- the course after one call, "a number, nothing changed", and after a list of calls
+unfoldable pub exec : Call → Course → Course
+exec k s = cond (eqb (callNumber k) 0) (carryOut k s) s
 
 unfoldable pub after : List Call → Course → Course
 after [] s = s

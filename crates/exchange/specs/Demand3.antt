@@ -6,19 +6,16 @@ use mathlib.Core.Logic.{_⊎_}
 use mathlib.Core.List.{List, [], _∷_, _++_, map, List·Memᴰ as In}
 use lib.Dec.{leb}
 use Rattle.frame_table.specs.declared.table.Form.the-variants as forms
-use Rattle.frame_table.specs.Names.{subscriber, exchange, transaction, returnCode, form}
+use Rattle.frame_table.specs.Names.{subscriber, exchange, returnCode, form}
 use Rattle.frame.specs.Reader.{readRequest, readReply}
 use Rattle.frame_table.specs.Table.{isRequestForm}
 use Rattle.message.specs.declared.codes.ReturnCode.the-variants as code
 use Rattle.message.specs.Codes.{codeField}
 use Rattle.message.specs.Limits.{subscribers}
-use Rattle.bank.specs.Call.{frameCall}
-use Rattle.bank.specs.Mailbox.{fileNumber, fileCall}
 use Rattle.client.specs.declared.run.Client.{Client}
 use Rattle.client.specs.declared.run.Stage.the-variants as stage
 use Rattle.client.specs.declared.run.Word.the-variants.{Lodged, NotLodged, Fetched}
-use Rattle.client.specs.Calls.{beginCall, replyCall, noReplyCall}
-use Rattle.client.specs.Run.{Lent, answerNumber}
+use Rattle.client.specs.Run.{Lent}
 use Rattle.exchange.specs.Course.{
   Call,
   frameArrives,
@@ -30,13 +27,14 @@ use Rattle.exchange.specs.Course.{
   Exchange,
   Course,
   start,
+  callNumber,
   exec,
   after,
   mailboxOf,
   heldOf,
 }
 use Rattle.exchange.specs.Lists.{AtMostOne, NoDup}
-use Rattle.exchange.specs.Terms.{Unless, Answered, IssuedBy, Books, Booked, Order, InBook, OrderOf, Accepted, AllInTurn, Settled}
+use Rattle.exchange.specs.Terms.{IssuedBy, Books, Booked, Opened, Order, InBook, OrderOf, Accepted, AllInTurn, Settled}
 
 -- ---- THE PREMISES
 
@@ -52,16 +50,17 @@ Left i c l s = (c ≡ s .runs i) × (l .payload ≡ s .payloads i) × (l .file �
 
 -- "A request that demand 3 names is a copy of one issued earlier in the list; a reply is a copy of one the bank gave earlier for such a
 -- copy": each frame under a subscriber's number, and each reply that reaches a run. A begin brings its own payload and file buffer
+abbrev pub Premise : Call → Course → Type 0
+Premise (frameArrives w time ids frame buffer) s = (w ≡ s .bank) × (isSubscribers frame ≡ true → (i : ℕ) × IssuedBy i frame s)
+Premise (filePut b boxes m file) s = (b ≡ s .bank .bank) × (boxes ≡ s .bank .boxes)
+Premise (begins i c way subscriber first l) s = c ≡ s .runs i
+Premise (replyArrives i c reply l) s = Left i c l s
+    × ((e : Exchange) × In e (s .exchanged) × (e .reply ≡ reply) × ((j : ℕ) × IssuedBy j (e .request) s))
+Premise (noReply i c l) s = Left i c l s
+
+-- "a call given a number may be lent others"
 abbrev pub Allowed : Call → Course → Type 0
-Allowed (frameArrives w time ids frame buffer) s =
-    Answered (frameCall w time ids frame buffer .answer) ((w ≡ s .bank) × (isSubscribers frame ≡ true → (i : ℕ) × IssuedBy i frame s))
-Allowed (filePut b boxes m file) s = Unless (fileNumber (fileCall b m file boxes .answer))
-    ((b ≡ s .bank .bank) × (boxes ≡ s .bank .boxes))
-Allowed (begins i c way subscriber first l) s = Unless (answerNumber (beginCall c way subscriber first l .answer)) (c ≡ s .runs i)
-Allowed (replyArrives i c reply l) s =
-    Unless (answerNumber (replyCall c reply l .answer))
-    (Left i c l s × ((e : Exchange) × In e (s .exchanged) × (e .reply ≡ reply) × ((j : ℕ) × IssuedBy j (e .request) s)))
-Allowed (noReply i c l) s = Unless (answerNumber (noReplyCall c l .answer)) (Left i c l s)
+Allowed k s = callNumber k ≡ 0 → Premise k s
 
 abbrev pub AllAllowed : List Call → Course → Type 0
 AllAllowed [] s = Unit {0}
@@ -80,6 +79,8 @@ pub record Outcome (s : Course) : Type 0 where
   pub sound : (j : ℕ) (o : Order) → InBook s j o → (i : ℕ) × Booked s i × OrderOf s i o
   pub whole : (i : ℕ) → Booked s i → (j : ℕ) × (o : Order) × InBook s j o × OrderOf s i o
   pub single : (j j′ : ℕ) (o o′ : Order) → InBook s j o → InBook s j′ o′ → o .number ≡ o′ .number → j ≡ j′
+  -- no upload explains two places of the book, no two uploads one
+  pub place : (i j j′ : ℕ) (o o′ : Order) → InBook s j o → InBook s j′ o′ → OrderOf s i o → OrderOf s i o′ → j ≡ j′
   pub apart : (i i′ : ℕ) (o : Order) → Booked s i → Booked s i′ → OrderOf s i o → OrderOf s i′ o → i ≡ i′
   -- "'lodged' names its booked order"
   pub lodged : (i : ℕ) → s .runs i .stage ≡ stage.Ended Lodged →
@@ -87,17 +88,17 @@ pub record Outcome (s : Course) : Type 0 where
   -- "'not lodged' means never booked"
   pub notLodged : (i : ℕ) → s .runs i .stage ≡ stage.Ended NotLodged → Booked s i → ⊥
   -- "a fetched file is the mailbox's file at its transaction's opening"
-  pub fetched : (i : ℕ) → s .runs i .stage ≡ stage.Ended Fetched → (e : Exchange) × In e (s .exchanged)
-      × (form (readReply (e .reply)) ≡ forms.DownloadOpened) × (transaction (readReply (e .reply)) ≡ s .runs i .transaction)
+  pub fetched : (i : ℕ) → s .runs i .stage ≡ stage.Ended Fetched → (e : Exchange) × Opened forms.DownloadOpened s i e
       × (subscriber (readRequest (e .request)) ≡ s .runs i .subscriber) × (heldOf (s .runs i) (s .files i) ≡ e .box)
   -- "The bank's mailbox holds exactly the file last put in by a call given no number, until a receipt of its subscriber is answered
   -- 011000, which alone empties it"
   pub mailbox : (m : ℕ) → 1 ≤ m → m ≤ subscribers → mailboxOf (s .bank) m ≡ s .mailboxes m
-  -- "a mailbox is emptied only after its client held the whole": "as it issued that receipt, its file was the mailbox's"; and it is the
-  -- mailbox's file still as the bank answers
+  -- "a mailbox is emptied only after its client held the whole": "as it issued that receipt, its file was the mailbox's", a run of the
+  -- mailbox's subscriber; and it is the mailbox's file still as the bank answers
   pub emptied : (e : Exchange) → In e (s .exchanged) → returnCode (readReply (e .reply)) ≡ codeField code.DownloadPostprocessDone →
       (form (readRequest (e .request)) ≡ forms.Receipt)
-      × ((x : Issue) × In x (s .issued) × (x .frame ≡ e .request) × (x .file ≡ x .box) × (x .file ≡ e .box))
+      × ((x : Issue) × In x (s .issued) × (x .frame ≡ e .request) × (s .runs (x .run) .subscriber ≡ subscriber (readRequest (e .request)))
+      × (x .file ≡ x .box) × (x .file ≡ e .box))
 
 -- "an order in turn closes as lodged or fetched"
 abbrev pub ClosesInTurn : List Call → Type 0

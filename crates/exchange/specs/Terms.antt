@@ -4,6 +4,7 @@ use mathlib.Core.Path.{_≡_}
 use mathlib.Core.Logic.{_⊎_}
 use mathlib.Core.List.{List, [], _∷_, List·Memᴰ as In}
 use lib.ListN.{length, take}
+use Rattle.frame_table.specs.declared.table.Form.{Form}
 use Rattle.frame_table.specs.declared.table.Form.the-variants as forms
 use Rattle.frame_table.specs.Names.{subscriber, segment, transaction, returnCode, orderNumber, form}
 use Rattle.frame.specs.Reader.{readRequest, readReply}
@@ -16,30 +17,39 @@ use Rattle.bank_state.specs.Search.{openCountOf}
 use Rattle.bank_state.specs.State.{placeAt}
 use Rattle.bank_state.specs.Store.{partAt}
 use Rattle.bank_openings.specs.OrderNumbers.{orderNumberOf}
-use Rattle.bank.specs.declared.call.FrameAnswer.{FrameAnswer}
-use Rattle.bank.specs.declared.call.FrameAnswer.the-variants as frameAnswer
 use Rattle.bank.specs.Call.{frameCall}
 use Rattle.client.specs.declared.run.Stage.the-variants as stage
-use Rattle.client.specs.Calls.{replyCall, noReplyCall}
-use Rattle.client.specs.Run.{answerNumber}
-use Rattle.exchange.specs.Course.{Call, frameArrives, filePut, begins, replyArrives, noReply, Issue, Exchange, Arrival, Course, exec}
-
--- ---- A CALL GIVEN NO NUMBER
-
--- "a call given a number may be lent others": the premise holds of calls given none
-abbrev pub Unless : ℕ → Type 0 → Type 0
-Unless number premise = number ≡ 0 → premise
-
--- the same of a frame call, which is answered or given number 1
-abbrev pub Answered : FrameAnswer → Type 0 → Type 0
-Answered (frameAnswer.Reply n) premise = premise
-Answered frameAnswer.WrongLength premise = Unit {0}
+use Rattle.exchange.specs.Course.{
+  Call,
+  frameArrives,
+  filePut,
+  begins,
+  replyArrives,
+  noReply,
+  Issue,
+  Exchange,
+  Arrival,
+  Course,
+  callNumber,
+  exec,
+}
 
 -- ---- COPIES
 
 -- "A request that demand 3 names is a copy of one issued earlier in the list"; by run i
 abbrev pub IssuedBy : ℕ → List ℕ → Course → Type 0
 IssuedBy i frame s = (x : Issue) × In x (s .issued) × (x .run ≡ i) × (x .frame ≡ frame)
+
+-- a request of the run that the bank received, with the reply given
+abbrev pub Received : ℕ → Exchange → Course → Type 0
+Received i e s = In e (s .exchanged) × IssuedBy i (e .request) s
+
+-- the opening of the run's transaction: a request of the run, answered in the opening's form with 000000 and the run's transaction ID
+pub record Opened (answer : Form) (s : Course) (i : ℕ) (e : Exchange) : Type 0 where
+  pub received : Received i e s
+  pub answered : form (readReply (e .reply)) ≡ answer
+  pub ok : returnCode (readReply (e .reply)) ≡ codeField code.Ok
+  pub own : transaction (readReply (e .reply)) ≡ s .runs i .transaction
 
 -- ---- BOOKED
 
@@ -74,33 +84,30 @@ pub record InBook (s : Course) (j : ℕ) (o : Order) : Type 0 where
 pub record OrderOf (s : Course) (i : ℕ) (o : Order) : Type 0 where
   pub subscriber : o .subscriber ≡ s .runs i .subscriber
   pub bytes : o .bytes ≡ s .payloads i
-  pub opening : Exchange
-  pub given : In opening (s .exchanged)
-  pub opened : form (readReply (opening .reply)) ≡ forms.UploadOpened
-  pub own : transaction (readReply (opening .reply)) ≡ s .runs i .transaction
-  pub number : orderNumber (readReply (opening .reply)) ≡ o .number
+  pub exchange : Exchange
+  pub opened : Opened forms.UploadOpened s i exchange
+  pub number : orderNumber (readReply (exchange .reply)) ≡ o .number
 
 -- ---- AN ORDER IN TURN
-
--- a request of the run that the bank received, with the reply given
-abbrev pub Received : ℕ → Exchange → Course → Type 0
-Received i e s = In e (s .exchanged) × IssuedBy i (e .request) s
 
 -- "An idle hour is over 3,600 on the clock from the arrival of one of the order's requests to that of the next"
 abbrev pub NoIdleHour : ℕ → ℕ → Course → Type 0
 NoIdleHour i clock s = ((e : Exchange) × Received i e s × (clock ≤ e .clock + idleLimit)) ⊎ ((e : Exchange) → Received i e s → ⊥)
 
--- "whose messages each arrive once, in turn": "the run's only calls are begin and the arrivals of these replies"
+-- what "in turn" asks of a call given no number
+abbrev pub Turn : ℕ → Call → Course → Type 0
+Turn i (frameArrives w time ids frame buffer) s = IssuedBy i frame s →
+    ((e : Exchange) → In e (s .exchanged) → e .request ≡ frame → ⊥)
+    × NoIdleHour i (frameCall w time ids frame buffer .world .bank .clock) s
+Turn i (filePut b boxes m file) s = Unit {0}
+Turn i (begins j c way subscriber first l) s = Unit {0}
+Turn i (replyArrives j c reply l) s = j ≡ i → (a : Arrival) → In a (s .arrived) → a .run ≡ i → a .reply ≡ reply → ⊥
+Turn i (noReply j c l) s = j ≡ i → ⊥
+
+-- "whose messages each arrive once, in turn": "calls given a number left out, the run's only calls are begin and the arrivals of these
+-- replies"
 abbrev pub InTurn : ℕ → Call → Course → Type 0
-InTurn i (frameArrives w time ids frame buffer) s =
-    Answered (frameCall w time ids frame buffer .answer)
-    (IssuedBy i frame s → ((e : Exchange) → In e (s .exchanged) → e .request ≡ frame → ⊥) × NoIdleHour i
-    (frameCall w time ids frame buffer .world .bank .clock) s)
-InTurn i (filePut b boxes m file) s = Unit {0}
-InTurn i (begins j c way subscriber first l) s = Unit {0}
-InTurn i (replyArrives j c reply l) s =
-    Unless (answerNumber (replyCall c reply l .answer)) (j ≡ i → (a : Arrival) → In a (s .arrived) → a .run ≡ i → a .reply ≡ reply → ⊥)
-InTurn i (noReply j c l) s = Unless (answerNumber (noReplyCall c l .answer)) (j ≡ i → ⊥)
+InTurn i k s = callNumber k ≡ 0 → Turn i k s
 
 -- "an order whose opening is accepted": a request of the run was answered as an opening, with 000000
 abbrev pub Accepted : ℕ → Course → Type 0
