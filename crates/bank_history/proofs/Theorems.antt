@@ -174,6 +174,11 @@ module _ {w : World} {h : List Exchange} (v : Invariant w h) where
           inside-or-free (no l) = λ _. never (sym f ∙ ap (λ (p : Place). isFree (p .used))
               (List·getD-eq-default (w .bank .places) noPlace {n = i} (let z = v .state .sizes .places in omega arith)))
 
+-- what is cancelled has ended
+pub cancels-ends : {c : ReturnCode} {k : Action} → CancelsWith c k → isEnding k ≡ true
+cancels-ends (cancelled.upload c) = refl
+cancels-ends cancelled.download = refl
+
 -- ---- what a reply tells: the exchange e of a sound history, g before it
 
 module _ {e : Exchange} {g h : List Exchange} (sound : AllSound h) (stands : Stands e g h) where

@@ -8,8 +8,8 @@ use lib.Dec.{ltb}
 use borrow.Author.Tests.{ltb-true, ltb-false}
 use Rattle.octets.specs.Bytes.{numberFrom, number}
 use Rattle.bank_state.specs.Limits.{openingsMost}
-use Rattle.bank_openings.specs.OrderNumbers.{character, letter, orderNumberOf}
-use Rattle.bank_openings.proofs.OrderNumbers.{character-lt}
+use Rattle.message.specs.OrderNumbers.{character, letter, orderNumberOf}
+use Rattle.message.proofs.OrderNumbers.{character-lt}
 
 one-character : (c d : ℕ) → c < 36 → d < 36 → character c ≡ character d → c ≡ d
 unfolding character

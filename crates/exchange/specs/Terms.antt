@@ -16,7 +16,7 @@ use Rattle.bank_state.specs.Limits.{placeCount, idleLimit}
 use Rattle.bank_state.specs.Search.{openCountOf}
 use Rattle.bank_state.specs.State.{placeAt}
 use Rattle.bank_state.specs.Store.{partAt}
-use Rattle.bank_openings.specs.OrderNumbers.{orderNumberOf}
+use Rattle.message.specs.OrderNumbers.{orderNumberOf}
 use Rattle.bank.specs.Call.{frameCall}
 use Rattle.client.specs.declared.run.Stage.the-variants as stage
 use Rattle.exchange.specs.Course.{
