@@ -240,14 +240,16 @@ module _ (s : Course) (b : BankPart s) (time : ℕ) (ids frame buffer : List ℕ
       now : mailboxOf (k .world) m ≡ mailboxFile (answered time ids frame p .world) m
       now = same-mailbox (k .world) m ∙ ap (λ (w : World). mailboxFile w m) (told .world)
 
-      emptied-own : x .verdict ≡ verdict.Of (transaction (x .request)) (action.Download down.Confirmed) → m ≡ subscriber (readRequest frame) →
+      emptied-own : x .verdict ≡ verdict.Of (transaction (x .request)) (action.Download down.Confirmed) →
+          m ≡ subscriber (readRequest frame) →
           mailboxFile (answered time ids frame p .world) m ≡ []
       unfolding exchangeOf respond
       emptied-own own e =
           let v = advanced-keeps time (p .world) (p .history) (b .holds .invariant) in
           ap (mailboxFile (answered time ids frame p .world)) e
           ∙ case-empties
-          (happens (number ids) (advanced time (p .world)) (readRequest frame) (dataOf frame) (v .state .sizes .places) (v .state .sizes .downloads))
+          (happens (number ids) (advanced time (p .world)) (readRequest frame) (dataOf frame) (v .state .sizes .places)
+          (v .state .sizes .downloads))
           (v .state .sizes) own .empty
 
       kept-other : (Emptied (answered time ids frame p .world) m x → ⊥) →
@@ -264,7 +266,8 @@ module _ (s : Course) (b : BankPart s) (time : ℕ) (ids frame buffer : List ℕ
       unfolding emptied exchangeOf
       next-mailbox = now ∙ at (eqb (returnCode (readReply (take n (k .buffer)))) (codeField code.DownloadPostprocessDone)) refl
         where
-          own : (d : Bool) → eqb m (subscriber (readRequest frame)) ≡ d → x .verdict ≡ verdict.Of (transaction (x .request)) (action.Download down.Confirmed) →
+          own : (d : Bool) → eqb m (subscriber (readRequest frame)) ≡ d →
+              x .verdict ≡ verdict.Of (transaction (x .request)) (action.Download down.Confirmed) →
               mailboxFile (answered time ids frame p .world) m ≡ cond d [] (s .mailboxes m)
           own true e c = emptied-own c (eqb-true m (subscriber (readRequest frame)) e)
           own false e c = kept-other (λ z. eqb-false m (subscriber (readRequest frame)) e (sym (z .owner)))

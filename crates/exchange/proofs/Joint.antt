@@ -335,8 +335,9 @@ module _ (s : Course) (v : Parts s) (copies : Copied s) (numbers : OneExchangeNu
       at : (o : (f : bank.Exchange) × (g : List bank.Exchange) × Stands f g (v .bank .past .history) × ActionIn isBooking t f) →
           (i : ℕ) × Uploads i t × ((e : Exchange) × In e (s .exchanged) × Books s i e)
       at (f, g, stands, d) =
-          let own : f .verdict ≡ verdict.Of t (action.Upload up.TookLast) = d .is ∙ ap (verdict.Of t) (booking-last (d .action) (d .kind)) in
-          let k = taken-from stands (record { action = (action.Upload up.TookLast); is = own; kind = refl }) in
+          let own : f .verdict ≡ verdict.Of t (action.Upload up.TookLast) = d .is
+          ∙ ap (verdict.Of t) (booking-last (d .action) (d .kind)) in
+          let k = taken-from stands (record { action = action.Upload up.TookLast; is = own; kind = refl }) in
           let o = upload-in t (sound-before sound stands) (action-sound sound stands own .taking .upload .opened) in (
             k .run,
             k .uploads,

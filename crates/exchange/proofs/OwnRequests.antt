@@ -352,7 +352,8 @@ module _ (s : Course) (v : Parts s) (copies : Copied s) (numbers : OneExchangeNu
 
           opened : (id : Bits128) (m : ℕ) → x .verdict ≡ verdict.Of id (action.Upload (up.Opened m)) → State t i p
           opened id m e =
-              let r = replies (verdict.Of id (action.Upload (up.Opened m))) e ∙ ap (λ (n : ℕ). uploadOpened n id (orderNumberOf m)) is-outstanding in
+              let r = replies (verdict.Of id (action.Upload (up.Opened m))) e
+              ∙ ap (λ (n : ℕ). uploadOpened n id (orderNumberOf m)) is-outstanding in
               let y = opened-fits (c .exchange) (orderNumberOf m) 0 0 id in
               let there = bankTurn.upload-opens time ids frame (v .bank .past) (v .bank .holds) id m e in
               told-by Upload step.Opening j turn (
@@ -391,7 +392,8 @@ module _ (s : Course) (v : Parts s) (copies : Copied s) (numbers : OneExchangeNu
 
           opened : (id : Bits128) (n : ℕ) → x .verdict ≡ verdict.Of id (action.Download (down.Opened n)) → State t i p
           opened id n e =
-              let r = replies (verdict.Of id (action.Download (down.Opened n))) e ∙ ap (λ (m : ℕ). downloadOpened m n id (lastMarkOf 1 n)) is-outstanding in
+              let r = replies (verdict.Of id (action.Download (down.Opened n))) e
+              ∙ ap (λ (m : ℕ). downloadOpened m n id (lastMarkOf 1 n)) is-outstanding in
               let y = download-fits (c .exchange) n 0 (lastMarkOf 1 n) id in
               let there = bankTurn.download-opens time ids frame (v .bank .past) (v .bank .holds) id n e in
               told-by Download step.Opening j turn (
@@ -553,7 +555,8 @@ module _ (s : Course) (v : Parts s) (copies : Copied s) (numbers : OneExchangeNu
           count : mailboxSegments (subscriber (readRequest frame)) (advanced time (v .bank .past .world) .bank) ≡ c .segments
           count = count-now (turn .direction) (ap isOpen (turn .step)) k o from to
 
-          reach : segment (readRequest frame) ≤ mailboxSegments (subscriber (readRequest frame)) (advanced time (v .bank .past .world) .bank)
+          reach : segment (readRequest frame) ≤ mailboxSegments (subscriber (readRequest frame))
+              (advanced time (v .bank .past .world) .bank)
           reach = let a = is-segment in let b = count in omega arith
 
           r : readReply (f .reply) ≡ downloadSegment (c .exchange) (c .transaction) j (lastMarkOf j (c .segments))

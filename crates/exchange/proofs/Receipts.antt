@@ -197,7 +197,8 @@ module _ (s : Course) (v : Parts s) (copies : Copied s) (numbers : OneExchangeNu
       at : Dec (i < placeCount) → placeAt (s .bank .bank) i .transaction ≡ t → ⊥
       at (yes l) = by (placeAt (s .bank .bank) i .used) used (inv s v copies numbers .places i l)
       at (no l) = λ _. never (sym used ∙ ap (λ (p : Place). isFree (p .used))
-          (List·getD-eq-default (s .bank .bank .places) noPlace {n = i} (let z = inv s v copies numbers .state .sizes .places in omega arith)))
+          (List·getD-eq-default (s .bank .bank .places) noPlace {n = i}
+          (let z = inv s v copies numbers .state .sizes .places in omega arith)))
 
   -- where it was issued with the mailbox as it is now, the run's file is the mailbox's, or the transaction is gone
   pub held-or-gone : x .box ≡ boxNow s x → HeldOrGone (s .bank) x
@@ -279,7 +280,8 @@ not-gone b time ids frame buffer en z g =
     let w = b .past .world in
     let n = advanced-keeps time w (b .past .history) (b .holds .invariant) in
     let e = case-empties
-    (happens (number ids) (advanced time w) (readRequest frame) (dataOf frame) (n .state .sizes .places) (n .state .sizes .downloads)) (n .state .sizes)
+    (happens (number ids) (advanced time w) (readRequest frame) (dataOf frame) (n .state .sizes .places)
+    (n .state .sizes .downloads)) (n .state .sizes)
     (done-confirmed (en .sound) newest (en .proper) (ap returnCode (sym (en .same .reply)) ∙ z) .0) in
     each-download time w (λ (r : Download). r .used ≡ true → r .transaction ≡ transaction (readRequest frame) → ⊥) (λ u. never u)
     (λ j _. subst (λ (y : World). Gone y (transaction (readRequest frame))) (sym (b .world)) g .downloads j) (e .row) (e .used) (e .own)

@@ -96,7 +96,8 @@ module _ (s : Course) (v : Parts s) (copies : Copied s) (numbers : OneExchangeNu
         before : DownloadUnlessIdle (v .bank .past .world) t u d last
         before = subst (λ (w : World). DownloadUnlessIdle w t u d last) (sym (v .bank .world)) a
 
-        confirmed-not : {id : Bits128} → DownloadAt (v .bank .past .world) t u d last → x .verdict ≡ verdict.Of id (action.Download down.Confirmed) →
+        confirmed-not : {id : Bits128} → DownloadAt (v .bank .past .world) t u d last →
+            x .verdict ≡ verdict.Of id (action.Download down.Confirmed) →
             subscriber (x .request) ≡ u → ⊥
         confirmed-not {id} there own from =
             let same : id ≡ t = confirms-own (number ids) time (p .world) (readRequest frame) (dataOf frame) (p .history)

@@ -206,7 +206,8 @@ module _ {e : Exchange} {g h : List Exchange} (sound : AllSound h) (stands : Sta
         at (verdict.Refused x) own r = never (sym (told (verdict.Refused x) own) ∙ (refusing-code x ∙ r))
         at (verdict.Of t k) own r = (t, k, own)
 
-    other-code : {A : Type 0} (c : ReturnCode) {t : Bits128} {k : Action} → returnCode (e .reply) ≡ codeField c → e .verdict ≡ verdict.Of t k →
+    other-code : {A : Type 0} (c : ReturnCode) {t : Bits128} {k : Action} → returnCode (e .reply) ≡ codeField c →
+        e .verdict ≡ verdict.Of t k →
         (codeField (verdictCode (verdict.Of t k)) ≡ codeField c → ⊥) → A
     other-code c z own n = absurd (n (ap (λ (v : Verdict). codeField (verdictCode v)) (sym own) ∙ sym coded ∙ z))
 
@@ -257,13 +258,16 @@ module _ {e : Exchange} {g h : List Exchange} (sound : AllSound h) (stands : Sta
 
     -- 011000: a receipt of the request's transaction is confirmed
     pub done-confirmed : returnCode (e .reply) ≡ codeField code.DownloadPostprocessDone →
-        (e .verdict ≡ verdict.Of (transaction (e .request)) (action.Download down.Confirmed)) × SoundConfirmed (transaction (e .request)) e g
+        (e .verdict ≡ verdict.Of (transaction (e .request)) (action.Download down.Confirmed))
+        × SoundConfirmed (transaction (e .request)) e g
     done-confirmed z = let b = by-code code.DownloadPostprocessDone refl z in at (b .0) (b .1) (b .2)
       where
         Out : Type 0
-        Out = (e .verdict ≡ verdict.Of (transaction (e .request)) (action.Download down.Confirmed)) × SoundConfirmed (transaction (e .request)) e g
+        Out = (e .verdict ≡ verdict.Of (transaction (e .request)) (action.Download down.Confirmed))
+            × SoundConfirmed (transaction (e .request)) e g
 
-        not : {t : Bits128} {k : Action} → e .verdict ≡ verdict.Of t k → (codeField (verdictCode (verdict.Of t k)) ≡ codeField code.DownloadPostprocessDone →
+        not : {t : Bits128} {k : Action} → e .verdict ≡ verdict.Of t k →
+            (codeField (verdictCode (verdict.Of t k)) ≡ codeField code.DownloadPostprocessDone →
             ⊥) → Out
         not own = other-code code.DownloadPostprocessDone z own
 
