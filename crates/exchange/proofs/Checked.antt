@@ -128,6 +128,16 @@ nth empty n [] = empty
 nth empty zero (x ∷ l) = x
 nth empty (suc n) (x ∷ l) = nth empty n l
 
+abbrev has : {A : Type 0} → ℕ → List A → Bool
+has n [] = false
+has zero (x ∷ l) = true
+has (suc n) (x ∷ l) = has n l
+
+nth-in : {A : Type 0} (empty : A) (n : ℕ) (l : List A) → has n l ≡ true → In (nth empty n l) l
+nth-in empty n [] h = never h
+nth-in empty zero (x ∷ l) h = here refl
+nth-in empty (suc n) (x ∷ l) h = there (nth-in empty n l h)
+
 -- numbers count back from the newest, which is 0
 pub data Move : Type 0 where
   -- that request issued comes to the bank, at a time
@@ -152,8 +162,11 @@ lent payload file = lentOf 1000 (replicate nonceBytes 0) payload file (replicate
 abbrev requestAt : ℕ → Course → List ℕ
 requestAt n s = nth (record { run = 0; frame = []; file = []; box = [] }) n (s .issued) .frame
 
+abbrev noExchange : Exchange
+noExchange = record { request = []; reply = []; clock = 0; box = [] }
+
 abbrev replyAt : ℕ → Course → List ℕ
-replyAt n s = nth (record { request = []; reply = []; clock = 0; box = [] }) n (s .exchanged) .reply
+replyAt n s = nth noExchange n (s .exchanged) .reply
 
 abbrev frameCalled : List ℕ → ℕ → Course → Call
 frameCalled frame time s = frameArrives (s .bank) time (replicate 8 0) frame (replicate replyRoom 0)
@@ -245,6 +258,10 @@ numbers [] s h = distinct-nodup _ h
 numbers (m ∷ ms) s h = numbers ms (next m s) (and-true (isAllowed m s) (isMet ms (next m s)) h .1)
 
 -- ---- in turn
+
+-- reply n is an opening's
+abbrev pub Opens : ℕ → Course → Type 0
+Opens n s = (form (readReply (replyAt n s)) ≡ forms.UploadOpened) ⊎ (form (readReply (replyAt n s)) ≡ forms.DownloadOpened)
 
 module _ (i : ℕ) where
   abbrev pub isOwn : List ℕ → Course → Bool
@@ -366,31 +383,51 @@ module _ (i : ℕ) where
               let y = and-true (eqb (x .0 .run) i) (sameBytes (x .0 .reply) (e .reply)) (x .2) in
               (x .0, x .1, eqb-true (x .0 .run) i (y .0), same-bytes (x .0 .reply) (e .reply) (y .1))
 
-  -- ---- the test of a whole list
+  -- exchange n was given to a request of the run, with 000000
+  abbrev isTaken : ℕ → Course → Bool
+  isTaken n s = has n (s .exchanged) && isOwn (nth noExchange n (s .exchanged) .request) s
+      && eqb (returnCode (readReply (replyAt n s))) (codeField code.Ok)
 
-  abbrev pub isInOrder : List Move → Course → Bool
-  isInOrder [] s = isAlone s && isSettled s
-  isInOrder (m ∷ ms) s = isAlone s && isInTurn m s && isInOrder ms (next m s)
+  accepted : (n : ℕ) (s : Course) → isTaken n s ≡ true → Opens n s → Accepted i s
+  accepted n s h kind =
+      let e = nth noExchange n (s .exchanged) in
+      let ok = eqb (returnCode (readReply (e .reply))) (codeField code.Ok) in
+      let a = and-true (has n (s .exchanged) && isOwn (e .request) s) ok h in
+      let b = and-true (has n (s .exchanged)) (isOwn (e .request) s) (a .0) in
+      (e, (nth-in noExchange n (s .exchanged) (b .0), own (e .request) s (b .1)), kind, eqb-true _ (codeField code.Ok) (a .1))
 
-  all-in-turn : (ms : List Move) (s : Course) → isInOrder ms s ≡ true → AllInTurn i (callsOf ms s) s
-  all-in-turn [] s h = λ accepted running. leb-true _ 1 (and-true (isAlone s) (isSettled s) h .0)
-  all-in-turn (m ∷ ms) s h =
-      let a = and-true (isAlone s && isInTurn m s) (isInOrder ms (next m s)) h in
-      let b = and-true (isAlone s) (isInTurn m s) (a .0) in
-      (λ accepted running. leb-true _ 1 (b .0), in-turn m s (b .1), all-in-turn ms (next m s) (a .1))
+  -- ---- the test of a whole list, whose opening is exchange n at its end
 
-  all-settled : (ms : List Move) (s : Course) → isInOrder ms s ≡ true → Settled (endOf ms s) i
-  all-settled [] s h = settled s (and-true (isAlone s) (isSettled s) h .1)
-  all-settled (m ∷ ms) s h =
-      all-settled ms (next m s) (and-true (isAlone s && isInTurn m s) (isInOrder ms (next m s)) h .1)
+  abbrev isDone : ℕ → Course → Bool
+  isDone n s = isAlone s && (isSettled s && isTaken n s)
 
--- its opening was accepted
-pub record Opening (i : ℕ) (s : Course) : Type 0 where
-  pub exchange : Exchange
-  pub given : In exchange (s .exchanged)
-  pub own : isOwn i (exchange .request) s ≡ true
-  pub kind : (form (readReply (exchange .reply)) ≡ forms.UploadOpened) ⊎ (form (readReply (exchange .reply)) ≡ forms.DownloadOpened)
-  pub ok : returnCode (readReply (exchange .reply)) ≡ codeField code.Ok
+  abbrev pub isInOrder : ℕ → List Move → Course → Bool
+  isInOrder n [] s = isNumbered s && isDone n s
+  isInOrder n (m ∷ ms) s = isAllowed m s && ((isAlone s && isInTurn m s) && isInOrder n ms (next m s))
+
+  module _ (n : ℕ) where
+    one-more : (m : Move) (ms : List Move) (s : Course) → isInOrder n (m ∷ ms) s ≡ true →
+        (isAllowed m s ≡ true) × (isAlone s && isInTurn m s ≡ true) × (isInOrder n ms (next m s) ≡ true)
+    one-more m ms s h =
+        let a = and-true (isAllowed m s) ((isAlone s && isInTurn m s) && isInOrder n ms (next m s)) h in
+        let b = and-true (isAlone s && isInTurn m s) (isInOrder n ms (next m s)) (a .1) in
+        (a .0, b .0, b .1)
+
+    pub order-met : (ms : List Move) (s : Course) → isInOrder n ms s ≡ true → isMet ms s ≡ true
+    order-met [] s h = and-true (isNumbered s) (isDone n s) h .0
+    order-met (m ∷ ms) s h = let a = one-more m ms s h in both (a .0) (order-met ms (next m s) (a .2))
+
+    all-done : (ms : List Move) (s : Course) → isInOrder n ms s ≡ true → isDone n (endOf ms s) ≡ true
+    all-done [] s h = and-true (isNumbered s) (isDone n s) h .1
+    all-done (m ∷ ms) s h = all-done ms (next m s) (one-more m ms s h .2)
+
+    all-in-turn : (ms : List Move) (s : Course) → isInOrder n ms s ≡ true → AllInTurn i (callsOf ms s) s
+    all-in-turn [] s h = λ accepted running.
+        leb-true _ 1 (and-true (isAlone s) (isSettled s && isTaken n s) (and-true (isNumbered s) (isDone n s) h .1) .0)
+    all-in-turn (m ∷ ms) s h =
+        let a = one-more m ms s h in
+        let b = and-true (isAlone s) (isInTurn m s) (a .1) in
+        (λ accepted running. leb-true _ 1 (b .0), in-turn m s (b .1), all-in-turn ms (next m s) (a .2))
 
 -- ---- the theorem applied
 
@@ -411,9 +448,12 @@ module _ (ms : List Move) (met : isMet ms start ≡ true) where
   pub outcome : Outcome (endOf ms start)
   outcome = subst Outcome (ends ms start) (applied .0)
 
-  -- "an order in turn closes as lodged or fetched"
-  pub closed : {i : ℕ} → isInOrder i ms start ≡ true → Opening i (endOf ms start) → Closed i (endOf ms start)
-  closed {i} turn o =
-      let end = endOf ms start in
-      subst (λ (s : Course). Accepted i s → Settled s i → Closed i s) (ends ms start) (applied .1 i (all-in-turn i ms start turn))
-      (o .exchange, (o .given, own i (o .exchange .request) end (o .own)), o .kind, o .ok) (all-settled i ms start turn)
+-- "an order in turn closes as lodged or fetched"
+pub closed : (i n : ℕ) (ms : List Move) → isInOrder i n ms start ≡ true → Opens n (endOf ms start) → Closed i (endOf ms start)
+closed i n ms h kind =
+    let end = endOf ms start in
+    let met = order-met i n ms start h in
+    let a = and-true (isAlone i end) (isSettled i end && isTaken i n end) (all-done i n ms start h) in
+    let b = and-true (isSettled i end) (isTaken i n end) (a .1) in
+    subst (λ (s : Course). Accepted i s → Settled s i → Closed i s) (ends ms start)
+    (applied ms met .1 i (all-in-turn i n ms start h)) (accepted i n end (b .1) kind) (settled i end (b .0))

@@ -1,7 +1,7 @@
 -- Computed examples of demand 3: lists that meet its premises, what they come to, and the theorem applied to them.
 use Prim.Native.Nat.{ℕ}
 use mathlib.Core.Bool.{true}
-use mathlib.Core.List.{List, [], _∷_, _++_, List·Memᴰ·head as here, List·Memᴰ·tail as there}
+use mathlib.Core.List.{List, [], _∷_, _++_}
 use mathlib.Core.Logic.{inl, inr}
 use mathlib.Core.Path.{_≡_, refl, sym, _∙_}
 use lib.ListN.{replicate}
@@ -34,8 +34,9 @@ use Rattle.exchange.proofs.Checked.{
   callsOf,
   endOf,
   isMet,
+  Opens,
   isInOrder,
-  Opening,
+  order-met,
   outcome,
   Closed,
   closed,
@@ -163,21 +164,18 @@ abbrev Holds : List ℕ → Course → Type 0
 Holds file s = heldOf (s .runs 0) (s .files 0) ≡ file
 
 record Computed : Type 0 where
-  lodging-met : isMet lodging start ≡ true
-  lodging-in-turn : isInOrder 0 lodging start ≡ true
-  lodging-ends : let s = endOf lodging start in Opening 0 s × InFirstPlace s
+  lodging-in-turn : isInOrder 0 1 lodging start ≡ true
+  lodging-ends : let s = endOf lodging start in Opens 1 s × InFirstPlace s
   repeating-met : isMet repeating start ≡ true
   repeating-ends : codeNow (endOf repeating start) ≡ codeField code.UnknownTransaction
   losing-met : isMet losing start ≡ true
   losing-ends : let s = endOf losing start in Ended Unclear s × InFirstPlace s
   -- the fourth call was the last before the first "no reply"
   no-reply-taken : callNumber (callOf (silent 0) (endOf segmentSent start)) ≡ 0
-  fetching-met : isMet fetching start ≡ true
-  fetching-in-turn : isInOrder 0 fetching start ≡ true
-  fetching-ends : let s = endOf fetching start in Opening 0 s × Holds (66 ∷ 67 ∷ []) s × (mailboxOf (s .bank) 1 ≡ [])
-  crossing-met : isMet crossing start ≡ true
-  crossing-in-turn : isInOrder 0 crossing start ≡ true
-  crossing-ends : let s = endOf crossing start in Opening 0 s × Ended Lodged s
+  fetching-in-turn : isInOrder 0 1 fetching start ≡ true
+  fetching-ends : let s = endOf fetching start in Opens 1 s × Holds (66 ∷ 67 ∷ []) s × (mailboxOf (s .bank) 1 ≡ [])
+  crossing-in-turn : isInOrder 0 4 crossing start ≡ true
+  crossing-ends : let s = endOf crossing start in Opens 4 s × Ended Lodged s
   again-met : isMet again start ≡ true
   again-ends : let s = endOf again start in Ended Fetched s × Holds twoSegments s
   cancelled-met : isMet cancelled start ≡ true
@@ -223,23 +221,17 @@ unfolding frameBytes.numberFrom frameBytes.number frameBytes.bytesOf frameBytes.
     clientRulings.beginRuling clientRulings.rulingNotBegun clientRulings.rulingRunning clientRulings.rulingEnded course.start
     course.mailboxOf course.heldOf course.emptied course.exec isSubscribers
 computed = record {
-  lodging-met = refl;
   lodging-in-turn = refl;
-  lodging-ends = (record { exchange = _; given = there (here refl); own = refl; kind = inl refl; ok = refl }, refl);
+  lodging-ends = (inl refl, refl);
   repeating-met = refl;
   repeating-ends = refl;
   losing-met = refl;
   losing-ends = (refl, refl);
   no-reply-taken = refl;
-  fetching-met = refl;
   fetching-in-turn = refl;
-  fetching-ends = (record { exchange = _; given = there (here refl); own = refl; kind = inr refl; ok = refl }, refl, refl);
-  crossing-met = refl;
+  fetching-ends = (inr refl, refl, refl);
   crossing-in-turn = refl;
-  crossing-ends = (
-    record { exchange = _; given = there (there (there (there (here refl)))); own = refl; kind = inl refl; ok = refl },
-    refl,
-  );
+  crossing-ends = (inl refl, refl);
   again-met = refl;
   again-ends = (refl, refl);
   cancelled-met = refl;
@@ -251,22 +243,22 @@ computed = record {
 -- ---- the theorem applied
 
 lodging-closed : Closed 0 (endOf lodging start)
-lodging-closed = closed lodging (computed .lodging-met) (computed .lodging-in-turn) (computed .lodging-ends .0)
+lodging-closed = closed 0 1 lodging (computed .lodging-in-turn) (computed .lodging-ends .0)
 
 -- a call of "no reply" that is given no number is not in turn
 losing-not-in-turn : AllInTurn 0 (callsOf losing start) start → ⊥
 losing-not-in-turn h = h .2 .2 .2 .2 .1 (computed .no-reply-taken) refl
 
 fetching-closed : Closed 0 (endOf fetching start)
-fetching-closed = closed fetching (computed .fetching-met) (computed .fetching-in-turn) (computed .fetching-ends .0)
+fetching-closed = closed 0 1 fetching (computed .fetching-in-turn) (computed .fetching-ends .0)
 
 crossing-closed : Closed 0 (endOf crossing start)
-crossing-closed = closed crossing (computed .crossing-met) (computed .crossing-in-turn) (computed .crossing-ends .0)
+crossing-closed = closed 0 4 crossing (computed .crossing-in-turn) (computed .crossing-ends .0)
 
 -- and its order is in the book, with its bytes, under the number that the run names
 crossing-booked : (j : ℕ) × (o : Order) × InBook (endOf crossing start) j o × OrderOf (endOf crossing start) 0 o
 crossing-booked =
-    let o = outcome crossing (computed .crossing-met) .lodged 0 (computed .crossing-ends .1) .1 in
+    let o = outcome crossing (order-met 0 4 crossing start (computed .crossing-in-turn)) .lodged 0 (computed .crossing-ends .1) .1 in
     (o .0, o .1, o .2, o .3)
 
 -- the whole file is the mailbox's at the opening, of which the run holds every byte
