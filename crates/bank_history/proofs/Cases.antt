@@ -196,7 +196,8 @@ module _ (first : ℕ) (w : World) (q : Fields) (d : List ℕ) (rowed : length (
         sound = judged-download (downloadAt (w .bank) j) (mailboxSegments (subscriber q) (w .bank)) q r;
       })))
 
-  upload-happens : {v : Verdict} → form q ≡ forms.UploadOpening → Readable q (length d) → OpeningSound first (w .bank) q direction.Upload v → Comes v
+  upload-happens : {v : Verdict} → form q ≡ forms.UploadOpening → Readable q (length d) →
+      OpeningSound first (w .bank) q direction.Upload v → Comes v
   upload-happens f a (opening.refused d c e) = refused c e
   upload-happens f a (opening.upload g n p) = opensUpload f a g n p
 

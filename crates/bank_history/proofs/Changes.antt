@@ -161,7 +161,8 @@ module _ (first : ℕ) (w : World) (h : List Exchange) (v : Invariant w h) (q : 
   Mailbox u = (mailboxFile (carryOut u w q d) m ≡ mailboxFile w m) ⊎ Emptied (carryOut u w q d) m (entry u w q d)
 
   -- a receipt of the subscriber of m, answered 011000, empties m; one of another subscriber leaves it
-  confirmed-mailbox : 1 ≤ subscriber q → subscriber q ≤ subscribers → (t : Bits128) → Mailbox (verdict.Of t (action.Download down.Confirmed))
+  confirmed-mailbox : 1 ≤ subscriber q → subscriber q ≤ subscribers → (t : Bits128) →
+      Mailbox (verdict.Of t (action.Download down.Confirmed))
   unfolding fileLength
   confirmed-mailbox known most t = own (ℕ-discrete (subscriber q) m)
     where
@@ -301,7 +302,8 @@ module _ (t : Bits128) where
   answered-gone time ids frame p holds g =
       let v = advanced-keeps time (p .world) (p .history) (holds .invariant) in
       case-gone (advanced time (p .world)) g (number ids) (readRequest frame) (dataOf frame)
-      (happens (number ids) (advanced time (p .world)) (readRequest frame) (dataOf frame) (v .state .sizes .places) (v .state .sizes .downloads))
+      (happens (number ids) (advanced time (p .world)) (readRequest frame) (dataOf frame) (v .state .sizes .places)
+      (v .state .sizes .downloads))
 
   -- what is gone stays gone, whatever the call
   pub gone-stays : (c : BankCall) (p : Past) → Holds p → Gone (p .world) t → Gone (after c p .world) t

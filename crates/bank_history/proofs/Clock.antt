@@ -82,13 +82,15 @@ at-clock c w h l v = download-change w c (w .bank .openings) (endDownloads (ende
             v .downloads j,
           ));
       mailboxes = v .state .mailboxes;
-      apart = λ i j a f. each-endDownloads (λ (r : Download). r .used ≡ true → placeAt (w .bank) i .transaction .low ≡ r .transaction .low → ⊥)
+      apart = λ i j a f. each-endDownloads (λ (r : Download). r .used ≡ true →
+          placeAt (w .bank) i .transaction .low ≡ r .transaction .low → ⊥)
           (λ g. never g) (ended.Idle c) (w .bank .downloads) (λ m _ g. v .state .apart i m a f) j;
       inOrder = packed-keepOnly (λ (r : Download). r .used) noDownload (λ (r : Download). r .transaction .low)
           (λ (r : Download). suc (r .transaction .low))
           stays (λ r. omega arith) (v .state .inOrder);
       memory = memory-later (w .bank .clock) c h l (w .bank .nonces) (v .state .sizes .nonces) (v .memory);
-      openAll = let m = count-keepOnly stays noDownload (λ (r : Download). r .used) refl (w .bank .downloads) in omega (arith, v .state .openAll);
+      openAll = let m = count-keepOnly stays noDownload (λ (r : Download). r .used) refl (w .bank .downloads) in
+          omega (arith, v .state .openAll);
       openOf = λ s. let m = count-keepOnly stays noDownload (λ (r : Download). r .used && eqb (r .subscriber) s) refl
           (w .bank .downloads) in
           omega (arith, v .state .openOf s);

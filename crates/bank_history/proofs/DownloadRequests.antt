@@ -211,7 +211,8 @@ opened-open first w h v q b t n unreadable z = absurd (let y : _≡_ {A = ℕ} 0
 opened-open first w h v q b t n (refused c e) z = absurd (let y : _≡_ {A = ℕ} 0 1 = cc in omega arith)
 opened-open first w h v q b t n (opensUpload asked a g m inside) z = absurd (let y : _≡_ {A = ℕ} 0 1 = cc in omega arith)
 opened-open first w h v q b t n (opensDownload asked a g m) z =
-    let inside : freeDownload (w .bank) < length (w .bank .downloads) = free-inside-open (w .bank) (v .state .sizes .downloads) (g .ofAll) in
+    let inside : freeDownload (w .bank) < length (w .bank .downloads) =
+    free-inside-open (w .bank) (v .state .sizes .downloads) (g .ofAll) in
     let is = getD-set-same (w .bank .downloads) (freeDownload (w .bank)) _ noDownload inside in
     record {
       row = freeDownload (w .bank);

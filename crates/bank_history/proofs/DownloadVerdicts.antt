@@ -203,7 +203,8 @@ module _ (w : World) (h : List Exchange) (v : Invariant w h) (q : Fields) (d : L
   ends-keeps a up opens books sound =
       ended-step w h v j is-used (action.Download a) (rw (up, opens) refl) books (now a) refl
       (ending.Transaction (subscriber q) (transaction q)) (w .bank .files) (w .boxes)
-      found (λ i a f. refl) (v .state .sizes .files) (v .state .sizes .boxes) (v .state .mailboxes) (record { reply = refl; verdict = sound })
+      found (λ i a f. refl) (v .state .sizes .files) (v .state .sizes .boxes) (v .state .mailboxes)
+      (record { reply = refl; verdict = sound })
 
   sound-receipt : (a : DownloadAction) → form q ≡ forms.Receipt → old .delivered ≡ n → now a .replyData ≡ [] →
       SoundReceipt (old .transaction) (now a) h

@@ -103,7 +103,8 @@ module _ (w : World) (h : List Exchange) (v : Invariant w h) (j : ℕ) (used : d
       DownloadKept (downloadAt (w .bank) i .used) (w .bank .clock) (w .bank .openings) (x ∷ h)
       (mailboxFile w (downloadAt (w .bank) i .subscriber)) (downloadAt (w .bank) i)
   other-stays i n =
-      download-unchanged x h (mailboxFile w (downloadAt (w .bank) i .subscriber)) (downloadAt (w .bank) i) (w .bank .openings) (w .bank .openings) (omega arith)
+      download-unchanged x h (mailboxFile w (downloadAt (w .bank) i .subscriber)) (downloadAt (w .bank) i)
+      (w .bank .openings) (w .bank .openings) (omega arith)
       (w .bank .clock) (downloadAt (w .bank) i .used)
       (λ f. about (downloadAt (w .bank) i .transaction) (downloads-other w h v j i k used f n)) (download-kept v i)
 
@@ -136,7 +137,8 @@ module _ (w : World) (h : List Exchange) (v : Invariant w h) (j : ℕ) (used : d
         (λ (r : Download). suc (r .transaction .low))
         j new′ (v .state .inOrder) used refl used refl refl;
     memory = memory-unchanged _ _ x h (ap opens own ∙ noOpening) (v .memory);
-    openAll = let m = count-set-le (λ (r : Download). r .used) (w .bank .downloads) j new′ noDownload (λ g. g) in omega (arith, v .state .openAll);
+    openAll = let m = count-set-le (λ (r : Download). r .used) (w .bank .downloads) j new′ noDownload (λ g. g) in
+        omega (arith, v .state .openAll);
     openOf = λ s. let m = count-set-le (λ (r : Download). r .used && eqb (r .subscriber) s) (w .bank .downloads) j new′ noDownload
         (λ g. g) in omega (arith, v .state .openOf s);
     known = known-stays;
@@ -183,13 +185,15 @@ module _ (w : World) (h : List Exchange) (v : Invariant w h) (j : ℕ) (used : d
         (each-endDownloads (λ (r : Download). Holds (r .used) (mailboxFile w (r .subscriber)) r) (refl, tt) which (w .bank .downloads)
         (λ l _ g. stays l g) i);
     mailboxes = mailboxes;
-    apart = λ i l a f. each-endDownloads (λ (r : Download). r .used ≡ true → placeAt (w .bank) i .transaction .low ≡ r .transaction .low → ⊥)
+    apart = λ i l a f. each-endDownloads (λ (r : Download). r .used ≡ true →
+        placeAt (w .bank) i .transaction .low ≡ r .transaction .low → ⊥)
         (λ g. never g) which (w .bank .downloads) (λ m _ g. v .state .apart i m a f) l;
     inOrder = packed-keepOnly (λ (r : Download). r .used) noDownload (λ (r : Download). r .transaction .low)
         (λ (r : Download). suc (r .transaction .low))
         test (λ r. omega arith) (v .state .inOrder);
     memory = memory-unchanged _ _ x h (ap opens own ∙ noOpening) (v .memory);
-    openAll = let m = count-keepOnly test noDownload (λ (r : Download). r .used) refl (w .bank .downloads) in omega (arith, v .state .openAll);
+    openAll = let m = count-keepOnly test noDownload (λ (r : Download). r .used) refl (w .bank .downloads) in
+        omega (arith, v .state .openAll);
     openOf = λ s. let m = count-keepOnly test noDownload (λ (r : Download). r .used && eqb (r .subscriber) s) refl
         (w .bank .downloads) in omega (arith, v .state .openOf s);
     known = known-stays;

@@ -55,7 +55,11 @@ module _ (time : ℕ) (w : World) (h : List Exchange) (v : Invariant w h) (t : B
       number = ap (λ (b : Bits128). b .low) (u .transaction)
 
       known : t .low < advanced time w .bank .openings
-      known = let a = place-counted w h v (u .place) (u .inside) used .0 in let b = advanced-openings time w in let c = number in omega arith
+      known =
+          let a = place-counted w h v (u .place) (u .inside) used .0 in
+          let b = advanced-openings time w in
+          let c = number in
+          omega arith
 
       places : (i : ℕ) → isFree (placeAt (advanced time w .bank) i .used) ≡ false → placeAt (advanced time w .bank) i .transaction ≡ t → ⊥
       places i f z =
@@ -84,7 +88,11 @@ module _ (time : ℕ) (w : World) (h : List Exchange) (v : Invariant w h) (t : B
       number = ap (λ (b : Bits128). b .low) (u .transaction)
 
       known : t .low < advanced time w .bank .openings
-      known = let a = download-open w h v (u .row) (u .used) .0 .counted in let b = advanced-openings time w in let c = number in omega arith
+      known =
+          let a = download-open w h v (u .row) (u .used) .0 .counted in
+          let b = advanced-openings time w in
+          let c = number in
+          omega arith
 
       places : (i : ℕ) → isFree (placeAt (advanced time w .bank) i .used) ≡ false → placeAt (advanced time w .bank) i .transaction ≡ t → ⊥
       places i f z =

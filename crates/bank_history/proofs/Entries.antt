@@ -171,7 +171,8 @@ module _ (u : Bits128) (k : Action) (x : Exchange) (h : List Exchange) (own : x 
   accepted-own = ap (λ (v : Verdict). cond (opens v) (suc (accepted h)) (accepted h)) own
 
 -- behind the exchange that took segment N of u
-pub booked-last : (u : Bits128) (x : Exchange) (h : List Exchange) → x .verdict ≡ verdict.Of u (action.Upload up.TookLast) → (P : Bits128 → Type 0) → P u →
+pub booked-last : (u : Bits128) (x : Exchange) (h : List Exchange) →
+    x .verdict ≡ verdict.Of u (action.Upload up.TookLast) → (P : Bits128 → Type 0) → P u →
     ((t : Bits128) → ever isBooking t h ≡ true → P t) → (t : Bits128) → ever isBooking t (x ∷ h) ≡ true → P t
 unfolding ever
 booked-last u x h own P new old t e = at (did isBooking t (x .verdict)) refl e

@@ -129,7 +129,8 @@ module _ (first : ℕ) (w : World) (h : List Exchange) (v : Invariant w h) (q : 
 
   respond-not-idle : NoneIdle w → NoneIdle (respond first w q d .world)
   unfolding respond
-  respond-not-idle n = case-not-idle w n first q d (v .state .sizes .places) (happens first w q d (v .state .sizes .places) (v .state .sizes .downloads))
+  respond-not-idle n = case-not-idle w n first q d (v .state .sizes .places)
+      (happens first w q d (v .state .sizes .places) (v .state .sizes .downloads))
 
 -- ---- the calls
 

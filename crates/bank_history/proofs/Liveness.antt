@@ -125,7 +125,8 @@ module _ (time : ℕ) (ids frame : List ℕ) (p : Past) (holds : Holds p) where
 
   the-case : Happens (number ids) judged (readRequest frame) (dataOf frame) (newest .verdict)
   unfolding exchangeOf respond
-  the-case = happens (number ids) judged (readRequest frame) (dataOf frame) (judged-holds .state .sizes .places) (judged-holds .state .sizes .downloads)
+  the-case = happens (number ids) judged (readRequest frame) (dataOf frame) (judged-holds .state .sizes .places)
+      (judged-holds .state .sizes .downloads)
 
   pub answered-clock : answered time ids frame p .world .bank .clock ≡ max (p .world .bank .clock) time
   unfolding exchangeOf respond
@@ -193,7 +194,8 @@ module _ (time : ℕ) (ids frame : List ℕ) (p : Past) (holds : Holds p) where
         let c = advanced-clock time (p .world) in omega arith
 
     -- N is still that of the file at its opening
-    pub download-segments : mailboxSegments (subscriber (readRequest frame)) (judged .bank) ≡ segmentsOf (length (fileAtOpening t (p .history)))
+    pub download-segments : mailboxSegments (subscriber (readRequest frame)) (judged .bank)
+        ≡ segmentsOf (length (fileAtOpening t (p .history)))
     download-segments =
         let u = there-download in
         let o = download-open judged (p .history) judged-holds (u .row) (u .used) in
@@ -249,7 +251,8 @@ upload-stays t s k n last c p holds before noAction =
 -- a download stays, unless the call's request is to it or is a receipt of its subscriber answered 011000
 pub download-stays : (t : Bits128) (s d last : ℕ) (c : BankCall) (p : Past) → Holds p → DownloadUnlessIdle (p .world) t s d last →
     ((e : Exchange) → after c p .history ≡ e ∷ p .history → did isAction t (e .verdict) ≡ false) →
-    ((e : Exchange) (id : Bits128) → after c p .history ≡ e ∷ p .history → e .verdict ≡ verdict.Of id (action.Download down.Confirmed) → subscriber (e .request) ≡ s → ⊥) →
+    ((e : Exchange) (id : Bits128) → after c p .history ≡ e ∷ p .history →
+    e .verdict ≡ verdict.Of id (action.Download down.Confirmed) → subscriber (e .request) ≡ s → ⊥) →
     DownloadUnlessIdle (after c p .world) t s d last
 unfolding exchangeOf respond
 download-stays t s d last c p holds before noAction kept =

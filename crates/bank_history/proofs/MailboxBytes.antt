@@ -94,7 +94,8 @@ unfolding respond
 answered-bytes time ids frame p holds b =
     let v = advanced-keeps time (p .world) (p .history) (holds .invariant) in
     case-bytes b
-    (happens (number ids) (advanced time (p .world)) (readRequest frame) (dataOf frame) (v .state .sizes .places) (v .state .sizes .downloads))
+    (happens (number ids) (advanced time (p .world)) (readRequest frame) (dataOf frame) (v .state .sizes .places)
+    (v .state .sizes .downloads))
 
 pub advanced-bytes : (time : ℕ) (w : World) → Bytes (w .boxes) → Bytes (advanced time w .boxes)
 advanced-bytes time w b = subst Bytes (sym (advanced-at-clock time w .boxes)) b

@@ -155,7 +155,8 @@ unfolding keep
 keep-recent c none = end
 keep-recent c (more {x = x} {l = l} e f) = at (recent c x) refl (keep-recent c f)
   where
-    at : (t : Bool) → recent c x ≡ t → AllRemembered c (keep (recent c) l) → AllRemembered c (cond t (x ∷ keep (recent c) l) (keep (recent c) l))
+    at : (t : Bool) → recent c x ≡ t → AllRemembered c (keep (recent c) l) →
+        AllRemembered c (cond t (x ∷ keep (recent c) l) (keep (recent c) l))
     at true r g = next e r g
     at false r g = g
 

@@ -99,7 +99,8 @@ module _ (t : Bits128) (s k n last : ℕ) where
         taken-free : u .place ≡ freePlace (w .bank) → ⊥
         taken-free z =
             never (sym (ap isFree (u .used))
-            ∙ (ap (λ (i : ℕ). isFree (placeAt (w .bank) i .used)) z ∙ free-passes (w .bank) (let y = v .state .sizes .places in omega arith)))
+            ∙ (ap (λ (i : ℕ). isFree (placeAt (w .bank) i .used)) z
+            ∙ free-passes (w .bank) (let y = v .state .sizes .places in omega arith)))
     case-open first q d (opensDownload asked a g m) f = upload-moved u refl
     case-open first q d (toUpload r a c) f =
         let i = uploadAt (w .bank) q in

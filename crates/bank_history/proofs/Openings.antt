@@ -122,7 +122,8 @@ module _ (first : ℕ) (w : World) (h : List Exchange) (v : Invariant w h) (q : 
       subst (λ (z : Nonce). Memory (w .bank .clock) (set (w .bank .nonces) (freeNonce (w .bank)) z) (x ∷ h)) e
       (memory-added (w .bank .clock) h x opened (rw same (acceptable .timely)) (w .bank .nonces) (v .memory) (acceptable .memory))
 
-  module _ (k : Action) (starts : isOpening k ≡ true) (unbooked : isBooking k ≡ false) (x : Exchange) (own : x .verdict ≡ verdict.Of t k) where
+  module _ (k : Action) (starts : isOpening k ≡ true) (unbooked : isBooking k ≡ false) (x : Exchange)
+      (own : x .verdict ≡ verdict.Of t k) where
     counted-more : o + 1 ≡ accepted (x ∷ h)
     counted-more = let a : accepted (x ∷ h) ≡ suc (accepted h) = accepted-own t k x h own
         ∙ rw starts refl in let b = v .counted in omega arith

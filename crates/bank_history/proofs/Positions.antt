@@ -61,7 +61,8 @@ sound-at (more s r) newest = s
 sound-at (more s r) (older p) = sound-at r p
 
 -- what the verdict of a standing exchange says
-pub action-sound : {e : Exchange} {g h : List Exchange} {t : Bits128} {k : Action} → AllSound h → Stands e g h → e .verdict ≡ verdict.Of t k →
+pub action-sound : {e : Exchange} {g h : List Exchange} {t : Bits128} {k : Action} → AllSound h → Stands e g h →
+    e .verdict ≡ verdict.Of t k →
     SoundAction k t e g
 action-sound {e} {g} r p own = subst (λ (v : Verdict). SoundVerdict v e g) own (sound-at r p .verdict)
 
@@ -232,7 +233,8 @@ one-booking t r a b p q = one-place (ActionIn isBooking t) (λ _. 0) (times isBo
   where
     known : (e : Exchange) (g : List Exchange) → Sound e g → ActionIn isBooking t e → 0 ≡ times isBooking t g
     known e g s p =
-        let last = subst (λ (v : Verdict). SoundVerdict v e g) (p .is ∙ ap (verdict.Of t) (booking-last (p .action) (p .kind))) (s .verdict) in
+        let last = subst (λ (v : Verdict). SoundVerdict v e g)
+        (p .is ∙ ap (verdict.Of t) (booking-last (p .action) (p .kind))) (s .verdict) in
         sym (never-times isBooking t g (last .taking .upload .request .unbooked))
 
 -- ---- from the truth values to exchanges
@@ -250,7 +252,8 @@ unfolding ever
 ever-stands f t [] z = never z
 ever-stands f t (x ∷ h) z = at (did f t (x .verdict)) refl (ever-stands f t h) z
   where
-    at : (b : Bool) → did f t (x .verdict) ≡ b → (ever f t h ≡ true → (e : Exchange) × (g : List Exchange) × Stands e g h × ActionIn f t e) →
+    at : (b : Bool) → did f t (x .verdict) ≡ b → (ever f t h ≡ true → (e : Exchange) × (g : List Exchange)
+        × Stands e g h × ActionIn f t e) →
         cond b true (ever f t h) ≡ true →
         (e : Exchange) × (g : List Exchange) × Stands e g (x ∷ h) × ActionIn f t e
     at true d later y = (x, h, newest, action-in f t x (x .verdict) refl d)
@@ -317,7 +320,8 @@ ended-unbooked t {h} r e b = let x = ever-stands isEnding t h e in let y = ever-
     at : {e f : Exchange} {g k h : List Exchange} → AllSound h → Stands e g h → ActionIn isEnding t e → Stands f k h →
         ActionIn isBooking t f → ⊥
     at {e} {f} {g} {k} (more s r) newest p newest q =
-        let z : verdict.Of t (p .action) ≡ verdict.Of t (action.Upload up.TookLast) = sym (p .is) ∙ (q .is ∙ ap (verdict.Of t) (booking-last (q .action) (q .kind))) in
+        let z : verdict.Of t (p .action) ≡ verdict.Of t (action.Upload up.TookLast) = sym (p .is)
+        ∙ (q .is ∙ ap (verdict.Of t) (booking-last (q .action) (q .kind))) in
         never (sym (ap ending z) ∙ p .kind)
       where
         ending : Verdict → Bool

@@ -174,6 +174,11 @@ module _ {w : World} {h : List Exchange} (v : Invariant w h) where
           inside-or-free (no l) = λ _. never (sym f ∙ ap (λ (p : Place). isFree (p .used))
               (List·getD-eq-default (w .bank .places) noPlace {n = i} (let z = v .state .sizes .places in omega arith)))
 
+-- what is cancelled has ended
+pub cancels-ends : {c : ReturnCode} {k : Action} → CancelsWith c k → isEnding k ≡ true
+cancels-ends (cancelled.upload c) = refl
+cancels-ends cancelled.download = refl
+
 -- ---- what a reply tells: the exchange e of a sound history, g before it
 
 module _ {e : Exchange} {g h : List Exchange} (sound : AllSound h) (stands : Stands e g h) where
@@ -230,6 +235,11 @@ module _ {e : Exchange} {g h : List Exchange} (sound : AllSound h) (stands : Sta
       let now : e .verdict ≡ verdict.Of (transaction (e .reply)) (action.Download (down.Opened (segments (e .reply)))) = own ∙ cc in
       (now, action-sound sound stands now, ap segment (says now), ap lastMark (says now))
 
+  -- the action was asked for under the request's own transaction ID
+  own-id : {t : Bits128} {k : Action} → e .verdict ≡ verdict.Of t k → t ≡ transaction (e .request) →
+      e .verdict ≡ verdict.Of (transaction (e .request)) k
+  own-id {t} {k} own same = own ∙ ap (λ (i : Bits128). verdict.Of i k) same
+
   -- "upload segment taken": 01 03 08 09 0D with 000000 is a segment of the request's transaction taken
   pub segment-taken : form (e .reply) ≡ forms.SegmentTaken → returnCode (e .reply) ≡ codeField code.Ok →
       (ActionIn isTaking (transaction (e .request)) e) × (segment (e .reply) ≡ segment (e .request))
@@ -243,32 +253,28 @@ module _ {e : Exchange} {g h : List Exchange} (sound : AllSound h) (stands : Sta
       by d (inl (inl k)) =
           let own : e .verdict ≡ verdict.Of (d .id) (action.Upload up.Took) = d .is ∙ ap (verdict.Of (d .id)) k in
           let s = action-sound sound stands own in (
-            record { action = (action.Upload up.Took); is = own ∙ ap (λ (i : Bits128). verdict.Of i (action.Upload up.Took)) (s .taking .upload .request .same); kind = refl },
-            ap segment
-                (says own),
+            record { action = action.Upload up.Took; is = own-id own (s .taking .upload .request .same); kind = refl },
+            ap segment (says own),
           )
       by d (inl (inr k)) =
           let own : e .verdict ≡ verdict.Of (d .id) (action.Upload up.TookLast) = d .is ∙ ap (verdict.Of (d .id)) k in
           let s = action-sound sound stands own in (
-            record { action = (action.Upload up.TookLast); is = own ∙ ap (λ (i : Bits128). verdict.Of i (action.Upload up.TookLast)) (s .taking .upload .request .same); kind = refl },
-            ap
-                segment (says own),
+            record { action = action.Upload up.TookLast; is = own-id own (s .taking .upload .request .same); kind = refl },
+            ap segment (says own),
           )
       by d (inr (inl k)) = absurd (
           let own : e .verdict ≡ verdict.Of (d .id) (action.Upload (up.Point (k .0))) = d .is ∙ ap (verdict.Of (d .id)) (k .1) in
-          let c : codeField code.RecoverySync ≡ codeField code.Ok = sym (coded ∙ ap (λ (v : Verdict). codeField (verdictCode v)) own) ∙ ok in
+          let c : codeField code.RecoverySync ≡ codeField code.Ok =
+          sym (coded ∙ ap (λ (v : Verdict). codeField (verdictCode v)) own) ∙ ok in
           omega arith)
       by d (inr (inr k)) = absurd (
           let own : e .verdict ≡ verdict.Of (d .id) (action.Download (down.Point (k .0))) = d .is ∙ ap (verdict.Of (d .id)) (k .1) in
-          let c : codeField code.RecoverySync ≡ codeField code.Ok = sym (coded ∙ ap (λ (v : Verdict). codeField (verdictCode v)) own) ∙ ok in
+          let c : codeField code.RecoverySync ≡ codeField code.Ok =
+          sym (coded ∙ ap (λ (v : Verdict). codeField (verdictCode v)) own) ∙ ok in
           omega arith)
 
       at : IsAction (e .verdict) forms.SegmentTaken → Out
       at d = by d (d .kind)
-
-  -- the action was asked for under the request's own transaction ID
-  own-id : {t : Bits128} {k : Action} → e .verdict ≡ verdict.Of t k → t ≡ transaction (e .request) → e .verdict ≡ verdict.Of (transaction (e .request)) k
-  own-id {t} {k} own same = own ∙ ap (λ (i : Bits128). verdict.Of i k) same
 
   -- "download segment": the data is the segment asked for, of the file at the opening, with N and last mark right
   pub segment-delivered : form (e .reply) ≡ forms.DownloadSegment →
@@ -310,7 +316,8 @@ module _ {e : Exchange} {g h : List Exchange} (sound : AllSound h) (stands : Sta
   receipt-confirmed z ok = at (action-behind forms.ReceiptAnswered z refl)
     where
       Out : Type 0
-      Out = (e .verdict ≡ verdict.Of (transaction (e .request)) (action.Download down.Confirmed)) × SoundConfirmed (transaction (e .request)) e g
+      Out = (e .verdict ≡ verdict.Of (transaction (e .request)) (action.Download down.Confirmed))
+          × SoundConfirmed (transaction (e .request)) e g
 
       by : (d : IsAction (e .verdict) forms.ReceiptAnswered) → ActionOf forms.ReceiptAnswered (d .action) → Out
       by d (inl k) =
@@ -357,18 +364,22 @@ module _ {e : Exchange} {g h : List Exchange} (sound : AllSound h) (stands : Sta
 
   -- 01 03 08 09 0D with 061101: the recovery point is the number of segments taken or delivered
   pub recovery-point : form (e .reply) ≡ forms.SegmentTaken → returnCode (e .reply) ≡ codeField code.RecoverySync →
-      ((e .verdict ≡ verdict.Of (transaction (e .request)) (action.Upload (up.Point (segment (e .reply))))) × SoundUploadPoint (segment (e .reply))
+      ((e .verdict ≡ verdict.Of (transaction (e .request)) (action.Upload (up.Point (segment (e .reply)))))
+      × SoundUploadPoint (segment (e .reply))
       (transaction (e .request)) e g)
-      ⊎ ((e .verdict ≡ verdict.Of (transaction (e .request)) (action.Download (down.Point (segment (e .reply))))) × SoundDownloadPoint (segment (e .reply))
+      ⊎ ((e .verdict ≡ verdict.Of (transaction (e .request)) (action.Download (down.Point (segment (e .reply)))))
+      × SoundDownloadPoint (segment (e .reply))
       (transaction (e .request)) e g)
   unfolding recoveryPoint
   recovery-point z sync = at (action-behind forms.SegmentTaken z refl)
     where
       Out : Type 0
       Out =
-          ((e .verdict ≡ verdict.Of (transaction (e .request)) (action.Upload (up.Point (segment (e .reply))))) × SoundUploadPoint (segment (e .reply))
+          ((e .verdict ≡ verdict.Of (transaction (e .request)) (action.Upload (up.Point (segment (e .reply)))))
+          × SoundUploadPoint (segment (e .reply))
           (transaction (e .request)) e g)
-          ⊎ ((e .verdict ≡ verdict.Of (transaction (e .request)) (action.Download (down.Point (segment (e .reply))))) × SoundDownloadPoint (segment (e .reply))
+          ⊎ ((e .verdict ≡ verdict.Of (transaction (e .request)) (action.Download (down.Point (segment (e .reply)))))
+          × SoundDownloadPoint (segment (e .reply))
           (transaction (e .request)) e g)
 
       taken-not : {t : Bits128} {k : Action} → e .verdict ≡ verdict.Of t k → verdictCode (verdict.Of t k) ≡ code.Ok → ⊥
@@ -383,7 +394,8 @@ module _ {e : Exchange} {g h : List Exchange} (sound : AllSound h) (stands : Sta
       by d (inr (inl k)) =
           let own : e .verdict ≡ verdict.Of (d .id) (action.Upload (up.Point (k .0))) = d .is ∙ ap (verdict.Of (d .id)) (k .1) in
           let n : segment (e .reply) ≡ k .0 = ap segment (says own) in
-          let now : e .verdict ≡ verdict.Of (d .id) (action.Upload (up.Point (segment (e .reply)))) = own ∙ ap (λ (m : ℕ). verdict.Of (d .id) (action.Upload (up.Point m))) (sym n) in
+          let now : e .verdict ≡ verdict.Of (d .id) (action.Upload (up.Point (segment (e .reply)))) = own
+          ∙ ap (λ (m : ℕ). verdict.Of (d .id) (action.Upload (up.Point m))) (sym n) in
           let mine = own-id now (action-sound sound stands own .upload .request .same) in
           inl (mine, action-sound sound stands mine)
       by d (inr (inr k)) =

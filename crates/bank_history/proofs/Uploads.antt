@@ -169,7 +169,8 @@ module _ (w : World) (h : List Exchange) (v : Invariant w h) (i : ℕ) (inside :
         others = λ j a n. place-unchanged x h o o (omega arith) (placeAt (w .bank) j) (partAt (w .orders) j) (w .bank .clock)
             (placeAt (w .bank) j .used) (λ f. about (placeAt (w .bank) j .transaction) (place-other w h v i j k inside a n used f))
             (place-kept v j a);
-        downloads = λ j. download-unchanged x h (mailboxFile w (downloadAt (w .bank) j .subscriber)) (downloadAt (w .bank) j) o o (omega arith)
+        downloads = λ j. download-unchanged x h (mailboxFile w (downloadAt (w .bank) j .subscriber))
+            (downloadAt (w .bank) j) o o (omega arith)
             (w .bank .clock) (downloadAt (w .bank) j .used)
             (λ f. about (downloadAt (w .bank) j .transaction) (download-other w h v i j k inside used f)) (download-kept v j);
         apartPlace = λ j a n f g e. n (v .state .placesApart j i a inside g used (alike same f (placeAt (w .bank) j) e));

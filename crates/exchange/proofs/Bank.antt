@@ -25,20 +25,20 @@ use Rattle.message.specs.Verdicts.{decide}
 use Rattle.bank_state.specs.declared.state.Bank.{Bank}
 use Rattle.bank_state.specs.Clock.{advanced}
 use Rattle.bank_state.specs.Limits.{placeCount}
-use Rattle.bank_state.specs.State.{World, world, fresh}
+use Rattle.bank_state.specs.State.{World, world, fresh, fileLength}
 use Rattle.bank_state.specs.Store.{partAt, fileOf}
-use Rattle.bank_openings.specs.Openings.{fileLength}
 use Rattle.bank.specs.declared.call.FrameAnswer.{FrameAnswer}
 use Rattle.bank.specs.declared.call.FrameAnswer.the-variants as frameAnswer
 use Rattle.bank.specs.declared.mailbox.FileAnswer.{FileAnswer}
 use Rattle.bank.specs.declared.mailbox.FileAnswer.the-variants as fileAnswer
-use Rattle.bank.specs.Call.{Step, FrameCall, replied, answerOf, lentRight, frameNumber, frameCall}
+use Rattle.bank.specs.Call.{Step, FrameCall, replied, answerOf, lentRight, frameNumber, respond, frameCall}
 use Rattle.bank.specs.Mailbox.{FileCall, fileCall, carryOutFile, fileRefusals, fileNumber}
 use Rattle.bank_history.proofs.Answers.{stepOf}
+use Rattle.bank_verdicts.specs.declared.verdict.DownloadAction.the-variants as down
+use Rattle.bank_verdicts.specs.declared.verdict.Action.the-variants as action
+use Rattle.bank_verdicts.specs.declared.verdict.Verdict.{Verdict}
+use Rattle.bank_verdicts.specs.declared.verdict.Verdict.the-variants as verdict
 use Rattle.bank_history.specs.History.{
-  Confirmed,
-  Event,
-  Of,
   Past,
   Frame,
   File,
@@ -57,7 +57,7 @@ use Rattle.bank_history.specs.Standing.{answered, filled, Emptied}
 use Rattle.bank_history.proofs.Clock.{advanced-clock, advanced-keeps}
 use Rattle.bank_history.proofs.Cases.{happens}
 use Rattle.bank_history.proofs.Files.{FileSound, rejected, done, judged-file, filled-same, filled-other}
-use Rattle.bank_history.proofs.Replies.{eventCode, reply-form}
+use Rattle.bank_history.proofs.Replies.{verdictCode, reply-form}
 use Rattle.bank_history.proofs.Theorems.{frame-mailbox, after-holds, past-holds, reply-is}
 use Rattle.bank_history.proofs.Liveness.{answered-clock}
 use Rattle.exchange.specs.Course.{
@@ -77,7 +77,7 @@ use Rattle.exchange.specs.Course.{
 }
 use Rattle.exchange.proofs.Calls.{file-done, frame-replied}
 use Rattle.exchange.proofs.Bytes.{reply-read, data-read}
-use Rattle.exchange.proofs.Events.{event-refuses, mailbox-short, case-empties}
+use Rattle.exchange.proofs.Events.{verdict-refuses, mailbox-short, case-empties}
 use Rattle.exchange.proofs.Told.{Proper, AllProper, coded, done-confirmed}
 use Rattle.exchange.proofs.Told.{none as no-entry, more as one-more}
 
@@ -204,16 +204,16 @@ module _ (s : Course) (b : BankPart s) (time : ℕ) (ids frame buffer : List ℕ
     next-sound = next-holds .invariant .sound
 
     next-proper : Proper x
-    unfolding exchangeOf
+    unfolding exchangeOf respond
     next-proper = record {
-      refuses = event-refuses (number ids) (advanced time (p .world)) (readRequest frame) (dataOf frame);
+      refuses = verdict-refuses (number ids) (advanced time (p .world)) (readRequest frame) (dataOf frame);
       short = mailbox-short (advanced time (p .world)) (subscriber (readRequest frame));
     }
 
     replied-form : Sized (x .reply) × (isReplyForm (form (x .reply)) ≡ true)
     replied-form =
         subst (λ (f : Fields). Sized f × (isReplyForm (form f) ≡ true)) (sym (reply-is next-sound newest))
-        (reply-form (x .event) (x .request))
+        (reply-form (x .verdict) (x .request))
 
     next-clock : k .world .bank .clock ≡ advanced time (p .world) .bank .clock
     next-clock =
@@ -240,15 +240,17 @@ module _ (s : Course) (b : BankPart s) (time : ℕ) (ids frame buffer : List ℕ
       now : mailboxOf (k .world) m ≡ mailboxFile (answered time ids frame p .world) m
       now = same-mailbox (k .world) m ∙ ap (λ (w : World). mailboxFile w m) (told .world)
 
-      emptied-own : x .event ≡ Of (transaction (x .request)) Confirmed → m ≡ subscriber (readRequest frame) →
+      emptied-own : x .verdict ≡ verdict.Of (transaction (x .request)) (action.Download down.Confirmed) →
+          m ≡ subscriber (readRequest frame) →
           mailboxFile (answered time ids frame p .world) m ≡ []
-      unfolding exchangeOf
+      unfolding exchangeOf respond
       emptied-own own e =
           let v = advanced-keeps time (p .world) (p .history) (b .holds .invariant) in
           ap (mailboxFile (answered time ids frame p .world)) e
           ∙ case-empties
-          (happens (number ids) (advanced time (p .world)) (readRequest frame) (dataOf frame) (v .sizes .places) (v .sizes .downloads))
-          (v .sizes) own .empty
+          (happens (number ids) (advanced time (p .world)) (readRequest frame) (dataOf frame) (v .state .sizes .places)
+          (v .state .sizes .downloads))
+          (v .state .sizes) own .empty
 
       kept-other : (Emptied (answered time ids frame p .world) m x → ⊥) →
           mailboxFile (answered time ids frame p .world) m ≡ s .mailboxes m
@@ -264,7 +266,8 @@ module _ (s : Course) (b : BankPart s) (time : ℕ) (ids frame buffer : List ℕ
       unfolding emptied exchangeOf
       next-mailbox = now ∙ at (eqb (returnCode (readReply (take n (k .buffer)))) (codeField code.DownloadPostprocessDone)) refl
         where
-          own : (d : Bool) → eqb m (subscriber (readRequest frame)) ≡ d → x .event ≡ Of (transaction (x .request)) Confirmed →
+          own : (d : Bool) → eqb m (subscriber (readRequest frame)) ≡ d →
+              x .verdict ≡ verdict.Of (transaction (x .request)) (action.Download down.Confirmed) →
               mailboxFile (answered time ids frame p .world) m ≡ cond d [] (s .mailboxes m)
           own true e c = emptied-own c (eqb-true m (subscriber (readRequest frame)) e)
           own false e c = kept-other (λ z. eqb-false m (subscriber (readRequest frame)) e (sym (z .owner)))
@@ -276,7 +279,7 @@ module _ (s : Course) (b : BankPart s) (time : ℕ) (ids frame buffer : List ℕ
               let z = sym (ap returnCode next-reply) ∙ eqb-true _ (codeField code.DownloadPostprocessDone) e in
               own (eqb m (subscriber (readRequest frame))) refl (done-confirmed next-sound newest next-proper z .0)
           at false e = kept-other (λ z. eqb-false _ (codeField code.DownloadPostprocessDone) e
-              (ap returnCode next-reply ∙ coded next-sound newest ∙ ap (λ (v : Event). codeField (eventCode v)) (z .confirmed)))
+              (ap returnCode next-reply ∙ coded next-sound newest ∙ ap (λ (v : Verdict). codeField (verdictCode v)) (z .confirmed)))
 
     -- the course behind the answered frame
     frame-part : BankPart (afterFrame (take n (k .buffer)) (k .world) (advanced time (p .world)) frame s)

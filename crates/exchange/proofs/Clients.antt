@@ -15,7 +15,11 @@ use Rattle.frame_table.specs.Names.{transaction, segments, form}
 use Rattle.frame.specs.Reader.{readRequest}
 use Rattle.frame.specs.Row.{dataOf}
 use Rattle.octets.proofs.Tests.{never}
-use Rattle.bank_history.specs.History.{Stands, older, OpenedUpload, OpenedDownload}
+use Rattle.bank_verdicts.specs.declared.verdict.Action.the-variants as action
+use Rattle.bank_verdicts.specs.declared.verdict.DownloadAction.the-variants as down
+use Rattle.bank_verdicts.specs.declared.verdict.UploadAction.the-variants as up
+use Rattle.bank_verdicts.specs.declared.verdict.Verdict.the-variants as verdict
+use Rattle.bank_history.specs.History.{Stands, older}
 use Rattle.bank_history.specs.History as bank
 use Rattle.bank_history.specs.Sound.{AllSound}
 use Rattle.bank_history.proofs.Theorems.{upload-opened, download-opened}
@@ -104,8 +108,8 @@ module _ {h : List bank.Exchange} (sound : AllSound h) where
         before = a .before;
         stands = a .stands;
         opening = record {
-          action = OpenedUpload;
-          is = u .0 ∙ ap (λ (i : Bits128). bank.Of i OpenedUpload) (ap transaction (a .reply) ∙ o .id);
+          action = action.Upload (up.Opened (u .0));
+          is = u .1 ∙ ap (λ (i : Bits128). verdict.Of i (action.Upload (up.Opened (u .0)))) (ap transaction (a .reply) ∙ o .id);
           opening = refl;
         };
         issue = o .got .issue;
@@ -125,7 +129,7 @@ module _ {h : List bank.Exchange} (sound : AllSound h) where
         stands = a .stands;
         opening = record {
           action = _;
-          is = u .0 ∙ ap (λ (i : Bits128). bank.Of i (OpenedDownload (segments (a .exchange .reply))))
+          is = u .0 ∙ ap (λ (i : Bits128). verdict.Of i (action.Download (down.Opened (segments (a .exchange .reply)))))
               (ap transaction (a .reply) ∙ o .id);
           opening = refl;
         };

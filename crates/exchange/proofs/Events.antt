@@ -1,66 +1,55 @@
 -- What a request to the bank comes to: the codes of its refusals, and the mailbox that 011000 empties. Assumes nothing.
-use Prim.Native.Nat.{ℕ, _+_, _-_, _≤_}
-use mathlib.Core.Bool.{Bool, true, false, not, _&&_, _||_}
-use mathlib.Core.List.{List, [], _∷_}
+use Prim.Native.Nat.{ℕ, _-_, _≤_}
+use mathlib.Core.Bool.{Bool, true, false, not, _||_}
+use mathlib.Core.List.{List, []}
 use mathlib.Core.Path.{_≡_, refl}
 use native.Mathlib.Omega.{arith}
 use lib.Dec.{eqb, ltb}
 use lib.ListN.{length, length-take}
 use lib.Seq.{getD-set-same}
-use borrow.Author.Tests.{eqb-true}
 use Rattle.frame_table.specs.declared.fields.Bits128.{Bits128}
 use Rattle.frame_table.specs.declared.fields.Fields.{Fields}
 use Rattle.frame_table.specs.declared.table.Form.{Form}
 use Rattle.frame_table.specs.declared.table.Form.the-variants.{NoForm, Request, Reply}
 use Rattle.frame_table.specs.declared.table.RequestForm.{RequestForm}
 use Rattle.frame_table.specs.declared.table.RequestForm.the-variants as requests
-use Rattle.frame_table.specs.Names.{subscriber, transaction, form, sameBits}
-use Rattle.frame_table.specs.Table.{isRequestForm}
-use Rattle.octets.proofs.Tests.{and-true}
+use Rattle.frame_table.specs.Names.{subscriber, transaction, form}
 use Rattle.message.specs.declared.codes.ReturnCode.{ReturnCode}
 use Rattle.message.specs.declared.codes.ReturnCode.the-variants as code
 use Rattle.message.specs.Codes.{codeField}
 use Rattle.message.specs.Limits.{fileBytes}
-use Rattle.message.specs.Verdicts.{decide}
-use Rattle.bank_state.specs.declared.state.Place.{Place}
-use Rattle.bank_state.specs.Limits.{placeCount}
-use Rattle.bank_state.specs.Search.{isDownload, findUpload, findDownload}
-use Rattle.bank_state.specs.State.{World, downloadAt}
-use Rattle.bank_state.specs.Store.{partAt, fileOf}
-use Rattle.bank_downloads.specs.declared.downloads.DownloadRequest.{DownloadRequest}
-use Rattle.bank_downloads.specs.declared.downloads.DownloadRequest.the-variants as asked
-use Rattle.bank_downloads.specs.declared.downloads.DownloadVerdict.{DownloadVerdict}
-use Rattle.bank_downloads.specs.declared.downloads.DownloadVerdict.the-variants as down
-use Rattle.bank_openings.specs.declared.openings.Direction.{Direction}
-use Rattle.bank_openings.specs.declared.openings.Direction.the-variants as way
-use Rattle.bank_openings.specs.declared.openings.OpeningVerdict.{OpeningVerdict}
-use Rattle.bank_openings.specs.declared.openings.OpeningVerdict.the-variants as opening
-use Rattle.bank_uploads.specs.declared.uploads.UploadVerdict.{UploadVerdict}
-use Rattle.bank_uploads.specs.declared.uploads.UploadVerdict.the-variants as up
-use Rattle.bank_openings.specs.Openings.{fileLength, senderRefusals, subscriberRefusals, sharedRefusals, openingRefusals, judgeOpening}
-use Rattle.bank.specs.declared.call.RequestVerdict.{RequestVerdict}
-use Rattle.bank.specs.Call.{Step, requestRefusals}
-use Rattle.bank_history.specs.History.{
-  Event,
-  Unreadable,
-  Refusal,
-  Of,
-  Action,
-  Confirmed,
-  uploadAction,
-  downloadAction,
-  segmentsNow,
-  openingEvent,
-  transactionEvent,
-  eventByRequest,
-  eventByForm,
-  eventByVerdict,
-  eventOf,
-  mailboxFile,
-}
-use Rattle.bank_history.specs.Invariant.{Sizes}
 use Rattle.message.proofs.Verdicts.{by-test}
-use Rattle.bank_history.proofs.Cases.{Happens, unreadable, refusal, opensUpload, opensDownload, toUpload, toDownload, downloadStepBy}
+use Rattle.bank_state.specs.Limits.{placeCount}
+use Rattle.bank_state.specs.State.{World, downloadAt, fileLength}
+use Rattle.bank_state.specs.Store.{partAt, fileOf}
+use Rattle.bank_state.proofs.Found.{download-found}
+use Rattle.bank_verdicts.specs.declared.verdict.Direction.{Direction}
+use Rattle.bank_verdicts.specs.declared.verdict.Direction.the-variants as direction
+use Rattle.bank_verdicts.specs.declared.verdict.TransactionRequest.{TransactionRequest}
+use Rattle.bank_verdicts.specs.declared.verdict.TransactionRequest.the-variants as asked
+use Rattle.bank_verdicts.specs.declared.verdict.DownloadAction.{DownloadAction}
+use Rattle.bank_verdicts.specs.declared.verdict.DownloadAction.the-variants as down
+use Rattle.bank_verdicts.specs.declared.verdict.Action.the-variants as action
+use Rattle.bank_verdicts.specs.declared.verdict.Verdict.{Verdict}
+use Rattle.bank_verdicts.specs.declared.verdict.Verdict.the-variants as verdict
+use Rattle.bank_verdicts.specs.Refusals.{Row, requestRows, openingRows, transactionRows}
+use Rattle.bank_verdicts.specs.Judgement.{
+  judged,
+  accepted,
+  uploadAt,
+  downloadOf,
+  judgeOpening,
+  judgeOpen,
+  judgeTransaction,
+  judgeRequest,
+  judgeForm,
+  judge,
+}
+use Rattle.bank_verdicts.proofs.Lines.{allRows, judged-by, each-such}
+use Rattle.bank.specs.Call.{downloadActs, emptied, carryOut}
+use Rattle.bank_history.specs.History.{mailboxFile}
+use Rattle.bank_history.specs.Invariant.{Sizes}
+use Rattle.bank_history.proofs.Cases.{Happens, unreadable, refused, opensUpload, opensDownload, toUpload, toDownload}
 use Rattle.bank_history.proofs.Changes.{no-file}
 
 -- ---- no refusal carries 000000, 011000 or 011001
@@ -110,59 +99,50 @@ refusing-code code.SegmentNumberExceeded = refl
 refusing-code code.MaxSegmentsExceeded = refl
 refusing-code code.MaxTransactionsExceeded = refl
 
-abbrev pub Refuses : Event → Type 0
-Refuses Unreadable = Unit {0}
-Refuses (Refusal c) = refuses c ≡ true
-Refuses (Of t k) = Unit {0}
+-- a verdict's code, where it refuses
+abbrev pub refusesIn : Verdict → Bool
+refusesIn verdict.Unreadable = true
+refusesIn (verdict.Refused c) = refuses c
+refusesIn (verdict.Of t k) = true
 
--- what holds of each verdict of the rows and of the last one holds of the one that is decided on
-data Each {A : Type 0} (P : A → Type 0) : List (Bool × A) → Type 0 where
-  none : Each P []
-  more : {row : Bool × A} {rows : List (Bool × A)} → P (row .1) → Each P rows → Each P (row ∷ rows)
+abbrev pub Refuses : Verdict → Type 0
+Refuses v = refusesIn v ≡ true
 
-decided : {A : Type 0} {P : A → Type 0} (rows : List (Bool × A)) {other : A} → Each P rows → P other → P (decide rows other)
-decided [] none p = p
-decided {P = P} (row ∷ rows) {other} (more r e) p = by-test P (row .0) (λ _. r) (λ _. decided {P = P} rows e p)
+-- every line of the list refuses with such a code
+lines-refuse : (rows : List (Row Verdict)) (other : Verdict) → allRows refusesIn rows ≡ true → Refuses other → Refuses (judged rows other)
+lines-refuse rows other h k = judged-by Refuses rows other (each-such Refuses refusesIn (λ v e. e) [] rows h) (λ _. k)
 
-module _ (lent : ℕ) (w : World) (q : Fields) (d : List ℕ) where
-  opening-refuses : (v : Direction) → Refuses (openingEvent (judgeOpening (w .bank) v q) v lent (w .bank) q)
-  unfolding judgeOpening openingRefusals senderRefusals subscriberRefusals sharedRefusals
-  opening-refuses v =
-      decided {P = P} (openingRefusals (w .bank) v q)
-      (more refl (more refl (more refl (more refl (more refl (more refl (more refl (more refl (more refl (more refl none))))))))))
-      (accepts v)
+module _ (first : ℕ) (w : World) (q : Fields) (d : List ℕ) where
+  opening-refuses : (x : Direction) → Refuses (judgeOpening x first (w .bank) q)
+  unfolding judgeOpening openingRows
+  opening-refuses x = lines-refuse (openingRows x (w .bank) q) (accepted x first (w .bank) q) refl (accepts x)
     where
-      P : OpeningVerdict → Type 0
-      P o = Refuses (openingEvent o v lent (w .bank) q)
+      accepts : (x : Direction) → Refuses (accepted x first (w .bank) q)
+      accepts direction.Upload = refl
+      accepts direction.Download = refl
 
-      accepts : (u : Direction) → Refuses (openingEvent opening.Accept u lent (w .bank) q)
-      accepts way.Upload = tt
-      accepts way.Download = tt
+  transaction-refuses : (r : TransactionRequest) → Refuses (judgeTransaction r (w .bank) q (length d))
+  unfolding judgeTransaction transactionRows judgeOpen
+  transaction-refuses r =
+      lines-refuse (transactionRows (w .bank) q) (judgeOpen r (w .bank) q (length d)) refl
+      (by-test Refuses (ltb (uploadAt (w .bank) q) placeCount) (λ _. refl) (λ _. refl))
 
-  transaction-refuses : (transfer : Bool) (r : DownloadRequest) → Refuses (transactionEvent transfer r w q d)
-  unfolding transactionEvent
-  transaction-refuses transfer r =
-      by-test Refuses (ltb (findUpload (subscriber q) (transaction q) (w .bank)) placeCount) (λ _. tt)
-      (λ _. by-test Refuses (ltb (findDownload (subscriber q) (transaction q) (w .bank)) placeCount) (λ _. tt) (λ _. refl))
+  request-refuses : (x : RequestForm) → Refuses (judgeRequest x first (w .bank) q (length d))
+  request-refuses requests.UploadOpening = opening-refuses direction.Upload
+  request-refuses requests.DownloadOpening = opening-refuses direction.Download
+  request-refuses requests.UploadTransfer = transaction-refuses asked.UploadTransfer
+  request-refuses requests.DownloadTransfer = transaction-refuses asked.DownloadTransfer
+  request-refuses requests.Receipt = transaction-refuses asked.Receipt
 
-  request-refuses : (x : RequestForm) → Refuses (eventByRequest x lent w q d)
-  request-refuses requests.UploadOpening = opening-refuses way.Upload
-  request-refuses requests.DownloadOpening = opening-refuses way.Download
-  request-refuses requests.UploadTransfer = transaction-refuses true asked.Other
-  request-refuses requests.DownloadTransfer = transaction-refuses false asked.Transfer
-  request-refuses requests.Receipt = transaction-refuses false asked.Receipt
-
-  form-refuses : (f : Form) → Refuses (eventByForm f lent w q d)
-  form-refuses NoForm = tt
+  form-refuses : (f : Form) → Refuses (judgeForm f first (w .bank) q (length d))
+  form-refuses NoForm = refl
   form-refuses (Request x) = request-refuses x
-  form-refuses (Reply x) = tt
+  form-refuses (Reply x) = refl
 
-  pub event-refuses : Refuses (eventOf lent w q d)
-  unfolding eventOf requestRefusals
-  event-refuses =
-      by-test Refuses (isRequestForm (form q))
-      (λ _. decided {P = λ (v : RequestVerdict). Refuses (eventByVerdict v lent w q d)} (requestRefusals q d)
-      (more refl (more refl none)) (form-refuses (form q))) (λ _. tt)
+  pub verdict-refuses : Refuses (judge first (w .bank) q (length d))
+  unfolding judge requestRows
+  verdict-refuses =
+      lines-refuse (requestRows q (length d)) (judgeForm (form q) first (w .bank) q (length d)) refl (form-refuses (form q))
 
 -- ---- mailboxes
 
@@ -171,49 +151,45 @@ pub mailbox-short : (w : World) (m : ℕ) → length (mailboxFile w m) ≤ fileB
 unfolding mailboxFile fileOf partAt
 mailbox-short w m = simp length-take (omega arith)
 
--- "011000: mailbox emptied": the receipt was that of an open download of its subscriber
-pub record Empties (w : World) (q : Fields) (s : Step) (t : Bits128) : Type 0 where
+-- "011000: mailbox emptied": the receipt was that of an open download of its subscriber; the bank is then w′
+pub record Empties (w w′ : World) (q : Fields) (t : Bits128) : Type 0 where
   pub row : ℕ
   pub used : downloadAt (w .bank) row .used ≡ true
   pub owner : downloadAt (w .bank) row .subscriber ≡ subscriber q
   pub own : downloadAt (w .bank) row .transaction ≡ t
-  pub empty : mailboxFile (s .world) (subscriber q) ≡ []
+  pub empty : mailboxFile w′ (subscriber q) ≡ []
 
-pub case-empties : {lent : ℕ} {w : World} {q : Fields} {d : List ℕ} {e : Event} {s : Step} → Happens lent w q d e s → Sizes w →
-    {t : Bits128} → e ≡ Of t Confirmed → Empties w q s t
-unfolding fileLength isDownload
+pub case-empties : {first : ℕ} {w : World} {q : Fields} {d : List ℕ} {x : Verdict} → Happens first w q d x → Sizes w →
+    {t : Bits128} → x ≡ verdict.Of t (action.Download down.Confirmed) → Empties w (carryOut x w q d) q t
+unfolding fileLength
 case-empties unreadable z own = absurd (let y : _≡_ {A = ℕ} 0 1 = cc in omega arith)
-case-empties (refusal c e) z own = absurd (let y : _≡_ {A = ℕ} 0 1 = cc in omega arith)
+case-empties (refused c e) z own = absurd (let y : _≡_ {A = ℕ} 0 1 = cc in omega arith)
 case-empties (opensUpload asked a g n inside) z own = absurd (let y : _≡_ {A = ℕ} 0 1 = cc in omega arith)
 case-empties (opensDownload asked a g n) z own = absurd (let y : _≡_ {A = ℕ} 0 1 = cc in omega arith)
-case-empties (toUpload i transfer r u a asked inside found sound) z {t} own = absurd (no u _ _ own)
+case-empties (toUpload r a c) z own = absurd (let y : _≡_ {A = ℕ} 0 1 = cc in omega arith)
+case-empties {w = w} {q = q} (toDownload r a c) z {t} own = at a own
   where
-    no : (v : UploadVerdict) (x : Bits128) (p : Place) → Of x (uploadAction v p) ≡ Of t Confirmed → ⊥
-    no up.Take x p h =
-        by-test (λ (k : Action). Of x k ≡ Of t Confirmed → ⊥) (eqb (p .taken + 1) (p .segments))
-        (λ _ l. let y : _≡_ {A = ℕ} 0 1 = cc in omega arith) (λ _ l. let y : _≡_ {A = ℕ} 0 1 = cc in omega arith) h
-    no up.Point x p h = let y : _≡_ {A = ℕ} 0 1 = cc in omega arith
-    no (up.Cancel c) x p h = let y : _≡_ {A = ℕ} 0 1 = cc in omega arith
-case-empties {w = w} {q = q} (toDownload j transfer r u a asked inside found sound) z {t} own = at u own
-  where
-    at : (v : DownloadVerdict) → Of (downloadAt (w .bank) j .transaction) (downloadAction v (downloadAt (w .bank) j) (segmentsNow w q))
-        ≡ Of t Confirmed →
-        Empties w q (downloadStepBy v j w q) t
-    at down.Done h =
+    j : ℕ
+    j = downloadOf (w .bank) q
+
+    at : (b : DownloadAction) → verdict.Of (downloadAt (w .bank) j .transaction) (action.Download b)
+        ≡ verdict.Of t (action.Download down.Confirmed) →
+        Empties w (downloadActs b (downloadAt (w .bank) j .transaction) w q) q t
+    at down.Confirmed h =
         let e = downloadAt (w .bank) j in
-        let b = and-true (e .used && eqb (e .subscriber) (subscriber q)) (sameBits (e .transaction) (transaction q)) found in
-        let c = and-true (e .used) (eqb (e .subscriber) (subscriber q)) (b .0) in
+        let f = download-found (subscriber q) (transaction q) e (c .found) in
         record {
           row = j;
-          used = c .0;
-          owner = eqb-true (e .subscriber) (subscriber q) (c .1);
+          used = f .0;
+          owner = f .1;
           own = cc;
-          empty = no-file (downloadStepBy down.Done j w q .world) (subscriber q)
+          empty = no-file (emptied (subscriber q) w) (subscriber q)
               (getD-set-same (w .bank .files) (subscriber q - 1) 0 0
-              (let k = a .most in let l = a .known in let y = z .files in omega arith));
+              (let k = c .readable .most in let l = c .readable .known in let y = z .files in omega arith));
         }
-    at down.Deliver h = absurd (let y : _≡_ {A = ℕ} 0 1 = cc in omega arith)
-    at down.Resend h = absurd (let y : _≡_ {A = ℕ} 0 1 = cc in omega arith)
-    at down.Point h = absurd (let y : _≡_ {A = ℕ} 0 1 = cc in omega arith)
-    at down.Abort h = absurd (let y : _≡_ {A = ℕ} 0 1 = cc in omega arith)
-    at down.Skipped h = absurd (let y : _≡_ {A = ℕ} 0 1 = cc in omega arith)
+    at (down.Opened n) h = absurd (let y : _≡_ {A = ℕ} 0 1 = cc in omega arith)
+    at (down.Delivered n) h = absurd (let y : _≡_ {A = ℕ} 0 1 = cc in omega arith)
+    at (down.SentAgain n) h = absurd (let y : _≡_ {A = ℕ} 0 1 = cc in omega arith)
+    at (down.Point k) h = absurd (let y : _≡_ {A = ℕ} 0 1 = cc in omega arith)
+    at down.Cancelled h = absurd (let y : _≡_ {A = ℕ} 0 1 = cc in omega arith)
+    at down.Declined h = absurd (let y : _≡_ {A = ℕ} 0 1 = cc in omega arith)

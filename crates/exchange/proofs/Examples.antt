@@ -46,6 +46,7 @@ use Rattle.frame.specs.Reader as frameReader
 use Rattle.frame.specs.Row as frameRow
 use Rattle.frame_table.specs.Table as frameTable
 use Rattle.frame.specs.Writer as frameWriter
+use Rattle.message.specs.OrderNumbers as messageOrderNumbers
 use Rattle.message.specs.Replies as messageReplies
 use Rattle.message.specs.Requests as messageRequests
 use Rattle.message.specs.Segments as messageSegments
@@ -54,10 +55,10 @@ use Rattle.bank_state.specs.Rows as bankstateRows
 use Rattle.bank_state.specs.Search as bankstateSearch
 use Rattle.bank_state.specs.State as bankstateState
 use Rattle.bank_state.specs.Store as bankstateStore
-use Rattle.bank_downloads.specs.Downloads as bankstepDownloads
-use Rattle.bank_openings.specs.Openings as bankstepOpenings
-use Rattle.message.specs.OrderNumbers as bankstepOrderNumbers
-use Rattle.bank_uploads.specs.Uploads as bankstepUploads
+use Rattle.bank_verdicts.specs.Refusals as refusals
+use Rattle.bank_verdicts.specs.Judgement as judgement
+use Rattle.bank_openings.specs.Openings as openings
+use Rattle.bank_uploads.specs.Uploads as uploads
 use Rattle.bank.specs.Call as bankCall
 use Rattle.bank.specs.Mailbox as bankMailbox
 use Rattle.client.specs.CallLists as clientCallLists
@@ -199,14 +200,14 @@ unfolding frameBytes.numberFrom frameBytes.number frameBytes.bytesOf frameBytes.
     bankstateSearch.freePlace bankstateSearch.freeDownload bankstateSearch.freeNonce bankstateSearch.isUpload bankstateSearch.findUpload
     bankstateSearch.isDownload bankstateSearch.findDownload bankstateSearch.openCount bankstateSearch.openCountOf
     bankstateSearch.isRemembered bankstateState.fresh bankstateStore.partAt bankstateStore.withPart bankstateStore.zeroed
-    bankstateStore.fileOf bankstepDownloads.receiptAnswers bankstepDownloads.downloadRefusals bankstepDownloads.judgeDownload
-    bankstepDownloads.downloadStep bankstepOpenings.inTime bankstepOpenings.fileLength bankstepOpenings.senderRefusals
-    bankstepOpenings.subscriberRefusals bankstepOpenings.sharedRefusals bankstepOpenings.openingRefusals bankstepOpenings.judgeOpening
-    bankstepOpenings.counted bankstepOpenings.openUpload bankstepOpenings.openDownload bankstepOpenings.opened
-    bankstepOrderNumbers.character bankstepOrderNumbers.letter bankstepOrderNumbers.orderNumberOf bankstepUploads.fitsUpload
-    bankstepUploads.segmentRefusals bankstepUploads.uploadRefusals bankstepUploads.judgeUpload bankstepUploads.grown
-    bankstepUploads.attempted bankstepUploads.uploadStep bankCall.mailboxSegment bankCall.requestRefusals bankCall.openingStep
-    bankCall.uploadStepAt bankCall.downloadStepAt bankCall.transactionStep bankCall.respond bankCall.lentRight bankCall.frameCall
+    bankstateStore.fileOf bankstateState.fileLength refusals.noSubscriber refusals.longData refusals.requestRows
+    refusals.unknownType refusals.manySegments refusals.inTime refusals.isReplay refusals.manyOpen refusals.isFull refusals.openingRows
+    refusals.notOpen refusals.transactionRows refusals.uploadAttempt refusals.isUnderrun refusals.isExceeded refusals.withoutRoom
+    refusals.segmentRows refusals.uploadRows refusals.downloadAttempt refusals.receiptRows refusals.downloadRows judgement.judgeOpening
+    judgement.takes judgement.judgeUpload judgement.judgeDownload judgement.judgeOpen judgement.judgeTransaction judgement.judge
+    openings.counted openings.openUpload openings.openDownload messageOrderNumbers.character
+    messageOrderNumbers.letter messageOrderNumbers.orderNumberOf uploads.grown uploads.booked uploads.attempted
+    bankCall.mailboxSegment bankCall.respond bankCall.lentRight bankCall.frameCall
     bankMailbox.fileRefusals bankMailbox.fileCall clientCallLists.runBehind clientCallLists.requests clientCalls.isWritten
     clientCalls.requestWith clientCalls.issued clientCalls.taken clientCalls.beginCall clientCalls.replyCall clientCalls.noReplyCall
     clientDecisions.says clientDecisions.isOwn clientDecisions.restWord clientDecisions.mayRepeat clientDecisions.endsUpload

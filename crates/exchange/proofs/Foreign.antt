@@ -25,35 +25,24 @@ use Rattle.bank_state.specs.Rows.{countOf}
 use Rattle.bank_state.specs.declared.state.Download.{Download}
 use Rattle.bank_state.specs.Search.{openCountOf}
 use Rattle.bank_state.specs.State.{World, noDownload, downloadAt}
-use Rattle.bank_downloads.specs.declared.downloads.DownloadRequest.{DownloadRequest}
-use Rattle.bank.specs.Call as bankCall
-use Rattle.bank_history.specs.History.{
-  Action,
-  OpenedUpload,
-  OpenedDownload,
-  Confirmed,
-  Event,
-  Of,
-  Stands,
-  newest,
-  older,
-  ActionIn,
-  isOpening,
-  isAction,
-  eventOf,
-  exchangeOf,
-  segmentsNow,
-}
+use Rattle.bank_verdicts.specs.declared.verdict.TransactionRequest.{TransactionRequest}
+use Rattle.bank_verdicts.specs.declared.verdict.TransactionRequest.the-variants as asksFor
+use Rattle.bank.specs.Call.{carryOut, respond}
+use Rattle.bank_verdicts.specs.declared.verdict.UploadAction.the-variants as up
+use Rattle.bank_verdicts.specs.declared.verdict.DownloadAction.the-variants as down
+use Rattle.bank_verdicts.specs.declared.verdict.Action.{Action}
+use Rattle.bank_verdicts.specs.declared.verdict.Action.the-variants as action
+use Rattle.bank_verdicts.specs.declared.verdict.Verdict.{Verdict}
+use Rattle.bank_verdicts.specs.declared.verdict.Verdict.the-variants as verdict
+use Rattle.bank_verdicts.specs.Judgement.{judge}
+use Rattle.bank_history.specs.History.{Stands, newest, older, ActionIn, isOpening, isAction, opens, exchangeOf}
 use Rattle.bank_history.specs.History as bank
 use Rattle.bank_history.specs.Sound.{AllSound}
 use Rattle.bank_history.proofs.Cases.{
+  requestForm,
   Happens,
-  AskedBy,
-  uploadTransfer,
-  downloadTransfer,
-  receipt,
   unreadable,
-  refusal,
+  refused,
   opensUpload,
   opensDownload,
   toUpload,
@@ -90,7 +79,7 @@ use Rattle.exchange.specs.Course.{Issue, Course}
 use Rattle.exchange.specs.Terms.{IssuedBy}
 use Rattle.exchange.specs.Demand3.{isSubscribers, OneExchangeNumber}
 use Rattle.exchange.proofs.Events.{Empties, case-empties}
-use Rattle.exchange.proofs.Told.{Opening, opening-at, Gave, fileIn, bank-replies}
+use Rattle.exchange.proofs.Told.{Opening, opening-action, opening-at, Gave, fileIn, bank-replies}
 use Rattle.exchange.proofs.Clients.{asIssue, issuesOf, runPast, issued-in, OpenedBy, opened-upload, opened-download, Parts}
 use Rattle.exchange.proofs.Courses.{Copied}
 use Rattle.exchange.proofs.Joint.{one-opener, counts}
@@ -116,22 +105,20 @@ under-request (sending e) = ap isRequestForm e
 under-request (asking e) = ap isRequestForm e
 under-request (confirming e) = ap isRequestForm e
 
-asked-under : {q : Fields} {b : Bool} {r : DownloadRequest} → AskedBy q b r → Under q
-asked-under (uploadTransfer e) = sending e
-asked-under (downloadTransfer e) = asking e
-asked-under (receipt e) = confirming e
+asked-under : {q : Fields} (r : TransactionRequest) → form q ≡ requestForm r → Under q
+asked-under asksFor.UploadTransfer e = sending e
+asked-under asksFor.DownloadTransfer e = asking e
+asked-under asksFor.Receipt e = confirming e
 
 -- an action that opens nothing was asked for under a transaction ID
-case-under : {lent : ℕ} {w : World} {q : Fields} {d : List ℕ} {e : Event} {s : bankCall.Step} → Happens lent w q d e s →
-    {t : Bits128} {k : Action} → e ≡ Of t k →
-    isOpening k ≡ false → Under q
+case-under : {first : ℕ} {w : World} {q : Fields} {d : List ℕ} {x : Verdict} → Happens first w q d x →
+    {t : Bits128} {k : Action} → x ≡ verdict.Of t k → isOpening k ≡ false → Under q
 case-under unreadable z o = absurd (let y : _≡_ {A = ℕ} 0 1 = cc in omega arith)
-case-under (refusal c e) z o = absurd (let y : _≡_ {A = ℕ} 0 1 = cc in omega arith)
-case-under (opensUpload asked a g n inside) {k = k} z o = let e : k ≡ OpenedUpload = cc in never (sym o ∙ ap isOpening e)
-case-under {w = w} {q = q} (opensDownload asked a g n) {k = k} z o = let e : k ≡ OpenedDownload (segmentsNow w q) =
-    cc in never (sym o ∙ ap isOpening e)
-case-under (toUpload i transfer r u a asked inside found sound) z o = asked-under asked
-case-under (toDownload j transfer r u a asked inside found sound) z o = asked-under asked
+case-under (refused c e) z o = absurd (let y : _≡_ {A = ℕ} 0 1 = cc in omega arith)
+case-under (opensUpload asked a g n inside) z o = never (sym o ∙ ap opens (sym z))
+case-under (opensDownload asked a g n) z o = never (sym o ∙ ap opens (sym z))
+case-under (toUpload r a c) z o = asked-under r (c .asked)
+case-under (toDownload r a c) z o = asked-under r (c .asked)
 
 id-downloadTransfer : (s x : ℕ) (t : Bits128) (j : ℕ) → transaction (requests.downloadTransfer s x t j) ≡ t
 unfolding requests.downloadTransfer
@@ -140,20 +127,12 @@ id-downloadTransfer s x t j = refl
 -- an opening is from a subscriber
 opened-range : {t : Bits128} {f : bank.Exchange} {g k : List bank.Exchange} → AllSound k → Stands f g k → Opening t f →
     (1 ≤ subscriber (f .request)) × (subscriber (f .request) ≤ subscribers)
-opened-range {t} {f} {g} sound stands o = at (o .action) (o .is) (o .opening)
+opened-range {t} {f} {g} sound stands o = at (opening-action (o .action) (o .opening))
   where
-    at : (a : Action) → f .event ≡ Of t a → isOpening a ≡ true → (1 ≤ subscriber (f .request)) × (subscriber (f .request) ≤ subscribers)
-    at OpenedUpload e z = let s = action-sound sound stands e .opening in (s .known, s .most)
-    at (OpenedDownload n) e z = let s = action-sound sound stands e .opening in (s .known, s .most)
-    at bank.Took e z = never z
-    at bank.TookLast e z = never z
-    at (bank.UploadPoint n) e z = never z
-    at (bank.DownloadPoint d) e z = never z
-    at (bank.Cancelled c) e z = never z
-    at (bank.Delivered n) e z = never z
-    at (bank.SentAgain n) e z = never z
-    at bank.Confirmed e z = never z
-    at bank.Declined e z = never z
+    at : ((n : ℕ) × (o .action ≡ action.Upload (up.Opened n))) ⊎ ((n : ℕ) × (o .action ≡ action.Download (down.Opened n))) →
+        (1 ≤ subscriber (f .request)) × (subscriber (f .request) ≤ subscribers)
+    at (inl k) = let s = action-sound sound stands (o .is ∙ ap (verdict.Of t) (k .1)) .opening in (s .known, s .most)
+    at (inr k) = let s = action-sound sound stands (o .is ∙ ap (verdict.Of t) (k .1)) .opening in (s .known, s .most)
 
 stands-short : {f : bank.Exchange} {g k : List bank.Exchange} → Stands f g k → length g < length k
 stands-short newest = omega arith
@@ -190,17 +169,17 @@ module _ {A : Type 0} (p : A → Bool) (d : A) (free : p d ≡ false) where
   two-counted (x ∷ l) (suc i) (suc j) n e f = let z = two-counted l i j (λ k. n (ap suc k)) e f in omega arith
 
 -- where the subscriber has one transaction open, a download t, the receipt that is confirmed is that of t
-pub confirms-own : (lent time : ℕ) (w : World) (q : Fields) (b : List ℕ) (k : List bank.Exchange) (v : bankInvariant.Invariant w k)
-    {t u : Bits128} {s d last : ℕ} →
-    DownloadAt w t s d last → openCountOf s (w .bank) ≤ 1 → eventOf lent (advanced time w) q b ≡ Of u Confirmed → subscriber q ≡ s → u ≡ t
+pub confirms-own : (first time : ℕ) (w : World) (q : Fields) (b : List ℕ) (k : List bank.Exchange) (v : bankInvariant.Invariant w k)
+    {t u : Bits128} {s d last : ℕ} → DownloadAt w t s d last → openCountOf s (w .bank) ≤ 1 →
+    judge first (advanced time w .bank) q (length b) ≡ verdict.Of u (action.Download down.Confirmed) → subscriber q ≡ s → u ≡ t
 unfolding openCountOf
-confirms-own lent time w q b k v {t} {u} {s} a few own from = at (ℕ-discrete (a .row) (before .0))
+confirms-own first time w q b k v {t} {u} {s} a few own from = at (ℕ-discrete (a .row) (before .0))
   where
     n : bankInvariant.Invariant (advanced time w) k
     n = advanced-keeps time w k v
 
-    e : Empties (advanced time w) q (bankCall.respond lent (advanced time w) q b) u
-    e = case-empties (happens lent (advanced time w) q b (n .sizes .places) (n .sizes .downloads)) (n .sizes) own
+    e : Empties (advanced time w) (carryOut (judge first (advanced time w .bank) q (length b)) (advanced time w) q b) q u
+    e = case-empties (happens first (advanced time w) q b (n .state .sizes .places) (n .state .sizes .downloads)) (n .state .sizes) own
 
     before : (j : ℕ) × (downloadAt (w .bank) j ≡ downloadAt (advanced time w .bank) (e .row))
     before = each-download time w (λ (r : Download). r .used ≡ true → (j : ℕ) × (downloadAt (w .bank) j ≡ r)) (λ z. never z)
@@ -281,13 +260,13 @@ module _ (s : Course) (v : Parts s) (copies : Copied s) (numbers : OneExchangeNu
     x = exchangeOf (number ids) (advanced time (v .bank .past .world)) (readRequest frame) (dataOf frame)
 
     pub case-of : {t : Bits128} {k : Action} → exchangeOf (number ids) (advanced time (v .bank .past .world)) (readRequest frame)
-        (dataOf frame) .event ≡ Of t k →
+        (dataOf frame) .verdict ≡ verdict.Of t k →
         isOpening k ≡ false → Under (readRequest frame)
-    unfolding exchangeOf
+    unfolding exchangeOf respond
     case-of =
         let w = advanced-keeps time (v .bank .past .world) h (v .bank .holds .invariant) in
-        case-under (happens (number ids) (advanced time (v .bank .past .world)) (readRequest frame) (dataOf frame) (w .sizes .places)
-        (w .sizes .downloads))
+        case-under (happens (number ids) (advanced time (v .bank .past .world)) (readRequest frame) (dataOf frame) (w .state .sizes .places)
+        (w .state .sizes .downloads))
 
     -- what acts on the transaction of run i is a copy of its request
     pub acts-own : {i : ℕ} {t : Bits128} {y : Form} → OpenedBy y (v .bank .past .history) t (issuesOf i (s .issued)) →
@@ -296,7 +275,7 @@ module _ (s : Course) (v : Parts s) (copies : Copied s) (numbers : OneExchangeNu
     unfolding exchangeOf
     acts-own {i} {t} o d = by (isOpening (d .action)) refl
       where
-        asked : {k : Action} → x .event ≡ Of t k → isOpening k ≡ false → IssuedBy i frame s
+        asked : {k : Action} → x .verdict ≡ verdict.Of t k → isOpening k ≡ false → IssuedBy i frame s
         asked {k} own n =
             let r = request-of k n (action-sound later newest own) in
             let u = case-of own n in

@@ -2,6 +2,7 @@
 use Prim.Native.Nat.{ℕ, _*_, _≤_}
 use mathlib.Core.Bool.{true}
 use mathlib.Core.List.{List, List·Memᴰ as In, List·Memᴰ·not-nil as in-none}
+use mathlib.Core.Logic.{_⊎_, inl, inr}
 use mathlib.Core.Path.{_≡_, refl, sym, ap, _∙_, subst}
 use native.Mathlib.Omega.{arith}
 use lib.ListN.{length, take}
@@ -14,26 +15,18 @@ use Rattle.frame_table.specs.Names.{subscriber, exchange, transaction, segments
 use Rattle.frame.specs.Reader.{readRequest}
 use Rattle.frame.specs.Row.{dataOf}
 use Rattle.frame_table.specs.Table.{isRequestForm}
-use Rattle.octets.proofs.Tests.{never}
+use Rattle.octets.proofs.Tests.{never, or-left, or-right}
 use Rattle.message.specs.Codes.{codeField}
 use Rattle.message.specs.Limits.{subscribers, segmentBytes}
 use Rattle.message.specs.Requests.{uploadOpening}
 use Rattle.message.specs.Segments.{segmentsOf, segmentOf}
+use Rattle.bank_verdicts.specs.declared.verdict.UploadAction.the-variants as up
+use Rattle.bank_verdicts.specs.declared.verdict.DownloadAction.the-variants as down
+use Rattle.bank_verdicts.specs.declared.verdict.Action.{Action}
+use Rattle.bank_verdicts.specs.declared.verdict.Action.the-variants as action
+use Rattle.bank_verdicts.specs.declared.verdict.Verdict.{Verdict}
+use Rattle.bank_verdicts.specs.declared.verdict.Verdict.the-variants as verdict
 use Rattle.bank_history.specs.History.{
-  Action,
-  OpenedUpload,
-  OpenedDownload,
-  Took,
-  TookLast,
-  UploadPoint,
-  DownloadPoint,
-  Cancelled,
-  Delivered,
-  SentAgain,
-  Confirmed,
-  Declined,
-  Event,
-  Of,
   Stands,
   ActionIn,
   isTaking,
@@ -50,7 +43,7 @@ use Rattle.bank_history.specs.History.{
 use Rattle.bank_history.specs.History as bank
 use Rattle.bank_history.specs.Sound.{AllSound}
 use Rattle.bank_history.proofs.Positions.{action-sound, booking-last}
-use Rattle.bank_history.proofs.Replies.{eventCode}
+use Rattle.bank_history.proofs.Replies.{verdictCode}
 use Rattle.bank_history.proofs.Theorems.{taking-sound, taken-last-books, booking-takes-last, ever-stands, stands-ever, received-payload}
 use Rattle.client.proofs.Apart.{not-both}
 use Rattle.client_history.specs.History as history
@@ -73,6 +66,7 @@ use Rattle.exchange.specs.Terms.{IssuedBy, Books, Booked}
 use Rattle.exchange.specs.Demand3.{isSubscribers, OneExchangeNumber}
 use Rattle.exchange.proofs.Told.{
   Opening,
+  opening-action,
   one-numbered,
   opening-at,
   upload-opening,
@@ -92,31 +86,21 @@ use Rattle.exchange.proofs.Issues.{numberOf, one-issue}
 use Rattle.exchange.proofs.Courses.{Copied}
 
 -- which actions these are
-pub upload-kind : (k : Action) → isUploadOpening k ≡ true → k ≡ OpenedUpload
-upload-kind OpenedUpload e = refl
-upload-kind (OpenedDownload n) e = never e
-upload-kind Took e = never e
-upload-kind TookLast e = never e
-upload-kind (UploadPoint k) e = never e
-upload-kind (DownloadPoint d) e = never e
-upload-kind (Cancelled c) e = never e
-upload-kind (Delivered n) e = never e
-upload-kind (SentAgain n) e = never e
-upload-kind Confirmed e = never e
-upload-kind Declined e = never e
+pub upload-kind : (k : Action) → isUploadOpening k ≡ true → (n : ℕ) × (k ≡ action.Upload (up.Opened n))
+upload-kind k e = at (opening-action k (or-left (isUploadOpening k) (isDownloadOpening k) e))
+  where
+    at : ((n : ℕ) × (k ≡ action.Upload (up.Opened n))) ⊎ ((n : ℕ) × (k ≡ action.Download (down.Opened n))) →
+        (n : ℕ) × (k ≡ action.Upload (up.Opened n))
+    at (inl u) = u
+    at (inr d) = never (sym (ap isUploadOpening (d .1)) ∙ e)
 
-download-kind : (k : Action) → isDownloadOpening k ≡ true → (n : ℕ) × (k ≡ OpenedDownload n)
-download-kind OpenedUpload e = never e
-download-kind (OpenedDownload n) e = (n, refl)
-download-kind Took e = never e
-download-kind TookLast e = never e
-download-kind (UploadPoint k) e = never e
-download-kind (DownloadPoint d) e = never e
-download-kind (Cancelled c) e = never e
-download-kind (Delivered n) e = never e
-download-kind (SentAgain n) e = never e
-download-kind Confirmed e = never e
-download-kind Declined e = never e
+download-kind : (k : Action) → isDownloadOpening k ≡ true → (n : ℕ) × (k ≡ action.Download (down.Opened n))
+download-kind k e = at (opening-action k (or-right (isUploadOpening k) (isDownloadOpening k) e))
+  where
+    at : ((n : ℕ) × (k ≡ action.Upload (up.Opened n))) ⊎ ((n : ℕ) × (k ≡ action.Download (down.Opened n))) →
+        (n : ℕ) × (k ≡ action.Download (down.Opened n))
+    at (inl u) = never (sym (ap isDownloadOpening (u .1)) ∙ e)
+    at (inr d) = d
 
 -- the transaction t was opened in a history, by a subscriber
 pub record OpenedIn (t : Bits128) (h : List bank.Exchange) : Type 0 where
@@ -131,9 +115,9 @@ pub upload-in : (t : Bits128) {h : List bank.Exchange} → AllSound h → ever i
 upload-in t {h} sound e = let o = ever-stands isUploadOpening t h e in at o (upload-kind (o .3 .action) (o .3 .kind))
   where
     at : (o : (f : bank.Exchange) × (g : List bank.Exchange) × Stands f g h × ActionIn isUploadOpening t f) →
-        o .3 .action ≡ OpenedUpload → OpenedIn t h
+        (n : ℕ) × (o .3 .action ≡ action.Upload (up.Opened n)) → OpenedIn t h
     at o k =
-        let own : o .0 .event ≡ Of t OpenedUpload = o .3 .is ∙ ap (Of t) k in
+        let own : o .0 .verdict ≡ verdict.Of t (action.Upload (up.Opened (k .0))) = o .3 .is ∙ ap (verdict.Of t) (k .1) in
         let s = action-sound sound (o .2) own .opening in
         record { exchange = o .0; before = o .1; stands = o .2; opening = upload-opening (o .3); low = s .known; high = s .most }
 
@@ -141,9 +125,9 @@ pub download-in : (t : Bits128) {h : List bank.Exchange} → AllSound h → ever
 download-in t {h} sound e = let o = ever-stands isDownloadOpening t h e in at o (download-kind (o .3 .action) (o .3 .kind))
   where
     at : (o : (f : bank.Exchange) × (g : List bank.Exchange) × Stands f g h × ActionIn isDownloadOpening t f) →
-        (n : ℕ) × (o .3 .action ≡ OpenedDownload n) → OpenedIn t h
+        (n : ℕ) × (o .3 .action ≡ action.Download (down.Opened n)) → OpenedIn t h
     at o k =
-        let own : o .0 .event ≡ Of t (OpenedDownload (k .0)) = o .3 .is ∙ ap (Of t) (k .1) in
+        let own : o .0 .verdict ≡ verdict.Of t (action.Download (down.Opened (k .0))) = o .3 .is ∙ ap (verdict.Of t) (k .1) in
         let s = action-sound sound (o .2) own .opening in
         record { exchange = o .0; before = o .1; stands = o .2; opening = download-opening (o .3); low = s .known; high = s .most }
 
@@ -351,8 +335,9 @@ module _ (s : Course) (v : Parts s) (copies : Copied s) (numbers : OneExchangeNu
       at : (o : (f : bank.Exchange) × (g : List bank.Exchange) × Stands f g (v .bank .past .history) × ActionIn isBooking t f) →
           (i : ℕ) × Uploads i t × ((e : Exchange) × In e (s .exchanged) × Books s i e)
       at (f, g, stands, d) =
-          let own : f .event ≡ Of t TookLast = d .is ∙ ap (Of t) (booking-last (d .action) (d .kind)) in
-          let k = taken-from stands (record { action = TookLast; is = own; kind = refl }) in
+          let own : f .verdict ≡ verdict.Of t (action.Upload up.TookLast) = d .is
+          ∙ ap (verdict.Of t) (booking-last (d .action) (d .kind)) in
+          let k = taken-from stands (record { action = action.Upload up.TookLast; is = own; kind = refl }) in
           let o = upload-in t (sound-before sound stands) (action-sound sound stands own .taking .upload .opened) in (
             k .run,
             k .uploads,
@@ -364,7 +349,7 @@ module _ (s : Course) (v : Parts s) (copies : Copied s) (numbers : OneExchangeNu
                 upload = k .asked;
                 last = ap segment (k .same .request) ∙ booking-takes-last t sound stands d
                     ∙ at-before (λ (x : bank.Exchange). segments (x .request)) 0 t sound stands o ∙ upload-size (k .uploads);
-                taken = ap returnCode (k .same .reply) ∙ coded sound stands ∙ ap (λ (x : Event). codeField (eventCode x)) own;
+                taken = ap returnCode (k .same .reply) ∙ coded sound stands ∙ ap (λ (x : Verdict). codeField (verdictCode x)) own;
               },
             ),
           )

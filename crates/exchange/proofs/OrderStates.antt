@@ -16,7 +16,10 @@ use Rattle.message.specs.Codes.{codeField}
 use Rattle.message.specs.Replies.{uploadOpened, downloadOpened, segmentTaken, downloadSegment, receiptAnswered}
 use Rattle.message.specs.Segments.{lastMarkOf}
 use Rattle.bank_state.specs.Search.{openCountOf}
-use Rattle.bank_history.specs.History.{Of, OpenedUpload, OpenedDownload}
+use Rattle.bank_verdicts.specs.declared.verdict.Action.the-variants as action
+use Rattle.bank_verdicts.specs.declared.verdict.DownloadAction.the-variants as down
+use Rattle.bank_verdicts.specs.declared.verdict.UploadAction.the-variants as up
+use Rattle.bank_verdicts.specs.declared.verdict.Verdict.the-variants as verdict
 use Rattle.bank_history.proofs.Theorems.{upload-opened, download-opened}
 use Rattle.client.specs.declared.run.Client.{Client}
 use Rattle.client.specs.declared.run.Direction.{Direction}
@@ -107,15 +110,15 @@ opened-by s v way {i} {t = t} o = by way (o .opened)
     by Upload e =
         let p = upload-opened (v .bank .holds .invariant .sound) (f .stands) (ap form (sym (f .same .reply)) ∙ e) in
         with-opening (record {
-          action = OpenedUpload;
-          is = p .0 ∙ ap (λ (b : Bits128). Of b OpenedUpload) same;
+          action = action.Upload (up.Opened (p .0));
+          is = p .1 ∙ ap (λ (b : Bits128). verdict.Of b (action.Upload (up.Opened (p .0)))) same;
           opening = refl;
         })
     by Download e =
         let p = download-opened (v .bank .holds .invariant .sound) (f .stands) (ap form (sym (f .same .reply)) ∙ e) in
         with-opening (record {
-          action = OpenedDownload (segments (f .exchange .reply));
-          is = p .0 ∙ ap (λ (b : Bits128). Of b (OpenedDownload (segments (f .exchange .reply)))) same;
+          action = action.Download (down.Opened (segments (f .exchange .reply)));
+          is = p .0 ∙ ap (λ (b : Bits128). verdict.Of b (action.Download (down.Opened (segments (f .exchange .reply))))) same;
           opening = refl;
         })
 

@@ -26,18 +26,35 @@ use Rattle.bank_state.specs.Search.{isFree}
 use Rattle.bank_state.specs.State.{World, placeAt}
 use Rattle.bank_state.specs.Store.{partAt}
 use Rattle.message.specs.OrderNumbers.{orderNumberOf}
-use Rattle.bank_history.specs.History.{Of, Stands, newest, older, ActionIn, isBooking, isEnding, did, ever, received}
+use Rattle.bank_verdicts.specs.declared.verdict.UploadAction.the-variants as up
+use Rattle.bank_verdicts.specs.declared.verdict.DownloadAction.the-variants as down
+use Rattle.bank_verdicts.specs.declared.verdict.Action.the-variants as action
+use Rattle.bank_verdicts.specs.declared.verdict.Verdict.the-variants as verdict
+use Rattle.bank_history.specs.History.{
+  Stands,
+  newest,
+  older,
+  ActionIn,
+  isBooking,
+  isEnding,
+  did,
+  ever,
+  received,
+  numberIn,
+  numberAt,
+}
 use Rattle.bank_history.specs.History as bank
 use Rattle.bank_history.specs.Invariant as whole
 use Rattle.bank_history.specs.Standing as standing
 use Rattle.bank_history.specs.Sound.{AllSound, isCancelling}
-use Rattle.bank_history.proofs.Entries.{ever-action}
 use Rattle.bank_history.proofs.Positions.{action-sound, booking-last}
+use Rattle.bank_history.proofs.Uploads.{place-counted}
 use Rattle.bank_history.proofs.Theorems.{
   booked-order,
   in-book,
   upload-opened,
   download-opened,
+  cancels-ends,
   transaction-cancelled,
   ended-unbooked,
   stands-ever,
@@ -218,6 +235,16 @@ module _ (s : Course) (v : Parts s) (copies : Copied s) (numbers : OneExchangeNu
 
   -- ---- the book
 
+  -- the number that the bank gave to an upload, from the reply to its opening
+  opened-number : {e : bank.Exchange} {g : List bank.Exchange} {t : Bits128} → Stands e g h → form (e .reply) ≡ forms.UploadOpened →
+      transaction (e .reply) ≡ t → orderNumber (e .reply) ≡ orderNumberOf (numberAt t h)
+  opened-number {e} {t = t} stands z id =
+      let u = upload-opened sound stands z in
+      let own : e .verdict ≡ verdict.Of t (action.Upload (up.Opened (u .0))) =
+      u .1 ∙ ap (λ (x : Bits128). verdict.Of x (action.Upload (up.Opened (u .0)))) id in
+      u .3 ∙ ap orderNumberOf (sym (opening-at (λ (x : bank.Exchange). numberIn (x .verdict)) 0 sound stands
+      (record { action = action.Upload (up.Opened (u .0)); is = own; opening = refl }) ∙ ap numberIn own))
+
   -- the place of a run's booked upload holds its order
   order-of : {i j : ℕ} {t : Bits128} → Uploads s v copies numbers i t → standing.Order (s .bank) (v .bank .past .history) t j →
       (o : Order) → InBook s j o → OrderOf s i o
@@ -225,8 +252,6 @@ module _ (s : Course) (v : Parts s) (copies : Copied s) (numbers : OneExchangeNu
       let a = u .opened .got .given in
       let c = copied-reply (u .opened .got .own) a in
       let p = placeAt (s .bank .bank) j in
-      let f = upload-opened sound (a .stands) (ap form (a .reply) ∙ u .opened .got .answered) in
-      let id : transaction (a .exchange .reply) ≡ s .runs i .transaction = ap transaction (a .reply) ∙ u .opened .id in
       record {
         subscriber = ap (λ (x : Order). x .subscriber) (b .is) ∙ r .owner ∙ upload-owner s v copies numbers u;
         bytes = ap (λ (x : Order). x .bytes) (b .is) ∙ ap (take (p .length)) (r .held)
@@ -236,9 +261,9 @@ module _ (s : Course) (v : Parts s) (copies : Copied s) (numbers : OneExchangeNu
             ∙ all-held (s .payloads i) (segmentsOf (length (s .payloads i))) refl;
         exchange = c .exchange;
         opened = opened-by (u .opened .got) (u .opened .id);
-        number = ap orderNumber (c .same .reply) ∙ f .2
-            ∙ ap orderNumberOf (ap (λ (x : Bits128). x .low) (id ∙ u .own) ∙ sym (r .number))
-            ∙ ap (λ (x : Order). x .number) (sym (b .is));
+        number = ap orderNumber (c .same .reply)
+            ∙ opened-number (a .stands) (ap form (a .reply) ∙ u .opened .got .answered) (ap transaction (a .reply) ∙ u .opened .id ∙ u .own)
+            ∙ ap orderNumberOf (sym (r .number)) ∙ ap (λ (x : Order). x .number) (sym (b .is));
       }
 
   pub book-sound : (j : ℕ) (o : Order) → InBook s j o → (i : ℕ) × Booked s i × OrderOf s i o
@@ -263,39 +288,48 @@ module _ (s : Course) (v : Parts s) (copies : Copied s) (numbers : OneExchangeNu
 
   place-number : {j : ℕ} {o : Order} → InBook s j o → placeAt (s .bank .bank) j .number < openingsMost
   place-number {j} b =
-      let r = booked-order inv j (b .place) (b .booked) in
-      let k = inv .known (placeAt (s .bank .bank) j .transaction) (ever-action isBooking _ h (r .last)) in
-      omega (arith, r .number, inv .numbers)
+      let n = place-counted (s .bank) h inv j (b .place) (ap isFree (b .booked)) .1 in
+      omega (arith, inv .state .numbers)
 
   pub book-single : (j j′ : ℕ) (o o′ : Order) → InBook s j o → InBook s j′ o′ → o .number ≡ o′ .number → j ≡ j′
   book-single j j′ o o′ a b e =
-      inv .placesApart j j′ (a .place) (b .place) (ap isFree (a .booked)) (ap isFree (b .booked))
-      (one-order-number _ _ (place-number a) (place-number b)
-      (ap (λ (x : Order). x .number) (sym (a .is)) ∙ e ∙ ap (λ (x : Order). x .number) (b .is)))
+      inv .state .placesApart j j′ (a .place) (b .place) (ap isFree (a .booked)) (ap isFree (b .booked))
+      (inr (one-order-number _ _ (place-number a) (place-number b)
+      (ap (λ (x : Order). x .number) (sym (a .is)) ∙ e ∙ ap (λ (x : Order). x .number) (b .is))))
 
-  -- the number of an order is that of its transaction
-  number-of : {i : ℕ} {o : Order} → OrderOf s i o → o .number ≡ orderNumberOf (s .runs i .transaction .low)
+  -- the number of an order is that of its transaction's opening
+  number-of : {i : ℕ} {o : Order} → OrderOf s i o → o .number ≡ orderNumberOf (numberAt (s .runs i .transaction) h)
   number-of d =
       let o = d .opened in
       let f = found (v .bank .entries) (o .received .0) in
-      let u = upload-opened sound (f .stands) (ap form (sym (f .same .reply)) ∙ o .answered) in
-      sym (d .number) ∙ ap orderNumber (f .same .reply) ∙ u .2
-      ∙ ap (λ (x : Bits128). orderNumberOf (x .low)) (ap transaction (sym (f .same .reply)) ∙ o .own)
+      sym (d .number) ∙ ap orderNumber (f .same .reply)
+      ∙ opened-number (f .stands) (ap form (sym (f .same .reply)) ∙ o .answered) (ap transaction (sym (f .same .reply)) ∙ o .own)
 
   -- one upload explains one place of the book
   pub book-place : (i j j′ : ℕ) (o o′ : Order) → InBook s j o → InBook s j′ o′ → OrderOf s i o → OrderOf s i o′ → j ≡ j′
   book-place i j j′ o o′ a b c d = book-single j j′ o o′ a b (number-of c ∙ sym (number-of d))
 
-  booked-low : {i : ℕ} → Booked s i → s .runs i .transaction .low < openingsMost
-  booked-low {i} b =
-      let k = inv .known (s .runs i .transaction) (ever-action isBooking _ h (booked-ever s v copies numbers b .1)) in
-      omega (arith, inv .numbers)
+  -- the order of a booked upload
+  order-at : {i : ℕ} → Booked s i → (j : ℕ) × standing.Order (s .bank) h (s .runs i .transaction) j
+  order-at {i} b = in-book inv (s .runs i .transaction) (booked-ever s v copies numbers b .1)
+
+  booked-number : (i : ℕ) → Booked s i → numberAt (s .runs i .transaction) h < openingsMost
+  booked-number i b =
+      let r = order-at b in
+      let n = place-counted (s .bank) h inv (r .0) (r .1 .inside) (ap isFree (r .1 .used)) .1 in
+      omega (arith, r .1 .number, inv .state .numbers)
 
   pub book-apart : (i i′ : ℕ) (o : Order) → Booked s i → Booked s i′ → OrderOf s i o → OrderOf s i′ o → i ≡ i′
   book-apart i i′ o a b c d =
+      let x = order-at a in
+      let y = order-at b in
+      let same = one-order-number _ _ (booked-number i a) (booked-number i′ b) (sym (number-of c) ∙ number-of d) in
+      let place : x .0 ≡ y .0 = inv .state .placesApart (x .0) (y .0) (x .1 .inside) (y .1 .inside) (ap isFree (x .1 .used))
+      (ap isFree (y .1 .used)) (inr (x .1 .number ∙ same ∙ sym (y .1 .number))) in
       one-opener s v copies numbers (opened-upload sound (booked-ever s v copies numbers a .0 .opened))
       (opened-upload sound (booked-ever s v copies numbers b .0 .opened))
-      (one-order-number _ _ (booked-low a) (booked-low b) (sym (number-of c) ∙ number-of d))
+      (ap (λ (u : Bits128). u .low)
+      (sym (x .1 .same) ∙ ap (λ (j : ℕ). placeAt (s .bank .bank) j .transaction) place ∙ y .1 .same))
 
   -- "each upload is booked at most once"
   pub booked-once : (i : ℕ) → AtMostOne (Books s i) (s .exchanged)
@@ -308,9 +342,9 @@ module _ (s : Course) (v : Parts s) (copies : Copied s) (numbers : OneExchangeNu
           ((f : bank.Exchange) (k : List bank.Exchange) → Stands f k g → Stands f k (v .bank .past .history)) → AtMostOne (Books s i) l
       at Entries.none up = AtMostOne.none
       at (Entries.more {e = e} {f = f} {l = l} {h = g} same r) up =
-          by (did isBooking t (f .event)) refl (at r (λ x k p. up x k (older p)))
+          by (did isBooking t (f .verdict)) refl (at r (λ x k p. up x k (older p)))
         where
-          by : (b : Bool) → did isBooking t (f .event) ≡ b → AtMostOne (Books s i) l → AtMostOne (Books s i) (e ∷ l)
+          by : (b : Bool) → did isBooking t (f .verdict) ≡ b → AtMostOne (Books s i) l → AtMostOne (Books s i) (e ∷ l)
           by true z rest = AtMostOne.only (λ y m k.
               let x = found r m in
               ⊥-of (did-action isBooking t f z) (stands-ever isBooking t (x .stands)
@@ -318,7 +352,7 @@ module _ (s : Course) (v : Parts s) (copies : Copied s) (numbers : OneExchangeNu
             where
               ⊥-of : ActionIn isBooking t f → ever isBooking t g ≡ true → ⊥
               ⊥-of d k = never (sym (action-sound sound (up _ _ newest)
-                  (d .is ∙ ap (Of t) (booking-last (d .action) (d .kind))) .taking .upload .request .unbooked) ∙ k)
+                  (d .is ∙ ap (verdict.Of t) (booking-last (d .action) (d .kind))) .taking .upload .request .unbooked) ∙ k)
           by false z rest = AtMostOne.skip (λ k.
               let d = books-booking s v copies numbers (up _ _ newest) same k in never (sym z ∙ did-of isBooking t f d)) rest
 
@@ -348,16 +382,14 @@ module _ (s : Course) (v : Parts s) (copies : Copied s) (numbers : OneExchangeNu
       let w = book-whole i b in
       let o = l .opened in
       let g = o .got .given in
-      let n = upload-opened sound (g .stands) (ap form (g .reply) ∙ o .got .answered) in
-      let id : transaction (g .exchange .reply) ≡ s .runs i .transaction = ap transaction (g .reply) ∙ o .id in (
+      let n = opened-number (g .stands) (ap form (g .reply) ∙ o .got .answered) (ap transaction (g .reply) ∙ o .id) in (
         b,
         (
           w .0,
           w .1,
           w .2,
           w .3,
-          number-of (w .3) ∙ ap (λ (x : Bits128). orderNumberOf (x .low)) (sym id) ∙ sym (n .2)
-              ∙ ap orderNumber (g .reply) ∙ o .number,
+          number-of (w .3) ∙ sym n ∙ ap orderNumber (g .reply) ∙ o .number,
         ),
       )
 
@@ -386,7 +418,7 @@ module _ (s : Course) (v : Parts s) (copies : Copied s) (numbers : OneExchangeNu
           let id : transaction (a .exchange .request) ≡ s .runs i .transaction = ap transaction (a .request) ∙ l .id in
           ended-unbooked (s .runs i .transaction) sound
           (stands-ever isEnding (s .runs i .transaction) (a .stands)
-          (record { action = bank.Cancelled (t .0); is = t .1 ∙ ap (λ (x : Bits128). Of x (bank.Cancelled (t .0))) id; kind = refl }))
+          (record { action = t .1; is = t .3 ∙ ap (λ (x : Bits128). verdict.Of x (t .1)) id; kind = cancels-ends (t .2) }))
           (booked-ever s v copies numbers b .1)
 
   -- "a fetched file is the mailbox's file at its transaction's opening"
@@ -407,8 +439,8 @@ module _ (s : Course) (v : Parts s) (copies : Copied s) (numbers : OneExchangeNu
             ∙ opening-at (λ (x : bank.Exchange). x .file) [] sound (a .stands)
             (record {
               action = _;
-              is = d .0 ∙ ap (λ (x : Bits128). Of x
-                  (bank.OpenedDownload (segments (a .exchange .reply)))) id;
+              is = d .0 ∙ ap (λ (x : Bits128). verdict.Of x
+                  (action.Download (down.Opened (segments (a .exchange .reply))))) id;
               opening = refl;
             })
             ∙ sym (c .same .box),

@@ -26,22 +26,15 @@ use Rattle.bank_state.specs.Clock.{advanced}
 use Rattle.bank_state.specs.Limits.{idleLimit}
 use Rattle.bank_state.specs.State.{World}
 use Rattle.message.specs.OrderNumbers.{orderNumberOf}
-use Rattle.bank_history.specs.History.{
-  Action,
-  OpenedUpload,
-  OpenedDownload,
-  Took,
-  TookLast,
-  Delivered,
-  Confirmed,
-  Event,
-  Of,
-  newest,
-  isOpening,
-  exchangeOf,
-  replyTo,
-  segmentsNow,
-}
+use Rattle.bank_verdicts.specs.declared.verdict.UploadAction.the-variants as up
+use Rattle.bank_verdicts.specs.declared.verdict.DownloadAction.the-variants as down
+use Rattle.bank_verdicts.specs.declared.verdict.Action.{Action}
+use Rattle.bank_verdicts.specs.declared.verdict.Action.the-variants as action
+use Rattle.bank_verdicts.specs.declared.verdict.Verdict.{Verdict}
+use Rattle.bank_verdicts.specs.declared.verdict.Verdict.the-variants as verdict
+use Rattle.bank_verdicts.specs.Judgement.{mailboxSegments}
+use Rattle.bank_verdicts.specs.Replies.{replyTo}
+use Rattle.bank_history.specs.History.{newest, isOpening, exchangeOf}
 use Rattle.bank_history.specs.History as bank
 use Rattle.bank_history.specs.Standing.{UploadAt, DownloadAt, UploadUnlessIdle, DownloadUnlessIdle, answered}
 use Rattle.bank_history.proofs.Liveness as bankTurn
@@ -84,7 +77,7 @@ use Rattle.client_history.proofs.Theorems.{exchange-numbers, upload-run, file-h
 use Rattle.exchange.specs.Course.{Issue, Exchange, Arrival, Course}
 use Rattle.exchange.specs.Terms.{IssuedBy, Received, NoIdleHour}
 use Rattle.exchange.specs.Demand3.{OneExchangeNumber}
-use Rattle.exchange.proofs.Told.{Gave, fileIn, bank-replies, by-code}
+use Rattle.exchange.proofs.Told.{opening-action, Gave, fileIn, bank-replies, by-code}
 use Rattle.exchange.proofs.Bank.{Entered}
 use Rattle.exchange.proofs.Clients.{runPast, issued-in, Parts}
 use Rattle.exchange.proofs.Issues.{numberOf, one-issue}
@@ -115,20 +108,6 @@ receipt-fields s x t n = (refl, refl, refl)
 opening-segments : (s x : ℕ) (nonce : Bits128) (time n : ℕ) → segments (uploadOpening s x nonce time n) ≡ n
 unfolding uploadOpening
 opening-segments s x nonce time n = refl
-
--- an opening action opens an upload or a download
-opening-action : (k : Action) → isOpening k ≡ true → (k ≡ OpenedUpload) ⊎ ((n : ℕ) × (k ≡ OpenedDownload n))
-opening-action OpenedUpload e = inl refl
-opening-action (OpenedDownload n) e = inr (n, refl)
-opening-action Took e = never e
-opening-action TookLast e = never e
-opening-action (bank.UploadPoint n) e = never e
-opening-action (bank.DownloadPoint d) e = never e
-opening-action (bank.Cancelled c) e = never e
-opening-action (Delivered n) e = never e
-opening-action (bank.SentAgain n) e = never e
-opening-action Confirmed e = never e
-opening-action bank.Declined e = never e
 
 module _ (s : Course) (v : Parts s) (copies : Copied s) (numbers : OneExchangeNumber s) (i : ℕ) where
   abbrev p : Past
@@ -258,9 +237,9 @@ module _ (s : Course) (v : Parts s) (copies : Copied s) (numbers : OneExchangeNu
 
       -- ---- the reply
 
-      replies : (z : Event) → x .event ≡ z → readReply (en .exchange .reply) ≡ replyTo z (readRequest frame)
+      replies : (z : Verdict) → x .verdict ≡ z → readReply (en .exchange .reply) ≡ replyTo z (readRequest frame)
       unfolding exchangeOf
-      replies z e = en .same .reply ∙ reply-is (en .sound) newest ∙ ap (λ (u : Event). replyTo u (readRequest frame)) e
+      replies z e = en .same .reply ∙ reply-is (en .sound) newest ∙ ap (λ (u : Verdict). replyTo u (readRequest frame)) e
 
       told-by : (way : Direction) (at : Step) (j : ℕ) → InTurn p way at j (c .exchange) → Behind way at j t i c (readReply (f .reply)) →
           State t i p
@@ -348,11 +327,11 @@ module _ (s : Course) (v : Parts s) (copies : Copied s) (numbers : OneExchangeNu
       -- its code is 000000: it opened a transaction
       opening-done : (form (readRequest frame) ≡ forms.UploadOpening) ⊎ (form (readRequest frame) ≡ forms.DownloadOpening) →
           returnCode (readReply (f .reply)) ≡ codeField code.Ok →
-          (id : Bits128) × (k : Action) × (x .event ≡ Of id k) × (isOpening k ≡ true)
+          (id : Bits128) × (k : Action) × (x .verdict ≡ verdict.Of id k) × (isOpening k ≡ true)
       opening-done kind ok = let b = by-code (en .sound) newest (en .proper) code.Ok refl (sym (ap returnCode (en .same .reply)) ∙ ok) in
           (b .0, b .1, b .2, at (b .2) (isOpening (b .1)) refl)
         where
-          at : {id : Bits128} {k : Action} → x .event ≡ Of id k → (z : Bool) → isOpening k ≡ z → z ≡ true
+          at : {id : Bits128} {k : Action} → x .verdict ≡ verdict.Of id k → (z : Bool) → isOpening k ≡ z → z ≡ true
           at e true z = refl
           at e false z = under-not (case-of s v copies numbers time ids frame (λ _. (i, own)) (en .sound) e z) kind
 
@@ -371,17 +350,18 @@ module _ (s : Course) (v : Parts s) (copies : Copied s) (numbers : OneExchangeNu
           asks-form : form (readRequest frame) ≡ forms.UploadOpening
           asks-form = ap form request ∙ form-uploadOpening _ _ _ _ _
 
-          opened : (id : Bits128) → x .event ≡ Of id OpenedUpload → State t i p
-          opened id e =
-              let r = replies (Of id OpenedUpload) e ∙ ap (λ (n : ℕ). uploadOpened n id (orderNumberOf (id .low))) is-outstanding in
-              let y = opened-fits (c .exchange) (orderNumberOf (id .low)) 0 0 id in
-              let there = bankTurn.upload-opens time ids frame (v .bank .past) (v .bank .holds) id e in
+          opened : (id : Bits128) (m : ℕ) → x .verdict ≡ verdict.Of id (action.Upload (up.Opened m)) → State t i p
+          opened id m e =
+              let r = replies (verdict.Of id (action.Upload (up.Opened m))) e
+              ∙ ap (λ (n : ℕ). uploadOpened n id (orderNumberOf m)) is-outstanding in
+              let y = opened-fits (c .exchange) (orderNumberOf m) 0 0 id in
+              let there = bankTurn.upload-opens time ids frame (v .bank .past) (v .bank .holds) id m e in
               told-by Upload step.Opening j turn (
                 id,
-                orderNumberOf (id .low),
+                orderNumberOf m,
                 r,
                 open-now Upload id (c .subscriber) (c .segments) 0 f received-now (ap form r ∙ y .form-is) ok
-                    (ap transaction r ∙ opened-fields (c .exchange) (orderNumberOf (id .low)) 0 0 id .0) (alone-now first)
+                    (ap transaction r ∙ opened-fields (c .exchange) (orderNumberOf m) 0 0 id .0) (alone-now first)
                     (λ _. subst (λ (u : ℕ). UploadAt (answered time ids frame (v .bank .past) .world) id u 0 (c .segments)
                     (max (v .bank .past .world .bank .clock) time))
                     (ap subscriber (asked .request) ∙ outstanding-subscriber c (asked .time) (asked .nonce) [])
@@ -389,13 +369,13 @@ module _ (s : Course) (v : Parts s) (copies : Copied s) (numbers : OneExchangeNu
                     (max (v .bank .past .world .bank .clock) time)) (ap segments request ∙ opening-segments _ _ _ _ _) there)),
               )
 
-          at : (id : Bits128) × (k : Action) × (x .event ≡ Of id k) × (isOpening k ≡ true) → State t i p
+          at : (id : Bits128) × (k : Action) × (x .verdict ≡ verdict.Of id k) × (isOpening k ≡ true) → State t i p
           at (id, k, e, z) = by (opening-action k z)
             where
-              by : (k ≡ OpenedUpload) ⊎ ((n : ℕ) × (k ≡ OpenedDownload n)) → State t i p
-              by (inl y) = opened id (e ∙ ap (Of id) y)
+              by : ((n : ℕ) × (k ≡ action.Upload (up.Opened n))) ⊎ ((n : ℕ) × (k ≡ action.Download (down.Opened n))) → State t i p
+              by (inl (m, y)) = opened id m (e ∙ ap (verdict.Of id) y)
               by (inr (n, y)) = absurd (
-                  let a = action-sound (en .sound) newest (e ∙ ap (Of id) y) .opening .asked in
+                  let a = action-sound (en .sound) newest (e ∙ ap (verdict.Of id) y) .opening .asked in
                   let g : forms.UploadOpening ≡ forms.DownloadOpening = sym asks-form ∙ a in
                   let w : _≡_ {A = ℕ} 0 1 = cc in omega arith)
 
@@ -410,9 +390,10 @@ module _ (s : Course) (v : Parts s) (copies : Copied s) (numbers : OneExchangeNu
           asks-form : form (readRequest frame) ≡ forms.DownloadOpening
           asks-form = ap form request ∙ form-downloadOpening _ _ _ _
 
-          opened : (id : Bits128) (n : ℕ) → x .event ≡ Of id (OpenedDownload n) → State t i p
+          opened : (id : Bits128) (n : ℕ) → x .verdict ≡ verdict.Of id (action.Download (down.Opened n)) → State t i p
           opened id n e =
-              let r = replies (Of id (OpenedDownload n)) e ∙ ap (λ (m : ℕ). downloadOpened m n id (lastMarkOf 1 n)) is-outstanding in
+              let r = replies (verdict.Of id (action.Download (down.Opened n))) e
+              ∙ ap (λ (m : ℕ). downloadOpened m n id (lastMarkOf 1 n)) is-outstanding in
               let y = download-fits (c .exchange) n 0 (lastMarkOf 1 n) id in
               let there = bankTurn.download-opens time ids frame (v .bank .past) (v .bank .holds) id n e in
               told-by Download step.Opening j turn (
@@ -426,20 +407,20 @@ module _ (s : Course) (v : Parts s) (copies : Copied s) (numbers : OneExchangeNu
                     (ap subscriber (asked .request) ∙ outstanding-subscriber c (asked .time) (asked .nonce) []) there),
               )
 
-          at : (id : Bits128) × (k : Action) × (x .event ≡ Of id k) × (isOpening k ≡ true) → State t i p
+          at : (id : Bits128) × (k : Action) × (x .verdict ≡ verdict.Of id k) × (isOpening k ≡ true) → State t i p
           at (id, k, e, z) = by (opening-action k z)
             where
-              by : (k ≡ OpenedUpload) ⊎ ((n : ℕ) × (k ≡ OpenedDownload n)) → State t i p
-              by (inr (n, y)) = opened id n (e ∙ ap (Of id) y)
-              by (inl y) = absurd (
-                  let a = action-sound (en .sound) newest (e ∙ ap (Of id) y) .opening .asked in
+              by : ((n : ℕ) × (k ≡ action.Upload (up.Opened n))) ⊎ ((n : ℕ) × (k ≡ action.Download (down.Opened n))) → State t i p
+              by (inr (n, y)) = opened id n (e ∙ ap (verdict.Of id) y)
+              by (inl (m, y)) = absurd (
+                  let a = action-sound (en .sound) newest (e ∙ ap (verdict.Of id) y) .opening .asked in
                   let g : forms.DownloadOpening ≡ forms.UploadOpening = sym asks-form ∙ a in
                   let w : _≡_ {A = ℕ} 0 1 = cc in omega arith)
 
       -- ---- a segment of an upload
 
       take-reply : (id : Bits128) (b : Bool) (q : Fields) →
-          replyTo (Of id (cond b TookLast Took)) q ≡ segmentTaken (exchange q) id (segment q)
+          replyTo (verdict.Of id (action.Upload (cond b up.TookLast up.Took))) q ≡ segmentTaken (exchange q) id (segment q)
       take-reply id true q = refl
       take-reply id false q = refl
 
@@ -528,7 +509,7 @@ module _ (s : Course) (v : Parts s) (copies : Copied s) (numbers : OneExchangeNu
             before-download from to short-download (in-hour o)
 
         -- N as the run knows it
-        count-now : segmentsNow (advanced time (v .bank .past .world)) (readRequest frame) ≡ c .segments
+        count-now : mailboxSegments (subscriber (readRequest frame)) (advanced time (v .bank .past .world) .bank) ≡ c .segments
         count-now =
             bankTurn.download-segments time ids frame (v .bank .past) (v .bank .holds) (c .transaction) (c .subscriber) d (o .last)
             before-download from to short-download (in-hour o)
@@ -571,10 +552,11 @@ module _ (s : Course) (v : Parts s) (copies : Copied s) (numbers : OneExchangeNu
           next-segment : segment (readRequest frame) ≡ suc k
           next-segment = is-segment ∙ next
 
-          count : segmentsNow (advanced time (v .bank .past .world)) (readRequest frame) ≡ c .segments
+          count : mailboxSegments (subscriber (readRequest frame)) (advanced time (v .bank .past .world) .bank) ≡ c .segments
           count = count-now (turn .direction) (ap isOpen (turn .step)) k o from to
 
-          reach : segment (readRequest frame) ≤ segmentsNow (advanced time (v .bank .past .world)) (readRequest frame)
+          reach : segment (readRequest frame) ≤ mailboxSegments (subscriber (readRequest frame))
+              (advanced time (v .bank .past .world) .bank)
           reach = let a = is-segment in let b = count in omega arith
 
           r : readReply (f .reply) ≡ downloadSegment (c .exchange) (c .transaction) j (lastMarkOf j (c .segments))
@@ -583,9 +565,9 @@ module _ (s : Course) (v : Parts s) (copies : Copied s) (numbers : OneExchangeNu
               (o .last) (before-download (turn .direction) (ap isOpen (turn .step)) k o from to) from to
               (short-download (turn .direction) (ap isOpen (turn .step)) k o from to) (in-hour o) kind next-segment reach)
               ∙ ap (λ (n : ℕ). downloadSegment n (c .transaction) (segment (readRequest frame)) (lastMarkOf (segment (readRequest frame))
-              (segmentsNow (advanced time (v .bank .past .world)) (readRequest frame)))) is-outstanding
+              (mailboxSegments (subscriber (readRequest frame)) (advanced time (v .bank .past .world) .bank)))) is-outstanding
               ∙ ap (λ (m : ℕ). downloadSegment (c .exchange) (c .transaction) m (lastMarkOf m
-              (segmentsNow (advanced time (v .bank .past .world)) (readRequest frame)))) is-segment
+              (mailboxSegments (subscriber (readRequest frame)) (advanced time (v .bank .past .world) .bank)))) is-segment
               ∙ ap (λ (n : ℕ). downloadSegment (c .exchange) (c .transaction) j (lastMarkOf j n)) count
 
       download-receipt : (j : ℕ) → InTurn p Download step.Receipt j (c .exchange) → Before Download step.Receipt j s i c → State t i p

@@ -36,9 +36,11 @@ use Rattle.bank_state.specs.Limits.{placeCount}
 use Rattle.bank_state.specs.Search.{isFree}
 use Rattle.bank_state.specs.State.{World, noPlace, placeAt, downloadAt}
 use Rattle.bank_state.specs.Store.{partAt}
+use Rattle.bank_verdicts.specs.declared.verdict.Action.the-variants as action
+use Rattle.bank_verdicts.specs.declared.verdict.UploadAction.the-variants as up
+use Rattle.bank_verdicts.specs.declared.verdict.Verdict.the-variants as verdict
+use Rattle.bank.specs.Call.{respond}
 use Rattle.bank_history.specs.History.{
-  OpenedUpload,
-  Of,
   Past,
   Frame,
   File,
@@ -151,8 +153,8 @@ module _ (s : Course) (v : Parts s) (copies : Copied s) (numbers : OneExchangeNu
   while-open : (j : ℕ) → downloadAt (s .bank .bank) j .used ≡ true → downloadAt (s .bank .bank) j .transaction ≡ t → x .file ≡ boxNow s x
   while-open j used own =
       let d = download-open (s .bank) h (inv s v copies numbers) j used in
-      receipt .file ∙ ap (fileIn h) (sym (receipt-id receipt) ∙ sym own) ∙ d .unchanged
-      ∙ ap (mailboxFile (s .bank)) (sym (d .owner) ∙ ap (λ (u : Bits128). openedBy u h) own ∙ opener) ∙ sym (same-mailbox (s .bank) _)
+      receipt .file ∙ ap (fileIn h) (sym (receipt-id receipt) ∙ sym own) ∙ d .1 .unchanged
+      ∙ ap (mailboxFile (s .bank)) (sym (d .1 .owner) ∙ ap (λ (u : Bits128). openedBy u h) own ∙ opener) ∙ sym (same-mailbox (s .bank) _)
 
   -- its run opens no upload, so no place has its transaction ID
   not-opening : (y : history.Issue) → In y (issuesOf (x .run) (s .issued)) → form (y .request) ≡ forms.UploadOpening → ⊥
@@ -176,7 +178,8 @@ module _ (s : Course) (v : Parts s) (copies : Copied s) (numbers : OneExchangeNu
       let e = ever-stands isUploadOpening t h z in
       let o = opened .1 in
       let same : e .0 ≡ o .exchange = one-opened all-sound (e .2) (o .stands) (upload-opening (e .3)) (o .opening) in
-      let own : e .0 .event ≡ Of t OpenedUpload = e .3 .is ∙ ap (Of t) (upload-kind (e .3 .action) (e .3 .kind)) in
+      let k = upload-kind (e .3 .action) (e .3 .kind) in
+      let own : e .0 .verdict ≡ verdict.Of t (action.Upload (up.Opened (k .0))) = e .3 .is ∙ ap (verdict.Of t) (k .1) in
       not-opening (o .issue) (o .own)
       (ap form (sym (o .asked)) ∙ ap (λ (f : bank.Exchange). form (f .request)) (sym same)
       ∙ action-sound all-sound (e .2) own .opening .asked)
@@ -185,8 +188,7 @@ module _ (s : Course) (v : Parts s) (copies : Copied s) (numbers : OneExchangeNu
   place-not i used = at (decLt i placeCount)
     where
       by : (u : Use) → isFree u ≡ false →
-          bankInvariant.PlaceHolds u (s .bank .bank .clock) (s .bank .bank .openings) h (placeAt (s .bank .bank) i)
-          (partAt (s .bank .orders) i) →
+          bankInvariant.PlaceTold u h (placeAt (s .bank .bank) i) (partAt (s .bank .orders) i) →
           placeAt (s .bank .bank) i .transaction ≡ t → ⊥
       by Free f p z = never (sym f)
       by Open f p z = not-upload (ap (λ (u : Bits128). ever isUploadOpening u h) (sym z) ∙ p .place .opened)
@@ -195,7 +197,8 @@ module _ (s : Course) (v : Parts s) (copies : Copied s) (numbers : OneExchangeNu
       at : Dec (i < placeCount) → placeAt (s .bank .bank) i .transaction ≡ t → ⊥
       at (yes l) = by (placeAt (s .bank .bank) i .used) used (inv s v copies numbers .places i l)
       at (no l) = λ _. never (sym used ∙ ap (λ (p : Place). isFree (p .used))
-          (List·getD-eq-default (s .bank .bank .places) noPlace {n = i} (let z = inv s v copies numbers .sizes .places in omega arith)))
+          (List·getD-eq-default (s .bank .bank .places) noPlace {n = i}
+          (let z = inv s v copies numbers .state .sizes .places in omega arith)))
 
   -- where it was issued with the mailbox as it is now, the run's file is the mailbox's, or the transaction is gone
   pub held-or-gone : x .box ≡ boxNow s x → HeldOrGone (s .bank) x
@@ -272,12 +275,13 @@ move-gone {s} {t} b d {u} g = at d
 not-gone : {s t : Course} (b : BankPart s) (time : ℕ) (ids frame buffer : List ℕ) (en : Entered s b time ids frame buffer t) →
     returnCode (readReply (en .exchange .reply)) ≡ codeField code.DownloadPostprocessDone →
     Gone (s .bank) (transaction (readRequest frame)) → ⊥
-unfolding exchangeOf
+unfolding exchangeOf respond
 not-gone b time ids frame buffer en z g =
     let w = b .past .world in
     let n = advanced-keeps time w (b .past .history) (b .holds .invariant) in
     let e = case-empties
-    (happens (number ids) (advanced time w) (readRequest frame) (dataOf frame) (n .sizes .places) (n .sizes .downloads)) (n .sizes)
+    (happens (number ids) (advanced time w) (readRequest frame) (dataOf frame) (n .state .sizes .places)
+    (n .state .sizes .downloads)) (n .state .sizes)
     (done-confirmed (en .sound) newest (en .proper) (ap returnCode (sym (en .same .reply)) ∙ z) .0) in
     each-download time w (λ (r : Download). r .used ≡ true → r .transaction ≡ transaction (readRequest frame) → ⊥) (λ u. never u)
     (λ j _. subst (λ (y : World). Gone y (transaction (readRequest frame))) (sym (b .world)) g .downloads j) (e .row) (e .used) (e .own)

@@ -14,7 +14,11 @@ use Rattle.bank_state.specs.Clock.{advanced}
 use Rattle.octets.proofs.Tests.{never}
 use Rattle.bank_state.specs.Search.{openCountOf}
 use Rattle.bank_state.specs.State.{World}
-use Rattle.bank_history.specs.History.{Of, Confirmed, Past, BankCall, Frame, isAction, did, exchangeOf}
+use Rattle.bank_verdicts.specs.declared.verdict.DownloadAction.the-variants as down
+use Rattle.bank_verdicts.specs.declared.verdict.Action.the-variants as action
+use Rattle.bank_verdicts.specs.declared.verdict.Verdict.the-variants as verdict
+use Rattle.bank.specs.Call.{respond}
+use Rattle.bank_history.specs.History.{Past, BankCall, Frame, isAction, did, exchangeOf}
 use Rattle.bank_history.specs.History as bank
 use Rattle.bank_history.specs.Standing.{DownloadAt, UploadUnlessIdle, DownloadUnlessIdle}
 use Rattle.bank_history.proofs.Entries.{did-same}
@@ -58,16 +62,16 @@ module _ (s : Course) (v : Parts s) (copies : Copied s) (numbers : OneExchangeNu
     is-entered e z = entered-one (sym (ap (λ (r : Past). r .history) (en .next)) ∙ z)
 
     untouched : did isAction t (exchangeOf (number ids) (advanced time (v .bank .past .world)) (readRequest frame)
-        (dataOf frame) .event) ≡ false
-    untouched = at (did isAction t (x .event)) refl
+        (dataOf frame) .verdict) ≡ false
+    untouched = at (did isAction t (x .verdict)) refl
       where
-        at : (b : Bool) → did isAction t (x .event) ≡ b → b ≡ false
+        at : (b : Bool) → did isAction t (x .verdict) ≡ b → b ≡ false
         at false e = refl
         at true e = absurd (foreign (acts-own s v copies numbers time ids frame given (en .sound) o (did-action isAction t x e)))
 
     no-action : (e : bank.Exchange) → bank.after (Frame time ids frame buffer) (v .bank .past) .history ≡ e ∷ v .bank .past .history →
-        did isAction t (e .event) ≡ false
-    no-action e z = ap (λ (f : bank.Exchange). did isAction t (f .event)) (sym (is-entered e z)) ∙ untouched
+        did isAction t (e .verdict) ≡ false
+    no-action e z = ap (λ (f : bank.Exchange). did isAction t (f .verdict)) (sym (is-entered e z)) ∙ untouched
 
     now : bank.after (Frame time ids frame buffer) (v .bank .past) .world ≡ after .bank
     now = ap (λ (r : Past). r .world) (en .next) ∙ sym (en .bank)
@@ -81,22 +85,23 @@ module _ (s : Course) (v : Parts s) (copies : Copied s) (numbers : OneExchangeNu
     -- where the subscriber has nothing else open
     pub download-standing : {u d last : ℕ} → openCountOf u (s .bank .bank) ≤ 1 → DownloadUnlessIdle (s .bank) t u d last →
         DownloadUnlessIdle (after .bank) t u d last
-    unfolding exchangeOf
+    unfolding exchangeOf respond
     download-standing {u} {d} {last} few a =
         subst (λ (w : World). DownloadUnlessIdle w t u d last) now (λ bound.
         let there = before (let g = clock-grows c p (v .bank .holds) in omega arith) in
         download-stays t u d last c p (v .bank .holds) before no-action
-        (λ e id z own from. confirmed-not there (ap (λ (f : bank.Exchange). f .event) (is-entered e z) ∙ own)
+        (λ e id z own from. confirmed-not there (ap (λ (f : bank.Exchange). f .verdict) (is-entered e z) ∙ own)
         (ap (λ (f : bank.Exchange). subscriber (f .request)) (is-entered e z) ∙ from)) bound)
       where
         before : DownloadUnlessIdle (v .bank .past .world) t u d last
         before = subst (λ (w : World). DownloadUnlessIdle w t u d last) (sym (v .bank .world)) a
 
-        confirmed-not : {id : Bits128} → DownloadAt (v .bank .past .world) t u d last → x .event ≡ Of id Confirmed →
+        confirmed-not : {id : Bits128} → DownloadAt (v .bank .past .world) t u d last →
+            x .verdict ≡ verdict.Of id (action.Download down.Confirmed) →
             subscriber (x .request) ≡ u → ⊥
         confirmed-not {id} there own from =
             let same : id ≡ t = confirms-own (number ids) time (p .world) (readRequest frame) (dataOf frame) (p .history)
             (v .bank .holds .invariant)
             there (subst (λ (w : World). openCountOf u (w .bank) ≤ 1) (sym (v .bank .world)) few) own from in
-            never (sym untouched ∙ (ap (did isAction t) (own ∙ ap (λ (b : Bits128). Of b Confirmed) same)
-            ∙ did-same isAction t Confirmed))
+            never (sym untouched ∙ (ap (did isAction t) (own ∙ ap (λ (b : Bits128). verdict.Of b (action.Download down.Confirmed)) same)
+            ∙ did-same isAction t (action.Download down.Confirmed)))

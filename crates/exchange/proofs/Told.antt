@@ -2,7 +2,7 @@
 use Prim.Native.Nat.{ℕ, _≤_}
 use mathlib.Core.Bool.{Bool, true, false, cond}
 use mathlib.Core.List.{List, [], _∷_}
-use mathlib.Core.Logic.{inl, inr}
+use mathlib.Core.Logic.{_⊎_, inl, inr}
 use mathlib.Core.Path.{_≡_, refl, sym, ap, _∙_}
 use native.Mathlib.Omega.{arith}
 use lib.ListN.{length}
@@ -19,23 +19,16 @@ use Rattle.message.specs.declared.codes.ReturnCode.the-variants as code
 use Rattle.message.specs.Codes.{codeField}
 use Rattle.message.specs.Limits.{fileBytes}
 use Rattle.message.specs.Segments.{segmentsOf, segmentOf}
+use Rattle.bank_verdicts.specs.declared.verdict.UploadAction.{UploadAction}
+use Rattle.bank_verdicts.specs.declared.verdict.UploadAction.the-variants as up
+use Rattle.bank_verdicts.specs.declared.verdict.DownloadAction.{DownloadAction}
+use Rattle.bank_verdicts.specs.declared.verdict.DownloadAction.the-variants as down
+use Rattle.bank_verdicts.specs.declared.verdict.Action.{Action}
+use Rattle.bank_verdicts.specs.declared.verdict.Action.the-variants as action
+use Rattle.bank_verdicts.specs.declared.verdict.Verdict.{Verdict}
+use Rattle.bank_verdicts.specs.declared.verdict.Verdict.the-variants as verdict
+use Rattle.bank_verdicts.specs.Replies.{replyTo}
 use Rattle.bank_history.specs.History.{
-  Action,
-  OpenedUpload,
-  OpenedDownload,
-  Took,
-  TookLast,
-  UploadPoint,
-  DownloadPoint,
-  Cancelled,
-  Delivered,
-  SentAgain,
-  Confirmed,
-  Declined,
-  Event,
-  Unreadable,
-  Refusal,
-  Of,
   Exchange,
   Stands,
   newest,
@@ -49,19 +42,18 @@ use Rattle.bank_history.specs.History.{
   did,
   atOpening,
   fileAtOpening,
-  replyTo,
 }
 use Rattle.bank_history.specs.Sound.{isCancelling, SoundConfirmed, AllSound}
 use Rattle.bank_history.specs.Sound.{more as sounds}
 use Rattle.bank_history.proofs.Entries.{same-bits}
 use Rattle.bank_history.proofs.Positions.{action-sound}
 use Rattle.bank_history.proofs.Replies.{
-  eventForm,
-  eventCode,
+  verdictForm,
+  verdictCode,
   IsAction,
   ActionOf,
-  event-form,
-  event-code,
+  verdict-form,
+  verdict-code,
   is-action,
   actionForm,
   action-transaction,
@@ -79,7 +71,7 @@ stands-behind p (older q) = older (stands-behind p q)
 
 -- what is asked of every exchange: its refusals' codes, and a file of at most 3,840 bytes
 pub record Proper (e : Exchange) : Type 0 where
-  pub refuses : Refuses (e .event)
+  pub refuses : Refuses (e .verdict)
   pub short : length (e .file) ≤ fileBytes
 
 pub data AllProper : List Exchange → Type 0 where
@@ -92,24 +84,46 @@ proper-at (more s r) (older p) = proper-at r p
 
 -- ---- the opening of a transaction
 
+-- which actions open
+upload-action : (a : UploadAction) → isOpening (action.Upload a) ≡ true → (n : ℕ) × (a ≡ up.Opened n)
+upload-action (up.Opened n) e = (n, refl)
+upload-action up.Took e = never e
+upload-action up.TookLast e = never e
+upload-action (up.Point k) e = never e
+upload-action (up.Cancelled c) e = never e
+
+download-action : (a : DownloadAction) → isOpening (action.Download a) ≡ true → (n : ℕ) × (a ≡ down.Opened n)
+download-action (down.Opened n) e = (n, refl)
+download-action (down.Delivered n) e = never e
+download-action (down.SentAgain n) e = never e
+download-action (down.Point d) e = never e
+download-action down.Cancelled e = never e
+download-action down.Confirmed e = never e
+download-action down.Declined e = never e
+
+pub opening-action : (k : Action) → isOpening k ≡ true →
+    ((n : ℕ) × (k ≡ action.Upload (up.Opened n))) ⊎ ((n : ℕ) × (k ≡ action.Download (down.Opened n)))
+opening-action (action.Upload a) e = let u = upload-action a e in inl (u .0, ap action.Upload (u .1))
+opening-action (action.Download a) e = let d = download-action a e in inr (d .0, ap action.Download (d .1))
+
 -- an exchange that opened t
 pub record Opening (t : Bits128) (f : Exchange) : Type 0 where
   pub action : Action
-  pub is : f .event ≡ Of t action
+  pub is : f .verdict ≡ verdict.Of t action
   pub opening : isOpening action ≡ true
 
 -- the test whether an exchange is such an action of t
-pub did-action : (f : Action → Bool) (t : Bits128) (e : Exchange) → did f t (e .event) ≡ true → ActionIn f t e
-did-action f t e h = at (e .event) refl h
+pub did-action : (f : Action → Bool) (t : Bits128) (e : Exchange) → did f t (e .verdict) ≡ true → ActionIn f t e
+did-action f t e h = at (e .verdict) refl h
   where
-    at : (v : Event) → e .event ≡ v → did f t v ≡ true → ActionIn f t e
-    at Unreadable z k = never k
-    at (Refusal c) z k = never k
-    at (Of u a) z k =
+    at : (v : Verdict) → e .verdict ≡ v → did f t v ≡ true → ActionIn f t e
+    at verdict.Unreadable z k = never k
+    at (verdict.Refused c) z k = never k
+    at (verdict.Of u a) z k =
         let b = and-true (sameBits t u) (f a) k in
-        record { action = a; is = z ∙ ap (λ (i : Bits128). Of i a) (sym (bits-same t u (b .0))); kind = b .1 }
+        record { action = a; is = z ∙ ap (λ (i : Bits128). verdict.Of i a) (sym (bits-same t u (b .0))); kind = b .1 }
 
-pub did-of : (f : Action → Bool) (t : Bits128) (e : Exchange) → ActionIn f t e → did f t (e .event) ≡ true
+pub did-of : (f : Action → Bool) (t : Bits128) (e : Exchange) → ActionIn f t e → did f t (e .verdict) ≡ true
 did-of f t e d = ap (did f t) (d .is) ∙ rw (same-bits t) (d .kind)
 
 opened-so : {t : Bits128} {f : Exchange} → ActionIn isOpening t f → Opening t f
@@ -140,9 +154,9 @@ opening-at look empty {t} {f} (sounds {h = k} s r) newest o =
     ap (λ (b : Bool). cond b (look f) (atOpening look empty t k))
     (did-of isOpening t f (record { action = o .action; is = o .is; kind = o .opening }))
 opening-at look empty {t} {f} {g} (sounds {e = x} {h = h} s r) (older p) o =
-    at (did isOpening t (x .event)) refl (opening-at look empty r p o)
+    at (did isOpening t (x .verdict)) refl (opening-at look empty r p o)
   where
-    at : (b : Bool) → did isOpening t (x .event) ≡ b → atOpening look empty t h ≡ look f →
+    at : (b : Bool) → did isOpening t (x .verdict) ≡ b → atOpening look empty t h ≡ look f →
         cond b (look x) (atOpening look empty t h) ≡ look f
     at true e k = ap look (one-opened (sounds s r) newest (older p) (opened-so (did-action isOpening t x e)) o)
     at false e k = k
@@ -150,51 +164,52 @@ opening-at look empty {t} {f} {g} (sounds {e = x} {h = h} s r) (older p) o =
 -- ---- what a reply tells
 
 module _ {e : Exchange} {g h : List Exchange} (sound : AllSound h) (stands : Stands e g h) where
-  pub formed : form (e .reply) ≡ eventForm (e .event)
-  formed = ap form (reply-is sound stands) ∙ event-form (e .event) (e .request)
+  pub formed : form (e .reply) ≡ verdictForm (e .verdict)
+  formed = ap form (reply-is sound stands) ∙ verdict-form (e .verdict) (e .request)
 
-  pub coded : returnCode (e .reply) ≡ codeField (eventCode (e .event))
-  coded = ap returnCode (reply-is sound stands) ∙ event-code (e .event) (e .request)
+  pub coded : returnCode (e .reply) ≡ codeField (verdictCode (e .verdict))
+  coded = ap returnCode (reply-is sound stands) ∙ verdict-code (e .verdict) (e .request)
 
-  carries : {t : Bits128} {k : Action} → e .event ≡ Of t k → (actionForm k ≡ forms.Refusal → ⊥) → transaction (e .reply) ≡ t
+  carries : {t : Bits128} {k : Action} → e .verdict ≡ verdict.Of t k → (actionForm k ≡ forms.Refusal → ⊥) → transaction (e .reply) ≡ t
   carries {t} {k} own n =
-      ap transaction (reply-is sound stands) ∙ ap (λ (v : Event). transaction (replyTo v (e .request))) own
+      ap transaction (reply-is sound stands) ∙ ap (λ (v : Verdict). transaction (replyTo v (e .request))) own
       ∙ action-transaction t (e .request) k n
 
   -- a download segment carries the transaction ID asked for
   delivered-id : form (e .reply) ≡ forms.DownloadSegment → transaction (e .reply) ≡ transaction (e .request)
-  delivered-id z = at (is-action (e .event) forms.DownloadSegment (sym formed ∙ z) refl)
+  delivered-id z = at (is-action (e .verdict) forms.DownloadSegment (sym formed ∙ z) refl)
     where
-      by : (d : IsAction (e .event) forms.DownloadSegment) → ActionOf forms.DownloadSegment (d .action) →
+      by : (d : IsAction (e .verdict) forms.DownloadSegment) → ActionOf forms.DownloadSegment (d .action) →
           transaction (e .reply) ≡ transaction (e .request)
       by d (inl k) =
-          let own : e .event ≡ Of (d .id) (Delivered (k .0)) = d .is ∙ ap (Of (d .id)) (k .1) in
+          let own : e .verdict ≡ verdict.Of (d .id) (action.Download (down.Delivered (k .0))) = d .is ∙ ap (verdict.Of (d .id)) (k .1) in
           carries own (λ y. let x : _≡_ {A = ℕ} 0 1 = cc in omega arith) ∙ action-sound sound stands own .carried .download .request .same
       by d (inr k) =
-          let own : e .event ≡ Of (d .id) (SentAgain (k .0)) = d .is ∙ ap (Of (d .id)) (k .1) in
+          let own : e .verdict ≡ verdict.Of (d .id) (action.Download (down.SentAgain (k .0))) = d .is ∙ ap (verdict.Of (d .id)) (k .1) in
           carries own (λ y. let x : _≡_ {A = ℕ} 0 1 = cc in omega arith) ∙ action-sound sound stands own .carried .download .request .same
 
-      at : IsAction (e .event) forms.DownloadSegment → transaction (e .reply) ≡ transaction (e .request)
+      at : IsAction (e .verdict) forms.DownloadSegment → transaction (e .reply) ≡ transaction (e .request)
       at d = by d (d .kind)
 
   module _ (proper : Proper e) where
     -- the event by its code, where that is no refusal's
     pub by-code : (c : ReturnCode) → refuses c ≡ false → returnCode (e .reply) ≡ codeField c →
-        (t : Bits128) × (k : Action) × (e .event ≡ Of t k)
-    by-code c n z = at (e .event) refl (proper .refuses)
+        (t : Bits128) × (k : Action) × (e .verdict ≡ verdict.Of t k)
+    by-code c n z = at (e .verdict) refl (proper .refuses)
       where
-        told : (v : Event) → e .event ≡ v → isRefusing (codeField (eventCode v)) ≡ false
-        told v own = ap (λ (u : Event). isRefusing (codeField (eventCode u))) (sym own) ∙ ap isRefusing (sym coded ∙ z)
+        told : (v : Verdict) → e .verdict ≡ v → isRefusing (codeField (verdictCode v)) ≡ false
+        told v own = ap (λ (u : Verdict). isRefusing (codeField (verdictCode u))) (sym own) ∙ ap isRefusing (sym coded ∙ z)
             ∙ refusing-code c ∙ n
 
-        at : (v : Event) → e .event ≡ v → Refuses v → (t : Bits128) × (k : Action) × (e .event ≡ Of t k)
-        at Unreadable own r = never (sym (told Unreadable own))
-        at (Refusal x) own r = never (sym (told (Refusal x) own) ∙ (refusing-code x ∙ r))
-        at (Of t k) own r = (t, k, own)
+        at : (v : Verdict) → e .verdict ≡ v → Refuses v → (t : Bits128) × (k : Action) × (e .verdict ≡ verdict.Of t k)
+        at verdict.Unreadable own r = never (sym (told verdict.Unreadable own))
+        at (verdict.Refused x) own r = never (sym (told (verdict.Refused x) own) ∙ (refusing-code x ∙ r))
+        at (verdict.Of t k) own r = (t, k, own)
 
-    other-code : {A : Type 0} (c : ReturnCode) {t : Bits128} {k : Action} → returnCode (e .reply) ≡ codeField c → e .event ≡ Of t k →
-        (codeField (eventCode (Of t k)) ≡ codeField c → ⊥) → A
-    other-code c z own n = absurd (n (ap (λ (v : Event). codeField (eventCode v)) (sym own) ∙ sym coded ∙ z))
+    other-code : {A : Type 0} (c : ReturnCode) {t : Bits128} {k : Action} → returnCode (e .reply) ≡ codeField c →
+        e .verdict ≡ verdict.Of t k →
+        (codeField (verdictCode (verdict.Of t k)) ≡ codeField c → ⊥) → A
+    other-code c z own n = absurd (n (ap (λ (v : Verdict). codeField (verdictCode v)) (sym own) ∙ sym coded ∙ z))
 
     -- 000000 to an upload transfer: a segment of the request's transaction is taken
     pub transfer-taken : form (e .request) ≡ forms.UploadTransfer → returnCode (e .reply) ≡ codeField code.Ok →
@@ -207,53 +222,79 @@ module _ {e : Exchange} {g h : List Exchange} (sound : AllSound h) (stands : Sta
         other : {x : Form} → form (e .request) ≡ x → (x ≡ forms.UploadTransfer → _≡_ {A = ℕ} 0 1) → Out
         other f n = absurd (let y = n (sym f ∙ asked) in omega arith)
 
-        at : (t : Bits128) (k : Action) → e .event ≡ Of t k → Out
-        at t OpenedUpload own = other (action-sound sound stands own .opening .asked) (λ y. cc)
-        at t (OpenedDownload n) own = other (action-sound sound stands own .opening .asked) (λ y. cc)
-        at t Took own =
+        at-upload : (t : Bits128) (a : UploadAction) → e .verdict ≡ verdict.Of t (action.Upload a) → Out
+        at-upload t (up.Opened n) own = other (action-sound sound stands own .opening .asked) (λ y. cc)
+        at-upload t up.Took own =
             let s = action-sound sound stands own in
-            record { action = Took; is = own ∙ ap (λ (i : Bits128). Of i Took) (s .taking .upload .request .same); kind = refl }
-        at t TookLast own =
+            record {
+              action = action.Upload up.Took;
+              is = own ∙ ap (λ (i : Bits128). verdict.Of i (action.Upload up.Took)) (s .taking .upload .request .same);
+              kind = refl;
+            }
+        at-upload t up.TookLast own =
             let s = action-sound sound stands own in
-            record { action = TookLast; is = own ∙ ap (λ (i : Bits128). Of i TookLast) (s .taking .upload .request .same); kind = refl }
-        at t (UploadPoint k) own = other-code code.Ok z own (λ y. omega arith)
-        at t (DownloadPoint d) own = other-code code.Ok z own (λ y. omega arith)
-        at t (Cancelled c) own =
+            record {
+              action = action.Upload up.TookLast;
+              is = own ∙ ap (λ (i : Bits128). verdict.Of i (action.Upload up.TookLast)) (s .taking .upload .request .same);
+              kind = refl;
+            }
+        at-upload t (up.Point k) own = other-code code.Ok z own (λ y. omega arith)
+        at-upload t (up.Cancelled c) own =
             other-code code.Ok z own (λ y. never (sym (ap isCancelling y)
             ∙ (cancelling-code c ∙ action-sound sound stands own .cancelling)))
-        at t (Delivered n) own = other (action-sound sound stands own .carried .asked) (λ y. cc)
-        at t (SentAgain n) own = other (action-sound sound stands own .carried .asked) (λ y. cc)
-        at t Confirmed own = other-code code.Ok z own (λ y. omega arith)
-        at t Declined own = other-code code.Ok z own (λ y. omega arith)
+
+        at-download : (t : Bits128) (a : DownloadAction) → e .verdict ≡ verdict.Of t (action.Download a) → Out
+        at-download t (down.Opened n) own = other (action-sound sound stands own .opening .asked) (λ y. cc)
+        at-download t (down.Delivered n) own = other (action-sound sound stands own .carried .asked) (λ y. cc)
+        at-download t (down.SentAgain n) own = other (action-sound sound stands own .carried .asked) (λ y. cc)
+        at-download t (down.Point d) own = other-code code.Ok z own (λ y. omega arith)
+        at-download t down.Cancelled own = other-code code.Ok z own (λ y. omega arith)
+        at-download t down.Confirmed own = other-code code.Ok z own (λ y. omega arith)
+        at-download t down.Declined own = other-code code.Ok z own (λ y. omega arith)
+
+        at : (t : Bits128) (k : Action) → e .verdict ≡ verdict.Of t k → Out
+        at t (action.Upload a) own = at-upload t a own
+        at t (action.Download a) own = at-download t a own
 
     -- 011000: a receipt of the request's transaction is confirmed
     pub done-confirmed : returnCode (e .reply) ≡ codeField code.DownloadPostprocessDone →
-        (e .event ≡ Of (transaction (e .request)) Confirmed) × SoundConfirmed (transaction (e .request)) e g
+        (e .verdict ≡ verdict.Of (transaction (e .request)) (action.Download down.Confirmed))
+        × SoundConfirmed (transaction (e .request)) e g
     done-confirmed z = let b = by-code code.DownloadPostprocessDone refl z in at (b .0) (b .1) (b .2)
       where
         Out : Type 0
-        Out = (e .event ≡ Of (transaction (e .request)) Confirmed) × SoundConfirmed (transaction (e .request)) e g
+        Out = (e .verdict ≡ verdict.Of (transaction (e .request)) (action.Download down.Confirmed))
+            × SoundConfirmed (transaction (e .request)) e g
 
-        not : {t : Bits128} {k : Action} → e .event ≡ Of t k → (codeField (eventCode (Of t k)) ≡ codeField code.DownloadPostprocessDone →
+        not : {t : Bits128} {k : Action} → e .verdict ≡ verdict.Of t k →
+            (codeField (verdictCode (verdict.Of t k)) ≡ codeField code.DownloadPostprocessDone →
             ⊥) → Out
         not own = other-code code.DownloadPostprocessDone z own
 
-        at : (t : Bits128) (k : Action) → e .event ≡ Of t k → Out
-        at t Confirmed own =
-            let now : e .event ≡ Of (transaction (e .request)) Confirmed =
-            own ∙ ap (λ (i : Bits128). Of i Confirmed) (action-sound sound stands own .receipt .download .request .same) in
-            (now, action-sound sound stands now)
-        at t (Cancelled c) own =
+        at-upload : (t : Bits128) (a : UploadAction) → e .verdict ≡ verdict.Of t (action.Upload a) → Out
+        at-upload t (up.Opened n) own = not own (λ y. omega arith)
+        at-upload t up.Took own = not own (λ y. omega arith)
+        at-upload t up.TookLast own = not own (λ y. omega arith)
+        at-upload t (up.Point k) own = not own (λ y. omega arith)
+        at-upload t (up.Cancelled c) own =
             not own (λ y. never (sym (ap isCancelling y) ∙ (cancelling-code c ∙ action-sound sound stands own .cancelling)))
-        at t OpenedUpload own = not own (λ y. omega arith)
-        at t (OpenedDownload n) own = not own (λ y. omega arith)
-        at t Took own = not own (λ y. omega arith)
-        at t TookLast own = not own (λ y. omega arith)
-        at t (UploadPoint k) own = not own (λ y. omega arith)
-        at t (DownloadPoint d) own = not own (λ y. omega arith)
-        at t (Delivered n) own = not own (λ y. omega arith)
-        at t (SentAgain n) own = not own (λ y. omega arith)
-        at t Declined own = not own (λ y. omega arith)
+
+        at-download : (t : Bits128) (a : DownloadAction) → e .verdict ≡ verdict.Of t (action.Download a) → Out
+        at-download t down.Confirmed own =
+            let now : e .verdict ≡ verdict.Of (transaction (e .request)) (action.Download down.Confirmed) =
+            own ∙ ap (λ (i : Bits128). verdict.Of i (action.Download down.Confirmed))
+            (action-sound sound stands own .receipt .download .request .same) in
+            (now, action-sound sound stands now)
+        at-download t (down.Opened n) own = not own (λ y. omega arith)
+        at-download t (down.Delivered n) own = not own (λ y. omega arith)
+        at-download t (down.SentAgain n) own = not own (λ y. omega arith)
+        at-download t (down.Point d) own = not own (λ y. omega arith)
+        at-download t down.Cancelled own = not own (λ y. omega arith)
+        at-download t down.Declined own = not own (λ y. omega arith)
+
+        at : (t : Bits128) (k : Action) → e .verdict ≡ verdict.Of t k → Out
+        at t (action.Upload a) own = at-upload t a own
+        at t (action.Download a) own = at-download t a own
 
 -- ---- the replies as a client run takes them
 

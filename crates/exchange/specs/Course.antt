@@ -11,9 +11,8 @@ use Rattle.message.specs.Codes.{codeField}
 use Rattle.bank_state.specs.declared.state.Bank.{Bank}
 use Rattle.bank_state.specs.Clock.{advanced}
 use Rattle.bank_state.specs.Limits.{storeBytes}
-use Rattle.bank_state.specs.State.{World, world, fresh}
+use Rattle.bank_state.specs.State.{World, world, fresh, fileLength}
 use Rattle.bank_state.specs.Store.{fileOf}
-use Rattle.bank_openings.specs.Openings.{fileLength}
 use Rattle.bank.specs.declared.call.FrameAnswer.{FrameAnswer}
 use Rattle.bank.specs.declared.call.FrameAnswer.the-variants as frameAnswer
 use Rattle.bank.specs.Call.{frameNumber, frameCall}
