@@ -192,7 +192,7 @@ module _ {e : Exchange} {g h : List Exchange} (sound : AllSound h) (stands : Sta
       at d = by d (d .kind)
 
   module _ (proper : Proper e) where
-    -- the event by its code, where that is no refusal's
+    -- the verdict by its code, where that is no refusal's
     pub by-code : (c : ReturnCode) → refuses c ≡ false → returnCode (e .reply) ≡ codeField c →
         (t : Bits128) × (k : Action) × (e .verdict ≡ verdict.Of t k)
     by-code c n z = at (e .verdict) refl (proper .refuses)
