@@ -27,6 +27,8 @@ use Rattle.frame_table.specs.Table.{
   width,
   has,
   isRequestForm,
+  requestRow,
+  tagsOf,
 }
 use Rattle.octets.proofs.Tests.{never}
 use Rattle.frame_table.proofs.Forms.{phaseOf, form-tags, request-phase, request-form}
