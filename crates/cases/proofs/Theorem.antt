@@ -29,34 +29,27 @@ use Rattle.bank_state.specs.Search.{
   openCountOf,
   isRemembered,
 }
-use Rattle.bank_state.specs.State.{fresh}
+use Rattle.bank_state.specs.State.{fresh, fileLength}
 use Rattle.bank_state.specs.Store.{partAt, withPart, fileOf}
-use Rattle.bank_downloads.specs.Downloads.{receiptAnswers, downloadRefusals, judgeDownload, downloadStep}
-use Rattle.bank_openings.specs.Openings.{
-  inTime,
-  fileLength,
-  senderRefusals,
-  subscriberRefusals,
-  sharedRefusals,
-  openingRefusals,
-  judgeOpening,
-  counted,
-  openUpload,
-  openDownload,
-  opened,
-}
+use Rattle.bank_verdicts.specs.Refusals as refusals
+use Rattle.bank_verdicts.specs.Judgement as judgement
+use Rattle.bank_openings.specs.Openings.{counted, openUpload, openDownload}
 use Rattle.message.specs.OrderNumbers.{character, letter, orderNumberOf}
-use Rattle.bank_uploads.specs.Uploads.{fitsUpload, segmentRefusals, uploadRefusals, judgeUpload, grown, attempted, uploadStep}
-use Rattle.bank.specs.Call.{mailboxSegment, requestRefusals, openingStep, uploadStepAt, downloadStepAt, transactionStep, respond}
+use Rattle.bank_uploads.specs.Uploads.{grown, booked, attempted}
+use Rattle.bank.specs.Call.{mailboxSegment, respond}
 use Rattle.cases.specs.Table.{steps, each, bookedAfter, largest, requestLengths, replyLengths, cases, Holds}
 
 pub cases-hold : Holds cases
 unfolding cases steps each bookedAfter largest requestLengths replyLengths
-    respond requestRefusals openingStep uploadStepAt downloadStepAt transactionStep mailboxSegment
-    opened judgeOpening openingRefusals senderRefusals subscriberRefusals sharedRefusals inTime fileLength counted openUpload openDownload
+    respond mailboxSegment
+    judgement.judge judgement.judgeOpening judgement.judgeTransaction judgement.judgeOpen judgement.judgeUpload judgement.judgeDownload
+    judgement.takes refusals.requestRows refusals.noSubscriber refusals.longData
+    refusals.openingRows refusals.unknownType refusals.manySegments refusals.inTime refusals.isReplay refusals.manyOpen refusals.isFull
+    refusals.transactionRows refusals.notOpen
+    refusals.uploadRows refusals.segmentRows refusals.uploadAttempt refusals.isUnderrun refusals.isExceeded refusals.withoutRoom
+    refusals.downloadRows refusals.receiptRows refusals.downloadAttempt
+    counted openUpload openDownload fileLength grown booked attempted
     orderNumberOf letter character
-    uploadStep judgeUpload uploadRefusals segmentRefusals fitsUpload grown attempted
-    downloadStep judgeDownload downloadRefusals receiptAnswers
     fresh freePlace freeDownload freeNonce isUpload findUpload isDownload findDownload openCount openCountOf isRemembered firstOf countOf
     partAt withPart fileOf segmentsOf segmentOf overwrite
     uploadOpening downloadOpening uploadTransfer downloadTransfer receipt
