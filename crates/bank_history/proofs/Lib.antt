@@ -32,3 +32,6 @@ pub mod WrittenReplies
 pub mod Answers
 pub mod Theorems
 pub mod Liveness
+pub mod NextCall
+pub mod Remembered
+pub mod FalseEconomies
