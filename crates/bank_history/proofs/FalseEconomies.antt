@@ -80,6 +80,8 @@ use Rattle.bank_history.proofs.NextCall.{
 }
 use Rattle.bank_history.proofs.Positions.{sound-at, action-sound, one-opening, stands-ever}
 use Rattle.bank_history.proofs.Remembered.{nonce-remembered}
+use Rattle.bank_history.proofs.SentSegments.{reply-transaction}
+use Rattle.bank_history.proofs.IdleHour.{idle-refused}
 use Rattle.bank_history.proofs.Replies.{verdictForm, verdictCode, verdict-form, verdict-code, action-transaction, actionForm}
 use Rattle.bank_history.proofs.Theorems.{history-sound, reply-is, upload-opened, download-opened, segment-taken}
 use Rattle.bank_history.proofs.UploadRequests.{verdict-by-form}
@@ -220,12 +222,6 @@ taking-form (action.Download down.Cancelled) z = never z
 taking-form (action.Download down.Confirmed) z = never z
 taking-form (action.Download down.Declined) z = never z
 
--- a reply's transaction ID is its action's
-reply-transaction : {u : Bits128} {k : Action} {f : Exchange} {g h : List Exchange} → AllSound h → Stands f g h →
-    f .verdict ≡ verdict.Of u k → (actionForm k ≡ forms.Refusal → ⊥) → transaction (f .reply) ≡ u
-reply-transaction {u} {k} {f} sound stands own n =
-    ap transaction (reply-is sound stands ∙ ap (λ (v : Verdict). replyTo v (f .request)) own) ∙ action-transaction u (f .request) k n
-
 closed-refused : {calls : List BankCall} {e f : Exchange} {g : List Exchange} {t : Bits128} → Next calls e → Asks t e →
     Stands f g (pastOf calls .history) → Takes t f → lastMark (f .request) ≡ 1 → RefusedWith code.UnknownTransaction e
 closed-refused {calls} {e} {f} {g} {t} n a stands taken mark =
@@ -310,4 +306,4 @@ phase-kept {calls} {e} n readable noPoint =
 -- ---- the whole
 
 pub false-economies : FalseEconomies
-false-economies = record { replay = nonce-refused; foreign = foreign-refused; closed = closed-refused; phases = phase-kept }
+false-economies = record { replay = nonce-refused; foreign = foreign-refused; closed = closed-refused; idle = idle-refused; phases = phase-kept }

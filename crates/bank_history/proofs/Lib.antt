@@ -34,4 +34,7 @@ pub mod Theorems
 pub mod Liveness
 pub mod NextCall
 pub mod Remembered
+pub mod Counted
+pub mod SentSegments
+pub mod IdleHour
 pub mod FalseEconomies

@@ -198,7 +198,8 @@ module _ {calls : List BankCall} {e : Exchange} (n : Next calls e) where
     download-no-opening u down.Confirmed s = refl
     download-no-opening u down.Declined s = refl
 
-    no-opening : (u : Bits128) (k : Action) → SoundAction k u e (pastOf calls .history) → isOpening k ≡ false
+    -- it opens nothing
+    pub no-opening : (u : Bits128) (k : Action) → SoundAction k u e (pastOf calls .history) → isOpening k ≡ false
     no-opening u (action.Upload k) s = upload-no-opening u k s
     no-opening u (action.Download k) s = download-no-opening u k s
 

@@ -66,6 +66,21 @@ pub record Takes (t : Bits128) (e : Exchange) : Type 0 where
   pub coded : returnCode (e .reply) ≡ codeField code.Ok
   pub id : transaction (e .reply) ≡ t
 
+-- segment n of the download t was sent: the opening's reply has segment 1 in it
+pub record Sent (t : Bits128) (n : ℕ) (h : List Exchange) : Type 0 where
+  pub exchange : Exchange
+  pub before : List Exchange
+  pub stands : Stands exchange before h
+  pub formed : (form (exchange .reply) ≡ forms.DownloadOpened) ⊎ (form (exchange .reply) ≡ forms.DownloadSegment)
+  pub id : transaction (exchange .reply) ≡ t
+  pub number : segment (exchange .reply) ≡ n
+
+-- a fitting request of t after the history g: "(its opening included)"; a segment taken, or sent and not sent before
+pub data Fits (t : Bits128) (g : List Exchange) (e : Exchange) : Type 0 where
+  opens : Opens t e → Fits t g e
+  takes : Takes t e → Fits t g e
+  delivers : form (e .reply) ≡ forms.DownloadSegment → transaction (e .reply) ≡ t → (Sent t (segment (e .reply)) g → ⊥) → Fits t g e
+
 -- ---- the statements
 
 pub record FalseEconomies : Type 0 where
@@ -81,6 +96,11 @@ pub record FalseEconomies : Type 0 where
   -- "Answering a repeated last segment 000000 (the order is closed: 091101)"
   pub closed : {calls : List BankCall} {e f : Exchange} {g : List Exchange} {t : Bits128} → Next calls e → Asks t e →
       Stands f g (pastOf calls .history) → Takes t f → lastMark (f .request) ≡ 1 → RefusedWith code.UnknownTransaction e
+  -- "Letting a recovery attempt refresh the idle hour": where each fitting request of t is more than 3,600 old, whatever attempts came since,
+  -- t is gone
+  pub idle : {calls : List BankCall} {e : Exchange} {t : Bits128} → Next calls e → Asks t e →
+      ((f : Exchange) (g : List Exchange) → Stands f g (pastOf calls .history) → Fits t g f → f .clock + idleLimit < e .clock) →
+      RefusedWith code.UnknownTransaction e
   -- "The phase is the request's, but in a recovery point"; the reply to an unreadable request has none
   pub phases : {calls : List BankCall} {e : Exchange} → Next calls e → (form (e .reply) ≡ forms.Unreadable → ⊥) →
       (returnCode (e .reply) ≡ codeField code.RecoverySync → ⊥) → phase (e .reply) ≡ phase (e .request)
