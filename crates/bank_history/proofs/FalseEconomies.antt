@@ -80,8 +80,9 @@ use Rattle.bank_history.proofs.NextCall.{
 }
 use Rattle.bank_history.proofs.Positions.{sound-at, action-sound, one-opening, stands-ever}
 use Rattle.bank_history.proofs.Remembered.{nonce-remembered}
-use Rattle.bank_history.proofs.SentSegments.{reply-transaction}
+use Rattle.bank_history.proofs.SentSegments.{action-in, reply-transaction}
 use Rattle.bank_history.proofs.IdleHour.{idle-refused}
+use Rattle.bank_history.proofs.SixAttempts.{five-answered, sixth-cancels, attempts-counted}
 use Rattle.bank_history.proofs.Replies.{verdictForm, verdictCode, verdict-form, verdict-code, action-transaction, actionForm}
 use Rattle.bank_history.proofs.Theorems.{history-sound, reply-is, upload-opened, download-opened, segment-taken}
 use Rattle.bank_history.proofs.UploadRequests.{verdict-by-form}
@@ -101,13 +102,6 @@ opens-action {t} {f} sound stands o = at (o .formed)
         let u = download-opened sound stands z in
         let k = action.Download (down.Opened (segments (f .reply))) in
         record { action = k; is = u .0 ∙ ap (λ (i : Bits128). verdict.Of i k) (o .id); kind = refl }
-
-action-in : (f : Action → Bool) (t : Bits128) (x : Exchange) (v : Verdict) → x .verdict ≡ v → did f t v ≡ true → ActionIn f t x
-action-in f t x verdict.Unreadable e d = never d
-action-in f t x (verdict.Refused c) e d = never d
-action-in f t x (verdict.Of u k) e d =
-    let a = and-true (sameBits t u) (f k) d in
-    record { action = k; is = e ∙ ap (λ (b : Bits128). verdict.Of b k) (sym (bits-same t u (a .0))); kind = a .1 }
 
 -- ---- a nonce is refused while it is remembered
 
@@ -306,4 +300,13 @@ phase-kept {calls} {e} n readable noPoint =
 -- ---- the whole
 
 pub false-economies : FalseEconomies
-false-economies = record { replay = nonce-refused; foreign = foreign-refused; closed = closed-refused; idle = idle-refused; phases = phase-kept }
+false-economies = record {
+  replay = nonce-refused;
+  foreign = foreign-refused;
+  closed = closed-refused;
+  idle = idle-refused;
+  five = λ n c a. five-answered n c a;
+  sixth = λ n c r. sixth-cancels n c r;
+  counted = attempts-counted;
+  phases = phase-kept;
+}

@@ -37,4 +37,5 @@ pub mod Remembered
 pub mod Counted
 pub mod SentSegments
 pub mod IdleHour
+pub mod SixAttempts
 pub mod FalseEconomies

@@ -7,8 +7,9 @@ use mathlib.Core.Path.{_≡_, refl, sym, ap, _∙_}
 use native.Mathlib.Omega.{arith}
 use Rattle.frame_table.specs.declared.fields.Bits128.{Bits128}
 use Rattle.frame_table.specs.declared.table.Form.the-variants as forms
-use Rattle.frame_table.specs.Names.{transaction, segments, segment, returnCode, form}
-use Rattle.octets.proofs.Tests.{never}
+use Rattle.frame_table.specs.Names.{transaction, segments, segment, returnCode, form, sameBits}
+use Rattle.octets.proofs.Tests.{never, and-true}
+use Rattle.frame_table.proofs.Bits.{bits-same}
 use Rattle.message.specs.Codes.{codeField}
 use Rattle.message.specs.Replies.{downloadSegment}
 use Rattle.message.proofs.Verdicts.{by-test}
@@ -39,6 +40,13 @@ use Rattle.bank_history.proofs.Replies.{
 }
 use Rattle.bank_history.proofs.Theorems.{reply-is, download-opened}
 
+pub action-in : (f : Action → Bool) (t : Bits128) (x : Exchange) (v : Verdict) → x .verdict ≡ v → did f t v ≡ true → ActionIn f t x
+action-in f t x verdict.Unreadable e d = never d
+action-in f t x (verdict.Refused c) e d = never d
+action-in f t x (verdict.Of u k) e d =
+    let a = and-true (sameBits t u) (f k) d in
+    record { action = k; is = e ∙ ap (λ (b : Bits128). verdict.Of b k) (sym (bits-same t u (a .0))); kind = a .1 }
+
 -- ---- what a reply shows of its action
 
 module _ {u : Bits128} {k : Action} {f : Exchange} {g h : List Exchange} (sound : AllSound h) (stands : Stands f g h)
@@ -56,11 +64,11 @@ module _ {u : Bits128} {k : Action} {f : Exchange} {g h : List Exchange} (sound 
 
 -- a segment's reply has the number asked for
 module _ {u : Bits128} {f : Exchange} {g h : List Exchange} (sound : AllSound h) (stands : Stands f g h) (m : ℕ) where
-  delivered-number : f .verdict ≡ verdict.Of u (action.Download (down.Delivered m)) → segment (f .reply) ≡ segment (f .request)
+  pub delivered-number : f .verdict ≡ verdict.Of u (action.Download (down.Delivered m)) → segment (f .reply) ≡ segment (f .request)
   unfolding downloadSegment
   delivered-number own = ap segment (reply-is sound stands ∙ ap (λ (v : Verdict). replyTo v (f .request)) own)
 
-  again-number : f .verdict ≡ verdict.Of u (action.Download (down.SentAgain m)) → segment (f .reply) ≡ segment (f .request)
+  pub again-number : f .verdict ≡ verdict.Of u (action.Download (down.SentAgain m)) → segment (f .reply) ≡ segment (f .request)
   unfolding downloadSegment
   again-number own = ap segment (reply-is sound stands ∙ ap (λ (v : Verdict). replyTo v (f .request)) own)
 

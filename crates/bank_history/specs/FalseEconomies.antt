@@ -81,6 +81,17 @@ pub data Fits (t : Bits128) (g : List Exchange) (e : Exchange) : Type 0 where
   takes : Takes t e → Fits t g e
   delivers : form (e .reply) ≡ forms.DownloadSegment → transaction (e .reply) ≡ t → (Sent t (segment (e .reply)) g → ⊥) → Fits t g e
 
+-- a recovery attempt of t that is answered, after the history g: 061101, or a segment sent again
+pub data Attempt (t : Bits128) (g : List Exchange) (e : Exchange) : Type 0 where
+  point : form (e .reply) ≡ forms.SegmentTaken → returnCode (e .reply) ≡ codeField code.RecoverySync → transaction (e .reply) ≡ t → Attempt t g e
+  again : form (e .reply) ≡ forms.DownloadSegment → transaction (e .reply) ≡ t → Sent t (segment (e .reply)) g → Attempt t g e
+
+-- "Attempts are counted per transaction and never reset": a history has n of them
+pub data Attempts (t : Bits128) : ℕ → List Exchange → Type 0 where
+  none : Attempts t 0 []
+  one : {n : ℕ} {e : Exchange} {g : List Exchange} → Attempt t g e → Attempts t n g → Attempts t (suc n) (e ∷ g)
+  other : {n : ℕ} {e : Exchange} {g : List Exchange} → (Attempt t g e → ⊥) → Attempts t n g → Attempts t n (e ∷ g)
+
 -- ---- the statements
 
 pub record FalseEconomies : Type 0 where
@@ -101,6 +112,14 @@ pub record FalseEconomies : Type 0 where
   pub idle : {calls : List BankCall} {e : Exchange} {t : Bits128} → Next calls e → Asks t e →
       ((f : Exchange) (g : List Exchange) → Stands f g (pastOf calls .history) → Fits t g f → f .clock + idleLimit < e .clock) →
       RefusedWith code.UnknownTransaction e
+  -- "The first five get 061101 with k or d (a download segment sent again carries 000000 instead)"
+  pub five : {calls : List BankCall} {e : Exchange} {t : Bits128} {n : ℕ} → Next calls e → Attempts t n (pastOf calls .history) →
+      Attempt t (pastOf calls .history) e → n < attemptsMost
+  -- "the sixth gets 091102", and no other request does
+  pub sixth : {calls : List BankCall} {e : Exchange} {n : ℕ} → Next calls e → Attempts (transaction (e .request)) n (pastOf calls .history) →
+      RefusedWith code.TransactionAbort e → n ≡ attemptsMost
+  -- every history has its number of attempts
+  pub counted : (calls : List BankCall) (t : Bits128) → (n : ℕ) × Attempts t n (pastOf calls .history)
   -- "The phase is the request's, but in a recovery point"; the reply to an unreadable request has none
   pub phases : {calls : List BankCall} {e : Exchange} → Next calls e → (form (e .reply) ≡ forms.Unreadable → ⊥) →
       (returnCode (e .reply) ≡ codeField code.RecoverySync → ⊥) → phase (e .reply) ≡ phase (e .request)
