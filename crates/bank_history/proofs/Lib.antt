@@ -33,3 +33,10 @@ pub mod WrittenReplies
 pub mod Answers
 pub mod Theorems
 pub mod Liveness
+pub mod NextCall
+pub mod Remembered
+pub mod Counted
+pub mod SentSegments
+pub mod IdleHour
+pub mod SixAttempts
+pub mod FalseEconomies

@@ -5,3 +5,4 @@ pub mod Sound
 pub mod Invariant
 pub mod Standing
 pub mod Answers
+pub mod FalseEconomies

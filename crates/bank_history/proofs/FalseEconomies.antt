@@ -1,0 +1,312 @@
+-- The false economies: why none of them is the bank's.
+use Prim.Native.Nat.{ℕ, _+_, _≤_}
+use mathlib.Core.Bool.{Bool, true, false, cond, not, _||_}
+use mathlib.Core.List.{List, _∷_}
+use mathlib.Core.Logic.{_⊎_, inl, inr}
+use mathlib.Core.Path.{_≡_, refl, sym, ap, _∙_, subst}
+use native.Mathlib.Omega.{arith}
+use lib.Dec.{eqb, ltb, leb}
+use lib.ListN.{length}
+use borrow.Author.Tests.{eq-eqb, ne-eqb, le-ltb}
+use Rattle.frame_table.specs.declared.fields.Bits128.{Bits128}
+use Rattle.frame_table.specs.declared.fields.Fields.{Fields}
+use Rattle.frame_table.specs.declared.table.Form.{Form}
+use Rattle.frame_table.specs.declared.table.Form.the-variants as forms
+use Rattle.frame_table.specs.Names.{phase, subscriber, orderType, nonce, timestamp, segments, transaction, lastMark, returnCode, form, sameBits}
+use Rattle.frame_table.specs.Table.{isRequestForm}
+use Rattle.frame_table.proofs.Forms.{phaseOf, request-phase, request-form}
+use Rattle.octets.proofs.Tests.{never, and-true, or-right}
+use Rattle.frame_table.proofs.Bits.{bits-same}
+use Rattle.octets.specs.Bytes.{number}
+use Rattle.message.specs.declared.codes.ReturnCode.{ReturnCode}
+use Rattle.message.specs.declared.codes.ReturnCode.the-variants as code
+use Rattle.message.specs.Codes.{codeField}
+use Rattle.message.specs.Limits.{ful, fdl, segmentsMost}
+use Rattle.message.specs.Replies.{uploadOpened, downloadOpened, segmentTaken, recoveryPoint, downloadSegment, receiptAnswered, refusal}
+use Rattle.bank_state.specs.declared.state.Bank.{Bank}
+use Rattle.bank_state.specs.Clock.{advanced}
+use Rattle.bank_state.specs.Limits.{window}
+use Rattle.bank_state.specs.Search.{isRemembered}
+use Rattle.bank_state.specs.State.{World}
+use Rattle.bank_verdicts.specs.declared.verdict.Direction.{Direction}
+use Rattle.bank_verdicts.specs.declared.verdict.Direction.the-variants as direction
+use Rattle.bank_verdicts.specs.declared.verdict.UploadAction.{UploadAction}
+use Rattle.bank_verdicts.specs.declared.verdict.UploadAction.the-variants as up
+use Rattle.bank_verdicts.specs.declared.verdict.DownloadAction.{DownloadAction}
+use Rattle.bank_verdicts.specs.declared.verdict.DownloadAction.the-variants as down
+use Rattle.bank_verdicts.specs.declared.verdict.Action.{Action}
+use Rattle.bank_verdicts.specs.declared.verdict.Action.the-variants as action
+use Rattle.bank_verdicts.specs.declared.verdict.Verdict.{Verdict}
+use Rattle.bank_verdicts.specs.declared.verdict.Verdict.the-variants as verdict
+use Rattle.bank_verdicts.specs.Refusals.{unknownType, manySegments, isReplay, inTime, openingRows}
+use Rattle.bank_verdicts.specs.Judgement.{judgeOpening, judge}
+use Rattle.bank_verdicts.specs.Replies.{replyTo, uploadReply, downloadReply, actionReply}
+use Rattle.bank.specs.Call.{carryOut}
+use Rattle.bank_history.specs.History.{
+  Exchange,
+  BankCall,
+  Frame,
+  Stands,
+  newest,
+  older,
+  ActionIn,
+  pastOf,
+  opens,
+  isOpening,
+  isTaking,
+  isBooking,
+  did,
+  ever,
+  atOpening,
+  openedBy,
+}
+use Rattle.bank_history.specs.Sound.{SoundUploadAction, SoundDownloadAction, SoundAction, SoundVerdict, AllSound, more}
+use Rattle.bank_history.specs.FalseEconomies.{Next, WellMadeOpening, Asks, RefusedWith, Opens, Takes, FalseEconomies}
+use Rattle.bank_history.proofs.Entries.{opening-own, did-same}
+use Rattle.bank_history.proofs.NextCall.{
+  judgedBank,
+  asked,
+  sent,
+  all-sound,
+  verdict-is,
+  request-is,
+  clock-is,
+  judged-holds,
+  bank-after,
+  refused-with,
+  well-made,
+  asked-open,
+  unknown-unless,
+}
+use Rattle.bank_history.proofs.Positions.{sound-at, action-sound, one-opening, stands-ever}
+use Rattle.bank_history.proofs.Remembered.{nonce-remembered}
+use Rattle.bank_history.proofs.SentSegments.{action-in, reply-transaction}
+use Rattle.bank_history.proofs.IdleHour.{idle-refused}
+use Rattle.bank_history.proofs.SixAttempts.{five-answered, sixth-cancels, attempts-counted}
+use Rattle.bank_history.proofs.Replies.{verdictForm, verdictCode, verdict-form, verdict-code, action-transaction, actionForm}
+use Rattle.bank_history.proofs.Theorems.{history-sound, reply-is, upload-opened, download-opened, segment-taken}
+use Rattle.bank_history.proofs.UploadRequests.{verdict-by-form}
+
+-- ---- accepted openings
+
+-- a reply "opened" is that of an opening of its transaction ID
+opens-action : {t : Bits128} {f : Exchange} {g h : List Exchange} → AllSound h → Stands f g h → Opens t f → ActionIn isOpening t f
+opens-action {t} {f} sound stands o = at (o .formed)
+  where
+    at : (form (f .reply) ≡ forms.UploadOpened) ⊎ (form (f .reply) ≡ forms.DownloadOpened) → ActionIn isOpening t f
+    at (inl z) =
+        let u = upload-opened sound stands z in
+        let k = action.Upload (up.Opened (u .0)) in
+        record { action = k; is = u .1 ∙ ap (λ (i : Bits128). verdict.Of i k) (o .id); kind = refl }
+    at (inr z) =
+        let u = download-opened sound stands z in
+        let k = action.Download (down.Opened (segments (f .reply))) in
+        record { action = k; is = u .0 ∙ ap (λ (i : Bits128). verdict.Of i k) (o .id); kind = refl }
+
+-- ---- a nonce is refused while it is remembered
+
+-- the lines above 091103 pass, and its own holds
+module _ (first : ℕ) (b : Bank) (q : Fields) (few : segments q ≤ segmentsMost) (seen : isRemembered (nonce q) b ≡ true) where
+  replayed : isReplay b q ≡ true
+  unfolding isReplay
+  replayed = or-right (not (inTime (timestamp q) (b .clock))) (isRemembered (nonce q) b) seen
+
+  upload-replayed : orderType q ≡ ful → 1 ≤ segments q →
+      judgeOpening direction.Upload first b q ≡ verdict.Refused code.MessageReplay
+  unfolding judgeOpening openingRows unknownType manySegments
+  upload-replayed kind some =
+      rw (replayed, kind, ne-eqb (segments q) 0 (λ z. omega arith), le-ltb segmentsMost (segments q) few)
+
+  download-replayed : orderType q ≡ fdl → judgeOpening direction.Download first b q ≡ verdict.Refused code.MessageReplay
+  unfolding judgeOpening openingRows unknownType manySegments
+  download-replayed kind = rw (replayed, kind, le-ltb segmentsMost (segments q) few)
+
+nonce-refused : {calls : List BankCall} {e f : Exchange} {g : List Exchange} {t : Bits128} → Next calls e → WellMadeOpening e →
+    Stands f g (pastOf calls .history) → Opens t f → nonce (e .request) ≡ nonce (f .request) → e .clock ≤ timestamp (f .request) + window →
+    RefusedWith code.MessageReplay e
+nonce-refused {calls} {e} {f} {g} {t} n made stands o same recent = refused-with n code.MessageReplay (verdict-is n ∙ judged-so (rw (sym (request-is n)) (made .kind)))
+  where
+    opened : ActionIn isOpening t f
+    opened = opens-action (history-sound calls) stands o
+
+    seen : isRemembered (nonce (asked n)) (judgedBank n .bank) ≡ true
+    seen =
+        ap (λ (b : Bits128). isRemembered b (judgedBank n .bank)) (ap nonce (sym (request-is n)) ∙ same)
+        ∙ nonce-remembered (judged-holds n) stands (ap opens (opened .is) ∙ opened .kind) (let c = clock-is n in omega arith)
+
+    few : segments (asked n) ≤ segmentsMost
+    few = rw (sym (request-is n)) (made .few)
+
+    judged-so : ((form (asked n) ≡ forms.UploadOpening) × (orderType (asked n) ≡ ful) × (1 ≤ segments (asked n)))
+        ⊎ ((form (asked n) ≡ forms.DownloadOpening) × (orderType (asked n) ≡ fdl)) →
+        judge (number (n .ids)) (judgedBank n .bank) (asked n) (length (sent n)) ≡ verdict.Refused code.MessageReplay
+    judged-so (inl (z, kind, some)) =
+        verdict-by-form (number (n .ids)) (judgedBank n) (asked n) (sent n) forms.UploadOpening z
+        (well-made n (made .made) (ap isRequestForm z))
+        ∙ upload-replayed (number (n .ids)) (judgedBank n .bank) (asked n) few seen kind some
+    judged-so (inr (z, kind)) =
+        verdict-by-form (number (n .ids)) (judgedBank n) (asked n) (sent n) forms.DownloadOpening z
+        (well-made n (made .made) (ap isRequestForm z))
+        ∙ download-replayed (number (n .ids)) (judgedBank n .bank) (asked n) few seen kind
+
+-- ---- another subscriber's transaction ID
+
+-- the opening of t tells its subscriber
+opened-by : {t : Bits128} {f : Exchange} {g h : List Exchange} → AllSound h → Stands f g h → ActionIn isOpening t f →
+    openedBy t h ≡ subscriber (f .request)
+unfolding atOpening
+opened-by {t} {f} {g} sound newest o =
+    opening-own t (o .action) f g (o .is) (λ (x : Exchange). subscriber (x .request)) 0
+    ∙ ap (λ (b : Bool). cond b (subscriber (f .request)) (openedBy t g)) (o .kind)
+opened-by {t} {f} {g} (more s r) (older {x = x} {h = h} p) o = at (did isOpening t (x .verdict)) refl (opened-by r p o)
+  where
+    at : (b : Bool) → did isOpening t (x .verdict) ≡ b → openedBy t h ≡ subscriber (f .request) →
+        cond b (subscriber (x .request)) (openedBy t h) ≡ subscriber (f .request)
+    at true d before =
+        let a = action-in isOpening t x (x .verdict) refl d in
+        ap (λ (y : Exchange). subscriber (y .request))
+        (one-opening (t .low) (more s r) newest (older p)
+        (record { id = t; action = a .action; is = a .is; opening = a .kind; numbered = refl })
+        (record { id = t; action = o .action; is = o .is; opening = o .kind; numbered = refl }) .0)
+    at false d before = before
+
+foreign-refused : {calls : List BankCall} {e f : Exchange} {g : List Exchange} {t : Bits128} → (n : Next calls e) → Asks t e →
+    Stands f g (pastOf calls .history) → Opens t f → (subscriber (e .request) ≡ subscriber (f .request) → ⊥) →
+    RefusedWith code.UnknownTransaction e
+    × (pastOf (Frame (n .time) (n .ids) (n .frame) (n .buffer) ∷ calls) .world ≡ advanced (n .time) (pastOf calls .world))
+foreign-refused {calls} {e} {f} {g} {t} n a stands o other =
+    (refused-with n code.UnknownTransaction unknown, bank-after n ∙ ap (λ (v : Verdict). carryOut v (judgedBank n) (asked n) (sent n)) unknown)
+  where
+    unknown : e .verdict ≡ verdict.Refused code.UnknownTransaction
+    unknown = unknown-unless n a (λ u k own.
+        let s = asked-open n a own in
+        other (sym (s .1 .owner) ∙ (ap (λ (i : Bits128). openedBy i (pastOf calls .history)) (s .0)
+        ∙ opened-by (history-sound calls) stands (opens-action (history-sound calls) stands o))))
+
+-- ---- a repeated last segment
+
+-- a segment taken with last mark 1 has booked its order
+took-last : (k : Action) (u : Bits128) (f : Exchange) (g : List Exchange) → isTaking k ≡ true → SoundAction k u f g →
+    lastMark (f .request) ≡ 1 → isBooking k ≡ true
+took-last (action.Upload (up.Opened m)) u f g z s mark = never z
+took-last (action.Upload up.Took) u f g z s mark = absurd (s .mark mark)
+took-last (action.Upload up.TookLast) u f g z s mark = refl
+took-last (action.Upload (up.Point m)) u f g z s mark = never z
+took-last (action.Upload (up.Cancelled c)) u f g z s mark = never z
+took-last (action.Download (down.Opened m)) u f g z s mark = never z
+took-last (action.Download (down.Delivered m)) u f g z s mark = never z
+took-last (action.Download (down.SentAgain m)) u f g z s mark = never z
+took-last (action.Download (down.Point m)) u f g z s mark = never z
+took-last (action.Download down.Cancelled) u f g z s mark = never z
+took-last (action.Download down.Confirmed) u f g z s mark = never z
+took-last (action.Download down.Declined) u f g z s mark = never z
+
+-- no action that takes is answered by a refusal
+taking-form : (k : Action) → isTaking k ≡ true → actionForm k ≡ forms.SegmentTaken
+taking-form (action.Upload (up.Opened m)) z = never z
+taking-form (action.Upload up.Took) z = refl
+taking-form (action.Upload up.TookLast) z = refl
+taking-form (action.Upload (up.Point m)) z = never z
+taking-form (action.Upload (up.Cancelled c)) z = never z
+taking-form (action.Download (down.Opened m)) z = never z
+taking-form (action.Download (down.Delivered m)) z = never z
+taking-form (action.Download (down.SentAgain m)) z = never z
+taking-form (action.Download (down.Point m)) z = never z
+taking-form (action.Download down.Cancelled) z = never z
+taking-form (action.Download down.Confirmed) z = never z
+taking-form (action.Download down.Declined) z = never z
+
+closed-refused : {calls : List BankCall} {e f : Exchange} {g : List Exchange} {t : Bits128} → Next calls e → Asks t e →
+    Stands f g (pastOf calls .history) → Takes t f → lastMark (f .request) ≡ 1 → RefusedWith code.UnknownTransaction e
+closed-refused {calls} {e} {f} {g} {t} n a stands taken mark =
+    refused-with n code.UnknownTransaction (unknown-unless n a (λ u k own.
+    let s = asked-open n a own in
+    never (sym (s .1 .unbooked) ∙ (ap (λ (i : Bits128). ever isBooking i (pastOf calls .history)) (s .0)
+    ∙ stands-ever isBooking t stands booked))))
+  where
+    sound : AllSound (pastOf calls .history)
+    sound = history-sound calls
+
+    took : ActionIn isTaking (transaction (f .request)) f
+    took = segment-taken sound stands (taken .formed) (taken .coded) .0
+
+    refuses-not : actionForm (took .action) ≡ forms.Refusal → ⊥
+    refuses-not z = let y = taking-form (took .action) (took .kind) in let x : _≡_ {A = ℕ} 0 1 = cc in omega arith
+
+    own-id : transaction (f .request) ≡ t
+    own-id = sym (reply-transaction sound stands (took .is) refuses-not) ∙ taken .id
+
+    booked : ActionIn isBooking t f
+    booked = record {
+      action = took .action;
+      is = took .is ∙ ap (λ (i : Bits128). verdict.Of i (took .action)) own-id;
+      kind = took-last (took .action) (transaction (f .request)) f g (took .kind) (action-sound sound stands (took .is)) mark;
+    }
+
+-- ---- the phase
+
+-- a request form has its phase
+phase-of : (q : Fields) (f : Form) → form q ≡ f → isRequestForm f ≡ true → phase q ≡ phaseOf f
+phase-of q f z k =
+    let r : isRequestForm (form q) ≡ true = ap isRequestForm z ∙ k in
+    request-phase (q .tags) (phase q) (request-form (form q) r) r ∙ ap phaseOf z
+
+-- not "unreadable", and not 061101
+Phased : Verdict → Type 0
+Phased v = (verdictForm v ≡ forms.Unreadable → ⊥) × (codeField (verdictCode v) ≡ codeField code.RecoverySync → ⊥)
+
+module _ (e : Exchange) (g : List Exchange) where
+  abbrev q : Fields
+  q = e .request
+
+  upload-phase : (u : Bits128) (a : UploadAction) → SoundUploadAction a u e g → Phased (verdict.Of u (action.Upload a)) →
+      phase (uploadReply a u q) ≡ phase q
+  unfolding uploadOpened segmentTaken refusal Phased
+  upload-phase u (up.Opened m) s p = sym (phase-of q forms.UploadOpening (s .opening .asked) refl)
+  upload-phase u up.Took s p = sym (phase-of q forms.UploadTransfer (s .taking .asked) refl)
+  upload-phase u up.TookLast s p = sym (phase-of q forms.UploadTransfer (s .taking .asked) refl)
+  upload-phase u (up.Point k) s p = absurd (p .1 refl)
+  upload-phase u (up.Cancelled c) s p = refl
+
+  download-phase : (u : Bits128) (a : DownloadAction) → SoundDownloadAction a u e g → Phased (verdict.Of u (action.Download a)) →
+      phase (downloadReply a u q) ≡ phase q
+  unfolding downloadOpened downloadSegment receiptAnswered refusal Phased
+  download-phase u (down.Opened m) s p = sym (phase-of q forms.DownloadOpening (s .opening .asked) refl)
+  download-phase u (down.Delivered m) s p = sym (phase-of q forms.DownloadTransfer (s .carried .asked) refl)
+  download-phase u (down.SentAgain m) s p = sym (phase-of q forms.DownloadTransfer (s .carried .asked) refl)
+  download-phase u (down.Point d) s p = absurd (p .1 refl)
+  download-phase u down.Cancelled s p = refl
+  download-phase u down.Confirmed s p = sym (phase-of q forms.Receipt (s .receipt .asked) refl)
+  download-phase u down.Declined s p = sym (phase-of q forms.Receipt (s .asked) refl)
+
+  verdict-phase : (v : Verdict) → SoundVerdict v e g → Phased v → phase (replyTo v q) ≡ phase q
+  unfolding refusal Phased
+  verdict-phase verdict.Unreadable s p = absurd (p .0 refl)
+  verdict-phase (verdict.Refused c) s p = refl
+  verdict-phase (verdict.Of t (action.Upload a)) s p = upload-phase t a s p
+  verdict-phase (verdict.Of t (action.Download a)) s p = download-phase t a s p
+
+phase-kept : {calls : List BankCall} {e : Exchange} → Next calls e → (form (e .reply) ≡ forms.Unreadable → ⊥) →
+    (returnCode (e .reply) ≡ codeField code.RecoverySync → ⊥) → phase (e .reply) ≡ phase (e .request)
+unfolding Phased
+phase-kept {calls} {e} n readable noPoint =
+    let r = reply-is (all-sound n) newest in
+    ap phase r
+    ∙ verdict-phase e (pastOf calls .history) (e .verdict) (sound-at (all-sound n) newest .verdict) (
+      (λ z. readable (ap form r ∙ (verdict-form (e .verdict) (e .request) ∙ z))),
+      (λ z. noPoint (ap returnCode r ∙ (verdict-code (e .verdict) (e .request) ∙ z))),
+    )
+
+-- ---- the whole
+
+pub false-economies : FalseEconomies
+false-economies = record {
+  replay = nonce-refused;
+  foreign = foreign-refused;
+  closed = closed-refused;
+  idle = idle-refused;
+  five = λ n c a. five-answered n c a;
+  sixth = λ n c r. sixth-cancels n c r;
+  counted = attempts-counted;
+  phases = phase-kept;
+}

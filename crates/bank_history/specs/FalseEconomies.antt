@@ -1,0 +1,125 @@
+-- Document 01, "False economies", and what else a bank might save: statements on every list of calls to a fresh bank. They are said by
+-- requests, replies and the clock; neither a verdict nor the bank's memory is looked at.
+use Prim.Native.Nat.{ℕ, suc, _+_, _≤_, _<_}
+use mathlib.Core.Bool.{cond}
+use mathlib.Core.List.{List, [], _∷_}
+use mathlib.Core.Logic.{_⊎_}
+use mathlib.Core.Path.{_≡_}
+use lib.Dec.{eqb}
+use lib.ListN.{length}
+use Rattle.frame_table.specs.declared.fields.Bits128.{Bits128}
+use Rattle.frame_table.specs.declared.table.Form.the-variants as forms
+use Rattle.frame_table.specs.Names.{phase, subscriber, orderType, nonce, timestamp, segments, transaction, segment, lastMark, returnCode, form}
+use Rattle.message.specs.declared.codes.ReturnCode.{ReturnCode}
+use Rattle.message.specs.declared.codes.ReturnCode.the-variants as code
+use Rattle.message.specs.Codes.{codeField}
+use Rattle.message.specs.Limits.{ful, fdl, subscribers, segmentBytes, segmentsMost, attemptsMost, initialisation, transfer}
+use Rattle.bank_state.specs.Clock.{advanced}
+use Rattle.bank_state.specs.Limits.{window, idleLimit}
+use Rattle.bank_history.specs.History.{Exchange, BankCall, Frame, Stands, pastOf}
+
+-- after these calls a frame call is answered, and e is its exchange
+pub record Next (calls : List BankCall) (e : Exchange) : Type 0 where
+  pub time : ℕ
+  pub ids : List ℕ
+  pub frame : List ℕ
+  pub buffer : List ℕ
+  pub entered : pastOf (Frame time ids frame buffer ∷ calls) .history ≡ e ∷ pastOf calls .history
+
+-- ---- requests
+
+-- no request of another sender: "subscriber not 1 to 8", "data over 256 bytes"
+pub record WellMade (e : Exchange) : Type 0 where
+  pub known : 1 ≤ subscriber (e .request)
+  pub most : subscriber (e .request) ≤ subscribers
+  pub short : length (e .requestData) ≤ segmentBytes
+
+-- an opening that no line above 091103 refuses
+pub record WellMadeOpening (e : Exchange) : Type 0 where
+  pub made : WellMade e
+  pub kind : ((form (e .request) ≡ forms.UploadOpening) × (orderType (e .request) ≡ ful) × (1 ≤ segments (e .request)))
+      ⊎ ((form (e .request) ≡ forms.DownloadOpening) × (orderType (e .request) ≡ fdl))
+  pub few : segments (e .request) ≤ segmentsMost
+
+-- a request to the transaction t
+pub record Asks (t : Bits128) (e : Exchange) : Type 0 where
+  pub made : WellMade e
+  pub kind : (form (e .request) ≡ forms.UploadTransfer)
+      ⊎ ((form (e .request) ≡ forms.DownloadTransfer) ⊎ (form (e .request) ≡ forms.Receipt))
+  pub to : transaction (e .request) ≡ t
+
+-- ---- replies
+
+-- 01 03 0D with this code
+pub record RefusedWith (c : ReturnCode) (e : Exchange) : Type 0 where
+  pub formed : form (e .reply) ≡ forms.Refusal
+  pub coded : returnCode (e .reply) ≡ codeField c
+
+-- an accepted opening, with the transaction ID t
+pub record Opens (t : Bits128) (e : Exchange) : Type 0 where
+  pub formed : (form (e .reply) ≡ forms.UploadOpened) ⊎ (form (e .reply) ≡ forms.DownloadOpened)
+  pub id : transaction (e .reply) ≡ t
+
+-- a segment of the upload t taken
+pub record Takes (t : Bits128) (e : Exchange) : Type 0 where
+  pub formed : form (e .reply) ≡ forms.SegmentTaken
+  pub coded : returnCode (e .reply) ≡ codeField code.Ok
+  pub id : transaction (e .reply) ≡ t
+
+-- segment n of the download t was sent: the opening's reply has segment 1 in it
+pub record Sent (t : Bits128) (n : ℕ) (h : List Exchange) : Type 0 where
+  pub exchange : Exchange
+  pub before : List Exchange
+  pub stands : Stands exchange before h
+  pub formed : (form (exchange .reply) ≡ forms.DownloadOpened) ⊎ (form (exchange .reply) ≡ forms.DownloadSegment)
+  pub id : transaction (exchange .reply) ≡ t
+  pub number : segment (exchange .reply) ≡ n
+
+-- a fitting request of t after the history g: "(its opening included)"; a segment taken, or sent and not sent before
+pub data Fits (t : Bits128) (g : List Exchange) (e : Exchange) : Type 0 where
+  opens : Opens t e → Fits t g e
+  takes : Takes t e → Fits t g e
+  delivers : form (e .reply) ≡ forms.DownloadSegment → transaction (e .reply) ≡ t → (Sent t (segment (e .reply)) g → ⊥) → Fits t g e
+
+-- a recovery attempt of t that is answered, after the history g: 061101, or a segment sent again
+pub data Attempt (t : Bits128) (g : List Exchange) (e : Exchange) : Type 0 where
+  point : form (e .reply) ≡ forms.SegmentTaken → returnCode (e .reply) ≡ codeField code.RecoverySync → transaction (e .reply) ≡ t → Attempt t g e
+  again : form (e .reply) ≡ forms.DownloadSegment → transaction (e .reply) ≡ t → Sent t (segment (e .reply)) g → Attempt t g e
+
+-- "Attempts are counted per transaction and never reset": a history has n of them
+pub data Attempts (t : Bits128) : ℕ → List Exchange → Type 0 where
+  none : Attempts t 0 []
+  one : {n : ℕ} {e : Exchange} {g : List Exchange} → Attempt t g e → Attempts t n g → Attempts t (suc n) (e ∷ g)
+  other : {n : ℕ} {e : Exchange} {g : List Exchange} → (Attempt t g e → ⊥) → Attempts t n g → Attempts t n (e ∷ g)
+
+-- ---- the statements
+
+pub record FalseEconomies : Type 0 where
+  -- "An accepted opening's nonce is remembered, against all subscribers, while its timestamp is at most 300 behind the clock"
+  pub replay : {calls : List BankCall} {e f : Exchange} {g : List Exchange} {t : Bits128} → Next calls e → WellMadeOpening e →
+      Stands f g (pastOf calls .history) → Opens t f → nonce (e .request) ≡ nonce (f .request) → e .clock ≤ timestamp (f .request) + window →
+      RefusedWith code.MessageReplay e
+  -- "Accepting another subscriber's transaction ID": it gets 091101, and "beyond clock and drops" nothing changes
+  pub foreign : {calls : List BankCall} {e f : Exchange} {g : List Exchange} {t : Bits128} → (n : Next calls e) → Asks t e →
+      Stands f g (pastOf calls .history) → Opens t f → (subscriber (e .request) ≡ subscriber (f .request) → ⊥) →
+      RefusedWith code.UnknownTransaction e
+      × (pastOf (Frame (n .time) (n .ids) (n .frame) (n .buffer) ∷ calls) .world ≡ advanced (n .time) (pastOf calls .world))
+  -- "Answering a repeated last segment 000000 (the order is closed: 091101)"
+  pub closed : {calls : List BankCall} {e f : Exchange} {g : List Exchange} {t : Bits128} → Next calls e → Asks t e →
+      Stands f g (pastOf calls .history) → Takes t f → lastMark (f .request) ≡ 1 → RefusedWith code.UnknownTransaction e
+  -- "Letting a recovery attempt refresh the idle hour": where each fitting request of t is more than 3,600 old, whatever attempts came since,
+  -- t is gone
+  pub idle : {calls : List BankCall} {e : Exchange} {t : Bits128} → Next calls e → Asks t e →
+      ((f : Exchange) (g : List Exchange) → Stands f g (pastOf calls .history) → Fits t g f → f .clock + idleLimit < e .clock) →
+      RefusedWith code.UnknownTransaction e
+  -- "The first five get 061101 with k or d (a download segment sent again carries 000000 instead)"
+  pub five : {calls : List BankCall} {e : Exchange} {t : Bits128} {n : ℕ} → Next calls e → Attempts t n (pastOf calls .history) →
+      Attempt t (pastOf calls .history) e → n < attemptsMost
+  -- "the sixth gets 091102", and no other request does
+  pub sixth : {calls : List BankCall} {e : Exchange} {n : ℕ} → Next calls e → Attempts (transaction (e .request)) n (pastOf calls .history) →
+      RefusedWith code.TransactionAbort e → n ≡ attemptsMost
+  -- every history has its number of attempts
+  pub counted : (calls : List BankCall) (t : Bits128) → (n : ℕ) × Attempts t n (pastOf calls .history)
+  -- "The phase is the request's, but in a recovery point"; the reply to an unreadable request has none
+  pub phases : {calls : List BankCall} {e : Exchange} → Next calls e → (form (e .reply) ≡ forms.Unreadable → ⊥) →
+      (returnCode (e .reply) ≡ codeField code.RecoverySync → ⊥) → phase (e .reply) ≡ phase (e .request)
