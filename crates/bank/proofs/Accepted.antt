@@ -14,11 +14,9 @@ use Rattle.message.specs.Verdicts.{decide}
 use Rattle.bank_state.specs.declared.state.Bank.{Bank}
 use Rattle.bank_state.specs.Limits.{storeBytes, idBytes, replyRoom}
 use Rattle.message.proofs.Verdicts.{all-failed}
-use Rattle.bank.specs.declared.call.RequestVerdict.{RequestVerdict}
-use Rattle.bank.specs.declared.call.RequestVerdict.the-variants.{Refuse, Proceed}
+use Rattle.bank_verdicts.specs.Refusals.{noSubscriber}
 use Rattle.bank.specs.declared.mailbox.FileAnswer.{FileAnswer}
 use Rattle.bank.specs.declared.mailbox.FileAnswer.the-variants.{Done, WrongLength, NoMailbox, WrongFile, MailboxFull}
-use Rattle.bank.specs.Call.{requestRefusals}
 use Rattle.bank.specs.Mailbox.{fileRefusals}
 
 -- a number of a subscriber, or of a mailbox
@@ -27,15 +25,10 @@ numbered n h =
     let a = or-neither (ltb n 1) (ltb subscribers n) h in
     (ltb-false n 1 (a .0), ltb-false subscribers n (a .1))
 
-abbrev isProceed : RequestVerdict → Bool
-isProceed (Refuse c) = false
-isProceed Proceed = true
-
--- a request that goes on is one of a subscriber
-pub request-known : (q : Fields) (d : List ℕ) → decide (requestRefusals q d) Proceed ≡ Proceed
-    → (0 < subscriber q) × (subscriber q ≤ subscribers)
-unfolding requestRefusals
-request-known q d h = numbered (subscriber q) (all-failed isProceed (requestRefusals q d) Proceed refl (ap isProceed h) 0)
+-- a request that line 091003 does not refuse is one of a subscriber
+pub request-known : (q : Fields) → noSubscriber q ≡ false → (0 < subscriber q) × (subscriber q ≤ subscribers)
+unfolding noSubscriber
+request-known q h = numbered (subscriber q) h
 
 abbrev isDone : FileAnswer → Bool
 isDone Done = true

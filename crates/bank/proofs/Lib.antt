@@ -2,3 +2,4 @@
 pub mod Accepted
 pub mod Safety
 pub mod Codes
+pub mod Carried

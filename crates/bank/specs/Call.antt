@@ -17,6 +17,7 @@ use Rattle.frame_table.specs.Table.{isReplyForm}
 use Rattle.frame.specs.Writer.{writeAnswer, writeBuffer}
 use Rattle.message.specs.Limits.{subscribers}
 use Rattle.message.specs.Segments.{segmentOf}
+use Rattle.bank_state.specs.declared.state.Bank.{Bank}
 use Rattle.bank_state.specs.declared.clock.Ended.{Ended}
 use Rattle.bank_state.specs.declared.clock.Ended.the-variants as ending
 use Rattle.bank_state.specs.Clock.{advanced, endDownloads}
@@ -31,7 +32,8 @@ use Rattle.bank_verdicts.specs.declared.verdict.Action.{Action}
 use Rattle.bank_verdicts.specs.declared.verdict.Action.the-variants as action
 use Rattle.bank_verdicts.specs.declared.verdict.Verdict.{Verdict}
 use Rattle.bank_verdicts.specs.declared.verdict.Verdict.the-variants as verdict
-use Rattle.bank_verdicts.specs.Judgement.{uploadAt, downloadOf, judge}
+use Rattle.bank_verdicts.specs.declared.verdict.TransactionRequest.{TransactionRequest}
+use Rattle.bank_verdicts.specs.Judgement.{mailboxSegments, judgeUpload, judgeDownload, uploadAt, downloadOf, judge}
 use Rattle.bank_verdicts.specs.Replies.{replyTo, segmentIn}
 use Rattle.bank_downloads.specs.Downloads.{downloadAfter}
 use Rattle.bank_openings.specs.Openings.{openUpload, openDownload}
@@ -39,6 +41,7 @@ use Rattle.bank_uploads.specs.Uploads.{placeAfter, bytesAfter}
 use Rattle.bank.specs.declared.call.FrameAnswer.{FrameAnswer}
 use Rattle.bank.specs.declared.call.FrameAnswer.the-variants.{Reply, WrongLength}
 use Rattle.bank.specs.declared.call.FrameOut.{FrameOut}
+use Rattle.bank.specs.declared.steps.Stepped.{Stepped}
 
 -- what a request comes to: its verdict, the bank and its stores after it, and the reply's fields and data
 pub record Step : Type 0 where
@@ -72,8 +75,8 @@ uploadActs (up.Point k) t w q d = onUpload (up.Point k) (uploadAt (w .bank) q) w
 uploadActs (up.Cancelled c) t w q d = onUpload (up.Cancelled c) (uploadAt (w .bank) q) w d
 
 -- the open download of record j, which stays open
-abbrev pub onDownload : DownloadAction → ℕ → World → World
-onDownload a j w =
+abbrev pub staying : DownloadAction → ℕ → World → World
+staying a j w =
     world (withDownload j (downloadAfter a (w .bank .clock) (downloadAt (w .bank) j)) (w .bank)) (w .orders) (w .boxes)
 
 -- the bank without the downloads that end
@@ -90,14 +93,24 @@ emptied s w =
     let v = without (ending.Mailbox s) w in
     world (withFiles (set (w .bank .files) (s - 1) 0) (v .bank)) (w .orders) (zeroed (w .boxes) (s - 1))
 
+-- the open download of record j, by an action
+abbrev pub onDownload : DownloadAction → ℕ → World → Fields → World
+onDownload (down.Opened n) j w q = staying (down.Opened n) j w
+onDownload (down.Delivered n) j w q = staying (down.Delivered n) j w
+onDownload (down.SentAgain n) j w q = staying (down.SentAgain n) j w
+onDownload (down.Point d) j w q = staying (down.Point d) j w
+onDownload down.Cancelled j w q = ended q w
+onDownload down.Confirmed j w q = emptied (subscriber q) w
+onDownload down.Declined j w q = ended q w
+
 abbrev pub downloadActs : DownloadAction → Bits128 → World → Fields → World
 downloadActs (down.Opened n) t w q = world (openDownload t q (w .bank)) (w .orders) (w .boxes)
-downloadActs (down.Delivered n) t w q = onDownload (down.Delivered n) (downloadOf (w .bank) q) w
-downloadActs (down.SentAgain n) t w q = onDownload (down.SentAgain n) (downloadOf (w .bank) q) w
-downloadActs (down.Point d) t w q = onDownload (down.Point d) (downloadOf (w .bank) q) w
-downloadActs down.Cancelled t w q = ended q w
-downloadActs down.Confirmed t w q = emptied (subscriber q) w
-downloadActs down.Declined t w q = ended q w
+downloadActs (down.Delivered n) t w q = onDownload (down.Delivered n) (downloadOf (w .bank) q) w q
+downloadActs (down.SentAgain n) t w q = onDownload (down.SentAgain n) (downloadOf (w .bank) q) w q
+downloadActs (down.Point d) t w q = onDownload (down.Point d) (downloadOf (w .bank) q) w q
+downloadActs down.Cancelled t w q = onDownload down.Cancelled (downloadOf (w .bank) q) w q
+downloadActs down.Confirmed t w q = onDownload down.Confirmed (downloadOf (w .bank) q) w q
+downloadActs down.Declined t w q = onDownload down.Declined (downloadOf (w .bank) q) w q
 
 abbrev pub acts : Action → Bits128 → World → Fields → List ℕ → World
 acts (action.Upload a) t w q d = uploadActs a t w q d
@@ -108,6 +121,20 @@ abbrev pub carryOut : Verdict → World → Fields → List ℕ → World
 carryOut verdict.Unreadable w q d = w
 carryOut (verdict.Refused c) w q d = w
 carryOut (verdict.Of t a) w q d = acts a t w q d
+
+-- the verdict on a request to the open upload in place i, and to the open download of record j
+abbrev pub uploadVerdict : TransactionRequest → ℕ → Bank → Fields → ℕ → Verdict
+uploadVerdict r i b q n = verdict.Of (placeAt b i .transaction) (action.Upload (judgeUpload r (placeAt b i) q n))
+
+abbrev pub downloadVerdict : TransactionRequest → ℕ → Bank → Fields → Verdict
+downloadVerdict r j b q =
+    let e = downloadAt b j in
+    verdict.Of (e .transaction) (action.Download (judgeDownload r e (mailboxSegments (subscriber q) b) q))
+
+-- what is left where the request q with the data d was judged to be v: the verdict, and the bank with its stores
+pub record CarriedOut (v : Verdict) (w : World) (q : Fields) (d : List ℕ) (r : Stepped) (orders boxes : List ℕ) : Type 0 where
+  pub judged : r .verdict ≡ v
+  pub done : world (r .bank) orders boxes ≡ carryOut v w q d
 
 -- ---- the reply
 

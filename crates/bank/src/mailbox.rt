@@ -1,13 +1,13 @@
 // A file goes into a mailbox.
-use bank_openings::openings::file_length;
 use bank_state::limits::STORE_BYTES;
 use bank_state::state::Bank;
+use bank_state::state::file_length;
 use bank_state::store::append;
 use message::limits::FILE_BYTES;
 use message::limits::SUBSCRIBERS;
 ghost use mathlib.Core.Path.{_≡_};
 ghost use mathlib.Core.Bool.{_||_};
-ghost use Prim.Native.Nat.{_<_, _≤_};
+ghost use Prim.Native.Nat.{_-_, _<_, _≤_};
 ghost use lib.Dec.{eqb, ltb};
 ghost use lib.ListN.{length};
 ghost use Rattle.message.specs.Limits.{fileBytes, subscribers};
@@ -39,6 +39,16 @@ pub(crate) fn is_no_mailbox(number: u64) -> bool
         return true;
     }
     SUBSCRIBERS < number
+}
+
+// The place of a mailbox among the mailboxes, by its number.
+pub(crate) fn mailbox_of(number: u64) -> usize
+    ensures { λ r. ⌜ r ≡ number - 1 ⌝ }
+{
+    if number == 0 {
+        return 0;
+    }
+    (number - 1) as usize
 }
 
 // Whether this is no length of a file.

@@ -1,0 +1,193 @@
+-- What a verdict on a request leaves alone, and what it does where its transaction is open. Assumes nothing.
+use Prim.Native.Nat.{ℕ, _<_, _≤_}
+use mathlib.Core.List.{List, [], _∷_}
+use mathlib.Core.Path.{_≡_, refl, sym, ap, _∙_}
+use native.Mathlib.Omega.{arith}
+use lib.ListN.{length}
+use borrow.Author.Tests.{lt-ltb, le-ltb, lt-leb, le-leb}
+use types.Run.{OneOf, miss}
+use denote.Enum.Declared.{tagOf}
+use Rattle.frame_table.specs.declared.fields.Bits128.{Bits128}
+use Rattle.frame_table.specs.declared.fields.Fields.{Fields}
+use Rattle.frame_table.specs.Names.{subscriber}
+use Rattle.message.specs.declared.codes.ReturnCode.the-variants as code
+use Rattle.bank_state.specs.declared.state.Bank.{Bank}
+use Rattle.bank_state.specs.declared.state.Download.{Download}
+use Rattle.bank_state.specs.declared.state.Place.{Place}
+use Rattle.bank_state.specs.Limits.{placeCount, openingsMost}
+use Rattle.bank_state.specs.State.{World, world, placeAt, downloadAt, withPlace}
+use Rattle.bank_state.specs.Store.{partAt, withPart}
+use Rattle.bank_verdicts.specs.declared.verdict.Action.{Action}
+use Rattle.bank_verdicts.specs.declared.verdict.Action.the-variants as action
+use Rattle.bank_verdicts.specs.declared.verdict.Direction.{Direction}
+use Rattle.bank_verdicts.specs.declared.verdict.Direction.the-variants as direction
+use Rattle.bank_verdicts.specs.declared.verdict.DownloadAction.{DownloadAction}
+use Rattle.bank_verdicts.specs.declared.verdict.DownloadAction.the-variants as down
+use Rattle.bank_verdicts.specs.declared.verdict.TransactionRequest.{TransactionRequest}
+use Rattle.bank_verdicts.specs.declared.verdict.UploadAction.{UploadAction}
+use Rattle.bank_verdicts.specs.declared.verdict.Verdict.{Verdict}
+use Rattle.bank_verdicts.specs.declared.verdict.Verdict.the-variants as verdict
+use Rattle.bank_verdicts.specs.Judgement.{transactionOf, mailboxSegments, accepted, judgeOpening, judgeUpload, judgeDownload}
+use Rattle.bank_verdicts.specs.Judgement.{uploadAt, downloadOf, judgeOpen, judgeTransaction}
+use Rattle.bank_verdicts.specs.Refusals.{notOpen, transactionRows}
+use Rattle.bank_verdicts.specs.Replies.{replyTo, segmentIn}
+use Rattle.bank_verdicts.proofs.Sound.{OpeningSound, judged-opening, UploadSound, judged-upload, DownloadSound, judged-download}
+use Rattle.bank_verdicts.proofs.Sound as sound
+use Rattle.bank_verdicts.proofs.verdict.DownloadAction as actions
+use Rattle.bank_verdicts.proofs.verdict.Verdict.{the-type}
+use Rattle.bank_openings.specs.Openings.{openUpload, openDownload, counted}
+use Rattle.bank_uploads.specs.Uploads.{UploadStep, uploadStep}
+use Rattle.bank.specs.declared.call.FrameAnswer.{FrameAnswer}
+use Rattle.bank.specs.Call.{onUpload, uploadActs, staying, onDownload, downloadActs, carryOut, uploadVerdict, downloadVerdict}
+use Rattle.bank.specs.Call.{mailboxSegment, stepBy, SentAs, FrameCall, frameNumber, replied}
+
+-- a verdict whose reply carries a segment leaves the mailboxes and their lengths
+pub same-segment : (v : Verdict) (w : World) (q : Fields) (d : List ℕ) (s : ℕ) →
+    mailboxSegment (carryOut v w q d) s (segmentIn v q) ≡ mailboxSegment w s (segmentIn v q)
+unfolding mailboxSegment openDownload counted
+same-segment verdict.Unreadable w q d s = refl
+same-segment (verdict.Refused c) w q d s = refl
+same-segment (verdict.Of t (action.Upload a)) w q d s = refl
+same-segment (verdict.Of t (action.Download (down.Opened n))) w q d s = refl
+same-segment (verdict.Of t (action.Download (down.Delivered n))) w q d s = refl
+same-segment (verdict.Of t (action.Download (down.SentAgain n))) w q d s = refl
+same-segment (verdict.Of t (action.Download (down.Point k))) w q d s = refl
+same-segment (verdict.Of t (action.Download down.Cancelled)) w q d s = refl
+same-segment (verdict.Of t (action.Download down.Confirmed)) w q d s = refl
+same-segment (verdict.Of t (action.Download down.Declined)) w q d s = refl
+
+-- the verdicts that are of no transaction
+abbrev ofNoneKeys : List ℕ
+ofNoneKeys = 0 ∷ 1 ∷ []
+
+-- they change nothing
+pub of-none : (v : Verdict) (w : World) (q : Fields) (d : List ℕ) → OneOf ofNoneKeys (tagOf the-type v) → w ≡ carryOut v w q d
+of-none verdict.Unreadable w q d k = refl
+of-none (verdict.Refused c) w q d k = refl
+of-none (verdict.Of t a) w q d k = absurd (miss ofNoneKeys 2 tt k)
+
+-- ---- an opening of a transaction
+
+pub record Opens (first : ℕ) (b : Bank) (q : Fields) (dir : Direction) (v : Verdict) : Type 0 where
+  pub numbers : b .openings < openingsMost
+  pub verdict : v ≡ accepted dir first b q
+
+module _ (first : ℕ) (b : Bank) (q : Fields) {t : Bits128} {a : Action} where
+  opens-by : (dir : Direction) (v : Verdict) → OpeningSound first b q dir v → v ≡ verdict.Of t a → Opens first b q dir v
+  opens-by dir v (sound.refused d c h) e = absurd (let z : _≡_ {A = ℕ} 0 1 = cc in omega arith)
+  opens-by dir v (sound.upload acc some free) e = record { numbers = acc .numbers; verdict = refl }
+  opens-by dir v (sound.download acc full) e = record { numbers = acc .numbers; verdict = refl }
+
+  -- one that acts on a transaction is accepted
+  pub opens : (dir : Direction) → judgeOpening dir first b q ≡ verdict.Of t a → Opens first b q dir (judgeOpening dir first b q)
+  opens dir e = opens-by dir (judgeOpening dir first b q) (judged-opening first b q dir) e
+
+  module _ (o m d : List ℕ) where
+    pub upload-opened : judgeOpening direction.Upload first b q ≡ verdict.Of t a
+        → world (openUpload t (b .openings) q b) o m ≡ carryOut (judgeOpening direction.Upload first b q) (world b o m) q d
+    upload-opened e =
+        let known = opens direction.Upload e .verdict in
+        let same : t ≡ transactionOf first b = cc in
+        ap (λ (id : Bits128). world (openUpload id (b .openings) q b) o m) same
+        ∙ sym (ap (λ (v : Verdict). carryOut v (world b o m) q d) known)
+
+    pub download-opened : judgeOpening direction.Download first b q ≡ verdict.Of t a
+        → world (openDownload t q b) o m ≡ carryOut (judgeOpening direction.Download first b q) (world b o m) q d
+    download-opened e =
+        let known = opens direction.Download e .verdict in
+        let same : t ≡ transactionOf first b = cc in
+        ap (λ (id : Bits128). world (openDownload id q b) o m) same
+        ∙ sym (ap (λ (v : Verdict). carryOut v (world b o m) q d) known)
+
+-- ---- a request to an open transaction opens none
+
+module _ (t : Bits128) (w : World) (q : Fields) (d : List ℕ) where
+  upload-acts-by : (r : TransactionRequest) (p : Place) (n : ℕ) (a : UploadAction) → UploadSound r p q n a →
+      uploadActs a t w q d ≡ onUpload a (uploadAt (w .bank) q) w d
+  upload-acts-by r p n a (sound.took fits other mark room) = refl
+  upload-acts-by r p n a (sound.tookLast fits last mark room) = refl
+  upload-acts-by r p n a (sound.uploadPoint none few) = refl
+  upload-acts-by r p n a (sound.abort none many) = refl
+  upload-acts-by r p n a (sound.underrun fits below mark) = refl
+  upload-acts-by r p n a (sound.exceeded fits last mark) = refl
+  upload-acts-by r p n a (sound.overfull over) = refl
+
+  pub upload-acts : (r : TransactionRequest) (p : Place) (n : ℕ) →
+      uploadActs (judgeUpload r p q n) t w q d ≡ onUpload (judgeUpload r p q n) (uploadAt (w .bank) q) w d
+  upload-acts r p n = upload-acts-by r p n (judgeUpload r p q n) (judged-upload r p q n)
+
+  download-acts-by : (r : TransactionRequest) (e : Download) (n : ℕ) (a : DownloadAction) → DownloadSound r e n q a →
+      downloadActs a t w q ≡ onDownload a (downloadOf (w .bank) q) w q
+  download-acts-by r e n a (sound.delivered asked next most) = refl
+  download-acts-by r e n a (sound.sentAgain asked some most few) = refl
+  download-acts-by r e n a (sound.downloadPoint none few) = refl
+  download-acts-by r e n a (sound.cancelled none many) = refl
+  download-acts-by r e n a (sound.confirmed asked all zero) = refl
+  download-acts-by r e n a (sound.declined asked all other) = refl
+
+  pub download-acts : (r : TransactionRequest) (e : Download) (n : ℕ) →
+      downloadActs (judgeDownload r e n q) t w q ≡ onDownload (judgeDownload r e n q) (downloadOf (w .bank) q) w q
+  download-acts r e n = download-acts-by r e n (judgeDownload r e n q) (judged-download e n q r)
+
+-- the step of the upload in place i, put back
+pub landed : (i : ℕ) (w : World) (r : TransactionRequest) (q : Fields) (d : List ℕ) {s : UploadStep}
+    → s ≡ uploadStep (w .bank .clock) r (placeAt (w .bank) i) q d (partAt (w .orders) i)
+    → world (withPlace i (s .place) (w .bank)) (withPart (w .orders) i (s .bytes)) (w .boxes)
+    ≡ onUpload (judgeUpload r (placeAt (w .bank) i) q (length d)) i w d
+unfolding uploadStep
+landed i w r q d h = ap (λ (s : UploadStep). world (withPlace i (s .place) (w .bank)) (withPart (w .orders) i (s .bytes)) (w .boxes)) h
+
+-- what a request to the open transaction that was found does
+pub upload-acts-at : (i : ℕ) (w : World) (r : TransactionRequest) (q : Fields) (d : List ℕ) → i ≡ uploadAt (w .bank) q
+    → onUpload (judgeUpload r (placeAt (w .bank) i) q (length d)) i w d ≡ carryOut (uploadVerdict r i (w .bank) q (length d)) w q d
+upload-acts-at i w r q d e =
+    let p = placeAt (w .bank) i in
+    ap (λ (k : ℕ). onUpload (judgeUpload r p q (length d)) k w d) e ∙ sym (upload-acts (p .transaction) w q d r p (length d))
+
+pub download-acts-at : (j : ℕ) (w : World) (r : TransactionRequest) (q : Fields) (d : List ℕ) → j ≡ downloadOf (w .bank) q
+    → let e = downloadAt (w .bank) j in
+    onDownload (judgeDownload r e (mailboxSegments (subscriber q) (w .bank)) q) j w q ≡ carryOut (downloadVerdict r j (w .bank) q) w q d
+download-acts-at j w r q d e =
+    let x = downloadAt (w .bank) j in
+    let n = mailboxSegments (subscriber q) (w .bank) in
+    ap (λ (k : ℕ). onDownload (judgeDownload r x n q) k w q) e ∙ sym (download-acts (x .transaction) w q d r x n)
+
+-- the actions that keep a download open, and an opening's
+abbrev stayingKeys : List ℕ
+stayingKeys = 0 ∷ 1 ∷ 2 ∷ 3 ∷ []
+
+pub stays : (a : DownloadAction) (j : ℕ) (w : World) (q : Fields) → OneOf stayingKeys (tagOf actions.the-type a)
+    → staying a j w ≡ onDownload a j w q
+stays (down.Opened n) j w q k = refl
+stays (down.Delivered n) j w q k = refl
+stays (down.SentAgain n) j w q k = refl
+stays (down.Point d) j w q k = refl
+stays down.Cancelled j w q k = absurd (miss stayingKeys 4 tt k)
+stays down.Confirmed j w q k = absurd (miss stayingKeys 5 tt k)
+stays down.Declined j w q k = absurd (miss stayingKeys 6 tt k)
+
+-- ---- where a transaction is found, its verdict
+
+module _ (r : TransactionRequest) (b : Bank) (q : Fields) (n : ℕ) where
+  pub in-upload : {i : ℕ} → i ≡ uploadAt b q → i < placeCount → judgeTransaction r b q n ≡ uploadVerdict r i b q n
+  unfolding judgeTransaction transactionRows notOpen judgeOpen
+  in-upload {i} e h =
+      rw (← e, lt-leb placeCount i h, lt-ltb i placeCount h)
+
+  module _ {i j : ℕ} (e : i ≡ uploadAt b q) (h : placeCount ≤ i) (f : j ≡ downloadOf b q) where
+    pub in-download : j < placeCount → judgeTransaction r b q n ≡ downloadVerdict r j b q
+    unfolding judgeTransaction transactionRows notOpen judgeOpen
+    in-download k = rw (← e, ← f, le-leb placeCount i h, lt-leb placeCount j k, le-ltb i placeCount h)
+
+    pub in-none : placeCount ≤ j → judgeTransaction r b q n ≡ verdict.Refused code.UnknownTransaction
+    unfolding judgeTransaction transactionRows notOpen judgeOpen
+    in-none k = rw (← e, ← f, le-leb placeCount i h, le-leb placeCount j k)
+
+-- ---- the call, from the verdict carried out and the reply written
+
+pub replied-by : (v : Verdict) (w : World) (q : Fields) (d : List ℕ) {u : Verdict} {x : World} {buffer after : List ℕ} {a : FrameAnswer} {k : ℕ}
+    → u ≡ v → x ≡ carryOut v w q d
+    → SentAs (replyTo u q) (mailboxSegment x (subscriber q) (segmentIn u q)) buffer a k after
+    → _≡_ {A = FrameCall} (record { world = x; buffer = after; answer = a; number = frameNumber a; code = k }) (replied (stepBy v w q d) buffer)
+replied-by v w q d e f sent =
+    rw (sent .answered, sent .written, sent .coded, e, f, same-segment v w q d (subscriber q))
