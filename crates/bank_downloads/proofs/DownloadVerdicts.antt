@@ -1,4 +1,5 @@
--- What each action on an open download tells of the request and of the download, from the lines that led to it. Assumes nothing.
+-- What each action on an open download tells of the request and of the download, from the lines that led to it.
+-- Assumes nothing.
 use Prim.Native.Nat.{ℕ, _+_, _<_}
 use mathlib.Core.Path.{_≡_, subst}
 use Rattle.frame_table.specs.declared.fields.Fields.{Fields}

@@ -1,5 +1,5 @@
--- What a step of an open upload never does: free a place that is not zero, or book an order by any segment but its next and last.
--- Assumes nothing.
+-- What a request to an open upload never does: free a place that is not zero, or book an order by any segment but its
+-- next and last. Assumes nothing.
 use Prim.Native.Nat.{ℕ, _+_}
 use mathlib.Core.List.{List}
 use mathlib.Core.Path.{_≡_, refl, sym, ap, _∙_}
@@ -32,7 +32,8 @@ module _ (clock : ℕ) (p : Place) (opened : p .used ≡ Open) (q : Fields) (d b
   not-booked e = never (sym (ap isBooked opened) ∙ ap isBooked e)
 
   -- a place that a request leaves free is zero, whatever the action
-  pub freed-zero : (a : UploadAction) → let s = carriedOut a clock p d bytes in s .place .used ≡ Free → ZeroedAndFreed s bytes
+  pub freed-zero : (a : UploadAction) → let s = carriedOut a clock p d bytes in
+      s .place .used ≡ Free → ZeroedAndFreed s bytes
   unfolding grown booked attempted
   freed-zero (up.Opened number) e = not-free e
   freed-zero up.Took e = not-free e

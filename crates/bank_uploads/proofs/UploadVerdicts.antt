@@ -1,4 +1,5 @@
--- What each action on an open upload tells of the request and of the place, from the lines that led to it. Assumes nothing.
+-- What each action on an open upload tells of the request and of the place, from the lines that led to it.
+-- Assumes nothing.
 use Prim.Native.Nat.{ℕ, _+_, _<_, _≤_}
 use mathlib.Core.Path.{_≡_, subst}
 use Rattle.frame_table.specs.declared.fields.Fields.{Fields}
@@ -23,10 +24,12 @@ module _ (r : TransactionRequest) (p : Place) (q : Fields) (n : ℕ) where
       at (took fits inside early room) = (fits .next, room)
 
   -- the last segment is the next one and segment N, and its place has room for it
-  pub last-fits : judgeUpload r p q n ≡ up.TookLast → (segment q ≡ p .taken + 1) × (segment q ≡ p .segments) × (p .length + n ≤ fileBytes)
+  pub last-fits : judgeUpload r p q n ≡ up.TookLast →
+      (segment q ≡ p .taken + 1) × (segment q ≡ p .segments) × (p .length + n ≤ fileBytes)
   last-fits h = at (judged-as h)
     where
-      at : UploadSound r p q n up.TookLast → (segment q ≡ p .taken + 1) × (segment q ≡ p .segments) × (p .length + n ≤ fileBytes)
+      at : UploadSound r p q n up.TookLast →
+          (segment q ≡ p .taken + 1) × (segment q ≡ p .segments) × (p .length + n ≤ fileBytes)
       at (tookLast fits last marked room) = (fits .next, last, room)
 
   -- a recovery point is one of the attempts that are answered

@@ -26,8 +26,8 @@ grown clock n p = record {
   length = p .length + n;
 }
 
--- "Segment N books the order: subscriber, order number, length, bytes; the transaction ends, the place stays used"; it keeps its
--- transaction ID, and what counted its steps is 0
+-- "Segment N books the order: subscriber, order number, length, bytes; the transaction ends, the place stays used"; it
+-- keeps its transaction ID, and what counted its steps is 0
 unfoldable pub booked : ℕ → Place → Place
 booked n p = record {
   used = Booked;

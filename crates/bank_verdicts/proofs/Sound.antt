@@ -1,12 +1,33 @@
 -- The verdicts on a request, each with the facts that led to it. Assumes nothing.
 use Prim.Native.Nat.{ℕ, _+_, _<_, _≤_}
 use mathlib.Core.Bool.{Bool, true, false, not, _&&_, _||_}
-use mathlib.Core.List.{[]}
+use mathlib.Core.List.{List, []}
 use mathlib.Core.Path.{_≡_, refl, sym, ap, _∙_}
 use lib.Dec.{ltb, leb, eqb}
-use borrow.Author.Tests.{eqb-true, eqb-false, ltb-true, ltb-false, leb-true, leb-false, not-true, not-false, lt-ltb, eq-eqb}
+use borrow.Author.Tests.{
+  eqb-true,
+  eqb-false,
+  ltb-true,
+  ltb-false,
+  leb-true,
+  leb-false,
+  not-true,
+  not-false,
+  lt-ltb,
+  eq-eqb,
+}
 use Rattle.frame_table.specs.declared.fields.Fields.{Fields}
-use Rattle.frame_table.specs.Names.{subscriber, orderType, nonce, timestamp, segments, segment, lastMark, receiptCode, form}
+use Rattle.frame_table.specs.Names.{
+  subscriber,
+  orderType,
+  nonce,
+  timestamp,
+  segments,
+  segment,
+  lastMark,
+  receiptCode,
+  form,
+}
 use Rattle.frame_table.specs.Table.{isRequestForm}
 use Rattle.octets.proofs.Tests.{never, and-true, or-neither}
 use Rattle.message.specs.declared.codes.ReturnCode.{ReturnCode}
@@ -30,6 +51,7 @@ use Rattle.bank_verdicts.specs.declared.verdict.DownloadAction.the-varia
 use Rattle.bank_verdicts.specs.declared.verdict.Verdict.{Verdict}
 use Rattle.bank_verdicts.specs.declared.verdict.Verdict.the-variants.{Unreadable, Refused, Of}
 use Rattle.bank_verdicts.specs.Refusals.{
+  Row,
   cancels,
   isUnreadable,
   noSubscriber,
@@ -72,8 +94,9 @@ pub record Readable (q : Fields) (n : ℕ) : Type 0 where
   pub most : subscriber q ≤ subscribers
   pub short : n ≤ segmentBytes
 
-pub judged-request : (P : Verdict → Type 0) (q : Fields) (n : ℕ) (v : Verdict) → (isRequestForm (form q) ≡ false → P Unreadable) →
-    ((c : ReturnCode) → cancels c ≡ false → P (Refused c)) → (Readable q n → P v) → P (judged (requestRows q n) v)
+pub judged-request : (P : Verdict → Type 0) (q : Fields) (n : ℕ) (v : Verdict) →
+    (isRequestForm (form q) ≡ false → P Unreadable) → ((c : ReturnCode) → cancels c ≡ false → P (Refused c)) →
+    (Readable q n → P v) → P (judged (requestRows q n) v)
 unfolding requestRows noSubscriber longData
 judged-request P q n v unreadable refuses readable =
     judged-by P (requestRows q n) v
@@ -125,18 +148,20 @@ module _ (first : ℕ) (b : Bank) (q : Fields) where
   in-time h = and-true (leb (timestamp q) (b .clock + window)) (leb (b .clock) (timestamp q + window)) h .1
 
   place-and-numbers : (d : Direction) → isFull d b ≡ false →
-      (leb openMost (openCount b) ≡ false) × (noPlaceFree d b ≡ false) × (leb nonceCount (freeNonce b) ≡ false) × (leb openingsMost (b .openings) ≡ false)
+      (leb openMost (openCount b) ≡ false) × (noPlaceFree d b ≡ false) ×
+      (leb nonceCount (freeNonce b) ≡ false) × (leb openingsMost (b .openings) ≡ false)
   unfolding isFull
   place-and-numbers d h =
-      let a = or-neither (leb openMost (openCount b)) (noPlaceFree d b || (leb nonceCount (freeNonce b) || leb openingsMost (b .openings))) h in
-      let p = or-neither (noPlaceFree d b) (leb nonceCount (freeNonce b) || leb openingsMost (b .openings)) (a .1) in
+      let a = or-neither (leb openMost (openCount b)) _ h in
+      let p = or-neither (noPlaceFree d b) _ (a .1) in
       let m = or-neither (leb nonceCount (freeNonce b)) (leb openingsMost (b .openings)) (p .1) in
       (a .0, p .0, m .0, m .1)
 
   acceptable : (d : Direction) → Fail (openingRows d b q) → Acceptable b q
   unfolding openingRows manySegments isReplay manyOpen
   acceptable d failed =
-      let replay = or-neither (not (inTime (timestamp q) (b .clock))) (isRemembered (nonce q) b) (failed code.MessageReplay) in
+      let late = not (inTime (timestamp q) (b .clock)) in
+      let replay = or-neither late (isRemembered (nonce q) b) (failed code.MessageReplay) in
       let room = place-and-numbers d (failed code.InternalError) in
       record {
         few = ltb-false segmentsMost (segments q) (failed code.MaxSegmentsExceeded);
@@ -161,13 +186,16 @@ module _ (first : ℕ) (b : Bank) (q : Fields) where
   pub judged-opening : (d : Direction) → OpeningSound first b q d (judgeOpening d first b q)
   unfolding judgeOpening openingRows
   judged-opening d =
-      judged-by (λ (v : Verdict). OpeningSound first b q d v) (openingRows d b q) (accepted d first b q)
-      (each-such (λ (v : Verdict). OpeningSound first b q d v) isHarmless (harmless d) [] (openingRows d b q) refl) (accepting d)
+      let rows : List (Row Verdict) = openingRows d b q in
+      judged-by P rows (accepted d first b q) (each-such P isHarmless (harmless d) [] rows refl) (accepting d)
+    where
+      P : Verdict → Type 0
+      P v = OpeningSound first b q d v
 
 -- ---- a request to a transaction
 
-pub judged-transaction : (P : Verdict → Type 0) (b : Bank) (q : Fields) (v : Verdict) → P (Refused code.UnknownTransaction) →
-    (notOpen b q ≡ false → P v) → P (judged (transactionRows b q) v)
+pub judged-transaction : (P : Verdict → Type 0) (b : Bank) (q : Fields) (v : Verdict) →
+    P (Refused code.UnknownTransaction) → (notOpen b q ≡ false → P v) → P (judged (transactionRows b q) v)
 unfolding transactionRows
 judged-transaction P b q v refuses found =
     judged-by P (transactionRows b q) v (line (λ _ _. refuses) end) (λ failed. found (failed code.UnknownTransaction))
@@ -181,13 +209,17 @@ pub record UploadFits (r : TransactionRequest) (p : Place) (q : Fields) : Type 0
 
 -- a segment with the right last mark is taken; 061101 to the first five attempts; the codes that cancel
 pub data UploadSound (r : TransactionRequest) (p : Place) (q : Fields) (n : ℕ) : UploadAction → Type 0 where
-  took : UploadFits r p q → (segment q ≡ p .segments → ⊥) → (segment q < p .segments → lastMark q ≡ 1 → ⊥) → p .length + n ≤ fileBytes →
-      UploadSound r p q n up.Took
-  tookLast : UploadFits r p q → segment q ≡ p .segments → (lastMark q ≡ 0 → ⊥) → p .length + n ≤ fileBytes → UploadSound r p q n up.TookLast
+  took : UploadFits r p q → (segment q ≡ p .segments → ⊥) → (segment q < p .segments → lastMark q ≡ 1 → ⊥) →
+      p .length + n ≤ fileBytes → UploadSound r p q n up.Took
+  tookLast : UploadFits r p q → segment q ≡ p .segments → (lastMark q ≡ 0 → ⊥) → p .length + n ≤ fileBytes →
+      UploadSound r p q n up.TookLast
   uploadPoint : fitsUpload r p q ≡ false → p .attempts < attemptsMost → UploadSound r p q n (up.Point (p .taken))
-  abort : fitsUpload r p q ≡ false → attemptsMost ≤ p .attempts → UploadSound r p q n (up.Cancelled code.TransactionAbort)
-  underrun : UploadFits r p q → segment q < p .segments → lastMark q ≡ 1 → UploadSound r p q n (up.Cancelled code.SegmentNumberUnderrun)
-  exceeded : UploadFits r p q → segment q ≡ p .segments → lastMark q ≡ 0 → UploadSound r p q n (up.Cancelled code.SegmentNumberExceeded)
+  abort : fitsUpload r p q ≡ false → attemptsMost ≤ p .attempts →
+      UploadSound r p q n (up.Cancelled code.TransactionAbort)
+  underrun : UploadFits r p q → segment q < p .segments → lastMark q ≡ 1 →
+      UploadSound r p q n (up.Cancelled code.SegmentNumberUnderrun)
+  exceeded : UploadFits r p q → segment q ≡ p .segments → lastMark q ≡ 0 →
+      UploadSound r p q n (up.Cancelled code.SegmentNumberExceeded)
   overfull : fileBytes < p .length + n → UploadSound r p q n (up.Cancelled code.InternalError)
 
 pub upload-fits : (r : TransactionRequest) (p : Place) (q : Fields) → fitsUpload r p q ≡ true → UploadFits r p q
@@ -228,11 +260,13 @@ module _ (r : TransactionRequest) (p : Place) (q : Fields) (n : ℕ) where
 
   not-early : isUnderrun p q ≡ false → segment q < p .segments → lastMark q ≡ 1 → ⊥
   unfolding isUnderrun
-  not-early e h = eqb-false (lastMark q) 1 (and-false (ltb (segment q) (p .segments)) (eqb (lastMark q) 1) e (lt-ltb _ _ h))
+  not-early e h =
+      eqb-false (lastMark q) 1 (and-false (ltb (segment q) (p .segments)) (eqb (lastMark q) 1) e (lt-ltb _ _ h))
 
   not-missing : isExceeded p q ≡ false → segment q ≡ p .segments → lastMark q ≡ 0 → ⊥
   unfolding isExceeded
-  not-missing e h = eqb-false (lastMark q) 0 (and-false (eqb (segment q) (p .segments)) (eqb (lastMark q) 0) e (eq-eqb _ _ h))
+  not-missing e h =
+      eqb-false (lastMark q) 0 (and-false (eqb (segment q) (p .segments)) (eqb (lastMark q) 0) e (eq-eqb _ _ h))
 
   taken : Fail (uploadRows r p q n) → P (takes p)
   unfolding uploadRows segmentRows withoutRoom takes
@@ -242,7 +276,8 @@ module _ (r : TransactionRequest) (p : Place) (q : Fields) (n : ℕ) where
       by-test P (eqb (p .taken + 1) (p .segments))
       (λ h. let last = fits .next ∙ eqb-true (p .taken + 1) (p .segments) h in
       tookLast fits last (not-missing (failed code.SegmentNumberExceeded) last) room)
-      (λ h. took fits (λ e. eqb-false (p .taken + 1) (p .segments) h (sym (fits .next) ∙ e)) (not-early (failed code.SegmentNumberUnderrun)) room)
+      (λ h. took fits (λ e. eqb-false (p .taken + 1) (p .segments) h (sym (fits .next) ∙ e))
+      (not-early (failed code.SegmentNumberUnderrun)) room)
 
   pub judged-upload : UploadSound r p q n (judgeUpload r p q n)
   unfolding judgeUpload uploadRows segmentRows withoutRoom
@@ -259,28 +294,33 @@ module _ (r : TransactionRequest) (p : Place) (q : Fields) (n : ℕ) where
 -- ---- a request to the open download e of n segments
 
 pub data DownloadSound (r : TransactionRequest) (e : Download) (n : ℕ) (q : Fields) : DownloadAction → Type 0 where
-  delivered : r ≡ asked.DownloadTransfer → segment q ≡ e .delivered + 1 → segment q ≤ n → DownloadSound r e n q (down.Delivered n)
+  delivered : r ≡ asked.DownloadTransfer → segment q ≡ e .delivered + 1 → segment q ≤ n →
+      DownloadSound r e n q (down.Delivered n)
   sentAgain : r ≡ asked.DownloadTransfer → 0 < segment q → segment q ≤ e .delivered → e .attempts < attemptsMost →
       DownloadSound r e n q (down.SentAgain n)
-  downloadPoint : fitsDownload r e n q ≡ false → e .attempts < attemptsMost → DownloadSound r e n q (down.Point (e .delivered))
+  downloadPoint : fitsDownload r e n q ≡ false → e .attempts < attemptsMost →
+      DownloadSound r e n q (down.Point (e .delivered))
   cancelled : fitsDownload r e n q ≡ false → attemptsMost ≤ e .attempts → DownloadSound r e n q down.Cancelled
   confirmed : r ≡ asked.Receipt → e .delivered ≡ n → receiptCode q ≡ 0 → DownloadSound r e n q down.Confirmed
   declined : r ≡ asked.Receipt → e .delivered ≡ n → (receiptCode q ≡ 0 → ⊥) → DownloadSound r e n q down.Declined
 
 module _ (e : Download) (n : ℕ) (q : Fields) where
-  next-fits : (r : TransactionRequest) → not (fitsDownload r e n q) ≡ false → isReceipt r ≡ false → DownloadSound r e n q (down.Delivered n)
+  next-fits : (r : TransactionRequest) → not (fitsDownload r e n q) ≡ false → isReceipt r ≡ false →
+      DownloadSound r e n q (down.Delivered n)
   next-fits asked.UploadTransfer h k = never (sym h)
   next-fits asked.DownloadTransfer h k =
       let a = and-true (eqb (segment q) (e .delivered + 1)) (leb (segment q) n) (not-false _ h) in
       delivered refl (eqb-true (segment q) (e .delivered + 1) (a .0)) (leb-true (segment q) n (a .1))
   next-fits asked.Receipt h k = never (sym k)
 
-  receipt-fits : (r : TransactionRequest) → not (fitsDownload r e n q) ≡ false → isReceipt r ≡ true → (r ≡ asked.Receipt) × (e .delivered ≡ n)
+  receipt-fits : (r : TransactionRequest) → not (fitsDownload r e n q) ≡ false → isReceipt r ≡ true →
+      (r ≡ asked.Receipt) × (e .delivered ≡ n)
   receipt-fits asked.UploadTransfer h k = never k
   receipt-fits asked.DownloadTransfer h k = never k
   receipt-fits asked.Receipt h k = (refl, eqb-true (e .delivered) n (not-false _ h))
 
-  again : (r : TransactionRequest) → isSentAgain r e q ≡ true → e .attempts < attemptsMost → DownloadSound r e n q (down.SentAgain n)
+  again : (r : TransactionRequest) → isSentAgain r e q ≡ true → e .attempts < attemptsMost →
+      DownloadSound r e n q (down.SentAgain n)
   again asked.UploadTransfer h few = never h
   again asked.DownloadTransfer h few =
       let a = and-true (ltb 0 (segment q)) (leb (segment q) (e .delivered)) h in
@@ -300,25 +340,31 @@ module _ (e : Download) (n : ℕ) (q : Fields) where
     neither true false h k = h
     neither false s h k = refl
 
-    last-attempt : not (fitsDownload r e n q) ≡ true → downloadAttempt r e n q ≡ false → DownloadSound r e n q down.Cancelled
+    last-attempt : not (fitsDownload r e n q) ≡ true → downloadAttempt r e n q ≡ false →
+        DownloadSound r e n q down.Cancelled
     unfolding downloadAttempt
     last-attempt h k =
-        cancelled (not-true (fitsDownload r e n q) h)
-        (ltb-false (e .attempts) attemptsMost (and-false (not (fitsDownload r e n q)) (ltb (e .attempts) attemptsMost) k h))
+        let many = and-false (not (fitsDownload r e n q)) (ltb (e .attempts) attemptsMost) k h in
+        cancelled (not-true (fitsDownload r e n q) h) (ltb-false (e .attempts) attemptsMost many)
 
     pub judged-download : DownloadSound r e n q (judgeDownload r e n q)
     unfolding judgeDownload downloadRows receiptRows
     judged-download =
         judged-by (λ (a : DownloadAction). DownloadSound r e n q a) (downloadRows r e n q) (down.Delivered n)
         (line (λ h _. let a = attempted (and-true (downloadAttempt r e n q) _ h .0) in downloadPoint (a .0) (a .1))
-        (line (λ h _. let a = and-true (downloadAttempt r e n q) (isSentAgain r e q) h in again r (a .1) (attempted (a .0) .1))
-        (line (λ h above. last-attempt h (neither (downloadAttempt r e n q) (isSentAgain r e q) (above code.RecoverySync) (above code.Ok)))
+        (line (λ h _.
+        let a = and-true (downloadAttempt r e n q) (isSentAgain r e q) h in
+        again r (a .1) (attempted (a .0) .1))
+        (line (λ h above.
+        let many = neither (downloadAttempt r e n q) (isSentAgain r e q) (above code.RecoverySync) (above code.Ok) in
+        last-attempt h many)
         (line (λ h above.
         let a = and-true (isReceipt r) (eqb (receiptCode q) 0) h in
         let k = receipt-fits r (above code.TransactionAbort) (a .0) in
         confirmed (k .0) (k .1) (eqb-true (receiptCode q) 0 (a .1)))
         (line (λ h above.
         let k = receipt-fits r (above code.TransactionAbort) h in
-        declined (k .0) (k .1) (eqb-false (receiptCode q) 0 (and-false (isReceipt r) (eqb (receiptCode q) 0) (above code.DownloadPostprocessDone) h)))
+        let other = and-false (isReceipt r) (eqb (receiptCode q) 0) (above code.DownloadPostprocessDone) h in
+        declined (k .0) (k .1) (eqb-false (receiptCode q) 0 other))
         end)))))
         (λ failed. next-fits r (failed code.TransactionAbort) (failed code.DownloadPostprocessSkipped))

@@ -1,4 +1,4 @@
--- How a request is judged: "Checked in the order given, from top to bottom." The clock and the drops of the call are done.
+-- How a request is judged: "Checked in the order given, from top to bottom." The clock and the drops are done.
 use Prim.Native.Nat.{ℕ, _+_}
 use mathlib.Core.Bool.{Bool, true, false, cond}
 use mathlib.Core.List.{List, [], _∷_}
@@ -51,7 +51,8 @@ mailboxSegments s b = segmentsOf (fileLength s (b .files))
 -- an accepted opening; "An upload's order number is that number", the number of the opening
 abbrev pub accepted : Direction → ℕ → Bank → Fields → Verdict
 accepted direction.Upload first b q = Of (transactionOf first b) (action.Upload (up.Opened (b .openings)))
-accepted direction.Download first b q = Of (transactionOf first b) (action.Download (down.Opened (mailboxSegments (subscriber q) b)))
+accepted direction.Download first b q =
+    Of (transactionOf first b) (action.Download (down.Opened (mailboxSegments (subscriber q) b)))
 
 -- an opening in the form of this direction
 unfoldable pub judgeOpening : Direction → ℕ → Bank → Fields → Verdict

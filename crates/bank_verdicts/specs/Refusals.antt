@@ -1,11 +1,22 @@
--- Document 01, "Who can cause which refusal": its list from top to bottom, each line with its test and its row. A row has the line's code,
--- its test, and the verdict that it gives.
+-- Document 01, "Who can cause which refusal": its list from top to bottom, each line with its test and its row.
+-- A row has the line's code, its test, and the verdict that it gives.
 use Prim.Native.Nat.{ℕ, _+_}
 use mathlib.Core.Bool.{Bool, true, false, not, _&&_, _||_}
 use mathlib.Core.List.{List, [], _∷_}
 use lib.Dec.{ltb, leb, eqb}
 use Rattle.frame_table.specs.declared.fields.Fields.{Fields}
-use Rattle.frame_table.specs.Names.{subscriber, orderType, nonce, timestamp, segments, transaction, segment, lastMark, receiptCode, form}
+use Rattle.frame_table.specs.Names.{
+  subscriber,
+  orderType,
+  nonce,
+  timestamp,
+  segments,
+  transaction,
+  segment,
+  lastMark,
+  receiptCode,
+  form,
+}
 use Rattle.frame_table.specs.Table.{isRequestForm}
 use Rattle.message.specs.declared.codes.ReturnCode.{ReturnCode}
 use Rattle.message.specs.declared.codes.ReturnCode.the-variants as code
@@ -14,7 +25,15 @@ use Rattle.bank_state.specs.declared.state.Bank.{Bank}
 use Rattle.bank_state.specs.declared.state.Download.{Download}
 use Rattle.bank_state.specs.declared.state.Place.{Place}
 use Rattle.bank_state.specs.Limits.{placeCount, nonceCount, window, openMost, openPerSubscriber, openingsMost}
-use Rattle.bank_state.specs.Search.{freePlace, freeNonce, openCount, openCountOf, isRemembered, findUpload, findDownload}
+use Rattle.bank_state.specs.Search.{
+  freePlace,
+  freeNonce,
+  openCount,
+  openCountOf,
+  isRemembered,
+  findUpload,
+  findDownload,
+}
 use Rattle.bank_state.specs.State.{fileLength}
 use Rattle.bank_verdicts.specs.declared.verdict.Direction.{Direction}
 use Rattle.bank_verdicts.specs.declared.verdict.Direction.the-variants as direction
@@ -117,9 +136,12 @@ abbrev pub noPlaceFree : Direction → Bank → Bool
 noPlaceFree direction.Upload b = leb placeCount (freePlace b)
 noPlaceFree direction.Download b = false
 
--- 061099, after 091119: 8 transactions open, an upload with 8 places in use, 64 nonces remembered, or 1,213,056 openings accepted
+-- 061099, after 091119: 8 transactions open, an upload with 8 places in use, 64 nonces remembered, or 1,213,056
+-- openings accepted
 unfoldable pub isFull : Direction → Bank → Bool
-isFull d b = leb openMost (openCount b) || (noPlaceFree d b || (leb nonceCount (freeNonce b) || leb openingsMost (b .openings)))
+isFull d b =
+    leb openMost (openCount b)
+    || (noPlaceFree d b || (leb nonceCount (freeNonce b) || leb openingsMost (b .openings)))
 
 unfoldable pub openingRows : Direction → Bank → Fields → List (Row Verdict)
 openingRows d b q =
@@ -137,7 +159,8 @@ openingRows d b q =
 -- 091101: transaction ID not open for this subscriber
 unfoldable pub notOpen : Bank → Fields → Bool
 notOpen b q =
-    leb placeCount (findUpload (subscriber q) (transaction q) b) && leb placeCount (findDownload (subscriber q) (transaction q) b)
+    leb placeCount (findUpload (subscriber q) (transaction q) b)
+    && leb placeCount (findDownload (subscriber q) (transaction q) b)
 
 unfoldable pub transactionRows : Bank → Fields → List (Row Verdict)
 transactionRows b q = refusing code.UnknownTransaction (notOpen b q) ∷ []

@@ -15,8 +15,8 @@ pub enum TransactionRequest {
     Receipt,
 }
 
-// What a request does to an upload: opens it (with its order's number), has a segment taken, has the last one taken and so books the
-// order, gets the recovery point k, or has it cancelled with this code.
+// What a request does to an upload: opens it (with its order's number), has a segment taken, has the last one taken and
+// so books the order, gets the recovery point k, or has it cancelled with this code.
 pub enum UploadAction {
     Opened(u64),
     Took,
@@ -25,8 +25,8 @@ pub enum UploadAction {
     Cancelled(ReturnCode),
 }
 
-// What a request does to a download: opens it, has a segment delivered or sent again (each with N), gets the recovery point d,
-// has it cancelled as the sixth attempt, or has its receipt answered 011000 (confirmed) or 011001 (declined).
+// What a request does to a download: opens it, has a segment delivered or sent again (each with N), gets the recovery
+// point d, has it cancelled as the sixth attempt, or has its receipt answered 011000 (confirmed) or 011001 (declined).
 pub enum DownloadAction {
     Opened(u64),
     Delivered(u64),
@@ -43,7 +43,8 @@ pub enum Action {
     Download(DownloadAction),
 }
 
-// What a request comes to: it is unreadable, it is refused with a code and changes nothing, or it acts on the transaction with this ID.
+// What a request comes to: it is unreadable, it is refused with a code and changes nothing, or it acts on the
+// transaction with this ID.
 pub enum Verdict {
     Unreadable,
     Refused(ReturnCode),

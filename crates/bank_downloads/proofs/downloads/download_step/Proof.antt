@@ -1,4 +1,5 @@
--- By the action of the request: what is asked of each function follows from the lines that led to the action. Assumes nothing.
+-- By the action of the request: what is asked of each function follows from the lines that led to the action.
+-- Assumes nothing.
 use mathlib.Core.Path.{sym, _∙_}
 use borrow.Author.Needs.{needs}
 use Rattle.bank_downloads.specs.Downloads.{downloadStep}
@@ -8,20 +9,24 @@ use Rattle.bank_downloads.proofs.downloads.download_step.Tie as tie
 
 advanced-to-requires : tie.Need-advanced-to-requires
 advanced-to-requires c κs =
-    let start = c .before .before .before .before in
-    let told = sym (c .before .before .before .judge-download .ensures) ∙ c .before .enum-told2 .given .1 in
+    let at-action = c .before in
+    let at-judge-download = at-action .before .before in
+    let start = at-judge-download .before in
+    let told = sym (at-judge-download .judge-download .ensures) ∙ at-action .enum-told2 .given .1 in
     c .segment .ensures ∙ delivered-next (start .args .r) (start .args .e) (start .args .n) (start .args .q) told
 
 attempted-requires : tie.Need-attempted-requires
 attempted-requires c κs =
-    let start = c .before .before .before in
-    let told = sym (c .before .before .judge-download .ensures) ∙ c .enum-told3 .given .1 in
+    let at-judge-download = c .before .before in
+    let start = at-judge-download .before in
+    let told = sym (at-judge-download .judge-download .ensures) ∙ c .enum-told3 .given .1 in
     sent-again-answered (start .args .r) (start .args .e) (start .args .n) (start .args .q) told
 
 attempted-requires-2 : tie.Need-attempted-requires-2
 attempted-requires-2 c κs =
-    let start = c .before .before .before in
-    let told = sym (c .before .before .judge-download .ensures) ∙ c .enum-told4 .given .1 in
+    let at-judge-download = c .before .before in
+    let start = at-judge-download .before in
+    let told = sym (at-judge-download .judge-download .ensures) ∙ c .enum-told4 .given .1 in
     point-answered (start .args .r) (start .args .e) (start .args .n) (start .args .q) told
 
 returns : tie.Need-returns
@@ -30,15 +35,21 @@ returns c = rw (← c .before .before .judge-download .ensures, c .enum-told .gi
 
 returns-2 : tie.Need-returns-2
 unfolding downloadStep
-returns-2 c = rw (← c .before .before .before .before .judge-download .ensures, c .before .before .enum-told2 .given .1, c .advanced-to .ensures)
+returns-2 c =
+    let at-action = c .before .before in
+    rw (← at-action .before .before .judge-download .ensures, at-action .enum-told2 .given .1, c .advanced-to .ensures)
 
 returns-3 : tie.Need-returns-3
 unfolding downloadStep
-returns-3 c = rw (← c .before .before .before .judge-download .ensures, c .before .enum-told3 .given .1, c .attempted .ensures)
+returns-3 c =
+    let at-action = c .before in
+    rw (← at-action .before .before .judge-download .ensures, at-action .enum-told3 .given .1, c .attempted .ensures)
 
 returns-4 : tie.Need-returns-4
 unfolding downloadStep
-returns-4 c = rw (← c .before .before .before .judge-download .ensures, c .before .enum-told4 .given .1, c .attempted2 .ensures)
+returns-4 c =
+    let at-action = c .before in
+    rw (← at-action .before .before .judge-download .ensures, at-action .enum-told4 .given .1, c .attempted2 .ensures)
 
 returns-5 : tie.Need-returns-5
 unfolding downloadStep

@@ -1,4 +1,5 @@
--- A request that fits goes by its own lines; the first five others get a segment again or the recovery point, the sixth is the last. Assumes nothing.
+-- A request that fits goes by its own lines; the first five others get a segment again or the recovery point, the sixth
+-- is the last. Assumes nothing.
 use borrow.Author.Tests.{lt-ltb, le-ltb}
 use Rattle.message.specs.Limits.{attemptsMost}
 use Rattle.bank_verdicts.specs.Refusals.{downloadAttempt, downloadRows}
@@ -13,17 +14,24 @@ returns c = rw (← c .before .before .fits-download .ensures, c .before .if1 .t
 returns-2 : tie.Need-returns-2
 unfolding judgeDownload downloadRows downloadAttempt
 returns-2 c =
-    let start = c .before .before .before .before in
-    rw (← c .before .before .before .fits-download .ensures, c .before .before .if1 .left, le-ltb (start .args .e .attempts) attemptsMost (c .if2 .taken))
+    let missed = c .before .before in
+    let start = missed .before .before in
+    rw (
+      ← missed .before .fits-download .ensures,
+      missed .if1 .left,
+      le-ltb (start .args .e .attempts) attemptsMost (c .if2 .taken),
+    )
 
 returns-3 : tie.Need-returns-3
 unfolding judgeDownload downloadRows downloadAttempt
 returns-3 c =
-    let start = c .before .before .before .before .before .before in
+    let few = c .before .before in
+    let missed = few .before .before in
+    let start = missed .before .before in
     rw (
-      ← c .before .before .before .before .before .fits-download .ensures,
-      c .before .before .before .before .if1 .left,
-      lt-ltb (start .args .e .attempts) attemptsMost (c .before .before .if2 .left),
+      ← missed .before .fits-download .ensures,
+      missed .if1 .left,
+      lt-ltb (start .args .e .attempts) attemptsMost (few .if2 .left),
       ← c .before .is-sent-again .ensures,
       c .if3 .taken,
     )
@@ -31,11 +39,13 @@ returns-3 c =
 returns-4 : tie.Need-returns-4
 unfolding judgeDownload downloadRows downloadAttempt
 returns-4 c =
-    let start = c .before .before .before .before .before .before in
+    let few = c .before .before in
+    let missed = few .before .before in
+    let start = missed .before .before in
     rw (
-      ← c .before .before .before .before .before .fits-download .ensures,
-      c .before .before .before .before .if1 .left,
-      lt-ltb (start .args .e .attempts) attemptsMost (c .before .before .if2 .left),
+      ← missed .before .fits-download .ensures,
+      missed .if1 .left,
+      lt-ltb (start .args .e .attempts) attemptsMost (few .if2 .left),
       ← c .before .is-sent-again .ensures,
       c .if3 .left,
     )

@@ -19,7 +19,13 @@ returns-3 c = rw (c .before .before .enum-told3 .given .1, ← c .before .receip
 
 returns-4 : tie.Need-returns-4
 unfolding receiptRows
-returns-4 c = rw (c .before .before .enum-told3 .given .1, ← c .before .receipt-code .ensures, ne-eqb (c .before .receipt-code .result) 0 (c .if1 .left))
+returns-4 c =
+    let at-code = c .before in
+    rw (
+      at-code .before .enum-told3 .given .1,
+      ← at-code .receipt-code .ensures,
+      ne-eqb (at-code .receipt-code .result) 0 (c .if1 .left),
+    )
 
 pub judge-fitting-spec : {M : Type 1} → statement M
 judge-fitting-spec =

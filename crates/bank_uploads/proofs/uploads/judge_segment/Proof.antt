@@ -10,16 +10,20 @@ returns c = rw (← c .before .is-underrun .ensures, c .if1 .taken)
 
 returns-2 : tie.Need-returns-2
 unfolding segmentRows
-returns-2 c = rw (← c .before .before .before .is-underrun .ensures, c .before .before .if1 .left, ← c .before .is-exceeded .ensures, c .if2 .taken)
+returns-2 c =
+    let early = c .before .before in
+    rw (← early .before .is-underrun .ensures, early .if1 .left, ← c .before .is-exceeded .ensures, c .if2 .taken)
 
 returns-3 : tie.Need-returns-3
 unfolding segmentRows
 returns-3 c =
+    let missing = c .before .before in
+    let early = missing .before .before in
     rw (
-      ← c .before .before .before .before .before .is-underrun .ensures,
-      c .before .before .before .before .if1 .left,
-      ← c .before .before .before .is-exceeded .ensures,
-      c .before .before .if2 .left,
+      ← early .before .is-underrun .ensures,
+      early .if1 .left,
+      ← missing .before .is-exceeded .ensures,
+      missing .if2 .left,
       ← c .before .is-without-room .ensures,
       c .if3 .taken,
     )
@@ -30,13 +34,16 @@ takes-requires c κs = c .segment .ensures ∙ c .before .before .before .before
 returns-4 : tie.Need-returns-4
 unfolding segmentRows
 returns-4 c =
+    let room = c .before .before in
+    let missing = room .before .before in
+    let early = missing .before .before in
     rw (
-      ← c .before .before .before .before .before .before .before .is-underrun .ensures,
-      c .before .before .before .before .before .before .if1 .left,
-      ← c .before .before .before .before .before .is-exceeded .ensures,
-      c .before .before .before .before .if2 .left,
-      ← c .before .before .before .is-without-room .ensures,
-      c .before .before .if3 .left,
+      ← early .before .is-underrun .ensures,
+      early .if1 .left,
+      ← missing .before .is-exceeded .ensures,
+      missing .if2 .left,
+      ← room .before .is-without-room .ensures,
+      room .if3 .left,
     ) (c .takes .ensures)
 
 pub judge-segment-spec : {M : Type 1} → statement M

@@ -1,4 +1,5 @@
--- By the action of the request: what is asked of each function follows from the lines that led to the action. Assumes nothing.
+-- By the action of the request: what is asked of each function follows from the lines that led to the action.
+-- Assumes nothing.
 use mathlib.Core.Path.{sym, _∙_}
 use native.Mathlib.Omega.{arith}
 use lib.ListN.{length}
@@ -10,37 +11,44 @@ use Rattle.bank_uploads.proofs.uploads.upload_step.Tie as tie
 
 take-requires : tie.Need-take-requires
 take-requires c κs =
-    let start = c .before .before .before .before .before .before in
-    let told = sym (c .before .before .before .judge-upload .ensures) ∙ c .before .enum-told2 .given .1 in
-    let room = took-fits (start .args .r) (start .args .p) (start .args .q) (length (start .args .segment .now)) told .1 in
-    let whole = start .pre in
-    omega (arith, room, whole)
+    let at-action = c .before in
+    let at-judge-upload = at-action .before .before in
+    let start = at-judge-upload .before .before .before in
+    let told = sym (at-judge-upload .judge-upload .ensures) ∙ at-action .enum-told2 .given .1 in
+    let fits = took-fits (start .args .r) (start .args .p) (start .args .q) (length (start .args .segment .now)) told in
+    omega (arith, fits .1, start .pre)
 
 grown-requires : tie.Need-grown-requires
 grown-requires c κs =
-    let start = c .before .before .before .before .before .before .before .before .before .before in
-    let told = sym (c .before .before .before .before .before .before .before .judge-upload .ensures) ∙ c .before .before .before .before .before .enum-told2 .given .1 in
+    let at-action = c .before .before .before .before .before in
+    let at-judge-upload = at-action .before .before in
+    let start = at-judge-upload .before .before .before in
+    let told = sym (at-judge-upload .judge-upload .ensures) ∙ at-action .enum-told2 .given .1 in
     let fits = took-fits (start .args .r) (start .args .p) (start .args .q) (length (start .args .segment .now)) told in
     (c .segment .ensures ∙ fits .0, fits .1)
 
 take-requires-2 : tie.Need-take-requires-2
 take-requires-2 c κs =
-    let start = c .before .before .before .before .before .before in
-    let told = sym (c .before .before .before .judge-upload .ensures) ∙ c .before .enum-told3 .given .1 in
-    let room = last-fits (start .args .r) (start .args .p) (start .args .q) (length (start .args .segment .now)) told .2 in
-    let whole = start .pre in
-    omega (arith, room, whole)
+    let at-action = c .before in
+    let at-judge-upload = at-action .before .before in
+    let start = at-judge-upload .before .before .before in
+    let told = sym (at-judge-upload .judge-upload .ensures) ∙ at-action .enum-told3 .given .1 in
+    let fits = last-fits (start .args .r) (start .args .p) (start .args .q) (length (start .args .segment .now)) told in
+    omega (arith, fits .2, start .pre)
 
 booked-requires : tie.Need-booked-requires
 booked-requires c κs =
-    let start = c .before .before .before .before .before .before .before .before .before in
-    let told = sym (c .before .before .before .before .before .before .judge-upload .ensures) ∙ c .before .before .before .before .enum-told3 .given .1 in
+    let at-action = c .before .before .before .before in
+    let at-judge-upload = at-action .before .before in
+    let start = at-judge-upload .before .before .before in
+    let told = sym (at-judge-upload .judge-upload .ensures) ∙ at-action .enum-told3 .given .1 in
     last-fits (start .args .r) (start .args .p) (start .args .q) (length (start .args .segment .now)) told .2
 
 attempted-requires : tie.Need-attempted-requires
 attempted-requires c κs =
-    let start = c .before .before .before .before .before in
-    let told = sym (c .before .before .judge-upload .ensures) ∙ c .enum-told4 .given .1 in
+    let at-judge-upload = c .before .before in
+    let start = at-judge-upload .before .before .before in
+    let told = sym (at-judge-upload .judge-upload .ensures) ∙ c .enum-told4 .given .1 in
     point-answered (start .args .r) (start .args .p) (start .args .q) (length (start .args .segment .now)) told
 
 returns : tie.Need-returns
@@ -49,19 +57,45 @@ returns c = rw (← c .before .before .judge-upload .ensures, c .enum-told .give
 
 returns-2 : tie.Need-returns-2
 unfolding uploadStep
-returns-2 c = rw (← c .before .before .before .before .before .before .before .before .judge-upload .ensures, c .before .before .before .before .before .before .enum-told2 .given .1, c .grown .ensures, c .before .before .before .before .take .ensures)
+returns-2 c =
+    let at-take = c .before .before .before .before in
+    let at-action = at-take .before .before in
+    rw (
+      ← at-action .before .before .judge-upload .ensures,
+      at-action .enum-told2 .given .1,
+      c .grown .ensures,
+      at-take .take .ensures,
+    )
 
 returns-3 : tie.Need-returns-3
 unfolding uploadStep
-returns-3 c = rw (← c .before .before .before .before .before .before .before .judge-upload .ensures, c .before .before .before .before .before .enum-told3 .given .1, c .booked .ensures, c .before .before .before .take2 .ensures)
+returns-3 c =
+    let at-take = c .before .before .before in
+    let at-action = at-take .before .before in
+    rw (
+      ← at-action .before .before .judge-upload .ensures,
+      at-action .enum-told3 .given .1,
+      c .booked .ensures,
+      at-take .take2 .ensures,
+    )
 
 returns-4 : tie.Need-returns-4
 unfolding uploadStep
-returns-4 c = rw (← c .before .before .before .judge-upload .ensures, c .before .enum-told4 .given .1, c .attempted .ensures)
+returns-4 c =
+    let at-action = c .before in
+    rw (← at-action .before .before .judge-upload .ensures, at-action .enum-told4 .given .1, c .attempted .ensures)
 
 returns-5 : tie.Need-returns-5
 unfolding uploadStep
-returns-5 c = rw (← c .before .before .before .before .before .before .judge-upload .ensures, c .before .before .before .before .enum-told5 .given .1, c .before .before .free .ensures .0, c .before .before .free .ensures .1)
+returns-5 c =
+    let at-free = c .before .before in
+    let at-action = at-free .before .before in
+    rw (
+      ← at-action .before .before .judge-upload .ensures,
+      at-action .enum-told5 .given .1,
+      at-free .free .ensures .0,
+      at-free .free .ensures .1,
+    )
 
 pub upload-step-spec : {M : Type 1} → statement M
 upload-step-spec =

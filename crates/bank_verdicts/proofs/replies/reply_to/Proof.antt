@@ -4,7 +4,14 @@ use Rattle.bank_verdicts.proofs.replies.reply_to.Statement.{statement}
 use Rattle.bank_verdicts.proofs.replies.reply_to.Tie as tie
 
 returns-2 : tie.Need-returns-2
-returns-2 c = rw (c .before .before .before .before .verdict .given .1, c .refusal .ensures, c .before .exchange .ensures, c .before .before .phase .ensures)
+returns-2 c =
+    let at-phase = c .before .before in
+    rw (
+      at-phase .before .before .verdict .given .1,
+      c .refusal .ensures,
+      c .before .exchange .ensures,
+      at-phase .phase .ensures,
+    )
 
 returns-3 : tie.Need-returns-3
 returns-3 c = rw (c .before .before .verdict2 .given .1) (c .action-reply .ensures)

@@ -3,7 +3,14 @@ use Rattle.bank_verdicts.proofs.replies.segment_reply.Statement.{statem
 use Rattle.bank_verdicts.proofs.replies.segment_reply.Tie as tie
 
 returns : tie.Need-returns
-returns c = rw (c .download-segment .ensures, c .before .last-mark-of .ensures, c .before .before .exchange .ensures, c .before .before .before .segment .ensures)
+returns c =
+    let at-exchange = c .before .before in
+    rw (
+      c .download-segment .ensures,
+      c .before .last-mark-of .ensures,
+      at-exchange .exchange .ensures,
+      at-exchange .before .segment .ensures,
+    )
 
 pub segment-reply-spec : {M : Type 1} → statement M
 segment-reply-spec =

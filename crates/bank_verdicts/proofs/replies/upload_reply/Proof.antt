@@ -4,19 +4,54 @@ use Rattle.bank_verdicts.proofs.replies.upload_reply.Statement.{stateme
 use Rattle.bank_verdicts.proofs.replies.upload_reply.Tie as tie
 
 returns : tie.Need-returns
-returns c = rw (c .before .before .before .action .given .1, c .upload-opened .ensures, c .before .order-number-of .ensures, c .before .before .before .before .before .exchange .ensures)
+returns c =
+    let at-action = c .before .before .before in
+    rw (
+      at-action .action .given .1,
+      c .upload-opened .ensures,
+      c .before .order-number-of .ensures,
+      at-action .before .before .exchange .ensures,
+    )
 
 returns-2 : tie.Need-returns-2
-returns-2 c = rw (c .before .before .enum-told .given .1, c .segment-taken .ensures, c .before .segment .ensures, c .before .before .before .before .exchange .ensures)
+returns-2 c =
+    let told = c .before .before in
+    rw (
+      told .enum-told .given .1,
+      c .segment-taken .ensures,
+      c .before .segment .ensures,
+      told .before .before .exchange .ensures,
+    )
 
 returns-3 : tie.Need-returns-3
-returns-3 c = rw (c .before .before .enum-told2 .given .1, c .segment-taken2 .ensures, c .before .segment2 .ensures, c .before .before .before .before .exchange .ensures)
+returns-3 c =
+    let told = c .before .before in
+    rw (
+      told .enum-told2 .given .1,
+      c .segment-taken2 .ensures,
+      c .before .segment2 .ensures,
+      told .before .before .exchange .ensures,
+    )
 
 returns-4 : tie.Need-returns-4
-returns-4 c = rw (c .before .before .before .action2 .given .1, c .recovery-point .ensures, c .before .upload-point-phase .ensures, c .before .before .before .before .before .exchange .ensures)
+returns-4 c =
+    let at-action = c .before .before .before in
+    rw (
+      at-action .action2 .given .1,
+      c .recovery-point .ensures,
+      c .before .upload-point-phase .ensures,
+      at-action .before .before .exchange .ensures,
+    )
 
 returns-5 : tie.Need-returns-5
-returns-5 c = rw (c .before .before .before .action3 .given .1, c .refusal .ensures, c .before .phase .ensures, c .before .before .before .before .before .exchange .ensures)
+returns-5 c =
+    let at-action = c .before .before .before in
+    rw (
+      at-action .action3 .given .1,
+      c .refusal .ensures,
+      c .before .phase .ensures,
+      at-action .before .before .exchange .ensures,
+    )
 
 pub upload-reply-spec : {M : Type 1} → statement M
 upload-reply-spec =
