@@ -45,7 +45,8 @@ file-fits b m file boxes h =
     let failed = all-failed isDone (fileRefusals b m file boxes) Done refl (ap isDone h) in
     let n = numbered m (failed 1) in
     let size = or-neither (eqb (length file) 0) (ltb fileBytes (length file)) (failed 2) in
-    (n .0, n .1, ltb-false fileBytes (length file) (size .1), eqb-true (length boxes) storeBytes (not-false _ (failed 0)))
+    let lent = eqb-true (length boxes) storeBytes (not-false _ (failed 0)) in
+    (n .0, n .1, ltb-false fileBytes (length file) (size .1), lent)
 
 -- the lent lengths
 pub lengths-right : (orders boxes ids buffer : ℕ)

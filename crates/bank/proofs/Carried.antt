@@ -27,19 +27,20 @@ use Rattle.bank_verdicts.specs.declared.verdict.TransactionRequest.{Transaction
 use Rattle.bank_verdicts.specs.declared.verdict.UploadAction.{UploadAction}
 use Rattle.bank_verdicts.specs.declared.verdict.Verdict.{Verdict}
 use Rattle.bank_verdicts.specs.declared.verdict.Verdict.the-variants as verdict
-use Rattle.bank_verdicts.specs.Judgement.{transactionOf, mailboxSegments, accepted, judgeOpening, judgeUpload, judgeDownload}
-use Rattle.bank_verdicts.specs.Judgement.{uploadAt, downloadOf, judgeOpen, judgeTransaction}
+use Rattle.bank_verdicts.specs.Judgement.{transactionOf, mailboxSegments, accepted, judgeOpening}
+use Rattle.bank_verdicts.specs.Judgement.{judgeUpload, judgeDownload, uploadAt, downloadOf, judgeOpen, judgeTransaction}
 use Rattle.bank_verdicts.specs.Refusals.{notOpen, transactionRows}
 use Rattle.bank_verdicts.specs.Replies.{replyTo, segmentIn}
-use Rattle.bank_verdicts.proofs.Sound.{OpeningSound, judged-opening, UploadSound, judged-upload, DownloadSound, judged-download}
+use Rattle.bank_verdicts.proofs.Sound.{OpeningSound, UploadSound, DownloadSound}
+use Rattle.bank_verdicts.proofs.Sound.{judged-opening, judged-upload, judged-download}
 use Rattle.bank_verdicts.proofs.Sound as sound
 use Rattle.bank_verdicts.proofs.verdict.DownloadAction as actions
 use Rattle.bank_verdicts.proofs.verdict.Verdict.{the-type}
 use Rattle.bank_openings.specs.Openings.{openUpload, openDownload, counted}
 use Rattle.bank_uploads.specs.Uploads.{UploadStep, uploadStep}
 use Rattle.bank.specs.declared.call.FrameAnswer.{FrameAnswer}
-use Rattle.bank.specs.Call.{onUpload, uploadActs, staying, onDownload, downloadActs, carryOut, uploadVerdict, downloadVerdict}
-use Rattle.bank.specs.Call.{mailboxSegment, stepBy, SentAs, FrameCall, frameNumber, replied}
+use Rattle.bank.specs.Call.{onUpload, uploadActs, staying, onDownload, downloadActs, carryOut}
+use Rattle.bank.specs.Call.{uploadVerdict, downloadVerdict, mailboxSegment, stepBy, SentAs, FrameCall, frameNumber, replied}
 
 -- a verdict whose reply carries a segment leaves the mailboxes and their lengths
 pub same-segment : (v : Verdict) (w : World) (q : Fields) (d : List ℕ) (s : ℕ) →
@@ -61,7 +62,8 @@ abbrev ofNoneKeys : List ℕ
 ofNoneKeys = 0 ∷ 1 ∷ []
 
 -- they change nothing
-pub of-none : (v : Verdict) (w : World) (q : Fields) (d : List ℕ) → OneOf ofNoneKeys (tagOf the-type v) → w ≡ carryOut v w q d
+pub of-none : (v : Verdict) (w : World) (q : Fields) (d : List ℕ) →
+    OneOf ofNoneKeys (tagOf the-type v) → w ≡ carryOut v w q d
 of-none verdict.Unreadable w q d k = refl
 of-none (verdict.Refused c) w q d k = refl
 of-none (verdict.Of t a) w q d k = absurd (miss ofNoneKeys 2 tt k)
@@ -79,12 +81,14 @@ module _ (first : ℕ) (b : Bank) (q : Fields) {t : Bits128} {a : Action} where
   opens-by dir v (sound.download acc full) e = record { numbers = acc .numbers; verdict = refl }
 
   -- one that acts on a transaction is accepted
-  pub opens : (dir : Direction) → judgeOpening dir first b q ≡ verdict.Of t a → Opens first b q dir (judgeOpening dir first b q)
+  pub opens : (dir : Direction) → judgeOpening dir first b q ≡ verdict.Of t a →
+      Opens first b q dir (judgeOpening dir first b q)
   opens dir e = opens-by dir (judgeOpening dir first b q) (judged-opening first b q dir) e
 
   module _ (o m d : List ℕ) where
     pub upload-opened : judgeOpening direction.Upload first b q ≡ verdict.Of t a
-        → world (openUpload t (b .openings) q b) o m ≡ carryOut (judgeOpening direction.Upload first b q) (world b o m) q d
+        → world (openUpload t (b .openings) q b) o m
+        ≡ carryOut (judgeOpening direction.Upload first b q) (world b o m) q d
     upload-opened e =
         let known = opens direction.Upload e .verdict in
         let same : t ≡ transactionOf first b = cc in
@@ -92,7 +96,8 @@ module _ (first : ℕ) (b : Bank) (q : Fields) {t : Bits128} {a : Action} where
         ∙ sym (ap (λ (v : Verdict). carryOut v (world b o m) q d) known)
 
     pub download-opened : judgeOpening direction.Download first b q ≡ verdict.Of t a
-        → world (openDownload t q b) o m ≡ carryOut (judgeOpening direction.Download first b q) (world b o m) q d
+        → world (openDownload t q b) o m
+        ≡ carryOut (judgeOpening direction.Download first b q) (world b o m) q d
     download-opened e =
         let known = opens direction.Download e .verdict in
         let same : t ≡ transactionOf first b = cc in
@@ -135,18 +140,22 @@ pub landed : (i : ℕ) (w : World) (r : TransactionRequest) (q : Fields) (d : Li
     → world (withPlace i (s .place) (w .bank)) (withPart (w .orders) i (s .bytes)) (w .boxes)
     ≡ onUpload (judgeUpload r (placeAt (w .bank) i) q (length d)) i w d
 unfolding uploadStep
-landed i w r q d h = ap (λ (s : UploadStep). world (withPlace i (s .place) (w .bank)) (withPart (w .orders) i (s .bytes)) (w .boxes)) h
+landed i w r q d h =
+    ap (λ (s : UploadStep). world (withPlace i (s .place) (w .bank)) (withPart (w .orders) i (s .bytes)) (w .boxes)) h
 
 -- what a request to the open transaction that was found does
 pub upload-acts-at : (i : ℕ) (w : World) (r : TransactionRequest) (q : Fields) (d : List ℕ) → i ≡ uploadAt (w .bank) q
-    → onUpload (judgeUpload r (placeAt (w .bank) i) q (length d)) i w d ≡ carryOut (uploadVerdict r i (w .bank) q (length d)) w q d
+    → onUpload (judgeUpload r (placeAt (w .bank) i) q (length d)) i w d
+    ≡ carryOut (uploadVerdict r i (w .bank) q (length d)) w q d
 upload-acts-at i w r q d e =
     let p = placeAt (w .bank) i in
-    ap (λ (k : ℕ). onUpload (judgeUpload r p q (length d)) k w d) e ∙ sym (upload-acts (p .transaction) w q d r p (length d))
+    ap (λ (k : ℕ). onUpload (judgeUpload r p q (length d)) k w d) e
+    ∙ sym (upload-acts (p .transaction) w q d r p (length d))
 
-pub download-acts-at : (j : ℕ) (w : World) (r : TransactionRequest) (q : Fields) (d : List ℕ) → j ≡ downloadOf (w .bank) q
-    → let e = downloadAt (w .bank) j in
-    onDownload (judgeDownload r e (mailboxSegments (subscriber q) (w .bank)) q) j w q ≡ carryOut (downloadVerdict r j (w .bank) q) w q d
+pub download-acts-at : (j : ℕ) (w : World) (r : TransactionRequest) (q : Fields) (d : List ℕ)
+    → j ≡ downloadOf (w .bank) q → let e = downloadAt (w .bank) j in
+    onDownload (judgeDownload r e (mailboxSegments (subscriber q) (w .bank)) q) j w q
+    ≡ carryOut (downloadVerdict r j (w .bank) q) w q d
 download-acts-at j w r q d e =
     let x = downloadAt (w .bank) j in
     let n = mailboxSegments (subscriber q) (w .bank) in
@@ -185,9 +194,11 @@ module _ (r : TransactionRequest) (b : Bank) (q : Fields) (n : ℕ) where
 
 -- ---- the call, from the verdict carried out and the reply written
 
-pub replied-by : (v : Verdict) (w : World) (q : Fields) (d : List ℕ) {u : Verdict} {x : World} {buffer after : List ℕ} {a : FrameAnswer} {k : ℕ}
+pub replied-by : (v : Verdict) (w : World) (q : Fields) (d : List ℕ)
+    {u : Verdict} {x : World} {buffer after : List ℕ} {a : FrameAnswer} {k : ℕ}
     → u ≡ v → x ≡ carryOut v w q d
     → SentAs (replyTo u q) (mailboxSegment x (subscriber q) (segmentIn u q)) buffer a k after
-    → _≡_ {A = FrameCall} (record { world = x; buffer = after; answer = a; number = frameNumber a; code = k }) (replied (stepBy v w q d) buffer)
+    → _≡_ {A = FrameCall} (record { world = x; buffer = after; answer = a; number = frameNumber a; code = k })
+    (replied (stepBy v w q d) buffer)
 replied-by v w q d e f sent =
     rw (sent .answered, sent .written, sent .coded, e, f, same-segment v w q d (subscriber q))

@@ -32,7 +32,8 @@ module _ (f : Fields) (d old : List ℕ) where
 
   module _ (long : Sized f) where
     -- the code of the reply in the buffer
-    pub coded-at : (b : Bool) → accepted f d old ≡ b → replyCode (answerOf (writeAnswer f d old)) (writeBuffer f d old) ≡ cond b (codeIn f) 0
+    pub coded-at : (b : Bool) → accepted f d old ≡ b →
+        replyCode (answerOf (writeAnswer f d old)) (writeBuffer f d old) ≡ cond b (codeIn f) 0
     unfolding accepted writeAnswer writeBuffer readReply
     coded-at true e =
         let w = and-true (writable f d) (leb (length (frameOf f d)) (length old)) e in

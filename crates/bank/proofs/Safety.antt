@@ -28,4 +28,5 @@ emptied-ends t w q d =
     each-endDownloads (λ (e : Download). e .used ≡ true → e .subscriber ≡ subscriber q → ⊥) (λ u. never u)
     (ending.Mailbox (subscriber q)) (w .bank .downloads)
     (λ k _ g _. let e = downloadAt (w .bank) k in
-    eqb-false (e .subscriber) (subscriber q) (not-true _ (and-true (e .used) (not (eqb (e .subscriber) (subscriber q))) g .1)))
+    let apart = and-true (e .used) (not (eqb (e .subscriber) (subscriber q))) g .1 in
+    eqb-false (e .subscriber) (subscriber q) (not-true _ apart))

@@ -22,7 +22,8 @@ use Rattle.bank_state.specs.declared.clock.Ended.{Ended}
 use Rattle.bank_state.specs.declared.clock.Ended.the-variants as ending
 use Rattle.bank_state.specs.Clock.{advanced, endDownloads}
 use Rattle.bank_state.specs.Limits.{storeBytes, idBytes, replyRoom}
-use Rattle.bank_state.specs.State.{World, world, placeAt, downloadAt, fileLength, withPlace, withDownload, withDownloads, withFiles}
+use Rattle.bank_state.specs.State.{World, world, placeAt, downloadAt, fileLength}
+use Rattle.bank_state.specs.State.{withPlace, withDownload, withDownloads, withFiles}
 use Rattle.bank_state.specs.Store.{partAt, withPart, zeroed, fileOf}
 use Rattle.bank_verdicts.specs.declared.verdict.UploadAction.{UploadAction}
 use Rattle.bank_verdicts.specs.declared.verdict.UploadAction.the-variants as up
@@ -132,7 +133,8 @@ downloadVerdict r j b q =
     verdict.Of (e .transaction) (action.Download (judgeDownload r e (mailboxSegments (subscriber q) b) q))
 
 -- what is left where the request q with the data d was judged to be v: the verdict, and the bank with its stores
-pub record CarriedOut (v : Verdict) (w : World) (q : Fields) (d : List ℕ) (r : Stepped) (orders boxes : List ℕ) : Type 0 where
+pub record CarriedOut (v : Verdict) (w : World) (q : Fields) (d : List ℕ) (r : Stepped) (orders boxes : List ℕ)
+    : Type 0 where
   pub judged : r .verdict ≡ v
   pub done : world (r .bank) orders boxes ≡ carryOut v w q d
 
@@ -181,7 +183,7 @@ pub record SentAs (f : Fields) (d old : List ℕ) (a : FrameAnswer) (code : ℕ)
   pub written : buffer ≡ writeBuffer f d old
   pub coded : code ≡ replyCode (answerOf (writeAnswer f d old)) (writeBuffer f d old)
 
--- what a call leaves: the bank, both stores, the reply buffer, the answer, document 01's number for it, and the reply's return code
+-- what a call leaves: the bank, both stores, the reply buffer, the answer, document 01's number for it, the reply's code
 pub record FrameCall : Type 0 where
   pub world : World
   pub buffer : List ℕ
@@ -210,7 +212,8 @@ replied s buffer = record {
 -- number 1: "a lent length differs from the above or is too short for what is to be written"
 unfoldable pub lentRight : World → List ℕ → List ℕ → Bool
 lentRight w ids buffer =
-    eqb (length (w .orders)) storeBytes && eqb (length (w .boxes)) storeBytes && eqb (length ids) idBytes && leb replyRoom (length buffer)
+    eqb (length (w .orders)) storeBytes && eqb (length (w .boxes)) storeBytes && eqb (length ids) idBytes
+    && leb replyRoom (length buffer)
 
 -- a frame arrives at a time: the lent ID bytes, the frame, the reply buffer
 unfoldable pub frameCall : World → ℕ → List ℕ → List ℕ → List ℕ → FrameCall

@@ -62,7 +62,8 @@ fn code_in(fields: Fields) -> u64
 
 // The reply written into the lent buffer.
 fn reply_with(fields: Fields, bytes: &[u8], buffer: &mut [u8]) -> Sent
-    ensures { λ r. ⌜ SentAs fields (now (bytes .entry)) (now (buffer .entry)) (r .answer) (r .code) (now (buffer .exit)) ⌝ }
+    ensures { λ r. ⌜ SentAs fields (now (bytes .entry)) (now (buffer .entry))
+        (r .answer) (r .code) (now (buffer .exit)) ⌝ }
 {
     let written = write(fields, bytes, buffer);
     match written {
@@ -115,7 +116,8 @@ fn respond(
 ) -> FrameOut
     requires { ⌜ (length (now orders) ≡ storeBytes) × (length (now boxes) ≡ storeBytes) ⌝ }
     ensures { λ r. ⌜ frameCallOf r (now (orders .exit)) (now (boxes .exit)) (now (buffer .exit))
-        ≡ replied (respond first (world b (now (orders .entry)) (now (boxes .entry))) q (now (bytes .entry))) (now (buffer .entry)) ⌝ }
+        ≡ replied (respond first (world b (now (orders .entry)) (now (boxes .entry))) q (now (bytes .entry)))
+        (now (buffer .entry)) ⌝ }
 {
     let s = step(b, first, q, bytes, orders, boxes);
     let bank = s.bank;
@@ -155,7 +157,9 @@ pub fn frame_arrives(
     boxes: &mut [u8],
     buffer: &mut [u8],
 ) -> FrameOut
-    ensures { λ r. ⌜ frameCallOf r (now (orders .exit)) (now (boxes .exit)) (now (buffer .exit)) ≡ frameCall (world b (now (orders .entry)) (now (boxes .entry))) time (now (ids .entry)) (now (frame .entry)) (now (buffer .entry)) ⌝ }
+    ensures { λ r. ⌜ frameCallOf r (now (orders .exit)) (now (boxes .exit)) (now (buffer .exit))
+        ≡ frameCall (world b (now (orders .entry)) (now (boxes .entry)))
+        time (now (ids .entry)) (now (frame .entry)) (now (buffer .entry)) ⌝ }
 {
     if !lent_right(orders.len(), boxes.len(), ids.len(), buffer.len()) {
         return FrameOut {

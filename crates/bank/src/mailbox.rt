@@ -83,8 +83,10 @@ fn judge_file(b: Bank, mailbox: u64, file: &[u8], boxes: &[u8]) -> FileAnswer
 
 // The file is written into the mailbox.
 fn store_file(b: Bank, mailbox: u64, file: &[u8], boxes: &mut [u8]) -> FileOut
-    requires { ⌜ (0 < mailbox) × (mailbox ≤ subscribers) × (length (now file) ≤ fileBytes) × (length (now boxes) ≡ storeBytes) ⌝ }
-    ensures { λ r. ⌜ fileCallOf r (now (boxes .exit)) ≡ carryOutFile Done b mailbox (now (file .entry)) (now (boxes .entry)) ⌝ }
+    requires { ⌜ (0 < mailbox) × (mailbox ≤ subscribers)
+        × (length (now file) ≤ fileBytes) × (length (now boxes) ≡ storeBytes) ⌝ }
+    ensures { λ r. ⌜ fileCallOf r (now (boxes .exit))
+        ≡ carryOutFile Done b mailbox (now (file .entry)) (now (boxes .entry)) ⌝ }
 {
     let m = (mailbox - 1) as usize;
     append(boxes, m * FILE_BYTES, file);

@@ -36,9 +36,11 @@ ghost use Rattle.frame_table.specs.Names.{subscriber, form};
 ghost use Rattle.message.specs.Limits.{subscribers};
 ghost use Rattle.bank_state.specs.Limits.{placeCount, storeBytes};
 ghost use Rattle.bank_state.specs.State.{world, downloadAt, withDownload};
-ghost use Rattle.bank_verdicts.specs.Judgement.{judgeOpening, uploadAt, downloadOf, judgeTransaction, judgeRequest, judgeForm, judge};
+ghost use Rattle.bank_verdicts.specs.Judgement.{judgeOpening, uploadAt, downloadOf, judgeTransaction};
+ghost use Rattle.bank_verdicts.specs.Judgement.{judgeRequest, judgeForm, judge};
 ghost use Rattle.bank_downloads.specs.Downloads.{downloadAfter};
-ghost use Rattle.bank.specs.Call.{without, emptied, onDownload, uploadVerdict, downloadVerdict, CarriedOut, Ready};
+ghost use Rattle.bank.specs.Call.{without, emptied, onDownload, uploadVerdict, downloadVerdict};
+ghost use Rattle.bank.specs.Call.{CarriedOut, Ready};
 
 // The bank after a request, and the verdict on it.
 pub struct Stepped {
@@ -48,7 +50,8 @@ pub struct Stepped {
 
 // An opening of an upload.
 fn upload_opening(b: Bank, first: u64, q: Fields) -> Stepped
-    ensures { λ r. ⌜ ((o m d : List ℕ) → CarriedOut (judgeOpening Direction.Upload first b q) (world b o m) q d r o m) ⌝ }
+    ensures { λ r. ⌜ ((o m d : List ℕ) →
+        CarriedOut (judgeOpening Direction.Upload first b q) (world b o m) q d r o m) ⌝ }
 {
     let verdict = judge_opening(b, Direction::Upload, first, q);
     match verdict {
@@ -62,7 +65,8 @@ fn upload_opening(b: Bank, first: u64, q: Fields) -> Stepped
 
 // An opening of a download.
 fn download_opening(b: Bank, first: u64, q: Fields) -> Stepped
-    ensures { λ r. ⌜ ((o m d : List ℕ) → CarriedOut (judgeOpening Direction.Download first b q) (world b o m) q d r o m) ⌝ }
+    ensures { λ r. ⌜ ((o m d : List ℕ) →
+        CarriedOut (judgeOpening Direction.Download first b q) (world b o m) q d r o m) ⌝ }
 {
     let verdict = judge_opening(b, Direction::Download, first, q);
     match verdict {
@@ -126,7 +130,8 @@ fn without(b: Bank, which: Ended) -> Bank
 // A subscriber's mailbox is emptied, and its downloads end.
 fn emptied(b: Bank, subscriber: u64, boxes: &mut [u8]) -> Bank
     requires { ⌜ (0 < subscriber) × (subscriber ≤ subscribers) × (length (now boxes) ≡ storeBytes) ⌝ }
-    ensures { λ r. ⌜ ((o : List ℕ) → world r o (now (boxes .exit)) ≡ emptied subscriber (world b o (now (boxes .entry)))) ⌝ }
+    ensures { λ r. ⌜ ((o : List ℕ) → world r o (now (boxes .exit))
+        ≡ emptied subscriber (world b o (now (boxes .entry)))) ⌝ }
 {
     let m = mailbox_of(subscriber);
     let mut c = without(b, Ended::Mailbox(subscriber));
@@ -186,7 +191,8 @@ fn on_transaction(
 ) -> Stepped
     requires { ⌜ Ready q (now orders) (now boxes) ⌝ }
     ensures { λ r. ⌜ CarriedOut (judgeTransaction asked b q (length (now (bytes .entry))))
-        (world b (now (orders .entry)) (now (boxes .entry))) q (now (bytes .entry)) r (now (orders .exit)) (now (boxes .exit)) ⌝ }
+        (world b (now (orders .entry)) (now (boxes .entry))) q (now (bytes .entry))
+        r (now (orders .exit)) (now (boxes .exit)) ⌝ }
 {
     let i = find_upload(b, q.subscriber(), q.transaction());
     if i < PLACES {
@@ -214,7 +220,8 @@ fn by_request(
 ) -> Stepped
     requires { ⌜ Ready q (now orders) (now boxes) ⌝ }
     ensures { λ r. ⌜ CarriedOut (judgeRequest request first b q (length (now (bytes .entry))))
-        (world b (now (orders .entry)) (now (boxes .entry))) q (now (bytes .entry)) r (now (orders .exit)) (now (boxes .exit)) ⌝ }
+        (world b (now (orders .entry)) (now (boxes .entry))) q (now (bytes .entry))
+        r (now (orders .exit)) (now (boxes .exit)) ⌝ }
 {
     match request {
         RequestForm::UploadOpening => upload_opening(b, first, q),
@@ -256,7 +263,8 @@ fn by_form(
 ) -> Stepped
     requires { ⌜ Ready q (now orders) (now boxes) ⌝ }
     ensures { λ r. ⌜ CarriedOut (judgeForm (form q) first b q (length (now (bytes .entry))))
-        (world b (now (orders .entry)) (now (boxes .entry))) q (now (bytes .entry)) r (now (orders .exit)) (now (boxes .exit)) ⌝ }
+        (world b (now (orders .entry)) (now (boxes .entry))) q (now (bytes .entry))
+        r (now (orders .exit)) (now (boxes .exit)) ⌝ }
 {
     let form = q.form();
     match form {
@@ -283,7 +291,8 @@ pub(crate) fn step(
 ) -> Stepped
     requires { ⌜ (length (now orders) ≡ storeBytes) × (length (now boxes) ≡ storeBytes) ⌝ }
     ensures { λ r. ⌜ CarriedOut (judge first b q (length (now (bytes .entry))))
-        (world b (now (orders .entry)) (now (boxes .entry))) q (now (bytes .entry)) r (now (orders .exit)) (now (boxes .exit)) ⌝ }
+        (world b (now (orders .entry)) (now (boxes .entry))) q (now (bytes .entry))
+        r (now (orders .exit)) (now (boxes .exit)) ⌝ }
 {
     if !is_request_form(q.form()) {
         return Stepped {

@@ -1,4 +1,4 @@
--- `code_in` meets its contract. Assumes nothing.
+-- Only a reply's fields have a return code. Assumes nothing.
 use mathlib.Core.Path.{sym, ap, _∙_}
 use Rattle.frame_table.specs.Table.{isReplyForm}
 use Rattle.bank.proofs.call.code_in.Statement.{statement}

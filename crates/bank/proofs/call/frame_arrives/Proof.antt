@@ -1,4 +1,4 @@
--- `frame_arrives` meets its contract. Assumes nothing.
+-- Number 1 where a lent length is wrong; else clock, reading and step, as the definition has them. Assumes nothing.
 use mathlib.Core.Path.{_≡_, sym, _∙_}
 use native.Mathlib.Omega.{arith}
 use lib.ListN.{length}
@@ -16,7 +16,8 @@ right : (c : tie.Else1)
     (length (a .orders .now) ≡ storeBytes) × (length (a .boxes .now) ≡ storeBytes) × (length (a .ids .now) ≡ idBytes)
 right c =
     let buffer = c .before .before .before .before .before .before .before .args .buffer .now in
-    lengths-right _ _ _ (length buffer) (sym (c .before .lent-right .ensures) ∙ not-false (c .before .lent-right .result) (c .if1 .left))
+    let right = not-false (c .before .lent-right .result) (c .if1 .left) in
+    lengths-right _ _ _ (length buffer) (sym (c .before .lent-right .ensures) ∙ right)
 
 returns : tie.Need-returns
 unfolding frameCall lentRight

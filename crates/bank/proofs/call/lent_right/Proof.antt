@@ -1,4 +1,4 @@
--- `lent_right` meets its contract. Assumes nothing.
+-- The lengths are looked at in the definition's order. Assumes nothing.
 use Rattle.octets.proofs.Tests.{tests}
 use Rattle.bank.proofs.call.lent_right.Statement.{statement}
 use Rattle.bank.proofs.call.lent_right.Tie as tie

@@ -1,4 +1,4 @@
--- `reply_with` meets its contract. Assumes nothing.
+-- What was written is read back, so the code carried beside it is the reply's. Assumes nothing.
 use mathlib.Core.Path.{_≡_, sym, ap, _∙_}
 use lib.ListN.{length, length-map}
 use borrow.Author.Needs.{needs}
@@ -11,8 +11,10 @@ use Rattle.bank.proofs.call.reply_with.Tie as tie
 -- both arrays of the fields are whole
 long : (c : tie.Start) → Sized (c .args .fields)
 long c =
-    let g = c .good .0 .1 .1 .1 in
-    (sym (length-map (c .args .fields .high) _) ∙ g .0 .1 .0 .1, sym (length-map (c .args .fields .low) _) ∙ g .1 .0 .1 .0 .1)
+    let g = c .good .0 .1 .1 .1 in (
+      sym (length-map (c .args .fields .high) _) ∙ g .0 .1 .0 .1,
+      sym (length-map (c .args .fields .low) _) ∙ g .1 .0 .1 .0 .1,
+    )
 
 returns : tie.Need-returns
 returns c =

@@ -1,4 +1,4 @@
--- The verdict is carried out, and the reply is read off it: where it carries a segment, the mailboxes are as before. Assumes nothing.
+-- The verdict is carried out, the reply read off it: where it has data, the mailboxes are as before. Assumes nothing.
 use Rattle.bank_state.specs.State.{world}
 use Rattle.bank_verdicts.specs.Judgement.{judge}
 use lib.ListN.{length}
@@ -16,7 +16,8 @@ returns c =
     let a = at-step .before .before .before .before .before .before .before .args in
     let w = world (a .b) (a .orders .now) (a .boxes .now) in
     let step = at-step .step .ensures in
-    replied-by (judge (a .first) (a .b) (a .q) (length (a .bytes .now))) w (a .q) (a .bytes .now) (step .judged) (step .done)
+    let v = judge (a .first) (a .b) (a .q) (length (a .bytes .now)) in
+    replied-by v w (a .q) (a .bytes .now) (step .judged) (step .done)
     (at-reply .reply .ensures _)
 
 pub respond-spec : {M : Type 1} → statement M

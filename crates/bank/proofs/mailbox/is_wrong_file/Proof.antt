@@ -1,4 +1,4 @@
--- `is_wrong_file` meets its contract. Assumes nothing.
+-- One bound is looked at after the other. Assumes nothing.
 use Rattle.octets.proofs.Tests.{tests}
 use Rattle.bank.proofs.mailbox.is_wrong_file.Statement.{statement}
 use Rattle.bank.proofs.mailbox.is_wrong_file.Tie as tie

@@ -1,4 +1,4 @@
--- `judge_file` meets its contract: row by row. Assumes nothing.
+-- The tests go from top to bottom, each that fails leaves the list shorter. Assumes nothing.
 use mathlib.Core.Path.{_≡_, sym, _∙_}
 use Prim.Native.Nat.{ℕ}
 use lib.ListN.{length, drop}

@@ -1,4 +1,4 @@
--- `put_file` meets its contract. Assumes nothing.
+-- The verdict is judged, and only a file that fits is stored. Assumes nothing.
 use mathlib.Core.Path.{_≡_, refl, sym, _∙_}
 use Prim.Native.Nat.{ℕ}
 use mathlib.Core.List.{List, [], _∷_}
@@ -30,7 +30,8 @@ store-file-requires : tie.Need-store-file-requires
 store-file-requires c κs =
     let at-judge = c .before .before .before in
     let a = at-judge .before .before .before .before .args in
-    file-fits (a .b) (a .mailbox) (a .file .now) (a .boxes .now) (sym (at-judge .judge-file .ensures) ∙ c .before .enum-told .given .1)
+    let told = sym (at-judge .judge-file .ensures) ∙ c .before .enum-told .given .1 in
+    file-fits (a .b) (a .mailbox) (a .file .now) (a .boxes .now) told
 
 returns : tie.Need-returns
 unfolding fileCall

@@ -1,4 +1,4 @@
--- `store_file` meets its contract. Assumes nothing.
+-- The file is written over the mailbox's first bytes, and its length kept. Assumes nothing.
 use borrow.Author.Needs.{needs}
 use Rattle.bank.proofs.mailbox.store_file.Statement.{statement}
 use Rattle.bank.proofs.mailbox.store_file.Tie as tie

@@ -14,7 +14,8 @@ open-download-requires : tie.Need-open-download-requires
 open-download-requires c κs =
     let at-judge = c .before .before .before in
     let a = at-judge .before .args in
-    opens (a .first) (a .b) (a .q) direction.Download (sym (at-judge .judge-opening .ensures) ∙ c .before .verdict .given .1) .numbers
+    let told = sym (at-judge .judge-opening .ensures) ∙ c .before .verdict .given .1 in
+    opens (a .first) (a .b) (a .q) direction.Download told .numbers
 
 returns : tie.Need-returns
 returns c =
@@ -25,7 +26,9 @@ returns c =
     let told = sym (at-judge .judge-opening .ensures) ∙ at-verdict .verdict .given .1 in
     record {
       judged = sym told;
-      done = ap (λ (b : Bank). world b o m) (c .open-download .ensures) ∙ download-opened (a .first) (a .b) (a .q) o m d told;
+      done =
+          ap (λ (b : Bank). world b o m) (c .open-download .ensures)
+          ∙ download-opened (a .first) (a .b) (a .q) o m d told;
     }
 
 returns-2 : tie.Need-returns-2

@@ -35,7 +35,8 @@ returns-3 c =
     λ o.
     let at-emptied = c .before .before in
     let at-subscriber = at-emptied .before .before in
-    rw (at-subscriber .before .enum-told3 .given .1, ← at-subscriber .subscriber3 .ensures) (at-emptied .emptied .ensures o)
+    rw (at-subscriber .before .enum-told3 .given .1, ← at-subscriber .subscriber3 .ensures)
+    (at-emptied .emptied .ensures o)
 
 returns-4 : tie.Need-returns-4
 returns-4 c =

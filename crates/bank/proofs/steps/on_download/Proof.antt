@@ -37,7 +37,8 @@ returns c =
     let w = world (a .t1) o (a .boxes .now) in
     let e = downloadAt (a .t1) (a .j) in
     let count =
-    at-count .mailbox-segments .ensures ∙ ap (λ (s : ℕ). mailboxSegments s (a .t1)) (at-count .before .subscriber .ensures) in
+    at-count .mailbox-segments .ensures
+    ∙ ap (λ (s : ℕ). mailboxSegments s (a .t1)) (at-count .before .subscriber .ensures) in
     let step =
     at-step .download-step .ensures ∙ ap (λ (n : ℕ). downloadStep (a .t1 .clock) (a .asked) e n (a .q)) count in
     record {

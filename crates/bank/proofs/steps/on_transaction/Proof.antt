@@ -16,7 +16,8 @@ upload-found c = c .find-upload .ensures ∙ rw (c .before .transaction .ensures
 download-found : (c : tie.After-find-download)
     → let a = c .before .before .before .before .before .before .before .before .before .before .args in
     c .find-download .result ≡ downloadOf (a .b) (a .q)
-download-found c = c .find-download .ensures ∙ rw (c .before .transaction2 .ensures, c .before .before .subscriber2 .ensures)
+download-found c =
+    c .find-download .ensures ∙ rw (c .before .transaction2 .ensures, c .before .before .subscriber2 .ensures)
 
 on-upload-requires : tie.Need-on-upload-requires
 on-upload-requires c κs =
@@ -30,7 +31,8 @@ returns c =
     let at-if1 = at-step .before .before in
     let at-find = at-if1 .before in
     let a = at-find .before .before .before .before .before .before .args in
-    rw (in-upload (a .asked) (a .b) (a .q) (length (a .bytes .now)) (upload-found at-find) (at-if1 .if1 .taken)) (at-step .on-upload .ensures _)
+    let n = length (a .bytes .now) in
+    rw (in-upload (a .asked) (a .b) (a .q) n (upload-found at-find) (at-if1 .if1 .taken)) (at-step .on-upload .ensures _)
 
 on-download-requires : tie.Need-on-download-requires
 on-download-requires c κs =
@@ -45,7 +47,9 @@ returns-2 c =
     let at-find = at-if2 .before in
     let at-if1 = at-find .before .before .before in
     let a = at-if1 .before .before .before .before .before .before .before .args in
-    rw (in-download (a .asked) (a .b) (a .q) (length (a .bytes .now)) (upload-found (at-if1 .before)) (at-if1 .if1 .left) (download-found at-find) (at-if2 .if2 .taken))
+    let no-upload = at-if1 .if1 .left in
+    let found = in-download (a .asked) (a .b) (a .q) (length (a .bytes .now)) (upload-found (at-if1 .before)) no-upload in
+    rw (found (download-found at-find) (at-if2 .if2 .taken))
     (at-step .on-download .ensures _ _)
 
 returns-3 : tie.Need-returns-3
@@ -53,7 +57,9 @@ returns-3 c =
     let at-find = c .before in
     let at-if1 = at-find .before .before .before in
     let a = at-if1 .before .before .before .before .before .before .before .args in
-    rw (in-none (a .asked) (a .b) (a .q) (length (a .bytes .now)) (upload-found (at-if1 .before)) (at-if1 .if1 .left) (download-found at-find) (c .if2 .left))
+    let no-upload = at-if1 .if1 .left in
+    let found = in-none (a .asked) (a .b) (a .q) (length (a .bytes .now)) (upload-found (at-if1 .before)) no-upload in
+    rw (found (download-found at-find) (c .if2 .left))
     (record { judged = refl; done = refl })
 
 pub on-transaction-spec : {M : Type 1} → statement M

@@ -20,7 +20,8 @@ readable c =
     (not-false (c .before .is-request-form .result) (c .if1 .left))
 
 -- it is one of a subscriber
-known : (c : tie.Else2) → noSubscriber (c .before .before .before .before .before .before .before .before .before .args .q) ≡ false
+known : (c : tie.Else2)
+    → noSubscriber (c .before .before .before .before .before .before .before .before .before .args .q) ≡ false
 unfolding noSubscriber
 known c = rw (← c .before .before .subscriber .ensures, ← c .before .is-no-mailbox .ensures) (c .if2 .left)
 
@@ -65,7 +66,8 @@ returns-4 c =
     let at-if3 = at-step .before .before .before in
     let at-if1 = at-if3 .before .before .before .before in
     let start = at-if1 .before .before .before .before .before .before in
-    rw (readable at-if1, known (at-if3 .before), le-ltb segmentBytes (length (start .args .bytes .now)) (at-if3 .if3 .left))
+    let short = le-ltb segmentBytes (length (start .args .bytes .now)) (at-if3 .if3 .left) in
+    rw (readable at-if1, known (at-if3 .before), short)
     (at-step .by-form .ensures)
 
 pub step-spec : {M : Type 1} → statement M
