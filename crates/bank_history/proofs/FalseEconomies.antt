@@ -12,16 +12,16 @@ use Rattle.frame_table.specs.declared.fields.Bits128.{Bits128}
 use Rattle.frame_table.specs.declared.fields.Fields.{Fields}
 use Rattle.frame_table.specs.declared.table.Form.{Form}
 use Rattle.frame_table.specs.declared.table.Form.the-variants as forms
-use Rattle.frame_table.specs.Names.{phase, subscriber, orderType, nonce, timestamp, segments, transaction, lastMark, returnCode, form, sameBits}
+use Rattle.frame_table.specs.Names.{phase, subscriber, orderType, nonce, timestamp, segments, transaction, segment, lastMark, returnCode, form, sameBits}
 use Rattle.frame_table.specs.Table.{isRequestForm}
 use Rattle.frame_table.proofs.Forms.{phaseOf, request-phase, request-form}
-use Rattle.octets.proofs.Tests.{never, and-true, or-right}
+use Rattle.octets.proofs.Tests.{never, or-left, or-right}
 use Rattle.frame_table.proofs.Bits.{bits-same}
 use Rattle.octets.specs.Bytes.{number}
 use Rattle.message.specs.declared.codes.ReturnCode.{ReturnCode}
 use Rattle.message.specs.declared.codes.ReturnCode.the-variants as code
 use Rattle.message.specs.Codes.{codeField}
-use Rattle.message.specs.Limits.{ful, fdl, segmentsMost}
+use Rattle.message.specs.Limits.{ful, fdl, segmentsMost, initialisation, transfer}
 use Rattle.message.specs.Replies.{uploadOpened, downloadOpened, segmentTaken, recoveryPoint, downloadSegment, receiptAnswered, refusal}
 use Rattle.bank_state.specs.declared.state.Bank.{Bank}
 use Rattle.bank_state.specs.Clock.{advanced}
@@ -53,6 +53,8 @@ use Rattle.bank_history.specs.History.{
   pastOf,
   opens,
   isOpening,
+  isUploadOpening,
+  isDownloadOpening,
   isTaking,
   isBooking,
   did,
@@ -60,8 +62,8 @@ use Rattle.bank_history.specs.History.{
   atOpening,
   openedBy,
 }
-use Rattle.bank_history.specs.Sound.{SoundUploadAction, SoundDownloadAction, SoundAction, SoundVerdict, AllSound, more}
-use Rattle.bank_history.specs.FalseEconomies.{Next, WellMadeOpening, Asks, RefusedWith, Opens, Takes, FalseEconomies}
+use Rattle.bank_history.specs.Sound.{SoundUploadPoint, SoundDownloadPoint, SoundUploadAction, SoundDownloadAction, SoundAction, SoundVerdict, AllSound, more}
+use Rattle.bank_history.specs.FalseEconomies.{Next, WellMadeOpening, Asks, RefusedWith, Opens, Takes, RecoveryPoint, FalseEconomies}
 use Rattle.bank_history.proofs.Entries.{opening-own, did-same}
 use Rattle.bank_history.proofs.NextCall.{
   judgedBank,
@@ -78,13 +80,13 @@ use Rattle.bank_history.proofs.NextCall.{
   asked-open,
   unknown-unless,
 }
-use Rattle.bank_history.proofs.Positions.{sound-at, action-sound, one-opening, stands-ever}
+use Rattle.bank_history.proofs.Positions.{sound-at, action-sound, one-opening, ever-stands, stands-ever}
 use Rattle.bank_history.proofs.Remembered.{nonce-remembered}
-use Rattle.bank_history.proofs.SentSegments.{action-in, reply-transaction}
+use Rattle.bank_history.proofs.SentSegments.{action-in, reply-form, reply-transaction}
 use Rattle.bank_history.proofs.IdleHour.{idle-refused}
 use Rattle.bank_history.proofs.SixAttempts.{five-answered, sixth-cancels, attempts-counted}
 use Rattle.bank_history.proofs.Replies.{verdictForm, verdictCode, verdict-form, verdict-code, action-transaction, actionForm}
-use Rattle.bank_history.proofs.Theorems.{history-sound, reply-is, upload-opened, download-opened, segment-taken}
+use Rattle.bank_history.proofs.Theorems.{history-sound, reply-is, upload-opened, download-opened, segment-taken, recovery-point}
 use Rattle.bank_history.proofs.UploadRequests.{verdict-by-form}
 
 -- ---- accepted openings
@@ -297,6 +299,96 @@ phase-kept {calls} {e} n readable noPoint =
       (λ z. noPoint (ap returnCode r ∙ (verdict-code (e .verdict) (e .request) ∙ z))),
     )
 
+-- an opening in both directions there is not
+one-direction : (k : Action) → isUploadOpening k ≡ true → isDownloadOpening k ≡ true → ⊥
+one-direction (action.Upload (up.Opened m)) y z = never z
+one-direction (action.Upload up.Took) y z = never y
+one-direction (action.Upload up.TookLast) y z = never y
+one-direction (action.Upload (up.Point m)) y z = never y
+one-direction (action.Upload (up.Cancelled c)) y z = never y
+one-direction (action.Download (down.Opened m)) y z = never y
+one-direction (action.Download (down.Delivered m)) y z = never y
+one-direction (action.Download (down.SentAgain m)) y z = never y
+one-direction (action.Download (down.Point m)) y z = never y
+one-direction (action.Download down.Cancelled) y z = never y
+one-direction (action.Download down.Confirmed) y z = never y
+one-direction (action.Download down.Declined) y z = never y
+
+either-direction : (k : Action) → (isUploadOpening k ≡ true) ⊎ (isDownloadOpening k ≡ true) → isOpening k ≡ true
+either-direction k (inl z) = or-left (isUploadOpening k) (isDownloadOpening k) z
+either-direction k (inr z) = or-right (isUploadOpening k) (isDownloadOpening k) z
+
+-- t was opened in one direction
+not-both : (t : Bits128) {h : List Exchange} → AllSound h → ever isUploadOpening t h ≡ true → ever isDownloadOpening t h ≡ true → ⊥
+not-both t {h} sound a b =
+    let x = ever-stands isUploadOpening t h a in
+    let y = ever-stands isDownloadOpening t h b in
+    let i = x .3 in
+    let j = y .3 in
+    let e : x .0 ≡ y .0 =
+    one-opening (t .low) sound (x .2) (y .2)
+    (record { id = t; action = i .action; is = i .is; opening = either-direction (i .action) (inl (i .kind)); numbered = refl })
+    (record { id = t; action = j .action; is = j .is; opening = either-direction (j .action) (inr (j .kind)); numbered = refl }) .0 in
+    let u : did isDownloadOpening t (verdict.Of t (i .action)) ≡ true =
+    ap (did isDownloadOpening t) (sym (i .is) ∙ (ap (λ (z : Exchange). z .verdict) e ∙ j .is))
+    ∙ (did-same isDownloadOpening t (j .action) ∙ j .kind) in
+    one-direction (i .action) (i .kind) (sym (did-same isDownloadOpening t (i .action)) ∙ u)
+
+module _ {calls : List BankCall} {e : Exchange} (n : Next calls e) (r : RecoveryPoint e) where
+  abbrev uploads : Verdict
+  uploads = verdict.Of (transaction (e .request)) (action.Upload (up.Point (segment (e .reply))))
+
+  abbrev downloads : Verdict
+  downloads = verdict.Of (transaction (e .request)) (action.Download (down.Point (segment (e .reply))))
+
+  upload-phase-is : e .verdict ≡ uploads → phase (e .reply) ≡ cond (eqb (segment (e .reply)) 0) initialisation transfer
+  unfolding recoveryPoint
+  upload-phase-is own = ap phase (reply-is (all-sound n) newest ∙ ap (λ (v : Verdict). replyTo v (e .request)) own)
+
+  download-phase-is : e .verdict ≡ downloads → phase (e .reply) ≡ cond (eqb (segment (e .reply)) 1) initialisation transfer
+  unfolding recoveryPoint
+  download-phase-is own = ap phase (reply-is (all-sound n) newest ∙ ap (λ (v : Verdict). replyTo v (e .request)) own)
+
+  -- the reply's transaction ID is the request's
+  point-id : {k : Action} → e .verdict ≡ verdict.Of (transaction (e .request)) k → transaction (e .reply) ≡ transaction (e .request)
+  point-id {k} own = reply-transaction (all-sound n) newest own
+      (λ z. let y = reply-form (all-sound n) newest own in let x = r .formed in let w : _≡_ {A = ℕ} 0 1 = cc in omega arith)
+
+  module _ {f : Exchange} {g : List Exchange} (stands : Stands f g (pastOf calls .history)) (same : transaction (f .reply) ≡ transaction (e .reply)) where
+    pub upload-points : form (f .reply) ≡ forms.UploadOpened → phase (e .reply) ≡ cond (eqb (segment (e .reply)) 0) initialisation transfer
+    upload-points z = at (recovery-point (all-sound n) newest (r .formed) (r .coded))
+      where
+        at : ((e .verdict ≡ uploads) × SoundUploadPoint (segment (e .reply)) (transaction (e .request)) e (pastOf calls .history))
+            ⊎ ((e .verdict ≡ downloads) × SoundDownloadPoint (segment (e .reply)) (transaction (e .request)) e (pastOf calls .history)) →
+            phase (e .reply) ≡ cond (eqb (segment (e .reply)) 0) initialisation transfer
+        at (inl p) = upload-phase-is (p .0)
+        at (inr p) =
+            let u = upload-opened (history-sound calls) stands z in
+            let k = action.Upload (up.Opened (u .0)) in
+            absurd (not-both (transaction (e .request)) (history-sound calls)
+            (stands-ever isUploadOpening (transaction (e .request)) stands (record {
+              action = k;
+              is = u .1 ∙ ap (λ (i : Bits128). verdict.Of i k) (same ∙ point-id (p .0));
+              kind = refl;
+            })) (p .1 .opened))
+
+    pub download-points : form (f .reply) ≡ forms.DownloadOpened → phase (e .reply) ≡ cond (eqb (segment (e .reply)) 1) initialisation transfer
+    download-points z = at (recovery-point (all-sound n) newest (r .formed) (r .coded))
+      where
+        at : ((e .verdict ≡ uploads) × SoundUploadPoint (segment (e .reply)) (transaction (e .request)) e (pastOf calls .history))
+            ⊎ ((e .verdict ≡ downloads) × SoundDownloadPoint (segment (e .reply)) (transaction (e .request)) e (pastOf calls .history)) →
+            phase (e .reply) ≡ cond (eqb (segment (e .reply)) 1) initialisation transfer
+        at (inl p) =
+            let u = download-opened (history-sound calls) stands z in
+            let k = action.Download (down.Opened (segments (f .reply))) in
+            absurd (not-both (transaction (e .request)) (history-sound calls) (p .1 .upload .opened)
+            (stands-ever isDownloadOpening (transaction (e .request)) stands (record {
+              action = k;
+              is = u .0 ∙ ap (λ (i : Bits128). verdict.Of i k) (same ∙ point-id (p .0));
+              kind = refl;
+            })))
+        at (inr p) = download-phase-is (p .0)
+
 -- ---- the whole
 
 pub false-economies : FalseEconomies
@@ -309,4 +401,6 @@ false-economies = record {
   sixth = λ n c r. sixth-cancels n c r;
   counted = attempts-counted;
   phases = phase-kept;
+  uploadPoints = λ n r s z same. upload-points n r s same z;
+  downloadPoints = λ n r s z same. download-points n r s same z;
 }

@@ -182,7 +182,7 @@ module _ (x : Exchange) (h : List Exchange) (sound : AllSound (x ∷ h)) (known 
   attempt-shows t (action.Upload up.Took) own z = never z
   attempt-shows t (action.Upload up.TookLast) own z = never z
   attempt-shows t (action.Upload (up.Point m)) own z =
-      point (reply-form sound newest own) (reply-code sound newest own)
+      point (record { formed = reply-form sound newest own; coded = reply-code sound newest own })
       (reply-transaction sound newest own (λ y. let u : _≡_ {A = ℕ} 0 1 = cc in omega arith))
   attempt-shows t (action.Upload (up.Cancelled c)) own z = never z
   attempt-shows t (action.Download (down.Opened m)) own z = never z
@@ -195,7 +195,7 @@ module _ (x : Exchange) (h : List Exchange) (sound : AllSound (x ∷ h)) (known 
       again (reply-form sound newest own) (reply-transaction sound newest own (λ y. let u : _≡_ {A = ℕ} 0 1 = cc in omega arith))
       (old .segmentsSent t (segment (x .reply)) (omega arith) (omega arith))
   attempt-shows t (action.Download (down.Point m)) own z =
-      point (reply-form sound newest own) (reply-code sound newest own)
+      point (record { formed = reply-form sound newest own; coded = reply-code sound newest own })
       (reply-transaction sound newest own (λ y. let u : _≡_ {A = ℕ} 0 1 = cc in omega arith))
   attempt-shows t (action.Download down.Cancelled) own z = never z
   attempt-shows t (action.Download down.Confirmed) own z = never z
@@ -226,7 +226,7 @@ past-tracked (call ∷ calls) =
 -- ---- the number of attempts that the replies show
 
 attempt-did : {t : Bits128} {e : Exchange} {g : List Exchange} → AllSound (e ∷ g) → Attempt t g e → did isAttempt t (e .verdict) ≡ true
-attempt-did {t} {e} {g} sound (point formed coded id) = at (recovery-point sound newest formed coded)
+attempt-did {t} {e} {g} sound (point r id) = at (recovery-point sound newest (r .formed) (r .coded))
   where
     is : (k : Action) → e .verdict ≡ verdict.Of (transaction (e .request)) k → actionForm k ≡ forms.SegmentTaken → isAttempt k ≡ true →
         did isAttempt t (e .verdict) ≡ true

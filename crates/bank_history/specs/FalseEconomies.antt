@@ -81,9 +81,14 @@ pub data Fits (t : Bits128) (g : List Exchange) (e : Exchange) : Type 0 where
   takes : Takes t e → Fits t g e
   delivers : form (e .reply) ≡ forms.DownloadSegment → transaction (e .reply) ≡ t → (Sent t (segment (e .reply)) g → ⊥) → Fits t g e
 
+-- a recovery point: 01 03 08 09 0D with 061101
+pub record RecoveryPoint (e : Exchange) : Type 0 where
+  pub formed : form (e .reply) ≡ forms.SegmentTaken
+  pub coded : returnCode (e .reply) ≡ codeField code.RecoverySync
+
 -- a recovery attempt of t that is answered, after the history g: 061101, or a segment sent again
 pub data Attempt (t : Bits128) (g : List Exchange) (e : Exchange) : Type 0 where
-  point : form (e .reply) ≡ forms.SegmentTaken → returnCode (e .reply) ≡ codeField code.RecoverySync → transaction (e .reply) ≡ t → Attempt t g e
+  point : RecoveryPoint e → transaction (e .reply) ≡ t → Attempt t g e
   again : form (e .reply) ≡ forms.DownloadSegment → transaction (e .reply) ≡ t → Sent t (segment (e .reply)) g → Attempt t g e
 
 -- "Attempts are counted per transaction and never reset": a history has n of them
@@ -123,3 +128,11 @@ pub record FalseEconomies : Type 0 where
   -- "The phase is the request's, but in a recovery point"; the reply to an unreadable request has none
   pub phases : {calls : List BankCall} {e : Exchange} → Next calls e → (form (e .reply) ≡ forms.Unreadable → ⊥) →
       (returnCode (e .reply) ≡ codeField code.RecoverySync → ⊥) → phase (e .reply) ≡ phase (e .request)
+  -- "in a recovery point it is that point's: 1 for segment 0 of an upload, else 2"
+  pub uploadPoints : {calls : List BankCall} {e f : Exchange} {g : List Exchange} → Next calls e → RecoveryPoint e →
+      Stands f g (pastOf calls .history) → form (f .reply) ≡ forms.UploadOpened → transaction (f .reply) ≡ transaction (e .reply) →
+      phase (e .reply) ≡ cond (eqb (segment (e .reply)) 0) initialisation transfer
+  -- "a download's opening delivered segment 1 and counts as phase 1 while only that is delivered"
+  pub downloadPoints : {calls : List BankCall} {e f : Exchange} {g : List Exchange} → Next calls e → RecoveryPoint e →
+      Stands f g (pastOf calls .history) → form (f .reply) ≡ forms.DownloadOpened → transaction (f .reply) ≡ transaction (e .reply) →
+      phase (e .reply) ≡ cond (eqb (segment (e .reply)) 1) initialisation transfer
