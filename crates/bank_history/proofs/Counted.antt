@@ -1,4 +1,5 @@
--- What the columns of an open transaction count, by the history: its recovery attempts, and the clock of its last fitting request.
+-- What the columns of an open transaction count, by the history: its recovery attempts, and the clock of its last fitting
+-- request.
 use Prim.Native.Nat.{ℕ, suc, _+_, _≤_, _<_}
 use mathlib.Core.Bool.{Bool, true, false, cond, _&&_, _||_}
 use mathlib.Core.List.{List, [], _∷_}
@@ -191,7 +192,7 @@ module _ (w : World) (h : List Exchange) (v : Invariant w h) (c : Counted w h) (
       ((j : ℕ) → (j ≡ i → ⊥) → j < placeCount → PlaceCounts g (placeAt (w .bank) j)) → (j : ℕ) → j < placeCount →
       PlaceCounts g (getD (set (w .bank .places) i p) j noPlace)
   place-set g i p inside new others =
-      each-set (w .bank .places) i p noPlace (let l = v .sizes .places in omega arith)
+      each-set (w .bank .places) i p noPlace (let l = v .state .sizes .places in omega arith)
       (λ (j : ℕ) (r : Place). j < placeCount → PlaceCounts g r) (λ _. new) others
 
   download-set : (g : List Exchange) (i : ℕ) (e : Download) → i < length (w .bank .downloads) → DownloadCounts g e →
@@ -217,7 +218,7 @@ module _ (w : World) (h : List Exchange) (v : Invariant w h) (c : Counted w h) (
     old-place j b z = other x h _ _ _ (elsewhere _ (place-counted w h v j b (open-used (placeAt (w .bank) j .used) z) .0)) (c .places j b z)
 
     old-download : (j : ℕ) → DownloadCounts (x ∷ h) (downloadAt (w .bank) j)
-    old-download j z = other x h _ _ _ (elsewhere _ (download-open w h v j z .counted)) (c .downloads j z)
+    old-download j z = other x h _ _ _ (elsewhere _ (download-open w h v j z .0 .counted)) (c .downloads j z)
 
   -- ---- a request to the open upload in place i
 
@@ -319,7 +320,7 @@ module _ (w : World) (h : List Exchange) (v : Invariant w h) (c : Counted w h) (
       let x = entry (verdict.Of t k) w q d in
       record {
         places = old-place t k refl x refl;
-        downloads = download-set (x ∷ h) (freeDownload (w .bank)) _ (free-inside-open (w .bank) (v .sizes .downloads) (g .ofAll))
+        downloads = download-set (x ∷ h) (freeDownload (w .bank)) _ (free-inside-open (w .bank) (v .state .sizes .downloads) (g .ofAll))
             (λ _. opened x h t 0 0 k refl refl refl (new-id t k refl x refl)) (λ j _. old-download t k refl x refl j);
       }
   case-counted first (toUpload r a s) =
@@ -329,7 +330,7 @@ module _ (w : World) (h : List Exchange) (v : Invariant w h) (c : Counted w h) (
       (upload-counted i (s .inside) (upload-found (subscriber q) (transaction q) (placeAt (w .bank) i) (s .found) .0) a
       (upload-goes-on (s .sound)))
   case-counted first (toDownload r a s) =
-      download-counted (let l = v .sizes .downloads in let b = s .inside in omega arith)
+      download-counted (let l = v .state .sizes .downloads in let b = s .inside in omega arith)
       (download-found (subscriber q) (transaction q) _ (s .found) .0) a (download-goes-on (s .sound))
 
 -- ---- after every list of calls
@@ -352,12 +353,12 @@ past-counted (call ∷ calls) =
     (λ time ids frame buffer e z.
     let w = advanced time (p .world) in
     let v = advanced-keeps time (p .world) (p .history) (holds .invariant) in
-    case-counted w (p .history) v (advanced-counted time (p .world) (p .history) (holds .invariant .sizes) c) (readRequest frame)
+    case-counted w (p .history) v (advanced-counted time (p .world) (p .history) (holds .invariant .state .sizes) c) (readRequest frame)
     (dataOf frame) (number ids)
-    (happens (number ids) w (readRequest frame) (dataOf frame) (v .sizes .places) (v .sizes .downloads)))
+    (happens (number ids) w (readRequest frame) (dataOf frame) (v .state .sizes .places) (v .state .sizes .downloads)))
     (λ m f e. record { places = c .places; downloads = c .downloads })
 
 -- the bank as the next request is judged
 pub judged-counted : (calls : List BankCall) (time : ℕ) → Counted (advanced time (pastOf calls .world)) (pastOf calls .history)
 judged-counted calls time =
-    advanced-counted time (pastOf calls .world) (pastOf calls .history) (past-holds calls .invariant .sizes) (past-counted calls)
+    advanced-counted time (pastOf calls .world) (pastOf calls .history) (past-holds calls .invariant .state .sizes) (past-counted calls)

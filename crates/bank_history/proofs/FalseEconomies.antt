@@ -11,7 +11,7 @@ use borrow.Author.Tests.{eq-eqb, ne-eqb, le-ltb}
 use Rattle.frame_table.specs.declared.fields.Bits128.{Bits128}
 use Rattle.frame_table.specs.declared.fields.Fields.{Fields}
 use Rattle.frame_table.specs.declared.table.Form.{Form}
-use Rattle.frame_table.specs.declared.table.Form.the-variants as forms
+use Rattle.frame_table.specs.Forms as forms
 use Rattle.frame_table.specs.Names.{phase, subscriber, orderType, nonce, timestamp, segments, transaction, segment, lastMark, returnCode, form, sameBits}
 use Rattle.frame_table.specs.Table.{isRequestForm}
 use Rattle.frame_table.proofs.Forms.{phaseOf, request-phase, request-form}

@@ -1,4 +1,5 @@
--- A frame call that is answered after a list of calls: the bank as its request is judged, its exchange, its case, and what it leaves.
+-- A frame call that is answered after a list of calls: the bank as its request is judged, its exchange, its case, and
+-- what it leaves.
 use Prim.Native.Nat.{ℕ}
 use mathlib.Core.Bool.{true, false}
 use mathlib.Core.List.{List, [], _∷_}
@@ -10,7 +11,7 @@ use lib.ListN.{length}
 use Rattle.frame_table.specs.declared.fields.Bits128.{Bits128}
 use Rattle.frame_table.specs.declared.fields.Fields.{Fields}
 use Rattle.frame_table.specs.declared.table.Form.{Form}
-use Rattle.frame_table.specs.declared.table.Form.the-variants as forms
+use Rattle.frame_table.specs.Forms as forms
 use Rattle.frame_table.specs.Names.{form, returnCode}
 use Rattle.frame_table.specs.Table.{isRequestForm}
 use Rattle.octets.specs.Bytes.{number}
@@ -137,7 +138,7 @@ module _ {calls : List BankCall} {e : Exchange} (n : Next calls e) where
   pub case-is : Happens (number (n .ids)) judgedBank asked sent (e .verdict)
   case-is =
       subst (Happens (number (n .ids)) judgedBank asked sent) (sym verdict-is)
-      (happens (number (n .ids)) judgedBank asked sent (judged-holds .sizes .places) (judged-holds .sizes .downloads))
+      (happens (number (n .ids)) judgedBank asked sent (judged-holds .state .sizes .places) (judged-holds .state .sizes .downloads))
 
   -- the bank after the call
   pub bank-after : pastOf (Frame (n .time) (n .ids) (n .frame) (n .buffer) ∷ calls) .world ≡ carryOut (e .verdict) judgedBank asked sent

@@ -70,5 +70,5 @@ nonce-remembered {w} {f} {g} {h} v s o recent =
     subst (In (nonceOf f)) (sym (v .memory .held)) (in-left (replicate (nonceCount - length (remembered (w .bank .clock) h)) noNonce) kept) in
     let value : Nonce → Bool = λ (e : Nonce). e .used && sameBits (e .value) (nonce (f .request)) in
     let k : firstOf value (w .bank .nonces) < length (w .bank .nonces) = first-in value (same-bits (nonce (f .request))) held in
-    let l = v .sizes .nonces in
+    let l = v .state .sizes .nonces in
     lt-ltb (firstOf value (w .bank .nonces)) nonceCount (omega arith)

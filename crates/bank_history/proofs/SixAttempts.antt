@@ -1,4 +1,5 @@
--- The first five attempts of a transaction are answered and the sixth cancels: its column of attempts is the number that the replies show.
+-- The first five attempts of a transaction are answered and the sixth cancels: its column of attempts is the number that
+-- the replies show.
 use Prim.Native.Nat.{ℕ, zero, suc, _+_, _≤_, _<_}
 use mathlib.Core.Bool.{Bool, true, false, cond}
 use mathlib.Core.List.{List, [], _∷_}
@@ -8,7 +9,7 @@ use native.Mathlib.Decide.{decLt}
 use native.Mathlib.Omega.{arith}
 use Rattle.frame_table.specs.declared.fields.Bits128.{Bits128}
 use Rattle.frame_table.specs.declared.fields.Fields.{Fields}
-use Rattle.frame_table.specs.declared.table.Form.the-variants as forms
+use Rattle.frame_table.specs.Forms as forms
 use Rattle.frame_table.specs.Names.{subscriber, transaction, segments, segment, returnCode, form}
 use Rattle.octets.proofs.Tests.{never}
 use Rattle.message.specs.declared.codes.ReturnCode.{ReturnCode}
@@ -72,7 +73,7 @@ use Rattle.bank_history.specs.History.{
 }
 use Rattle.bank_history.specs.Sound.{isCancelling, AllSound}
 use Rattle.bank_history.specs.Sound as sounds
-use Rattle.bank_history.specs.Invariant.{OpenUpload, PlaceHolds, Invariant}
+use Rattle.bank_history.specs.Invariant.{OpenPlace, PlaceHolds, Invariant}
 use Rattle.bank_history.specs.FalseEconomies.{Next, RefusedWith, Sent, Attempt, point, again, Attempts}
 use Rattle.bank_history.specs.FalseEconomies as history
 use Rattle.bank_history.proofs.Cases.{
@@ -323,8 +324,9 @@ module _ (w : World) (h : List Exchange) (v : Invariant w h) (c : Counted w h) (
       let p = placeAt (w .bank) i in
       let used = upload-found (subscriber q) (transaction q) p (s .found) .0 in
       let e = c .places i (s .inside) (ap isOpen used) .tries in
-      let o : OpenUpload (w .bank .clock) (w .bank .openings) h p (partAt (w .orders) i) =
-      subst (λ (u : Use). PlaceHolds u (w .bank .clock) (w .bank .openings) h p (partAt (w .orders) i)) used (v .places i (s .inside)) in
+      let o : OpenPlace (w .bank .clock) (w .bank .openings) p (partAt (w .orders) i) =
+      subst (λ (u : Use). PlaceHolds u (w .bank .clock) (w .bank .openings) p (partAt (w .orders) i)) used
+      (v .state .places i (s .inside)) in
       let m = o .tries in
       let f = upload-few (s .sound) in
       ((λ z. let l = f .0 z in omega arith), (λ z. let l = f .1 z in omega arith))
@@ -332,7 +334,7 @@ module _ (w : World) (h : List Exchange) (v : Invariant w h) (c : Counted w h) (
       let j = downloadOf (w .bank) q in
       let used = download-found (subscriber q) (transaction q) (downloadAt (w .bank) j) (s .found) .0 in
       let e = c .downloads j used .tries in
-      let m = download-open w h v j used .tries in
+      let m = download-open w h v j used .0 .tries in
       let f = download-few (s .sound) in
       ((λ z. let l = f .0 z in omega arith), (λ z. let l = f .1 z in omega arith))
 

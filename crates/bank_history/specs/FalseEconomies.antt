@@ -1,5 +1,5 @@
--- Document 01, "False economies", and what else a bank might save: statements on every list of calls to a fresh bank. They are said by
--- requests, replies and the clock; neither a verdict nor the bank's memory is looked at.
+-- Document 01, "False economies", and what else a bank might save: statements on every list of calls to a fresh bank.
+-- They are said by requests, replies and the clock; no verdict and no column of the bank's state is looked at.
 use Prim.Native.Nat.{ℕ, suc, _+_, _≤_, _<_}
 use mathlib.Core.Bool.{cond}
 use mathlib.Core.List.{List, [], _∷_}
@@ -8,12 +8,33 @@ use mathlib.Core.Path.{_≡_}
 use lib.Dec.{eqb}
 use lib.ListN.{length}
 use Rattle.frame_table.specs.declared.fields.Bits128.{Bits128}
-use Rattle.frame_table.specs.declared.table.Form.the-variants as forms
-use Rattle.frame_table.specs.Names.{phase, subscriber, orderType, nonce, timestamp, segments, transaction, segment, lastMark, returnCode, form}
+use Rattle.frame_table.specs.Forms as forms
+use Rattle.frame_table.specs.Names.{
+  phase,
+  subscriber,
+  orderType,
+  nonce,
+  timestamp,
+  segments,
+  transaction,
+  segment,
+  lastMark,
+  returnCode,
+  form,
+}
 use Rattle.message.specs.declared.codes.ReturnCode.{ReturnCode}
 use Rattle.message.specs.declared.codes.ReturnCode.the-variants as code
 use Rattle.message.specs.Codes.{codeField}
-use Rattle.message.specs.Limits.{ful, fdl, subscribers, segmentBytes, segmentsMost, attemptsMost, initialisation, transfer}
+use Rattle.message.specs.Limits.{
+  ful,
+  fdl,
+  subscribers,
+  segmentBytes,
+  segmentsMost,
+  attemptsMost,
+  initialisation,
+  transfer,
+}
 use Rattle.bank_state.specs.Clock.{advanced}
 use Rattle.bank_state.specs.Limits.{window, idleLimit}
 use Rattle.bank_history.specs.History.{Exchange, BankCall, Frame, Stands, pastOf}
@@ -28,7 +49,7 @@ pub record Next (calls : List BankCall) (e : Exchange) : Type 0 where
 
 -- ---- requests
 
--- no request of another sender: "subscriber not 1 to 8", "data over 256 bytes"
+-- a readable request that no line for every request refuses: "subscriber not 1 to 8", "data over 256 bytes"
 pub record WellMade (e : Exchange) : Type 0 where
   pub known : 1 ≤ subscriber (e .request)
   pub most : subscriber (e .request) ≤ subscribers
@@ -79,7 +100,8 @@ pub record Sent (t : Bits128) (n : ℕ) (h : List Exchange) : Type 0 where
 pub data Fits (t : Bits128) (g : List Exchange) (e : Exchange) : Type 0 where
   opens : Opens t e → Fits t g e
   takes : Takes t e → Fits t g e
-  delivers : form (e .reply) ≡ forms.DownloadSegment → transaction (e .reply) ≡ t → (Sent t (segment (e .reply)) g → ⊥) → Fits t g e
+  delivers : form (e .reply) ≡ forms.DownloadSegment → transaction (e .reply) ≡ t → (Sent t (segment (e .reply)) g → ⊥) →
+      Fits t g e
 
 -- a recovery point: 01 03 08 09 0D with 061101
 pub record RecoveryPoint (e : Exchange) : Type 0 where
@@ -89,7 +111,8 @@ pub record RecoveryPoint (e : Exchange) : Type 0 where
 -- a recovery attempt of t that is answered, after the history g: 061101, or a segment sent again
 pub data Attempt (t : Bits128) (g : List Exchange) (e : Exchange) : Type 0 where
   point : RecoveryPoint e → transaction (e .reply) ≡ t → Attempt t g e
-  again : form (e .reply) ≡ forms.DownloadSegment → transaction (e .reply) ≡ t → Sent t (segment (e .reply)) g → Attempt t g e
+  again : form (e .reply) ≡ forms.DownloadSegment → transaction (e .reply) ≡ t → Sent t (segment (e .reply)) g →
+      Attempt t g e
 
 -- "Attempts are counted per transaction and never reset": a history has n of them
 pub data Attempts (t : Bits128) : ℕ → List Exchange → Type 0 where
@@ -100,29 +123,35 @@ pub data Attempts (t : Bits128) : ℕ → List Exchange → Type 0 where
 -- ---- the statements
 
 pub record FalseEconomies : Type 0 where
-  -- "An accepted opening's nonce is remembered, against all subscribers, while its timestamp is at most 300 behind the clock"
-  pub replay : {calls : List BankCall} {e f : Exchange} {g : List Exchange} {t : Bits128} → Next calls e → WellMadeOpening e →
-      Stands f g (pastOf calls .history) → Opens t f → nonce (e .request) ≡ nonce (f .request) → e .clock ≤ timestamp (f .request) + window →
+  -- "An accepted opening's nonce is remembered, against all subscribers, while its timestamp is at most 300 behind the
+  -- clock"
+  pub replay : {calls : List BankCall} {e f : Exchange} {g : List Exchange} {t : Bits128} →
+      Next calls e → WellMadeOpening e → Stands f g (pastOf calls .history) → Opens t f →
+      nonce (e .request) ≡ nonce (f .request) → e .clock ≤ timestamp (f .request) + window →
       RefusedWith code.MessageReplay e
   -- "Accepting another subscriber's transaction ID": it gets 091101, and "beyond clock and drops" nothing changes
-  pub foreign : {calls : List BankCall} {e f : Exchange} {g : List Exchange} {t : Bits128} → (n : Next calls e) → Asks t e →
-      Stands f g (pastOf calls .history) → Opens t f → (subscriber (e .request) ≡ subscriber (f .request) → ⊥) →
+  pub foreign : {calls : List BankCall} {e f : Exchange} {g : List Exchange} {t : Bits128} →
+      (n : Next calls e) → Asks t e → Stands f g (pastOf calls .history) → Opens t f →
+      (subscriber (e .request) ≡ subscriber (f .request) → ⊥) →
       RefusedWith code.UnknownTransaction e
-      × (pastOf (Frame (n .time) (n .ids) (n .frame) (n .buffer) ∷ calls) .world ≡ advanced (n .time) (pastOf calls .world))
+      × (pastOf (Frame (n .time) (n .ids) (n .frame) (n .buffer) ∷ calls) .world
+      ≡ advanced (n .time) (pastOf calls .world))
   -- "Answering a repeated last segment 000000 (the order is closed: 091101)"
   pub closed : {calls : List BankCall} {e f : Exchange} {g : List Exchange} {t : Bits128} → Next calls e → Asks t e →
       Stands f g (pastOf calls .history) → Takes t f → lastMark (f .request) ≡ 1 → RefusedWith code.UnknownTransaction e
-  -- "Letting a recovery attempt refresh the idle hour": where each fitting request of t is more than 3,600 old, whatever attempts came since,
-  -- t is gone
+  -- "Letting a recovery attempt refresh the idle hour": where each fitting request of t is more than 3,600 old, t is gone,
+  -- whatever attempts came since
   pub idle : {calls : List BankCall} {e : Exchange} {t : Bits128} → Next calls e → Asks t e →
-      ((f : Exchange) (g : List Exchange) → Stands f g (pastOf calls .history) → Fits t g f → f .clock + idleLimit < e .clock) →
+      ((f : Exchange) (g : List Exchange) → Stands f g (pastOf calls .history) → Fits t g f →
+      f .clock + idleLimit < e .clock) →
       RefusedWith code.UnknownTransaction e
   -- "The first five get 061101 with k or d (a download segment sent again carries 000000 instead)"
-  pub five : {calls : List BankCall} {e : Exchange} {t : Bits128} {n : ℕ} → Next calls e → Attempts t n (pastOf calls .history) →
-      Attempt t (pastOf calls .history) e → n < attemptsMost
-  -- "the sixth gets 091102", and no other request does
-  pub sixth : {calls : List BankCall} {e : Exchange} {n : ℕ} → Next calls e → Attempts (transaction (e .request)) n (pastOf calls .history) →
-      RefusedWith code.TransactionAbort e → n ≡ attemptsMost
+  pub five : {calls : List BankCall} {e : Exchange} {t : Bits128} {n : ℕ} → Next calls e →
+      Attempts t n (pastOf calls .history) → Attempt t (pastOf calls .history) e → n < attemptsMost
+  -- "the sixth gets 091102": it comes behind five attempts, neither earlier nor later
+  pub sixth : {calls : List BankCall} {e : Exchange} {n : ℕ} → Next calls e →
+      Attempts (transaction (e .request)) n (pastOf calls .history) → RefusedWith code.TransactionAbort e →
+      n ≡ attemptsMost
   -- every history has its number of attempts
   pub counted : (calls : List BankCall) (t : Bits128) → (n : ℕ) × Attempts t n (pastOf calls .history)
   -- "The phase is the request's, but in a recovery point"; the reply to an unreadable request has none
@@ -130,9 +159,11 @@ pub record FalseEconomies : Type 0 where
       (returnCode (e .reply) ≡ codeField code.RecoverySync → ⊥) → phase (e .reply) ≡ phase (e .request)
   -- "in a recovery point it is that point's: 1 for segment 0 of an upload, else 2"
   pub uploadPoints : {calls : List BankCall} {e f : Exchange} {g : List Exchange} → Next calls e → RecoveryPoint e →
-      Stands f g (pastOf calls .history) → form (f .reply) ≡ forms.UploadOpened → transaction (f .reply) ≡ transaction (e .reply) →
+      Stands f g (pastOf calls .history) → form (f .reply) ≡ forms.UploadOpened →
+      transaction (f .reply) ≡ transaction (e .reply) →
       phase (e .reply) ≡ cond (eqb (segment (e .reply)) 0) initialisation transfer
   -- "a download's opening delivered segment 1 and counts as phase 1 while only that is delivered"
   pub downloadPoints : {calls : List BankCall} {e f : Exchange} {g : List Exchange} → Next calls e → RecoveryPoint e →
-      Stands f g (pastOf calls .history) → form (f .reply) ≡ forms.DownloadOpened → transaction (f .reply) ≡ transaction (e .reply) →
+      Stands f g (pastOf calls .history) → form (f .reply) ≡ forms.DownloadOpened →
+      transaction (f .reply) ≡ transaction (e .reply) →
       phase (e .reply) ≡ cond (eqb (segment (e .reply)) 1) initialisation transfer
