@@ -38,22 +38,22 @@ isDone WrongFile = false
 isDone MailboxFull = false
 
 -- a file that goes into a mailbox has room there
-pub file-fits : (b : Bank) (m : ℕ) (file boxes : List ℕ) → decide (fileRefusals b m file boxes) Done ≡ Done
-    → (0 < m) × (m ≤ subscribers) × (length file ≤ fileBytes) × (length boxes ≡ storeBytes)
+pub file-fits : (b : Bank) (m : ℕ) (file mailboxes : List ℕ) → decide (fileRefusals b m file mailboxes) Done ≡ Done
+    → (0 < m) × (m ≤ subscribers) × (length file ≤ fileBytes) × (length mailboxes ≡ storeBytes)
 unfolding fileRefusals
-file-fits b m file boxes h =
-    let failed = all-failed isDone (fileRefusals b m file boxes) Done refl (ap isDone h) in
+file-fits b m file mailboxes h =
+    let failed = all-failed isDone (fileRefusals b m file mailboxes) Done refl (ap isDone h) in
     let n = numbered m (failed 1) in
     let size = or-neither (eqb (length file) 0) (ltb fileBytes (length file)) (failed 2) in
-    let lent = eqb-true (length boxes) storeBytes (not-false _ (failed 0)) in
+    let lent = eqb-true (length mailboxes) storeBytes (not-false _ (failed 0)) in
     (n .0, n .1, ltb-false fileBytes (length file) (size .1), lent)
 
 -- the lent lengths
-pub lengths-right : (orders boxes ids buffer : ℕ)
-    → eqb orders storeBytes && eqb boxes storeBytes && eqb ids idBytes && leb replyRoom buffer ≡ true
-    → (orders ≡ storeBytes) × (boxes ≡ storeBytes) × (ids ≡ idBytes)
-lengths-right orders boxes ids buffer h =
-    let a = and-true (eqb orders storeBytes && eqb boxes storeBytes && eqb ids idBytes) (leb replyRoom buffer) h in
-    let b = and-true (eqb orders storeBytes && eqb boxes storeBytes) (eqb ids idBytes) (a .0) in
-    let stores = and-true (eqb orders storeBytes) (eqb boxes storeBytes) (b .0) in
-    (eqb-true orders storeBytes (stores .0), eqb-true boxes storeBytes (stores .1), eqb-true ids idBytes (b .1))
+pub lengths-right : (orders mailboxes ids buffer : ℕ)
+    → eqb orders storeBytes && eqb mailboxes storeBytes && eqb ids idBytes && leb replyRoom buffer ≡ true
+    → (orders ≡ storeBytes) × (mailboxes ≡ storeBytes) × (ids ≡ idBytes)
+lengths-right orders mailboxes ids buffer h =
+    let a = and-true (eqb orders storeBytes && eqb mailboxes storeBytes && eqb ids idBytes) (leb replyRoom buffer) h in
+    let b = and-true (eqb orders storeBytes && eqb mailboxes storeBytes) (eqb ids idBytes) (a .0) in
+    let stores = and-true (eqb orders storeBytes) (eqb mailboxes storeBytes) (b .0) in
+    (eqb-true orders storeBytes (stores .0), eqb-true mailboxes storeBytes (stores .1), eqb-true ids idBytes (b .1))

@@ -14,8 +14,8 @@ use Rattle.message.specs.declared.codes.ReturnCode.the-variants as code
 use Rattle.bank_state.specs.declared.state.Bank.{Bank}
 use Rattle.bank_state.specs.declared.state.Download.{Download}
 use Rattle.bank_state.specs.declared.state.Place.{Place}
-use Rattle.bank_state.specs.Limits.{placeCount, openingsMost}
-use Rattle.bank_state.specs.State.{World, world, placeAt, downloadAt, withPlace}
+use Rattle.bank_state.specs.Limits.{placeCount, maxOpenings}
+use Rattle.bank_state.specs.State.{BankState, bankState, placeAt, downloadAt, withPlace}
 use Rattle.bank_state.specs.Store.{partAt, withPart}
 use Rattle.bank_verdicts.specs.declared.verdict.Action.{Action}
 use Rattle.bank_verdicts.specs.declared.verdict.Action.the-variants as action
@@ -43,7 +43,7 @@ use Rattle.bank.specs.Call.{onUpload, uploadActs, staying, onDownload, d
 use Rattle.bank.specs.Call.{uploadVerdict, downloadVerdict, mailboxSegment, stepBy, SentAs, FrameCall, frameNumber, replied}
 
 -- a verdict whose reply carries a segment leaves the mailboxes and their lengths
-pub same-segment : (v : Verdict) (w : World) (q : Fields) (d : List ℕ) (s : ℕ) →
+pub same-segment : (v : Verdict) (w : BankState) (q : Fields) (d : List ℕ) (s : ℕ) →
     mailboxSegment (carryOut v w q d) s (segmentIn v q) ≡ mailboxSegment w s (segmentIn v q)
 unfolding mailboxSegment openDownload counted
 same-segment verdict.Unreadable w q d s = refl
@@ -62,7 +62,7 @@ abbrev ofNoneKeys : List ℕ
 ofNoneKeys = 0 ∷ 1 ∷ []
 
 -- they change nothing
-pub of-none : (v : Verdict) (w : World) (q : Fields) (d : List ℕ) →
+pub of-none : (v : Verdict) (w : BankState) (q : Fields) (d : List ℕ) →
     OneOf ofNoneKeys (tagOf the-type v) → w ≡ carryOut v w q d
 of-none verdict.Unreadable w q d k = refl
 of-none (verdict.Refused c) w q d k = refl
@@ -71,7 +71,7 @@ of-none (verdict.Of t a) w q d k = absurd (miss ofNoneKeys 2 tt k)
 -- ---- an opening of a transaction
 
 pub record Opens (first : ℕ) (b : Bank) (q : Fields) (dir : Direction) (v : Verdict) : Type 0 where
-  pub numbers : b .openings < openingsMost
+  pub numbers : b .openings < maxOpenings
   pub verdict : v ≡ accepted dir first b q
 
 module _ (first : ℕ) (b : Bank) (q : Fields) {t : Bits128} {a : Action} where
@@ -87,26 +87,26 @@ module _ (first : ℕ) (b : Bank) (q : Fields) {t : Bits128} {a : Action} where
 
   module _ (o m d : List ℕ) where
     pub upload-opened : judgeOpening direction.Upload first b q ≡ verdict.Of t a
-        → world (openUpload t (b .openings) q b) o m
-        ≡ carryOut (judgeOpening direction.Upload first b q) (world b o m) q d
+        → bankState (openUpload t (b .openings) q b) o m
+        ≡ carryOut (judgeOpening direction.Upload first b q) (bankState b o m) q d
     upload-opened e =
         let known = opens direction.Upload e .verdict in
         let same : t ≡ transactionOf first b = cc in
-        ap (λ (id : Bits128). world (openUpload id (b .openings) q b) o m) same
-        ∙ sym (ap (λ (v : Verdict). carryOut v (world b o m) q d) known)
+        ap (λ (id : Bits128). bankState (openUpload id (b .openings) q b) o m) same
+        ∙ sym (ap (λ (v : Verdict). carryOut v (bankState b o m) q d) known)
 
     pub download-opened : judgeOpening direction.Download first b q ≡ verdict.Of t a
-        → world (openDownload t q b) o m
-        ≡ carryOut (judgeOpening direction.Download first b q) (world b o m) q d
+        → bankState (openDownload t q b) o m
+        ≡ carryOut (judgeOpening direction.Download first b q) (bankState b o m) q d
     download-opened e =
         let known = opens direction.Download e .verdict in
         let same : t ≡ transactionOf first b = cc in
-        ap (λ (id : Bits128). world (openDownload id q b) o m) same
-        ∙ sym (ap (λ (v : Verdict). carryOut v (world b o m) q d) known)
+        ap (λ (id : Bits128). bankState (openDownload id q b) o m) same
+        ∙ sym (ap (λ (v : Verdict). carryOut v (bankState b o m) q d) known)
 
 -- ---- a request to an open transaction opens none
 
-module _ (t : Bits128) (w : World) (q : Fields) (d : List ℕ) where
+module _ (t : Bits128) (w : BankState) (q : Fields) (d : List ℕ) where
   upload-acts-by : (r : TransactionRequest) (p : Place) (n : ℕ) (a : UploadAction) → UploadSound r p q n a →
       uploadActs a t w q d ≡ onUpload a (uploadAt (w .bank) q) w d
   upload-acts-by r p n a (sound.took fits other mark room) = refl
@@ -135,16 +135,16 @@ module _ (t : Bits128) (w : World) (q : Fields) (d : List ℕ) where
   download-acts r e n = download-acts-by r e n (judgeDownload r e n q) (judged-download e n q r)
 
 -- the step of the upload in place i, put back
-pub landed : (i : ℕ) (w : World) (r : TransactionRequest) (q : Fields) (d : List ℕ) {s : UploadStep}
+pub landed : (i : ℕ) (w : BankState) (r : TransactionRequest) (q : Fields) (d : List ℕ) {s : UploadStep}
     → s ≡ uploadStep (w .bank .clock) r (placeAt (w .bank) i) q d (partAt (w .orders) i)
-    → world (withPlace i (s .place) (w .bank)) (withPart (w .orders) i (s .bytes)) (w .boxes)
+    → bankState (withPlace i (s .place) (w .bank)) (withPart (w .orders) i (s .bytes)) (w .mailboxes)
     ≡ onUpload (judgeUpload r (placeAt (w .bank) i) q (length d)) i w d
 unfolding uploadStep
 landed i w r q d h =
-    ap (λ (s : UploadStep). world (withPlace i (s .place) (w .bank)) (withPart (w .orders) i (s .bytes)) (w .boxes)) h
+    ap (λ (s : UploadStep). bankState (withPlace i (s .place) (w .bank)) (withPart (w .orders) i (s .bytes)) (w .mailboxes)) h
 
 -- what a request to the open transaction that was found does
-pub upload-acts-at : (i : ℕ) (w : World) (r : TransactionRequest) (q : Fields) (d : List ℕ) → i ≡ uploadAt (w .bank) q
+pub upload-acts-at : (i : ℕ) (w : BankState) (r : TransactionRequest) (q : Fields) (d : List ℕ) → i ≡ uploadAt (w .bank) q
     → onUpload (judgeUpload r (placeAt (w .bank) i) q (length d)) i w d
     ≡ carryOut (uploadVerdict r i (w .bank) q (length d)) w q d
 upload-acts-at i w r q d e =
@@ -152,7 +152,7 @@ upload-acts-at i w r q d e =
     ap (λ (k : ℕ). onUpload (judgeUpload r p q (length d)) k w d) e
     ∙ sym (upload-acts (p .transaction) w q d r p (length d))
 
-pub download-acts-at : (j : ℕ) (w : World) (r : TransactionRequest) (q : Fields) (d : List ℕ)
+pub download-acts-at : (j : ℕ) (w : BankState) (r : TransactionRequest) (q : Fields) (d : List ℕ)
     → j ≡ downloadOf (w .bank) q → let e = downloadAt (w .bank) j in
     onDownload (judgeDownload r e (mailboxSegments (subscriber q) (w .bank)) q) j w q
     ≡ carryOut (downloadVerdict r j (w .bank) q) w q d
@@ -165,7 +165,7 @@ download-acts-at j w r q d e =
 abbrev stayingKeys : List ℕ
 stayingKeys = 0 ∷ 1 ∷ 2 ∷ 3 ∷ []
 
-pub stays : (a : DownloadAction) (j : ℕ) (w : World) (q : Fields) → OneOf stayingKeys (tagOf actions.the-type a)
+pub stays : (a : DownloadAction) (j : ℕ) (w : BankState) (q : Fields) → OneOf stayingKeys (tagOf actions.the-type a)
     → staying a j w ≡ onDownload a j w q
 stays (down.Opened n) j w q k = refl
 stays (down.Delivered n) j w q k = refl
@@ -194,11 +194,11 @@ module _ (r : TransactionRequest) (b : Bank) (q : Fields) (n : ℕ) where
 
 -- ---- the call, from the verdict carried out and the reply written
 
-pub replied-by : (v : Verdict) (w : World) (q : Fields) (d : List ℕ)
-    {u : Verdict} {x : World} {buffer after : List ℕ} {a : FrameAnswer} {k : ℕ}
+pub replied-by : (v : Verdict) (w : BankState) (q : Fields) (d : List ℕ)
+    {u : Verdict} {x : BankState} {buffer after : List ℕ} {a : FrameAnswer} {k : ℕ}
     → u ≡ v → x ≡ carryOut v w q d
     → SentAs (replyTo u q) (mailboxSegment x (subscriber q) (segmentIn u q)) buffer a k after
-    → _≡_ {A = FrameCall} (record { world = x; buffer = after; answer = a; number = frameNumber a; code = k })
+    → _≡_ {A = FrameCall} (record { bankState = x; buffer = after; answer = a; number = frameNumber a; code = k })
     (replied (stepBy v w q d) buffer)
 replied-by v w q d e f sent =
     rw (sent .answered, sent .written, sent .coded, e, f, same-segment v w q d (subscriber q))

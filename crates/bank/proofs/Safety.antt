@@ -12,7 +12,7 @@ use Rattle.octets.proofs.Tests.{never, and-true}
 use Rattle.bank_state.specs.declared.clock.Ended.the-variants as ending
 use Rattle.bank_state.specs.declared.state.Download.{Download}
 use Rattle.bank_state.specs.Clock.{ends}
-use Rattle.bank_state.specs.State.{World, downloadAt}
+use Rattle.bank_state.specs.State.{BankState, downloadAt}
 use Rattle.bank_state.proofs.Drops.{each-endDownloads}
 use Rattle.bank_verdicts.specs.declared.verdict.Action.the-variants as action
 use Rattle.bank_verdicts.specs.declared.verdict.DownloadAction.the-variants as down
@@ -20,7 +20,7 @@ use Rattle.bank_verdicts.specs.declared.verdict.Verdict.the-variants as verdict
 use Rattle.bank.specs.Call.{carryOut}
 
 -- "every download of that mailbox ended": those still open are of other subscribers
-pub emptied-ends : (t : Bits128) (w : World) (q : Fields) (d : List ℕ) (j : ℕ) →
+pub emptied-ends : (t : Bits128) (w : BankState) (q : Fields) (d : List ℕ) (j : ℕ) →
     let e = downloadAt (carryOut (verdict.Of t (action.Download down.Confirmed)) w q d .bank) j in
     e .used ≡ true → e .subscriber ≡ subscriber q → ⊥
 unfolding ends

@@ -22,7 +22,7 @@ use Rattle.bank_state.specs.declared.clock.Ended.{Ended}
 use Rattle.bank_state.specs.declared.clock.Ended.the-variants as ending
 use Rattle.bank_state.specs.Clock.{advanced, endDownloads}
 use Rattle.bank_state.specs.Limits.{storeBytes, idBytes, replyRoom}
-use Rattle.bank_state.specs.State.{World, world, placeAt, downloadAt, fileLength}
+use Rattle.bank_state.specs.State.{BankState, bankState, placeAt, downloadAt, fileLength}
 use Rattle.bank_state.specs.State.{withPlace, withDownload, withDownloads, withFiles}
 use Rattle.bank_state.specs.Store.{partAt, withPart, zeroed, fileOf}
 use Rattle.bank_verdicts.specs.declared.verdict.UploadAction.{UploadAction}
@@ -47,55 +47,55 @@ use Rattle.bank.specs.declared.steps.Stepped.{Stepped}
 -- what a request comes to: its verdict, the bank and its stores after it, and the reply's fields and data
 pub record Step : Type 0 where
   pub verdict : Verdict
-  pub world : World
+  pub bankState : BankState
   pub reply : Fields
   pub replyData : List ℕ
 
 -- a request of a subscriber, and both stores of their length: what its step asks
-pub record Ready (q : Fields) (orders boxes : List ℕ) : Type 0 where
+pub record Ready (q : Fields) (orders mailboxes : List ℕ) : Type 0 where
   pub known : 0 < subscriber q
   pub most : subscriber q ≤ subscribers
   pub places : length orders ≡ storeBytes
-  pub mailboxes : length boxes ≡ storeBytes
+  pub mailboxStore : length mailboxes ≡ storeBytes
 
 -- ---- what a verdict does to the bank and its stores
 
 -- the open upload in place i, by an action with the data d
-abbrev pub onUpload : UploadAction → ℕ → World → List ℕ → World
+abbrev pub onUpload : UploadAction → ℕ → BankState → List ℕ → BankState
 onUpload a i w d =
     let p = placeAt (w .bank) i in
-    world (withPlace i (placeAfter a (w .bank .clock) (length d) p) (w .bank))
+    bankState (withPlace i (placeAfter a (w .bank .clock) (length d) p) (w .bank))
     (withPart (w .orders) i (bytesAfter a p d (partAt (w .orders) i)))
-    (w .boxes)
+    (w .mailboxes)
 
-abbrev pub uploadActs : UploadAction → Bits128 → World → Fields → List ℕ → World
-uploadActs (up.Opened number) t w q d = world (openUpload t number q (w .bank)) (w .orders) (w .boxes)
+abbrev pub uploadActs : UploadAction → Bits128 → BankState → Fields → List ℕ → BankState
+uploadActs (up.Opened number) t w q d = bankState (openUpload t number q (w .bank)) (w .orders) (w .mailboxes)
 uploadActs up.Took t w q d = onUpload up.Took (uploadAt (w .bank) q) w d
 uploadActs up.TookLast t w q d = onUpload up.TookLast (uploadAt (w .bank) q) w d
 uploadActs (up.Point k) t w q d = onUpload (up.Point k) (uploadAt (w .bank) q) w d
 uploadActs (up.Cancelled c) t w q d = onUpload (up.Cancelled c) (uploadAt (w .bank) q) w d
 
 -- the open download of record j, which stays open
-abbrev pub staying : DownloadAction → ℕ → World → World
+abbrev pub staying : DownloadAction → ℕ → BankState → BankState
 staying a j w =
-    world (withDownload j (downloadAfter a (w .bank .clock) (downloadAt (w .bank) j)) (w .bank)) (w .orders) (w .boxes)
+    bankState (withDownload j (downloadAfter a (w .bank .clock) (downloadAt (w .bank) j)) (w .bank)) (w .orders) (w .mailboxes)
 
 -- the bank without the downloads that end
-abbrev pub without : Ended → World → World
-without which w = world (withDownloads (endDownloads which (w .bank .downloads)) (w .bank)) (w .orders) (w .boxes)
+abbrev pub without : Ended → BankState → BankState
+without which w = bankState (withDownloads (endDownloads which (w .bank .downloads)) (w .bank)) (w .orders) (w .mailboxes)
 
 -- "this transaction ended"
-abbrev pub ended : Fields → World → World
+abbrev pub ended : Fields → BankState → BankState
 ended q w = without (ending.Transaction (subscriber q) (transaction q)) w
 
 -- "mailbox emptied, every download of that mailbox ended"
-abbrev pub emptied : ℕ → World → World
+abbrev pub emptied : ℕ → BankState → BankState
 emptied s w =
     let v = without (ending.Mailbox s) w in
-    world (withFiles (set (w .bank .files) (s - 1) 0) (v .bank)) (w .orders) (zeroed (w .boxes) (s - 1))
+    bankState (withFiles (set (w .bank .files) (s - 1) 0) (v .bank)) (w .orders) (zeroed (w .mailboxes) (s - 1))
 
 -- the open download of record j, by an action
-abbrev pub onDownload : DownloadAction → ℕ → World → Fields → World
+abbrev pub onDownload : DownloadAction → ℕ → BankState → Fields → BankState
 onDownload (down.Opened n) j w q = staying (down.Opened n) j w
 onDownload (down.Delivered n) j w q = staying (down.Delivered n) j w
 onDownload (down.SentAgain n) j w q = staying (down.SentAgain n) j w
@@ -104,8 +104,8 @@ onDownload down.Cancelled j w q = ended q w
 onDownload down.Confirmed j w q = emptied (subscriber q) w
 onDownload down.Declined j w q = ended q w
 
-abbrev pub downloadActs : DownloadAction → Bits128 → World → Fields → World
-downloadActs (down.Opened n) t w q = world (openDownload t q (w .bank)) (w .orders) (w .boxes)
+abbrev pub downloadActs : DownloadAction → Bits128 → BankState → Fields → BankState
+downloadActs (down.Opened n) t w q = bankState (openDownload t q (w .bank)) (w .orders) (w .mailboxes)
 downloadActs (down.Delivered n) t w q = onDownload (down.Delivered n) (downloadOf (w .bank) q) w q
 downloadActs (down.SentAgain n) t w q = onDownload (down.SentAgain n) (downloadOf (w .bank) q) w q
 downloadActs (down.Point d) t w q = onDownload (down.Point d) (downloadOf (w .bank) q) w q
@@ -113,12 +113,12 @@ downloadActs down.Cancelled t w q = onDownload down.Cancelled (downloadOf (w .ba
 downloadActs down.Confirmed t w q = onDownload down.Confirmed (downloadOf (w .bank) q) w q
 downloadActs down.Declined t w q = onDownload down.Declined (downloadOf (w .bank) q) w q
 
-abbrev pub acts : Action → Bits128 → World → Fields → List ℕ → World
+abbrev pub acts : Action → Bits128 → BankState → Fields → List ℕ → BankState
 acts (action.Upload a) t w q d = uploadActs a t w q d
 acts (action.Download a) t w q d = downloadActs a t w q
 
 -- "beyond clock and drops only what is named changes"
-abbrev pub carryOut : Verdict → World → Fields → List ℕ → World
+abbrev pub carryOut : Verdict → BankState → Fields → List ℕ → BankState
 carryOut verdict.Unreadable w q d = w
 carryOut (verdict.Refused c) w q d = w
 carryOut (verdict.Of t a) w q d = acts a t w q d
@@ -133,29 +133,29 @@ downloadVerdict r j b q =
     verdict.Of (e .transaction) (action.Download (judgeDownload r e (mailboxSegments (subscriber q) b) q))
 
 -- what is left where the request q with the data d was judged to be v: the verdict, and the bank with its stores
-pub record CarriedOut (v : Verdict) (w : World) (q : Fields) (d : List ℕ) (r : Stepped) (orders boxes : List ℕ)
+pub record CarriedOut (v : Verdict) (w : BankState) (q : Fields) (d : List ℕ) (r : Stepped) (orders mailboxes : List ℕ)
     : Type 0 where
   pub judged : r .verdict ≡ v
-  pub done : world (r .bank) orders boxes ≡ carryOut v w q d
+  pub done : bankState (r .bank) orders mailboxes ≡ carryOut v w q d
 
 -- ---- the reply
 
 -- the bytes of segment s of a subscriber's mailbox; segment 0 stands for none
-unfoldable pub mailboxSegment : World → ℕ → ℕ → List ℕ
+unfoldable pub mailboxSegment : BankState → ℕ → ℕ → List ℕ
 mailboxSegment w subscriber s =
-    cond (eqb s 0) [] (segmentOf (fileOf (w .boxes) (subscriber - 1) (fileLength subscriber (w .bank .files))) s)
+    cond (eqb s 0) [] (segmentOf (fileOf (w .mailboxes) (subscriber - 1) (fileLength subscriber (w .bank .files))) s)
 
 -- what a verdict on the request q with the data d comes to
-abbrev pub stepBy : Verdict → World → Fields → List ℕ → Step
+abbrev pub stepBy : Verdict → BankState → Fields → List ℕ → Step
 stepBy v w q d = record {
   verdict = v;
-  world = carryOut v w q d;
+  bankState = carryOut v w q d;
   reply = replyTo v q;
   replyData = mailboxSegment w (subscriber q) (segmentIn v q);
 }
 
 -- a request, read, at the clock that the call has set; d is its data, first the number of the lent ID bytes
-unfoldable pub respond : ℕ → World → Fields → List ℕ → Step
+unfoldable pub respond : ℕ → BankState → Fields → List ℕ → Step
 respond first w q d = stepBy (judge first (w .bank) q (length d)) w q d
 
 -- the reply written: "reply bytes behind the reply are untouched"
@@ -185,15 +185,15 @@ pub record SentAs (f : Fields) (d old : List ℕ) (a : FrameAnswer) (code : ℕ)
 
 -- what a call leaves: the bank, both stores, the reply buffer, the answer, document 01's number for it, the reply's code
 pub record FrameCall : Type 0 where
-  pub world : World
+  pub bankState : BankState
   pub buffer : List ℕ
   pub answer : FrameAnswer
   pub number : ℕ
   pub code : ℕ
 
 abbrev pub frameCallOf : FrameOut → List ℕ → List ℕ → List ℕ → FrameCall
-frameCallOf r orders boxes buffer = record {
-  world = world (r .bank) orders boxes;
+frameCallOf r orders mailboxes buffer = record {
+  bankState = bankState (r .bank) orders mailboxes;
   buffer = buffer;
   answer = r .answer;
   number = frameNumber (r .answer);
@@ -202,7 +202,7 @@ frameCallOf r orders boxes buffer = record {
 
 abbrev pub replied : Step → List ℕ → FrameCall
 replied s buffer = record {
-  world = s .world;
+  bankState = s .bankState;
   buffer = writeBuffer (s .reply) (s .replyData) buffer;
   answer = answerOf (writeAnswer (s .reply) (s .replyData) buffer);
   number = frameNumber (answerOf (writeAnswer (s .reply) (s .replyData) buffer));
@@ -210,14 +210,14 @@ replied s buffer = record {
 }
 
 -- number 1: "a lent length differs from the above or is too short for what is to be written"
-unfoldable pub lentRight : World → List ℕ → List ℕ → Bool
+unfoldable pub lentRight : BankState → List ℕ → List ℕ → Bool
 lentRight w ids buffer =
-    eqb (length (w .orders)) storeBytes && eqb (length (w .boxes)) storeBytes && eqb (length ids) idBytes
+    eqb (length (w .orders)) storeBytes && eqb (length (w .mailboxes)) storeBytes && eqb (length ids) idBytes
     && leb replyRoom (length buffer)
 
 -- a frame arrives at a time: the lent ID bytes, the frame, the reply buffer
-unfoldable pub frameCall : World → ℕ → List ℕ → List ℕ → List ℕ → FrameCall
+unfoldable pub frameCall : BankState → ℕ → List ℕ → List ℕ → List ℕ → FrameCall
 frameCall w time ids frame buffer =
     cond (lentRight w ids buffer)
     (replied (respond (number ids) (advanced time w) (readRequest frame) (dataOf frame)) buffer)
-    (record { world = w; buffer = buffer; answer = WrongLength; number = frameNumber WrongLength; code = 0 })
+    (record { bankState = w; buffer = buffer; answer = WrongLength; number = frameNumber WrongLength; code = 0 })

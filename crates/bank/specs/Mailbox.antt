@@ -16,8 +16,8 @@ use Rattle.bank.specs.declared.mailbox.FileOut.{FileOut}
 
 -- *The host* (a number, nothing changed, clock included)
 unfoldable pub fileRefusals : Bank → ℕ → List ℕ → List ℕ → List (Bool × FileAnswer)
-fileRefusals b mailbox file boxes =
-    (not (eqb (length boxes) storeBytes), WrongLength)
+fileRefusals b mailbox file mailboxes =
+    (not (eqb (length mailboxes) storeBytes), WrongLength)
     ∷ (ltb mailbox 1 || ltb subscribers mailbox, NoMailbox)
     ∷ (eqb (length file) 0 || ltb fileBytes (length file), WrongFile)
     ∷ (not (eqb (fileLength mailbox (b .files)) 0), MailboxFull)
@@ -34,28 +34,28 @@ fileNumber MailboxFull = 4
 -- what the call leaves: the bank, the mailboxes' store, the answer, and document 01's number for it
 pub record FileCall : Type 0 where
   pub bank : Bank
-  pub boxes : List ℕ
+  pub mailboxes : List ℕ
   pub answer : FileAnswer
   pub number : ℕ
 
 abbrev pub fileCallOf : FileOut → List ℕ → FileCall
-fileCallOf r boxes = record { bank = r .bank; boxes = boxes; answer = r .answer; number = fileNumber (r .answer) }
+fileCallOf r mailboxes = record { bank = r .bank; mailboxes = mailboxes; answer = r .answer; number = fileNumber (r .answer) }
 
 -- "a number, nothing changed"
 abbrev pub refusedFile : FileAnswer → Bank → List ℕ → FileCall
-refusedFile a b boxes = record { bank = b; boxes = boxes; answer = a; number = fileNumber a }
+refusedFile a b mailboxes = record { bank = b; mailboxes = mailboxes; answer = a; number = fileNumber a }
 
 abbrev pub carryOutFile : FileAnswer → Bank → ℕ → List ℕ → List ℕ → FileCall
-carryOutFile Done b mailbox file boxes = record {
+carryOutFile Done b mailbox file mailboxes = record {
   bank = withFiles (set (b .files) (mailbox - 1) (length file)) b;
-  boxes = overwrite boxes ((mailbox - 1) * fileBytes) file;
+  mailboxes = overwrite mailboxes ((mailbox - 1) * fileBytes) file;
   answer = Done;
   number = fileNumber Done;
 }
-carryOutFile WrongLength b mailbox file boxes = refusedFile WrongLength b boxes
-carryOutFile NoMailbox b mailbox file boxes = refusedFile NoMailbox b boxes
-carryOutFile WrongFile b mailbox file boxes = refusedFile WrongFile b boxes
-carryOutFile MailboxFull b mailbox file boxes = refusedFile MailboxFull b boxes
+carryOutFile WrongLength b mailbox file mailboxes = refusedFile WrongLength b mailboxes
+carryOutFile NoMailbox b mailbox file mailboxes = refusedFile NoMailbox b mailboxes
+carryOutFile WrongFile b mailbox file mailboxes = refusedFile WrongFile b mailboxes
+carryOutFile MailboxFull b mailbox file mailboxes = refusedFile MailboxFull b mailboxes
 
 unfoldable pub fileCall : Bank → ℕ → List ℕ → List ℕ → FileCall
-fileCall b mailbox file boxes = carryOutFile (decide (fileRefusals b mailbox file boxes) Done) b mailbox file boxes
+fileCall b mailbox file mailboxes = carryOutFile (decide (fileRefusals b mailbox file mailboxes) Done) b mailbox file mailboxes

@@ -27,7 +27,7 @@ ghost use lib.Dec.{eqb, leb};
 ghost use lib.ListN.{length};
 ghost use Rattle.frame_table.specs.Names.{subscriber};
 ghost use Rattle.bank_state.specs.Limits.{storeBytes, idBytes, replyRoom};
-ghost use Rattle.bank_state.specs.State.{world};
+ghost use Rattle.bank_state.specs.State.{bankState};
 ghost use Rattle.bank_verdicts.specs.Replies.{replyTo, segmentIn};
 ghost use Rattle.bank.specs.Call.{mailboxSegment, codeIn, SentAs, respond, frameCallOf, replied, frameCall};
 
@@ -79,15 +79,15 @@ fn reply_with(fields: Fields, bytes: &[u8], buffer: &mut [u8]) -> Sent
 }
 
 // The bytes of a segment of a subscriber's mailbox; none for segment 0.
-fn mailbox_segment(b: Bank, boxes: &[u8], subscriber: u64, segment: u64) -> &[u8]
-    ensures { λ r. ⌜ ((o : List ℕ) → now r ≡ mailboxSegment (world b o (now (boxes .entry))) subscriber segment) ⌝ }
+fn mailbox_segment(b: Bank, mailboxes: &[u8], subscriber: u64, segment: u64) -> &[u8]
+    ensures { λ r. ⌜ ((o : List ℕ) → now r ≡ mailboxSegment (bankState b o (now (mailboxes .entry))) subscriber segment) ⌝ }
 {
     if segment == 0 {
-        return &boxes[..0];
+        return &mailboxes[..0];
     }
     let files = b.files;
     let file = file_of(
-        boxes,
+        mailboxes,
         mailbox_of(subscriber),
         file_length(files, subscriber),
     );
@@ -95,12 +95,12 @@ fn mailbox_segment(b: Bank, boxes: &[u8], subscriber: u64, segment: u64) -> &[u8
 }
 
 // The reply that a verdict on the request q gives, with its mailbox's segment where it carries one.
-fn reply(b: Bank, verdict: Verdict, q: Fields, boxes: &[u8], buffer: &mut [u8]) -> Sent
+fn reply(b: Bank, verdict: Verdict, q: Fields, mailboxes: &[u8], buffer: &mut [u8]) -> Sent
     ensures { λ r. ⌜ ((o : List ℕ) → SentAs (replyTo verdict q)
-        (mailboxSegment (world b o (now (boxes .entry))) (subscriber q) (segmentIn verdict q))
+        (mailboxSegment (bankState b o (now (mailboxes .entry))) (subscriber q) (segmentIn verdict q))
         (now (buffer .entry)) (r .answer) (r .code) (now (buffer .exit))) ⌝ }
 {
-    let bytes = mailbox_segment(b, boxes, q.subscriber(), segment_in(verdict, q));
+    let bytes = mailbox_segment(b, mailboxes, q.subscriber(), segment_in(verdict, q));
     reply_with(reply_to(verdict, q), bytes, buffer)
 }
 
@@ -111,18 +111,18 @@ fn respond(
     q: Fields,
     bytes: &[u8],
     orders: &mut [u8],
-    boxes: &mut [u8],
+    mailboxes: &mut [u8],
     buffer: &mut [u8],
 ) -> FrameOut
-    requires { ⌜ (length (now orders) ≡ storeBytes) × (length (now boxes) ≡ storeBytes) ⌝ }
-    ensures { λ r. ⌜ frameCallOf r (now (orders .exit)) (now (boxes .exit)) (now (buffer .exit))
-        ≡ replied (respond first (world b (now (orders .entry)) (now (boxes .entry))) q (now (bytes .entry)))
+    requires { ⌜ (length (now orders) ≡ storeBytes) × (length (now mailboxes) ≡ storeBytes) ⌝ }
+    ensures { λ r. ⌜ frameCallOf r (now (orders .exit)) (now (mailboxes .exit)) (now (buffer .exit))
+        ≡ replied (respond first (bankState b (now (orders .entry)) (now (mailboxes .entry))) q (now (bytes .entry)))
         (now (buffer .entry)) ⌝ }
 {
-    let s = step(b, first, q, bytes, orders, boxes);
+    let s = step(b, first, q, bytes, orders, mailboxes);
     let bank = s.bank;
     let verdict = s.verdict;
-    let sent = reply(bank, verdict, q, boxes, buffer);
+    let sent = reply(bank, verdict, q, mailboxes, buffer);
     let answer = sent.answer;
     FrameOut {
         bank,
@@ -132,13 +132,13 @@ fn respond(
 }
 
 // Whether the lent lengths are right.
-fn lent_right(orders: usize, boxes: usize, ids: usize, buffer: usize) -> bool
-    ensures { λ r. ⌜ r ≡ (eqb orders storeBytes && eqb boxes storeBytes && eqb ids idBytes && leb replyRoom buffer) ⌝ }
+fn lent_right(orders: usize, mailboxes: usize, ids: usize, buffer: usize) -> bool
+    ensures { λ r. ⌜ r ≡ (eqb orders storeBytes && eqb mailboxes storeBytes && eqb ids idBytes && leb replyRoom buffer) ⌝ }
 {
     if orders != STORE_BYTES {
         return false;
     }
-    if boxes != STORE_BYTES {
+    if mailboxes != STORE_BYTES {
         return false;
     }
     if ids != ID_BYTES {
@@ -154,14 +154,14 @@ pub fn frame_arrives(
     ids: &[u8],
     frame: &[u8],
     orders: &mut [u8],
-    boxes: &mut [u8],
+    mailboxes: &mut [u8],
     buffer: &mut [u8],
 ) -> FrameOut
-    ensures { λ r. ⌜ frameCallOf r (now (orders .exit)) (now (boxes .exit)) (now (buffer .exit))
-        ≡ frameCall (world b (now (orders .entry)) (now (boxes .entry)))
+    ensures { λ r. ⌜ frameCallOf r (now (orders .exit)) (now (mailboxes .exit)) (now (buffer .exit))
+        ≡ frameCall (bankState b (now (orders .entry)) (now (mailboxes .entry)))
         time (now (ids .entry)) (now (frame .entry)) (now (buffer .entry)) ⌝ }
 {
-    if !lent_right(orders.len(), boxes.len(), ids.len(), buffer.len()) {
+    if !lent_right(orders.len(), mailboxes.len(), ids.len(), buffer.len()) {
         return FrameOut {
             bank: b,
             answer: FrameAnswer::WrongLength,
@@ -175,7 +175,7 @@ pub fn frame_arrives(
         read_request(frame),
         data(frame),
         orders,
-        boxes,
+        mailboxes,
         buffer,
     )
 }

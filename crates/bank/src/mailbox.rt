@@ -62,10 +62,10 @@ fn is_wrong_file(length: usize) -> bool
 }
 
 // What the host's call gets, checked in document 01's order.
-fn judge_file(b: Bank, mailbox: u64, file: &[u8], boxes: &[u8]) -> FileAnswer
-    ensures { λ r. ⌜ r ≡ decide (fileRefusals b mailbox (now (file .entry)) (now (boxes .entry))) Done ⌝ }
+fn judge_file(b: Bank, mailbox: u64, file: &[u8], mailboxes: &[u8]) -> FileAnswer
+    ensures { λ r. ⌜ r ≡ decide (fileRefusals b mailbox (now (file .entry)) (now (mailboxes .entry))) Done ⌝ }
 {
-    if boxes.len() != STORE_BYTES {
+    if mailboxes.len() != STORE_BYTES {
         return FileAnswer::WrongLength;
     }
     if is_no_mailbox(mailbox) {
@@ -82,14 +82,14 @@ fn judge_file(b: Bank, mailbox: u64, file: &[u8], boxes: &[u8]) -> FileAnswer
 }
 
 // The file is written into the mailbox.
-fn store_file(b: Bank, mailbox: u64, file: &[u8], boxes: &mut [u8]) -> FileOut
+fn store_file(b: Bank, mailbox: u64, file: &[u8], mailboxes: &mut [u8]) -> FileOut
     requires { ⌜ (0 < mailbox) × (mailbox ≤ subscribers)
-        × (length (now file) ≤ fileBytes) × (length (now boxes) ≡ storeBytes) ⌝ }
-    ensures { λ r. ⌜ fileCallOf r (now (boxes .exit))
-        ≡ carryOutFile Done b mailbox (now (file .entry)) (now (boxes .entry)) ⌝ }
+        × (length (now file) ≤ fileBytes) × (length (now mailboxes) ≡ storeBytes) ⌝ }
+    ensures { λ r. ⌜ fileCallOf r (now (mailboxes .exit))
+        ≡ carryOutFile Done b mailbox (now (file .entry)) (now (mailboxes .entry)) ⌝ }
 {
     let m = (mailbox - 1) as usize;
-    append(boxes, m * FILE_BYTES, file);
+    append(mailboxes, m * FILE_BYTES, file);
     let mut c = b;
     c.files[m] = file.len() as u64;
     FileOut {
@@ -99,12 +99,12 @@ fn store_file(b: Bank, mailbox: u64, file: &[u8], boxes: &mut [u8]) -> FileOut
 }
 
 // A file goes into a mailbox, with the mailboxes' store lent.
-pub fn put_file(b: Bank, mailbox: u64, file: &[u8], boxes: &mut [u8]) -> FileOut
-    ensures { λ r. ⌜ fileCallOf r (now (boxes .exit)) ≡ fileCall b mailbox (now (file .entry)) (now (boxes .entry)) ⌝ }
+pub fn put_file(b: Bank, mailbox: u64, file: &[u8], mailboxes: &mut [u8]) -> FileOut
+    ensures { λ r. ⌜ fileCallOf r (now (mailboxes .exit)) ≡ fileCall b mailbox (now (file .entry)) (now (mailboxes .entry)) ⌝ }
 {
-    let answer = judge_file(b, mailbox, file, boxes);
+    let answer = judge_file(b, mailbox, file, mailboxes);
     match answer {
-        FileAnswer::Done => store_file(b, mailbox, file, boxes),
+        FileAnswer::Done => store_file(b, mailbox, file, mailboxes),
         _ => FileOut { bank: b, answer },
     }
 }

@@ -35,7 +35,7 @@ ghost use lib.ListN.{length};
 ghost use Rattle.frame_table.specs.Names.{subscriber, form};
 ghost use Rattle.message.specs.Limits.{subscribers};
 ghost use Rattle.bank_state.specs.Limits.{placeCount, storeBytes};
-ghost use Rattle.bank_state.specs.State.{world, downloadAt, withDownload};
+ghost use Rattle.bank_state.specs.State.{bankState, downloadAt, withDownload};
 ghost use Rattle.bank_verdicts.specs.Judgement.{judgeOpening, uploadAt, downloadOf, judgeTransaction};
 ghost use Rattle.bank_verdicts.specs.Judgement.{judgeRequest, judgeForm, judge};
 ghost use Rattle.bank_downloads.specs.Downloads.{downloadAfter};
@@ -51,7 +51,7 @@ pub struct Stepped {
 // An opening of an upload.
 fn upload_opening(b: Bank, first: u64, q: Fields) -> Stepped
     ensures { λ r. ⌜ ((o m d : List ℕ) →
-        CarriedOut (judgeOpening Direction.Upload first b q) (world b o m) q d r o m) ⌝ }
+        CarriedOut (judgeOpening Direction.Upload first b q) (bankState b o m) q d r o m) ⌝ }
 {
     let verdict = judge_opening(b, Direction::Upload, first, q);
     match verdict {
@@ -66,7 +66,7 @@ fn upload_opening(b: Bank, first: u64, q: Fields) -> Stepped
 // An opening of a download.
 fn download_opening(b: Bank, first: u64, q: Fields) -> Stepped
     ensures { λ r. ⌜ ((o m d : List ℕ) →
-        CarriedOut (judgeOpening Direction.Download first b q) (world b o m) q d r o m) ⌝ }
+        CarriedOut (judgeOpening Direction.Download first b q) (bankState b o m) q d r o m) ⌝ }
 {
     let verdict = judge_opening(b, Direction::Download, first, q);
     match verdict {
@@ -89,7 +89,7 @@ fn on_upload(
 ) -> Stepped
     requires { ⌜ (i < placeCount) × (i ≡ uploadAt b q) × (length (now orders) ≡ storeBytes) ⌝ }
     ensures { λ r. ⌜ ((m : List ℕ) → CarriedOut (uploadVerdict asked i b q (length (now (bytes .entry))))
-        (world b (now (orders .entry)) m) q (now (bytes .entry)) r (now (orders .exit)) m) ⌝ }
+        (bankState b (now (orders .entry)) m) q (now (bytes .entry)) r (now (orders .exit)) m) ⌝ }
 {
     let p = b.places[i];
     let from = i * FILE_BYTES;
@@ -118,7 +118,7 @@ fn with_download(b: Bank, j: usize, entry: Download) -> Bank
 
 // The bank without the downloads that end.
 fn without(b: Bank, which: Ended) -> Bank
-    ensures { λ r. ⌜ ((o m : List ℕ) → world r o m ≡ without which (world b o m)) ⌝ }
+    ensures { λ r. ⌜ ((o m : List ℕ) → bankState r o m ≡ without which (bankState b o m)) ⌝ }
 {
     let downloads = b.downloads;
     let open = end_downloads(downloads, which);
@@ -128,24 +128,24 @@ fn without(b: Bank, which: Ended) -> Bank
 }
 
 // A subscriber's mailbox is emptied, and its downloads end.
-fn emptied(b: Bank, subscriber: u64, boxes: &mut [u8]) -> Bank
-    requires { ⌜ (0 < subscriber) × (subscriber ≤ subscribers) × (length (now boxes) ≡ storeBytes) ⌝ }
-    ensures { λ r. ⌜ ((o : List ℕ) → world r o (now (boxes .exit))
-        ≡ emptied subscriber (world b o (now (boxes .entry)))) ⌝ }
+fn emptied(b: Bank, subscriber: u64, mailboxes: &mut [u8]) -> Bank
+    requires { ⌜ (0 < subscriber) × (subscriber ≤ subscribers) × (length (now mailboxes) ≡ storeBytes) ⌝ }
+    ensures { λ r. ⌜ ((o : List ℕ) → bankState r o (now (mailboxes .exit))
+        ≡ emptied subscriber (bankState b o (now (mailboxes .entry)))) ⌝ }
 {
     let m = mailbox_of(subscriber);
     let mut c = without(b, Ended::Mailbox(subscriber));
     c.files[m] = 0;
-    zero(boxes, m);
+    zero(mailboxes, m);
     c
 }
 
 // The bank after a step of the open download of record j, and its mailbox's bytes.
-fn downloads_after(b: Bank, j: usize, s: DownloadStep, q: Fields, boxes: &mut [u8]) -> Bank
+fn downloads_after(b: Bank, j: usize, s: DownloadStep, q: Fields, mailboxes: &mut [u8]) -> Bank
     requires { ⌜ (j < placeCount) × (s .entry ≡ downloadAfter (s .action) (b .clock) (downloadAt b j))
-        × (0 < subscriber q) × (subscriber q ≤ subscribers) × (length (now boxes) ≡ storeBytes) ⌝ }
-    ensures { λ r. ⌜ ((o : List ℕ) → world r o (now (boxes .exit))
-        ≡ onDownload (s .action) j (world b o (now (boxes .entry))) q) ⌝ }
+        × (0 < subscriber q) × (subscriber q ≤ subscribers) × (length (now mailboxes) ≡ storeBytes) ⌝ }
+    ensures { λ r. ⌜ ((o : List ℕ) → bankState r o (now (mailboxes .exit))
+        ≡ onDownload (s .action) j (bankState b o (now (mailboxes .entry))) q) ⌝ }
 {
     let action = s.action;
     match action {
@@ -154,7 +154,7 @@ fn downloads_after(b: Bank, j: usize, s: DownloadStep, q: Fields, boxes: &mut [u
             Ended::Transaction(q.subscriber(), q.transaction()),
         ),
         DownloadAction::Declined => without(b, Ended::Transaction(q.subscriber(), q.transaction())),
-        DownloadAction::Confirmed => emptied(b, q.subscriber(), boxes),
+        DownloadAction::Confirmed => emptied(b, q.subscriber(), mailboxes),
         _ => {
             let entry = s.entry;
             with_download(b, j, entry)
@@ -163,15 +163,21 @@ fn downloads_after(b: Bank, j: usize, s: DownloadStep, q: Fields, boxes: &mut [u
 }
 
 // A request to the open download found in record j.
-fn on_download(b: Bank, j: usize, asked: TransactionRequest, q: Fields, boxes: &mut [u8]) -> Stepped
+fn on_download(
+    b: Bank,
+    j: usize,
+    asked: TransactionRequest,
+    q: Fields,
+    mailboxes: &mut [u8],
+) -> Stepped
     requires { ⌜ (j < placeCount) × (j ≡ downloadOf b q) × (0 < subscriber q) × (subscriber q ≤ subscribers)
-        × (length (now boxes) ≡ storeBytes) ⌝ }
+        × (length (now mailboxes) ≡ storeBytes) ⌝ }
     ensures { λ r. ⌜ ((o d : List ℕ) → CarriedOut (downloadVerdict asked j b q)
-        (world b o (now (boxes .entry))) q d r o (now (boxes .exit))) ⌝ }
+        (bankState b o (now (mailboxes .entry))) q d r o (now (mailboxes .exit))) ⌝ }
 {
     let e = b.downloads[j];
     let s = download_step(b.clock, asked, e, mailbox_segments(b, q.subscriber()), q);
-    let c = downloads_after(b, j, s, q, boxes);
+    let c = downloads_after(b, j, s, q, mailboxes);
     let transaction = e.transaction;
     let action = s.action;
     Stepped {
@@ -187,12 +193,12 @@ fn on_transaction(
     q: Fields,
     bytes: &[u8],
     orders: &mut [u8],
-    boxes: &mut [u8],
+    mailboxes: &mut [u8],
 ) -> Stepped
-    requires { ⌜ Ready q (now orders) (now boxes) ⌝ }
+    requires { ⌜ Ready q (now orders) (now mailboxes) ⌝ }
     ensures { λ r. ⌜ CarriedOut (judgeTransaction asked b q (length (now (bytes .entry))))
-        (world b (now (orders .entry)) (now (boxes .entry))) q (now (bytes .entry))
-        r (now (orders .exit)) (now (boxes .exit)) ⌝ }
+        (bankState b (now (orders .entry)) (now (mailboxes .entry))) q (now (bytes .entry))
+        r (now (orders .exit)) (now (mailboxes .exit)) ⌝ }
 {
     let i = find_upload(b, q.subscriber(), q.transaction());
     if i < PLACES {
@@ -200,7 +206,7 @@ fn on_transaction(
     }
     let j = find_download(b, q.subscriber(), q.transaction());
     if j < PLACES {
-        return on_download(b, j, asked, q, boxes);
+        return on_download(b, j, asked, q, mailboxes);
     }
     Stepped {
         bank: b,
@@ -216,12 +222,12 @@ fn by_request(
     q: Fields,
     bytes: &[u8],
     orders: &mut [u8],
-    boxes: &mut [u8],
+    mailboxes: &mut [u8],
 ) -> Stepped
-    requires { ⌜ Ready q (now orders) (now boxes) ⌝ }
+    requires { ⌜ Ready q (now orders) (now mailboxes) ⌝ }
     ensures { λ r. ⌜ CarriedOut (judgeRequest request first b q (length (now (bytes .entry))))
-        (world b (now (orders .entry)) (now (boxes .entry))) q (now (bytes .entry))
-        r (now (orders .exit)) (now (boxes .exit)) ⌝ }
+        (bankState b (now (orders .entry)) (now (mailboxes .entry))) q (now (bytes .entry))
+        r (now (orders .exit)) (now (mailboxes .exit)) ⌝ }
 {
     match request {
         RequestForm::UploadOpening => upload_opening(b, first, q),
@@ -233,7 +239,7 @@ fn by_request(
                 q,
                 bytes,
                 orders,
-                boxes,
+                mailboxes,
             )
         }
         RequestForm::DownloadTransfer => {
@@ -243,11 +249,11 @@ fn by_request(
                 q,
                 bytes,
                 orders,
-                boxes,
+                mailboxes,
             )
         }
         RequestForm::Receipt => {
-            on_transaction(b, TransactionRequest::Receipt, q, bytes, orders, boxes)
+            on_transaction(b, TransactionRequest::Receipt, q, bytes, orders, mailboxes)
         }
     }
 }
@@ -259,12 +265,12 @@ fn by_form(
     q: Fields,
     bytes: &[u8],
     orders: &mut [u8],
-    boxes: &mut [u8],
+    mailboxes: &mut [u8],
 ) -> Stepped
-    requires { ⌜ Ready q (now orders) (now boxes) ⌝ }
+    requires { ⌜ Ready q (now orders) (now mailboxes) ⌝ }
     ensures { λ r. ⌜ CarriedOut (judgeForm (form q) first b q (length (now (bytes .entry))))
-        (world b (now (orders .entry)) (now (boxes .entry))) q (now (bytes .entry))
-        r (now (orders .exit)) (now (boxes .exit)) ⌝ }
+        (bankState b (now (orders .entry)) (now (mailboxes .entry))) q (now (bytes .entry))
+        r (now (orders .exit)) (now (mailboxes .exit)) ⌝ }
 {
     let form = q.form();
     match form {
@@ -272,7 +278,7 @@ fn by_form(
             bank: b,
             verdict: Verdict::Unreadable,
         },
-        Form::Request(request) => by_request(request, b, first, q, bytes, orders, boxes),
+        Form::Request(request) => by_request(request, b, first, q, bytes, orders, mailboxes),
         Form::Reply(_) => Stepped {
             bank: b,
             verdict: Verdict::Unreadable,
@@ -287,12 +293,12 @@ pub(crate) fn step(
     q: Fields,
     bytes: &[u8],
     orders: &mut [u8],
-    boxes: &mut [u8],
+    mailboxes: &mut [u8],
 ) -> Stepped
-    requires { ⌜ (length (now orders) ≡ storeBytes) × (length (now boxes) ≡ storeBytes) ⌝ }
+    requires { ⌜ (length (now orders) ≡ storeBytes) × (length (now mailboxes) ≡ storeBytes) ⌝ }
     ensures { λ r. ⌜ CarriedOut (judge first b q (length (now (bytes .entry))))
-        (world b (now (orders .entry)) (now (boxes .entry))) q (now (bytes .entry))
-        r (now (orders .exit)) (now (boxes .exit)) ⌝ }
+        (bankState b (now (orders .entry)) (now (mailboxes .entry))) q (now (bytes .entry))
+        r (now (orders .exit)) (now (mailboxes .exit)) ⌝ }
 {
     if !is_request_form(q.form()) {
         return Stepped {
@@ -312,5 +318,5 @@ pub(crate) fn step(
             verdict: Verdict::Refused(ReturnCode::SegmentSizeExceeded),
         };
     }
-    by_form(b, first, q, bytes, orders, boxes)
+    by_form(b, first, q, bytes, orders, mailboxes)
 }

@@ -4,7 +4,7 @@ use Prim.Native.Nat.{ℕ, _+_, _<_}
 use mathlib.Core.Path.{_≡_, subst}
 use Rattle.frame_table.specs.declared.fields.Fields.{Fields}
 use Rattle.frame_table.specs.Names.{segment}
-use Rattle.message.specs.Limits.{attemptsMost}
+use Rattle.message.specs.Limits.{maxAttempts}
 use Rattle.bank_state.specs.declared.state.Download.{Download}
 use Rattle.bank_verdicts.specs.declared.verdict.TransactionRequest.{TransactionRequest}
 use Rattle.bank_verdicts.specs.declared.verdict.DownloadAction.{DownloadAction}
@@ -24,15 +24,15 @@ module _ (r : TransactionRequest) (e : Download) (n : ℕ) (q : Fields) where
       at j (delivered asked next few) = next
 
   -- a segment sent again is one of the attempts that are answered
-  pub sent-again-answered : {m : ℕ} → judgeDownload r e n q ≡ down.SentAgain m → e .attempts < attemptsMost
+  pub sent-again-answered : {m : ℕ} → judgeDownload r e n q ≡ down.SentAgain m → e .attempts < maxAttempts
   sent-again-answered {m} h = at m (judged-as h)
     where
-      at : (j : ℕ) → DownloadSound r e n q (down.SentAgain j) → e .attempts < attemptsMost
+      at : (j : ℕ) → DownloadSound r e n q (down.SentAgain j) → e .attempts < maxAttempts
       at j (sentAgain asked some among few) = few
 
   -- so is a recovery point
-  pub point-answered : {d : ℕ} → judgeDownload r e n q ≡ down.Point d → e .attempts < attemptsMost
+  pub point-answered : {d : ℕ} → judgeDownload r e n q ≡ down.Point d → e .attempts < maxAttempts
   point-answered {d} h = at d (judged-as h)
     where
-      at : (j : ℕ) → DownloadSound r e n q (down.Point j) → e .attempts < attemptsMost
+      at : (j : ℕ) → DownloadSound r e n q (down.Point j) → e .attempts < maxAttempts
       at j (downloadPoint misses few) = few

@@ -3,14 +3,14 @@ use bank_state::state::Download;
 use bank_verdicts::verdict::DownloadAction;
 use bank_verdicts::verdict::TransactionRequest;
 use frame_table::fields::Fields;
-use message::limits::ATTEMPTS_MOST;
+use message::limits::MAX_ATTEMPTS;
 use message::segments::is_next;
 ghost use mathlib.Core.Path.{_≡_};
 ghost use mathlib.Core.Bool.{_&&_};
 ghost use Prim.Native.Nat.{_+_, _<_};
 ghost use lib.Dec.{eqb, leb, ltb};
 ghost use Rattle.frame_table.specs.Names.{segment};
-ghost use Rattle.message.specs.Limits.{attemptsMost};
+ghost use Rattle.message.specs.Limits.{maxAttempts};
 ghost use Rattle.bank_verdicts.specs.declared.verdict.DownloadAction.the-variants as down;
 ghost use Rattle.bank_verdicts.specs.Refusals.{fitsDownload, isSentAgain, receiptRows};
 ghost use Rattle.bank_verdicts.specs.Judgement.{judged, judgeDownload};
@@ -88,7 +88,7 @@ pub fn judge_download(r: TransactionRequest, e: Download, n: u64, q: Fields) -> 
     if fits_download(r, e, n, q) {
         return judge_fitting(r, n, q);
     }
-    if ATTEMPTS_MOST <= e.attempts {
+    if MAX_ATTEMPTS <= e.attempts {
         return DownloadAction::Cancelled;
     }
     if is_sent_again(r, e, q) {
@@ -110,7 +110,7 @@ fn advanced_to(e: Download, clock: u64, delivered: u64) -> Download
 
 // The download with one recovery attempt more.
 fn attempted(e: Download) -> Download
-    requires { ⌜ e .attempts < attemptsMost ⌝ }
+    requires { ⌜ e .attempts < maxAttempts ⌝ }
     ensures { λ r. ⌜ r ≡ attempted e ⌝ }
 {
     let mut a = e;

@@ -35,31 +35,31 @@ use Rattle.bank_history.specs.Sound.{
   AllSound,
 }
 use Rattle.bank_history.specs.Invariant.{Holds}
-use Rattle.bank_history.specs.Standing.{answered}
+use Rattle.bank_history.specs.Transactions.{answered}
 use Rattle.message.proofs.SegmentNumbers.{some-segment}
 use Rattle.bank_history.proofs.Positions.{sound-at}
 
 -- the stores that the calls left have the lengths that a frame call asks for
 pub lent-right : (p : Past) (ids buffer : List ℕ) → Holds p → length ids ≡ idBytes → replyRoom ≤ length buffer →
-    lentRight (p .world) ids buffer ≡ true
+    lentRight (p .bankState) ids buffer ≡ true
 unfolding lentRight
 lent-right p ids buffer holds right room =
     let s = holds .invariant .state .sizes in
     rw (
-      eq-eqb (length (p .world .orders)) storeBytes (s .orders),
-      eq-eqb (length (p .world .boxes)) storeBytes (s .boxes),
+      eq-eqb (length (p .bankState .orders)) storeBytes (s .orders),
+      eq-eqb (length (p .bankState .mailboxes)) storeBytes (s .mailboxes),
       eq-eqb (length ids) idBytes right,
       le-leb replyRoom (length buffer) room,
     )
 
 -- such a call is answered, where its reply can be written in at most 312 bytes
 pub frame-answered : (time : ℕ) (ids frame buffer : List ℕ) (p : Past) → Holds p → length ids ≡ idBytes → replyRoom ≤ length buffer →
-    (let s = respond (number ids) (advanced time (p .world)) (readRequest frame) (dataOf frame) in
+    (let s = respond (number ids) (advanced time (p .bankState)) (readRequest frame) (dataOf frame) in
     (writable (s .reply) (s .replyData) ≡ true) × (length (frameOf (s .reply) (s .replyData)) ≤ replyRoom)) →
     after (Frame time ids frame buffer) p ≡ answered time ids frame p
 unfolding after frameCall writeAnswer accepted
 frame-answered time ids frame buffer p holds right room can =
-    let s : Step = respond (number ids) (advanced time (p .world)) (readRequest frame) (dataOf frame) in
+    let s : Step = respond (number ids) (advanced time (p .bankState)) (readRequest frame) (dataOf frame) in
     let short = can .1 in
     rw (
       lent-right p ids buffer holds right room,

@@ -24,14 +24,14 @@ use Rattle.message.specs.Replies.{unreadable}
 use Rattle.message.proofs.Writable.{unreadable-written}
 use Rattle.bank_state.specs.Clock.{advanced}
 use Rattle.bank_state.specs.Limits.{storeBytes, idBytes, replyRoom}
-use Rattle.bank_state.specs.State.{World}
+use Rattle.bank_state.specs.State.{BankState}
 use Rattle.bank_verdicts.specs.declared.verdict.Verdict.the-variants as verdict
 use Rattle.bank_verdicts.specs.Refusals.{requestRows}
 use Rattle.bank_verdicts.specs.Judgement.{judge}
 use Rattle.bank.specs.Call.{Step, stepBy, respond, lentRight, frameCall}
 use Rattle.bank_history.specs.History.{Exchange, Past, BankCall, Frame, exchangeOf, after, pastOf}
 use Rattle.bank_history.specs.Invariant.{Invariant, Holds}
-use Rattle.bank_history.specs.Standing.{answered}
+use Rattle.bank_history.specs.Transactions.{answered}
 use Rattle.bank_history.specs.Answers.{AllBytes, FrameAnswered}
 use Rattle.bank_history.proofs.Cases.{happens}
 use Rattle.bank_history.proofs.Clock.{advanced-keeps}
@@ -50,10 +50,10 @@ ids-lt ids b long =
     subst (λ (l : List ℕ). number l < 2 ^ 64) (bytesOf-number idBytes ids b long) (number-lt idBytes (number ids))
 
 -- what right lent lengths tell of those of a call
-call-lengths : (w : World) (ids buffer : List ℕ) → lentRight w ids buffer ≡ true → (length ids ≡ idBytes) × (replyRoom ≤ length buffer)
+call-lengths : (w : BankState) (ids buffer : List ℕ) → lentRight w ids buffer ≡ true → (length ids ≡ idBytes) × (replyRoom ≤ length buffer)
 unfolding lentRight
 call-lengths w ids buffer h =
-    let stores : Bool = eqb (length (w .orders)) storeBytes && eqb (length (w .boxes)) storeBytes in
+    let stores : Bool = eqb (length (w .orders)) storeBytes && eqb (length (w .mailboxes)) storeBytes in
     let others : Bool = stores && eqb (length ids) idBytes in
     let a = and-true others (leb replyRoom (length buffer)) h in
     (eqb-true (length ids) idBytes (and-true stores (eqb (length ids) idBytes) (a .0) .1), leb-true _ _ (a .1))
@@ -61,37 +61,37 @@ call-lengths w ids buffer h =
 -- ---- every reply
 
 -- the answer to a request of a frame
-abbrev pub stepOf : World → ℕ → List ℕ → List ℕ → Step
+abbrev pub stepOf : BankState → ℕ → List ℕ → List ℕ → Step
 stepOf w time ids frame = respond (number ids) (advanced time w) (readRequest frame) (dataOf frame)
 
-unread-is : (first : ℕ) (w : World) (q : Fields) (d : List ℕ) → isRequestForm (form q) ≡ false →
+unread-is : (first : ℕ) (w : BankState) (q : Fields) (d : List ℕ) → isRequestForm (form q) ≡ false →
     respond first w q d ≡ stepBy verdict.Unreadable w q d
 unfolding respond judge requestRows
 unread-is first w q d e = rw e
 
 -- the answer to a readable request
-respond-written : (first : ℕ) (w : World) (h : List Exchange) → Invariant w h → (q : Fields) (d : List ℕ) → InWidth q →
-    Bytes (w .boxes) → first < 2 ^ 64 → WrittenReply (respond first w q d .reply) (respond first w q d .replyData)
+respond-written : (first : ℕ) (w : BankState) (h : List Exchange) → Invariant w h → (q : Fields) (d : List ℕ) → InWidth q →
+    Bytes (w .mailboxes) → first < 2 ^ 64 → WrittenReply (respond first w q d .reply) (respond first w q d .replyData)
 unfolding respond
 respond-written first w h v q d r b small =
     case-written w h v q r b small (happens first w q d (v .state .sizes .places) (v .state .sizes .downloads))
 
-module _ (p : Past) (holds : Holds p) (bytes : Bytes (p .world .boxes)) (time : ℕ) (ids frame : List ℕ) (idsBytes : Bytes ids)
+module _ (p : Past) (holds : Holds p) (bytes : Bytes (p .bankState .mailboxes)) (time : ℕ) (ids frame : List ℕ) (idsBytes : Bytes ids)
     (frameBytes : Bytes frame) (right : length ids ≡ idBytes) where
-  pub reply-written : WrittenReply (stepOf (p .world) time ids frame .reply) (stepOf (p .world) time ids frame .replyData)
+  pub reply-written : WrittenReply (stepOf (p .bankState) time ids frame .reply) (stepOf (p .bankState) time ids frame .replyData)
   reply-written = at (isRequestForm (form (readRequest frame))) refl
     where
-      w : World
-      w = advanced time (p .world)
+      w : BankState
+      w = advanced time (p .bankState)
 
       v : Invariant w (p .history)
-      v = advanced-keeps time (p .world) (p .history) (holds .invariant)
+      v = advanced-keeps time (p .bankState) (p .history) (holds .invariant)
 
       at : (b : Bool) → isRequestForm (form (readRequest frame)) ≡ b →
-          WrittenReply (stepOf (p .world) time ids frame .reply) (stepOf (p .world) time ids frame .replyData)
+          WrittenReply (stepOf (p .bankState) time ids frame .reply) (stepOf (p .bankState) time ids frame .replyData)
       at true e =
           respond-written (number ids) w (p .history) v (readRequest frame) (dataOf frame) (request-in-width frame frameBytes e)
-          (advanced-bytes time (p .world) bytes) (ids-lt ids idsBytes right)
+          (advanced-bytes time (p .bankState) bytes) (ids-lt ids idsBytes right)
       at false e =
           subst (λ (s : Step). WrittenReply (s .reply) (s .replyData)) (sym (unread-is (number ids) w (readRequest frame) (dataOf frame) e))
           (subst (WrittenReply unreadable) (sym (bare w (subscriber (readRequest frame))))
@@ -99,7 +99,7 @@ module _ (p : Past) (holds : Holds p) (bytes : Bytes (p .world .boxes)) (time : 
 
   module _ (buffer : List ℕ) (room : replyRoom ≤ length buffer) where
     abbrev out : List ℕ
-    out = frameOf (stepOf (p .world) time ids frame .reply) (stepOf (p .world) time ids frame .replyData)
+    out = frameOf (stepOf (p .bankState) time ids frame .reply) (stepOf (p .bankState) time ids frame .replyData)
 
     -- the call is entered into the history
     pub call-entered : after (Frame time ids frame buffer) p ≡ answered time ids frame p
@@ -108,17 +108,17 @@ module _ (p : Past) (holds : Holds p) (bytes : Bytes (p .world .boxes)) (time : 
         frame-answered time ids frame buffer p holds right room (r .written .accepted, let n = r .written .size in omega (arith, r .most))
 
     -- its answer is the reply, in front of the buffer
-    pub call-answered : FrameAnswered (frameCall (p .world) time ids frame buffer) buffer
-        (exchangeOf (number ids) (advanced time (p .world)) (readRequest frame) (dataOf frame))
+    pub call-answered : FrameAnswered (frameCall (p .bankState) time ids frame buffer) buffer
+        (exchangeOf (number ids) (advanced time (p .bankState)) (readRequest frame) (dataOf frame))
     unfolding frameCall exchangeOf overwrite
     call-answered =
         let r = reply-written in
         let t = r .written in
-        let s : Step = stepOf (p .world) time ids frame in
+        let s : Step = stepOf (p .bankState) time ids frame in
         let front = written-in-front (s .reply) (s .replyData) buffer (r .size) (t .accepted) (t .size) (omega (arith, r .most)) in
-        let is : frameCall (p .world) time ids frame buffer .buffer ≡ out ++ drop (0 + length out) buffer =
+        let is : frameCall (p .bankState) time ids frame buffer .buffer ≡ out ++ drop (0 + length out) buffer =
         rw (lent-right p ids buffer holds right room) (front .1) in
-        let own : take (r .size) (frameCall (p .world) time ids frame buffer .buffer) ≡ out =
+        let own : take (r .size) (frameCall (p .bankState) time ids frame buffer .buffer) ≡ out =
         ap (take (r .size)) is ∙ take-at out _ (r .size) (t .size) in
         record {
           size = r .size;
@@ -140,8 +140,8 @@ module _ {calls : List BankCall} (given : AllBytes calls) (time : ℕ) (ids fram
 
   -- "a number, nothing changed" comes of a wrong lent length alone; every other frame gets its reply
   pub frame-gets-reply : length ids ≡ idBytes → replyRoom ≤ length buffer →
-      FrameAnswered (frameCall (past .world) time ids frame buffer) buffer
-      (exchangeOf (number ids) (advanced time (past .world)) (readRequest frame) (dataOf frame))
+      FrameAnswered (frameCall (past .bankState) time ids frame buffer) buffer
+      (exchangeOf (number ids) (advanced time (past .bankState)) (readRequest frame) (dataOf frame))
   frame-gets-reply right room =
       call-answered past (past-holds calls) (past-bytes given) time ids frame idsBytes frameBytes right buffer room
 
@@ -152,13 +152,13 @@ module _ {calls : List BankCall} (given : AllBytes calls) (time : ℕ) (ids fram
       call-entered past (past-holds calls) (past-bytes given) time ids frame idsBytes frameBytes right buffer room
 
   -- the history's bank is the bank that the call leaves
-  pub same-bank : after (Frame time ids frame buffer) past .world ≡ frameCall (past .world) time ids frame buffer .world
+  pub same-bank : after (Frame time ids frame buffer) past .bankState ≡ frameCall (past .bankState) time ids frame buffer .bankState
   unfolding after frameCall
-  same-bank = at (lentRight (past .world) ids buffer) refl
+  same-bank = at (lentRight (past .bankState) ids buffer) refl
     where
-      at : (b : Bool) → lentRight (past .world) ids buffer ≡ b →
-          after (Frame time ids frame buffer) past .world ≡ frameCall (past .world) time ids frame buffer .world
+      at : (b : Bool) → lentRight (past .bankState) ids buffer ≡ b →
+          after (Frame time ids frame buffer) past .bankState ≡ frameCall (past .bankState) time ids frame buffer .bankState
       at true e =
-          let l = call-lengths (past .world) ids buffer e in
-          ap (λ (r : Past). r .world) (frame-entered (l .0) (l .1)) ∙ rw e
+          let l = call-lengths (past .bankState) ids buffer e in
+          ap (λ (r : Past). r .bankState) (frame-entered (l .0) (l .1)) ∙ rw e
       at false e = rw e

@@ -23,7 +23,7 @@ use Rattle.bank_state.specs.declared.state.Download.{Download}
 use Rattle.bank_state.specs.declared.state.Place.{Place}
 use Rattle.bank_state.specs.Limits.{placeCount}
 use Rattle.bank_state.specs.Search.{freePlace, isUpload, findUpload, isDownload, findDownload}
-use Rattle.bank_state.specs.State.{World, placeAt, downloadAt, fileLength}
+use Rattle.bank_state.specs.State.{BankState, placeAt, downloadAt, fileLength}
 use Rattle.bank_state.proofs.Rows.{first-passes}
 use Rattle.bank_verdicts.specs.declared.verdict.Direction.the-variants as direction
 use Rattle.bank_verdicts.specs.declared.verdict.TransactionRequest.{TransactionRequest}
@@ -83,7 +83,7 @@ requestForm asked.DownloadTransfer = forms.DownloadTransfer
 requestForm asked.Receipt = forms.Receipt
 
 -- a request to the open upload that is found
-pub record ToUpload (w : World) (q : Fields) (d : List ℕ) (r : TransactionRequest) (a : UploadAction) : Type 0 where
+pub record ToUpload (w : BankState) (q : Fields) (d : List ℕ) (r : TransactionRequest) (a : UploadAction) : Type 0 where
   pub readable : Readable q (length d)
   pub asked : form q ≡ requestForm r
   pub inside : uploadAt (w .bank) q < placeCount
@@ -91,7 +91,7 @@ pub record ToUpload (w : World) (q : Fields) (d : List ℕ) (r : TransactionRequ
   pub sound : UploadSound r (placeAt (w .bank) (uploadAt (w .bank) q)) q (length d) a
 
 -- a request to the open download that is found
-pub record ToDownload (w : World) (q : Fields) (d : List ℕ) (r : TransactionRequest) (a : DownloadAction) : Type 0 where
+pub record ToDownload (w : BankState) (q : Fields) (d : List ℕ) (r : TransactionRequest) (a : DownloadAction) : Type 0 where
   pub readable : Readable q (length d)
   pub asked : form q ≡ requestForm r
   pub inside : downloadOf (w .bank) q < placeCount
@@ -99,7 +99,7 @@ pub record ToDownload (w : World) (q : Fields) (d : List ℕ) (r : TransactionRe
   pub sound : DownloadSound r (downloadAt (w .bank) (downloadOf (w .bank) q)) (mailboxSegments (subscriber q) (w .bank)) q a
 
 -- what an action leaves of the upload that is found
-pub upload-acts : {w : World} {q : Fields} {d : List ℕ} {r : TransactionRequest} {a : UploadAction} (t : Bits128) → ToUpload w q d r a →
+pub upload-acts : {w : BankState} {q : Fields} {d : List ℕ} {r : TransactionRequest} {a : UploadAction} (t : Bits128) → ToUpload w q d r a →
     uploadActs a t w q d ≡ onUpload a (uploadAt (w .bank) q) w d
 upload-acts {w} {q} {d} {r} {a} t c = at (c .sound)
   where
@@ -134,7 +134,7 @@ download-goes-on (cancelled fits many) = refl
 download-goes-on (confirmed t whole taken) = refl
 download-goes-on (declined t whole other) = refl
 
-pub data Happens (first : ℕ) (w : World) (q : Fields) (d : List ℕ) : Verdict → Type 0 where
+pub data Happens (first : ℕ) (w : BankState) (q : Fields) (d : List ℕ) : Verdict → Type 0 where
   unreadable : Happens first w q d verdict.Unreadable
   refused : (c : ReturnCode) → cancels c ≡ false → Happens first w q d (verdict.Refused c)
   opensUpload : form q ≡ forms.UploadOpening → Readable q (length d) → Acceptable (w .bank) q → (segments q ≡ 0 → ⊥) →
@@ -149,7 +149,7 @@ pub data Happens (first : ℕ) (w : World) (q : Fields) (d : List ℕ) : Verdict
   toDownload : (r : TransactionRequest) (a : DownloadAction) → ToDownload w q d r a →
       Happens first w q d (verdict.Of (downloadAt (w .bank) (downloadOf (w .bank) q) .transaction) (action.Download a))
 
-module _ (first : ℕ) (w : World) (q : Fields) (d : List ℕ) (rowed : length (w .bank .places) ≡ placeCount)
+module _ (first : ℕ) (w : BankState) (q : Fields) (d : List ℕ) (rowed : length (w .bank .places) ≡ placeCount)
     (listed : length (w .bank .downloads) ≡ placeCount) where
   abbrev Comes : Verdict → Type 0
   Comes v = Happens first w q d v

@@ -23,7 +23,7 @@ use Rattle.bank_state.specs.declared.state.Place.{Place}
 use Rattle.bank_state.specs.declared.state.Use.the-variants.{Open}
 use Rattle.bank_state.specs.Clock.{advanced, endDownloads}
 use Rattle.bank_state.specs.Search.{isFree}
-use Rattle.bank_state.specs.State.{World, world, noPlace, noDownload, placeAt, fileLength, withDownload}
+use Rattle.bank_state.specs.State.{BankState, bankState, noPlace, noDownload, placeAt, fileLength, withDownload}
 use Rattle.bank_state.specs.Store.{partAt, fileOf}
 use Rattle.bank_openings.specs.Openings.{counted, openUpload, openDownload}
 use Rattle.bank_verdicts.specs.declared.verdict.UploadAction.{UploadAction}
@@ -66,7 +66,7 @@ use Rattle.bank_history.specs.History.{
   after,
 }
 use Rattle.bank_history.specs.Invariant.{Sizes, Invariant, Holds}
-use Rattle.bank_history.specs.Standing.{Emptied, Filled, Gone, filled, answered}
+use Rattle.bank_history.specs.Transactions.{Emptied, Filled, Gone, filled, answered}
 use Rattle.bank_state.proofs.Drops.{each-endDownloads}
 use Rattle.bank_history.proofs.Rows.{each-set-all}
 use Rattle.message.proofs.Verdicts.{by-test}
@@ -101,38 +101,38 @@ pub after-frame : (time : ℕ) (ids frame buffer : List ℕ) (p : Past) →
     (after (Frame time ids frame buffer) p ≡ p) ⊎ (after (Frame time ids frame buffer) p ≡ answered time ids frame p)
 unfolding after frameCall
 after-frame time ids frame buffer p =
-    by-test (λ (c : FrameCall). (entered (c .answer) (c .world) x p ≡ p) ⊎ (entered (c .answer) (c .world) x p ≡ answered time ids frame p))
-    (lentRight (p .world) ids buffer) (λ _. at (replied s buffer .answer)) (λ _. inl refl)
+    by-test (λ (c : FrameCall). (entered (c .answer) (c .bankState) x p ≡ p) ⊎ (entered (c .answer) (c .bankState) x p ≡ answered time ids frame p))
+    (lentRight (p .bankState) ids buffer) (λ _. at (replied s buffer .answer)) (λ _. inl refl)
   where
     s : Step
-    s = respond (number ids) (advanced time (p .world)) (readRequest frame) (dataOf frame)
+    s = respond (number ids) (advanced time (p .bankState)) (readRequest frame) (dataOf frame)
 
     x : Exchange
-    x = exchangeOf (number ids) (advanced time (p .world)) (readRequest frame) (dataOf frame)
+    x = exchangeOf (number ids) (advanced time (p .bankState)) (readRequest frame) (dataOf frame)
 
-    at : (a : FrameAnswer) → (entered a (s .world) x p ≡ p) ⊎ (entered a (s .world) x p ≡ answered time ids frame p)
+    at : (a : FrameAnswer) → (entered a (s .bankState) x p ≡ p) ⊎ (entered a (s .bankState) x p ≡ answered time ids frame p)
     at (Reply n) = inr refl
     at WrongLength = inl refl
 
 -- an empty mailbox has no file
-pub no-file : (w : World) (m : ℕ) → fileLength m (w .bank .files) ≡ 0 → mailboxFile w m ≡ []
+pub no-file : (w : BankState) (m : ℕ) → fileLength m (w .bank .files) ≡ 0 → mailboxFile w m ≡ []
 unfolding mailboxFile fileOf
-no-file w m e = ap (λ (n : ℕ). take n (partAt (w .boxes) (m - 1))) e
+no-file w m e = ap (λ (n : ℕ). take n (partAt (w .mailboxes) (m - 1))) e
 
 -- a file call is given a number and changes nothing, or its file goes in
 pub after-file : (mailbox : ℕ) (file : List ℕ) (p : Past) → Holds p →
     (after (File mailbox file) p ≡ p)
-    ⊎ ((after (File mailbox file) p ≡ record { world = filled mailbox file (p .world); history = p .history }) × Filled (p .world)
-    (filled mailbox file (p .world)) mailbox file)
+    ⊎ ((after (File mailbox file) p ≡ record { bankState = filled mailbox file (p .bankState); history = p .history }) × Filled (p .bankState)
+    (filled mailbox file (p .bankState)) mailbox file)
 unfolding after fileCall
-after-file mailbox file p holds = at (judged-file (p .world .bank) mailbox file (p .world .boxes))
+after-file mailbox file p holds = at (judged-file (p .bankState .bank) mailbox file (p .bankState .mailboxes))
   where
     c : FileAnswer → Past
-    c a = let f = carryOutFile a (p .world .bank) mailbox file (p .world .boxes) in placed (f .answer) (f .bank) (f .boxes) p
+    c a = let f = carryOutFile a (p .bankState .bank) mailbox file (p .bankState .mailboxes) in placed (f .answer) (f .bank) (f .mailboxes) p
 
     Out : Past → Type 0
-    Out r = (r ≡ p) ⊎ ((r ≡ record { world = filled mailbox file (p .world); history = p .history }) × Filled (p .world)
-        (filled mailbox file (p .world)) mailbox file)
+    Out r = (r ≡ p) ⊎ ((r ≡ record { bankState = filled mailbox file (p .bankState); history = p .history }) × Filled (p .bankState)
+        (filled mailbox file (p .bankState)) mailbox file)
 
     stays : (a : FileAnswer) → 0 < fileNumber a → c a ≡ p
     stays put.Done h = absurd (omega arith)
@@ -141,21 +141,21 @@ after-file mailbox file p holds = at (judged-file (p .world .bank) mailbox file 
     stays put.WrongFile h = refl
     stays put.MailboxFull h = refl
 
-    at : {a : FileAnswer} → FileSound (p .world .bank) mailbox file (p .world .boxes) a → Out (c a)
+    at : {a : FileAnswer} → FileSound (p .bankState .bank) mailbox file (p .bankState .mailboxes) a → Out (c a)
     at {a} (rejected h) = inl (stays a h)
     at (done known most some short empty) = inr (
       refl,
       record {
-        was = no-file (p .world) mailbox empty;
-        now = filled-same (p .world) (p .history) (holds .invariant) mailbox file known most some short empty;
-        others = λ n k d. filled-other (p .world) (p .history) (holds .invariant) mailbox file known most some short empty n
+        was = no-file (p .bankState) mailbox empty;
+        now = filled-same (p .bankState) (p .history) (holds .invariant) mailbox file known most some short empty;
+        others = λ n k d. filled-other (p .bankState) (p .history) (holds .invariant) mailbox file known most some short empty n
             (λ e. d (omega arith));
       },
     )
 
 -- ---- mailboxes
 
-module _ (first : ℕ) (w : World) (h : List Exchange) (v : Invariant w h) (q : Fields) (d : List ℕ) (m : ℕ) (one : 1 ≤ m) where
+module _ (first : ℕ) (w : BankState) (h : List Exchange) (v : Invariant w h) (q : Fields) (d : List ℕ) (m : ℕ) (one : 1 ≤ m) where
   -- a verdict leaves the mailbox m, or has emptied it
   abbrev Mailbox : Verdict → Type 0
   Mailbox u = (mailboxFile (carryOut u w q d) m ≡ mailboxFile w m) ⊎ Emptied (carryOut u w q d) m (entry u w q d)
@@ -176,7 +176,7 @@ module _ (first : ℕ) (w : World) (h : List Exchange) (v : Invariant w h) (q : 
             ∙ getD-set-same (w .bank .files) (subscriber q - 1) 0 0 (let z = v .state .sizes .files in omega arith));
       })
       own (no n) = inl (
-          mailbox-other w (subscriber q - 1) (v .state .sizes .boxes) (omega arith) (w .bank .clock) (w .bank .openings)
+          mailbox-other w (subscriber q - 1) (v .state .sizes .mailboxes) (omega arith) (w .bank .clock) (w .bank .openings)
           (endDownloads (ended.Mailbox (subscriber q)) (w .bank .downloads)) (w .bank .nonces) m (λ e. n (omega arith)))
 
   download-mailbox : 1 ≤ subscriber q → subscriber q ≤ subscribers → (t : Bits128) (a : DownloadAction) →
@@ -198,27 +198,27 @@ module _ (first : ℕ) (w : World) (h : List Exchange) (v : Invariant w h) (q : 
   case-mailbox (opensUpload asked a g n inside) = inl refl
   case-mailbox (opensDownload asked a g n) = inl refl
   case-mailbox (toUpload r a t) =
-      inl (ap (λ (z : World). mailboxFile z m) (upload-acts (placeAt (w .bank) (uploadAt (w .bank) q) .transaction) t))
+      inl (ap (λ (z : BankState). mailboxFile z m) (upload-acts (placeAt (w .bank) (uploadAt (w .bank) q) .transaction) t))
   case-mailbox (toDownload r a t) = download-mailbox (t .readable .known) (t .readable .most) _ a
 
 -- a mailbox changes by a file put in, or by a receipt of its subscriber answered 011000
 pub frame-mailbox : (time : ℕ) (ids frame : List ℕ) (p : Past) (m : ℕ) → Holds p → 1 ≤ m →
-    (mailboxFile (answered time ids frame p .world) m ≡ mailboxFile (p .world) m)
-    ⊎ Emptied (answered time ids frame p .world) m (exchangeOf (number ids) (advanced time (p .world)) (readRequest frame) (dataOf frame))
+    (mailboxFile (answered time ids frame p .bankState) m ≡ mailboxFile (p .bankState) m)
+    ⊎ Emptied (answered time ids frame p .bankState) m (exchangeOf (number ids) (advanced time (p .bankState)) (readRequest frame) (dataOf frame))
 unfolding exchangeOf respond
 frame-mailbox time ids frame p m holds one =
     at (case-mailbox (number ids) w (p .history) v (readRequest frame) (dataOf frame) m one
     (happens (number ids) w (readRequest frame) (dataOf frame) (v .state .sizes .places) (v .state .sizes .downloads)))
   where
-    w : World
-    w = advanced time (p .world)
+    w : BankState
+    w = advanced time (p .bankState)
 
     v : Invariant w (p .history)
-    v = advanced-keeps time (p .world) (p .history) (holds .invariant)
+    v = advanced-keeps time (p .bankState) (p .history) (holds .invariant)
 
-    at : {E : Type 0} → (mailboxFile (answered time ids frame p .world) m ≡ mailboxFile w m) ⊎ E →
-        (mailboxFile (answered time ids frame p .world) m ≡ mailboxFile (p .world) m) ⊎ E
-    at (inl e) = inl (e ∙ advanced-mailbox time (p .world) m)
+    at : {E : Type 0} → (mailboxFile (answered time ids frame p .bankState) m ≡ mailboxFile w m) ⊎ E →
+        (mailboxFile (answered time ids frame p .bankState) m ≡ mailboxFile (p .bankState) m) ⊎ E
+    at (inl e) = inl (e ∙ advanced-mailbox time (p .bankState) m)
     at (inr z) = inr z
 
 -- ---- nothing gone comes back
@@ -231,14 +231,14 @@ module _ (t : Bits128) where
   abbrev DownloadNot : Download → Type 0
   DownloadNot e = e .used ≡ true → e .transaction ≡ t → ⊥
 
-  advanced-gone : (time : ℕ) (w : World) → Sizes w → Gone w t → Gone (advanced time w) t
+  advanced-gone : (time : ℕ) (w : BankState) → Sizes w → Gone w t → Gone (advanced time w) t
   advanced-gone time w s g = record {
     known = rw (advanced-openings time w) (g .known);
     places = each-advanced time w (λ (i : ℕ) (p : Place). PlaceNot p) (λ i e. never (sym e)) s (λ i _. g .places i);
     downloads = each-download time w DownloadNot (λ e. never e) (λ j _. g .downloads j);
   }
 
-  module _ (w : World) (g : Gone w t) where
+  module _ (w : BankState) (g : Gone w t) where
     place-gone : (i : ℕ) (p : Place) → PlaceNot p → (k : ℕ) → PlaceNot (getD (set (w .bank .places) i p) k noPlace)
     place-gone i p new = each-set-all PlaceNot (w .bank .places) i p noPlace new (g .places)
 
@@ -246,7 +246,7 @@ module _ (t : Bits128) where
     download-gone j e new = each-set-all DownloadNot (w .bank .downloads) j e noDownload new (g .downloads)
 
     moved-gone : (j : ℕ) (e : Download) → DownloadNot e →
-        Gone (world (withDownload j e (w .bank)) (w .orders) (w .boxes)) t
+        Gone (bankState (withDownload j e (w .bank)) (w .orders) (w .mailboxes)) t
     moved-gone j e new = record { known = g .known; places = g .places; downloads = download-gone j e new }
 
     ended-gone : (which : Ended) (k : ℕ) → DownloadNot (getD (endDownloads which (w .bank .downloads)) k noDownload)
@@ -291,39 +291,39 @@ module _ (t : Bits128) where
         record { known = let k = g .known in omega arith; places = g .places; downloads = download-gone _ _ (λ _. fresh-number _ refl) }
     case-gone first q d (toUpload r a c) =
         let i = uploadAt (w .bank) q in
-        subst (λ (z : World). Gone z t) (sym (upload-acts (placeAt (w .bank) i .transaction) c))
+        subst (λ (z : BankState). Gone z t) (sym (upload-acts (placeAt (w .bank) i .transaction) c))
         (upload-gone i d (upload-found (subscriber q) (transaction q) (placeAt (w .bank) i) (c .found) .0) a)
     case-gone first q d (toDownload r a c) = download-step-gone q _ a (download-goes-on (c .sound))
 
   -- an answered frame brings back nothing that is gone when its request is judged
-  pub answered-gone : (time : ℕ) (ids frame : List ℕ) (p : Past) → Holds p → Gone (advanced time (p .world)) t →
-      Gone (answered time ids frame p .world) t
+  pub answered-gone : (time : ℕ) (ids frame : List ℕ) (p : Past) → Holds p → Gone (advanced time (p .bankState)) t →
+      Gone (answered time ids frame p .bankState) t
   unfolding respond
   answered-gone time ids frame p holds g =
-      let v = advanced-keeps time (p .world) (p .history) (holds .invariant) in
-      case-gone (advanced time (p .world)) g (number ids) (readRequest frame) (dataOf frame)
-      (happens (number ids) (advanced time (p .world)) (readRequest frame) (dataOf frame) (v .state .sizes .places)
+      let v = advanced-keeps time (p .bankState) (p .history) (holds .invariant) in
+      case-gone (advanced time (p .bankState)) g (number ids) (readRequest frame) (dataOf frame)
+      (happens (number ids) (advanced time (p .bankState)) (readRequest frame) (dataOf frame) (v .state .sizes .places)
       (v .state .sizes .downloads))
 
   -- what is gone stays gone, whatever the call
-  pub gone-stays : (c : BankCall) (p : Past) → Holds p → Gone (p .world) t → Gone (after c p .world) t
+  pub gone-stays : (c : BankCall) (p : Past) → Holds p → Gone (p .bankState) t → Gone (after c p .bankState) t
   gone-stays (Frame time ids frame buffer) p holds g = at (after-frame time ids frame buffer p)
     where
-      new : Gone (answered time ids frame p .world) t
-      new = answered-gone time ids frame p holds (advanced-gone time (p .world) (holds .invariant .state .sizes) g)
+      new : Gone (answered time ids frame p .bankState) t
+      new = answered-gone time ids frame p holds (advanced-gone time (p .bankState) (holds .invariant .state .sizes) g)
 
       at : (after (Frame time ids frame buffer) p ≡ p) ⊎ (after (Frame time ids frame buffer) p ≡ answered time ids frame p) →
-          Gone (after (Frame time ids frame buffer) p .world) t
-      at (inl e) = subst (λ (r : Past). Gone (r .world) t) (sym e) g
-      at (inr e) = subst (λ (r : Past). Gone (r .world) t) (sym e) new
+          Gone (after (Frame time ids frame buffer) p .bankState) t
+      at (inl e) = subst (λ (r : Past). Gone (r .bankState) t) (sym e) g
+      at (inr e) = subst (λ (r : Past). Gone (r .bankState) t) (sym e) new
   gone-stays (File mailbox file) p holds g = at (after-file mailbox file p holds)
     where
-      new : Gone (filled mailbox file (p .world)) t
+      new : Gone (filled mailbox file (p .bankState)) t
       new = record { known = g .known; places = g .places; downloads = g .downloads }
 
       at : (after (File mailbox file) p ≡ p)
-          ⊎ ((after (File mailbox file) p ≡ record { world = filled mailbox file (p .world); history = p .history }) × Filled (p .world)
-          (filled mailbox file (p .world)) mailbox file) →
-          Gone (after (File mailbox file) p .world) t
-      at (inl e) = subst (λ (r : Past). Gone (r .world) t) (sym e) g
-      at (inr e) = subst (λ (r : Past). Gone (r .world) t) (sym (e .0)) new
+          ⊎ ((after (File mailbox file) p ≡ record { bankState = filled mailbox file (p .bankState); history = p .history }) × Filled (p .bankState)
+          (filled mailbox file (p .bankState)) mailbox file) →
+          Gone (after (File mailbox file) p .bankState) t
+      at (inl e) = subst (λ (r : Past). Gone (r .bankState) t) (sym e) g
+      at (inr e) = subst (λ (r : Past). Gone (r .bankState) t) (sym (e .0)) new

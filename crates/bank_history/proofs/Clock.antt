@@ -28,7 +28,7 @@ use Rattle.bank_state.specs.Clock.{
 }
 use Rattle.bank_state.specs.Limits.{placeCount, idleLimit}
 use Rattle.bank_state.specs.Search.{isOpen, openCount, openCountOf}
-use Rattle.bank_state.specs.State.{World, world, noPlace, noDownload, placeAt, downloadAt, fileLength}
+use Rattle.bank_state.specs.State.{BankState, bankState, noPlace, noDownload, placeAt, downloadAt, fileLength}
 use Rattle.bank_state.specs.Store.{partAt, zeroed}
 use Rattle.bank_state.proofs.Rows.{count-keepOnly}
 use Rattle.bank_state.proofs.Stores.{length-zeroed, zeroed-same, zeroed-other}
@@ -56,15 +56,15 @@ use Rattle.bank_history.proofs.Uploads.{still-booked}
 -- ---- a later clock
 
 -- the state at a later clock, but for its uploads
-at-clock : (c : ℕ) (w : World) (h : List Exchange) → w .bank .clock ≤ c → Invariant w h →
-    Invariant (world (atClock c (w .bank)) (w .orders) (w .boxes)) h
+at-clock : (c : ℕ) (w : BankState) (h : List Exchange) → w .bank .clock ≤ c → Invariant w h →
+    Invariant (bankState (atClock c (w .bank)) (w .orders) (w .mailboxes)) h
 unfolding atClock endDownloads openCount openCountOf mailboxFile fileLength
 at-clock c w h l v = download-change w c (w .bank .openings) (endDownloads (ended.Idle c) (w .bank .downloads))
-    (forget c (w .bank .nonces)) (w .bank .files) (w .boxes) v (record {
+    (forget c (w .bank .nonces)) (w .bank .files) (w .mailboxes) v (record {
       listed = length-endDownloads (ended.Idle c) (w .bank .downloads) ∙ v .state .sizes .downloads;
       remembered = length-forget c (w .bank .nonces) ∙ v .state .sizes .nonces;
       filed = v .state .sizes .files;
-      stored = v .state .sizes .boxes;
+      stored = v .state .sizes .mailboxes;
       counted = v .counted;
       numbers = v .state .numbers;
       places = λ i a. (
@@ -81,7 +81,7 @@ at-clock c w h l v = download-change w c (w .bank .openings) (endDownloads (ende
                 (v .state .downloads j),
             v .downloads j,
           ));
-      mailboxes = v .state .mailboxes;
+      mailboxesHold = v .state .mailboxesHold;
       apart = λ i j a f. each-endDownloads (λ (r : Download). r .used ≡ true →
           placeAt (w .bank) i .transaction .low ≡ r .transaction .low → ⊥)
           (λ g. never g) (ended.Idle c) (w .bank .downloads) (λ m _ g. v .state .apart i m a f) j;
@@ -104,7 +104,7 @@ at-clock c w h l v = download-change w c (w .bank .openings) (endDownloads (ende
 
 -- ---- the drops
 
-freed-keeps : (i : ℕ) (w : World) (h : List Exchange) → i < placeCount → isOpen (placeAt (w .bank) i .used) ≡ true → Invariant w h →
+freed-keeps : (i : ℕ) (w : BankState) (h : List Exchange) → i < placeCount → isOpen (placeAt (w .bank) i .used) ≡ true → Invariant w h →
     Invariant (freed i w) h
 unfolding freed openCount openCountOf
 freed-keeps i w h inside opened v =
@@ -135,35 +135,35 @@ freed-keeps i w h inside opened v =
     open-not-booked : placeAt (w .bank) i .used ≡ Booked → ⊥
     open-not-booked e = never (sym (ap isOpen e) ∙ opened)
 
-drop-keeps : (i : ℕ) (w : World) (h : List Exchange) → i < placeCount → Invariant w h → Invariant (dropUpload i w) h
+drop-keeps : (i : ℕ) (w : BankState) (h : List Exchange) → i < placeCount → Invariant w h → Invariant (dropUpload i w) h
 unfolding dropUpload
 drop-keeps i w h inside v =
-    by-test (λ (z : World). Invariant z h) (isOpen (placeAt (w .bank) i .used) && isIdle (w .bank .clock) (placeAt (w .bank) i .last))
+    by-test (λ (z : BankState). Invariant z h) (isOpen (placeAt (w .bank) i .used) && isIdle (w .bank .clock) (placeAt (w .bank) i .last))
     (λ e. freed-keeps i w h inside (and-true (isOpen (placeAt (w .bank) i .used)) _ e .0) v) (λ _. v)
 
-drops-keep : (n : ℕ) (w : World) (h : List Exchange) → n ≤ placeCount → Invariant w h → Invariant (dropUploads n w) h
+drops-keep : (n : ℕ) (w : BankState) (h : List Exchange) → n ≤ placeCount → Invariant w h → Invariant (dropUploads n w) h
 unfolding dropUploads
 drops-keep zero w h l v = v
 drops-keep (suc n) w h l v = drop-keeps n (dropUploads n w) h (omega arith) (drops-keep n w h (omega arith) v)
 
-pub advanced-keeps : (time : ℕ) (w : World) (h : List Exchange) → Invariant w h → Invariant (advanced time w) h
+pub advanced-keeps : (time : ℕ) (w : BankState) (h : List Exchange) → Invariant w h → Invariant (advanced time w) h
 unfolding advanced
 advanced-keeps time w h v = drops-keep placeCount _ h (omega arith) (at-clock (max (w .bank .clock) time) w h (omega arith) v)
 
 -- ---- what the clock leaves
 
 -- the lengths, as the laws of bank_state ask for them
-pub sized : {w : World} → Sizes w → Sized w
+pub sized : {w : BankState} → Sizes w → Sized w
 sized s = record {
   places = s .places;
   downloads = s .downloads;
   nonces = s .nonces;
   files = s .files;
   orders = s .orders;
-  boxes = s .boxes;
+  mailboxes = s .mailboxes;
 }
 
-module _ (time : ℕ) (w : World) where
+module _ (time : ℕ) (w : BankState) where
   pub advanced-clock : advanced time w .bank .clock ≡ max (w .bank .clock) time
   advanced-clock = advanced-at-clock time w .clock
 
@@ -173,7 +173,7 @@ module _ (time : ℕ) (w : World) where
   -- "Putting a file ..." and 011000 alone change a mailbox
   pub advanced-mailbox : (m : ℕ) → mailboxFile (advanced time w) m ≡ mailboxFile w m
   unfolding mailboxFile fileLength
-  advanced-mailbox m = let s = advanced-at-clock time w in rw (s .files, s .boxes)
+  advanced-mailbox m = let s = advanced-at-clock time w in rw (s .files, s .mailboxes)
 
   -- what holds of the free record and of each download that is not idle holds of each download then
   pub each-download : (P : Download → Type 0) → P noDownload →

@@ -21,7 +21,7 @@ use Rattle.bank_state.specs.declared.state.Use.the-variants.{Free, Open, Booked
 use Rattle.bank_state.specs.Clock.{advanced, endDownloads}
 use Rattle.bank_state.specs.Limits.{placeCount}
 use Rattle.bank_state.specs.Search.{isFree, isOpen, freePlace, freeDownload}
-use Rattle.bank_state.specs.State.{World, noPlace, noDownload, fresh, placeAt, downloadAt}
+use Rattle.bank_state.specs.State.{BankState, noPlace, noDownload, fresh, placeAt, downloadAt}
 use Rattle.bank_state.proofs.Drops.{each-endDownloads}
 use Rattle.bank_state.proofs.Found.{upload-found, download-found}
 use Rattle.bank_openings.specs.Openings.{counted, newPlace, newDownload, openUpload, openDownload}
@@ -112,7 +112,7 @@ pub record Counts (h : List Exchange) (t : Bits128) (attempts last : ℕ) : Type
   pub tries : times isAttempt t h ≡ attempts
   pub fitted : Fitted t last h
 
-pub record Counted (w : World) (h : List Exchange) : Type 0 where
+pub record Counted (w : BankState) (h : List Exchange) : Type 0 where
   pub places : (i : ℕ) → i < placeCount → isOpen (placeAt (w .bank) i .used) ≡ true →
       Counts h (placeAt (w .bank) i .transaction) (placeAt (w .bank) i .attempts) (placeAt (w .bank) i .last)
   pub downloads : (j : ℕ) → downloadAt (w .bank) j .used ≡ true →
@@ -163,7 +163,7 @@ open-used Booked z = never z
 
 -- ---- clock and drops
 
-advanced-counted : (time : ℕ) (w : World) (h : List Exchange) → Sizes w → Counted w h → Counted (advanced time w) h
+advanced-counted : (time : ℕ) (w : BankState) (h : List Exchange) → Sizes w → Counted w h → Counted (advanced time w) h
 advanced-counted time w h s c = record {
   places = each-advanced time w (λ (i : ℕ) (p : Place). i < placeCount → isOpen (p .used) ≡ true → Counts h (p .transaction) (p .attempts) (p .last))
       (λ i _ z. never z) s (λ i _. c .places i);
@@ -173,7 +173,7 @@ advanced-counted time w h s c = record {
 
 -- ---- a request
 
-module _ (w : World) (h : List Exchange) (v : Invariant w h) (c : Counted w h) (q : Fields) (d : List ℕ) where
+module _ (w : BankState) (h : List Exchange) (v : Invariant w h) (c : Counted w h) (q : Fields) (d : List ℕ) where
   abbrev PlaceCounts : List Exchange → Place → Type 0
   PlaceCounts g p = isOpen (p .used) ≡ true → Counts g (p .transaction) (p .attempts) (p .last)
 
@@ -326,7 +326,7 @@ module _ (w : World) (h : List Exchange) (v : Invariant w h) (c : Counted w h) (
   case-counted first (toUpload r a s) =
       let i = uploadAt (w .bank) q in
       let t = placeAt (w .bank) i .transaction in
-      subst (λ (z : World). Counted z (entry (verdict.Of t (action.Upload a)) w q d ∷ h)) (sym (upload-acts t s))
+      subst (λ (z : BankState). Counted z (entry (verdict.Of t (action.Upload a)) w q d ∷ h)) (sym (upload-acts t s))
       (upload-counted i (s .inside) (upload-found (subscriber q) (transaction q) (placeAt (w .bank) i) (s .found) .0) a
       (upload-goes-on (s .sound)))
   case-counted first (toDownload r a s) =
@@ -335,30 +335,30 @@ module _ (w : World) (h : List Exchange) (v : Invariant w h) (c : Counted w h) (
 
 -- ---- after every list of calls
 
-start-counted : Counted (start .world) (start .history)
+start-counted : Counted (start .bankState) (start .history)
 unfolding start fresh
 start-counted = record {
   places = λ i b z. never (sym (ap (λ (p : Place). isOpen (p .used)) (getD-free noPlace placeCount i)) ∙ z);
   downloads = λ j z. never (sym (ap (λ (e : Download). e .used) (getD-free noDownload placeCount j)) ∙ z);
 }
 
-pub past-counted : (calls : List BankCall) → Counted (pastOf calls .world) (pastOf calls .history)
+pub past-counted : (calls : List BankCall) → Counted (pastOf calls .bankState) (pastOf calls .history)
 unfolding pastOf exchangeOf respond
 past-counted [] = start-counted
 past-counted (call ∷ calls) =
     let p = pastOf calls in
     let holds = past-holds calls in
     let c = past-counted calls in
-    by-call (λ (r : Past). Counted (r .world) (r .history)) call p holds c
+    by-call (λ (r : Past). Counted (r .bankState) (r .history)) call p holds c
     (λ time ids frame buffer e z.
-    let w = advanced time (p .world) in
-    let v = advanced-keeps time (p .world) (p .history) (holds .invariant) in
-    case-counted w (p .history) v (advanced-counted time (p .world) (p .history) (holds .invariant .state .sizes) c) (readRequest frame)
+    let w = advanced time (p .bankState) in
+    let v = advanced-keeps time (p .bankState) (p .history) (holds .invariant) in
+    case-counted w (p .history) v (advanced-counted time (p .bankState) (p .history) (holds .invariant .state .sizes) c) (readRequest frame)
     (dataOf frame) (number ids)
     (happens (number ids) w (readRequest frame) (dataOf frame) (v .state .sizes .places) (v .state .sizes .downloads)))
     (λ m f e. record { places = c .places; downloads = c .downloads })
 
 -- the bank as the next request is judged
-pub judged-counted : (calls : List BankCall) (time : ℕ) → Counted (advanced time (pastOf calls .world)) (pastOf calls .history)
+pub judged-counted : (calls : List BankCall) (time : ℕ) → Counted (advanced time (pastOf calls .bankState)) (pastOf calls .history)
 judged-counted calls time =
-    advanced-counted time (pastOf calls .world) (pastOf calls .history) (past-holds calls .invariant .state .sizes) (past-counted calls)
+    advanced-counted time (pastOf calls .bankState) (pastOf calls .history) (past-holds calls .invariant .state .sizes) (past-counted calls)

@@ -7,9 +7,9 @@ use lib.ListN.{length, getD}
 use Rattle.frame_table.specs.declared.fields.Bits128.{Bits128}
 use Rattle.bank_state.specs.declared.state.Download.{Download}
 use Rattle.bank_state.specs.declared.state.Nonce.{Nonce}
-use Rattle.bank_state.specs.Limits.{placeCount, storeBytes, nonceCount, openMost, openPerSubscriber, openingsMost}
+use Rattle.bank_state.specs.Limits.{placeCount, storeBytes, nonceCount, maxOpen, openPerSubscriber, maxOpenings}
 use Rattle.bank_state.specs.Search.{isFree, openCount, openCountOf}
-use Rattle.bank_state.specs.State.{World, world, noDownload, placeAt}
+use Rattle.bank_state.specs.State.{BankState, bankState, noDownload, placeAt}
 use Rattle.bank_state.specs.Store.{partAt}
 use Rattle.bank_history.specs.History.{Exchange, mailboxFile, accepted, ever, isAction, isBooking}
 use Rattle.bank_history.specs.Packed.{Packed}
@@ -19,42 +19,42 @@ use Rattle.bank_history.proofs.Memory.{memory-nonces}
 use Rattle.bank_history.proofs.Parts.{PlaceKept, DownloadKept}
 
 -- the bank with these parts, its places and their store as they are
-abbrev pub besides : ℕ → ℕ → List Download → List Nonce → List ℕ → List ℕ → World → World
-besides clock openings downloads nonces files boxes w =
-    world
+abbrev pub besides : ℕ → ℕ → List Download → List Nonce → List ℕ → List ℕ → BankState → BankState
+besides clock openings downloads nonces files mailboxes w =
+    bankState
     (record { clock = clock; openings = openings; places = w .bank .places; downloads = downloads; nonces = nonces; files = files })
     (w .orders)
-    boxes
+    mailboxes
 
-module _ (w : World) (c o : ℕ) (downs : List Download) (nonces : List Nonce) (files boxes : List ℕ) where
-  abbrev after : World
-  after = besides c o downs nonces files boxes w
+module _ (w : BankState) (c o : ℕ) (downs : List Download) (nonces : List Nonce) (files mailboxes : List ℕ) where
+  abbrev after : BankState
+  after = besides c o downs nonces files mailboxes w
 
   -- what is new, with the history g
   pub record DownloadChange (g : List Exchange) : Type 0 where
     pub listed : length downs ≡ placeCount
     pub remembered : length nonces ≡ nonceCount
     pub filed : length files ≡ placeCount
-    pub stored : length boxes ≡ storeBytes
+    pub stored : length mailboxes ≡ storeBytes
     pub counted : o ≡ accepted g
-    pub numbers : o ≤ openingsMost
+    pub numbers : o ≤ maxOpenings
     pub places : (i : ℕ) → i < placeCount → PlaceKept (placeAt (w .bank) i .used) c o g (placeAt (w .bank) i) (partAt (w .orders) i)
     pub downloads : (j : ℕ) →
         DownloadKept (getD downs j noDownload .used) c o g (mailboxFile after (getD downs j noDownload .subscriber))
         (getD downs j noDownload)
-    pub mailboxes : (i : ℕ) → i < placeCount → MailboxHolds (getD files i 0) (partAt boxes i)
+    pub mailboxesHold : (i : ℕ) → i < placeCount → MailboxHolds (getD files i 0) (partAt mailboxes i)
     pub apart : (i j : ℕ) → i < placeCount → isFree (placeAt (w .bank) i .used) ≡ false → getD downs j noDownload .used ≡ true →
         placeAt (w .bank) i .transaction .low ≡ getD downs j noDownload .transaction .low → ⊥
     pub inOrder : Packed (λ (e : Download). e .used) noDownload (λ (e : Download). e .transaction .low)
         (λ (e : Download). suc (e .transaction .low)) 0 downs
     pub memory : Memory c nonces g
-    pub openAll : openCount (after .bank) ≤ openMost
+    pub openAll : openCount (after .bank) ≤ maxOpen
     pub openOf : (s : ℕ) → openCountOf s (after .bank) ≤ openPerSubscriber
     pub known : (t : Bits128) → ever isAction t g ≡ true → t .low < o
     pub booked : (t : Bits128) → ever isBooking t g ≡ true → BookedIn w t
     pub sound : AllSound g
 
-  pub download-change : {h g : List Exchange} → Invariant w h → DownloadChange g → Invariant (besides c o downs nonces files boxes w) g
+  pub download-change : {h g : List Exchange} → Invariant w h → DownloadChange g → Invariant (besides c o downs nonces files mailboxes w) g
   download-change v k = record {
     state = record {
       sizes = record {
@@ -63,12 +63,12 @@ module _ (w : World) (c o : ℕ) (downs : List Download) (nonces : List Nonce) (
         nonces = k .remembered;
         files = k .filed;
         orders = v .state .sizes .orders;
-        boxes = k .stored;
+        mailboxes = k .stored;
       };
       numbers = k .numbers;
       places = λ i a. k .places i a .0;
       downloads = λ j. k .downloads j .0;
-      mailboxes = k .mailboxes;
+      mailboxesHold = k .mailboxesHold;
       placesApart = v .state .placesApart;
       apart = k .apart;
       inOrder = k .inOrder;

@@ -20,7 +20,7 @@ use Rattle.message.specs.Limits.{segmentBytes}
 use Rattle.bank_state.specs.declared.state.Download.{Download}
 use Rattle.bank_state.specs.Limits.{placeCount}
 use Rattle.bank_state.specs.Search.{isFree, isUpload, isDownload, findUpload, findDownload, freeDownload}
-use Rattle.bank_state.specs.State.{World, noPlace, noDownload, placeAt, downloadAt}
+use Rattle.bank_state.specs.State.{BankState, noPlace, noDownload, placeAt, downloadAt}
 use Rattle.bank_downloads.specs.Downloads.{movedTo}
 use Rattle.bank_verdicts.specs.declared.verdict.TransactionRequest.{TransactionRequest}
 use Rattle.bank_verdicts.specs.declared.verdict.TransactionRequest.the-variants as asks
@@ -46,7 +46,7 @@ use Rattle.bank.specs.Call.{carryOut, respond}
 use Rattle.bank_history.specs.History.{Exchange, mailboxFile, opens}
 use Rattle.bank_history.specs.Invariant.{Invariant}
 use Rattle.bank_history.proofs.Parts.{OpenDownload}
-use Rattle.bank_history.specs.Standing.{DownloadAt}
+use Rattle.bank_history.specs.Transactions.{DownloadAt}
 use Rattle.bank_state.proofs.Rows.{first-passes}
 use Rattle.bank_history.proofs.Rows.{first-at-most}
 use Rattle.bank_history.proofs.Cases.{
@@ -73,7 +73,7 @@ is-download s t e a b c =
     let z : sameBits (e .transaction) t ≡ true = ap (λ (u : Bits128). sameBits u t) c ∙ same-bits t in
     rw (a, y, z)
 
-module _ (w : World) (h : List Exchange) (v : Invariant w h) (t : Bits128) (s d last : ℕ) (u : DownloadAt w t s d last) where
+module _ (w : BankState) (h : List Exchange) (v : Invariant w h) (t : Bits128) (s d last : ℕ) (u : DownloadAt w t s d last) where
   -- no upload has the ID of a download
   no-upload : ltb (findUpload s t (w .bank)) placeCount ≡ false
   unfolding findUpload
@@ -115,7 +115,7 @@ judge-receipt : (e : Download) (n : ℕ) (q : Fields) → e .delivered ≡ n →
 unfolding judgeDownload downloadRows receiptRows downloadAttempt
 judge-receipt e n q whole taken = rw (eq-eqb (e .delivered) n whole, eq-eqb (receiptCode q) 0 taken)
 
-module _ (first : ℕ) (w : World) (h : List Exchange) (v : Invariant w h) (t : Bits128) (s d last : ℕ) (u : DownloadAt w t s d last)
+module _ (first : ℕ) (w : BankState) (h : List Exchange) (v : Invariant w h) (t : Bits128) (s d last : ℕ) (u : DownloadAt w t s d last)
     (q : Fields) (b : List ℕ)
     (from : subscriber q ≡ s) (to : transaction q ≡ t) (short : length b ≤ segmentBytes) where
   abbrev own : Download
@@ -191,7 +191,7 @@ module _ (first : ℕ) (w : World) (h : List Exchange) (v : Invariant w h) (t : 
             (let a = v .state .sizes .downloads in let i = found-inside in omega arith)
             ∙ ap (λ (j : ℕ). let e = downloadAt (w .bank) j in movedTo (e .delivered + 1) (e .attempts) (w .bank .clock) e) found
 
-    pub deliver-open : DownloadAt (respond first w q b .world) t s (suc d) (w .bank .clock)
+    pub deliver-open : DownloadAt (respond first w q b .bankState) t s (suc d) (w .bank .clock)
     unfolding respond
     deliver-open =
         subst (λ (x : Verdict). DownloadAt (carryOut x w q b) t s (suc d) (w .bank .clock)) (sym deliver-verdict) delivered-open
@@ -203,7 +203,7 @@ module _ (first : ℕ) (w : World) (h : List Exchange) (v : Invariant w h) (t : 
       (judge-receipt own n q (u .delivered ∙ whole) taken)
 
 -- a download just opened is open with segment 1 delivered
-pub opened-open : (first : ℕ) (w : World) (h : List Exchange) → Invariant w h →
+pub opened-open : (first : ℕ) (w : BankState) (h : List Exchange) → Invariant w h →
     (q : Fields) (b : List ℕ) (t : Bits128) (n : ℕ) {x : Verdict} → Happens first w q b x →
     x ≡ verdict.Of t (action.Download (down.Opened n)) → DownloadAt (carryOut x w q b) t (subscriber q) 1 (w .bank .clock)
 unfolding openDownload counted

@@ -14,7 +14,7 @@ use Rattle.frame_table.specs.declared.fields.Fields.{Fields}
 use Rattle.frame_table.specs.Forms as forms
 use Rattle.frame_table.specs.Names.{subscriber, transaction, segment, receiptCode, form}
 use Rattle.frame_table.proofs.Bits.{bits-same}
-use Rattle.message.specs.Limits.{attemptsMost}
+use Rattle.message.specs.Limits.{maxAttempts}
 use Rattle.message.specs.Segments.{segmentsOf, segmentOf}
 use Rattle.bank_state.specs.declared.clock.Ended.the-variants as ending
 use Rattle.bank_state.specs.declared.state.Download.{Download}
@@ -22,7 +22,7 @@ use Rattle.bank_state.specs.declared.state.Nonce.{Nonce}
 use Rattle.bank_state.specs.Clock.{ends, endDownloads}
 use Rattle.bank_state.specs.Limits.{placeCount, storeBytes}
 use Rattle.bank_state.specs.Search.{isDownload}
-use Rattle.bank_state.specs.State.{World, noDownload, downloadAt, fileLength}
+use Rattle.bank_state.specs.State.{BankState, noDownload, downloadAt, fileLength}
 use Rattle.bank_state.specs.Store.{partAt, zeroed, fileOf}
 use Rattle.bank_verdicts.specs.declared.verdict.TransactionRequest.{TransactionRequest}
 use Rattle.bank_verdicts.specs.declared.verdict.DownloadAction.{DownloadAction}
@@ -57,29 +57,29 @@ use Rattle.bank_history.proofs.Uploads.{entry, bare}
 use Rattle.bank_history.proofs.Downloads.{file-long, download-open, moved-step, ended-step, carried-segment}
 
 -- an emptied mailbox
-module _ (w : World) (box : ℕ) (long : length (w .boxes) ≡ storeBytes) (inside : box < placeCount) where
+module _ (w : BankState) (box : ℕ) (long : length (w .mailboxes) ≡ storeBytes) (inside : box < placeCount) where
   pub mailbox-other : (c o : ℕ) (downs : List Download) (nonces : List Nonce) (s : ℕ) → (s - 1 ≡ box → ⊥) →
-      mailboxFile (besides c o downs nonces (set (w .bank .files) box 0) (zeroed (w .boxes) box) w) s ≡ mailboxFile w s
+      mailboxFile (besides c o downs nonces (set (w .bank .files) box 0) (zeroed (w .mailboxes) box) w) s ≡ mailboxFile w s
   unfolding mailboxFile fileLength fileOf
   mailbox-other c o downs nonces s n =
       rw (
         getD-set-other (w .bank .files) box (s - 1) 0 0 n,
-        zeroed-other (w .boxes) box long inside (s - 1) n,
+        zeroed-other (w .mailboxes) box long inside (s - 1) n,
       )
 
   mailbox-emptied : length (w .bank .files) ≡ placeCount →
-      ((i : ℕ) → i < placeCount → MailboxHolds (getD (w .bank .files) i 0) (partAt (w .boxes) i)) →
-      (i : ℕ) → i < placeCount → MailboxHolds (getD (set (w .bank .files) box 0) i 0) (partAt (zeroed (w .boxes) box) i)
+      ((i : ℕ) → i < placeCount → MailboxHolds (getD (w .bank .files) i 0) (partAt (w .mailboxes) i)) →
+      (i : ℕ) → i < placeCount → MailboxHolds (getD (set (w .bank .files) box 0) i 0) (partAt (zeroed (w .mailboxes) box) i)
   mailbox-emptied filed old i a = at (ℕ-discrete i box)
     where
-      at : Dec (i ≡ box) → MailboxHolds (getD (set (w .bank .files) box 0) i 0) (partAt (zeroed (w .boxes) box) i)
+      at : Dec (i ≡ box) → MailboxHolds (getD (set (w .bank .files) box 0) i 0) (partAt (zeroed (w .mailboxes) box) i)
       at (yes z) =
-          rw z (rw (getD-set-same (w .bank .files) box 0 0 (omega arith), zeroed-same (w .boxes) box long inside)
+          rw z (rw (getD-set-same (w .bank .files) box 0 0 (omega arith), zeroed-same (w .mailboxes) box long inside)
           (record { room = omega arith; zeros = refl }))
-      at (no n) = rw (getD-set-other (w .bank .files) box i 0 0 n, zeroed-other (w .boxes) box long inside i n) (old i a)
+      at (no n) = rw (getD-set-other (w .bank .files) box i 0 0 n, zeroed-other (w .mailboxes) box long inside i n) (old i a)
 
 -- "every download of that mailbox ended": those still open are of other subscribers
-emptied-ends : (w : World) (s i : ℕ) → let e = getD (endDownloads (ending.Mailbox s) (w .bank .downloads)) i noDownload in
+emptied-ends : (w : BankState) (s i : ℕ) → let e = getD (endDownloads (ending.Mailbox s) (w .bank .downloads)) i noDownload in
     e .used ≡ true → e .subscriber ≡ s → ⊥
 unfolding ends
 emptied-ends w s =
@@ -87,7 +87,7 @@ emptied-ends w s =
     (λ k _ g _. let e = downloadAt (w .bank) k in
     eqb-false (e .subscriber) s (not-true _ (and-true (e .used) (not (eqb (e .subscriber) s)) g .1)))
 
-module _ (w : World) (h : List Exchange) (v : Invariant w h) (q : Fields) (d : List ℕ) (readable : Readable q (length d))
+module _ (w : BankState) (h : List Exchange) (v : Invariant w h) (q : Fields) (d : List ℕ) (readable : Readable q (length d))
     (found : isDownload (subscriber q) (transaction q) (downloadAt (w .bank) (downloadOf (w .bank) q)) ≡ true) where
   abbrev j : ℕ
   j = downloadOf (w .bank) q
@@ -117,7 +117,7 @@ module _ (w : World) (h : List Exchange) (v : Invariant w h) (q : Fields) (d : L
   abbrev by : DownloadAction → Verdict
   by a = verdict.Of (old .transaction) (action.Download a)
 
-  abbrev left : DownloadAction → World
+  abbrev left : DownloadAction → BankState
   left a = carryOut (by a) w q d
 
   abbrev now : DownloadAction → Exchange
@@ -153,10 +153,10 @@ module _ (w : World) (h : List Exchange) (v : Invariant w h) (q : Fields) (d : L
   -- it stays open, moved by an action that neither opens nor ends it
   moves : (a : DownloadAction) → downloadKind a .opensUpload ≡ false → downloadKind a .opensDownload ≡ false →
       downloadKind a .books ≡ false → downloadKind a .ends ≡ false → (m attempts last : ℕ) →
-      cond (downloadKind a .delivers) (suc (old .delivered)) (old .delivered) ≡ m → m ≤ n → attempts ≤ attemptsMost →
+      cond (downloadKind a .delivers) (suc (old .delivered)) (old .delivered) ≡ m → m ≤ n → attempts ≤ maxAttempts →
       last ≤ w .bank .clock → SoundDownloadAction a (old .transaction) (now a) h →
       Invariant (besides (w .bank .clock) (w .bank .openings) (set (w .bank .downloads) j (movedTo m attempts last old)) (w .bank .nonces)
-      (w .bank .files) (w .boxes) w) (now a ∷ h)
+      (w .bank .files) (w .mailboxes) w) (now a ∷ h)
   moves a up opens books ends m attempts last count within tries current sound =
       moved-step w h v j is-used (action.Download a) (rw (up, opens) refl) books (now a) refl m attempts last
       (download-moved (now a) h _ _ _ old (action.Download a) m attempts last refl opens (rw (up, opens) refl) books ends count
@@ -173,7 +173,7 @@ module _ (w : World) (h : List Exchange) (v : Invariant w h) (q : Fields) (d : L
         next = let z = isOpen′ .1 .deliveries in omega arith;
       })
 
-  sent-again-keeps : form q ≡ forms.DownloadTransfer → 0 < segment q → segment q ≤ old .delivered → old .attempts < attemptsMost →
+  sent-again-keeps : form q ≡ forms.DownloadTransfer → 0 < segment q → segment q ≤ old .delivered → old .attempts < maxAttempts →
       Invariant (left (down.SentAgain n)) (now (down.SentAgain n) ∷ h)
   sent-again-keeps asked some again few =
       let within : old .delivered ≤ n = (let z = count-now in let y = isOpen′ .0 .within in omega arith) in
@@ -184,7 +184,7 @@ module _ (w : World) (h : List Exchange) (v : Invariant w h) (q : Fields) (d : L
         again = let z = isOpen′ .1 .deliveries in omega arith;
       })
 
-  point-keeps : old .attempts < attemptsMost → Invariant (left (down.Point (old .delivered))) (now (down.Point (old .delivered)) ∷ h)
+  point-keeps : old .attempts < maxAttempts → Invariant (left (down.Point (old .delivered))) (now (down.Point (old .delivered)) ∷ h)
   point-keeps few =
       let within : old .delivered ≤ n = (let z = count-now in let y = isOpen′ .0 .within in omega arith) in
       moves (down.Point (old .delivered)) refl refl refl refl (old .delivered) (old .attempts + 1) (old .last) refl within (omega arith)
@@ -202,8 +202,8 @@ module _ (w : World) (h : List Exchange) (v : Invariant w h) (q : Fields) (d : L
   unfolding mailboxFile fileLength ends
   ends-keeps a up opens books sound =
       ended-step w h v j is-used (action.Download a) (rw (up, opens) refl) books (now a) refl
-      (ending.Transaction (subscriber q) (transaction q)) (w .bank .files) (w .boxes)
-      found (λ i a f. refl) (v .state .sizes .files) (v .state .sizes .boxes) (v .state .mailboxes)
+      (ending.Transaction (subscriber q) (transaction q)) (w .bank .files) (w .mailboxes)
+      found (λ i a f. refl) (v .state .sizes .files) (v .state .sizes .mailboxes) (v .state .mailboxesHold)
       (record { reply = refl; verdict = sound })
 
   sound-receipt : (a : DownloadAction) → form q ≡ forms.Receipt → old .delivered ≡ n → now a .replyData ≡ [] →
@@ -222,10 +222,10 @@ module _ (w : World) (h : List Exchange) (v : Invariant w h) (q : Fields) (d : L
   unfolding ends
   confirmed-keeps asked whole taken =
       ended-step w h v j is-used (action.Download down.Confirmed) refl refl (now down.Confirmed) refl (ending.Mailbox (subscriber q))
-      files boxes (eq-eqb (old .subscriber) (subscriber q) owned) same
+      files mailboxes (eq-eqb (old .subscriber) (subscriber q) owned) same
       (length-set (w .bank .files) box 0 ∙ v .state .sizes .files)
-      (length-zeroed (w .boxes) box (v .state .sizes .boxes) inside ∙ v .state .sizes .boxes)
-      (mailbox-emptied w box (v .state .sizes .boxes) inside (v .state .sizes .files) (v .state .mailboxes))
+      (length-zeroed (w .mailboxes) box (v .state .sizes .mailboxes) inside ∙ v .state .sizes .mailboxes)
+      (mailbox-emptied w box (v .state .sizes .mailboxes) inside (v .state .sizes .files) (v .state .mailboxesHold))
       (record {
         reply = refl;
         verdict = record { receipt = sound-receipt down.Confirmed asked whole (bare w (subscriber q)); taken = taken };
@@ -240,19 +240,19 @@ module _ (w : World) (h : List Exchange) (v : Invariant w h) (q : Fields) (d : L
       files : List ℕ
       files = set (w .bank .files) box 0
 
-      boxes : List ℕ
-      boxes = zeroed (w .boxes) box
+      mailboxes : List ℕ
+      mailboxes = zeroed (w .mailboxes) box
 
       downs : List Download
       downs = endDownloads (ending.Mailbox (subscriber q)) (w .bank .downloads)
 
       same : (i : ℕ) → getD downs i noDownload .used ≡ true → 1 ≤ getD downs i noDownload .subscriber →
-          mailboxFile (besides (w .bank .clock) (w .bank .openings) downs (w .bank .nonces) files boxes w)
+          mailboxFile (besides (w .bank .clock) (w .bank .openings) downs (w .bank .nonces) files mailboxes w)
           (getD downs i noDownload .subscriber)
           ≡ mailboxFile w (getD downs i noDownload .subscriber)
       same i a k =
           let m = readable .known in
-          mailbox-other w box (v .state .sizes .boxes) inside (w .bank .clock) (w .bank .openings) downs (w .bank .nonces)
+          mailbox-other w box (v .state .sizes .mailboxes) inside (w .bank .clock) (w .bank .openings) downs (w .bank .nonces)
           (getD downs i noDownload .subscriber)
           (λ e. emptied-ends w (subscriber q) i a (omega arith))
 
@@ -267,7 +267,7 @@ module _ (w : World) (h : List Exchange) (v : Invariant w h) (q : Fields) (d : L
   download-sound-keeps asked (declined t whole other) = ends-keeps down.Declined refl refl refl
       (sound-receipt down.Declined (asked ∙ ap requestForm t) whole (bare w (subscriber q)))
 
-pub download-keeps : (w : World) (h : List Exchange) → Invariant w h → (q : Fields) (d : List ℕ) (r : TransactionRequest)
+pub download-keeps : (w : BankState) (h : List Exchange) → Invariant w h → (q : Fields) (d : List ℕ) (r : TransactionRequest)
     (a : DownloadAction) → ToDownload w q d r a →
     let v = verdict.Of (downloadAt (w .bank) (downloadOf (w .bank) q) .transaction) (action.Download a) in
     Invariant (carryOut v w q d) (entry v w q d ∷ h)

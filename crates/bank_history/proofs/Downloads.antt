@@ -18,7 +18,7 @@ use Rattle.bank_state.specs.declared.state.Download.{Download}
 use Rattle.bank_state.specs.Clock.{ends, endDownloads}
 use Rattle.bank_state.specs.Limits.{placeCount, storeBytes}
 use Rattle.bank_state.specs.Search.{isFree, openCount, openCountOf}
-use Rattle.bank_state.specs.State.{World, noDownload, placeAt, downloadAt, fileLength}
+use Rattle.bank_state.specs.State.{BankState, noDownload, placeAt, downloadAt, fileLength}
 use Rattle.bank_state.specs.Store.{partAt, fileOf}
 use Rattle.bank_downloads.specs.Downloads.{movedTo}
 use Rattle.bank.specs.Call.{mailboxSegment}
@@ -38,14 +38,14 @@ use Rattle.bank_history.proofs.Places.{place-unchanged}
 use Rattle.bank_history.proofs.Records.{download-unchanged}
 use Rattle.bank_history.proofs.DownloadChange.{besides, download-change}
 
-module _ (w : World) (h : List Exchange) (v : Invariant w h) where
+module _ (w : BankState) (h : List Exchange) (v : Invariant w h) where
   -- the file of a mailbox has the length that is kept for it
   pub file-long : (s : ℕ) → 1 ≤ s → s ≤ subscribers → length (mailboxFile w s) ≡ fileLength s (w .bank .files)
   unfolding mailboxFile fileLength fileOf
   file-long s a b =
       let inside : s - 1 < placeCount = omega arith in
-      let l = length-part (w .boxes) (v .state .sizes .boxes) (s - 1) inside in
-      let m = v .state .mailboxes (s - 1) inside .room in
+      let l = length-part (w .mailboxes) (v .state .sizes .mailboxes) (s - 1) inside in
+      let m = v .state .mailboxesHold (s - 1) inside .room in
       simp length-take (omega arith)
 
   pub download-open : (j : ℕ) → downloadAt (w .bank) j .used ≡ true →
@@ -82,7 +82,7 @@ module _ (w : World) (h : List Exchange) (v : Invariant w h) where
       did-other (placeAt (w .bank) i .transaction) (downloadAt (w .bank) j .transaction) k (v .state .apart i j a e f)
 
 -- the download of record j does the action k
-module _ (w : World) (h : List Exchange) (v : Invariant w h) (j : ℕ) (used : downloadAt (w .bank) j .used ≡ true)
+module _ (w : BankState) (h : List Exchange) (v : Invariant w h) (j : ℕ) (used : downloadAt (w .bank) j .used ≡ true)
     (k : Action) (noOpening : isOpening k ≡ false) (unbooked : isBooking k ≡ false) (x : Exchange)
     (own : x .verdict ≡ verdict.Of (downloadAt (w .bank) j .transaction) k) where
   abbrev e : Download
@@ -115,13 +115,13 @@ module _ (w : World) (h : List Exchange) (v : Invariant w h) (j : ℕ) (used : d
   pub moved-step : (d attempts last : ℕ) →
       OpenDownload (w .bank .clock) (w .bank .openings) (x ∷ h) (mailboxFile w (e .subscriber)) (movedTo d attempts last e) → Sound x h →
       Invariant (besides (w .bank .clock) (w .bank .openings) (set (w .bank .downloads) j (movedTo d attempts last e)) (w .bank .nonces)
-      (w .bank .files) (w .boxes) w) (x ∷ h)
+      (w .bank .files) (w .mailboxes) w) (x ∷ h)
   unfolding mailboxFile fileLength openCount openCountOf
   moved-step d attempts last new sound = download-change w _ _ _ _ _ _ v (record {
     listed = length-set (w .bank .downloads) j _ ∙ v .state .sizes .downloads;
     remembered = v .state .sizes .nonces;
     filed = v .state .sizes .files;
-    stored = v .state .sizes .boxes;
+    stored = v .state .sizes .mailboxes;
     counted = v .counted ∙ sym (accepted-own (e .transaction) k x h own ∙ rw noOpening refl);
     numbers = v .state .numbers;
     places = places-stay;
@@ -130,7 +130,7 @@ module _ (w : World) (h : List Exchange) (v : Invariant w h) (j : ℕ) (used : d
         (subst (λ (u : Bool). DownloadKept u (w .bank .clock) (w .bank .openings) (x ∷ h) (mailboxFile w (e .subscriber)) new′)
         (sym used) new)
         other-stays;
-    mailboxes = v .state .mailboxes;
+    mailboxesHold = v .state .mailboxesHold;
     apart = λ i l a f. each (λ (m : ℕ) (r : Download). r .used ≡ true → placeAt (w .bank) i .transaction .low ≡ r .transaction .low → ⊥)
         (v .state .apart i j a f) (λ m n. v .state .apart i m a f) l;
     inOrder = packed-set (λ (r : Download). r .used) noDownload (λ (r : Download). r .transaction .low)
@@ -162,17 +162,17 @@ module _ (w : World) (h : List Exchange) (v : Invariant w h) (j : ℕ) (used : d
       each = each-set (w .bank .downloads) j new′ noDownload inside
 
   -- it ends, with every other download for which the test holds; the mailboxes of those that stay do not change
-  pub ended-step : (which : Ended) (files boxes : List ℕ) → ends which e ≡ true →
+  pub ended-step : (which : Ended) (files mailboxes : List ℕ) → ends which e ≡ true →
       ((i : ℕ) → let r = getD (endDownloads which (w .bank .downloads)) i noDownload in r .used ≡ true → 1 ≤ r .subscriber →
-      mailboxFile (besides (w .bank .clock) (w .bank .openings) (endDownloads which (w .bank .downloads)) (w .bank .nonces) files boxes
+      mailboxFile (besides (w .bank .clock) (w .bank .openings) (endDownloads which (w .bank .downloads)) (w .bank .nonces) files mailboxes
       w) (r .subscriber)
       ≡ mailboxFile w (r .subscriber)) →
-      length files ≡ placeCount → length boxes ≡ storeBytes →
-      ((i : ℕ) → i < placeCount → MailboxHolds (getD files i 0) (partAt boxes i)) → Sound x h →
-      Invariant (besides (w .bank .clock) (w .bank .openings) (endDownloads which (w .bank .downloads)) (w .bank .nonces) files boxes w)
+      length files ≡ placeCount → length mailboxes ≡ storeBytes →
+      ((i : ℕ) → i < placeCount → MailboxHolds (getD files i 0) (partAt mailboxes i)) → Sound x h →
+      Invariant (besides (w .bank .clock) (w .bank .openings) (endDownloads which (w .bank .downloads)) (w .bank .nonces) files mailboxes w)
       (x ∷ h)
   unfolding endDownloads openCount openCountOf
-  ended-step which files boxes gone same filed stored mailboxes sound = download-change w _ _ _ _ _ _ v (record {
+  ended-step which files mailboxes gone same filed stored mailboxesHold sound = download-change w _ _ _ _ _ _ v (record {
     listed = length-endDownloads which (w .bank .downloads) ∙ v .state .sizes .downloads;
     remembered = v .state .sizes .nonces;
     filed = filed;
@@ -184,7 +184,7 @@ module _ (w : World) (h : List Exchange) (v : Invariant w h) (j : ℕ) (used : d
         moved _ _ (same i)
         (each-endDownloads (λ (r : Download). Holds (r .used) (mailboxFile w (r .subscriber)) r) (refl, tt) which (w .bank .downloads)
         (λ l _ g. stays l g) i);
-    mailboxes = mailboxes;
+    mailboxesHold = mailboxesHold;
     apart = λ i l a f. each-endDownloads (λ (r : Download). r .used ≡ true →
         placeAt (w .bank) i .transaction .low ≡ r .transaction .low → ⊥)
         (λ g. never g) which (w .bank .downloads) (λ m _ g. v .state .apart i m a f) l;
@@ -220,6 +220,6 @@ module _ (w : World) (h : List Exchange) (v : Invariant w h) (j : ℕ) (used : d
           other-stays i (λ z. never (sym f ∙ (ap (λ (m : ℕ). ends which (downloadAt (w .bank) m)) z ∙ gone)))
 
 -- the segment of a mailbox that a reply carries
-pub carried-segment : (w : World) (s n : ℕ) → 1 ≤ n → mailboxSegment w s n ≡ segmentOf (mailboxFile w s) n
+pub carried-segment : (w : BankState) (s n : ℕ) → 1 ≤ n → mailboxSegment w s n ≡ segmentOf (mailboxFile w s) n
 unfolding mailboxSegment mailboxFile
 carried-segment w s n h = rw (ne-eqb n 0 (λ e. omega arith))

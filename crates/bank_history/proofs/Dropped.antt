@@ -14,10 +14,10 @@ use Rattle.bank_state.specs.declared.state.Place.{Place}
 use Rattle.bank_state.specs.Clock.{advanced}
 use Rattle.bank_state.specs.Limits.{placeCount, idleLimit}
 use Rattle.bank_state.specs.Search.{isFree, isOpen}
-use Rattle.bank_state.specs.State.{World, noPlace, placeAt, downloadAt}
+use Rattle.bank_state.specs.State.{BankState, noPlace, placeAt, downloadAt}
 use Rattle.bank_history.specs.History.{Exchange, Past}
 use Rattle.bank_history.specs.Invariant.{Invariant, Holds}
-use Rattle.bank_history.specs.Standing.{answered, Gone, UploadAt, DownloadAt}
+use Rattle.bank_history.specs.Transactions.{answered, Gone, UploadAt, DownloadAt}
 use Rattle.bank_history.proofs.Changes.{answered-gone}
 use Rattle.bank_history.proofs.Clock.{
   advanced-not-idle,
@@ -29,7 +29,7 @@ use Rattle.bank_history.proofs.Clock.{
 use Rattle.bank_history.proofs.Uploads.{place-counted}
 use Rattle.bank_history.proofs.Downloads.{download-open, downloads-apart}
 
-module _ (time : ℕ) (w : World) (h : List Exchange) (v : Invariant w h) (t : Bits128) where
+module _ (time : ℕ) (w : BankState) (h : List Exchange) (v : Invariant w h) (t : Bits128) where
   -- a place in use then is as it was
   places-or-not : (i : ℕ) → isFree (placeAt (advanced time w .bank) i .used) ≡ false →
       placeAt (advanced time w .bank) i ≡ placeAt (w .bank) i
@@ -117,6 +117,6 @@ module _ (time : ℕ) (w : World) (h : List Exchange) (v : Invariant w h) (t : B
           omega arith
 
 -- a frame call that finds it idle leaves it gone, whatever its request
-pub dropped-stays : (time : ℕ) (ids frame : List ℕ) (p : Past) (t : Bits128) → Holds p → Gone (advanced time (p .world)) t →
-    Gone (answered time ids frame p .world) t
+pub dropped-stays : (time : ℕ) (ids frame : List ℕ) (p : Past) (t : Bits128) → Holds p → Gone (advanced time (p .bankState)) t →
+    Gone (answered time ids frame p .bankState) t
 dropped-stays time ids frame p t holds gone = answered-gone t time ids frame p holds gone

@@ -21,13 +21,13 @@ use Rattle.octets.specs.Bytes.{number}
 use Rattle.message.specs.declared.codes.ReturnCode.{ReturnCode}
 use Rattle.message.specs.declared.codes.ReturnCode.the-variants as code
 use Rattle.message.specs.Codes.{codeField}
-use Rattle.message.specs.Limits.{ful, fdl, segmentsMost, initialisation, transfer}
+use Rattle.message.specs.Limits.{ful, fdl, maxSegments, initialisationPhase, transferPhase}
 use Rattle.message.specs.Replies.{uploadOpened, downloadOpened, segmentTaken, recoveryPoint, downloadSegment, receiptAnswered, refusal}
 use Rattle.bank_state.specs.declared.state.Bank.{Bank}
 use Rattle.bank_state.specs.Clock.{advanced}
 use Rattle.bank_state.specs.Limits.{window}
 use Rattle.bank_state.specs.Search.{isRemembered}
-use Rattle.bank_state.specs.State.{World}
+use Rattle.bank_state.specs.State.{BankState}
 use Rattle.bank_verdicts.specs.declared.verdict.Direction.{Direction}
 use Rattle.bank_verdicts.specs.declared.verdict.Direction.the-variants as direction
 use Rattle.bank_verdicts.specs.declared.verdict.UploadAction.{UploadAction}
@@ -108,7 +108,7 @@ opens-action {t} {f} sound stands o = at (o .formed)
 -- ---- a nonce is refused while it is remembered
 
 -- the lines above 091103 pass, and its own holds
-module _ (first : ℕ) (b : Bank) (q : Fields) (few : segments q ≤ segmentsMost) (seen : isRemembered (nonce q) b ≡ true) where
+module _ (first : ℕ) (b : Bank) (q : Fields) (few : segments q ≤ maxSegments) (seen : isRemembered (nonce q) b ≡ true) where
   replayed : isReplay b q ≡ true
   unfolding isReplay
   replayed = or-right (not (inTime (timestamp q) (b .clock))) (isRemembered (nonce q) b) seen
@@ -117,11 +117,11 @@ module _ (first : ℕ) (b : Bank) (q : Fields) (few : segments q ≤ segmentsMos
       judgeOpening direction.Upload first b q ≡ verdict.Refused code.MessageReplay
   unfolding judgeOpening openingRows unknownType manySegments
   upload-replayed kind some =
-      rw (replayed, kind, ne-eqb (segments q) 0 (λ z. omega arith), le-ltb segmentsMost (segments q) few)
+      rw (replayed, kind, ne-eqb (segments q) 0 (λ z. omega arith), le-ltb maxSegments (segments q) few)
 
   download-replayed : orderType q ≡ fdl → judgeOpening direction.Download first b q ≡ verdict.Refused code.MessageReplay
   unfolding judgeOpening openingRows unknownType manySegments
-  download-replayed kind = rw (replayed, kind, le-ltb segmentsMost (segments q) few)
+  download-replayed kind = rw (replayed, kind, le-ltb maxSegments (segments q) few)
 
 nonce-refused : {calls : List BankCall} {e f : Exchange} {g : List Exchange} {t : Bits128} → Next calls e → WellMadeOpening e →
     Stands f g (pastOf calls .history) → Opens t f → nonce (e .request) ≡ nonce (f .request) → e .clock ≤ timestamp (f .request) + window →
@@ -136,7 +136,7 @@ nonce-refused {calls} {e} {f} {g} {t} n made stands o same recent = refused-with
         ap (λ (b : Bits128). isRemembered b (judgedBank n .bank)) (ap nonce (sym (request-is n)) ∙ same)
         ∙ nonce-remembered (judged-holds n) stands (ap opens (opened .is) ∙ opened .kind) (let c = clock-is n in omega arith)
 
-    few : segments (asked n) ≤ segmentsMost
+    few : segments (asked n) ≤ maxSegments
     few = rw (sym (request-is n)) (made .few)
 
     judged-so : ((form (asked n) ≡ forms.UploadOpening) × (orderType (asked n) ≡ ful) × (1 ≤ segments (asked n)))
@@ -175,7 +175,7 @@ opened-by {t} {f} {g} (more s r) (older {x = x} {h = h} p) o = at (did isOpening
 foreign-refused : {calls : List BankCall} {e f : Exchange} {g : List Exchange} {t : Bits128} → (n : Next calls e) → Asks t e →
     Stands f g (pastOf calls .history) → Opens t f → (subscriber (e .request) ≡ subscriber (f .request) → ⊥) →
     RefusedWith code.UnknownTransaction e
-    × (pastOf (Frame (n .time) (n .ids) (n .frame) (n .buffer) ∷ calls) .world ≡ advanced (n .time) (pastOf calls .world))
+    × (pastOf (Frame (n .time) (n .ids) (n .frame) (n .buffer) ∷ calls) .bankState ≡ advanced (n .time) (pastOf calls .bankState))
 foreign-refused {calls} {e} {f} {g} {t} n a stands o other =
     (refused-with n code.UnknownTransaction unknown, bank-after n ∙ ap (λ (v : Verdict). carryOut v (judgedBank n) (asked n) (sent n)) unknown)
   where
@@ -341,11 +341,11 @@ module _ {calls : List BankCall} {e : Exchange} (n : Next calls e) (r : Recovery
   abbrev downloads : Verdict
   downloads = verdict.Of (transaction (e .request)) (action.Download (down.Point (segment (e .reply))))
 
-  upload-phase-is : e .verdict ≡ uploads → phase (e .reply) ≡ cond (eqb (segment (e .reply)) 0) initialisation transfer
+  upload-phase-is : e .verdict ≡ uploads → phase (e .reply) ≡ cond (eqb (segment (e .reply)) 0) initialisationPhase transferPhase
   unfolding recoveryPoint
   upload-phase-is own = ap phase (reply-is (all-sound n) newest ∙ ap (λ (v : Verdict). replyTo v (e .request)) own)
 
-  download-phase-is : e .verdict ≡ downloads → phase (e .reply) ≡ cond (eqb (segment (e .reply)) 1) initialisation transfer
+  download-phase-is : e .verdict ≡ downloads → phase (e .reply) ≡ cond (eqb (segment (e .reply)) 1) initialisationPhase transferPhase
   unfolding recoveryPoint
   download-phase-is own = ap phase (reply-is (all-sound n) newest ∙ ap (λ (v : Verdict). replyTo v (e .request)) own)
 
@@ -355,12 +355,12 @@ module _ {calls : List BankCall} {e : Exchange} (n : Next calls e) (r : Recovery
       (λ z. let y = reply-form (all-sound n) newest own in let x = r .formed in let w : _≡_ {A = ℕ} 0 1 = cc in omega arith)
 
   module _ {f : Exchange} {g : List Exchange} (stands : Stands f g (pastOf calls .history)) (same : transaction (f .reply) ≡ transaction (e .reply)) where
-    pub upload-points : form (f .reply) ≡ forms.UploadOpened → phase (e .reply) ≡ cond (eqb (segment (e .reply)) 0) initialisation transfer
+    pub upload-points : form (f .reply) ≡ forms.UploadOpened → phase (e .reply) ≡ cond (eqb (segment (e .reply)) 0) initialisationPhase transferPhase
     upload-points z = at (recovery-point (all-sound n) newest (r .formed) (r .coded))
       where
         at : ((e .verdict ≡ uploads) × SoundUploadPoint (segment (e .reply)) (transaction (e .request)) e (pastOf calls .history))
             ⊎ ((e .verdict ≡ downloads) × SoundDownloadPoint (segment (e .reply)) (transaction (e .request)) e (pastOf calls .history)) →
-            phase (e .reply) ≡ cond (eqb (segment (e .reply)) 0) initialisation transfer
+            phase (e .reply) ≡ cond (eqb (segment (e .reply)) 0) initialisationPhase transferPhase
         at (inl p) = upload-phase-is (p .0)
         at (inr p) =
             let u = upload-opened (history-sound calls) stands z in
@@ -372,12 +372,12 @@ module _ {calls : List BankCall} {e : Exchange} (n : Next calls e) (r : Recovery
               kind = refl;
             })) (p .1 .opened))
 
-    pub download-points : form (f .reply) ≡ forms.DownloadOpened → phase (e .reply) ≡ cond (eqb (segment (e .reply)) 1) initialisation transfer
+    pub download-points : form (f .reply) ≡ forms.DownloadOpened → phase (e .reply) ≡ cond (eqb (segment (e .reply)) 1) initialisationPhase transferPhase
     download-points z = at (recovery-point (all-sound n) newest (r .formed) (r .coded))
       where
         at : ((e .verdict ≡ uploads) × SoundUploadPoint (segment (e .reply)) (transaction (e .request)) e (pastOf calls .history))
             ⊎ ((e .verdict ≡ downloads) × SoundDownloadPoint (segment (e .reply)) (transaction (e .request)) e (pastOf calls .history)) →
-            phase (e .reply) ≡ cond (eqb (segment (e .reply)) 1) initialisation transfer
+            phase (e .reply) ≡ cond (eqb (segment (e .reply)) 1) initialisationPhase transferPhase
         at (inl p) =
             let u = download-opened (history-sound calls) stands z in
             let k = action.Download (down.Opened (segments (f .reply))) in

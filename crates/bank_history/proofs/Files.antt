@@ -15,12 +15,12 @@ use Rattle.message.specs.Verdicts.{decide}
 use Rattle.bank_state.specs.declared.state.Bank.{Bank}
 use Rattle.bank_state.specs.Limits.{placeCount, storeBytes}
 use Rattle.bank_state.specs.Search.{openCount, openCountOf}
-use Rattle.bank_state.specs.State.{World, downloadAt, fileLength}
+use Rattle.bank_state.specs.State.{BankState, downloadAt, fileLength}
 use Rattle.bank_state.specs.Store.{partAt, fileOf}
 use Rattle.bank.specs.declared.mailbox.FileAnswer.{FileAnswer}
 use Rattle.bank.specs.declared.mailbox.FileAnswer.the-variants as put
 use Rattle.bank.specs.Mailbox.{fileRefusals, fileNumber}
-use Rattle.bank_history.specs.Standing.{filled}
+use Rattle.bank_history.specs.Transactions.{filled}
 use Rattle.bank_history.specs.History.{Exchange, mailboxFile}
 use Rattle.bank_history.specs.Invariant.{MailboxHolds, Invariant}
 use Rattle.bank_history.proofs.Parts.{DownloadKept, download-kept, place-kept}
@@ -31,16 +31,16 @@ use Rattle.bank_history.proofs.DownloadChange.{download-change}
 use Rattle.bank_history.proofs.Downloads.{file-long}
 
 -- what the tests tell of a file that goes in
-pub data FileSound (b : Bank) (mailbox : ℕ) (file boxes : List ℕ) : FileAnswer → Type 0 where
-  rejected : {a : FileAnswer} → (0 < fileNumber a) → FileSound b mailbox file boxes a
+pub data FileSound (b : Bank) (mailbox : ℕ) (file mailboxes : List ℕ) : FileAnswer → Type 0 where
+  rejected : {a : FileAnswer} → (0 < fileNumber a) → FileSound b mailbox file mailboxes a
   done : 1 ≤ mailbox → mailbox ≤ subscribers → 1 ≤ length file → length file ≤ fileBytes → fileLength mailbox (b .files) ≡ 0 →
-      FileSound b mailbox file boxes put.Done
+      FileSound b mailbox file mailboxes put.Done
 
-pub judged-file : (b : Bank) (mailbox : ℕ) (file boxes : List ℕ) →
-    FileSound b mailbox file boxes (decide (fileRefusals b mailbox file boxes) put.Done)
+pub judged-file : (b : Bank) (mailbox : ℕ) (file mailboxes : List ℕ) →
+    FileSound b mailbox file mailboxes (decide (fileRefusals b mailbox file mailboxes) put.Done)
 unfolding fileRefusals
-judged-file b mailbox file boxes =
-    by-test P (not (eqb (length boxes) storeBytes)) (λ _. rejected (omega arith))
+judged-file b mailbox file mailboxes =
+    by-test P (not (eqb (length mailboxes) storeBytes)) (λ _. rejected (omega arith))
     (λ _. by-test P (ltb mailbox 1 || ltb subscribers mailbox) (λ _. rejected (omega arith))
     (λ from. by-test P (eqb (length file) 0 || ltb fileBytes (length file)) (λ _. rejected (omega arith))
     (λ size. by-test P (not (eqb (fileLength mailbox (b .files)) 0)) (λ _. rejected (omega arith))
@@ -49,15 +49,15 @@ judged-file b mailbox file boxes =
     (eqb-true (fileLength mailbox (b .files)) 0 (not-false _ empty))))))
   where
     P : FileAnswer → Type 0
-    P a = FileSound b mailbox file boxes a
+    P a = FileSound b mailbox file mailboxes a
 
     accepted : (ltb mailbox 1 ≡ false) × (ltb subscribers mailbox ≡ false) →
         (eqb (length file) 0 ≡ false) × (ltb fileBytes (length file) ≡ false) →
-        fileLength mailbox (b .files) ≡ 0 → FileSound b mailbox file boxes put.Done
+        fileLength mailbox (b .files) ≡ 0 → FileSound b mailbox file mailboxes put.Done
     accepted m f e = done (ltb-false _ _ (m .0)) (ltb-false _ _ (m .1)) (let z = eqb-false (length file) 0 (f .0) in omega arith)
         (ltb-false _ _ (f .1)) e
 
-module _ (w : World) (h : List Exchange) (v : Invariant w h) (mailbox : ℕ) (file : List ℕ) (known : 1 ≤ mailbox)
+module _ (w : BankState) (h : List Exchange) (v : Invariant w h) (mailbox : ℕ) (file : List ℕ) (known : 1 ≤ mailbox)
     (most : mailbox ≤ subscribers)
     (some : 1 ≤ length file) (short : length file ≤ fileBytes) (empty : fileLength mailbox (w .bank .files) ≡ 0) where
   box : ℕ
@@ -72,19 +72,19 @@ module _ (w : World) (h : List Exchange) (v : Invariant w h) (mailbox : ℕ) (fi
   filled-other s n =
       rw (
         getD-set-other (w .bank .files) (mailbox - 1) (s - 1) (length file) 0 n,
-        part-unwritten (w .boxes) (v .state .sizes .boxes) (mailbox - 1) inside file short (s - 1) n,
+        part-unwritten (w .mailboxes) (v .state .sizes .mailboxes) (mailbox - 1) inside file short (s - 1) n,
       )
 
-  was-zeros : partAt (w .boxes) (mailbox - 1) ≡ replicate fileBytes 0
+  was-zeros : partAt (w .mailboxes) (mailbox - 1) ≡ replicate fileBytes 0
   unfolding fileLength
   was-zeros =
-      v .state .mailboxes (mailbox - 1) inside .zeros
-      ∙ ap (λ (n : ℕ). take n (partAt (w .boxes) (mailbox - 1)) ++ replicate (fileBytes - n) 0) empty
+      v .state .mailboxesHold (mailbox - 1) inside .zeros
+      ∙ ap (λ (n : ℕ). take n (partAt (w .mailboxes) (mailbox - 1)) ++ replicate (fileBytes - n) 0) empty
 
-  now-held : partAt (filled mailbox file w .boxes) (mailbox - 1) ≡ file ++ replicate (fileBytes - length file) 0
+  now-held : partAt (filled mailbox file w .mailboxes) (mailbox - 1) ≡ file ++ replicate (fileBytes - length file) 0
   now-held =
       let e : fileBytes ≡ length file + (fileBytes - length file) = omega arith in
-      part-written (w .boxes) (v .state .sizes .boxes) (mailbox - 1) inside file short
+      part-written (w .mailboxes) (v .state .sizes .mailboxes) (mailbox - 1) inside file short
       ∙ ap (λ (l : List ℕ). file ++ l)
       (ap (drop (length file)) was-zeros
       ∙ (ap (λ (n : ℕ). drop (length file) (replicate n 0)) e ∙ drop-replicate (length file) (fileBytes - length file) 0))
@@ -97,11 +97,11 @@ module _ (w : World) (h : List Exchange) (v : Invariant w h) (mailbox : ℕ) (fi
       (take-append-seam file (replicate (fileBytes - length file) 0))
 
   mailboxes-hold : (i : ℕ) → i < placeCount →
-      MailboxHolds (getD (filled mailbox file w .bank .files) i 0) (partAt (filled mailbox file w .boxes) i)
+      MailboxHolds (getD (filled mailbox file w .bank .files) i 0) (partAt (filled mailbox file w .mailboxes) i)
   mailboxes-hold i a = at (ℕ-discrete i (mailbox - 1))
     where
       at : Dec (i ≡ mailbox - 1) → MailboxHolds (getD (set (w .bank .files) (mailbox - 1) (length file)) i 0)
-          (partAt (filled mailbox file w .boxes) i)
+          (partAt (filled mailbox file w .mailboxes) i)
       at (yes z) = rw z (rw (
         getD-set-same (w .bank .files) (mailbox - 1) (length file) 0 (let y = v .state .sizes .files in omega arith),
         now-held,
@@ -113,8 +113,8 @@ module _ (w : World) (h : List Exchange) (v : Invariant w h) (mailbox : ℕ) (fi
       at (no n) =
           rw (
             getD-set-other (w .bank .files) (mailbox - 1) i (length file) 0 n,
-            part-unwritten (w .boxes) (v .state .sizes .boxes) (mailbox - 1) inside file short i n,
-          ) (v .state .mailboxes i a)
+            part-unwritten (w .mailboxes) (v .state .sizes .mailboxes) (mailbox - 1) inside file short i n,
+          ) (v .state .mailboxesHold i a)
 
   -- no download of this mailbox is open: it is empty
   downloads-stay : (j : ℕ) → DownloadKept (downloadAt (w .bank) j .used) (w .bank .clock) (w .bank .openings) h
@@ -139,16 +139,16 @@ module _ (w : World) (h : List Exchange) (v : Invariant w h) (mailbox : ℕ) (fi
   unfolding openCount openCountOf
   filled-keeps =
       download-change w (w .bank .clock) (w .bank .openings) (w .bank .downloads) (w .bank .nonces) (filled mailbox file w .bank .files)
-      (filled mailbox file w .boxes) v (record {
+      (filled mailbox file w .mailboxes) v (record {
         listed = v .state .sizes .downloads;
         remembered = v .state .sizes .nonces;
         filed = length-set (w .bank .files) (mailbox - 1) (length file) ∙ v .state .sizes .files;
-        stored = length-written (w .boxes) (v .state .sizes .boxes) (mailbox - 1) inside file short;
+        stored = length-written (w .mailboxes) (v .state .sizes .mailboxes) (mailbox - 1) inside file short;
         counted = v .counted;
         numbers = v .state .numbers;
         places = place-kept v;
         downloads = downloads-stay;
-        mailboxes = mailboxes-hold;
+        mailboxesHold = mailboxes-hold;
         apart = v .state .apart;
         inOrder = v .state .inOrder;
         memory = v .memory;

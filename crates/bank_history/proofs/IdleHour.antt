@@ -11,7 +11,7 @@ use Rattle.octets.proofs.Tests.{never}
 use Rattle.message.specs.declared.codes.ReturnCode.the-variants as code
 use Rattle.bank_state.specs.Limits.{idleLimit}
 use Rattle.bank_state.specs.Search.{isOpen}
-use Rattle.bank_state.specs.State.{World, noBits, placeAt, downloadAt}
+use Rattle.bank_state.specs.State.{BankState, noBits, placeAt, downloadAt}
 use Rattle.bank_state.proofs.Found.{upload-found, download-found}
 use Rattle.bank_verdicts.specs.declared.verdict.Action.{Action}
 use Rattle.bank_verdicts.specs.declared.verdict.Verdict.{Verdict}
@@ -58,12 +58,12 @@ isOf (verdict.Refused c) = 0
 isOf (verdict.Of t k) = 1
 
 -- a fitting request of u at most 3,600 before the clock of w
-record Recent (u : Bits128) (w : World) (h : List Exchange) : Type 0 where
+record Recent (u : Bits128) (w : BankState) (h : List Exchange) : Type 0 where
   last : ℕ
   fitted : Fitted u last h
   recent : w .bank .clock ≤ last + idleLimit
 
-module _ (w : World) (h : List Exchange) (c : Counted w h) (current : NoneIdle w) (q : Fields) (d : List ℕ) (first : ℕ) (u : Bits128)
+module _ (w : BankState) (h : List Exchange) (c : Counted w h) (current : NoneIdle w) (q : Fields) (d : List ℕ) (first : ℕ) (u : Bits128)
     (k : Action) (noOpening : isOpening k ≡ false) where
   acted-recent : {x : Verdict} → Happens first w q d x → x ≡ verdict.Of u k → Recent u w h
   unfolding idOf isOf
@@ -101,7 +101,7 @@ idle-refused {calls} {e} {t} n a old = refused-with n code.UnknownTransaction (u
     gone : (u : Bits128) (k : Action) → e .verdict ≡ verdict.Of u k → ⊥
     gone u k own =
         let sizes = past-holds calls .invariant .state .sizes in
-        let r = acted-recent (judgedBank n) h (judged-counted calls (n .time)) (advanced-not-idle (n .time) (pastOf calls .world) sizes) _ _ _
+        let r = acted-recent (judgedBank n) h (judged-counted calls (n .time)) (advanced-not-idle (n .time) (pastOf calls .bankState) sizes) _ _ _
         u k (no-opening n a u k (action-sound (all-sound n) newest own)) (case-is n) own in
         let f = subst (λ (i : Bits128). Fitted i (r .last) h) (asked-open n a own .0) (r .fitted) in
         let late = old (f .exchange) (f .before) (f .stands) (fits-shown (history-sound calls) (f .stands) (f .fits)) in

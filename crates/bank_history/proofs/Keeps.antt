@@ -23,7 +23,7 @@ use Rattle.bank_state.specs.Clock.{advanced}
 use Rattle.bank_state.specs.Limits.{placeCount, storeBytes, nonceCount}
 use Rattle.bank_state.specs.Rows.{countOf, keep}
 use Rattle.bank_state.specs.Search.{isFree, isOpen, openCount, openCountOf}
-use Rattle.bank_state.specs.State.{World, noPlace, noDownload, noNonce, fresh, placeAt, downloadAt}
+use Rattle.bank_state.specs.State.{BankState, noPlace, noDownload, noNonce, fresh, placeAt, downloadAt}
 use Rattle.bank_state.specs.Store.{partAt}
 use Rattle.bank.specs.declared.call.FrameAnswer.{FrameAnswer}
 use Rattle.bank.specs.declared.call.FrameAnswer.the-variants.{Reply, WrongLength}
@@ -84,23 +84,23 @@ use Rattle.bank_history.proofs.Reading.{transfer-data}
 use Rattle.bank_history.proofs.Files.{FileSound, rejected, done, judged-file, filled-keeps}
 
 -- a request that does nothing
-nothing-keeps : (w : World) (h : List Exchange) (x : Exchange) → ((t : Bits128) → did isAction t (x .verdict) ≡ false) →
+nothing-keeps : (w : BankState) (h : List Exchange) (x : Exchange) → ((t : Bits128) → did isAction t (x .verdict) ≡ false) →
     opens (x .verdict) ≡ false → Sound x h →
     Invariant w h → Invariant w (x ∷ h)
 unfolding accepted
 nothing-keeps w h x no-action unopened sound v =
-    download-change w (w .bank .clock) (w .bank .openings) (w .bank .downloads) (w .bank .nonces) (w .bank .files) (w .boxes) v (record {
+    download-change w (w .bank .clock) (w .bank .openings) (w .bank .downloads) (w .bank .nonces) (w .bank .files) (w .mailboxes) v (record {
       listed = v .state .sizes .downloads;
       remembered = v .state .sizes .nonces;
       filed = v .state .sizes .files;
-      stored = v .state .sizes .boxes;
+      stored = v .state .sizes .mailboxes;
       counted = rw unopened (v .counted);
       numbers = v .state .numbers;
       places = λ i a. place-unchanged x h _ _ (omega arith) _ _ _ (placeAt (w .bank) i .used)
           (λ _. no-action (placeAt (w .bank) i .transaction)) (place-kept v i a);
       downloads = λ j. download-unchanged x h _ _ _ _ (omega arith) _ (downloadAt (w .bank) j .used)
           (λ _. no-action (downloadAt (w .bank) j .transaction)) (download-kept v j);
-      mailboxes = v .state .mailboxes;
+      mailboxesHold = v .state .mailboxesHold;
       apart = v .state .apart;
       inOrder = v .state .inOrder;
       memory = memory-unchanged _ _ x h unopened (v .memory);
@@ -111,7 +111,7 @@ nothing-keeps w h x no-action unopened sound v =
       sound = more sound (v .sound);
     })
 
-module _ (first : ℕ) (w : World) (h : List Exchange) (v : Invariant w h) (q : Fields) (d : List ℕ)
+module _ (first : ℕ) (w : BankState) (h : List Exchange) (v : Invariant w h) (q : Fields) (d : List ℕ)
     (some : form q ≡ forms.UploadTransfer → 1 ≤ length d) where
   case-keeps : {u : Verdict} → Happens first w q d u → Invariant (carryOut u w q d) (entry u w q d ∷ h)
   case-keeps unreadable =
@@ -123,11 +123,11 @@ module _ (first : ℕ) (w : World) (h : List Exchange) (v : Invariant w h) (q : 
   case-keeps (toUpload r a t) = upload-keeps w h v q d r a some t
   case-keeps (toDownload r a t) = download-keeps w h v q d r a t
 
-  pub respond-keeps : Invariant (respond first w q d .world) (exchangeOf first w q d ∷ h)
+  pub respond-keeps : Invariant (respond first w q d .bankState) (exchangeOf first w q d ∷ h)
   unfolding exchangeOf respond
   respond-keeps = case-keeps (happens first w q d (v .state .sizes .places) (v .state .sizes .downloads))
 
-  respond-not-idle : NoneIdle w → NoneIdle (respond first w q d .world)
+  respond-not-idle : NoneIdle w → NoneIdle (respond first w q d .bankState)
   unfolding respond
   respond-not-idle n = case-not-idle w n first q d (v .state .sizes .places)
       (happens first w q d (v .state .sizes .places) (v .state .sizes .downloads))
@@ -135,7 +135,7 @@ module _ (first : ℕ) (w : World) (h : List Exchange) (v : Invariant w h) (q : 
 -- ---- the calls
 
 -- "a number, nothing changed"; else what the request came to
-entered-holds : (p : Past) (a : FrameAnswer) (w : World) (e : Exchange) → Holds p → Invariant w (e ∷ p .history) → NoneIdle w →
+entered-holds : (p : Past) (a : FrameAnswer) (w : BankState) (e : Exchange) → Holds p → Invariant w (e ∷ p .history) → NoneIdle w →
     Holds (entered a w e p)
 entered-holds p (Reply n) w e old v notIdle = record { invariant = v; current = notIdle }
 entered-holds p WrongLength w e old v notIdle = old
@@ -143,11 +143,11 @@ entered-holds p WrongLength w e old v notIdle = old
 frame-holds : (p : Past) (time : ℕ) (ids frame buffer : List ℕ) → Holds p → Holds (after (Frame time ids frame buffer) p)
 unfolding after frameCall
 frame-holds p time ids frame buffer old =
-    by-test (λ (c : FrameCall). Holds (entered (c .answer) (c .world) x p)) (lentRight (p .world) ids buffer)
-    (λ _. entered-holds p (replied s buffer .answer) (s .world) x old kept notIdle) (λ _. old)
+    by-test (λ (c : FrameCall). Holds (entered (c .answer) (c .bankState) x p)) (lentRight (p .bankState) ids buffer)
+    (λ _. entered-holds p (replied s buffer .answer) (s .bankState) x old kept notIdle) (λ _. old)
   where
-    w : World
-    w = advanced time (p .world)
+    w : BankState
+    w = advanced time (p .bankState)
 
     s : Step
     s = respond (number ids) w (readRequest frame) (dataOf frame)
@@ -156,40 +156,40 @@ frame-holds p time ids frame buffer old =
     x = exchangeOf (number ids) w (readRequest frame) (dataOf frame)
 
     v : Invariant w (p .history)
-    v = advanced-keeps time (p .world) (p .history) (old .invariant)
+    v = advanced-keeps time (p .bankState) (p .history) (old .invariant)
 
-    kept : Invariant (s .world) (x ∷ p .history)
+    kept : Invariant (s .bankState) (x ∷ p .history)
     kept = respond-keeps (number ids) w (p .history) v (readRequest frame) (dataOf frame) (transfer-data frame)
 
-    notIdle : NoneIdle (s .world)
+    notIdle : NoneIdle (s .bankState)
     notIdle = respond-not-idle (number ids) w (p .history) v (readRequest frame) (dataOf frame) (transfer-data frame)
-        (advanced-not-idle time (p .world) (old .invariant .state .sizes))
+        (advanced-not-idle time (p .bankState) (old .invariant .state .sizes))
 
 file-holds : (p : Past) (mailbox : ℕ) (file : List ℕ) → Holds p → Holds (after (File mailbox file) p)
 unfolding after fileCall
-file-holds p mailbox file old = at (judged-file (p .world .bank) mailbox file (p .world .boxes))
+file-holds p mailbox file old = at (judged-file (p .bankState .bank) mailbox file (p .bankState .mailboxes))
   where
-    boxes : List ℕ
-    boxes = p .world .boxes
+    mailboxes : List ℕ
+    mailboxes = p .bankState .mailboxes
 
     b : Bank
-    b = p .world .bank
+    b = p .bankState .bank
 
     rejected-stays : (a : FileAnswer) → 0 < fileNumber a →
-        Holds (placed (carryOutFile a b mailbox file boxes .answer) (carryOutFile a b mailbox file boxes .bank)
-        (carryOutFile a b mailbox file boxes .boxes) p)
+        Holds (placed (carryOutFile a b mailbox file mailboxes .answer) (carryOutFile a b mailbox file mailboxes .bank)
+        (carryOutFile a b mailbox file mailboxes .mailboxes) p)
     rejected-stays put.Done h = absurd (omega arith)
     rejected-stays put.WrongLength h = old
     rejected-stays put.NoMailbox h = old
     rejected-stays put.WrongFile h = old
     rejected-stays put.MailboxFull h = old
 
-    at : {a : FileAnswer} → FileSound b mailbox file boxes a →
-        Holds (placed (carryOutFile a b mailbox file boxes .answer) (carryOutFile a b mailbox file boxes .bank)
-        (carryOutFile a b mailbox file boxes .boxes) p)
+    at : {a : FileAnswer} → FileSound b mailbox file mailboxes a →
+        Holds (placed (carryOutFile a b mailbox file mailboxes .answer) (carryOutFile a b mailbox file mailboxes .bank)
+        (carryOutFile a b mailbox file mailboxes .mailboxes) p)
     at {a} (rejected h) = rejected-stays a h
     at (done known most some short empty) = record {
-      invariant = filled-keeps (p .world) (p .history) (old .invariant) mailbox file known most some short empty;
+      invariant = filled-keeps (p .bankState) (p .history) (old .invariant) mailbox file known most some short empty;
       current = record { places = old .current .places; downloads = old .current .downloads };
     }
 
@@ -232,12 +232,12 @@ start-holds = record {
         nonces = refl;
         files = refl;
         orders = length-replicate {A = ℕ} storeBytes 0;
-        boxes = length-replicate {A = ℕ} storeBytes 0;
+        mailboxes = length-replicate {A = ℕ} storeBytes 0;
       };
       numbers = omega arith;
       places = λ i a. rw (fresh-place i a) (record { empty = refl; zeros = zeros-part i a });
       downloads = λ j. rw (fresh-download j) refl;
-      mailboxes = λ i a. rw (getD-replicate {A = ℕ} placeCount i 0 0 a) (record { room = omega arith; zeros = zeros-part i a });
+      mailboxesHold = λ i a. rw (getD-replicate {A = ℕ} placeCount i 0 0 a) (record { room = omega arith; zeros = zeros-part i a });
       placesApart = λ i j a b f. never (sym f ∙ ap (λ (p : Place). isFree (p .used)) (fresh-place i a));
       apart = λ i j a f. never (sym f ∙ ap (λ (p : Place). isFree (p .used)) (fresh-place i a));
       inOrder = rest (free-replicate noDownload placeCount);

@@ -18,7 +18,7 @@ use Rattle.message.specs.Limits.{segmentBytes}
 use Rattle.message.specs.Segments.{segmentsOf, lastMarkOf}
 use Rattle.bank_state.specs.Clock.{advanced}
 use Rattle.bank_state.specs.Limits.{idleLimit}
-use Rattle.bank_state.specs.State.{World, placeAt, downloadAt, fileLength}
+use Rattle.bank_state.specs.State.{BankState, placeAt, downloadAt, fileLength}
 use Rattle.bank_verdicts.specs.declared.verdict.UploadAction.the-variants as up
 use Rattle.bank_verdicts.specs.declared.verdict.DownloadAction.{DownloadAction}
 use Rattle.bank_verdicts.specs.declared.verdict.DownloadAction.the-variants as down
@@ -41,7 +41,7 @@ use Rattle.bank_history.specs.History.{
   fileAtOpening,
 }
 use Rattle.bank_history.specs.Invariant.{Invariant, Holds}
-use Rattle.bank_history.specs.Standing.{
+use Rattle.bank_history.specs.Transactions.{
   Filled,
   UploadAt,
   DownloadAt,
@@ -70,7 +70,7 @@ use Rattle.bank_history.proofs.UploadRequests as own
 use Rattle.bank_history.proofs.DownloadRequests as ownDownload
 
 -- a request does not move the clock that its call has set
-download-clock : (w : World) (q : Fields) (t : Bits128) (a : DownloadAction) → downloadActs a t w q .bank .clock ≡ w .bank .clock
+download-clock : (w : BankState) (q : Fields) (t : Bits128) (a : DownloadAction) → downloadActs a t w q .bank .clock ≡ w .bank .clock
 unfolding openDownload counted
 download-clock w q t (down.Opened n) = refl
 download-clock w q t (down.Delivered n) = refl
@@ -80,7 +80,7 @@ download-clock w q t down.Cancelled = refl
 download-clock w q t down.Confirmed = refl
 download-clock w q t down.Declined = refl
 
-case-clock : {first : ℕ} {w : World} {q : Fields} {d : List ℕ} {x : Verdict} → Happens first w q d x →
+case-clock : {first : ℕ} {w : BankState} {q : Fields} {d : List ℕ} {x : Verdict} → Happens first w q d x →
     carryOut x w q d .bank .clock ≡ w .bank .clock
 unfolding openUpload openDownload counted
 case-clock unreadable = refl
@@ -88,7 +88,7 @@ case-clock (refused c e) = refl
 case-clock (opensUpload asked a g n inside) = refl
 case-clock (opensDownload asked a g n) = refl
 case-clock {w = w} {q = q} (toUpload r a c) =
-    ap (λ (z : World). z .bank .clock) (upload-acts (placeAt (w .bank) (uploadAt (w .bank) q) .transaction) c)
+    ap (λ (z : BankState). z .bank .clock) (upload-acts (placeAt (w .bank) (uploadAt (w .bank) q) .transaction) c)
 case-clock {w = w} {q = q} (toDownload r a c) = download-clock w q _ a
 
 -- what is true of the past before and of each past that a call can leave is true after the call
@@ -96,7 +96,7 @@ pub by-call : (P : Past → Type 0) (c : BankCall) (p : Past) → Holds p → P 
     ((time : ℕ) (ids frame buffer : List ℕ) → c ≡ Frame time ids frame buffer → after c p ≡ answered time ids frame p →
     P (answered time ids frame p)) →
     ((mailbox : ℕ) (file : List ℕ) → c ≡ File mailbox file →
-    P (record { world = filled mailbox file (p .world); history = p .history })) → P (after c p)
+    P (record { bankState = filled mailbox file (p .bankState); history = p .history })) → P (after c p)
 by-call P (Frame time ids frame buffer) p holds same answers files = at (after-frame time ids frame buffer p)
   where
     at : (after (Frame time ids frame buffer) p ≡ p) ⊎ (after (Frame time ids frame buffer) p ≡ answered time ids frame p) →
@@ -106,92 +106,92 @@ by-call P (Frame time ids frame buffer) p holds same answers files = at (after-f
 by-call P (File mailbox file) p holds same answers files = at (after-file mailbox file p holds)
   where
     at : (after (File mailbox file) p ≡ p)
-        ⊎ ((after (File mailbox file) p ≡ record { world = filled mailbox file (p .world); history = p .history }) × Filled (p .world)
-        (filled mailbox file (p .world)) mailbox file) →
+        ⊎ ((after (File mailbox file) p ≡ record { bankState = filled mailbox file (p .bankState); history = p .history }) × Filled (p .bankState)
+        (filled mailbox file (p .bankState)) mailbox file) →
         P (after (File mailbox file) p)
     at (inl e) = subst P (sym e) same
     at (inr e) = subst P (sym (e .0)) (files mailbox file refl)
 
 -- an answered frame: the bank as the request is judged, the exchange, the invariant, the case
 module _ (time : ℕ) (ids frame : List ℕ) (p : Past) (holds : Holds p) where
-  abbrev pub judged : World
-  judged = advanced time (p .world)
+  abbrev pub judged : BankState
+  judged = advanced time (p .bankState)
 
   abbrev pub newest : Exchange
   newest = exchangeOf (number ids) judged (readRequest frame) (dataOf frame)
 
   judged-holds : Invariant judged (p .history)
-  judged-holds = advanced-keeps time (p .world) (p .history) (holds .invariant)
+  judged-holds = advanced-keeps time (p .bankState) (p .history) (holds .invariant)
 
   the-case : Happens (number ids) judged (readRequest frame) (dataOf frame) (newest .verdict)
   unfolding exchangeOf respond
   the-case = happens (number ids) judged (readRequest frame) (dataOf frame) (judged-holds .state .sizes .places)
       (judged-holds .state .sizes .downloads)
 
-  pub answered-clock : answered time ids frame p .world .bank .clock ≡ max (p .world .bank .clock) time
+  pub answered-clock : answered time ids frame p .bankState .bank .clock ≡ max (p .bankState .bank .clock) time
   unfolding exchangeOf respond
-  answered-clock = case-clock the-case ∙ advanced-clock time (p .world)
+  answered-clock = case-clock the-case ∙ advanced-clock time (p .bankState)
 
   -- ---- the requests of an upload that fit
 
   -- its opening
   pub upload-opens : (t : Bits128) (m : ℕ) → newest .verdict ≡ verdict.Of t (action.Upload (up.Opened m)) →
-      UploadAt (answered time ids frame p .world) t (subscriber (readRequest frame)) 0 (segments (readRequest frame))
-      (max (p .world .bank .clock) time)
+      UploadAt (answered time ids frame p .bankState) t (subscriber (readRequest frame)) 0 (segments (readRequest frame))
+      (max (p .bankState .bank .clock) time)
   unfolding exchangeOf respond
-  upload-opens t m e = subst (UploadAt (answered time ids frame p .world) t (subscriber (readRequest frame)) 0
-      (segments (readRequest frame))) (advanced-clock time (p .world))
+  upload-opens t m e = subst (UploadAt (answered time ids frame p .bankState) t (subscriber (readRequest frame)) 0
+      (segments (readRequest frame))) (advanced-clock time (p .bankState))
       (own.opened-open (number ids) judged (p .history) judged-holds (readRequest frame) (dataOf frame) t m the-case e)
 
   -- its next segment, within the idle hour
-  module _ (t : Bits128) (s k n last : ℕ) (before : UploadUnlessIdle (p .world) t s k n last)
+  module _ (t : Bits128) (s k n last : ℕ) (before : UploadUnlessIdle (p .bankState) t s k n last)
       (asked : form (readRequest frame) ≡ forms.UploadTransfer)
       (from : subscriber (readRequest frame) ≡ s) (to : transaction (readRequest frame) ≡ t) (next : segment (readRequest frame) ≡ suc k)
       (mark : lastMark (readRequest frame) ≡ lastMarkOf (segment (readRequest frame)) n) (short : length (dataOf frame) ≤ segmentBytes)
-      (notIdle : max (p .world .bank .clock) time ≤ last + idleLimit) where
+      (notIdle : max (p .bankState .bank .clock) time ≤ last + idleLimit) where
     there : UploadAt judged t s k n last
-    there = uploads.advanced-open t s k n last time (p .world) (holds .invariant .state .sizes) before
-        (let c = advanced-clock time (p .world) in omega arith)
+    there = uploads.advanced-open t s k n last time (p .bankState) (holds .invariant .state .sizes) before
+        (let c = advanced-clock time (p .bankState) in omega arith)
 
-    pub upload-current : last ≤ max (p .world .bank .clock) time
+    pub upload-current : last ≤ max (p .bankState .bank .clock) time
     upload-current =
         let u = there in
         let a = own.upload-is-open judged (p .history) judged-holds t s k n last u .0 .current in
         let b = u .fitting in
-        let c = advanced-clock time (p .world) in omega arith
+        let c = advanced-clock time (p .bankState) in omega arith
 
     pub upload-takes : newest .verdict ≡ verdict.Of t (action.Upload (cond (eqb (k + 1) n) up.TookLast up.Took))
     unfolding exchangeOf respond
     upload-takes = own.own-verdict (number ids) judged (p .history) judged-holds t s k n last there (readRequest frame) (dataOf frame)
         asked from to next mark short
 
-    pub upload-goes-on : suc k < n → UploadAt (answered time ids frame p .world) t s (suc k) n (max (p .world .bank .clock) time)
-    upload-goes-on below = subst (UploadAt (answered time ids frame p .world) t s (suc k) n) (advanced-clock time (p .world))
+    pub upload-goes-on : suc k < n → UploadAt (answered time ids frame p .bankState) t s (suc k) n (max (p .bankState .bank .clock) time)
+    upload-goes-on below = subst (UploadAt (answered time ids frame p .bankState) t s (suc k) n) (advanced-clock time (p .bankState))
         (own.own-open (number ids) judged (p .history) judged-holds t s k n last there (readRequest frame) (dataOf frame) asked from to
         next mark short below)
 
   -- ---- the requests of a download that fit
 
   pub download-opens : (t : Bits128) (n : ℕ) → newest .verdict ≡ verdict.Of t (action.Download (down.Opened n)) →
-      DownloadAt (answered time ids frame p .world) t (subscriber (readRequest frame)) 1 (max (p .world .bank .clock) time)
+      DownloadAt (answered time ids frame p .bankState) t (subscriber (readRequest frame)) 1 (max (p .bankState .bank .clock) time)
   unfolding exchangeOf respond
-  download-opens t n e = subst (DownloadAt (answered time ids frame p .world) t (subscriber (readRequest frame)) 1)
-      (advanced-clock time (p .world))
+  download-opens t n e = subst (DownloadAt (answered time ids frame p .bankState) t (subscriber (readRequest frame)) 1)
+      (advanced-clock time (p .bankState))
       (ownDownload.opened-open (number ids) judged (p .history) judged-holds (readRequest frame) (dataOf frame) t n the-case e)
 
-  module _ (t : Bits128) (s d last : ℕ) (before : DownloadUnlessIdle (p .world) t s d last) (from : subscriber (readRequest frame) ≡ s)
+  module _ (t : Bits128) (s d last : ℕ) (before : DownloadUnlessIdle (p .bankState) t s d last) (from : subscriber (readRequest frame) ≡ s)
       (to : transaction (readRequest frame) ≡ t) (short : length (dataOf frame) ≤ segmentBytes)
-      (notIdle : max (p .world .bank .clock) time ≤ last + idleLimit) where
+      (notIdle : max (p .bankState .bank .clock) time ≤ last + idleLimit) where
     there-download : DownloadAt judged t s d last
-    there-download = downloads.advanced-open t s d last time (p .world) (holds .invariant .state .sizes .downloads) before
-        (let c = advanced-clock time (p .world) in omega arith)
+    there-download = downloads.advanced-open t s d last time (p .bankState) (holds .invariant .state .sizes .downloads) before
+        (let c = advanced-clock time (p .bankState) in omega arith)
 
-    pub download-current : last ≤ max (p .world .bank .clock) time
+    pub download-current : last ≤ max (p .bankState .bank .clock) time
     download-current =
         let u = there-download in
         let a = download-open judged (p .history) judged-holds (u .row) (u .used) .0 .current in
         let b = u .fitting in
-        let c = advanced-clock time (p .world) in omega arith
+        let c = advanced-clock time (p .bankState) in omega arith
 
     -- N is still that of the file at its opening
     pub download-segments : mailboxSegments (subscriber (readRequest frame)) (judged .bank)
@@ -215,8 +215,8 @@ module _ (time : ℕ) (ids frame : List ℕ) (p : Past) (holds : Holds p) where
           ownDownload.deliver-verdict (number ids) judged (p .history) judged-holds t s d last there-download (readRequest frame)
           (dataOf frame) from to short asked next within
 
-      pub download-goes-on : DownloadAt (answered time ids frame p .world) t s (suc d) (max (p .world .bank .clock) time)
-      download-goes-on = subst (DownloadAt (answered time ids frame p .world) t s (suc d)) (advanced-clock time (p .world))
+      pub download-goes-on : DownloadAt (answered time ids frame p .bankState) t s (suc d) (max (p .bankState .bank .clock) time)
+      download-goes-on = subst (DownloadAt (answered time ids frame p .bankState) t s (suc d)) (advanced-clock time (p .bankState))
           (ownDownload.deliver-open (number ids) judged (p .history) judged-holds t s d last there-download (readRequest frame)
           (dataOf frame) from to short asked next within)
 
@@ -231,46 +231,46 @@ module _ (time : ℕ) (ids frame : List ℕ) (p : Past) (holds : Holds p) where
 -- ---- whatever comes from elsewhere
 
 -- an upload stays, unless the call's request is to it
-pub upload-stays : (t : Bits128) (s k n last : ℕ) (c : BankCall) (p : Past) → Holds p → UploadUnlessIdle (p .world) t s k n last →
+pub upload-stays : (t : Bits128) (s k n last : ℕ) (c : BankCall) (p : Past) → Holds p → UploadUnlessIdle (p .bankState) t s k n last →
     ((e : Exchange) → after c p .history ≡ e ∷ p .history → did isAction t (e .verdict) ≡ false) →
-    UploadUnlessIdle (after c p .world) t s k n last
+    UploadUnlessIdle (after c p .bankState) t s k n last
 unfolding exchangeOf respond
 upload-stays t s k n last c p holds before noAction =
-    by-call (λ (r : Past). UploadUnlessIdle (r .world) t s k n last) c p holds before frames
+    by-call (λ (r : Past). UploadUnlessIdle (r .bankState) t s k n last) c p holds before frames
     (λ m f e h. uploads.upload-moved (before h) refl)
   where
     frames : (time : ℕ) (ids frame buffer : List ℕ) → c ≡ Frame time ids frame buffer → after c p ≡ answered time ids frame p →
-        UploadUnlessIdle (answered time ids frame p .world) t s k n last
+        UploadUnlessIdle (answered time ids frame p .bankState) t s k n last
     frames time ids frame buffer e z h =
-        uploads.case-open t s k n last (advanced time (p .world)) (p .history) (judged-holds time ids frame p holds)
-        (uploads.advanced-open t s k n last time (p .world) (holds .invariant .state .sizes) before
+        uploads.case-open t s k n last (advanced time (p .bankState)) (p .history) (judged-holds time ids frame p holds)
+        (uploads.advanced-open t s k n last time (p .bankState) (holds .invariant .state .sizes) before
         (let a = case-clock (the-case time ids frame p holds) in omega arith))
         (number ids) (readRequest frame) (dataOf frame) (the-case time ids frame p holds)
         (noAction (newest time ids frame p holds) (ap (λ (r : Past). r .history) z))
 
 -- a download stays, unless the call's request is to it or is a receipt of its subscriber answered 011000
-pub download-stays : (t : Bits128) (s d last : ℕ) (c : BankCall) (p : Past) → Holds p → DownloadUnlessIdle (p .world) t s d last →
+pub download-stays : (t : Bits128) (s d last : ℕ) (c : BankCall) (p : Past) → Holds p → DownloadUnlessIdle (p .bankState) t s d last →
     ((e : Exchange) → after c p .history ≡ e ∷ p .history → did isAction t (e .verdict) ≡ false) →
     ((e : Exchange) (id : Bits128) → after c p .history ≡ e ∷ p .history →
     e .verdict ≡ verdict.Of id (action.Download down.Confirmed) → subscriber (e .request) ≡ s → ⊥) →
-    DownloadUnlessIdle (after c p .world) t s d last
+    DownloadUnlessIdle (after c p .bankState) t s d last
 unfolding exchangeOf respond
 download-stays t s d last c p holds before noAction kept =
-    by-call (λ (r : Past). DownloadUnlessIdle (r .world) t s d last) c p holds before frames
+    by-call (λ (r : Past). DownloadUnlessIdle (r .bankState) t s d last) c p holds before frames
     (λ m f e h. let u = before h in downloads.record-moved u (u .row) (u .inside) refl)
   where
     frames : (time : ℕ) (ids frame buffer : List ℕ) → c ≡ Frame time ids frame buffer → after c p ≡ answered time ids frame p →
-        DownloadUnlessIdle (answered time ids frame p .world) t s d last
+        DownloadUnlessIdle (answered time ids frame p .bankState) t s d last
     frames time ids frame buffer e z h =
-        downloads.case-open t s d last (advanced time (p .world)) (p .history) (judged-holds time ids frame p holds)
-        (downloads.advanced-open t s d last time (p .world) (holds .invariant .state .sizes .downloads) before
+        downloads.case-open t s d last (advanced time (p .bankState)) (p .history) (judged-holds time ids frame p holds)
+        (downloads.advanced-open t s d last time (p .bankState) (holds .invariant .state .sizes .downloads) before
         (let a = case-clock (the-case time ids frame p holds) in omega arith))
         (number ids) (readRequest frame) (dataOf frame) (the-case time ids frame p holds)
         (noAction (newest time ids frame p holds) (ap (λ (r : Past). r .history) z))
         (λ id. kept (newest time ids frame p holds) id (ap (λ (r : Past). r .history) z))
 
 -- the clock never goes back
-pub clock-grows : (c : BankCall) (p : Past) → Holds p → p .world .bank .clock ≤ after c p .world .bank .clock
+pub clock-grows : (c : BankCall) (p : Past) → Holds p → p .bankState .bank .clock ≤ after c p .bankState .bank .clock
 clock-grows c p holds =
-    by-call (λ (r : Past). p .world .bank .clock ≤ r .world .bank .clock) c p holds (omega arith)
+    by-call (λ (r : Past). p .bankState .bank .clock ≤ r .bankState .bank .clock) c p holds (omega arith)
     (λ time ids frame buffer e z. let a = answered-clock time ids frame p holds in omega arith) (λ m f e. omega arith)

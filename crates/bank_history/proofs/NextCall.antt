@@ -23,7 +23,7 @@ use Rattle.message.specs.Codes.{codeField}
 use Rattle.message.proofs.Verdicts.{by-test}
 use Rattle.bank_state.specs.Clock.{advanced}
 use Rattle.bank_state.specs.Limits.{placeCount}
-use Rattle.bank_state.specs.State.{World}
+use Rattle.bank_state.specs.State.{BankState}
 use Rattle.bank_verdicts.specs.declared.verdict.TransactionRequest.{TransactionRequest}
 use Rattle.bank_verdicts.specs.declared.verdict.TransactionRequest.the-variants as asks
 use Rattle.bank_verdicts.specs.declared.verdict.UploadAction.{UploadAction}
@@ -40,7 +40,7 @@ use Rattle.bank.specs.Call.{carryOut, respond}
 use Rattle.bank_history.specs.History.{Exchange, BankCall, Frame, Past, exchangeOf, pastOf, after, newest, isOpening}
 use Rattle.bank_history.specs.Sound.{SoundRequest, SoundAction, SoundUploadAction, SoundDownloadAction, AllSound}
 use Rattle.bank_history.specs.Invariant.{Invariant, Holds}
-use Rattle.bank_history.specs.Standing.{answered}
+use Rattle.bank_history.specs.Transactions.{answered}
 use Rattle.bank_history.specs.FalseEconomies.{Next, WellMade, Asks, RefusedWith}
 use Rattle.bank_history.proofs.Cases.{Happens, happens}
 use Rattle.bank_history.proofs.Changes.{after-frame}
@@ -56,7 +56,7 @@ use Rattle.bank_history.proofs.UploadRequests.{verdict-by-form}
 abbrev Answer : Verdict → Type 0
 Answer v = (v ≡ verdict.Refused code.UnknownTransaction) ⊎ ((t : Bits128) × (k : Action) × (v ≡ verdict.Of t k))
 
-module _ (first : ℕ) (w : World) (q : Fields) (d : List ℕ) where
+module _ (first : ℕ) (w : BankState) (q : Fields) (d : List ℕ) where
   by-transaction : (r : TransactionRequest) → Answer (judgeTransaction r (w .bank) q (length d))
   unfolding judgeTransaction judgeOpen
   by-transaction r =
@@ -86,8 +86,8 @@ module _ {calls : List BankCall} {e : Exchange} (n : Next calls e) where
   past = pastOf calls
 
   -- the bank as the request is judged, the request, its data
-  abbrev pub judgedBank : World
-  judgedBank = advanced (n .time) (pastOf calls .world)
+  abbrev pub judgedBank : BankState
+  judgedBank = advanced (n .time) (pastOf calls .bankState)
 
   abbrev pub asked : Fields
   asked = readRequest (n .frame)
@@ -114,7 +114,7 @@ module _ {calls : List BankCall} {e : Exchange} (n : Next calls e) where
   exchange-is = ap (head-or e) (sym (n .entered) ∙ ap (λ (r : Past). r .history) left)
 
   pub judged-holds : Invariant judgedBank (pastOf calls .history)
-  judged-holds = advanced-keeps (n .time) (past .world) (past .history) (past-holds calls .invariant)
+  judged-holds = advanced-keeps (n .time) (past .bankState) (past .history) (past-holds calls .invariant)
 
   pub all-sound : AllSound (e ∷ pastOf calls .history)
   all-sound = subst AllSound (n .entered) (past-holds (Frame (n .time) (n .ids) (n .frame) (n .buffer) ∷ calls) .invariant .sound)
@@ -141,9 +141,9 @@ module _ {calls : List BankCall} {e : Exchange} (n : Next calls e) where
       (happens (number (n .ids)) judgedBank asked sent (judged-holds .state .sizes .places) (judged-holds .state .sizes .downloads))
 
   -- the bank after the call
-  pub bank-after : pastOf (Frame (n .time) (n .ids) (n .frame) (n .buffer) ∷ calls) .world ≡ carryOut (e .verdict) judgedBank asked sent
+  pub bank-after : pastOf (Frame (n .time) (n .ids) (n .frame) (n .buffer) ∷ calls) .bankState ≡ carryOut (e .verdict) judgedBank asked sent
   unfolding respond
-  bank-after = ap (λ (r : Past). r .world) left ∙ ap (λ (v : Verdict). carryOut v judgedBank asked sent) (sym verdict-is)
+  bank-after = ap (λ (r : Past). r .bankState) left ∙ ap (λ (v : Verdict). carryOut v judgedBank asked sent) (sym verdict-is)
 
   pub refused-with : (c : ReturnCode) → e .verdict ≡ verdict.Refused c → RefusedWith c e
   refused-with c own =

@@ -16,7 +16,7 @@ use Rattle.bank_state.specs.declared.state.Place.{Place}
 use Rattle.bank_state.specs.Clock.{endDownloads}
 use Rattle.bank_state.specs.Limits.{placeCount, idleLimit}
 use Rattle.bank_state.specs.Search.{isOpen, freePlace, freeDownload}
-use Rattle.bank_state.specs.State.{World, noPlace, noDownload, placeAt}
+use Rattle.bank_state.specs.State.{BankState, noPlace, noDownload, placeAt}
 use Rattle.bank_openings.specs.Openings.{counted, openUpload, openDownload}
 use Rattle.bank_verdicts.specs.declared.verdict.UploadAction.{UploadAction}
 use Rattle.bank_verdicts.specs.declared.verdict.UploadAction.the-variants as up
@@ -43,7 +43,7 @@ use Rattle.bank_history.proofs.Cases.{
   download-goes-on,
 }
 
-module _ (w : World) (notIdle : NoneIdle w) where
+module _ (w : BankState) (notIdle : NoneIdle w) where
   abbrev PlaceNotIdle : Place → Type 0
   PlaceNotIdle p = isOpen (p .used) ≡ true → w .bank .clock ≤ p .last + idleLimit
 

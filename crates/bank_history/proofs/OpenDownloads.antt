@@ -20,7 +20,7 @@ use Rattle.bank_state.specs.declared.state.Download.{Download}
 use Rattle.bank_state.specs.Clock.{isIdle, ends, endDownloads, advanced}
 use Rattle.bank_state.specs.Limits.{placeCount, idleLimit}
 use Rattle.bank_state.specs.Search.{isDownload, freeDownload}
-use Rattle.bank_state.specs.State.{World, noDownload, placeAt, downloadAt}
+use Rattle.bank_state.specs.State.{BankState, noDownload, placeAt, downloadAt}
 use Rattle.bank_verdicts.specs.declared.verdict.DownloadAction.{DownloadAction}
 use Rattle.bank_verdicts.specs.declared.verdict.DownloadAction.the-variants as down
 use Rattle.bank_verdicts.specs.declared.verdict.Action.the-variants as action
@@ -31,7 +31,7 @@ use Rattle.bank_openings.specs.Openings.{counted, openUpload, openDownload}
 use Rattle.bank.specs.Call.{downloadActs, carryOut}
 use Rattle.bank_history.specs.History.{Exchange, isOpening, isAction, did}
 use Rattle.bank_history.specs.Invariant.{Invariant}
-use Rattle.bank_history.specs.Standing.{DownloadAt, DownloadUnlessIdle}
+use Rattle.bank_history.specs.Transactions.{DownloadAt, DownloadUnlessIdle}
 use Rattle.bank_state.proofs.Drops.{length-endDownloads, advanced-at-clock}
 use Rattle.bank_state.proofs.Rows.{first-passes, keepOnly-holds}
 use Rattle.bank_history.proofs.Cases.{
@@ -50,7 +50,7 @@ use Rattle.bank_history.proofs.Clock.{advanced-clock}
 use Rattle.bank_state.proofs.Found.{download-found}
 
 -- the same record at another place of the row
-pub record-moved : {w w′ : World} {t : Bits128} {s d last : ℕ} → (u : DownloadAt w t s d last) (j : ℕ) → j < placeCount →
+pub record-moved : {w w′ : BankState} {t : Bits128} {s d last : ℕ} → (u : DownloadAt w t s d last) (j : ℕ) → j < placeCount →
     downloadAt (w′ .bank) j ≡ downloadAt (w .bank) (u .row) →
     DownloadAt w′ t s d last
 record-moved u j inside e = record {
@@ -69,7 +69,7 @@ free-record b h = first-passes (λ (e : Download). not (e .used)) (b .downloads)
 
 module _ (t : Bits128) (s d last : ℕ) where
   -- a download that does not end is kept
-  kept-open : (w : World) → length (w .bank .downloads) ≡ placeCount → (u : DownloadAt w t s d last) (which : Ended) (w′ : World) →
+  kept-open : (w : BankState) → length (w .bank .downloads) ≡ placeCount → (u : DownloadAt w t s d last) (which : Ended) (w′ : BankState) →
       w′ .bank .downloads ≡ endDownloads which (w .bank .downloads) → ends which (downloadAt (w .bank) (u .row)) ≡ false →
       DownloadAt w′ t s d last
   unfolding endDownloads
@@ -83,7 +83,7 @@ module _ (t : Bits128) (s d last : ℕ) where
       record-moved u (k .0) (omega arith) (ap (λ (l : List Download). getD l (k .0) noDownload) same ∙ k .1 .1)
 
   -- "open at 3,600, gone at 3,601"
-  pub advanced-open : (time : ℕ) (w : World) → length (w .bank .downloads) ≡ placeCount → DownloadUnlessIdle w t s d last →
+  pub advanced-open : (time : ℕ) (w : BankState) → length (w .bank .downloads) ≡ placeCount → DownloadUnlessIdle w t s d last →
       DownloadUnlessIdle (advanced time w) t s d last
   unfolding isIdle ends
   advanced-open time w long before h =
@@ -94,7 +94,7 @@ module _ (t : Bits128) (s d last : ℕ) where
       (advanced-at-clock time w .downloads)
       (le-ltb (downloadAt (w .bank) (u .row) .last + idleLimit) (max (w .bank .clock) time) (omega arith))
 
-  module _ (w : World) (h : List Exchange) (v : Invariant w h) (u : DownloadAt w t s d last) where
+  module _ (w : BankState) (h : List Exchange) (v : Invariant w h) (u : DownloadAt w t s d last) where
     other-id : (q : Bits128) → sameBits t q && true ≡ false → downloadAt (w .bank) (u .row) .transaction ≡ q → ⊥
     other-id q f e =
         never (sym (and-true-right (sameBits t q) ∙ f)
@@ -159,7 +159,7 @@ module _ (t : Bits128) (s d last : ℕ) where
             let a = free-record (w .bank) (omega arith) in
             never (sym (ap not (u .used)) ∙ (ap (λ (m : ℕ). not (downloadAt (w .bank) m .used)) z ∙ a))
     case-open first q b (toUpload r a c) f n =
-        subst (λ (z : World). DownloadAt z t s d last) (sym (upload-acts (placeAt (w .bank) (uploadAt (w .bank) q) .transaction) c))
+        subst (λ (z : BankState). DownloadAt z t s d last) (sym (upload-acts (placeAt (w .bank) (uploadAt (w .bank) q) .transaction) c))
         (record-moved u (u .row) (u .inside) refl)
     case-open first q b (toDownload r a c) f n =
         let i = downloadAt (w .bank) (downloadOf (w .bank) q) .transaction in

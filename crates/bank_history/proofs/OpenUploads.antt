@@ -14,7 +14,7 @@ use Rattle.bank_state.specs.declared.state.Place.{Place}
 use Rattle.bank_state.specs.Clock.{isIdle, advanced}
 use Rattle.bank_state.specs.Limits.{idleLimit}
 use Rattle.bank_state.specs.Search.{isFree, freePlace}
-use Rattle.bank_state.specs.State.{World, noPlace, placeAt}
+use Rattle.bank_state.specs.State.{BankState, noPlace, placeAt}
 use Rattle.bank_state.proofs.Drops.{isIdlePlace, Spot, advanced-spot}
 use Rattle.bank_verdicts.specs.declared.verdict.DownloadAction.{DownloadAction}
 use Rattle.bank_verdicts.specs.declared.verdict.DownloadAction.the-variants as down
@@ -24,7 +24,7 @@ use Rattle.bank_openings.specs.Openings.{counted, openUpload, openDownload}
 use Rattle.bank.specs.Call.{downloadActs, carryOut}
 use Rattle.bank_history.specs.History.{Exchange, isAction, did}
 use Rattle.bank_history.specs.Invariant.{Sizes, Invariant}
-use Rattle.bank_history.specs.Standing.{UploadAt, UploadUnlessIdle}
+use Rattle.bank_history.specs.Transactions.{UploadAt, UploadUnlessIdle}
 use Rattle.bank_history.proofs.Cases.{
   Happens,
   unreadable,
@@ -40,7 +40,7 @@ use Rattle.bank_history.proofs.Clock.{sized, advanced-clock}
 use Rattle.bank_history.proofs.Openings.{free-passes}
 
 -- the same place, as it was
-pub upload-moved : {w w′ : World} {t : Bits128} {s k n last : ℕ} → (u : UploadAt w t s k n last) →
+pub upload-moved : {w w′ : BankState} {t : Bits128} {s k n last : ℕ} → (u : UploadAt w t s k n last) →
     placeAt (w′ .bank) (u .place) ≡ placeAt (w .bank) (u .place) → UploadAt w′ t s k n last
 upload-moved u e = record {
   place = u .place;
@@ -55,7 +55,7 @@ upload-moved u e = record {
 
 module _ (t : Bits128) (s k n last : ℕ) where
   -- "open at 3,600, gone at 3,601"
-  pub advanced-open : (time : ℕ) (w : World) → Sizes w → UploadUnlessIdle w t s k n last → UploadUnlessIdle (advanced time w) t s k n last
+  pub advanced-open : (time : ℕ) (w : BankState) → Sizes w → UploadUnlessIdle w t s k n last → UploadUnlessIdle (advanced time w) t s k n last
   unfolding isIdle
   advanced-open time w sizes before h =
       let c = advanced-clock time w in
@@ -69,7 +69,7 @@ module _ (t : Bits128) (s k n last : ℕ) where
 
   -- ---- a request to another transaction
 
-  module _ (w : World) (h : List Exchange) (v : Invariant w h) (u : UploadAt w t s k n last) where
+  module _ (w : BankState) (h : List Exchange) (v : Invariant w h) (u : UploadAt w t s k n last) where
     -- the place of another request is another place
     other-place : (i : ℕ) (q : Bits128) → placeAt (w .bank) i .transaction ≡ q → sameBits t q ≡ false → u .place ≡ i → ⊥
     other-place i q e f z =
@@ -104,7 +104,7 @@ module _ (t : Bits128) (s k n last : ℕ) where
     case-open first q d (opensDownload asked a g m) f = upload-moved u refl
     case-open first q d (toUpload r a c) f =
         let i = uploadAt (w .bank) q in
-        subst (λ (z : World). UploadAt z t s k n last) (sym (upload-acts (placeAt (w .bank) i .transaction) c))
+        subst (λ (z : BankState). UploadAt z t s k n last) (sym (upload-acts (placeAt (w .bank) i .transaction) c))
         (upload-moved u (getD-set-other (w .bank .places) i (u .place) _ noPlace
         (other-place i (placeAt (w .bank) i .transaction) refl (and-true-right (sameBits t (placeAt (w .bank) i .transaction)) ∙ f))))
     case-open first q d (toDownload r a c) f = upload-moved u (places-stay q _ a)

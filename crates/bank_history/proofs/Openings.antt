@@ -22,10 +22,10 @@ use Rattle.bank_state.specs.declared.state.Nonce.{Nonce}
 use Rattle.bank_state.specs.declared.state.Place.{Place}
 use Rattle.bank_state.specs.declared.state.Use.{Use}
 use Rattle.bank_state.specs.declared.state.Use.the-variants.{Free, Open, Booked}
-use Rattle.bank_state.specs.Limits.{placeCount, openMost, openPerSubscriber}
+use Rattle.bank_state.specs.Limits.{placeCount, maxOpen, openPerSubscriber}
 use Rattle.bank_state.specs.Rows.{countOf}
 use Rattle.bank_state.specs.Search.{isFree, isOpen, freePlace, freeDownload, freeNonce, openCount, openCountOf}
-use Rattle.bank_state.specs.State.{World, noPlace, noDownload, placeAt, downloadAt, fileLength}
+use Rattle.bank_state.specs.State.{BankState, noPlace, noDownload, placeAt, downloadAt, fileLength}
 use Rattle.bank_state.specs.Store.{partAt}
 use Rattle.bank_openings.specs.Openings.{counted, newPlace, openUpload, newDownload, openDownload}
 use Rattle.bank.specs.Call.{carryOut}
@@ -81,7 +81,7 @@ free-inside : (b : Bank) → countOf (λ (e : Download). e .used) (b .downloads)
 unfolding freeDownload
 free-inside b h = first-if-few (λ (e : Download). not (e .used)) (b .downloads) (simp Bool·not-not h)
 
-pub free-inside-open : (b : Bank) → length (b .downloads) ≡ placeCount → openCount b < openMost → freeDownload b < length (b .downloads)
+pub free-inside-open : (b : Bank) → length (b .downloads) ≡ placeCount → openCount b < maxOpen → freeDownload b < length (b .downloads)
 unfolding openCount
 free-inside-open b long few = free-inside b (omega arith)
 
@@ -96,7 +96,7 @@ module _ {A : Type 0} (used : A → Bool) (owner : A → ℕ) (l : List A) (i : 
   count-other s e = count-set-le (λ (r : A). used r && eqb (owner r) s) l i x d
       (λ z. never (sym e ∙ and-true (used x) (eqb (owner x) s) z .1))
 
-module _ (first : ℕ) (w : World) (h : List Exchange) (v : Invariant w h) (q : Fields) (d : List ℕ) (readable : Readable q (length d))
+module _ (first : ℕ) (w : BankState) (h : List Exchange) (v : Invariant w h) (q : Fields) (d : List ℕ) (readable : Readable q (length d))
     (acceptable : Acceptable (w .bank) q) where
   abbrev t : Bits128
   t = transactionOf first (w .bank)
@@ -240,7 +240,7 @@ module _ (first : ℕ) (w : World) (h : List Exchange) (v : Invariant w h) (q : 
     listed = length-set (w .bank .downloads) j new ∙ v .state .sizes .downloads;
     remembered = length-set (w .bank .nonces) (freeNonce (w .bank)) _ ∙ v .state .sizes .nonces;
     filed = v .state .sizes .files;
-    stored = v .state .sizes .boxes;
+    stored = v .state .sizes .mailboxes;
     counted = counted-more k refl refl x refl;
     numbers = let z = acceptable .numbers in omega arith;
     places = places-stay k refl refl x refl;
@@ -249,7 +249,7 @@ module _ (first : ℕ) (w : World) (h : List Exchange) (v : Invariant w h) (q : 
         (download-opened x h (o + 1) (w .bank .clock) (mailboxSegments (subscriber q) (w .bank)) t refl (omega arith) unknown
         (readable .known) (readable .most) full (some-segment _ full))
         (λ i n. downloads-stay k refl refl x refl i);
-    mailboxes = v .state .mailboxes;
+    mailboxesHold = v .state .mailboxesHold;
     apart = λ i l a f. each-set (w .bank .downloads) j new noDownload inside
         (λ (m : ℕ) (r : Download). r .used ≡ true → placeAt (w .bank) i .transaction .low ≡ r .transaction .low → ⊥)
         (λ g e. let z = place-counted w h v i a f .0 in omega arith) (λ m n. v .state .apart i m a f) l;

@@ -12,7 +12,7 @@ use Rattle.bank_state.specs.declared.state.Place.{Place}
 use Rattle.bank_state.specs.declared.state.Use.{Use}
 use Rattle.bank_state.specs.declared.state.Use.the-variants.{Free, Open, Booked}
 use Rattle.bank_state.specs.Limits.{placeCount}
-use Rattle.bank_state.specs.State.{World, placeAt, downloadAt}
+use Rattle.bank_state.specs.State.{BankState, placeAt, downloadAt}
 use Rattle.bank_state.specs.Store.{partAt}
 use Rattle.bank_history.specs.History.{Exchange, mailboxFile}
 use Rattle.bank_history.specs.Invariant.{
@@ -45,7 +45,7 @@ DownloadKept u clock openings h file e = DownloadHolds u clock openings file e �
 abbrev pub OpenDownload : ℕ → ℕ → List Exchange → List ℕ → Download → Type 0
 OpenDownload clock openings h file e = OpenRecord clock openings file e × OpenTold h file e
 
-module _ {w : World} {h : List Exchange} (v : Invariant w h) where
+module _ {w : BankState} {h : List Exchange} (v : Invariant w h) where
   pub place-kept : (i : ℕ) → i < placeCount →
       PlaceKept (placeAt (w .bank) i .used) (w .bank .clock) (w .bank .openings) h (placeAt (w .bank) i) (partAt (w .orders) i)
   place-kept i a = (v .state .places i a, v .places i a)

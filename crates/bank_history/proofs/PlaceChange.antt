@@ -9,9 +9,9 @@ use lib.ListN.{length, getD, set, length-set}
 use Rattle.frame_table.specs.declared.fields.Bits128.{Bits128}
 use Rattle.bank_state.specs.declared.state.Nonce.{Nonce}
 use Rattle.bank_state.specs.declared.state.Place.{Place}
-use Rattle.bank_state.specs.Limits.{placeCount, storeBytes, nonceCount, openMost, openPerSubscriber, openingsMost}
+use Rattle.bank_state.specs.Limits.{placeCount, storeBytes, nonceCount, maxOpen, openPerSubscriber, maxOpenings}
 use Rattle.bank_state.specs.Search.{isFree, openCount, openCountOf}
-use Rattle.bank_state.specs.State.{World, world, noPlace, placeAt, downloadAt, fileLength}
+use Rattle.bank_state.specs.State.{BankState, bankState, noPlace, placeAt, downloadAt, fileLength}
 use Rattle.bank_state.specs.Store.{partAt}
 use Rattle.bank_history.proofs.Rows.{each-set}
 use Rattle.bank_history.specs.History.{Exchange, mailboxFile, accepted, ever, isAction, isBooking}
@@ -25,9 +25,9 @@ either-sym (inl e) = inl (sym e)
 either-sym (inr e) = inr (sym e)
 
 -- the bank with place i changed, and with another number of openings, other nonces and another store of the places
-abbrev pub changedAt : ℕ → Place → ℕ → List Nonce → List ℕ → World → World
+abbrev pub changedAt : ℕ → Place → ℕ → List Nonce → List ℕ → BankState → BankState
 changedAt i p openings nonces orders w =
-    world
+    bankState
     (record {
       clock = w .bank .clock;
       openings = openings;
@@ -37,9 +37,9 @@ changedAt i p openings nonces orders w =
       files = w .bank .files;
     })
     orders
-    (w .boxes)
+    (w .mailboxes)
 
-module _ (w : World) (i : ℕ) (p : Place) (o : ℕ) (nonces : List Nonce) (orders : List ℕ) where
+module _ (w : BankState) (i : ℕ) (p : Place) (o : ℕ) (nonces : List Nonce) (orders : List ℕ) where
   -- what is new about the place, and what is not about the others, with the history g
   pub record PlaceChange (g : List Exchange) : Type 0 where
     pub bytes : List ℕ
@@ -50,7 +50,7 @@ module _ (w : World) (i : ℕ) (p : Place) (o : ℕ) (nonces : List Nonce) (orde
     pub remembered : length nonces ≡ nonceCount
     pub memory : Memory (w .bank .clock) nonces g
     pub counted : o ≡ accepted g
-    pub numbers : o ≤ openingsMost
+    pub numbers : o ≤ maxOpenings
     pub new : PlaceKept (p .used) (w .bank .clock) o g p bytes
     pub others : (j : ℕ) → j < placeCount → (j ≡ i → ⊥) →
         PlaceKept (placeAt (w .bank) j .used) (w .bank .clock) o g (placeAt (w .bank) j) (partAt (w .orders) j)
@@ -61,7 +61,7 @@ module _ (w : World) (i : ℕ) (p : Place) (o : ℕ) (nonces : List Nonce) (orde
         Alike p (placeAt (w .bank) j) → ⊥
     pub apartDownload : (j : ℕ) → isFree (p .used) ≡ false → downloadAt (w .bank) j .used ≡ true →
         p .transaction .low ≡ downloadAt (w .bank) j .transaction .low → ⊥
-    pub openAll : openCount (changedAt i p o nonces orders w .bank) ≤ openMost
+    pub openAll : openCount (changedAt i p o nonces orders w .bank) ≤ maxOpen
     pub openOf : (s : ℕ) → openCountOf s (changedAt i p o nonces orders w .bank) ≤ openPerSubscriber
     pub known : (t : Bits128) → ever isAction t g ≡ true → t .low < o
     pub booked : (t : Bits128) → ever isBooking t g ≡ true → BookedIn (changedAt i p o nonces orders w) t
@@ -85,12 +85,12 @@ module _ (w : World) (i : ℕ) (p : Place) (o : ℕ) (nonces : List Nonce) (orde
         nonces = c .remembered;
         files = v .state .sizes .files;
         orders = c .stored;
-        boxes = v .state .sizes .boxes;
+        mailboxes = v .state .sizes .mailboxes;
       };
       numbers = c .numbers;
       places = λ j a. kept j a .0;
       downloads = λ j. c .downloads j .0;
-      mailboxes = v .state .mailboxes;
+      mailboxesHold = v .state .mailboxesHold;
       placesApart = λ j k a b. each
           (λ (m : ℕ) (r : Place). isFree (r .used) ≡ false → isFree (getD (set (w .bank .places) i p) k noPlace .used) ≡ false →
           Alike r (getD (set (w .bank .places) i p) k noPlace) → m ≡ k)

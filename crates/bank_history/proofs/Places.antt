@@ -10,7 +10,7 @@ use lib.Seq.{take-at, drop-append-add}
 use Rattle.frame_table.specs.declared.fields.Bits128.{Bits128}
 use Rattle.octets.specs.Bytes.{overwrite}
 use Rattle.frame_table.specs.Names.{subscriber, segments}
-use Rattle.message.specs.Limits.{subscribers, segmentBytes, segmentsMost, fileBytes, attemptsMost}
+use Rattle.message.specs.Limits.{subscribers, segmentBytes, maxSegments, fileBytes, maxAttempts}
 use Rattle.bank_state.specs.declared.state.Place.{Place}
 use Rattle.bank_state.specs.declared.state.Use.{Use}
 use Rattle.bank_state.specs.declared.state.Use.the-variants.{Free, Open, Booked}
@@ -156,7 +156,7 @@ module _ (x : Exchange) (h : List Exchange) (o : ℕ) (p : Place) (bytes : List 
   t = p .transaction
 
   -- a recovery attempt
-  pub place-attempted : (k : ℕ) → x .verdict ≡ verdict.Of t (action.Upload (up.Point k)) → p .attempts < attemptsMost →
+  pub place-attempted : (k : ℕ) → x .verdict ≡ verdict.Of t (action.Upload (up.Point k)) → p .attempts < maxAttempts →
       OpenUpload c o h p bytes → OpenUpload c o (x ∷ h) (attempted p) bytes
   unfolding attempted
   place-attempted k own few u =
@@ -261,7 +261,7 @@ module _ (x : Exchange) (h : List Exchange) (o : ℕ) (p : Place) (bytes : List 
 pub place-opened : (x : Exchange) (h : List Exchange) (o c number : ℕ) (t : Bits128) →
     x .verdict ≡ verdict.Of t (action.Upload (up.Opened number)) → t .low < o → number < o → ever isAction t h ≡ false →
     1 ≤ subscriber (x .request) → subscriber (x .request) ≤ subscribers → 1 ≤ segments (x .request) →
-    segments (x .request) ≤ segmentsMost → OpenUpload c o (x ∷ h) (newPlace t number c (x .request)) (replicate fileBytes 0)
+    segments (x .request) ≤ maxSegments → OpenUpload c o (x ∷ h) (newPlace t number c (x .request)) (replicate fileBytes 0)
 place-opened x h o c number t own low counted new known most some few =
     let a = action.Upload (up.Opened number) in
     let none : received t (x ∷ h) ≡ [] = received-own t a x h own ∙ received-unknown t h new in (

@@ -7,7 +7,7 @@ use native.Mathlib.Omega.{arith}
 use lib.ListN.{length}
 use Rattle.frame_table.specs.declared.fields.Bits128.{Bits128}
 use Rattle.frame_table.specs.Names.{subscriber}
-use Rattle.message.specs.Limits.{subscribers, attemptsMost}
+use Rattle.message.specs.Limits.{subscribers, maxAttempts}
 use Rattle.message.specs.Segments.{segmentsOf}
 use Rattle.bank_state.specs.declared.state.Download.{Download}
 use Rattle.bank_downloads.specs.Downloads.{movedTo}
@@ -65,7 +65,7 @@ module _ (x : Exchange) (h : List Exchange) (file : List ℕ) (e : Download) whe
 pub download-moved : (x : Exchange) (h : List Exchange) (o c : ℕ) (file : List ℕ) (e : Download) (k : Action) (d attempts last : ℕ) →
     x .verdict ≡ verdict.Of (e .transaction) k → isDownloadOpening k ≡ false → isOpening k ≡ false → isBooking k ≡ false →
     isEnding k ≡ false →
-    cond (isDelivery k) (suc (e .delivered)) (e .delivered) ≡ d → d ≤ segmentsOf (length file) → attempts ≤ attemptsMost → last ≤ c →
+    cond (isDelivery k) (suc (e .delivered)) (e .delivered) ≡ d → d ≤ segmentsOf (length file) → attempts ≤ maxAttempts → last ≤ c →
     OpenDownload c o h file e → OpenDownload c o (x ∷ h) file (movedTo d attempts last e)
 download-moved x h o c file e k d attempts last own starts opens books ends count within tries current u =
     let t = e .transaction in

@@ -13,7 +13,7 @@ use Rattle.bank_state.specs.declared.state.Nonce.{Nonce}
 use Rattle.bank_state.specs.Limits.{nonceCount, window}
 use Rattle.bank_state.specs.Rows.{firstOf, keep}
 use Rattle.bank_state.specs.Search.{isRemembered}
-use Rattle.bank_state.specs.State.{World, noNonce}
+use Rattle.bank_state.specs.State.{BankState, noNonce}
 use Rattle.bank_history.specs.History.{Exchange, Stands, newest, older, opens, nonceOf, openingNonces, remembered}
 use Rattle.bank_history.specs.Invariant.{Invariant}
 use Rattle.bank_history.proofs.Entries.{same-bits}
@@ -60,7 +60,7 @@ in-openings {f} o (older {x = x} {h = h} s) = at (opens (x .verdict)) (in-openin
     at true i = in-left (nonceOf x ∷ []) i
     at false i = i
 
-pub nonce-remembered : {w : World} {f : Exchange} {g h : List Exchange} → Invariant w h → Stands f g h → opens (f .verdict) ≡ true →
+pub nonce-remembered : {w : BankState} {f : Exchange} {g h : List Exchange} → Invariant w h → Stands f g h → opens (f .verdict) ≡ true →
     w .bank .clock ≤ timestamp (f .request) + window → isRemembered (nonce (f .request)) (w .bank) ≡ true
 unfolding isRemembered remembered
 nonce-remembered {w} {f} {g} {h} v s o recent =

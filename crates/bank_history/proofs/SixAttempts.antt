@@ -15,13 +15,13 @@ use Rattle.octets.proofs.Tests.{never}
 use Rattle.message.specs.declared.codes.ReturnCode.{ReturnCode}
 use Rattle.message.specs.declared.codes.ReturnCode.the-variants as code
 use Rattle.message.specs.Codes.{codeField}
-use Rattle.message.specs.Limits.{attemptsMost}
+use Rattle.message.specs.Limits.{maxAttempts}
 use Rattle.message.specs.Replies.{downloadOpened}
 use Rattle.bank_state.specs.declared.state.Download.{Download}
 use Rattle.bank_state.specs.declared.state.Place.{Place}
 use Rattle.bank_state.specs.declared.state.Use.{Use}
 use Rattle.bank_state.specs.Search.{isOpen}
-use Rattle.bank_state.specs.State.{World, noBits, placeAt, downloadAt}
+use Rattle.bank_state.specs.State.{BankState, noBits, placeAt, downloadAt}
 use Rattle.bank_state.specs.Store.{partAt}
 use Rattle.bank_state.proofs.Found.{upload-found, download-found}
 use Rattle.bank_verdicts.specs.declared.verdict.TransactionRequest.{TransactionRequest}
@@ -288,7 +288,7 @@ abbrev Aborts : Action → Type 0
 Aborts k = codeField (actionCode k) ≡ codeField code.TransactionAbort
 
 upload-few : {r : TransactionRequest} {p : Place} {q : Fields} {n : ℕ} {a : UploadAction} → UploadSound r p q n a →
-    (isAttempt (action.Upload a) ≡ true → p .attempts < attemptsMost) × (Aborts (action.Upload a) → attemptsMost ≤ p .attempts)
+    (isAttempt (action.Upload a) ≡ true → p .attempts < maxAttempts) × (Aborts (action.Upload a) → maxAttempts ≤ p .attempts)
 upload-few (took f below early room) = ((λ z. never z), (λ z. absurd (omega arith)))
 upload-few (tookLast f last mark room) = ((λ z. never z), (λ z. absurd (omega arith)))
 upload-few (uploadPoint fits few) = ((λ z. few), (λ z. absurd (omega arith)))
@@ -298,7 +298,7 @@ upload-few (exceeded f last mark) = ((λ z. never z), (λ z. absurd (omega arith
 upload-few (overfull over) = ((λ z. never z), (λ z. absurd (omega arith)))
 
 download-few : {r : TransactionRequest} {e : Download} {n : ℕ} {q : Fields} {a : DownloadAction} → DownloadSound r e n q a →
-    (isAttempt (action.Download a) ≡ true → e .attempts < attemptsMost) × (Aborts (action.Download a) → attemptsMost ≤ e .attempts)
+    (isAttempt (action.Download a) ≡ true → e .attempts < maxAttempts) × (Aborts (action.Download a) → maxAttempts ≤ e .attempts)
 download-few (delivered t next within) = ((λ z. never z), (λ z. absurd (omega arith)))
 download-few (sentAgain t some back few) = ((λ z. few), (λ z. absurd (omega arith)))
 download-few (downloadPoint fits few) = ((λ z. few), (λ z. absurd (omega arith)))
@@ -311,9 +311,9 @@ abbrev ByHistory : List Exchange → Verdict → Type 0
 ByHistory h verdict.Unreadable = Unit {0}
 ByHistory h (verdict.Refused c) = Unit {0}
 ByHistory h (verdict.Of u k) =
-    (isAttempt k ≡ true → times isAttempt u h < attemptsMost) × (Aborts k → times isAttempt u h ≡ attemptsMost)
+    (isAttempt k ≡ true → times isAttempt u h < maxAttempts) × (Aborts k → times isAttempt u h ≡ maxAttempts)
 
-module _ (w : World) (h : List Exchange) (v : Invariant w h) (c : Counted w h) (q : Fields) (d : List ℕ) (first : ℕ) where
+module _ (w : BankState) (h : List Exchange) (v : Invariant w h) (c : Counted w h) (q : Fields) (d : List ℕ) (first : ℕ) where
   acted-attempts : {x : Verdict} → Happens first w q d x → ByHistory h x
   acted-attempts unreadable = tt
   acted-attempts (refused r e) = tt
@@ -349,7 +349,7 @@ module _ {calls : List BankCall} {e : Exchange} (n : Next calls e) where
   counted-now : {t : Bits128} {m : ℕ} → Attempts t m (pastOf calls .history) → times isAttempt t (pastOf calls .history) ≡ m
   counted-now c = counted-so (history-sound calls) (past-tracked calls .shown) c
 
-  pub five-answered : {t : Bits128} {m : ℕ} → Attempts t m (pastOf calls .history) → Attempt t (pastOf calls .history) e → m < attemptsMost
+  pub five-answered : {t : Bits128} {m : ℕ} → Attempts t m (pastOf calls .history) → Attempt t (pastOf calls .history) e → m < maxAttempts
   five-answered {t} c a =
       let i = action-in isAttempt t e (e .verdict) refl (attempt-did (all-sound n) a) in
       let l = by-history (i .is) .0 (i .kind) in
@@ -357,7 +357,7 @@ module _ {calls : List BankCall} {e : Exchange} (n : Next calls e) where
       omega arith
 
   pub sixth-cancels : {m : ℕ} → Attempts (transaction (e .request)) m (pastOf calls .history) → RefusedWith code.TransactionAbort e →
-      m ≡ attemptsMost
+      m ≡ maxAttempts
   sixth-cancels c r =
       let x = transaction-cancelled (all-sound n) newest (r .formed) (ap isCancelling (r .coded)) in
       let own = x .3 in

@@ -23,7 +23,7 @@ use Rattle.bank_state.specs.declared.state.Use.{Use}
 use Rattle.bank_state.specs.declared.state.Use.the-variants.{Free, Open, Booked}
 use Rattle.bank_state.specs.Limits.{placeCount}
 use Rattle.bank_state.specs.Search.{isFree}
-use Rattle.bank_state.specs.State.{World, noPlace, placeAt, downloadAt}
+use Rattle.bank_state.specs.State.{BankState, noPlace, placeAt, downloadAt}
 use Rattle.bank_state.specs.Store.{partAt}
 use Rattle.message.specs.OrderNumbers.{orderNumberOf}
 use Rattle.bank_verdicts.specs.declared.verdict.UploadAction.the-variants as up
@@ -61,7 +61,7 @@ use Rattle.bank_history.specs.Sound.{
   AllSound,
 }
 use Rattle.bank_history.specs.Invariant.{OrderTold, PlaceTold, DownloadTold, Invariant}
-use Rattle.bank_history.specs.Standing.{Gone, Order}
+use Rattle.bank_history.specs.Transactions.{Gone, Order}
 use Rattle.bank_history.proofs.Entries.{ever-action}
 use Rattle.bank_history.proofs.Positions.{sound-at, action-sound}
 use Rattle.bank_history.proofs.Replies.{
@@ -104,7 +104,7 @@ pub use Rattle.bank_history.proofs.Answered.{lent-right, frame-answered
 
 -- ---- after every list of calls
 
-pub invariant : (calls : List BankCall) → Invariant (pastOf calls .world) (pastOf calls .history)
+pub invariant : (calls : List BankCall) → Invariant (pastOf calls .bankState) (pastOf calls .history)
 invariant calls = past-holds calls .invariant
 
 pub history-sound : (calls : List BankCall) → AllSound (pastOf calls .history)
@@ -112,7 +112,7 @@ history-sound calls = invariant calls .sound
 
 -- ---- the book
 
-module _ {w : World} {h : List Exchange} (v : Invariant w h) where
+module _ {w : BankState} {h : List Exchange} (v : Invariant w h) where
   -- every place that is booked holds such an order
   pub booked-order : (i : ℕ) → i < placeCount → placeAt (w .bank) i .used ≡ Booked → Order w h (placeAt (w .bank) i .transaction) i
   booked-order i inside used =

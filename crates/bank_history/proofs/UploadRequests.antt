@@ -24,7 +24,7 @@ use Rattle.bank_state.specs.declared.state.Use.{Use}
 use Rattle.bank_state.specs.declared.state.Use.the-variants.{Open}
 use Rattle.bank_state.specs.Limits.{placeCount}
 use Rattle.bank_state.specs.Search.{isFree, isOpen, isUpload, findUpload, freePlace}
-use Rattle.bank_state.specs.State.{World, noPlace, placeAt}
+use Rattle.bank_state.specs.State.{BankState, noPlace, placeAt}
 use Rattle.bank_state.specs.Store.{partAt}
 use Rattle.bank_verdicts.specs.declared.verdict.TransactionRequest.the-variants as asks
 use Rattle.bank_verdicts.specs.declared.verdict.UploadAction.{UploadAction}
@@ -53,7 +53,7 @@ use Rattle.bank.specs.Call.{carryOut, respond}
 use Rattle.bank_history.specs.History.{Exchange, opens}
 use Rattle.bank_history.specs.Invariant.{Invariant}
 use Rattle.bank_history.proofs.Parts.{OpenUpload, PlaceKept, place-kept}
-use Rattle.bank_history.specs.Standing.{UploadAt}
+use Rattle.bank_history.specs.Transactions.{UploadAt}
 use Rattle.bank_state.proofs.Rows.{first-passes}
 use Rattle.bank_history.proofs.Rows.{first-at-most}
 use Rattle.bank_history.proofs.Cases.{
@@ -71,7 +71,7 @@ use Rattle.bank_state.proofs.Found.{upload-found}
 
 -- ---- a readable request that is not refused at once
 
-module _ (first : ℕ) (w : World) (q : Fields) (d : List ℕ) (f : Form) (asked : form q ≡ f) (readable : Readable q (length d)) where
+module _ (first : ℕ) (w : BankState) (q : Fields) (d : List ℕ) (f : Form) (asked : form q ≡ f) (readable : Readable q (length d)) where
   proceeds : judge first (w .bank) q (length d) ≡ judgeForm (form q) first (w .bank) q (length d)
   unfolding judge requestRows noSubscriber longData
   proceeds = rw (
@@ -94,7 +94,7 @@ is-upload s t p a b c =
     let z : sameBits (p .transaction) t ≡ true = ap (λ (u : Bits128). sameBits u t) c ∙ same-bits t in
     rw (x, y, z)
 
-module _ (w : World) (h : List Exchange) (v : Invariant w h) (t : Bits128) (s k n last : ℕ) (u : UploadAt w t s k n last) where
+module _ (w : BankState) (h : List Exchange) (v : Invariant w h) (t : Bits128) (s k n last : ℕ) (u : UploadAt w t s k n last) where
   abbrev p : Place
   p = placeAt (w .bank) (u .place)
 
@@ -143,7 +143,7 @@ judge-take p q n next mark room = rw (eq-eqb (segment q) (p .taken + 1) next, ea
             rw (ne-eqb (lastMark q) 0 (λ z. omega arith)) (and-no (eqb (segment q) (p .segments)))
         at false e = rw e
 
-module _ (first : ℕ) (w : World) (h : List Exchange) (v : Invariant w h) (t : Bits128) (s k n last : ℕ) (u : UploadAt w t s k n last)
+module _ (first : ℕ) (w : BankState) (h : List Exchange) (v : Invariant w h) (t : Bits128) (s k n last : ℕ) (u : UploadAt w t s k n last)
     (q : Fields) (d : List ℕ)
     (asked : form q ≡ forms.UploadTransfer) (from : subscriber q ≡ s) (to : transaction q ≡ t) (next : segment q ≡ suc k)
     (mark : lastMark q ≡ lastMarkOf (segment q) n) (short : length d ≤ segmentBytes) where
@@ -215,7 +215,7 @@ module _ (first : ℕ) (w : World) (h : List Exchange) (v : Invariant w h) (t : 
           ∙ ap (λ (i : ℕ). grown (w .bank .clock) (length d) (placeAt (w .bank) i)) found
 
   -- and the upload is open with one segment more, where that was not the last
-  pub own-open : suc k < n → UploadAt (respond first w q d .world) t s (suc k) n (w .bank .clock)
+  pub own-open : suc k < n → UploadAt (respond first w q d .bankState) t s (suc k) n (w .bank .clock)
   unfolding respond
   own-open below =
       subst (λ (x : Verdict). UploadAt (carryOut x w q d) t s (suc k) n (w .bank .clock)) (sym (own-verdict ∙ taken)) taken-open
@@ -226,7 +226,7 @@ module _ (first : ℕ) (w : World) (h : List Exchange) (v : Invariant w h) (t : 
 -- ---- an opening
 
 -- an upload just opened is open with no segment taken
-pub opened-open : (first : ℕ) (w : World) (h : List Exchange) → Invariant w h →
+pub opened-open : (first : ℕ) (w : BankState) (h : List Exchange) → Invariant w h →
     (q : Fields) (d : List ℕ) (t : Bits128) (m : ℕ) {x : Verdict} → Happens first w q d x →
     x ≡ verdict.Of t (action.Upload (up.Opened m)) → UploadAt (carryOut x w q d) t (subscriber q) 0 (segments q) (w .bank .clock)
 unfolding openUpload counted

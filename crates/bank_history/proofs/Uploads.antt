@@ -19,13 +19,13 @@ use Rattle.octets.proofs.Tests.{never, and-true}
 use Rattle.frame_table.proofs.Bits.{bits-same}
 use Rattle.message.specs.declared.codes.ReturnCode.{ReturnCode}
 use Rattle.message.specs.declared.codes.ReturnCode.the-variants as code
-use Rattle.message.specs.Limits.{fileBytes, attemptsMost}
+use Rattle.message.specs.Limits.{fileBytes, maxAttempts}
 use Rattle.bank_state.specs.declared.state.Place.{Place}
 use Rattle.bank_state.specs.declared.state.Use.{Use}
 use Rattle.bank_state.specs.declared.state.Use.the-variants.{Free, Open, Booked}
 use Rattle.bank_state.specs.Limits.{placeCount}
 use Rattle.bank_state.specs.Search.{isFree, isOpen, isUpload, openCount, openCountOf}
-use Rattle.bank_state.specs.State.{World, noPlace, placeAt, downloadAt}
+use Rattle.bank_state.specs.State.{BankState, noPlace, placeAt, downloadAt}
 use Rattle.bank_state.specs.Store.{partAt, withPart}
 use Rattle.bank_verdicts.specs.declared.verdict.TransactionRequest.{TransactionRequest}
 use Rattle.bank_verdicts.specs.declared.verdict.UploadAction.{UploadAction}
@@ -77,11 +77,11 @@ use Rattle.bank_history.proofs.Records.{download-unchanged}
 use Rattle.bank_history.proofs.PlaceChange.{changedAt, place-change}
 
 -- the exchange of a verdict
-abbrev pub entry : Verdict → World → Fields → List ℕ → Exchange
+abbrev pub entry : Verdict → BankState → Fields → List ℕ → Exchange
 entry v w q d = exchangeBy (stepBy v w q d) w q d
 
 -- a reply without a segment has no data
-pub bare : (w : World) (s : ℕ) → mailboxSegment w s 0 ≡ []
+pub bare : (w : BankState) (s : ℕ) → mailboxSegment w s 0 ≡ []
 unfolding mailboxSegment
 bare w s = refl
 
@@ -89,7 +89,7 @@ pub not-free : (u : Use) → u ≡ Open → isFree u ≡ false
 not-free u e = ap isFree e
 
 -- no request to place i is one to another place or to a download
-module _ (w : World) (h : List Exchange) (v : Invariant w h) where
+module _ (w : BankState) (h : List Exchange) (v : Invariant w h) where
   -- a place in use has a transaction and an order number of an accepted opening
   pub place-counted : (i : ℕ) → i < placeCount → isFree (placeAt (w .bank) i .used) ≡ false →
       (placeAt (w .bank) i .transaction .low < w .bank .openings) × (placeAt (w .bank) i .number < w .bank .openings)
@@ -117,7 +117,7 @@ module _ (w : World) (h : List Exchange) (v : Invariant w h) where
       did-other (downloadAt (w .bank) j .transaction) (placeAt (w .bank) i .transaction) k (λ z. v .state .apart i j a e f (sym z))
 
   -- a booked place stays, where another place changes
-  pub still-booked : (i : ℕ) (p : Place) (w′ : World) → w′ .bank .places ≡ set (w .bank .places) i p →
+  pub still-booked : (i : ℕ) (p : Place) (w′ : BankState) → w′ .bank .places ≡ set (w .bank .places) i p →
       (placeAt (w .bank) i .used ≡ Booked → ⊥) →
       (t : Bits128) → BookedIn w t → BookedIn w′ t
   still-booked i p w′ same unbooked t b =
@@ -133,13 +133,13 @@ module _ (w : World) (h : List Exchange) (v : Invariant w h) where
       }
 
 -- the upload in place i changes to p with these bytes by an action k
-module _ (w : World) (h : List Exchange) (v : Invariant w h) (i : ℕ) (inside : i < placeCount) (opened : placeAt (w .bank) i .used ≡ Open)
+module _ (w : BankState) (h : List Exchange) (v : Invariant w h) (i : ℕ) (inside : i < placeCount) (opened : placeAt (w .bank) i .used ≡ Open)
     (p : Place) (bytes : List ℕ) (full : length bytes ≡ fileBytes) (k : Action) (noOpening : isOpening k ≡ false) (x : Exchange)
     (own : x .verdict ≡ verdict.Of (placeAt (w .bank) i .transaction) k) where
   abbrev before : Place
   before = placeAt (w .bank) i
 
-  abbrev changed : World
+  abbrev changed : BankState
   changed = changedAt i p (w .bank .openings) (w .bank .nonces) (withPart (w .orders) i bytes) w
 
   -- a place in use stays that of its transaction and its order
@@ -199,7 +199,7 @@ module _ (w : World) (h : List Exchange) (v : Invariant w h) (i : ℕ) (inside :
           let a = and-true (isOpen (p .used)) (eqb (p .subscriber) s) e in
           rw (opened, sym (owner (a .0))) (a .1)
 
-module _ (w : World) (h : List Exchange) (v : Invariant w h) (q : Fields) (d : List ℕ) (readable : Readable q (length d))
+module _ (w : BankState) (h : List Exchange) (v : Invariant w h) (q : Fields) (d : List ℕ) (readable : Readable q (length d))
     (inside : uploadAt (w .bank) q < placeCount)
     (found : isUpload (subscriber q) (transaction q) (placeAt (w .bank) (uploadAt (w .bank) q)) ≡ true) where
   abbrev i : ℕ
@@ -225,7 +225,7 @@ module _ (w : World) (h : List Exchange) (v : Invariant w h) (q : Fields) (d : L
   abbrev by : UploadAction → Verdict
   by a = verdict.Of (old .transaction) (action.Upload a)
 
-  abbrev left : UploadAction → World
+  abbrev left : UploadAction → BankState
   left a = onUpload a i w d
 
   abbrev now : UploadAction → Exchange
@@ -310,7 +310,7 @@ module _ (w : World) (h : List Exchange) (v : Invariant w h) (q : Fields) (d : L
         })
 
   -- a recovery attempt
-  point-keeps : old .attempts < attemptsMost → Invariant (left (up.Point (old .taken))) (now (up.Point (old .taken)) ∷ h)
+  point-keeps : old .attempts < maxAttempts → Invariant (left (up.Point (old .taken))) (now (up.Point (old .taken)) ∷ h)
   unfolding attempted
   point-keeps few =
       let a : UploadAction = up.Point (old .taken) in
@@ -354,7 +354,7 @@ module _ (w : World) (h : List Exchange) (v : Invariant w h) (q : Fields) (d : L
       let m = readable .short in
       omega arith)
 
-pub upload-keeps : (w : World) (h : List Exchange) → Invariant w h → (q : Fields) (d : List ℕ) (r : TransactionRequest)
+pub upload-keeps : (w : BankState) (h : List Exchange) → Invariant w h → (q : Fields) (d : List ℕ) (r : TransactionRequest)
     (a : UploadAction) →
     (form q ≡ forms.UploadTransfer → 1 ≤ length d) → ToUpload w q d r a →
     let v = verdict.Of (placeAt (w .bank) (uploadAt (w .bank) q) .transaction) (action.Upload a) in

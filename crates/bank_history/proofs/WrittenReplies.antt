@@ -17,7 +17,7 @@ use Rattle.octets.proofs.Numbers.{bytes-take, bytes-drop}
 use Rattle.frame_table.proofs.Bits.{bits-same}
 use Rattle.message.specs.declared.codes.ReturnCode.{ReturnCode}
 use Rattle.message.specs.declared.codes.ReturnCode.the-variants as code
-use Rattle.message.specs.Limits.{segmentBytes, segmentsMost}
+use Rattle.message.specs.Limits.{segmentBytes, maxSegments}
 use Rattle.message.specs.Replies.{uploadOpened, downloadOpened, segmentTaken, receiptAnswered, refusal}
 use Rattle.message.specs.Segments.{segmentsOf, segmentOf, lastMarkOf}
 use Rattle.message.proofs.SegmentNumbers.{some-segment, mark-most}
@@ -39,7 +39,7 @@ use Rattle.bank_state.specs.declared.state.Download.{Download}
 use Rattle.bank_state.specs.declared.state.Place.{Place}
 use Rattle.bank_state.specs.declared.state.Use.{Use}
 use Rattle.bank_state.specs.declared.state.Use.the-variants.{Open}
-use Rattle.bank_state.specs.State.{World, placeAt, downloadAt, fileLength}
+use Rattle.bank_state.specs.State.{BankState, placeAt, downloadAt, fileLength}
 use Rattle.bank_state.specs.Store.{partAt, fileOf}
 use Rattle.bank_verdicts.specs.declared.verdict.TransactionRequest.{TransactionRequest}
 use Rattle.bank_verdicts.specs.declared.verdict.UploadAction.{UploadAction}
@@ -112,12 +112,12 @@ phase-range false = (omega arith, omega arith)
 
 -- ---- each case of a request
 
-module _ (w : World) (h : List Exchange) (v : Invariant w h) (q : Fields) (r : InWidth q) (bytes : Bytes (w .boxes)) where
+module _ (w : BankState) (h : List Exchange) (v : Invariant w h) (q : Fields) (r : InWidth q) (bytes : Bytes (w .mailboxes)) where
   refused-written : (c : ReturnCode) → WrittenReply (refusal (phase q) (exchange q) c) []
   refused-written c = sent refl (omega arith) (omega arith) (refusal-written (exchange q) (r .numbered) (phase q) c (r .some) (r .most))
 
   -- a mailbox has at most 15 segments
-  segments-most : (s : ℕ) → segmentsOf (length (mailboxFile w s)) ≤ segmentsMost
+  segments-most : (s : ℕ) → segmentsOf (length (mailboxFile w s)) ≤ maxSegments
   unfolding mailboxFile fileOf partAt segmentsOf
   segments-most s = simp (length-take, length-drop) (omega arith)
 

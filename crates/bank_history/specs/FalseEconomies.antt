@@ -30,10 +30,10 @@ use Rattle.message.specs.Limits.{
   fdl,
   subscribers,
   segmentBytes,
-  segmentsMost,
-  attemptsMost,
-  initialisation,
-  transfer,
+  maxSegments,
+  maxAttempts,
+  initialisationPhase,
+  transferPhase,
 }
 use Rattle.bank_state.specs.Clock.{advanced}
 use Rattle.bank_state.specs.Limits.{window, idleLimit}
@@ -60,7 +60,7 @@ pub record WellMadeOpening (e : Exchange) : Type 0 where
   pub made : WellMade e
   pub kind : ((form (e .request) ≡ forms.UploadOpening) × (orderType (e .request) ≡ ful) × (1 ≤ segments (e .request)))
       ⊎ ((form (e .request) ≡ forms.DownloadOpening) × (orderType (e .request) ≡ fdl))
-  pub few : segments (e .request) ≤ segmentsMost
+  pub few : segments (e .request) ≤ maxSegments
 
 -- a request to the transaction t
 pub record Asks (t : Bits128) (e : Exchange) : Type 0 where
@@ -134,8 +134,8 @@ pub record FalseEconomies : Type 0 where
       (n : Next calls e) → Asks t e → Stands f g (pastOf calls .history) → Opens t f →
       (subscriber (e .request) ≡ subscriber (f .request) → ⊥) →
       RefusedWith code.UnknownTransaction e
-      × (pastOf (Frame (n .time) (n .ids) (n .frame) (n .buffer) ∷ calls) .world
-      ≡ advanced (n .time) (pastOf calls .world))
+      × (pastOf (Frame (n .time) (n .ids) (n .frame) (n .buffer) ∷ calls) .bankState
+      ≡ advanced (n .time) (pastOf calls .bankState))
   -- "Answering a repeated last segment 000000 (the order is closed: 091101)"
   pub closed : {calls : List BankCall} {e f : Exchange} {g : List Exchange} {t : Bits128} → Next calls e → Asks t e →
       Stands f g (pastOf calls .history) → Takes t f → lastMark (f .request) ≡ 1 → RefusedWith code.UnknownTransaction e
@@ -147,11 +147,11 @@ pub record FalseEconomies : Type 0 where
       RefusedWith code.UnknownTransaction e
   -- "The first five get 061101 with k or d (a download segment sent again carries 000000 instead)"
   pub five : {calls : List BankCall} {e : Exchange} {t : Bits128} {n : ℕ} → Next calls e →
-      Attempts t n (pastOf calls .history) → Attempt t (pastOf calls .history) e → n < attemptsMost
+      Attempts t n (pastOf calls .history) → Attempt t (pastOf calls .history) e → n < maxAttempts
   -- "the sixth gets 091102": it comes behind five attempts, neither earlier nor later
   pub sixth : {calls : List BankCall} {e : Exchange} {n : ℕ} → Next calls e →
       Attempts (transaction (e .request)) n (pastOf calls .history) → RefusedWith code.TransactionAbort e →
-      n ≡ attemptsMost
+      n ≡ maxAttempts
   -- every history has its number of attempts
   pub counted : (calls : List BankCall) (t : Bits128) → (n : ℕ) × Attempts t n (pastOf calls .history)
   -- "The phase is the request's, but in a recovery point"; the reply to an unreadable request has none
@@ -161,9 +161,9 @@ pub record FalseEconomies : Type 0 where
   pub uploadPoints : {calls : List BankCall} {e f : Exchange} {g : List Exchange} → Next calls e → RecoveryPoint e →
       Stands f g (pastOf calls .history) → form (f .reply) ≡ forms.UploadOpened →
       transaction (f .reply) ≡ transaction (e .reply) →
-      phase (e .reply) ≡ cond (eqb (segment (e .reply)) 0) initialisation transfer
+      phase (e .reply) ≡ cond (eqb (segment (e .reply)) 0) initialisationPhase transferPhase
   -- "a download's opening delivered segment 1 and counts as phase 1 while only that is delivered"
   pub downloadPoints : {calls : List BankCall} {e f : Exchange} {g : List Exchange} → Next calls e → RecoveryPoint e →
       Stands f g (pastOf calls .history) → form (f .reply) ≡ forms.DownloadOpened →
       transaction (f .reply) ≡ transaction (e .reply) →
-      phase (e .reply) ≡ cond (eqb (segment (e .reply)) 1) initialisation transfer
+      phase (e .reply) ≡ cond (eqb (segment (e .reply)) 1) initialisationPhase transferPhase

@@ -18,7 +18,7 @@ use Rattle.bank_state.specs.declared.state.Nonce.{Nonce}
 use Rattle.bank_state.specs.Clock.{advanced}
 use Rattle.bank_state.specs.Limits.{storeBytes, window}
 use Rattle.bank_state.specs.Rows.{keep}
-use Rattle.bank_state.specs.State.{World, world, fresh, fileLength}
+use Rattle.bank_state.specs.State.{BankState, bankState, fresh, fileLength}
 use Rattle.bank_state.specs.Store.{fileOf}
 use Rattle.bank_verdicts.specs.declared.verdict.UploadAction.{UploadAction}
 use Rattle.bank_verdicts.specs.declared.verdict.UploadAction.the-variants as up
@@ -47,11 +47,11 @@ pub record Exchange : Type 0 where
   pub verdict : Verdict
 
 -- "The bank's mailbox holds exactly the file ...": the file in a subscriber's mailbox
-unfoldable pub mailboxFile : World → ℕ → List ℕ
-mailboxFile w s = fileOf (w .boxes) (s - 1) (fileLength s (w .bank .files))
+unfoldable pub mailboxFile : BankState → ℕ → List ℕ
+mailboxFile w s = fileOf (w .mailboxes) (s - 1) (fileLength s (w .bank .files))
 
 -- the exchange of a request whose step is s, with the bank w before it
-abbrev pub exchangeBy : Step → World → Fields → List ℕ → Exchange
+abbrev pub exchangeBy : Step → BankState → Fields → List ℕ → Exchange
 exchangeBy s w q d = record {
   request = q;
   requestData = d;
@@ -63,7 +63,7 @@ exchangeBy s w q d = record {
 }
 
 -- the exchange of a request that comes to the bank w, clock and drops done; first is the number of the lent ID bytes
-unfoldable pub exchangeOf : ℕ → World → Fields → List ℕ → Exchange
+unfoldable pub exchangeOf : ℕ → BankState → Fields → List ℕ → Exchange
 exchangeOf first w q d = exchangeBy (respond first w q d) w q d
 
 -- A call of the bank: a frame arrives (time, lent ID bytes, frame, reply buffer), or a file goes into a mailbox (mailbox, file)
@@ -73,34 +73,34 @@ pub data BankCall : Type 0 where
 
 -- The bank and its stores as the calls so far left them, and the answered frames, the newest first. Unreadable frames are entered too
 pub record Past : Type 0 where
-  pub world : World
+  pub bankState : BankState
   pub history : List Exchange
 
 -- a frame call's answer: a reply is entered; "a number, nothing changed"
-abbrev pub entered : FrameAnswer → World → Exchange → Past → Past
-entered (Reply n) w e p = record { world = w; history = e ∷ p .history }
+abbrev pub entered : FrameAnswer → BankState → Exchange → Past → Past
+entered (Reply n) w e p = record { bankState = w; history = e ∷ p .history }
 entered WrongLength w e p = p
 
 -- a file call's answer
 abbrev pub placed : FileAnswer → Bank → List ℕ → Past → Past
-placed put.Done b boxes p = record { world = world b (p .world .orders) boxes; history = p .history }
-placed put.WrongLength b boxes p = p
-placed put.NoMailbox b boxes p = p
-placed put.WrongFile b boxes p = p
-placed put.MailboxFull b boxes p = p
+placed put.Done b mailboxes p = record { bankState = bankState b (p .bankState .orders) mailboxes; history = p .history }
+placed put.WrongLength b mailboxes p = p
+placed put.NoMailbox b mailboxes p = p
+placed put.WrongFile b mailboxes p = p
+placed put.MailboxFull b mailboxes p = p
 
 -- what a call leaves
 unfoldable pub after : BankCall → Past → Past
 after (Frame time ids frame buffer) p =
-    let c = frameCall (p .world) time ids frame buffer in
-    entered (c .answer) (c .world) (exchangeOf (number ids) (advanced time (p .world)) (readRequest frame) (dataOf frame)) p
+    let c = frameCall (p .bankState) time ids frame buffer in
+    entered (c .answer) (c .bankState) (exchangeOf (number ids) (advanced time (p .bankState)) (readRequest frame) (dataOf frame)) p
 after (File mailbox file) p =
-    let c = fileCall (p .world .bank) mailbox file (p .world .boxes) in
-    placed (c .answer) (c .bank) (c .boxes) p
+    let c = fileCall (p .bankState .bank) mailbox file (p .bankState .mailboxes) in
+    placed (c .answer) (c .bank) (c .mailboxes) p
 
 -- "Fresh means clock 0, no opening accepted, nothing open, booked or remembered, and every lent byte kept between calls 0"
 unfoldable pub start : Past
-start = record { world = world fresh (replicate storeBytes 0) (replicate storeBytes 0); history = [] }
+start = record { bankState = bankState fresh (replicate storeBytes 0) (replicate storeBytes 0); history = [] }
 
 -- what a list of calls leaves, the newest call first
 unfoldable pub pastOf : List BankCall → Past

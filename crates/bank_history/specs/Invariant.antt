@@ -7,7 +7,7 @@ use mathlib.Core.Path.{_≡_}
 use lib.Dec.{leb}
 use lib.ListN.{length, getD, take, replicate}
 use Rattle.frame_table.specs.declared.fields.Bits128.{Bits128}
-use Rattle.message.specs.Limits.{subscribers, segmentBytes, segmentsMost, fileBytes, attemptsMost}
+use Rattle.message.specs.Limits.{subscribers, segmentBytes, maxSegments, fileBytes, maxAttempts}
 use Rattle.message.specs.Segments.{segmentsOf}
 use Rattle.bank_state.specs.declared.state.Download.{Download}
 use Rattle.bank_state.specs.declared.state.Nonce.{Nonce}
@@ -19,13 +19,13 @@ use Rattle.bank_state.specs.Limits.{
   storeBytes,
   nonceCount,
   idleLimit,
-  openMost,
+  maxOpen,
   openPerSubscriber,
-  openingsMost,
+  maxOpenings,
   window,
 }
 use Rattle.bank_state.specs.Search.{isFree, isOpen, openCount, openCountOf}
-use Rattle.bank_state.specs.State.{World, noPlace, noDownload, noNonce, placeAt, downloadAt}
+use Rattle.bank_state.specs.State.{BankState, noPlace, noDownload, noNonce, placeAt, downloadAt}
 use Rattle.bank_state.specs.Store.{partAt}
 use Rattle.bank_history.specs.History.{
   Exchange,
@@ -54,13 +54,13 @@ use Rattle.bank_history.specs.Sound.{AllSound}
 -- ---- the state and the stores
 
 -- rows and stores have their lengths
-pub record Sizes (w : World) : Type 0 where
+pub record Sizes (w : BankState) : Type 0 where
   pub places : length (w .bank .places) ≡ placeCount
   pub downloads : length (w .bank .downloads) ≡ placeCount
   pub nonces : length (w .bank .nonces) ≡ nonceCount
   pub files : length (w .bank .files) ≡ placeCount
   pub orders : length (w .orders) ≡ storeBytes
-  pub boxes : length (w .boxes) ≡ storeBytes
+  pub mailboxes : length (w .mailboxes) ≡ storeBytes
 
 -- a place not in use: "Unused bytes of places and mailboxes are 0"
 pub record FreePlace (p : Place) (bytes : List ℕ) : Type 0 where
@@ -92,9 +92,9 @@ UsedAs openings p bytes = UsedPlace openings (p .transaction) (p .subscriber) (p
 pub record OpenPlace (clock openings : ℕ) (p : Place) (bytes : List ℕ) : Type 0 where
   pub place : UsedAs openings p bytes
   pub some : 1 ≤ p .segments
-  pub few : p .segments ≤ segmentsMost
+  pub few : p .segments ≤ maxSegments
   pub below : p .taken < p .segments
-  pub tries : p .attempts ≤ attemptsMost
+  pub tries : p .attempts ≤ maxAttempts
   pub current : p .last ≤ clock
   pub least : p .taken ≤ p .length
   pub largest : p .length ≤ p .taken * segmentBytes
@@ -117,7 +117,7 @@ pub record OpenRecord (clock openings : ℕ) (file : List ℕ) (e : Download) : 
   pub counted : e .transaction .low < openings
   pub known : 1 ≤ e .subscriber
   pub most : e .subscriber ≤ subscribers
-  pub tries : e .attempts ≤ attemptsMost
+  pub tries : e .attempts ≤ maxAttempts
   -- d is 1 to N of a file that is not empty
   pub some : 1 ≤ e .delivered
   pub within : e .delivered ≤ segmentsOf (length file)
@@ -151,11 +151,11 @@ abbrev pub Alike : Place → Place → Type 0
 Alike p r = (p .transaction .low ≡ r .transaction .low) ⊎ (p .number ≡ r .number)
 
 -- What an image may hold: the state and the stores alone, without the history
-pub record StateHolds (w : World) : Type 0 where
+pub record StateHolds (w : BankState) : Type 0 where
   -- rows and stores have their lengths
   pub sizes : Sizes w
   -- at most 1,213,056 openings
-  pub numbers : w .bank .openings ≤ openingsMost
+  pub numbers : w .bank .openings ≤ maxOpenings
   -- each place is free and zero, or in use with its columns in their ranges and zeros behind its bytes
   pub places : (i : ℕ) → i < placeCount →
       PlaceHolds (placeAt (w .bank) i .used) (w .bank .clock) (w .bank .openings) (placeAt (w .bank) i) (partAt (w .orders) i)
@@ -164,7 +164,7 @@ pub record StateHolds (w : World) : Type 0 where
       DownloadHolds (downloadAt (w .bank) j .used) (w .bank .clock) (w .bank .openings)
       (mailboxFile w (downloadAt (w .bank) j .subscriber)) (downloadAt (w .bank) j)
   -- each mailbox holds at most 3,840 bytes, zeros behind
-  pub mailboxes : (i : ℕ) → i < placeCount → MailboxHolds (getD (w .bank .files) i 0) (partAt (w .boxes) i)
+  pub mailboxesHold : (i : ℕ) → i < placeCount → MailboxHolds (getD (w .bank .files) i 0) (partAt (w .mailboxes) i)
   -- no two places in use have one transaction or one order number, and no place has the transaction of an open download
   pub placesApart : (i j : ℕ) → i < placeCount → j < placeCount → isFree (placeAt (w .bank) i .used) ≡ false →
       isFree (placeAt (w .bank) j .used) ≡ false → Alike (placeAt (w .bank) i) (placeAt (w .bank) j) → i ≡ j
@@ -176,7 +176,7 @@ pub record StateHolds (w : World) : Type 0 where
   -- the nonces in use stand first, and each is still to be remembered
   pub nonces : NoncesHold (w .bank .clock) (w .bank .nonces)
   -- at most 8 transactions are open, at most 4 of one subscriber
-  pub openAll : openCount (w .bank) ≤ openMost
+  pub openAll : openCount (w .bank) ≤ maxOpen
   pub openOf : (s : ℕ) → openCountOf s (w .bank) ≤ openPerSubscriber
 
 -- ---- what the history tells of the state
@@ -207,7 +207,7 @@ pub record UploadTold (h : List Exchange) (p : Place) (bytes : List ℕ) : Type 
 pub record OrderTold (h : List Exchange) (p : Place) (bytes : List ℕ) : Type 0 where
   pub place : ToldAs h p bytes
   pub some : 1 ≤ segmentsAt (p .transaction) h
-  pub few : segmentsAt (p .transaction) h ≤ segmentsMost
+  pub few : segmentsAt (p .transaction) h ≤ maxSegments
   pub whole : times isTaking (p .transaction) h ≡ segmentsAt (p .transaction) h
   pub least : segmentsAt (p .transaction) h ≤ p .length
   pub largest : p .length ≤ segmentsAt (p .transaction) h * segmentBytes
@@ -240,14 +240,14 @@ pub record Memory (clock : ℕ) (nonces : List Nonce) (h : List Exchange) : Type
   pub held : nonces ≡ remembered clock h ++ replicate (nonceCount - length (remembered clock h)) noNonce
 
 -- the order of transaction t is booked in some place
-pub record BookedIn (w : World) (t : Bits128) : Type 0 where
+pub record BookedIn (w : BankState) (t : Bits128) : Type 0 where
   pub place : ℕ
   pub inside : place < placeCount
   pub used : placeAt (w .bank) place .used ≡ Booked
   pub same : placeAt (w .bank) place .transaction ≡ t
 
 -- The state, and what ties it to the history
-pub record Invariant (w : World) (h : List Exchange) : Type 0 where
+pub record Invariant (w : BankState) (h : List Exchange) : Type 0 where
   pub state : StateHolds w
   -- the openings are counted
   pub counted : w .bank .openings ≡ accepted h
@@ -265,11 +265,11 @@ pub record Invariant (w : World) (h : List Exchange) : Type 0 where
   pub sound : AllSound h
 
 -- no open transaction is idle: "open at 3,600, gone at 3,601"
-pub record NoneIdle (w : World) : Type 0 where
+pub record NoneIdle (w : BankState) : Type 0 where
   pub places : (i : ℕ) → i < placeCount → isOpen (placeAt (w .bank) i .used) ≡ true → w .bank .clock ≤ placeAt (w .bank) i .last + idleLimit
   pub downloads : (j : ℕ) → downloadAt (w .bank) j .used ≡ true → w .bank .clock ≤ downloadAt (w .bank) j .last + idleLimit
 
 -- what holds after every list of calls
 pub record Holds (p : Past) : Type 0 where
-  pub invariant : Invariant (p .world) (p .history)
-  pub current : NoneIdle (p .world)
+  pub invariant : Invariant (p .bankState) (p .history)
+  pub current : NoneIdle (p .bankState)

@@ -3,6 +3,6 @@ pub mod History
 pub mod Packed
 pub mod Sound
 pub mod Invariant
-pub mod Standing
+pub mod Transactions
 pub mod Answers
 pub mod FalseEconomies

@@ -12,7 +12,7 @@ use Rattle.frame_table.specs.Names.{subscriber, transaction, segments, segment,
 use Rattle.message.specs.declared.codes.ReturnCode.{ReturnCode}
 use Rattle.message.specs.declared.codes.ReturnCode.the-variants as code
 use Rattle.message.specs.Codes.{codeField}
-use Rattle.message.specs.Limits.{subscribers, segmentBytes, segmentsMost}
+use Rattle.message.specs.Limits.{subscribers, segmentBytes, maxSegments}
 use Rattle.message.specs.Segments.{segmentsOf, segmentOf}
 use Rattle.bank_verdicts.specs.declared.verdict.UploadAction.{UploadAction}
 use Rattle.bank_verdicts.specs.declared.verdict.UploadAction.the-variants as up
@@ -57,7 +57,7 @@ pub record SoundUploadOpening (n : ℕ) (t : Bits128) (e : Exchange) (h : List E
   pub opening : SoundOpening forms.UploadOpening t e h
   pub number : n ≡ accepted h
   pub some : 1 ≤ segments (e .request)
-  pub few : segments (e .request) ≤ segmentsMost
+  pub few : segments (e .request) ≤ maxSegments
   pub bare : e .replyData ≡ []
 
 -- a download opened: its mailbox is not empty, N is right, "segment 1 is in it"

@@ -1,8 +1,8 @@
 // How an opening is judged: each refusal's test by its name in document 01's list, then the list from top to bottom.
+use bank_state::limits::MAX_OPEN;
+use bank_state::limits::MAX_OPEN_PER_SUBSCRIBER;
+use bank_state::limits::MAX_OPENINGS;
 use bank_state::limits::NONCES;
-use bank_state::limits::OPEN_MOST;
-use bank_state::limits::OPEN_PER_SUBSCRIBER;
-use bank_state::limits::OPENINGS_MOST;
 use bank_state::limits::PLACES;
 use bank_state::limits::WINDOW;
 use bank_state::search::free_nonce;
@@ -22,7 +22,7 @@ use frame_table::fields::Fields;
 use message::codes::ReturnCode;
 use message::limits::FDL;
 use message::limits::FUL;
-use message::limits::SEGMENTS_MOST;
+use message::limits::MAX_SEGMENTS;
 use message::segments::segments_of;
 ghost use mathlib.Core.Path.{_≡_};
 ghost use Rattle.bank_verdicts.specs.Judgement.{accepted, judgeOpening, mailboxSegments};
@@ -64,7 +64,7 @@ fn other_direction(d: Direction, q: Fields) -> bool
 fn many_segments(q: Fields) -> bool
     ensures { λ r. ⌜ r ≡ manySegments q ⌝ }
 {
-    SEGMENTS_MOST < q.segments()
+    MAX_SEGMENTS < q.segments()
 }
 
 // Whether a timestamp differs from the clock by at most WINDOW seconds.
@@ -102,7 +102,7 @@ fn empty_mailbox(d: Direction, b: Bank, q: Fields) -> bool
 fn many_open(b: Bank, q: Fields) -> bool
     ensures { λ r. ⌜ r ≡ manyOpen b q ⌝ }
 {
-    OPEN_PER_SUBSCRIBER <= open_count_of(b, q.subscriber())
+    MAX_OPEN_PER_SUBSCRIBER <= open_count_of(b, q.subscriber())
 }
 
 // An upload with 8 places in use.
@@ -119,7 +119,7 @@ fn no_place_free(d: Direction, b: Bank) -> bool
 fn is_full(d: Direction, b: Bank) -> bool
     ensures { λ r. ⌜ r ≡ isFull d b ⌝ }
 {
-    if OPEN_MOST <= open_count(b) {
+    if MAX_OPEN <= open_count(b) {
         return true;
     }
     if no_place_free(d, b) {
@@ -128,7 +128,7 @@ fn is_full(d: Direction, b: Bank) -> bool
     if NONCES <= free_nonce(b) {
         return true;
     }
-    OPENINGS_MOST <= b.openings
+    MAX_OPENINGS <= b.openings
 }
 
 // The number of segments of a subscriber's mailbox.

@@ -14,7 +14,7 @@ use frame_table::fields::Fields;
 ghost use mathlib.Core.Path.{_≡_};
 ghost use Prim.Native.Nat.{_<_};
 ghost use lib.ListN.{set};
-ghost use Rattle.bank_state.specs.Limits.{openingsMost};
+ghost use Rattle.bank_state.specs.Limits.{maxOpenings};
 ghost use Rattle.bank_openings.specs.Openings.{counted, openUpload, openDownload};
 
 // The nonces with this one in record i; unchanged where there is no such record.
@@ -52,7 +52,7 @@ fn set_download(downloads: [Download; PLACES], i: usize, download: Download) -> 
 
 // The bank with one opening more accepted, and its nonce remembered.
 fn counted(b: Bank, q: Fields) -> Bank
-    requires { ⌜ b .openings < openingsMost ⌝ }
+    requires { ⌜ b .openings < maxOpenings ⌝ }
     ensures { λ r. ⌜ r ≡ counted q b ⌝ }
 {
     let value = q.nonce();
@@ -71,7 +71,7 @@ fn counted(b: Bank, q: Fields) -> Bank
 
 // An accepted upload takes the first free place, with its transaction ID and its order's number.
 pub fn open_upload(b: Bank, transaction: Bits128, number: u64, q: Fields) -> Bank
-    requires { ⌜ b .openings < openingsMost ⌝ }
+    requires { ⌜ b .openings < maxOpenings ⌝ }
     ensures { λ r. ⌜ r ≡ openUpload transaction number q b ⌝ }
 {
     let place = Place {
@@ -94,7 +94,7 @@ pub fn open_upload(b: Bank, transaction: Bits128, number: u64, q: Fields) -> Ban
 
 // An accepted download has segment 1 of its mailbox delivered.
 pub fn open_download(b: Bank, transaction: Bits128, q: Fields) -> Bank
-    requires { ⌜ b .openings < openingsMost ⌝ }
+    requires { ⌜ b .openings < maxOpenings ⌝ }
     ensures { λ r. ⌜ r ≡ openDownload transaction q b ⌝ }
 {
     let download = Download {

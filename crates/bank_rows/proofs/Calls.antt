@@ -18,7 +18,7 @@ use Rattle.bank_state.specs.Rows.{keep, keepOnly}
 use Rattle.bank_state.specs.Clock.{isIdle, freed, dropUpload, dropUploads, endDownloads, forget, atClock, advanced}
 use Rattle.bank_state.specs.Search.{isOpen}
 use Rattle.bank_state.specs.Store.{zeroed}
-use Rattle.bank_state.specs.State.{World, world, noPlace, noDownload, noNonce, withClock, withOpenings, withFiles, withDownload, withDownloads, withNonces, withPlace, placeAt}
+use Rattle.bank_state.specs.State.{BankState, bankState, noPlace, noDownload, noNonce, withClock, withOpenings, withFiles, withDownload, withDownloads, withNonces, withPlace, placeAt}
 use Rattle.bank_state.proofs.Rows.{length-keepOnly}
 use Rattle.bank_rows.specs.Layout.{downloadWidth, nonceWidth}
 use Rattle.bank_rows.specs.Records.{downloadOf, nonceOf, staysOpen, staysRemembered}
@@ -65,16 +65,16 @@ module _ (s : List ℕ) (l : Laid s) where
     laid-next t e = rw e (stored-laid b (k .held) s l)
 
   -- and the same with the orders' store
-  pub world-next : (w : World) → Within s (w .bank) → (f : World → World) → Held (f w .bank) → (t u o p : List ℕ) → StoredWith w s t o
-      → ((boxes : List ℕ) → StoredWith (f (world (bankOf t) o boxes)) t u p) → StoredWith (f w) s u p
-  world-next w k f h t u o p e g =
+  pub bankState-next : (w : BankState) → Within s (w .bank) → (f : BankState → BankState) → Held (f w .bank) → (t u o p : List ℕ) → StoredWith w s t o
+      → ((mailboxes : List ℕ) → StoredWith (f (bankState (bankOf t) o mailboxes)) t u p) → StoredWith (f w) s u p
+  bankState-next w k f h t u o p e g =
       let back : bankOf t ≡ w .bank = ap bankOf (e .rows) ∙ stored-back (w .bank) (k .held) s l in
-      let at : f (world (bankOf t) o (w .boxes)) ≡ f w = ap f (rw (back, e .store)) in
-      let x = g (w .boxes) in
+      let at : f (bankState (bankOf t) o (w .mailboxes)) ≡ f w = ap f (rw (back, e .store)) in
+      let x = g (w .mailboxes) in
       record {
-        rows = x .rows ∙ ap (λ (v : World). stored (v .bank) t) at ∙ ap (stored (f w .bank)) (e .rows)
+        rows = x .rows ∙ ap (λ (v : BankState). stored (v .bank) t) at ∙ ap (stored (f w .bank)) (e .rows)
             ∙ stored-twice (w .bank) (f w .bank) s (k .held) h l (omega (arith, k .downloads)) (omega (arith, k .nonces));
-        store = x .store ∙ ap (λ (v : World). v .orders) at;
+        store = x .store ∙ ap (λ (v : BankState). v .orders) at;
       }
 
 -- ---- the changes of the clock
@@ -234,13 +234,13 @@ module _ (s : List ℕ) where
   either P true x y = x
   either P false x y = y
 
-  pub within-drop : (i : ℕ) (w : World) → Within s (w .bank) → Within s (dropUpload i w .bank)
+  pub within-drop : (i : ℕ) (w : BankState) → Within s (w .bank) → Within s (dropUpload i w .bank)
   unfolding dropUpload freed
   within-drop i w k =
-      either (λ (v : World). Within s (v .bank)) (isOpen (placeAt (w .bank) i .used) && isIdle (w .bank .clock) (placeAt (w .bank) i .last))
+      either (λ (v : BankState). Within s (v .bank)) (isOpen (placeAt (w .bank) i .used) && isIdle (w .bank .clock) (placeAt (w .bank) i .last))
       {a = freed i w} {b = w} (within-place i noPlace k) k
 
-  pub within-drops : (n : ℕ) (w : World) → Within s (w .bank) → Within s (dropUploads n w .bank)
+  pub within-drops : (n : ℕ) (w : BankState) → Within s (w .bank) → Within s (dropUploads n w .bank)
   unfolding dropUploads
   within-drops zero w k = k
   within-drops (suc n) w k = within-drop n (dropUploads n w) (within-drops n w k)
@@ -284,34 +284,34 @@ module _ (s : List ℕ) (l : Laid s) where
     tested = sym (test ∙ ap (λ (x : ℕ). isOpen (placeAt b i .used) && isIdle x (placeAt b i .last)) k)
 
     pub dropped-idle : idle ≡ true → (p : Place) (t q : List ℕ) → p ≡ noPlace → t ≡ stored (withPlace i p b) s → q ≡ zeroed o i
-        → (boxes : List ℕ) → StoredWith (dropUpload i (world b o boxes)) s t q
+        → (mailboxes : List ℕ) → StoredWith (dropUpload i (bankState b o mailboxes)) s t q
     unfolding dropUpload freed
-    dropped-idle y p t q e f g boxes =
+    dropped-idle y p t q e f g mailboxes =
         rw (tested ∙ y) (record { rows = f ∙ ap (λ (r : Place). stored (withPlace i r b) s) e; store = g })
 
-    pub dropped-none : idle ≡ false → (boxes : List ℕ) → StoredWith (dropUpload i (world b o boxes)) s s o
+    pub dropped-none : idle ≡ false → (mailboxes : List ℕ) → StoredWith (dropUpload i (bankState b o mailboxes)) s s o
     unfolding dropUpload
-    dropped-none y boxes = rw (tested ∙ y) (record { rows = sym (stored-own s l); store = refl })
+    dropped-none y mailboxes = rw (tested ∙ y) (record { rows = sym (stored-own s l); store = refl })
 
   -- the drops of all places
   module _ (o : List ℕ) where
-    pub drops-start : (boxes : List ℕ) → StoredWith (dropUploads 0 (world b o boxes)) s s o
+    pub drops-start : (mailboxes : List ℕ) → StoredWith (dropUploads 0 (bankState b o mailboxes)) s s o
     unfolding dropUploads
-    drops-start boxes = record { rows = sym (stored-own s l); store = refl }
+    drops-start mailboxes = record { rows = sym (stored-own s l); store = refl }
 
-    drops-within : (n : ℕ) (boxes : List ℕ) → Within s (dropUploads n (world b o boxes) .bank)
-    drops-within n boxes = within-drops s n (world b o boxes) (within-own s l)
+    drops-within : (n : ℕ) (mailboxes : List ℕ) → Within s (dropUploads n (bankState b o mailboxes) .bank)
+    drops-within n mailboxes = within-drops s n (bankState b o mailboxes) (within-own s l)
 
-    module _ (n : ℕ) (t q : List ℕ) (inv : (boxes : List ℕ) → StoredWith (dropUploads n (world b o boxes)) s t q) where
+    module _ (n : ℕ) (t q : List ℕ) (inv : (mailboxes : List ℕ) → StoredWith (dropUploads n (bankState b o mailboxes)) s t q) where
       pub drops-laid : Laid t
-      drops-laid = laid-next s l (dropUploads n (world b o []) .bank) (drops-within n []) t (inv [] .rows)
+      drops-laid = laid-next s l (dropUploads n (bankState b o []) .bank) (drops-within n []) t (inv [] .rows)
 
-      pub drops-next : (u p : List ℕ) → ((boxes : List ℕ) → StoredWith (dropUpload n (world (bankOf t) q boxes)) t u p)
-          → (boxes : List ℕ) → StoredWith (dropUploads (n + 1) (world b o boxes)) s u p
+      pub drops-next : (u p : List ℕ) → ((mailboxes : List ℕ) → StoredWith (dropUpload n (bankState (bankOf t) q mailboxes)) t u p)
+          → (mailboxes : List ℕ) → StoredWith (dropUploads (n + 1) (bankState b o mailboxes)) s u p
       unfolding dropUploads
-      drops-next u p f boxes =
-          let w = dropUploads n (world b o boxes) in
-          rw (add-one n) (world-next s l w (drops-within n boxes) (dropUpload n) (within-drop s n w (drops-within n boxes) .held) t u q p (inv boxes) f)
+      drops-next u p f mailboxes =
+          let w = dropUploads n (bankState b o mailboxes) in
+          rw (add-one n) (bankState-next s l w (drops-within n mailboxes) (dropUpload n) (within-drop s n w (drops-within n mailboxes) .held) t u q p (inv mailboxes) f)
 
     -- the whole step of the clock
     module _ (time c : ℕ) (k : c ≡ max (b .clock) time) (t : List ℕ) (e : t ≡ stored (atClock c b) s) where
@@ -321,10 +321,10 @@ module _ (s : List ℕ) (l : Laid s) where
       pub at-clock-laid : Laid t
       at-clock-laid = laid-next s l (atClock c b) at-clock t e
 
-      pub advanced-stored : (u p : List ℕ) → ((boxes : List ℕ) → StoredWith (dropUploads placeCount (world (bankOf t) o boxes)) t u p)
-          → (boxes : List ℕ) → StoredWith (advanced time (world b o boxes)) s u p
+      pub advanced-stored : (u p : List ℕ) → ((mailboxes : List ℕ) → StoredWith (dropUploads placeCount (bankState (bankOf t) o mailboxes)) t u p)
+          → (mailboxes : List ℕ) → StoredWith (advanced time (bankState b o mailboxes)) s u p
       unfolding advanced
-      advanced-stored u p f boxes =
-          let w = world (atClock c b) o boxes in
+      advanced-stored u p f mailboxes =
+          let w = bankState (atClock c b) o mailboxes in
           rw (← k)
-          (world-next s l w at-clock (dropUploads placeCount) (within-drops s placeCount w at-clock .held) t u o p (record { rows = e; store = refl }) f)
+          (bankState-next s l w at-clock (dropUploads placeCount) (within-drops s placeCount w at-clock .held) t u o p (record { rows = e; store = refl }) f)

@@ -10,7 +10,7 @@ use lib.Dec.{eqb, leb, ltb}
 use lib.ListN.{length, getD, List·getD-eq-default}
 use borrow.Author.Tests.{eqb-true, eqb-false, eq-eqb, ne-eqb, leb-true, le-leb, lt-leb, ltb-true, ltb-false}
 use Rattle.octets.proofs.Tests.{and-true}
-use Rattle.message.specs.Limits.{fileBytes, segmentsMost}
+use Rattle.message.specs.Limits.{fileBytes, maxSegments}
 use Rattle.bank_state.specs.declared.state.Bank.{Bank}
 use Rattle.bank_state.specs.declared.state.Download.{Download}
 use Rattle.bank_state.specs.declared.state.Place.{Place}
@@ -89,10 +89,10 @@ module _ (s : List ℕ) (e : isSound s ≡ true) where
     abbrev at : ℕ
     at = placesAt + placeWidth * i
 
-    place-tests : (getD s (at + placeUse) 0 ≤ 2) × (getD s (at + placeLength) 0 ≤ fileBytes) × (getD s (at + placeTaken) 0 ≤ segmentsMost)
+    place-tests : (getD s (at + placeUse) 0 ≤ 2) × (getD s (at + placeLength) 0 ≤ fileBytes) × (getD s (at + placeTaken) 0 ≤ maxSegments)
     place-tests =
         let a = and-true (leb (getD s (at + placeUse) 0) 2) _ (all-holds (isSoundPlace s) placeCount (tests .4) i h) in
-        let b = and-true (leb (getD s (at + placeLength) 0) fileBytes) (leb (getD s (at + placeTaken) 0) segmentsMost) (a .1) in
+        let b = and-true (leb (getD s (at + placeLength) 0) fileBytes) (leb (getD s (at + placeTaken) 0) maxSegments) (a .1) in
         (leb-true _ _ (a .0), leb-true _ _ (b .0), leb-true _ _ (b .1))
 
   -- the rows are a bank's
@@ -104,7 +104,7 @@ module _ (s : List ℕ) (e : isSound s ≡ true) where
     uses = λ i h. rw (← add-assoc placesAt (placeWidth * i) placeUse) (place-tests i h .0);
   }
 
-  delivered-at : (i : ℕ) (t : Bool) → ltb i (downloadCountOf s) ≡ t → downloadAt (bankOf s) i .delivered ≤ segmentsMost
+  delivered-at : (i : ℕ) (t : Bool) → ltb i (downloadCountOf s) ≡ t → downloadAt (bankOf s) i .delivered ≤ maxSegments
   delivered-at i true k =
       let h = ltb-true i (downloadCountOf s) k in
       rw (ap (λ (d : Download). d .delivered) (download-read s sound-laid i h))
@@ -131,12 +131,12 @@ module _ (s : List ℕ) (l : Laid s) (r : InRange (bankOf s)) where
       let at = placesAt + placeWidth * i in
       let u : getD s (at + placeUse) 0 ≤ 2 = rw (add-assoc placesAt (placeWidth * i) placeUse) (l .uses i h) in
       let n : getD s (at + placeLength) 0 ≤ fileBytes = rw (ap (λ (p : Place). p .length) (place-read s i h)) at (r .lengths i h) in
-      let t : getD s (at + placeTaken) 0 ≤ segmentsMost = rw (ap (λ (p : Place). p .taken) (place-read s i h)) at (r .taken i h) in
+      let t : getD s (at + placeTaken) 0 ≤ maxSegments = rw (ap (λ (p : Place). p .taken) (place-read s i h)) at (r .taken i h) in
       rw (le-leb _ _ u, le-leb _ _ n) (le-leb _ _ t)
 
   download-passes : (i : ℕ) → i < downloadCountOf s → isSoundDownload s i ≡ true
   download-passes i h =
-      le-leb (getD s (downloadsAt + downloadWidth * i + downloadDelivered) 0) segmentsMost
+      le-leb (getD s (downloadsAt + downloadWidth * i + downloadDelivered) 0) maxSegments
       (rw (ap (λ (d : Download). d .delivered) (download-read s l i h)) at (r .delivered i (omega (arith, l .downloads))))
 
   pub sound-rows : isSound s ≡ true

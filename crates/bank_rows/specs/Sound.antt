@@ -4,7 +4,7 @@ use mathlib.Core.Bool.{Bool, true, _&&_}
 use mathlib.Core.List.{List}
 use lib.Dec.{eqb, leb}
 use lib.ListN.{length, getD}
-use Rattle.message.specs.Limits.{fileBytes, segmentsMost}
+use Rattle.message.specs.Limits.{fileBytes, maxSegments}
 use Rattle.bank_state.specs.declared.state.Bank.{Bank}
 use Rattle.bank_state.specs.Limits.{placeCount, nonceCount}
 use Rattle.bank_state.specs.State.{placeAt, downloadAt}
@@ -36,11 +36,11 @@ abbrev pub isSoundPlace : List ℕ → ℕ → Bool
 isSoundPlace s i =
     let at = placesAt + placeWidth * i in
     leb (getD s (at + placeUse) 0) 2
-    && (leb (getD s (at + placeLength) 0) fileBytes && leb (getD s (at + placeTaken) 0) segmentsMost)
+    && (leb (getD s (at + placeLength) 0) fileBytes && leb (getD s (at + placeTaken) 0) maxSegments)
 
 -- at most 15 segments delivered
 abbrev pub isSoundDownload : List ℕ → ℕ → Bool
-isSoundDownload s i = leb (getD s (downloadsAt + downloadWidth * i + downloadDelivered) 0) segmentsMost
+isSoundDownload s i = leb (getD s (downloadsAt + downloadWidth * i + downloadDelivered) 0) maxSegments
 
 unfoldable pub isSound : List ℕ → Bool
 isSound s =
@@ -55,5 +55,5 @@ isSound s =
 pub record InRange (b : Bank) : Type 0 where
   pub files : (i : ℕ) → i < placeCount → getD (b .files) i 0 ≤ fileBytes
   pub lengths : (i : ℕ) → i < placeCount → placeAt b i .length ≤ fileBytes
-  pub taken : (i : ℕ) → i < placeCount → placeAt b i .taken ≤ segmentsMost
-  pub delivered : (i : ℕ) → i < placeCount → downloadAt b i .delivered ≤ segmentsMost
+  pub taken : (i : ℕ) → i < placeCount → placeAt b i .taken ≤ maxSegments
+  pub delivered : (i : ℕ) → i < placeCount → downloadAt b i .delivered ≤ maxSegments

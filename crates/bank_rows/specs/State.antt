@@ -9,7 +9,7 @@ use Rattle.bank_state.specs.declared.state.Nonce.{Nonce}
 use Rattle.bank_state.specs.declared.state.Bank.{Bank}
 use Rattle.bank_state.specs.Limits.{placeCount, nonceCount}
 use Rattle.bank_state.specs.Rows.{keep, keepOnly}
-use Rattle.bank_state.specs.State.{World, noDownload, noNonce}
+use Rattle.bank_state.specs.State.{BankState, noDownload, noNonce}
 use Rattle.bank_rows.specs.Layout.{
   clockAt,
   openingsAt,
@@ -85,8 +85,8 @@ stored b old =
     (written (downloadWidth * downloadCountOf old) (numbersOf downloadRow (openDownloads b)) (downloadsPart old))
     (written (nonceWidth * nonceCountOf old) (numbersOf nonceRow (rememberedNonces b)) (noncesPart old))
 
--- the rows and the orders' store after a call that leaves the world w
-pub record StoredWith (w : World) (old new orders : List ℕ) : Type 0 where
+-- the rows and the orders' store after a call that leaves the bankState w
+pub record StoredWith (w : BankState) (old new orders : List ℕ) : Type 0 where
   pub rows : new ≡ stored (w .bank) old
   pub store : orders ≡ w .orders
 

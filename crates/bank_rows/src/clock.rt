@@ -22,7 +22,7 @@ ghost use lib.ListN.{length};
 ghost use Rattle.bank_state.specs.Limits.{placeCount, storeBytes};
 ghost use Rattle.bank_state.specs.Clock.{isIdle, dropUpload, dropUploads, atClock, advanced};
 ghost use Rattle.bank_state.specs.Search.{isOpen};
-ghost use Rattle.bank_state.specs.State.{world, placeAt};
+ghost use Rattle.bank_state.specs.State.{bankState, placeAt};
 ghost use Rattle.bank_rows.specs.State.{bankOf, stored, Laid, StoredWith};
 
 // Whether a time is more than this many seconds behind the clock.
@@ -51,8 +51,8 @@ fn is_idle_upload(rows: &[u64], i: usize, clock: u64) -> bool
 // Drops the upload in place i where it is idle.
 fn drop_upload(rows: &mut [u64], i: usize, orders: &mut [u8])
     requires { ⌜ Laid (now rows) × (length (now orders) ≡ storeBytes) × (i < placeCount) ⌝ }
-    ensures { λ _. ⌜ ((boxes : List ℕ) → StoredWith
-        (dropUpload i (world (bankOf (now (rows .entry))) (now (orders .entry)) boxes))
+    ensures { λ _. ⌜ ((mailboxes : List ℕ) → StoredWith
+        (dropUpload i (bankState (bankOf (now (rows .entry))) (now (orders .entry)) mailboxes))
         (now (rows .entry)) (now (rows .exit)) (now (orders .exit))) ⌝ }
 {
     let at = clock(rows);
@@ -65,8 +65,8 @@ fn drop_upload(rows: &mut [u64], i: usize, orders: &mut [u8])
 // Drops every idle upload.
 fn drop_uploads(rows: &mut [u64], orders: &mut [u8])
     requires { ⌜ Laid (now rows) × (length (now orders) ≡ storeBytes) ⌝ }
-    ensures { λ _. ⌜ ((boxes : List ℕ) → StoredWith
-        (dropUploads placeCount (world (bankOf (now (rows .entry))) (now (orders .entry)) boxes))
+    ensures { λ _. ⌜ ((mailboxes : List ℕ) → StoredWith
+        (dropUploads placeCount (bankState (bankOf (now (rows .entry))) (now (orders .entry)) mailboxes))
         (now (rows .entry)) (now (rows .exit)) (now (orders .exit))) ⌝ }
 {
     let mut i = 0;
@@ -95,8 +95,8 @@ fn set_to(rows: &mut [u64], clock: u64)
 // Sets the clock to the larger of its old value and the time given, and drops what is idle and forgets what is old.
 pub fn advance(rows: &mut [u64], time: u64, orders: &mut [u8])
     requires { ⌜ Laid (now rows) × (length (now orders) ≡ storeBytes) ⌝ }
-    ensures { λ _. ⌜ ((boxes : List ℕ) → StoredWith
-        (advanced time (world (bankOf (now (rows .entry))) (now (orders .entry)) boxes))
+    ensures { λ _. ⌜ ((mailboxes : List ℕ) → StoredWith
+        (advanced time (bankState (bankOf (now (rows .entry))) (now (orders .entry)) mailboxes))
         (now (rows .entry)) (now (rows .exit)) (now (orders .exit))) ⌝ }
 {
     let at = larger(clock(rows), time);

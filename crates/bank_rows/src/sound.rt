@@ -14,7 +14,7 @@ use crate::layout::STATE_SIZE;
 use bank_state::limits::NONCES;
 use bank_state::limits::PLACES;
 use message::limits::FILE_BYTES;
-use message::limits::SEGMENTS_MOST;
+use message::limits::MAX_SEGMENTS;
 ghost use mathlib.Core.Path.{_≡_};
 ghost use Prim.Native.Nat.{_≤_, _<_};
 ghost use lib.ListN.{length};
@@ -24,7 +24,7 @@ ghost use Rattle.bank_rows.specs.Sound.{allBelow, isSoundFile, isSoundPl
 ghost use Rattle.bank_rows.specs.State.{downloadCountOf};
 
 // The number of the last use, booked.
-const USE_MOST: u64 = 2;
+const MAX_USE: u64 = 2;
 
 fn are_sound_files(rows: &[u64]) -> bool
     requires { ⌜ length (now rows) ≡ stateSize ⌝ }
@@ -45,13 +45,13 @@ fn is_sound_place(rows: &[u64], i: usize) -> bool
     ensures { λ r. ⌜ r ≡ isSoundPlace (now (rows .entry)) i ⌝ }
 {
     let at = PLACES_AT + PLACE_WIDTH * i;
-    if USE_MOST < rows[at + PLACE_USE] {
+    if MAX_USE < rows[at + PLACE_USE] {
         return false;
     }
     if (FILE_BYTES as u64) < rows[at + PLACE_LENGTH] {
         return false;
     }
-    rows[at + PLACE_TAKEN] <= SEGMENTS_MOST
+    rows[at + PLACE_TAKEN] <= MAX_SEGMENTS
 }
 
 fn are_sound_places(rows: &[u64]) -> bool
@@ -75,7 +75,7 @@ fn are_sound_downloads(rows: &[u64]) -> bool
     let n = rows[DOWNLOAD_COUNT_AT] as usize;
     let mut i = 0;
     while i < n {
-        if SEGMENTS_MOST < rows[DOWNLOADS_AT + DOWNLOAD_WIDTH * i + DOWNLOAD_DELIVERED] {
+        if MAX_SEGMENTS < rows[DOWNLOADS_AT + DOWNLOAD_WIDTH * i + DOWNLOAD_DELIVERED] {
             return false;
         }
         i += 1;

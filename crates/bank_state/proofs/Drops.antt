@@ -16,7 +16,7 @@ use Rattle.bank_state.specs.declared.state.Download.{Download}
 use Rattle.bank_state.specs.declared.state.Nonce.{Nonce}
 use Rattle.bank_state.specs.Limits.{placeCount, storeBytes, nonceCount}
 use Rattle.bank_state.specs.Search.{isOpen}
-use Rattle.bank_state.specs.State.{World, world, noPlace, noDownload, noNonce, placeAt}
+use Rattle.bank_state.specs.State.{BankState, bankState, noPlace, noDownload, noNonce, placeAt}
 use Rattle.bank_state.specs.Store.{partAt}
 use Rattle.bank_state.specs.Clock.{isIdle, freed, dropUpload, dropUploads, ends, endDownloads, forget, atClock, advanced}
 use Rattle.bank_state.proofs.Rows.{EachPassing, length-keepOnly, each-keepOnly}
@@ -49,8 +49,8 @@ either P false x y = y
 abbrev pub isIdlePlace : ℕ → Place → Bool
 isIdlePlace clock p = isOpen (p .used) && isIdle clock (p .last)
 
-module _ (K : World → Type 0) (step : (i : ℕ) (w : World) → i < placeCount → K w → K (freed i w)) where
-  drops-keep : (n : ℕ) (w : World) → n ≤ placeCount → K w → K (dropUploads n w)
+module _ (K : BankState → Type 0) (step : (i : ℕ) (w : BankState) → i < placeCount → K w → K (freed i w)) where
+  drops-keep : (n : ℕ) (w : BankState) → n ≤ placeCount → K w → K (dropUploads n w)
   unfolding dropUploads dropUpload
   drops-keep zero w h k = k
   drops-keep (suc n) w h k =
@@ -58,20 +58,20 @@ module _ (K : World → Type 0) (step : (i : ℕ) (w : World) → i < placeCount
       let r = drops-keep n w (omega arith) k in
       either K (isIdlePlace (v .bank .clock) (placeAt (v .bank) n)) (step n v (omega arith) r) r
 
--- the world at a clock, before its uploads are dropped
-abbrev pub clocked : ℕ → World → World
-clocked clock w = world (atClock clock (w .bank)) (w .orders) (w .boxes)
+-- the bankState at a clock, before its uploads are dropped
+abbrev pub clocked : ℕ → BankState → BankState
+clocked clock w = bankState (atClock clock (w .bank)) (w .orders) (w .mailboxes)
 
 -- v is w at the clock t, but for its places and their bytes
-pub record AtClock (t : ℕ) (w v : World) : Type 0 where
+pub record AtClock (t : ℕ) (w v : BankState) : Type 0 where
   pub clock : v .bank .clock ≡ t
   pub openings : v .bank .openings ≡ w .bank .openings
   pub downloads : v .bank .downloads ≡ endDownloads (Idle t) (w .bank .downloads)
   pub nonces : v .bank .nonces ≡ forget t (w .bank .nonces)
   pub files : v .bank .files ≡ w .bank .files
-  pub boxes : v .boxes ≡ w .boxes
+  pub mailboxes : v .mailboxes ≡ w .mailboxes
 
-drops-at-clock : (clock n : ℕ) (w : World) → n ≤ placeCount → AtClock clock w (dropUploads n (clocked clock w))
+drops-at-clock : (clock n : ℕ) (w : BankState) → n ≤ placeCount → AtClock clock w (dropUploads n (clocked clock w))
 unfolding freed atClock
 drops-at-clock clock n w h =
     drops-keep (AtClock clock w)
@@ -81,27 +81,27 @@ drops-at-clock clock n w h =
       downloads = k .downloads;
       nonces = k .nonces;
       files = k .files;
-      boxes = k .boxes;
+      mailboxes = k .mailboxes;
     })
     n (clocked clock w) h
-    (record { clock = refl; openings = refl; downloads = refl; nonces = refl; files = refl; boxes = refl })
+    (record { clock = refl; openings = refl; downloads = refl; nonces = refl; files = refl; mailboxes = refl })
 
-pub advanced-at-clock : (time : ℕ) (w : World) → AtClock (max (w .bank .clock) time) w (advanced time w)
+pub advanced-at-clock : (time : ℕ) (w : BankState) → AtClock (max (w .bank .clock) time) w (advanced time w)
 unfolding advanced
 advanced-at-clock time w = drops-at-clock (max (w .bank .clock) time) placeCount w (omega arith)
 
 -- ---- lengths
 
 -- the lengths of a bank's rows and stores
-pub record Sized (w : World) : Type 0 where
+pub record Sized (w : BankState) : Type 0 where
   pub places : length (w .bank .places) ≡ placeCount
   pub downloads : length (w .bank .downloads) ≡ placeCount
   pub nonces : length (w .bank .nonces) ≡ nonceCount
   pub files : length (w .bank .files) ≡ placeCount
   pub orders : length (w .orders) ≡ storeBytes
-  pub boxes : length (w .boxes) ≡ storeBytes
+  pub mailboxes : length (w .mailboxes) ≡ storeBytes
 
-pub freed-sized : (i : ℕ) (w : World) → i < placeCount → Sized w → Sized (freed i w)
+pub freed-sized : (i : ℕ) (w : BankState) → i < placeCount → Sized w → Sized (freed i w)
 unfolding freed
 freed-sized i w h s = record {
   places = length-set (w .bank .places) i noPlace ∙ s .places;
@@ -109,10 +109,10 @@ freed-sized i w h s = record {
   nonces = s .nonces;
   files = s .files;
   orders = length-zeroed (w .orders) i (s .orders) h ∙ s .orders;
-  boxes = s .boxes;
+  mailboxes = s .mailboxes;
 }
 
-clocked-sized : (clock : ℕ) (w : World) → Sized w → Sized (clocked clock w)
+clocked-sized : (clock : ℕ) (w : BankState) → Sized w → Sized (clocked clock w)
 unfolding atClock
 clocked-sized clock w s = record {
   places = s .places;
@@ -120,10 +120,10 @@ clocked-sized clock w s = record {
   nonces = length-forget clock (w .bank .nonces) ∙ s .nonces;
   files = s .files;
   orders = s .orders;
-  boxes = s .boxes;
+  mailboxes = s .mailboxes;
 }
 
-pub advanced-sized : (time : ℕ) (w : World) → Sized w → Sized (advanced time w)
+pub advanced-sized : (time : ℕ) (w : BankState) → Sized w → Sized (advanced time w)
 unfolding advanced
 advanced-sized time w s = drops-keep Sized freed-sized placeCount _ (omega arith) (clocked-sized (max (w .bank .clock) time) w s)
 
@@ -133,7 +133,7 @@ advanced-sized time w s = drops-keep Sized freed-sized placeCount _ (omega arith
 abbrev pub Spot : Type 0
 Spot = Place × List ℕ
 
-abbrev pub spotAt : World → ℕ → Spot
+abbrev pub spotAt : BankState → ℕ → Spot
 spotAt w i = (placeAt (w .bank) i, partAt (w .orders) i)
 
 abbrev pub freeSpot : Spot
@@ -149,7 +149,7 @@ getD-free l i false e =
     let h = ltb-false i (length l) e in
     rw (set-out l i noPlace h) (List·getD-eq-default l noPlace h)
 
-module _ (w : World) (i : ℕ) (s : Sized w) (h : i < placeCount) where
+module _ (w : BankState) (i : ℕ) (s : Sized w) (h : i < placeCount) where
   pub freed-same : spotAt (freed i w) i ≡ freeSpot
   unfolding freed
   freed-same = rw (getD-free (w .bank .places) i (ltb i (length (w .bank .places))) refl, zeroed-same (w .orders) i (s .orders) h)
@@ -163,7 +163,7 @@ module _ (w : World) (i : ℕ) (s : Sized w) (h : i < placeCount) where
 
   drop-other : (j : ℕ) → (j ≡ i → ⊥) → spotAt (dropUpload i w) j ≡ spotAt w j
   unfolding dropUpload
-  drop-other j n = either (λ (v : World). spotAt v j ≡ spotAt w j) idle (freed-other j n) refl
+  drop-other j n = either (λ (v : BankState). spotAt v j ≡ spotAt w j) idle (freed-other j n) refl
 
   drop-same-at : (t : Bool) → spotAt (cond t (freed i w) w) i ≡ cond t freeSpot (spotAt w i)
   drop-same-at true = freed-same
@@ -173,13 +173,13 @@ module _ (w : World) (i : ℕ) (s : Sized w) (h : i < placeCount) where
   unfolding dropUpload
   drop-same = drop-same-at idle
 
-module _ (w : World) (s : Sized w) where
+module _ (w : BankState) (s : Sized w) where
   sized-to : (n : ℕ) → n ≤ placeCount → Sized (dropUploads n w)
   sized-to n h = drops-keep Sized freed-sized n w h s
 
   clock-to : (n : ℕ) → n ≤ placeCount → dropUploads n w .bank .clock ≡ w .bank .clock
   unfolding freed
-  clock-to n h = drops-keep (λ (v : World). v .bank .clock ≡ w .bank .clock) (λ i v l k. k) n w h refl
+  clock-to n h = drops-keep (λ (v : BankState). v .bank .clock ≡ w .bank .clock) (λ i v l k. k) n w h refl
 
   drops-later : (n j : ℕ) → n ≤ j → n ≤ placeCount → spotAt (dropUploads n w) j ≡ spotAt w j
   unfolding dropUploads
@@ -207,7 +207,7 @@ module _ (w : World) (s : Sized w) where
   drops-each zero j l h = absurd (omega arith)
   drops-each (suc n) j l h = drops-done n j (eqb j n) refl (λ k. drops-each n j k (omega arith)) l h
 
-pub advanced-spot : (time : ℕ) (w : World) → Sized w → (j : ℕ) → j < placeCount
+pub advanced-spot : (time : ℕ) (w : BankState) → Sized w → (j : ℕ) → j < placeCount
     → spotAt (advanced time w) j ≡ dropped (max (w .bank .clock) time) (spotAt w j)
 unfolding advanced atClock
 advanced-spot time w s j h =

@@ -11,7 +11,7 @@ use Rattle.bank_state.specs.declared.state.Bank.{Bank}
 use Rattle.bank_state.specs.Limits.{placeCount, idleLimit, window}
 use Rattle.bank_state.specs.Rows.{keepOnly}
 use Rattle.bank_state.specs.Search.{isOpen, isDownload}
-use Rattle.bank_state.specs.State.{World, world, noPlace, noDownload, noNonce, withClock, withPlace, withDownloads, withNonces, placeAt}
+use Rattle.bank_state.specs.State.{BankState, bankState, noPlace, noDownload, noNonce, withClock, withPlace, withDownloads, withNonces, placeAt}
 use Rattle.bank_state.specs.Store.{zeroed}
 
 -- "whose last fitting request (its opening included) is more than 3,600 seconds old"
@@ -19,15 +19,15 @@ unfoldable pub isIdle : ℕ → ℕ → Bool
 isIdle clock last = ltb (last + idleLimit) clock
 
 -- "place zeroed and freed"
-unfoldable pub freed : ℕ → World → World
-freed i w = world (withPlace i noPlace (w .bank)) (zeroed (w .orders) i) (w .boxes)
+unfoldable pub freed : ℕ → BankState → BankState
+freed i w = bankState (withPlace i noPlace (w .bank)) (zeroed (w .orders) i) (w .mailboxes)
 
 -- "a dropped upload's place is zeroed and freed"
-unfoldable pub dropUpload : ℕ → World → World
+unfoldable pub dropUpload : ℕ → BankState → BankState
 dropUpload i w = cond (isOpen (placeAt (w .bank) i .used) && isIdle (w .bank .clock) (placeAt (w .bank) i .last)) (freed i w) w
 
 -- the idle uploads of the first n places dropped
-unfoldable pub dropUploads : ℕ → World → World
+unfoldable pub dropUploads : ℕ → BankState → BankState
 dropUploads zero w = w
 dropUploads (suc n) w = dropUpload n (dropUploads n w)
 
@@ -50,5 +50,5 @@ unfoldable pub atClock : ℕ → Bank → Bank
 atClock clock b = withNonces (forget clock (b .nonces)) (withDownloads (endDownloads (Idle clock) (b .downloads)) (withClock clock b))
 
 -- "A call first sets the clock to the larger of its old value and the time given. Then it drops every transaction ..."
-unfoldable pub advanced : ℕ → World → World
-advanced time w = dropUploads placeCount (world (atClock (max (w .bank .clock) time) (w .bank)) (w .orders) (w .boxes))
+unfoldable pub advanced : ℕ → BankState → BankState
+advanced time w = dropUploads placeCount (bankState (atClock (max (w .bank .clock) time) (w .bank)) (w .orders) (w .mailboxes))

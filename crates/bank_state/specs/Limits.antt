@@ -23,8 +23,8 @@ abbrev pub window : ℕ
 window = 300
 
 -- "8 transactions open"; "the subscriber has 4 open transactions"
-abbrev pub openMost : ℕ
-openMost = 8
+abbrev pub maxOpen : ℕ
+maxOpen = 8
 
 abbrev pub openPerSubscriber : ℕ
 openPerSubscriber = 4
@@ -34,5 +34,5 @@ abbrev pub nonceCount : ℕ
 nonceCount = 64
 
 -- "1,213,056 openings accepted"
-abbrev pub openingsMost : ℕ
-openingsMost = 1213056
+abbrev pub maxOpenings : ℕ
+maxOpenings = 1213056

@@ -12,13 +12,13 @@ use Rattle.bank_state.specs.declared.state.Bank.{Bank}
 use Rattle.bank_state.specs.Limits.{placeCount, nonceCount}
 
 -- The bank and the bytes lent to it that it keeps between calls: the order places' store and the mailboxes' store
-pub record World : Type 0 where
+pub record BankState : Type 0 where
   pub bank : Bank
   pub orders : List ℕ
-  pub boxes : List ℕ
+  pub mailboxes : List ℕ
 
-abbrev pub world : Bank → List ℕ → List ℕ → World
-world b o m = record { bank = b; orders = o; boxes = m }
+abbrev pub bankState : Bank → List ℕ → List ℕ → BankState
+bankState b o m = record { bank = b; orders = o; mailboxes = m }
 
 -- what is free is zero
 abbrev pub noBits : Bits128

@@ -19,4 +19,4 @@ zeroed store i = withPart store i (replicate fileBytes 0)
 
 -- the file of n bytes in mailbox i
 unfoldable pub fileOf : List ℕ → ℕ → ℕ → List ℕ
-fileOf boxes i n = take n (partAt boxes i)
+fileOf mailboxes i n = take n (partAt mailboxes i)

@@ -22,7 +22,7 @@ ghost use lib.Dec.{ltb, leb};
 ghost use lib.ListN.{length};
 ghost use Rattle.bank_state.specs.Limits.{placeCount, storeBytes, window};
 ghost use Rattle.bank_state.specs.Search.{isOpen};
-ghost use Rattle.bank_state.specs.State.{world};
+ghost use Rattle.bank_state.specs.State.{bankState};
 ghost use Rattle.bank_state.specs.Clock.{isIdle, freed, dropUpload, dropUploads, advanced};
 ghost use Rattle.bank_state.specs.Clock.{ends, endDownloads, forget, atClock};
 
@@ -137,7 +137,7 @@ fn at_clock(b: Bank, clock: u64) -> Bank
 // Zeroes and frees place i.
 pub fn free(b: Bank, i: usize, orders: &mut [u8]) -> Bank
     requires { ⌜ (length (now orders) ≡ storeBytes) × (i < placeCount) ⌝ }
-    ensures { λ r. ⌜ ((boxes : List ℕ) → world r (now (orders .exit)) boxes ≡ freed i (world b (now (orders .entry)) boxes)) ⌝ }
+    ensures { λ r. ⌜ ((mailboxes : List ℕ) → bankState r (now (orders .exit)) mailboxes ≡ freed i (bankState b (now (orders .entry)) mailboxes)) ⌝ }
 {
     let mut c = b;
     c.places[i] = no_place();
@@ -159,7 +159,7 @@ fn is_idle_upload(p: Place, clock: u64) -> bool
 // Drops the upload in place i where it is idle.
 fn drop_upload(b: Bank, i: usize, orders: &mut [u8]) -> Bank
     requires { ⌜ (length (now orders) ≡ storeBytes) × (i < placeCount) ⌝ }
-    ensures { λ r. ⌜ ((boxes : List ℕ) → world r (now (orders .exit)) boxes ≡ dropUpload i (world b (now (orders .entry)) boxes)) ⌝ }
+    ensures { λ r. ⌜ ((mailboxes : List ℕ) → bankState r (now (orders .exit)) mailboxes ≡ dropUpload i (bankState b (now (orders .entry)) mailboxes)) ⌝ }
 {
     let p = b.places[i];
     if is_idle_upload(p, b.clock) {
@@ -172,7 +172,7 @@ fn drop_upload(b: Bank, i: usize, orders: &mut [u8]) -> Bank
 // Drops every idle upload.
 fn drop_uploads(b: Bank, orders: &mut [u8]) -> Bank
     requires { ⌜ length (now orders) ≡ storeBytes ⌝ }
-    ensures { λ r. ⌜ ((boxes : List ℕ) → world r (now (orders .exit)) boxes ≡ dropUploads placeCount (world b (now (orders .entry)) boxes)) ⌝ }
+    ensures { λ r. ⌜ ((mailboxes : List ℕ) → bankState r (now (orders .exit)) mailboxes ≡ dropUploads placeCount (bankState b (now (orders .entry)) mailboxes)) ⌝ }
 {
     let mut c = b;
     let mut i = 0;
@@ -192,7 +192,7 @@ fn larger(x: u64, y: u64) -> u64
 // Sets the clock to the larger of its old value and the time given, and drops what is idle and forgets what is old.
 pub fn advance(b: Bank, time: u64, orders: &mut [u8]) -> Bank
     requires { ⌜ length (now orders) ≡ storeBytes ⌝ }
-    ensures { λ r. ⌜ ((boxes : List ℕ) → world r (now (orders .exit)) boxes ≡ advanced time (world b (now (orders .entry)) boxes)) ⌝ }
+    ensures { λ r. ⌜ ((mailboxes : List ℕ) → bankState r (now (orders .exit)) mailboxes ≡ advanced time (bankState b (now (orders .entry)) mailboxes)) ⌝ }
 {
     let clock = larger(b.clock, time);
     let c = at_clock(b, clock);

@@ -18,12 +18,12 @@ pub const IDLE_LIMIT: u64 = 3600;
 pub const WINDOW: u64 = 300;
 
 // Open transactions in all, and of one subscriber.
-pub const OPEN_MOST: usize = 8;
+pub const MAX_OPEN: usize = 8;
 
-pub const OPEN_PER_SUBSCRIBER: usize = 4;
+pub const MAX_OPEN_PER_SUBSCRIBER: usize = 4;
 
 // Remembered nonces.
 pub const NONCES: usize = 64;
 
 // Accepted openings: the order numbers A000 to ZZZZ.
-pub const OPENINGS_MOST: u64 = 1213056;
+pub const MAX_OPENINGS: u64 = 1213056;

@@ -40,10 +40,10 @@ pub fn part(store: &[u8], i: usize) -> &[u8]
 }
 
 // The file of n bytes in mailbox i.
-pub fn file_of(boxes: &[u8], i: usize, n: u64) -> &[u8]
-    ensures { λ r. ⌜ now r ≡ fileOf (now (boxes .entry)) i n ⌝ }
+pub fn file_of(mailboxes: &[u8], i: usize, n: u64) -> &[u8]
+    ensures { λ r. ⌜ now r ≡ fileOf (now (mailboxes .entry)) i n ⌝ }
 {
-    let file = part(boxes, i);
+    let file = part(mailboxes, i);
     front(file, n as usize)
 }
 

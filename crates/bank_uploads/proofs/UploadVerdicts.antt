@@ -4,7 +4,7 @@ use Prim.Native.Nat.{ℕ, _+_, _<_, _≤_}
 use mathlib.Core.Path.{_≡_, subst}
 use Rattle.frame_table.specs.declared.fields.Fields.{Fields}
 use Rattle.frame_table.specs.Names.{segment}
-use Rattle.message.specs.Limits.{attemptsMost, fileBytes}
+use Rattle.message.specs.Limits.{maxAttempts, fileBytes}
 use Rattle.bank_state.specs.declared.state.Place.{Place}
 use Rattle.bank_verdicts.specs.declared.verdict.TransactionRequest.{TransactionRequest}
 use Rattle.bank_verdicts.specs.declared.verdict.UploadAction.{UploadAction}
@@ -33,8 +33,8 @@ module _ (r : TransactionRequest) (p : Place) (q : Fields) (n : ℕ) where
       at (tookLast fits last marked room) = (fits .next, last, room)
 
   -- a recovery point is one of the attempts that are answered
-  pub point-answered : {k : ℕ} → judgeUpload r p q n ≡ up.Point k → p .attempts < attemptsMost
+  pub point-answered : {k : ℕ} → judgeUpload r p q n ≡ up.Point k → p .attempts < maxAttempts
   point-answered {k} h = at k (judged-as h)
     where
-      at : (j : ℕ) → UploadSound r p q n (up.Point j) → p .attempts < attemptsMost
+      at : (j : ℕ) → UploadSound r p q n (up.Point j) → p .attempts < maxAttempts
       at j (uploadPoint misses few) = few

@@ -8,14 +8,14 @@ use bank_verdicts::verdict::TransactionRequest;
 use bank_verdicts::verdict::UploadAction;
 use frame_table::fields::Fields;
 use message::codes::ReturnCode;
-use message::limits::ATTEMPTS_MOST;
 use message::limits::FILE_BYTES;
+use message::limits::MAX_ATTEMPTS;
 use message::segments::is_next;
 ghost use mathlib.Core.Path.{_≡_};
 ghost use Prim.Native.Nat.{_+_, _<_, _≤_};
 ghost use lib.ListN.{length, replicate};
 ghost use Rattle.frame_table.specs.Names.{segment};
-ghost use Rattle.message.specs.Limits.{attemptsMost, fileBytes};
+ghost use Rattle.message.specs.Limits.{maxAttempts, fileBytes};
 ghost use Rattle.octets.specs.Bytes.{overwrite};
 ghost use Rattle.bank_state.specs.State.{noPlace};
 ghost use Rattle.bank_verdicts.specs.Refusals.{fitsUpload, isUnderrun, isExceeded, withoutRoom, segmentRows};
@@ -105,7 +105,7 @@ pub fn judge_upload(r: TransactionRequest, p: Place, q: Fields, n: usize) -> Upl
     if fits_upload(r, p, q) {
         return judge_segment(p, q, n);
     }
-    if p.attempts < ATTEMPTS_MOST {
+    if p.attempts < MAX_ATTEMPTS {
         return UploadAction::Point(p.taken);
     }
     UploadAction::Cancelled(ReturnCode::TransactionAbort)
@@ -144,7 +144,7 @@ fn booked(p: Place, n: usize) -> Place
 
 // The place with one recovery attempt more.
 fn attempted(p: Place) -> Place
-    requires { ⌜ p .attempts < attemptsMost ⌝ }
+    requires { ⌜ p .attempts < maxAttempts ⌝ }
     ensures { λ r. ⌜ r ≡ attempted p ⌝ }
 {
     let mut a = p;

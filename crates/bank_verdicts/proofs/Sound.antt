@@ -32,12 +32,12 @@ use Rattle.frame_table.specs.Table.{isRequestForm}
 use Rattle.octets.proofs.Tests.{never, and-true, or-neither}
 use Rattle.message.specs.declared.codes.ReturnCode.{ReturnCode}
 use Rattle.message.specs.declared.codes.ReturnCode.the-variants as code
-use Rattle.message.specs.Limits.{ful, fdl, subscribers, segmentBytes, segmentsMost, attemptsMost, fileBytes}
+use Rattle.message.specs.Limits.{ful, fdl, subscribers, segmentBytes, maxSegments, maxAttempts, fileBytes}
 use Rattle.message.proofs.Verdicts.{by-test, and-false}
 use Rattle.bank_state.specs.declared.state.Bank.{Bank}
 use Rattle.bank_state.specs.declared.state.Download.{Download}
 use Rattle.bank_state.specs.declared.state.Place.{Place}
-use Rattle.bank_state.specs.Limits.{placeCount, nonceCount, window, openMost, openPerSubscriber, openingsMost}
+use Rattle.bank_state.specs.Limits.{placeCount, nonceCount, window, maxOpen, openPerSubscriber, maxOpenings}
 use Rattle.bank_state.specs.Search.{freePlace, freeNonce, openCount, openCountOf, isRemembered}
 use Rattle.bank_state.specs.State.{fileLength}
 use Rattle.bank_verdicts.specs.declared.verdict.Direction.{Direction}
@@ -116,13 +116,13 @@ judged-request P q n v unreadable refuses readable =
 -- ---- an opening
 
 pub record Acceptable (b : Bank) (q : Fields) : Type 0 where
-  pub few : segments q ≤ segmentsMost
+  pub few : segments q ≤ maxSegments
   pub timely : leb (b .clock) (timestamp q + window) ≡ true
   pub unseen : isRemembered (nonce q) b ≡ false
   pub ofSubscriber : openCountOf (subscriber q) b < openPerSubscriber
-  pub ofAll : openCount b < openMost
+  pub ofAll : openCount b < maxOpen
   pub memory : freeNonce b < nonceCount
-  pub numbers : b .openings < openingsMost
+  pub numbers : b .openings < maxOpenings
 
 pub data OpeningSound (first : ℕ) (b : Bank) (q : Fields) : Direction → Verdict → Type 0 where
   refused : (d : Direction) (c : ReturnCode) → cancels c ≡ false → OpeningSound first b q d (Refused c)
@@ -148,13 +148,13 @@ module _ (first : ℕ) (b : Bank) (q : Fields) where
   in-time h = and-true (leb (timestamp q) (b .clock + window)) (leb (b .clock) (timestamp q + window)) h .1
 
   place-and-numbers : (d : Direction) → isFull d b ≡ false →
-      (leb openMost (openCount b) ≡ false) × (noPlaceFree d b ≡ false) ×
-      (leb nonceCount (freeNonce b) ≡ false) × (leb openingsMost (b .openings) ≡ false)
+      (leb maxOpen (openCount b) ≡ false) × (noPlaceFree d b ≡ false) ×
+      (leb nonceCount (freeNonce b) ≡ false) × (leb maxOpenings (b .openings) ≡ false)
   unfolding isFull
   place-and-numbers d h =
-      let a = or-neither (leb openMost (openCount b)) _ h in
+      let a = or-neither (leb maxOpen (openCount b)) _ h in
       let p = or-neither (noPlaceFree d b) _ (a .1) in
-      let m = or-neither (leb nonceCount (freeNonce b)) (leb openingsMost (b .openings)) (p .1) in
+      let m = or-neither (leb nonceCount (freeNonce b)) (leb maxOpenings (b .openings)) (p .1) in
       (a .0, p .0, m .0, m .1)
 
   acceptable : (d : Direction) → Fail (openingRows d b q) → Acceptable b q
@@ -164,13 +164,13 @@ module _ (first : ℕ) (b : Bank) (q : Fields) where
       let replay = or-neither late (isRemembered (nonce q) b) (failed code.MessageReplay) in
       let room = place-and-numbers d (failed code.InternalError) in
       record {
-        few = ltb-false segmentsMost (segments q) (failed code.MaxSegmentsExceeded);
+        few = ltb-false maxSegments (segments q) (failed code.MaxSegmentsExceeded);
         timely = in-time (not-false (inTime (timestamp q) (b .clock)) (replay .0));
         unseen = replay .1;
         ofSubscriber = leb-false openPerSubscriber (openCountOf (subscriber q) b) (failed code.MaxTransactionsExceeded);
-        ofAll = leb-false openMost (openCount b) (room .0);
+        ofAll = leb-false maxOpen (openCount b) (room .0);
         memory = leb-false nonceCount (freeNonce b) (room .2);
-        numbers = leb-false openingsMost (b .openings) (room .3);
+        numbers = leb-false maxOpenings (b .openings) (room .3);
       }
 
   accepting : (d : Direction) → Fail (openingRows d b q) → OpeningSound first b q d (accepted d first b q)
@@ -213,8 +213,8 @@ pub data UploadSound (r : TransactionRequest) (p : Place) (q : Fields) (n : ℕ)
       p .length + n ≤ fileBytes → UploadSound r p q n up.Took
   tookLast : UploadFits r p q → segment q ≡ p .segments → (lastMark q ≡ 0 → ⊥) → p .length + n ≤ fileBytes →
       UploadSound r p q n up.TookLast
-  uploadPoint : fitsUpload r p q ≡ false → p .attempts < attemptsMost → UploadSound r p q n (up.Point (p .taken))
-  abort : fitsUpload r p q ≡ false → attemptsMost ≤ p .attempts →
+  uploadPoint : fitsUpload r p q ≡ false → p .attempts < maxAttempts → UploadSound r p q n (up.Point (p .taken))
+  abort : fitsUpload r p q ≡ false → maxAttempts ≤ p .attempts →
       UploadSound r p q n (up.Cancelled code.TransactionAbort)
   underrun : UploadFits r p q → segment q < p .segments → lastMark q ≡ 1 →
       UploadSound r p q n (up.Cancelled code.SegmentNumberUnderrun)
@@ -234,14 +234,14 @@ module _ (r : TransactionRequest) (p : Place) (q : Fields) (n : ℕ) where
   attempt : uploadAttempt r p q ≡ true → P (up.Point (p .taken))
   unfolding uploadAttempt
   attempt h =
-      let a = and-true (not (fitsUpload r p q)) (ltb (p .attempts) attemptsMost) h in
-      uploadPoint (not-true (fitsUpload r p q) (a .0)) (ltb-true (p .attempts) attemptsMost (a .1))
+      let a = and-true (not (fitsUpload r p q)) (ltb (p .attempts) maxAttempts) h in
+      uploadPoint (not-true (fitsUpload r p q) (a .0)) (ltb-true (p .attempts) maxAttempts (a .1))
 
   sixth : not (fitsUpload r p q) ≡ true → uploadAttempt r p q ≡ false → P (up.Cancelled code.TransactionAbort)
   unfolding uploadAttempt
   sixth h e =
       abort (not-true (fitsUpload r p q) h)
-      (ltb-false (p .attempts) attemptsMost (and-false (not (fitsUpload r p q)) (ltb (p .attempts) attemptsMost) e h))
+      (ltb-false (p .attempts) maxAttempts (and-false (not (fitsUpload r p q)) (ltb (p .attempts) maxAttempts) e h))
 
   fitting : not (fitsUpload r p q) ≡ false → UploadFits r p q
   fitting h = upload-fits r p q (not-false (fitsUpload r p q) h)
@@ -296,11 +296,11 @@ module _ (r : TransactionRequest) (p : Place) (q : Fields) (n : ℕ) where
 pub data DownloadSound (r : TransactionRequest) (e : Download) (n : ℕ) (q : Fields) : DownloadAction → Type 0 where
   delivered : r ≡ asked.DownloadTransfer → segment q ≡ e .delivered + 1 → segment q ≤ n →
       DownloadSound r e n q (down.Delivered n)
-  sentAgain : r ≡ asked.DownloadTransfer → 0 < segment q → segment q ≤ e .delivered → e .attempts < attemptsMost →
+  sentAgain : r ≡ asked.DownloadTransfer → 0 < segment q → segment q ≤ e .delivered → e .attempts < maxAttempts →
       DownloadSound r e n q (down.SentAgain n)
-  downloadPoint : fitsDownload r e n q ≡ false → e .attempts < attemptsMost →
+  downloadPoint : fitsDownload r e n q ≡ false → e .attempts < maxAttempts →
       DownloadSound r e n q (down.Point (e .delivered))
-  cancelled : fitsDownload r e n q ≡ false → attemptsMost ≤ e .attempts → DownloadSound r e n q down.Cancelled
+  cancelled : fitsDownload r e n q ≡ false → maxAttempts ≤ e .attempts → DownloadSound r e n q down.Cancelled
   confirmed : r ≡ asked.Receipt → e .delivered ≡ n → receiptCode q ≡ 0 → DownloadSound r e n q down.Confirmed
   declined : r ≡ asked.Receipt → e .delivered ≡ n → (receiptCode q ≡ 0 → ⊥) → DownloadSound r e n q down.Declined
 
@@ -319,7 +319,7 @@ module _ (e : Download) (n : ℕ) (q : Fields) where
   receipt-fits asked.DownloadTransfer h k = never k
   receipt-fits asked.Receipt h k = (refl, eqb-true (e .delivered) n (not-false _ h))
 
-  again : (r : TransactionRequest) → isSentAgain r e q ≡ true → e .attempts < attemptsMost →
+  again : (r : TransactionRequest) → isSentAgain r e q ≡ true → e .attempts < maxAttempts →
       DownloadSound r e n q (down.SentAgain n)
   again asked.UploadTransfer h few = never h
   again asked.DownloadTransfer h few =
@@ -329,11 +329,11 @@ module _ (e : Download) (n : ℕ) (q : Fields) where
 
   module _ (r : TransactionRequest) where
     -- an attempt that is answered is one of the first five
-    attempted : downloadAttempt r e n q ≡ true → (fitsDownload r e n q ≡ false) × (e .attempts < attemptsMost)
+    attempted : downloadAttempt r e n q ≡ true → (fitsDownload r e n q ≡ false) × (e .attempts < maxAttempts)
     unfolding downloadAttempt
     attempted h =
-        let a = and-true (not (fitsDownload r e n q)) (ltb (e .attempts) attemptsMost) h in
-        (not-true (fitsDownload r e n q) (a .0), ltb-true (e .attempts) attemptsMost (a .1))
+        let a = and-true (not (fitsDownload r e n q)) (ltb (e .attempts) maxAttempts) h in
+        (not-true (fitsDownload r e n q) (a .0), ltb-true (e .attempts) maxAttempts (a .1))
 
     neither : (t s : Bool) → t && not s ≡ false → t && s ≡ false → t ≡ false
     neither true true h k = k
@@ -344,8 +344,8 @@ module _ (e : Download) (n : ℕ) (q : Fields) where
         DownloadSound r e n q down.Cancelled
     unfolding downloadAttempt
     last-attempt h k =
-        let many = and-false (not (fitsDownload r e n q)) (ltb (e .attempts) attemptsMost) k h in
-        cancelled (not-true (fitsDownload r e n q) h) (ltb-false (e .attempts) attemptsMost many)
+        let many = and-false (not (fitsDownload r e n q)) (ltb (e .attempts) maxAttempts) k h in
+        cancelled (not-true (fitsDownload r e n q) h) (ltb-false (e .attempts) maxAttempts many)
 
     pub judged-download : DownloadSound r e n q (judgeDownload r e n q)
     unfolding judgeDownload downloadRows receiptRows

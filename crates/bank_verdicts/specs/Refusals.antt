@@ -20,11 +20,11 @@ use Rattle.frame_table.specs.Names.{
 use Rattle.frame_table.specs.Table.{isRequestForm}
 use Rattle.message.specs.declared.codes.ReturnCode.{ReturnCode}
 use Rattle.message.specs.declared.codes.ReturnCode.the-variants as code
-use Rattle.message.specs.Limits.{ful, fdl, subscribers, segmentBytes, segmentsMost, attemptsMost, fileBytes}
+use Rattle.message.specs.Limits.{ful, fdl, subscribers, segmentBytes, maxSegments, maxAttempts, fileBytes}
 use Rattle.bank_state.specs.declared.state.Bank.{Bank}
 use Rattle.bank_state.specs.declared.state.Download.{Download}
 use Rattle.bank_state.specs.declared.state.Place.{Place}
-use Rattle.bank_state.specs.Limits.{placeCount, nonceCount, window, openMost, openPerSubscriber, openingsMost}
+use Rattle.bank_state.specs.Limits.{placeCount, nonceCount, window, maxOpen, openPerSubscriber, maxOpenings}
 use Rattle.bank_state.specs.Search.{
   freePlace,
   freeNonce,
@@ -109,7 +109,7 @@ otherDirection direction.Download q = eqb (orderType q) ful
 
 -- 091118: over 15 segments
 unfoldable pub manySegments : Fields → Bool
-manySegments q = ltb segmentsMost (segments q)
+manySegments q = ltb maxSegments (segments q)
 
 -- 091103: timestamp not in time, or nonce remembered; "in time when it differs from the clock by at most 300"
 unfoldable pub inTime : ℕ → ℕ → Bool
@@ -140,8 +140,8 @@ noPlaceFree direction.Download b = false
 -- openings accepted
 unfoldable pub isFull : Direction → Bank → Bool
 isFull d b =
-    leb openMost (openCount b)
-    || (noPlaceFree d b || (leb nonceCount (freeNonce b) || leb openingsMost (b .openings)))
+    leb maxOpen (openCount b)
+    || (noPlaceFree d b || (leb nonceCount (freeNonce b) || leb maxOpenings (b .openings)))
 
 unfoldable pub openingRows : Direction → Bank → Fields → List (Row Verdict)
 openingRows d b q =
@@ -175,7 +175,7 @@ fitsUpload asked.Receipt p q = false
 
 -- "Every other request to an open transaction of its subscriber ... is a recovery attempt", "The first five get 061101"
 unfoldable pub uploadAttempt : TransactionRequest → Place → Fields → Bool
-uploadAttempt r p q = not (fitsUpload r p q) && ltb (p .attempts) attemptsMost
+uploadAttempt r p q = not (fitsUpload r p q) && ltb (p .attempts) maxAttempts
 
 -- 011101: fitting segment below N with last mark 1
 unfoldable pub isUnderrun : Place → Fields → Bool
@@ -223,7 +223,7 @@ isSentAgain asked.Receipt e q = false
 
 -- "The first five get 061101 with k or d (a download segment sent again carries 000000 instead)"
 unfoldable pub downloadAttempt : TransactionRequest → Download → ℕ → Fields → Bool
-downloadAttempt r e n q = not (fitsDownload r e n q) && ltb (e .attempts) attemptsMost
+downloadAttempt r e n q = not (fitsDownload r e n q) && ltb (e .attempts) maxAttempts
 
 -- "Code 0 is answered 011000"; "Code 1 is answered 011001"
 abbrev pub isReceipt : TransactionRequest → Bool

@@ -6,7 +6,7 @@ use Rattle.frame_table.specs.declared.fields.Bits128.{Bits128}
 use Rattle.frame_table.specs.declared.fields.Fields.{Fields}
 use Rattle.frame_table.specs.Names.{phase, exchange, segment}
 use Rattle.message.specs.declared.codes.ReturnCode.the-variants as code
-use Rattle.message.specs.Limits.{initialisation, transfer}
+use Rattle.message.specs.Limits.{initialisationPhase, transferPhase}
 use Rattle.message.specs.OrderNumbers.{orderNumberOf}
 use Rattle.message.specs.Replies.{
   uploadOpened,
@@ -30,11 +30,11 @@ use Rattle.bank_verdicts.specs.declared.verdict.Verdict.the-variants as 
 
 -- a recovery point's phase: "1 for segment 0 of an upload, else 2"
 abbrev pub uploadPointPhase : ℕ → ℕ
-uploadPointPhase k = cond (eqb k 0) initialisation transfer
+uploadPointPhase k = cond (eqb k 0) initialisationPhase transferPhase
 
 -- "a download's opening delivered segment 1 and counts as phase 1 while only that is delivered"
 abbrev pub downloadPointPhase : ℕ → ℕ
-downloadPointPhase d = cond (eqb d 1) initialisation transfer
+downloadPointPhase d = cond (eqb d 1) initialisationPhase transferPhase
 
 -- the segment of n that the request asks for
 abbrev pub segmentReply : ℕ → Bits128 → Fields → Fields

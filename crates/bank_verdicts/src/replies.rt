@@ -6,8 +6,8 @@ use crate::verdict::Verdict;
 use frame_table::fields::Bits128;
 use frame_table::fields::Fields;
 use message::codes::ReturnCode;
-use message::limits::INITIALISATION;
-use message::limits::TRANSFER;
+use message::limits::INITIALISATION_PHASE;
+use message::limits::TRANSFER_PHASE;
 use message::order_numbers::order_number_of;
 use message::replies::download_opened;
 use message::replies::download_segment;
@@ -28,9 +28,9 @@ fn upload_point_phase(taken: u64) -> u64
     ensures { λ r. ⌜ r ≡ uploadPointPhase taken ⌝ }
 {
     if taken == 0 {
-        return INITIALISATION;
+        return INITIALISATION_PHASE;
     }
-    TRANSFER
+    TRANSFER_PHASE
 }
 
 // The phase of a download's recovery point d.
@@ -38,9 +38,9 @@ fn download_point_phase(delivered: u64) -> u64
     ensures { λ r. ⌜ r ≡ downloadPointPhase delivered ⌝ }
 {
     if delivered == 1 {
-        return INITIALISATION;
+        return INITIALISATION_PHASE;
     }
-    TRANSFER
+    TRANSFER_PHASE
 }
 
 // The segment of n that a request asks for.

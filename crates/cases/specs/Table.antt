@@ -16,7 +16,7 @@ use Rattle.message.specs.Replies.{uploadOpened, downloadOpened, segmentTaken, d
 use Rattle.bank_state.specs.declared.state.Place.{Place}
 use Rattle.bank_state.specs.Search.{isBooked}
 use Rattle.bank_state.specs.Rows.{countOf}
-use Rattle.bank_state.specs.State.{World, world, fresh, withClock, withOpenings, withFiles}
+use Rattle.bank_state.specs.State.{BankState, bankState, fresh, withClock, withOpenings, withFiles}
 use Rattle.bank.specs.Call.{Step, respond}
 
 -- a row of the table
@@ -54,33 +54,33 @@ abbrev pub receipt0 : Request
 receipt0 = (receipt 1 1 (idOf 0) 0, [])
 
 -- a fresh bank at the clock; behind n accepted openings; with a file of n bytes in mailbox 1
-abbrev pub start : World
-start = world (withClock clock fresh) [] []
+abbrev pub start : BankState
+start = bankState (withClock clock fresh) [] []
 
-abbrev pub behindOpenings : ℕ → World
-behindOpenings n = world (withOpenings n (withClock clock fresh)) [] []
+abbrev pub behindOpenings : ℕ → BankState
+behindOpenings n = bankState (withOpenings n (withClock clock fresh)) [] []
 
-abbrev pub withFile : ℕ → World
-withFile n = world (withFiles (set (fresh .files) 0 n) (withClock clock fresh)) [] (replicate n 7)
+abbrev pub withFile : ℕ → BankState
+withFile n = bankState (withFiles (set (fresh .files) 0 n) (withClock clock fresh)) [] (replicate n 7)
 
 -- ---- what comes of calls one after the other
 
-unfoldable pub steps : World → List Request → List Step
+unfoldable pub steps : BankState → List Request → List Step
 steps w [] = []
-steps w (q ∷ l) = let s = respond 0 w (q .0) (q .1) in s ∷ steps (s .world) l
+steps w (q ∷ l) = let s = respond 0 w (q .0) (q .1) in s ∷ steps (s .bankState) l
 
 -- of each reply a number
-unfoldable pub each : (Fields → ℕ) → World → List Request → List ℕ
+unfoldable pub each : (Fields → ℕ) → BankState → List Request → List ℕ
 each g w l = map (λ (s : Step). g (s .reply)) (steps w l)
 
 -- the return codes
-abbrev pub codes : World → List Request → List ℕ
+abbrev pub codes : BankState → List Request → List ℕ
 codes = each returnCode
 
 -- how many orders are booked after the calls
-unfoldable pub bookedAfter : World → List Request → ℕ
+unfoldable pub bookedAfter : BankState → List Request → ℕ
 bookedAfter w [] = countOf (λ (p : Place). isBooked (p .used)) (w .bank .places)
-bookedAfter w (q ∷ l) = bookedAfter (respond 0 w (q .0) (q .1) .world) l
+bookedAfter w (q ∷ l) = bookedAfter (respond 0 w (q .0) (q .1) .bankState) l
 
 -- the largest of some lengths
 unfoldable pub largest : List ℕ → ℕ

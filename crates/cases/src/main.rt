@@ -38,10 +38,10 @@ fn code_in(answer: FrameAnswer, buffer: &[u8]) -> u64 {
 }
 
 // A frame arrives.
-fn send(b: Bank, frame: &[u8], orders: &mut [u8], boxes: &mut [u8]) -> Answered {
+fn send(b: Bank, frame: &[u8], orders: &mut [u8], mailboxes: &mut [u8]) -> Answered {
     let ids = [0u8; ID_BYTES];
     let mut buffer = [0u8; REPLY_ROOM];
-    let o = frame_arrives(b, CLOCK, &ids, frame, orders, boxes, &mut buffer);
+    let o = frame_arrives(b, CLOCK, &ids, frame, orders, mailboxes, &mut buffer);
     let bank = o.bank;
     let answer = o.answer;
     Answered {
@@ -51,11 +51,11 @@ fn send(b: Bank, frame: &[u8], orders: &mut [u8], boxes: &mut [u8]) -> Answered 
 }
 
 // A request arrives.
-fn ask(b: Bank, q: Fields, bytes: &[u8], orders: &mut [u8], boxes: &mut [u8]) -> Answered {
+fn ask(b: Bank, q: Fields, bytes: &[u8], orders: &mut [u8], mailboxes: &mut [u8]) -> Answered {
     let mut frame = [0u8; FRAME_LIMIT];
     let written = write(q, bytes, &mut frame);
     match written {
-        Written::Length(n) => send(b, front(&frame, n), orders, boxes),
+        Written::Length(n) => send(b, front(&frame, n), orders, mailboxes),
         Written::Refused => Answered { bank: b, code: 0 },
     }
 }
@@ -78,29 +78,29 @@ fn print_case(sent: &[u8], code: u64) {
 }
 
 // 15 and 16 segments.
-fn print_openings(bank: Bank, orders: &mut [u8], boxes: &mut [u8]) -> Bank {
+fn print_openings(bank: Bank, orders: &mut [u8], mailboxes: &mut [u8]) -> Bank {
     let nothing = [0u8; 0];
-    let a = ask(bank, opening(15), &nothing, orders, boxes);
+    let a = ask(bank, opening(15), &nothing, orders, mailboxes);
     print_case(b"15 segments ", a.code);
-    let b = ask(a.bank, opening(16), &nothing, orders, boxes);
+    let b = ask(a.bank, opening(16), &nothing, orders, mailboxes);
     print_case(b"16 segments ", b.code);
     b.bank
 }
 
 // 256 and 257 data bytes.
-fn print_segments(bank: Bank, orders: &mut [u8], boxes: &mut [u8]) {
-    let a = ask(bank, segment(1), &[7u8; 256], orders, boxes);
+fn print_segments(bank: Bank, orders: &mut [u8], mailboxes: &mut [u8]) {
+    let a = ask(bank, segment(1), &[7u8; 256], orders, mailboxes);
     print_case(b"256 data bytes ", a.code);
-    let b = ask(a.bank, segment(2), &[7u8; 257], orders, boxes);
+    let b = ask(a.bank, segment(2), &[7u8; 257], orders, mailboxes);
     print_case(b"257 data bytes ", b.code);
 }
 
 // The cases of document 01 that are run.
 fn print_cases() {
     let mut orders = [0u8; STORE_BYTES];
-    let mut boxes = [0u8; STORE_BYTES];
-    let bank = print_openings(fresh(), &mut orders, &mut boxes);
-    print_segments(bank, &mut orders, &mut boxes);
+    let mut mailboxes = [0u8; STORE_BYTES];
+    let bank = print_openings(fresh(), &mut orders, &mut mailboxes);
+    print_segments(bank, &mut orders, &mut mailboxes);
 }
 
 // A line: the code's six digits, and its name in Annex 1.

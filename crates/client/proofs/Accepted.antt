@@ -16,7 +16,7 @@ use Rattle.client.specs.declared.run.Ruling.{Ruling}
 use Rattle.client.specs.declared.run.Ruling.the-variants.{Refuse, Accept}
 use Rattle.client.specs.declared.run.Stage.{Stage}
 use Rattle.client.specs.declared.run.Stage.the-variants as stage
-use Rattle.client.specs.Run.{requestRoom, firstExchangeMost, exchangeMost}
+use Rattle.client.specs.Run.{requestRoom, maxFirstExchange, maxExchange}
 use Rattle.client.specs.Rulings.{
   wrongBuffers,
   changedLength,
@@ -41,7 +41,7 @@ abbrev pub Serves : Direction → Lengths → Type 0
 Serves Upload l = (1 ≤ l .payload) × (l .payload ≤ fileBytes) × (requestRoom ≤ l .request)
 Serves Download l = (l .file ≡ fileBytes) × (requestRoom ≤ l .request)
 
-pub serves : (way : Direction) (l : Lengths) → wrongBuffers way l ≡ false → Serves way l
+pub serves : (direction : Direction) (l : Lengths) → wrongBuffers direction l ≡ false → Serves direction l
 serves Upload l h =
     let a = or-neither _ (ltb (l .request) requestRoom) h in
     let b = or-neither (eqb (l .payload) 0) (ltb fileBytes (l .payload)) (a .0) in
@@ -56,14 +56,14 @@ abbrev pub SameLength : Direction → Client → Lengths → Type 0
 SameLength Upload c l = l .payload ≡ c .length
 SameLength Download c l = ℕ
 
-same-length : (way : Direction) (c : Client) (l : Lengths) → changedLength way c l ≡ false → SameLength way c l
+same-length : (direction : Direction) (c : Client) (l : Lengths) → changedLength direction c l ≡ false → SameLength direction c l
 same-length Upload c l h = eqb-true (l .payload) (c .length) (not-false (eqb (l .payload) (c .length)) h)
 same-length Download c l h = 0
 
 -- a call to a run
 pub record Accepted (c : Client) (l : Lengths) : Type 0 where
   pub running : c .stage ≡ stage.Running
-  pub exchange : c .exchange ≤ exchangeMost
+  pub exchange : c .exchange ≤ maxExchange
   pub buffers : Serves (c .direction) l
   pub length : SameLength (c .direction) c l
 
@@ -74,7 +74,7 @@ accepted-at c l stage.Running e h =
     let a = passed (wrongLengths c l) _ _ h in
     let b = or-neither (wrongBuffers (c .direction) l) (changedLength (c .direction) c l) (a .0) in record {
       running = e;
-      exchange = ltb-false exchangeMost (c .exchange) (passed (ltb exchangeMost (c .exchange)) _ _ (a .1) .0);
+      exchange = ltb-false maxExchange (c .exchange) (passed (ltb maxExchange (c .exchange)) _ _ (a .1) .0);
       buffers = serves (c .direction) l (b .0);
       length = same-length (c .direction) c l (b .1);
     }
@@ -84,28 +84,28 @@ pub accepted : (c : Client) (l : Lengths) → runRuling (c .stage) c l ≡ Accep
 accepted c l h = accepted-at c l (c .stage) refl h
 
 -- begin
-pub record Begins (c : Client) (way : Direction) (subscriber first : ℕ) (l : Lengths) : Type 0 where
-  pub buffers : Serves way l
-  pub start : first ≤ firstExchangeMost
+pub record Begins (c : Client) (direction : Direction) (subscriber first : ℕ) (l : Lengths) : Type 0 where
+  pub buffers : Serves direction l
+  pub start : first ≤ maxFirstExchange
   pub low : 1 ≤ subscriber
   pub high : subscriber ≤ subscribers
   pub fresh : isBegun (c .stage) ≡ false
 
-pub begins : (c : Client) (way : Direction) (subscriber first : ℕ) (l : Lengths) → beginRuling c way subscriber first l ≡ Accept
-    → Begins c way subscriber first l
+pub begins : (c : Client) (direction : Direction) (subscriber first : ℕ) (l : Lengths) → beginRuling c direction subscriber first l ≡ Accept
+    → Begins c direction subscriber first l
 unfolding beginRuling noSubscriber
-begins c way subscriber first l h =
-    let a = passed (wrongBuffers way l) _ _ h in
-    let b = passed (ltb firstExchangeMost first) _ _ (a .1) in
+begins c direction subscriber first l h =
+    let a = passed (wrongBuffers direction l) _ _ h in
+    let b = passed (ltb maxFirstExchange first) _ _ (a .1) in
     let e = passed (noSubscriber subscriber) _ _ (b .1) in
     let g = or-neither (ltb subscriber 1) (ltb subscribers subscriber) (e .0) in record {
-      buffers = serves way l (a .0);
-      start = ltb-false firstExchangeMost first (b .0);
+      buffers = serves direction l (a .0);
+      start = ltb-false maxFirstExchange first (b .0);
       low = ltb-false subscriber 1 (g .0);
       high = ltb-false subscribers subscriber (g .1);
       fresh = passed (isBegun (c .stage)) _ _ (e .1) .0;
     }
 
-pub file-served : (way : Direction) (l : Lengths) → Serves way l → way ≡ Download → l .file ≡ fileBytes
+pub file-served : (direction : Direction) (l : Lengths) → Serves direction l → direction ≡ Download → l .file ≡ fileBytes
 file-served Upload l s e = not-both refl e
 file-served Download l s e = s .0

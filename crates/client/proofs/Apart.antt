@@ -13,7 +13,7 @@ use Rattle.client.specs.declared.run.Step.{Step}
 use Rattle.client.specs.declared.run.Step.the-variants as step
 use Rattle.client.specs.declared.run.Word.{Word}
 
-pub not-both : {A : Type 0} {way : Direction} → way ≡ Upload → way ≡ Download → A
+pub not-both : {A : Type 0} {direction : Direction} → direction ≡ Upload → direction ≡ Download → A
 not-both a b = absurd (let z : _≡_ {A = ℕ} 0 1 = cc in omega arith)
 
 pub not-opening-segment : {A : Type 0} {x : Step} → x ≡ step.Opening → x ≡ step.Segment → A

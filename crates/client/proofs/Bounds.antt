@@ -14,7 +14,7 @@ use Rattle.frame.specs.Reader.{readReply}
 use Rattle.frame_table.specs.Names.{noFields}
 use Rattle.frame.specs.Row.{dataOf}
 use Rattle.octets.proofs.Tests.{never}
-use Rattle.message.specs.Limits.{segmentsMost}
+use Rattle.message.specs.Limits.{maxSegments}
 use Rattle.message.specs.Requests.{uploadOpening, downloadOpening, uploadTransfer, downloadTransfer, receipt}
 use Rattle.client.specs.declared.run.Answer.the-variants as answer
 use Rattle.client.specs.declared.run.Client.{Client}
@@ -28,13 +28,13 @@ use Rattle.client.specs.declared.run.Stage.the-variants as stage
 use Rattle.client.specs.declared.run.Step.{Step}
 use Rattle.client.specs.declared.run.Step.the-variants as step
 use Rattle.client.specs.declared.run.Word.{Word}
-use Rattle.client.specs.CallLists.{Call, begin, arrived, noReply, called, runBehind, issues, requests, requestsMost}
+use Rattle.client.specs.CallLists.{Call, begin, arrived, noReply, called, runBehind, issues, requests, maxRequests}
 use Rattle.client.specs.Calls.{beginBy, beginCall, runBy, carryOut, replyCall, noReplyCall}
 use Rattle.client.specs.Decisions.{onReply, onNoReply}
 use Rattle.client.specs.NextRun.{beginLength, begun, ended}
 use Rattle.client.specs.Requests.{outstanding}
 use Rattle.client.specs.Rulings.{isBegun, beginRuling, runRuling}
-use Rattle.client.specs.Run.{Lent, lengthsOf, notBegun, exchangeMost}
+use Rattle.client.specs.Run.{Lent, lengthsOf, notBegun, maxExchange}
 use Rattle.client.proofs.Accepted.{accepted, Serves, Begins, begins}
 use Rattle.client.proofs.Apart.{not-both, not-opening-receipt, not-new-running, not-ended-running, not-request}
 use Rattle.client.proofs.Causes.{Cause, by-reply, by-no-reply}
@@ -52,67 +52,67 @@ use Rattle.client.proofs.Issues.{issued-keeps, issued-request, carried}
 use Rattle.client.proofs.Kept.{next-exchange, next-stage, begun-ended, begun-next}
 
 -- a run between its calls, with q requests issued: new, or begun
-pub data Standing (c : Client) (q : ℕ) : Type 0 where
-  new : c ≡ notBegun → q ≡ 0 → Standing c q
-  going : (first : ℕ) → isBegun (c .stage) ≡ true → Begun c first q → Standing c q
+pub data Counted (c : Client) (q : ℕ) : Type 0 where
+  new : c ≡ notBegun → q ≡ 0 → Counted c q
+  going : (first : ℕ) → isBegun (c .stage) ≡ true → Begun c first q → Counted c q
 
-stays : (c : Client) (q : ℕ) → Standing c q → Standing c (q + 0)
-stays c q s = subst (Standing c) (sym (add-zero q)) s
+stays : (c : Client) (q : ℕ) → Counted c q → Counted c (q + 0)
+stays c q s = subst (Counted c) (sym (add-zero q)) s
 
 -- ---- each call keeps it
 
-begun-course : (way : Direction) (subscriber first : ℕ) (l : Lengths) → Serves way l
-    → Course (begun way subscriber first (beginLength way l)) 1
+begun-course : (direction : Direction) (subscriber first : ℕ) (l : Lengths) → Serves direction l
+    → Course (begun direction subscriber first (beginLength direction l)) 1
 begun-course Upload subscriber first l s = up-start subscriber first (l .payload) (s .0) (s .1)
 begun-course Download subscriber first l s = opening-start subscriber first
 
-pub begun-start : (c : Client) (way : Direction) (subscriber first : ℕ) (l : Lengths) → Begins c way subscriber first l
-    → Begun (begun way subscriber first (beginLength way l)) first 1
+pub begun-start : (c : Client) (direction : Direction) (subscriber first : ℕ) (l : Lengths) → Begins c direction subscriber first l
+    → Begun (begun direction subscriber first (beginLength direction l)) first 1
 unfolding begun
-begun-start c way subscriber first l b = record {
+begun-start c direction subscriber first l b = record {
   low = b .low;
   high = b .high;
   start = b .start;
   exchange = refl;
   repeats = omega arith;
-  course = begun-course way subscriber first l (b .buffers);
+  course = begun-course direction subscriber first l (b .buffers);
 }
 
 module _ (c : Client) (q : ℕ) where
-  begun-standing : (way : Direction) (subscriber first : ℕ) (l : Lent) → Begins c way subscriber first (lengthsOf l) → Standing c q
-      → Standing (begun way subscriber first (beginLength way (lengthsOf l))) (q + 1)
+  begun-standing : (direction : Direction) (subscriber first : ℕ) (l : Lent) → Begins c direction subscriber first (lengthsOf l) → Counted c q
+      → Counted (begun direction subscriber first (beginLength direction (lengthsOf l))) (q + 1)
   unfolding begun
-  begun-standing way subscriber first l b (new e z) =
-      going first refl (rw (z, zero-add) (begun-start c way subscriber first (lengthsOf l) b))
-  begun-standing way subscriber first l b (going f g s) = never (sym (b .fresh) ∙ g)
+  begun-standing direction subscriber first l b (new e z) =
+      going first refl (rw (z, zero-add) (begun-start c direction subscriber first (lengthsOf l) b))
+  begun-standing direction subscriber first l b (going f g s) = never (sym (b .fresh) ∙ g)
 
-  begin-standing : (way : Direction) (subscriber first : ℕ) (l : Lent) → Standing c q → (x : Ruling)
-      → beginRuling c way subscriber first (lengthsOf l) ≡ x
-      → Standing (beginBy x c way subscriber first l .run) (q + issues (beginBy x c way subscriber first l .answer))
-  begin-standing way subscriber first l s (Refuse x) e = stays c q s
-  begin-standing way subscriber first l s Accept e =
-      let b = begins c way subscriber first (lengthsOf l) e in
-      issued-keeps Standing c (begun way subscriber first (beginLength way (lengthsOf l))) (l .file) l q s
-      (begun-standing way subscriber first l b s)
+  begin-standing : (direction : Direction) (subscriber first : ℕ) (l : Lent) → Counted c q → (x : Ruling)
+      → beginRuling c direction subscriber first (lengthsOf l) ≡ x
+      → Counted (beginBy x c direction subscriber first l .run) (q + issues (beginBy x c direction subscriber first l .answer))
+  begin-standing direction subscriber first l s (Refuse x) e = stays c q s
+  begin-standing direction subscriber first l s Accept e =
+      let b = begins c direction subscriber first (lengthsOf l) e in
+      issued-keeps Counted c (begun direction subscriber first (beginLength direction (lengthsOf l))) (l .file) l q s
+      (begun-standing direction subscriber first l b s)
 
   module _ (decision : Decision) (r : Fields) (d : List ℕ) (l : Lent) (led : Cause c r (length d) decision) where
-    accepted-standing : c .stage ≡ stage.Running → Standing c q
-        → Standing (carryOut decision c r d l .run) (q + issues (carryOut decision c r d l .answer))
+    accepted-standing : c .stage ≡ stage.Running → Counted c q
+        → Counted (carryOut decision c r d l .run) (q + issues (carryOut decision c r d l .answer))
     unfolding ended
     accepted-standing e (new n z) = not-new-running (ap (λ (k : Client). k .stage) n) e
     accepted-standing e (going first g b) =
-        carried Standing decision c r d l q (going first g b) (λ w. going first refl (begun-ended c first q b w)) λ i.
+        carried Counted decision c r d l q (going first g b) (λ w. going first refl (begun-ended c first q b w)) λ i.
         going first (ap isBegun (next-stage decision i c r (length d)) ∙ g) (begun-next c first q b r (length d) decision i led)
 
-    run-standing : Standing c q → (x : Ruling) → runRuling (c .stage) c (lengthsOf l) ≡ x
-        → Standing (runBy x decision c r d l .run) (q + issues (runBy x decision c r d l .answer))
+    run-standing : Counted c q → (x : Ruling) → runRuling (c .stage) c (lengthsOf l) ≡ x
+        → Counted (runBy x decision c r d l .run) (q + issues (runBy x decision c r d l .answer))
     run-standing s (Refuse x) e = stays c q s
     run-standing s Accept e = accepted-standing (accepted c (lengthsOf l) e .running) s
 
-  call-standing : (k : Call) → Standing c q → Standing (called c k .run) (q + issues (called c k .answer))
+  call-standing : (k : Call) → Counted c q → Counted (called c k .run) (q + issues (called c k .answer))
   unfolding beginCall replyCall noReplyCall
-  call-standing (begin way subscriber first l) s =
-      begin-standing way subscriber first l s (beginRuling c way subscriber first (lengthsOf l)) refl
+  call-standing (begin direction subscriber first l) s =
+      begin-standing direction subscriber first l s (beginRuling c direction subscriber first (lengthsOf l)) refl
   call-standing (arrived frame l) s =
       let r = readReply frame in
       let d = dataOf frame in
@@ -120,43 +120,43 @@ module _ (c : Client) (q : ℕ) where
   call-standing (noReply l) s =
       run-standing (onNoReply c) noFields [] l (by-no-reply c noFields 0) s (runRuling (c .stage) c (lengthsOf l)) refl
 
-pub standing : (c : Client) (q : ℕ) (ks : List Call) → Standing c q → Standing (runBehind c ks) (q + requests c ks)
+pub standing : (c : Client) (q : ℕ) (ks : List Call) → Counted c q → Counted (runBehind c ks) (q + requests c ks)
 unfolding runBehind requests
 standing c q [] s = stays c q s
 standing c q (k ∷ ks) s =
-    subst (Standing (runBehind (called c k .run) ks)) (add-assoc q (issues (called c k .answer)) (requests (called c k .run) ks))
+    subst (Counted (runBehind (called c k .run) ks)) (add-assoc q (issues (called c k .answer)) (requests (called c k .run) ks))
     (standing (called c k .run) (q + issues (called c k .answer)) ks (call-standing c q k s))
 
 -- a new run behind any list of calls
-pub standing-new : (ks : List Call) → Standing (runBehind notBegun ks) (requests notBegun ks)
-standing-new ks = subst (Standing (runBehind notBegun ks)) (zero-add (requests notBegun ks)) (standing notBegun 0 ks (new refl refl))
+pub standing-new : (ks : List Call) → Counted (runBehind notBegun ks) (requests notBegun ks)
+standing-new ks = subst (Counted (runBehind notBegun ks)) (zero-add (requests notBegun ks)) (standing notBegun 0 ks (new refl refl))
 
 -- ---- the results
 
-standing-most : (c : Client) (q : ℕ) → Standing c q → q ≤ requestsMost (c .direction) (c .segments)
+standing-most : (c : Client) (q : ℕ) → Counted c q → q ≤ maxRequests (c .direction) (c .segments)
 standing-most c q (new e z) = omega (arith, z)
 standing-most c q (going first g b) = course-most c q (b .course) (b .repeats)
 
 -- "An upload issues at most 6N + 1 requests, a download 6N + 6 (N is 0 while unknown), on any replies"
 pub requests-most : (ks : List Call)
-    → requests notBegun ks ≤ requestsMost (runBehind notBegun ks .direction) (runBehind notBegun ks .segments)
+    → requests notBegun ks ≤ maxRequests (runBehind notBegun ks .direction) (runBehind notBegun ks .segments)
 requests-most ks = standing-most (runBehind notBegun ks) (requests notBegun ks) (standing-new ks)
 
-most-fits : (way : Direction) (n : ℕ) → n ≤ segmentsMost → requestsMost way n ≤ 96
+most-fits : (direction : Direction) (n : ℕ) → n ≤ maxSegments → maxRequests direction n ≤ 96
 most-fits Upload n h = omega arith
 most-fits Download n h = omega arith
 
-pub begun-exchange : (c : Client) (first q : ℕ) → Begun c first q → c .exchange ≤ exchangeMost
+pub begun-exchange : (c : Client) (first q : ℕ) → Begun c first q → c .exchange ≤ maxExchange
 begun-exchange c first q b =
     let few = course-most c q (b .course) (b .repeats) in
     omega (arith, b .start, b .exchange, most-fits (c .direction) (c .segments) (course-segments c q (b .course)))
 
-standing-exchange : (c : Client) (q : ℕ) → Standing c q → c .exchange ≤ exchangeMost
+standing-exchange : (c : Client) (q : ℕ) → Counted c q → c .exchange ≤ maxExchange
 standing-exchange c q (new e z) = omega (arith, ap (λ (k : Client). k .exchange) e)
 standing-exchange c q (going first g b) = begun-exchange c first q b
 
 -- exchange numbers fit their field
-pub exchange-fits : (ks : List Call) → runBehind notBegun ks .exchange ≤ exchangeMost
+pub exchange-fits : (ks : List Call) → runBehind notBegun ks .exchange ≤ maxExchange
 exchange-fits ks = standing-exchange (runBehind notBegun ks) (requests notBegun ks) (standing-new ks)
 
 -- "Each request takes the next exchange number": a later call moves the run's by as many as it issues requests
@@ -183,7 +183,7 @@ module _ (c : Client) where
   no-reply-rises l = ruled-rises (runRuling (c .stage) c (lengthsOf l)) (onNoReply c) noFields [] l
 
 -- the outstanding request carries the run's exchange number
-request-exchange-at : (c : Client) (time : ℕ) (nonce : List ℕ) (way : Direction) (at : Step) → c .direction ≡ way → c .step ≡ at
+request-exchange-at : (c : Client) (time : ℕ) (nonce : List ℕ) (direction : Direction) (at : Step) → c .direction ≡ direction → c .step ≡ at
     → exchange (outstanding c time nonce) ≡ c .exchange
 unfolding outstanding uploadOpening uploadTransfer downloadOpening downloadTransfer receipt
 request-exchange-at c time nonce Upload step.Opening w s = rw (w, s)
@@ -197,25 +197,25 @@ pub request-exchange : (c : Client) (time : ℕ) (nonce : List ℕ) → exchange
 request-exchange c time nonce = request-exchange-at c time nonce (c .direction) (c .step) refl refl
 
 -- "The opening carries the first exchange number itself"
-begin-starts : (c : Client) (way : Direction) (subscriber first n : ℕ) (l : Lent) (x : Ruling)
-    → beginBy x c way subscriber first l .answer ≡ answer.Request n → beginBy x c way subscriber first l .run .exchange ≡ first
+begin-starts : (c : Client) (direction : Direction) (subscriber first n : ℕ) (l : Lent) (x : Ruling)
+    → beginBy x c direction subscriber first l .answer ≡ answer.Request n → beginBy x c direction subscriber first l .run .exchange ≡ first
 unfolding begun
-begin-starts c way subscriber first n l (Refuse x) h = not-request x n h
-begin-starts c way subscriber first n l Accept h =
-    issued-request c (begun way subscriber first (beginLength way (lengthsOf l))) (l .file) l n h (λ (k : Client). k .exchange ≡ first) refl
+begin-starts c direction subscriber first n l (Refuse x) h = not-request x n h
+begin-starts c direction subscriber first n l Accept h =
+    issued-request c (begun direction subscriber first (beginLength direction (lengthsOf l))) (l .file) l n h (λ (k : Client). k .exchange ≡ first) refl
 
-pub begin-first : (c : Client) (way : Direction) (subscriber first n : ℕ) (l : Lent)
-    → called c (begin way subscriber first l) .answer ≡ answer.Request n → called c (begin way subscriber first l) .run .exchange ≡ first
+pub begin-first : (c : Client) (direction : Direction) (subscriber first n : ℕ) (l : Lent)
+    → called c (begin direction subscriber first l) .answer ≡ answer.Request n → called c (begin direction subscriber first l) .run .exchange ≡ first
 unfolding beginCall
-begin-first c way subscriber first n l h = begin-starts c way subscriber first n l (beginRuling c way subscriber first (lengthsOf l)) h
+begin-first c direction subscriber first n l h = begin-starts c direction subscriber first n l (beginRuling c direction subscriber first (lengthsOf l)) h
 
 -- an ended run stays ended with its word: no call changes it or issues a request
 module _ (c : Client) (w : Word) (e : c .stage ≡ stage.Ended w) where
-  begin-ended : (way : Direction) (subscriber first : ℕ) (l : Lent) (x : Ruling) → beginRuling c way subscriber first (lengthsOf l) ≡ x
-      → (beginBy x c way subscriber first l .run ≡ c) × (issues (beginBy x c way subscriber first l .answer) ≡ 0)
-  begin-ended way subscriber first l (Refuse x) h = (refl, refl)
-  begin-ended way subscriber first l Accept h =
-      never (sym (begins c way subscriber first (lengthsOf l) h .fresh) ∙ ap isBegun e)
+  begin-ended : (direction : Direction) (subscriber first : ℕ) (l : Lent) (x : Ruling) → beginRuling c direction subscriber first (lengthsOf l) ≡ x
+      → (beginBy x c direction subscriber first l .run ≡ c) × (issues (beginBy x c direction subscriber first l .answer) ≡ 0)
+  begin-ended direction subscriber first l (Refuse x) h = (refl, refl)
+  begin-ended direction subscriber first l Accept h =
+      never (sym (begins c direction subscriber first (lengthsOf l) h .fresh) ∙ ap isBegun e)
 
   run-ended : (decision : Decision) (r : Fields) (d : List ℕ) (l : Lent) (x : Ruling) → runRuling (c .stage) c (lengthsOf l) ≡ x
       → (runBy x decision c r d l .run ≡ c) × (issues (runBy x decision c r d l .answer) ≡ 0)
@@ -224,8 +224,8 @@ module _ (c : Client) (w : Word) (e : c .stage ≡ stage.Ended w) where
 
   pub call-ended : (k : Call) → (called c k .run ≡ c) × (issues (called c k .answer) ≡ 0)
   unfolding beginCall replyCall noReplyCall
-  call-ended (begin way subscriber first l) =
-      begin-ended way subscriber first l (beginRuling c way subscriber first (lengthsOf l)) refl
+  call-ended (begin direction subscriber first l) =
+      begin-ended direction subscriber first l (beginRuling c direction subscriber first (lengthsOf l)) refl
   call-ended (arrived frame l) =
       let r = readReply frame in
       run-ended (onReply c r (length (dataOf frame))) r (dataOf frame) l (runRuling (c .stage) c (lengthsOf l)) refl
@@ -240,7 +240,7 @@ module _ (c : Client) (w : Word) (e : c .stage ≡ stage.Ended w) where
       (ap (λ (x : Client). runBehind x ks) (a .0) ∙ b .0, rw (a .1, a .0, b .1))
 
 -- a receipt is outstanding only where the segments 1 to N are held
-standing-receipt : (c : Client) (q : ℕ) → c .direction ≡ Download → c .step ≡ step.Receipt → Standing c q → c .held ≡ c .segments
+standing-receipt : (c : Client) (q : ℕ) → c .direction ≡ Download → c .step ≡ step.Receipt → Counted c q → c .held ≡ c .segments
 standing-receipt c q w s (new e z) = not-opening-receipt (ap (λ (k : Client). k .step) e) s
 standing-receipt c q w s (going first g b) = receipt-held c q (b .course) w s
 
@@ -249,12 +249,12 @@ pub all-held : (ks : List Call) → runBehind notBegun ks .direction ≡ Downloa
 all-held ks w s = standing-receipt (runBehind notBegun ks) (requests notBegun ks) w s (standing-new ks)
 
 -- the two guards of a download's replies tell nothing in a run from a begin: at most 15 segments are held, and asked for
-standing-guards : (c : Client) (q : ℕ) → c .direction ≡ Download → Standing c q
-    → (c .held ≤ segmentsMost) × (c .step ≡ step.Segment → c .segment ≤ segmentsMost)
+standing-guards : (c : Client) (q : ℕ) → c .direction ≡ Download → Counted c q
+    → (c .held ≤ maxSegments) × (c .step ≡ step.Segment → c .segment ≤ maxSegments)
 standing-guards c q w (new e z) = not-both (ap (λ (k : Client). k .direction) e) w
 standing-guards c q w (going first g b) = course-guards c q (b .course) w
 
 pub guards-idle : (ks : List Call) → runBehind notBegun ks .direction ≡ Download
-    → (runBehind notBegun ks .held ≤ segmentsMost)
-    × (runBehind notBegun ks .step ≡ step.Segment → runBehind notBegun ks .segment ≤ segmentsMost)
+    → (runBehind notBegun ks .held ≤ maxSegments)
+    × (runBehind notBegun ks .step ≡ step.Segment → runBehind notBegun ks .segment ≤ maxSegments)
 guards-idle ks w = standing-guards (runBehind notBegun ks) (requests notBegun ks) w (standing-new ks)

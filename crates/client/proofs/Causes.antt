@@ -12,7 +12,7 @@ use Rattle.frame_table.specs.Forms as forms
 use Rattle.frame_table.specs.Names.{segments, segment, lastMark}
 use Rattle.octets.proofs.Tests.{and-true}
 use Rattle.message.specs.declared.codes.ReturnCode.the-variants as code
-use Rattle.message.specs.Limits.{segmentBytes, segmentsMost, attemptsMost, initialisation, transfer}
+use Rattle.message.specs.Limits.{segmentBytes, maxSegments, maxAttempts, initialisationPhase, transferPhase}
 use Rattle.message.specs.Segments.{lastMarkOf}
 use Rattle.message.proofs.Verdicts.{by-test}
 use Rattle.client.specs.declared.run.Client.{Client}
@@ -53,7 +53,7 @@ use Rattle.client.specs.Decisions.{
 pub data Cause (c : Client) (r : Fields) (d : ℕ) : Decision → Type 0 where
   not-answered : isAnswer c r ≡ false → Cause c r d Ignore
   upload-opened : c .direction ≡ Upload → c .step ≡ step.Opening → isAnswer c r ≡ true
-      → says forms.UploadOpened code.Ok initialisation r ≡ true → Cause c r d Opened
+      → says forms.UploadOpened code.Ok initialisationPhase r ≡ true → Cause c r d Opened
   lodged : c .direction ≡ Upload → c .step ≡ step.Segment → isAnswer c r ≡ true → lodges c r ≡ true → Cause c r d (Close Lodged)
   segment-taken : c .direction ≡ Upload → c .step ≡ step.Segment → isAnswer c r ≡ true → takesSegment c r ≡ true → Cause c r d Advance
   upload-returned : c .direction ≡ Upload → c .step ≡ step.Segment → isAnswer c r ≡ true → uploadReturns c r ≡ true
@@ -73,28 +73,28 @@ pub data Cause (c : Client) (r : Fields) (d : ℕ) : Decision → Type 0 where
 module _ (c : Client) (r : Fields) (d : ℕ) where
   by-upload : c .direction ≡ Upload → isAnswer c r ≡ true → (at : Step) → c .step ≡ at → Cause c r d (onUpload at c r)
   unfolding onUpload
-  by-upload way a step.Opening s =
-      by-test (Cause c r d) (says forms.UploadOpened code.Ok initialisation r) (upload-opened way s a) (λ _. rest)
-  by-upload way a step.Segment s =
-      by-test (Cause c r d) (lodges c r) (lodged way s a) λ _.
-      by-test (Cause c r d) (takesSegment c r) (segment-taken way s a) λ _.
-      by-test (Cause c r d) (uploadReturns c r) (upload-returned way s a) λ _.
-      by-test (Cause c r d) (endsUpload r) (upload-refused way s a) (λ _. rest)
-  by-upload way a step.Receipt s = rest
+  by-upload direction a step.Opening s =
+      by-test (Cause c r d) (says forms.UploadOpened code.Ok initialisationPhase r) (upload-opened direction s a) (λ _. rest)
+  by-upload direction a step.Segment s =
+      by-test (Cause c r d) (lodges c r) (lodged direction s a) λ _.
+      by-test (Cause c r d) (takesSegment c r) (segment-taken direction s a) λ _.
+      by-test (Cause c r d) (uploadReturns c r) (upload-returned direction s a) λ _.
+      by-test (Cause c r d) (endsUpload r) (upload-refused direction s a) (λ _. rest)
+  by-upload direction a step.Receipt s = rest
 
   by-download : c .direction ≡ Download → isAnswer c r ≡ true → (at : Step) → c .step ≡ at → Cause c r d (onDownload at c r d)
   unfolding onDownload
-  by-download way a step.Opening s = by-test (Cause c r d) (opensDownload d r) (download-opened way s a) (λ _. rest)
-  by-download way a step.Segment s =
-      by-test (Cause c r d) (bringsSegment c r d) (segment-brought way s a) λ _.
-      by-test (Cause c r d) (downloadReturns c r) (download-returned way (inl s) a) (λ _. rest)
-  by-download way a step.Receipt s =
-      by-test (Cause c r d) (confirms c r) (fetched way s a) λ _.
-      by-test (Cause c r d) (downloadReturns c r) (download-returned way (inr s) a) (λ _. rest)
+  by-download direction a step.Opening s = by-test (Cause c r d) (opensDownload d r) (download-opened direction s a) (λ _. rest)
+  by-download direction a step.Segment s =
+      by-test (Cause c r d) (bringsSegment c r d) (segment-brought direction s a) λ _.
+      by-test (Cause c r d) (downloadReturns c r) (download-returned direction (inl s) a) (λ _. rest)
+  by-download direction a step.Receipt s =
+      by-test (Cause c r d) (confirms c r) (fetched direction s a) λ _.
+      by-test (Cause c r d) (downloadReturns c r) (download-returned direction (inr s) a) (λ _. rest)
 
-  by-answer : isAnswer c r ≡ true → (way : Direction) → c .direction ≡ way → Cause c r d (onAnswer way c r d)
-  by-answer a Upload way = by-upload way a (c .step) refl
-  by-answer a Download way = by-download way a (c .step) refl
+  by-answer : isAnswer c r ≡ true → (direction : Direction) → c .direction ≡ direction → Cause c r d (onAnswer direction c r d)
+  by-answer a Upload direction = by-upload direction a (c .step) refl
+  by-answer a Download direction = by-download direction a (c .step) refl
 
   pub by-reply : Cause c r d (onReply c r d)
   unfolding onReply
@@ -110,15 +110,15 @@ module _ (c : Client) (r : Fields) (d : ℕ) where
 
 -- ---- what the tests tell
 
-pub repeats-left : (c : Client) → mayRepeat c ≡ true → c .repeats < attemptsMost
+pub repeats-left : (c : Client) → mayRepeat c ≡ true → c .repeats < maxAttempts
 unfolding mayRepeat
-repeats-left c h = ltb-true (c .repeats) attemptsMost h
+repeats-left c h = ltb-true (c .repeats) maxAttempts h
 
 -- a run goes on from r
 pub record Point (first end top : ℕ) (c : Client) (r : Fields) : Type 0 where
   pub below : segment r < end
   pub reached : segment r ≤ top
-  pub left : c .repeats < attemptsMost
+  pub left : c .repeats < maxAttempts
   pub point : isPoint first c r ≡ true
 
 point-of : (first end top : ℕ) (c : Client) (r : Fields) → goesBack first end top c r ≡ true → Point first end top c r
@@ -137,9 +137,9 @@ pub upload-point : (c : Client) (r : Fields) → uploadReturns c r ≡ true → 
 unfolding uploadReturns
 upload-point c r h = point-of 0 (c .segments) (c .issued) c r h
 
-pub download-point : (c : Client) (r : Fields) → downloadReturns c r ≡ true → Point 1 (segmentsMost + 1) (c .held) c r
+pub download-point : (c : Client) (r : Fields) → downloadReturns c r ≡ true → Point 1 (maxSegments + 1) (c .held) c r
 unfolding downloadReturns
-download-point c r h = point-of 1 (segmentsMost + 1) (c .held) c r h
+download-point c r h = point-of 1 (maxSegments + 1) (c .held) c r h
 
 -- d bytes are segment s of n
 pub record Whole (s n d : ℕ) : Type 0 where
@@ -158,7 +158,7 @@ whole-at s n d false e h =
 
 -- the reply has segment s of n
 pub record HasSegment (s n d : ℕ) (r : Fields) : Type 0 where
-  pub place : s ≤ segmentsMost
+  pub place : s ≤ maxSegments
   pub mark : lastMark r ≡ lastMarkOf s n
   pub bytes : Whole s n d
 
@@ -166,15 +166,15 @@ pub has-segment : (s n d : ℕ) (r : Fields) → fitsSegment s n d r ≡ true �
 unfolding fitsSegment
 has-segment s n d r h =
     let a = and-true _ (fitsData s n d) h in
-    let b = and-true (leb s segmentsMost) (eqb (lastMark r) (lastMarkOf s n)) (a .0) in record {
-      place = leb-true s segmentsMost (b .0);
+    let b = and-true (leb s maxSegments) (eqb (lastMark r) (lastMarkOf s n)) (a .0) in record {
+      place = leb-true s maxSegments (b .0);
       mark = eqb-true (lastMark r) (lastMarkOf s n) (b .1);
       bytes = whole-at s n d (eqb s n) refl (a .1);
     }
 
 -- the reply answers the outstanding segment
 pub record Answers (x : Form) (c : Client) (r : Fields) : Type 0 where
-  pub said : says x code.Ok transfer r ≡ true
+  pub said : says x code.Ok transferPhase r ≡ true
   pub own : isOwn c r ≡ true
   pub number : segment r ≡ c .segment
 
@@ -182,7 +182,7 @@ pub answers : (x : Form) (c : Client) (r : Fields) → answersSegment x c r ≡ 
 unfolding answersSegment
 answers x c r h =
     let a = and-true _ (eqb (segment r) (c .segment)) h in
-    let b = and-true (says x code.Ok transfer r) (isOwn c r) (a .0) in
+    let b = and-true (says x code.Ok transferPhase r) (isOwn c r) (a .0) in
     record { said = b .0; own = b .1; number = eqb-true (segment r) (c .segment) (a .1) }
 
 pub taken-below : (c : Client) (r : Fields) → takesSegment c r ≡ true → Answers forms.SegmentTaken c r × (c .segment < c .segments)
@@ -202,7 +202,7 @@ brought c r d h =
 pub record OpensDownload (r : Fields) (d : ℕ) : Type 0 where
   pub first : segment r ≡ 1
   pub some : 1 ≤ segments r
-  pub most : segments r ≤ segmentsMost
+  pub most : segments r ≤ maxSegments
   pub segment-1 : HasSegment 1 (segments r) d r
 
 pub opens : (r : Fields) (d : ℕ) → opensDownload d r ≡ true → OpensDownload r d
@@ -210,11 +210,11 @@ unfolding opensDownload
 opens r d h =
     let n = segments r in
     let a = and-true _ (fitsSegment 1 n d r) h in
-    let b = and-true _ (leb n segmentsMost) (a .0) in
+    let b = and-true _ (leb n maxSegments) (a .0) in
     let e = and-true _ (leb 1 n) (b .0) in
-    let g = and-true (says forms.DownloadOpened code.Ok initialisation r) (eqb (segment r) 1) (e .0) in record {
+    let g = and-true (says forms.DownloadOpened code.Ok initialisationPhase r) (eqb (segment r) 1) (e .0) in record {
       first = eqb-true (segment r) 1 (g .1);
       some = leb-true 1 n (e .1);
-      most = leb-true n segmentsMost (b .1);
+      most = leb-true n maxSegments (b .1);
       segment-1 = has-segment 1 n d r (a .1);
     }

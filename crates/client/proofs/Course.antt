@@ -9,7 +9,7 @@ use lib.Dec.{eqb}
 use borrow.Author.Tests.{eqb-true, eqb-false}
 use Rattle.frame_table.specs.declared.fields.Fields.{Fields}
 use Rattle.frame_table.specs.Names.{segments}
-use Rattle.message.specs.Limits.{segmentsMost, fileBytes, subscribers}
+use Rattle.message.specs.Limits.{maxSegments, fileBytes, subscribers}
 use Rattle.message.specs.Segments.{segmentsOf}
 use Rattle.client.specs.declared.run.Client.{Client}
 use Rattle.client.specs.declared.run.Direction.{Direction}
@@ -17,8 +17,8 @@ use Rattle.client.specs.declared.run.Direction.the-variants.{Upload, Dow
 use Rattle.client.specs.declared.run.Step.{Step}
 use Rattle.client.specs.declared.run.Step.the-variants as step
 use Rattle.client.specs.declared.run.Word.{Word}
-use Rattle.client.specs.CallLists.{requestsMost}
-use Rattle.client.specs.Run.{firstExchangeMost}
+use Rattle.client.specs.CallLists.{maxRequests}
+use Rattle.client.specs.Run.{maxFirstExchange}
 use Rattle.client.specs.NextRun.{begun, stepBehind, goOn, repeated, learned, isNew, holding, ended}
 use Rattle.client.proofs.Apart.{not-both, not-opening-segment, not-opening-receipt, not-segment-receipt}
 use Rattle.message.proofs.Verdicts.{by-test}
@@ -37,7 +37,7 @@ UpPlace at s = ((at ≡ step.Opening) × (s ≡ 0)) ⊎ ((at ≡ step.Segment) �
 
 -- an upload with q requests issued: each return costs at most N requests more, and so does each repeat
 pub record Up (c : Client) (q : ℕ) : Type 0 where
-  pub way : c .direction ≡ Upload
+  pub direction : c .direction ≡ Upload
   pub some : 1 ≤ c .length
   pub most : c .length ≤ fileBytes
   pub count : c .segments ≡ segmentsOf (c .length)
@@ -46,7 +46,7 @@ pub record Up (c : Client) (q : ℕ) : Type 0 where
   pub within : c .issued ≤ c .segments
   pub requests : q ≤ 1 + c .segment + c .repeats * c .segments
 
-pub up-segments : (c : Client) (q : ℕ) → Up c q → (1 ≤ c .segments) × (c .segments ≤ segmentsMost)
+pub up-segments : (c : Client) (q : ℕ) → Up c q → (1 ≤ c .segments) × (c .segments ≤ maxSegments)
 unfolding segmentsOf
 up-segments c q u = (omega (arith, u .count, u .some, u .most), omega (arith, u .count, u .some, u .most))
 
@@ -54,11 +54,11 @@ up-segments c q u = (omega (arith, u .count, u .some, u .most), omega (arith, u 
 pub up-go : (c : Client) (q s p : ℕ) → Up c q → s < c .segments → s ≤ c .issued → q ≤ 1 + s + p * c .segments → Up (goOn s p c) (q + 1)
 unfolding goOn
 up-go c q s p u below near few = record {
-  way = u .way;
+  direction = u .direction;
   some = u .some;
   most = u .most;
   count = u .count;
-  place = inr (ap (λ (way : Direction). stepBehind way s (c .segments)) (u .way), omega arith);
+  place = inr (ap (λ (direction : Direction). stepBehind direction s (c .segments)) (u .direction), omega arith);
   known = omega arith;
   within = omega (arith, u .within);
   requests = omega arith;
@@ -70,7 +70,7 @@ at-opening at s o (inr p) = not-opening-segment o (p .0)
 
 pub up-learned : (c : Client) (q : ℕ) (r : Fields) → Up c q → c .step ≡ step.Opening → Up (learned Upload r c) q
 up-learned c q r u s = record {
-  way = u .way;
+  direction = u .direction;
   some = u .some;
   most = u .most;
   count = u .count;
@@ -83,7 +83,7 @@ up-learned c q r u s = record {
 pub up-repeated : (c : Client) (q : ℕ) → Up c q → Up (repeated c) (q + 1)
 unfolding repeated
 up-repeated c q u = record {
-  way = u .way;
+  direction = u .direction;
   some = u .some;
   most = u .most;
   count = u .count;
@@ -96,7 +96,7 @@ up-repeated c q u = record {
 pub up-ended : (c : Client) (q : ℕ) (w : Word) → Up c q → Up (ended w c) q
 unfolding ended
 up-ended c q w u = record {
-  way = u .way;
+  direction = u .direction;
   some = u .some;
   most = u .most;
   count = u .count;
@@ -114,7 +114,7 @@ up-most c q u h = omega (arith, u .requests, u .known, u .within, mul-le-mul-rig
 
 -- a download's opening is outstanding
 pub record DownOpening (c : Client) (q : ℕ) : Type 0 where
-  pub way : c .direction ≡ Download
+  pub direction : c .direction ≡ Download
   pub at : c .step ≡ step.Opening
   pub unknown : c .segments ≡ 0
   pub none : c .held ≡ 0
@@ -122,9 +122,9 @@ pub record DownOpening (c : Client) (q : ℕ) : Type 0 where
 
 -- a download whose N is known
 pub record Known (c : Client) : Type 0 where
-  pub way : c .direction ≡ Download
+  pub direction : c .direction ≡ Download
   pub some : 1 ≤ c .segments
-  pub most : c .segments ≤ segmentsMost
+  pub most : c .segments ≤ maxSegments
   pub within : c .held ≤ c .segments
 
 -- the step of an open download and the place of its request: segment N + 1 stands for the receipt
@@ -149,10 +149,10 @@ place-behind k n h =
 pub down-go : (c : Client) (q s p : ℕ) → Known c → s ≤ c .held → q ≤ s + p * (c .segments + 1) → Down (goOn s p c) (q + 1)
 unfolding goOn
 down-go c q s p k near few = record {
-  known = record { way = k .way; some = k .some; most = k .most; within = k .within };
+  known = record { direction = k .direction; some = k .some; most = k .most; within = k .within };
   first = omega arith;
   next = omega arith;
-  place = rw (k .way) (place-behind s (c .segments) (omega (arith, k .within)));
+  place = rw (k .direction) (place-behind s (c .segments) (omega (arith, k .within)));
   requests = omega arith;
 }
 
@@ -166,12 +166,12 @@ holds-at : (c : Client) (d : ℕ) (b : Bool) → isNew (c .direction) c ≡ b �
     → Holds c (holding d c)
 unfolding holding
 holds-at c d true e k m n = rw e (record {
-  known = record { way = k .way; some = k .some; most = k .most; within = omega (arith, new-next (c .direction) c e) };
+  known = record { direction = k .direction; some = k .some; most = k .most; within = omega (arith, new-next (c .direction) c e) };
   same = refl;
   held = n;
 })
 holds-at c d false e k m n =
-    let old = eqb-false (c .segment) (c .held + 1) (sym (ap (λ (way : Direction). isNew way c) (k .way)) ∙ e) in
+    let old = eqb-false (c .segment) (c .held + 1) (sym (ap (λ (direction : Direction). isNew direction c) (k .direction)) ∙ e) in
     rw e (record { known = k; same = refl; held = omega arith })
 
 pub holds : (c : Client) (d : ℕ) → Known c → c .segment ≤ c .segments → c .segment ≤ c .held + 1 → Holds c (holding d c)
@@ -192,7 +192,7 @@ down-opened c q d r o h =
     let k = learned Download r c in
     let n = segments r in
     let repeats : c .repeats * 1 ≤ c .repeats * (n + 1) = mul-le-mul-left (c .repeats) (omega arith) in
-    let known : Known k = record { way = o .way; some = h .some; most = h .most; within = omega (arith, o .none) } in
+    let known : Known k = record { direction = o .direction; some = h .some; most = h .most; within = omega (arith, o .none) } in
     down-taken k q d (c .repeats) known (h .some) (omega arith) (omega (arith, o .requests, mul-one (c .repeats)))
 
 down-place : (at : Step) (s n : ℕ) → DownPlace at s n → s ≤ n + 1
@@ -216,7 +216,7 @@ pub down-repeated : (c : Client) (q : ℕ) → Down c q → Down (repeated c) (q
 unfolding repeated
 down-repeated c q d =
     let k = d .known in record {
-      known = record { way = k .way; some = k .some; most = k .most; within = k .within };
+      known = record { direction = k .direction; some = k .some; most = k .most; within = k .within };
       first = d .first;
       next = d .next;
       place = d .place;
@@ -227,7 +227,7 @@ pub down-ended : (c : Client) (q : ℕ) (w : Word) → Down c q → Down (ended 
 unfolding ended
 down-ended c q w d =
     let k = d .known in record {
-      known = record { way = k .way; some = k .some; most = k .most; within = k .within };
+      known = record { direction = k .direction; some = k .some; most = k .most; within = k .within };
       first = d .first;
       next = d .next;
       place = d .place;
@@ -237,11 +237,11 @@ down-ended c q w d =
 pub opening-repeated : (c : Client) (q : ℕ) → DownOpening c q → DownOpening (repeated c) (q + 1)
 unfolding repeated
 opening-repeated c q o =
-    record { way = o .way; at = o .at; unknown = o .unknown; none = o .none; requests = omega (arith, o .requests) }
+    record { direction = o .direction; at = o .at; unknown = o .unknown; none = o .none; requests = omega (arith, o .requests) }
 
 pub opening-ended : (c : Client) (q : ℕ) (w : Word) → DownOpening c q → DownOpening (ended w c) q
 unfolding ended
-opening-ended c q w o = record { way = o .way; at = o .at; unknown = o .unknown; none = o .none; requests = o .requests }
+opening-ended c q w o = record { direction = o .direction; at = o .at; unknown = o .unknown; none = o .none; requests = o .requests }
 
 -- "a download 6N + 6"
 pub down-most : (c : Client) (q : ℕ) → Down c q → c .repeats ≤ 5 → q ≤ 6 * c .segments + 6
@@ -266,19 +266,19 @@ course-repeated c q (up u) = up (up-repeated c q u)
 course-repeated c q (opening o) = opening (opening-repeated c q o)
 course-repeated c q (down d) = down (down-repeated c q d)
 
-pub course-most : (c : Client) (q : ℕ) → Course c q → c .repeats ≤ 5 → q ≤ requestsMost (c .direction) (c .segments)
-course-most c q (up u) h = rw (u .way) (up-most c q u h)
-course-most c q (opening o) h = rw (o .way) (omega (arith, o .requests))
-course-most c q (down d) h = rw (d .known .way) (down-most c q d h)
+pub course-most : (c : Client) (q : ℕ) → Course c q → c .repeats ≤ 5 → q ≤ maxRequests (c .direction) (c .segments)
+course-most c q (up u) h = rw (u .direction) (up-most c q u h)
+course-most c q (opening o) h = rw (o .direction) (omega (arith, o .requests))
+course-most c q (down d) h = rw (d .known .direction) (down-most c q d h)
 
-pub course-segments : (c : Client) (q : ℕ) → Course c q → c .segments ≤ segmentsMost
+pub course-segments : (c : Client) (q : ℕ) → Course c q → c .segments ≤ maxSegments
 course-segments c q (up u) = up-segments c q u .1
 course-segments c q (opening o) = omega (arith, o .unknown)
 course-segments c q (down d) = d .known .most
 
 -- at the receipt of a download all segments are held
 pub receipt-held : (c : Client) (q : ℕ) → Course c q → c .direction ≡ Download → c .step ≡ step.Receipt → c .held ≡ c .segments
-receipt-held c q (up u) w s = not-both (u .way) w
+receipt-held c q (up u) w s = not-both (u .direction) w
 receipt-held c q (opening o) w s = not-opening-receipt (o .at) s
 receipt-held c q (down d) w s = at (d .place)
   where
@@ -288,8 +288,8 @@ receipt-held c q (down d) w s = at (d .place)
 
 -- at most 15 segments are held, and asked for
 pub course-guards : (c : Client) (q : ℕ) → Course c q → c .direction ≡ Download
-    → (c .held ≤ segmentsMost) × (c .step ≡ step.Segment → c .segment ≤ segmentsMost)
-course-guards c q (up u) w = not-both (u .way) w
+    → (c .held ≤ maxSegments) × (c .step ≡ step.Segment → c .segment ≤ maxSegments)
+course-guards c q (up u) w = not-both (u .direction) w
 course-guards c q (opening o) w = (omega (arith, o .none), not-opening-segment (o .at))
 course-guards c q (down d) w =
     (omega (arith, d .known .within, d .known .most), λ s. omega (arith, down-transfer c q d s, d .known .most))
@@ -298,7 +298,7 @@ course-guards c q (down d) w =
 pub record Begun (c : Client) (first q : ℕ) : Type 0 where
   pub low : 1 ≤ c .subscriber
   pub high : c .subscriber ≤ subscribers
-  pub start : first ≤ firstExchangeMost
+  pub start : first ≤ maxFirstExchange
   pub exchange : c .exchange + 1 ≡ first + q
   pub repeats : c .repeats ≤ 5
   pub course : Course c q
@@ -308,7 +308,7 @@ pub record Begun (c : Client) (first q : ℕ) : Type 0 where
 pub up-start : (subscriber first n : ℕ) → 1 ≤ n → n ≤ fileBytes → Course (begun Upload subscriber first n) 1
 unfolding begun
 up-start subscriber first n some most = up (record {
-  way = refl;
+  direction = refl;
   some = some;
   most = most;
   count = refl;
@@ -320,4 +320,4 @@ up-start subscriber first n some most = up (record {
 
 pub opening-start : (subscriber first : ℕ) → Course (begun Download subscriber first 0) 1
 unfolding begun segmentsOf
-opening-start subscriber first = opening (record { way = refl; at = refl; unknown = refl; none = refl; requests = omega arith })
+opening-start subscriber first = opening (record { direction = refl; at = refl; unknown = refl; none = refl; requests = omega arith })

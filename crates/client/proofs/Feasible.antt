@@ -5,13 +5,13 @@ use mathlib.Core.Path.{_≡_}
 use native.Mathlib.Omega.{arith}
 use Rattle.frame_table.specs.declared.fields.Fields.{Fields}
 use Rattle.octets.proofs.Tests.{never}
-use Rattle.message.specs.Limits.{segmentBytes, segmentsMost, attemptsMost, fileBytes}
+use Rattle.message.specs.Limits.{segmentBytes, maxSegments, maxAttempts, fileBytes}
 use Rattle.client.specs.declared.run.Client.{Client}
 use Rattle.client.specs.declared.run.Decision.the-variants.{Opened, Advance, Return, Repeat}
 use Rattle.client.specs.declared.run.Direction.{Direction}
 use Rattle.client.specs.declared.run.Direction.the-variants.{Upload, Download}
 use Rattle.client.specs.NextRun.{learned, isNew}
-use Rattle.client.specs.Run.{exchangeMost}
+use Rattle.client.specs.Run.{maxExchange}
 use Rattle.client.proofs.Apart.{not-both}
 use Rattle.client.proofs.Causes.{
   Cause,
@@ -34,15 +34,15 @@ use Rattle.client.proofs.Causes.{
 abbrev pub Takes : Client → ℕ → ℕ → Type 0
 Takes k d n =
     (k .segment + 1 < 2 ^ 64)
-    × (k .exchange ≤ exchangeMost)
-    × (isNew (k .direction) k ≡ true → (k .segment ≤ segmentsMost) × (d ≤ segmentBytes) × (n ≡ fileBytes))
+    × (k .exchange ≤ maxExchange)
+    × (isNew (k .direction) k ≡ true → (k .segment ≤ maxSegments) × (d ≤ segmentBytes) × (n ≡ fileBytes))
 
-module _ (c : Client) (r : Fields) (d n : ℕ) (x : c .exchange ≤ exchangeMost) (f : c .direction ≡ Download → n ≡ fileBytes) where
+module _ (c : Client) (r : Fields) (d n : ℕ) (x : c .exchange ≤ maxExchange) (f : c .direction ≡ Download → n ≡ fileBytes) where
   opened-most : c .direction ≡ Download → Cause c r d Opened → d ≤ segmentBytes
   opened-most w (upload-opened u s a h) = not-both u w
   opened-most w (download-opened u s a h) = opens r d h .segment-1 .bytes .most
 
-  pub opened-takes : (way : Direction) → c .direction ≡ way → Cause c r d Opened → Takes (learned way r c) d n
+  pub opened-takes : (direction : Direction) → c .direction ≡ direction → Cause c r d Opened → Takes (learned direction r c) d n
   opened-takes Upload w k = (omega arith, x, λ new. never (rw w at new))
   opened-takes Download w k = (omega arith, x, λ new. (omega arith, opened-most w k, f w))
 
@@ -56,9 +56,9 @@ pub return-fits : (c : Client) (r : Fields) (d s : ℕ) → c .segments < 2 ^ 64
 return-fits c r d s m (upload-returned w t a h) = omega (arith, upload-point c r h .below)
 return-fits c r d s m (download-returned w t a h) = omega (arith, download-point c r h .below)
 
-pub return-left : (c : Client) (r : Fields) (d s : ℕ) → Cause c r d (Return s) → c .repeats < attemptsMost
+pub return-left : (c : Client) (r : Fields) (d s : ℕ) → Cause c r d (Return s) → c .repeats < maxAttempts
 return-left c r d s (upload-returned w t a h) = upload-point c r h .left
 return-left c r d s (download-returned w t a h) = download-point c r h .left
 
-pub repeat-fits : (c : Client) (r : Fields) (d : ℕ) → Cause c r d Repeat → c .repeats < attemptsMost
+pub repeat-fits : (c : Client) (r : Fields) (d : ℕ) → Cause c r d Repeat → c .repeats < maxAttempts
 repeat-fits c r d (no-reply h) = repeats-left c h

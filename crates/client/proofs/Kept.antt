@@ -138,15 +138,15 @@ module _ (c : Client) (q : ℕ) (r : Fields) (d : ℕ) where
   up-opened u s =
       let k = learned Upload r c in
       let l = up-learned c q r u s in
-      rw (holding-upload d k (u .way)) (up-go k q 0 (c .repeats) l (omega (arith, up-segments c q u .0)) (omega arith) (l .requests))
+      rw (holding-upload d k (u .direction)) (up-go k q 0 (c .repeats) l (omega (arith, up-segments c q u .0)) (omega arith) (l .requests))
 
-  pub course-opened : (way : Direction) → c .direction ≡ way → Course c q → Cause c r d Opened
-      → Course (goOn (learned way r c .segment) (learned way r c .repeats) (holding d (learned way r c))) (q + 1)
+  pub course-opened : (direction : Direction) → c .direction ≡ direction → Course c q → Cause c r d Opened
+      → Course (goOn (learned direction r c .segment) (learned direction r c .repeats) (holding d (learned direction r c))) (q + 1)
   course-opened Upload e (up u) (upload-opened w s a h) = up (up-opened u s)
   course-opened Upload e (up u) (download-opened w s a h) = not-both e w
-  course-opened Upload e (opening o) k = not-both e (o .way)
-  course-opened Upload e (down o) k = not-both e (o .known .way)
-  course-opened Download e (up u) k = not-both (u .way) e
+  course-opened Upload e (opening o) k = not-both e (o .direction)
+  course-opened Upload e (down o) k = not-both e (o .known .direction)
+  course-opened Download e (up u) k = not-both (u .direction) e
   course-opened Download e (opening o) (upload-opened w s a h) = not-both w e
   course-opened Download e (opening o) (download-opened w s a h) = down (down-opened c q d r o (opens r d h))
   course-opened Download e (down o) (upload-opened w s a h) = not-both w e
@@ -155,10 +155,10 @@ module _ (c : Client) (q : ℕ) (r : Fields) (d : ℕ) where
   pub course-advance : Course c q → Cause c r d Advance → Course (goOn (c .segment) (c .repeats) (holding d c)) (q + 1)
   course-advance (up u) (segment-taken w s a h) =
       rw (holding-upload d c w) (up (up-go c q (c .segment) (c .repeats) u (taken-below c r h .1) (u .known) (u .requests)))
-  course-advance (up u) (segment-brought w s a h) = not-both (u .way) w
-  course-advance (opening o) (segment-taken w s a h) = not-both w (o .way)
+  course-advance (up u) (segment-brought w s a h) = not-both (u .direction) w
+  course-advance (opening o) (segment-taken w s a h) = not-both w (o .direction)
   course-advance (opening o) (segment-brought w s a h) = not-opening c (o .at) (inl s)
-  course-advance (down e) (segment-taken w s a h) = not-both w (e .known .way)
+  course-advance (down e) (segment-taken w s a h) = not-both w (e .known .direction)
   course-advance (down e) (segment-brought w s a h) =
       down (down-taken c q d (c .repeats) (e .known) (down-transfer c q e s) (e .next) (e .requests))
 
@@ -169,10 +169,10 @@ module _ (c : Client) (q : ℕ) (r : Fields) (d : ℕ) where
   course-return s (up u) (upload-returned w t a h) =
       let p = upload-point c r h in
       up (up-go c q s (c .repeats + 1) u (p .below) (p .reached) (up-returned s u (omega (arith, p .below))))
-  course-return s (up u) (download-returned w t a h) = not-both (u .way) w
-  course-return s (opening o) (upload-returned w t a h) = not-both w (o .way)
+  course-return s (up u) (download-returned w t a h) = not-both (u .direction) w
+  course-return s (opening o) (upload-returned w t a h) = not-both w (o .direction)
   course-return s (opening o) (download-returned w t a h) = not-opening c (o .at) t
-  course-return s (down e) (upload-returned w t a h) = not-both w (e .known .way)
+  course-return s (down e) (upload-returned w t a h) = not-both w (e .known .direction)
   course-return s (down e) (download-returned w t a h) = down (down-returned c q s e (download-point c r h .reached))
 
 -- ---- the run as a whole
@@ -214,8 +214,8 @@ module _ (c : Client) (first q : ℕ) (b : Begun c first q) where
   }
 
   module _ (r : Fields) (d : ℕ) where
-    begun-opened : (way : Direction) → c .direction ≡ way → Cause c r d Opened
-        → Begun (goOn (learned way r c .segment) (learned way r c .repeats) (holding d (learned way r c))) first (q + 1)
+    begun-opened : (direction : Direction) → c .direction ≡ direction → Cause c r d Opened
+        → Begun (goOn (learned direction r c .segment) (learned direction r c .repeats) (holding d (learned direction r c))) first (q + 1)
     begun-opened Upload e k =
         let l = learned Upload r c in
         begun-go (holding d l) 0 (c .repeats) (holding-subscriber d l) (holding-exchange d l) (b .repeats)

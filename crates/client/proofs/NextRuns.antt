@@ -12,7 +12,7 @@ use Rattle.client.specs.declared.run.Direction.the-variants.{Upload, Dow
 use Rattle.client.specs.NextRun.{learned, isNew, holding}
 
 -- a newly held segment is the next behind those held
-pub new-next : (way : Direction) (c : Client) → isNew way c ≡ true → c .segment ≡ c .held + 1
+pub new-next : (direction : Direction) (c : Client) → isNew direction c ≡ true → c .segment ≡ c .held + 1
 new-next Upload c h = never h
 new-next Download c h = eqb-true (c .segment) (c .held + 1) h
 
@@ -45,23 +45,23 @@ pub holding-direction : (d : ℕ) (c : Client) → holding d c .direction ≡ c 
 holding-direction d c = holding-keeps d c (isNew (c .direction) c) refl .direction
 
 -- what an opening's answer tells leaves the rest, and has the reply's transaction ID
-pub learned-transaction : (way : Direction) (r : Fields) (c : Client) → learned way r c .transaction ≡ transaction r
+pub learned-transaction : (direction : Direction) (r : Fields) (c : Client) → learned direction r c .transaction ≡ transaction r
 learned-transaction Upload r c = refl
 learned-transaction Download r c = refl
 
-pub learned-exchange : (way : Direction) (r : Fields) (c : Client) → learned way r c .exchange ≡ c .exchange
+pub learned-exchange : (direction : Direction) (r : Fields) (c : Client) → learned direction r c .exchange ≡ c .exchange
 learned-exchange Upload r c = refl
 learned-exchange Download r c = refl
 
-pub learned-direction : (way : Direction) (r : Fields) (c : Client) → learned way r c .direction ≡ c .direction
+pub learned-direction : (direction : Direction) (r : Fields) (c : Client) → learned direction r c .direction ≡ c .direction
 learned-direction Upload r c = refl
 learned-direction Download r c = refl
 
-pub learned-length : (way : Direction) (r : Fields) (c : Client) → learned way r c .length ≡ c .length
+pub learned-length : (direction : Direction) (r : Fields) (c : Client) → learned direction r c .length ≡ c .length
 learned-length Upload r c = refl
 learned-length Download r c = refl
 
-pub learned-stage : (way : Direction) (r : Fields) (c : Client) → learned way r c .stage ≡ c .stage
+pub learned-stage : (direction : Direction) (r : Fields) (c : Client) → learned direction r c .stage ≡ c .stage
 learned-stage Upload r c = refl
 learned-stage Download r c = refl
 

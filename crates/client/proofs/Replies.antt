@@ -22,7 +22,7 @@ use Rattle.frame_table.proofs.Bits.{bits-same}
 use Rattle.message.specs.declared.codes.ReturnCode.{ReturnCode}
 use Rattle.message.specs.declared.codes.ReturnCode.the-variants as code
 use Rattle.message.specs.Codes.{codeField}
-use Rattle.message.specs.Limits.{segmentsMost, initialisation, transfer}
+use Rattle.message.specs.Limits.{maxSegments, initialisationPhase, transferPhase}
 use Rattle.client.specs.declared.run.Client.{Client}
 use Rattle.client.specs.Decisions.{requestIndex, replyIndex, formIndex, says, isOwn, endsUpload, fitsSegment, opensDownload, isAnswer}
 
@@ -73,13 +73,13 @@ said x c p r h =
     }
 
 -- a download's opening is answered
-pub opened-says : (d : ℕ) (r : Fields) → opensDownload d r ≡ true → Says forms.DownloadOpened code.Ok initialisation r
+pub opened-says : (d : ℕ) (r : Fields) → opensDownload d r ≡ true → Says forms.DownloadOpened code.Ok initialisationPhase r
 unfolding opensDownload
 opened-says d r h =
     let a = and-true _ (fitsSegment 1 (segments r) d r) h in
-    let b = and-true _ (leb (segments r) segmentsMost) (a .0) in
+    let b = and-true _ (leb (segments r) maxSegments) (a .0) in
     let e = and-true _ (leb 1 (segments r)) (b .0) in
-    said _ _ _ r (and-true (says forms.DownloadOpened code.Ok initialisation r) (eqb (segment r) 1) (e .0) .0)
+    said _ _ _ r (and-true (says forms.DownloadOpened code.Ok initialisationPhase r) (eqb (segment r) 1) (e .0) .0)
 
 -- "the run's transaction ID"
 pub own-id : (c : Client) (r : Fields) → isOwn c r ≡ true → transaction r ≡ c .transaction
@@ -111,18 +111,18 @@ or-cases false b h = inr h
 pub record Cancels (r : Fields) : Type 0 where
   pub why : ReturnCode
   pub one : (why ≡ code.TransactionAbort) ⊎ ((why ≡ code.SegmentNumberExceeded) ⊎ (why ≡ code.SegmentNumberUnderrun))
-  pub says-so : Says forms.Refusal why transfer r
+  pub says-so : Says forms.Refusal why transferPhase r
 
 pub cancels : (r : Fields) → endsUpload r ≡ true → Cancels r
 unfolding endsUpload
-cancels r h = first (or-cases _ (says forms.Refusal code.SegmentNumberUnderrun transfer r) h)
+cancels r h = first (or-cases _ (says forms.Refusal code.SegmentNumberUnderrun transferPhase r) h)
   where
-    pair : (says forms.Refusal code.TransactionAbort transfer r ≡ true)
-        ⊎ (says forms.Refusal code.SegmentNumberExceeded transfer r ≡ true) → Cancels r
+    pair : (says forms.Refusal code.TransactionAbort transferPhase r ≡ true)
+        ⊎ (says forms.Refusal code.SegmentNumberExceeded transferPhase r ≡ true) → Cancels r
     pair (inl e) = record { why = code.TransactionAbort; one = inl refl; says-so = said _ _ _ r e }
     pair (inr e) = record { why = code.SegmentNumberExceeded; one = inr (inl refl); says-so = said _ _ _ r e }
 
-    first : (says forms.Refusal code.TransactionAbort transfer r || says forms.Refusal code.SegmentNumberExceeded transfer r ≡ true)
-        ⊎ (says forms.Refusal code.SegmentNumberUnderrun transfer r ≡ true) → Cancels r
-    first (inl e) = pair (or-cases _ (says forms.Refusal code.SegmentNumberExceeded transfer r) e)
+    first : (says forms.Refusal code.TransactionAbort transferPhase r || says forms.Refusal code.SegmentNumberExceeded transferPhase r ≡ true)
+        ⊎ (says forms.Refusal code.SegmentNumberUnderrun transferPhase r ≡ true) → Cancels r
+    first (inl e) = pair (or-cases _ (says forms.Refusal code.SegmentNumberExceeded transferPhase r) e)
     first (inr e) = record { why = code.SegmentNumberUnderrun; one = inr (inr refl); says-so = said _ _ _ r e }

@@ -49,7 +49,7 @@ use Rattle.client.specs.Requests.{nonceOf, outstanding, outstandingData}
 use Rattle.client.specs.Run.{Lent, lengthsOf, nonceBytes, notBegun, requestRoom}
 use Rattle.client.proofs.Accepted.{Serves, SameLength, Accepted, accepted, Begins, begins}
 use Rattle.client.proofs.Apart.{not-both, not-new-running}
-use Rattle.client.proofs.Bounds.{begun-start, begun-exchange, Standing, new, going, standing-new}
+use Rattle.client.proofs.Bounds.{begun-start, begun-exchange, Counted, new, going, standing-new}
 use Rattle.client.proofs.Causes.{Cause, by-reply, by-no-reply}
 use Rattle.client.proofs.Course.{UpPlace, Up, up-segments, DownOpening, DownPlace, Down, Course, up, opening, down, Begun}
 use Rattle.client.proofs.Kept.{Issuing, nextOf, next-direction, next-length, begun-next}
@@ -113,38 +113,38 @@ module _ (c : Client) (first q : ℕ) (b : Begun c first q) (v : Wide (c .transa
   up-opening-sent u s =
       let w = upload-opening-written (c .subscriber) (c .exchange) sender (nonceOf (l .nonce) (c .exchange)) (l .time)
       (nonce-wide (l .nonce) (c .exchange) (t .twelve) (t .nonce)) (t .time) (c .segments) (omega (arith, up-segments c q u .1)) in
-      sent 53 w (omega arith) (rw (u .way, s)) (rw (u .way, s))
+      sent 53 w (omega arith) (rw (u .direction, s)) (rw (u .direction, s))
 
   up-segment-sent : Up c q → c .step ≡ step.Segment → 1 ≤ c .segment → Sent c l
   unfolding outstanding outstandingData
   up-segment-sent u s some =
-      let count = u .count ∙ ap segmentsOf (same (u .way)) in
+      let count = u .count ∙ ap segmentsOf (same (u .direction)) in
       let few = up-segments c q u .1 in
       let d = segment-content (l .payload) (c .segment) (t .payload) some (omega (arith, count, u .known, u .within)) in
       let w = upload-transfer-written (c .subscriber) (c .exchange) sender (c .transaction) v (c .segment)
       (lastMarkOf (c .segment) (c .segments)) (segmentOf (l .payload) (c .segment)) (omega (arith, u .known, u .within))
       (mark-most (c .segment) (c .segments)) (d .0) in
-      sent (47 + length (segmentOf (l .payload) (c .segment))) w (omega (arith, d .1)) (rw (u .way, s)) (rw (u .way, s))
+      sent (47 + length (segmentOf (l .payload) (c .segment))) w (omega (arith, d .1)) (rw (u .direction, s)) (rw (u .direction, s))
 
   down-opening-sent : DownOpening c q → Sent c l
   unfolding outstanding outstandingData
   down-opening-sent o =
       let w = download-opening-written (c .subscriber) (c .exchange) sender (nonceOf (l .nonce) (c .exchange)) (l .time)
       (nonce-wide (l .nonce) (c .exchange) (t .twelve) (t .nonce)) (t .time) in
-      sent 48 w (omega arith) (rw (o .way, o .at)) (rw (o .way))
+      sent 48 w (omega arith) (rw (o .direction, o .at)) (rw (o .direction))
 
   down-segment-sent : Down c q → c .step ≡ step.Segment → c .segment ≤ c .segments → Sent c l
   unfolding outstanding outstandingData
   down-segment-sent e s k =
       let small = e .known .most in
       let w = download-transfer-written (c .subscriber) (c .exchange) sender (c .transaction) v (c .segment) (omega arith) in
-      sent 40 w (omega arith) (rw (e .known .way, s)) (rw (e .known .way))
+      sent 40 w (omega arith) (rw (e .known .direction, s)) (rw (e .known .direction))
 
   receipt-sent : Down c q → c .step ≡ step.Receipt → Sent c l
   unfolding outstanding outstandingData
   receipt-sent e s =
       let w = receipt-written (c .subscriber) (c .exchange) sender (c .transaction) v 0 (omega arith) in
-      sent 39 w (omega arith) (rw (e .known .way, s)) (rw (e .known .way))
+      sent 39 w (omega arith) (rw (e .known .direction, s)) (rw (e .known .direction))
 
   course-sent : Course c q → Sent c l
   course-sent (up u) = at (u .place)
@@ -175,11 +175,11 @@ issued-unrefused : (c next : Client) (file : List ℕ) (l : Lent) → Sent next 
 unfolding issued
 issued-unrefused c next file l s = rw (s .written) (s .small)
 
-room-served : (way : Direction) (l : Lengths) → Serves way l → requestRoom ≤ l .request
+room-served : (direction : Direction) (l : Lengths) → Serves direction l → requestRoom ≤ l .request
 room-served Upload l s = s .2
 room-served Download l s = s .1
 
-payload-same : (way : Direction) (c : Client) (l : Lengths) → SameLength way c l → way ≡ Upload → c .length ≡ l .payload
+payload-same : (direction : Direction) (c : Client) (l : Lengths) → SameLength direction c l → direction ≡ Upload → c .length ≡ l .payload
 payload-same Upload c l s e = sym s
 payload-same Download c l s e = not-both e refl
 
@@ -204,39 +204,39 @@ module _ (c : Client) (first q : ℕ) (b : Begun c first q) (v : Wide (c .transa
   carried-unrefused Repeat k = issued-unrefused c (repeated c) (l .file) l (next-sent Repeat 0 k)
   carried-unrefused (Close u) k = 0
 
-begin-same : (way : Direction) (l : Lengths) → way ≡ Upload → beginLength way l ≡ l .payload
+begin-same : (direction : Direction) (l : Lengths) → direction ≡ Upload → beginLength direction l ≡ l .payload
 begin-same Upload l e = refl
 begin-same Download l e = not-both e refl
 
-begin-sent : (c : Client) (way : Direction) (subscriber first : ℕ) (l : Lent) → TypedLent l → Begins c way subscriber first (lengthsOf l)
-    → Sent (begun way subscriber first (beginLength way (lengthsOf l))) l
+begin-sent : (c : Client) (direction : Direction) (subscriber first : ℕ) (l : Lent) → TypedLent l → Begins c direction subscriber first (lengthsOf l)
+    → Sent (begun direction subscriber first (beginLength direction (lengthsOf l))) l
 unfolding begun
-begin-sent c way subscriber first l t b =
-    outstanding-sent (begun way subscriber first (beginLength way (lengthsOf l))) first 1
-    (begun-start c way subscriber first (lengthsOf l) b)
-    (omega arith, omega arith) l t (begin-same way (lengthsOf l)) (room-served way (lengthsOf l) (b .buffers))
+begin-sent c direction subscriber first l t b =
+    outstanding-sent (begun direction subscriber first (beginLength direction (lengthsOf l))) first 1
+    (begun-start c direction subscriber first (lengthsOf l) b)
+    (omega arith, omega arith) l t (begin-same direction (lengthsOf l)) (room-served direction (lengthsOf l) (b .buffers))
 
 -- how a call is ruled
 abbrev pub ruling : Client → Call → Ruling
-ruling c (begin way subscriber first l) = beginRuling c way subscriber first (lengthsOf l)
+ruling c (begin direction subscriber first l) = beginRuling c direction subscriber first (lengthsOf l)
 ruling c (arrived frame l) = runRuling (c .stage) c (lengthsOf l)
 ruling c (noReply l) = runRuling (c .stage) c (lengthsOf l)
 
 module _ (c : Client) (q : ℕ) (v : Wide (c .transaction)) where
   run-unrefused : (decision : Decision) (r : Fields) (d : List ℕ) (l : Lent) → TypedLent l → Wide (transaction r)
-      → Cause c r (length d) decision → Standing c q → runRuling (c .stage) c (lengthsOf l) ≡ Accept
+      → Cause c r (length d) decision → Counted c q → runRuling (c .stage) c (lengthsOf l) ≡ Accept
       → Unrefused (runBy (runRuling (c .stage) c (lengthsOf l)) decision c r d l .answer)
   run-unrefused decision r d l t w k (new n z) e =
       not-new-running (ap (λ (x : Client). x .stage) n) (accepted c (lengthsOf l) e .running)
   run-unrefused decision r d l t w k (going first g b) e =
       rw e (carried-unrefused c first q b v l t (accepted c (lengthsOf l) e) r d w decision k)
 
-  call-unrefused : (k : Call) → Typed k → Standing c q → ruling c k ≡ Accept → Unrefused (called c k .answer)
+  call-unrefused : (k : Call) → Typed k → Counted c q → ruling c k ≡ Accept → Unrefused (called c k .answer)
   unfolding beginCall replyCall noReplyCall
-  call-unrefused (begin way subscriber first l) (typed-begin t) s e =
+  call-unrefused (begin direction subscriber first l) (typed-begin t) s e =
       rw e
-      (issued-unrefused c (begun way subscriber first (beginLength way (lengthsOf l))) (l .file) l
-      (begin-sent c way subscriber first l t (begins c way subscriber first (lengthsOf l) e)))
+      (issued-unrefused c (begun direction subscriber first (beginLength direction (lengthsOf l))) (l .file) l
+      (begin-sent c direction subscriber first l t (begins c direction subscriber first (lengthsOf l) e)))
   call-unrefused (arrived frame l) (typed-reply b t) s e =
       let r = readReply frame in
       let d = dataOf frame in

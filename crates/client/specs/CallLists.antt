@@ -16,7 +16,7 @@ pub data Call : Type 0 where
   noReply : Lent → Call
 
 abbrev pub called : Client → Call → ClientCall
-called c (begin way subscriber first l) = beginCall c way subscriber first l
+called c (begin direction subscriber first l) = beginCall c direction subscriber first l
 called c (arrived frame l) = replyCall c frame l
 called c (noReply l) = noReplyCall c l
 
@@ -38,6 +38,6 @@ requests c [] = 0
 requests c (k ∷ ks) = issues (called c k .answer) + requests (called c k .run) ks
 
 -- "An upload issues at most 6N + 1 requests, a download 6N + 6 (N is 0 while unknown)"
-abbrev pub requestsMost : Direction → ℕ → ℕ
-requestsMost Upload n = 6 * n + 1
-requestsMost Download n = 6 * n + 6
+abbrev pub maxRequests : Direction → ℕ → ℕ
+maxRequests Upload n = 6 * n + 1
+maxRequests Download n = 6 * n + 6

@@ -70,12 +70,12 @@ carryOut Repeat c r d l = issued c (repeated c) (l .file) l
 carryOut (Close w) c r d l = unchanged (record { run = ended w c; answer = answer.Closed w }) l
 
 abbrev pub beginBy : Ruling → Client → Direction → ℕ → ℕ → Lent → ClientCall
-beginBy (Refuse x) c way subscriber first l = refused x c l
-beginBy Accept c way subscriber first l = issued c (begun way subscriber first (beginLength way (lengthsOf l))) (l .file) l
+beginBy (Refuse x) c direction subscriber first l = refused x c l
+beginBy Accept c direction subscriber first l = issued c (begun direction subscriber first (beginLength direction (lengthsOf l))) (l .file) l
 
 -- begin
 unfoldable pub beginCall : Client → Direction → ℕ → ℕ → Lent → ClientCall
-beginCall c way subscriber first l = beginBy (beginRuling c way subscriber first (lengthsOf l)) c way subscriber first l
+beginCall c direction subscriber first l = beginBy (beginRuling c direction subscriber first (lengthsOf l)) c direction subscriber first l
 
 abbrev pub runBy : Ruling → Decision → Client → Fields → List ℕ → Lent → ClientCall
 runBy (Refuse x) decision c r d l = refused x c l

@@ -16,7 +16,7 @@ use Rattle.frame_table.specs.Table.{isReplyForm}
 use Rattle.message.specs.declared.codes.ReturnCode.{ReturnCode}
 use Rattle.message.specs.declared.codes.ReturnCode.the-variants as code
 use Rattle.message.specs.Codes.{codeField}
-use Rattle.message.specs.Limits.{segmentBytes, segmentsMost, attemptsMost, initialisation, transfer, receiptPhase}
+use Rattle.message.specs.Limits.{segmentBytes, maxSegments, maxAttempts, initialisationPhase, transferPhase, receiptPhase}
 use Rattle.message.specs.Segments.{lastMarkOf}
 use Rattle.message.specs.Verdicts.{decide}
 use Rattle.client.specs.declared.run.Client.{Client}
@@ -71,19 +71,19 @@ restWord c = closingWord (c .direction) c
 
 -- "These repeats and returns number at most five; the sixth ends the run"
 unfoldable pub mayRepeat : Client → Bool
-mayRepeat c = ltb (c .repeats) attemptsMost
+mayRepeat c = ltb (c .repeats) maxAttempts
 
 -- "ended by a reply 01 03 0D of phase 2 with 091102, 091104 or 011101"
 unfoldable pub endsUpload : Fields → Bool
 endsUpload r =
-    says forms.Refusal code.TransactionAbort transfer r
-    || says forms.Refusal code.SegmentNumberExceeded transfer r
-    || says forms.Refusal code.SegmentNumberUnderrun transfer r
+    says forms.Refusal code.TransactionAbort transferPhase r
+    || says forms.Refusal code.SegmentNumberExceeded transferPhase r
+    || says forms.Refusal code.SegmentNumberUnderrun transferPhase r
 
 -- a segment's answer, of this form:
 -- "with code 000000 ..., with that step's phase, the run's transaction ID once one is known and the segment number requested"
 unfoldable pub answersSegment : Form → Client → Fields → Bool
-answersSegment x c r = says x code.Ok transfer r && isOwn c r && eqb (segment r) (c .segment)
+answersSegment x c r = says x code.Ok transferPhase r && isOwn c r && eqb (segment r) (c .segment)
 
 -- "its data 256 bytes before segment N, 1 to 256 in it": segment s of n with d bytes
 unfoldable pub fitsData : ℕ → ℕ → ℕ → Bool
@@ -91,12 +91,12 @@ fitsData s n d = cond (eqb s n) (leb 1 d && leb d segmentBytes) (eqb d segmentBy
 
 -- "... with last mark 1 there only"; no call leaves s over 15
 unfoldable pub fitsSegment : ℕ → ℕ → ℕ → Fields → Bool
-fitsSegment s n d r = leb s segmentsMost && eqb (lastMark r) (lastMarkOf s n) && fitsData s n d
+fitsSegment s n d r = leb s maxSegments && eqb (lastMark r) (lastMarkOf s n) && fitsData s n d
 
 -- "a recovery point has instead its point's phase, as under the frame, and its own r": phase 1 is that of the point behind
 -- segment first: "1 for segment 0 of an upload, else 2"; a download "counts as phase 1 while only" segment 1 "is delivered"
 unfoldable pub isPoint : ℕ → Client → Fields → Bool
-isPoint first c r = says forms.SegmentTaken code.RecoverySync (cond (eqb (segment r) first) initialisation transfer) r && isOwn c r
+isPoint first c r = says forms.SegmentTaken code.RecoverySync (cond (eqb (segment r) first) initialisationPhase transferPhase) r && isOwn c r
 
 -- a recovery point leads on if it is below a number of segments and at most the last that the run reached, as one of five
 unfoldable pub goesBack : ℕ → ℕ → ℕ → Client → Fields → Bool
@@ -108,15 +108,15 @@ uploadReturns c r = goesBack 0 (c .segments) (c .issued) c r
 
 -- a download's "if segments 1 to r are held" (no call leaves more than 15)
 unfoldable pub downloadReturns : Client → Fields → Bool
-downloadReturns c r = goesBack 1 (segmentsMost + 1) (c .held) c r
+downloadReturns c r = goesBack 1 (maxSegments + 1) (c .held) c r
 
 -- a download's opening is answered: "a download's N must be 1 to 15", "segment 1 is in it"
 unfoldable pub opensDownload : ℕ → Fields → Bool
 opensDownload d r =
-    says forms.DownloadOpened code.Ok initialisation r
+    says forms.DownloadOpened code.Ok initialisationPhase r
     && eqb (segment r) 1
     && leb 1 (segments r)
-    && leb (segments r) segmentsMost
+    && leb (segments r) maxSegments
     && fitsSegment 1 (segments r) d r
 
 -- "lodged (segment N answered 000000)"
@@ -137,7 +137,7 @@ confirms c r = says forms.ReceiptAnswered code.DownloadPostprocessDone receiptPh
 
 -- what a reply under the outstanding exchange number leads to in an upload, by step, from top to bottom: "No 061101 fits an opening"
 abbrev pub uploadRules : Step → Client → Fields → List (Bool × Decision)
-uploadRules step.Opening c r = (says forms.UploadOpened code.Ok initialisation r, Opened) ∷ []
+uploadRules step.Opening c r = (says forms.UploadOpened code.Ok initialisationPhase r, Opened) ∷ []
 uploadRules step.Segment c r =
     (lodges c r, Close Lodged)
     ∷ (takesSegment c r, Advance)

@@ -24,9 +24,9 @@ beginLength Download l = 0
 
 -- the run as begun, its opening outstanding under the first exchange number
 unfoldable pub begun : Direction → ℕ → ℕ → ℕ → Client
-begun way subscriber first n = record {
+begun direction subscriber first n = record {
   stage = stage.Running;
-  direction = way;
+  direction = direction;
   step = step.Opening;
   subscriber = subscriber;
   exchange = first;

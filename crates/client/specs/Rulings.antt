@@ -14,7 +14,7 @@ use Rattle.client.specs.declared.run.Ruling.{Ruling}
 use Rattle.client.specs.declared.run.Ruling.the-variants.{Refuse, Accept}
 use Rattle.client.specs.declared.run.Stage.{Stage}
 use Rattle.client.specs.declared.run.Stage.the-variants as stage
-use Rattle.client.specs.Run.{requestRoom, firstExchangeMost, exchangeMost}
+use Rattle.client.specs.Run.{requestRoom, maxFirstExchange, maxExchange}
 
 -- 5: "an upload's payload of 0 or over 3,840 bytes ..., a download's file buffer not 3,840, request buffer under 303
 -- (upload runs ignore the file buffer, download runs the payload)"
@@ -42,10 +42,10 @@ isBegun stage.Running = true
 isBegun (stage.Ended w) = true
 
 unfoldable pub beginRuling : Client → Direction → ℕ → ℕ → Lengths → Ruling
-beginRuling c way subscriber first l =
+beginRuling c direction subscriber first l =
     decide
-    ((wrongBuffers way l, Refuse WrongBuffer)
-    ∷ (ltb firstExchangeMost first, Refuse ExchangeTooHigh)
+    ((wrongBuffers direction l, Refuse WrongBuffer)
+    ∷ (ltb maxFirstExchange first, Refuse ExchangeTooHigh)
     ∷ (noSubscriber subscriber, Refuse NoSubscriber)
     ∷ (isBegun (c .stage), Refuse WrongStage)
     ∷ [])
@@ -58,7 +58,7 @@ rulingNotBegun l = decide ((ltb (l .request) requestRoom, Refuse WrongBuffer) �
 -- no call leaves a run above the highest exchange number
 unfoldable pub rulingRunning : Client → Lengths → Ruling
 rulingRunning c l =
-    decide ((wrongLengths c l, Refuse WrongBuffer) ∷ (ltb exchangeMost (c .exchange), Refuse ExchangeTooHigh) ∷ []) Accept
+    decide ((wrongLengths c l, Refuse WrongBuffer) ∷ (ltb maxExchange (c .exchange), Refuse ExchangeTooHigh) ∷ []) Accept
 
 -- 8: "the run has ended"
 unfoldable pub rulingEnded : Client → Lengths → Ruling

@@ -18,12 +18,12 @@ use Rattle.client.specs.declared.run.Lengths.{Lengths}
 use Rattle.client.specs.declared.run.Outcome.{Outcome}
 
 -- "first exchange number over 4,294,967,200"
-abbrev pub firstExchangeMost : ℕ
-firstExchangeMost = 4294967200
+abbrev pub maxFirstExchange : ℕ
+maxFirstExchange = 4294967200
 
 -- the highest exchange number: its field has 4 bytes
-abbrev pub exchangeMost : ℕ
-exchangeMost = 4294967295
+abbrev pub maxExchange : ℕ
+maxExchange = 4294967295
 
 -- document 01's numbers for the client's owner
 abbrev pub refusalNumber : Refusal → ℕ

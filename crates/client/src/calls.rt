@@ -39,17 +39,17 @@ ghost use Prim.Native.Nat.{ℕ, _+_, _-_, _*_, _^_, _≤_, _<_};
 ghost use lib.ListN.{length};
 ghost use Rattle.octets.specs.Bytes.{overwrite};
 ghost use Rattle.frame.specs.Writer.{writeAnswer, writeBuffer};
-ghost use Rattle.message.specs.Limits.{segmentBytes, segmentsMost, fileBytes};
+ghost use Rattle.message.specs.Limits.{segmentBytes, maxSegments, fileBytes};
 ghost use Rattle.client.specs.Decisions.{onReply, onNoReply};
 ghost use Rattle.client.specs.NextRun.{isNew, fileWith, ended};
 ghost use Rattle.client.specs.Requests.{outstanding, outstandingData};
-ghost use Rattle.client.specs.Run.{lentOf, callOf, exchangeMost};
+ghost use Rattle.client.specs.Run.{lentOf, callOf, maxExchange};
 ghost use Rattle.client.specs.Calls.{ifWritten, outcomeOf, issued, taken, carryOut, runCall};
 ghost use Rattle.client.specs.Calls.{beginCall, replyCall, noReplyCall};
 
 // Writes the bytes of segment s, from 1 on, to their place in the file.
 fn put_segment(s: u64, d: &[u8], file: &mut [u8])
-    requires { ⌜ (1 ≤ s) × (s ≤ segmentsMost) × (length (now d) ≤ segmentBytes) × (length (now file) ≡ fileBytes) ⌝ }
+    requires { ⌜ (1 ≤ s) × (s ≤ maxSegments) × (length (now d) ≤ segmentBytes) × (length (now file) ≡ fileBytes) ⌝ }
     ensures { λ _. ⌜ now (file .exit) ≡ overwrite (now (file .entry)) ((s - 1) * segmentBytes) (now (d .entry)) ⌝ }
 {
     copy(file, (s - 1) as usize * SEGMENT_BYTES, d);
@@ -58,7 +58,7 @@ fn put_segment(s: u64, d: &[u8], file: &mut [u8])
 // Writes the data of the outstanding segment into the file where it is newly held.
 fn hold(c: Client, d: &[u8], file: &mut [u8])
     requires { ⌜ (isNew (c .direction) c ≡ true →
-        (c .segment ≤ segmentsMost) × (length (now d) ≤ segmentBytes) × (length (now file) ≡ fileBytes)) ⌝ }
+        (c .segment ≤ maxSegments) × (length (now d) ≤ segmentBytes) × (length (now file) ≡ fileBytes)) ⌝ }
     ensures { λ _. ⌜ now (file .exit) ≡ fileWith c (now (d .entry)) (now (file .entry)) ⌝ }
 {
     if is_new(c) {
@@ -102,7 +102,7 @@ fn outcome_of(w: Written, c: Client, next: Client) -> Outcome
 // The file buffer changes only where the request is written.
 fn hold_if_written(w: Written, c: Client, d: &[u8], file: &mut [u8])
     requires { ⌜ (isNew (c .direction) c ≡ true →
-        (c .segment ≤ segmentsMost) × (length (now d) ≤ segmentBytes) × (length (now file) ≡ fileBytes)) ⌝ }
+        (c .segment ≤ maxSegments) × (length (now d) ≤ segmentBytes) × (length (now file) ≡ fileBytes)) ⌝ }
     ensures { λ _. ⌜ now (file .exit) ≡ ifWritten w (fileWith c (now (d .entry)) (now (file .entry))) (now (file .entry)) ⌝ }
 {
     if let Written::Length(_) = w {
@@ -137,8 +137,8 @@ fn take_segment(
     file: &mut [u8],
     request: &mut [u8],
 ) -> Outcome
-    requires { ⌜ (k .segment + 1 < 2 ^ 64) × (k .exchange ≤ exchangeMost) × (isNew (k .direction) k ≡ true →
-        (k .segment ≤ segmentsMost) × (length (now d) ≤ segmentBytes) × (length (now file) ≡ fileBytes)) ⌝ }
+    requires { ⌜ (k .segment + 1 < 2 ^ 64) × (k .exchange ≤ maxExchange) × (isNew (k .direction) k ≡ true →
+        (k .segment ≤ maxSegments) × (length (now d) ≤ segmentBytes) × (length (now file) ≡ fileBytes)) ⌝ }
     ensures { λ r. ⌜ callOf r (now (file .exit)) (now (request .exit))
         ≡ taken c k (now (d .entry)) (lentOf time nonce (now (payload .entry)) (now (file .entry)) (now (request .entry))) ⌝ }
 {
@@ -181,7 +181,7 @@ fn carry_out(
     file: &mut [u8],
     request: &mut [u8],
 ) -> Outcome
-    requires { ⌜ ((decision ≡ onReply c r (length (now d))) ⊎ (decision ≡ onNoReply c)) × (c .exchange ≤ exchangeMost)
+    requires { ⌜ ((decision ≡ onReply c r (length (now d))) ⊎ (decision ≡ onNoReply c)) × (c .exchange ≤ maxExchange)
         × (c .direction ≡ Direction.Download → length (now file) ≡ fileBytes) ⌝ }
     ensures { λ o. ⌜ callOf o (now (file .exit)) (now (request .exit))
         ≡ carryOut decision c r (now (d .entry)) (lentOf time nonce (now (payload .entry)) (now (file .entry)) (now (request .entry))) ⌝ }
@@ -231,7 +231,7 @@ impl Client {
     // Begins a run of this direction, whose opening carries the first exchange number.
     pub fn begin(
         self,
-        way: Direction,
+        direction: Direction,
         subscriber: u64,
         first: u64,
         time: u32,
@@ -241,19 +241,19 @@ impl Client {
         request: &mut [u8],
     ) -> Outcome
         ensures { λ o. ⌜ callOf o (now (file .exit)) (now (request .exit))
-            ≡ beginCall self way subscriber first (lentOf time nonce (now (payload .entry)) (now (file .entry)) (now (request .entry))) ⌝ }
+            ≡ beginCall self direction subscriber first (lentOf time nonce (now (payload .entry)) (now (file .entry)) (now (request .entry))) ⌝ }
     {
         let l = Lengths {
             payload: payload.len(),
             file: file.len(),
             request: request.len(),
         };
-        let ruling = begin_ruling(self, way, subscriber, first, l);
+        let ruling = begin_ruling(self, direction, subscriber, first, l);
         match ruling {
             Ruling::Refuse(x) => refused(x, self),
             Ruling::Accept => issue(
                 self,
-                begun(way, subscriber, first, begin_length(way, l)),
+                begun(direction, subscriber, first, begin_length(direction, l)),
                 time,
                 nonce,
                 payload,

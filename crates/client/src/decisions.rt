@@ -12,17 +12,17 @@ use frame_table::table::RequestForm;
 use frame_table::table::is_reply_form;
 use message::codes::ReturnCode;
 use message::codes::code_field;
-use message::limits::ATTEMPTS_MOST;
-use message::limits::INITIALISATION;
-use message::limits::RECEIPT;
+use message::limits::INITIALISATION_PHASE;
+use message::limits::MAX_ATTEMPTS;
+use message::limits::MAX_SEGMENTS;
+use message::limits::RECEIPT_PHASE;
 use message::limits::SEGMENT_BYTES;
-use message::limits::SEGMENTS_MOST;
-use message::limits::TRANSFER;
+use message::limits::TRANSFER_PHASE;
 use message::segments::last_mark_of;
 ghost use mathlib.Core.Path.{_≡_};
 ghost use mathlib.Core.Bool.{cond};
 ghost use lib.Dec.{eqb};
-ghost use Rattle.message.specs.Limits.{initialisation, transfer};
+ghost use Rattle.message.specs.Limits.{initialisationPhase, transferPhase};
 ghost use Rattle.client.specs.Decisions.{requestIndex, replyIndex, formIndex, says, isOwn, closingWord, restWord, mayRepeat};
 ghost use Rattle.client.specs.Decisions.{endsUpload, answersSegment, fitsData, fitsSegment, isPoint, goesBack, uploadReturns};
 ghost use Rattle.client.specs.Decisions.{downloadReturns, opensDownload, lodges, takesSegment, bringsSegment, confirms};
@@ -110,8 +110,8 @@ fn download_word(c: Client) -> Word
 pub(crate) fn rest_word(c: Client) -> Word
     ensures { λ w. ⌜ w ≡ restWord c ⌝ }
 {
-    let way = c.direction;
-    match way {
+    let direction = c.direction;
+    match direction {
         Direction::Upload => upload_word(c),
         Direction::Download => download_word(c),
     }
@@ -121,7 +121,7 @@ pub(crate) fn rest_word(c: Client) -> Word
 pub(crate) fn may_repeat(c: Client) -> bool
     ensures { λ b. ⌜ b ≡ mayRepeat c ⌝ }
 {
-    c.repeats < ATTEMPTS_MOST
+    c.repeats < MAX_ATTEMPTS
 }
 
 // Whether the reply is a refusal that ends an upload as not lodged.
@@ -131,7 +131,7 @@ fn ends_upload(r: Fields) -> bool
     if says(
         Form::Reply(ReplyForm::Refusal),
         ReturnCode::TransactionAbort,
-        TRANSFER,
+        TRANSFER_PHASE,
         r,
     ) {
         return true;
@@ -139,7 +139,7 @@ fn ends_upload(r: Fields) -> bool
     if says(
         Form::Reply(ReplyForm::Refusal),
         ReturnCode::SegmentNumberExceeded,
-        TRANSFER,
+        TRANSFER_PHASE,
         r,
     ) {
         return true;
@@ -147,7 +147,7 @@ fn ends_upload(r: Fields) -> bool
     says(
         Form::Reply(ReplyForm::Refusal),
         ReturnCode::SegmentNumberUnderrun,
-        TRANSFER,
+        TRANSFER_PHASE,
         r,
     )
 }
@@ -156,7 +156,7 @@ fn ends_upload(r: Fields) -> bool
 fn answers_segment(form: Form, c: Client, r: Fields) -> bool
     ensures { λ b. ⌜ b ≡ answersSegment form c r ⌝ }
 {
-    if !says(form, ReturnCode::Ok, TRANSFER, r) {
+    if !says(form, ReturnCode::Ok, TRANSFER_PHASE, r) {
         return false;
     }
     if !is_own(c, r) {
@@ -182,7 +182,7 @@ fn fits_data(s: u64, n: u64, d: usize) -> bool
 fn fits_segment(s: u64, n: u64, d: usize, r: Fields) -> bool
     ensures { λ b. ⌜ b ≡ fitsSegment s n d r ⌝ }
 {
-    if SEGMENTS_MOST < s {
+    if MAX_SEGMENTS < s {
         return false;
     }
     if r.last_mark() != last_mark_of(s, n) {
@@ -193,12 +193,12 @@ fn fits_segment(s: u64, n: u64, d: usize, r: Fields) -> bool
 
 // The phase of a recovery point behind a segment; it is 1 behind segment `first` alone.
 fn point_phase(segment: u64, first: u64) -> u64
-    ensures { λ p. ⌜ p ≡ cond (eqb segment first) initialisation transfer ⌝ }
+    ensures { λ p. ⌜ p ≡ cond (eqb segment first) initialisationPhase transferPhase ⌝ }
 {
     if segment == first {
-        return INITIALISATION;
+        return INITIALISATION_PHASE;
     }
-    TRANSFER
+    TRANSFER_PHASE
 }
 
 // Whether the reply is a recovery point of the run.
@@ -245,7 +245,7 @@ fn upload_returns(c: Client, r: Fields) -> bool
 fn download_returns(c: Client, r: Fields) -> bool
     ensures { λ b. ⌜ b ≡ downloadReturns c r ⌝ }
 {
-    goes_back(1, SEGMENTS_MOST + 1, c.held, c, r)
+    goes_back(1, MAX_SEGMENTS + 1, c.held, c, r)
 }
 
 // Whether the reply, with d bytes of data, answers a download's opening.
@@ -255,7 +255,7 @@ fn opens_download(d: usize, r: Fields) -> bool
     if !says(
         Form::Reply(ReplyForm::DownloadOpened),
         ReturnCode::Ok,
-        INITIALISATION,
+        INITIALISATION_PHASE,
         r,
     ) {
         return false;
@@ -267,7 +267,7 @@ fn opens_download(d: usize, r: Fields) -> bool
     if n < 1 {
         return false;
     }
-    if SEGMENTS_MOST < n {
+    if MAX_SEGMENTS < n {
         return false;
     }
     fits_segment(1, n, d, r)
@@ -280,7 +280,7 @@ fn on_upload_opening(c: Client, r: Fields) -> Decision
     if says(
         Form::Reply(ReplyForm::UploadOpened),
         ReturnCode::Ok,
-        INITIALISATION,
+        INITIALISATION_PHASE,
         r,
     ) {
         return Decision::Opened;
@@ -367,7 +367,7 @@ fn confirms(c: Client, r: Fields) -> bool
     if !says(
         Form::Reply(ReplyForm::ReceiptAnswered),
         ReturnCode::DownloadPostprocessDone,
-        RECEIPT,
+        RECEIPT_PHASE,
         r,
     ) {
         return false;
@@ -392,9 +392,9 @@ fn on_receipt(c: Client, r: Fields) -> Decision
 fn on_answer(c: Client, r: Fields, d: usize) -> Decision
     ensures { λ e. ⌜ e ≡ onAnswer (c .direction) c r d ⌝ }
 {
-    let way = c.direction;
+    let direction = c.direction;
     let step = c.step;
-    match way {
+    match direction {
         Direction::Upload => match step {
             Step::Opening => on_upload_opening(c, r),
             Step::Segment => on_upload_segment(c, r),

@@ -13,8 +13,8 @@ ghost use mathlib.Core.Path.{_≡_};
 ghost use Prim.Native.Nat.{_+_, _*_, _^_, _≤_, _<_, max};
 ghost use mathlib.Core.Bool.{true, _||_};
 ghost use lib.Dec.{eqb};
-ghost use Rattle.message.specs.Limits.{segmentBytes, segmentsMost};
-ghost use Rattle.client.specs.Run.{exchangeMost};
+ghost use Rattle.message.specs.Limits.{segmentBytes, maxSegments};
+ghost use Rattle.client.specs.Run.{maxExchange};
 ghost use Rattle.client.specs.NextRun.{beginLength, begun, stepBehind, receiptsBehind, goOn, repeated, learned};
 ghost use Rattle.client.specs.NextRun.{isNew, holding, ended};
 
@@ -22,22 +22,22 @@ ghost use Rattle.client.specs.NextRun.{isNew, holding, ended};
 const SEGMENT: u64 = SEGMENT_BYTES as u64;
 
 // The bytes that count of what is lent to begin.
-pub(crate) fn begin_length(way: Direction, l: Lengths) -> u64
-    ensures { λ n. ⌜ n ≡ beginLength way l ⌝ }
+pub(crate) fn begin_length(direction: Direction, l: Lengths) -> u64
+    ensures { λ n. ⌜ n ≡ beginLength direction l ⌝ }
 {
-    match way {
+    match direction {
         Direction::Upload => l.payload as u64,
         Direction::Download => 0,
     }
 }
 
 // The run as begun.
-pub(crate) fn begun(way: Direction, subscriber: u64, first: u64, n: u64) -> Client
-    ensures { λ r. ⌜ r ≡ begun way subscriber first n ⌝ }
+pub(crate) fn begun(direction: Direction, subscriber: u64, first: u64, n: u64) -> Client
+    ensures { λ r. ⌜ r ≡ begun direction subscriber first n ⌝ }
 {
     Client {
         stage: Stage::Running,
-        direction: way,
+        direction: direction,
         step: Step::Opening,
         subscriber,
         exchange: first,
@@ -64,20 +64,20 @@ fn download_step(k: u64, n: u64) -> Step
 }
 
 // The step behind segment k of n.
-fn step_behind(way: Direction, k: u64, n: u64) -> Step
-    ensures { λ s. ⌜ s ≡ stepBehind way k n ⌝ }
+fn step_behind(direction: Direction, k: u64, n: u64) -> Step
+    ensures { λ s. ⌜ s ≡ stepBehind direction k n ⌝ }
 {
-    match way {
+    match direction {
         Direction::Upload => Step::Segment,
         Direction::Download => download_step(k, n),
     }
 }
 
 // Whether a receipt stands behind segment k of n.
-fn receipts_behind(way: Direction, k: u64, n: u64) -> bool
-    ensures { λ b. ⌜ b ≡ receiptsBehind way k n ⌝ }
+fn receipts_behind(direction: Direction, k: u64, n: u64) -> bool
+    ensures { λ b. ⌜ b ≡ receiptsBehind direction k n ⌝ }
 {
-    match way {
+    match direction {
         Direction::Upload => false,
         Direction::Download => k == n,
     }
@@ -90,8 +90,8 @@ fn receipted_behind(c: Client, k: u64) -> bool
     if c.receipted {
         return true;
     }
-    let way = c.direction;
-    receipts_behind(way, k, c.segments)
+    let direction = c.direction;
+    receipts_behind(direction, k, c.segments)
 }
 
 fn larger(a: u64, b: u64) -> u64
@@ -105,16 +105,16 @@ fn larger(a: u64, b: u64) -> u64
 
 // The run with the request behind segment k outstanding.
 pub(crate) fn go_on(k: u64, repeats: u64, c: Client) -> Client
-    requires { ⌜ (k + 1 < 2 ^ 64) × (c .exchange ≤ exchangeMost) ⌝ }
+    requires { ⌜ (k + 1 < 2 ^ 64) × (c .exchange ≤ maxExchange) ⌝ }
     ensures { λ r. ⌜ r ≡ goOn k repeats c ⌝ }
 {
     let stage = c.stage;
-    let way = c.direction;
+    let direction = c.direction;
     let transaction = c.transaction;
     Client {
         stage,
-        direction: way,
-        step: step_behind(way, k, c.segments),
+        direction: direction,
+        step: step_behind(direction, k, c.segments),
         subscriber: c.subscriber,
         exchange: c.exchange + 1,
         repeats,
@@ -131,7 +131,7 @@ pub(crate) fn go_on(k: u64, repeats: u64, c: Client) -> Client
 
 // The run with the same request outstanding again.
 pub(crate) fn repeated(c: Client) -> Client
-    requires { ⌜ (c .repeats + 1 < 2 ^ 64) × (c .exchange ≤ exchangeMost) ⌝ }
+    requires { ⌜ (c .repeats + 1 < 2 ^ 64) × (c .exchange ≤ maxExchange) ⌝ }
     ensures { λ r. ⌜ r ≡ repeated c ⌝ }
 {
     let mut next = c;
@@ -169,8 +169,8 @@ fn learned_download(r: Fields, c: Client) -> Client
 pub(crate) fn learned(r: Fields, c: Client) -> Client
     ensures { λ k. ⌜ k ≡ learned (c .direction) r c ⌝ }
 {
-    let way = c.direction;
-    match way {
+    let direction = c.direction;
+    match direction {
         Direction::Upload => learned_upload(r, c),
         Direction::Download => learned_download(r, c),
     }
@@ -193,8 +193,8 @@ fn is_next(s: u64, held: u64) -> bool
 pub(crate) fn is_new(c: Client) -> bool
     ensures { λ b. ⌜ b ≡ isNew (c .direction) c ⌝ }
 {
-    let way = c.direction;
-    match way {
+    let direction = c.direction;
+    match direction {
         Direction::Upload => false,
         Direction::Download => is_next(c.segment, c.held),
     }
@@ -202,7 +202,7 @@ pub(crate) fn is_new(c: Client) -> bool
 
 // The run with its outstanding segment, of d bytes, held.
 pub(crate) fn holding(d: usize, c: Client) -> Client
-    requires { ⌜ (isNew (c .direction) c ≡ true → (c .segment ≤ segmentsMost) × (d ≤ segmentBytes)) ⌝ }
+    requires { ⌜ (isNew (c .direction) c ≡ true → (c .segment ≤ maxSegments) × (d ≤ segmentBytes)) ⌝ }
     ensures { λ r. ⌜ r ≡ holding d c ⌝ }
 {
     if !is_new(c) {
@@ -218,12 +218,12 @@ pub(crate) fn holding(d: usize, c: Client) -> Client
 pub(crate) fn ended(w: Word, c: Client) -> Client
     ensures { λ r. ⌜ r ≡ ended w c ⌝ }
 {
-    let way = c.direction;
+    let direction = c.direction;
     let step = c.step;
     let transaction = c.transaction;
     Client {
         stage: Stage::Ended(w),
-        direction: way,
+        direction: direction,
         step,
         subscriber: c.subscriber,
         exchange: c.exchange,

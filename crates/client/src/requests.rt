@@ -79,8 +79,8 @@ fn download_request(c: Client, time: u64, nonce: [u8; NONCE_BYTES]) -> Fields
 pub(crate) fn request_of(c: Client, time: u64, nonce: [u8; NONCE_BYTES]) -> Fields
     ensures { λ r. ⌜ r ≡ outstanding c time nonce ⌝ }
 {
-    let way = c.direction;
-    match way {
+    let direction = c.direction;
+    match direction {
         Direction::Upload => upload_request(c, time, nonce),
         Direction::Download => download_request(c, time, nonce),
     }
@@ -108,9 +108,9 @@ fn upload_data(step: Step, s: u64, payload: &[u8]) -> &[u8]
 pub(crate) fn data_of(c: Client, payload: &[u8]) -> &[u8]
     ensures { λ r. ⌜ now r ≡ outstandingData c (now (payload .entry)) ⌝ }
 {
-    let way = c.direction;
+    let direction = c.direction;
     let step = c.step;
-    match way {
+    match direction {
         Direction::Upload => upload_data(step, c.segment, payload),
         Direction::Download => no_data(payload),
     }

@@ -1,9 +1,9 @@
 // Which call is given which number.
 use crate::run::Client;
 use crate::run::Direction;
-use crate::run::EXCHANGE_MOST;
-use crate::run::FIRST_EXCHANGE_MOST;
 use crate::run::Lengths;
+use crate::run::MAX_EXCHANGE;
+use crate::run::MAX_FIRST_EXCHANGE;
 use crate::run::REQUEST_ROOM;
 use crate::run::Refusal;
 use crate::run::Ruling;
@@ -38,10 +38,10 @@ fn wrong_for_download(l: Lengths) -> bool
 }
 
 // Whether a length does not serve the direction.
-fn wrong_buffers(way: Direction, l: Lengths) -> bool
-    ensures { λ b. ⌜ b ≡ wrongBuffers way l ⌝ }
+fn wrong_buffers(direction: Direction, l: Lengths) -> bool
+    ensures { λ b. ⌜ b ≡ wrongBuffers direction l ⌝ }
 {
-    match way {
+    match direction {
         Direction::Upload => wrong_for_upload(l),
         Direction::Download => wrong_for_download(l),
     }
@@ -51,8 +51,8 @@ fn wrong_buffers(way: Direction, l: Lengths) -> bool
 fn changed_length(c: Client, l: Lengths) -> bool
     ensures { λ b. ⌜ b ≡ changedLength (c .direction) c l ⌝ }
 {
-    let way = c.direction;
-    match way {
+    let direction = c.direction;
+    match direction {
         Direction::Upload => l.payload as u64 != c.length,
         Direction::Download => false,
     }
@@ -62,8 +62,8 @@ fn changed_length(c: Client, l: Lengths) -> bool
 fn wrong_lengths(c: Client, l: Lengths) -> bool
     ensures { λ b. ⌜ b ≡ wrongLengths c l ⌝ }
 {
-    let way = c.direction;
-    if wrong_buffers(way, l) {
+    let direction = c.direction;
+    if wrong_buffers(direction, l) {
         return true;
     }
     changed_length(c, l)
@@ -93,17 +93,17 @@ pub fn is_begun(stage: Stage) -> bool
 // Whether begin is given a number.
 pub(crate) fn begin_ruling(
     c: Client,
-    way: Direction,
+    direction: Direction,
     subscriber: u64,
     first: u64,
     l: Lengths,
 ) -> Ruling
-    ensures { λ r. ⌜ r ≡ beginRuling c way subscriber first l ⌝ }
+    ensures { λ r. ⌜ r ≡ beginRuling c direction subscriber first l ⌝ }
 {
-    if wrong_buffers(way, l) {
+    if wrong_buffers(direction, l) {
         return Ruling::Refuse(Refusal::WrongBuffer);
     }
-    if FIRST_EXCHANGE_MOST < first {
+    if MAX_FIRST_EXCHANGE < first {
         return Ruling::Refuse(Refusal::ExchangeTooHigh);
     }
     if no_subscriber(subscriber) {
@@ -133,7 +133,7 @@ fn ruling_running(c: Client, l: Lengths) -> Ruling
     if wrong_lengths(c, l) {
         return Ruling::Refuse(Refusal::WrongBuffer);
     }
-    if EXCHANGE_MOST < c.exchange {
+    if MAX_EXCHANGE < c.exchange {
         return Ruling::Refuse(Refusal::ExchangeTooHigh);
     }
     Ruling::Accept

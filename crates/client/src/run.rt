@@ -10,10 +10,10 @@ pub const NONCE_BYTES: usize = 12;
 pub const REQUEST_ROOM: usize = 303;
 
 // The highest first exchange number of a run.
-pub const FIRST_EXCHANGE_MOST: u64 = 4_294_967_200;
+pub const MAX_FIRST_EXCHANGE: u64 = 4_294_967_200;
 
 // The highest exchange number: its field has 4 bytes.
-pub const EXCHANGE_MOST: u64 = 4_294_967_295;
+pub const MAX_EXCHANGE: u64 = 4_294_967_295;
 
 // The direction of a run's order.
 pub enum Direction {

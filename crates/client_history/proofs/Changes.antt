@@ -16,7 +16,7 @@ use Rattle.frame.specs.Row.{dataOf}
 use Rattle.frame_table.specs.Table.{rowFits, findForm, formOf}
 use Rattle.octets.proofs.Tests.{never}
 use Rattle.message.specs.declared.codes.ReturnCode.the-variants as code
-use Rattle.message.specs.Limits.{initialisation}
+use Rattle.message.specs.Limits.{initialisationPhase}
 use Rattle.client.specs.declared.run.Answer.{Answer}
 use Rattle.client.specs.declared.run.Answer.the-variants as answer
 use Rattle.client.specs.declared.run.Client.{Client}
@@ -97,7 +97,7 @@ module _ (Given : Fields → List ℕ → Fields → List ℕ → Type 0) where
   -- the next run and file buffer where a request is issued
   pub data Move (p : Past) : Client → List ℕ → Type 0 where
     upload-opens : {r : Fields} {d : List ℕ} → p .run .direction ≡ Upload → p .run .step ≡ step.Opening → Answering p r d
-        → says forms.UploadOpened code.Ok initialisation r ≡ true
+        → says forms.UploadOpened code.Ok initialisationPhase r ≡ true
         → Move p (goOn 0 (p .run .repeats) (learned Upload r (p .run))) (p .file)
     takes : {r : Fields} {d : List ℕ} → p .run .direction ≡ Upload → p .run .step ≡ step.Segment → Answering p r d
         → takesSegment (p .run) r ≡ true → Move p (goOn (p .run .segment) (p .run .repeats) (p .run)) (p .file)
@@ -127,8 +127,8 @@ module _ (Given : Fields → List ℕ → Fields → List ℕ → Type 0) where
 
   pub data Change (p : Past) : Past → Type 0 where
     nothing : Change p p
-    begins-with : (way : Direction) (s first : ℕ) (l : Lent) → Begins (p .run) way s first (lengthsOf l)
-        → Change p (issuing (begun way s first (beginLength way (lengthsOf l))) (l .payload) (l .file) (l .time) (l .nonce) (p .issues))
+    begins-with : (direction : Direction) (s first : ℕ) (l : Lent) → Begins (p .run) direction s first (lengthsOf l)
+        → Change p (issuing (begun direction s first (beginLength direction (lengthsOf l))) (l .payload) (l .file) (l .time) (l .nonce) (p .issues))
     goes : {next : Client} {file : List ℕ} (l : Lent) → Accepted (p .run) (lengthsOf l) → Kept l p → Move p next file
         → Change p (issuing next (p .payload) file (l .time) (l .nonce) (p .issues))
     closes : {w : Word} (l : Lent) → Accepted (p .run) (lengthsOf l) → Kept l p → Ends p w → Change p (ending w p)
@@ -173,9 +173,9 @@ module _ (Given : Fields → List ℕ → Fields → List ℕ → Type 0) where
         (subst (Move p (goOn (c .segment) (c .repeats) (holding (length d) c))) (sym (file-upload c up d (p .file)))
         (subst (λ (n : Client). Move p (goOn (c .segment) (c .repeats) n) (p .file)) (sym (holding-upload c up (length d))) m))
 
-    opened : (way : Direction) (r : Fields) (d : List ℕ) → p .run .direction ≡ way → Leads (taken (p .run) (learned way r (p .run)) d l)
+    opened : (direction : Direction) (r : Fields) (d : List ℕ) → p .run .direction ≡ direction → Leads (taken (p .run) (learned direction r (p .run)) d l)
         → Leads (taken (p .run) (learned (p .run .direction) r (p .run)) d l)
-    opened way r d e h = subst (λ (w : Direction). Leads (taken (p .run) (learned w r (p .run)) d l)) (sym e) h
+    opened direction r d e h = subst (λ (w : Direction). Leads (taken (p .run) (learned w r (p .run)) d l)) (sym e) h
 
     ends : {w : Word} → Ends p w → Change p (record { run = ended w (p .run); payload = l .payload; file = l .file; issues = p .issues })
     ends {w} m =
@@ -222,15 +222,15 @@ module _ (Given : Fields → List ℕ → Fields → List ℕ → Type 0) where
         let k = carryOut decision (p .run) r d l in
         by-number p l k (k .answer) (λ n. carried p l (f n .0) (accepted (p .run) (lengthsOf l) e) (f n .1) z)
 
-  begins-change : (p : Past) (way : Direction) (s first : ℕ) (l : Lent) (u : Ruling) → beginRuling (p .run) way s first (lengthsOf l) ≡ u
-      → let k = beginBy u (p .run) way s first l in Change p (left (k .answer) k l p)
-  begins-change p way s first l (Refuse x) e = nothing
-  begins-change p way s first l Accept e =
-      by-issue (Change p) (p .run) _ (l .file) l p nothing (begins-with way s first l (begins (p .run) way s first (lengthsOf l) e))
+  begins-change : (p : Past) (direction : Direction) (s first : ℕ) (l : Lent) (u : Ruling) → beginRuling (p .run) direction s first (lengthsOf l) ≡ u
+      → let k = beginBy u (p .run) direction s first l in Change p (left (k .answer) k l p)
+  begins-change p direction s first l (Refuse x) e = nothing
+  begins-change p direction s first l Accept e =
+      by-issue (Change p) (p .run) _ (l .file) l p nothing (begins-with direction s first l (begins (p .run) direction s first (lengthsOf l) e))
 
   pub changes : (p : Past) (e : Event) → Fair Given e p → Change p (after e p)
   unfolding after beginCall replyCall noReplyCall
-  changes p (Begin way s first l) f = begins-change p way s first l (beginRuling (p .run) way s first (lengthsOf l)) refl
+  changes p (Begin direction s first l) f = begins-change p direction s first l (beginRuling (p .run) direction s first (lengthsOf l)) refl
   changes p (Reply frame l) f =
       let r = readReply frame in
       let d = dataOf frame in

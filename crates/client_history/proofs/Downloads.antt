@@ -15,7 +15,7 @@ use Rattle.octets.specs.Bytes.{overwrite}
 use Rattle.frame_table.specs.Names.{transaction, segments, segment, form}
 use Rattle.octets.proofs.Tests.{never, and-true, or-left, or-right}
 use Rattle.message.specs.declared.codes.ReturnCode.the-variants as code
-use Rattle.message.specs.Limits.{segmentBytes, fileBytes, initialisation, receiptPhase}
+use Rattle.message.specs.Limits.{segmentBytes, fileBytes, initialisationPhase, receiptPhase}
 use Rattle.message.specs.Segments.{segmentsOf, segmentOf}
 use Rattle.client.specs.declared.run.Client.{Client}
 use Rattle.client.specs.declared.run.Direction.{Direction}
@@ -332,7 +332,7 @@ module _ (Given : Fields → List ℕ → Fields → List ℕ → Type 0) where
             is-new : isNew (c .direction) k ≡ true
             is-new = ap (λ (w : Direction). isNew w k) (u .direction) ∙ eq-eqb 1 (c .held + 1) (let z = at .0 in omega arith)
 
-            says-so : Says forms.DownloadOpened code.Ok initialisation r
+            says-so : Says forms.DownloadOpened code.Ok initialisationPhase r
             says-so = opened-says (length d) r h
 
             asked : form (outstanding c (a .time) (a .nonce)) ≡ forms.DownloadOpening

@@ -6,7 +6,7 @@ use native.Mathlib.Omega.{arith}
 use lib.ListN.{length, take, drop, length-append, length-take, length-drop}
 use lib.Seq.{take-all, take-add, take-at, length-take-le}
 use Rattle.octets.specs.Bytes.{overwrite}
-use Rattle.message.specs.Limits.{segmentBytes, segmentsMost, fileBytes}
+use Rattle.message.specs.Limits.{segmentBytes, maxSegments, fileBytes}
 use Rattle.message.specs.Segments.{segmentsOf, segmentOf}
 
 -- "N is the file length divided by 256, rounded up"
@@ -18,7 +18,7 @@ pub behind-last : (n : ℕ) → n ≤ segmentBytes * segmentsOf n
 unfolding segmentsOf
 behind-last n = omega arith
 
-pub most-segments : (n : ℕ) → n ≤ fileBytes → segmentsOf n ≤ segmentsMost
+pub most-segments : (n : ℕ) → n ≤ fileBytes → segmentsOf n ≤ maxSegments
 unfolding segmentsOf
 most-segments n h = omega arith
 

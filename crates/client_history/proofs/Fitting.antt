@@ -16,7 +16,7 @@ use Rattle.frame_table.specs.Table.{isReplyForm, rowFits, findForm, formOf}
 use Rattle.message.specs.declared.codes.ReturnCode.{ReturnCode}
 use Rattle.message.specs.declared.codes.ReturnCode.the-variants as code
 use Rattle.message.specs.Codes.{codeField}
-use Rattle.message.specs.Limits.{segmentBytes, segmentsMost, initialisation, transfer, receiptPhase}
+use Rattle.message.specs.Limits.{segmentBytes, maxSegments, initialisationPhase, transferPhase, receiptPhase}
 use Rattle.message.specs.Replies.{uploadOpened, downloadOpened, segmentTaken, downloadSegment, receiptAnswered}
 use Rattle.message.specs.Segments.{segmentsOf, segmentOf, lastMarkOf}
 use Rattle.client.specs.declared.run.Client.{Client}
@@ -83,7 +83,7 @@ module _ {x : Form} {k : ReturnCode} {ph : ℕ} (c : Client) (r : Fields) (f : F
   pub fits-answer : isReplyForm x ≡ true → (formIndex x ≡ formIndex forms.Unreadable → ⊥) → isAnswer c r ≡ true
   fits-answer a b = answer-true c r (ap isReplyForm (f .form-is) ∙ a) (λ e. b (sym (ap formIndex (f .form-is)) ∙ e)) (f .number)
 
-pub answers-true : (x : Form) (c : Client) (r : Fields) → Fits x code.Ok transfer (c .exchange) r → transaction r ≡ c .transaction
+pub answers-true : (x : Form) (c : Client) (r : Fields) → Fits x code.Ok transferPhase (c .exchange) r → transaction r ≡ c .transaction
     → segment r ≡ c .segment → answersSegment x c r ≡ true
 unfolding answersSegment
 answers-true x c r f o j = and-intro (and-intro (fits-says c r f) (own-true c r o)) (eq-eqb _ _ j)
@@ -91,19 +91,19 @@ answers-true x c r f o j = and-intro (and-intro (fits-says c r f) (own-true c r 
 -- ---- the replies of the bank
 
 module _ (x n j mark : ℕ) (t : Bits128) where
-  pub opened-fits : Fits forms.UploadOpened code.Ok initialisation x (uploadOpened x t n)
+  pub opened-fits : Fits forms.UploadOpened code.Ok initialisationPhase x (uploadOpened x t n)
   unfolding uploadOpened formOf findForm rowFits
   opened-fits = record { form-is = refl; code-is = refl; phase-is = refl; number = refl }
 
-  pub taken-fits : Fits forms.SegmentTaken code.Ok transfer x (segmentTaken x t j)
+  pub taken-fits : Fits forms.SegmentTaken code.Ok transferPhase x (segmentTaken x t j)
   unfolding segmentTaken formOf findForm rowFits
   taken-fits = record { form-is = refl; code-is = refl; phase-is = refl; number = refl }
 
-  pub download-fits : Fits forms.DownloadOpened code.Ok initialisation x (downloadOpened x n t mark)
+  pub download-fits : Fits forms.DownloadOpened code.Ok initialisationPhase x (downloadOpened x n t mark)
   unfolding downloadOpened formOf findForm rowFits
   download-fits = record { form-is = refl; code-is = refl; phase-is = refl; number = refl }
 
-  pub segment-fits : Fits forms.DownloadSegment code.Ok transfer x (downloadSegment x t j mark)
+  pub segment-fits : Fits forms.DownloadSegment code.Ok transferPhase x (downloadSegment x t j mark)
   unfolding downloadSegment formOf findForm rowFits
   segment-fits = record { form-is = refl; code-is = refl; phase-is = refl; number = refl }
 
@@ -144,7 +144,7 @@ unfolding fitsData
 data-at s n d true e a b f = rw e (and-intro (le-leb 1 d a) (le-leb d segmentBytes b))
 data-at s n d false e a b f = rw e (eq-eqb d segmentBytes (f (eqb-false s n e)))
 
-pub file-fits : (f : List ℕ) (j n : ℕ) (r : Fields) (d : List ℕ) → 1 ≤ j → j ≤ n → n ≤ segmentsMost → n ≡ segmentsOf (length f)
+pub file-fits : (f : List ℕ) (j n : ℕ) (r : Fields) (d : List ℕ) → 1 ≤ j → j ≤ n → n ≤ maxSegments → n ≡ segmentsOf (length f)
     → d ≡ segmentOf f j
     → lastMark r ≡ lastMarkOf j n → fitsSegment j n (length d) r ≡ true
 unfolding fitsSegment
@@ -153,7 +153,7 @@ file-fits f j n r d a b m e g k =
     let h = ap length g in
     let some = segment-some f j a w in
     let most = segment-most f j a w in
-    and-intro (and-intro (le-leb j segmentsMost (omega arith)) (eq-eqb _ _ k))
+    and-intro (and-intro (le-leb j maxSegments (omega arith)) (eq-eqb _ _ k))
     (data-at j n (length d) (eqb j n) refl (omega arith) (omega arith) (λ z. h ∙ segment-full f j a w (λ y. z (y ∙ sym e))))
 
 -- ---- what a fitting reply leads to
@@ -168,7 +168,7 @@ module _ (c : Client) (r : Fields) (n : ℕ) (a : isAnswer c r ≡ true) where
   download-decision w s e = rw a (ap (λ (z : Direction). onAnswer z c r n) w ∙ ap (λ (z : Step). onDownload z c r n) e)
 
 module _ (c : Client) (r : Fields) (n : ℕ) where
-  pub to-opened : says forms.UploadOpened code.Ok initialisation r ≡ true → onUpload step.Opening c r ≡ Opened
+  pub to-opened : says forms.UploadOpened code.Ok initialisationPhase r ≡ true → onUpload step.Opening c r ≡ Opened
   unfolding onUpload
   to-opened h = rw h
 

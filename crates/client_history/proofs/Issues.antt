@@ -62,12 +62,12 @@ module _ (w : Word) (c : Client) (time : ℕ) (nonce payload : List ℕ) where
   download-ended step.Segment = refl
   download-ended step.Receipt = refl
 
-  request-ended : (way : Direction) → requestBy way (ended w c) time nonce ≡ requestBy way c time nonce
+  request-ended : (direction : Direction) → requestBy direction (ended w c) time nonce ≡ requestBy direction c time nonce
   unfolding ended
   request-ended Upload = upload-ended (c .step)
   request-ended Download = download-ended (c .step)
 
-  data-ended : (way : Direction) → dataBy way (ended w c) payload ≡ dataBy way c payload
+  data-ended : (direction : Direction) → dataBy direction (ended w c) payload ≡ dataBy direction c payload
   unfolding ended
   data-ended Upload = refl
   data-ended Download = refl

@@ -140,8 +140,8 @@ module _ (Given : Fields → List ℕ → Fields → List ℕ → Type 0) (fileA
 
   -- ---- the begin
 
-  begins : (p : Past) (way : Direction) (s first : ℕ) (l : Lent) → Begins (p .run) way s first (lengthsOf l) → p .issues ≡ []
-      → Inv (issuing (begun way s first (beginLength way (lengthsOf l))) (l .payload) (l .file) (l .time) (l .nonce) (p .issues))
+  begins : (p : Past) (direction : Direction) (s first : ℕ) (l : Lent) → Begins (p .run) direction s first (lengthsOf l) → p .issues ≡ []
+      → Inv (issuing (begun direction s first (beginLength direction (lengthsOf l))) (l .payload) (l .file) (l .time) (l .nonce) (p .issues))
   unfolding begun
   begins p Upload s first l b e =
       upload (begun-first _ (l .payload) (l .file) (l .time) (l .nonce) (p .issues) refl (b .low) (b .high) e)
@@ -157,9 +157,9 @@ module _ (Given : Fields → List ℕ → Fields → List ℕ → Type 0) (fileA
 
   kept-by : {p q : Past} → Change Given p q → Inv p → Inv q
   kept-by nothing i = i
-  kept-by {p} (begins-with way s first l b) (not-begun e f) = begins p way s first l b f
-  kept-by (begins-with way s first l b) (upload g u) = never (sym (b .fresh) ∙ g .stage)
-  kept-by (begins-with way s first l b) (download g u) = never (sym (b .fresh) ∙ g .stage)
+  kept-by {p} (begins-with direction s first l b) (not-begun e f) = begins p direction s first l b f
+  kept-by (begins-with direction s first l b) (upload g u) = never (sym (b .fresh) ∙ g .stage)
+  kept-by (begins-with direction s first l b) (download g u) = never (sym (b .fresh) ∙ g .stage)
   kept-by (goes l a k m) (not-begun e f) = idle e (a .running)
   kept-by {p} (goes l a k m) (upload b u) = upload-goes p l a k b u m
   kept-by {p} (goes l a k m) (download b u) = download-goes p l a k b u m

@@ -16,7 +16,7 @@ use Rattle.frame.specs.Reader.{readReply}
 use Rattle.frame.specs.Row.{dataOf}
 use Rattle.message.specs.declared.codes.ReturnCode.the-variants as code
 use Rattle.message.specs.Codes.{codeField}
-use Rattle.message.specs.Limits.{segmentsMost, fileBytes, initialisation}
+use Rattle.message.specs.Limits.{maxSegments, fileBytes, initialisationPhase}
 use Rattle.message.specs.Replies.{uploadOpened, downloadOpened, segmentTaken, downloadSegment, receiptAnswered}
 use Rattle.message.specs.Segments.{segmentsOf, segmentOf, lastMarkOf}
 use Rattle.client.specs.declared.run.Client.{Client}
@@ -144,20 +144,20 @@ by-decision P p frame l decision e f = go (runRuling (p .run .stage) (p .run) (l
 unfoldable next : Client → List ℕ → Client
 next k d = goOn (k .segment) (k .repeats) (holding (length d) k)
 
-next-in-turn : (k : Client) (way : Direction) (j : ℕ) (d payload file : List ℕ) (l : Lent) (p : Past) → k .stage ≡ stage.Running
-    → k .direction ≡ way → k .segment ≡ j → k .repeats ≡ 0
-    → InTurn (issuing (next k d) payload file (l .time) (l .nonce) (p .issues)) way (stepBehind way j (k .segments)) (j + 1)
+next-in-turn : (k : Client) (direction : Direction) (j : ℕ) (d payload file : List ℕ) (l : Lent) (p : Past) → k .stage ≡ stage.Running
+    → k .direction ≡ direction → k .segment ≡ j → k .repeats ≡ 0
+    → InTurn (issuing (next k d) payload file (l .time) (l .nonce) (p .issues)) direction (stepBehind direction j (k .segments)) (j + 1)
     (k .exchange + 1)
 unfolding next goOn
-next-in-turn k way j d payload file l p running w e z =
+next-in-turn k direction j d payload file l p running w e z =
     let s = held-same d [] k in
     record {
       running = s .0 .stage ∙ running;
       direction = s .0 .direction ∙ w;
       step =
           ap (λ (x : Direction). stepBehind x (k .segment) (holding (length d) k .segments)) (s .0 .direction ∙ w)
-          ∙ ap (λ (x : ℕ). stepBehind way x (holding (length d) k .segments)) e
-          ∙ ap (stepBehind way j) (s .1 .segments);
+          ∙ ap (λ (x : ℕ). stepBehind direction x (holding (length d) k .segments)) e
+          ∙ ap (stepBehind direction j) (s .1 .segments);
       segment = ap (λ (x : ℕ). x + 1) e;
       repeats = z;
       number = ap (λ (x : ℕ). x + 1) (s .0 .exchange);
@@ -188,13 +188,13 @@ module _ (p : Past) (frame : List ℕ) (l : Lent) (done : answerNumber (replyCal
   unfolding taken next
   by-next P k new h = by-issued P c (next k d) (fileWith k d (l .file)) l p new h
 
-  by-opened : (P : Past → Type 0) (way : Direction) → c .direction ≡ way → onReply c r (length d) ≡ Opened
-      → P (issuing (next (learned way r c) d) (l .payload) (fileWith (learned way r c) d (l .file)) (l .time) (l .nonce) (p .issues))
+  by-opened : (P : Past → Type 0) (direction : Direction) → c .direction ≡ direction → onReply c r (length d) ≡ Opened
+      → P (issuing (next (learned direction r c) d) (l .payload) (fileWith (learned direction r c) d (l .file)) (l .time) (l .nonce) (p .issues))
       → P then
-  by-opened P way w e new =
+  by-opened P direction w e new =
       by-decision P p frame l Opened e
       (subst (λ (x : Direction). let k = taken c (learned x r c) d l in answerNumber (k .answer) ≡ 0 → P (left (k .answer) k l p)) (sym w)
-      (by-next P (learned way r c) new)) done
+      (by-next P (learned direction r c) new)) done
 
   by-advanced : (P : Past → Type 0) → onReply c r (length d) ≡ Advance
       → P (issuing (next c d) (l .payload) (fileWith c d (l .file)) (l .time) (l .nonce) (p .issues)) → P then
@@ -270,7 +270,7 @@ module _ (p : Past) (frame : List ℕ) (l : Lent) (done : answerNumber (replyCal
       let a = fits-answer c r x refl (λ z. omega arith) in
       let sn : segments r ≡ n = ap segments e ∙ y .1 in
       let some : 1 ≤ segments r = let z = some-segment (length f) least in omega arith in
-      let few : segments r ≤ segmentsMost = let z = most-segments (length f) most in omega arith in
+      let few : segments r ≤ maxSegments = let z = most-segments (length f) most in omega arith in
       let whole =
       file-fits f 1 (segments r) r d (omega arith) some few (sn ∙ m) g (ap lastMark e ∙ y .3 ∙ ap (lastMarkOf 1) (sym sn)) in
       let fits =
@@ -299,7 +299,7 @@ module _ (p : Past) (frame : List ℕ) (l : Lent) (done : answerNumber (replyCal
       let mark = lastMarkOf j (c .segments) in
       let x = subst (Fits _ _ _ _) (sym e) (segment-fits (c .exchange) 0 j mark (c .transaction)) in
       let y = segment-fields (c .exchange) 0 j mark (c .transaction) in
-      let few : c .segments ≤ segmentsMost = let z = most-segments (length f) most in omega arith in
+      let few : c .segments ≤ maxSegments = let z = most-segments (length f) most in omega arith in
       let s = sym (i .segment) in
       let whole = file-fits f j (c .segments) r d least within few m g (ap lastMark e ∙ y .2) in
       let fits =
@@ -340,7 +340,7 @@ at-opening P c r n at other ignored closed = by-test P (isAnswer c r) (λ _. by 
   where
     by : (w : Direction) → P (onAnswer w c r n)
     by Upload = subst (λ (s : Step). P (onUpload s c r)) (sym at)
-        (by-test P (says forms.UploadOpened code.Ok initialisation r) (λ h. absurd (other (said _ _ _ r h .code-is))) (λ _. closed))
+        (by-test P (says forms.UploadOpened code.Ok initialisationPhase r) (λ h. absurd (other (said _ _ _ r h .code-is))) (λ _. closed))
     by Download = subst (λ (s : Step). P (onDownload s c r n)) (sym at)
         (by-test P (opensDownload n r) (λ h. absurd (other (opened-says n r h .code-is))) (λ _. closed))
 
@@ -362,28 +362,28 @@ opening-refused p frame l done b at other =
 -- ---- THE BEGIN
 
 -- a begin leaves the opening outstanding under the first exchange number
-pub begins : (p : Past) (way : Direction) (s first : ℕ) (l : Lent) → answerNumber (beginCall (p .run) way s first l .answer) ≡ 0
-    → let q = after (Begin way s first l) p in
-    InTurn q way step.Opening 0 first × (q .run .subscriber ≡ s) × (q .payload ≡ l .payload)
+pub begins : (p : Past) (direction : Direction) (s first : ℕ) (l : Lent) → answerNumber (beginCall (p .run) direction s first l .answer) ≡ 0
+    → let q = after (Begin direction s first l) p in
+    InTurn q direction step.Opening 0 first × (q .run .subscriber ≡ s) × (q .payload ≡ l .payload)
 unfolding after beginCall begun
-begins p way s first l = go (beginRuling (p .run) way s first (lengthsOf l))
+begins p direction s first l = go (beginRuling (p .run) direction s first (lengthsOf l))
   where
     Goal : Past → Type 0
-    Goal q = InTurn q way step.Opening 0 first × (q .run .subscriber ≡ s) × (q .payload ≡ l .payload)
+    Goal q = InTurn q direction step.Opening 0 first × (q .run .subscriber ≡ s) × (q .payload ≡ l .payload)
 
-    go : (u : Ruling) → let k = beginBy u (p .run) way s first l in answerNumber (k .answer) ≡ 0 → Goal (left (k .answer) k l p)
+    go : (u : Ruling) → let k = beginBy u (p .run) direction s first l in answerNumber (k .answer) ≡ 0 → Goal (left (k .answer) k l p)
     go (Refuse x) = numbered x
     go Accept =
         by-issued Goal (p .run) _ (l .file) l p
         (record { running = refl; direction = refl; step = refl; segment = refl; repeats = refl; number = refl }, refl, refl)
 
 -- a run already begun is not begun again
-pub begin-fresh : (c : Client) (way : Direction) (s first : ℕ) (l : Lent) → answerNumber (beginCall c way s first l .answer) ≡ 0
+pub begin-fresh : (c : Client) (direction : Direction) (s first : ℕ) (l : Lent) → answerNumber (beginCall c direction s first l .answer) ≡ 0
     → isBegun (c .stage) ≡ false
 unfolding beginCall
-begin-fresh c way s first l = go (beginRuling c way s first (lengthsOf l)) refl
+begin-fresh c direction s first l = go (beginRuling c direction s first (lengthsOf l)) refl
   where
-    go : (u : Ruling) → beginRuling c way s first (lengthsOf l) ≡ u → answerNumber (beginBy u c way s first l .answer) ≡ 0
+    go : (u : Ruling) → beginRuling c direction s first (lengthsOf l) ≡ u → answerNumber (beginBy u c direction s first l .answer) ≡ 0
         → isBegun (c .stage) ≡ false
     go (Refuse x) e h = numbered x h
-    go Accept e h = rulings.begins c way s first (lengthsOf l) e .fresh
+    go Accept e h = rulings.begins c direction s first (lengthsOf l) e .fresh

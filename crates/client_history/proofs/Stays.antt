@@ -118,7 +118,7 @@ module _ (Given : Fields → List ℕ → Fields → List ℕ → Type 0) where
     number = λ h. refl;
     segments = λ h. refl;
   }
-  steady-by b (begins-with way s first l g) = never (sym (g .fresh) ∙ b)
+  steady-by b (begins-with direction s first l g) = never (sym (g .fresh) ∙ b)
   steady-by {p} b (goes l a k m) = moved p b l m
   steady-by {p} b (closes {w} l a k m) = record {
     begun = refl;
@@ -146,13 +146,13 @@ module _ (p : Past) (w : Word) (e : p .run .stage ≡ stage.Ended w) where
   ruled l decision r d (Refuse x) h = refl
   ruled l decision r d Accept h = not-running e (accepted (p .run) (lengthsOf l) h .running)
 
-  begin-ruled : (way : Direction) (s first : ℕ) (l : Lent) (u : Ruling) → beginRuling (p .run) way s first (lengthsOf l) ≡ u
-      → let k = beginBy u (p .run) way s first l in left (k .answer) k l p ≡ p
-  begin-ruled way s first l (Refuse x) h = refl
-  begin-ruled way s first l Accept h = never (sym (begins (p .run) way s first (lengthsOf l) h .fresh) ∙ ap isBegun e)
+  begin-ruled : (direction : Direction) (s first : ℕ) (l : Lent) (u : Ruling) → beginRuling (p .run) direction s first (lengthsOf l) ≡ u
+      → let k = beginBy u (p .run) direction s first l in left (k .answer) k l p ≡ p
+  begin-ruled direction s first l (Refuse x) h = refl
+  begin-ruled direction s first l Accept h = never (sym (begins (p .run) direction s first (lengthsOf l) h .fresh) ∙ ap isBegun e)
 
   pub ended-stays : (v : Event) → after v p ≡ p
   unfolding after beginCall replyCall noReplyCall
-  ended-stays (Begin way s first l) = begin-ruled way s first l _ refl
+  ended-stays (Begin direction s first l) = begin-ruled direction s first l _ refl
   ended-stays (Reply frame l) = ruled l _ (readReply frame) (dataOf frame) _ refl
   ended-stays (NoReply l) = ruled l _ noFields [] _ refl

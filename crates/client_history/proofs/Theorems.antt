@@ -14,7 +14,7 @@ use Rattle.frame_table.specs.Names.{subscriber, exchange, transaction, segment,
 use Rattle.frame.specs.Reader.{readReply}
 use Rattle.frame.specs.Row.{dataOf}
 use Rattle.octets.proofs.Tests.{never}
-use Rattle.message.specs.Limits.{segmentsMost}
+use Rattle.message.specs.Limits.{maxSegments}
 use Rattle.message.specs.Segments.{segmentsOf}
 use Rattle.client.specs.declared.run.Direction.the-variants.{Upload, Download}
 use Rattle.client.specs.declared.run.Stage.{Stage}
@@ -195,7 +195,7 @@ module _ (Given : Fields → List ℕ → Fields → List ℕ → Type 0) (fileA
 
       -- "It cuts the payload at 256 bytes": 1 to 15 segments
       pub upload-segments : (p .run .segments ≡ segmentsOf (length (p .payload)))
-          × (1 ≤ p .run .segments) × (p .run .segments ≤ segmentsMost)
+          × (1 ≤ p .run .segments) × (p .run .segments ≤ maxSegments)
       upload-segments = let u = upload-run in (u .number, u .some, u .most)
 
       -- an upload run issues openings and transfers only

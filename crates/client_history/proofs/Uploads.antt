@@ -14,7 +14,7 @@ use Rattle.frame_table.specs.Forms as forms
 use Rattle.frame_table.specs.Names.{transaction, segment, form}
 use Rattle.octets.proofs.Tests.{and-true}
 use Rattle.message.specs.declared.codes.ReturnCode.the-variants as code
-use Rattle.message.specs.Limits.{segmentsMost, fileBytes, initialisation}
+use Rattle.message.specs.Limits.{maxSegments, fileBytes, initialisationPhase}
 use Rattle.message.specs.Requests.{uploadTransfer}
 use Rattle.message.specs.Segments.{segmentsOf, lastMarkOf}
 use Rattle.client.specs.declared.run.Client.{Client}
@@ -102,7 +102,7 @@ module _ (Given : Fields → List ℕ → Fields → List ℕ → Type 0) where
     size : c .length ≡ length payload
     number : c .segments ≡ segmentsOf (length payload)
     some : 1 ≤ c .segments
-    most : c .segments ≤ segmentsMost
+    most : c .segments ≤ maxSegments
     top : c .issued ≤ c .segments
     each : (x : Issue) → In x issues → UploadIssue (c .subscriber) (c .segments) (c .transaction) (c .issued) payload x
     opened : UploadOpen Given c issues
@@ -211,7 +211,7 @@ module _ (Given : Fields → List ℕ → Fields → List ℕ → Type 0) where
     p = record { run = c; payload = payload; file = file; issues = issues }
 
     pub opened-run : (r : Fields) (d : List ℕ) (time : ℕ) (nonce : List ℕ) → c .step ≡ step.Opening → Answered Given p r d
-        → says forms.UploadOpened code.Ok initialisation r ≡ true → Goes time nonce (goOn 0 (c .repeats) (learned Upload r c))
+        → says forms.UploadOpened code.Ok initialisationPhase r ≡ true → Goes time nonce (goOn 0 (c .repeats) (learned Upload r c))
     opened-run r d time nonce e a h =
         goes-on (learned Upload r c) payload file issues 0 (c .repeats) time nonce
         (record {

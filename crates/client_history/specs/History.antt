@@ -68,12 +68,12 @@ left (answer.Refused r) k l p = p
 
 -- the call that an event is
 abbrev pub callOf : Event → Client → ClientCall
-callOf (Begin way subscriber first l) c = beginCall c way subscriber first l
+callOf (Begin direction subscriber first l) c = beginCall c direction subscriber first l
 callOf (Reply frame l) c = replyCall c frame l
 callOf (NoReply l) c = noReplyCall c l
 
 abbrev pub lentTo : Event → Lent
-lentTo (Begin way subscriber first l) = l
+lentTo (Begin direction subscriber first l) = l
 lentTo (Reply frame l) = l
 lentTo (NoReply l) = l
 
@@ -117,7 +117,7 @@ module _ (Given : Fields → List ℕ → Fields → List ℕ → Type 0) where
 
   -- "a call given a number may be lent others"; a begin is lent what its owner will
   abbrev pub Fair : Event → Past → Type 0
-  Fair (Begin way subscriber first l) p = Unit {0}
+  Fair (Begin direction subscriber first l) p = Unit {0}
   Fair (Reply frame l) p = answerNumber (replyCall (p .run) frame l .answer) ≡ 0 → Kept l p × GivenTo frame p
   Fair (NoReply l) p = answerNumber (noReplyCall (p .run) l .answer) ≡ 0 → Kept l p
 

@@ -13,7 +13,7 @@ use Rattle.frame_table.specs.Names.{phase, subscriber, exchange, transaction, s
 use Rattle.message.specs.declared.codes.ReturnCode.{ReturnCode}
 use Rattle.message.specs.declared.codes.ReturnCode.the-variants as code
 use Rattle.message.specs.Codes.{codeField}
-use Rattle.message.specs.Limits.{segmentBytes, segmentsMost, fileBytes, subscribers, transfer}
+use Rattle.message.specs.Limits.{segmentBytes, maxSegments, fileBytes, subscribers, transferPhase}
 use Rattle.message.specs.Requests.{uploadOpening, downloadOpening, uploadTransfer, downloadTransfer, receipt}
 use Rattle.message.specs.Segments.{segmentsOf, segmentOf, lastMarkOf}
 use Rattle.client.specs.declared.run.Client.{Client}
@@ -168,7 +168,7 @@ module _ (Given : Fields → List ℕ → Fields → List ℕ → Type 0) where
     pub why : ReturnCode
     pub one : (why ≡ code.TransactionAbort) ⊎ ((why ≡ code.SegmentNumberExceeded) ⊎ (why ≡ code.SegmentNumberUnderrun))
     pub got : Got issues forms.UploadTransfer forms.Refusal why
-    pub phase-2 : phase (got .reply) ≡ transfer
+    pub phase-2 : phase (got .reply) ≡ transferPhase
     pub id : transaction (got .issue .request) ≡ c .transaction
 
   abbrev pub UploadWord : Word → Client → List Issue → Type 0
@@ -189,7 +189,7 @@ module _ (Given : Fields → List ℕ → Fields → List ℕ → Type 0) where
     pub size : c .length ≡ length payload
     pub number : c .segments ≡ segmentsOf (length payload)
     pub some : 1 ≤ c .segments
-    pub most : c .segments ≤ segmentsMost
+    pub most : c .segments ≤ maxSegments
     pub top : c .issued ≤ c .segments
     pub each : (x : Issue) → In x issues → UploadIssue (c .subscriber) (c .segments) (c .transaction) (c .issued) payload x
     pub step : UploadStep (c .step) c issues

@@ -137,8 +137,8 @@ pub file-fits : (store : List ℕ) (i n : ℕ) → length (fileOf store i n) ≤
 unfolding fileOf partAt
 file-fits store i n = simp (length-take) (omega arith)
 
-pub row-most : (t : Table) (u : UnitState) (orders boxes files : List ℕ) (i : ℕ) → length (rowAt t u orders boxes files i) ≤ rowRoom
-row-most Book u orders boxes files i = order-most (placeAt (u .bank) i) _ (file-fits _ _ _)
-row-most Mailboxes u orders boxes files i = file-most (i + 1) _ (file-fits _ _ _)
-row-most Words u orders boxes files i = word-most (i + 1) (runAt (u .runs) i .client)
-row-most Files u orders boxes files i = file-most (i + 1) _ (file-fits _ _ _)
+pub row-most : (t : Table) (u : UnitState) (orders mailboxes files : List ℕ) (i : ℕ) → length (rowAt t u orders mailboxes files i) ≤ rowRoom
+row-most Book u orders mailboxes files i = order-most (placeAt (u .bank) i) _ (file-fits _ _ _)
+row-most Mailboxes u orders mailboxes files i = file-most (i + 1) _ (file-fits _ _ _)
+row-most Words u orders mailboxes files i = word-most (i + 1) (runAt (u .runs) i .client)
+row-most Files u orders mailboxes files i = file-most (i + 1) _ (file-fits _ _ _)

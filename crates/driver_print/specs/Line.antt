@@ -4,7 +4,7 @@ use mathlib.Core.Bool.{cond}
 use mathlib.Core.List.{List, [], _∷_, _++_}
 use lib.Dec.{ltb}
 use lib.ListN.{take}
-use Rattle.print.specs.Text.{ascii, digitsMost, decimal, space, newline, column, columnRoom}
+use Rattle.print.specs.Text.{ascii, maxDigits, decimal, space, newline, column, columnRoom}
 use Rattle.print.specs.Closing.{closingText}
 use Rattle.unit.specs.declared.call.Answer.{Answer}
 use Rattle.unit.specs.declared.call.Answer.the-variants.{Frame, Put, Request, Ignored, Closed, Number, NoCall}
@@ -33,7 +33,7 @@ lineOf n a buffer = column n space ++ (answerText a buffer ++ (newline ∷ []))
 
 -- the most bytes that an answer takes with a buffer of b bytes ("number " and a number is the longest word), and a line
 abbrev pub answerRoom : ℕ → ℕ
-answerRoom b = 7 + digitsMost + 2 * b
+answerRoom b = 7 + maxDigits + 2 * b
 
 abbrev pub lineRoom : ℕ → ℕ
 lineRoom b = columnRoom + answerRoom b + 1

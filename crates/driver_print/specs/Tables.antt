@@ -61,10 +61,10 @@ heldBy Download c = c .length
 
 -- row i of a table: "The book in place order; the mailboxes that hold a file; the runs that have begun ...; and each run's file"
 abbrev pub rowAt : Table → UnitState → List ℕ → List ℕ → List ℕ → ℕ → List ℕ
-rowAt Book u orders boxes files i = orderRow (placeAt (u .bank) i) (fileOf orders i (placeAt (u .bank) i .length))
-rowAt Mailboxes u orders boxes files i = fileRow (i + 1) (fileOf boxes i (getD (u .bank .files) i 0))
-rowAt Words u orders boxes files i = wordRow (i + 1) (runAt (u .runs) i .client)
-rowAt Files u orders boxes files i =
+rowAt Book u orders mailboxes files i = orderRow (placeAt (u .bank) i) (fileOf orders i (placeAt (u .bank) i .length))
+rowAt Mailboxes u orders mailboxes files i = fileRow (i + 1) (fileOf mailboxes i (getD (u .bank .files) i 0))
+rowAt Words u orders mailboxes files i = wordRow (i + 1) (runAt (u .runs) i .client)
+rowAt Files u orders mailboxes files i =
     let c = runAt (u .runs) i .client in
     fileRow (i + 1) (fileOf files i (heldBy (c .direction) c))
 
@@ -77,7 +77,7 @@ rowCount Files = runCount
 
 -- a table of the unit, its stores of orders and mailboxes, and the runs' file buffers
 unfoldable pub tableOf : Table → UnitState → List ℕ → List ℕ → List ℕ → List ℕ
-tableOf t u orders boxes files = headerText t ++ rowsTo (rowAt t u orders boxes files) (rowCount t)
+tableOf t u orders mailboxes files = headerText t ++ rowsTo (rowAt t u orders mailboxes files) (rowCount t)
 
 -- the most bytes that a header takes, the column "content" with a file of 3,840 bytes, a row of any table, and a table
 abbrev pub headerRoom : ℕ

@@ -138,13 +138,13 @@ fn put_row(
     t: Table,
     u: UnitState,
     orders: &[u8],
-    boxes: &[u8],
+    mailboxes: &[u8],
     files: &[u8],
     i: usize,
 ) -> usize
     requires { ⌜ (at + rowRoom ≤ length (now output)) × (i < rowCount t) ⌝ }
     ensures { λ r. ⌜
-        Put (now (output .entry)) at (rowAt t u (now (orders .entry)) (now (boxes .entry)) (now (files .entry)) i) (now (output .exit)) r
+        Put (now (output .entry)) at (rowAt t u (now (orders .entry)) (now (mailboxes .entry)) (now (files .entry)) i) (now (output .exit)) r
         ⌝ }
 {
     let n = i as u64 + 1;
@@ -155,7 +155,7 @@ fn put_row(
             let p = place_of(u, i);
             put_order(output, at, p, file_of(orders, i, p.length))
         }
-        Table::Mailboxes => put_file(output, at, n, file_of(boxes, i, file_length_of(u, i))),
+        Table::Mailboxes => put_file(output, at, n, file_of(mailboxes, i, file_length_of(u, i))),
         Table::Words => put_word(output, at, n, client),
         Table::Files => put_file(output, at, n, file_of(files, i, held_by(client))),
     }
@@ -180,20 +180,20 @@ fn put_rows(
     t: Table,
     u: UnitState,
     orders: &[u8],
-    boxes: &[u8],
+    mailboxes: &[u8],
     files: &[u8],
 ) -> usize
     requires { ⌜ at + rowCount t * rowRoom ≤ length (now output) ⌝ }
     ensures { λ r. ⌜
         Put (now (output .entry)) at
-        (rowsTo (rowAt t u (now (orders .entry)) (now (boxes .entry)) (now (files .entry))) (rowCount t)) (now (output .exit)) r
+        (rowsTo (rowAt t u (now (orders .entry)) (now (mailboxes .entry)) (now (files .entry))) (rowCount t)) (now (output .exit)) r
         ⌝ }
 {
     let n = row_count(t);
     let mut end = at;
     let mut i = 0;
     while i < n {
-        end = put_row(output, end, t, u, orders, boxes, files, i);
+        end = put_row(output, end, t, u, orders, mailboxes, files, i);
         i += 1;
     }
     end
@@ -204,20 +204,20 @@ pub fn table_of(
     t: Table,
     u: UnitState,
     orders: &[u8],
-    boxes: &[u8],
+    mailboxes: &[u8],
     files: &[u8],
     output: &mut [u8],
 ) -> usize
     ensures { λ r. ⌜
         (now (output .exit)
-        ≡ printed tableRoom (tableOf t u (now (orders .entry)) (now (boxes .entry)) (now (files .entry))) (now (output .entry)))
+        ≡ printed tableRoom (tableOf t u (now (orders .entry)) (now (mailboxes .entry)) (now (files .entry))) (now (output .entry)))
         × (r
-        ≡ printedCount tableRoom (tableOf t u (now (orders .entry)) (now (boxes .entry)) (now (files .entry))) (now (output .entry)))
+        ≡ printedCount tableRoom (tableOf t u (now (orders .entry)) (now (mailboxes .entry)) (now (files .entry))) (now (output .entry)))
         ⌝ }
 {
     if output.len() < TABLE_ROOM {
         return 0;
     }
     let at = put_header(output, t);
-    put_rows(output, at, t, u, orders, boxes, files)
+    put_rows(output, at, t, u, orders, mailboxes, files)
 }

@@ -17,9 +17,9 @@ pub no-calls : (s : State) → Calls s s
 unfolding unitAfter allCalls
 no-calls s = record { records = []; each = refl; left = refl }
 
-pub start-calls : (u v : UnitState) (orders boxes payloads files buffer : List ℕ) → u ≡ v
-    → Calls (stateOf v orders boxes payloads files buffer) (stateOf u orders boxes payloads files buffer)
-start-calls u v orders boxes payloads files buffer e = rw e (no-calls (stateOf v orders boxes payloads files buffer))
+pub start-calls : (u v : UnitState) (orders mailboxes payloads files buffer : List ℕ) → u ≡ v
+    → Calls (stateOf v orders mailboxes payloads files buffer) (stateOf u orders mailboxes payloads files buffer)
+start-calls u v orders mailboxes payloads files buffer e = rw e (no-calls (stateOf v orders mailboxes payloads files buffer))
 
 -- the call of the record r, which was tested as t
 pub one-call : (s : State) (r t : List ℕ) (k : Kind) (b : Bool) (o : UnitCall)
@@ -54,6 +54,6 @@ calls-on s t u a b = record {
 }
 
 -- what is lent to the calls is the session's own
-pub session-of : (u : UnitState) (orders boxes payloads files buffer : List ℕ)
-    → Calls start (stateOf u orders boxes payloads files buffer) → Session u
-session-of u orders boxes payloads files buffer h = record { last = stateOf u orders boxes payloads files buffer; calls = h; unit = refl }
+pub session-of : (u : UnitState) (orders mailboxes payloads files buffer : List ℕ)
+    → Calls start (stateOf u orders mailboxes payloads files buffer) → Session u
+session-of u orders mailboxes payloads files buffer h = record { last = stateOf u orders mailboxes payloads files buffer; calls = h; unit = refl }

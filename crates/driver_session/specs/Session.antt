@@ -35,7 +35,7 @@ start = stateOf fresh (zeros storeBytes) (zeros storeBytes) (zeros roomsBytes) (
 
 -- the bank and the runs of a state
 abbrev pub unitOf : State → UnitState
-unitOf s = record { bank = s .world .bank; runs = s .runs }
+unitOf s = record { bank = s .bankState .bank; runs = s .runs }
 
 -- a unit that a session leaves
 pub record Session (u : UnitState) : Type 0 where

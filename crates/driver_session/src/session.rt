@@ -71,14 +71,14 @@ fn step(
     input: &mut [u8],
     output: &mut [u8],
     orders: &mut [u8],
-    boxes: &mut [u8],
+    mailboxes: &mut [u8],
     payloads: &mut [u8],
     files: &mut [u8],
     buffer: &mut [u8],
 ) -> Reading
     ensures { λ r. ⌜ Calls
-        (stateOf u (now (orders .entry)) (now (boxes .entry)) (now (payloads .entry)) (now (files .entry)) (now (buffer .entry)))
-        (stateOf (r .unit) (now (orders .exit)) (now (boxes .exit)) (now (payloads .exit)) (now (files .exit)) (now (buffer .exit))) ⌝ }
+        (stateOf u (now (orders .entry)) (now (mailboxes .entry)) (now (payloads .entry)) (now (files .entry)) (now (buffer .entry)))
+        (stateOf (r .unit) (now (orders .exit)) (now (mailboxes .exit)) (now (payloads .exit)) (now (files .exit)) (now (buffer .exit))) ⌝ }
 {
     let size = read_record(input);
     if !is_call(call_of(front(input, size))) {
@@ -91,7 +91,7 @@ fn step(
         u,
         front(input, size),
         orders,
-        boxes,
+        mailboxes,
         payloads,
         files,
         buffer,
@@ -108,14 +108,14 @@ fn read_all(
     input: &mut [u8],
     output: &mut [u8],
     orders: &mut [u8],
-    boxes: &mut [u8],
+    mailboxes: &mut [u8],
     payloads: &mut [u8],
     files: &mut [u8],
     buffer: &mut [u8],
 ) -> UnitState
     ensures { λ r. ⌜ Calls
-        (stateOf fresh (now (orders .entry)) (now (boxes .entry)) (now (payloads .entry)) (now (files .entry)) (now (buffer .entry)))
-        (stateOf r (now (orders .exit)) (now (boxes .exit)) (now (payloads .exit)) (now (files .exit)) (now (buffer .exit))) ⌝ }
+        (stateOf fresh (now (orders .entry)) (now (mailboxes .entry)) (now (payloads .entry)) (now (files .entry)) (now (buffer .entry)))
+        (stateOf r (now (orders .exit)) (now (mailboxes .exit)) (now (payloads .exit)) (now (files .exit)) (now (buffer .exit))) ⌝ }
 {
     let unit = fresh();
     let mut t = Reading { unit, more: true };
@@ -129,7 +129,7 @@ fn read_all(
             input,
             output,
             orders,
-            boxes,
+            mailboxes,
             payloads,
             files,
             buffer,
@@ -144,19 +144,19 @@ fn close_table(
     u: UnitState,
     output: &mut [u8],
     orders: &[u8],
-    boxes: &[u8],
+    mailboxes: &[u8],
     files: &[u8],
 ) {
-    let n = table_of(t, u, orders, boxes, files, output);
+    let n = table_of(t, u, orders, mailboxes, files, output);
     io::write_all(STDOUT_FILENO, front(output, n));
 }
 
 // Writes the closing tables.
-fn close(u: UnitState, output: &mut [u8], orders: &[u8], boxes: &[u8], files: &[u8]) {
-    close_table(Table::Book, u, output, orders, boxes, files);
-    close_table(Table::Mailboxes, u, output, orders, boxes, files);
-    close_table(Table::Words, u, output, orders, boxes, files);
-    close_table(Table::Files, u, output, orders, boxes, files);
+fn close(u: UnitState, output: &mut [u8], orders: &[u8], mailboxes: &[u8], files: &[u8]) {
+    close_table(Table::Book, u, output, orders, mailboxes, files);
+    close_table(Table::Mailboxes, u, output, orders, mailboxes, files);
+    close_table(Table::Words, u, output, orders, mailboxes, files);
+    close_table(Table::Files, u, output, orders, mailboxes, files);
 }
 
 // Makes the calls of all records, prints, and gives the unit as it is then.
@@ -166,7 +166,7 @@ pub fn session() -> UnitState
     let mut input = [0u8; RECORD_BYTES];
     let mut output = [0u8; TABLE_ROOM];
     let mut orders = [0u8; STORE_BYTES];
-    let mut boxes = [0u8; STORE_BYTES];
+    let mut mailboxes = [0u8; STORE_BYTES];
     let mut payloads = [0u8; ROOMS_BYTES];
     let mut files = [0u8; ROOMS_BYTES];
     let mut buffer = [0u8; REPLY_ROOM];
@@ -174,11 +174,11 @@ pub fn session() -> UnitState
         &mut input,
         &mut output,
         &mut orders,
-        &mut boxes,
+        &mut mailboxes,
         &mut payloads,
         &mut files,
         &mut buffer,
     );
-    close(u, &mut output, &orders, &boxes, &files);
+    close(u, &mut output, &orders, &mailboxes, &files);
     u
 }

@@ -25,7 +25,7 @@ use Rattle.message.specs.Verdicts.{decide}
 use Rattle.bank_state.specs.declared.state.Bank.{Bank}
 use Rattle.bank_state.specs.Clock.{advanced}
 use Rattle.bank_state.specs.Limits.{placeCount}
-use Rattle.bank_state.specs.State.{World, world, fresh, fileLength}
+use Rattle.bank_state.specs.State.{BankState, bankState, fresh, fileLength}
 use Rattle.bank_state.specs.Store.{partAt, fileOf}
 use Rattle.bank.specs.declared.call.FrameAnswer.{FrameAnswer}
 use Rattle.bank.specs.declared.call.FrameAnswer.the-variants as frameAnswer
@@ -53,7 +53,7 @@ use Rattle.bank_history.specs.History.{
 use Rattle.bank_history.specs.History as history
 use Rattle.bank_history.specs.Invariant.{Invariant, Holds}
 use Rattle.bank_history.specs.Sound.{AllSound}
-use Rattle.bank_history.specs.Standing.{answered, filled, Emptied}
+use Rattle.bank_history.specs.Transactions.{answered, filled, Emptied}
 use Rattle.bank_history.proofs.Clock.{advanced-clock, advanced-keeps}
 use Rattle.bank_history.proofs.Cases.{happens}
 use Rattle.bank_history.proofs.Files.{FileSound, rejected, done, judged-file, filled-same, filled-other}
@@ -125,10 +125,10 @@ listed (more s r) (older p) = let o = listed r p in (o .0, there (o .1), o .2)
 -- ---- the bank's part
 
 -- of the bank, the exchanges and the file last put into each mailbox
-pub record BankEnd (bank : World) (exchanged : List Exchange) (lastPut : ℕ → List ℕ) : Type 0 where
+pub record BankEnd (bank : BankState) (exchanged : List Exchange) (lastPut : ℕ → List ℕ) : Type 0 where
   pub past : Past
   pub holds : Holds past
-  pub world : past .world ≡ bank
+  pub bankState : past .bankState ≡ bank
   pub entries : Entries exchanged (past .history)
   pub proper : AllProper (past .history)
   -- "The bank's mailbox holds exactly the file last put in by a call given no number, until ..."
@@ -143,10 +143,10 @@ pub data Grows (h : List history.Exchange) : List history.Exchange → Type 0 wh
   stays : Grows h h
   grows : {x : history.Exchange} → Grows h (x ∷ h)
 
-abbrev pub Later : {w : World} {l : List Exchange} {m : ℕ → List ℕ} → BankEnd w l m → Course → Type 0
+abbrev pub Later : {w : BankState} {l : List Exchange} {m : ℕ → List ℕ} → BankEnd w l m → Course → Type 0
 Later b t = (n : BankPart t) × Grows (b .past .history) (n .past .history)
 
-pub same-mailbox : (w : World) (m : ℕ) → mailboxOf w m ≡ mailboxFile w m
+pub same-mailbox : (w : BankState) (m : ℕ) → mailboxOf w m ≡ mailboxFile w m
 unfolding mailboxOf mailboxFile
 same-mailbox w m = refl
 
@@ -154,11 +154,11 @@ same-mailbox w m = refl
 
 -- the call's bank, buffer and answer are those of the request's step
 record Replied (k : FrameCall) (s : Step) (buffer : List ℕ) (n : ℕ) : Type 0 where
-  world : k .world ≡ s .world
+  bankState : k .bankState ≡ s .bankState
   lent : k .buffer ≡ writeBuffer (s .reply) (s .replyData) buffer
   written : writeAnswer (s .reply) (s .replyData) buffer ≡ written.Length n
 
-replied-by : (w : World) (time : ℕ) (ids frame buffer : List ℕ) (n : ℕ) →
+replied-by : (w : BankState) (time : ℕ) (ids frame buffer : List ℕ) (n : ℕ) →
     frameCall w time ids frame buffer .answer ≡ frameAnswer.Reply n →
     Replied (frameCall w time ids frame buffer) (stepOf w time ids frame) buffer n
 unfolding frameCall
@@ -172,9 +172,9 @@ replied-by w time ids frame buffer n = go (lentRight w ids buffer)
     out written.Refused h = absurd (let z : _≡_ {A = ℕ} 0 1 = cc in omega arith)
 
     go : (b : Bool) → let k = cond b (replied s buffer)
-        (record { world = w; buffer = buffer; answer = frameAnswer.WrongLength; number = frameNumber frameAnswer.WrongLength; code = 0 }) in
+        (record { bankState = w; buffer = buffer; answer = frameAnswer.WrongLength; number = frameNumber frameAnswer.WrongLength; code = 0 }) in
         k .answer ≡ frameAnswer.Reply n → Replied k s buffer n
-    go true h = record { world = refl; lent = refl; written = out (writeAnswer (s .reply) (s .replyData) buffer) h }
+    go true h = record { bankState = refl; lent = refl; written = out (writeAnswer (s .reply) (s .replyData) buffer) h }
     go false h = absurd (let z : _≡_ {A = ℕ} 0 1 = cc in omega arith)
 
 module _ (s : Course) (b : BankPart s) (time : ℕ) (ids frame buffer : List ℕ) (n : ℕ) where
@@ -182,20 +182,20 @@ module _ (s : Course) (b : BankPart s) (time : ℕ) (ids frame buffer : List ℕ
   p = b .past
 
   abbrev k : FrameCall
-  k = frameCall (b .past .world) time ids frame buffer
+  k = frameCall (b .past .bankState) time ids frame buffer
 
   abbrev x : history.Exchange
-  x = exchangeOf (number ids) (advanced time (b .past .world)) (readRequest frame) (dataOf frame)
+  x = exchangeOf (number ids) (advanced time (b .past .bankState)) (readRequest frame) (dataOf frame)
 
-  module _ (h : frameCall (b .past .world) time ids frame buffer .answer ≡ frameAnswer.Reply n) where
-    told : Replied k (stepOf (p .world) time ids frame) buffer n
-    told = replied-by (p .world) time ids frame buffer n h
+  module _ (h : frameCall (b .past .bankState) time ids frame buffer .answer ≡ frameAnswer.Reply n) where
+    told : Replied k (stepOf (p .bankState) time ids frame) buffer n
+    told = replied-by (p .bankState) time ids frame buffer n h
 
     pub next-is : history.after (Frame time ids frame buffer) p ≡ answered time ids frame p
     unfolding history.after
     next-is =
-        ap (λ (a : FrameAnswer). entered a (k .world) x p) h
-        ∙ ap (λ (w : World). record { world = w; history = x ∷ p .history }) (told .world)
+        ap (λ (a : FrameAnswer). entered a (k .bankState) x p) h
+        ∙ ap (λ (w : BankState). record { bankState = w; history = x ∷ p .history }) (told .bankState)
 
     next-holds : Holds (answered time ids frame p)
     next-holds = subst Holds next-is (after-holds (Frame time ids frame buffer) p (b .holds))
@@ -206,8 +206,8 @@ module _ (s : Course) (b : BankPart s) (time : ℕ) (ids frame buffer : List ℕ
     next-proper : Proper x
     unfolding exchangeOf respond
     next-proper = record {
-      refuses = verdict-refuses (number ids) (advanced time (p .world)) (readRequest frame) (dataOf frame);
-      short = mailbox-short (advanced time (p .world)) (subscriber (readRequest frame));
+      refuses = verdict-refuses (number ids) (advanced time (p .bankState)) (readRequest frame) (dataOf frame);
+      short = mailbox-short (advanced time (p .bankState)) (subscriber (readRequest frame));
     }
 
     replied-form : Sized (x .reply) × (isReplyForm (form (x .reply)) ≡ true)
@@ -215,10 +215,10 @@ module _ (s : Course) (b : BankPart s) (time : ℕ) (ids frame buffer : List ℕ
         subst (λ (f : Fields). Sized f × (isReplyForm (form f) ≡ true)) (sym (reply-is next-sound newest))
         (reply-form (x .verdict) (x .request))
 
-    next-clock : k .world .bank .clock ≡ advanced time (p .world) .bank .clock
+    next-clock : k .bankState .bank .clock ≡ advanced time (p .bankState) .bank .clock
     next-clock =
-        ap (λ (w : World). w .bank .clock) (told .world) ∙ answered-clock time ids frame p (b .holds)
-        ∙ sym (advanced-clock time (p .world))
+        ap (λ (w : BankState). w .bank .clock) (told .bankState) ∙ answered-clock time ids frame p (b .holds)
+        ∙ sym (advanced-clock time (p .bankState))
 
     next-reply : readReply (take n (k .buffer)) ≡ x .reply
     unfolding exchangeOf
@@ -234,46 +234,46 @@ module _ (s : Course) (b : BankPart s) (time : ℕ) (ids frame buffer : List ℕ
         (told .written)
 
     module _ (m : ℕ) (low : 1 ≤ m) (high : m ≤ subscribers) where
-      was : mailboxFile (p .world) m ≡ s .mailboxes m
-      was = sym (same-mailbox (p .world) m) ∙ ap (λ (w : World). mailboxOf w m) (b .world) ∙ b .mailboxes m low high
+      was : mailboxFile (p .bankState) m ≡ s .mailboxes m
+      was = sym (same-mailbox (p .bankState) m) ∙ ap (λ (w : BankState). mailboxOf w m) (b .bankState) ∙ b .mailboxes m low high
 
-      now : mailboxOf (k .world) m ≡ mailboxFile (answered time ids frame p .world) m
-      now = same-mailbox (k .world) m ∙ ap (λ (w : World). mailboxFile w m) (told .world)
+      now : mailboxOf (k .bankState) m ≡ mailboxFile (answered time ids frame p .bankState) m
+      now = same-mailbox (k .bankState) m ∙ ap (λ (w : BankState). mailboxFile w m) (told .bankState)
 
       emptied-own : x .verdict ≡ verdict.Of (transaction (x .request)) (action.Download down.Confirmed) →
           m ≡ subscriber (readRequest frame) →
-          mailboxFile (answered time ids frame p .world) m ≡ []
+          mailboxFile (answered time ids frame p .bankState) m ≡ []
       unfolding exchangeOf respond
       emptied-own own e =
-          let v = advanced-keeps time (p .world) (p .history) (b .holds .invariant) in
-          ap (mailboxFile (answered time ids frame p .world)) e
+          let v = advanced-keeps time (p .bankState) (p .history) (b .holds .invariant) in
+          ap (mailboxFile (answered time ids frame p .bankState)) e
           ∙ case-empties
-          (happens (number ids) (advanced time (p .world)) (readRequest frame) (dataOf frame) (v .state .sizes .places)
+          (happens (number ids) (advanced time (p .bankState)) (readRequest frame) (dataOf frame) (v .state .sizes .places)
           (v .state .sizes .downloads))
           (v .state .sizes) own .empty
 
-      kept-other : (Emptied (answered time ids frame p .world) m x → ⊥) →
-          mailboxFile (answered time ids frame p .world) m ≡ s .mailboxes m
+      kept-other : (Emptied (answered time ids frame p .bankState) m x → ⊥) →
+          mailboxFile (answered time ids frame p .bankState) m ≡ s .mailboxes m
       kept-other not = at (frame-mailbox time ids frame p m (b .holds) low)
         where
-          at : (mailboxFile (answered time ids frame p .world) m ≡ mailboxFile (p .world) m) ⊎ Emptied
-              (answered time ids frame p .world) m x →
-              mailboxFile (answered time ids frame p .world) m ≡ s .mailboxes m
+          at : (mailboxFile (answered time ids frame p .bankState) m ≡ mailboxFile (p .bankState) m) ⊎ Emptied
+              (answered time ids frame p .bankState) m x →
+              mailboxFile (answered time ids frame p .bankState) m ≡ s .mailboxes m
           at (inl e) = e ∙ was
           at (inr e) = absurd (not e)
 
-      next-mailbox : mailboxOf (k .world) m ≡ emptied frame (take n (k .buffer)) (s .mailboxes) m
+      next-mailbox : mailboxOf (k .bankState) m ≡ emptied frame (take n (k .buffer)) (s .mailboxes) m
       unfolding emptied exchangeOf
       next-mailbox = now ∙ at (eqb (returnCode (readReply (take n (k .buffer)))) (codeField code.DownloadPostprocessDone)) refl
         where
           own : (d : Bool) → eqb m (subscriber (readRequest frame)) ≡ d →
               x .verdict ≡ verdict.Of (transaction (x .request)) (action.Download down.Confirmed) →
-              mailboxFile (answered time ids frame p .world) m ≡ cond d [] (s .mailboxes m)
+              mailboxFile (answered time ids frame p .bankState) m ≡ cond d [] (s .mailboxes m)
           own true e c = emptied-own c (eqb-true m (subscriber (readRequest frame)) e)
           own false e c = kept-other (λ z. eqb-false m (subscriber (readRequest frame)) e (sym (z .owner)))
 
           at : (c : Bool) → eqb (returnCode (readReply (take n (k .buffer)))) (codeField code.DownloadPostprocessDone) ≡ c →
-              mailboxFile (answered time ids frame p .world) m
+              mailboxFile (answered time ids frame p .bankState) m
               ≡ cond c (changed (s .mailboxes) (subscriber (readRequest frame)) []) (s .mailboxes) m
           at true e =
               let z = sym (ap returnCode next-reply) ∙ eqb-true _ (codeField code.DownloadPostprocessDone) e in
@@ -282,12 +282,12 @@ module _ (s : Course) (b : BankPart s) (time : ℕ) (ids frame buffer : List ℕ
               (ap returnCode next-reply ∙ coded next-sound newest ∙ ap (λ (v : Verdict). codeField (verdictCode v)) (z .confirmed)))
 
     -- the course behind the answered frame
-    frame-part : BankPart (afterFrame (take n (k .buffer)) (k .world) (advanced time (p .world)) frame s)
+    frame-part : BankPart (afterFrame (take n (k .buffer)) (k .bankState) (advanced time (p .bankState)) frame s)
     unfolding exchangeOf
     frame-part = record {
       past = answered time ids frame p;
       holds = next-holds;
-      world = sym (told .world);
+      bankState = sym (told .bankState);
       entries =
           more (record {
             request = refl;
@@ -295,7 +295,7 @@ module _ (s : Course) (b : BankPart s) (time : ℕ) (ids frame buffer : List ℕ
             reply = next-reply;
             replyData = next-data;
             clock = next-clock;
-            box = same-mailbox (advanced time (p .world)) (subscriber (readRequest frame));
+            box = same-mailbox (advanced time (p .bankState)) (subscriber (readRequest frame));
           }) (b .entries);
       proper = one-more next-proper (b .proper);
       mailboxes = next-mailbox;
@@ -306,18 +306,18 @@ pub record Entered (s : Course) (b : BankPart s) (time : ℕ) (ids frame buffer 
   pub exchange : Exchange
   pub exchanged : t .exchanged ≡ exchange ∷ s .exchanged
   pub request : exchange .request ≡ frame
-  pub same : Entry exchange (exchangeOf (number ids) (advanced time (b .past .world)) (readRequest frame) (dataOf frame))
+  pub same : Entry exchange (exchangeOf (number ids) (advanced time (b .past .bankState)) (readRequest frame) (dataOf frame))
   pub clock : exchange .clock ≡ t .bank .bank .clock
   pub next : history.after (Frame time ids frame buffer) (b .past) ≡ answered time ids frame (b .past)
-  pub bank : t .bank ≡ answered time ids frame (b .past) .world
-  pub sound : AllSound (exchangeOf (number ids) (advanced time (b .past .world)) (readRequest frame) (dataOf frame) ∷ b .past .history)
-  pub proper : Proper (exchangeOf (number ids) (advanced time (b .past .world)) (readRequest frame) (dataOf frame))
+  pub bank : t .bank ≡ answered time ids frame (b .past) .bankState
+  pub sound : AllSound (exchangeOf (number ids) (advanced time (b .past .bankState)) (readRequest frame) (dataOf frame) ∷ b .past .history)
+  pub proper : Proper (exchangeOf (number ids) (advanced time (b .past .bankState)) (readRequest frame) (dataOf frame))
 
 entered-by : (s : Course) (b : BankPart s) (time : ℕ) (ids frame buffer : List ℕ) (n : ℕ)
-    (h : frameCall (b .past .world) time ids frame buffer .answer ≡ frameAnswer.Reply n) →
+    (h : frameCall (b .past .bankState) time ids frame buffer .answer ≡ frameAnswer.Reply n) →
     Entered s b time ids frame buffer
-    (let k = frameCall (b .past .world) time ids frame buffer in
-    afterFrame (take n (k .buffer)) (k .world) (advanced time (b .past .world)) frame s)
+    (let k = frameCall (b .past .bankState) time ids frame buffer in
+    afterFrame (take n (k .buffer)) (k .bankState) (advanced time (b .past .bankState)) frame s)
 unfolding exchangeOf
 entered-by s b time ids frame buffer n h = record {
   exchange = _;
@@ -329,11 +329,11 @@ entered-by s b time ids frame buffer n h = record {
     reply = next-reply s b time ids frame buffer n h;
     replyData = next-data s b time ids frame buffer n h;
     clock = next-clock s b time ids frame buffer n h;
-    box = same-mailbox (advanced time (b .past .world)) (subscriber (readRequest frame));
+    box = same-mailbox (advanced time (b .past .bankState)) (subscriber (readRequest frame));
   };
   clock = refl;
   next = next-is s b time ids frame buffer n h;
-  bank = told s b time ids frame buffer n h .world;
+  bank = told s b time ids frame buffer n h .bankState;
   sound = next-sound s b time ids frame buffer n h;
   proper = next-proper s b time ids frame buffer n h;
 }
@@ -342,23 +342,23 @@ entered-by s b time ids frame buffer n h = record {
 
 module _ (s : Course) (b : BankPart s) (mailbox : ℕ) (file : List ℕ) where
   abbrev bankBefore : Bank
-  bankBefore = b .past .world .bank
+  bankBefore = b .past .bankState .bank
 
   abbrev boxesBefore : List ℕ
-  boxesBefore = b .past .world .boxes
+  boxesBefore = b .past .bankState .mailboxes
 
   abbrev put : FileCall
-  put = carryOutFile fileAnswer.Done (b .past .world .bank) mailbox file (b .past .world .boxes)
+  put = carryOutFile fileAnswer.Done (b .past .bankState .bank) mailbox file (b .past .bankState .mailboxes)
 
   file-by : FileSound bankBefore mailbox file boxesBefore fileAnswer.Done →
-      Holds (placed fileAnswer.Done (put .bank) (put .boxes) (b .past)) → Later b (afterFile put mailbox file s)
+      Holds (placed fileAnswer.Done (put .bank) (put .mailboxes) (b .past)) → Later b (afterFile put mailbox file s)
   unfolding mailboxOf
   file-by (rejected l) holds = absurd (omega arith)
   file-by (done known most some short empty) holds = (
     record {
-      past = record { world = filled mailbox file (b .past .world); history = b .past .history };
+      past = record { bankState = filled mailbox file (b .past .bankState); history = b .past .history };
       holds = holds;
-      world = ap (λ (w : World). world (put .bank) (w .orders) (put .boxes)) (b .world);
+      bankState = ap (λ (w : BankState). bankState (put .bank) (w .orders) (put .mailboxes)) (b .bankState);
       entries = b .entries;
       proper = b .proper;
       mailboxes = λ m low high. same-mailbox _ m ∙ at m low high (eqb m mailbox) refl;
@@ -366,18 +366,18 @@ module _ (s : Course) (b : BankPart s) (mailbox : ℕ) (file : List ℕ) where
     stays,
   )
     where
-      v : Invariant (b .past .world) (b .past .history)
+      v : Invariant (b .past .bankState) (b .past .history)
       v = b .holds .invariant
 
       at : (m : ℕ) → 1 ≤ m → m ≤ subscribers → (c : Bool) → eqb m mailbox ≡ c →
-          mailboxFile (filled mailbox file (b .past .world)) m ≡ cond c file (s .mailboxes m)
+          mailboxFile (filled mailbox file (b .past .bankState)) m ≡ cond c file (s .mailboxes m)
       at m low high true e =
-          ap (mailboxFile (filled mailbox file (b .past .world))) (eqb-true m mailbox e)
-          ∙ filled-same (b .past .world) (b .past .history) v mailbox file known most some short empty
+          ap (mailboxFile (filled mailbox file (b .past .bankState))) (eqb-true m mailbox e)
+          ∙ filled-same (b .past .bankState) (b .past .history) v mailbox file known most some short empty
       at m low high false e =
-          filled-other (b .past .world) (b .past .history) v mailbox file known most some short empty m
+          filled-other (b .past .bankState) (b .past .history) v mailbox file known most some short empty m
           (λ z. eqb-false m mailbox e (omega arith))
-          ∙ sym (same-mailbox (b .past .world) m) ∙ ap (λ (w : World). mailboxOf w m) (b .world) ∙ b .mailboxes m low high
+          ∙ sym (same-mailbox (b .past .bankState) m) ∙ ap (λ (w : BankState). mailboxOf w m) (b .bankState) ∙ b .mailboxes m low high
 
   file-part : fileNumber (fileCall bankBefore mailbox file boxesBefore .answer) ≡ 0 →
       Later b (afterFile (fileCall bankBefore mailbox file boxesBefore) mailbox file s)
@@ -387,27 +387,27 @@ module _ (s : Course) (b : BankPart s) (mailbox : ℕ) (file : List ℕ) where
       let e : a ≡ fileAnswer.Done = file-done a bankBefore mailbox file boxesBefore h in
       let k : FileAnswer → FileCall = λ x. carryOutFile x bankBefore mailbox file boxesBefore in
       subst (λ (x : FileAnswer). FileSound bankBefore mailbox file boxesBefore x →
-      Holds (placed (k x .answer) (k x .bank) (k x .boxes) (b .past)) → Later b (afterFile (k x) mailbox file s)) (sym e) file-by
+      Holds (placed (k x .answer) (k x .bank) (k x .mailboxes) (b .past)) → Later b (afterFile (k x) mailbox file s)) (sym e) file-by
       (judged-file bankBefore mailbox file boxesBefore) (after-holds (File mailbox file) (b .past) (b .holds))
 
 -- ---- what calls given no number leave
 
-module _ (s : Course) (b : BankPart s) (w : World) (time : ℕ) (ids frame buffer : List ℕ) (same : w ≡ s .bank)
+module _ (s : Course) (b : BankPart s) (w : BankState) (time : ℕ) (ids frame buffer : List ℕ) (same : w ≡ s .bank)
     (done : callNumber (frameArrives w time ids frame buffer) ≡ 0) where
   -- what holds after the frame is answered to the bank as it was left holds after the call
-  answered-so : (P : Course → Type 0) → ((n : ℕ) → let k = frameCall (b .past .world) time ids frame buffer in
-      k .answer ≡ frameAnswer.Reply n → P (afterFrame (take n (k .buffer)) (k .world) (advanced time (b .past .world)) frame s)) →
+  answered-so : (P : Course → Type 0) → ((n : ℕ) → let k = frameCall (b .past .bankState) time ids frame buffer in
+      k .answer ≡ frameAnswer.Reply n → P (afterFrame (take n (k .buffer)) (k .bankState) (advanced time (b .past .bankState)) frame s)) →
       P (carryOut (frameArrives w time ids frame buffer) s)
   answered-so P f =
-      subst (λ (v : World). (n : ℕ) × (frameCall v time ids frame buffer .answer ≡ frameAnswer.Reply n) →
-      P (carryOut (frameArrives v time ids frame buffer) s)) (b .world ∙ sym same) at
+      subst (λ (v : BankState). (n : ℕ) × (frameCall v time ids frame buffer .answer ≡ frameAnswer.Reply n) →
+      P (carryOut (frameArrives v time ids frame buffer) s)) (b .bankState ∙ sym same) at
       (frame-replied (frameCall w time ids frame buffer .answer) done)
     where
       k : FrameCall
-      k = frameCall (b .past .world) time ids frame buffer
+      k = frameCall (b .past .bankState) time ids frame buffer
 
-      at : (n : ℕ) × (k .answer ≡ frameAnswer.Reply n) → P (carryOut (frameArrives (b .past .world) time ids frame buffer) s)
-      at (n, e) = subst (λ (a : FrameAnswer). P (afterFrame (replyIn a (k .buffer)) (k .world) (advanced time (b .past .world)) frame s))
+      at : (n : ℕ) × (k .answer ≡ frameAnswer.Reply n) → P (carryOut (frameArrives (b .past .bankState) time ids frame buffer) s)
+      at (n, e) = subst (λ (a : FrameAnswer). P (afterFrame (replyIn a (k .buffer)) (k .bankState) (advanced time (b .past .bankState)) frame s))
           (sym e) (f n e)
 
   -- a frame call, lent the bank as it was left
@@ -419,12 +419,12 @@ module _ (s : Course) (b : BankPart s) (w : World) (time : ℕ) (ids frame buffe
   frame-enters = answered-so (Entered s b time ids frame buffer) (λ n h. entered-by s b time ids frame buffer n h)
 
 -- a file call, lent the bank and the mailboxes as they were left
-pub file-keeps : (s : Course) (b : BankPart s) (bank : Bank) (boxes : List ℕ) (m : ℕ) (file : List ℕ) →
-    (bank ≡ s .bank .bank) × (boxes ≡ s .bank .boxes) → callNumber (filePut bank boxes m file) ≡ 0 →
-    Later b (carryOut (filePut bank boxes m file) s)
-file-keeps s b bank boxes m file same =
-    subst (λ (c : Bank). P c boxes) (ap (λ (w : World). w .bank) (b .world) ∙ sym (same .0))
-    (subst (P (b .past .world .bank)) (ap (λ (w : World). w .boxes) (b .world) ∙ sym (same .1)) (file-part s b m file))
+pub file-keeps : (s : Course) (b : BankPart s) (bank : Bank) (mailboxes : List ℕ) (m : ℕ) (file : List ℕ) →
+    (bank ≡ s .bank .bank) × (mailboxes ≡ s .bank .mailboxes) → callNumber (filePut bank mailboxes m file) ≡ 0 →
+    Later b (carryOut (filePut bank mailboxes m file) s)
+file-keeps s b bank mailboxes m file same =
+    subst (λ (c : Bank). P c mailboxes) (ap (λ (w : BankState). w .bank) (b .bankState) ∙ sym (same .0))
+    (subst (P (b .past .bankState .bank)) (ap (λ (w : BankState). w .mailboxes) (b .bankState) ∙ sym (same .1)) (file-part s b m file))
   where
     P : Bank → List ℕ → Type 0
     P c l = fileNumber (fileCall c m file l .answer) ≡ 0 → Later b (afterFile (fileCall c m file l) m file s)
@@ -432,7 +432,7 @@ file-keeps s b bank boxes m file same =
 -- before the first call
 fresh-mailbox : (m : ℕ) → 1 ≤ m → m ≤ subscribers → mailboxOf (start .bank) m ≡ []
 unfolding start mailboxOf fileOf fileLength fresh
-fresh-mailbox m low high = ap (λ (n : ℕ). take n (partAt (start .bank .boxes) (m - 1)))
+fresh-mailbox m low high = ap (λ (n : ℕ). take n (partAt (start .bank .mailboxes) (m - 1)))
     (getD-replicate placeCount (m - 1) 0 0 (omega arith))
 
 pub bank-start : BankPart start
@@ -440,7 +440,7 @@ unfolding start history.pastOf history.start
 bank-start = record {
   past = history.pastOf [];
   holds = past-holds [];
-  world = refl;
+  bankState = refl;
   entries = none;
   proper = no-entry;
   mailboxes = fresh-mailbox;

@@ -132,13 +132,13 @@ module _ (c : Client) (r : Fields) (d : List ℕ) (l : Lent) where
   ruled-issues Accept decision n h = carried-issues decision n h
 
 module _ (c : Client) (l : Lent) where
-  pub begin-issues : (way : Direction) (subscriber first : ℕ) → Issues (beginCall c way subscriber first l) l
+  pub begin-issues : (direction : Direction) (subscriber first : ℕ) → Issues (beginCall c direction subscriber first l) l
   unfolding beginCall
-  begin-issues way subscriber first = go (beginRuling c way subscriber first (lengthsOf l))
+  begin-issues direction subscriber first = go (beginRuling c direction subscriber first (lengthsOf l))
     where
-      go : (u : Ruling) → Issues (beginBy u c way subscriber first l) l
+      go : (u : Ruling) → Issues (beginBy u c direction subscriber first l) l
       go (Refuse x) n h = absurd (let z : _≡_ {A = ℕ} 0 1 = cc in omega arith)
-      go Accept n h = issued-issues c (begun way subscriber first (beginLength way (lengthsOf l))) (l .file) l n h
+      go Accept n h = issued-issues c (begun direction subscriber first (beginLength direction (lengthsOf l))) (l .file) l n h
 
   pub reply-issues : (frame : List ℕ) → Issues (replyCall c frame l) l
   unfolding replyCall

@@ -42,13 +42,13 @@ by-number k s P same f = at (number-or-none k s)
     at (inr (z, e)) = subst P (sym e) (f z)
 
 -- a file call given no number is done
-pub file-done : (a : FileAnswer) (b : Bank) (mailbox : ℕ) (file boxes : List ℕ) →
-    fileNumber (carryOutFile a b mailbox file boxes .answer) ≡ 0 → a ≡ fileAnswer.Done
-file-done fileAnswer.Done b mailbox file boxes z = refl
-file-done fileAnswer.WrongLength b mailbox file boxes z = absurd (omega arith)
-file-done fileAnswer.NoMailbox b mailbox file boxes z = absurd (omega arith)
-file-done fileAnswer.WrongFile b mailbox file boxes z = absurd (omega arith)
-file-done fileAnswer.MailboxFull b mailbox file boxes z = absurd (omega arith)
+pub file-done : (a : FileAnswer) (b : Bank) (mailbox : ℕ) (file mailboxes : List ℕ) →
+    fileNumber (carryOutFile a b mailbox file mailboxes .answer) ≡ 0 → a ≡ fileAnswer.Done
+file-done fileAnswer.Done b mailbox file mailboxes z = refl
+file-done fileAnswer.WrongLength b mailbox file mailboxes z = absurd (omega arith)
+file-done fileAnswer.NoMailbox b mailbox file mailboxes z = absurd (omega arith)
+file-done fileAnswer.WrongFile b mailbox file mailboxes z = absurd (omega arith)
+file-done fileAnswer.MailboxFull b mailbox file mailboxes z = absurd (omega arith)
 
 -- a frame call given none has a reply
 pub frame-replied : (a : FrameAnswer) → frameNumber a ≡ 0 → (n : ℕ) × (a ≡ frameAnswer.Reply n)

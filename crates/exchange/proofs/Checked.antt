@@ -173,13 +173,13 @@ frameCalled frame time s = frameArrives (s .bank) time (replicate 8 0) frame (re
 
 -- the clock as the frame has come
 abbrev frameClock : List ℕ → ℕ → Course → ℕ
-frameClock frame time s = frameCall (s .bank) time (replicate 8 0) frame (replicate replyRoom 0) .world .bank .clock
+frameClock frame time s = frameCall (s .bank) time (replicate 8 0) frame (replicate replyRoom 0) .bankState .bank .clock
 
 abbrev pub callOf : Move → Course → Call
 callOf (comes n time) s = frameCalled (requestAt n s) time s
 callOf (stray frame time) s = frameCalled frame time s
-callOf (puts m file) s = filePut (s .bank .bank) (s .bank .boxes) m file
-callOf (begin i way u first payload) s = begins i (s .runs i) way u first (lent payload (replicate fileBytes 0))
+callOf (puts m file) s = filePut (s .bank .bank) (s .bank .mailboxes) m file
+callOf (begin i direction u first payload) s = begins i (s .runs i) direction u first (lent payload (replicate fileBytes 0))
 callOf (reaches i n) s = replyArrives i (s .runs i) (replyAt n s) (lent (s .payloads i) (s .files i))
 callOf (silent i) s = noReply i (s .runs i) (lent (s .payloads i) (s .files i))
 callOf (numbered k) s = k
@@ -215,7 +215,7 @@ abbrev pub isAllowed : Move → Course → Bool
 isAllowed (comes n time) s = isIssued (requestAt n s) s
 isAllowed (stray frame time) s = not (isSubscribers frame)
 isAllowed (puts m file) s = true
-isAllowed (begin i way u first payload) s = true
+isAllowed (begin i direction u first payload) s = true
 isAllowed (reaches i n) s = some (λ (e : Exchange). sameBytes (e .reply) (replyAt n s) && isIssued (e .request) s) (s .exchanged)
 isAllowed (silent i) s = true
 isAllowed (numbered k) s = not (eqb (callNumber k) 0)
@@ -228,7 +228,7 @@ allowed (stray frame time) s h = stray-allowed s time (replicate 8 0) frame (rep
     off true e = sym e
     off false e = refl
 allowed (puts m file) s h = λ _. (refl, refl)
-allowed (begin i way u first payload) s h = λ _. refl
+allowed (begin i direction u first payload) s h = λ _. refl
 allowed (reaches i n) s h = λ _.
     let f : Exchange → Bool = λ e. sameBytes (e .reply) (replyAt n s) && isIssued (e .request) s in
     let o = some-in f (s .exchanged) h in
@@ -328,7 +328,7 @@ module _ (i : ℕ) where
   isInTurn (comes n time) s = frameInTurn (requestAt n s) (frameClock (requestAt n s) time s) s
   isInTurn (stray frame time) s = frameInTurn frame (frameClock frame time s) s
   isInTurn (puts m file) s = true
-  isInTurn (begin j way u first payload) s = true
+  isInTurn (begin j direction u first payload) s = true
   isInTurn (reaches j n) s = implies (eqb j i) (notArrived (replyAt n s) s)
   isInTurn (silent j) s = not (eqb j i)
   isInTurn (numbered k) s = not (eqb (callNumber k) 0)
@@ -337,7 +337,7 @@ module _ (i : ℕ) where
   in-turn (comes n time) s h = λ _. frame-in-turn (requestAt n s) _ s h
   in-turn (stray frame time) s h = λ _. frame-in-turn frame _ s h
   in-turn (puts m file) s h = λ _. tt
-  in-turn (begin j way u first payload) s h = λ _. tt
+  in-turn (begin j direction u first payload) s h = λ _. tt
   in-turn (reaches j n) s h = λ _. λ same a m r z.
       not-both (every-in (λ (x : Arrival). not (eqb (x .run) i && sameBytes (x .reply) (replyAt n s)))
       (then (eqb j i) (notArrived (replyAt n s) s) h (eq-eqb j i same)) m)

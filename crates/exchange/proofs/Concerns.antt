@@ -15,13 +15,13 @@ use Rattle.octets.proofs.Tests.{never}
 use Rattle.message.specs.Verdicts.{decide}
 use Rattle.bank_state.specs.declared.state.Bank.{Bank}
 use Rattle.bank_state.specs.Search.{openCountOf}
-use Rattle.bank_state.specs.State.{World, world}
+use Rattle.bank_state.specs.State.{BankState, bankState}
 use Rattle.bank.specs.declared.mailbox.FileAnswer.{FileAnswer}
 use Rattle.bank.specs.declared.mailbox.FileAnswer.the-variants as fileAnswer
 use Rattle.bank.specs.Mailbox.{FileCall, fileCall, carryOutFile, fileRefusals}
 use Rattle.bank_history.specs.History.{Past, File, placed}
 use Rattle.bank_history.specs.History as bank
-use Rattle.bank_history.specs.Standing.{UploadUnlessIdle, DownloadUnlessIdle}
+use Rattle.bank_history.specs.Transactions.{UploadUnlessIdle, DownloadUnlessIdle}
 use Rattle.bank_history.proofs.Liveness.{upload-stays, download-stays}
 use Rattle.client.specs.declared.run.Answer.{Answer}
 use Rattle.client.specs.declared.run.Answer.the-variants as answer
@@ -59,30 +59,30 @@ use Rattle.exchange.proofs.Received.{ToAnother, Same, same-refl, other-
 use Rattle.exchange.proofs.Joint.{counts}
 use Rattle.exchange.proofs.Outcome.{request-of}
 use Rattle.exchange.proofs.Runs.{reply-past}
-use Rattle.exchange.proofs.Standing.{Standing, upload-standing, download-standing}
+use Rattle.exchange.proofs.OpenTransactions.{OpenUnlessIdle, upload-standing, download-standing}
 
 -- the transactions that the run has had opened stay as they are; a download where its subscriber has nothing else open
 abbrev pub Untouched : (s : Course) → Parts s → ℕ → Course → Type 0
 Untouched s v i t = (y : Form) (id : Bits128) → OpenedBy y (v .bank .past .history) id (issuesOf i (s .issued)) →
-    (way : Direction) (u k n last : ℕ) → (way ≡ Download → openCountOf u (s .bank .bank) ≤ 1) → Standing way (s .bank) id u k n last →
-    Standing way (t .bank) id u k n last
+    (direction : Direction) (u k n last : ℕ) → (direction ≡ Download → openCountOf u (s .bank .bank) ≤ 1) → OpenUnlessIdle direction (s .bank) id u k n last →
+    OpenUnlessIdle direction (t .bank) id u k n last
 
 -- the bank stays
 bank-same : (s : Course) (v : Parts s) (i : ℕ) (t : Course) → t .bank ≡ s .bank → Untouched s v i t
-bank-same s v i t e y id o way u k n last few a = subst (λ (w : World). Standing way w id u k n last) (sym e) a
+bank-same s v i t e y id o direction u k n last few a = subst (λ (w : BankState). OpenUnlessIdle direction w id u k n last) (sym e) a
 
 -- What the call is to run i
 pub data Concern (s : Course) (v : Parts s) (i : ℕ) : Call → Type 0 where
   elsewhere : {k : Call} → Same i s (exec k s) → Untouched s v i (exec k s) → Concern s v i k
-  own-frame : {w : World} {time : ℕ} {ids frame buffer : List ℕ} →
+  own-frame : {w : BankState} {time : ℕ} {ids frame buffer : List ℕ} →
       Entered s (v .bank) time ids frame buffer (exec (frameArrives w time ids frame buffer) s) → IssuedBy i frame s →
       ((e : Exchange) → In e (s .exchanged) → e .request ≡ frame → ⊥) →
       NoIdleHour i (exec (frameArrives w time ids frame buffer) s .bank .bank .clock) s →
       exec (frameArrives w time ids frame buffer) s .issued ≡ s .issued →
       exec (frameArrives w time ids frame buffer) s .arrived ≡ s .arrived →
       Concern s v i (frameArrives w time ids frame buffer)
-  own-begin : {c : Client} {way : Direction} {u first : ℕ} {l : Lent} → c ≡ s .runs i →
-      callNumber (begins i c way u first l) ≡ 0 → Concern s v i (begins i c way u first l)
+  own-begin : {c : Client} {direction : Direction} {u first : ℕ} {l : Lent} → c ≡ s .runs i →
+      callNumber (begins i c direction u first l) ≡ 0 → Concern s v i (begins i c direction u first l)
   own-reply : {c : Client} {reply : List ℕ} {l : Lent} → callNumber (replyArrives i c reply l) ≡ 0 → Left i c l s →
       GivenFor i reply s → ((a : Arrival) → In a (s .arrived) → a .run ≡ i → a .reply ≡ reply → ⊥) →
       Concern s v i (replyArrives i c reply l)
@@ -95,35 +95,35 @@ nothing-new s v i t e =
 -- ---- a frame
 
 -- a file put moves the bank as its history says, which enters nothing
-pub file-bank : (s : Course) (v : Parts s) (b : Bank) (boxes : List ℕ) (m : ℕ) (file : List ℕ) → Premise (filePut b boxes m file) s →
-    callNumber (filePut b boxes m file) ≡ 0 → let p = bank.after (File m file) (v .bank .past) in
-    (carryOut (filePut b boxes m file) s .bank ≡ p .world) × (p .history ≡ v .bank .past .history)
+pub file-bank : (s : Course) (v : Parts s) (b : Bank) (mailboxes : List ℕ) (m : ℕ) (file : List ℕ) → Premise (filePut b mailboxes m file) s →
+    callNumber (filePut b mailboxes m file) ≡ 0 → let p = bank.after (File m file) (v .bank .past) in
+    (carryOut (filePut b mailboxes m file) s .bank ≡ p .bankState) × (p .history ≡ v .bank .past .history)
 unfolding fileCall bank.after
-file-bank s v b boxes m file same =
-    subst (λ (c : Bank). P c boxes) (ap (λ (w : World). w .bank) (v .bank .world) ∙ sym (same .0))
-    (subst (P (v .bank .past .world .bank)) (ap (λ (w : World). w .boxes) (v .bank .world) ∙ sym (same .1)) done)
+file-bank s v b mailboxes m file same =
+    subst (λ (c : Bank). P c mailboxes) (ap (λ (w : BankState). w .bank) (v .bank .bankState) ∙ sym (same .0))
+    (subst (P (v .bank .past .bankState .bank)) (ap (λ (w : BankState). w .mailboxes) (v .bank .bankState) ∙ sym (same .1)) done)
   where
-    before : World
-    before = v .bank .past .world
+    before : BankState
+    before = v .bank .past .bankState
 
     k : FileAnswer → FileCall
-    k a = carryOutFile a (before .bank) m file (before .boxes)
+    k a = carryOutFile a (before .bank) m file (before .mailboxes)
 
     next : FileAnswer → Past
-    next a = placed (k a .answer) (k a .bank) (k a .boxes) (v .bank .past)
+    next a = placed (k a .answer) (k a .bank) (k a .mailboxes) (v .bank .past)
 
     a : FileAnswer
-    a = decide (fileRefusals (before .bank) m file (before .boxes)) fileAnswer.Done
+    a = decide (fileRefusals (before .bank) m file (before .mailboxes)) fileAnswer.Done
 
     P : Bank → List ℕ → Type 0
     P c l = callNumber (filePut c l m file) ≡ 0 →
-        (carryOut (filePut c l m file) s .bank ≡ next a .world) × (next a .history ≡ v .bank .past .history)
+        (carryOut (filePut c l m file) s .bank ≡ next a .bankState) × (next a .history ≡ v .bank .past .history)
 
-    done : P (before .bank) (before .boxes)
+    done : P (before .bank) (before .mailboxes)
     done z =
-        subst (λ (x : FileAnswer). (world (k x .bank) (s .bank .orders) (k x .boxes) ≡ next x .world)
-        × (next x .history ≡ v .bank .past .history)) (sym (file-done a (before .bank) m file (before .boxes) z))
-        (ap (λ (w : World). world (k fileAnswer.Done .bank) (w .orders) (k fileAnswer.Done .boxes)) (sym (v .bank .world)), refl)
+        subst (λ (x : FileAnswer). (bankState (k x .bank) (s .bank .orders) (k x .mailboxes) ≡ next x .bankState)
+        × (next x .history ≡ v .bank .past .history)) (sym (file-done a (before .bank) m file (before .mailboxes) z))
+        (ap (λ (w : BankState). bankState (k fileAnswer.Done .bank) (w .orders) (k fileAnswer.Done .mailboxes)) (sym (v .bank .bankState)), refl)
 
 module _ (s : Course) (v : Parts s) (copies : Copied s) (numbers : OneExchangeNumber s) (i : ℕ) where
   -- whether a frame is a copy of the run's request
@@ -152,7 +152,7 @@ module _ (s : Course) (v : Parts s) (copies : Copied s) (numbers : OneExchangeNu
   foreign-untouched time ids frame buffer given t en foreign y id o Download u k n last few a =
       download-standing s v copies numbers time ids frame buffer given t en o foreign (few refl) a
 
-  frame-concern : (w : World) (time : ℕ) (ids frame buffer : List ℕ) → Premise (frameArrives w time ids frame buffer) s →
+  frame-concern : (w : BankState) (time : ℕ) (ids frame buffer : List ℕ) → Premise (frameArrives w time ids frame buffer) s →
       Turn i (frameArrives w time ids frame buffer) s → callNumber (frameArrives w time ids frame buffer) ≡ 0 →
       Concern s v i (frameArrives w time ids frame buffer)
   frame-concern w time ids frame buffer q turn z = at (own-or-not frame (q .1))
@@ -183,7 +183,7 @@ module _ (s : Course) (v : Parts s) (copies : Copied s) (numbers : OneExchangeNu
   -- ---- a file
 
   file-untouched : (m : ℕ) (file : List ℕ) (t : Course) → let p = bank.after (File m file) (v .bank .past) in
-      (t .bank ≡ p .world) × (p .history ≡ v .bank .past .history) → Untouched s v i t
+      (t .bank ≡ p .bankState) × (p .history ≡ v .bank .past .history) → Untouched s v i t
   file-untouched m file t (z, h) = at
     where
       no-exchange : (e : bank.Exchange) → bank.after (File m file) (v .bank .past) .history ≡ e ∷ v .bank .past .history → ⊥
@@ -191,13 +191,13 @@ module _ (s : Course) (v : Parts s) (copies : Copied s) (numbers : OneExchangeNu
 
       at : Untouched s v i t
       at y id o Upload u k n last few a =
-          subst (λ (w : World). UploadUnlessIdle w id u k n last) (sym z)
+          subst (λ (w : BankState). UploadUnlessIdle w id u k n last) (sym z)
           (upload-stays id u k n last (File m file) (v .bank .past) (v .bank .holds)
-          (subst (λ (w : World). UploadUnlessIdle w id u k n last) (sym (v .bank .world)) a) (λ e x. absurd (no-exchange e x)))
+          (subst (λ (w : BankState). UploadUnlessIdle w id u k n last) (sym (v .bank .bankState)) a) (λ e x. absurd (no-exchange e x)))
       at y id o Download u k n last few a =
-          subst (λ (w : World). DownloadUnlessIdle w id u k last) (sym z)
+          subst (λ (w : BankState). DownloadUnlessIdle w id u k last) (sym z)
           (download-stays id u k last (File m file) (v .bank .past) (v .bank .holds)
-          (subst (λ (w : World). DownloadUnlessIdle w id u k last) (sym (v .bank .world)) a) (λ e x. absurd (no-exchange e x))
+          (subst (λ (w : BankState). DownloadUnlessIdle w id u k last) (sym (v .bank .bankState)) a) (λ e x. absurd (no-exchange e x))
           (λ e _ x. absurd (no-exchange e x)))
 
   -- ---- a call of a run
@@ -265,8 +265,8 @@ module _ (s : Course) (v : Parts s) (copies : Copied s) (numbers : OneExchangeNu
 
   carried-concern : (k : Call) → callNumber k ≡ 0 → Premise k s → Turn i k s → Concern s v i k
   carried-concern (frameArrives w time ids frame buffer) z q turn = frame-concern w time ids frame buffer q turn z
-  carried-concern (filePut b boxes m file) z q turn =
-      let k = filePut b boxes m file in
+  carried-concern (filePut b mailboxes m file) z q turn =
+      let k = filePut b mailboxes m file in
       let now = sym (carried k s z) in
       elsewhere
       (subst (Same i s) now (record {
@@ -277,9 +277,9 @@ module _ (s : Course) (v : Parts s) (copies : Copied s) (numbers : OneExchangeNu
         arrived = λ a m. m;
         issued = λ x m r. m;
       }))
-      (subst (Untouched s v i) now (file-untouched m file (carryOut k s) (file-bank s v b boxes m file q z)))
-  carried-concern (begins j c way u first l) z q turn =
-      run-concern (λ n. begins n c way u first l) j z q turn (λ d. (other-same s i j d (beginCall c way u first l) l, refl))
+      (subst (Untouched s v i) now (file-untouched m file (carryOut k s) (file-bank s v b mailboxes m file q z)))
+  carried-concern (begins j c direction u first l) z q turn =
+      run-concern (λ n. begins n c direction u first l) j z q turn (λ d. (other-same s i j d (beginCall c direction u first l) l, refl))
       (λ y own _. own-begin own y)
   carried-concern (replyArrives j c reply l) z q turn =
       run-concern (λ n. replyArrives n c reply l) j z q turn

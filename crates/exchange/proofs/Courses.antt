@@ -5,7 +5,7 @@ use mathlib.Core.List.{List, [], _∷_, List·Memᴰ as In, List·Memᴰ·head a
 use mathlib.Core.Path.{_≡_, refl, sym, subst}
 use native.Mathlib.Decide.{ℕ-discrete}
 use Rattle.bank_state.specs.declared.state.Bank.{Bank}
-use Rattle.bank_state.specs.State.{World}
+use Rattle.bank_state.specs.State.{BankState}
 use Rattle.client.specs.declared.run.Client.{Client}
 use Rattle.client.specs.declared.run.Direction.{Direction}
 use Rattle.client.specs.Calls.{replyCall}
@@ -40,14 +40,14 @@ use Rattle.exchange.proofs.Outstanding.{given-to, other-stays}
 -- ---- both ends
 
 -- a call of the bank leaves the runs
-pub frame-runs : (s : Course) (w : World) (time : ℕ) (ids frame buffer : List ℕ) (i : ℕ) →
+pub frame-runs : (s : Course) (w : BankState) (time : ℕ) (ids frame buffer : List ℕ) (i : ℕ) →
     runPast (exec (frameArrives w time ids frame buffer) s) i ≡ runPast s i
 frame-runs s w time ids frame buffer i =
     by-number (frameArrives w time ids frame buffer) s (λ (t : Course). runPast t i ≡ runPast s i) refl (λ _. refl)
 
-pub file-runs : (s : Course) (b : Bank) (boxes : List ℕ) (m : ℕ) (file : List ℕ) (i : ℕ) →
-    runPast (exec (filePut b boxes m file) s) i ≡ runPast s i
-file-runs s b boxes m file i = by-number (filePut b boxes m file) s (λ (t : Course). runPast t i ≡ runPast s i) refl (λ _. refl)
+pub file-runs : (s : Course) (b : Bank) (mailboxes : List ℕ) (m : ℕ) (file : List ℕ) (i : ℕ) →
+    runPast (exec (filePut b mailboxes m file) s) i ≡ runPast s i
+file-runs s b mailboxes m file i = by-number (filePut b mailboxes m file) s (λ (t : Course). runPast t i ≡ runPast s i) refl (λ _. refl)
 
 bank-called : {s t : Course} (v : Parts s) → Later (v .bank) t → ((i : ℕ) → runPast t i ≡ runPast s i) → Parts t
 bank-called {s} {t} v n same = record {
@@ -57,13 +57,13 @@ bank-called {s} {t} v n same = record {
 }
 
 -- a call of a run
-begin-keeps : (s : Course) (v : Parts s) (i : ℕ) (c : Client) (way : Direction) (subscriber first : ℕ) (l : Lent) → c ≡ s .runs i →
-    callNumber (begins i c way subscriber first l) ≡ 0 → Parts (carryOut (begins i c way subscriber first l) s)
-begin-keeps s v i c way subscriber first l own =
-    subst (λ (x : Client). callNumber (begins i x way subscriber first l) ≡ 0 → Parts (carryOut (begins i x way subscriber first l) s))
+begin-keeps : (s : Course) (v : Parts s) (i : ℕ) (c : Client) (direction : Direction) (subscriber first : ℕ) (l : Lent) → c ≡ s .runs i →
+    callNumber (begins i c direction subscriber first l) ≡ 0 → Parts (carryOut (begins i c direction subscriber first l) s)
+begin-keeps s v i c direction subscriber first l own =
+    subst (λ (x : Client). callNumber (begins i x direction subscriber first l) ≡ 0 → Parts (carryOut (begins i x direction subscriber first l) s))
     (sym own)
-    (λ z. run-keeps s v i (Begin way subscriber first l) (begin-issues (s .runs i) l way subscriber first) z
-    (run-fair s v i (Begin way subscriber first l) tt))
+    (λ z. run-keeps s v i (Begin direction subscriber first l) (begin-issues (s .runs i) l direction subscriber first) z
+    (run-fair s v i (Begin direction subscriber first l) tt))
 
 -- a reply to a request of the run is fair; one to a request of another run is ignored
 reply-holds : (s : Course) (v : Parts s) → OneExchangeNumber s → (i : ℕ) (reply : List ℕ) (l : Lent) →
@@ -98,8 +98,8 @@ no-reply-keeps s v i c l q =
 carried-keeps : (k : Call) (s : Course) → Parts s → OneExchangeNumber s → Premise k s → callNumber k ≡ 0 → Parts (carryOut k s)
 carried-keeps (frameArrives w time ids frame buffer) s v n q z =
     bank-called v (frame-keeps s (v .bank) w time ids frame buffer (q .0) z) (λ i. refl)
-carried-keeps (filePut b boxes m file) s v n q z = bank-called v (file-keeps s (v .bank) b boxes m file q z) (λ i. refl)
-carried-keeps (begins i c way subscriber first l) s v n q z = begin-keeps s v i c way subscriber first l q z
+carried-keeps (filePut b mailboxes m file) s v n q z = bank-called v (file-keeps s (v .bank) b mailboxes m file q z) (λ i. refl)
+carried-keeps (begins i c direction subscriber first l) s v n q z = begin-keeps s v i c direction subscriber first l q z
 carried-keeps (replyArrives i c reply l) s v n q z = reply-keeps s v n i c reply l q z
 carried-keeps (noReply i c l) s v n q z = no-reply-keeps s v i c l q z
 
@@ -132,8 +132,8 @@ pub data Exchanges (k : Call) (s : Course) : List Exchange → Type 0 where
 
 carried-exchanges : (k : Call) (s : Course) → Premise k s → Exchanges k s (carryOut k s .exchanged)
 carried-exchanges (frameArrives w time ids frame buffer) s q = enters (q .1)
-carried-exchanges (filePut b boxes m file) s q = nothing
-carried-exchanges (begins i c way subscriber first l) s q = nothing
+carried-exchanges (filePut b mailboxes m file) s q = nothing
+carried-exchanges (begins i c direction subscriber first l) s q = nothing
 carried-exchanges (replyArrives i c reply l) s q = nothing
 carried-exchanges (noReply i c l) s q = nothing
 

@@ -20,7 +20,7 @@ use Rattle.message.specs.Codes.{codeField}
 use Rattle.message.specs.Limits.{fileBytes}
 use Rattle.message.proofs.Verdicts.{by-test}
 use Rattle.bank_state.specs.Limits.{placeCount}
-use Rattle.bank_state.specs.State.{World, downloadAt, fileLength}
+use Rattle.bank_state.specs.State.{BankState, downloadAt, fileLength}
 use Rattle.bank_state.specs.Store.{partAt, fileOf}
 use Rattle.bank_state.proofs.Found.{download-found}
 use Rattle.bank_verdicts.specs.declared.verdict.Direction.{Direction}
@@ -112,7 +112,7 @@ Refuses v = refusesIn v ≡ true
 lines-refuse : (rows : List (Row Verdict)) (other : Verdict) → allRows refusesIn rows ≡ true → Refuses other → Refuses (judged rows other)
 lines-refuse rows other h k = judged-by Refuses rows other (each-such Refuses refusesIn (λ v e. e) [] rows h) (λ _. k)
 
-module _ (first : ℕ) (w : World) (q : Fields) (d : List ℕ) where
+module _ (first : ℕ) (w : BankState) (q : Fields) (d : List ℕ) where
   opening-refuses : (x : Direction) → Refuses (judgeOpening x first (w .bank) q)
   unfolding judgeOpening openingRows
   opening-refuses x = lines-refuse (openingRows x (w .bank) q) (accepted x first (w .bank) q) refl (accepts x)
@@ -147,19 +147,19 @@ module _ (first : ℕ) (w : World) (q : Fields) (d : List ℕ) where
 -- ---- mailboxes
 
 -- no mailbox holds over 3,840 bytes
-pub mailbox-short : (w : World) (m : ℕ) → length (mailboxFile w m) ≤ fileBytes
+pub mailbox-short : (w : BankState) (m : ℕ) → length (mailboxFile w m) ≤ fileBytes
 unfolding mailboxFile fileOf partAt
 mailbox-short w m = simp length-take (omega arith)
 
 -- "011000: mailbox emptied": the receipt was that of an open download of its subscriber; the bank is then w′
-pub record Empties (w w′ : World) (q : Fields) (t : Bits128) : Type 0 where
+pub record Empties (w w′ : BankState) (q : Fields) (t : Bits128) : Type 0 where
   pub row : ℕ
   pub used : downloadAt (w .bank) row .used ≡ true
   pub owner : downloadAt (w .bank) row .subscriber ≡ subscriber q
   pub own : downloadAt (w .bank) row .transaction ≡ t
   pub empty : mailboxFile w′ (subscriber q) ≡ []
 
-pub case-empties : {first : ℕ} {w : World} {q : Fields} {d : List ℕ} {x : Verdict} → Happens first w q d x → Sizes w →
+pub case-empties : {first : ℕ} {w : BankState} {q : Fields} {d : List ℕ} {x : Verdict} → Happens first w q d x → Sizes w →
     {t : Bits128} → x ≡ verdict.Of t (action.Download down.Confirmed) → Empties w (carryOut x w q d) q t
 unfolding fileLength
 case-empties unreadable z own = absurd (let y : _≡_ {A = ℕ} 0 1 = cc in omega arith)

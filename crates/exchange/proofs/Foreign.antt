@@ -24,7 +24,7 @@ use Rattle.bank_state.specs.Clock.{advanced}
 use Rattle.bank_state.specs.Rows.{countOf}
 use Rattle.bank_state.specs.declared.state.Download.{Download}
 use Rattle.bank_state.specs.Search.{openCountOf}
-use Rattle.bank_state.specs.State.{World, noDownload, downloadAt}
+use Rattle.bank_state.specs.State.{BankState, noDownload, downloadAt}
 use Rattle.bank_verdicts.specs.declared.verdict.TransactionRequest.{TransactionRequest}
 use Rattle.bank_verdicts.specs.declared.verdict.TransactionRequest.the-variants as asksFor
 use Rattle.bank.specs.Call.{carryOut, respond}
@@ -50,7 +50,7 @@ use Rattle.bank_history.proofs.Cases.{
   happens,
 }
 use Rattle.bank_history.specs.Invariant as bankInvariant
-use Rattle.bank_history.specs.Standing.{DownloadAt}
+use Rattle.bank_history.specs.Transactions.{DownloadAt}
 use Rattle.bank_history.proofs.Clock.{advanced-keeps, each-download}
 use Rattle.bank_history.proofs.Positions.{action-sound, request-of}
 use Rattle.bank_history.proofs.Theorems.{one-opening}
@@ -111,7 +111,7 @@ asked-under asksFor.DownloadTransfer e = asking e
 asked-under asksFor.Receipt e = confirming e
 
 -- an action that opens nothing was asked for under a transaction ID
-case-under : {first : ℕ} {w : World} {q : Fields} {d : List ℕ} {x : Verdict} → Happens first w q d x →
+case-under : {first : ℕ} {w : BankState} {q : Fields} {d : List ℕ} {x : Verdict} → Happens first w q d x →
     {t : Bits128} {k : Action} → x ≡ verdict.Of t k → isOpening k ≡ false → Under q
 case-under unreadable z o = absurd (let y : _≡_ {A = ℕ} 0 1 = cc in omega arith)
 case-under (refused c e) z o = absurd (let y : _≡_ {A = ℕ} 0 1 = cc in omega arith)
@@ -169,7 +169,7 @@ module _ {A : Type 0} (p : A → Bool) (d : A) (free : p d ≡ false) where
   two-counted (x ∷ l) (suc i) (suc j) n e f = let z = two-counted l i j (λ k. n (ap suc k)) e f in omega arith
 
 -- where the subscriber has one transaction open, a download t, the receipt that is confirmed is that of t
-pub confirms-own : (first time : ℕ) (w : World) (q : Fields) (b : List ℕ) (k : List bank.Exchange) (v : bankInvariant.Invariant w k)
+pub confirms-own : (first time : ℕ) (w : BankState) (q : Fields) (b : List ℕ) (k : List bank.Exchange) (v : bankInvariant.Invariant w k)
     {t u : Bits128} {s d last : ℕ} → DownloadAt w t s d last → openCountOf s (w .bank) ≤ 1 →
     judge first (advanced time w .bank) q (length b) ≡ verdict.Of u (action.Download down.Confirmed) → subscriber q ≡ s → u ≡ t
 unfolding openCountOf
@@ -254,23 +254,23 @@ module _ (s : Course) (v : Parts s) (copies : Copied s) (numbers : OneExchangeNu
 
   -- a frame that comes to the bank, a copy where it must be one
   module _ (time : ℕ) (ids frame : List ℕ) (given : isSubscribers frame ≡ true → (j : ℕ) × IssuedBy j frame s)
-      (later : AllSound (exchangeOf (number ids) (advanced time (v .bank .past .world)) (readRequest frame)
+      (later : AllSound (exchangeOf (number ids) (advanced time (v .bank .past .bankState)) (readRequest frame)
       (dataOf frame) ∷ v .bank .past .history)) where
     abbrev x : bank.Exchange
-    x = exchangeOf (number ids) (advanced time (v .bank .past .world)) (readRequest frame) (dataOf frame)
+    x = exchangeOf (number ids) (advanced time (v .bank .past .bankState)) (readRequest frame) (dataOf frame)
 
-    pub case-of : {t : Bits128} {k : Action} → exchangeOf (number ids) (advanced time (v .bank .past .world)) (readRequest frame)
+    pub case-of : {t : Bits128} {k : Action} → exchangeOf (number ids) (advanced time (v .bank .past .bankState)) (readRequest frame)
         (dataOf frame) .verdict ≡ verdict.Of t k →
         isOpening k ≡ false → Under (readRequest frame)
     unfolding exchangeOf respond
     case-of =
-        let w = advanced-keeps time (v .bank .past .world) h (v .bank .holds .invariant) in
-        case-under (happens (number ids) (advanced time (v .bank .past .world)) (readRequest frame) (dataOf frame) (w .state .sizes .places)
+        let w = advanced-keeps time (v .bank .past .bankState) h (v .bank .holds .invariant) in
+        case-under (happens (number ids) (advanced time (v .bank .past .bankState)) (readRequest frame) (dataOf frame) (w .state .sizes .places)
         (w .state .sizes .downloads))
 
     -- what acts on the transaction of run i is a copy of its request
     pub acts-own : {i : ℕ} {t : Bits128} {y : Form} → OpenedBy y (v .bank .past .history) t (issuesOf i (s .issued)) →
-        ActionIn isAction t (exchangeOf (number ids) (advanced time (v .bank .past .world)) (readRequest frame) (dataOf frame)) →
+        ActionIn isAction t (exchangeOf (number ids) (advanced time (v .bank .past .bankState)) (readRequest frame) (dataOf frame)) →
         IssuedBy i frame s
     unfolding exchangeOf
     acts-own {i} {t} o d = by (isOpening (d .action)) refl

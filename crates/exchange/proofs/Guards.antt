@@ -10,7 +10,7 @@ use Rattle.frame_table.specs.Table.{isRequestForm}
 use Rattle.frame.specs.Reader.{readRequest}
 use Rattle.octets.proofs.Tests.{never, and-true}
 use Rattle.message.specs.Limits.{subscribers}
-use Rattle.bank_state.specs.State.{World}
+use Rattle.bank_state.specs.State.{BankState}
 use Rattle.client.specs.declared.run.Client.{Client}
 use Rattle.client.specs.declared.run.Direction.{Direction}
 use Rattle.client.specs.Run.{Lent}
@@ -60,7 +60,7 @@ unknown-allowed s time ids frame buffer n = stray-allowed s time ids frame buffe
 
 -- a call of run j
 pub data OfRun (j : ℕ) : Call → Type 0 where
-  begin : {c : Client} {way : Direction} {u first : ℕ} {l : Lent} → OfRun j (begins j c way u first l)
+  begin : {c : Client} {direction : Direction} {u first : ℕ} {l : Lent} → OfRun j (begins j c direction u first l)
   reply : {c : Client} {bytes : List ℕ} {l : Lent} → OfRun j (replyArrives j c bytes l)
   no-reply : {c : Client} {l : Lent} → OfRun j (noReply j c l)
 
@@ -71,6 +71,6 @@ other-in-turn i j other s reply _ = λ same. absurd (other same)
 other-in-turn i j other s no-reply _ = other
 
 -- a frame that the run did not issue
-pub foreign-in-turn : (i : ℕ) (s : Course) (w : World) (time : ℕ) (ids frame buffer : List ℕ) → (IssuedBy i frame s → ⊥) →
+pub foreign-in-turn : (i : ℕ) (s : Course) (w : BankState) (time : ℕ) (ids frame buffer : List ℕ) → (IssuedBy i frame s → ⊥) →
     InTurn i (frameArrives w time ids frame buffer) s
 foreign-in-turn i s w time ids frame buffer foreign _ = λ own. absurd (foreign own)

@@ -14,7 +14,7 @@ pub mod Numbers
 pub mod Outcome
 pub mod Runs
 pub mod Foreign
-pub mod Standing
+pub mod OpenTransactions
 pub mod Received
 pub mod Concerns
 pub mod Receipts

@@ -41,7 +41,7 @@ use Rattle.exchange.proofs.Clients.{asIssue, issuesOf, issued-in, Opene
 use Rattle.exchange.proofs.Issues.{numberOf}
 use Rattle.exchange.proofs.Received.{ToAnother, another-more, or-another, Same}
 use Rattle.exchange.proofs.Concerns.{Untouched}
-use Rattle.exchange.proofs.Standing.{Standing}
+use Rattle.exchange.proofs.OpenTransactions.{OpenUnlessIdle}
 
 -- ---- THE MESSAGES
 
@@ -61,25 +61,25 @@ abbrev pub openedForm : Direction → Form
 openedForm Upload = forms.UploadOpened
 openedForm Download = forms.DownloadOpened
 
-opened-form : (way : Direction) {x : Form} → x ≡ openedForm way → (x ≡ forms.UploadOpened) ⊎ (x ≡ forms.DownloadOpened)
+opened-form : (direction : Direction) {x : Form} → x ≡ openedForm direction → (x ≡ forms.UploadOpened) ⊎ (x ≡ forms.DownloadOpened)
 opened-form Upload e = inl e
 opened-form Download e = inr e
 
 -- the transaction t of subscriber u is open at the bank, k of n segments taken or k delivered; its last request was received at last
-pub record Open (way : Direction) (s : Course) (i u : ℕ) (t : Bits128) (n k : ℕ) : Type 0 where
+pub record Open (direction : Direction) (s : Course) (i u : ℕ) (t : Bits128) (n k : ℕ) : Type 0 where
   pub opening : Exchange
   pub received : Received i opening s
-  pub opened : form (readReply (opening .reply)) ≡ openedForm way
+  pub opened : form (readReply (opening .reply)) ≡ openedForm direction
   pub ok : returnCode (readReply (opening .reply)) ≡ codeField code.Ok
   pub id : transaction (readReply (opening .reply)) ≡ t
   pub last : ℕ
   pub latest : (e : Exchange) → Received i e s → e .clock ≤ last
-  pub standing : Standing way (s .bank) t u k n last
+  pub standing : OpenUnlessIdle direction (s .bank) t u k n last
 
 -- it was opened by a request of the run
-pub opened-by : (s : Course) (v : Parts s) (way : Direction) {i u n k : ℕ} {t : Bits128} → Open way s i u t n k →
+pub opened-by : (s : Course) (v : Parts s) (direction : Direction) {i u n k : ℕ} {t : Bits128} → Open direction s i u t n k →
     (y : Form) × OpenedBy y (v .bank .past .history) t (issuesOf i (s .issued))
-opened-by s v way {i} {t = t} o = by way (o .opened)
+opened-by s v direction {i} {t = t} o = by direction (o .opened)
   where
     f : Found (o .opening) (v .bank .past .history)
     f = found (v .bank .entries) (o .received .0)
@@ -123,10 +123,10 @@ opened-by s v way {i} {t = t} o = by way (o .opened)
         })
 
 -- it stays, where the run's requests received are the same and the bank keeps it
-pub open-stays : {s t : Course} {way : Direction} {i u n k : ℕ} {id : Bits128} → ((e : Exchange) → Received i e s → Received i e t) →
+pub open-stays : {s t : Course} {direction : Direction} {i u n k : ℕ} {id : Bits128} → ((e : Exchange) → Received i e s → Received i e t) →
     ((e : Exchange) → Received i e t → Received i e s) →
-    ((last : ℕ) → Standing way (s .bank) id u k n last → Standing way (t .bank) id u k n last) → Open way s i u id n k →
-    Open way t i u id n k
+    ((last : ℕ) → OpenUnlessIdle direction (s .bank) id u k n last → OpenUnlessIdle direction (t .bank) id u k n last) → Open direction s i u id n k →
+    Open direction t i u id n k
 open-stays keeps back bank o = record {
   opening = o .opening;
   received = keeps (o .opening) (o .received);
@@ -142,10 +142,10 @@ open-stays keeps back bank o = record {
 
 -- the bank before the outstanding request comes
 abbrev pub Before : Direction → Step → ℕ → Course → ℕ → Client → Type 0
-Before way step.Opening j s i c = (e : Exchange) → Received i e s → ⊥
-Before way step.Segment j s i c =
-    (k : ℕ) × (j ≡ suc k) × (j ≤ c .segments) × Open way s i (c .subscriber) (c .transaction) (c .segments) k
-Before way step.Receipt j s i c = (way ≡ Download) × Open way s i (c .subscriber) (c .transaction) (c .segments) (c .segments)
+Before direction step.Opening j s i c = (e : Exchange) → Received i e s → ⊥
+Before direction step.Segment j s i c =
+    (k : ℕ) × (j ≡ suc k) × (j ≤ c .segments) × Open direction s i (c .subscriber) (c .transaction) (c .segments) k
+Before direction step.Receipt j s i c = (direction ≡ Download) × Open direction s i (c .subscriber) (c .transaction) (c .segments) (c .segments)
 
 -- the bank once it is received, and its reply's fields
 abbrev pub Behind : Direction → Step → ℕ → Course → ℕ → Client → Fields → Type 0
@@ -163,7 +163,7 @@ Behind Download step.Segment j s i c r =
 Behind Download step.Receipt j s i c r = r ≡ receiptAnswered (c .exchange) (c .transaction) code.DownloadPostprocessDone
 
 -- such a reply answers the outstanding request
-behind-answers : (way : Direction) (at : Step) (j : ℕ) (s : Course) (i : ℕ) (c : Client) (r : Fields) → Behind way at j s i c r →
+behind-answers : (direction : Direction) (at : Step) (j : ℕ) (s : Course) (i : ℕ) (c : Client) (r : Fields) → Behind direction at j s i c r →
     isAnswer c r ≡ true
 behind-answers Upload step.Opening j s i c r (t, n, e, o) =
     fits-answer c r (subst (Fits _ _ _ _) (sym e) (opened-fits (c .exchange) n 0 0 t)) refl (λ z. omega arith)
@@ -180,26 +180,26 @@ behind-answers Download step.Receipt j s i c r e =
 
 -- the outstanding request is not received; p is the run
 pub record Asks (s : Course) (i : ℕ) (p : Past) : Type 0 where
-  pub way : Direction
+  pub direction : Direction
   pub at : Step
   pub j : ℕ
-  pub turn : InTurn p way at j (p .run .exchange)
+  pub turn : InTurn p direction at j (p .run .exchange)
   pub messages : Messages s i (p .run .exchange) (p .run .exchange)
-  pub before : Before way at j s i (p .run)
+  pub before : Before direction at j s i (p .run)
 
 -- it is received, and its reply has not arrived
 pub record Told (s : Course) (i : ℕ) (p : Past) : Type 0 where
-  pub way : Direction
+  pub direction : Direction
   pub at : Step
   pub j : ℕ
-  pub turn : InTurn p way at j (p .run .exchange)
+  pub turn : InTurn p direction at j (p .run .exchange)
   pub messages : Messages s i (p .run .exchange + 1) (p .run .exchange)
   pub reply : List ℕ
   pub given : (e : Exchange) → Received i e s → exchange (readRequest (e .request)) ≡ p .run .exchange → e .reply ≡ reply
-  pub behind : Behind way at j s i (p .run) (readReply reply)
+  pub behind : Behind direction at j s i (p .run) (readReply reply)
 
 pub told-answers : (s : Course) (i : ℕ) (p : Past) (a : Told s i p) → isAnswer (p .run) (readReply (a .reply)) ≡ true
-told-answers s i p a = behind-answers (a .way) (a .at) (a .j) s i (p .run) (readReply (a .reply)) (a .behind)
+told-answers s i p a = behind-answers (a .direction) (a .at) (a .j) s i (p .run) (readReply (a .reply)) (a .behind)
 
 -- the opening was received and refused
 pub record Refused (s : Course) (i : ℕ) (p : Past) : Type 0 where
@@ -239,20 +239,20 @@ module _ {s t : Course} {i : ℕ} (same : Same i s t) where
   module _ (v : Parts s) (untouched : Untouched s v i t) (p : Past)
       (alone : Accepted i s → p .run .stage ≡ stage.Running → openCountOf (p .run .subscriber) (s .bank .bank) ≤ 1)
       (running : p .run .stage ≡ stage.Running) where
-    open-same : (way : Direction) {id : Bits128} {n k : ℕ} → Open way s i (p .run .subscriber) id n k →
-        Open way t i (p .run .subscriber) id n k
-    open-same way {id} {n} {k} o =
-        let b = opened-by s v way o in
+    open-same : (direction : Direction) {id : Bits128} {n k : ℕ} → Open direction s i (p .run .subscriber) id n k →
+        Open direction t i (p .run .subscriber) id n k
+    open-same direction {id} {n} {k} o =
+        let b = opened-by s v direction o in
         open-stays (same .keeps i) (same .received)
-        (λ last a. untouched (b .0) id (b .1) way (p .run .subscriber) k n last
-        (λ _. alone (o .opening, o .received, opened-form way (o .opened), o .ok) running) a) o
+        (λ last a. untouched (b .0) id (b .1) direction (p .run .subscriber) k n last
+        (λ _. alone (o .opening, o .received, opened-form direction (o .opened), o .ok) running) a) o
 
-    before-same : (way : Direction) (at : Step) (j : ℕ) → Before way at j s i (p .run) → Before way at j t i (p .run)
-    before-same way step.Opening j b = λ e c. b e (same .received e c)
-    before-same way step.Segment j b = (b .0, b .1, b .2, open-same way (b .3))
-    before-same way step.Receipt j b = (b .0, open-same way (b .1))
+    before-same : (direction : Direction) (at : Step) (j : ℕ) → Before direction at j s i (p .run) → Before direction at j t i (p .run)
+    before-same direction step.Opening j b = λ e c. b e (same .received e c)
+    before-same direction step.Segment j b = (b .0, b .1, b .2, open-same direction (b .3))
+    before-same direction step.Receipt j b = (b .0, open-same direction (b .1))
 
-    behind-same : (way : Direction) (at : Step) (j : ℕ) (r : Fields) → Behind way at j s i (p .run) r → Behind way at j t i (p .run) r
+    behind-same : (direction : Direction) (at : Step) (j : ℕ) (r : Fields) → Behind direction at j s i (p .run) r → Behind direction at j t i (p .run) r
     behind-same Upload step.Opening j r b = (b .0, b .1, b .2, open-same Upload (b .3))
     behind-same Upload step.Segment j r b = (b .0, b .1, λ h. open-same Upload (b .2 h))
     behind-same Upload step.Receipt j r b = b
@@ -268,22 +268,22 @@ module _ {s t : Course} {i : ℕ} (same : Same i s t) where
       at a r (inl m) = another-more (same .keeps) (n a m r)
       at a r (inr o) = o
   state-same v u p alone (asks a) = asks (record {
-    way = a .way;
+    direction = a .direction;
     at = a .at;
     j = a .j;
     turn = a .turn;
     messages = messages-stay (a .messages);
-    before = before-same v u p alone (a .turn .running) (a .way) (a .at) (a .j) (a .before);
+    before = before-same v u p alone (a .turn .running) (a .direction) (a .at) (a .j) (a .before);
   })
   state-same v u p alone (told a) = told (record {
-    way = a .way;
+    direction = a .direction;
     at = a .at;
     j = a .j;
     turn = a .turn;
     messages = messages-stay (a .messages);
     reply = a .reply;
     given = λ e c. a .given e (same .received e c);
-    behind = behind-same v u p alone (a .turn .running) (a .way) (a .at) (a .j) (readReply (a .reply)) (a .behind);
+    behind = behind-same v u p alone (a .turn .running) (a .direction) (a .at) (a .j) (readReply (a .reply)) (a .behind);
   })
   state-same v u p alone (refused a) = refused (record {
     begun = a .begun;

@@ -21,9 +21,9 @@ use Rattle.message.specs.declared.codes.ReturnCode.the-variants as code
 use Rattle.message.specs.Codes.{codeField}
 use Rattle.message.specs.Limits.{subscribers, segmentBytes}
 use Rattle.message.specs.Segments.{segmentsOf}
-use Rattle.bank_state.specs.Limits.{openingsMost}
+use Rattle.bank_state.specs.Limits.{maxOpenings}
 use Rattle.bank_state.specs.Search.{isFree}
-use Rattle.bank_state.specs.State.{World, placeAt}
+use Rattle.bank_state.specs.State.{BankState, placeAt}
 use Rattle.bank_state.specs.Store.{partAt}
 use Rattle.message.specs.OrderNumbers.{orderNumberOf}
 use Rattle.bank_verdicts.specs.declared.verdict.UploadAction.the-variants as up
@@ -45,7 +45,7 @@ use Rattle.bank_history.specs.History.{
 }
 use Rattle.bank_history.specs.History as bank
 use Rattle.bank_history.specs.Invariant as whole
-use Rattle.bank_history.specs.Standing as standing
+use Rattle.bank_history.specs.Transactions as standing
 use Rattle.bank_history.specs.Sound.{AllSound, isCancelling}
 use Rattle.bank_history.proofs.Positions.{action-sound, booking-last}
 use Rattle.bank_history.proofs.Uploads.{place-counted}
@@ -164,7 +164,7 @@ module _ (s : Course) (v : Parts s) (copies : Copied s) (numbers : OneExchangeNu
   sound = v .bank .holds .invariant .sound
 
   pub inv : whole.Invariant (s .bank) (v .bank .past .history)
-  inv = subst (λ (w : World). whole.Invariant w (v .bank .past .history)) (v .bank .world) (v .bank .holds .invariant)
+  inv = subst (λ (w : BankState). whole.Invariant w (v .bank .past .history)) (v .bank .bankState) (v .bank .holds .invariant)
 
   -- ---- a run's requests
 
@@ -286,7 +286,7 @@ module _ (s : Course) (v : Parts s) (copies : Copied s) (numbers : OneExchangeNu
       let n : InBook s (r .0) o = record { place = r .1 .inside; booked = r .1 .used; is = refl } in
       (r .0, o, n, order-of (k .0) (r .1) o n)
 
-  place-number : {j : ℕ} {o : Order} → InBook s j o → placeAt (s .bank .bank) j .number < openingsMost
+  place-number : {j : ℕ} {o : Order} → InBook s j o → placeAt (s .bank .bank) j .number < maxOpenings
   place-number {j} b =
       let n = place-counted (s .bank) h inv j (b .place) (ap isFree (b .booked)) .1 in
       omega (arith, inv .state .numbers)
@@ -313,7 +313,7 @@ module _ (s : Course) (v : Parts s) (copies : Copied s) (numbers : OneExchangeNu
   order-at : {i : ℕ} → Booked s i → (j : ℕ) × standing.Order (s .bank) h (s .runs i .transaction) j
   order-at {i} b = in-book inv (s .runs i .transaction) (booked-ever s v copies numbers b .1)
 
-  booked-number : (i : ℕ) → Booked s i → numberAt (s .runs i .transaction) h < openingsMost
+  booked-number : (i : ℕ) → Booked s i → numberAt (s .runs i .transaction) h < maxOpenings
   booked-number i b =
       let r = order-at b in
       let n = place-counted (s .bank) h inv (r .0) (r .1 .inside) (ap isFree (r .1 .used)) .1 in

@@ -17,7 +17,7 @@ use Rattle.frame.specs.Row.{dataOf}
 use Rattle.octets.proofs.Tests.{never}
 use Rattle.message.specs.Limits.{fileBytes}
 use Rattle.message.specs.Segments.{segmentsOf, segmentOf, lastMarkOf}
-use Rattle.bank_state.specs.State.{World}
+use Rattle.bank_state.specs.State.{BankState}
 use Rattle.bank_history.specs.History as bank
 use Rattle.client.specs.declared.run.Client.{Client}
 use Rattle.client.specs.declared.run.Direction.{Direction}
@@ -69,7 +69,7 @@ use Rattle.exchange.proofs.OrderStates.{
 use Rattle.exchange.proofs.Outstanding.{Pending, outstanding-issue, GivenFor, given-to}
 use Rattle.exchange.proofs.OwnRequests.{issued-begun}
 use Rattle.exchange.proofs.Runs.{begin-past, reply-past, run-ended}
-use Rattle.exchange.proofs.Standing.{Standing}
+use Rattle.exchange.proofs.OpenTransactions.{OpenUnlessIdle}
 
 -- ---- what a run's call leaves
 
@@ -90,11 +90,11 @@ added {i} {x} {o = o} {older = older} (one {x = y}) (here z) r e =
     first : {a b : history.Issue} {l m : List history.Issue} → a ∷ l ≡ b ∷ m → a ≡ b
     first q = cc
 
-open-as : {way : Direction} {s : Course} {i k u u′ n n′ : ℕ} {t t′ : Bits128} → u ≡ u′ → t ≡ t′ → n ≡ n′ → Open way s i u t n k →
-    Open way s i u′ t′ n′ k
-open-as {way} {s} {i} {k} {u} {u′} {n} {n′} {t} {t′} a b c o =
-    subst (λ (x : ℕ). Open way s i x t′ n′ k) a (subst (λ (x : Bits128). Open way s i u x n′ k) b
-    (subst (λ (x : ℕ). Open way s i u t x k) c o))
+open-as : {direction : Direction} {s : Course} {i k u u′ n n′ : ℕ} {t t′ : Bits128} → u ≡ u′ → t ≡ t′ → n ≡ n′ → Open direction s i u t n k →
+    Open direction s i u′ t′ n′ k
+open-as {direction} {s} {i} {k} {u} {u′} {n} {n′} {t} {t′} a b c o =
+    subst (λ (x : ℕ). Open direction s i x t′ n′ k) a (subst (λ (x : Bits128). Open direction s i u x n′ k) b
+    (subst (λ (x : ℕ). Open direction s i u t x k) c o))
 
 -- a call of the run
 module _ (k : Call) (s : Course) (v : Parts s) (copies : Copied s) (q : Allowed k s) (numbers : OneExchangeNumber s)
@@ -112,9 +112,9 @@ module _ (k : Call) (s : Course) (v : Parts s) (copies : Copied s) (q : Allowed 
       (e : Exchange) × In e (exec k s .exchanged) × (e .request ≡ x .frame)
   exchange-more x (e, m, z) = (e, subst (In e) (sym (leaves .exchanged)) m, z)
 
-  open-more : {way : Direction} {u n d : ℕ} {id : Bits128} → Open way s i u id n d → Open way (exec k s) i u id n d
-  open-more {way} {u} {n} {d} {id} o =
-      open-stays (received-more i) received-back (λ last a. subst (λ (w : World). Standing way w id u d n last) (sym (leaves .bank)) a) o
+  open-more : {direction : Direction} {u n d : ℕ} {id : Bits128} → Open direction s i u id n d → Open direction (exec k s) i u id n d
+  open-more {direction} {u} {n} {d} {id} o =
+      open-stays (received-more i) received-back (λ last a. subst (λ (w : BankState). OpenUnlessIdle direction w id u d n last) (sym (leaves .bank)) a) o
 
   -- a request of the run now: one issued before, or the outstanding one
   issued-new : isBegun (exec k s .runs i .stage) ≡ true → (x : Issue) → In x (exec k s .issued) → x .run ≡ i →
@@ -139,27 +139,27 @@ module _ (k : Call) (s : Course) (v : Parts s) (copies : Copied s) (q : Allowed 
 
 -- ---- THE BEGIN
 
-module _ (s : Course) (v : Parts s) (copies : Copied s) (numbers : OneExchangeNumber s) (i : ℕ) (c : Client) (way : Direction) (u first : ℕ)
-    (l : Lent) (q : Allowed (begins i c way u first l) s) (later : OneExchangeNumber (exec (begins i c way u first l) s))
-    (own : c ≡ s .runs i) (done : callNumber (begins i c way u first l) ≡ 0) where
+module _ (s : Course) (v : Parts s) (copies : Copied s) (numbers : OneExchangeNumber s) (i : ℕ) (c : Client) (direction : Direction) (u first : ℕ)
+    (l : Lent) (q : Allowed (begins i c direction u first l) s) (later : OneExchangeNumber (exec (begins i c direction u first l) s))
+    (own : c ≡ s .runs i) (done : callNumber (begins i c direction u first l) ≡ 0) where
   abbrev begin : Call
-  begin = begins i c way u first l
+  begin = begins i c direction u first l
 
-  done-run : answerNumber (beginCall (s .runs i) way u first l .answer) ≡ 0
-  done-run = subst (λ (x : Client). answerNumber (beginCall x way u first l .answer) ≡ 0) own done
+  done-run : answerNumber (beginCall (s .runs i) direction u first l .answer) ≡ 0
+  done-run = subst (λ (x : Client). answerNumber (beginCall x direction u first l .answer) ≡ 0) own done
 
-  begin-left : Leaves s (exec (begins i c way u first l) s) × (exec (begins i c way u first l) s .arrived ≡ s .arrived)
+  begin-left : Leaves s (exec (begins i c direction u first l) s) × (exec (begins i c direction u first l) s .arrived ≡ s .arrived)
   begin-left =
       subst (λ (t : Course). Leaves s t × (t .arrived ≡ s .arrived)) (sym (carried begin s done))
       (record { exchanged = refl; bank = refl }, refl)
 
   not-again : {A : Type 0} → isBegun (s .runs i .stage) ≡ true → A
-  not-again b = never (sym (begin-fresh (s .runs i) way u first l done-run) ∙ b)
+  not-again b = never (sym (begin-fresh (s .runs i) direction u first l done-run) ∙ b)
 
   begin-first : s .runs i .stage ≡ stage.NotBegun → ((a : Arrival) → In a (s .arrived) → a .run ≡ i → ToAnother i (a .reply) s) →
-      State (exec (begins i c way u first l) s) i (history.after (Begin way u first l) (runPast s i))
+      State (exec (begins i c direction u first l) s) i (history.after (Begin direction u first l) (runPast s i))
   begin-first e none = asks (record {
-    way = way;
+    direction = direction;
     at = step.Opening;
     j = 0;
     turn = record {
@@ -181,13 +181,13 @@ module _ (s : Course) (v : Parts s) (copies : Copied s) (numbers : OneExchangeNu
   })
     where
       then : Past
-      then = history.after (Begin way u first l) (runPast s i)
+      then = history.after (Begin direction u first l) (runPast s i)
 
       past : runPast (exec begin s) i ≡ then
-      past = begin-past s i c own way u first l done
+      past = begin-past s i c own direction u first l done
 
-      turn : InTurn then way step.Opening 0 first
-      turn = clientTurn.begins (runPast s i) way u first l done-run .0
+      turn : InTurn then direction step.Opening 0 first
+      turn = clientTurn.begins (runPast s i) direction u first l done-run .0
 
       begun : isBegun (exec begin s .runs i .stage) ≡ true
       begun = ap (λ (p : Past). isBegun (p .run .stage)) past ∙ ap isBegun (turn .running)
@@ -204,10 +204,10 @@ module _ (s : Course) (v : Parts s) (copies : Copied s) (numbers : OneExchangeNu
       at x r b (inl m) = absurd (fresh (x, m, r, refl))
       at x r b (inr z) = absurd (let w = ap (λ (p : Past). p .run .exchange) past in omega arith)
 
-  pub begin-moves : State s i (runPast s i) → State (exec (begins i c way u first l) s) i (runPast (exec (begins i c way u first l) s) i)
-  begin-moves z = subst (State (exec begin s) i) (sym (begin-past s i c own way u first l done)) (at z)
+  pub begin-moves : State s i (runPast s i) → State (exec (begins i c direction u first l) s) i (runPast (exec (begins i c direction u first l) s) i)
+  begin-moves z = subst (State (exec begin s) i) (sym (begin-past s i c own direction u first l done)) (at z)
     where
-      at : State s i (runPast s i) → State (exec begin s) i (history.after (Begin way u first l) (runPast s i))
+      at : State s i (runPast s i) → State (exec begin s) i (history.after (Begin direction u first l) (runPast s i))
       at (idle e none) = begin-first e none
       at (asks a) = not-again (ap isBegun (a .turn .running))
       at (told a) = not-again (ap isBegun (a .turn .running))
@@ -313,7 +313,7 @@ module _ (s : Course) (v : Parts s) (copies : Copied s) (numbers : OneExchangeNu
     number = ap (λ (x : List ℕ). exchange (readReply x)) is-it ∙ is-answer run (readReply (a .reply)) (told-answers s i p a) .number
 
     -- the next request is outstanding
-    module _ (way : Direction) (at : Step) (j : ℕ) (turn : InTurn then way at j (s .runs i .exchange + 1)) where
+    module _ (direction : Direction) (at : Step) (j : ℕ) (turn : InTurn then direction at j (s .runs i .exchange + 1)) where
       begun-now : isBegun (exec (replyArrives i c reply l) s .runs i .stage) ≡ true
       begun-now = ap (λ (x : Past). isBegun (x .run .stage)) past ∙ ap isBegun (turn .running)
 
@@ -358,10 +358,10 @@ module _ (s : Course) (v : Parts s) (copies : Copied s) (numbers : OneExchangeNu
               let o = a .messages .replied e k (omega arith) in
               (o .0, subst (In (o .0)) (sym (reply-left .1)) (there (o .1)), o .2, o .3)
 
-      next-asks : Before way at j (exec (replyArrives i c reply l) s) i (then .run) →
+      next-asks : Before direction at j (exec (replyArrives i c reply l) s) i (then .run) →
           State (exec (replyArrives i c reply l) s) i (history.after (Reply reply l) (runPast s i))
       next-asks b = asks (record {
-        way = way;
+        direction = direction;
         at = at;
         j = j;
         turn = record {
@@ -377,15 +377,15 @@ module _ (s : Course) (v : Parts s) (copies : Copied s) (numbers : OneExchangeNu
       })
 
     -- the transaction, as the run then knows it
-    open-then : {way : Direction} {id : Bits128} {n k : ℕ} → Open way s i (s .runs i .subscriber) id n k → id ≡ then .run .transaction →
+    open-then : {direction : Direction} {id : Bits128} {n k : ℕ} → Open direction s i (s .runs i .subscriber) id n k → id ≡ then .run .transaction →
         n ≡ then .run .segments →
-        Open way (exec (replyArrives i c reply l) s) i (then .run .subscriber) (then .run .transaction) (then .run .segments) k
+        Open direction (exec (replyArrives i c reply l) s) i (then .run .subscriber) (then .run .transaction) (then .run .segments) k
     open-then o e f =
         open-as (sym (steady-then begun .subscriber-same)) e f (open-more arrives s v copies q numbers later (reply-left .0) i o)
 
-    open-known : {way : Direction} {k : ℕ} → isOpen (s .runs i .step) ≡ true →
-        Open way s i (s .runs i .subscriber) (s .runs i .transaction) (s .runs i .segments) k →
-        Open way (exec (replyArrives i c reply l) s) i (then .run .subscriber) (then .run .transaction) (then .run .segments) k
+    open-known : {direction : Direction} {k : ℕ} → isOpen (s .runs i .step) ≡ true →
+        Open direction s i (s .runs i .subscriber) (s .runs i .transaction) (s .runs i .segments) k →
+        Open direction (exec (replyArrives i c reply l) s) i (then .run .subscriber) (then .run .transaction) (then .run .segments) k
     open-known known o =
         let y = steady-then begun in open-then o (sym (y .transaction-same known)) (sym (y .segments known))
 
@@ -407,8 +407,8 @@ module _ (s : Course) (v : Parts s) (copies : Copied s) (numbers : OneExchangeNu
         at false e z =
             next-asks Download step.Segment (k + 1) z (k, omega arith, (let d = eqb-false k n e in omega arith), o)
 
-    told-by : (way : Direction) (at : Step) (j : ℕ) → InTurn p way at j (s .runs i .exchange) →
-        Behind way at j s i (s .runs i) (readReply reply) → Next
+    told-by : (direction : Direction) (at : Step) (j : ℕ) → InTurn p direction at j (s .runs i .exchange) →
+        Behind direction at j s i (s .runs i) (readReply reply) → Next
     told-by Upload step.Opening j turn (id, n, r, o) =
         let z = clientTurn.upload-opens p reply l done-reply j (s .runs i .exchange) n id turn r in
         let some = upload-run (Gave h) (fileIn h) (bank-replies h (v .bank .holds .invariant .sound) (v .bank .proper)) p (v .runs i) begun
@@ -458,8 +458,8 @@ module _ (s : Course) (v : Parts s) (copies : Copied s) (numbers : OneExchangeNu
     told-by Download step.Receipt j turn r = closed (inr (clientTurn.download-fetches p reply l done-reply j (s .runs i .exchange) turn r))
 
     told-moves : State (exec (replyArrives i c reply l) s) i (history.after (Reply reply l) (runPast s i))
-    told-moves = told-by (a .way) (a .at) (a .j) (a .turn)
-        (subst (λ (x : List ℕ). Behind (a .way) (a .at) (a .j) s i (s .runs i) (readReply x)) (sym is-it) (a .behind))
+    told-moves = told-by (a .direction) (a .at) (a .j) (a .turn)
+        (subst (λ (x : List ℕ). Behind (a .direction) (a .at) (a .j) s i (s .runs i) (readReply x)) (sym is-it) (a .behind))
 
   -- a reply that reaches the run moves the order on
   pub reply-moves : State s i (runPast s i) → State (exec (replyArrives i c reply l) s) i (runPast (exec (replyArrives i c reply l) s) i)

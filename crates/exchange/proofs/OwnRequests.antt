@@ -24,7 +24,7 @@ use Rattle.message.specs.Requests.{uploadOpening, downloadOpening, uploadTransf
 use Rattle.message.specs.Segments.{lastMarkOf}
 use Rattle.bank_state.specs.Clock.{advanced}
 use Rattle.bank_state.specs.Limits.{idleLimit}
-use Rattle.bank_state.specs.State.{World}
+use Rattle.bank_state.specs.State.{BankState}
 use Rattle.message.specs.OrderNumbers.{orderNumberOf}
 use Rattle.bank_verdicts.specs.declared.verdict.UploadAction.the-variants as up
 use Rattle.bank_verdicts.specs.declared.verdict.DownloadAction.the-variants as down
@@ -36,7 +36,7 @@ use Rattle.bank_verdicts.specs.Judgement.{mailboxSegments}
 use Rattle.bank_verdicts.specs.Replies.{replyTo}
 use Rattle.bank_history.specs.History.{newest, isOpening, exchangeOf}
 use Rattle.bank_history.specs.History as bank
-use Rattle.bank_history.specs.Standing.{UploadAt, DownloadAt, UploadUnlessIdle, DownloadUnlessIdle, answered}
+use Rattle.bank_history.specs.Transactions.{UploadAt, DownloadAt, UploadUnlessIdle, DownloadUnlessIdle, answered}
 use Rattle.bank_history.proofs.Liveness as bankTurn
 use Rattle.bank_history.proofs.Positions.{action-sound}
 use Rattle.bank_history.proofs.Theorems.{reply-is}
@@ -86,7 +86,7 @@ use Rattle.exchange.proofs.Foreign.{under-not, case-of}
 use Rattle.exchange.proofs.OrderStates.{openedForm, Messages, Open, Before, Behind, State, idle, asks, told, refused, closed}
 use Rattle.exchange.proofs.Outstanding.{Asked, own-outstanding}
 use Rattle.exchange.proofs.Received.{or-another}
-use Rattle.exchange.proofs.Standing.{Standing}
+use Rattle.exchange.proofs.OpenTransactions.{OpenUnlessIdle}
 
 -- ---- the fields of the requests
 
@@ -140,7 +140,7 @@ module _ (s : Course) (v : Parts s) (copies : Copied s) (numbers : OneExchangeNu
       (new : (e : Exchange) → In e (s .exchanged) → e .request ≡ frame → ⊥) (hour : NoIdleHour i (t .bank .bank .clock) s)
       (issued : t .issued ≡ s .issued) (arrivals : t .arrived ≡ s .arrived) where
     abbrev x : bank.Exchange
-    x = exchangeOf (number ids) (advanced time (v .bank .past .world)) (readRequest frame) (dataOf frame)
+    x = exchangeOf (number ids) (advanced time (v .bank .past .bankState)) (readRequest frame) (dataOf frame)
 
     abbrev f : Exchange
     f = en .exchange
@@ -241,10 +241,10 @@ module _ (s : Course) (v : Parts s) (copies : Copied s) (numbers : OneExchangeNu
       unfolding exchangeOf
       replies z e = en .same .reply ∙ reply-is (en .sound) newest ∙ ap (λ (u : Verdict). replyTo u (readRequest frame)) e
 
-      told-by : (way : Direction) (at : Step) (j : ℕ) → InTurn p way at j (c .exchange) → Behind way at j t i c (readReply (f .reply)) →
+      told-by : (direction : Direction) (at : Step) (j : ℕ) → InTurn p direction at j (c .exchange) → Behind direction at j t i c (readReply (f .reply)) →
           State t i p
-      told-by way at j turn b = told (record {
-        way = way;
+      told-by direction at j turn b = told (record {
+        direction = direction;
         at = at;
         j = j;
         turn = turn;
@@ -256,9 +256,9 @@ module _ (s : Course) (v : Parts s) (copies : Copied s) (numbers : OneExchangeNu
 
       -- ---- the clock and the bank now
 
-      clock-is : max (v .bank .past .world .bank .clock) time ≡ t .bank .bank .clock
+      clock-is : max (v .bank .past .bankState .bank .clock) time ≡ t .bank .bank .clock
       clock-is =
-          sym (ap (λ (w : World). w .bank .clock) (en .bank) ∙ bankTurn.answered-clock time ids frame (v .bank .past) (v .bank .holds))
+          sym (ap (λ (w : BankState). w .bank .clock) (en .bank) ∙ bankTurn.answered-clock time ids frame (v .bank .past) (v .bank .holds))
 
       -- the latest of the order's requests
       latest-now : (last : ℕ) → ((e : Exchange) → Received i e s → e .clock ≤ last) → last ≤ t .bank .bank .clock →
@@ -270,20 +270,20 @@ module _ (s : Course) (v : Parts s) (copies : Copied s) (numbers : OneExchangeNu
           at (inr y) = let n = b e y in omega arith
 
       not-idle : (o : (last : ℕ) × ((e : Exchange) → Received i e s → e .clock ≤ last) × ((e : Exchange) × Received i e s)) →
-          max (v .bank .past .world .bank .clock) time ≤ o .0 + idleLimit
+          max (v .bank .past .bankState .bank .clock) time ≤ o .0 + idleLimit
       not-idle (last, latest, some) = at hour
         where
-          at : NoIdleHour i (t .bank .bank .clock) s → max (v .bank .past .world .bank .clock) time ≤ last + idleLimit
+          at : NoIdleHour i (t .bank .bank .clock) s → max (v .bank .past .bankState .bank .clock) time ≤ last + idleLimit
           at (inl (e, k, l)) = let n = latest e k in let y = clock-is in omega arith
           at (inr none) = absurd (none (some .0) (some .1))
 
-      open-now : (way : Direction) (id : Bits128) (u n k : ℕ) (o : Exchange) → Received i o t →
-          form (readReply (o .reply)) ≡ openedForm way →
+      open-now : (direction : Direction) (id : Bits128) (u n k : ℕ) (o : Exchange) → Received i o t →
+          form (readReply (o .reply)) ≡ openedForm direction →
           returnCode (readReply (o .reply)) ≡ codeField code.Ok → transaction (readReply (o .reply)) ≡ id →
           ((e : Exchange) → Received i e t → e .clock ≤ t .bank .bank .clock) →
-          Standing way (answered time ids frame (v .bank .past) .world) id u k n (max (v .bank .past .world .bank .clock) time) →
-          Open way t i u id n k
-      open-now way id u n k o received a b d latest z = record {
+          OpenUnlessIdle direction (answered time ids frame (v .bank .past) .bankState) id u k n (max (v .bank .past .bankState .bank .clock) time) →
+          Open direction t i u id n k
+      open-now direction id u n k o received a b d latest z = record {
         opening = o;
         received = received;
         opened = a;
@@ -291,21 +291,21 @@ module _ (s : Course) (v : Parts s) (copies : Copied s) (numbers : OneExchangeNu
         id = d;
         last = t .bank .bank .clock;
         latest = latest;
-        standing = subst (λ (w : World). Standing way w id u k n (t .bank .bank .clock)) (sym (en .bank))
-            (subst (Standing way (answered time ids frame (v .bank .past) .world) id u k n) clock-is z);
+        standing = subst (λ (w : BankState). OpenUnlessIdle direction w id u k n (t .bank .bank .clock)) (sym (en .bank))
+            (subst (OpenUnlessIdle direction (answered time ids frame (v .bank .past) .bankState) id u k n) clock-is z);
       }
 
       -- the transaction goes on from an earlier request
-      open-on : {way : Direction} {id : Bits128} {u n k : ℕ} (o : Open way s i u id n k) (m : ℕ) →
-          o .last ≤ max (v .bank .past .world .bank .clock) time →
-          Standing way (answered time ids frame (v .bank .past) .world) id u m n (max (v .bank .past .world .bank .clock) time) →
-          Open way t i u id n m
-      open-on {way} {id} {u} {n} o m l z =
-          open-now way id u n m (o .opening) (received-more i (o .opening) (o .received)) (o .opened) (o .ok) (o .id)
+      open-on : {direction : Direction} {id : Bits128} {u n k : ℕ} (o : Open direction s i u id n k) (m : ℕ) →
+          o .last ≤ max (v .bank .past .bankState .bank .clock) time →
+          OpenUnlessIdle direction (answered time ids frame (v .bank .past) .bankState) id u m n (max (v .bank .past .bankState .bank .clock) time) →
+          Open direction t i u id n m
+      open-on {direction} {id} {u} {n} o m l z =
+          open-now direction id u n m (o .opening) (received-more i (o .opening) (o .received)) (o .opened) (o .ok) (o .id)
           (latest-now (o .last) (o .latest) (let y = clock-is in omega arith)) z
 
-      in-hour : {way : Direction} {id : Bits128} {u n k : ℕ} (o : Open way s i u id n k) →
-          max (v .bank .past .world .bank .clock) time ≤ o .last + idleLimit
+      in-hour : {direction : Direction} {id : Bits128} {u n k : ℕ} (o : Open direction s i u id n k) →
+          max (v .bank .past .bankState .bank .clock) time ≤ o .last + idleLimit
       in-hour o = not-idle (o .last, o .latest, (o .opening, o .received))
 
       -- ---- the opening
@@ -362,11 +362,11 @@ module _ (s : Course) (v : Parts s) (copies : Copied s) (numbers : OneExchangeNu
                 r,
                 open-now Upload id (c .subscriber) (c .segments) 0 f received-now (ap form r ∙ y .form-is) ok
                     (ap transaction r ∙ opened-fields (c .exchange) (orderNumberOf m) 0 0 id .0) (alone-now first)
-                    (λ _. subst (λ (u : ℕ). UploadAt (answered time ids frame (v .bank .past) .world) id u 0 (c .segments)
-                    (max (v .bank .past .world .bank .clock) time))
+                    (λ _. subst (λ (u : ℕ). UploadAt (answered time ids frame (v .bank .past) .bankState) id u 0 (c .segments)
+                    (max (v .bank .past .bankState .bank .clock) time))
                     (ap subscriber (asked .request) ∙ outstanding-subscriber c (asked .time) (asked .nonce) [])
-                    (subst (λ (n : ℕ). UploadAt (answered time ids frame (v .bank .past) .world) id (subscriber (readRequest frame)) 0 n
-                    (max (v .bank .past .world .bank .clock) time)) (ap segments request ∙ opening-segments _ _ _ _ _) there)),
+                    (subst (λ (n : ℕ). UploadAt (answered time ids frame (v .bank .past) .bankState) id (subscriber (readRequest frame)) 0 n
+                    (max (v .bank .past .bankState .bank .clock) time)) (ap segments request ∙ opening-segments _ _ _ _ _) there)),
               )
 
           at : (id : Bits128) × (k : Action) × (x .verdict ≡ verdict.Of id k) × (isOpening k ≡ true) → State t i p
@@ -402,8 +402,8 @@ module _ (s : Course) (v : Parts s) (copies : Copied s) (numbers : OneExchangeNu
                 r,
                 open-now Download id (c .subscriber) n 1 f received-now (ap form r ∙ y .form-is) ok
                     (ap transaction r ∙ download-fields (c .exchange) n 0 (lastMarkOf 1 n) id .0) (alone-now first)
-                    (λ _. subst (λ (u : ℕ). DownloadAt (answered time ids frame (v .bank .past) .world) id u 1
-                    (max (v .bank .past .world .bank .clock) time))
+                    (λ _. subst (λ (u : ℕ). DownloadAt (answered time ids frame (v .bank .past) .bankState) id u 1
+                    (max (v .bank .past .bankState .bank .clock) time))
                     (ap subscriber (asked .request) ∙ outstanding-subscriber c (asked .time) (asked .nonce) []) there),
               )
 
@@ -429,8 +429,8 @@ module _ (s : Course) (v : Parts s) (copies : Copied s) (numbers : OneExchangeNu
           told-by Upload step.Segment j turn (
             r,
             within,
-            λ below. open-on o j current (λ _. subst (λ (m : ℕ). UploadAt (answered time ids frame (v .bank .past) .world)
-                (c .transaction) (c .subscriber) m (c .segments) (max (v .bank .past .world .bank .clock) time)) (sym next)
+            λ below. open-on o j current (λ _. subst (λ (m : ℕ). UploadAt (answered time ids frame (v .bank .past) .bankState)
+                (c .transaction) (c .subscriber) m (c .segments) (max (v .bank .past .bankState .bank .clock) time)) (sym next)
                 (bankTurn.upload-goes-on time ids frame (v .bank .past) (v .bank .holds) (c .transaction) (c .subscriber) k (c .segments)
                 (o .last)
                 before kind from to next-segment mark short (in-hour o) (omega arith))),
@@ -473,12 +473,12 @@ module _ (s : Course) (v : Parts s) (copies : Copied s) (numbers : OneExchangeNu
               let m = segment-most (s .payloads i) (c .segment) (omega arith) (omega arith) in
               let l = ap length bytes in omega arith
 
-          before : UploadUnlessIdle (v .bank .past .world) (c .transaction) (c .subscriber) k (c .segments) (o .last)
-          before = subst (λ (w : World). UploadUnlessIdle w (c .transaction) (c .subscriber) k (c .segments) (o .last))
-              (sym (v .bank .world))
+          before : UploadUnlessIdle (v .bank .past .bankState) (c .transaction) (c .subscriber) k (c .segments) (o .last)
+          before = subst (λ (w : BankState). UploadUnlessIdle w (c .transaction) (c .subscriber) k (c .segments) (o .last))
+              (sym (v .bank .bankState))
               (o .standing)
 
-          current : o .last ≤ max (v .bank .past .world .bank .clock) time
+          current : o .last ≤ max (v .bank .past .bankState .bank .clock) time
           current = bankTurn.upload-current time ids frame (v .bank .past) (v .bank .holds) (c .transaction) (c .subscriber) k (c .segments)
               (o .last) before kind from to next-segment mark short (in-hour o)
 
@@ -493,28 +493,28 @@ module _ (s : Course) (v : Parts s) (copies : Copied s) (numbers : OneExchangeNu
 
       -- ---- a segment and the receipt of a download
 
-      module _ (turn-way : c .direction ≡ Download) (known : isOpen (c .step) ≡ true) (d : ℕ)
+      module _ (turn-direction : c .direction ≡ Download) (known : isOpen (c .step) ≡ true) (d : ℕ)
           (o : Open Download s i (c .subscriber) (c .transaction) (c .segments) d) (from : subscriber (readRequest frame) ≡ c .subscriber)
           (to : transaction (readRequest frame) ≡ c .transaction) where
-        before-download : DownloadUnlessIdle (v .bank .past .world) (c .transaction) (c .subscriber) d (o .last)
-        before-download = subst (λ (w : World). DownloadUnlessIdle w (c .transaction) (c .subscriber) d (o .last)) (sym (v .bank .world))
+        before-download : DownloadUnlessIdle (v .bank .past .bankState) (c .transaction) (c .subscriber) d (o .last)
+        before-download = subst (λ (w : BankState). DownloadUnlessIdle w (c .transaction) (c .subscriber) d (o .last)) (sym (v .bank .bankState))
             (o .standing)
 
         short-download : length (dataOf frame) ≤ segmentBytes
-        short-download = let l = ap length (asked .bytes ∙ data-download c 0 [] (s .payloads i) turn-way) in omega arith
+        short-download = let l = ap length (asked .bytes ∙ data-download c 0 [] (s .payloads i) turn-direction) in omega arith
 
-        current-download : o .last ≤ max (v .bank .past .world .bank .clock) time
+        current-download : o .last ≤ max (v .bank .past .bankState .bank .clock) time
         current-download =
             bankTurn.download-current time ids frame (v .bank .past) (v .bank .holds) (c .transaction) (c .subscriber) d (o .last)
             before-download from to short-download (in-hour o)
 
         -- N as the run knows it
-        count-now : mailboxSegments (subscriber (readRequest frame)) (advanced time (v .bank .past .world) .bank) ≡ c .segments
+        count-now : mailboxSegments (subscriber (readRequest frame)) (advanced time (v .bank .past .bankState) .bank) ≡ c .segments
         count-now =
             bankTurn.download-segments time ids frame (v .bank .past) (v .bank .holds) (c .transaction) (c .subscriber) d (o .last)
             before-download from to short-download (in-hour o)
             ∙ sym (file-held (Gave h) (fileIn h) (bank-replies h (v .bank .holds .invariant .sound) (v .bank .proper)) p (v .runs i)
-            (issued-begun own) turn-way known .number)
+            (issued-begun own) turn-direction known .number)
 
       download-segment : (j : ℕ) → InTurn p Download step.Segment j (c .exchange) → Before Download step.Segment j s i c → State t i p
       download-segment j turn (k, next, within, o) =
@@ -523,8 +523,8 @@ module _ (s : Course) (v : Parts s) (copies : Copied s) (numbers : OneExchangeNu
             omega arith,
             within,
             open-on o j (current-download (turn .direction) (ap isOpen (turn .step)) k o from to)
-                (λ _. subst (λ (m : ℕ). DownloadAt (answered time ids frame (v .bank .past) .world) (c .transaction) (c .subscriber) m
-                (max (v .bank .past .world .bank .clock) time)) (sym next)
+                (λ _. subst (λ (m : ℕ). DownloadAt (answered time ids frame (v .bank .past) .bankState) (c .transaction) (c .subscriber) m
+                (max (v .bank .past .bankState .bank .clock) time)) (sym next)
                 (bankTurn.download-goes-on time ids frame (v .bank .past) (v .bank .holds) (c .transaction) (c .subscriber) k (o .last)
                 (before-download (turn .direction) (ap isOpen (turn .step)) k o from to) from to
                 (short-download (turn .direction) (ap isOpen (turn .step)) k o from to) (in-hour o) kind next-segment reach)),
@@ -552,11 +552,11 @@ module _ (s : Course) (v : Parts s) (copies : Copied s) (numbers : OneExchangeNu
           next-segment : segment (readRequest frame) ≡ suc k
           next-segment = is-segment ∙ next
 
-          count : mailboxSegments (subscriber (readRequest frame)) (advanced time (v .bank .past .world) .bank) ≡ c .segments
+          count : mailboxSegments (subscriber (readRequest frame)) (advanced time (v .bank .past .bankState) .bank) ≡ c .segments
           count = count-now (turn .direction) (ap isOpen (turn .step)) k o from to
 
           reach : segment (readRequest frame) ≤ mailboxSegments (subscriber (readRequest frame))
-              (advanced time (v .bank .past .world) .bank)
+              (advanced time (v .bank .past .bankState) .bank)
           reach = let a = is-segment in let b = count in omega arith
 
           r : readReply (f .reply) ≡ downloadSegment (c .exchange) (c .transaction) j (lastMarkOf j (c .segments))
@@ -565,13 +565,13 @@ module _ (s : Course) (v : Parts s) (copies : Copied s) (numbers : OneExchangeNu
               (o .last) (before-download (turn .direction) (ap isOpen (turn .step)) k o from to) from to
               (short-download (turn .direction) (ap isOpen (turn .step)) k o from to) (in-hour o) kind next-segment reach)
               ∙ ap (λ (n : ℕ). downloadSegment n (c .transaction) (segment (readRequest frame)) (lastMarkOf (segment (readRequest frame))
-              (mailboxSegments (subscriber (readRequest frame)) (advanced time (v .bank .past .world) .bank)))) is-outstanding
+              (mailboxSegments (subscriber (readRequest frame)) (advanced time (v .bank .past .bankState) .bank)))) is-outstanding
               ∙ ap (λ (m : ℕ). downloadSegment (c .exchange) (c .transaction) m (lastMarkOf m
-              (mailboxSegments (subscriber (readRequest frame)) (advanced time (v .bank .past .world) .bank)))) is-segment
+              (mailboxSegments (subscriber (readRequest frame)) (advanced time (v .bank .past .bankState) .bank)))) is-segment
               ∙ ap (λ (n : ℕ). downloadSegment (c .exchange) (c .transaction) j (lastMarkOf j n)) count
 
       download-receipt : (j : ℕ) → InTurn p Download step.Receipt j (c .exchange) → Before Download step.Receipt j s i c → State t i p
-      download-receipt j turn (way, o) =
+      download-receipt j turn (direction, o) =
           told-by Download step.Receipt j turn r
         where
           request : readRequest frame ≡ receipt (c .subscriber) (c .exchange) (c .transaction) 0
@@ -596,8 +596,8 @@ module _ (s : Course) (v : Parts s) (copies : Copied s) (numbers : OneExchangeNu
               (sym (count-now (turn .direction) (ap isOpen (turn .step)) (c .segments) o from to)) (ap receiptCode request ∙ fields .2))
               ∙ ap (λ (n : ℕ). receiptAnswered n (c .transaction) code.DownloadPostprocessDone) is-outstanding
 
-      by-step : (way : Direction) (at : Step) (j : ℕ) → InTurn p way at j (c .exchange) → Before way at j s i c → State t i p
-      by-step way step.Opening j turn first = at (ℕ-discrete (returnCode (readReply (f .reply))) (codeField code.Ok))
+      by-step : (direction : Direction) (at : Step) (j : ℕ) → InTurn p direction at j (c .exchange) → Before direction at j s i c → State t i p
+      by-step direction step.Opening j turn first = at (ℕ-discrete (returnCode (readReply (f .reply))) (codeField code.Ok))
         where
           go : (w : Direction) → InTurn p w step.Opening j (c .exchange) →
               returnCode (readReply (f .reply)) ≡ codeField code.Ok → State t i p
@@ -605,7 +605,7 @@ module _ (s : Course) (v : Parts s) (copies : Copied s) (numbers : OneExchangeNu
           go Download z ok = download-opening j z first ok
 
           at : Dec (returnCode (readReply (f .reply)) ≡ codeField code.Ok) → State t i p
-          at (yes ok) = go way turn ok
+          at (yes ok) = go direction turn ok
           at (no other) = opening-lost (turn .step) first other
       by-step Upload step.Segment j turn b = upload-segment j turn b
       by-step Download step.Segment j turn b = download-segment j turn b
@@ -615,7 +615,7 @@ module _ (s : Course) (v : Parts s) (copies : Copied s) (numbers : OneExchangeNu
     -- a copy of the run's request moves the order on
     pub request-moves : State s i p → State t i p
     request-moves (idle e none) = never (sym (ap isBegun e) ∙ issued-begun own)
-    request-moves (asks a) = by-step (a .messages) (a .way) (a .at) (a .j) (a .turn) (a .before)
+    request-moves (asks a) = by-step (a .messages) (a .direction) (a .at) (a .j) (a .turn) (a .before)
     request-moves (told a) =
         let o = a .messages .all (own .0) (own .1) (own .2) (issued-below (own .1) (own .2)) in absurd (new (o .0) (o .1) (o .2 ∙ own .3))
     request-moves (refused a) = let o = a .all (own .0) (own .1) (own .2) in absurd (new (o .0) (o .1) (o .2 ∙ own .3))

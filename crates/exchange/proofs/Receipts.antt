@@ -34,7 +34,7 @@ use Rattle.bank_state.specs.declared.state.Use.{Use}
 use Rattle.bank_state.specs.declared.state.Use.the-variants.{Free, Open, Booked}
 use Rattle.bank_state.specs.Limits.{placeCount}
 use Rattle.bank_state.specs.Search.{isFree}
-use Rattle.bank_state.specs.State.{World, noPlace, placeAt, downloadAt}
+use Rattle.bank_state.specs.State.{BankState, noPlace, placeAt, downloadAt}
 use Rattle.bank_state.specs.Store.{partAt}
 use Rattle.bank_verdicts.specs.declared.verdict.Action.the-variants as action
 use Rattle.bank_verdicts.specs.declared.verdict.UploadAction.the-variants as up
@@ -55,7 +55,7 @@ use Rattle.bank_history.specs.History.{
 use Rattle.bank_history.specs.History as bank
 use Rattle.bank_history.specs.Invariant as bankInvariant
 use Rattle.bank_history.specs.Sound.{AllSound}
-use Rattle.bank_history.specs.Standing.{Gone}
+use Rattle.bank_history.specs.Transactions.{Gone}
 use Rattle.bank_history.proofs.Cases.{happens}
 use Rattle.bank_history.proofs.Clock.{advanced-keeps, each-download}
 use Rattle.bank_history.proofs.Downloads.{download-open}
@@ -118,7 +118,7 @@ abbrev boxNow : Course → Issue → List ℕ
 boxNow s x = mailboxOf (s .bank) (s .runs (x .run) .subscriber)
 
 -- the request was issued with its run's file in the mailbox, or its transaction is gone
-abbrev pub HeldOrGone : World → Issue → Type 0
+abbrev pub HeldOrGone : BankState → Issue → Type 0
 HeldOrGone w x = (x .file ≡ x .box) ⊎ Gone w (transaction (readRequest (x .frame)))
 
 -- ---- a receipt issued, at a course
@@ -229,8 +229,8 @@ run-box s i k payload (answer.Refused r) x m = inl m
 
 carried-box : (k : Call) (s : Course) (x : Issue) → In x (carryOut k s .issued) → In x (s .issued) ⊎ (x .box ≡ boxNow (carryOut k s) x)
 carried-box (frameArrives w time ids frame buffer) s x m = inl m
-carried-box (filePut b boxes n file) s x m = inl m
-carried-box (begins i c way u first l) s x m = let k = beginCall c way u first l in run-box s i k (l .payload) (k .answer) x m
+carried-box (filePut b mailboxes n file) s x m = inl m
+carried-box (begins i c direction u first l) s x m = let k = beginCall c direction u first l in run-box s i k (l .payload) (k .answer) x m
 carried-box (replyArrives i c reply l) s x m = let k = replyCall c reply l in run-box s i k (l .payload) (k .answer) x m
 carried-box (noReply i c l) s x m = let k = noReplyCall c l in run-box s i k (l .payload) (k .answer) x m
 
@@ -243,14 +243,14 @@ call-box k s x =
 -- nothing, a file put, or a frame answered
 data BankMove (s : Course) (b : BankPart s) (t : Course) : Type 0 where
   rests : t .bank ≡ s .bank → t .exchanged ≡ s .exchanged → BankMove s b t
-  puts : (m : ℕ) (file : List ℕ) → t .bank ≡ bank.after (File m file) (b .past) .world → t .exchanged ≡ s .exchanged → BankMove s b t
+  puts : (m : ℕ) (file : List ℕ) → t .bank ≡ bank.after (File m file) (b .past) .bankState → t .exchanged ≡ s .exchanged → BankMove s b t
   answers : (time : ℕ) (ids frame buffer : List ℕ) → Entered s b time ids frame buffer t → t .issued ≡ s .issued → BankMove s b t
 
 carried-move : (k : Call) (s : Course) (v : Parts s) → Premise k s → callNumber k ≡ 0 → BankMove s (v .bank) (carryOut k s)
 carried-move (frameArrives w time ids frame buffer) s v q z =
     answers time ids frame buffer (frame-enters s (v .bank) w time ids frame buffer (q .0) z) refl
-carried-move (filePut b boxes m file) s v q z = puts m file (file-bank s v b boxes m file q z .0) refl
-carried-move (begins i c way u first l) s v q z = rests refl refl
+carried-move (filePut b mailboxes m file) s v q z = puts m file (file-bank s v b mailboxes m file q z .0) refl
+carried-move (begins i c direction u first l) s v q z = rests refl refl
 carried-move (replyArrives i c reply l) s v q z = rests refl refl
 carried-move (noReply i c l) s v q z = rests refl refl
 
@@ -261,14 +261,14 @@ bank-move k s v q = by-number k s (BankMove s (v .bank)) (rests refl refl) (λ z
 move-gone : {s t : Course} (b : BankPart s) → BankMove s b t → {u : Bits128} → Gone (s .bank) u → Gone (t .bank) u
 move-gone {s} {t} b d {u} g = at d
   where
-    was : Gone (b .past .world) u
-    was = subst (λ (w : World). Gone w u) (sym (b .world)) g
+    was : Gone (b .past .bankState) u
+    was = subst (λ (w : BankState). Gone w u) (sym (b .bankState)) g
 
     at : BankMove s b t → Gone (t .bank) u
-    at (rests e z) = subst (λ (w : World). Gone w u) (sym e) g
-    at (puts m file e z) = subst (λ (w : World). Gone w u) (sym e) (gone-stays u (File m file) (b .past) (b .holds) was)
+    at (rests e z) = subst (λ (w : BankState). Gone w u) (sym e) g
+    at (puts m file e z) = subst (λ (w : BankState). Gone w u) (sym e) (gone-stays u (File m file) (b .past) (b .holds) was)
     at (answers time ids frame buffer en z) =
-        subst (λ (w : World). Gone w u) (ap (λ (p : Past). p .world) (en .next) ∙ sym (en .bank))
+        subst (λ (w : BankState). Gone w u) (ap (λ (p : Past). p .bankState) (en .next) ∙ sym (en .bank))
         (gone-stays u (Frame time ids frame buffer) (b .past) (b .holds) was)
 
 -- the transaction of a receipt answered 011000 was not gone
@@ -277,14 +277,14 @@ not-gone : {s t : Course} (b : BankPart s) (time : ℕ) (ids frame buffer : List
     Gone (s .bank) (transaction (readRequest frame)) → ⊥
 unfolding exchangeOf respond
 not-gone b time ids frame buffer en z g =
-    let w = b .past .world in
+    let w = b .past .bankState in
     let n = advanced-keeps time w (b .past .history) (b .holds .invariant) in
     let e = case-empties
     (happens (number ids) (advanced time w) (readRequest frame) (dataOf frame) (n .state .sizes .places)
     (n .state .sizes .downloads)) (n .state .sizes)
     (done-confirmed (en .sound) newest (en .proper) (ap returnCode (sym (en .same .reply)) ∙ z) .0) in
     each-download time w (λ (r : Download). r .used ≡ true → r .transaction ≡ transaction (readRequest frame) → ⊥) (λ u. never u)
-    (λ j _. subst (λ (y : World). Gone y (transaction (readRequest frame))) (sym (b .world)) g .downloads j) (e .row) (e .used) (e .own)
+    (λ j _. subst (λ (y : BankState). Gone y (transaction (readRequest frame))) (sym (b .bankState)) g .downloads j) (e .row) (e .used) (e .own)
 
 -- ---- over the calls of a list
 

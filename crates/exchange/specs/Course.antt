@@ -11,7 +11,7 @@ use Rattle.message.specs.Codes.{codeField}
 use Rattle.bank_state.specs.declared.state.Bank.{Bank}
 use Rattle.bank_state.specs.Clock.{advanced}
 use Rattle.bank_state.specs.Limits.{storeBytes}
-use Rattle.bank_state.specs.State.{World, world, fresh, fileLength}
+use Rattle.bank_state.specs.State.{BankState, bankState, fresh, fileLength}
 use Rattle.bank_state.specs.Store.{fileOf}
 use Rattle.bank.specs.declared.call.FrameAnswer.{FrameAnswer}
 use Rattle.bank.specs.declared.call.FrameAnswer.the-variants as frameAnswer
@@ -27,7 +27,7 @@ use Rattle.client.specs.Run.{Lent, ClientCall, notBegun, answerNumber}
 -- A call with everything that it brings and is lent; client runs are told apart by a number
 pub data Call : Type 0 where
   -- a frame to the bank: the bank and its stores, the bank time, the 8 ID bytes, the frame, the reply buffer
-  frameArrives : World → ℕ → List ℕ → List ℕ → List ℕ → Call
+  frameArrives : BankState → ℕ → List ℕ → List ℕ → List ℕ → Call
   -- a file into a mailbox: the bank, the mailboxes' store, the mailbox, the file
   filePut : Bank → List ℕ → ℕ → List ℕ → Call
   -- begin: direction, subscriber, first exchange number
@@ -60,7 +60,7 @@ pub record Arrival : Type 0 where
 -- What a list of calls has left: at the bank's end, at each run's end, the file last put into each mailbox and not emptied by 011000,
 -- and all that was issued, exchanged and arrived, the newest first
 pub record Course : Type 0 where
-  pub bank : World
+  pub bank : BankState
   pub runs : ℕ → Client
   pub payloads : ℕ → List ℕ
   pub files : ℕ → List ℕ
@@ -72,7 +72,7 @@ pub record Course : Type 0 where
 -- a fresh bank with every lent byte 0, and no run begun
 unfoldable pub start : Course
 start = record {
-  bank = world fresh (replicate storeBytes 0) (replicate storeBytes 0);
+  bank = bankState fresh (replicate storeBytes 0) (replicate storeBytes 0);
   runs = λ i. notBegun;
   payloads = λ i. [];
   files = λ i. [];
@@ -87,7 +87,7 @@ changed f i a j = cond (eqb j i) a (f j)
 
 -- ---- THE COURSE WITH ONE PART CHANGED
 
-abbrev pub withBank : World → Course → Course
+abbrev pub withBank : BankState → Course → Course
 withBank w s = record {
   bank = w;
   runs = s .runs;
@@ -163,8 +163,8 @@ withArrived l s = record {
 -- ---- FILES
 
 -- the file that a subscriber's mailbox holds
-unfoldable pub mailboxOf : World → ℕ → List ℕ
-mailboxOf w m = fileOf (w .boxes) (m - 1) (fileLength m (w .bank .files))
+unfoldable pub mailboxOf : BankState → ℕ → List ℕ
+mailboxOf w m = fileOf (w .mailboxes) (m - 1) (fileLength m (w .bank .files))
 
 -- "A run's file is its file buffer up to the end of the last segment held"
 unfoldable pub heldOf : Client → List ℕ → List ℕ
@@ -181,8 +181,8 @@ emptied request reply mailboxes =
 -- document 01's number for a call, 0 where it is given none
 abbrev pub callNumber : Call → ℕ
 callNumber (frameArrives w time ids frame buffer) = frameNumber (frameCall w time ids frame buffer .answer)
-callNumber (filePut b boxes m file) = fileNumber (fileCall b m file boxes .answer)
-callNumber (begins i c way subscriber first l) = answerNumber (beginCall c way subscriber first l .answer)
+callNumber (filePut b mailboxes m file) = fileNumber (fileCall b m file mailboxes .answer)
+callNumber (begins i c direction subscriber first l) = answerNumber (beginCall c direction subscriber first l .answer)
 callNumber (replyArrives i c reply l) = answerNumber (replyCall c reply l .answer)
 callNumber (noReply i c l) = answerNumber (noReplyCall c l .answer)
 
@@ -192,7 +192,7 @@ replyIn (frameAnswer.Reply n) buffer = take n buffer
 replyIn frameAnswer.WrongLength buffer = []
 
 -- a frame answered: the reply, the bank after the answer, and after clock and drops before it
-abbrev pub afterFrame : List ℕ → World → World → List ℕ → Course → Course
+abbrev pub afterFrame : List ℕ → BankState → BankState → List ℕ → Course → Course
 afterFrame reply now before request s =
     withBank now
     (withMailboxes (emptied request reply (s .mailboxes))
@@ -203,7 +203,7 @@ afterFrame reply now before request s =
 -- a file put into mailbox m
 abbrev pub afterFile : FileCall → ℕ → List ℕ → Course → Course
 afterFile k m file s =
-    withBank (world (k .bank) (s .bank .orders) (k .boxes)) (withMailboxes (changed (s .mailboxes) m file) s)
+    withBank (bankState (k .bank) (s .bank .orders) (k .mailboxes)) (withMailboxes (changed (s .mailboxes) m file) s)
 
 -- the requests issued, with the one of n bytes that a call of run i issues
 abbrev pub issuedBy : Answer → ℕ → ClientCall → Course → List Issue
@@ -222,9 +222,9 @@ afterRun i k payload s = withRun i (k .run) payload (k .file) (withIssued (issue
 abbrev pub carryOut : Call → Course → Course
 carryOut (frameArrives w time ids frame buffer) s =
     let k = frameCall w time ids frame buffer in
-    afterFrame (replyIn (k .answer) (k .buffer)) (k .world) (advanced time w) frame s
-carryOut (filePut b boxes m file) s = afterFile (fileCall b m file boxes) m file s
-carryOut (begins i c way subscriber first l) s = afterRun i (beginCall c way subscriber first l) (l .payload) s
+    afterFrame (replyIn (k .answer) (k .buffer)) (k .bankState) (advanced time w) frame s
+carryOut (filePut b mailboxes m file) s = afterFile (fileCall b m file mailboxes) m file s
+carryOut (begins i c direction subscriber first l) s = afterRun i (beginCall c direction subscriber first l) (l .payload) s
 carryOut (replyArrives i c reply l) s =
     withArrived (record { run = i; reply = reply } ∷ s .arrived) (afterRun i (replyCall c reply l) (l .payload) s)
 carryOut (noReply i c l) s = afterRun i (noReplyCall c l) (l .payload) s

@@ -53,8 +53,8 @@ fn say_point(v: [u64; VALUES]) {
 }
 
 // What a run begins.
-fn say_begin(way: Direction, v: [u64; VALUES]) {
-    match way {
+fn say_begin(direction: Direction, v: [u64; VALUES]) {
+    match direction {
         Direction::Upload => say(b"0 client 1: upload begun", v),
         Direction::Download => say(b"0 client 1: download begun", v),
     }
@@ -78,10 +78,10 @@ fn say_reply(form: Form, v: [u64; VALUES]) {
 }
 
 // What happens in a move.
-pub(crate) fn say_act(act: u8, way: Direction, form: Form, repeated: bool, v: [u64; VALUES]) {
+pub(crate) fn say_act(act: u8, direction: Direction, form: Form, repeated: bool, v: [u64; VALUES]) {
     match act {
         b'f' => say(b"0 host -> bank: file for mailbox 2, 3 bytes", v),
-        b'b' => say_begin(way, v),
+        b'b' => say_begin(direction, v),
         b'q' => say_request(form, repeated, v),
         b'r' => say_reply(form, v),
         _ => say(b"0 client 1: no reply", v),

@@ -39,7 +39,7 @@ fn play_moves(
     end: usize,
     text: &[u8],
     orders: &mut [u8],
-    boxes: &mut [u8],
+    mailboxes: &mut [u8],
     payloads: &mut [u8],
     files: &mut [u8],
 ) -> Course {
@@ -48,7 +48,7 @@ fn play_moves(
     while i < end {
         let at = i;
         i += 1;
-        t = play(t, at, i as u64, text, orders, boxes, payloads, files);
+        t = play(t, at, i as u64, text, orders, mailboxes, payloads, files);
     }
     t
 }
@@ -56,7 +56,7 @@ fn play_moves(
 // Exercises A, B and C with orders whose bytes are parts of this text.
 fn exercise(text: &[u8]) {
     let mut orders = [0u8; STORE_BYTES];
-    let mut boxes = [0u8; STORE_BYTES];
+    let mut mailboxes = [0u8; STORE_BYTES];
     let mut payloads = [0u8; ROOMS_BYTES];
     let mut files = [0u8; ROOMS_BYTES];
     let unit = fresh();
@@ -73,7 +73,7 @@ fn exercise(text: &[u8]) {
         MOVES_A,
         text,
         &mut orders,
-        &mut boxes,
+        &mut mailboxes,
         &mut payloads,
         &mut files,
     );
@@ -87,7 +87,7 @@ fn exercise(text: &[u8]) {
         MOVES,
         text,
         &mut orders,
-        &mut boxes,
+        &mut mailboxes,
         &mut payloads,
         &mut files,
     );

@@ -87,10 +87,10 @@ fn put_body(record: &mut [u8], at: usize, body: &[u8]) {
 
 // Writes the begin of a run; the nonce bytes are 0.
 fn put_begin(record: &mut [u8], o: Order, content: &[u8]) {
-    let way = o.0;
+    let direction = o.0;
     put_number(record, 6, 2, o.1);
     put_number(record, 8, 4, o.3);
-    match way {
+    match direction {
         Direction::Upload => {
             put_number(record, 0, 1, b'U' as u64);
             put_body(record, 24, content);
@@ -178,11 +178,11 @@ fn values_of(n: u64, run: usize, q: Fields) -> [u64; VALUES] {
 // Prints the line of a move that made this answer.
 fn say_line(n: u64, act: u8, run: usize, fate: u8, frame: &[u8], repeated: bool, answer: Answer) {
     let o = order_of(run);
-    let way = o.0;
+    let direction = o.0;
     let q = fields_of(act, frame);
     let v = values_of(n, run, q);
     let form = q.form();
-    say_act(act, way, form, repeated, v);
+    say_act(act, direction, form, repeated, v);
     say_end(fate, answer, v);
 }
 
@@ -236,7 +236,7 @@ pub(crate) fn play(
     n: u64,
     text: &[u8],
     orders: &mut [u8],
-    boxes: &mut [u8],
+    mailboxes: &mut [u8],
     payloads: &mut [u8],
     files: &mut [u8],
 ) -> Course {
@@ -252,7 +252,15 @@ pub(crate) fn play(
     put_record(&mut record, act, run, fate, content_of(text, run), frame);
     let unit = c.unit;
     let mut buffer = [0u8; REPLY_ROOM];
-    let o = call(unit, &record, orders, boxes, payloads, files, &mut buffer);
+    let o = call(
+        unit,
+        &record,
+        orders,
+        mailboxes,
+        payloads,
+        files,
+        &mut buffer,
+    );
     let answer = o.answer;
     say_line(n, act, run, fate, frame, message.repeated, answer);
     let next = mail_after(mail, act == b'n', answer, buffer);

@@ -128,8 +128,8 @@ fn say_word(stage: Stage, number: u64, h: Holding, bank: &[u8], v: [u64; VALUES]
 // The row of a run from what the bank has.
 fn say_row(c: Client, h: Holding, v: [u64; VALUES]) {
     let stage = c.stage;
-    let way = c.direction;
-    match way {
+    let direction = c.direction;
+    match direction {
         Direction::Upload => {
             say(b"client 1, upload: ", v);
             if h.there {
@@ -152,9 +152,9 @@ fn say_run(u: UnitState, i: usize, text: &[u8], orders: &[u8], files: &[u8]) {
     }
     let r = u.runs[i];
     let c = r.client;
-    let way = c.direction;
+    let direction = c.direction;
     let content = content_of(text, i + 1);
-    let h = match way {
+    let h = match direction {
         Direction::Upload => book_has(u, c, content, orders),
         Direction::Download => mailbox_has(u, c, content, file_of(files, i, c.length)),
     };

@@ -11,28 +11,28 @@ use borrow.Author.Tests.{leb-true, ltb-true, lt-ltb, le-leb}
 use Rattle.octets.specs.Bytes.{number}
 use Rattle.octets.proofs.Tests.{and-true}
 use Rattle.marker_session.specs.Lines.{timeBytes, headBytes, timeOf, sizeOf, frameIn, isWhole}
-use Rattle.marker_session.specs.Marking.{Standing, callsMost, isReady, callOf, called, calledLine, callsTo, linesTo, callsOf}
+use Rattle.marker_session.specs.Marking.{MarkerState, maxCalls, isReady, callOf, called, calledLine, callsTo, linesTo, callsOf}
 use Rattle.marker_session.specs.Session.{withMore, readOn}
 
 -- a call is ready
 pub record Readied (calls : ℕ) (rest : List ℕ) : Type 0 where
-  pub count : calls < callsMost
+  pub count : calls < maxCalls
   pub head : headBytes ≤ length rest
   pub end : headBytes + sizeOf rest ≤ length rest
 
 pub readied : (calls : ℕ) (rest : List ℕ) → isReady calls rest ≡ true → Readied calls rest
 unfolding isReady isWhole
 readied calls rest h =
-    let a = and-true (ltb calls callsMost) (isWhole rest) h in
+    let a = and-true (ltb calls maxCalls) (isWhole rest) h in
     let w = and-true (leb headBytes (length rest)) (leb (headBytes + sizeOf rest) (length rest)) (a .1) in
     record {
-      count = ltb-true calls callsMost (a .0);
+      count = ltb-true calls maxCalls (a .0);
       head = leb-true headBytes (length rest) (w .0);
       end = leb-true (headBytes + sizeOf rest) (length rest) (w .1);
     }
 
 -- a turn: the call that is ready, or none
-module _ (s : Standing) where
+module _ (s : MarkerState) where
   abbrev pub ready : Bool
   ready = isReady (s .calls) (s .rest)
 
@@ -60,33 +60,33 @@ module _ (s : Standing) where
   length-called = length-drop (headBytes + sizeOf (s .rest)) (s .rest)
 
 -- so many calls that no whole record is left
-abbrev pub Enough : ℕ → Standing → Type 0
+abbrev pub Enough : ℕ → MarkerState → Type 0
 Enough n s = length (s .rest) < headBytes * (n + 1)
 
-called-enough : (n : ℕ) (s : Standing) → ready s ≡ true → Enough (suc n) s → Enough n (called s)
+called-enough : (n : ℕ) (s : MarkerState) → ready s ≡ true → Enough (suc n) s → Enough n (called s)
 called-enough n s e h = omega (arith, readied (s .calls) (s .rest) e .end, length-called s)
 
-short : (s : Standing) (t : Bool) → ready s ≡ t → Enough 0 s → ready s ≡ false
+short : (s : MarkerState) (t : Bool) → ready s ≡ t → Enough 0 s → ready s ≡ false
 short s true e h = absurd (omega (arith, readied (s .calls) (s .rest) e .head))
 short s false e h = e
 
-both-turn : (n m : ℕ) (s : Standing) (t : Bool) → ready s ≡ t → (ready s ≡ true → callsTo n (called s) ≡ callsTo m (called s))
+both-turn : (n m : ℕ) (s : MarkerState) (t : Bool) → ready s ≡ t → (ready s ≡ true → callsTo n (called s) ≡ callsTo m (called s))
     → callsTo (suc n) s ≡ callsTo (suc m) s
 both-turn n m s true e f = calls-turn s n e ∙ f e ∙ sym (calls-turn s m e)
 both-turn n m s false e f = calls-none s (suc n) e ∙ sym (calls-none s (suc m) e)
 
-enough : (n m : ℕ) (s : Standing) → Enough n s → Enough m s → callsTo n s ≡ callsTo m s
+enough : (n m : ℕ) (s : MarkerState) → Enough n s → Enough m s → callsTo n s ≡ callsTo m s
 unfolding callsTo
 enough zero m s h k = sym (calls-none s m (short s (ready s) refl h))
 enough (suc n) zero s h k = calls-none s (suc n) (short s (ready s) refl k)
 enough (suc n) (suc m) s h k =
     both-turn n m s (ready s) refl (λ e. enough n m (called s) (called-enough n s e h) (called-enough m s e k))
 
-pub calls-all : (n : ℕ) (s : Standing) → Enough n s → callsTo n s ≡ callsOf s
+pub calls-all : (n : ℕ) (s : MarkerState) → Enough n s → callsTo n s ≡ callsOf s
 unfolding callsOf
 calls-all n s h = enough n (length (s .rest)) s h (omega arith)
 
-all-turn : (s : Standing) → ready s ≡ true → callsOf s ≡ callsOf (called s)
+all-turn : (s : MarkerState) → ready s ≡ true → callsOf s ≡ callsOf (called s)
 all-turn s e =
     let n = length (s .rest) in
     sym (calls-all (suc n) s (omega arith)) ∙ calls-turn s n e
@@ -110,7 +110,7 @@ module _ (rest part : List ℕ) (h : headBytes ≤ length rest) where
       let k : sizeOf rest ≤ length (drop headBytes rest) = simp length-drop (omega arith) in
       rw (size-more, drop-append-le headBytes rest part h) (take-append-le (sizeOf rest) (drop headBytes rest) part k)
 
-module _ (s : Standing) (part : List ℕ) (e : ready s ≡ true) where
+module _ (s : MarkerState) (part : List ℕ) (e : ready s ≡ true) where
   r : Readied (s .calls) (s .rest)
   r = readied (s .calls) (s .rest) e
 
@@ -119,7 +119,7 @@ module _ (s : Standing) (part : List ℕ) (e : ready s ≡ true) where
   ready-more =
       let n : length (s .rest) ≤ length (s .rest ++ part) = simp length-append (omega arith) in
       rw (
-        lt-ltb (s .calls) callsMost (r .count),
+        lt-ltb (s .calls) maxCalls (r .count),
         size-more (s .rest) part (r .head),
         le-leb headBytes (length (s .rest ++ part)) (omega (arith, r .head)),
         le-leb (headBytes + sizeOf (s .rest)) (length (s .rest ++ part)) (omega (arith, r .end)),
@@ -137,25 +137,25 @@ module _ (s : Standing) (part : List ℕ) (e : ready s ≡ true) where
 
 -- the input goes on behind any number of calls
 module _ (part : List ℕ) where
-  more-turn : (n : ℕ) (s : Standing) (t : Bool) → ready s ≡ t
+  more-turn : (n : ℕ) (s : MarkerState) (t : Bool) → ready s ≡ t
       → callsOf (withMore (called s) part) ≡ readOn (callsTo n (called s)) part
       → callsOf (withMore s part) ≡ readOn (callsTo (suc n) s) part
   unfolding readOn
   more-turn n s true e h =
       all-turn (withMore s part) (ready-more s part e) ∙ ap callsOf (called-more s part e) ∙ h
-      ∙ ap (λ (x : Standing). readOn x part) (sym (calls-turn s n e))
-  more-turn n s false e h = ap (λ (x : Standing). readOn x part) (sym (calls-none s (suc n) e))
+      ∙ ap (λ (x : MarkerState). readOn x part) (sym (calls-turn s n e))
+  more-turn n s false e h = ap (λ (x : MarkerState). readOn x part) (sym (calls-none s (suc n) e))
 
-  read-more : (n : ℕ) (s : Standing) → callsOf (withMore s part) ≡ readOn (callsTo n s) part
+  read-more : (n : ℕ) (s : MarkerState) → callsOf (withMore s part) ≡ readOn (callsTo n s) part
   unfolding readOn callsTo
   read-more zero s = refl
   read-more (suc n) s = more-turn n s (ready s) refl (read-more n (called s))
 
 -- an input in parts is the input whole
-pub read-parts : (s : Standing) (a b : List ℕ) → readOn (readOn s a) b ≡ readOn s (a ++ b)
+pub read-parts : (s : MarkerState) (a b : List ℕ) → readOn (readOn s a) b ≡ readOn s (a ++ b)
 unfolding readOn callsOf
 read-parts s a b =
     let t = withMore s a in
     let e = append-assoc (s .rest) a b in
     sym (read-more b (length (t .rest)) t)
-    ∙ ap (λ (l : List ℕ). callsOf (record { world = s .world; buffer = s .buffer; calls = s .calls; rest = l })) e
+    ∙ ap (λ (l : List ℕ). callsOf (record { bankState = s .bankState; buffer = s .buffer; calls = s .calls; rest = l })) e

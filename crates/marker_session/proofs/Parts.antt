@@ -11,8 +11,8 @@ use Rattle.bank_state.specs.Limits.{storeBytes, replyRoom}
 use Rattle.bank_state.specs.State.{fresh}
 use Rattle.marker_session.specs.declared.mark.Marked.{Marked}
 use Rattle.marker_session.specs.declared.session.Reading.{Reading}
-use Rattle.marker_session.specs.Marking.{Standing, standing, callsTo, callsOf, linesIn, Print, printOf, markedAll}
-use Rattle.marker_session.specs.Session.{readOn, readingOf, HasRoom, ReadFrom, freshStanding, session, SessionOf}
+use Rattle.marker_session.specs.Marking.{MarkerState, standing, callsTo, callsOf, linesIn, Print, printOf, markedAll}
+use Rattle.marker_session.specs.Session.{readOn, readingOf, HasRoom, ReadFrom, freshMarker, session, SessionOf}
 use Rattle.marker_session.proofs.Calls.{calls-all, read-parts}
 use Rattle.marker_session.proofs.Kept.{kept, length-kept}
 
@@ -21,23 +21,23 @@ unfolding overwrite
 take-overwritten d xs = take-append-seam xs (drop (0 + length xs) d)
 
 -- nothing is read yet
-pub reads-begin : (t : Reading) (input orders boxes buffer : List ℕ) → t .bank ≡ fresh → t .calls ≡ 0 → t .held ≡ 0
-    → ReadFrom (freshStanding orders boxes buffer) t input orders boxes buffer
+pub reads-begin : (t : Reading) (input orders mailboxes buffer : List ℕ) → t .bank ≡ fresh → t .calls ≡ 0 → t .held ≡ 0
+    → ReadFrom (freshMarker orders mailboxes buffer) t input orders mailboxes buffer
 unfolding readOn callsOf callsTo
-reads-begin t input orders boxes buffer b c h = record { part = []; result = rw (b, c, h); held = omega arith }
+reads-begin t input orders mailboxes buffer b c h = record { part = []; result = rw (b, c, h); held = omega arith }
 
 -- one read behind others
-pub reads-next : (s : Standing) (t : Reading) (input orders boxes buffer : List ℕ) (t′ : Reading) (input′ orders′ boxes′ buffer′ : List ℕ)
-    → ReadFrom s t input orders boxes buffer → ReadFrom (readingOf t input orders boxes buffer) t′ input′ orders′ boxes′ buffer′
-    → ReadFrom s t′ input′ orders′ boxes′ buffer′
-reads-next s t input orders boxes buffer t′ input′ orders′ boxes′ buffer′ k l = record {
+pub reads-next : (s : MarkerState) (t : Reading) (input orders mailboxes buffer : List ℕ) (t′ : Reading) (input′ orders′ mailboxes′ buffer′ : List ℕ)
+    → ReadFrom s t input orders mailboxes buffer → ReadFrom (readingOf t input orders mailboxes buffer) t′ input′ orders′ mailboxes′ buffer′
+    → ReadFrom s t′ input′ orders′ mailboxes′ buffer′
+reads-next s t input orders mailboxes buffer t′ input′ orders′ mailboxes′ buffer′ k l = record {
   part = k .part ++ l .part;
-  result = l .result ∙ ap (λ (x : Standing). readOn x (l .part)) (k .result) ∙ read-parts s (k .part) (l .part);
+  result = l .result ∙ ap (λ (x : MarkerState). readOn x (l .part)) (k .result) ∙ read-parts s (k .part) (l .part);
   held = l .held;
 }
 
 -- one read: n bytes came into the input, which was marked up to there
-module _ (t : Reading) (input orders boxes buffer output : List ℕ) (came : List ℕ) (n : ℕ)
+module _ (t : Reading) (input orders mailboxes buffer output : List ℕ) (came : List ℕ) (n : ℕ)
     (same : length came ≡ length input) (fits : t .held ≤ length input) (has-room : HasRoom input output)
     (count : n ≤ length input - t .held) (front : take (t .held) came ≡ take (t .held) input) where
   abbrev all : List ℕ
@@ -46,27 +46,27 @@ module _ (t : Reading) (input orders boxes buffer output : List ℕ) (came : Lis
   abbrev part : List ℕ
   part = drop (t .held) all
 
-  abbrev now : Standing
-  now = standing (t .bank) (t .calls) all orders boxes buffer
+  abbrev now : MarkerState
+  now = standing (t .bank) (t .calls) all orders mailboxes buffer
 
   parts : take (t .held) input ++ part ≡ all
   parts =
       let e : take (t .held) all ≡ take (t .held) input = take-take (t .held) (t .held + n) came (omega arith) ∙ front in
       ap (λ (l : List ℕ). l ++ part) (sym e) ∙ take-append-drop (t .held) all
 
-  read-all : callsTo (linesIn (length output)) now ≡ readOn (readingOf t input orders boxes buffer) part
+  read-all : callsTo (linesIn (length output)) now ≡ readOn (readingOf t input orders mailboxes buffer) part
   unfolding readOn
   read-all =
       let h : length all ≤ length came = simp length-take (omega arith) in
       calls-all (linesIn (length output)) now (omega arith)
-      ∙ ap (λ (l : List ℕ). callsOf (standing (t .bank) (t .calls) l orders boxes buffer)) (sym parts)
+      ∙ ap (λ (l : List ℕ). callsOf (standing (t .bank) (t .calls) l orders mailboxes buffer)) (sym parts)
 
-  pub read-part : (m : Marked) (orders′ boxes′ buffer′ output′ : List ℕ)
-      → printOf m all orders′ boxes′ buffer′ output′ ≡ markedAll now output
+  pub read-part : (m : Marked) (orders′ mailboxes′ buffer′ output′ : List ℕ)
+      → printOf m all orders′ mailboxes′ buffer′ output′ ≡ markedAll now output
       → (t′ : Reading) (input′ : List ℕ) → t′ .bank ≡ m .bank → t′ .calls ≡ m .calls
       → (input′ ≡ overwrite came 0 (drop (m .used) all)) × (t′ .held ≡ length (drop (m .used) all))
-      → ReadFrom (readingOf t input orders boxes buffer) t′ input′ orders′ boxes′ buffer′
-  read-part m orders′ boxes′ buffer′ output′ e t′ input′ b c k =
+      → ReadFrom (readingOf t input orders mailboxes buffer) t′ input′ orders′ mailboxes′ buffer′
+  read-part m orders′ mailboxes′ buffer′ output′ e t′ input′ b c k =
       let left = kept came (m .used) (t .held + n) (omega arith) in
       let size : length left ≤ length came = omega (arith, length-kept came (m .used) (t .held + n) (omega arith)) in
       record {
@@ -76,12 +76,12 @@ module _ (t : Reading) (input orders boxes buffer output : List ℕ) (came : Lis
       }
 
 -- the session's memory begins as zeros
-pub session-of : (t : Reading) (input orders boxes buffer : List ℕ)
-    → ReadFrom (freshStanding (replicate storeBytes 0) (replicate storeBytes 0) (replicate replyRoom 0)) t input orders boxes buffer
+pub session-of : (t : Reading) (input orders mailboxes buffer : List ℕ)
+    → ReadFrom (freshMarker (replicate storeBytes 0) (replicate storeBytes 0) (replicate replyRoom 0)) t input orders mailboxes buffer
     → SessionOf (t .bank) (t .calls)
 unfolding session
-session-of t input orders boxes buffer k = record {
+session-of t input orders mailboxes buffer k = record {
   input = k .part;
-  bank = ap (λ (x : Standing). x .world .bank) (k .result);
-  count = ap (λ (x : Standing). x .calls) (k .result);
+  bank = ap (λ (x : MarkerState). x .bankState .bank) (k .result);
+  count = ap (λ (x : MarkerState). x .calls) (k .result);
 }

@@ -13,7 +13,7 @@ use Rattle.bank.specs.declared.call.FrameAnswer.{FrameAnswer}
 use Rattle.bank.specs.declared.call.FrameAnswer.the-variants.{Reply, WrongLength}
 use Rattle.octets.specs.Bytes.{number}
 use Rattle.frame.specs.Row.{dataOf}
-use Rattle.bank_state.specs.State.{World}
+use Rattle.bank_state.specs.State.{BankState}
 use Rattle.bank_state.specs.Clock.{advanced}
 use Rattle.bank.specs.Call.{Step, FrameCall, respond, replied, replyCode, lentRight, frameCall}
 use Rattle.marker_session.specs.Lines.{codeOf, answerText, lineOf, codedText, codedLine, lineRoom}
@@ -34,15 +34,15 @@ unfolding codedLine lineOf codeOf
 coded-line n (Reply k) buffer code e = rw e
 coded-line n WrongLength buffer code e = refl
 
-module _ (s : Step) (w : World) (buffer : List ℕ) where
+module _ (s : Step) (w : BankState) (buffer : List ℕ) where
   code-at : (b : Bool)
-      → let r : FrameCall = cond b (replied s buffer) (record { world = w; buffer = buffer; answer = WrongLength; number = 1; code = 0 }) in
+      → let r : FrameCall = cond b (replied s buffer) (record { bankState = w; buffer = buffer; answer = WrongLength; number = 1; code = 0 }) in
       r .code ≡ replyCode (r .answer) (r .buffer)
   code-at true = refl
   code-at false = refl
 
 -- a call's code is that of the reply that it leaves in the buffer
-pub call-code : (r : FrameCall) (w : World) (time : ℕ) (ids frame buffer : List ℕ) → r ≡ frameCall w time ids frame buffer
+pub call-code : (r : FrameCall) (w : BankState) (time : ℕ) (ids frame buffer : List ℕ) → r ≡ frameCall w time ids frame buffer
     → r .code ≡ replyCode (r .answer) (r .buffer)
 unfolding frameCall
 call-code r w time ids frame buffer e =

@@ -7,7 +7,7 @@ use lib.ListN.{length, take, drop}
 use Rattle.octets.specs.Bytes.{number}
 use Rattle.frame_table.specs.Names.{returnCode}
 use Rattle.frame.specs.Reader.{readReply}
-use Rattle.print.specs.Text.{ascii, digitsMost, codeDigits, codeText, decimal, space, newline, column}
+use Rattle.print.specs.Text.{ascii, maxDigits, codeDigits, codeText, decimal, space, newline, column}
 use Rattle.bank.specs.declared.call.FrameAnswer.{FrameAnswer}
 use Rattle.bank.specs.declared.call.FrameAnswer.the-variants.{Reply, WrongLength}
 use Rattle.bank.specs.Call.{frameNumber}
@@ -55,7 +55,7 @@ codedLine n a code = column n space ++ (codedText a code ++ (newline ∷ []))
 
 -- the most bytes that a line takes: a number, a space, a return code, a newline
 abbrev pub lineRoom : ℕ
-lineRoom = digitsMost + 1 + codeDigits + 1
+lineRoom = maxDigits + 1 + codeDigits + 1
 
 abbrev pub callHeader : List ℕ
 callHeader = ascii "call code\n"

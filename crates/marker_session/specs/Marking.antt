@@ -7,80 +7,80 @@ use lib.ListN.{length, drop, replicate}
 use Rattle.octets.specs.Bytes.{overwrite}
 use Rattle.bank_state.specs.declared.state.Bank.{Bank}
 use Rattle.bank_state.specs.Limits.{idBytes}
-use Rattle.bank_state.specs.State.{World, world}
+use Rattle.bank_state.specs.State.{BankState, bankState}
 use Rattle.bank.specs.Call.{FrameCall, frameCall}
 use Rattle.marker_session.specs.declared.mark.Marked.{Marked}
 use Rattle.marker_session.specs.Lines.{headBytes, timeOf, sizeOf, frameIn, isWhole, lineOf, lineRoom}
 
 -- between two calls: the bank and its stores, the reply buffer, the calls so far, the input that is left
-pub record Standing : Type 0 where
-  pub world : World
+pub record MarkerState : Type 0 where
+  pub bankState : BankState
   pub buffer : List ℕ
   pub calls : ℕ
   pub rest : List ℕ
 
-abbrev pub standing : Bank → ℕ → List ℕ → List ℕ → List ℕ → List ℕ → Standing
-standing b calls rest orders boxes buffer = record { world = world b orders boxes; buffer = buffer; calls = calls; rest = rest }
+abbrev pub standing : Bank → ℕ → List ℕ → List ℕ → List ℕ → List ℕ → MarkerState
+standing b calls rest orders mailboxes buffer = record { bankState = bankState b orders mailboxes; buffer = buffer; calls = calls; rest = rest }
 
 -- the calls that a number of 64 bits counts
-abbrev pub callsMost : ℕ
-callsMost = 18446744073709551615
+abbrev pub maxCalls : ℕ
+maxCalls = 18446744073709551615
 
 -- one more call can be counted, and a whole record stands in the input that is left
 unfoldable pub isReady : ℕ → List ℕ → Bool
-isReady calls rest = ltb calls callsMost && isWhole rest
+isReady calls rest = ltb calls maxCalls && isWhole rest
 
 -- the call of the record that comes
-unfoldable pub callOf : Standing → FrameCall
-callOf s = frameCall (s .world) (timeOf (s .rest)) (replicate idBytes 0) (frameIn (s .rest)) (s .buffer)
+unfoldable pub callOf : MarkerState → FrameCall
+callOf s = frameCall (s .bankState) (timeOf (s .rest)) (replicate idBytes 0) (frameIn (s .rest)) (s .buffer)
 
 -- what it leaves
-unfoldable pub called : Standing → Standing
+unfoldable pub called : MarkerState → MarkerState
 called s = record {
-  world = callOf s .world;
+  bankState = callOf s .bankState;
   buffer = callOf s .buffer;
   calls = s .calls + 1;
   rest = drop (headBytes + sizeOf (s .rest)) (s .rest);
 }
 
 -- and its line
-unfoldable pub calledLine : Standing → List ℕ
+unfoldable pub calledLine : MarkerState → List ℕ
 calledLine s = lineOf (s .calls + 1) (callOf s .answer) (callOf s .buffer)
 
 -- at most n calls, while one is ready
-unfoldable pub callsTo : ℕ → Standing → Standing
+unfoldable pub callsTo : ℕ → MarkerState → MarkerState
 callsTo zero s = s
 callsTo (suc n) s = cond (isReady (s .calls) (s .rest)) (callsTo n (called s)) s
 
 -- and their lines
-unfoldable pub linesTo : ℕ → Standing → List ℕ
+unfoldable pub linesTo : ℕ → MarkerState → List ℕ
 linesTo zero s = []
 linesTo (suc n) s = cond (isReady (s .calls) (s .rest)) (calledLine s ++ linesTo n (called s)) []
 
 -- the calls of all whole records: fewer stand in the input than bytes
-unfoldable pub callsOf : Standing → Standing
+unfoldable pub callsOf : MarkerState → MarkerState
 callsOf s = callsTo (length (s .rest)) s
 
 -- what marking leaves: the standing, the output, and how many bytes are written
 pub record Print : Type 0 where
-  pub standing : Standing
+  pub standing : MarkerState
   pub output : List ℕ
   pub written : ℕ
 
 -- what the code holds between two calls
-abbrev pub standingOf : Marked → List ℕ → List ℕ → List ℕ → List ℕ → Standing
-standingOf m input orders boxes buffer = standing (m .bank) (m .calls) (drop (m .used) input) orders boxes buffer
+abbrev pub standingOf : Marked → List ℕ → List ℕ → List ℕ → List ℕ → MarkerState
+standingOf m input orders mailboxes buffer = standing (m .bank) (m .calls) (drop (m .used) input) orders mailboxes buffer
 
 abbrev pub printOf : Marked → List ℕ → List ℕ → List ℕ → List ℕ → List ℕ → Print
-printOf m input orders boxes buffer output =
-    record { standing = standingOf m input orders boxes buffer; output = output; written = m .written }
+printOf m input orders mailboxes buffer output =
+    record { standing = standingOf m input orders mailboxes buffer; output = output; written = m .written }
 
 -- lines written into the output from a place on
-abbrev pub leftAt : ℕ → Standing → List ℕ → List ℕ → Print
+abbrev pub leftAt : ℕ → MarkerState → List ℕ → List ℕ → Print
 leftAt at s lines output = record { standing = s; output = overwrite output at lines; written = at + length lines }
 
 -- one call is marked
-abbrev pub markedNext : ℕ → Standing → List ℕ → Print
+abbrev pub markedNext : ℕ → MarkerState → List ℕ → Print
 markedNext at s output = leftAt at (called s) (calledLine s) output
 
 -- the lines that an output of so many bytes has room for
@@ -88,5 +88,5 @@ abbrev pub linesIn : ℕ → ℕ
 linesIn room = room / lineRoom
 
 -- an input is marked, as far as the output has room
-abbrev pub markedAll : Standing → List ℕ → Print
+abbrev pub markedAll : MarkerState → List ℕ → Print
 markedAll s output = leftAt 0 (callsTo (linesIn (length output)) s) (linesTo (linesIn (length output)) s) output

@@ -8,19 +8,19 @@ use Rattle.bank_state.specs.Limits.{storeBytes, replyRoom}
 use Rattle.bank_state.specs.State.{fresh}
 use Rattle.marker_session.specs.declared.session.Reading.{Reading}
 use Rattle.marker_session.specs.Lines.{headBytes, lineRoom}
-use Rattle.marker_session.specs.Marking.{Standing, standing, callsOf, linesIn}
+use Rattle.marker_session.specs.Marking.{MarkerState, standing, callsOf, linesIn}
 
 -- a part of the input comes behind what is left
-abbrev pub withMore : Standing → List ℕ → Standing
-withMore s part = record { world = s .world; buffer = s .buffer; calls = s .calls; rest = s .rest ++ part }
+abbrev pub withMore : MarkerState → List ℕ → MarkerState
+withMore s part = record { bankState = s .bankState; buffer = s .buffer; calls = s .calls; rest = s .rest ++ part }
 
 -- and the records that are whole then are called
-unfoldable pub readOn : Standing → List ℕ → Standing
+unfoldable pub readOn : MarkerState → List ℕ → MarkerState
 readOn s part = callsOf (withMore s part)
 
 -- what the code holds between two reads: of a record cut short the bytes at the front of the input
-abbrev pub readingOf : Reading → List ℕ → List ℕ → List ℕ → List ℕ → Standing
-readingOf t input orders boxes buffer = standing (t .bank) (t .calls) (take (t .held) input) orders boxes buffer
+abbrev pub readingOf : Reading → List ℕ → List ℕ → List ℕ → List ℕ → MarkerState
+readingOf t input orders mailboxes buffer = standing (t .bank) (t .calls) (take (t .held) input) orders mailboxes buffer
 
 -- the input held, a record of the longest frame; the output, a line for each record that it can hold
 abbrev pub inputBytes : ℕ
@@ -34,21 +34,21 @@ abbrev pub HasRoom : List ℕ → List ℕ → Type 0
 HasRoom input output = length input < headBytes * (linesIn (length output) + 1)
 
 -- what stands after reading on from s. No contract says what a read brings: it is the part that came
-pub record ReadFrom (s : Standing) (t : Reading) (input orders boxes buffer : List ℕ) : Type 0 where
+pub record ReadFrom (s : MarkerState) (t : Reading) (input orders mailboxes buffer : List ℕ) : Type 0 where
   pub part : List ℕ
-  pub result : readingOf t input orders boxes buffer ≡ readOn s part
+  pub result : readingOf t input orders mailboxes buffer ≡ readOn s part
   pub held : t .held ≤ length input
 
 -- a fresh bank with these stores, and nothing read
-abbrev pub freshStanding : List ℕ → List ℕ → List ℕ → Standing
-freshStanding orders boxes buffer = standing fresh 0 [] orders boxes buffer
+abbrev pub freshMarker : List ℕ → List ℕ → List ℕ → MarkerState
+freshMarker orders mailboxes buffer = standing fresh 0 [] orders mailboxes buffer
 
 -- the calls of the whole records of an input, one after the other: "Fresh means clock 0, .. and every lent byte kept between calls 0"
-unfoldable pub session : List ℕ → Standing
-session input = readOn (freshStanding (replicate storeBytes 0) (replicate storeBytes 0) (replicate replyRoom 0)) input
+unfoldable pub session : List ℕ → MarkerState
+session input = readOn (freshMarker (replicate storeBytes 0) (replicate storeBytes 0) (replicate replyRoom 0)) input
 
 -- what a session leaves, of the input that came
 pub record SessionOf (b : Bank) (calls : ℕ) : Type 0 where
   pub input : List ℕ
-  pub bank : b ≡ session input .world .bank
+  pub bank : b ≡ session input .bankState .bank
   pub count : calls ≡ session input .calls

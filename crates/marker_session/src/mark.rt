@@ -19,7 +19,7 @@ ghost use Rattle.marker_session.specs.Lines.{lineRoom};
 ghost use Rattle.marker_session.specs.Marking.{isReady, standing, standingOf, printOf, markedNext, markedAll};
 
 // The calls that can be counted.
-const CALLS_MOST: u64 = u64::MAX;
+const MAX_CALLS: u64 = u64::MAX;
 
 // Between two calls: the bank, the calls so far, the input bytes used, the output bytes written.
 pub struct Marked {
@@ -36,7 +36,7 @@ fn is_ready(input: &[u8], left: usize, calls: u64, used: usize) -> bool
     if left == 0 {
         return false;
     }
-    if CALLS_MOST <= calls {
+    if MAX_CALLS <= calls {
         return false;
     }
     is_whole(behind(input, used))
@@ -48,7 +48,7 @@ fn mark_call(
     input: &[u8],
     output: &mut [u8],
     orders: &mut [u8],
-    boxes: &mut [u8],
+    mailboxes: &mut [u8],
     buffer: &mut [u8],
 ) -> Marked
     requires { ⌜
@@ -56,9 +56,9 @@ fn mark_call(
         ⌝ }
     ensures { λ r. ⌜
         (printOf r (now (input .entry))
-        (now (orders .exit)) (now (boxes .exit)) (now (buffer .exit)) (now (output .exit))
+        (now (orders .exit)) (now (mailboxes .exit)) (now (buffer .exit)) (now (output .exit))
         ≡ markedNext (m .written)
-        (standingOf m (now (input .entry)) (now (orders .entry)) (now (boxes .entry)) (now (buffer .entry)))
+        (standingOf m (now (input .entry)) (now (orders .entry)) (now (mailboxes .entry)) (now (buffer .entry)))
         (now (output .entry)))
         × (r .used ≤ length (now (input .entry)))
         ⌝ }
@@ -73,7 +73,7 @@ fn mark_call(
         &ids,
         frame_in(rest),
         orders,
-        boxes,
+        mailboxes,
         buffer,
     );
     let calls = m.calls + 1;
@@ -96,14 +96,14 @@ pub fn mark(
     input: &[u8],
     output: &mut [u8],
     orders: &mut [u8],
-    boxes: &mut [u8],
+    mailboxes: &mut [u8],
     buffer: &mut [u8],
 ) -> Marked
     ensures { λ r. ⌜
         (printOf r (now (input .entry))
-        (now (orders .exit)) (now (boxes .exit)) (now (buffer .exit)) (now (output .exit))
+        (now (orders .exit)) (now (mailboxes .exit)) (now (buffer .exit)) (now (output .exit))
         ≡ markedAll
-        (standing b calls (now (input .entry)) (now (orders .entry)) (now (boxes .entry)) (now (buffer .entry)))
+        (standing b calls (now (input .entry)) (now (orders .entry)) (now (mailboxes .entry)) (now (buffer .entry)))
         (now (output .entry)))
         × (r .used ≤ length (now (input .entry)))
         ⌝ }
@@ -116,7 +116,7 @@ pub fn mark(
     };
     let mut left = output.len() / LINE_ROOM;
     while is_ready(input, left, m.calls, m.used) {
-        m = mark_call(m, input, output, orders, boxes, buffer);
+        m = mark_call(m, input, output, orders, mailboxes, buffer);
         left -= 1;
     }
     m

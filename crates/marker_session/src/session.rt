@@ -15,7 +15,7 @@ ghost use mathlib.Core.Path.{_≡_};
 ghost use Prim.Native.Nat.{_-_, _≤_, _<_};
 ghost use lib.ListN.{length, take, drop};
 ghost use Rattle.octets.specs.Bytes.{overwrite};
-ghost use Rattle.marker_session.specs.Session.{readingOf, HasRoom, ReadFrom, freshStanding, SessionOf};
+ghost use Rattle.marker_session.specs.Session.{readingOf, HasRoom, ReadFrom, freshMarker, SessionOf};
 
 // The input held: a record of the longest frame.
 const INPUT_BYTES: usize = HEAD_BYTES + 65535;
@@ -88,21 +88,29 @@ fn read_on(
     input: &mut [u8],
     output: &mut [u8],
     orders: &mut [u8],
-    boxes: &mut [u8],
+    mailboxes: &mut [u8],
     buffer: &mut [u8],
 ) -> Reading
     requires { ⌜ (0 < t .reads) × (t .held ≤ length (now input)) × HasRoom (now input) (now output) ⌝ }
     ensures { λ r. ⌜
         (r .reads < t .reads)
-        × ReadFrom (readingOf t (now (input .entry)) (now (orders .entry)) (now (boxes .entry)) (now (buffer .entry)))
-        r (now (input .exit)) (now (orders .exit)) (now (boxes .exit)) (now (buffer .exit))
+        × ReadFrom (readingOf t (now (input .entry)) (now (orders .entry)) (now (mailboxes .entry)) (now (buffer .entry)))
+        r (now (input .exit)) (now (orders .exit)) (now (mailboxes .exit)) (now (buffer .exit))
         ⌝ }
 {
     let held = t.held;
     let bank = t.bank;
     let n = read_in(input, held);
     let end = held + n;
-    let m = mark(bank, t.calls, &input[..end], output, orders, boxes, buffer);
+    let m = mark(
+        bank,
+        t.calls,
+        &input[..end],
+        output,
+        orders,
+        mailboxes,
+        buffer,
+    );
     let reads = write_lines(output, m.written, n, t.reads);
     let left = keep(input, m.used, end);
     let after = m.bank;
@@ -120,13 +128,13 @@ fn read_all(
     input: &mut [u8],
     output: &mut [u8],
     orders: &mut [u8],
-    boxes: &mut [u8],
+    mailboxes: &mut [u8],
     buffer: &mut [u8],
 ) -> Reading
     requires { ⌜ HasRoom (now input) (now output) ⌝ }
     ensures { λ r. ⌜
-        ReadFrom (freshStanding (now (orders .entry)) (now (boxes .entry)) (now (buffer .entry)))
-        r (now (input .exit)) (now (orders .exit)) (now (boxes .exit)) (now (buffer .exit))
+        ReadFrom (freshMarker (now (orders .entry)) (now (mailboxes .entry)) (now (buffer .entry)))
+        r (now (input .exit)) (now (orders .exit)) (now (mailboxes .exit)) (now (buffer .exit))
         ⌝ }
 {
     let bank = fresh();
@@ -137,7 +145,7 @@ fn read_all(
         reads: u64::MAX,
     };
     while 0 < t.reads {
-        t = read_on(t, input, output, orders, boxes, buffer);
+        t = read_on(t, input, output, orders, mailboxes, buffer);
     }
     t
 }
@@ -159,17 +167,17 @@ fn print_all(
     input: &mut [u8],
     output: &mut [u8],
     orders: &mut [u8],
-    boxes: &mut [u8],
+    mailboxes: &mut [u8],
     buffer: &mut [u8],
 ) -> Reading
     requires { ⌜ HasRoom (now input) (now output) ⌝ }
     ensures { λ r. ⌜
-        ReadFrom (freshStanding (now (orders .entry)) (now (boxes .entry)) (now (buffer .entry)))
-        r (now (input .exit)) (now (orders .exit)) (now (boxes .exit)) (now (buffer .exit))
+        ReadFrom (freshMarker (now (orders .entry)) (now (mailboxes .entry)) (now (buffer .entry)))
+        r (now (input .exit)) (now (orders .exit)) (now (mailboxes .exit)) (now (buffer .exit))
         ⌝ }
 {
     print_header(output);
-    let t = read_all(input, output, orders, boxes, buffer);
+    let t = read_all(input, output, orders, mailboxes, buffer);
     let bank = t.bank;
     print_book(bank, output);
     t
@@ -182,13 +190,13 @@ pub fn session() -> SessionEnd
     let mut input = [0u8; INPUT_BYTES];
     let mut output = [0u8; OUTPUT_BYTES];
     let mut orders = [0u8; STORE_BYTES];
-    let mut boxes = [0u8; STORE_BYTES];
+    let mut mailboxes = [0u8; STORE_BYTES];
     let mut buffer = [0u8; REPLY_ROOM];
     let t = print_all(
         &mut input,
         &mut output,
         &mut orders,
-        &mut boxes,
+        &mut mailboxes,
         &mut buffer,
     );
     let bank = t.bank;

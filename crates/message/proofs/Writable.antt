@@ -63,7 +63,7 @@ use Rattle.frame.proofs.Build.{
 }
 use Rattle.message.specs.declared.codes.ReturnCode.{ReturnCode}
 use Rattle.message.specs.declared.codes.ReturnCode.the-variants as code
-use Rattle.message.specs.Limits.{initialisation, transfer, receiptPhase, ful, fdl}
+use Rattle.message.specs.Limits.{initialisationPhase, transferPhase, receiptPhase, ful, fdl}
 use Rattle.message.specs.Codes.{codeField}
 use Rattle.message.specs.Requests.{requestOf, openingOf, uploadOpening, downloadOpening, transferOf, uploadTransfer, downloadTransfer, receipt}
 use Rattle.message.specs.Replies.{
@@ -189,7 +189,7 @@ module _ (subscriber exchange : ℕ) (s : Sender subscriber exchange) where
         → Fine (openingOf subscriber exchange orderType nonce timestamp) []
     unfolding width anyByte
     opening-fine orderType h l =
-        let a = with-type _ [] (request-fine [] initialisation (omega arith) (omega arith)) orderType h l in
+        let a = with-type _ [] (request-fine [] initialisationPhase (omega arith) (omega arith)) orderType h l in
         with-long _ [] (with-wide _ [] a nonceTag nonce refl v) timestampTag timestamp refl t
 
     pub upload-opening-written : (segments : ℕ) → segments < 2 ^ 16
@@ -208,7 +208,7 @@ module _ (subscriber exchange : ℕ) (s : Sender subscriber exchange) where
     transfer-fine : (d : List ℕ) (segment : ℕ) → segment < 2 ^ 16 → Fine (transferOf subscriber exchange transaction segment) d
     unfolding width anyByte
     transfer-fine d segment h =
-        let a = with-wide _ d (request-fine d transfer (omega arith) (omega arith)) transactionTag transaction refl v in
+        let a = with-wide _ d (request-fine d transferPhase (omega arith) (omega arith)) transactionTag transaction refl v in
         with-short _ d a segmentTag segment refl h
 
     pub upload-transfer-written : (segment lastMark : ℕ) (d : List ℕ) → segment < 2 ^ 16 → lastMark ≤ 1 → Content d 47
@@ -256,7 +256,7 @@ module _ (exchange : ℕ) (s : exchange < 2 ^ 32) where
         → WrittenAs (uploadOpened exchange transaction orderNumber) [] forms.UploadOpened 46
     unfolding uploadOpened width anyByte formOf findForm rowFits frameLength lengthFrom
     upload-opened-written orderNumber h =
-        let a = with-code _ [] (answer-fine [] initialisation (omega arith) (omega arith)) code.Ok in
+        let a = with-code _ [] (answer-fine [] initialisationPhase (omega arith) (omega arith)) code.Ok in
         plain _ forms.UploadOpened 46 (with-long _ [] a orderNumberTag orderNumber refl h) refl refl refl (omega arith) refl refl refl
 
     point-written : (phase segment : ℕ) (c : ReturnCode) → 1 ≤ phase → phase ≤ 3 → segment < 2 ^ 16
@@ -269,7 +269,7 @@ module _ (exchange : ℕ) (s : exchange < 2 ^ 32) where
     pub segment-taken-written : (segment : ℕ) → segment < 2 ^ 16
         → WrittenAs (segmentTaken exchange transaction segment) [] forms.SegmentTaken 44
     unfolding segmentTaken
-    segment-taken-written segment h = point-written transfer segment code.Ok (omega arith) (omega arith) h
+    segment-taken-written segment h = point-written transferPhase segment code.Ok (omega arith) (omega arith) h
 
     pub recovery-point-written : (phase segment : ℕ) → 1 ≤ phase → phase ≤ 3 → segment < 2 ^ 16
         → WrittenAs (recoveryPoint phase exchange transaction segment) [] forms.SegmentTaken 44
@@ -292,7 +292,7 @@ module _ (exchange : ℕ) (s : exchange < 2 ^ 32) where
         → WrittenAs (downloadOpened exchange segments transaction lastMark) d forms.DownloadOpened (56 + length d)
     unfolding downloadOpened width anyByte formOf findForm rowFits frameLength lengthFrom
     download-opened-written segments lastMark d h k c =
-        let r = with-short _ d (reply-fine d initialisation (omega arith) (omega arith)) segmentsTag segments refl h in
+        let r = with-short _ d (reply-fine d initialisationPhase (omega arith) (omega arith)) segmentsTag segments refl h in
         let a = segment-fine _ d 1 lastMark (with-wide _ d r transactionTag transaction refl v) (omega arith) k in
         carrying _ forms.DownloadOpened 56 d c (with-code _ d a code.Ok) refl refl (omega arith) refl refl refl
 
@@ -300,5 +300,5 @@ module _ (exchange : ℕ) (s : exchange < 2 ^ 32) where
         → WrittenAs (downloadSegment exchange transaction segment lastMark) d forms.DownloadSegment (51 + length d)
     unfolding downloadSegment formOf findForm rowFits frameLength lengthFrom width
     download-segment-written segment lastMark d h k c =
-        let a = segment-fine _ d segment lastMark (answer-fine d transfer (omega arith) (omega arith)) h k in
+        let a = segment-fine _ d segment lastMark (answer-fine d transferPhase (omega arith) (omega arith)) h k in
         carrying _ forms.DownloadSegment 51 d c (with-code _ d a code.Ok) refl refl (omega arith) refl refl refl

@@ -3,16 +3,16 @@ use Prim.Native.Nat.{ℕ}
 pub use Rattle.frame.specs.Writer.{segmentBytes}
 
 -- "over 15 segments" are too many
-abbrev pub segmentsMost : ℕ
-segmentsMost = 15
+abbrev pub maxSegments : ℕ
+maxSegments = 15
 
 -- "8 order places and 8 mailboxes of 3,840 bytes each": all segments of an order
 abbrev pub fileBytes : ℕ
 fileBytes = 3840
 
 -- "The first five get 061101"; "These repeats and returns number at most five"
-abbrev pub attemptsMost : ℕ
-attemptsMost = 5
+abbrev pub maxAttempts : ℕ
+maxAttempts = 5
 
 -- "Subscribers are 1 to 8, each with the mailbox of that number"
 abbrev pub subscribers : ℕ
@@ -26,11 +26,11 @@ abbrev pub fdl : ℕ
 fdl = 0x46444C
 
 -- "1 initialisation, 2 transfer, 3 receipt"
-abbrev pub initialisation : ℕ
-initialisation = 1
+abbrev pub initialisationPhase : ℕ
+initialisationPhase = 1
 
-abbrev pub transfer : ℕ
-transfer = 2
+abbrev pub transferPhase : ℕ
+transferPhase = 2
 
 abbrev pub receiptPhase : ℕ
 receiptPhase = 3

@@ -8,7 +8,7 @@ use Rattle.frame_table.specs.Names.{with, withWide}
 use Rattle.message.specs.declared.codes.ReturnCode.{ReturnCode}
 use Rattle.message.specs.declared.codes.ReturnCode.the-variants as code
 use Rattle.message.specs.Codes.{codeField}
-use Rattle.message.specs.Limits.{initialisation, transfer, receiptPhase}
+use Rattle.message.specs.Limits.{initialisationPhase, transferPhase, receiptPhase}
 
 -- phase and exchange number stand in every reply but the one to an unreadable request
 abbrev pub replyOf : ℕ → ℕ → Fields
@@ -21,7 +21,7 @@ withCode c f = with returnCodeTag (codeField c) f
 -- "upload opened 01 03 08 0D 0E"
 unfoldable pub uploadOpened : ℕ → Bits128 → ℕ → Fields
 uploadOpened exchange transaction orderNumber =
-    with orderNumberTag orderNumber (withCode code.Ok (withWide transactionTag transaction (replyOf initialisation exchange)))
+    with orderNumberTag orderNumber (withCode code.Ok (withWide transactionTag transaction (replyOf initialisationPhase exchange)))
 
 -- a segment's fields 09 0A 0B behind the transaction ID; the data stands beside the fields
 abbrev pub withSegment : ℕ → ℕ → Fields → Fields
@@ -31,7 +31,7 @@ withSegment segment lastMark f = with dataTag 0 (with lastMarkTag lastMark (with
 unfoldable pub downloadOpened : ℕ → ℕ → Bits128 → ℕ → Fields
 downloadOpened exchange segments transaction lastMark =
     withCode code.Ok
-    (withSegment 1 lastMark (withWide transactionTag transaction (with segmentsTag segments (replyOf initialisation exchange))))
+    (withSegment 1 lastMark (withWide transactionTag transaction (with segmentsTag segments (replyOf initialisationPhase exchange))))
 
 -- 01 03 08 09 0D
 abbrev pub pointOf : ℕ → ℕ → Bits128 → ℕ → ReturnCode → Fields
@@ -40,7 +40,7 @@ pointOf phase exchange transaction segment c =
 
 -- "upload segment taken ... 01 03 08 09 0D"
 unfoldable pub segmentTaken : ℕ → Bits128 → ℕ → Fields
-segmentTaken exchange transaction segment = pointOf transfer exchange transaction segment code.Ok
+segmentTaken exchange transaction segment = pointOf transferPhase exchange transaction segment code.Ok
 
 -- "recovery point 01 03 08 09 0D": its phase is the point's, its segment number k or d
 unfoldable pub recoveryPoint : ℕ → ℕ → Bits128 → ℕ → Fields
@@ -49,7 +49,7 @@ recoveryPoint phase exchange transaction segment = pointOf phase exchange transa
 -- "download segment 01 03 08 09 0A 0B 0D"
 unfoldable pub downloadSegment : ℕ → Bits128 → ℕ → ℕ → Fields
 downloadSegment exchange transaction segment lastMark =
-    withCode code.Ok (withSegment segment lastMark (withWide transactionTag transaction (replyOf transfer exchange)))
+    withCode code.Ok (withSegment segment lastMark (withWide transactionTag transaction (replyOf transferPhase exchange)))
 
 -- "receipt answered 01 03 08 0D"
 unfoldable pub receiptAnswered : ℕ → Bits128 → ReturnCode → Fields

@@ -5,7 +5,7 @@ use Rattle.frame_table.specs.declared.fields.Bits128.{Bits128}
 use Rattle.frame_table.specs.Table.{phaseTag, subscriberTag, exchangeTag, orderTypeTag, nonceTag, timestampTag, segmentsTag, transactionTag, segmentTag, lastMarkTag, dataTag, receiptCodeTag}
 use Rattle.frame_table.specs.Names.{noFields}
 use Rattle.frame_table.specs.Names.{with, withWide}
-use Rattle.message.specs.Limits.{initialisation, transfer, receiptPhase, ful, fdl}
+use Rattle.message.specs.Limits.{initialisationPhase, transferPhase, receiptPhase, ful, fdl}
 
 -- phase, subscriber and exchange number stand in every request
 abbrev pub requestOf : ℕ → ℕ → ℕ → Fields
@@ -14,7 +14,7 @@ requestOf phase subscriber exchange = with exchangeTag exchange (with subscriber
 -- an opening's fields 01 to 06
 abbrev pub openingOf : ℕ → ℕ → ℕ → Bits128 → ℕ → Fields
 openingOf subscriber exchange orderType nonce timestamp =
-    with timestampTag timestamp (withWide nonceTag nonce (with orderTypeTag orderType (requestOf initialisation subscriber exchange)))
+    with timestampTag timestamp (withWide nonceTag nonce (with orderTypeTag orderType (requestOf initialisationPhase subscriber exchange)))
 
 -- "upload opening (phase 1): 01 to 07"
 unfoldable pub uploadOpening : ℕ → ℕ → Bits128 → ℕ → ℕ → Fields
@@ -27,7 +27,7 @@ downloadOpening subscriber exchange nonce timestamp = openingOf subscriber excha
 -- a transfer's fields 01 02 03 08 09
 abbrev pub transferOf : ℕ → ℕ → Bits128 → ℕ → Fields
 transferOf subscriber exchange transaction segment =
-    with segmentTag segment (withWide transactionTag transaction (requestOf transfer subscriber exchange))
+    with segmentTag segment (withWide transactionTag transaction (requestOf transferPhase subscriber exchange))
 
 -- "upload transfer (2): 01 02 03 08 09 0A 0B"; the data stands beside the fields
 unfoldable pub uploadTransfer : ℕ → ℕ → Bits128 → ℕ → ℕ → Fields

@@ -4,13 +4,13 @@
 pub const SEGMENT_BYTES: usize = 256;
 
 // The most segments of an order.
-pub const SEGMENTS_MOST: u64 = 15;
+pub const MAX_SEGMENTS: u64 = 15;
 
 // The bytes of an order place, a mailbox, a payload and a file buffer at most: all segments.
 pub const FILE_BYTES: usize = 3840;
 
 // The recovery attempts that are answered; the next one ends the transaction or the run.
-pub const ATTEMPTS_MOST: u64 = 5;
+pub const MAX_ATTEMPTS: u64 = 5;
 
 // Subscribers and mailboxes are numbered from 1 to this.
 pub const SUBSCRIBERS: u64 = 8;
@@ -21,8 +21,8 @@ pub const FUL: u64 = 0x46_55_4C;
 pub const FDL: u64 = 0x46_44_4C;
 
 // The phases of a transaction.
-pub const INITIALISATION: u64 = 1;
+pub const INITIALISATION_PHASE: u64 = 1;
 
-pub const TRANSFER: u64 = 2;
+pub const TRANSFER_PHASE: u64 = 2;
 
-pub const RECEIPT: u64 = 3;
+pub const RECEIPT_PHASE: u64 = 3;

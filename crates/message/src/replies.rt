@@ -1,9 +1,9 @@
 // The seven reply forms, each as the fields that it has.
 use crate::codes::ReturnCode;
 use crate::codes::code_field;
-use crate::limits::INITIALISATION;
-use crate::limits::RECEIPT;
-use crate::limits::TRANSFER;
+use crate::limits::INITIALISATION_PHASE;
+use crate::limits::RECEIPT_PHASE;
+use crate::limits::TRANSFER_PHASE;
 use frame_table::fields::Bits128;
 use frame_table::fields::Fields;
 use frame_table::table::DATA;
@@ -38,7 +38,7 @@ pub fn upload_opened(exchange: u64, transaction: Bits128, order_number: u64) -> 
 {
     with_code(
         ReturnCode::Ok,
-        reply_of(INITIALISATION, exchange).with_wide(TRANSACTION, transaction),
+        reply_of(INITIALISATION_PHASE, exchange).with_wide(TRANSACTION, transaction),
     ).with(ORDER_NUMBER, order_number)
 }
 
@@ -56,7 +56,7 @@ fn with_segment(segment: u64, last_mark: u64, fields: Fields) -> Fields
 pub fn download_opened(exchange: u64, segments: u64, transaction: Bits128, last_mark: u64) -> Fields
     ensures { λ r. ⌜ r ≡ downloadOpened exchange segments transaction «last_mark» ⌝ }
 {
-    let opened = reply_of(INITIALISATION, exchange)
+    let opened = reply_of(INITIALISATION_PHASE, exchange)
         .with(SEGMENTS, segments)
         .with_wide(TRANSACTION, transaction);
     with_code(ReturnCode::Ok, with_segment(1, last_mark, opened))
@@ -84,7 +84,13 @@ fn point_of(
 pub fn segment_taken(exchange: u64, transaction: Bits128, segment: u64) -> Fields
     ensures { λ r. ⌜ r ≡ segmentTaken exchange transaction segment ⌝ }
 {
-    point_of(TRANSFER, exchange, transaction, segment, ReturnCode::Ok)
+    point_of(
+        TRANSFER_PHASE,
+        exchange,
+        transaction,
+        segment,
+        ReturnCode::Ok,
+    )
 }
 
 // Recovery point: 01 03 08 09 0D, of the point's phase.
@@ -109,7 +115,7 @@ pub fn download_segment(exchange: u64, transaction: Bits128, segment: u64, last_
         with_segment(
             segment,
             last_mark,
-            reply_of(TRANSFER, exchange).with_wide(TRANSACTION, transaction),
+            reply_of(TRANSFER_PHASE, exchange).with_wide(TRANSACTION, transaction),
         ),
     )
 }
@@ -120,7 +126,7 @@ pub fn receipt_answered(exchange: u64, transaction: Bits128, code: ReturnCode) -
 {
     with_code(
         code,
-        reply_of(RECEIPT, exchange).with_wide(TRANSACTION, transaction),
+        reply_of(RECEIPT_PHASE, exchange).with_wide(TRANSACTION, transaction),
     )
 }
 

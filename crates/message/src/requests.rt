@@ -1,9 +1,9 @@
 // The five request forms, each as the fields that it has.
 use crate::limits::FDL;
 use crate::limits::FUL;
-use crate::limits::INITIALISATION;
-use crate::limits::RECEIPT;
-use crate::limits::TRANSFER;
+use crate::limits::INITIALISATION_PHASE;
+use crate::limits::RECEIPT_PHASE;
+use crate::limits::TRANSFER_PHASE;
 use frame_table::fields::Bits128;
 use frame_table::fields::Fields;
 use frame_table::table::DATA;
@@ -41,7 +41,7 @@ fn opening_of(
 ) -> Fields
     ensures { λ r. ⌜ r ≡ openingOf subscriber exchange «order_type» nonce timestamp ⌝ }
 {
-    request_of(INITIALISATION, subscriber, exchange)
+    request_of(INITIALISATION_PHASE, subscriber, exchange)
         .with(ORDER_TYPE, order_type)
         .with_wide(NONCE, nonce)
         .with(TIMESTAMP, timestamp)
@@ -71,7 +71,7 @@ pub fn download_opening(subscriber: u64, exchange: u64, nonce: Bits128, timestam
 fn transfer_of(subscriber: u64, exchange: u64, transaction: Bits128, segment: u64) -> Fields
     ensures { λ r. ⌜ r ≡ transferOf subscriber exchange transaction segment ⌝ }
 {
-    request_of(TRANSFER, subscriber, exchange)
+    request_of(TRANSFER_PHASE, subscriber, exchange)
         .with_wide(TRANSACTION, transaction)
         .with(SEGMENT, segment)
 }
@@ -107,7 +107,7 @@ pub fn download_transfer(
 pub fn receipt(subscriber: u64, exchange: u64, transaction: Bits128, code: u64) -> Fields
     ensures { λ r. ⌜ r ≡ receipt subscriber exchange transaction code ⌝ }
 {
-    request_of(RECEIPT, subscriber, exchange)
+    request_of(RECEIPT_PHASE, subscriber, exchange)
         .with_wide(TRANSACTION, transaction)
         .with(RECEIPT_CODE, code)
 }

@@ -13,7 +13,7 @@ use borrow.Author.Tests.{lt-ltb, le-ltb}
 use Rattle.octets.specs.Bytes.{overwrite}
 use Rattle.print.specs.Text.{
   digitsIn,
-  digitsMost,
+  maxDigits,
   digitCountTo,
   digitCount,
   decimal,
@@ -25,14 +25,14 @@ use Rattle.print.specs.Text.{
 
 -- ---- how many digits
 
-pub count-step : (n x : ℕ) → n < digitsMost → 10 ≤ x
-    → digitCountTo (digitsMost - n) x ≡ suc (digitCountTo (digitsMost - (n + 1)) (x / 10))
+pub count-step : (n x : ℕ) → n < maxDigits → 10 ≤ x
+    → digitCountTo (maxDigits - n) x ≡ suc (digitCountTo (maxDigits - (n + 1)) (x / 10))
 unfolding digitCountTo
-count-step n x h k = let e : digitsMost - n ≡ suc (digitsMost - (n + 1)) = omega arith in rw (e, le-ltb x 10 k)
+count-step n x h k = let e : maxDigits - n ≡ suc (maxDigits - (n + 1)) = omega arith in rw (e, le-ltb x 10 k)
 
-pub count-last : (n x : ℕ) → digitsMost ≤ n → digitCountTo (digitsMost - n) x ≡ 1
+pub count-last : (n x : ℕ) → maxDigits ≤ n → digitCountTo (maxDigits - n) x ≡ 1
 unfolding digitCountTo
-count-last n x h = let e : digitsMost - n ≡ 0 = omega arith in rw e
+count-last n x h = let e : maxDigits - n ≡ 0 = omega arith in rw e
 
 pub count-end : (n x : ℕ) → x < 10 → digitCountTo n x ≡ 1
 unfolding digitCountTo
@@ -48,7 +48,7 @@ unfolding digitCountTo
 count-most zero x = omega arith
 count-most (suc n) x = most-of (ltb x 10) n (digitCountTo n (x / 10)) (count-most n (x / 10))
 
-pub digitCount-most : (x : ℕ) → digitCount x ≤ digitsMost
+pub digitCount-most : (x : ℕ) → digitCount x ≤ maxDigits
 unfolding digitCount
 digitCount-most x = count-most 19 x
 
@@ -60,7 +60,7 @@ length-digitsIn b first zero x = refl
 length-digitsIn b first (suc w) x =
     length-append (digitsIn b first w (x / b)) _ ∙ ap (λ (n : ℕ). n + 1) (length-digitsIn b first w (x / b)) ∙ add-one w
 
-pub decimal-most : (x : ℕ) → length (decimal x) ≤ digitsMost
+pub decimal-most : (x : ℕ) → length (decimal x) ≤ maxDigits
 unfolding decimal
 decimal-most x = omega (arith, length-digitsIn 10 48 (digitCount x) x, digitCount-most x)
 

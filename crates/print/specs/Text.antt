@@ -25,8 +25,8 @@ digitCountTo zero x = 1
 digitCountTo (suc n) x = cond (ltb x 10) 1 (suc (digitCountTo n (x / 10)))
 
 -- the decimal digits that a number has at most: 20 hold every number of 64 bits
-abbrev pub digitsMost : ℕ
-digitsMost = 20
+abbrev pub maxDigits : ℕ
+maxDigits = 20
 
 unfoldable pub digitCount : ℕ → ℕ
 digitCount x = digitCountTo 19 x
@@ -61,7 +61,7 @@ column x end = decimal x ++ (end ∷ [])
 
 -- the most bytes that it takes
 abbrev pub columnRoom : ℕ
-columnRoom = digitsMost + 1
+columnRoom = maxDigits + 1
 
 -- the first n rows of a table, one behind the other
 unfoldable pub rowsTo : (ℕ → List ℕ) → ℕ → List ℕ

@@ -4,12 +4,12 @@ ghost use mathlib.Core.Path.{_≡_};
 ghost use mathlib.Core.List.{[], _∷_};
 ghost use Prim.Native.Nat.{_+_, _≤_, _<_};
 ghost use lib.ListN.{length};
-ghost use Rattle.print.specs.Text.{Put, digitsIn, digitsMost, digitCount, decimal};
+ghost use Rattle.print.specs.Text.{Put, digitsIn, maxDigits, digitCount, decimal};
 ghost use Rattle.print.specs.Text.{codeDigits, orderCharacters, codeText, orderNumberText};
 ghost use Rattle.print.specs.Text.{column, columnRoom};
 
 // The most decimal digits of a number.
-const DIGITS_MOST: usize = 20;
+const MAX_DIGITS: usize = 20;
 
 // The digits of a return code, and the characters of an order number.
 pub const CODE_DIGITS: usize = 6;
@@ -22,7 +22,7 @@ pub fn digit_count(x: u64) -> usize
 {
     let mut n = 1;
     let mut rest = x;
-    while n < DIGITS_MOST && 10 <= rest {
+    while n < MAX_DIGITS && 10 <= rest {
         rest = rest / 10;
         n += 1;
     }
@@ -46,7 +46,7 @@ pub fn put_digits(output: &mut [u8], at: usize, base: u64, first: u64, w: usize,
 
 // Writes x in decimal.
 pub fn put_decimal(output: &mut [u8], at: usize, x: u64) -> usize
-    requires { ⌜ at + digitsMost ≤ length (now output) ⌝ }
+    requires { ⌜ at + maxDigits ≤ length (now output) ⌝ }
     ensures { λ r. ⌜ Put (now (output .entry)) at (decimal x) (now (output .exit)) r ⌝ }
 {
     put_digits(output, at, 10, 48, digit_count(x), x)

@@ -27,15 +27,15 @@ use Rattle.unit.specs.Records.{headOf, sizeOf, bodyOf}
 use Rattle.unit.specs.State.{roomsBytes}
 use Rattle.unit.specs.Call.{begins, roomCall, keeps, roomsRight}
 
-module _ (c : Client) (way : Direction) (subscriber first : ℕ) (l : Lent) where
-  serves-at : (u : Ruling) → beginRuling c way subscriber first (lengthsOf l) ≡ u
-      → keeps true (beginBy u c way subscriber first l .answer) ≡ true → Serves way (lengthsOf l)
+module _ (c : Client) (direction : Direction) (subscriber first : ℕ) (l : Lent) where
+  serves-at : (u : Ruling) → beginRuling c direction subscriber first (lengthsOf l) ≡ u
+      → keeps true (beginBy u c direction subscriber first l .answer) ≡ true → Serves direction (lengthsOf l)
   serves-at (Refuse x) e h = never h
-  serves-at Accept e h = accepted.begins c way subscriber first (lengthsOf l) e .buffers
+  serves-at Accept e h = accepted.begins c direction subscriber first (lengthsOf l) e .buffers
 
-  kept-serves : keeps true (beginCall c way subscriber first l .answer) ≡ true → Serves way (lengthsOf l)
+  kept-serves : keeps true (beginCall c direction subscriber first l .answer) ≡ true → Serves direction (lengthsOf l)
   unfolding beginCall
-  kept-serves h = serves-at (beginRuling c way subscriber first (lengthsOf l)) refl h
+  kept-serves h = serves-at (beginRuling c direction subscriber first (lengthsOf l)) refl h
 
 only-begin : (begin : Bool) (a : Answer) → keeps begin a ≡ true → begin ≡ true
 only-begin begin (answer.Request n) h = h

@@ -5,7 +5,7 @@ use mathlib.Core.Bool.{Bool, true, false, cond, _&&_}
 use mathlib.Core.List.{List}
 use lib.Dec.{eqb}
 use lib.ListN.{length, set}
-use Rattle.bank_state.specs.State.{world}
+use Rattle.bank_state.specs.State.{bankState}
 use Rattle.bank_state.specs.Store.{partAt, withPart, fileOf}
 use Rattle.bank.specs.declared.call.FrameAnswer.{FrameAnswer}
 use Rattle.bank.specs.declared.call.FrameAnswer.the-variants as frame-answer
@@ -60,8 +60,8 @@ pub record UnitCall : Type 0 where
   pub answer : Answer
 
 abbrev pub unitCallOf : Called → List ℕ → List ℕ → List ℕ → List ℕ → List ℕ → UnitCall
-unitCallOf r orders boxes payloads files buffer =
-    record { state = stateOf (r .unit) orders boxes payloads files buffer; answer = r .answer }
+unitCallOf r orders mailboxes payloads files buffer =
+    record { state = stateOf (r .unit) orders mailboxes payloads files buffer; answer = r .answer }
 
 -- the answers of the bank's two calls, and of a client's; a run that ends as lodged has its order number
 abbrev pub frameAnswer : FrameAnswer → Answer
@@ -84,19 +84,19 @@ runAnswer (client-answer.Refused x) c = Number (refusalNumber x)
 -- `F`: a frame to the bank
 unfoldable pub frameStep : State → List ℕ → UnitCall
 frameStep s r =
-    let o = frameCall (s .world) (bankTimeOf r) (idsOf r) (bodyOf kind.Frame r) (s .buffer) in
+    let o = frameCall (s .bankState) (bankTimeOf r) (idsOf r) (bodyOf kind.Frame r) (s .buffer) in
     record {
-      state = record { world = o .world; runs = s .runs; payloads = s .payloads; files = s .files; buffer = o .buffer };
+      state = record { bankState = o .bankState; runs = s .runs; payloads = s .payloads; files = s .files; buffer = o .buffer };
       answer = frameAnswer (o .answer);
     }
 
 -- `M`: a file into a mailbox
 unfoldable pub fileStep : State → List ℕ → UnitCall
 fileStep s r =
-    let o = fileCall (s .world .bank) (mailboxOf r) (bodyOf kind.File r) (s .world .boxes) in
+    let o = fileCall (s .bankState .bank) (mailboxOf r) (bodyOf kind.File r) (s .bankState .mailboxes) in
     record {
       state = record {
-        world = world (o .bank) (s .world .orders) (o .boxes);
+        bankState = bankState (o .bank) (s .bankState .orders) (o .mailboxes);
         runs = s .runs;
         payloads = s .payloads;
         files = s .files;
@@ -156,7 +156,7 @@ runStep e s r =
     let kept = keeps (begins e) (o .answer) in
     record {
       state = record {
-        world = s .world;
+        bankState = s .bankState;
         runs = set (s .runs) i (nextRun kept run (o .run) nonce (length body));
         payloads = keptPayloads kept (s .payloads) i body;
         files = o .file;

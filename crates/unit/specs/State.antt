@@ -4,7 +4,7 @@ use mathlib.Core.List.{List, []}
 use lib.ListN.{replicate, getD}
 use Rattle.message.specs.Limits.{fileBytes}
 use Rattle.bank_state.specs.State as bank-state
-use Rattle.bank_state.specs.State.{World, world}
+use Rattle.bank_state.specs.State.{BankState, bankState}
 use Rattle.client.specs.Run.{nonceBytes, notBegun}
 use Rattle.unit.specs.declared.state.Run.{Run}
 use Rattle.unit.specs.declared.state.UnitState.{UnitState}
@@ -29,12 +29,12 @@ runAt runs i = getD runs i (newRun [])
 -- the unit and all that is lent to it: the bank's stores, the rooms of the runs' payloads, their file buffers, and the
 -- buffer that holds a call's reply or request
 pub record State : Type 0 where
-  pub world : World
+  pub bankState : BankState
   pub runs : List Run
   pub payloads : List ℕ
   pub files : List ℕ
   pub buffer : List ℕ
 
 abbrev pub stateOf : UnitState → List ℕ → List ℕ → List ℕ → List ℕ → List ℕ → State
-stateOf u orders boxes payloads files buffer =
-    record { world = world (u .bank) orders boxes; runs = u .runs; payloads = payloads; files = files; buffer = buffer }
+stateOf u orders mailboxes payloads files buffer =
+    record { bankState = bankState (u .bank) orders mailboxes; runs = u .runs; payloads = payloads; files = files; buffer = buffer }

@@ -115,11 +115,11 @@ fn frame_call(
     u: UnitState,
     record: &[u8],
     orders: &mut [u8],
-    boxes: &mut [u8],
+    mailboxes: &mut [u8],
     buffer: &mut [u8],
 ) -> Called
-    ensures { λ r. ⌜ ((p f : List ℕ) → unitCallOf r (now (orders .exit)) (now (boxes .exit)) p f (now (buffer .exit))
-        ≡ frameStep (stateOf u (now (orders .entry)) (now (boxes .entry)) p f (now (buffer .entry))) (now («record» .entry))) ⌝ }
+    ensures { λ r. ⌜ ((p f : List ℕ) → unitCallOf r (now (orders .exit)) (now (mailboxes .exit)) p f (now (buffer .exit))
+        ≡ frameStep (stateOf u (now (orders .entry)) (now (mailboxes .entry)) p f (now (buffer .entry))) (now («record» .entry))) ⌝ }
 {
     let bank = u.bank;
     let o = frame_arrives(
@@ -128,7 +128,7 @@ fn frame_call(
         bytes_at(record, 5, 8),
         body_of(Kind::Frame, record),
         orders,
-        boxes,
+        mailboxes,
         buffer,
     );
     let after = o.bank;
@@ -140,16 +140,16 @@ fn frame_call(
 }
 
 // A file into a mailbox.
-fn file_call(u: UnitState, record: &[u8], boxes: &mut [u8]) -> Called
-    ensures { λ r. ⌜ ((o p f b : List ℕ) → unitCallOf r o (now (boxes .exit)) p f b
-        ≡ fileStep (stateOf u o (now (boxes .entry)) p f b) (now («record» .entry))) ⌝ }
+fn file_call(u: UnitState, record: &[u8], mailboxes: &mut [u8]) -> Called
+    ensures { λ r. ⌜ ((o p f b : List ℕ) → unitCallOf r o (now (mailboxes .exit)) p f b
+        ≡ fileStep (stateOf u o (now (mailboxes .entry)) p f b) (now («record» .entry))) ⌝ }
 {
     let bank = u.bank;
     let o = put_file(
         bank,
         number_at(record, 1, 2),
         body_of(Kind::File, record),
-        boxes,
+        mailboxes,
     );
     let after = o.bank;
     let answer = o.answer;
@@ -195,7 +195,7 @@ fn payload_for<'a>(begin: bool, body: &'a [u8], kept: &'a [u8]) -> &'a [u8]
 // Begins a client's run with what the record says.
 fn begin(
     client: Client,
-    way: Direction,
+    direction: Direction,
     record: &[u8],
     nonce: [u8; NONCE_BYTES],
     payload: &[u8],
@@ -203,11 +203,11 @@ fn begin(
     buffer: &mut [u8],
 ) -> Outcome
     ensures { λ r. ⌜ callOf r (now (file .exit)) (now (buffer .exit))
-        ≡ beginCall client way (subscriberOf (now («record» .entry))) (firstOf (now («record» .entry)))
+        ≡ beginCall client direction (subscriberOf (now («record» .entry))) (firstOf (now («record» .entry)))
         (lentOf (timeOf (now («record» .entry))) nonce (now (payload .entry)) (now (file .entry)) (now (buffer .entry))) ⌝ }
 {
     client.begin(
-        way,
+        direction,
         number_at(record, 6, 2),
         number_at(record, 8, 4),
         time_at(record, 2),
@@ -384,14 +384,14 @@ pub fn call(
     u: UnitState,
     record: &[u8],
     orders: &mut [u8],
-    boxes: &mut [u8],
+    mailboxes: &mut [u8],
     payloads: &mut [u8],
     files: &mut [u8],
     buffer: &mut [u8],
 ) -> Called
-    ensures { λ r. ⌜ unitCallOf r (now (orders .exit)) (now (boxes .exit)) (now (payloads .exit)) (now (files .exit)) (now (buffer .exit))
+    ensures { λ r. ⌜ unitCallOf r (now (orders .exit)) (now (mailboxes .exit)) (now (payloads .exit)) (now (files .exit)) (now (buffer .exit))
         ≡ unitCall
-        (stateOf u (now (orders .entry)) (now (boxes .entry)) (now (payloads .entry)) (now (files .entry)) (now (buffer .entry)))
+        (stateOf u (now (orders .entry)) (now (mailboxes .entry)) (now (payloads .entry)) (now (files .entry)) (now (buffer .entry)))
         (now («record» .entry)) ⌝ }
 {
     if !rooms_right(payloads.len(), files.len()) {
@@ -402,8 +402,8 @@ pub fn call(
     }
     let kind = call_of(record);
     match kind {
-        Kind::Frame => frame_call(u, record, orders, boxes, buffer),
-        Kind::File => file_call(u, record, boxes),
+        Kind::Frame => frame_call(u, record, orders, mailboxes, buffer),
+        Kind::File => file_call(u, record, mailboxes),
         Kind::Run(event) => run_call(u, event, record, payloads, files, buffer),
         Kind::NoCall => Called {
             unit: u,

@@ -8,14 +8,14 @@ use Rattle.exercises.proofs.play_moves.Statement.{statement}
 use Rattle.exercises.proofs.play_moves.Tie as tie
 
 abbrev Inv-loop : tie.InvT-loop
-Inv-loop from end text orders₀ boxes₀ payloads₀ files₀ t₀ i₀ orders boxes payloads files t i =
+Inv-loop from end text orders₀ boxes₀ payloads₀ files₀ t₀ i₀ orders mailboxes payloads files t i =
     (length orders ≡ length orders₀)
-    × (length boxes ≡ length boxes₀)
+    × (length mailboxes ≡ length boxes₀)
     × (length payloads ≡ length payloads₀)
     × (length files ≡ length files₀)
 
 abbrev μ-loop : tie.MeasureT-loop
-μ-loop from end text orders₀ boxes₀ payloads₀ files₀ t₀ i₀ orders boxes payloads files t i = end - i
+μ-loop from end text orders₀ boxes₀ payloads₀ files₀ t₀ i₀ orders mailboxes payloads files t i = end - i
 
 loop-less : tie.Need-loop-less Inv-loop μ-loop
 loop-less c =
@@ -31,7 +31,7 @@ loop-again c =
     let at-play = at-orders .before in
     let inv = at-play .before .before .before .before .before .before .loop .inv in (
       at-orders .orders .given ∙ inv .0,
-      at-boxes .boxes .given ∙ inv .1,
+      at-boxes .mailboxes .given ∙ inv .1,
       at-payloads .payloads .given ∙ inv .2,
       at-files .files .given ∙ inv .3,
     )

@@ -13,7 +13,7 @@ use Rattle.bank.proofs.call.frame_arrives.Tie as tie
 -- the lent lengths are right
 right : (c : tie.Else1)
     → let a = c .before .before .before .before .before .before .before .args in
-    (length (a .orders .now) ≡ storeBytes) × (length (a .boxes .now) ≡ storeBytes) × (length (a .ids .now) ≡ idBytes)
+    (length (a .orders .now) ≡ storeBytes) × (length (a .mailboxes .now) ≡ storeBytes) × (length (a .ids .now) ≡ idBytes)
 right c =
     let buffer = c .before .before .before .before .before .before .before .args .buffer .now in
     let right = not-false (c .before .lent-right .result) (c .if1 .left) in

@@ -1,5 +1,5 @@
 -- The verdict is carried out, the reply read off it: where it has data, the mailboxes are as before. Assumes nothing.
-use Rattle.bank_state.specs.State.{world}
+use Rattle.bank_state.specs.State.{bankState}
 use Rattle.bank_verdicts.specs.Judgement.{judge}
 use lib.ListN.{length}
 use Rattle.bank.specs.Call.{respond}
@@ -14,7 +14,7 @@ returns c =
     let at-reply = c .before .before in
     let at-step = at-reply .before .before .before .before .before .before .before .before in
     let a = at-step .before .before .before .before .before .before .before .args in
-    let w = world (a .b) (a .orders .now) (a .boxes .now) in
+    let w = bankState (a .b) (a .orders .now) (a .mailboxes .now) in
     let step = at-step .step .ensures in
     let v = judge (a .first) (a .b) (a .q) (length (a .bytes .now)) in
     replied-by v w (a .q) (a .bytes .now) (step .judged) (step .done)

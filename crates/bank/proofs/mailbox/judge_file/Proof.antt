@@ -13,12 +13,12 @@ use Rattle.bank.proofs.mailbox.judge_file.Tie as tie
 -- the first k tests fail
 abbrev Rest : ℕ → tie.Start → Type 0
 Rest k s =
-    let rows = fileRefusals (s .args .b) (s .args .mailbox) (s .args .file .now) (s .args .boxes .now) in
+    let rows = fileRefusals (s .args .b) (s .args .mailbox) (s .args .file .now) (s .args .mailboxes .now) in
     decide rows Done ≡ decide (drop k rows) Done
 
 passed-1 : (c : tie.Else1) → Rest 1 (c .before .before .before)
 unfolding fileRefusals
-passed-1 c = rw (eq-eqb (length (c .before .before .before .args .boxes .now)) storeBytes (c .if1 .left))
+passed-1 c = rw (eq-eqb (length (c .before .before .before .args .mailboxes .now)) storeBytes (c .if1 .left))
 
 passed-2 : (c : tie.Else2) → Rest 2 (c .before .before .before .before .before)
 unfolding fileRefusals
@@ -30,7 +30,7 @@ passed-3 c = passed-2 (c .before .before) ∙ rw (← c .before .is-wrong-file .
 
 returns : tie.Need-returns
 unfolding fileRefusals
-returns c = rw (ne-eqb (length (c .before .before .before .args .boxes .now)) storeBytes (c .if1 .taken))
+returns c = rw (ne-eqb (length (c .before .before .before .args .mailboxes .now)) storeBytes (c .if1 .taken))
 
 returns-2 : tie.Need-returns-2
 unfolding fileRefusals

@@ -18,20 +18,20 @@ use Rattle.bank.proofs.mailbox.put_file.Tie as tie
 abbrev otherKeys : List ℕ
 otherKeys = 1 ∷ 2 ∷ 3 ∷ 4 ∷ []
 
-others : (b : Bank) (m : ℕ) (file boxes : List ℕ) (a : FileAnswer) → OneOf otherKeys (tagOf the-type a)
-    → refusedFile a b boxes ≡ carryOutFile a b m file boxes
-others b m file boxes Done k = absurd (miss otherKeys 0 tt k)
-others b m file boxes WrongLength k = refl
-others b m file boxes NoMailbox k = refl
-others b m file boxes WrongFile k = refl
-others b m file boxes MailboxFull k = refl
+others : (b : Bank) (m : ℕ) (file mailboxes : List ℕ) (a : FileAnswer) → OneOf otherKeys (tagOf the-type a)
+    → refusedFile a b mailboxes ≡ carryOutFile a b m file mailboxes
+others b m file mailboxes Done k = absurd (miss otherKeys 0 tt k)
+others b m file mailboxes WrongLength k = refl
+others b m file mailboxes NoMailbox k = refl
+others b m file mailboxes WrongFile k = refl
+others b m file mailboxes MailboxFull k = refl
 
 store-file-requires : tie.Need-store-file-requires
 store-file-requires c κs =
     let at-judge = c .before .before .before in
     let a = at-judge .before .before .before .before .args in
     let told = sym (at-judge .judge-file .ensures) ∙ c .before .enum-told .given .1 in
-    file-fits (a .b) (a .mailbox) (a .file .now) (a .boxes .now) told
+    file-fits (a .b) (a .mailbox) (a .file .now) (a .mailboxes .now) told
 
 returns : tie.Need-returns
 unfolding fileCall

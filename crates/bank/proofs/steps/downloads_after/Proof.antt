@@ -2,7 +2,7 @@
 use mathlib.Core.Path.{_≡_, ap, _∙_}
 use Rattle.bank_state.specs.declared.state.Bank.{Bank}
 use Rattle.bank_state.specs.declared.state.Download.{Download}
-use Rattle.bank_state.specs.State.{world, withDownload}
+use Rattle.bank_state.specs.State.{bankState, withDownload}
 use Rattle.bank.proofs.Carried.{stays}
 use borrow.Author.Needs.{needs}
 use Rattle.bank.proofs.steps.downloads_after.Statement.{statement}
@@ -44,10 +44,10 @@ returns-4 c =
     let at-match = c .before .before in
     let start = at-match .before .before in
     let a = start .args in
-    let m = a .boxes .now in
-    ap (λ (b : Bank). world b o m) (c .with-download .ensures)
-    ∙ ap (λ (e : Download). world (withDownload (a .j) e (a .b)) o m) (start .pre .1)
-    ∙ stays (a .s .action) (a .j) (world (a .b) o m) (a .q) (at-match .match .keys4)
+    let m = a .mailboxes .now in
+    ap (λ (b : Bank). bankState b o m) (c .with-download .ensures)
+    ∙ ap (λ (e : Download). bankState (withDownload (a .j) e (a .b)) o m) (start .pre .1)
+    ∙ stays (a .s .action) (a .j) (bankState (a .b) o m) (a .q) (at-match .match .keys4)
 
 pub downloads-after-spec : {M : Type 1} → statement M
 downloads-after-spec =

@@ -1,7 +1,7 @@
 -- The step of the download of record j, and what its action ends. Assumes nothing.
 use mathlib.Core.Path.{_≡_, sym, ap, _∙_}
 use Prim.Native.Nat.{ℕ}
-use Rattle.bank_state.specs.State.{world, downloadAt}
+use Rattle.bank_state.specs.State.{bankState, downloadAt}
 use Rattle.bank_verdicts.specs.declared.verdict.Action.the-variants as action
 use Rattle.bank_verdicts.specs.declared.verdict.Verdict.the-variants as verdict
 use Rattle.bank_verdicts.specs.Judgement.{mailboxSegments}
@@ -34,7 +34,7 @@ returns c =
     let at-count = at-step .before in
     let start = at-count .before .before .before .before in
     let a = start .args in
-    let w = world (a .t1) o (a .boxes .now) in
+    let w = bankState (a .t1) o (a .mailboxes .now) in
     let e = downloadAt (a .t1) (a .j) in
     let count =
     at-count .mailbox-segments .ensures

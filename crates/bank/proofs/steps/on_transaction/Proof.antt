@@ -38,7 +38,7 @@ on-download-requires : tie.Need-on-download-requires
 on-download-requires c κs =
     let at-find = c .before .before in
     let start = at-find .before .before .before .before .before .before .before .before .before .before in
-    (c .before .if2 .taken, download-found at-find, start .pre .known, start .pre .most, start .pre .mailboxes)
+    (c .before .if2 .taken, download-found at-find, start .pre .known, start .pre .most, start .pre .mailboxStore)
 
 returns-2 : tie.Need-returns-2
 returns-2 c =

@@ -4,7 +4,7 @@ use Prim.Native.Nat.{ℕ, _+_, _*_, _≤_}
 use native.Mathlib.Omega.{arith}
 use lib.ListN.{length}
 use Rattle.message.specs.Limits.{fileBytes}
-use Rattle.bank_state.specs.State.{world, placeAt}
+use Rattle.bank_state.specs.State.{bankState, placeAt}
 use Rattle.bank_state.specs.Store.{withPart}
 use Rattle.bank_state.proofs.Stores.{part-back, part-lent}
 use Rattle.bank_verdicts.specs.declared.verdict.Action.the-variants as action
@@ -26,7 +26,7 @@ returns c =
     let fits : a .i * fileBytes + fileBytes ≤ length (a .orders .now) = omega (arith, start .pre .0, start .pre .2) in
     let same = at-orders .orders .given .0 in
     let p = placeAt (a .t1) (a .i) in
-    let w = world (a .t1) (a .orders .now) m in
+    let w = bankState (a .t1) (a .orders .now) m in
     let step =
     at-step .upload-step .ensures
     ∙ ap (uploadStep (a .t1 .clock) (a .asked) _ (a .q) (a .bytes .now)) (part-lent (a .orders .now) (a .i)) in

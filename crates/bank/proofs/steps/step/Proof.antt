@@ -57,7 +57,7 @@ by-form-requires c κs =
     let at-if2 = c .before .before .before in
     let start = at-if2 .before .before .before .before .before .before .before .before .before in
     let k = request-known (start .args .q) (known at-if2) in
-    record { known = k .0; most = k .1; places = start .pre .0; mailboxes = start .pre .1 }
+    record { known = k .0; most = k .1; places = start .pre .0; mailboxStore = start .pre .1 }
 
 returns-4 : tie.Need-returns-4
 unfolding judge requestRows longData

@@ -1,7 +1,7 @@
 -- An opening that acts on a transaction is accepted; the other verdicts change nothing. Assumes nothing.
 use mathlib.Core.Path.{_≡_, sym, ap, _∙_}
 use Rattle.bank_state.specs.declared.state.Bank.{Bank}
-use Rattle.bank_state.specs.State.{world}
+use Rattle.bank_state.specs.State.{bankState}
 use Rattle.bank_verdicts.specs.declared.verdict.Direction.the-variants as direction
 use Rattle.bank_verdicts.specs.declared.verdict.Verdict.{Verdict}
 use Rattle.bank.specs.Call.{carryOut}
@@ -27,7 +27,7 @@ returns c =
     record {
       judged = sym told;
       done =
-          ap (λ (b : Bank). world b o m) (c .open-upload .ensures)
+          ap (λ (b : Bank). bankState b o m) (c .open-upload .ensures)
           ∙ upload-opened (a .first) (a .b) (a .q) o m d told;
     }
 
@@ -36,7 +36,7 @@ returns-2 c =
     λ o m d.
     let at-judge = c .before in
     let a = at-judge .before .args in
-    let w = world (a .b) o m in
+    let w = bankState (a .b) o m in
     record {
       judged = at-judge .judge-opening .ensures;
       done =

@@ -1,7 +1,7 @@
 -- A request that fits goes by its own lines; the first five others get a segment again or the recovery point, the sixth
 -- is the last. Assumes nothing.
 use borrow.Author.Tests.{lt-ltb, le-ltb}
-use Rattle.message.specs.Limits.{attemptsMost}
+use Rattle.message.specs.Limits.{maxAttempts}
 use Rattle.bank_verdicts.specs.Refusals.{downloadAttempt, downloadRows}
 use Rattle.bank_verdicts.specs.Judgement.{judgeDownload}
 use Rattle.bank_downloads.proofs.downloads.judge_download.Statement.{statement}
@@ -19,7 +19,7 @@ returns-2 c =
     rw (
       ← missed .before .fits-download .ensures,
       missed .if1 .left,
-      le-ltb (start .args .e .attempts) attemptsMost (c .if2 .taken),
+      le-ltb (start .args .e .attempts) maxAttempts (c .if2 .taken),
     )
 
 returns-3 : tie.Need-returns-3
@@ -31,7 +31,7 @@ returns-3 c =
     rw (
       ← missed .before .fits-download .ensures,
       missed .if1 .left,
-      lt-ltb (start .args .e .attempts) attemptsMost (few .if2 .left),
+      lt-ltb (start .args .e .attempts) maxAttempts (few .if2 .left),
       ← c .before .is-sent-again .ensures,
       c .if3 .taken,
     )
@@ -45,7 +45,7 @@ returns-4 c =
     rw (
       ← missed .before .fits-download .ensures,
       missed .if1 .left,
-      lt-ltb (start .args .e .attempts) attemptsMost (few .if2 .left),
+      lt-ltb (start .args .e .attempts) maxAttempts (few .if2 .left),
       ← c .before .is-sent-again .ensures,
       c .if3 .left,
     )

@@ -3,7 +3,7 @@ use mathlib.Core.Path.{_≡_, sym, _∙_}
 use borrow.Author.Tests.{le-leb, lt-leb}
 use lib.Dec.{leb}
 use mathlib.Core.Bool.{_||_}
-use Rattle.bank_state.specs.Limits.{openMost, nonceCount, openingsMost}
+use Rattle.bank_state.specs.Limits.{maxOpen, nonceCount, maxOpenings}
 use Rattle.bank_state.specs.Search.{freeNonce}
 use Rattle.bank_verdicts.specs.Refusals.{isFull, noPlaceFree}
 use Rattle.bank_openings.proofs.judgement.is_full.Statement.{statement}
@@ -13,19 +13,19 @@ use Rattle.bank_openings.proofs.judgement.is_full.Tie as tie
 passed-1 : (c : tie.Else1)
     → let s = c .before .before .args in
     isFull (s .d) (s .b)
-    ≡ (noPlaceFree (s .d) (s .b) || (leb nonceCount (freeNonce (s .b)) || leb openingsMost (s .b .openings)))
+    ≡ (noPlaceFree (s .d) (s .b) || (leb nonceCount (freeNonce (s .b)) || leb maxOpenings (s .b .openings)))
 unfolding isFull
-passed-1 c = rw (← c .before .open-count .ensures, lt-leb openMost (c .before .open-count .result) (c .if1 .left))
+passed-1 c = rw (← c .before .open-count .ensures, lt-leb maxOpen (c .before .open-count .result) (c .if1 .left))
 
 -- nor the second
 passed-2 : (c : tie.Else2)
     → let s = c .before .before .before .before .args in
-    isFull (s .d) (s .b) ≡ (leb nonceCount (freeNonce (s .b)) || leb openingsMost (s .b .openings))
+    isFull (s .d) (s .b) ≡ (leb nonceCount (freeNonce (s .b)) || leb maxOpenings (s .b .openings))
 passed-2 c = passed-1 (c .before .before) ∙ rw (← c .before .no-place-free .ensures, c .if2 .left)
 
 returns : tie.Need-returns
 unfolding isFull
-returns c = rw (← c .before .open-count .ensures, le-leb openMost (c .before .open-count .result) (c .if1 .taken))
+returns c = rw (← c .before .open-count .ensures, le-leb maxOpen (c .before .open-count .result) (c .if1 .taken))
 
 returns-2 : tie.Need-returns-2
 returns-2 c = sym (passed-1 (c .before .before) ∙ rw (← c .before .no-place-free .ensures, c .if2 .taken))

@@ -7,7 +7,7 @@ use native.Mathlib.Omega.{arith}
 use lib.ListN.{length}
 use Rattle.bank_state.specs.Limits.{placeCount}
 use Rattle.bank_state.specs.Clock.{dropUploads}
-use Rattle.bank_state.specs.State.{world}
+use Rattle.bank_state.specs.State.{bankState}
 use Rattle.bank_rows.specs.State.{bankOf, StoredWith}
 use Rattle.bank_rows.proofs.Calls.{drops-start, drops-laid, drops-next}
 use Rattle.bank_rows.proofs.clock.drop_uploads.Statement.{statement}
@@ -16,7 +16,7 @@ use Rattle.bank_rows.proofs.clock.drop_uploads.Tie as tie
 abbrev Inv-loop : tie.InvT-loop
 Inv-loop rows₀ orders₀ i₀ rows orders i =
     (i ≤ placeCount) × (length rows ≡ length rows₀) × (length orders ≡ length orders₀)
-    × ((boxes : List ℕ) → StoredWith (dropUploads i (world (bankOf rows₀) orders₀ boxes)) rows₀ rows orders)
+    × ((mailboxes : List ℕ) → StoredWith (dropUploads i (bankState (bankOf rows₀) orders₀ mailboxes)) rows₀ rows orders)
 
 abbrev μ-loop : tie.MeasureT-loop
 μ-loop rows₀ orders₀ i₀ rows orders i = placeCount - i
@@ -65,7 +65,7 @@ returns : tie.Need-returns Inv-loop μ-loop
 returns c =
     let l = c .before .loop in
     let e : l .i ≡ placeCount = omega (arith, l .inv .0, c .loop-test .left) in
-    λ boxes. rw e at (l .inv .3 boxes)
+    λ mailboxes. rw e at (l .inv .3 mailboxes)
 
 pub drop-uploads-spec : {M : Type 1} → statement M
 drop-uploads-spec =

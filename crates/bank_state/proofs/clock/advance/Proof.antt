@@ -19,9 +19,9 @@ same-length c = search needs
 
 returns : tie.Need-returns
 unfolding advanced
-returns c = λ boxes.
+returns c = λ mailboxes.
     let at = c .before .before .before .before in
-    c .before .before .drop-uploads .ensures boxes ∙ rw (at .at-clock .ensures, at .before .larger .ensures)
+    c .before .before .drop-uploads .ensures mailboxes ∙ rw (at .at-clock .ensures, at .before .larger .ensures)
 
 pub advance-spec : {M : Type 1} → statement M
 advance-spec =

@@ -22,13 +22,13 @@ same-length c = search needs
 
 returns : tie.Need-returns
 unfolding dropUpload
-returns c = λ boxes.
+returns c = λ mailboxes.
     let at = c .before .before .before .before in
-    c .before .before .free .ensures boxes ∙ rw (← at .before .is-idle-upload .ensures, at .if1 .taken)
+    c .before .before .free .ensures mailboxes ∙ rw (← at .before .is-idle-upload .ensures, at .if1 .taken)
 
 returns-2 : tie.Need-returns-2
 unfolding dropUpload
-returns-2 c = λ boxes. rw (← c .before .is-idle-upload .ensures, c .if1 .left)
+returns-2 c = λ mailboxes. rw (← c .before .is-idle-upload .ensures, c .if1 .left)
 
 pub drop-upload-spec : {M : Type 1} → statement M
 drop-upload-spec =

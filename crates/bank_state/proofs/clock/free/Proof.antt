@@ -21,7 +21,7 @@ same-length c = search needs
 
 returns : tie.Need-returns
 unfolding freed
-returns c = λ boxes. rw (c .before .before .before .before .no-place .ensures, c .before .before .zero .ensures)
+returns c = λ mailboxes. rw (c .before .before .before .before .no-place .ensures, c .before .before .zero .ensures)
 
 pub free-spec : {M : Type 1} → statement M
 free-spec =

@@ -2,7 +2,7 @@
 -- last. Assumes nothing.
 use mathlib.Core.Path.{sym, _∙_}
 use borrow.Author.Tests.{lt-ltb, le-ltb}
-use Rattle.message.specs.Limits.{attemptsMost}
+use Rattle.message.specs.Limits.{maxAttempts}
 use Rattle.bank_verdicts.specs.Refusals.{uploadAttempt, uploadRows}
 use Rattle.bank_verdicts.specs.Judgement.{judgeUpload}
 use Rattle.bank_verdicts.proofs.Sound.{upload-fits}
@@ -27,7 +27,7 @@ returns-2 c =
     rw (
       ← missed .before .fits-upload .ensures,
       missed .if1 .left,
-      lt-ltb (start .args .p .attempts) attemptsMost (c .if2 .taken),
+      lt-ltb (start .args .p .attempts) maxAttempts (c .if2 .taken),
     )
 
 returns-3 : tie.Need-returns-3
@@ -38,7 +38,7 @@ returns-3 c =
     rw (
       ← missed .before .fits-upload .ensures,
       missed .if1 .left,
-      le-ltb (start .args .p .attempts) attemptsMost (c .if2 .left),
+      le-ltb (start .args .p .attempts) maxAttempts (c .if2 .left),
     )
 
 pub judge-upload-spec : {M : Type 1} → statement M

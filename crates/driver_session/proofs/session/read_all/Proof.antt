@@ -10,13 +10,13 @@ use Rattle.driver_session.proofs.session.read_all.Statement.{statement}
 use Rattle.driver_session.proofs.session.read_all.Tie as tie
 
 abbrev Inv-loop : tie.InvT-loop
-Inv-loop input₀ output₀ orders₀ boxes₀ payloads₀ files₀ buffer₀ t₀ calls₀ input output orders boxes payloads files buffer t calls =
-    (length input ≡ length input₀) × (length output ≡ length output₀) × (length orders ≡ length orders₀) × (length boxes ≡ length boxes₀)
+Inv-loop input₀ output₀ orders₀ boxes₀ payloads₀ files₀ buffer₀ t₀ calls₀ input output orders mailboxes payloads files buffer t calls =
+    (length input ≡ length input₀) × (length output ≡ length output₀) × (length orders ≡ length orders₀) × (length mailboxes ≡ length boxes₀)
     × (length payloads ≡ length payloads₀) × (length files ≡ length files₀) × (length buffer ≡ length buffer₀)
-    × Calls (stateOf fresh orders₀ boxes₀ payloads₀ files₀ buffer₀) (stateOf (t .unit) orders boxes payloads files buffer)
+    × Calls (stateOf fresh orders₀ boxes₀ payloads₀ files₀ buffer₀) (stateOf (t .unit) orders mailboxes payloads files buffer)
 
 abbrev μ-loop : tie.MeasureT-loop
-μ-loop input₀ output₀ orders₀ boxes₀ payloads₀ files₀ buffer₀ t₀ calls₀ input output orders boxes payloads files buffer t calls =
+μ-loop input₀ output₀ orders₀ boxes₀ payloads₀ files₀ buffer₀ t₀ calls₀ input output orders mailboxes payloads files buffer t calls =
     18446744073709551615 - calls
 
 fresh-requires : tie.Need-fresh-requires Inv-loop μ-loop
@@ -42,15 +42,15 @@ loop-again c =
     let buffer-back = c .before in
     let files-back = buffer-back .before .before in
     let payloads-back = files-back .before .before in
-    let boxes-back = payloads-back .before .before in
-    let orders-back = boxes-back .before .before in
+    let mailboxes-back = payloads-back .before .before in
+    let orders-back = mailboxes-back .before .before in
     let output-back = orders-back .before .before in
     let input-back = output-back .before .before in
     let inv = input-back .before .before .before .before .before .before .before .before .before .before .before .before .loop .inv in (
       input-back .input .given ∙ inv .0,
       output-back .output .given ∙ inv .1,
       orders-back .orders .given ∙ inv .2,
-      boxes-back .boxes .given ∙ inv .3,
+      mailboxes-back .mailboxes .given ∙ inv .3,
       payloads-back .payloads .given ∙ inv .4,
       files-back .files .given ∙ inv .5,
       buffer-back .buffer .given ∙ inv .6,

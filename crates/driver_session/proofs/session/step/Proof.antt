@@ -27,7 +27,7 @@ same-length-4 c =
 same-length-5 : tie.Need-same-length-5
 same-length-5 c =
     let at-buffer = c .before .before .before .before .before .before .before .before .before .before in
-    at-buffer .before .before .before .before .before .before .boxes .given
+    at-buffer .before .before .before .before .before .before .mailboxes .given
 
 same-length-6 : tie.Need-same-length-6
 same-length-6 c =

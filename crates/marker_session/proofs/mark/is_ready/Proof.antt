@@ -1,7 +1,7 @@
 -- `is_ready` meets its contract: at each return the tests that led there say which of the three fails. Assumes nothing.
 use native.Mathlib.Omega.{arith}
 use borrow.Author.Tests.{le-ltb, lt-ltb}
-use Rattle.marker_session.specs.Marking.{isReady, callsMost}
+use Rattle.marker_session.specs.Marking.{isReady, maxCalls}
 use Rattle.marker_session.proofs.mark.is_ready.Statement.{statement}
 use Rattle.marker_session.proofs.mark.is_ready.Tie as tie
 
@@ -15,7 +15,7 @@ unfolding isReady
 returns-2 c =
     let a = c .before .before .before .args in
     let h = lt-ltb 0 (a .left) (omega arith) in
-    rw (h, le-ltb (a .calls) callsMost (c .if2 .taken))
+    rw (h, le-ltb (a .calls) maxCalls (c .if2 .taken))
 
 behind-requires : tie.Need-behind-requires
 behind-requires c κs = tt
@@ -28,7 +28,7 @@ unfolding isReady
 returns-3 c =
     let a = c .before .before .before .before .before .args in
     let h = lt-ltb 0 (a .left) (omega arith) in
-    let k = lt-ltb (a .calls) callsMost (omega arith) in
+    let k = lt-ltb (a .calls) maxCalls (omega arith) in
     rw (h, k, ← c .before .behind .ensures) (c .is-whole .ensures)
 
 pub is-ready-spec : {M : Type 1} → statement M

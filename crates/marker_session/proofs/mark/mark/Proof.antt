@@ -16,13 +16,13 @@ use Rattle.marker_session.proofs.mark.mark.Statement.{statement}
 use Rattle.marker_session.proofs.mark.mark.Tie as tie
 
 abbrev Inv-loop : tie.InvT-loop
-Inv-loop calls input output₀ orders₀ boxes₀ buffer₀ m₀ left₀ output orders boxes buffer m left =
-    (length orders ≡ length orders₀) × (length boxes ≡ length boxes₀) × (length buffer ≡ length buffer₀)
-    × Marking (standing (m₀ .bank) calls input orders₀ boxes₀ buffer₀) input output₀ left m orders boxes buffer output
+Inv-loop calls input output₀ orders₀ boxes₀ buffer₀ m₀ left₀ output orders mailboxes buffer m left =
+    (length orders ≡ length orders₀) × (length mailboxes ≡ length boxes₀) × (length buffer ≡ length buffer₀)
+    × Marking (standing (m₀ .bank) calls input orders₀ boxes₀ buffer₀) input output₀ left m orders mailboxes buffer output
     × (m .used ≤ length input)
 
 abbrev μ-loop : tie.MeasureT-loop
-μ-loop calls input output₀ orders₀ boxes₀ buffer₀ m₀ left₀ output orders boxes buffer m left = left
+μ-loop calls input output₀ orders₀ boxes₀ buffer₀ m₀ left₀ output orders mailboxes buffer m left = left
 
 loop-holds : tie.Need-loop-holds Inv-loop μ-loop
 loop-holds c = (
@@ -69,7 +69,7 @@ loop-again c =
     let inv = at-if at-call .before .before .loop .inv in
     let turn = ready (at-if at-call) in (
       c .before .before .before .before .before .orders .given ∙ inv .0,
-      c .before .before .before .boxes .given ∙ inv .1,
+      c .before .before .before .mailboxes .given ∙ inv .1,
       c .before .buffer .given ∙ inv .2,
       marking-next _ _ _ _ _ _ _ _ _ (inv .3) (turn .0) (turn .1) _ _ _ _ _ (at-call .mark-call .ensures .0),
       at-call .mark-call .ensures .1,

@@ -2,19 +2,19 @@
 use mathlib.Core.Path.{_≡_, refl, _∙_}
 use native.Mathlib.Omega.{arith}
 use lib.ListN.{length}
-use Rattle.marker_session.specs.Session.{ReadFrom, freshStanding}
+use Rattle.marker_session.specs.Session.{ReadFrom, freshMarker}
 use Rattle.marker_session.proofs.Parts.{reads-begin, reads-next}
 use Rattle.marker_session.proofs.session.read_all.Statement.{statement}
 use Rattle.marker_session.proofs.session.read_all.Tie as tie
 
 abbrev Inv-loop : tie.InvT-loop
-Inv-loop input₀ output₀ orders₀ boxes₀ buffer₀ t₀ input output orders boxes buffer t =
+Inv-loop input₀ output₀ orders₀ boxes₀ buffer₀ t₀ input output orders mailboxes buffer t =
     (length input ≡ length input₀) × (length output ≡ length output₀) × (length orders ≡ length orders₀)
-    × (length boxes ≡ length boxes₀) × (length buffer ≡ length buffer₀)
-    × ReadFrom (freshStanding orders₀ boxes₀ buffer₀) t input orders boxes buffer
+    × (length mailboxes ≡ length boxes₀) × (length buffer ≡ length buffer₀)
+    × ReadFrom (freshMarker orders₀ boxes₀ buffer₀) t input orders mailboxes buffer
 
 abbrev μ-loop : tie.MeasureT-loop
-μ-loop input₀ output₀ orders₀ boxes₀ buffer₀ t₀ input output orders boxes buffer t = t .reads
+μ-loop input₀ output₀ orders₀ boxes₀ buffer₀ t₀ input output orders mailboxes buffer t = t .reads
 
 fresh-requires : tie.Need-fresh-requires Inv-loop μ-loop
 fresh-requires c κs = tt
@@ -36,8 +36,8 @@ loop-less c = c .before .before .before .before .before .before .before .before 
 loop-again : tie.Need-loop-again Inv-loop μ-loop
 loop-again c =
     let buffer-back = c .before in
-    let boxes-back = buffer-back .before .before in
-    let orders-back = boxes-back .before .before in
+    let mailboxes-back = buffer-back .before .before in
+    let orders-back = mailboxes-back .before .before in
     let output-back = orders-back .before .before in
     let input-back = output-back .before .before in
     let at-call = input-back .before in
@@ -45,7 +45,7 @@ loop-again c =
       input-back .input .given ∙ inv .0,
       output-back .output .given ∙ inv .1,
       orders-back .orders .given ∙ inv .2,
-      boxes-back .boxes .given ∙ inv .3,
+      mailboxes-back .mailboxes .given ∙ inv .3,
       buffer-back .buffer .given ∙ inv .4,
       reads-next _ _ _ _ _ _ _ _ _ _ _ (inv .5) (at-call .read-on .ensures .1),
     )

@@ -67,7 +67,7 @@ returns c =
     let read = input .before .read-in in
     let a = start .args in (
       keep .before .before .write-lines .ensures,
-      read-part (a .t) (a .input .now) (a .orders .now) (a .boxes .now) (a .buffer .now) (a .output .now) (read .last .0) (read .result)
+      read-part (a .t) (a .input .now) (a .orders .now) (a .mailboxes .now) (a .buffer .now) (a .output .now) (read .last .0) (read .result)
           (input .input .given) (start .pre .1) (start .pre .2) (read .ensures .0) (read .ensures .1)
           (mark .mark .result) _ _ _ _ (mark .mark .ensures .0) _ _ refl refl (keep .keep .ensures),
     )

@@ -4,16 +4,16 @@ use Prim.Native.Nat.{_+_, _-_, _≤_}
 use mathlib.Core.Path.{_≡_}
 use native.Mathlib.Omega.{arith}
 use borrow.Author.Needs.{needs}
-use Rattle.print.specs.Text.{digitsMost, digitCountTo, digitCount}
+use Rattle.print.specs.Text.{maxDigits, digitCountTo, digitCount}
 use Rattle.print.proofs.Digits.{count-step, count-last, count-end}
 use Rattle.print.proofs.text.digit_count.Statement.{statement}
 use Rattle.print.proofs.text.digit_count.Tie as tie
 
 abbrev Inv-loop : tie.InvT-loop
-Inv-loop x n₀ rest₀ n rest = (1 ≤ n) × (n ≤ digitsMost) × (digitCount x ≡ n - 1 + digitCountTo (digitsMost - n) rest)
+Inv-loop x n₀ rest₀ n rest = (1 ≤ n) × (n ≤ maxDigits) × (digitCount x ≡ n - 1 + digitCountTo (maxDigits - n) rest)
 
 abbrev μ-loop : tie.MeasureT-loop
-μ-loop x n₀ rest₀ n rest = digitsMost - n
+μ-loop x n₀ rest₀ n rest = maxDigits - n
 
 loop-holds : tie.Need-loop-holds Inv-loop μ-loop
 unfolding digitCount
@@ -33,7 +33,7 @@ loop-again c =
 returns : tie.Need-returns Inv-loop μ-loop
 returns c =
     let l = c .before .before .loop in
-    omega (arith, l .inv .2, count-end (digitsMost - l .n) (l .rest) (leb-false _ _ (c .if1 .left)))
+    omega (arith, l .inv .2, count-end (maxDigits - l .n) (l .rest) (leb-false _ _ (c .if1 .left)))
 
 returns-2 : tie.Need-returns-2 Inv-loop μ-loop
 returns-2 c =

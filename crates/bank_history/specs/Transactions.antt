@@ -14,7 +14,7 @@ use Rattle.bank_state.specs.Clock.{advanced}
 use Rattle.bank_state.specs.declared.state.Use.the-variants.{Open, Booked}
 use Rattle.bank_state.specs.Limits.{placeCount, idleLimit}
 use Rattle.bank_state.specs.Search.{isFree}
-use Rattle.bank_state.specs.State.{World, world, placeAt, downloadAt, withFiles}
+use Rattle.bank_state.specs.State.{BankState, bankState, placeAt, downloadAt, withFiles}
 use Rattle.bank_state.specs.Store.{partAt}
 use Rattle.bank.specs.Call.{respond}
 use Rattle.bank_verdicts.specs.declared.verdict.DownloadAction.the-variants as down
@@ -39,18 +39,18 @@ use Rattle.bank_history.specs.History.{
 -- the past of an answered frame
 abbrev pub answered : ℕ → List ℕ → List ℕ → Past → Past
 answered time ids frame p = record {
-  world = respond (number ids) (advanced time (p .world)) (readRequest frame) (dataOf frame) .world;
-  history = exchangeOf (number ids) (advanced time (p .world)) (readRequest frame) (dataOf frame) ∷ p .history;
+  bankState = respond (number ids) (advanced time (p .bankState)) (readRequest frame) (dataOf frame) .bankState;
+  history = exchangeOf (number ids) (advanced time (p .bankState)) (readRequest frame) (dataOf frame) ∷ p .history;
 }
 
 -- the bank with the file in its mailbox
-abbrev pub filled : ℕ → List ℕ → World → World
+abbrev pub filled : ℕ → List ℕ → BankState → BankState
 filled mailbox file w =
-    world (withFiles (set (w .bank .files) (mailbox - 1) (length file)) (w .bank)) (w .orders)
-    (overwrite (w .boxes) ((mailbox - 1) * fileBytes) file)
+    bankState (withFiles (set (w .bank .files) (mailbox - 1) (length file)) (w .bank)) (w .orders)
+    (overwrite (w .mailboxes) ((mailbox - 1) * fileBytes) file)
 
 -- what a booked place holds: the subscriber and the number of its accepted opening, and exactly the data of segments 1 to N
-pub record Order (w : World) (h : List Exchange) (t : Bits128) (i : ℕ) : Type 0 where
+pub record Order (w : BankState) (h : List Exchange) (t : Bits128) (i : ℕ) : Type 0 where
   pub inside : i < placeCount
   pub used : placeAt (w .bank) i .used ≡ Booked
   pub same : placeAt (w .bank) i .transaction ≡ t
@@ -63,7 +63,7 @@ pub record Order (w : World) (h : List Exchange) (t : Bits128) (i : ℕ) : Type 
   pub last : ever isBooking t h ≡ true
 
 -- "until a receipt of its subscriber is answered 011000, which alone empties it": the exchange e has emptied mailbox m of the bank w
-pub record Emptied (w : World) (m : ℕ) (e : Exchange) : Type 0 where
+pub record Emptied (w : BankState) (m : ℕ) (e : Exchange) : Type 0 where
   pub id : Bits128
   pub confirmed : e .verdict ≡ verdict.Of id (action.Download down.Confirmed)
   pub owner : Names.subscriber (e .request) ≡ m
@@ -71,19 +71,19 @@ pub record Emptied (w : World) (m : ℕ) (e : Exchange) : Type 0 where
 
 -- "The bank's mailbox holds exactly the file last put in by a call given no number": the bank w has got the file into mailbox m, and is
 -- w′ now
-pub record Filled (w w′ : World) (m : ℕ) (file : List ℕ) : Type 0 where
+pub record Filled (w w′ : BankState) (m : ℕ) (file : List ℕ) : Type 0 where
   pub was : mailboxFile w m ≡ []
   pub now : mailboxFile w′ m ≡ file
   pub others : (n : ℕ) → 1 ≤ n → (n ≡ m → ⊥) → mailboxFile w′ n ≡ mailboxFile w n
 
 -- an accepted opening had the ID t, and no place and no open download has it any more
-pub record Gone (w : World) (t : Bits128) : Type 0 where
+pub record Gone (w : BankState) (t : Bits128) : Type 0 where
   pub known : t .low < w .bank .openings
   pub places : (i : ℕ) → isFree (placeAt (w .bank) i .used) ≡ false → placeAt (w .bank) i .transaction ≡ t → ⊥
   pub downloads : (j : ℕ) → downloadAt (w .bank) j .used ≡ true → downloadAt (w .bank) j .transaction ≡ t → ⊥
 
 -- the upload t of subscriber s is open, k of n segments taken, its last fitting request at the clock last
-pub record UploadAt (w : World) (t : Bits128) (s k n last : ℕ) : Type 0 where
+pub record UploadAt (w : BankState) (t : Bits128) (s k n last : ℕ) : Type 0 where
   pub place : ℕ
   pub inside : place < placeCount
   pub used : placeAt (w .bank) place .used ≡ Open
@@ -94,7 +94,7 @@ pub record UploadAt (w : World) (t : Bits128) (s k n last : ℕ) : Type 0 where
   pub fitting : placeAt (w .bank) place .last ≡ last
 
 -- the download t of subscriber s is open, d segments delivered, its last fitting request at the clock last
-pub record DownloadAt (w : World) (t : Bits128) (s d last : ℕ) : Type 0 where
+pub record DownloadAt (w : BankState) (t : Bits128) (s d last : ℕ) : Type 0 where
   pub row : ℕ
   pub inside : row < placeCount
   pub used : downloadAt (w .bank) row .used ≡ true
@@ -104,8 +104,8 @@ pub record DownloadAt (w : World) (t : Bits128) (s d last : ℕ) : Type 0 where
   pub fitting : downloadAt (w .bank) row .last ≡ last
 
 -- it is so unless an idle hour has passed: "open at 3,600, gone at 3,601"
-abbrev pub UploadUnlessIdle : World → Bits128 → ℕ → ℕ → ℕ → ℕ → Type 0
+abbrev pub UploadUnlessIdle : BankState → Bits128 → ℕ → ℕ → ℕ → ℕ → Type 0
 UploadUnlessIdle w t s k n last = w .bank .clock ≤ last + idleLimit → UploadAt w t s k n last
 
-abbrev pub DownloadUnlessIdle : World → Bits128 → ℕ → ℕ → ℕ → Type 0
+abbrev pub DownloadUnlessIdle : BankState → Bits128 → ℕ → ℕ → ℕ → Type 0
 DownloadUnlessIdle w t s d last = w .bank .clock ≤ last + idleLimit → DownloadAt w t s d last

@@ -13,14 +13,14 @@ use Rattle.frame.specs.Row.{dataOf}
 use Rattle.bank_state.specs.Clock.{advanced}
 use Rattle.octets.proofs.Tests.{never}
 use Rattle.bank_state.specs.Search.{openCountOf}
-use Rattle.bank_state.specs.State.{World}
+use Rattle.bank_state.specs.State.{BankState}
 use Rattle.bank_verdicts.specs.declared.verdict.DownloadAction.the-variants as down
 use Rattle.bank_verdicts.specs.declared.verdict.Action.the-variants as action
 use Rattle.bank_verdicts.specs.declared.verdict.Verdict.the-variants as verdict
 use Rattle.bank.specs.Call.{respond}
 use Rattle.bank_history.specs.History.{Past, BankCall, Frame, isAction, did, exchangeOf}
 use Rattle.bank_history.specs.History as bank
-use Rattle.bank_history.specs.Standing.{DownloadAt, UploadUnlessIdle, DownloadUnlessIdle}
+use Rattle.bank_history.specs.Transactions.{DownloadAt, UploadUnlessIdle, DownloadUnlessIdle}
 use Rattle.bank_history.proofs.Entries.{did-same}
 use Rattle.bank_history.proofs.Liveness.{upload-stays, download-stays, clock-grows}
 use Rattle.client.specs.declared.run.Direction.{Direction}
@@ -35,9 +35,9 @@ use Rattle.exchange.proofs.Courses.{Copied}
 use Rattle.exchange.proofs.Foreign.{acts-own, confirms-own}
 
 -- the transaction t of subscriber s is open unless an idle hour has passed: k of n segments taken, or k delivered
-abbrev pub Standing : Direction → World → Bits128 → ℕ → ℕ → ℕ → ℕ → Type 0
-Standing Upload w t s k n last = UploadUnlessIdle w t s k n last
-Standing Download w t s k n last = DownloadUnlessIdle w t s k last
+abbrev pub OpenUnlessIdle : Direction → BankState → Bits128 → ℕ → ℕ → ℕ → ℕ → Type 0
+OpenUnlessIdle Upload w t s k n last = UploadUnlessIdle w t s k n last
+OpenUnlessIdle Download w t s k n last = DownloadUnlessIdle w t s k last
 
 -- only one exchange is entered by a call
 entered-one : {x e : bank.Exchange} {l : List bank.Exchange} → x ∷ l ≡ e ∷ l → x ≡ e
@@ -55,13 +55,13 @@ module _ (s : Course) (v : Parts s) (copies : Copied s) (numbers : OneExchangeNu
     c = Frame time ids frame buffer
 
     abbrev x : bank.Exchange
-    x = exchangeOf (number ids) (advanced time (v .bank .past .world)) (readRequest frame) (dataOf frame)
+    x = exchangeOf (number ids) (advanced time (v .bank .past .bankState)) (readRequest frame) (dataOf frame)
 
     is-entered : (e : bank.Exchange) → bank.after (Frame time ids frame buffer) (v .bank .past) .history ≡ e ∷ v .bank .past .history →
-        exchangeOf (number ids) (advanced time (v .bank .past .world)) (readRequest frame) (dataOf frame) ≡ e
+        exchangeOf (number ids) (advanced time (v .bank .past .bankState)) (readRequest frame) (dataOf frame) ≡ e
     is-entered e z = entered-one (sym (ap (λ (r : Past). r .history) (en .next)) ∙ z)
 
-    untouched : did isAction t (exchangeOf (number ids) (advanced time (v .bank .past .world)) (readRequest frame)
+    untouched : did isAction t (exchangeOf (number ids) (advanced time (v .bank .past .bankState)) (readRequest frame)
         (dataOf frame) .verdict) ≡ false
     untouched = at (did isAction t (x .verdict)) refl
       where
@@ -73,35 +73,35 @@ module _ (s : Course) (v : Parts s) (copies : Copied s) (numbers : OneExchangeNu
         did isAction t (e .verdict) ≡ false
     no-action e z = ap (λ (f : bank.Exchange). did isAction t (f .verdict)) (sym (is-entered e z)) ∙ untouched
 
-    now : bank.after (Frame time ids frame buffer) (v .bank .past) .world ≡ after .bank
-    now = ap (λ (r : Past). r .world) (en .next) ∙ sym (en .bank)
+    now : bank.after (Frame time ids frame buffer) (v .bank .past) .bankState ≡ after .bank
+    now = ap (λ (r : Past). r .bankState) (en .next) ∙ sym (en .bank)
 
     pub upload-standing : {u k n last : ℕ} → UploadUnlessIdle (s .bank) t u k n last → UploadUnlessIdle (after .bank) t u k n last
     upload-standing {u} {k} {n} {last} a =
-        subst (λ (w : World). UploadUnlessIdle w t u k n last) now
-        (upload-stays t u k n last c p (v .bank .holds) (subst (λ (w : World). UploadUnlessIdle w t u k n last)
-        (sym (v .bank .world)) a) no-action)
+        subst (λ (w : BankState). UploadUnlessIdle w t u k n last) now
+        (upload-stays t u k n last c p (v .bank .holds) (subst (λ (w : BankState). UploadUnlessIdle w t u k n last)
+        (sym (v .bank .bankState)) a) no-action)
 
     -- where the subscriber has nothing else open
     pub download-standing : {u d last : ℕ} → openCountOf u (s .bank .bank) ≤ 1 → DownloadUnlessIdle (s .bank) t u d last →
         DownloadUnlessIdle (after .bank) t u d last
     unfolding exchangeOf respond
     download-standing {u} {d} {last} few a =
-        subst (λ (w : World). DownloadUnlessIdle w t u d last) now (λ bound.
+        subst (λ (w : BankState). DownloadUnlessIdle w t u d last) now (λ bound.
         let there = before (let g = clock-grows c p (v .bank .holds) in omega arith) in
         download-stays t u d last c p (v .bank .holds) before no-action
         (λ e id z own from. confirmed-not there (ap (λ (f : bank.Exchange). f .verdict) (is-entered e z) ∙ own)
         (ap (λ (f : bank.Exchange). subscriber (f .request)) (is-entered e z) ∙ from)) bound)
       where
-        before : DownloadUnlessIdle (v .bank .past .world) t u d last
-        before = subst (λ (w : World). DownloadUnlessIdle w t u d last) (sym (v .bank .world)) a
+        before : DownloadUnlessIdle (v .bank .past .bankState) t u d last
+        before = subst (λ (w : BankState). DownloadUnlessIdle w t u d last) (sym (v .bank .bankState)) a
 
-        confirmed-not : {id : Bits128} → DownloadAt (v .bank .past .world) t u d last →
+        confirmed-not : {id : Bits128} → DownloadAt (v .bank .past .bankState) t u d last →
             x .verdict ≡ verdict.Of id (action.Download down.Confirmed) →
             subscriber (x .request) ≡ u → ⊥
         confirmed-not {id} there own from =
-            let same : id ≡ t = confirms-own (number ids) time (p .world) (readRequest frame) (dataOf frame) (p .history)
+            let same : id ≡ t = confirms-own (number ids) time (p .bankState) (readRequest frame) (dataOf frame) (p .history)
             (v .bank .holds .invariant)
-            there (subst (λ (w : World). openCountOf u (w .bank) ≤ 1) (sym (v .bank .world)) few) own from in
+            there (subst (λ (w : BankState). openCountOf u (w .bank) ≤ 1) (sym (v .bank .bankState)) few) own from in
             never (sym untouched ∙ (ap (did isAction t) (own ∙ ap (λ (b : Bits128). verdict.Of b (action.Download down.Confirmed)) same)
             ∙ did-same isAction t (action.Download down.Confirmed)))
