@@ -1,23 +1,30 @@
--- Document 01, "Cases; starred ones are proved": each row is what comes of its calls, and what must come.
+-- Document 01, "Cases; starred ones are proved": each row is what comes of its calls, and what must come. The calls are
+-- `frameCall` and `fileCall`, from a fresh bank with its whole stores.
 use Prim.Native.Nat.{ℕ, max}
 use mathlib.Core.Path.{_≡_}
-use mathlib.Core.List.{List, [], _∷_, map}
-use lib.ListN.{length, replicate, set}
+use mathlib.Core.List.{List, [], _∷_, _++_, map}
+use lib.ListN.{length, replicate, take}
 use Rattle.frame_table.specs.declared.fields.Bits128.{Bits128}
 use Rattle.frame_table.specs.declared.fields.Fields.{Fields}
 use Rattle.octets.specs.Bytes.{number}
-use Rattle.frame_table.specs.Names.{segment, segments, returnCode, orderNumber}
-use Rattle.frame.specs.Writer.{frameOf}
+use Rattle.frame_table.specs.Names.{segment, segments, returnCode, orderNumber, noFields}
+use Rattle.frame.specs.Reader.{readReply}
+use Rattle.frame.specs.Writer.{frameOf, replyRoom}
 use Rattle.message.specs.declared.codes.ReturnCode.the-variants as code
 use Rattle.message.specs.Codes.{asciiDigits}
 use Rattle.message.specs.Limits.{segmentBytes}
+use Rattle.message.specs.OrderNumbers.{orderNumberOf}
 use Rattle.message.specs.Requests.{uploadOpening, downloadOpening, uploadTransfer, downloadTransfer, receipt}
 use Rattle.message.specs.Replies.{uploadOpened, downloadOpened, segmentTaken, downloadSegment, receiptAnswered, unreadable, refusal}
 use Rattle.bank_state.specs.declared.state.Place.{Place}
+use Rattle.bank_state.specs.Limits.{storeBytes, idBytes}
 use Rattle.bank_state.specs.Search.{isBooked}
 use Rattle.bank_state.specs.Rows.{countOf}
-use Rattle.bank_state.specs.State.{BankState, bankState, fresh, withClock, withOpenings, withFiles}
-use Rattle.bank.specs.Call.{Step, respond}
+use Rattle.bank_state.specs.State.{BankState, bankState, fresh}
+use Rattle.bank.specs.declared.call.FrameAnswer.{FrameAnswer}
+use Rattle.bank.specs.declared.call.FrameAnswer.the-variants.{Reply, WrongLength}
+use Rattle.bank.specs.Call.{frameCall}
+use Rattle.bank.specs.Mailbox.{fileCall}
 
 -- a row of the table
 pub record Case : Type 0 where
@@ -28,7 +35,7 @@ infixl 4 _gives_
 abbrev pub _gives_ : List ℕ → List ℕ → Case
 come gives due = record { come = come; due = due }
 
--- ---- what is called: subscriber 1 at clock 1000, exchange number 1, lent ID bytes 0
+-- ---- what is called: subscriber 1 at bank time 1000, exchange number 1, lent ID bytes 0
 
 abbrev pub clock : ℕ
 clock = 1000
@@ -37,50 +44,65 @@ clock = 1000
 abbrev pub idOf : ℕ → Bits128
 idOf n = record { high = 0; low = n }
 
--- a request with its data
-abbrev pub Request : Type 0
-Request = Fields × List ℕ
+-- a call: a file of so many bytes goes into mailbox 1, or the frame of a request with its data arrives
+pub data HostCall : Type 0 where
+  put : ℕ → HostCall
+  request : Fields → List ℕ → HostCall
 
-abbrev pub upload : ℕ → ℕ → Request
-upload timestamp n = (uploadOpening 1 1 (idOf 0) timestamp n, [])
+abbrev pub upload : ℕ → ℕ → HostCall
+upload timestamp n = request (uploadOpening 1 1 (idOf 0) timestamp n) []
 
-abbrev pub sent : ℕ → ℕ → Request
-sent s lastMark = (uploadTransfer 1 1 (idOf 0) s lastMark, 7 ∷ [])
+abbrev pub sent : ℕ → ℕ → HostCall
+sent s lastMark = request (uploadTransfer 1 1 (idOf 0) s lastMark) (7 ∷ [])
 
-abbrev pub download : Request
-download = (downloadOpening 1 1 (idOf 0) clock, [])
+abbrev pub download : HostCall
+download = request (downloadOpening 1 1 (idOf 0) clock) []
 
-abbrev pub receipt0 : Request
-receipt0 = (receipt 1 1 (idOf 0) 0, [])
+abbrev pub receipt0 : HostCall
+receipt0 = request (receipt 1 1 (idOf 0) 0) []
 
--- a fresh bank at the clock; behind n accepted openings; with a file of n bytes in mailbox 1
+-- a fresh bank, "and every lent byte kept between calls 0"
 abbrev pub start : BankState
-start = bankState (withClock clock fresh) [] []
-
-abbrev pub behindOpenings : ℕ → BankState
-behindOpenings n = bankState (withOpenings n (withClock clock fresh)) [] []
-
-abbrev pub withFile : ℕ → BankState
-withFile n = bankState (withFiles (set (fresh .files) 0 n) (withClock clock fresh)) [] (replicate n 7)
+start = bankState fresh (replicate storeBytes 0) (replicate storeBytes 0)
 
 -- ---- what comes of calls one after the other
 
-unfoldable pub steps : BankState → List Request → List Step
-steps w [] = []
-steps w (q ∷ l) = let s = respond 0 w (q .0) (q .1) in s ∷ steps (s .bankState) l
+-- the reply's fields, read from the buffer
+abbrev pub replyIn : FrameAnswer → List ℕ → Fields
+replyIn (Reply n) buffer = readReply (take n buffer)
+replyIn WrongLength buffer = noFields
+
+-- the bank after a call, and the replies so far, the newest first
+pub record Played : Type 0 where
+  pub bank : BankState
+  pub replies : List Fields
+
+unfoldable pub called : HostCall → Played → Played
+called (put n) p =
+    let c = fileCall (p .bank .bank) 1 (replicate n 7) (p .bank .mailboxes) in
+    record { bank = bankState (c .bank) (p .bank .orders) (c .mailboxes); replies = p .replies }
+called (request q d) p =
+    let c = frameCall (p .bank) clock (replicate idBytes 0) (frameOf q d) (replicate replyRoom 0) in
+    record { bank = c .bankState; replies = p .replies ++ (replyIn (c .answer) (c .buffer) ∷ []) }
+
+unfoldable pub played : List HostCall → Played → Played
+played [] p = p
+played (c ∷ l) p = played l (called c p)
+
+abbrev pub after : List HostCall → Played
+after l = played l (record { bank = start; replies = [] })
 
 -- of each reply a number
-unfoldable pub each : (Fields → ℕ) → BankState → List Request → List ℕ
-each g w l = map (λ (s : Step). g (s .reply)) (steps w l)
+unfoldable pub each : (Fields → ℕ) → List HostCall → List ℕ
+each g l = map g (after l .replies)
 
 -- the return codes
-abbrev pub codes : BankState → List Request → List ℕ
+abbrev pub codes : List HostCall → List ℕ
 codes = each returnCode
 
 -- how many orders are booked after the calls
-unfoldable pub bookedAfter : BankState → List Request → ℕ
-bookedAfter w [] = countOf (λ (p : Place). isBooked (p .used)) (w .bank .places)
-bookedAfter w (q ∷ l) = bookedAfter (respond 0 w (q .0) (q .1) .bankState) l
+unfoldable pub bookedAfter : List HostCall → ℕ
+bookedAfter l = countOf (λ (p : Place). isBooked (p .used)) (after l .bank .bank .places)
 
 -- the largest of some lengths
 unfoldable pub largest : List ℕ → ℕ
@@ -116,40 +138,75 @@ replyLengths =
 abbrev pub six : ℕ → ℕ
 six n = asciiDigits 6 n
 
--- ---- the table
+-- ---- the table, by document 01's lines
+
+-- "Clock 1000: timestamps 700 and 1300 pass, 699 and 1301 get 091103."
+unfoldable pub timestampCases : List Case
+timestampCases =
+    (codes (upload 700 1 ∷ []) gives (six 0 ∷ []))
+    ∷ (codes (upload 1300 1 ∷ []) gives (six 0 ∷ []))
+    ∷ (codes (upload 699 1 ∷ []) gives (six 91103 ∷ []))
+    ∷ (codes (upload 1301 1 ∷ []) gives (six 91103 ∷ []))
+    ∷ []
+
+-- "Order numbers 0, 35 (A00Z), 46,655 (AZZZ), 1,213,055": A is 65, Z 90, 0 is 48
+unfoldable pub orderNumberCases : List Case
+orderNumberCases =
+    ((orderNumberOf 0 ∷ []) gives (number (65 ∷ 48 ∷ 48 ∷ 48 ∷ []) ∷ []))
+    ∷ ((orderNumberOf 35 ∷ []) gives (number (65 ∷ 48 ∷ 48 ∷ 90 ∷ []) ∷ []))
+    ∷ ((orderNumberOf 46655 ∷ []) gives (number (65 ∷ 90 ∷ 90 ∷ 90 ∷ []) ∷ []))
+    ∷ ((orderNumberOf 1213055 ∷ []) gives (number (90 ∷ 90 ∷ 90 ∷ 90 ∷ []) ∷ []))
+    -- and the first opening's reply has the number 0
+    ∷ (each orderNumber (upload clock 1 ∷ []) gives (orderNumberOf 0 ∷ []))
+    ∷ []
+
+-- "Frame lengths: upload opening 53, largest request 303, largest reply 312."
+unfoldable pub lengthCases : List Case
+lengthCases =
+    ((length (frameOf (uploadOpening 1 1 (idOf 0) clock 1) []) ∷ []) gives (53 ∷ []))
+    ∷ ((largest requestLengths ∷ []) gives (303 ∷ []))
+    ∷ ((largest replyLengths ∷ []) gives (312 ∷ []))
+    ∷ []
+
+-- "N = 2, segment 1 twice: 000000, then 061101 with 1."
+unfoldable pub repeatCases : List Case
+repeatCases =
+    (codes (upload clock 2 ∷ sent 1 0 ∷ sent 1 0 ∷ []) gives (six 0 ∷ six 0 ∷ six 61101 ∷ []))
+    ∷ (each segment (upload clock 2 ∷ sent 1 0 ∷ sent 1 0 ∷ []) gives (0 ∷ 1 ∷ 1 ∷ []))
+    ∷ []
+
+-- "N = 1, last mark 0: 091104, nothing booked."
+unfoldable pub lastMarkCases : List Case
+lastMarkCases =
+    (codes (upload clock 1 ∷ sent 1 0 ∷ []) gives (six 0 ∷ six 91104 ∷ []))
+    ∷ ((bookedAfter (upload clock 1 ∷ sent 1 0 ∷ []) ∷ []) gives (0 ∷ []))
+    ∷ []
+
+-- "N = 1, booked, segment repeated: 091101."
+unfoldable pub bookedCases : List Case
+bookedCases =
+    (codes (upload clock 1 ∷ sent 1 1 ∷ sent 1 1 ∷ []) gives (six 0 ∷ six 0 ∷ six 91101 ∷ []))
+    ∷ ((bookedAfter (upload clock 1 ∷ sent 1 1 ∷ sent 1 1 ∷ []) ∷ []) gives (1 ∷ []))
+    ∷ []
+
+-- "File of 256 bytes: one segment; 257: two."
+unfoldable pub fileCases : List Case
+fileCases =
+    (each segments (put 256 ∷ download ∷ []) gives (1 ∷ []))
+    ∷ (each segments (put 257 ∷ download ∷ []) gives (2 ∷ []))
+    ∷ []
+
+-- "Receipt while d < N: 061101."
+unfoldable pub receiptCases : List Case
+receiptCases = (codes (put 257 ∷ download ∷ receipt0 ∷ []) gives (six 0 ∷ six 61101 ∷ [])) ∷ []
 
 unfoldable pub cases : List Case
 cases =
-    -- "Clock 1000: timestamps 700 and 1300 pass, 699 and 1301 get 091103."
-    (codes start (upload 700 1 ∷ []) gives (six 0 ∷ []))
-    ∷ (codes start (upload 1300 1 ∷ []) gives (six 0 ∷ []))
-    ∷ (codes start (upload 699 1 ∷ []) gives (six 91103 ∷ []))
-    ∷ (codes start (upload 1301 1 ∷ []) gives (six 91103 ∷ []))
-    -- "Order numbers 0, 35 (A00Z), 46,655 (AZZZ), 1,213,055": A is 65, Z 90, 0 is 48
-    ∷ (each orderNumber (behindOpenings 0) (upload clock 1 ∷ []) gives (number (65 ∷ 48 ∷ 48 ∷ 48 ∷ []) ∷ []))
-    ∷ (each orderNumber (behindOpenings 35) (upload clock 1 ∷ []) gives (number (65 ∷ 48 ∷ 48 ∷ 90 ∷ []) ∷ []))
-    ∷ (each orderNumber (behindOpenings 46655) (upload clock 1 ∷ []) gives (number (65 ∷ 90 ∷ 90 ∷ 90 ∷ []) ∷ []))
-    ∷ (each orderNumber (behindOpenings 1213055) (upload clock 1 ∷ []) gives (number (90 ∷ 90 ∷ 90 ∷ 90 ∷ []) ∷ []))
-    -- "Frame lengths: upload opening 53, largest request 303, largest reply 312."
-    ∷ ((length (frameOf (upload clock 1 .0) []) ∷ []) gives (53 ∷ []))
-    ∷ ((largest requestLengths ∷ []) gives (303 ∷ []))
-    ∷ ((largest replyLengths ∷ []) gives (312 ∷ []))
-    -- "N = 2, segment 1 twice: 000000, then 061101 with 1."
-    ∷ (codes start (upload clock 2 ∷ sent 1 0 ∷ sent 1 0 ∷ []) gives (six 0 ∷ six 0 ∷ six 61101 ∷ []))
-    ∷ (each segment start (upload clock 2 ∷ sent 1 0 ∷ sent 1 0 ∷ []) gives (0 ∷ 1 ∷ 1 ∷ []))
-    -- "N = 1, last mark 0: 091104, nothing booked."
-    ∷ (codes start (upload clock 1 ∷ sent 1 0 ∷ []) gives (six 0 ∷ six 91104 ∷ []))
-    ∷ ((bookedAfter start (upload clock 1 ∷ sent 1 0 ∷ []) ∷ []) gives (0 ∷ []))
-    -- "N = 1, booked, segment repeated: 091101."
-    ∷ (codes start (upload clock 1 ∷ sent 1 1 ∷ sent 1 1 ∷ []) gives (six 0 ∷ six 0 ∷ six 91101 ∷ []))
-    ∷ ((bookedAfter start (upload clock 1 ∷ sent 1 1 ∷ sent 1 1 ∷ []) ∷ []) gives (1 ∷ []))
-    -- "File of 256 bytes: one segment; 257: two."
-    ∷ (each segments (withFile 256) (download ∷ []) gives (1 ∷ []))
-    ∷ (each segments (withFile 257) (download ∷ []) gives (2 ∷ []))
-    -- "Receipt while d < N: 061101."
-    ∷ (codes (withFile 257) (download ∷ receipt0 ∷ []) gives (six 0 ∷ six 61101 ∷ []))
-    ∷ []
+    timestampCases
+    ++ (orderNumberCases
+    ++ (lengthCases ++ (repeatCases ++ (lastMarkCases ++ (bookedCases ++ (fileCases ++ receiptCases))))))
 
 -- every row holds
-abbrev pub Holds : List Case → Type 0
-Holds l = map (λ (c : Case). c .come) l ≡ map (λ (c : Case). c .due) l
+pub data Holds : List Case → Type 0 where
+  none : Holds []
+  row : {c : Case} {l : List Case} → c .come ≡ c .due → Holds l → Holds (c ∷ l)

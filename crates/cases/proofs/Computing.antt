@@ -1,0 +1,61 @@
+-- What the bank's two calls compute with, under one name: to unfold `calls` is to unfold all that its line lists.
+use Prim.Native.Nat.{ℕ}
+use Rattle.octets.specs.Bytes as octets
+use Rattle.frame_table.specs.Table as frameTable
+use Rattle.frame.specs.Row as frameRow
+use Rattle.frame.specs.Reader as frameReader
+use Rattle.frame.specs.Writer as frameWriter
+use Rattle.message.specs.OrderNumbers as orderNumbers
+use Rattle.message.specs.Replies as replies
+use Rattle.message.specs.Requests as requests
+use Rattle.message.specs.Segments as files
+use Rattle.bank_state.specs.Clock as clocks
+use Rattle.bank_state.specs.Rows as rows
+use Rattle.bank_state.specs.Search as searches
+use Rattle.bank_state.specs.State as state
+use Rattle.bank_state.specs.Store as store
+use Rattle.bank_verdicts.specs.Refusals as refusals
+use Rattle.bank_verdicts.specs.Judgement as judgement
+use Rattle.bank_openings.specs.Openings as openings
+use Rattle.bank_uploads.specs.Uploads as uploads
+use Rattle.bank.specs.Call as bankCall
+use Rattle.bank.specs.Mailbox as bankMailbox
+use Rattle.cases.specs.Table as table
+
+unfoldable pub frames : ℕ
+unfolding octets.numberFrom octets.number octets.bytesOf octets.fieldBytes octets.overwrite
+    frameTable.width frameTable.inRange frameTable.allowed frameTable.rowFits frameTable.findForm frameTable.formOf
+    frameRow.listed frameRow.wellFormed frameRow.stands frameRow.fieldSize frameRow.content frameRow.contents frameRow.behind
+    frameRow.dataOf frameRow.presentTags frameRow.highOf frameRow.lowOf frameRow.eachFrom frameRow.piece frameRow.join
+    frameReader.fieldsOf frameReader.parse frameReader.readRequest frameReader.readReply
+    frameWriter.contentOf frameWriter.contentsOf frameWriter.frameOf frameWriter.lengthFrom frameWriter.frameLength
+    frameWriter.dataWhole frameWriter.fieldWritable frameWriter.fieldsWritable frameWriter.writable frameWriter.accepted
+    frameWriter.writeAnswer frameWriter.writeBuffer
+frames = 0
+
+unfoldable pub messages : ℕ
+unfolding replies.uploadOpened replies.downloadOpened replies.segmentTaken replies.recoveryPoint replies.downloadSegment
+    replies.receiptAnswered replies.unreadable replies.refusal
+    requests.uploadOpening requests.downloadOpening requests.uploadTransfer requests.downloadTransfer requests.receipt
+    files.segmentsOf files.segmentOf orderNumbers.character orderNumbers.letter orderNumbers.orderNumberOf
+messages = 0
+
+unfoldable pub bank : ℕ
+unfolding clocks.isIdle clocks.freed clocks.dropUpload clocks.dropUploads clocks.ends clocks.endDownloads clocks.forget
+    clocks.atClock clocks.advanced rows.firstOf rows.countOf rows.keep rows.keepOnly
+    searches.freePlace searches.freeDownload searches.freeNonce searches.isUpload searches.findUpload searches.isDownload
+    searches.findDownload searches.openCount searches.openCountOf searches.isRemembered
+    state.fresh state.fileLength store.partAt store.withPart store.zeroed store.fileOf
+    refusals.noSubscriber refusals.longData refusals.requestRows refusals.unknownType refusals.manySegments refusals.inTime
+    refusals.isReplay refusals.manyOpen refusals.isFull refusals.openingRows refusals.notOpen refusals.transactionRows
+    refusals.uploadAttempt refusals.isUnderrun refusals.isExceeded refusals.withoutRoom refusals.segmentRows refusals.uploadRows
+    refusals.downloadAttempt refusals.receiptRows refusals.downloadRows
+    judgement.judgeOpening judgement.takes judgement.judgeUpload judgement.judgeDownload judgement.judgeOpen
+    judgement.judgeTransaction judgement.judge
+    openings.counted openings.openUpload openings.openDownload uploads.grown uploads.booked uploads.attempted
+    bankCall.mailboxSegment bankCall.respond bankCall.lentRight bankCall.frameCall bankMailbox.fileRefusals bankMailbox.fileCall
+bank = 0
+
+unfoldable pub calls : ℕ
+unfolding frames messages bank table.called table.played table.each table.bookedAfter
+calls = 0
