@@ -51,13 +51,6 @@ pub record Step : Type 0 where
   pub reply : Fields
   pub replyData : List ℕ
 
--- a request of a subscriber, and both stores of their length: what its step asks
-pub record Ready (q : Fields) (orders mailboxes : List ℕ) : Type 0 where
-  pub known : 0 < subscriber q
-  pub most : subscriber q ≤ subscribers
-  pub places : length orders ≡ storeBytes
-  pub mailboxStore : length mailboxes ≡ storeBytes
-
 -- ---- what a verdict does to the bank and its stores
 
 -- the open upload in place i, by an action with the data d
@@ -132,12 +125,6 @@ downloadVerdict r j b q =
     let e = downloadAt b j in
     verdict.Of (e .transaction) (action.Download (judgeDownload r e (mailboxSegments (subscriber q) b) q))
 
--- what is left where the request q with the data d was judged to be v: the verdict, and the bank with its stores
-pub record CarriedOut (v : Verdict) (w : BankState) (q : Fields) (d : List ℕ) (r : Stepped) (orders mailboxes : List ℕ)
-    : Type 0 where
-  pub judged : r .verdict ≡ v
-  pub done : bankState (r .bank) orders mailboxes ≡ carryOut v w q d
-
 -- ---- the reply
 
 -- the bytes of segment s of a subscriber's mailbox; segment 0 stands for none
@@ -191,15 +178,6 @@ pub record FrameCall : Type 0 where
   pub number : ℕ
   pub code : ℕ
 
-abbrev pub frameCallOf : FrameOut → List ℕ → List ℕ → List ℕ → FrameCall
-frameCallOf r orders mailboxes buffer = record {
-  bankState = bankState (r .bank) orders mailboxes;
-  buffer = buffer;
-  answer = r .answer;
-  number = frameNumber (r .answer);
-  code = r .code;
-}
-
 abbrev pub replied : Step → List ℕ → FrameCall
 replied s buffer = record {
   bankState = s .bankState;
@@ -209,15 +187,30 @@ replied s buffer = record {
   code = replyCode (answerOf (writeAnswer (s .reply) (s .replyData) buffer)) (writeBuffer (s .reply) (s .replyData) buffer);
 }
 
+-- what a frame call brings and is lent besides the bank: the bank time, the 8 ID bytes, the frame, the reply buffer
+pub record FrameInput : Type 0 where
+  pub time : ℕ
+  pub ids : List ℕ
+  pub frame : List ℕ
+  pub buffer : List ℕ
+
+abbrev pub frameInput : ℕ → List ℕ → List ℕ → List ℕ → FrameInput
+frameInput time ids frame buffer = record { time = time; ids = ids; frame = frame; buffer = buffer }
+
 -- number 1: "a lent length differs from the above or is too short for what is to be written"
 unfoldable pub lentRight : BankState → List ℕ → List ℕ → Bool
 lentRight w ids buffer =
     eqb (length (w .orders)) storeBytes && eqb (length (w .mailboxes)) storeBytes && eqb (length ids) idBytes
     && leb replyRoom (length buffer)
 
--- a frame arrives at a time: the lent ID bytes, the frame, the reply buffer
-unfoldable pub frameCall : BankState → ℕ → List ℕ → List ℕ → List ℕ → FrameCall
-frameCall w time ids frame buffer =
-    cond (lentRight w ids buffer)
-    (replied (respond (number ids) (advanced time w) (readRequest frame) (dataOf frame)) buffer)
-    (record { bankState = w; buffer = buffer; answer = WrongLength; number = frameNumber WrongLength; code = 0 })
+-- number 1, nothing changed
+abbrev pub frameRefused : BankState → FrameInput → FrameCall
+frameRefused w a =
+    record { bankState = w; buffer = a .buffer; answer = WrongLength; number = frameNumber WrongLength; code = 0 }
+
+-- a frame arrives
+unfoldable pub frameCall : BankState → FrameInput → FrameCall
+frameCall w a =
+    cond (lentRight w (a .ids) (a .buffer))
+    (replied (respond (number (a .ids)) (advanced (a .time) w) (readRequest (a .frame)) (dataOf (a .frame))) (a .buffer))
+    (frameRefused w a)
