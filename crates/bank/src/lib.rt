@@ -2,3 +2,4 @@
 pub mod call;
 pub mod mailbox;
 pub mod steps;
+pub mod stub;

@@ -1,70 +1,92 @@
--- Number 1 where a lent length is wrong; else clock, reading and step, as the definition has them. Assumes nothing.
-use mathlib.Core.Path.{_≡_, sym, _∙_}
-use native.Mathlib.Omega.{arith}
-use lib.ListN.{length}
-use borrow.Author.Tests.{not-true, not-false}
-use Rattle.bank_state.specs.Limits.{storeBytes, idBytes}
-use Rattle.bank.specs.Call.{lentRight, frameCall}
-use Rattle.bank.proofs.Accepted.{lengths-right}
 use borrow.Author.Needs.{needs}
 use Rattle.bank.proofs.call.frame_arrives.Statement.{statement}
 use Rattle.bank.proofs.call.frame_arrives.Tie as tie
+use Rattle.bank.proofs.call.frame_arrives.Reads as reads
+use Rattle.bank.proofs.call.frame_arrives.Lts as lts
+use Rattle.bank.proofs.call.lent_right.Reads as lent-right-reads
+use Rattle.bank.proofs.call.respond.Reads as respond-reads
+use Rattle.bank_rows.proofs.clock.advance.Reads as advance-reads
+use Rattle.bank_rows.proofs.sound.is_sound.Reads as is-sound-reads
+use Rattle.frame.proofs.reader.data.Reads as data-reads
+use Rattle.frame.proofs.reader.read_request.Reads as read-request-reads
+use Rattle.octets.proofs.bytes.number.Reads as number-reads
 
--- the lent lengths are right
-right : (c : tie.Else1)
-    → let a = c .before .before .before .before .before .before .before .args in
-    (length (a .orders .now) ≡ storeBytes) × (length (a .mailboxes .now) ≡ storeBytes) × (length (a .ids .now) ≡ idBytes)
-right c =
-    let buffer = c .before .before .before .before .before .before .before .args .buffer .now in
-    let right = not-false (c .before .lent-right .result) (c .if1 .left) in
-    lengths-right _ _ _ (length buffer) (sym (c .before .lent-right .ensures) ∙ right)
+-- src/call.rt:155:9
+lent-right-requires : tie.Need-lent-right-requires
+lent-right-requires c κs = search needs
 
+-- src/call.rt:156:9
 returns : tie.Need-returns
-unfolding frameCall lentRight
-returns c = rw (← c .before .lent-right .ensures, not-true (c .before .lent-right .result) (c .if1 .taken))
+returns c = ?
 
-advance-requires : tie.Need-advance-requires
-advance-requires c κs = right (c .before) .0
+-- src/call.rt:161:9
+is-sound-requires : tie.Need-is-sound-requires
+is-sound-requires c κs = search needs
 
-number-requires : tie.Need-number-requires
-number-requires c κs = omega (arith, right (c .before .before .before .before) .2)
+-- src/call.rt:162:9
+same-length : tie.Need-same-length
+same-length c = search needs
 
-respond-requires : tie.Need-respond-requires
-respond-requires c κs =
-    let at-orders = c .before .before .before .before .before .before .before in
-    let lent = right (at-orders .before .before .before) in
-    (at-orders .orders .given ∙ lent .0, lent .1)
-
+-- src/call.rt:162:9
 returns-2 : tie.Need-returns-2
-unfolding frameCall lentRight
-returns-2 c =
-    let at-respond = c .before .before .before .before .before .before in
-    let at-data = at-respond .before .before .before .before in
-    let at-read = at-data .before in
-    let at-number = at-read .before in
-    let at-advance = at-number .before .before .before in
-    let at-if1 = at-advance .before .before in
-    rw (
-      ← at-if1 .before .lent-right .ensures,
-      not-false (at-if1 .before .lent-right .result) (at-if1 .if1 .left),
-      ← at-advance .advance .ensures _,
-      ← at-number .number .ensures .0,
-      ← at-read .read-request .ensures,
-      ← at-data .«data» .ensures,
-    ) (at-respond .respond .ensures)
+returns-2 c = ?
+
+-- src/call.rt:167:5
+advance-requires : tie.Need-advance-requires
+advance-requires c κs = ?
+
+-- src/call.rt:170:9
+number-requires : tie.Need-number-requires
+number-requires c κs = ?
+
+-- src/call.rt:171:9
+read-request-requires : tie.Need-read-request-requires
+read-request-requires c κs = search needs
+
+-- src/call.rt:172:9
+data-requires : tie.Need-data-requires
+data-requires c κs = search needs
+
+-- src/call.rt:168:5
+respond-requires : tie.Need-respond-requires
+respond-requires c κs = ?
+
+-- src/call.rt:141:1
+same-length-2 : tie.Need-same-length-2
+same-length-2 c = search needs
+
+-- src/call.rt:141:1
+same-length-3 : tie.Need-same-length-3
+same-length-3 c = search needs
+
+-- src/call.rt:141:1
+same-length-4 : tie.Need-same-length-4
+same-length-4 c = search needs
+
+-- src/call.rt:141:1
+same-length-5 : tie.Need-same-length-5
+same-length-5 c = search needs
+
+-- src/call.rt:141:1
+returns-3 : tie.Need-returns-3
+returns-3 c = ?
 
 pub frame-arrives-spec : {M : Type 1} → statement M
 frame-arrives-spec =
     tie.close
     (tie.spec
-    (λ c κs. tt)
+    lent-right-requires
     returns
+    is-sound-requires
+    same-length
+    returns-2
     advance-requires
     number-requires
-    (λ c κs. tt)
-    (λ c κs. tt)
+    read-request-requires
+    data-requires
     respond-requires
-    (λ c. search needs)
-    (λ c. search needs)
-    (λ c. search needs)
-    returns-2)
+    same-length-2
+    same-length-3
+    same-length-4
+    same-length-5
+    returns-3)

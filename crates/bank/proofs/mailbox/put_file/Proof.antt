@@ -1,57 +1,73 @@
--- The verdict is judged, and only a file that fits is stored. Assumes nothing.
-use mathlib.Core.Path.{_≡_, refl, sym, _∙_}
-use Prim.Native.Nat.{ℕ}
-use mathlib.Core.List.{List, [], _∷_}
-use types.Run.{OneOf, miss}
-use denote.Enum.Declared.{tagOf}
-use Rattle.bank_state.specs.declared.state.Bank.{Bank}
-use Rattle.bank.proofs.mailbox.FileAnswer.{the-type}
-use Rattle.bank.specs.declared.mailbox.FileAnswer.{FileAnswer}
-use Rattle.bank.specs.declared.mailbox.FileAnswer.the-variants.{Done, WrongLength, NoMailbox, WrongFile, MailboxFull}
-use Rattle.bank.specs.Mailbox.{refusedFile, carryOutFile, fileCall}
-use Rattle.bank.proofs.Accepted.{file-fits}
 use borrow.Author.Needs.{needs}
 use Rattle.bank.proofs.mailbox.put_file.Statement.{statement}
 use Rattle.bank.proofs.mailbox.put_file.Tie as tie
+use Rattle.bank.proofs.mailbox.put_file.Reads as reads
+use Rattle.bank.proofs.mailbox.put_file.Lts as lts
+use Rattle.bank.proofs.mailbox.judge_file.Reads as judge-file-reads
+use Rattle.bank.proofs.mailbox.store_file.Reads as store-file-reads
+use Rattle.bank_rows.proofs.sound.is_sound.Reads as is-sound-reads
 
--- an answer but Done leaves all as it was
-abbrev otherKeys : List ℕ
-otherKeys = 1 ∷ 2 ∷ 3 ∷ 4 ∷ []
+-- src/mailbox.rt:100:9
+is-sound-requires : tie.Need-is-sound-requires
+is-sound-requires c κs = search needs
 
-others : (b : Bank) (m : ℕ) (file mailboxes : List ℕ) (a : FileAnswer) → OneOf otherKeys (tagOf the-type a)
-    → refusedFile a b mailboxes ≡ carryOutFile a b m file mailboxes
-others b m file mailboxes Done k = absurd (miss otherKeys 0 tt k)
-others b m file mailboxes WrongLength k = refl
-others b m file mailboxes NoMailbox k = refl
-others b m file mailboxes WrongFile k = refl
-others b m file mailboxes MailboxFull k = refl
+-- src/mailbox.rt:101:9
+same-length : tie.Need-same-length
+same-length c = search needs
 
-store-file-requires : tie.Need-store-file-requires
-store-file-requires c κs =
-    let at-judge = c .before .before .before in
-    let a = at-judge .before .before .before .before .args in
-    let told = sym (at-judge .judge-file .ensures) ∙ c .before .enum-told .given .1 in
-    file-fits (a .b) (a .mailbox) (a .file .now) (a .mailboxes .now) told
-
+-- src/mailbox.rt:101:9
 returns : tie.Need-returns
-unfolding fileCall
-returns c =
-    let at-store = c .before .before in
-    let at-told = at-store .before .before in
-    rw (← at-told .before .before .judge-file .ensures, at-told .enum-told .given .1) (at-store .store-file .ensures)
+returns c = ?
 
+-- src/mailbox.rt:103:9
+judge-file-requires : tie.Need-judge-file-requires
+judge-file-requires c κs = ?
+
+-- src/mailbox.rt:105:40
+enum-told : tie.Need-enum-told
+enum-told c = search needs
+
+-- src/mailbox.rt:105:29
+store-file-requires : tie.Need-store-file-requires
+store-file-requires c κs = ?
+
+-- src/mailbox.rt:96:1
+same-length-2 : tie.Need-same-length-2
+same-length-2 c = search needs
+
+-- src/mailbox.rt:96:1
+same-length-3 : tie.Need-same-length-3
+same-length-3 c = search needs
+
+-- src/mailbox.rt:96:1
 returns-2 : tie.Need-returns-2
-unfolding fileCall
-returns-2 c = rw (← c .before .judge-file .ensures) (others _ _ _ _ _ (c .match .keys2))
+returns-2 c = ?
+
+-- src/mailbox.rt:96:1
+same-length-4 : tie.Need-same-length-4
+same-length-4 c = search needs
+
+-- src/mailbox.rt:96:1
+same-length-5 : tie.Need-same-length-5
+same-length-5 c = search needs
+
+-- src/mailbox.rt:96:1
+returns-3 : tie.Need-returns-3
+returns-3 c = ?
 
 pub put-file-spec : {M : Type 1} → statement M
 put-file-spec =
     tie.close
     (tie.spec
-    (λ c κs. tt)
-    (λ c. search needs)
-    store-file-requires
-    (λ c. search needs)
+    is-sound-requires
+    same-length
     returns
-    (λ c. search needs)
-    returns-2)
+    judge-file-requires
+    enum-told
+    store-file-requires
+    same-length-2
+    same-length-3
+    returns-2
+    same-length-4
+    same-length-5
+    returns-3)

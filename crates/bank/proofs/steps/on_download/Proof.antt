@@ -1,63 +1,61 @@
--- The step of the download of record j, and what its action ends. Assumes nothing.
-use mathlib.Core.Path.{_≡_, sym, ap, _∙_}
-use Prim.Native.Nat.{ℕ}
-use Rattle.bank_state.specs.State.{bankState, downloadAt}
-use Rattle.bank_verdicts.specs.declared.verdict.Action.the-variants as action
-use Rattle.bank_verdicts.specs.declared.verdict.Verdict.the-variants as verdict
-use Rattle.bank_verdicts.specs.Judgement.{mailboxSegments}
-use Rattle.bank_downloads.specs.declared.downloads.DownloadStep.{DownloadStep}
-use Rattle.bank_downloads.specs.Downloads.{downloadAfter, downloadStep}
-use Rattle.bank.specs.Call.{onDownload}
-use Rattle.bank.proofs.Carried.{download-acts-at}
 use borrow.Author.Needs.{needs}
 use Rattle.bank.proofs.steps.on_download.Statement.{statement}
 use Rattle.bank.proofs.steps.on_download.Tie as tie
+use Rattle.bank.proofs.steps.on_download.Reads as reads
+use Rattle.bank.proofs.steps.on_download.Lts as lts
+use Rattle.bank.proofs.steps.downloads_after.Reads as downloads-after-reads
+use Rattle.bank.proofs.stub.mailbox_segments.Reads as mailbox-segments-reads
+use Rattle.bank_downloads.proofs.downloads.download_step.Reads as download-step-reads
+use Rattle.bank_rows.proofs.downloads.download_at.Reads as download-at-reads
+use Rattle.bank_rows.proofs.numbers.clock.Reads as clock-reads
+use Rattle.frame_table.proofs.fields.Fields.subscriber.Reads as subscriber-reads
 
+-- src/steps.rt:170:9
+download-at-requires : tie.Need-download-at-requires
+download-at-requires c κs = ?
+
+-- src/steps.rt:171:9
+clock-requires : tie.Need-clock-requires
+clock-requires c κs = search needs
+
+-- src/steps.rt:172:36
+subscriber-requires : tie.Need-subscriber-requires
+subscriber-requires c κs = search needs
+
+-- src/steps.rt:172:9
+mailbox-segments-requires : tie.Need-mailbox-segments-requires
+mailbox-segments-requires c κs = search needs
+
+-- src/steps.rt:173:9
+download-step-requires : tie.Need-download-step-requires
+download-step-requires c κs = search needs
+
+-- src/steps.rt:174:5
 downloads-after-requires : tie.Need-downloads-after-requires
-unfolding downloadStep
-downloads-after-requires c κs =
-    let at-step = c .before in
-    let start = at-step .before .before .before .before .before in
-    let a = start .args in
-    let step = at-step .download-step .ensures in
-    let kept =
-    ap (λ (s : DownloadStep). s .entry) step
-    ∙ sym (ap (λ (s : DownloadStep). downloadAfter (s .action) (a .t1 .clock) (downloadAt (a .t1) (a .j))) step) in
-    (start .pre .0, kept, start .pre .2, start .pre .3, start .pre .4)
+downloads-after-requires c κs = ?
 
+-- src/steps.rt:157:1
+same-length : tie.Need-same-length
+same-length c = search needs
+
+-- src/steps.rt:157:1
+same-length-2 : tie.Need-same-length-2
+same-length-2 c = search needs
+
+-- src/steps.rt:157:1
 returns : tie.Need-returns
-unfolding downloadStep
-returns c =
-    λ o d.
-    let at-after = c .before .before .before in
-    let at-step = at-after .before .before in
-    let at-count = at-step .before in
-    let start = at-count .before .before .before .before in
-    let a = start .args in
-    let w = bankState (a .t1) o (a .mailboxes .now) in
-    let e = downloadAt (a .t1) (a .j) in
-    let count =
-    at-count .mailbox-segments .ensures
-    ∙ ap (λ (s : ℕ). mailboxSegments s (a .t1)) (at-count .before .subscriber .ensures) in
-    let step =
-    at-step .download-step .ensures ∙ ap (λ (n : ℕ). downloadStep (a .t1 .clock) (a .asked) e n (a .q)) count in
-    record {
-      judged = ap (λ (s : DownloadStep). verdict.Of (e .transaction) (action.Download (s .action))) step;
-      done =
-          at-after .downloads-after .ensures o
-          ∙ ap (λ (s : DownloadStep). onDownload (s .action) (a .j) w (a .q)) step
-          ∙ download-acts-at (a .j) w (a .asked) (a .q) d (start .pre .1);
-    }
+returns c = ?
 
 pub on-download-spec : {M : Type 1} → statement M
 on-download-spec =
     tie.close
     (tie.spec
-    (λ c. search needs)
-    (λ c. search needs)
-    (λ c κs. tt)
-    (λ c κs. tt)
-    (λ c κs. tt)
+    download-at-requires
+    clock-requires
+    subscriber-requires
+    mailbox-segments-requires
+    download-step-requires
     downloads-after-requires
-    (λ c. search needs)
+    same-length
+    same-length-2
     returns)

@@ -1,81 +1,86 @@
--- Where the searches find the transaction, there the definition looks. Assumes nothing.
-use mathlib.Core.Path.{_≡_, refl, _∙_}
-use lib.ListN.{length}
-use Rattle.bank_verdicts.specs.Judgement.{uploadAt, downloadOf}
-use Rattle.bank.proofs.Carried.{in-upload, in-download, in-none}
 use borrow.Author.Needs.{needs}
 use Rattle.bank.proofs.steps.on_transaction.Statement.{statement}
 use Rattle.bank.proofs.steps.on_transaction.Tie as tie
+use Rattle.bank.proofs.steps.on_transaction.Reads as reads
+use Rattle.bank.proofs.steps.on_transaction.Lts as lts
+use Rattle.bank.proofs.steps.on_download.Reads as on-download-reads
+use Rattle.bank.proofs.steps.on_upload.Reads as on-upload-reads
+use Rattle.bank_rows.proofs.downloads.find_download.Reads as find-download-reads
+use Rattle.bank_rows.proofs.places.find_upload.Reads as find-upload-reads
+use Rattle.frame_table.proofs.fields.Fields.subscriber.Reads as subscriber-reads
+use Rattle.frame_table.proofs.fields.Fields.transaction.Reads as transaction-reads
 
--- where the transaction is among the uploads, and among the downloads
-upload-found : (c : tie.After-find-upload)
-    → let a = c .before .before .before .before .before .before .args in
-    c .find-upload .result ≡ uploadAt (a .b) (a .q)
-upload-found c = c .find-upload .ensures ∙ rw (c .before .transaction .ensures, c .before .before .subscriber .ensures)
+-- src/steps.rt:194:9
+subscriber-requires : tie.Need-subscriber-requires
+subscriber-requires c κs = search needs
 
-download-found : (c : tie.After-find-download)
-    → let a = c .before .before .before .before .before .before .before .before .before .before .args in
-    c .find-download .result ≡ downloadOf (a .b) (a .q)
-download-found c =
-    c .find-download .ensures ∙ rw (c .before .transaction2 .ensures, c .before .before .subscriber2 .ensures)
+-- src/steps.rt:195:9
+transaction-requires : tie.Need-transaction-requires
+transaction-requires c κs = search needs
 
+-- src/steps.rt:196:9
+find-upload-requires : tie.Need-find-upload-requires
+find-upload-requires c κs = search needs
+
+-- src/steps.rt:198:9
 on-upload-requires : tie.Need-on-upload-requires
-on-upload-requires c κs =
-    let at-find = c .before .before in
-    let start = at-find .before .before .before .before .before .before in
-    (c .before .if1 .taken, upload-found at-find, start .pre .places)
+on-upload-requires c κs = ?
 
+-- src/steps.rt:198:9
+same-length : tie.Need-same-length
+same-length c = search needs
+
+-- src/steps.rt:198:9
+same-length-2 : tie.Need-same-length-2
+same-length-2 c = search needs
+
+-- src/steps.rt:198:9
 returns : tie.Need-returns
-returns c =
-    let at-step = c .before .before in
-    let at-if1 = at-step .before .before in
-    let at-find = at-if1 .before in
-    let a = at-find .before .before .before .before .before .before .args in
-    let n = length (a .bytes .now) in
-    rw (in-upload (a .asked) (a .b) (a .q) n (upload-found at-find) (at-if1 .if1 .taken)) (at-step .on-upload .ensures _)
+returns c = ?
 
+-- src/steps.rt:200:9
+find-download-requires : tie.Need-find-download-requires
+find-download-requires c κs = search needs
+
+-- src/steps.rt:202:9
 on-download-requires : tie.Need-on-download-requires
-on-download-requires c κs =
-    let at-find = c .before .before in
-    let start = at-find .before .before .before .before .before .before .before .before .before .before in
-    (c .before .if2 .taken, download-found at-find, start .pre .known, start .pre .most, start .pre .mailboxStore)
+on-download-requires c κs = ?
 
+-- src/steps.rt:202:9
+same-length-3 : tie.Need-same-length-3
+same-length-3 c = search needs
+
+-- src/steps.rt:202:9
+same-length-4 : tie.Need-same-length-4
+same-length-4 c = search needs
+
+-- src/steps.rt:202:9
 returns-2 : tie.Need-returns-2
-returns-2 c =
-    let at-step = c .before .before in
-    let at-if2 = at-step .before .before in
-    let at-find = at-if2 .before in
-    let at-if1 = at-find .before .before .before in
-    let a = at-if1 .before .before .before .before .before .before .before .args in
-    let no-upload = at-if1 .if1 .left in
-    let found = in-download (a .asked) (a .b) (a .q) (length (a .bytes .now)) (upload-found (at-if1 .before)) no-upload in
-    rw (found (download-found at-find) (at-if2 .if2 .taken))
-    (at-step .on-download .ensures _ _)
+returns-2 c = ?
 
+-- src/steps.rt:181:1
+same-length-5 : tie.Need-same-length-5
+same-length-5 c = search needs
+
+-- src/steps.rt:181:1
 returns-3 : tie.Need-returns-3
-returns-3 c =
-    let at-find = c .before in
-    let at-if1 = at-find .before .before .before in
-    let a = at-if1 .before .before .before .before .before .before .before .args in
-    let no-upload = at-if1 .if1 .left in
-    let found = in-none (a .asked) (a .b) (a .q) (length (a .bytes .now)) (upload-found (at-if1 .before)) no-upload in
-    rw (found (download-found at-find) (c .if2 .left))
-    (record { judged = refl; done = refl })
+returns-3 c = ?
 
 pub on-transaction-spec : {M : Type 1} → statement M
 on-transaction-spec =
     tie.close
     (tie.spec
-    (λ c κs. tt)
-    (λ c κs. tt)
-    (λ c κs. tt)
+    subscriber-requires
+    transaction-requires
+    find-upload-requires
     on-upload-requires
-    (λ c. search needs)
+    same-length
+    same-length-2
     returns
-    (λ c κs. tt)
-    (λ c κs. tt)
-    (λ c κs. tt)
+    find-download-requires
     on-download-requires
-    (λ c. search needs)
+    same-length-3
+    same-length-4
     returns-2
+    same-length-5
     returns-3)

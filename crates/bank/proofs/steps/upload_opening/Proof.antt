@@ -1,55 +1,53 @@
--- An opening that acts on a transaction is accepted; the other verdicts change nothing. Assumes nothing.
-use mathlib.Core.Path.{_≡_, sym, ap, _∙_}
-use Rattle.bank_state.specs.declared.state.Bank.{Bank}
-use Rattle.bank_state.specs.State.{bankState}
-use Rattle.bank_verdicts.specs.declared.verdict.Direction.the-variants as direction
-use Rattle.bank_verdicts.specs.declared.verdict.Verdict.{Verdict}
-use Rattle.bank.specs.Call.{carryOut}
-use Rattle.bank.proofs.Carried.{of-none, opens, upload-opened}
 use borrow.Author.Needs.{needs}
 use Rattle.bank.proofs.steps.upload_opening.Statement.{statement}
 use Rattle.bank.proofs.steps.upload_opening.Tie as tie
+use Rattle.bank.proofs.steps.upload_opening.Reads as reads
+use Rattle.bank.proofs.steps.upload_opening.Lts as lts
+use Rattle.bank.proofs.stub.judge_opening.Reads as judge-opening-reads
+use Rattle.bank.proofs.stub.open_upload.Reads as open-upload-reads
+use Rattle.bank_rows.proofs.numbers.openings.Reads as openings-reads
 
+-- src/steps.rt:59:9
+judge-opening-requires : tie.Need-judge-opening-requires
+judge-opening-requires c κs = search needs
+
+-- src/steps.rt:61:21
+enum-known-verdict : tie.Need-enum-known-verdict
+enum-known-verdict c = search needs
+
+-- src/steps.rt:62:17
+openings-requires : tie.Need-openings-requires
+openings-requires c κs = search needs
+
+-- src/steps.rt:63:13
 open-upload-requires : tie.Need-open-upload-requires
-open-upload-requires c κs =
-    let at-judge = c .before .before .before in
-    let a = at-judge .before .args in
-    let told = sym (at-judge .judge-opening .ensures) ∙ c .before .verdict .given .1 in
-    opens (a .first) (a .b) (a .q) direction.Upload told .numbers
+open-upload-requires c κs = search needs
 
+-- src/steps.rt:53:1
+same-length : tie.Need-same-length
+same-length c = search needs
+
+-- src/steps.rt:53:1
 returns : tie.Need-returns
-returns c =
-    λ o m d.
-    let at-verdict = c .before .before in
-    let at-judge = at-verdict .before .before in
-    let a = at-judge .before .args in
-    let told = sym (at-judge .judge-opening .ensures) ∙ at-verdict .verdict .given .1 in
-    record {
-      judged = sym told;
-      done =
-          ap (λ (b : Bank). bankState b o m) (c .open-upload .ensures)
-          ∙ upload-opened (a .first) (a .b) (a .q) o m d told;
-    }
+returns c = ?
 
+-- src/steps.rt:53:1
+same-length-2 : tie.Need-same-length-2
+same-length-2 c = search needs
+
+-- src/steps.rt:53:1
 returns-2 : tie.Need-returns-2
-returns-2 c =
-    λ o m d.
-    let at-judge = c .before in
-    let a = at-judge .before .args in
-    let w = bankState (a .b) o m in
-    record {
-      judged = at-judge .judge-opening .ensures;
-      done =
-          of-none (at-judge .judge-opening .result) w (a .q) d (c .match .keys2)
-          ∙ ap (λ (v : Verdict). carryOut v w (a .q) d) (at-judge .judge-opening .ensures);
-    }
+returns-2 c = ?
 
 pub upload-opening-spec : {M : Type 1} → statement M
 upload-opening-spec =
     tie.close
     (tie.spec
-    (λ c κs. tt)
-    (λ c. search needs)
+    judge-opening-requires
+    enum-known-verdict
+    openings-requires
     open-upload-requires
+    same-length
     returns
+    same-length-2
     returns-2)
