@@ -8,36 +8,30 @@ use lib.ListN.{length, set}
 use types.Run.{OneOf}
 use denote.Enum.Declared.{tagOf}
 use Rattle.frame_table.specs.declared.fields.Fields.{Fields}
-use Rattle.frame_table.specs.Names.{subscriber, transaction}
+use Rattle.frame_table.specs.Names.{subscriber}
 use Rattle.bank_state.specs.declared.clock.Ended.{Ended}
 use Rattle.bank_state.specs.declared.clock.Ended.the-variants as ending
 use Rattle.bank_state.specs.declared.state.Bank.{Bank}
-use Rattle.bank_state.specs.declared.state.Download.{Download}
 use Rattle.bank_state.specs.declared.state.Place.{Place}
 use Rattle.bank_state.specs.Clock.{endDownloads, advanced}
 use Rattle.bank_state.specs.Limits.{placeCount, storeBytes}
-use Rattle.bank_state.specs.Search.{isDownload, findDownload}
-use Rattle.bank_state.specs.State.{BankState, bankState, placeAt, downloadAt, fileLength, withPlace, withDownloads, withFiles}
+use Rattle.bank_state.specs.State.{BankState, bankState, placeAt, fileLength, withPlace, withDownloads, withFiles}
 use Rattle.bank_state.specs.Store.{partAt, withPart}
 use Rattle.bank_state.proofs.Drops.{advanced-at-clock}
 use Rattle.bank_rows.specs.Sound.{isSound, InRange}
-use Rattle.bank_rows.specs.State.{downloadCountOf, bankOf, stored, Laid, Held, StoredWith}
+use Rattle.bank_rows.specs.State.{bankOf, stored, Laid, Held, StoredWith}
 use Rattle.bank_rows.proofs.Calls.{Within, within-own, within-ended, within-at-clock, within-drops}
 use Rattle.bank_rows.proofs.Calls.{stored-next, laid-next, held-file}
 use Rattle.bank_rows.proofs.Range.{advanced-range}
-use Rattle.bank_rows.proofs.Reading.{download-read, found-download}
 use Rattle.bank_rows.proofs.State.{stored-own, stored-back, stored-twice}
 use Rattle.bank_rows.proofs.Test.{sound-laid}
 use Rattle.bank_verdicts.specs.declared.verdict.Action.the-variants as action
-use Rattle.bank_verdicts.specs.declared.verdict.DownloadAction.{DownloadAction}
-use Rattle.bank_verdicts.specs.declared.verdict.DownloadAction.the-variants as down
 use Rattle.bank_verdicts.specs.declared.verdict.TransactionRequest.{TransactionRequest}
 use Rattle.bank_verdicts.specs.declared.verdict.Verdict.{Verdict}
 use Rattle.bank_verdicts.specs.declared.verdict.Verdict.the-variants as verdict
-use Rattle.bank_verdicts.specs.Judgement.{uploadAt, downloadOf}
+use Rattle.bank_verdicts.specs.Judgement.{uploadAt}
 use Rattle.bank_verdicts.specs.Replies.{replyTo, segmentIn}
 use Rattle.bank_verdicts.proofs.verdict.Verdict.{the-type}
-use Rattle.bank_downloads.specs.Downloads.{downloadAfter}
 use Rattle.bank_uploads.specs.Uploads.{UploadStep, uploadStep}
 use Rattle.bank.specs.declared.call.FrameAnswer.{FrameAnswer}
 use Rattle.bank.specs.Call.{emptied, carryOut, uploadVerdict, fileSegment, mailboxSegment, stepBy, respond}
@@ -89,26 +83,7 @@ module _ (s o m : List ℕ) (i : ℕ) (r : TransactionRequest) (q : Fields) (d :
 
 -- ---- the open download of record j
 
-pub after-used : (a : DownloadAction) (t : ℕ) (e : Download) → downloadAfter a t e .used ≡ e .used
-after-used (down.Opened n) t e = refl
-after-used (down.Delivered n) t e = refl
-after-used (down.SentAgain n) t e = refl
-after-used (down.Point k) t e = refl
-after-used down.Cancelled t e = refl
-after-used down.Confirmed t e = refl
-after-used down.Declined t e = refl
-
 module _ (s : List ℕ) (l : Laid s) where
-  -- a download that is found is one of those in use
-  pub download-counted : (q : Fields) {j : ℕ} → j ≡ downloadOf (bankOf s) q → j < placeCount → j < downloadCountOf s
-  unfolding findDownload isDownload
-  download-counted q e h =
-      let f = found-download s l (isDownload (subscriber q) (transaction q)) refl (omega arith) in
-      omega arith
-
-  pub download-used : (j : ℕ) → j < downloadCountOf s → downloadAt (bankOf s) j .used ≡ true
-  download-used j h = ap (λ (e : Download). e .used) (download-read s l j h)
-
   module _ (which : Ended) where
     ended-within : Within s (withDownloads (endDownloads which (bankOf s .downloads)) (bankOf s))
     ended-within = within-ended s which (within-own s l)
@@ -140,6 +115,16 @@ respond-kept m v q d {n = n} e f g sent =
     rw (sent .answered, sent .written, sent .coded, e, f, g, same-segment v (stateOf m) q d (subscriber q))
 
 -- ---- the whole call
+
+-- what a call leaves, with these rows
+abbrev withRows : FrameCall → List ℕ → LentFrameCall
+withRows c rows = record {
+  lent = lent rows (c .bankState .orders) (c .bankState .mailboxes);
+  buffer = c .buffer;
+  answer = c .answer;
+  number = c .number;
+  code = c .code;
+}
 
 module _ (s o m : List ℕ) (l : Laid s) (time : ℕ) where
   abbrev old : BankState
@@ -180,7 +165,7 @@ module _ (s o m : List ℕ) (l : Laid s) (time : ℕ) where
         let once = ap (stored (after .bankState .bank)) (e .rows)
         ∙ stored-twice (advanced time old .bank) (after .bankState .bank) s (few .held) held l (omega (arith, few .downloads)) (omega (arith, few .nonces)) in
         ap (λ (w : BankState). keptFrame (lent t p m) (c w)) advanced-state
-        ∙ ap (λ (r : List ℕ). _) once
+        ∙ ap (withRows after) once
 
 -- ---- number 1
 

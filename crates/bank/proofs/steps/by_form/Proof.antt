@@ -1,67 +1,37 @@
+-- A frame that is no request is unreadable, and a request goes by its form.
+use mathlib.Core.Path.{refl}
+use Rattle.bank.proofs.Lent.{unchanged}
 use borrow.Author.Needs.{needs}
 use Rattle.bank.proofs.steps.by_form.Statement.{statement}
 use Rattle.bank.proofs.steps.by_form.Tie as tie
-use Rattle.bank.proofs.steps.by_form.Reads as reads
-use Rattle.bank.proofs.steps.by_form.Lts as lts
-use Rattle.bank.proofs.steps.by_request.Reads as by-request-reads
-use Rattle.frame_table.proofs.fields.Fields.form.Reads as form-reads
 
--- src/steps.rt:273:9
-form-requires : tie.Need-form-requires
-form-requires c κs = search needs
-
--- src/steps.rt:275:25
-enum-told : tie.Need-enum-told
-enum-told c = search needs
-
--- src/steps.rt:276:23
-enum-known-form : tie.Need-enum-known-form
-enum-known-form c = search needs
-
--- src/steps.rt:276:35
-by-request-requires : tie.Need-by-request-requires
-by-request-requires c κs = search needs
-
--- src/steps.rt:277:27
-enum-told-2 : tie.Need-enum-told-2
-enum-told-2 c = search needs
-
--- src/steps.rt:260:1
 returns : tie.Need-returns
-returns c = ?
+returns c =
+    let start = c .before .before .before .before .before .before .before in
+    rw (← c .before .before .form .ensures, c .enum-told .given .1)
+    (record { judged = refl; done = unchanged _ (start .pre .memory .laid) _ _ })
 
--- src/steps.rt:260:1
-same-length : tie.Need-same-length
-same-length c = search needs
-
--- src/steps.rt:260:1
-same-length-2 : tie.Need-same-length-2
-same-length-2 c = search needs
-
--- src/steps.rt:260:1
-same-length-3 : tie.Need-same-length-3
-same-length-3 c = search needs
-
--- src/steps.rt:260:1
 returns-2 : tie.Need-returns-2
-returns-2 c = ?
+returns-2 c = rw (← c .before .before .before .before .before .before .before .before .before .before .before .before .before .form .ensures, c .before .before .before .before .before .before .before .before .before .before .before .form2 .given .1) (c .before .before .before .before .before .before .by-request .ensures)
 
--- src/steps.rt:260:1
 returns-3 : tie.Need-returns-3
-returns-3 c = ?
+returns-3 c =
+    let start = c .before .before .before .before .before .before .before in
+    rw (← c .before .before .form .ensures, c .enum-told2 .given .1)
+    (record { judged = refl; done = unchanged _ (start .pre .memory .laid) _ _ })
 
 pub by-form-spec : {M : Type 1} → statement M
 by-form-spec =
     tie.close
     (tie.spec
-    form-requires
-    enum-told
-    enum-known-form
-    by-request-requires
-    enum-told-2
+    (λ c κs. search needs)
+    (λ c. search needs)
+    (λ c. search needs)
+    (λ c κs. search needs)
+    (λ c. search needs)
     returns
-    same-length
-    same-length-2
-    same-length-3
+    (λ c. search needs)
+    (λ c. search needs)
+    (λ c. search needs)
     returns-2
     returns-3)

@@ -1,120 +1,77 @@
+-- Each action by what it ends; the others keep the record open. Assumes nothing.
+use mathlib.Core.List.{List}
+use mathlib.Core.Path.{_≡_, ap, _∙_}
+use Prim.Native.Nat.{ℕ}
+use Rattle.bank_state.specs.declared.state.Download.{Download}
+use Rattle.bank_state.specs.State.{bankState, downloadAt, withDownload}
+use Rattle.bank_rows.specs.State.{bankOf, stored}
+use Rattle.bank.specs.Lent.{lent, keptIn}
+use Rattle.bank.proofs.Carried.{stays}
+use Rattle.bank.proofs.Held.{after-used, download-counted, download-used}
 use borrow.Author.Needs.{needs}
 use Rattle.bank.proofs.steps.downloads_after.Statement.{statement}
 use Rattle.bank.proofs.steps.downloads_after.Tie as tie
-use Rattle.bank.proofs.steps.downloads_after.Reads as reads
-use Rattle.bank.proofs.steps.downloads_after.Lts as lts
-use Rattle.bank.proofs.steps.emptied.Reads as emptied-reads
-use Rattle.bank_rows.proofs.downloads.end_downloads.Reads as end-downloads-reads
-use Rattle.bank_rows.proofs.downloads.set_download.Reads as set-download-reads
-use Rattle.frame_table.proofs.fields.Fields.subscriber.Reads as subscriber-reads
-use Rattle.frame_table.proofs.fields.Fields.transaction.Reads as transaction-reads
 
--- src/steps.rt:141:27
-enum-told : tie.Need-enum-told
-enum-told c = search needs
-
--- src/steps.rt:141:52
-subscriber-requires : tie.Need-subscriber-requires
-subscriber-requires c κs = search needs
-
--- src/steps.rt:141:68
-transaction-requires : tie.Need-transaction-requires
-transaction-requires c κs = search needs
-
--- src/steps.rt:141:13
-end-downloads-requires : tie.Need-end-downloads-requires
-end-downloads-requires c κs = search needs
-
--- src/steps.rt:144:27
-enum-told-2 : tie.Need-enum-told-2
-enum-told-2 c = search needs
-
--- src/steps.rt:144:52
-subscriber-requires-2 : tie.Need-subscriber-requires-2
-subscriber-requires-2 c κs = search needs
-
--- src/steps.rt:144:68
-transaction-requires-2 : tie.Need-transaction-requires-2
-transaction-requires-2 c κs = search needs
-
--- src/steps.rt:144:13
-end-downloads-requires-2 : tie.Need-end-downloads-requires-2
-end-downloads-requires-2 c κs = search needs
-
--- src/steps.rt:147:21
-enum-told-3 : tie.Need-enum-told-3
-enum-told-3 c = search needs
-
--- src/steps.rt:147:27
-subscriber-requires-3 : tie.Need-subscriber-requires-3
-subscriber-requires-3 c κs = search needs
-
--- src/steps.rt:147:13
-emptied-requires : tie.Need-emptied-requires
-emptied-requires c κs = search needs
-
--- src/steps.rt:151:13
 set-download-requires : tie.Need-set-download-requires
-set-download-requires c κs = ?
+set-download-requires c κs =
+    let start = c .before .before .before .before .before in
+    let a = start .args in
+    let counted = download-counted (a .rows .now) (start .pre .0) (a .q) (start .pre .2) (start .pre .1) in (
+      start .pre .0,
+      counted,
+      ap (λ (e : Download). e .used) (start .pre .3)
+      ∙ after-used (a .s .action) (bankOf (a .rows .now) .clock) (downloadAt (bankOf (a .rows .now)) (a .j))
+      ∙ download-used (a .rows .now) (start .pre .0) (a .j) counted,
+    )
 
--- src/steps.rt:130:1
-same-length : tie.Need-same-length
-same-length c = search needs
-
--- src/steps.rt:130:1
 returns : tie.Need-returns
-returns c = ?
+returns c =
+    λ o.
+    rw (c .before .before .before .before .before .before .enum-told .given .1, ← c .before .before .before .transaction .ensures, ← c .before .before .before .before .subscriber .ensures)
+    (ap (λ (r : List ℕ). lent r o _) (c .before .before .end-downloads .ensures))
 
--- src/steps.rt:130:1
-same-length-2 : tie.Need-same-length-2
-same-length-2 c = search needs
-
--- src/steps.rt:130:1
 returns-2 : tie.Need-returns-2
-returns-2 c = ?
+returns-2 c =
+    λ o.
+    rw (c .before .before .before .before .before .before .enum-told2 .given .1, ← c .before .before .before .transaction2 .ensures, ← c .before .before .before .before .subscriber2 .ensures)
+    (ap (λ (r : List ℕ). lent r o _) (c .before .before .end-downloads2 .ensures))
 
--- src/steps.rt:130:1
-same-length-3 : tie.Need-same-length-3
-same-length-3 c = search needs
-
--- src/steps.rt:130:1
-same-length-4 : tie.Need-same-length-4
-same-length-4 c = search needs
-
--- src/steps.rt:130:1
 returns-3 : tie.Need-returns-3
-returns-3 c = ?
+returns-3 c = λ o. rw (c .before .before .before .before .before .before .before .before .enum-told3 .given .1, ← c .before .before .before .before .before .before .subscriber3 .ensures) (c .before .before .before .before .emptied .ensures o)
 
--- src/steps.rt:130:1
-same-length-5 : tie.Need-same-length-5
-same-length-5 c = search needs
-
--- src/steps.rt:130:1
 returns-4 : tie.Need-returns-4
-returns-4 c = ?
+returns-4 c =
+    λ o.
+    let start = c .before .before .before .before .before .before .before .before in
+    let a = start .args in
+    let s = a .rows .now in
+    let m = a .mailboxes .now in
+    ap (λ (r : List ℕ). lent r o m) (c .before .before .set-download .ensures)
+    ∙ ap (λ (e : Download). lent (stored (withDownload (a .j) e (bankOf s)) s) o m) (start .pre .3)
+    ∙ ap (keptIn (lent s o m)) (stays (a .s .action) (a .j) (bankState (bankOf s) o m) (a .q) (c .before .before .before .before .before .match .keys4))
 
 pub downloads-after-spec : {M : Type 1} → statement M
 downloads-after-spec =
     tie.close
     (tie.spec
-    enum-told
-    subscriber-requires
-    transaction-requires
-    end-downloads-requires
-    enum-told-2
-    subscriber-requires-2
-    transaction-requires-2
-    end-downloads-requires-2
-    enum-told-3
-    subscriber-requires-3
-    emptied-requires
+    (λ c. search needs)
+    (λ c κs. search needs)
+    (λ c κs. search needs)
+    (λ c κs. search needs)
+    (λ c. search needs)
+    (λ c κs. search needs)
+    (λ c κs. search needs)
+    (λ c κs. search needs)
+    (λ c. search needs)
+    (λ c κs. search needs)
+    (λ c κs. search needs)
     set-download-requires
-    same-length
+    (λ c. search needs)
     returns
-    same-length-2
+    (λ c. search needs)
     returns-2
-    same-length-3
-    same-length-4
+    (λ c. search needs)
+    (λ c. search needs)
     returns-3
-    same-length-5
+    (λ c. search needs)
     returns-4)

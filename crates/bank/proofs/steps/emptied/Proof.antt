@@ -1,49 +1,43 @@
+-- The downloads end first, then the mailbox is emptied: two changes stored as one. Assumes nothing.
+use mathlib.Core.List.{List}
+use mathlib.Core.Path.{_≡_, ap, _∙_}
+use native.Mathlib.Omega.{arith}
+use Prim.Native.Nat.{ℕ}
+use Rattle.bank_state.specs.declared.clock.Ended.the-variants as ending
+use Rattle.bank_state.specs.Store.{zeroed}
+use Rattle.bank.specs.Lent.{lent}
+use Rattle.bank.proofs.Lent.{ended-laid, emptied-stored}
 use borrow.Author.Needs.{needs}
 use Rattle.bank.proofs.steps.emptied.Statement.{statement}
 use Rattle.bank.proofs.steps.emptied.Tie as tie
-use Rattle.bank.proofs.steps.emptied.Reads as reads
-use Rattle.bank.proofs.steps.emptied.Lts as lts
-use Rattle.bank.proofs.mailbox.mailbox_of.Reads as mailbox-of-reads
-use Rattle.bank_rows.proofs.downloads.end_downloads.Reads as end-downloads-reads
-use Rattle.bank_rows.proofs.numbers.set_file_length.Reads as set-file-length-reads
-use Rattle.bank_state.proofs.store.zero.Reads as zero-reads
 
--- src/steps.rt:123:9
-mailbox-of-requires : tie.Need-mailbox-of-requires
-mailbox-of-requires c κs = search needs
-
--- src/steps.rt:124:5
-end-downloads-requires : tie.Need-end-downloads-requires
-end-downloads-requires c κs = search needs
-
--- src/steps.rt:125:5
 set-file-length-requires : tie.Need-set-file-length-requires
-set-file-length-requires c κs = ?
+set-file-length-requires c κs =
+    let start = c .before .before .before .before .before .before .before .before in (
+      ended-laid (start .args .rows .now) (start .pre .0) (ending.Mailbox (start .args .subscriber)) _ (c .before .before .before .end-downloads .ensures),
+      omega (arith, c .before .before .before .before .before .mailbox-of .ensures, start .pre .1, start .pre .2),
+    )
 
--- src/steps.rt:126:5
-zero-requires : tie.Need-zero-requires
-zero-requires c κs = search needs
-
--- src/steps.rt:116:1
-same-length : tie.Need-same-length
-same-length c = search needs
-
--- src/steps.rt:116:1
-same-length-2 : tie.Need-same-length-2
-same-length-2 c = search needs
-
--- src/steps.rt:116:1
 returns : tie.Need-returns
-returns c = ?
+returns c =
+    λ o.
+    let start = c .before .before .before .before .before .before .before .before .before .before .before .before .before .before .before in
+    let a = start .args in
+    let i = c .before .before .before .before .before .before .before .before .before .before .before .before .mailbox-of .ensures in
+    let rows =
+    emptied-stored (a .rows .now) (start .pre .0) (a .subscriber) _ _ _ i (c .before .before .before .before .before .before .before .before .before .before .end-downloads .ensures)
+    (c .before .before .before .before .before .before .set-file-length .ensures) o (a .mailboxes .now) in
+    ap (λ (r : List ℕ). lent r o _) rows
+    ∙ ap (lent _ o) (c .before .before .zero .ensures ∙ ap (zeroed (a .mailboxes .now)) i)
 
 pub emptied-spec : {M : Type 1} → statement M
 emptied-spec =
     tie.close
     (tie.spec
-    mailbox-of-requires
-    end-downloads-requires
+    (λ c κs. search needs)
+    (λ c κs. search needs)
     set-file-length-requires
-    zero-requires
-    same-length
-    same-length-2
+    (λ c κs. search needs)
+    (λ c. search needs)
+    (λ c. search needs)
     returns)

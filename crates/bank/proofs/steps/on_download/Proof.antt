@@ -1,61 +1,91 @@
+-- The step of the download of record j, and what its action ends. Assumes nothing.
+use mathlib.Core.Path.{_≡_, sym, ap, _∙_}
+use Prim.Native.Nat.{ℕ}
+use Rattle.bank_state.specs.declared.state.Download.{Download}
+use Rattle.bank_state.specs.State.{bankState, downloadAt}
+use Rattle.bank_verdicts.specs.declared.verdict.Action.the-variants as action
+use Rattle.bank_verdicts.specs.declared.verdict.Verdict.the-variants as verdict
+use Rattle.bank_verdicts.specs.Judgement.{mailboxSegments}
+use Rattle.frame_table.specs.Names.{subscriber}
+use Rattle.bank_downloads.specs.declared.downloads.DownloadStep.{DownloadStep}
+use Rattle.bank_downloads.specs.Downloads.{downloadAfter, downloadStep}
+use Rattle.bank_rows.specs.State.{bankOf}
+use Rattle.bank.specs.Call.{onDownload}
+use Rattle.bank.specs.Lent.{lent, keptIn}
+use Rattle.bank.proofs.Carried.{download-acts-at}
+use Rattle.bank.proofs.Held.{download-counted}
 use borrow.Author.Needs.{needs}
 use Rattle.bank.proofs.steps.on_download.Statement.{statement}
 use Rattle.bank.proofs.steps.on_download.Tie as tie
-use Rattle.bank.proofs.steps.on_download.Reads as reads
-use Rattle.bank.proofs.steps.on_download.Lts as lts
-use Rattle.bank.proofs.steps.downloads_after.Reads as downloads-after-reads
-use Rattle.bank.proofs.stub.mailbox_segments.Reads as mailbox-segments-reads
-use Rattle.bank_downloads.proofs.downloads.download_step.Reads as download-step-reads
-use Rattle.bank_rows.proofs.downloads.download_at.Reads as download-at-reads
-use Rattle.bank_rows.proofs.numbers.clock.Reads as clock-reads
-use Rattle.frame_table.proofs.fields.Fields.subscriber.Reads as subscriber-reads
 
--- src/steps.rt:170:9
 download-at-requires : tie.Need-download-at-requires
-download-at-requires c κs = ?
+download-at-requires c κs =
+    let start = c .before .before .before in
+    let a = start .args in
+    (start .pre .0, download-counted (a .rows .now) (start .pre .0) (a .q) (start .pre .2) (start .pre .1))
 
--- src/steps.rt:171:9
-clock-requires : tie.Need-clock-requires
-clock-requires c κs = search needs
+-- the step as the definition has it
+stepped : (c : tie.After-download-step)
+    → let a = c .before .before .before .before .before .before .before .before .before .before .args in
+    let b = bankOf (a .rows .now) in
+    c .download-step .result
+    ≡ downloadStep (b .clock) (a .asked) (downloadAt b (a .j)) (mailboxSegments (subscriber (a .q)) b) (a .q)
+stepped c =
+    let at-count = c .before in
+    let at-clock = at-count .before .before .before in
+    let at-entry = at-clock .before .before in
+    let a = at-entry .before .before .before .before .args in
+    let b = bankOf (a .rows .now) in
+    let n = at-count .mailbox-segments .ensures ∙ ap (λ (k : ℕ). mailboxSegments k b) (at-count .before .subscriber .ensures) in
+    c .download-step .ensures
+    ∙ ap (λ (t : ℕ). downloadStep t (a .asked) (at-entry .download-at .result) (at-count .mailbox-segments .result) (a .q)) (at-clock .clock .ensures)
+    ∙ ap (λ (e : Download). downloadStep (b .clock) (a .asked) e (at-count .mailbox-segments .result) (a .q)) (at-entry .download-at .ensures)
+    ∙ ap (λ (k : ℕ). downloadStep (b .clock) (a .asked) (downloadAt b (a .j)) k (a .q)) n
 
--- src/steps.rt:172:36
-subscriber-requires : tie.Need-subscriber-requires
-subscriber-requires c κs = search needs
-
--- src/steps.rt:172:9
-mailbox-segments-requires : tie.Need-mailbox-segments-requires
-mailbox-segments-requires c κs = search needs
-
--- src/steps.rt:173:9
-download-step-requires : tie.Need-download-step-requires
-download-step-requires c κs = search needs
-
--- src/steps.rt:174:5
 downloads-after-requires : tie.Need-downloads-after-requires
-downloads-after-requires c κs = ?
+unfolding downloadStep
+downloads-after-requires c κs =
+    let start = c .before .before .before .before .before .before .before .before .before .before .before .before in
+    let a = start .args in
+    let b = bankOf (a .rows .now) in
+    let step = stepped (c .before .before) in
+    let kept =
+    ap (λ (s : DownloadStep). s .entry) step
+    ∙ sym (ap (λ (s : DownloadStep). downloadAfter (s .action) (b .clock) (downloadAt b (a .j))) step) in
+    (start .pre .0, start .pre .1, start .pre .2, kept, start .pre .3, start .pre .4, start .pre .5)
 
--- src/steps.rt:157:1
-same-length : tie.Need-same-length
-same-length c = search needs
-
--- src/steps.rt:157:1
-same-length-2 : tie.Need-same-length-2
-same-length-2 c = search needs
-
--- src/steps.rt:157:1
 returns : tie.Need-returns
-returns c = ?
+unfolding downloadStep
+returns c =
+    λ o d.
+    let at-after = c .before .before .before .before .before in
+    let at-step = at-after .before .before .before in
+    let start = c .before .before .before .before .before .before .before .before .before .before .before .before .before .before .before .before .before .before in
+    let a = start .args in
+    let s = a .rows .now in
+    let m = a .mailboxes .now in
+    let w = bankState (bankOf s) o m in
+    let step = stepped at-step in
+    record {
+      judged =
+          ap (λ (e : Download). verdict.Of (e .transaction) (action.Download (at-step .download-step .result .action))) (c .before .before .before .before .before .before .before .before .before .before .before .before .before .before .download-at .ensures)
+          ∙ ap (λ (x : DownloadStep). verdict.Of (downloadAt (bankOf s) (a .j) .transaction) (action.Download (x .action))) step;
+      done =
+          at-after .downloads-after .ensures o
+          ∙ ap (λ (x : DownloadStep). keptIn (lent s o m) (onDownload (x .action) (a .j) w (a .q))) step
+          ∙ ap (keptIn (lent s o m)) (download-acts-at (a .j) w (a .asked) (a .q) d (start .pre .2));
+    }
 
 pub on-download-spec : {M : Type 1} → statement M
 on-download-spec =
     tie.close
     (tie.spec
     download-at-requires
-    clock-requires
-    subscriber-requires
-    mailbox-segments-requires
-    download-step-requires
+    (λ c κs. search needs)
+    (λ c κs. search needs)
+    (λ c κs. search needs)
+    (λ c κs. search needs)
     downloads-after-requires
-    same-length
-    same-length-2
+    (λ c. search needs)
+    (λ c. search needs)
     returns)

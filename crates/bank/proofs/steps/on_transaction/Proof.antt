@@ -1,86 +1,90 @@
+-- Where the searches find the transaction, there the definition looks. Assumes nothing.
+use mathlib.Core.Path.{_≡_, refl, _∙_}
+use lib.ListN.{length}
+use Rattle.bank_rows.specs.State.{bankOf}
+use Rattle.bank_verdicts.specs.Judgement.{uploadAt, downloadOf}
+use Rattle.bank.proofs.Carried.{in-upload, in-download, in-none}
+use Rattle.bank.proofs.Lent.{unchanged}
 use borrow.Author.Needs.{needs}
 use Rattle.bank.proofs.steps.on_transaction.Statement.{statement}
 use Rattle.bank.proofs.steps.on_transaction.Tie as tie
-use Rattle.bank.proofs.steps.on_transaction.Reads as reads
-use Rattle.bank.proofs.steps.on_transaction.Lts as lts
-use Rattle.bank.proofs.steps.on_download.Reads as on-download-reads
-use Rattle.bank.proofs.steps.on_upload.Reads as on-upload-reads
-use Rattle.bank_rows.proofs.downloads.find_download.Reads as find-download-reads
-use Rattle.bank_rows.proofs.places.find_upload.Reads as find-upload-reads
-use Rattle.frame_table.proofs.fields.Fields.subscriber.Reads as subscriber-reads
-use Rattle.frame_table.proofs.fields.Fields.transaction.Reads as transaction-reads
 
--- src/steps.rt:194:9
-subscriber-requires : tie.Need-subscriber-requires
-subscriber-requires c κs = search needs
+-- where the transaction is among the uploads, and among the downloads
+upload-found : (c : tie.After-find-upload)
+    → let a = c .before .before .before .before .before .before .before .before .args in
+    c .find-upload .result ≡ uploadAt (bankOf (a .rows .now)) (a .q)
+upload-found c =
+    c .find-upload .ensures
+    ∙ rw (c .before .before .transaction .ensures, c .before .before .before .subscriber .ensures)
 
--- src/steps.rt:195:9
-transaction-requires : tie.Need-transaction-requires
-transaction-requires c κs = search needs
+download-found : (c : tie.After-find-download)
+    → let a = c .before .before .before .before .before .before .before .before .before .before .before .args in
+    c .find-download .result ≡ downloadOf (bankOf (a .rows .now)) (a .q)
+download-found c =
+    let at-transaction = c .before .before .before .before .before in
+    c .find-download .ensures ∙ rw (at-transaction .transaction .ensures, at-transaction .before .subscriber .ensures)
 
--- src/steps.rt:196:9
-find-upload-requires : tie.Need-find-upload-requires
-find-upload-requires c κs = search needs
-
--- src/steps.rt:198:9
 on-upload-requires : tie.Need-on-upload-requires
-on-upload-requires c κs = ?
+on-upload-requires c κs =
+    let at-if1 = c .before .before in
+    let start = c .before .before .before .before .before .before .before .before .before .before .before in
+    let m = start .pre .memory in
+    (m .laid, m .range, at-if1 .if1 .taken, upload-found (at-if1 .before), start .pre .short, m .places)
 
--- src/steps.rt:198:9
-same-length : tie.Need-same-length
-same-length c = search needs
-
--- src/steps.rt:198:9
-same-length-2 : tie.Need-same-length-2
-same-length-2 c = search needs
-
--- src/steps.rt:198:9
 returns : tie.Need-returns
-returns c = ?
+returns c =
+    let at-step = c .before .before .before .before in
+    let at-if1 = at-step .before .before .before in
+    let a = c .before .before .before .before .before .before .before .before .before .before .before .before .before .before .before .before .args in
+    let n = length (a .bytes .now) in
+    rw (in-upload (a .asked) (bankOf (a .rows .now)) (a .q) n (upload-found (at-if1 .before)) (at-if1 .if1 .taken))
+    (at-step .on-upload .ensures _)
 
--- src/steps.rt:200:9
-find-download-requires : tie.Need-find-download-requires
-find-download-requires c κs = search needs
-
--- src/steps.rt:202:9
 on-download-requires : tie.Need-on-download-requires
-on-download-requires c κs = ?
+on-download-requires c κs =
+    let at-if2 = c .before .before in
+    let start = c .before .before .before .before .before .before .before .before .before .before .before .before .before .before in
+    let m = start .pre .memory in
+    (m .laid, at-if2 .if2 .taken, download-found (at-if2 .before), start .pre .known, start .pre .most, m .mailboxStore)
 
--- src/steps.rt:202:9
-same-length-3 : tie.Need-same-length-3
-same-length-3 c = search needs
-
--- src/steps.rt:202:9
-same-length-4 : tie.Need-same-length-4
-same-length-4 c = search needs
-
--- src/steps.rt:202:9
 returns-2 : tie.Need-returns-2
-returns-2 c = ?
+returns-2 c =
+    let at-step = c .before .before .before .before in
+    let at-if2 = at-step .before .before .before in
+    let at-find = at-if2 .before in
+    let at-if1 = at-find .before .before in
+    let a = c .before .before .before .before .before .before .before .before .before .before .before .before .before .before .before .before .before .before .before .args in
+    let b = bankOf (a .rows .now) in
+    let found = in-download (a .asked) b (a .q) (length (a .bytes .now)) (upload-found (at-if1 .before)) (at-if1 .if1 .left) in
+    rw (found (download-found at-find) (at-if2 .if2 .taken))
+    (at-step .on-download .ensures _ _)
 
--- src/steps.rt:181:1
-same-length-5 : tie.Need-same-length-5
-same-length-5 c = search needs
-
--- src/steps.rt:181:1
 returns-3 : tie.Need-returns-3
-returns-3 c = ?
+returns-3 c =
+    let at-find = c .before in
+    let at-if1 = at-find .before .before in
+    let start = c .before .before .before .before .before .before .before .before .before .before .before .before in
+    let a = start .args in
+    let b = bankOf (a .rows .now) in
+    let found = in-none (a .asked) b (a .q) (length (a .bytes .now)) (upload-found (at-if1 .before)) (at-if1 .if1 .left) in
+    rw (found (download-found at-find) (c .if2 .left))
+    (record { judged = refl; done = unchanged _ (start .pre .memory .laid) _ _ })
 
 pub on-transaction-spec : {M : Type 1} → statement M
 on-transaction-spec =
     tie.close
     (tie.spec
-    subscriber-requires
-    transaction-requires
-    find-upload-requires
+    (λ c κs. search needs)
+    (λ c κs. search needs)
+    (λ c κs. search needs)
     on-upload-requires
-    same-length
-    same-length-2
+    (λ c. search needs)
+    (λ c. search needs)
     returns
-    find-download-requires
+    (λ c κs. search needs)
     on-download-requires
-    same-length-3
-    same-length-4
+    (λ c. search needs)
+    (λ c. search needs)
     returns-2
-    same-length-5
+    (λ c. search needs)
     returns-3)

@@ -1,74 +1,44 @@
+-- The step of the upload in place i, its bytes lent and put back into the store. Assumes nothing.
+use mathlib.Core.Path.{_≡_, ap, _∙_}
+use Prim.Native.Nat.{ℕ, _+_, _*_, _≤_}
+use native.Mathlib.Omega.{arith}
+use lib.ListN.{length}
+use Rattle.message.specs.Limits.{fileBytes}
+use Rattle.bank_state.specs.Store.{withPart}
+use Rattle.bank_state.proofs.Stores.{part-back, part-lent}
+use Rattle.bank_uploads.specs.Uploads.{uploadStep}
+use Rattle.bank.proofs.Lent.{upload-carried}
 use borrow.Author.Needs.{needs}
 use Rattle.bank.proofs.steps.on_upload.Statement.{statement}
 use Rattle.bank.proofs.steps.on_upload.Tie as tie
-use Rattle.bank.proofs.steps.on_upload.Reads as reads
-use Rattle.bank.proofs.steps.on_upload.Lts as lts
-use Rattle.bank_rows.proofs.numbers.clock.Reads as clock-reads
-use Rattle.bank_rows.proofs.places.place_at.Reads as place-at-reads
-use Rattle.bank_rows.proofs.places.set_place.Reads as set-place-reads
-use Rattle.bank_uploads.proofs.uploads.upload_step.Reads as upload-step-reads
 
--- src/steps.rt:103:9
-place-at-requires : tie.Need-place-at-requires
-place-at-requires c κs = search needs
-
--- src/steps.rt:104:9
-clock-requires : tie.Need-clock-requires
-clock-requires c κs = search needs
-
--- src/steps.rt:105:16
-mul-from : tie.Need-mul-from
-mul-from c = search needs
-
--- src/steps.rt:106:15
-add-end : tie.Need-add-end
-add-end c = search needs
-
--- src/steps.rt:107:51
-sub-upload-step : tie.Need-sub-upload-step
-sub-upload-step c = search needs
-
--- src/steps.rt:107:51
-part-upload-step-start : tie.Need-part-upload-step-start
-part-upload-step-start c = search needs
-
--- src/steps.rt:107:51
-part-upload-step-end : tie.Need-part-upload-step-end
-part-upload-step-end c = search needs
-
--- src/steps.rt:107:9
-upload-step-requires : tie.Need-upload-step-requires
-upload-step-requires c κs = search needs
-
--- src/steps.rt:109:5
-set-place-requires : tie.Need-set-place-requires
-set-place-requires c κs = search needs
-
--- src/steps.rt:88:1
-same-length : tie.Need-same-length
-same-length c = search needs
-
--- src/steps.rt:88:1
-same-length-2 : tie.Need-same-length-2
-same-length-2 c = search needs
-
--- src/steps.rt:88:1
 returns : tie.Need-returns
-returns c = ?
+unfolding withPart
+returns c =
+    λ m.
+    let start = c .before .before .before .before .before .before .before .before .before .before .before .before .before .before .before .before .before in
+    let a = start .args in
+    let fits : a .i * fileBytes + fileBytes ≤ length (a .orders .now) = omega (arith, start .pre .2, start .pre .5) in
+    let same = c .before .before .before .before .before .before .before .orders .given .0 in
+    let step =
+    c .before .before .before .before .before .before .before .before .upload-step .ensures
+    ∙ ap (uploadStep (c .before .before .before .before .before .before .before .before .before .before .clock .result) (a .asked) (c .before .before .before .before .before .before .before .before .before .before .before .before .place-at .result) (a .q) (a .bytes .now)) (part-lent (a .orders .now) (a .i)) in
+    upload-carried (a .rows .now) (a .orders .now) m (a .i) (a .asked) (a .q) (a .bytes .now) (start .pre .3)
+    (c .before .before .before .before .before .before .before .before .before .before .before .before .place-at .ensures) (c .before .before .before .before .before .before .before .before .before .before .clock .ensures) step (c .before .before .before .set-place .ensures) (rw part-back)
 
 pub on-upload-spec : {M : Type 1} → statement M
 on-upload-spec =
     tie.close
     (tie.spec
-    place-at-requires
-    clock-requires
-    mul-from
-    add-end
-    sub-upload-step
-    part-upload-step-start
-    part-upload-step-end
-    upload-step-requires
-    set-place-requires
-    same-length
-    same-length-2
+    (λ c κs. search needs)
+    (λ c κs. search needs)
+    (λ c. search needs)
+    (λ c. search needs)
+    (λ c. search needs)
+    (λ c. search needs)
+    (λ c. search needs)
+    (λ c κs. search needs)
+    (λ c κs. search needs)
+    (λ c. search needs)
+    (λ c. search needs)
     returns)

@@ -1,75 +1,91 @@
+-- The tests of every request from top to bottom, then the form. Assumes nothing.
+use mathlib.Core.Path.{_≡_, refl}
+use mathlib.Core.Bool.{true, false}
+use borrow.Author.Tests.{not-true, not-false, lt-ltb, le-ltb}
+use lib.ListN.{length}
+use Rattle.frame_table.specs.Names.{form}
+use Rattle.frame_table.specs.Table.{isRequestForm}
+use Rattle.message.specs.Limits.{segmentBytes}
+use Rattle.bank_verdicts.specs.Refusals.{noSubscriber, longData, requestRows}
+use Rattle.bank_verdicts.specs.Judgement.{judge}
+use Rattle.bank.proofs.Accepted.{request-known}
+use Rattle.bank.proofs.Lent.{unchanged}
 use borrow.Author.Needs.{needs}
 use Rattle.bank.proofs.steps.step.Statement.{statement}
 use Rattle.bank.proofs.steps.step.Tie as tie
-use Rattle.bank.proofs.steps.step.Reads as reads
-use Rattle.bank.proofs.steps.step.Lts as lts
-use Rattle.bank.proofs.mailbox.is_no_mailbox.Reads as is-no-mailbox-reads
-use Rattle.bank.proofs.steps.by_form.Reads as by-form-reads
-use Rattle.frame_table.proofs.fields.Fields.form.Reads as form-reads
-use Rattle.frame_table.proofs.fields.Fields.subscriber.Reads as subscriber-reads
-use Rattle.frame_table.proofs.table.is_request_form.Reads as is-request-form-reads
 
--- src/steps.rt:295:25
-form-requires : tie.Need-form-requires
-form-requires c κs = search needs
+-- the request has a request's form
+readable : (c : tie.Else1) → isRequestForm (form (c .before .before .before .before .before .before .before .args .q)) ≡ true
+readable c =
+    rw (← c .before .before .form .ensures, ← c .before .is-request-form .ensures)
+    (not-false (c .before .is-request-form .result) (c .if1 .left))
 
--- src/steps.rt:295:9
-is-request-form-requires : tie.Need-is-request-form-requires
-is-request-form-requires c κs = search needs
+-- it is one of a subscriber
+known : (c : tie.Else2)
+    → noSubscriber (c .before .before .before .before .before .before .before .before .before .before .args .q) ≡ false
+unfolding noSubscriber
+known c = rw (← c .before .before .subscriber .ensures, ← c .before .is-no-mailbox .ensures) (c .if2 .left)
 
--- src/steps.rt:296:9
 returns : tie.Need-returns
-returns c = ?
+unfolding judge requestRows
+returns c =
+    let start = c .before .before .before .before .before .before .before in
+    rw (
+      ← c .before .before .form .ensures,
+      ← c .before .is-request-form .ensures,
+      not-true (c .before .is-request-form .result) (c .if1 .taken),
+    ) (record { judged = refl; done = unchanged _ (start .pre .laid) _ _ })
 
--- src/steps.rt:298:22
-subscriber-requires : tie.Need-subscriber-requires
-subscriber-requires c κs = search needs
-
--- src/steps.rt:298:8
-is-no-mailbox-requires : tie.Need-is-no-mailbox-requires
-is-no-mailbox-requires c κs = search needs
-
--- src/steps.rt:299:9
 returns-2 : tie.Need-returns-2
-returns-2 c = ?
+unfolding judge requestRows noSubscriber
+returns-2 c =
+    let start = c .before .before .before .before .before .before .before .before .before .before in
+    rw (
+      readable (c .before .before .before),
+      ← c .before .before .subscriber .ensures,
+      ← c .before .is-no-mailbox .ensures,
+      c .if2 .taken,
+    ) (record { judged = refl; done = unchanged _ (start .pre .laid) _ _ })
 
--- src/steps.rt:302:9
 returns-3 : tie.Need-returns-3
-returns-3 c = ?
+unfolding judge requestRows longData
+returns-3 c =
+    let at-if1 = c .before .before .before .before in
+    let start = c .before .before .before .before .before .before .before .before .before .before .before in
+    rw (readable at-if1, known (c .before), lt-ltb segmentBytes (length (start .args .bytes .now)) (c .if3 .taken))
+    (record { judged = refl; done = unchanged _ (start .pre .laid) _ _ })
 
--- src/steps.rt:304:5
 by-form-requires : tie.Need-by-form-requires
-by-form-requires c κs = ?
+by-form-requires c κs =
+    let at-if3 = c .before .before .before in
+    let start = c .before .before .before .before .before .before .before .before .before .before .before .before .before .before in
+    let k = request-known (start .args .q) (known (at-if3 .before)) in
+    record { known = k .0; most = k .1; short = at-if3 .if3 .left; memory = start .pre }
 
--- src/steps.rt:282:1
-same-length : tie.Need-same-length
-same-length c = search needs
-
--- src/steps.rt:282:1
-same-length-2 : tie.Need-same-length-2
-same-length-2 c = search needs
-
--- src/steps.rt:282:1
-same-length-3 : tie.Need-same-length-3
-same-length-3 c = search needs
-
--- src/steps.rt:282:1
 returns-4 : tie.Need-returns-4
-returns-4 c = ?
+unfolding judge requestRows longData
+returns-4 c =
+    let at-step = c .before .before .before .before .before .before in
+    let at-if3 = at-step .before .before .before .before in
+    let at-if1 = at-if3 .before .before .before .before in
+    let start = c .before .before .before .before .before .before .before .before .before .before .before .before .before .before .before .before .before .before .before .before .before in
+    let short = le-ltb segmentBytes (length (start .args .bytes .now)) (at-if3 .if3 .left) in
+    rw (readable at-if1, known (at-if3 .before), short)
+    (at-step .by-form .ensures)
 
 pub step-spec : {M : Type 1} → statement M
 step-spec =
     tie.close
     (tie.spec
-    form-requires
-    is-request-form-requires
+    (λ c κs. search needs)
+    (λ c κs. search needs)
     returns
-    subscriber-requires
-    is-no-mailbox-requires
+    (λ c κs. search needs)
+    (λ c κs. search needs)
     returns-2
     returns-3
     by-form-requires
-    same-length
-    same-length-2
-    same-length-3
+    (λ c. search needs)
+    (λ c. search needs)
+    (λ c. search needs)
     returns-4)
