@@ -117,8 +117,8 @@ module _ (s : List ℕ) (l : Laid s) (q : Fields) where
         → u ≡ stored (counted q b) s
     unfolding counted
     counted-stored u n z f =
-        stored-change s l (noted (nonce q) (timestamp q) b) (held-noted q b held memory) (withOpenings (b .openings + 1))
-        (held-counted q b held memory) (omega arith) (omega arith) t u noted-stored
+        stored-change s l (noted (nonce q) (timestamp q) b) (held-noted q b held memory)
+        (withOpenings (b .openings + 1)) (held-counted q b held memory) (omega arith) (omega arith) t u noted-stored
         (f ∙ ap (λ (m : ℕ). stored (withOpenings (m + 1) (bankOf t)) t) z)
 
   -- then the place or the download
