@@ -36,24 +36,24 @@ use Rattle.bank_verdicts.proofs.Sound.{judged-opening, judged-upload, judged-do
 use Rattle.bank_verdicts.proofs.Sound as sound
 use Rattle.bank_verdicts.proofs.verdict.DownloadAction as actions
 use Rattle.bank_verdicts.proofs.verdict.Verdict.{the-type}
-use Rattle.bank_openings.specs.Openings.{openUpload, openDownload, counted}
+use Rattle.bank_openings.specs.Openings.{openUpload, openDownload}
 use Rattle.bank_uploads.specs.Uploads.{UploadStep, uploadStep}
 use Rattle.bank.specs.Call.{onUpload, uploadActs, staying, onDownload, downloadActs, carryOut}
 use Rattle.bank.specs.Call.{uploadVerdict, downloadVerdict, fileSegment}
 
 -- a verdict whose reply carries a segment leaves the mailboxes
-pub same-segment : (v : Verdict) (w : BankState) (q : Fields) (d : List ℕ) (s n : ℕ) →
-    fileSegment (carryOut v w q d .mailboxes) s n (segmentIn v q) ≡ fileSegment (w .mailboxes) s n (segmentIn v q)
-same-segment verdict.Unreadable w q d s n = refl
-same-segment (verdict.Refused c) w q d s n = refl
-same-segment (verdict.Of t (action.Upload a)) w q d s n = refl
-same-segment (verdict.Of t (action.Download (down.Opened n))) w q d s n = refl
-same-segment (verdict.Of t (action.Download (down.Delivered n))) w q d s n = refl
-same-segment (verdict.Of t (action.Download (down.SentAgain n))) w q d s n = refl
-same-segment (verdict.Of t (action.Download (down.Point k))) w q d s n = refl
-same-segment (verdict.Of t (action.Download down.Cancelled)) w q d s n = refl
-same-segment (verdict.Of t (action.Download down.Confirmed)) w q d s n = refl
-same-segment (verdict.Of t (action.Download down.Declined)) w q d s n = refl
+pub same-segment : (v : Verdict) (w : BankState) (q : Fields) (d : List ℕ) (s size : ℕ) →
+    fileSegment (carryOut v w q d .mailboxes) s size (segmentIn v q) ≡ fileSegment (w .mailboxes) s size (segmentIn v q)
+same-segment verdict.Unreadable w q d s size = refl
+same-segment (verdict.Refused c) w q d s size = refl
+same-segment (verdict.Of t (action.Upload a)) w q d s size = refl
+same-segment (verdict.Of t (action.Download (down.Opened n))) w q d s size = refl
+same-segment (verdict.Of t (action.Download (down.Delivered n))) w q d s size = refl
+same-segment (verdict.Of t (action.Download (down.SentAgain n))) w q d s size = refl
+same-segment (verdict.Of t (action.Download (down.Point k))) w q d s size = refl
+same-segment (verdict.Of t (action.Download down.Cancelled)) w q d s size = refl
+same-segment (verdict.Of t (action.Download down.Confirmed)) w q d s size = refl
+same-segment (verdict.Of t (action.Download down.Declined)) w q d s size = refl
 
 -- the verdicts that are of no transaction
 abbrev pub ofNoneKeys : List ℕ

@@ -7,8 +7,12 @@ use native.Mathlib.Omega.{arith}
 use lib.ListN.{length, set}
 use types.Run.{OneOf}
 use denote.Enum.Declared.{tagOf}
+use Rattle.frame_table.specs.declared.fields.Bits128.{Bits128}
 use Rattle.frame_table.specs.declared.fields.Fields.{Fields}
 use Rattle.frame_table.specs.Names.{subscriber}
+use Rattle.octets.specs.Bytes.{number}
+use Rattle.frame.specs.Reader.{readRequest}
+use Rattle.frame.specs.Row.{dataOf}
 use Rattle.bank_state.specs.declared.clock.Ended.{Ended}
 use Rattle.bank_state.specs.declared.clock.Ended.the-variants as ending
 use Rattle.bank_state.specs.declared.state.Bank.{Bank}
@@ -25,21 +29,27 @@ use Rattle.bank_rows.proofs.Calls.{stored-next, laid-next, held-file}
 use Rattle.bank_rows.proofs.Range.{advanced-range}
 use Rattle.bank_rows.proofs.State.{stored-own, stored-back, stored-twice}
 use Rattle.bank_rows.proofs.Test.{sound-laid}
+use Rattle.bank_verdicts.specs.declared.verdict.Action.{Action}
 use Rattle.bank_verdicts.specs.declared.verdict.Action.the-variants as action
+use Rattle.bank_verdicts.specs.declared.verdict.Direction.the-variants as direction
 use Rattle.bank_verdicts.specs.declared.verdict.TransactionRequest.{TransactionRequest}
 use Rattle.bank_verdicts.specs.declared.verdict.Verdict.{Verdict}
 use Rattle.bank_verdicts.specs.declared.verdict.Verdict.the-variants as verdict
-use Rattle.bank_verdicts.specs.Judgement.{uploadAt}
+use Rattle.bank_verdicts.specs.Judgement.{judgeOpening, uploadAt}
 use Rattle.bank_verdicts.specs.Replies.{replyTo, segmentIn}
 use Rattle.bank_verdicts.proofs.verdict.Verdict.{the-type}
+use Rattle.bank_openings.specs.Openings.{openUpload, openDownload}
 use Rattle.bank_uploads.specs.Uploads.{UploadStep, uploadStep}
 use Rattle.bank.specs.declared.call.FrameAnswer.{FrameAnswer}
 use Rattle.bank.specs.Call.{emptied, carryOut, uploadVerdict, fileSegment, mailboxSegment, stepBy, respond}
 use Rattle.bank.specs.Call.{frameNumber, SentAs, replied, FrameInput, lentRight, FrameCall, frameRefused, frameCall}
 use Rattle.bank.specs.Lent.{Lent, lent, stateOf, keptIn, LentFrameCall, keptFrame, frameTurnedAway, lentFrameCall}
 use Rattle.bank.specs.Lent.{lentRespond, Prepared, CarriedOut}
-use Rattle.bank.proofs.Carried.{ofNoneKeys, of-none, same-segment, landed, upload-acts-at}
+use Rattle.bank.proofs.Carried.{ofNoneKeys, of-none, same-segment, upload-opened, download-opened, landed, upload-acts-at}
 use Rattle.bank.proofs.Held.{held-judged}
+
+pub lent-same : {r s o p m n : List ℕ} → r ≡ s → o ≡ p → m ≡ n → lent r o m ≡ lent s p n
+lent-same x y z = rw (x, y, z)
 
 -- ---- nothing changed
 
@@ -52,6 +62,27 @@ none-carried v s o m q d l k = record {
   judged = refl;
   done = unchanged s l o m ∙ ap (keptIn (lent s o m)) (of-none v (stateOf (lent s o m)) q d k);
 }
+
+-- ---- an opening
+
+module _ (s o m : List ℕ) (first : ℕ) (q : Fields) (d : List ℕ) {t : Bits128} {a : Action} {u : List ℕ} where
+  pub upload-opening-carried : {n : ℕ} → judgeOpening direction.Upload first (bankOf s) q ≡ verdict.Of t a → n ≡ bankOf s .openings
+      → u ≡ stored (openUpload t n q (bankOf s)) s
+      → CarriedOut (judgeOpening direction.Upload first (bankOf s) q) (lent s o m) q d (verdict.Of t a) (lent u o m)
+  upload-opening-carried told e f = record {
+    judged = sym told;
+    done =
+        lent-same (f ∙ ap (λ (k : ℕ). stored (openUpload t k q (bankOf s)) s) e) refl refl
+        ∙ ap (keptIn (lent s o m)) (upload-opened first (bankOf s) q o m d told);
+  }
+
+  pub download-opening-carried : judgeOpening direction.Download first (bankOf s) q ≡ verdict.Of t a
+      → u ≡ stored (openDownload t q (bankOf s)) s
+      → CarriedOut (judgeOpening direction.Download first (bankOf s) q) (lent s o m) q d (verdict.Of t a) (lent u o m)
+  download-opening-carried told f = record {
+    judged = sym told;
+    done = lent-same f refl refl ∙ ap (keptIn (lent s o m)) (download-opened first (bankOf s) q o m d told);
+  }
 
 -- ---- the open upload in place i
 
@@ -190,3 +221,13 @@ module _ (m : Lent) (a : FrameInput) where
   pub lent-frame : isSound (m .rows) ≡ true → lentFrameCall m a ≡ keptFrame m (frameCall (stateOf m) a)
   unfolding lentFrameCall
   lent-frame h = rw h
+
+  -- the clock, the reading and the step
+  pub frame-carried : isSound (m .rows) ≡ true → lentRight (stateOf m) (a .ids) (a .buffer) ≡ true
+      → (t p : List ℕ) → StoredWith (advanced (a .time) (stateOf m)) (m .rows) t p
+      → {first : ℕ} {q : Fields} {d : List ℕ} {x : LentFrameCall} → first ≡ number (a .ids) → q ≡ readRequest (a .frame)
+      → d ≡ dataOf (a .frame) → x ≡ lentRespond first (lent t p (m .mailboxes)) q d (a .buffer) → x ≡ lentFrameCall m a
+  unfolding lentFrameCall frameCall
+  frame-carried sound right t p e {first} {q} {d} x y z f =
+      let l = sound-laid (m .rows) sound in
+      f ∙ responded (m .rows) (m .orders) (m .mailboxes) l (a .time) t p e first q d (a .buffer) ∙ rw (x, y, z, sound, right)

@@ -2,7 +2,7 @@
 use crate::mailbox::mailbox_of;
 use crate::steps::step;
 use bank_rows::clock::advance;
-use crate::stub::file_length_of;
+use bank_rows::numbers::file_length_of;
 use bank_rows::sound::is_sound;
 use bank_state::limits::ID_BYTES;
 use bank_state::limits::REPLY_ROOM;

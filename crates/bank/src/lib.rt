@@ -2,4 +2,3 @@
 pub mod call;
 pub mod mailbox;
 pub mod steps;
-pub mod stub;

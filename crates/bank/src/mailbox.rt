@@ -1,5 +1,5 @@
 // A file goes into a mailbox.
-use crate::stub::file_length_of;
+use bank_rows::numbers::file_length_of;
 use bank_rows::numbers::set_file_length;
 use bank_rows::sound::is_sound;
 use bank_state::limits::STORE_BYTES;

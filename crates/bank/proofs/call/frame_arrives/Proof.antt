@@ -1,92 +1,87 @@
+-- Number 1 where a lent length is wrong or the rows are no bank's; else clock, reading and step, as the definition has them.
+use mathlib.Core.Bool.{true}
+use mathlib.Core.Path.{_≡_, sym, _∙_}
+use native.Mathlib.Omega.{arith}
+use lib.ListN.{length}
+use borrow.Author.Tests.{not-true, not-false}
+use Rattle.bank_state.specs.Limits.{storeBytes, idBytes}
+use Rattle.bank_rows.specs.Sound.{isSound}
+use Rattle.bank_rows.proofs.Test.{sound-laid, sound-range}
+use Rattle.bank.specs.Call.{lentRight, frameInput}
+use Rattle.bank.specs.Lent.{lent}
+use Rattle.bank.proofs.Accepted.{lengths-right}
+use Rattle.bank.proofs.Lent.{advanced-prepared, length-refused, rows-refused, frame-carried}
 use borrow.Author.Needs.{needs}
 use Rattle.bank.proofs.call.frame_arrives.Statement.{statement}
 use Rattle.bank.proofs.call.frame_arrives.Tie as tie
-use Rattle.bank.proofs.call.frame_arrives.Reads as reads
-use Rattle.bank.proofs.call.frame_arrives.Lts as lts
-use Rattle.bank.proofs.call.lent_right.Reads as lent-right-reads
-use Rattle.bank.proofs.call.respond.Reads as respond-reads
-use Rattle.bank_rows.proofs.clock.advance.Reads as advance-reads
-use Rattle.bank_rows.proofs.sound.is_sound.Reads as is-sound-reads
-use Rattle.frame.proofs.reader.data.Reads as data-reads
-use Rattle.frame.proofs.reader.read_request.Reads as read-request-reads
-use Rattle.octets.proofs.bytes.number.Reads as number-reads
 
--- src/call.rt:155:9
-lent-right-requires : tie.Need-lent-right-requires
-lent-right-requires c κs = search needs
+-- the lent lengths are right
+right : (c : tie.Else1)
+    → let a = c .before .before .before .before .before .before .before .before .args in
+    (length (a .orders .now) ≡ storeBytes) × (length (a .mailboxes .now) ≡ storeBytes) × (length (a .ids .now) ≡ idBytes)
+right c =
+    let buffer = c .before .before .before .before .before .before .before .before .args .buffer .now in
+    let right = not-false (c .before .lent-right .result) (c .if1 .left) in
+    lengths-right _ _ _ (length buffer) (sym (c .before .lent-right .ensures) ∙ right)
 
--- src/call.rt:156:9
+-- the rows are a bank's
+sound : (c : tie.Else2)
+    → isSound (c .before .before .before .before .before .before .before .before .before .before .before .args .rows .now) ≡ true
+sound c = sym (c .before .is-sound .ensures) ∙ not-false (c .before .is-sound .result) (c .if2 .left)
+
 returns : tie.Need-returns
-returns c = ?
+unfolding lentRight
+returns c =
+    sym (length-refused _ _ (sym (c .before .lent-right .ensures) ∙ not-true (c .before .lent-right .result) (c .if1 .taken)))
 
--- src/call.rt:161:9
-is-sound-requires : tie.Need-is-sound-requires
-is-sound-requires c κs = search needs
-
--- src/call.rt:162:9
-same-length : tie.Need-same-length
-same-length c = search needs
-
--- src/call.rt:162:9
 returns-2 : tie.Need-returns-2
-returns-2 c = ?
+returns-2 c = sym (rows-refused _ _ (sym (c .before .is-sound .ensures) ∙ not-true (c .before .is-sound .result) (c .if2 .taken)))
 
--- src/call.rt:167:5
 advance-requires : tie.Need-advance-requires
-advance-requires c κs = ?
+advance-requires c κs =
+    let at-if2 = c .before .before in
+    (sound-laid _ (sound at-if2), right (at-if2 .before .before .before) .0)
 
--- src/call.rt:170:9
 number-requires : tie.Need-number-requires
-number-requires c κs = ?
+number-requires c κs = omega (arith, right (c .before .before .before .before .before .before .before .before .before .before .before) .2)
 
--- src/call.rt:171:9
-read-request-requires : tie.Need-read-request-requires
-read-request-requires c κs = search needs
-
--- src/call.rt:172:9
-data-requires : tie.Need-data-requires
-data-requires c κs = search needs
-
--- src/call.rt:168:5
 respond-requires : tie.Need-respond-requires
-respond-requires c κs = ?
+respond-requires c κs =
+    let at-if2 = c .before .before .before .before .before .before .before .before .before .before .before .before .before .before in
+    let at-if1 = at-if2 .before .before .before in
+    let a = c .before .before .before .before .before .before .before .before .before .before .before .before .before .before .before .before .before .before .before .before .before .before .before .before .before .args in
+    let m = a .mailboxes .now in
+    advanced-prepared (a .rows .now) (a .orders .now) m (sound-laid _ (sound at-if2)) (a .time) _ _ (c .before .before .before .before .before .before .before .before .before .before .before .advance .ensures m)
+    (sound-range _ (sound at-if2)) (c .before .before .before .before .before .before .before .before .orders .given ∙ right at-if1 .0) (right at-if1 .1)
 
--- src/call.rt:141:1
-same-length-2 : tie.Need-same-length-2
-same-length-2 c = search needs
-
--- src/call.rt:141:1
-same-length-3 : tie.Need-same-length-3
-same-length-3 c = search needs
-
--- src/call.rt:141:1
-same-length-4 : tie.Need-same-length-4
-same-length-4 c = search needs
-
--- src/call.rt:141:1
-same-length-5 : tie.Need-same-length-5
-same-length-5 c = search needs
-
--- src/call.rt:141:1
 returns-3 : tie.Need-returns-3
-returns-3 c = ?
+unfolding lentRight
+returns-3 c =
+    let at-if2 = c .before .before .before .before .before .before .before .before .before .before .before .before .before .before .before .before .before .before .before .before .before .before .before in
+    let at-lent = at-if2 .before .before .before .before in
+    let a = c .before .before .before .before .before .before .before .before .before .before .before .before .before .before .before .before .before .before .before .before .before .before .before .before .before .before .before .before .before .before .before .before .before .before .args in
+    let m = a .mailboxes .now in
+    let lengths = sym (at-lent .lent-right .ensures) ∙ not-false (at-lent .lent-right .result) (c .before .before .before .before .before .before .before .before .before .before .before .before .before .before .before .before .before .before .before .before .before .before .before .before .before .before .if1 .left) in
+    frame-carried (lent (a .rows .now) (a .orders .now) m) (frameInput (a .time) (a .ids .now) (a .frame .now) (a .buffer .now))
+    (sound at-if2) lengths _ _ (c .before .before .before .before .before .before .before .before .before .before .before .before .before .before .before .before .before .before .before .before .advance .ensures m)
+    (c .before .before .before .before .before .before .before .before .before .before .before .before .before .before .number .ensures .0) (c .before .before .before .before .before .before .before .before .before .before .before .before .before .read-request .ensures) (c .before .before .before .before .before .before .before .before .before .before .before .before .«data» .ensures) (c .before .before .before .before .before .before .before .before .respond .ensures)
 
 pub frame-arrives-spec : {M : Type 1} → statement M
 frame-arrives-spec =
     tie.close
     (tie.spec
-    lent-right-requires
+    (λ c κs. search needs)
     returns
-    is-sound-requires
-    same-length
+    (λ c κs. search needs)
+    (λ c. search needs)
     returns-2
     advance-requires
     number-requires
-    read-request-requires
-    data-requires
+    (λ c κs. search needs)
+    (λ c κs. search needs)
     respond-requires
-    same-length-2
-    same-length-3
-    same-length-4
-    same-length-5
+    (λ c. search needs)
+    (λ c. search needs)
+    (λ c. search needs)
+    (λ c. search needs)
     returns-3)

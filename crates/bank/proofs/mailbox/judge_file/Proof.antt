@@ -1,53 +1,68 @@
+-- The tests go from top to bottom, each that fails leaves the list shorter. Assumes nothing.
+use mathlib.Core.Path.{_≡_, sym, _∙_}
+use Prim.Native.Nat.{ℕ}
+use lib.ListN.{length, drop}
+use borrow.Author.Tests.{eq-eqb, ne-eqb}
+use Rattle.message.specs.Verdicts.{decide}
+use Rattle.bank_state.specs.Limits.{storeBytes}
+use Rattle.bank_rows.specs.State.{bankOf}
+use Rattle.bank.specs.declared.mailbox.FileAnswer.the-variants.{Done}
+use Rattle.bank.specs.Mailbox.{fileRefusals}
 use borrow.Author.Needs.{needs}
 use Rattle.bank.proofs.mailbox.judge_file.Statement.{statement}
 use Rattle.bank.proofs.mailbox.judge_file.Tie as tie
-use Rattle.bank.proofs.mailbox.judge_file.Reads as reads
-use Rattle.bank.proofs.mailbox.judge_file.Lts as lts
-use Rattle.bank.proofs.mailbox.is_no_mailbox.Reads as is-no-mailbox-reads
-use Rattle.bank.proofs.mailbox.is_wrong_file.Reads as is-wrong-file-reads
-use Rattle.bank.proofs.stub.file_length_of.Reads as file-length-of-reads
 
--- src/mailbox.rt:68:9
+-- the first k tests fail
+abbrev Rest : ℕ → tie.Start → Type 0
+Rest k s =
+    let rows = fileRefusals (bankOf (s .args .rows .now)) (s .args .mailbox) (s .args .file .now) (s .args .mailboxes .now) in
+    decide rows Done ≡ decide (drop k rows) Done
+
+passed-1 : (c : tie.Else1) → Rest 1 (c .before .before .before .before)
+unfolding fileRefusals
+passed-1 c = rw (eq-eqb (length (c .before .before .before .before .args .mailboxes .now)) storeBytes (c .if1 .left))
+
+passed-2 : (c : tie.Else2) → Rest 2 (c .before .before .before .before .before .before)
+unfolding fileRefusals
+passed-2 c = passed-1 (c .before .before) ∙ rw (← c .before .is-no-mailbox .ensures, c .if2 .left)
+
+passed-3 : (c : tie.Else3) → Rest 3 (c .before .before .before .before .before .before .before .before)
+unfolding fileRefusals
+passed-3 c = passed-2 (c .before .before) ∙ rw (← c .before .is-wrong-file .ensures, c .if3 .left)
+
 returns : tie.Need-returns
-returns c = ?
+unfolding fileRefusals
+returns c = rw (ne-eqb (length (c .before .before .before .before .args .mailboxes .now)) storeBytes (c .if1 .taken))
 
--- src/mailbox.rt:70:8
-is-no-mailbox-requires : tie.Need-is-no-mailbox-requires
-is-no-mailbox-requires c κs = search needs
-
--- src/mailbox.rt:71:9
 returns-2 : tie.Need-returns-2
-returns-2 c = ?
+unfolding fileRefusals
+returns-2 c = sym (passed-1 (c .before .before) ∙ rw (← c .before .is-no-mailbox .ensures, c .if2 .taken))
 
--- src/mailbox.rt:73:8
-is-wrong-file-requires : tie.Need-is-wrong-file-requires
-is-wrong-file-requires c κs = search needs
-
--- src/mailbox.rt:74:9
 returns-3 : tie.Need-returns-3
-returns-3 c = ?
+unfolding fileRefusals
+returns-3 c = sym (passed-2 (c .before .before) ∙ rw (← c .before .is-wrong-file .ensures, c .if3 .taken))
 
--- src/mailbox.rt:76:8
-file-length-of-requires : tie.Need-file-length-of-requires
-file-length-of-requires c κs = search needs
-
--- src/mailbox.rt:77:9
 returns-4 : tie.Need-returns-4
-returns-4 c = ?
+unfolding fileRefusals
+returns-4 c =
+    sym (passed-3 (c .before .before)
+    ∙ rw (← c .before .file-length-of .ensures, ne-eqb (c .before .file-length-of .result) 0 (c .if4 .taken)))
 
--- src/mailbox.rt:62:1
 returns-5 : tie.Need-returns-5
-returns-5 c = ?
+unfolding fileRefusals
+returns-5 c =
+    sym (passed-3 (c .before .before)
+    ∙ rw (← c .before .file-length-of .ensures, eq-eqb (c .before .file-length-of .result) 0 (c .if4 .left)))
 
 pub judge-file-spec : {M : Type 1} → statement M
 judge-file-spec =
     tie.close
     (tie.spec
     returns
-    is-no-mailbox-requires
+    (λ c κs. search needs)
     returns-2
-    is-wrong-file-requires
+    (λ c κs. search needs)
     returns-3
-    file-length-of-requires
+    (λ c κs. search needs)
     returns-4
     returns-5)

@@ -1,12 +1,13 @@
 -- Each action by what it ends; the others keep the record open. Assumes nothing.
 use mathlib.Core.List.{List}
-use mathlib.Core.Path.{_≡_, ap, _∙_}
+use mathlib.Core.Path.{_≡_, refl, ap, _∙_}
 use Prim.Native.Nat.{ℕ}
 use Rattle.bank_state.specs.declared.state.Download.{Download}
 use Rattle.bank_state.specs.State.{bankState, downloadAt, withDownload}
 use Rattle.bank_rows.specs.State.{bankOf, stored}
 use Rattle.bank.specs.Lent.{lent, keptIn}
 use Rattle.bank.proofs.Carried.{stays}
+use Rattle.bank.proofs.Lent.{lent-same}
 use Rattle.bank.proofs.Held.{after-used, download-counted, download-used}
 use borrow.Author.Needs.{needs}
 use Rattle.bank.proofs.steps.downloads_after.Statement.{statement}
@@ -20,21 +21,21 @@ set-download-requires c κs =
       start .pre .0,
       counted,
       ap (λ (e : Download). e .used) (start .pre .3)
-      ∙ after-used (a .s .action) (bankOf (a .rows .now) .clock) (downloadAt (bankOf (a .rows .now)) (a .j))
-      ∙ download-used (a .rows .now) (start .pre .0) (a .j) counted,
+          ∙ after-used (a .s .action) (bankOf (a .rows .now) .clock) (downloadAt (bankOf (a .rows .now)) (a .j))
+          ∙ download-used (a .rows .now) (start .pre .0) (a .j) counted,
     )
 
 returns : tie.Need-returns
 returns c =
     λ o.
     rw (c .before .before .before .before .before .before .enum-told .given .1, ← c .before .before .before .transaction .ensures, ← c .before .before .before .before .subscriber .ensures)
-    (ap (λ (r : List ℕ). lent r o _) (c .before .before .end-downloads .ensures))
+    (lent-same (c .before .before .end-downloads .ensures) refl refl)
 
 returns-2 : tie.Need-returns-2
 returns-2 c =
     λ o.
     rw (c .before .before .before .before .before .before .enum-told2 .given .1, ← c .before .before .before .transaction2 .ensures, ← c .before .before .before .before .subscriber2 .ensures)
-    (ap (λ (r : List ℕ). lent r o _) (c .before .before .end-downloads2 .ensures))
+    (lent-same (c .before .before .end-downloads2 .ensures) refl refl)
 
 returns-3 : tie.Need-returns-3
 returns-3 c = λ o. rw (c .before .before .before .before .before .before .before .before .enum-told3 .given .1, ← c .before .before .before .before .before .before .subscriber3 .ensures) (c .before .before .before .before .emptied .ensures o)

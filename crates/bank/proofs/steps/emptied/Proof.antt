@@ -1,12 +1,9 @@
 -- The downloads end first, then the mailbox is emptied: two changes stored as one. Assumes nothing.
-use mathlib.Core.List.{List}
-use mathlib.Core.Path.{_≡_, ap, _∙_}
+use mathlib.Core.Path.{refl, ap, _∙_}
 use native.Mathlib.Omega.{arith}
-use Prim.Native.Nat.{ℕ}
 use Rattle.bank_state.specs.declared.clock.Ended.the-variants as ending
 use Rattle.bank_state.specs.Store.{zeroed}
-use Rattle.bank.specs.Lent.{lent}
-use Rattle.bank.proofs.Lent.{ended-laid, emptied-stored}
+use Rattle.bank.proofs.Lent.{lent-same, ended-laid, emptied-stored}
 use borrow.Author.Needs.{needs}
 use Rattle.bank.proofs.steps.emptied.Statement.{statement}
 use Rattle.bank.proofs.steps.emptied.Tie as tie
@@ -27,8 +24,7 @@ returns c =
     let rows =
     emptied-stored (a .rows .now) (start .pre .0) (a .subscriber) _ _ _ i (c .before .before .before .before .before .before .before .before .before .before .end-downloads .ensures)
     (c .before .before .before .before .before .before .set-file-length .ensures) o (a .mailboxes .now) in
-    ap (λ (r : List ℕ). lent r o _) rows
-    ∙ ap (lent _ o) (c .before .before .zero .ensures ∙ ap (zeroed (a .mailboxes .now)) i)
+    lent-same rows refl (c .before .before .zero .ensures ∙ ap (zeroed (a .mailboxes .now)) i)
 
 pub emptied-spec : {M : Type 1} → statement M
 emptied-spec =

@@ -1,53 +1,50 @@
+-- An opening that acts on a transaction is accepted; the other verdicts change nothing. Assumes nothing.
+use mathlib.Core.Path.{_≡_, sym, ap, _∙_, subst}
+use Rattle.bank_rows.specs.State.{bankOf}
+use Rattle.bank_rows.proofs.State.{held-rows}
+use Rattle.bank_verdicts.specs.declared.verdict.Direction.the-variants as direction
+use Rattle.bank_verdicts.specs.declared.verdict.Verdict.{Verdict}
+use Rattle.bank_openings.proofs.Opened.{accepted-room}
+use Rattle.bank.specs.Lent.{lent, CarriedOut}
+use Rattle.bank.proofs.Lent.{none-carried, upload-opening-carried}
 use borrow.Author.Needs.{needs}
 use Rattle.bank.proofs.steps.upload_opening.Statement.{statement}
 use Rattle.bank.proofs.steps.upload_opening.Tie as tie
-use Rattle.bank.proofs.steps.upload_opening.Reads as reads
-use Rattle.bank.proofs.steps.upload_opening.Lts as lts
-use Rattle.bank.proofs.stub.judge_opening.Reads as judge-opening-reads
-use Rattle.bank.proofs.stub.open_upload.Reads as open-upload-reads
-use Rattle.bank_rows.proofs.numbers.openings.Reads as openings-reads
 
--- src/steps.rt:59:9
-judge-opening-requires : tie.Need-judge-opening-requires
-judge-opening-requires c κs = search needs
-
--- src/steps.rt:61:21
-enum-known-verdict : tie.Need-enum-known-verdict
-enum-known-verdict c = search needs
-
--- src/steps.rt:62:17
-openings-requires : tie.Need-openings-requires
-openings-requires c κs = search needs
-
--- src/steps.rt:63:13
 open-upload-requires : tie.Need-open-upload-requires
-open-upload-requires c κs = search needs
+open-upload-requires c κs =
+    let start = c .before .before .before .before .before .before .before .before .before in
+    let a = start .args in
+    let s = a .rows .now in
+    let told = sym (c .before .before .before .before .before .before .judge-opening .ensures) ∙ c .before .before .before .before .verdict .given .1 in
+    (start .pre, accepted-room (a .first) (bankOf s) (a .q) (held-rows s (start .pre)) direction.Upload told)
 
--- src/steps.rt:53:1
-same-length : tie.Need-same-length
-same-length c = search needs
-
--- src/steps.rt:53:1
 returns : tie.Need-returns
-returns c = ?
+returns c =
+    λ o m d.
+    let a = c .before .before .before .before .before .before .before .before .before .before .before .before .args in
+    let told = sym (c .before .before .before .before .before .before .before .before .before .judge-opening .ensures) ∙ c .before .before .before .before .before .before .before .verdict .given .1 in
+    upload-opening-carried (a .rows .now) o m (a .first) (a .q) d told (c .before .before .before .before .openings .ensures) (c .before .before .open-upload .ensures)
 
--- src/steps.rt:53:1
-same-length-2 : tie.Need-same-length-2
-same-length-2 c = search needs
-
--- src/steps.rt:53:1
 returns-2 : tie.Need-returns-2
-returns-2 c = ?
+returns-2 c =
+    λ o m d.
+    let start = c .before .before .before .before in
+    let a = start .args in
+    let s = a .rows .now in
+    let judged = c .before .judge-opening .ensures in
+    subst (λ (v : Verdict). CarriedOut v (lent s o m) (a .q) d (c .before .judge-opening .result) (lent s o m)) judged
+    (none-carried (c .before .judge-opening .result) s o m (a .q) d (start .pre) (c .match .keys2))
 
 pub upload-opening-spec : {M : Type 1} → statement M
 upload-opening-spec =
     tie.close
     (tie.spec
-    judge-opening-requires
-    enum-known-verdict
-    openings-requires
+    (λ c κs. search needs)
+    (λ c. search needs)
+    (λ c κs. search needs)
     open-upload-requires
-    same-length
+    (λ c. search needs)
     returns
-    same-length-2
+    (λ c. search needs)
     returns-2)
