@@ -1,5 +1,6 @@
--- A bank in range stays so when the clock is set: places are freed, downloads end, and the files stay. Assumes nothing.
-use Prim.Native.Nat.{ℕ, zero, suc, max, _*_, _≤_, _<_}
+-- A bank in range has room for each segment, and stays in range when the clock is set: places are freed, downloads end,
+-- and the files stay. Assumes nothing.
+use Prim.Native.Nat.{ℕ, zero, suc, max, _+_, _*_, _≤_, _<_}
 use mathlib.Core.Bool.{Bool, true, false, cond}
 use mathlib.Core.List.{List, [], _∷_}
 use mathlib.Core.Path.{_≡_, refl, subst}
@@ -52,6 +53,11 @@ module _ (P : Place → Type 0) (none : P noPlace) where
   freed-each (x ∷ l) (suc i) (suc j) p = freed-each l i j p
 
 module _ {b : Bank} (r : InRange b) where
+  -- an open upload's place has room for a segment more
+  pub upload-room : (i n : ℕ) → isOpen (placeAt b i .used) ≡ true → n ≤ segmentBytes
+      → placeAt b i .length + n ≤ fileBytes
+  upload-room i n o h = omega (arith, r .few i o, r .below i o, r .largest i o)
+
   pub freed-range : (i : ℕ) → InRange (withPlace i noPlace b)
   freed-range i = record {
     files = r .files;
