@@ -14,7 +14,7 @@ use Rattle.message.specs.declared.codes.ReturnCode.the-variants as code
 use Rattle.bank_state.specs.declared.state.Bank.{Bank}
 use Rattle.bank_state.specs.declared.state.Download.{Download}
 use Rattle.bank_state.specs.declared.state.Place.{Place}
-use Rattle.bank_state.specs.Limits.{placeCount, maxOpenings}
+use Rattle.bank_state.specs.Limits.{placeCount}
 use Rattle.bank_state.specs.State.{BankState, bankState, placeAt, downloadAt, withPlace}
 use Rattle.bank_state.specs.Store.{partAt, withPart}
 use Rattle.bank_verdicts.specs.declared.verdict.Action.{Action}
@@ -68,19 +68,16 @@ of-none (verdict.Of t a) w q d k = absurd (miss ofNoneKeys 2 tt k)
 
 -- ---- an opening of a transaction
 
-pub record Opens (first : ℕ) (b : Bank) (q : Fields) (dir : Direction) (v : Verdict) : Type 0 where
-  pub numbers : b .openings < maxOpenings
-  pub verdict : v ≡ accepted dir first b q
-
 module _ (first : ℕ) (b : Bank) (q : Fields) {t : Bits128} {a : Action} where
-  opens-by : (dir : Direction) (v : Verdict) → OpeningSound first b q dir v → v ≡ verdict.Of t a → Opens first b q dir v
+  opens-by : (dir : Direction) (v : Verdict) → OpeningSound first b q dir v → v ≡ verdict.Of t a
+      → v ≡ accepted dir first b q
   opens-by dir v (sound.refused d c h) e = absurd (let z : _≡_ {A = ℕ} 0 1 = cc in omega arith)
-  opens-by dir v (sound.upload acc some free) e = record { numbers = acc .numbers; verdict = refl }
-  opens-by dir v (sound.download acc full) e = record { numbers = acc .numbers; verdict = refl }
+  opens-by dir v (sound.upload acc some free) e = refl
+  opens-by dir v (sound.download acc full) e = refl
 
   -- one that acts on a transaction is accepted
-  pub opens : (dir : Direction) → judgeOpening dir first b q ≡ verdict.Of t a →
-      Opens first b q dir (judgeOpening dir first b q)
+  opens : (dir : Direction) → judgeOpening dir first b q ≡ verdict.Of t a
+      → judgeOpening dir first b q ≡ accepted dir first b q
   opens dir e = opens-by dir (judgeOpening dir first b q) (judged-opening first b q dir) e
 
   module _ (o m d : List ℕ) where
@@ -88,7 +85,7 @@ module _ (first : ℕ) (b : Bank) (q : Fields) {t : Bits128} {a : Action} where
         → bankState (openUpload t (b .openings) q b) o m
         ≡ carryOut (judgeOpening direction.Upload first b q) (bankState b o m) q d
     upload-opened e =
-        let known = opens direction.Upload e .verdict in
+        let known = opens direction.Upload e in
         let same : t ≡ transactionOf first b = cc in
         ap (λ (id : Bits128). bankState (openUpload id (b .openings) q b) o m) same
         ∙ sym (ap (λ (v : Verdict). carryOut v (bankState b o m) q d) known)
@@ -97,7 +94,7 @@ module _ (first : ℕ) (b : Bank) (q : Fields) {t : Bits128} {a : Action} where
         → bankState (openDownload t q b) o m
         ≡ carryOut (judgeOpening direction.Download first b q) (bankState b o m) q d
     download-opened e =
-        let known = opens direction.Download e .verdict in
+        let known = opens direction.Download e in
         let same : t ≡ transactionOf first b = cc in
         ap (λ (id : Bits128). bankState (openDownload id q b) o m) same
         ∙ sym (ap (λ (v : Verdict). carryOut v (bankState b o m) q d) known)

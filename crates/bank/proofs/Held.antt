@@ -38,7 +38,7 @@ use Rattle.bank_verdicts.specs.declared.verdict.TransactionRequest.the-variants
 use Rattle.bank_verdicts.specs.declared.verdict.UploadAction.{UploadAction}
 use Rattle.bank_verdicts.specs.declared.verdict.Verdict.{Verdict}
 use Rattle.bank_verdicts.specs.declared.verdict.Verdict.the-variants as verdict
-use Rattle.bank_verdicts.specs.Judgement.{mailboxSegments, judgeOpening, judgeUpload, judgeDownload, uploadAt, downloadOf}
+use Rattle.bank_verdicts.specs.Judgement.{mailboxSegments, judgeOpening, judgeDownload, uploadAt, downloadOf}
 use Rattle.bank_verdicts.specs.Judgement.{judgeOpen, judgeTransaction, judgeRequest, judgeForm, judge}
 use Rattle.bank_verdicts.specs.Refusals.{notOpen}
 use Rattle.bank_verdicts.proofs.Sound.{OpeningSound, judged-request, judged-opening, judged-transaction}
@@ -60,7 +60,8 @@ after-used down.Declined t e = refl
 
 module _ (s : List ℕ) (l : Laid s) where
   -- an upload that is found is open
-  pub upload-open : (q : Fields) {i : ℕ} → i ≡ uploadAt (bankOf s) q → i < placeCount → isOpen (placeAt (bankOf s) i .used) ≡ true
+  pub upload-open : (q : Fields) {i : ℕ} → i ≡ uploadAt (bankOf s) q → i < placeCount
+      → isOpen (placeAt (bankOf s) i .used) ≡ true
   unfolding findUpload
   upload-open q e h =
       let test : Place → Bool = isUpload (subscriber q) (transaction q) in
@@ -92,7 +93,8 @@ module _ (s : List ℕ) (l : Laid s) (q : Fields) (o m d : List ℕ) where
   own : Held b
   own = held-rows s l
 
-  opening-held : (first : ℕ) (dir : Direction) (v : Verdict) → OpeningSound first b q dir v → judgeOpening dir first b q ≡ v → P v
+  opening-held : (first : ℕ) (dir : Direction) (v : Verdict) → OpeningSound first b q dir v
+      → judgeOpening dir first b q ≡ v → P v
   opening-held first dir v (sound.refused e c h) told = own
   opening-held first dir v (sound.upload acc some free) told =
       held-upload q b own (accepted-room first b q own direction.Upload told) _ _
@@ -116,7 +118,7 @@ module _ (s : List ℕ) (l : Laid s) (q : Fields) (o m d : List ℕ) where
       by (down.SentAgain n) = stays-held (down.SentAgain n)
       by (down.Point k) = stays-held (down.Point k)
       by down.Cancelled = held-ended (ending.Transaction (subscriber q) (transaction q)) own
-      by down.Confirmed = held-file (subscriber q - 1) 0 (held-ended (ending.Mailbox (subscriber q)) own)
+      by down.Confirmed = held-file (subscriber q - 1) 0 (held-ended _ own)
       by down.Declined = held-ended (ending.Transaction (subscriber q) (transaction q)) own
 
   -- where no upload is found, a download is
@@ -139,11 +141,15 @@ module _ (s : List ℕ) (l : Laid s) (q : Fields) (o m d : List ℕ) where
       (held-place (uploadAt b q) _ own))
       (λ none. subst (λ (x : BankState). Held (x .bank))
       (sym (download-acts (e .transaction) w q d r e n))
-      (on-download-held (judgeDownload r e n q) (downloadOf b q) (download-counted s l q refl (found-other some none)))))
+      (on-download-held (judgeDownload r e n q) (downloadOf b q)
+      (download-counted s l q refl (found-other some none)))))
+
+  opened : (first : ℕ) (dir : Direction) → P (judgeOpening dir first b q)
+  opened first dir = opening-held first dir (judgeOpening dir first b q) (judged-opening first b q dir) refl
 
   request-held : (first : ℕ) (x : RequestForm) → P (judgeRequest x first b q (length d))
-  request-held first requests.UploadOpening = opening-held first direction.Upload _ (judged-opening first b q direction.Upload) refl
-  request-held first requests.DownloadOpening = opening-held first direction.Download _ (judged-opening first b q direction.Download) refl
+  request-held first requests.UploadOpening = opened first direction.Upload
+  request-held first requests.DownloadOpening = opened first direction.Download
   request-held first requests.UploadTransfer = transaction-held asked.UploadTransfer
   request-held first requests.DownloadTransfer = transaction-held asked.DownloadTransfer
   request-held first requests.Receipt = transaction-held asked.Receipt

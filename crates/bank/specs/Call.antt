@@ -170,7 +170,7 @@ pub record SentAs (f : Fields) (d old : List ℕ) (a : FrameAnswer) (code : ℕ)
   pub written : buffer ≡ writeBuffer f d old
   pub coded : code ≡ replyCode (answerOf (writeAnswer f d old)) (writeBuffer f d old)
 
--- what a call leaves: the bank, both stores, the reply buffer, the answer, document 01's number for it, the reply's code
+-- what a call leaves: the bank, stores, the reply buffer, the answer, document 01's number for it, the reply's code
 pub record FrameCall : Type 0 where
   pub bankState : BankState
   pub buffer : List ℕ
@@ -212,5 +212,6 @@ frameRefused w a =
 unfoldable pub frameCall : BankState → FrameInput → FrameCall
 frameCall w a =
     cond (lentRight w (a .ids) (a .buffer))
-    (replied (respond (number (a .ids)) (advanced (a .time) w) (readRequest (a .frame)) (dataOf (a .frame))) (a .buffer))
+    (replied (respond (number (a .ids)) (advanced (a .time) w) (readRequest (a .frame)) (dataOf (a .frame)))
+    (a .buffer))
     (frameRefused w a)
