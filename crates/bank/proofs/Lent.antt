@@ -194,10 +194,9 @@ module _ (s o m : List ℕ) (l : Laid s) (time : ℕ) where
     responded first q d buffer =
         let c : BankState → FrameCall = λ (w : BankState). replied (respond first w q d) buffer in
         let after = c (advanced time old) in
-        let held : Held (after .bankState .bank) =
-        subst (λ (w : BankState). Held (c w .bankState .bank)) advanced-state
-        (held-judged t advanced-laid q p m d first) in
         let few = advanced-within in
+        let v = advanced time old in
+        let held : Held (after .bankState .bank) = held-judged (v .bank) (few .held) q (v .orders) (v .mailboxes) d first in
         let once = ap (stored (after .bankState .bank)) (e .rows)
         ∙ stored-twice (advanced time old .bank) (after .bankState .bank) s (few .held) held l
         (omega (arith, few .downloads)) (omega (arith, few .nonces)) in

@@ -5,10 +5,11 @@ use Prim.Native.Nat.{ℕ}
 use Rattle.bank_state.specs.declared.state.Download.{Download}
 use Rattle.bank_state.specs.State.{bankState, downloadAt, withDownload}
 use Rattle.bank_rows.specs.State.{bankOf, stored}
+use Rattle.bank_rows.proofs.State.{held-rows}
 use Rattle.bank.specs.Lent.{lent, keptIn}
 use Rattle.bank.proofs.Carried.{stays}
 use Rattle.bank.proofs.Lent.{lent-same}
-use Rattle.bank.proofs.Held.{after-used, download-counted, download-used}
+use Rattle.bank.proofs.Held.{after-used, download-counted, download-open}
 use borrow.Author.Needs.{needs}
 use Rattle.bank.proofs.steps.downloads_after.Statement.{statement}
 use Rattle.bank.proofs.steps.downloads_after.Tie as tie
@@ -17,12 +18,13 @@ set-download-requires : tie.Need-set-download-requires
 set-download-requires c κs =
     let start = c .before .before .before .before .before in
     let a = start .args in
-    let counted = download-counted (a .rows .now) (start .pre .0) (a .q) (start .pre .2) (start .pre .1) in (
+    let s = a .rows .now in
+    let counted = download-counted s (start .pre .0) (a .q) (start .pre .2) (start .pre .1) in (
       start .pre .0,
       counted,
       ap (λ (e : Download). e .used) (start .pre .3)
-          ∙ after-used (a .s .action) (bankOf (a .rows .now) .clock) (downloadAt (bankOf (a .rows .now)) (a .j))
-          ∙ download-used (a .rows .now) (start .pre .0) (a .j) counted,
+          ∙ after-used (a .s .action) (bankOf s .clock) (downloadAt (bankOf s) (a .j))
+          ∙ download-open (bankOf s) (held-rows s (start .pre .0)) (a .q) (start .pre .2) (start .pre .1) .0,
     )
 
 returns : tie.Need-returns

@@ -7,7 +7,9 @@ use Rattle.message.specs.Limits.{fileBytes}
 use Rattle.bank_state.specs.declared.state.Place.{Place}
 use Rattle.bank_state.specs.Store.{withPart}
 use Rattle.bank_state.proofs.Stores.{part-back, part-lent}
+use Rattle.bank_rows.specs.State.{bankOf}
 use Rattle.bank_rows.proofs.Range.{upload-room}
+use Rattle.bank_rows.proofs.State.{held-rows}
 use Rattle.bank_uploads.specs.Uploads.{uploadStep}
 use Rattle.bank.proofs.Held.{upload-open}
 use Rattle.bank.proofs.Lent.{upload-carried}
@@ -20,7 +22,8 @@ upload-step-requires c κs =
     let at-place-at = c .before .before .before in
     let start = at-place-at .before .before .before .before .before in
     let a = start .args in
-    let open-at = upload-open (a .rows .now) (start .pre .0) (a .q) (start .pre .3) (start .pre .2) in
+    let held = held-rows (a .rows .now) (start .pre .0) in
+    let open-at = upload-open (bankOf (a .rows .now)) held (a .q) (start .pre .3) (start .pre .2) in
     let room = upload-room (start .pre .1) (a .i) (length (a .bytes .now)) open-at (start .pre .4) in
     (search needs, omega (arith, ap (λ (p : Place). p .length) (at-place-at .place-at .ensures), room))
 
