@@ -5,26 +5,26 @@ use Rattle.bank.proofs.call.reply.Tie as tie
 
 returns : tie.Need-returns
 returns c =
-    λ o.
-    let at-reply = c .before .before in
-    let at-fields = at-reply .before .before in
-    let at-data = at-fields .before in
-    let at-segment = at-data .before in
+    let at-reply-with = c .before .before in
+    let at-reply-to = at-reply-with .before .before in
+    let at-file-segment = at-reply-to .before in
+    let at-segment-in = at-file-segment .before in
+    let at-subscriber = at-segment-in .before in
     rw (
-      ← at-fields .reply-to .ensures,
-      ← at-segment .before .subscriber .ensures,
-      ← at-segment .segment-in .ensures,
-      ← at-data .mailbox-segment .ensures o,
-    ) (at-reply .reply-with .ensures)
+      ← at-reply-to .reply-to .ensures,
+      ← at-subscriber .subscriber .ensures,
+      ← at-segment-in .segment-in .ensures,
+      ← at-file-segment .file-segment .ensures,
+    ) (at-reply-with .reply-with .ensures)
 
 pub reply-spec : {M : Type 1} → statement M
 reply-spec =
     tie.close
     (tie.spec
-    (λ c κs. tt)
-    (λ c κs. tt)
-    (λ c κs. tt)
-    (λ c κs. tt)
-    (λ c κs. tt)
+    (λ c κs. search needs)
+    (λ c κs. search needs)
+    (λ c κs. search needs)
+    (λ c κs. search needs)
+    (λ c κs. search needs)
     (λ c. search needs)
     returns)

@@ -1,9 +1,13 @@
 -- The verdict is carried out, the reply read off it: where it has data, the mailboxes are as before. Assumes nothing.
-use Rattle.bank_state.specs.State.{bankState}
-use Rattle.bank_verdicts.specs.Judgement.{judge}
+use mathlib.Core.Path.{ap, _∙_}
+use Prim.Native.Nat.{ℕ}
 use lib.ListN.{length}
+use Rattle.bank_state.specs.State.{fileLength}
+use Rattle.bank_rows.specs.State.{bankOf}
+use Rattle.bank_verdicts.specs.Judgement.{judge}
 use Rattle.bank.specs.Call.{respond}
-use Rattle.bank.proofs.Carried.{replied-by}
+use Rattle.bank.specs.Lent.{lent}
+use Rattle.bank.proofs.Lent.{respond-kept}
 use borrow.Author.Needs.{needs}
 use Rattle.bank.proofs.call.respond.Statement.{statement}
 use Rattle.bank.proofs.call.respond.Tie as tie
@@ -12,20 +16,27 @@ returns : tie.Need-returns
 unfolding respond
 returns c =
     let at-reply = c .before .before in
-    let at-step = at-reply .before .before .before .before .before .before .before .before in
-    let a = at-step .before .before .before .before .before .before .before .args in
-    let w = bankState (a .b) (a .orders .now) (a .mailboxes .now) in
+    let at-step = at-reply .before .before .before .before .before .before .before .before .before in
+    let at-file-length-of = at-step .before .before .before .before in
+    let at-subscriber = at-file-length-of .before in
+    let start = at-subscriber .before .before .before .before .before .before .before in
+    let a = start .args in
+    let b = bankOf (a .rows .now) in
     let step = at-step .step .ensures in
-    let v = judge (a .first) (a .b) (a .q) (length (a .bytes .now)) in
-    replied-by v w (a .q) (a .bytes .now) (step .judged) (step .done)
-    (at-reply .reply .ensures _)
+    let v = judge (a .first) b (a .q) (length (a .bytes .now)) in
+    let n = at-file-length-of .file-length-of .ensures ∙ ap (λ (k : ℕ). fileLength k (b .files)) (at-subscriber .subscriber .ensures) in
+    respond-kept (lent (a .rows .now) (a .orders .now) (a .mailboxes .now)) v (a .q) (a .bytes .now)
+    (step .judged) (step .done) n (at-reply .reply .ensures)
 
 pub respond-spec : {M : Type 1} → statement M
 respond-spec =
     tie.close
     (tie.spec
     (λ c κs. search needs)
-    (λ c κs. tt)
+    (λ c κs. search needs)
+    (λ c κs. search needs)
+    (λ c κs. search needs)
+    (λ c. search needs)
     (λ c. search needs)
     (λ c. search needs)
     (λ c. search needs)
