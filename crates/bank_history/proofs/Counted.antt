@@ -156,7 +156,7 @@ module _ (x : Exchange) (h : List Exchange) (t : Bits128) (a l : ℕ) where
       fitted = record { exchange = x; before = h; stands = newest; fits = record { action = k; is = own; kind = y }; came = refl };
     }
 
-open-used : (u : Use) → isOpen u ≡ true → isFree u ≡ false
+pub open-used : (u : Use) → isOpen u ≡ true → isFree u ≡ false
 open-used Free z = never z
 open-used Open z = refl
 open-used Booked z = never z

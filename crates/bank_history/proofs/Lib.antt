@@ -40,3 +40,5 @@ pub mod SentSegments
 pub mod IdleHour
 pub mod SixAttempts
 pub mod FalseEconomies
+pub mod Statuses
+pub mod Drops
