@@ -84,6 +84,7 @@ use Rattle.bank_history.proofs.Positions.{sound-at, action-sound, one-o
 use Rattle.bank_history.proofs.Remembered.{nonce-remembered}
 use Rattle.bank_history.proofs.SentSegments.{action-in, reply-form, reply-transaction}
 use Rattle.bank_history.proofs.IdleHour.{idle-refused}
+use Rattle.bank_history.proofs.OpenAnswered.{open-answered}
 use Rattle.bank_history.proofs.SixAttempts.{five-answered, sixth-cancels, attempts-counted}
 use Rattle.bank_history.proofs.Replies.{verdictForm, verdictCode, verdict-form, verdict-code, action-transaction, actionForm}
 use Rattle.bank_history.proofs.Theorems.{history-sound, reply-is, upload-opened, download-opened, segment-taken, recovery-point}
@@ -397,6 +398,7 @@ false-economies = record {
   foreign = foreign-refused;
   closed = closed-refused;
   idle = idle-refused;
+  known = open-answered;
   five = λ n c a. five-answered n c a;
   sixth = λ n c r. sixth-cancels n c r;
   counted = attempts-counted;

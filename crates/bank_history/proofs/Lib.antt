@@ -39,6 +39,7 @@ pub mod Counted
 pub mod SentSegments
 pub mod IdleHour
 pub mod SixAttempts
+pub mod OpenAnswered
 pub mod FalseEconomies
 pub mod Statuses
 pub mod Drops

@@ -106,13 +106,13 @@ use Rattle.bank_history.proofs.Theorems.{history-sound, reply-is, downl
 
 -- ---- every attempt shows, and every segment up to d was sent
 
-data AllShown : List Exchange → Type 0 where
+pub data AllShown : List Exchange → Type 0 where
   none : AllShown []
   more : {x : Exchange} {h : List Exchange} → ((t : Bits128) → did isAttempt t (x .verdict) ≡ true → Attempt t h x) → AllShown h → AllShown (x ∷ h)
 
-record Tracked (h : List Exchange) : Type 0 where
+pub record Tracked (h : List Exchange) : Type 0 where
   segmentsSent : (t : Bits128) (n : ℕ) → 1 ≤ n → n ≤ times isDelivery t h → Sent t n h
-  shown : AllShown h
+  pub shown : AllShown h
 
 module _ (x : Exchange) (h : List Exchange) (sound : AllSound (x ∷ h)) (known : (t : Bits128) → ever isAction t h ≡ true → t .low < accepted h)
     (old : Tracked h) where
@@ -212,7 +212,7 @@ start-tracked : Tracked (start .history)
 unfolding start times
 start-tracked = record { segmentsSent = λ t n a b. absurd (omega arith); shown = none }
 
-past-tracked : (calls : List BankCall) → Tracked (pastOf calls .history)
+pub past-tracked : (calls : List BankCall) → Tracked (pastOf calls .history)
 unfolding pastOf
 past-tracked [] = start-tracked
 past-tracked (call ∷ calls) =

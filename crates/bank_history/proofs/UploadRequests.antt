@@ -102,7 +102,7 @@ module _ (w : BankState) (h : List Exchange) (v : Invariant w h) (t : Bits128) (
   upload-is-open = subst (λ (z : Use). PlaceKept z (w .bank .clock) (w .bank .openings) h p (partAt (w .orders) (u .place))) (u .used)
       (place-kept v (u .place) (u .inside))
 
-  find-own : findUpload s t (w .bank) ≡ u .place
+  pub find-own : findUpload s t (w .bank) ≡ u .place
   unfolding findUpload
   find-own =
       let long = v .state .sizes .places in
