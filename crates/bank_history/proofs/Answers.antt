@@ -28,8 +28,8 @@ use Rattle.bank_state.specs.State.{BankState}
 use Rattle.bank_verdicts.specs.declared.verdict.Verdict.the-variants as verdict
 use Rattle.bank_verdicts.specs.Refusals.{requestRows}
 use Rattle.bank_verdicts.specs.Judgement.{judge}
-use Rattle.bank.specs.Call.{Step, stepBy, respond, lentRight, frameCall}
-use Rattle.bank_history.specs.History.{Exchange, Past, BankCall, Frame, exchangeOf, after, pastOf}
+use Rattle.bank.specs.Call.{Step, stepBy, respond, lentRight, frameCall, FrameInput}
+use Rattle.bank_history.specs.History.{Exchange, Past, BankCall, Frame, exchangeOf, after, pastOf, callExchange}
 use Rattle.bank_history.specs.Invariant.{Invariant, Holds}
 use Rattle.bank_history.specs.Transactions.{answered}
 use Rattle.bank_history.specs.Answers.{AllBytes, FrameAnswered}
@@ -61,8 +61,8 @@ call-lengths w ids buffer h =
 -- ---- every reply
 
 -- the answer to a request of a frame
-abbrev pub stepOf : BankState → ℕ → List ℕ → List ℕ → Step
-stepOf w time ids frame = respond (number ids) (advanced time w) (readRequest frame) (dataOf frame)
+abbrev pub stepOf : BankState → FrameInput → Step
+stepOf w a = respond (number (a .ids)) (advanced (a .time) w) (readRequest (a .frame)) (dataOf (a .frame))
 
 unread-is : (first : ℕ) (w : BankState) (q : Fields) (d : List ℕ) → isRequestForm (form q) ≡ false →
     respond first w q d ≡ stepBy verdict.Unreadable w q d
@@ -76,89 +76,94 @@ unfolding respond
 respond-written first w h v q d r b small =
     case-written w h v q r b small (happens first w q d (v .state .sizes .places) (v .state .sizes .downloads))
 
-module _ (p : Past) (holds : Holds p) (bytes : Bytes (p .bankState .mailboxes)) (time : ℕ) (ids frame : List ℕ) (idsBytes : Bytes ids)
-    (frameBytes : Bytes frame) (right : length ids ≡ idBytes) where
-  pub reply-written : WrittenReply (stepOf (p .bankState) time ids frame .reply) (stepOf (p .bankState) time ids frame .replyData)
-  reply-written = at (isRequestForm (form (readRequest frame))) refl
+module _ (p : Past) (holds : Holds p) (bytes : Bytes (p .bankState .mailboxes)) (a : FrameInput)
+    (idsBytes : Bytes (a .ids))
+    (frameBytes : Bytes (a .frame)) (right : length (a .ids) ≡ idBytes) where
+  pub reply-written : WrittenReply (stepOf (p .bankState) a .reply) (stepOf (p .bankState) a .replyData)
+  reply-written = at (isRequestForm (form (readRequest (a .frame)))) refl
     where
       w : BankState
-      w = advanced time (p .bankState)
+      w = advanced (a .time) (p .bankState)
 
       v : Invariant w (p .history)
-      v = advanced-keeps time (p .bankState) (p .history) (holds .invariant)
+      v = advanced-keeps (a .time) (p .bankState) (p .history) (holds .invariant)
 
-      at : (b : Bool) → isRequestForm (form (readRequest frame)) ≡ b →
-          WrittenReply (stepOf (p .bankState) time ids frame .reply) (stepOf (p .bankState) time ids frame .replyData)
+      at : (b : Bool) → isRequestForm (form (readRequest (a .frame))) ≡ b →
+          WrittenReply (stepOf (p .bankState) a .reply) (stepOf (p .bankState) a .replyData)
       at true e =
-          respond-written (number ids) w (p .history) v (readRequest frame) (dataOf frame) (request-in-width frame frameBytes e)
-          (advanced-bytes time (p .bankState) bytes) (ids-lt ids idsBytes right)
+          respond-written (number (a .ids)) w (p .history) v (readRequest (a .frame)) (dataOf (a .frame))
+          (request-in-width (a .frame) frameBytes e)
+          (advanced-bytes (a .time) (p .bankState) bytes) (ids-lt (a .ids) idsBytes right)
       at false e =
-          subst (λ (s : Step). WrittenReply (s .reply) (s .replyData)) (sym (unread-is (number ids) w (readRequest frame) (dataOf frame) e))
-          (subst (WrittenReply unreadable) (sym (bare w (subscriber (readRequest frame))))
+          subst (λ (s : Step). WrittenReply (s .reply) (s .replyData))
+          (sym (unread-is (number (a .ids)) w (readRequest (a .frame)) (dataOf (a .frame)) e))
+          (subst (WrittenReply unreadable) (sym (bare w (subscriber (readRequest (a .frame)))))
           (sent refl (omega arith) (omega arith) unreadable-written))
 
-  module _ (buffer : List ℕ) (room : replyRoom ≤ length buffer) where
+  module _ (room : replyRoom ≤ length (a .buffer)) where
     abbrev out : List ℕ
-    out = frameOf (stepOf (p .bankState) time ids frame .reply) (stepOf (p .bankState) time ids frame .replyData)
+    out = frameOf (stepOf (p .bankState) a .reply) (stepOf (p .bankState) a .replyData)
 
     -- the call is entered into the history
-    pub call-entered : after (Frame time ids frame buffer) p ≡ answered time ids frame p
+    pub call-entered : after (Frame a) p ≡ answered a p
     call-entered =
         let r = reply-written in
-        frame-answered time ids frame buffer p holds right room (r .written .accepted, let n = r .written .size in omega (arith, r .most))
+        frame-answered a p holds right room (r .written .accepted, let n = r .written .size in omega (arith, r .most))
 
     -- its answer is the reply, in front of the buffer
-    pub call-answered : FrameAnswered (frameCall (p .bankState) time ids frame buffer) buffer
-        (exchangeOf (number ids) (advanced time (p .bankState)) (readRequest frame) (dataOf frame))
+    pub call-answered : FrameAnswered (frameCall (p .bankState) a) (a .buffer)
+        (callExchange (p .bankState) a)
     unfolding frameCall exchangeOf overwrite
     call-answered =
         let r = reply-written in
         let t = r .written in
-        let s : Step = stepOf (p .bankState) time ids frame in
-        let front = written-in-front (s .reply) (s .replyData) buffer (r .size) (t .accepted) (t .size) (omega (arith, r .most)) in
-        let is : frameCall (p .bankState) time ids frame buffer .buffer ≡ out ++ drop (0 + length out) buffer =
-        rw (lent-right p ids buffer holds right room) (front .1) in
-        let own : take (r .size) (frameCall (p .bankState) time ids frame buffer .buffer) ≡ out =
+        let s : Step = stepOf (p .bankState) a in
+        let front =
+        written-in-front (s .reply) (s .replyData) (a .buffer) (r .size) (t .accepted) (t .size)
+        (omega (arith, r .most)) in
+        let is : frameCall (p .bankState) a .buffer ≡ out ++ drop (0 + length out) (a .buffer) =
+        rw (lent-right p (a .ids) (a .buffer) holds right room) (front .1) in
+        let own : take (r .size) (frameCall (p .bankState) a .buffer) ≡ out =
         ap (take (r .size)) is ∙ take-at out _ (r .size) (t .size) in
         record {
           size = r .size;
-          answer = rw (lent-right p ids buffer holds right room, front .0);
+          answer = rw (lent-right p (a .ids) (a .buffer) holds right room, front .0);
           least = r .least;
           most = r .most;
           fields = ap readReply own ∙ written-reply (s .reply) (s .replyData) (t .long) (t .accepted) (ap isReplyForm (t .named) ∙ r .kind);
           contents = ap dataOf own ∙ written-data (s .reply) (s .replyData) (t .long) (t .accepted);
           untouched = ap (drop (r .size)) is ∙ drop-at out _ (r .size) (t .size)
-              ∙ ap (λ (n : ℕ). drop n buffer) (zero-add (length out) ∙ t .size);
+              ∙ ap (λ (n : ℕ). drop n (a .buffer)) (zero-add (length out) ∙ t .size);
         }
 
 -- ---- in every past of calls that bring bytes
 
-module _ {calls : List BankCall} (given : AllBytes calls) (time : ℕ) (ids frame buffer : List ℕ) (idsBytes : Bytes ids)
-    (frameBytes : Bytes frame) where
+module _ {calls : List BankCall} (given : AllBytes calls) (a : FrameInput) (idsBytes : Bytes (a .ids))
+    (frameBytes : Bytes (a .frame)) where
   abbrev past : Past
   past = pastOf calls
 
   -- "a number, nothing changed" comes of a wrong lent length alone; every other frame gets its reply
-  pub frame-gets-reply : length ids ≡ idBytes → replyRoom ≤ length buffer →
-      FrameAnswered (frameCall (past .bankState) time ids frame buffer) buffer
-      (exchangeOf (number ids) (advanced time (past .bankState)) (readRequest frame) (dataOf frame))
+  pub frame-gets-reply : length (a .ids) ≡ idBytes → replyRoom ≤ length (a .buffer) →
+      FrameAnswered (frameCall (past .bankState) a) (a .buffer)
+      (callExchange (past .bankState) a)
   frame-gets-reply right room =
-      call-answered past (past-holds calls) (past-bytes given) time ids frame idsBytes frameBytes right buffer room
+      call-answered past (past-holds calls) (past-bytes given) a idsBytes frameBytes right room
 
   -- and its exchange enters the history
-  pub frame-entered : length ids ≡ idBytes → replyRoom ≤ length buffer →
-      after (Frame time ids frame buffer) past ≡ answered time ids frame past
+  pub frame-entered : length (a .ids) ≡ idBytes → replyRoom ≤ length (a .buffer) →
+      after (Frame a) past ≡ answered a past
   frame-entered right room =
-      call-entered past (past-holds calls) (past-bytes given) time ids frame idsBytes frameBytes right buffer room
+      call-entered past (past-holds calls) (past-bytes given) a idsBytes frameBytes right room
 
   -- the history's bank is the bank that the call leaves
-  pub same-bank : after (Frame time ids frame buffer) past .bankState ≡ frameCall (past .bankState) time ids frame buffer .bankState
+  pub same-bank : after (Frame a) past .bankState ≡ frameCall (past .bankState) a .bankState
   unfolding after frameCall
-  same-bank = at (lentRight (past .bankState) ids buffer) refl
+  same-bank = at (lentRight (past .bankState) (a .ids) (a .buffer)) refl
     where
-      at : (b : Bool) → lentRight (past .bankState) ids buffer ≡ b →
-          after (Frame time ids frame buffer) past .bankState ≡ frameCall (past .bankState) time ids frame buffer .bankState
+      at : (b : Bool) → lentRight (past .bankState) (a .ids) (a .buffer) ≡ b →
+          after (Frame a) past .bankState ≡ frameCall (past .bankState) a .bankState
       at true e =
-          let l = call-lengths (past .bankState) ids buffer e in
+          let l = call-lengths (past .bankState) (a .ids) (a .buffer) e in
           ap (λ (r : Past). r .bankState) (frame-entered (l .0) (l .1)) ∙ rw e
       at false e = rw e

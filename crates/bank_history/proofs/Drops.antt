@@ -251,15 +251,15 @@ module _ {calls : List BankCall} {e : Exchange} (n : Next calls e) (t : Bits128)
   h = pastOf calls .history
 
   -- open after the clock's step is open by the history and not idle
-  still-open : {d : Direction} {s last : ℕ} → OpenAs (advanced (n .time) w) t d s last →
+  still-open : {d : Direction} {s last : ℕ} → OpenAs (advanced (n .input .time) w) t d s last →
       dropIdle (e .clock) (status t h) ≡ Open d s last
   still-open o =
       ap (λ (c : ℕ). dropIdle c (status t h)) (clock-is n)
       ∙ open-told
-      (advanced-told (n .time) w (past-holds calls .invariant .state .sizes) (λ (u : Bits128). status u h)
+      (advanced-told (n .input .time) w (past-holds calls .invariant .state .sizes) (λ (u : Bits128). status u h)
       (past-told calls)) o
 
-  drops-gone : In t (drops (e .clock) h) → OpenIn w t × (OpenIn (advanced (n .time) w) t → ⊥)
+  drops-gone : In t (drops (e .clock) h) → OpenIn w t × (OpenIn (advanced (n .input .time) w) t → ⊥)
   unfolding drops
   drops-gone i =
       let k = keep-in (λ (u : Bits128). isIdleAt (e .clock) (status u h)) (openings h) i in
@@ -269,20 +269,20 @@ module _ {calls : List BankCall} {e : Exchange} (n : Next calls e) (t : Bits128)
       )
 
   others-stay : (d : Direction) (s last : ℕ) → OpenAs w t d s last → (In t (drops (e .clock) h) → ⊥) →
-      OpenAs (advanced (n .time) w) t d s last
+      OpenAs (advanced (n .input .time) w) t d s last
   unfolding drops
   others-stay d s last o notIn = at (isIdle (e .clock) last) refl
     where
       now : status t h ≡ Open d s last
       now = open-told (past-told calls) o
 
-      at : (b : Bool) → isIdle (e .clock) last ≡ b → OpenAs (advanced (n .time) w) t d s last
+      at : (b : Bool) → isIdle (e .clock) last ≡ b → OpenAs (advanced (n .input .time) w) t d s last
       at true z =
           absurd (notIn (in-keep (λ (u : Bits128). isIdleAt (e .clock) (status u h)) (openings h)
           (open-listed w h (past-holds calls .invariant) o) (ap (isIdleAt (e .clock)) now ∙ z)))
       at false z =
-          open-advanced (n .time) w (past-holds calls .invariant .state .sizes)
-          (ap (λ (c : ℕ). isIdle c last) (sym (clock-is n ∙ advanced-clock (n .time) w)) ∙ z) o
+          open-advanced (n .input .time) w (past-holds calls .invariant .state .sizes)
+          (ap (λ (c : ℕ). isIdle c last) (sym (clock-is n ∙ advanced-clock (n .input .time) w)) ∙ z) o
 
 -- ---- an accepted opening stands in one way
 

@@ -108,43 +108,43 @@ module _ {calls : List BankCall} {e : Exchange} (n : Next calls e) where
 
   -- the bank as the request is judged, the request, its data
   abbrev pub judgedBank : BankState
-  judgedBank = advanced (n .time) (pastOf calls .bankState)
+  judgedBank = advanced (n .input .time) (pastOf calls .bankState)
 
   abbrev pub asked : Fields
-  asked = readRequest (n .frame)
+  asked = readRequest (n .input .frame)
 
   abbrev pub sent : List ℕ
-  sent = dataOf (n .frame)
+  sent = dataOf (n .input .frame)
 
-  pub left : pastOf (Frame (n .time) (n .ids) (n .frame) (n .buffer) ∷ calls) ≡ answered (n .time) (n .ids) (n .frame)
+  pub left : pastOf (Frame (n .input) ∷ calls) ≡ answered (n .input)
       (pastOf calls)
   unfolding pastOf
-  left = at (after-frame (n .time) (n .ids) (n .frame) (n .buffer) past)
+  left = at (after-frame (n .input) past)
     where
       c : BankCall
-      c = Frame (n .time) (n .ids) (n .frame) (n .buffer)
+      c = Frame (n .input)
 
-      at : (after c past ≡ past) ⊎ (after c past ≡ answered (n .time) (n .ids) (n .frame) past) →
-          after c past ≡ answered (n .time) (n .ids) (n .frame) past
+      at : (after c past ≡ past) ⊎ (after c past ≡ answered (n .input) past) →
+          after c past ≡ answered (n .input) past
       at (inl z) =
           let l : length (past .history) ≡ length (e ∷ past .history) =
           ap length (sym (ap (λ (r : Past). r .history) z) ∙ n .entered) in
           absurd (omega arith)
       at (inr z) = z
 
-  pub exchange-is : e ≡ exchangeOf (number (n .ids)) judgedBank asked sent
+  pub exchange-is : e ≡ exchangeOf (number (n .input .ids)) judgedBank asked sent
   unfolding head-or exchangeOf
   exchange-is = ap (head-or e) (sym (n .entered) ∙ ap (λ (r : Past). r .history) left)
 
   pub judged-holds : Invariant judgedBank (pastOf calls .history)
-  judged-holds = advanced-keeps (n .time) (past .bankState) (past .history) (past-holds calls .invariant)
+  judged-holds = advanced-keeps (n .input .time) (past .bankState) (past .history) (past-holds calls .invariant)
 
   pub all-sound : AllSound (e ∷ pastOf calls .history)
   all-sound =
       subst AllSound (n .entered)
-      (past-holds (Frame (n .time) (n .ids) (n .frame) (n .buffer) ∷ calls) .invariant .sound)
+      (past-holds (Frame (n .input) ∷ calls) .invariant .sound)
 
-  pub verdict-is : e .verdict ≡ judge (number (n .ids)) (judgedBank .bank) asked (length sent)
+  pub verdict-is : e .verdict ≡ judge (number (n .input .ids)) (judgedBank .bank) asked (length sent)
   unfolding exchangeOf respond
   verdict-is = ap (λ (x : Exchange). x .verdict) exchange-is
 
@@ -160,14 +160,14 @@ module _ {calls : List BankCall} {e : Exchange} (n : Next calls e) where
   unfolding exchangeOf
   clock-is = ap (λ (x : Exchange). x .clock) exchange-is
 
-  pub case-is : Happens (number (n .ids)) judgedBank asked sent (e .verdict)
+  pub case-is : Happens (number (n .input .ids)) judgedBank asked sent (e .verdict)
   case-is =
-      subst (Happens (number (n .ids)) judgedBank asked sent) (sym verdict-is)
-      (happens (number (n .ids)) judgedBank asked sent (judged-holds .state .sizes .places)
+      subst (Happens (number (n .input .ids)) judgedBank asked sent) (sym verdict-is)
+      (happens (number (n .input .ids)) judgedBank asked sent (judged-holds .state .sizes .places)
       (judged-holds .state .sizes .downloads))
 
   -- the bank after the call
-  pub bank-after : pastOf (Frame (n .time) (n .ids) (n .frame) (n .buffer) ∷ calls) .bankState ≡ carryOut
+  pub bank-after : pastOf (Frame (n .input) ∷ calls) .bankState ≡ carryOut
       (e .verdict) judgedBank asked sent
   unfolding respond
   bank-after =
@@ -199,14 +199,15 @@ module _ {calls : List BankCall} {e : Exchange} (n : Next calls e) where
         P (e .verdict)
     by-asked P by =
         subst P (sym verdict-is)
-        (by-request (number (n .ids)) judgedBank asked sent P by (well-made (a .made)) (rw (sym request-is) (a .kind)))
+        (by-request (number (n .input .ids)) judgedBank asked sent P by (well-made (a .made))
+        (rw (sym request-is) (a .kind)))
 
     pub answer : Answer (e .verdict)
-    answer = by-asked Answer (by-transaction (number (n .ids)) judgedBank asked sent)
+    answer = by-asked Answer (by-transaction (number (n .input .ids)) judgedBank asked sent)
 
     -- an action, where the transaction is open
     pub acted : notOpen (judgedBank .bank) asked ≡ false → (u : Bits128) × (k : Action) × (e .verdict ≡ verdict.Of u k)
-    acted some = by-asked Acted (by-open (number (n .ids)) judgedBank asked sent some)
+    acted some = by-asked Acted (by-open (number (n .input .ids)) judgedBank asked sent some)
 
     not-form : {f : Form} → form (e .request) ≡ f → (f ≡ forms.UploadOpening) ⊎ (f ≡ forms.DownloadOpening) → ⊥
     not-form {f} z o = at o (a .kind)

@@ -332,9 +332,9 @@ unfolding isIdle
 open-answered {calls} {e} {t} {f} {last} n a o recent =
     let s = open-status (history-sound calls) (past-tracked calls .shown) o in
     let w = pastOf calls .bankState in
-    let c = clock-is n ∙ advanced-clock (n .time) w in
+    let c = clock-is n ∙ advanced-clock (n .input .time) w in
     let there : OpenAs (judgedBank n) t (s .direction) (subscriber (e .request)) last =
-    open-advanced (n .time) w (past-holds calls .invariant .state .sizes)
+    open-advanced (n .input .time) w (past-holds calls .invariant .state .sizes)
     (ap (λ (m : ℕ). isIdle m last) (sym c) ∙ le-ltb (last + idleLimit) (e .clock) recent)
     (open-shown (past-told calls) (s .now)) in
     let mine : OpenAs (judgedBank n) (transaction (asked n)) (s .direction) (subscriber (asked n)) last =

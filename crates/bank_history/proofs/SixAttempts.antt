@@ -219,7 +219,7 @@ past-tracked (call ∷ calls) =
     let p = pastOf calls in
     let v = past-holds calls .invariant in
     by-call (λ (r : Past). Tracked (r .history)) call p (past-holds calls) (past-tracked calls)
-    (λ time ids frame buffer e z.
+    (λ a e z.
     tracked-more _ (p .history) (subst (λ (r : Past). AllSound (r .history)) z (past-holds (call ∷ calls) .invariant .sound))
     (λ t k. let a = v .known t k in let b = v .counted in omega arith) (past-tracked calls))
     (λ m f e. past-tracked calls)
@@ -344,7 +344,8 @@ module _ {calls : List BankCall} {e : Exchange} (n : Next calls e) where
   by-history : {u : Bits128} {k : Action} → e .verdict ≡ verdict.Of u k → ByHistory (pastOf calls .history) (verdict.Of u k)
   by-history own =
       subst (ByHistory (pastOf calls .history)) own
-      (acted-attempts (judgedBank n) (pastOf calls .history) (judged-holds n) (judged-counted calls (n .time)) (asked n) (sent n) _ (case-is n))
+      (acted-attempts (judgedBank n) (pastOf calls .history) (judged-holds n) (judged-counted calls (n .input .time))
+      (asked n) (sent n) _ (case-is n))
 
   counted-now : {t : Bits128} {m : ℕ} → Attempts t m (pastOf calls .history) → times isAttempt t (pastOf calls .history) ≡ m
   counted-now c = counted-so (history-sound calls) (past-tracked calls .shown) c

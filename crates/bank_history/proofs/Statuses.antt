@@ -609,12 +609,13 @@ past-told (call ∷ calls) =
     let holds = past-holds calls in
     let c = past-told calls in
     by-call (λ (r : Past). Told (r .bankState) (λ (t : Bits128). status t (r .history))) call p holds c
-    (λ time ids frame buffer e z.
-    let w = advanced time (p .bankState) in
-    let v = advanced-keeps time (p .bankState) (p .history) (holds .invariant) in
-    case-told w (p .history) v _ (advanced-told time (p .bankState) (holds .invariant .state .sizes) _ c)
-    (readRequest frame) (dataOf frame)
-    (happens (number ids) w (readRequest frame) (dataOf frame) (v .state .sizes .places) (v .state .sizes .downloads)))
+    (λ a e z.
+    let w = advanced (a .time) (p .bankState) in
+    let v = advanced-keeps (a .time) (p .bankState) (p .history) (holds .invariant) in
+    case-told w (p .history) v _ (advanced-told (a .time) (p .bankState) (holds .invariant .state .sizes) _ c)
+    (readRequest (a .frame)) (dataOf (a .frame))
+    (happens (number (a .ids)) w (readRequest (a .frame)) (dataOf (a .frame)) (v .state .sizes .places)
+    (v .state .sizes .downloads)))
     (λ m f e. record {
       places = c .places;
       downloads = c .downloads;

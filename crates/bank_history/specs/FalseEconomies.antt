@@ -38,16 +38,14 @@ use Rattle.message.specs.Limits.{
 }
 use Rattle.bank_state.specs.Clock.{advanced}
 use Rattle.bank_state.specs.Limits.{window, idleLimit}
+use Rattle.bank.specs.Call.{FrameInput}
 use Rattle.bank_history.specs.History.{Exchange, BankCall, Frame, Stands, pastOf}
 use Rattle.bank_history.specs.Sound.{isCancelling}
 
 -- after these calls a frame call is answered, and e is its exchange
 pub record Next (calls : List BankCall) (e : Exchange) : Type 0 where
-  pub time : ℕ
-  pub ids : List ℕ
-  pub frame : List ℕ
-  pub buffer : List ℕ
-  pub entered : pastOf (Frame time ids frame buffer ∷ calls) .history ≡ e ∷ pastOf calls .history
+  pub input : FrameInput
+  pub entered : pastOf (Frame input ∷ calls) .history ≡ e ∷ pastOf calls .history
 
 -- ---- requests
 
@@ -160,8 +158,8 @@ pub record FalseEconomies : Type 0 where
       (n : Next calls e) → Asks t e → Stands f g (pastOf calls .history) → Opens t f →
       (subscriber (e .request) ≡ subscriber (f .request) → ⊥) →
       RefusedWith code.UnknownTransaction e
-      × (pastOf (Frame (n .time) (n .ids) (n .frame) (n .buffer) ∷ calls) .bankState
-      ≡ advanced (n .time) (pastOf calls .bankState))
+      × (pastOf (Frame (n .input) ∷ calls) .bankState
+      ≡ advanced (n .input .time) (pastOf calls .bankState))
   -- "Answering a repeated last segment 000000 (the order is closed: 091101)"
   pub closed : {calls : List BankCall} {e f : Exchange} {g : List Exchange} {t : Bits128} → Next calls e → Asks t e →
       Stands f g (pastOf calls .history) → Takes t f → lastMark (f .request) ≡ 1 → RefusedWith code.UnknownTransaction e

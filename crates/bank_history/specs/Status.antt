@@ -180,10 +180,10 @@ pub record Drops : Type 0 where
   -- a call's clock takes out of the bank exactly its drops, and leaves the other open transactions as they are
   pub gone : {calls : List BankCall} {e : Exchange} (n : Next calls e) (t : Bits128) →
       In t (drops (e .clock) (pastOf calls .history)) →
-      OpenIn (pastOf calls .bankState) t × (OpenIn (advanced (n .time) (pastOf calls .bankState)) t → ⊥)
+      OpenIn (pastOf calls .bankState) t × (OpenIn (advanced (n .input .time) (pastOf calls .bankState)) t → ⊥)
   pub stays : {calls : List BankCall} {e : Exchange} (n : Next calls e) (t : Bits128) (d : Direction) (s last : ℕ) →
       OpenAs (pastOf calls .bankState) t d s last → (In t (drops (e .clock) (pastOf calls .history)) → ⊥) →
-      OpenAs (advanced (n .time) (pastOf calls .bankState)) t d s last
+      OpenAs (advanced (n .input .time) (pastOf calls .bankState)) t d s last
   -- the oldest opening first
   pub ordered : (calls : List BankCall) (clock : ℕ) → Rising 0 (drops clock (pastOf calls .history))
   -- "The accepted openings are numbered from 0"; each stands in one way, and no longer as not opened
