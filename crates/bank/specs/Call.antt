@@ -1,5 +1,5 @@
 -- A frame arrives: the lent lengths, the clock and the drops, the reading, the verdict and what it does, and the reply.
-use Prim.Native.Nat.{ℕ, _-_, _<_, _≤_}
+use Prim.Native.Nat.{ℕ, _-_}
 use mathlib.Core.Path.{_≡_}
 use mathlib.Core.Bool.{Bool, true, false, cond, _&&_}
 use mathlib.Core.List.{List, []}
@@ -15,7 +15,6 @@ use Rattle.frame.specs.Reader.{readRequest, readReply}
 use Rattle.frame.specs.Row.{dataOf}
 use Rattle.frame_table.specs.Table.{isReplyForm}
 use Rattle.frame.specs.Writer.{writeAnswer, writeBuffer}
-use Rattle.message.specs.Limits.{subscribers}
 use Rattle.message.specs.Segments.{segmentOf}
 use Rattle.bank_state.specs.declared.state.Bank.{Bank}
 use Rattle.bank_state.specs.declared.clock.Ended.{Ended}
@@ -41,8 +40,6 @@ use Rattle.bank_openings.specs.Openings.{openUpload, openDownload}
 use Rattle.bank_uploads.specs.Uploads.{placeAfter, bytesAfter}
 use Rattle.bank.specs.declared.call.FrameAnswer.{FrameAnswer}
 use Rattle.bank.specs.declared.call.FrameAnswer.the-variants.{Reply, WrongLength}
-use Rattle.bank.specs.declared.call.FrameOut.{FrameOut}
-use Rattle.bank.specs.declared.steps.Stepped.{Stepped}
 
 -- what a request comes to: its verdict, the bank and its stores after it, and the reply's fields and data
 pub record Step : Type 0 where
@@ -50,13 +47,6 @@ pub record Step : Type 0 where
   pub bankState : BankState
   pub reply : Fields
   pub replyData : List ℕ
-
--- a request of a subscriber, and both stores of their length: what its step asks
-pub record Ready (q : Fields) (orders mailboxes : List ℕ) : Type 0 where
-  pub known : 0 < subscriber q
-  pub most : subscriber q ≤ subscribers
-  pub places : length orders ≡ storeBytes
-  pub mailboxStore : length mailboxes ≡ storeBytes
 
 -- ---- what a verdict does to the bank and its stores
 
@@ -132,18 +122,15 @@ downloadVerdict r j b q =
     let e = downloadAt b j in
     verdict.Of (e .transaction) (action.Download (judgeDownload r e (mailboxSegments (subscriber q) b) q))
 
--- what is left where the request q with the data d was judged to be v: the verdict, and the bank with its stores
-pub record CarriedOut (v : Verdict) (w : BankState) (q : Fields) (d : List ℕ) (r : Stepped) (orders mailboxes : List ℕ)
-    : Type 0 where
-  pub judged : r .verdict ≡ v
-  pub done : bankState (r .bank) orders mailboxes ≡ carryOut v w q d
-
 -- ---- the reply
 
--- the bytes of segment s of a subscriber's mailbox; segment 0 stands for none
+-- the bytes of segment s of a subscriber's file of n bytes; segment 0 stands for none
+abbrev pub fileSegment : List ℕ → ℕ → ℕ → ℕ → List ℕ
+fileSegment mailboxes subscriber n s = cond (eqb s 0) [] (segmentOf (fileOf mailboxes (subscriber - 1) n) s)
+
+-- the bytes of segment s of a subscriber's mailbox
 unfoldable pub mailboxSegment : BankState → ℕ → ℕ → List ℕ
-mailboxSegment w subscriber s =
-    cond (eqb s 0) [] (segmentOf (fileOf (w .mailboxes) (subscriber - 1) (fileLength subscriber (w .bank .files))) s)
+mailboxSegment w subscriber s = fileSegment (w .mailboxes) subscriber (fileLength subscriber (w .bank .files)) s
 
 -- what a verdict on the request q with the data d comes to
 abbrev pub stepBy : Verdict → BankState → Fields → List ℕ → Step
@@ -191,15 +178,6 @@ pub record FrameCall : Type 0 where
   pub number : ℕ
   pub code : ℕ
 
-abbrev pub frameCallOf : FrameOut → List ℕ → List ℕ → List ℕ → FrameCall
-frameCallOf r orders mailboxes buffer = record {
-  bankState = bankState (r .bank) orders mailboxes;
-  buffer = buffer;
-  answer = r .answer;
-  number = frameNumber (r .answer);
-  code = r .code;
-}
-
 abbrev pub replied : Step → List ℕ → FrameCall
 replied s buffer = record {
   bankState = s .bankState;
@@ -209,15 +187,30 @@ replied s buffer = record {
   code = replyCode (answerOf (writeAnswer (s .reply) (s .replyData) buffer)) (writeBuffer (s .reply) (s .replyData) buffer);
 }
 
+-- what a frame call brings and is lent besides the bank: the bank time, the 8 ID bytes, the frame, the reply buffer
+pub record FrameInput : Type 0 where
+  pub time : ℕ
+  pub ids : List ℕ
+  pub frame : List ℕ
+  pub buffer : List ℕ
+
+abbrev pub frameInput : ℕ → List ℕ → List ℕ → List ℕ → FrameInput
+frameInput time ids frame buffer = record { time = time; ids = ids; frame = frame; buffer = buffer }
+
 -- number 1: "a lent length differs from the above or is too short for what is to be written"
 unfoldable pub lentRight : BankState → List ℕ → List ℕ → Bool
 lentRight w ids buffer =
     eqb (length (w .orders)) storeBytes && eqb (length (w .mailboxes)) storeBytes && eqb (length ids) idBytes
     && leb replyRoom (length buffer)
 
--- a frame arrives at a time: the lent ID bytes, the frame, the reply buffer
-unfoldable pub frameCall : BankState → ℕ → List ℕ → List ℕ → List ℕ → FrameCall
-frameCall w time ids frame buffer =
-    cond (lentRight w ids buffer)
-    (replied (respond (number ids) (advanced time w) (readRequest frame) (dataOf frame)) buffer)
-    (record { bankState = w; buffer = buffer; answer = WrongLength; number = frameNumber WrongLength; code = 0 })
+-- number 1, nothing changed
+abbrev pub frameRefused : BankState → FrameInput → FrameCall
+frameRefused w a =
+    record { bankState = w; buffer = a .buffer; answer = WrongLength; number = frameNumber WrongLength; code = 0 }
+
+-- a frame arrives
+unfoldable pub frameCall : BankState → FrameInput → FrameCall
+frameCall w a =
+    cond (lentRight w (a .ids) (a .buffer))
+    (replied (respond (number (a .ids)) (advanced (a .time) w) (readRequest (a .frame)) (dataOf (a .frame))) (a .buffer))
+    (frameRefused w a)
