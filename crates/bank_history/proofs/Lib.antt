@@ -30,6 +30,7 @@ pub mod Answered
 pub mod RequestBounds
 pub mod MailboxBytes
 pub mod WrittenReplies
+pub mod Held
 pub mod Answers
 pub mod Theorems
 pub mod Liveness
@@ -43,3 +44,4 @@ pub mod OpenAnswered
 pub mod FalseEconomies
 pub mod Statuses
 pub mod Drops
+pub mod OnRows

@@ -43,7 +43,6 @@ use Rattle.bank_verdicts.proofs.Sound.{
   abort,
   underrun,
   exceeded,
-  overfull,
   DownloadSound,
   delivered,
   sentAgain,
@@ -287,15 +286,14 @@ attempts-counted calls t =
 abbrev Aborts : Action → Type 0
 Aborts k = codeField (actionCode k) ≡ codeField code.TransactionAbort
 
-upload-few : {r : TransactionRequest} {p : Place} {q : Fields} {n : ℕ} {a : UploadAction} → UploadSound r p q n a →
+upload-few : {r : TransactionRequest} {p : Place} {q : Fields} {a : UploadAction} → UploadSound r p q a →
     (isAttempt (action.Upload a) ≡ true → p .attempts < maxAttempts) × (Aborts (action.Upload a) → maxAttempts ≤ p .attempts)
-upload-few (took f below early room) = ((λ z. never z), (λ z. absurd (omega arith)))
-upload-few (tookLast f last mark room) = ((λ z. never z), (λ z. absurd (omega arith)))
+upload-few (took f below early) = ((λ z. never z), (λ z. absurd (omega arith)))
+upload-few (tookLast f last mark) = ((λ z. never z), (λ z. absurd (omega arith)))
 upload-few (uploadPoint fits few) = ((λ z. few), (λ z. absurd (omega arith)))
 upload-few (abort fits many) = ((λ z. never z), (λ z. many))
 upload-few (underrun f below mark) = ((λ z. never z), (λ z. absurd (omega arith)))
 upload-few (exceeded f last mark) = ((λ z. never z), (λ z. absurd (omega arith)))
-upload-few (overfull over) = ((λ z. never z), (λ z. absurd (omega arith)))
 
 download-few : {r : TransactionRequest} {e : Download} {n : ℕ} {q : Fields} {a : DownloadAction} → DownloadSound r e n q a →
     (isAttempt (action.Download a) ≡ true → e .attempts < maxAttempts) × (Aborts (action.Download a) → maxAttempts ≤ e .attempts)

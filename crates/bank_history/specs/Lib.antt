@@ -7,3 +7,4 @@ pub mod Transactions
 pub mod Answers
 pub mod FalseEconomies
 pub mod Status
+pub mod OnRows
