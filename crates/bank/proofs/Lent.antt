@@ -1,4 +1,4 @@
--- The bank's calls on lent rows: the rows after each step are those of the bank that the definition leaves. Assumes nothing.
+-- The bank's calls on lent rows: the rows after a step are those of the bank that the definition leaves. Assumes nothing.
 use Prim.Native.Nat.{ℕ, _-_, _<_}
 use mathlib.Core.Bool.{Bool, true, false, cond}
 use mathlib.Core.List.{List}
@@ -14,7 +14,6 @@ use Rattle.octets.specs.Bytes.{number}
 use Rattle.frame.specs.Reader.{readRequest}
 use Rattle.frame.specs.Row.{dataOf}
 use Rattle.bank_state.specs.declared.clock.Ended.{Ended}
-use Rattle.bank_state.specs.declared.clock.Ended.the-variants as ending
 use Rattle.bank_state.specs.declared.state.Bank.{Bank}
 use Rattle.bank_state.specs.declared.state.Place.{Place}
 use Rattle.bank_state.specs.Clock.{endDownloads, advanced}
@@ -41,11 +40,13 @@ use Rattle.bank_verdicts.proofs.verdict.Verdict.{the-type}
 use Rattle.bank_openings.specs.Openings.{openUpload, openDownload}
 use Rattle.bank_uploads.specs.Uploads.{UploadStep, uploadStep}
 use Rattle.bank.specs.declared.call.FrameAnswer.{FrameAnswer}
-use Rattle.bank.specs.Call.{emptied, carryOut, uploadVerdict, fileSegment, mailboxSegment, stepBy, respond}
-use Rattle.bank.specs.Call.{frameNumber, SentAs, replied, FrameInput, lentRight, FrameCall, frameRefused, frameCall}
+use Rattle.bank.specs.Call.{carryOut, uploadVerdict, fileSegment, mailboxSegment, stepBy, respond}
+use Rattle.bank.specs.Call.{frameNumber, SentAs, replied, FrameInput, lentRight}
+use Rattle.bank.specs.Call.{FrameCall, frameRefused, frameCall}
 use Rattle.bank.specs.Lent.{Lent, lent, stateOf, keptIn, LentFrameCall, keptFrame, frameTurnedAway, lentFrameCall}
 use Rattle.bank.specs.Lent.{lentRespond, Prepared, CarriedOut}
-use Rattle.bank.proofs.Carried.{ofNoneKeys, of-none, same-segment, upload-opened, download-opened, landed, upload-acts-at}
+use Rattle.bank.proofs.Carried.{ofNoneKeys, of-none, same-segment}
+use Rattle.bank.proofs.Carried.{upload-opened, download-opened, landed, upload-acts-at}
 use Rattle.bank.proofs.Held.{held-judged}
 
 pub lent-same : {r s o p m n : List ℕ} → r ≡ s → o ≡ p → m ≡ n → lent r o m ≡ lent s p n
@@ -66,7 +67,8 @@ none-carried v s o m q d l k = record {
 -- ---- an opening
 
 module _ (s o m : List ℕ) (first : ℕ) (q : Fields) (d : List ℕ) {t : Bits128} {a : Action} {u : List ℕ} where
-  pub upload-opening-carried : {n : ℕ} → judgeOpening direction.Upload first (bankOf s) q ≡ verdict.Of t a → n ≡ bankOf s .openings
+  pub upload-opening-carried : {n : ℕ} → judgeOpening direction.Upload first (bankOf s) q ≡ verdict.Of t a
+      → n ≡ bankOf s .openings
       → u ≡ stored (openUpload t n q (bankOf s)) s
       → CarriedOut (judgeOpening direction.Upload first (bankOf s) q) (lent s o m) q d (verdict.Of t a) (lent u o m)
   upload-opening-carried told e f = record {
@@ -89,11 +91,12 @@ module _ (s o m : List ℕ) (first : ℕ) (q : Fields) (d : List ℕ) {t : Bits1
 state-same : {a b : Bank} {o p m n : List ℕ} → a ≡ b → o ≡ p → m ≡ n → bankState a o m ≡ bankState b p n
 state-same x y z = rw (x, y, z)
 
-module _ (s o m : List ℕ) (i : ℕ) (r : TransactionRequest) (q : Fields) (d : List ℕ) (e : i ≡ uploadAt (bankOf s) q) where
+module _ (s o m : List ℕ) (i : ℕ) (r : TransactionRequest) (q : Fields) (d : List ℕ)
+    (e : i ≡ uploadAt (bankOf s) q) where
   pub upload-carried : {p : Place} {t : ℕ} {x : UploadStep} {u after : List ℕ} → p ≡ placeAt (bankOf s) i
       → t ≡ bankOf s .clock → x ≡ uploadStep t r p q d (partAt o i)
       → u ≡ stored (withPlace i (x .place) (bankOf s)) s → after ≡ withPart o i (x .bytes)
-      → CarriedOut (uploadVerdict r i (bankOf s) q (length d)) (lent s o m) q d
+      → CarriedOut (uploadVerdict r i (bankOf s) q) (lent s o m) q d
       (verdict.Of (p .transaction) (action.Upload (x .action))) (lent u after m)
   unfolding uploadStep
   upload-carried {p} {t} {x} {u} {after} placed timed stepped rows bytes =
@@ -116,22 +119,23 @@ module _ (s o m : List ℕ) (i : ℕ) (r : TransactionRequest) (q : Fields) (d :
 
 module _ (s : List ℕ) (l : Laid s) where
   module _ (which : Ended) where
-    ended-within : Within s (withDownloads (endDownloads which (bankOf s .downloads)) (bankOf s))
+    abbrev left : Bank
+    left = withDownloads (endDownloads which (bankOf s .downloads)) (bankOf s)
+
+    ended-within : Within s left
     ended-within = within-ended s which (within-own s l)
 
-    pub ended-laid : (t : List ℕ) → t ≡ stored (withDownloads (endDownloads which (bankOf s .downloads)) (bankOf s)) s → Laid t
-    ended-laid t e = laid-next s l (withDownloads (endDownloads which (bankOf s .downloads)) (bankOf s)) ended-within t e
+    pub ended-laid : (t : List ℕ) → t ≡ stored left s → Laid t
+    ended-laid t e = laid-next s l left ended-within t e
 
-  -- the downloads end, then the mailbox is emptied
-  pub emptied-stored : (k i : ℕ) (t u : List ℕ) → i ≡ k - 1
-      → t ≡ stored (withDownloads (endDownloads (ending.Mailbox k) (bankOf s .downloads)) (bankOf s)) s
-      → u ≡ stored (withFiles (set (bankOf t .files) i 0) (bankOf t)) t
-      → (o m : List ℕ) → u ≡ stored (emptied k (bankState (bankOf s) o m) .bank) s
-  emptied-stored k i t u x e f o m =
-      let b = withDownloads (endDownloads (ending.Mailbox k) (bankOf s .downloads)) (bankOf s) in
-      let w = ended-within (ending.Mailbox k) in
-      stored-next s l b w (λ (c : Bank). withFiles (set (c .files) i 0) c) (held-file i 0 (w .held)) t u e f
-      ∙ ap (λ (n : ℕ). stored (withFiles (set (bankOf s .files) n 0) b) s) x
+    -- then a mailbox is emptied
+    pub emptied-stored : (k i : ℕ) (t u : List ℕ) → i ≡ k - 1 → t ≡ stored left s
+        → u ≡ stored (withFiles (set (bankOf t .files) i 0) (bankOf t)) t
+        → u ≡ stored (withFiles (set (bankOf s .files) (k - 1) 0) left) s
+    emptied-stored k i t u x e f =
+        stored-next s l left ended-within (λ (c : Bank). withFiles (set (c .files) i 0) c)
+        (held-file i 0 (ended-within .held)) t u e f
+        ∙ ap (λ (n : ℕ). stored (withFiles (set (bankOf s .files) n 0) left) s) x
 
 -- ---- the reply
 
@@ -190,11 +194,12 @@ module _ (s o m : List ℕ) (l : Laid s) (time : ℕ) where
     responded first q d buffer =
         let c : BankState → FrameCall = λ (w : BankState). replied (respond first w q d) buffer in
         let after = c (advanced time old) in
-        let held : Held (after .bankState .bank) =
-        subst (λ (w : BankState). Held (c w .bankState .bank)) advanced-state (held-judged t advanced-laid q p m d first) in
         let few = advanced-within in
+        let v = advanced time old in
+        let held : Held (after .bankState .bank) = held-judged (v .bank) (few .held) q (v .orders) (v .mailboxes) d first in
         let once = ap (stored (after .bankState .bank)) (e .rows)
-        ∙ stored-twice (advanced time old .bank) (after .bankState .bank) s (few .held) held l (omega (arith, few .downloads)) (omega (arith, few .nonces)) in
+        ∙ stored-twice (advanced time old .bank) (after .bankState .bank) s (few .held) held l
+        (omega (arith, few .downloads)) (omega (arith, few .nonces)) in
         ap (λ (w : BankState). keptFrame (lent t p m) (c w)) advanced-state
         ∙ ap (withRows after) once
 
@@ -204,7 +209,8 @@ module _ (m : Lent) (a : FrameInput) where
   refused-by : (t : Bool) → isSound (m .rows) ≡ t
       → cond t (keptFrame m (frameRefused (stateOf m) a)) (frameTurnedAway m a) ≡ frameTurnedAway m a
   refused-by true e =
-      ap (λ (x : Lent). frameTurnedAway x a) (sym (unchanged (m .rows) (sound-laid (m .rows) e) (m .orders) (m .mailboxes)))
+      ap (λ (x : Lent). frameTurnedAway x a)
+      (sym (unchanged (m .rows) (sound-laid (m .rows) e) (m .orders) (m .mailboxes)))
   refused-by false e = refl
 
   -- a wrong length, whatever the rows are
@@ -230,4 +236,5 @@ module _ (m : Lent) (a : FrameInput) where
   unfolding lentFrameCall frameCall
   frame-carried sound right t p e {first} {q} {d} x y z f =
       let l = sound-laid (m .rows) sound in
-      f ∙ responded (m .rows) (m .orders) (m .mailboxes) l (a .time) t p e first q d (a .buffer) ∙ rw (x, y, z, sound, right)
+      f ∙ responded (m .rows) (m .orders) (m .mailboxes) l (a .time) t p e first q d (a .buffer)
+      ∙ rw (x, y, z, sound, right)

@@ -3,5 +3,7 @@ pub mod Accepted
 pub mod Safety
 pub mod Codes
 pub mod Carried
+pub mod Judged
 pub mod Held
+pub mod Range
 pub mod Lent

@@ -114,8 +114,8 @@ carryOut (verdict.Refused c) w q d = w
 carryOut (verdict.Of t a) w q d = acts a t w q d
 
 -- the verdict on a request to the open upload in place i, and to the open download of record j
-abbrev pub uploadVerdict : TransactionRequest → ℕ → Bank → Fields → ℕ → Verdict
-uploadVerdict r i b q n = verdict.Of (placeAt b i .transaction) (action.Upload (judgeUpload r (placeAt b i) q n))
+abbrev pub uploadVerdict : TransactionRequest → ℕ → Bank → Fields → Verdict
+uploadVerdict r i b q = verdict.Of (placeAt b i .transaction) (action.Upload (judgeUpload r (placeAt b i) q))
 
 abbrev pub downloadVerdict : TransactionRequest → ℕ → Bank → Fields → Verdict
 downloadVerdict r j b q =
@@ -170,7 +170,7 @@ pub record SentAs (f : Fields) (d old : List ℕ) (a : FrameAnswer) (code : ℕ)
   pub written : buffer ≡ writeBuffer f d old
   pub coded : code ≡ replyCode (answerOf (writeAnswer f d old)) (writeBuffer f d old)
 
--- what a call leaves: the bank, both stores, the reply buffer, the answer, document 01's number for it, the reply's code
+-- what a call leaves: the bank, stores, the reply buffer, the answer, document 01's number for it, the reply's code
 pub record FrameCall : Type 0 where
   pub bankState : BankState
   pub buffer : List ℕ
@@ -212,5 +212,6 @@ frameRefused w a =
 unfoldable pub frameCall : BankState → FrameInput → FrameCall
 frameCall w a =
     cond (lentRight w (a .ids) (a .buffer))
-    (replied (respond (number (a .ids)) (advanced (a .time) w) (readRequest (a .frame)) (dataOf (a .frame))) (a .buffer))
+    (replied (respond (number (a .ids)) (advanced (a .time) w) (readRequest (a .frame)) (dataOf (a .frame)))
+    (a .buffer))
     (frameRefused w a)

@@ -85,7 +85,7 @@ fn file_segment(mailboxes: &[u8], subscriber: u64, n: u64, segment: u64) -> &[u8
     segment_of(file, segment)
 }
 
-// The reply that a verdict on the request q gives, with a segment of its mailbox's file of n bytes where it carries one.
+// The reply that a verdict on the request q gives; n is the length of the file in its mailbox.
 fn reply(verdict: Verdict, q: Fields, n: u64, mailboxes: &[u8], buffer: &mut [u8]) -> Sent
     ensures { λ r. ⌜ SentAs (replyTo verdict q)
         (fileSegment (now (mailboxes .entry)) (subscriber q) n (segmentIn verdict q))
@@ -123,7 +123,8 @@ fn respond(
 
 // Whether the lent lengths are right.
 fn lent_right(orders: usize, mailboxes: usize, ids: usize, buffer: usize) -> bool
-    ensures { λ r. ⌜ r ≡ (eqb orders storeBytes && eqb mailboxes storeBytes && eqb ids idBytes && leb replyRoom buffer) ⌝ }
+    ensures { λ r. ⌜ r
+        ≡ (eqb orders storeBytes && eqb mailboxes storeBytes && eqb ids idBytes && leb replyRoom buffer) ⌝ }
 {
     if orders != STORE_BYTES {
         return false;

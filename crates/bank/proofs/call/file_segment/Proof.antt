@@ -9,11 +9,14 @@ returns c = rw (c .before .if1 .taken)
 
 returns-2 : tie.Need-returns-2
 returns-2 c =
+    let at-mailbox-of = c .before .before in
+    let at-if1 = at-mailbox-of .before in
+    let start = at-if1 .before .before in
     rw (
-      ne-eqb (c .before .before .before .before .before .args .segment) 0 (c .before .before .before .if1 .left),
+      ne-eqb (start .args .segment) 0 (at-if1 .if1 .left),
       c .segment-of .ensures,
       c .before .file-of .ensures,
-      c .before .before .mailbox-of .ensures,
+      at-mailbox-of .mailbox-of .ensures,
     )
 
 pub file-segment-spec : {M : Type 1} → statement M

@@ -1,4 +1,4 @@
--- Number 1 where a lent length is wrong or the rows are no bank's; else clock, reading and step, as the definition has them.
+-- Number 1 where a lent length is wrong or the rows are no bank's; else clock, reading and step, as in the definition.
 use mathlib.Core.Bool.{true}
 use mathlib.Core.Path.{_≡_, sym, _∙_}
 use native.Mathlib.Omega.{arith}
@@ -18,7 +18,8 @@ use Rattle.bank.proofs.call.frame_arrives.Tie as tie
 -- the lent lengths are right
 right : (c : tie.Else1)
     → let a = c .before .before .before .before .before .before .before .before .args in
-    (length (a .orders .now) ≡ storeBytes) × (length (a .mailboxes .now) ≡ storeBytes) × (length (a .ids .now) ≡ idBytes)
+    (length (a .orders .now) ≡ storeBytes) × (length (a .mailboxes .now) ≡ storeBytes)
+    × (length (a .ids .now) ≡ idBytes)
 right c =
     let buffer = c .before .before .before .before .before .before .before .before .args .buffer .now in
     let right = not-false (c .before .lent-right .result) (c .if1 .left) in
@@ -26,16 +27,20 @@ right c =
 
 -- the rows are a bank's
 sound : (c : tie.Else2)
-    → isSound (c .before .before .before .before .before .before .before .before .before .before .before .args .rows .now) ≡ true
+    → let a = c .before .before .before .before .before .before .before .before .before .before .before .args in
+    isSound (a .rows .now) ≡ true
 sound c = sym (c .before .is-sound .ensures) ∙ not-false (c .before .is-sound .result) (c .if2 .left)
 
 returns : tie.Need-returns
 unfolding lentRight
 returns c =
-    sym (length-refused _ _ (sym (c .before .lent-right .ensures) ∙ not-true (c .before .lent-right .result) (c .if1 .taken)))
+    let wrong = not-true (c .before .lent-right .result) (c .if1 .taken) in
+    sym (length-refused _ _ (sym (c .before .lent-right .ensures) ∙ wrong))
 
 returns-2 : tie.Need-returns-2
-returns-2 c = sym (rows-refused _ _ (sym (c .before .is-sound .ensures) ∙ not-true (c .before .is-sound .result) (c .if2 .taken)))
+returns-2 c =
+    let wrong = not-true (c .before .is-sound .result) (c .if2 .taken) in
+    sym (rows-refused _ _ (sym (c .before .is-sound .ensures) ∙ wrong))
 
 advance-requires : tie.Need-advance-requires
 advance-requires c κs =
@@ -43,28 +48,43 @@ advance-requires c κs =
     (sound-laid _ (sound at-if2), right (at-if2 .before .before .before) .0)
 
 number-requires : tie.Need-number-requires
-number-requires c κs = omega (arith, right (c .before .before .before .before .before .before .before .before .before .before .before) .2)
+number-requires c κs =
+    let at-if1 = c .before .before .before .before .before .before .before .before .before .before .before in
+    omega (arith, right at-if1 .2)
 
 respond-requires : tie.Need-respond-requires
 respond-requires c κs =
-    let at-if2 = c .before .before .before .before .before .before .before .before .before .before .before .before .before .before in
+    let at-orders = c .before .before .before .before .before .before .before .before in
+    let at-advance = at-orders .before .before .before in
+    let at-if2 = at-advance .before .before .before in
+    let start = at-if2 .before .before .before .before .before .before .before .before .before .before .before in
     let at-if1 = at-if2 .before .before .before in
-    let a = c .before .before .before .before .before .before .before .before .before .before .before .before .before .before .before .before .before .before .before .before .before .before .before .before .before .args in
+    let a = start .args in
     let m = a .mailboxes .now in
-    advanced-prepared (a .rows .now) (a .orders .now) m (sound-laid _ (sound at-if2)) (a .time) _ _ (c .before .before .before .before .before .before .before .before .before .before .before .advance .ensures m)
-    (sound-range _ (sound at-if2)) (c .before .before .before .before .before .before .before .before .orders .given ∙ right at-if1 .0) (right at-if1 .1)
+    advanced-prepared (a .rows .now) (a .orders .now) m (sound-laid _ (sound at-if2)) (a .time) _ _
+    (at-advance .advance .ensures m)
+    (sound-range _ (sound at-if2)) (at-orders .orders .given ∙ right at-if1 .0) (right at-if1 .1)
 
 returns-3 : tie.Need-returns-3
 unfolding lentRight
 returns-3 c =
-    let at-if2 = c .before .before .before .before .before .before .before .before .before .before .before .before .before .before .before .before .before .before .before .before .before .before .before in
+    let at-respond = c .before .before .before .before .before .before .before .before in
+    let at-data = at-respond .before .before .before .before in
+    let at-read-request = at-data .before in
+    let at-number = at-read-request .before in
+    let at-advance = at-number .before .before .before .before .before .before in
+    let at-if2 = at-advance .before .before .before in
+    let at-if1 = at-if2 .before .before .before in
+    let start = at-if1 .before .before .before .before .before .before .before .before in
     let at-lent = at-if2 .before .before .before .before in
-    let a = c .before .before .before .before .before .before .before .before .before .before .before .before .before .before .before .before .before .before .before .before .before .before .before .before .before .before .before .before .before .before .before .before .before .before .args in
+    let a = start .args in
     let m = a .mailboxes .now in
-    let lengths = sym (at-lent .lent-right .ensures) ∙ not-false (at-lent .lent-right .result) (c .before .before .before .before .before .before .before .before .before .before .before .before .before .before .before .before .before .before .before .before .before .before .before .before .before .before .if1 .left) in
-    frame-carried (lent (a .rows .now) (a .orders .now) m) (frameInput (a .time) (a .ids .now) (a .frame .now) (a .buffer .now))
-    (sound at-if2) lengths _ _ (c .before .before .before .before .before .before .before .before .before .before .before .before .before .before .before .before .before .before .before .before .advance .ensures m)
-    (c .before .before .before .before .before .before .before .before .before .before .before .before .before .before .number .ensures .0) (c .before .before .before .before .before .before .before .before .before .before .before .before .before .read-request .ensures) (c .before .before .before .before .before .before .before .before .before .before .before .before .«data» .ensures) (c .before .before .before .before .before .before .before .before .respond .ensures)
+    let lengths = sym (at-lent .lent-right .ensures) ∙ not-false (at-lent .lent-right .result) (at-if1 .if1 .left) in
+    frame-carried (lent (a .rows .now) (a .orders .now) m)
+    (frameInput (a .time) (a .ids .now) (a .frame .now) (a .buffer .now))
+    (sound at-if2) lengths _ _ (at-advance .advance .ensures m)
+    (at-number .number .ensures .0) (at-read-request .read-request .ensures) (at-data .«data» .ensures)
+    (at-respond .respond .ensures)
 
 pub frame-arrives-spec : {M : Type 1} → statement M
 frame-arrives-spec =

@@ -5,12 +5,17 @@ use Rattle.bank.proofs.call.reply.Tie as tie
 
 returns : tie.Need-returns
 returns c =
+    let at-reply-with = c .before .before in
+    let at-reply-to = at-reply-with .before .before in
+    let at-file-segment = at-reply-to .before in
+    let at-segment-in = at-file-segment .before in
+    let at-subscriber = at-segment-in .before in
     rw (
-      ← c .before .before .before .before .reply-to .ensures,
-      ← c .before .before .before .before .before .before .before .subscriber .ensures,
-      ← c .before .before .before .before .before .before .segment-in .ensures,
-      ← c .before .before .before .before .before .file-segment .ensures,
-    ) (c .before .before .reply-with .ensures)
+      ← at-reply-to .reply-to .ensures,
+      ← at-subscriber .subscriber .ensures,
+      ← at-segment-in .segment-in .ensures,
+      ← at-file-segment .file-segment .ensures,
+    ) (at-reply-with .reply-with .ensures)
 
 pub reply-spec : {M : Type 1} → statement M
 reply-spec =

@@ -15,13 +15,18 @@ use Rattle.bank.proofs.call.respond.Tie as tie
 returns : tie.Need-returns
 unfolding respond
 returns c =
-    let a = c .before .before .before .before .before .before .before .before .before .before .before .before .before .before .before .before .before .before .before .before .before .before .before .args in
+    let at-reply = c .before .before in
+    let at-step = at-reply .before .before .before .before .before .before .before .before .before in
+    let at-file-length-of = at-step .before .before .before .before in
+    let at-subscriber = at-file-length-of .before in
+    let start = at-subscriber .before .before .before .before .before .before .before in
+    let a = start .args in
     let b = bankOf (a .rows .now) in
-    let step = c .before .before .before .before .before .before .before .before .before .before .before .step .ensures in
+    let step = at-step .step .ensures in
     let v = judge (a .first) b (a .q) (length (a .bytes .now)) in
-    let n = c .before .before .before .before .before .before .before .before .before .before .before .before .before .before .before .file-length-of .ensures ∙ ap (λ (k : ℕ). fileLength k (b .files)) (c .before .before .before .before .before .before .before .before .before .before .before .before .before .before .before .before .subscriber .ensures) in
+    let n = at-file-length-of .file-length-of .ensures ∙ ap (λ (k : ℕ). fileLength k (b .files)) (at-subscriber .subscriber .ensures) in
     respond-kept (lent (a .rows .now) (a .orders .now) (a .mailboxes .now)) v (a .q) (a .bytes .now)
-    (step .judged) (step .done) n (c .before .before .reply .ensures)
+    (step .judged) (step .done) n (at-reply .reply .ensures)
 
 pub respond-spec : {M : Type 1} → statement M
 respond-spec =

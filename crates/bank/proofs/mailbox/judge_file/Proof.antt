@@ -15,8 +15,9 @@ use Rattle.bank.proofs.mailbox.judge_file.Tie as tie
 -- the first k tests fail
 abbrev Rest : ℕ → tie.Start → Type 0
 Rest k s =
-    let rows = fileRefusals (bankOf (s .args .rows .now)) (s .args .mailbox) (s .args .file .now) (s .args .mailboxes .now) in
-    decide rows Done ≡ decide (drop k rows) Done
+    let a = s .args in
+    let tests = fileRefusals (bankOf (a .rows .now)) (a .mailbox) (a .file .now) (a .mailboxes .now) in
+    decide tests Done ≡ decide (drop k tests) Done
 
 passed-1 : (c : tie.Else1) → Rest 1 (c .before .before .before .before)
 unfolding fileRefusals

@@ -45,13 +45,17 @@ unfolding lentFileCall
 returns c = rw (← c .before .is-sound .ensures, not-true (c .before .is-sound .result) (c .if1 .taken))
 
 judge-file-requires : tie.Need-judge-file-requires
-judge-file-requires c κs = sound-laid _ (sound (c .before .before))
+judge-file-requires c κs =
+    let at-if1 = c .before .before in
+    sound-laid _ (sound (at-if1))
 
 store-file-requires : tie.Need-store-file-requires
 store-file-requires c κs =
-    let at-judge = c .before .before .before .before in
-    let a = c .before .before .before .before .before .before .before .before .before .before .before .before .before .args in
-    let told = sym (at-judge .judge-file .ensures) ∙ c .before .before .enum-told .given .1 in
+    let at-enum-told = c .before .before in
+    let at-judge = at-enum-told .before .before in
+    let start = at-judge .before .before .before .before .before .before .before .before .before in
+    let a = start .args in
+    let told = sym (at-judge .judge-file .ensures) ∙ at-enum-told .enum-told .given .1 in
     let fits = file-fits (bankOf (a .rows .now)) (a .mailbox) (a .file .now) (a .mailboxes .now) told in
     (sound-laid _ (sound (at-judge .before .before .before)), fits .0, fits .1, fits .2, fits .3)
 
@@ -59,8 +63,9 @@ returns-2 : tie.Need-returns-2
 unfolding lentFileCall fileCall
 returns-2 c =
     let at-store = c .before .before .before .before in
+    let at-enum-told = at-store .before .before .before in
     let at-judge = at-store .before .before .before .before .before in
-    rw (sound (at-judge .before .before .before), ← at-judge .judge-file .ensures, c .before .before .before .before .before .before .before .enum-told .given .1)
+    rw (sound (at-judge .before .before .before), ← at-judge .judge-file .ensures, at-enum-told .enum-told .given .1)
     (at-store .store-file .ensures)
 
 returns-3 : tie.Need-returns-3

@@ -4,7 +4,10 @@ use Rattle.bank.proofs.mailbox.store_file.Statement.{statement}
 use Rattle.bank.proofs.mailbox.store_file.Tie as tie
 
 returns : tie.Need-returns
-returns c = rw (c .before .before .before .before .before .before .append .ensures, c .before .before .set-file-length .ensures)
+returns c =
+    let at-set-file-length = c .before .before in
+    let at-append = at-set-file-length .before .before .before .before in
+    rw (at-append .append .ensures, at-set-file-length .set-file-length .ensures)
 
 pub store-file-spec : {M : Type 1} → statement M
 store-file-spec =

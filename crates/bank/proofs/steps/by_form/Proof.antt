@@ -7,17 +7,23 @@ use Rattle.bank.proofs.steps.by_form.Tie as tie
 
 returns : tie.Need-returns
 returns c =
-    let start = c .before .before .before .before .before .before .before in
-    rw (← c .before .before .form .ensures, c .enum-told .given .1)
+    let at-form = c .before .before in
+    let start = at-form .before .before .before .before .before in
+    rw (← at-form .form .ensures, c .enum-told .given .1)
     (record { judged = refl; done = unchanged _ (start .pre .memory .laid) _ _ })
 
 returns-2 : tie.Need-returns-2
-returns-2 c = rw (← c .before .before .before .before .before .before .before .before .before .before .before .before .before .form .ensures, c .before .before .before .before .before .before .before .before .before .before .before .form2 .given .1) (c .before .before .before .before .before .before .by-request .ensures)
+returns-2 c =
+    let at-by-request = c .before .before .before .before .before .before in
+    let at-form2 = at-by-request .before .before .before .before .before in
+    let at-form = at-form2 .before .before in
+    rw (← at-form .form .ensures, at-form2 .form2 .given .1) (at-by-request .by-request .ensures)
 
 returns-3 : tie.Need-returns-3
 returns-3 c =
-    let start = c .before .before .before .before .before .before .before in
-    rw (← c .before .before .form .ensures, c .enum-told2 .given .1)
+    let at-form = c .before .before in
+    let start = at-form .before .before .before .before .before in
+    rw (← at-form .form .ensures, c .enum-told2 .given .1)
     (record { judged = refl; done = unchanged _ (start .pre .memory .laid) _ _ })
 
 pub by-form-spec : {M : Type 1} → statement M

@@ -36,19 +36,23 @@ stepped c =
     let at-entry = at-clock .before .before in
     let a = at-entry .before .before .before .before .args in
     let b = bankOf (a .rows .now) in
-    let n = at-count .mailbox-segments .ensures ∙ ap (λ (k : ℕ). mailboxSegments k b) (at-count .before .subscriber .ensures) in
+    let e = at-entry .download-at .result in
+    let n = at-count .mailbox-segments .result in
+    let counted =
+    at-count .mailbox-segments .ensures ∙ ap (λ (k : ℕ). mailboxSegments k b) (at-count .before .subscriber .ensures) in
     c .download-step .ensures
-    ∙ ap (λ (t : ℕ). downloadStep t (a .asked) (at-entry .download-at .result) (at-count .mailbox-segments .result) (a .q)) (at-clock .clock .ensures)
-    ∙ ap (λ (e : Download). downloadStep (b .clock) (a .asked) e (at-count .mailbox-segments .result) (a .q)) (at-entry .download-at .ensures)
-    ∙ ap (λ (k : ℕ). downloadStep (b .clock) (a .asked) (downloadAt b (a .j)) k (a .q)) n
+    ∙ ap (λ (t : ℕ). downloadStep t (a .asked) e n (a .q)) (at-clock .clock .ensures)
+    ∙ ap (λ (x : Download). downloadStep (b .clock) (a .asked) x n (a .q)) (at-entry .download-at .ensures)
+    ∙ ap (λ (k : ℕ). downloadStep (b .clock) (a .asked) (downloadAt b (a .j)) k (a .q)) counted
 
 downloads-after-requires : tie.Need-downloads-after-requires
 unfolding downloadStep
 downloads-after-requires c κs =
-    let start = c .before .before .before .before .before .before .before .before .before .before .before .before in
+    let at-download-step = c .before .before in
+    let start = at-download-step .before .before .before .before .before .before .before .before .before .before in
     let a = start .args in
     let b = bankOf (a .rows .now) in
-    let step = stepped (c .before .before) in
+    let step = stepped (at-download-step) in
     let kept =
     ap (λ (s : DownloadStep). s .entry) step
     ∙ sym (ap (λ (s : DownloadStep). downloadAfter (s .action) (b .clock) (downloadAt b (a .j))) step) in
@@ -59,8 +63,9 @@ unfolding downloadStep
 returns c =
     λ o d.
     let at-after = c .before .before .before .before .before in
+    let at-download-at = at-after .before .before .before .before .before .before .before .before .before in
+    let start = at-download-at .before .before .before .before in
     let at-step = at-after .before .before .before in
-    let start = c .before .before .before .before .before .before .before .before .before .before .before .before .before .before .before .before .before .before in
     let a = start .args in
     let s = a .rows .now in
     let m = a .mailboxes .now in
@@ -68,7 +73,7 @@ returns c =
     let step = stepped at-step in
     record {
       judged =
-          ap (λ (e : Download). verdict.Of (e .transaction) (action.Download (at-step .download-step .result .action))) (c .before .before .before .before .before .before .before .before .before .before .before .before .before .before .download-at .ensures)
+          ap (λ (e : Download). verdict.Of (e .transaction) (action.Download (at-step .download-step .result .action))) (at-download-at .download-at .ensures)
           ∙ ap (λ (x : DownloadStep). verdict.Of (downloadAt (bankOf s) (a .j) .transaction) (action.Download (x .action))) step;
       done =
           at-after .downloads-after .ensures o

@@ -15,7 +15,8 @@ use Rattle.bank.proofs.steps.step.Statement.{statement}
 use Rattle.bank.proofs.steps.step.Tie as tie
 
 -- the request has a request's form
-readable : (c : tie.Else1) → isRequestForm (form (c .before .before .before .before .before .before .before .args .q)) ≡ true
+readable : (c : tie.Else1)
+    → isRequestForm (form (c .before .before .before .before .before .before .before .args .q)) ≡ true
 readable c =
     rw (← c .before .before .form .ensures, ← c .before .is-request-form .ensures)
     (not-false (c .before .is-request-form .result) (c .if1 .left))
@@ -29,9 +30,10 @@ known c = rw (← c .before .before .subscriber .ensures, ← c .before .is-no-m
 returns : tie.Need-returns
 unfolding judge requestRows
 returns c =
-    let start = c .before .before .before .before .before .before .before in
+    let at-form = c .before .before in
+    let start = at-form .before .before .before .before .before in
     rw (
-      ← c .before .before .form .ensures,
+      ← at-form .form .ensures,
       ← c .before .is-request-form .ensures,
       not-true (c .before .is-request-form .result) (c .if1 .taken),
     ) (record { judged = refl; done = unchanged _ (start .pre .laid) _ _ })
@@ -39,10 +41,12 @@ returns c =
 returns-2 : tie.Need-returns-2
 unfolding judge requestRows noSubscriber
 returns-2 c =
-    let start = c .before .before .before .before .before .before .before .before .before .before in
+    let at-subscriber = c .before .before in
+    let at-if1 = at-subscriber .before in
+    let start = at-if1 .before .before .before .before .before .before .before in
     rw (
-      readable (c .before .before .before),
-      ← c .before .before .subscriber .ensures,
+      readable (at-if1),
+      ← at-subscriber .subscriber .ensures,
       ← c .before .is-no-mailbox .ensures,
       c .if2 .taken,
     ) (record { judged = refl; done = unchanged _ (start .pre .laid) _ _ })
@@ -51,14 +55,14 @@ returns-3 : tie.Need-returns-3
 unfolding judge requestRows longData
 returns-3 c =
     let at-if1 = c .before .before .before .before in
-    let start = c .before .before .before .before .before .before .before .before .before .before .before in
+    let start = at-if1 .before .before .before .before .before .before .before in
     rw (readable at-if1, known (c .before), lt-ltb segmentBytes (length (start .args .bytes .now)) (c .if3 .taken))
     (record { judged = refl; done = unchanged _ (start .pre .laid) _ _ })
 
 by-form-requires : tie.Need-by-form-requires
 by-form-requires c κs =
     let at-if3 = c .before .before .before in
-    let start = c .before .before .before .before .before .before .before .before .before .before .before .before .before .before in
+    let start = at-if3 .before .before .before .before .before .before .before .before .before .before .before in
     let k = request-known (start .args .q) (known (at-if3 .before)) in
     record { known = k .0; most = k .1; short = at-if3 .if3 .left; memory = start .pre }
 
@@ -66,9 +70,9 @@ returns-4 : tie.Need-returns-4
 unfolding judge requestRows longData
 returns-4 c =
     let at-step = c .before .before .before .before .before .before in
+    let start = at-step .before .before .before .before .before .before .before .before .before .before .before .before .before .before .before in
     let at-if3 = at-step .before .before .before .before in
     let at-if1 = at-if3 .before .before .before .before in
-    let start = c .before .before .before .before .before .before .before .before .before .before .before .before .before .before .before .before .before .before .before .before .before in
     let short = le-ltb segmentBytes (length (start .args .bytes .now)) (at-if3 .if3 .left) in
     rw (readable at-if1, known (at-if3 .before), short)
     (at-step .by-form .ensures)

@@ -13,18 +13,25 @@ use Rattle.bank.proofs.steps.upload_opening.Tie as tie
 
 open-upload-requires : tie.Need-open-upload-requires
 open-upload-requires c κs =
-    let start = c .before .before .before .before .before .before .before .before .before in
+    let at-verdict = c .before .before .before .before in
+    let at-judge-opening = at-verdict .before .before in
+    let start = at-judge-opening .before .before .before in
     let a = start .args in
     let s = a .rows .now in
-    let told = sym (c .before .before .before .before .before .before .judge-opening .ensures) ∙ c .before .before .before .before .verdict .given .1 in
+    let told = sym (at-judge-opening .judge-opening .ensures) ∙ at-verdict .verdict .given .1 in
     (start .pre, accepted-room (a .first) (bankOf s) (a .q) (held-rows s (start .pre)) direction.Upload told)
 
 returns : tie.Need-returns
 returns c =
     λ o m d.
-    let a = c .before .before .before .before .before .before .before .before .before .before .before .before .args in
-    let told = sym (c .before .before .before .before .before .before .before .before .before .judge-opening .ensures) ∙ c .before .before .before .before .before .before .before .verdict .given .1 in
-    upload-opening-carried (a .rows .now) o m (a .first) (a .q) d told (c .before .before .before .before .openings .ensures) (c .before .before .open-upload .ensures)
+    let at-open-upload = c .before .before in
+    let at-openings = at-open-upload .before .before in
+    let at-verdict = at-openings .before .before .before in
+    let at-judge-opening = at-verdict .before .before in
+    let start = at-judge-opening .before .before .before in
+    let a = start .args in
+    let told = sym (at-judge-opening .judge-opening .ensures) ∙ at-verdict .verdict .given .1 in
+    upload-opening-carried (a .rows .now) o m (a .first) (a .q) d told (at-openings .openings .ensures) (at-open-upload .open-upload .ensures)
 
 returns-2 : tie.Need-returns-2
 returns-2 c =
