@@ -15,8 +15,9 @@ use Rattle.frame.specs.Writer.{frameOf, writable, accepted, writeAnswer}
 use Rattle.message.specs.Limits.{segmentBytes}
 use Rattle.message.specs.Segments.{segmentsOf, segmentOf}
 use Rattle.bank_state.specs.Clock.{advanced}
+use Rattle.bank_state.specs.State.{BankState}
 use Rattle.bank_state.specs.Limits.{storeBytes, idBytes, replyRoom}
-use Rattle.bank.specs.Call.{Step, respond, lentRight, frameCall}
+use Rattle.bank.specs.Call.{Step, respond, lentRight, frameCall, FrameInput}
 use Rattle.bank_verdicts.specs.declared.verdict.UploadAction.{UploadAction}
 use Rattle.bank_verdicts.specs.declared.verdict.UploadAction.the-variants as up
 use Rattle.bank_verdicts.specs.declared.verdict.DownloadAction.{DownloadAction}
@@ -39,32 +40,42 @@ use Rattle.bank_history.specs.Transactions.{answered}
 use Rattle.message.proofs.SegmentNumbers.{some-segment}
 use Rattle.bank_history.proofs.Positions.{sound-at}
 
--- the stores that the calls left have the lengths that a frame call asks for
-pub lent-right : (p : Past) (ids buffer : List ℕ) → Holds p → length ids ≡ idBytes → replyRoom ≤ length buffer →
-    lentRight (p .bankState) ids buffer ≡ true
+-- stores of the lengths that a frame call asks for
+pub stores-right : (w : BankState) (ids buffer : List ℕ) → length (w .orders) ≡ storeBytes →
+    length (w .mailboxes) ≡ storeBytes → length ids ≡ idBytes → replyRoom ≤ length buffer →
+    lentRight w ids buffer ≡ true
 unfolding lentRight
-lent-right p ids buffer holds right room =
-    let s = holds .invariant .state .sizes in
+stores-right w ids buffer orders mailboxes right room =
     rw (
-      eq-eqb (length (p .bankState .orders)) storeBytes (s .orders),
-      eq-eqb (length (p .bankState .mailboxes)) storeBytes (s .mailboxes),
+      eq-eqb (length (w .orders)) storeBytes orders,
+      eq-eqb (length (w .mailboxes)) storeBytes mailboxes,
       eq-eqb (length ids) idBytes right,
       le-leb replyRoom (length buffer) room,
     )
 
+-- the stores that the calls left have them
+pub lent-right : (p : Past) (ids buffer : List ℕ) → Holds p → length ids ≡ idBytes → replyRoom ≤ length buffer →
+    lentRight (p .bankState) ids buffer ≡ true
+lent-right p ids buffer holds =
+    let s = holds .invariant .state .sizes in
+    stores-right (p .bankState) ids buffer (s .orders) (s .mailboxes)
+
 -- such a call is answered, where its reply can be written in at most 312 bytes
-pub frame-answered : (time : ℕ) (ids frame buffer : List ℕ) (p : Past) → Holds p → length ids ≡ idBytes → replyRoom ≤ length buffer →
-    (let s = respond (number ids) (advanced time (p .bankState)) (readRequest frame) (dataOf frame) in
+pub frame-answered : (a : FrameInput) (p : Past) → Holds p → length (a .ids) ≡ idBytes →
+    replyRoom ≤ length (a .buffer) →
+    (let s = respond (number (a .ids)) (advanced (a .time) (p .bankState)) (readRequest (a .frame))
+    (dataOf (a .frame)) in
     (writable (s .reply) (s .replyData) ≡ true) × (length (frameOf (s .reply) (s .replyData)) ≤ replyRoom)) →
-    after (Frame time ids frame buffer) p ≡ answered time ids frame p
+    after (Frame a) p ≡ answered a p
 unfolding after frameCall writeAnswer accepted
-frame-answered time ids frame buffer p holds right room can =
-    let s : Step = respond (number ids) (advanced time (p .bankState)) (readRequest frame) (dataOf frame) in
+frame-answered a p holds right room can =
+    let s : Step =
+    respond (number (a .ids)) (advanced (a .time) (p .bankState)) (readRequest (a .frame)) (dataOf (a .frame)) in
     let short = can .1 in
     rw (
-      lent-right p ids buffer holds right room,
+      lent-right p (a .ids) (a .buffer) holds right room,
       can .0,
-      le-leb (length (frameOf (s .reply) (s .replyData))) (length buffer) (omega arith),
+      le-leb (length (frameOf (s .reply) (s .replyData))) (length (a .buffer)) (omega arith),
     )
 
 -- ---- a reply's data

@@ -25,20 +25,24 @@ use Rattle.message.proofs.Writable.{unreadable-written}
 use Rattle.bank_state.specs.Clock.{advanced}
 use Rattle.bank_state.specs.Limits.{storeBytes, idBytes, replyRoom}
 use Rattle.bank_state.specs.State.{BankState}
+use Rattle.bank_state.proofs.Drops.{Sized, advanced-sized}
+use Rattle.bank_rows.specs.Sound.{InRange}
+use Rattle.bank_rows.proofs.Range.{advanced-range}
 use Rattle.bank_verdicts.specs.declared.verdict.Verdict.the-variants as verdict
 use Rattle.bank_verdicts.specs.Refusals.{requestRows}
 use Rattle.bank_verdicts.specs.Judgement.{judge}
-use Rattle.bank.specs.Call.{Step, stepBy, respond, lentRight, frameCall}
-use Rattle.bank_history.specs.History.{Exchange, Past, BankCall, Frame, exchangeOf, after, pastOf}
-use Rattle.bank_history.specs.Invariant.{Invariant, Holds}
+use Rattle.bank.specs.Call.{Step, stepBy, respond, lentRight, frameCall, FrameInput}
+use Rattle.bank_history.specs.History.{Past, BankCall, Frame, exchangeOf, after, pastOf, callExchange}
+use Rattle.bank_history.specs.Invariant.{Sizes}
 use Rattle.bank_history.specs.Transactions.{answered}
 use Rattle.bank_history.specs.Answers.{AllBytes, FrameAnswered}
 use Rattle.bank_history.proofs.Cases.{happens}
-use Rattle.bank_history.proofs.Clock.{advanced-keeps}
+use Rattle.bank_history.proofs.Clock.{sized}
+use Rattle.bank_history.proofs.Held.{in-range}
 use Rattle.bank_history.proofs.Uploads.{bare}
 use Rattle.bank_history.proofs.Keeps.{past-holds}
-use Rattle.bank_history.proofs.Answered.{lent-right, frame-answered}
-use Rattle.bank_history.proofs.RequestBounds.{InWidth, request-in-width}
+use Rattle.bank_history.proofs.Answered.{stores-right, frame-answered}
+use Rattle.bank_history.proofs.RequestBounds.{request-in-width}
 use Rattle.bank_history.proofs.MailboxBytes.{advanced-bytes, past-bytes}
 use Rattle.bank_history.proofs.WrittenReplies.{WrittenReply, sent, case-written}
 
@@ -50,7 +54,8 @@ ids-lt ids b long =
     subst (λ (l : List ℕ). number l < 2 ^ 64) (bytesOf-number idBytes ids b long) (number-lt idBytes (number ids))
 
 -- what right lent lengths tell of those of a call
-call-lengths : (w : BankState) (ids buffer : List ℕ) → lentRight w ids buffer ≡ true → (length ids ≡ idBytes) × (replyRoom ≤ length buffer)
+pub call-lengths : (w : BankState) (ids buffer : List ℕ) → lentRight w ids buffer ≡ true →
+    (length ids ≡ idBytes) × (replyRoom ≤ length buffer)
 unfolding lentRight
 call-lengths w ids buffer h =
     let stores : Bool = eqb (length (w .orders)) storeBytes && eqb (length (w .mailboxes)) storeBytes in
@@ -61,104 +66,100 @@ call-lengths w ids buffer h =
 -- ---- every reply
 
 -- the answer to a request of a frame
-abbrev pub stepOf : BankState → ℕ → List ℕ → List ℕ → Step
-stepOf w time ids frame = respond (number ids) (advanced time w) (readRequest frame) (dataOf frame)
+abbrev pub stepOf : BankState → FrameInput → Step
+stepOf w a = respond (number (a .ids)) (advanced (a .time) w) (readRequest (a .frame)) (dataOf (a .frame))
 
 unread-is : (first : ℕ) (w : BankState) (q : Fields) (d : List ℕ) → isRequestForm (form q) ≡ false →
     respond first w q d ≡ stepBy verdict.Unreadable w q d
 unfolding respond judge requestRows
 unread-is first w q d e = rw e
 
--- the answer to a readable request
-respond-written : (first : ℕ) (w : BankState) (h : List Exchange) → Invariant w h → (q : Fields) (d : List ℕ) → InWidth q →
-    Bytes (w .mailboxes) → first < 2 ^ 64 → WrittenReply (respond first w q d .reply) (respond first w q d .replyData)
-unfolding respond
-respond-written first w h v q d r b small =
-    case-written w h v q r b small (happens first w q d (v .state .sizes .places) (v .state .sizes .downloads))
-
-module _ (p : Past) (holds : Holds p) (bytes : Bytes (p .bankState .mailboxes)) (time : ℕ) (ids frame : List ℕ) (idsBytes : Bytes ids)
-    (frameBytes : Bytes frame) (right : length ids ≡ idBytes) where
-  pub reply-written : WrittenReply (stepOf (p .bankState) time ids frame .reply) (stepOf (p .bankState) time ids frame .replyData)
-  reply-written = at (isRequestForm (form (readRequest frame))) refl
+-- a bank in range, with stores of their lengths that hold bytes, and a call that brings bytes
+module _ (w : BankState) (range : InRange (w .bank)) (sizes : Sizes w) (bytes : Bytes (w .mailboxes)) (a : FrameInput)
+    (idsBytes : Bytes (a .ids)) (frameBytes : Bytes (a .frame)) (right : length (a .ids) ≡ idBytes) where
+  pub reply-written : WrittenReply (stepOf w a .reply) (stepOf w a .replyData)
+  unfolding respond
+  reply-written = at (isRequestForm (form q)) refl
     where
-      w : BankState
-      w = advanced time (p .bankState)
+      v : BankState
+      v = advanced (a .time) w
 
-      v : Invariant w (p .history)
-      v = advanced-keeps time (p .bankState) (p .history) (holds .invariant)
+      q : Fields
+      q = readRequest (a .frame)
 
-      at : (b : Bool) → isRequestForm (form (readRequest frame)) ≡ b →
-          WrittenReply (stepOf (p .bankState) time ids frame .reply) (stepOf (p .bankState) time ids frame .replyData)
+      long : Sized v
+      long = advanced-sized (a .time) w (sized sizes)
+
+      at : (b : Bool) → isRequestForm (form q) ≡ b → WrittenReply (stepOf w a .reply) (stepOf w a .replyData)
       at true e =
-          respond-written (number ids) w (p .history) v (readRequest frame) (dataOf frame) (request-in-width frame frameBytes e)
-          (advanced-bytes time (p .bankState) bytes) (ids-lt ids idsBytes right)
+          case-written v (advanced-range (a .time) w range) (long .mailboxes) q
+          (request-in-width (a .frame) frameBytes e)
+          (advanced-bytes (a .time) w bytes) (ids-lt (a .ids) idsBytes right)
+          (happens (number (a .ids)) v q (dataOf (a .frame)) (long .places) (long .downloads))
       at false e =
-          subst (λ (s : Step). WrittenReply (s .reply) (s .replyData)) (sym (unread-is (number ids) w (readRequest frame) (dataOf frame) e))
-          (subst (WrittenReply unreadable) (sym (bare w (subscriber (readRequest frame))))
+          subst (λ (s : Step). WrittenReply (s .reply) (s .replyData))
+          (sym (unread-is (number (a .ids)) v q (dataOf (a .frame)) e))
+          (subst (WrittenReply unreadable) (sym (bare v (subscriber q)))
           (sent refl (omega arith) (omega arith) unreadable-written))
 
-  module _ (buffer : List ℕ) (room : replyRoom ≤ length buffer) where
-    abbrev out : List ℕ
-    out = frameOf (stepOf (p .bankState) time ids frame .reply) (stepOf (p .bankState) time ids frame .replyData)
-
-    -- the call is entered into the history
-    pub call-entered : after (Frame time ids frame buffer) p ≡ answered time ids frame p
-    call-entered =
-        let r = reply-written in
-        frame-answered time ids frame buffer p holds right room (r .written .accepted, let n = r .written .size in omega (arith, r .most))
-
-    -- its answer is the reply, in front of the buffer
-    pub call-answered : FrameAnswered (frameCall (p .bankState) time ids frame buffer) buffer
-        (exchangeOf (number ids) (advanced time (p .bankState)) (readRequest frame) (dataOf frame))
-    unfolding frameCall exchangeOf overwrite
-    call-answered =
-        let r = reply-written in
-        let t = r .written in
-        let s : Step = stepOf (p .bankState) time ids frame in
-        let front = written-in-front (s .reply) (s .replyData) buffer (r .size) (t .accepted) (t .size) (omega (arith, r .most)) in
-        let is : frameCall (p .bankState) time ids frame buffer .buffer ≡ out ++ drop (0 + length out) buffer =
-        rw (lent-right p ids buffer holds right room) (front .1) in
-        let own : take (r .size) (frameCall (p .bankState) time ids frame buffer .buffer) ≡ out =
-        ap (take (r .size)) is ∙ take-at out _ (r .size) (t .size) in
-        record {
-          size = r .size;
-          answer = rw (lent-right p ids buffer holds right room, front .0);
-          least = r .least;
-          most = r .most;
-          fields = ap readReply own ∙ written-reply (s .reply) (s .replyData) (t .long) (t .accepted) (ap isReplyForm (t .named) ∙ r .kind);
-          contents = ap dataOf own ∙ written-data (s .reply) (s .replyData) (t .long) (t .accepted);
-          untouched = ap (drop (r .size)) is ∙ drop-at out _ (r .size) (t .size)
-              ∙ ap (λ (n : ℕ). drop n buffer) (zero-add (length out) ∙ t .size);
-        }
+  -- its answer is the reply, in front of the buffer
+  pub call-answered : replyRoom ≤ length (a .buffer) → FrameAnswered (frameCall w a) (a .buffer) (callExchange w a)
+  unfolding frameCall exchangeOf overwrite
+  call-answered room =
+      let r = reply-written in
+      let t = r .written in
+      let s : Step = stepOf w a in
+      let out : List ℕ = frameOf (s .reply) (s .replyData) in
+      let ready = stores-right w (a .ids) (a .buffer) (sizes .orders) (sizes .mailboxes) right room in
+      let front = written-in-front (s .reply) (s .replyData) (a .buffer) (r .size) (t .accepted) (t .size)
+      (omega (arith, r .most)) in
+      let is : frameCall w a .buffer ≡ out ++ drop (0 + length out) (a .buffer) = rw ready (front .1) in
+      let own : take (r .size) (frameCall w a .buffer) ≡ out =
+      ap (take (r .size)) is ∙ take-at out _ (r .size) (t .size) in
+      record {
+        size = r .size;
+        answer = rw (ready, front .0);
+        least = r .least;
+        most = r .most;
+        fields = ap readReply own
+            ∙ written-reply (s .reply) (s .replyData) (t .long) (t .accepted) (ap isReplyForm (t .named) ∙ r .kind);
+        contents = ap dataOf own ∙ written-data (s .reply) (s .replyData) (t .long) (t .accepted);
+        untouched = ap (drop (r .size)) is ∙ drop-at out _ (r .size) (t .size)
+            ∙ ap (λ (n : ℕ). drop n (a .buffer)) (zero-add (length out) ∙ t .size);
+      }
 
 -- ---- in every past of calls that bring bytes
 
-module _ {calls : List BankCall} (given : AllBytes calls) (time : ℕ) (ids frame buffer : List ℕ) (idsBytes : Bytes ids)
-    (frameBytes : Bytes frame) where
+module _ {calls : List BankCall} (given : AllBytes calls) (a : FrameInput) (idsBytes : Bytes (a .ids))
+    (frameBytes : Bytes (a .frame)) where
   abbrev past : Past
   past = pastOf calls
 
   -- "a number, nothing changed" comes of a wrong lent length alone; every other frame gets its reply
-  pub frame-gets-reply : length ids ≡ idBytes → replyRoom ≤ length buffer →
-      FrameAnswered (frameCall (past .bankState) time ids frame buffer) buffer
-      (exchangeOf (number ids) (advanced time (past .bankState)) (readRequest frame) (dataOf frame))
-  frame-gets-reply right room =
-      call-answered past (past-holds calls) (past-bytes given) time ids frame idsBytes frameBytes right buffer room
+  pub frame-gets-reply : length (a .ids) ≡ idBytes → replyRoom ≤ length (a .buffer) →
+      FrameAnswered (frameCall (past .bankState) a) (a .buffer) (callExchange (past .bankState) a)
+  frame-gets-reply right =
+      let v = past-holds calls .invariant in
+      call-answered (past .bankState) (in-range v) (v .state .sizes) (past-bytes given) a idsBytes frameBytes right
 
   -- and its exchange enters the history
-  pub frame-entered : length ids ≡ idBytes → replyRoom ≤ length buffer →
-      after (Frame time ids frame buffer) past ≡ answered time ids frame past
+  pub frame-entered : length (a .ids) ≡ idBytes → replyRoom ≤ length (a .buffer) →
+      after (Frame a) past ≡ answered a past
   frame-entered right room =
-      call-entered past (past-holds calls) (past-bytes given) time ids frame idsBytes frameBytes right buffer room
+      let holds = past-holds calls in
+      let v = holds .invariant in
+      let r = reply-written (past .bankState) (in-range v) (v .state .sizes) (past-bytes given) a idsBytes frameBytes
+      right in
+      frame-answered a past holds right room (r .written .accepted, let n = r .written .size in omega (arith, r .most))
 
   -- the history's bank is the bank that the call leaves
-  pub same-bank : after (Frame time ids frame buffer) past .bankState ≡ frameCall (past .bankState) time ids frame buffer .bankState
+  pub same-bank : after (Frame a) past .bankState ≡ frameCall (past .bankState) a .bankState
   unfolding after frameCall
-  same-bank = at (lentRight (past .bankState) ids buffer) refl
+  same-bank = at (lentRight (past .bankState) (a .ids) (a .buffer)) refl
     where
-      at : (b : Bool) → lentRight (past .bankState) ids buffer ≡ b →
-          after (Frame time ids frame buffer) past .bankState ≡ frameCall (past .bankState) time ids frame buffer .bankState
+      at : (b : Bool) → lentRight (past .bankState) (a .ids) (a .buffer) ≡ b →
+          after (Frame a) past .bankState ≡ frameCall (past .bankState) a .bankState
       at true e =
-          let l = call-lengths (past .bankState) ids buffer e in
+          let l = call-lengths (past .bankState) (a .ids) (a .buffer) e in
           ap (λ (r : Past). r .bankState) (frame-entered (l .0) (l .1)) ∙ rw e
       at false e = rw e

@@ -59,7 +59,6 @@ use Rattle.bank_verdicts.proofs.Sound.{
   abort,
   underrun,
   exceeded,
-  overfull,
   DownloadSound,
   delivered,
   sentAgain,
@@ -88,7 +87,7 @@ pub record ToUpload (w : BankState) (q : Fields) (d : List ℕ) (r : Transaction
   pub asked : form q ≡ requestForm r
   pub inside : uploadAt (w .bank) q < placeCount
   pub found : isUpload (subscriber q) (transaction q) (placeAt (w .bank) (uploadAt (w .bank) q)) ≡ true
-  pub sound : UploadSound r (placeAt (w .bank) (uploadAt (w .bank) q)) q (length d) a
+  pub sound : UploadSound r (placeAt (w .bank) (uploadAt (w .bank) q)) q a
 
 -- a request to the open download that is found
 pub record ToDownload (w : BankState) (q : Fields) (d : List ℕ) (r : TransactionRequest) (a : DownloadAction) : Type 0 where
@@ -103,26 +102,24 @@ pub upload-acts : {w : BankState} {q : Fields} {d : List ℕ} {r : TransactionRe
     uploadActs a t w q d ≡ onUpload a (uploadAt (w .bank) q) w d
 upload-acts {w} {q} {d} {r} {a} t c = at (c .sound)
   where
-    at : {b : UploadAction} → UploadSound r (placeAt (w .bank) (uploadAt (w .bank) q)) q (length d) b →
+    at : {b : UploadAction} → UploadSound r (placeAt (w .bank) (uploadAt (w .bank) q)) q b →
         uploadActs b t w q d ≡ onUpload b (uploadAt (w .bank) q) w d
-    at (took f below early room) = refl
-    at (tookLast f last mark room) = refl
+    at (took f below early) = refl
+    at (tookLast f last mark) = refl
     at (uploadPoint fits few) = refl
     at (abort fits many) = refl
     at (underrun f below mark) = refl
     at (exceeded f last mark) = refl
-    at (overfull over) = refl
 
 -- a request to an open upload opens none
-pub upload-goes-on : {r : TransactionRequest} {p : Place} {q : Fields} {n : ℕ} {a : UploadAction} → UploadSound r p q n a →
+pub upload-goes-on : {r : TransactionRequest} {p : Place} {q : Fields} {a : UploadAction} → UploadSound r p q a →
     isOpening (action.Upload a) ≡ false
-upload-goes-on (took f below early room) = refl
-upload-goes-on (tookLast f last mark room) = refl
+upload-goes-on (took f below early) = refl
+upload-goes-on (tookLast f last mark) = refl
 upload-goes-on (uploadPoint fits few) = refl
 upload-goes-on (abort fits many) = refl
 upload-goes-on (underrun f below mark) = refl
 upload-goes-on (exceeded f last mark) = refl
-upload-goes-on (overfull over) = refl
 
 -- a request to an open download opens none
 pub download-goes-on : {r : TransactionRequest} {e : Download} {n : ℕ} {q : Fields} {a : DownloadAction} → DownloadSound r e n q a →
@@ -186,7 +183,7 @@ module _ (first : ℕ) (w : BankState) (q : Fields) (d : List ℕ) (rowed : leng
         asked = f;
         inside = ltb-true i placeCount h;
         found = found-upload (ltb-true i placeCount h);
-        sound = judged-upload r (placeAt (w .bank) i) q (length d);
+        sound = judged-upload r (placeAt (w .bank) i) q;
       }))
       (λ n. toDownload r _ (record {
         readable = a;

@@ -50,6 +50,7 @@ use Rattle.bank.specs.Call.{
   replied,
   respond,
   frameCall,
+  FrameInput,
 }
 use Rattle.bank.specs.Mailbox.{fileNumber, carryOutFile, fileCall}
 use Rattle.bank_history.specs.History.{
@@ -64,6 +65,7 @@ use Rattle.bank_history.specs.History.{
   entered,
   placed,
   after,
+  callExchange,
 }
 use Rattle.bank_history.specs.Invariant.{Sizes, Invariant, Holds}
 use Rattle.bank_history.specs.Transactions.{Emptied, Filled, Gone, filled, answered}
@@ -97,20 +99,21 @@ use Rattle.bank_history.proofs.Files.{FileSound, rejected, done, judged
 -- ---- what a call leaves
 
 -- a frame call is given a number and changes nothing, or it is answered
-pub after-frame : (time : ℕ) (ids frame buffer : List ℕ) (p : Past) →
-    (after (Frame time ids frame buffer) p ≡ p) ⊎ (after (Frame time ids frame buffer) p ≡ answered time ids frame p)
+pub after-frame : (a : FrameInput) (p : Past) →
+    (after (Frame a) p ≡ p) ⊎ (after (Frame a) p ≡ answered a p)
 unfolding after frameCall
-after-frame time ids frame buffer p =
-    by-test (λ (c : FrameCall). (entered (c .answer) (c .bankState) x p ≡ p) ⊎ (entered (c .answer) (c .bankState) x p ≡ answered time ids frame p))
-    (lentRight (p .bankState) ids buffer) (λ _. at (replied s buffer .answer)) (λ _. inl refl)
+after-frame a p =
+    by-test (λ (c : FrameCall). (entered (c .answer) (c .bankState) x p ≡ p) ⊎
+    (entered (c .answer) (c .bankState) x p ≡ answered a p))
+    (lentRight (p .bankState) (a .ids) (a .buffer)) (λ _. at (replied s (a .buffer) .answer)) (λ _. inl refl)
   where
     s : Step
-    s = respond (number ids) (advanced time (p .bankState)) (readRequest frame) (dataOf frame)
+    s = respond (number (a .ids)) (advanced (a .time) (p .bankState)) (readRequest (a .frame)) (dataOf (a .frame))
 
     x : Exchange
-    x = exchangeOf (number ids) (advanced time (p .bankState)) (readRequest frame) (dataOf frame)
+    x = callExchange (p .bankState) a
 
-    at : (a : FrameAnswer) → (entered a (s .bankState) x p ≡ p) ⊎ (entered a (s .bankState) x p ≡ answered time ids frame p)
+    at : (r : FrameAnswer) → (entered r (s .bankState) x p ≡ p) ⊎ (entered r (s .bankState) x p ≡ answered a p)
     at (Reply n) = inr refl
     at WrongLength = inl refl
 
@@ -202,23 +205,24 @@ module _ (first : ℕ) (w : BankState) (h : List Exchange) (v : Invariant w h) (
   case-mailbox (toDownload r a t) = download-mailbox (t .readable .known) (t .readable .most) _ a
 
 -- a mailbox changes by a file put in, or by a receipt of its subscriber answered 011000
-pub frame-mailbox : (time : ℕ) (ids frame : List ℕ) (p : Past) (m : ℕ) → Holds p → 1 ≤ m →
-    (mailboxFile (answered time ids frame p .bankState) m ≡ mailboxFile (p .bankState) m)
-    ⊎ Emptied (answered time ids frame p .bankState) m (exchangeOf (number ids) (advanced time (p .bankState)) (readRequest frame) (dataOf frame))
+pub frame-mailbox : (a : FrameInput) (p : Past) (m : ℕ) → Holds p → 1 ≤ m →
+    (mailboxFile (answered a p .bankState) m ≡ mailboxFile (p .bankState) m)
+    ⊎ Emptied (answered a p .bankState) m (callExchange (p .bankState) a)
 unfolding exchangeOf respond
-frame-mailbox time ids frame p m holds one =
-    at (case-mailbox (number ids) w (p .history) v (readRequest frame) (dataOf frame) m one
-    (happens (number ids) w (readRequest frame) (dataOf frame) (v .state .sizes .places) (v .state .sizes .downloads)))
+frame-mailbox a p m holds one =
+    at (case-mailbox (number (a .ids)) w (p .history) v (readRequest (a .frame)) (dataOf (a .frame)) m one
+    (happens (number (a .ids)) w (readRequest (a .frame)) (dataOf (a .frame)) (v .state .sizes .places)
+    (v .state .sizes .downloads)))
   where
     w : BankState
-    w = advanced time (p .bankState)
+    w = advanced (a .time) (p .bankState)
 
     v : Invariant w (p .history)
-    v = advanced-keeps time (p .bankState) (p .history) (holds .invariant)
+    v = advanced-keeps (a .time) (p .bankState) (p .history) (holds .invariant)
 
-    at : {E : Type 0} → (mailboxFile (answered time ids frame p .bankState) m ≡ mailboxFile w m) ⊎ E →
-        (mailboxFile (answered time ids frame p .bankState) m ≡ mailboxFile (p .bankState) m) ⊎ E
-    at (inl e) = inl (e ∙ advanced-mailbox time (p .bankState) m)
+    at : {E : Type 0} → (mailboxFile (answered a p .bankState) m ≡ mailboxFile w m) ⊎ E →
+        (mailboxFile (answered a p .bankState) m ≡ mailboxFile (p .bankState) m) ⊎ E
+    at (inl e) = inl (e ∙ advanced-mailbox (a .time) (p .bankState) m)
     at (inr z) = inr z
 
 -- ---- nothing gone comes back
@@ -296,24 +300,25 @@ module _ (t : Bits128) where
     case-gone first q d (toDownload r a c) = download-step-gone q _ a (download-goes-on (c .sound))
 
   -- an answered frame brings back nothing that is gone when its request is judged
-  pub answered-gone : (time : ℕ) (ids frame : List ℕ) (p : Past) → Holds p → Gone (advanced time (p .bankState)) t →
-      Gone (answered time ids frame p .bankState) t
+  pub answered-gone : (a : FrameInput) (p : Past) → Holds p → Gone (advanced (a .time) (p .bankState)) t →
+      Gone (answered a p .bankState) t
   unfolding respond
-  answered-gone time ids frame p holds g =
-      let v = advanced-keeps time (p .bankState) (p .history) (holds .invariant) in
-      case-gone (advanced time (p .bankState)) g (number ids) (readRequest frame) (dataOf frame)
-      (happens (number ids) (advanced time (p .bankState)) (readRequest frame) (dataOf frame) (v .state .sizes .places)
+  answered-gone a p holds g =
+      let v = advanced-keeps (a .time) (p .bankState) (p .history) (holds .invariant) in
+      case-gone (advanced (a .time) (p .bankState)) g (number (a .ids)) (readRequest (a .frame)) (dataOf (a .frame))
+      (happens (number (a .ids)) (advanced (a .time) (p .bankState)) (readRequest (a .frame)) (dataOf (a .frame))
+      (v .state .sizes .places)
       (v .state .sizes .downloads))
 
   -- what is gone stays gone, whatever the call
   pub gone-stays : (c : BankCall) (p : Past) → Holds p → Gone (p .bankState) t → Gone (after c p .bankState) t
-  gone-stays (Frame time ids frame buffer) p holds g = at (after-frame time ids frame buffer p)
+  gone-stays (Frame a) p holds g = at (after-frame a p)
     where
-      new : Gone (answered time ids frame p .bankState) t
-      new = answered-gone time ids frame p holds (advanced-gone time (p .bankState) (holds .invariant .state .sizes) g)
+      new : Gone (answered a p .bankState) t
+      new = answered-gone a p holds (advanced-gone (a .time) (p .bankState) (holds .invariant .state .sizes) g)
 
-      at : (after (Frame time ids frame buffer) p ≡ p) ⊎ (after (Frame time ids frame buffer) p ≡ answered time ids frame p) →
-          Gone (after (Frame time ids frame buffer) p .bankState) t
+      at : (after (Frame a) p ≡ p) ⊎ (after (Frame a) p ≡ answered a p) →
+          Gone (after (Frame a) p .bankState) t
       at (inl e) = subst (λ (r : Past). Gone (r .bankState) t) (sym e) g
       at (inr e) = subst (λ (r : Past). Gone (r .bankState) t) (sym e) new
   gone-stays (File mailbox file) p holds g = at (after-file mailbox file p holds)

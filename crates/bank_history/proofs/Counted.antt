@@ -156,7 +156,7 @@ module _ (x : Exchange) (h : List Exchange) (t : Bits128) (a l : ℕ) where
       fitted = record { exchange = x; before = h; stands = newest; fits = record { action = k; is = own; kind = y }; came = refl };
     }
 
-open-used : (u : Use) → isOpen u ≡ true → isFree u ≡ false
+pub open-used : (u : Use) → isOpen u ≡ true → isFree u ≡ false
 open-used Free z = never z
 open-used Open z = refl
 open-used Booked z = never z
@@ -350,12 +350,14 @@ past-counted (call ∷ calls) =
     let holds = past-holds calls in
     let c = past-counted calls in
     by-call (λ (r : Past). Counted (r .bankState) (r .history)) call p holds c
-    (λ time ids frame buffer e z.
-    let w = advanced time (p .bankState) in
-    let v = advanced-keeps time (p .bankState) (p .history) (holds .invariant) in
-    case-counted w (p .history) v (advanced-counted time (p .bankState) (p .history) (holds .invariant .state .sizes) c) (readRequest frame)
-    (dataOf frame) (number ids)
-    (happens (number ids) w (readRequest frame) (dataOf frame) (v .state .sizes .places) (v .state .sizes .downloads)))
+    (λ a e z.
+    let w = advanced (a .time) (p .bankState) in
+    let v = advanced-keeps (a .time) (p .bankState) (p .history) (holds .invariant) in
+    case-counted w (p .history) v
+    (advanced-counted (a .time) (p .bankState) (p .history) (holds .invariant .state .sizes) c) (readRequest (a .frame))
+    (dataOf (a .frame)) (number (a .ids))
+    (happens (number (a .ids)) w (readRequest (a .frame)) (dataOf (a .frame)) (v .state .sizes .places)
+    (v .state .sizes .downloads)))
     (λ m f e. record { places = c .places; downloads = c .downloads })
 
 -- the bank as the next request is judged

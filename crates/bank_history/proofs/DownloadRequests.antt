@@ -90,7 +90,7 @@ module _ (w : BankState) (h : List Exchange) (v : Invariant w h) (t : Bits128) (
           bits-same _ t (f .2) ∙ sym (u .transaction) in
           absurd (v .state .apart (findUpload s t (w .bank)) (u .row) l a (u .used) (ap (λ (z : Bits128). z .low) e))
 
-  find-own : findDownload s t (w .bank) ≡ u .row
+  pub find-own : findDownload s t (w .bank) ≡ u .row
   unfolding findDownload
   find-own =
       let long = v .state .sizes .downloads in

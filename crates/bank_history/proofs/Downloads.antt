@@ -11,7 +11,7 @@ use lib.ListN.{length, getD, set, length-set, length-take, List·getD-eq-default
 use borrow.Author.Tests.{ne-eqb, not-true}
 use Rattle.frame_table.specs.declared.fields.Bits128.{Bits128}
 use Rattle.octets.proofs.Tests.{never, and-true}
-use Rattle.message.specs.Limits.{subscribers}
+use Rattle.message.specs.Limits.{subscribers, fileBytes}
 use Rattle.message.specs.Segments.{segmentOf}
 use Rattle.bank_state.specs.declared.clock.Ended.{Ended}
 use Rattle.bank_state.specs.declared.state.Download.{Download}
@@ -38,15 +38,20 @@ use Rattle.bank_history.proofs.Places.{place-unchanged}
 use Rattle.bank_history.proofs.Records.{download-unchanged}
 use Rattle.bank_history.proofs.DownloadChange.{besides, download-change}
 
+-- the file of a mailbox has the length that is kept for it
+pub kept-long : (w : BankState) → length (w .mailboxes) ≡ storeBytes →
+    ((i : ℕ) → i < placeCount → getD (w .bank .files) i 0 ≤ fileBytes) → (s : ℕ) → 1 ≤ s → s ≤ subscribers →
+    length (mailboxFile w s) ≡ fileLength s (w .bank .files)
+unfolding mailboxFile fileLength fileOf
+kept-long w long room s a b =
+    let inside : s - 1 < placeCount = omega arith in
+    let l = length-part (w .mailboxes) long (s - 1) inside in
+    let m = room (s - 1) inside in
+    simp length-take (omega arith)
+
 module _ (w : BankState) (h : List Exchange) (v : Invariant w h) where
-  -- the file of a mailbox has the length that is kept for it
   pub file-long : (s : ℕ) → 1 ≤ s → s ≤ subscribers → length (mailboxFile w s) ≡ fileLength s (w .bank .files)
-  unfolding mailboxFile fileLength fileOf
-  file-long s a b =
-      let inside : s - 1 < placeCount = omega arith in
-      let l = length-part (w .mailboxes) (v .state .sizes .mailboxes) (s - 1) inside in
-      let m = v .state .mailboxesHold (s - 1) inside .room in
-      simp length-take (omega arith)
+  file-long = kept-long w (v .state .sizes .mailboxes) (λ i l. v .state .mailboxesHold i l .room)
 
   pub download-open : (j : ℕ) → downloadAt (w .bank) j .used ≡ true →
       OpenDownload (w .bank .clock) (w .bank .openings) h (mailboxFile w (downloadAt (w .bank) j .subscriber)) (downloadAt (w .bank) j)

@@ -15,6 +15,7 @@ use Rattle.bank_state.specs.Clock.{advanced}
 use Rattle.bank_state.specs.Limits.{placeCount, idleLimit}
 use Rattle.bank_state.specs.Search.{isFree, isOpen}
 use Rattle.bank_state.specs.State.{BankState, noPlace, placeAt, downloadAt}
+use Rattle.bank.specs.Call.{FrameInput}
 use Rattle.bank_history.specs.History.{Exchange, Past}
 use Rattle.bank_history.specs.Invariant.{Invariant, Holds}
 use Rattle.bank_history.specs.Transactions.{answered, Gone, UploadAt, DownloadAt}
@@ -117,6 +118,6 @@ module _ (time : ℕ) (w : BankState) (h : List Exchange) (v : Invariant w h) (t
           omega arith
 
 -- a frame call that finds it idle leaves it gone, whatever its request
-pub dropped-stays : (time : ℕ) (ids frame : List ℕ) (p : Past) (t : Bits128) → Holds p → Gone (advanced time (p .bankState)) t →
-    Gone (answered time ids frame p .bankState) t
-dropped-stays time ids frame p t holds gone = answered-gone t time ids frame p holds gone
+pub dropped-stays : (a : FrameInput) (p : Past) (t : Bits128) → Holds p → Gone (advanced (a .time) (p .bankState)) t →
+    Gone (answered a p .bankState) t
+dropped-stays a p t holds gone = answered-gone t a p holds gone

@@ -84,6 +84,7 @@ use Rattle.bank_history.proofs.Positions.{sound-at, action-sound, one-o
 use Rattle.bank_history.proofs.Remembered.{nonce-remembered}
 use Rattle.bank_history.proofs.SentSegments.{action-in, reply-form, reply-transaction}
 use Rattle.bank_history.proofs.IdleHour.{idle-refused}
+use Rattle.bank_history.proofs.OpenAnswered.{open-answered}
 use Rattle.bank_history.proofs.SixAttempts.{five-answered, sixth-cancels, attempts-counted}
 use Rattle.bank_history.proofs.Replies.{verdictForm, verdictCode, verdict-form, verdict-code, action-transaction, actionForm}
 use Rattle.bank_history.proofs.Theorems.{history-sound, reply-is, upload-opened, download-opened, segment-taken, recovery-point}
@@ -141,15 +142,16 @@ nonce-refused {calls} {e} {f} {g} {t} n made stands o same recent = refused-with
 
     judged-so : ((form (asked n) ≡ forms.UploadOpening) × (orderType (asked n) ≡ ful) × (1 ≤ segments (asked n)))
         ⊎ ((form (asked n) ≡ forms.DownloadOpening) × (orderType (asked n) ≡ fdl)) →
-        judge (number (n .ids)) (judgedBank n .bank) (asked n) (length (sent n)) ≡ verdict.Refused code.MessageReplay
+        judge (number (n .input .ids)) (judgedBank n .bank) (asked n)
+        (length (sent n)) ≡ verdict.Refused code.MessageReplay
     judged-so (inl (z, kind, some)) =
-        verdict-by-form (number (n .ids)) (judgedBank n) (asked n) (sent n) forms.UploadOpening z
+        verdict-by-form (number (n .input .ids)) (judgedBank n) (asked n) (sent n) forms.UploadOpening z
         (well-made n (made .made) (ap isRequestForm z))
-        ∙ upload-replayed (number (n .ids)) (judgedBank n .bank) (asked n) few seen kind some
+        ∙ upload-replayed (number (n .input .ids)) (judgedBank n .bank) (asked n) few seen kind some
     judged-so (inr (z, kind)) =
-        verdict-by-form (number (n .ids)) (judgedBank n) (asked n) (sent n) forms.DownloadOpening z
+        verdict-by-form (number (n .input .ids)) (judgedBank n) (asked n) (sent n) forms.DownloadOpening z
         (well-made n (made .made) (ap isRequestForm z))
-        ∙ download-replayed (number (n .ids)) (judgedBank n .bank) (asked n) few seen kind
+        ∙ download-replayed (number (n .input .ids)) (judgedBank n .bank) (asked n) few seen kind
 
 -- ---- another subscriber's transaction ID
 
@@ -175,7 +177,7 @@ opened-by {t} {f} {g} (more s r) (older {x = x} {h = h} p) o = at (did isOpening
 foreign-refused : {calls : List BankCall} {e f : Exchange} {g : List Exchange} {t : Bits128} → (n : Next calls e) → Asks t e →
     Stands f g (pastOf calls .history) → Opens t f → (subscriber (e .request) ≡ subscriber (f .request) → ⊥) →
     RefusedWith code.UnknownTransaction e
-    × (pastOf (Frame (n .time) (n .ids) (n .frame) (n .buffer) ∷ calls) .bankState ≡ advanced (n .time) (pastOf calls .bankState))
+    × (pastOf (Frame (n .input) ∷ calls) .bankState ≡ advanced (n .input .time) (pastOf calls .bankState))
 foreign-refused {calls} {e} {f} {g} {t} n a stands o other =
     (refused-with n code.UnknownTransaction unknown, bank-after n ∙ ap (λ (v : Verdict). carryOut v (judgedBank n) (asked n) (sent n)) unknown)
   where
@@ -397,6 +399,7 @@ false-economies = record {
   foreign = foreign-refused;
   closed = closed-refused;
   idle = idle-refused;
+  known = open-answered;
   five = λ n c a. five-answered n c a;
   sixth = λ n c r. sixth-cancels n c r;
   counted = attempts-counted;

@@ -101,7 +101,8 @@ idle-refused {calls} {e} {t} n a old = refused-with n code.UnknownTransaction (u
     gone : (u : Bits128) (k : Action) → e .verdict ≡ verdict.Of u k → ⊥
     gone u k own =
         let sizes = past-holds calls .invariant .state .sizes in
-        let r = acted-recent (judgedBank n) h (judged-counted calls (n .time)) (advanced-not-idle (n .time) (pastOf calls .bankState) sizes) _ _ _
+        let r = acted-recent (judgedBank n) h (judged-counted calls (n .input .time))
+        (advanced-not-idle (n .input .time) (pastOf calls .bankState) sizes) _ _ _
         u k (no-opening n a u k (action-sound (all-sound n) newest own)) (case-is n) own in
         let f = subst (λ (i : Bits128). Fitted i (r .last) h) (asked-open n a own .0) (r .fitted) in
         let late = old (f .exchange) (f .before) (f .stands) (fits-shown (history-sound calls) (f .stands) (f .fits)) in

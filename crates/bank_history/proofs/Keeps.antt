@@ -29,7 +29,7 @@ use Rattle.bank.specs.declared.call.FrameAnswer.{FrameAnswer}
 use Rattle.bank.specs.declared.call.FrameAnswer.the-variants.{Reply, WrongLength}
 use Rattle.bank.specs.declared.mailbox.FileAnswer.{FileAnswer}
 use Rattle.bank.specs.declared.mailbox.FileAnswer.the-variants as put
-use Rattle.bank.specs.Call.{Step, FrameCall, lentRight, carryOut, replied, respond, frameCall}
+use Rattle.bank.specs.Call.{Step, FrameCall, lentRight, carryOut, replied, respond, frameCall, FrameInput}
 use Rattle.bank.specs.Mailbox.{fileNumber, carryOutFile, fileCall}
 use Rattle.bank_verdicts.specs.declared.verdict.Verdict.{Verdict}
 use Rattle.bank_verdicts.specs.declared.verdict.Verdict.the-variants as verdict
@@ -140,30 +140,33 @@ entered-holds : (p : Past) (a : FrameAnswer) (w : BankState) (e : Exchange) → 
 entered-holds p (Reply n) w e old v notIdle = record { invariant = v; current = notIdle }
 entered-holds p WrongLength w e old v notIdle = old
 
-frame-holds : (p : Past) (time : ℕ) (ids frame buffer : List ℕ) → Holds p → Holds (after (Frame time ids frame buffer) p)
+frame-holds : (p : Past) (a : FrameInput) → Holds p → Holds (after (Frame a) p)
 unfolding after frameCall
-frame-holds p time ids frame buffer old =
-    by-test (λ (c : FrameCall). Holds (entered (c .answer) (c .bankState) x p)) (lentRight (p .bankState) ids buffer)
-    (λ _. entered-holds p (replied s buffer .answer) (s .bankState) x old kept notIdle) (λ _. old)
+frame-holds p a old =
+    by-test (λ (c : FrameCall). Holds (entered (c .answer) (c .bankState) x p))
+    (lentRight (p .bankState) (a .ids) (a .buffer))
+    (λ _. entered-holds p (replied s (a .buffer) .answer) (s .bankState) x old kept notIdle) (λ _. old)
   where
     w : BankState
-    w = advanced time (p .bankState)
+    w = advanced (a .time) (p .bankState)
 
     s : Step
-    s = respond (number ids) w (readRequest frame) (dataOf frame)
+    s = respond (number (a .ids)) w (readRequest (a .frame)) (dataOf (a .frame))
 
     x : Exchange
-    x = exchangeOf (number ids) w (readRequest frame) (dataOf frame)
+    x = exchangeOf (number (a .ids)) w (readRequest (a .frame)) (dataOf (a .frame))
 
     v : Invariant w (p .history)
-    v = advanced-keeps time (p .bankState) (p .history) (old .invariant)
+    v = advanced-keeps (a .time) (p .bankState) (p .history) (old .invariant)
 
     kept : Invariant (s .bankState) (x ∷ p .history)
-    kept = respond-keeps (number ids) w (p .history) v (readRequest frame) (dataOf frame) (transfer-data frame)
+    kept = respond-keeps (number (a .ids)) w (p .history) v (readRequest (a .frame)) (dataOf (a .frame))
+        (transfer-data (a .frame))
 
     notIdle : NoneIdle (s .bankState)
-    notIdle = respond-not-idle (number ids) w (p .history) v (readRequest frame) (dataOf frame) (transfer-data frame)
-        (advanced-not-idle time (p .bankState) (old .invariant .state .sizes))
+    notIdle = respond-not-idle (number (a .ids)) w (p .history) v (readRequest (a .frame)) (dataOf (a .frame))
+        (transfer-data (a .frame))
+        (advanced-not-idle (a .time) (p .bankState) (old .invariant .state .sizes))
 
 file-holds : (p : Past) (mailbox : ℕ) (file : List ℕ) → Holds p → Holds (after (File mailbox file) p)
 unfolding after fileCall
@@ -194,7 +197,7 @@ file-holds p mailbox file old = at (judged-file (p .bankState .bank) mailbox fil
     }
 
 pub after-holds : (c : BankCall) (p : Past) → Holds p → Holds (after c p)
-after-holds (Frame time ids frame buffer) p old = frame-holds p time ids frame buffer old
+after-holds (Frame a) p old = frame-holds p a old
 after-holds (File mailbox file) p old = file-holds p mailbox file old
 
 -- ---- a fresh bank

@@ -30,6 +30,7 @@ pub mod Answered
 pub mod RequestBounds
 pub mod MailboxBytes
 pub mod WrittenReplies
+pub mod Held
 pub mod Answers
 pub mod Theorems
 pub mod Liveness
@@ -39,4 +40,8 @@ pub mod Counted
 pub mod SentSegments
 pub mod IdleHour
 pub mod SixAttempts
+pub mod OpenAnswered
 pub mod FalseEconomies
+pub mod Statuses
+pub mod Drops
+pub mod OnRows

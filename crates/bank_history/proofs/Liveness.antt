@@ -27,7 +27,7 @@ use Rattle.bank_verdicts.specs.declared.verdict.Verdict.{Verdict}
 use Rattle.bank_verdicts.specs.declared.verdict.Verdict.the-variants as verdict
 use Rattle.bank_verdicts.specs.Judgement.{mailboxSegments, uploadAt}
 use Rattle.bank_openings.specs.Openings.{counted, openUpload, openDownload}
-use Rattle.bank.specs.Call.{downloadActs, carryOut, respond}
+use Rattle.bank.specs.Call.{downloadActs, carryOut, respond, FrameInput}
 use Rattle.bank_history.specs.History.{
   Exchange,
   Past,
@@ -93,16 +93,16 @@ case-clock {w = w} {q = q} (toDownload r a c) = download-clock w q _ a
 
 -- what is true of the past before and of each past that a call can leave is true after the call
 pub by-call : (P : Past → Type 0) (c : BankCall) (p : Past) → Holds p → P p →
-    ((time : ℕ) (ids frame buffer : List ℕ) → c ≡ Frame time ids frame buffer → after c p ≡ answered time ids frame p →
-    P (answered time ids frame p)) →
+    ((a : FrameInput) → c ≡ Frame a → after c p ≡ answered a p →
+    P (answered a p)) →
     ((mailbox : ℕ) (file : List ℕ) → c ≡ File mailbox file →
     P (record { bankState = filled mailbox file (p .bankState); history = p .history })) → P (after c p)
-by-call P (Frame time ids frame buffer) p holds same answers files = at (after-frame time ids frame buffer p)
+by-call P (Frame a) p holds same answers files = at (after-frame a p)
   where
-    at : (after (Frame time ids frame buffer) p ≡ p) ⊎ (after (Frame time ids frame buffer) p ≡ answered time ids frame p) →
-        P (after (Frame time ids frame buffer) p)
+    at : (after (Frame a) p ≡ p) ⊎ (after (Frame a) p ≡ answered a p) →
+        P (after (Frame a) p)
     at (inl e) = subst P (sym e) same
-    at (inr e) = subst P (sym e) (answers time ids frame buffer refl e)
+    at (inr e) = subst P (sym e) (answers a refl e)
 by-call P (File mailbox file) p holds same answers files = at (after-file mailbox file p holds)
   where
     at : (after (File mailbox file) p ≡ p)
@@ -113,120 +113,143 @@ by-call P (File mailbox file) p holds same answers files = at (after-file mailbo
     at (inr e) = subst P (sym (e .0)) (files mailbox file refl)
 
 -- an answered frame: the bank as the request is judged, the exchange, the invariant, the case
-module _ (time : ℕ) (ids frame : List ℕ) (p : Past) (holds : Holds p) where
+module _ (a : FrameInput) (p : Past) (holds : Holds p) where
   abbrev pub judged : BankState
-  judged = advanced time (p .bankState)
+  judged = advanced (a .time) (p .bankState)
 
   abbrev pub newest : Exchange
-  newest = exchangeOf (number ids) judged (readRequest frame) (dataOf frame)
+  newest = exchangeOf (number (a .ids)) judged (readRequest (a .frame)) (dataOf (a .frame))
 
   judged-holds : Invariant judged (p .history)
-  judged-holds = advanced-keeps time (p .bankState) (p .history) (holds .invariant)
+  judged-holds = advanced-keeps (a .time) (p .bankState) (p .history) (holds .invariant)
 
-  the-case : Happens (number ids) judged (readRequest frame) (dataOf frame) (newest .verdict)
+  the-case : Happens (number (a .ids)) judged (readRequest (a .frame)) (dataOf (a .frame)) (newest .verdict)
   unfolding exchangeOf respond
-  the-case = happens (number ids) judged (readRequest frame) (dataOf frame) (judged-holds .state .sizes .places)
+  the-case = happens (number (a .ids)) judged (readRequest (a .frame)) (dataOf (a .frame))
+      (judged-holds .state .sizes .places)
       (judged-holds .state .sizes .downloads)
 
-  pub answered-clock : answered time ids frame p .bankState .bank .clock ≡ max (p .bankState .bank .clock) time
+  pub answered-clock : answered a p .bankState .bank .clock ≡ max (p .bankState .bank .clock) (a .time)
   unfolding exchangeOf respond
-  answered-clock = case-clock the-case ∙ advanced-clock time (p .bankState)
+  answered-clock = case-clock the-case ∙ advanced-clock (a .time) (p .bankState)
 
   -- ---- the requests of an upload that fit
 
   -- its opening
   pub upload-opens : (t : Bits128) (m : ℕ) → newest .verdict ≡ verdict.Of t (action.Upload (up.Opened m)) →
-      UploadAt (answered time ids frame p .bankState) t (subscriber (readRequest frame)) 0 (segments (readRequest frame))
-      (max (p .bankState .bank .clock) time)
+      UploadAt (answered a p .bankState) t (subscriber (readRequest (a .frame))) 0 (segments (readRequest (a .frame)))
+      (max (p .bankState .bank .clock) (a .time))
   unfolding exchangeOf respond
-  upload-opens t m e = subst (UploadAt (answered time ids frame p .bankState) t (subscriber (readRequest frame)) 0
-      (segments (readRequest frame))) (advanced-clock time (p .bankState))
-      (own.opened-open (number ids) judged (p .history) judged-holds (readRequest frame) (dataOf frame) t m the-case e)
+  upload-opens t m e = subst (UploadAt (answered a p .bankState) t (subscriber (readRequest (a .frame))) 0
+      (segments (readRequest (a .frame)))) (advanced-clock (a .time) (p .bankState))
+      (own.opened-open (number (a .ids)) judged (p .history) judged-holds (readRequest (a .frame))
+      (dataOf (a .frame)) t m the-case e)
 
   -- its next segment, within the idle hour
   module _ (t : Bits128) (s k n last : ℕ) (before : UploadUnlessIdle (p .bankState) t s k n last)
-      (asked : form (readRequest frame) ≡ forms.UploadTransfer)
-      (from : subscriber (readRequest frame) ≡ s) (to : transaction (readRequest frame) ≡ t) (next : segment (readRequest frame) ≡ suc k)
-      (mark : lastMark (readRequest frame) ≡ lastMarkOf (segment (readRequest frame)) n) (short : length (dataOf frame) ≤ segmentBytes)
-      (notIdle : max (p .bankState .bank .clock) time ≤ last + idleLimit) where
+      (asked : form (readRequest (a .frame)) ≡ forms.UploadTransfer)
+      (from : subscriber (readRequest (a .frame)) ≡ s) (to : transaction (readRequest (a .frame)) ≡ t)
+      (next : segment (readRequest (a .frame)) ≡ suc k)
+      (mark : lastMark (readRequest (a .frame)) ≡ lastMarkOf (segment (readRequest (a .frame))) n)
+      (short : length (dataOf (a .frame)) ≤ segmentBytes)
+      (notIdle : max (p .bankState .bank .clock) (a .time) ≤ last + idleLimit) where
     there : UploadAt judged t s k n last
-    there = uploads.advanced-open t s k n last time (p .bankState) (holds .invariant .state .sizes) before
-        (let c = advanced-clock time (p .bankState) in omega arith)
+    there = uploads.advanced-open t s k n last (a .time) (p .bankState) (holds .invariant .state .sizes) before
+        (let c = advanced-clock (a .time) (p .bankState) in omega arith)
 
-    pub upload-current : last ≤ max (p .bankState .bank .clock) time
+    pub upload-current : last ≤ max (p .bankState .bank .clock) (a .time)
     upload-current =
         let u = there in
-        let a = own.upload-is-open judged (p .history) judged-holds t s k n last u .0 .current in
+        let m = own.upload-is-open judged (p .history) judged-holds t s k n last u .0 .current in
         let b = u .fitting in
-        let c = advanced-clock time (p .bankState) in omega arith
+        let c = advanced-clock (a .time) (p .bankState) in omega arith
 
     pub upload-takes : newest .verdict ≡ verdict.Of t (action.Upload (cond (eqb (k + 1) n) up.TookLast up.Took))
     unfolding exchangeOf respond
-    upload-takes = own.own-verdict (number ids) judged (p .history) judged-holds t s k n last there (readRequest frame) (dataOf frame)
+    upload-takes =
+        own.own-verdict (number (a .ids)) judged (p .history) judged-holds t s k n last there (readRequest (a .frame))
+        (dataOf (a .frame))
         asked from to next mark short
 
-    pub upload-goes-on : suc k < n → UploadAt (answered time ids frame p .bankState) t s (suc k) n (max (p .bankState .bank .clock) time)
-    upload-goes-on below = subst (UploadAt (answered time ids frame p .bankState) t s (suc k) n) (advanced-clock time (p .bankState))
-        (own.own-open (number ids) judged (p .history) judged-holds t s k n last there (readRequest frame) (dataOf frame) asked from to
+    pub upload-goes-on : suc k < n →
+        UploadAt (answered a p .bankState) t s (suc k) n (max (p .bankState .bank .clock) (a .time))
+    upload-goes-on below =
+        subst (UploadAt (answered a p .bankState) t s (suc k) n) (advanced-clock (a .time) (p .bankState))
+        (own.own-open (number (a .ids)) judged (p .history) judged-holds t s k n last there (readRequest (a .frame))
+        (dataOf (a .frame)) asked from to
         next mark short below)
 
   -- ---- the requests of a download that fit
 
   pub download-opens : (t : Bits128) (n : ℕ) → newest .verdict ≡ verdict.Of t (action.Download (down.Opened n)) →
-      DownloadAt (answered time ids frame p .bankState) t (subscriber (readRequest frame)) 1 (max (p .bankState .bank .clock) time)
+      DownloadAt (answered a p .bankState) t (subscriber (readRequest (a .frame))) 1
+      (max (p .bankState .bank .clock) (a .time))
   unfolding exchangeOf respond
-  download-opens t n e = subst (DownloadAt (answered time ids frame p .bankState) t (subscriber (readRequest frame)) 1)
-      (advanced-clock time (p .bankState))
-      (ownDownload.opened-open (number ids) judged (p .history) judged-holds (readRequest frame) (dataOf frame) t n the-case e)
+  download-opens t n e = subst (DownloadAt (answered a p .bankState) t (subscriber (readRequest (a .frame))) 1)
+      (advanced-clock (a .time) (p .bankState))
+      (ownDownload.opened-open (number (a .ids)) judged (p .history) judged-holds (readRequest (a .frame))
+      (dataOf (a .frame)) t n the-case e)
 
-  module _ (t : Bits128) (s d last : ℕ) (before : DownloadUnlessIdle (p .bankState) t s d last) (from : subscriber (readRequest frame) ≡ s)
-      (to : transaction (readRequest frame) ≡ t) (short : length (dataOf frame) ≤ segmentBytes)
-      (notIdle : max (p .bankState .bank .clock) time ≤ last + idleLimit) where
+  module _ (t : Bits128) (s d last : ℕ) (before : DownloadUnlessIdle (p .bankState) t s d last)
+      (from : subscriber (readRequest (a .frame)) ≡ s)
+      (to : transaction (readRequest (a .frame)) ≡ t) (short : length (dataOf (a .frame)) ≤ segmentBytes)
+      (notIdle : max (p .bankState .bank .clock) (a .time) ≤ last + idleLimit) where
     there-download : DownloadAt judged t s d last
-    there-download = downloads.advanced-open t s d last time (p .bankState) (holds .invariant .state .sizes .downloads) before
-        (let c = advanced-clock time (p .bankState) in omega arith)
+    there-download =
+        downloads.advanced-open t s d last (a .time) (p .bankState) (holds .invariant .state .sizes .downloads) before
+        (let c = advanced-clock (a .time) (p .bankState) in omega arith)
 
-    pub download-current : last ≤ max (p .bankState .bank .clock) time
+    pub download-current : last ≤ max (p .bankState .bank .clock) (a .time)
     download-current =
         let u = there-download in
-        let a = download-open judged (p .history) judged-holds (u .row) (u .used) .0 .current in
+        let m = download-open judged (p .history) judged-holds (u .row) (u .used) .0 .current in
         let b = u .fitting in
-        let c = advanced-clock time (p .bankState) in omega arith
+        let c = advanced-clock (a .time) (p .bankState) in omega arith
 
     -- N is still that of the file at its opening
-    pub download-segments : mailboxSegments (subscriber (readRequest frame)) (judged .bank)
+    pub download-segments : mailboxSegments (subscriber (readRequest (a .frame))) (judged .bank)
         ≡ segmentsOf (length (fileAtOpening t (p .history)))
     download-segments =
         let u = there-download in
         let o = download-open judged (p .history) judged-holds (u .row) (u .used) in
-        let own : subscriber (readRequest frame) ≡ downloadAt (judged .bank) (u .row) .subscriber = from ∙ sym (u .subscriber) in
+        let own : subscriber (readRequest (a .frame)) ≡ downloadAt (judged .bank) (u .row) .subscriber =
+        from ∙ sym (u .subscriber) in
         ap (λ (m : ℕ). segmentsOf (fileLength m (judged .bank .files))) own
         ∙ ap segmentsOf (sym (file-long judged (p .history) judged-holds _ (o .0 .known) (o .0 .most)))
         ∙ ap (λ (f : List ℕ). segmentsOf (length f)) (sym (o .1 .unchanged))
         ∙ ap (λ (i : Bits128). segmentsOf (length (fileAtOpening i (p .history)))) (u .transaction)
 
     -- its next segment
-    module _ (asked : form (readRequest frame) ≡ forms.DownloadTransfer) (next : segment (readRequest frame) ≡ suc d)
-        (within : segment (readRequest frame) ≤ mailboxSegments (subscriber (readRequest frame)) (judged .bank)) where
+    module _ (asked : form (readRequest (a .frame)) ≡ forms.DownloadTransfer)
+        (next : segment (readRequest (a .frame)) ≡ suc d)
+        (within : segment (readRequest (a .frame)) ≤ mailboxSegments (subscriber (readRequest (a .frame)))
+        (judged .bank)) where
       pub download-delivers : newest .verdict
-          ≡ verdict.Of t (action.Download (down.Delivered (mailboxSegments (subscriber (readRequest frame)) (judged .bank))))
+          ≡ verdict.Of t
+          (action.Download (down.Delivered (mailboxSegments (subscriber (readRequest (a .frame))) (judged .bank))))
       unfolding exchangeOf respond
       download-delivers =
-          ownDownload.deliver-verdict (number ids) judged (p .history) judged-holds t s d last there-download (readRequest frame)
-          (dataOf frame) from to short asked next within
+          ownDownload.deliver-verdict (number (a .ids)) judged (p .history) judged-holds t s d last there-download
+          (readRequest (a .frame))
+          (dataOf (a .frame)) from to short asked next within
 
-      pub download-goes-on : DownloadAt (answered time ids frame p .bankState) t s (suc d) (max (p .bankState .bank .clock) time)
-      download-goes-on = subst (DownloadAt (answered time ids frame p .bankState) t s (suc d)) (advanced-clock time (p .bankState))
-          (ownDownload.deliver-open (number ids) judged (p .history) judged-holds t s d last there-download (readRequest frame)
-          (dataOf frame) from to short asked next within)
+      pub download-goes-on : DownloadAt (answered a p .bankState) t s (suc d)
+          (max (p .bankState .bank .clock) (a .time))
+      download-goes-on =
+          subst (DownloadAt (answered a p .bankState) t s (suc d)) (advanced-clock (a .time) (p .bankState))
+          (ownDownload.deliver-open (number (a .ids)) judged (p .history) judged-holds t s d last there-download
+          (readRequest (a .frame))
+          (dataOf (a .frame)) from to short asked next within)
 
     -- its receipt
-    pub download-confirms : form (readRequest frame) ≡ forms.Receipt → d ≡ mailboxSegments (subscriber (readRequest frame)) (judged .bank) →
-        receiptCode (readRequest frame) ≡ 0 →
+    pub download-confirms : form (readRequest (a .frame)) ≡ forms.Receipt →
+        d ≡ mailboxSegments (subscriber (readRequest (a .frame))) (judged .bank) →
+        receiptCode (readRequest (a .frame)) ≡ 0 →
         newest .verdict ≡ verdict.Of t (action.Download down.Confirmed)
     unfolding exchangeOf respond
-    download-confirms = ownDownload.receipt-verdict (number ids) judged (p .history) judged-holds t s d last there-download
-        (readRequest frame) (dataOf frame) from to short
+    download-confirms =
+        ownDownload.receipt-verdict (number (a .ids)) judged (p .history) judged-holds t s d last there-download
+        (readRequest (a .frame)) (dataOf (a .frame)) from to short
 
 -- ---- whatever comes from elsewhere
 
@@ -239,14 +262,14 @@ upload-stays t s k n last c p holds before noAction =
     by-call (λ (r : Past). UploadUnlessIdle (r .bankState) t s k n last) c p holds before frames
     (λ m f e h. uploads.upload-moved (before h) refl)
   where
-    frames : (time : ℕ) (ids frame buffer : List ℕ) → c ≡ Frame time ids frame buffer → after c p ≡ answered time ids frame p →
-        UploadUnlessIdle (answered time ids frame p .bankState) t s k n last
-    frames time ids frame buffer e z h =
-        uploads.case-open t s k n last (advanced time (p .bankState)) (p .history) (judged-holds time ids frame p holds)
-        (uploads.advanced-open t s k n last time (p .bankState) (holds .invariant .state .sizes) before
-        (let a = case-clock (the-case time ids frame p holds) in omega arith))
-        (number ids) (readRequest frame) (dataOf frame) (the-case time ids frame p holds)
-        (noAction (newest time ids frame p holds) (ap (λ (r : Past). r .history) z))
+    frames : (a : FrameInput) → c ≡ Frame a → after c p ≡ answered a p →
+        UploadUnlessIdle (answered a p .bankState) t s k n last
+    frames a e z h =
+        uploads.case-open t s k n last (advanced (a .time) (p .bankState)) (p .history) (judged-holds a p holds)
+        (uploads.advanced-open t s k n last (a .time) (p .bankState) (holds .invariant .state .sizes) before
+        (let m = case-clock (the-case a p holds) in omega arith))
+        (number (a .ids)) (readRequest (a .frame)) (dataOf (a .frame)) (the-case a p holds)
+        (noAction (newest a p holds) (ap (λ (r : Past). r .history) z))
 
 -- a download stays, unless the call's request is to it or is a receipt of its subscriber answered 011000
 pub download-stays : (t : Bits128) (s d last : ℕ) (c : BankCall) (p : Past) → Holds p → DownloadUnlessIdle (p .bankState) t s d last →
@@ -259,18 +282,18 @@ download-stays t s d last c p holds before noAction kept =
     by-call (λ (r : Past). DownloadUnlessIdle (r .bankState) t s d last) c p holds before frames
     (λ m f e h. let u = before h in downloads.record-moved u (u .row) (u .inside) refl)
   where
-    frames : (time : ℕ) (ids frame buffer : List ℕ) → c ≡ Frame time ids frame buffer → after c p ≡ answered time ids frame p →
-        DownloadUnlessIdle (answered time ids frame p .bankState) t s d last
-    frames time ids frame buffer e z h =
-        downloads.case-open t s d last (advanced time (p .bankState)) (p .history) (judged-holds time ids frame p holds)
-        (downloads.advanced-open t s d last time (p .bankState) (holds .invariant .state .sizes .downloads) before
-        (let a = case-clock (the-case time ids frame p holds) in omega arith))
-        (number ids) (readRequest frame) (dataOf frame) (the-case time ids frame p holds)
-        (noAction (newest time ids frame p holds) (ap (λ (r : Past). r .history) z))
-        (λ id. kept (newest time ids frame p holds) id (ap (λ (r : Past). r .history) z))
+    frames : (a : FrameInput) → c ≡ Frame a → after c p ≡ answered a p →
+        DownloadUnlessIdle (answered a p .bankState) t s d last
+    frames a e z h =
+        downloads.case-open t s d last (advanced (a .time) (p .bankState)) (p .history) (judged-holds a p holds)
+        (downloads.advanced-open t s d last (a .time) (p .bankState) (holds .invariant .state .sizes .downloads) before
+        (let m = case-clock (the-case a p holds) in omega arith))
+        (number (a .ids)) (readRequest (a .frame)) (dataOf (a .frame)) (the-case a p holds)
+        (noAction (newest a p holds) (ap (λ (r : Past). r .history) z))
+        (λ id. kept (newest a p holds) id (ap (λ (r : Past). r .history) z))
 
 -- the clock never goes back
 pub clock-grows : (c : BankCall) (p : Past) → Holds p → p .bankState .bank .clock ≤ after c p .bankState .bank .clock
 clock-grows c p holds =
     by-call (λ (r : Past). p .bankState .bank .clock ≤ r .bankState .bank .clock) c p holds (omega arith)
-    (λ time ids frame buffer e z. let a = answered-clock time ids frame p holds in omega arith) (λ m f e. omega arith)
+    (λ a e z. let m = answered-clock a p holds in omega arith) (λ m f e. omega arith)

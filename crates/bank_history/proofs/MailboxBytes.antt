@@ -22,7 +22,7 @@ use Rattle.bank_verdicts.specs.declared.verdict.DownloadAction.{DownloadAction}
 use Rattle.bank_verdicts.specs.declared.verdict.DownloadAction.the-variants as down
 use Rattle.bank_verdicts.specs.declared.verdict.Verdict.{Verdict}
 use Rattle.bank_verdicts.specs.Judgement.{uploadAt}
-use Rattle.bank.specs.Call.{downloadActs, carryOut, respond}
+use Rattle.bank.specs.Call.{downloadActs, carryOut, respond, FrameInput}
 use Rattle.bank_history.specs.History.{Past, BankCall, Frame, File, mailboxFile, after, start, pastOf}
 use Rattle.bank_history.specs.Invariant.{Holds}
 use Rattle.bank_history.specs.Transactions.{answered, filled}
@@ -88,26 +88,27 @@ case-bytes {w = w} {q = q} b (toUpload r a c) =
 case-bytes {w = w} {q = q} b (toDownload r a c) = download-bytes w q _ a b
 
 -- an answered frame
-answered-bytes : (time : ℕ) (ids frame : List ℕ) (p : Past) → Holds p → Bytes (advanced time (p .bankState) .mailboxes) →
-    Bytes (answered time ids frame p .bankState .mailboxes)
+answered-bytes : (a : FrameInput) (p : Past) → Holds p → Bytes (advanced (a .time) (p .bankState) .mailboxes) →
+    Bytes (answered a p .bankState .mailboxes)
 unfolding respond
-answered-bytes time ids frame p holds b =
-    let v = advanced-keeps time (p .bankState) (p .history) (holds .invariant) in
+answered-bytes a p holds b =
+    let v = advanced-keeps (a .time) (p .bankState) (p .history) (holds .invariant) in
     case-bytes b
-    (happens (number ids) (advanced time (p .bankState)) (readRequest frame) (dataOf frame) (v .state .sizes .places)
+    (happens (number (a .ids)) (advanced (a .time) (p .bankState)) (readRequest (a .frame)) (dataOf (a .frame))
+    (v .state .sizes .places)
     (v .state .sizes .downloads))
 
 pub advanced-bytes : (time : ℕ) (w : BankState) → Bytes (w .mailboxes) → Bytes (advanced time w .mailboxes)
 advanced-bytes time w b = subst Bytes (sym (advanced-at-clock time w .mailboxes)) b
 
 after-bytes : (c : BankCall) (p : Past) → Holds p → BytesIn c → Bytes (p .bankState .mailboxes) → Bytes (after c p .bankState .mailboxes)
-after-bytes (Frame time ids frame buffer) p holds given b = at (after-frame time ids frame buffer p)
+after-bytes (Frame a) p holds given b = at (after-frame a p)
   where
-    new : Bytes (answered time ids frame p .bankState .mailboxes)
-    new = answered-bytes time ids frame p holds (advanced-bytes time (p .bankState) b)
+    new : Bytes (answered a p .bankState .mailboxes)
+    new = answered-bytes a p holds (advanced-bytes (a .time) (p .bankState) b)
 
-    at : (after (Frame time ids frame buffer) p ≡ p) ⊎ (after (Frame time ids frame buffer) p ≡ answered time ids frame p) →
-        Bytes (after (Frame time ids frame buffer) p .bankState .mailboxes)
+    at : (after (Frame a) p ≡ p) ⊎ (after (Frame a) p ≡ answered a p) →
+        Bytes (after (Frame a) p .bankState .mailboxes)
     at (inl e) = subst (λ (r : Past). Bytes (r .bankState .mailboxes)) (sym e) b
     at (inr e) = subst (λ (r : Past). Bytes (r .bankState .mailboxes)) (sym e) new
 after-bytes (File mailbox file) p holds given b = at (after-file mailbox file p holds)

@@ -34,10 +34,21 @@ use Rattle.bank_verdicts.specs.declared.verdict.Action.{Action}
 use Rattle.bank_verdicts.specs.declared.verdict.Action.the-variants as action
 use Rattle.bank_verdicts.specs.declared.verdict.Verdict.{Verdict}
 use Rattle.bank_verdicts.specs.declared.verdict.Verdict.the-variants as verdict
+use Rattle.bank_verdicts.specs.Refusals.{notOpen, transactionRows}
 use Rattle.bank_verdicts.specs.Judgement.{uploadAt, judgeOpen, judgeTransaction, judgeForm, judge}
 use Rattle.bank_verdicts.proofs.Sound.{Readable, judged-transaction}
 use Rattle.bank.specs.Call.{carryOut, respond}
-use Rattle.bank_history.specs.History.{Exchange, BankCall, Frame, Past, exchangeOf, pastOf, after, newest, isOpening}
+use Rattle.bank_history.specs.History.{
+  Exchange,
+  BankCall,
+  Frame,
+  Past,
+  exchangeOf,
+  pastOf,
+  after,
+  newest,
+  isOpening,
+}
 use Rattle.bank_history.specs.Sound.{SoundRequest, SoundAction, SoundUploadAction, SoundDownloadAction, AllSound}
 use Rattle.bank_history.specs.Invariant.{Invariant, Holds}
 use Rattle.bank_history.specs.Transactions.{answered}
@@ -53,8 +64,11 @@ use Rattle.bank_history.proofs.UploadRequests.{verdict-by-form}
 
 -- ---- the verdict on a request to a transaction: 091101, or an action
 
+abbrev Acted : Verdict → Type 0
+Acted v = (t : Bits128) × (k : Action) × (v ≡ verdict.Of t k)
+
 abbrev Answer : Verdict → Type 0
-Answer v = (v ≡ verdict.Refused code.UnknownTransaction) ⊎ ((t : Bits128) × (k : Action) × (v ≡ verdict.Of t k))
+Answer v = (v ≡ verdict.Refused code.UnknownTransaction) ⊎ Acted v
 
 module _ (first : ℕ) (w : BankState) (q : Fields) (d : List ℕ) where
   by-transaction : (r : TransactionRequest) → Answer (judgeTransaction r (w .bank) q (length d))
@@ -63,17 +77,24 @@ module _ (first : ℕ) (w : BankState) (q : Fields) (d : List ℕ) where
       judged-transaction Answer (w .bank) q _ (inl refl)
       (λ _. by-test Answer (ltb (uploadAt (w .bank) q) placeCount) (λ _. inr (_, _, refl)) (λ _. inr (_, _, refl)))
 
-  asked-answer : (isRequestForm (form q) ≡ true → Readable q (length d)) →
+  -- an action, where it is open
+  by-open : notOpen (w .bank) q ≡ false → (r : TransactionRequest) → Acted (judgeTransaction r (w .bank) q (length d))
+  unfolding judgeTransaction transactionRows judgeOpen
+  by-open some r =
+      rw some (by-test Acted (ltb (uploadAt (w .bank) q) placeCount) (λ _. (_, _, refl)) (λ _. (_, _, refl)))
+
+  by-request : (P : Verdict → Type 0) → ((r : TransactionRequest) → P (judgeTransaction r (w .bank) q (length d))) →
+      (isRequestForm (form q) ≡ true → Readable q (length d)) →
       (form q ≡ forms.UploadTransfer) ⊎ ((form q ≡ forms.DownloadTransfer) ⊎ (form q ≡ forms.Receipt)) →
-      Answer (judge first (w .bank) q (length d))
-  asked-answer readable (inl f) =
-      subst Answer (sym (verdict-by-form first w q d forms.UploadTransfer f (readable (ap isRequestForm f))))
-      (by-transaction asks.UploadTransfer)
-  asked-answer readable (inr (inl f)) =
-      subst Answer (sym (verdict-by-form first w q d forms.DownloadTransfer f (readable (ap isRequestForm f))))
-      (by-transaction asks.DownloadTransfer)
-  asked-answer readable (inr (inr f)) =
-      subst Answer (sym (verdict-by-form first w q d forms.Receipt f (readable (ap isRequestForm f)))) (by-transaction asks.Receipt)
+      P (judge first (w .bank) q (length d))
+  by-request P by readable (inl f) =
+      subst P (sym (verdict-by-form first w q d forms.UploadTransfer f (readable (ap isRequestForm f))))
+      (by asks.UploadTransfer)
+  by-request P by readable (inr (inl f)) =
+      subst P (sym (verdict-by-form first w q d forms.DownloadTransfer f (readable (ap isRequestForm f))))
+      (by asks.DownloadTransfer)
+  by-request P by readable (inr (inr f)) =
+      subst P (sym (verdict-by-form first w q d forms.Receipt f (readable (ap isRequestForm f)))) (by asks.Receipt)
 
 -- ---- the call
 
@@ -87,39 +108,43 @@ module _ {calls : List BankCall} {e : Exchange} (n : Next calls e) where
 
   -- the bank as the request is judged, the request, its data
   abbrev pub judgedBank : BankState
-  judgedBank = advanced (n .time) (pastOf calls .bankState)
+  judgedBank = advanced (n .input .time) (pastOf calls .bankState)
 
   abbrev pub asked : Fields
-  asked = readRequest (n .frame)
+  asked = readRequest (n .input .frame)
 
   abbrev pub sent : List ℕ
-  sent = dataOf (n .frame)
+  sent = dataOf (n .input .frame)
 
-  pub left : pastOf (Frame (n .time) (n .ids) (n .frame) (n .buffer) ∷ calls) ≡ answered (n .time) (n .ids) (n .frame) (pastOf calls)
+  pub left : pastOf (Frame (n .input) ∷ calls) ≡ answered (n .input)
+      (pastOf calls)
   unfolding pastOf
-  left = at (after-frame (n .time) (n .ids) (n .frame) (n .buffer) past)
+  left = at (after-frame (n .input) past)
     where
       c : BankCall
-      c = Frame (n .time) (n .ids) (n .frame) (n .buffer)
+      c = Frame (n .input)
 
-      at : (after c past ≡ past) ⊎ (after c past ≡ answered (n .time) (n .ids) (n .frame) past) →
-          after c past ≡ answered (n .time) (n .ids) (n .frame) past
+      at : (after c past ≡ past) ⊎ (after c past ≡ answered (n .input) past) →
+          after c past ≡ answered (n .input) past
       at (inl z) =
-          let l : length (past .history) ≡ length (e ∷ past .history) = ap length (sym (ap (λ (r : Past). r .history) z) ∙ n .entered) in
+          let l : length (past .history) ≡ length (e ∷ past .history) =
+          ap length (sym (ap (λ (r : Past). r .history) z) ∙ n .entered) in
           absurd (omega arith)
       at (inr z) = z
 
-  pub exchange-is : e ≡ exchangeOf (number (n .ids)) judgedBank asked sent
+  pub exchange-is : e ≡ exchangeOf (number (n .input .ids)) judgedBank asked sent
   unfolding head-or exchangeOf
   exchange-is = ap (head-or e) (sym (n .entered) ∙ ap (λ (r : Past). r .history) left)
 
   pub judged-holds : Invariant judgedBank (pastOf calls .history)
-  judged-holds = advanced-keeps (n .time) (past .bankState) (past .history) (past-holds calls .invariant)
+  judged-holds = advanced-keeps (n .input .time) (past .bankState) (past .history) (past-holds calls .invariant)
 
   pub all-sound : AllSound (e ∷ pastOf calls .history)
-  all-sound = subst AllSound (n .entered) (past-holds (Frame (n .time) (n .ids) (n .frame) (n .buffer) ∷ calls) .invariant .sound)
+  all-sound =
+      subst AllSound (n .entered)
+      (past-holds (Frame (n .input) ∷ calls) .invariant .sound)
 
-  pub verdict-is : e .verdict ≡ judge (number (n .ids)) (judgedBank .bank) asked (length sent)
+  pub verdict-is : e .verdict ≡ judge (number (n .input .ids)) (judgedBank .bank) asked (length sent)
   unfolding exchangeOf respond
   verdict-is = ap (λ (x : Exchange). x .verdict) exchange-is
 
@@ -135,22 +160,26 @@ module _ {calls : List BankCall} {e : Exchange} (n : Next calls e) where
   unfolding exchangeOf
   clock-is = ap (λ (x : Exchange). x .clock) exchange-is
 
-  pub case-is : Happens (number (n .ids)) judgedBank asked sent (e .verdict)
+  pub case-is : Happens (number (n .input .ids)) judgedBank asked sent (e .verdict)
   case-is =
-      subst (Happens (number (n .ids)) judgedBank asked sent) (sym verdict-is)
-      (happens (number (n .ids)) judgedBank asked sent (judged-holds .state .sizes .places) (judged-holds .state .sizes .downloads))
+      subst (Happens (number (n .input .ids)) judgedBank asked sent) (sym verdict-is)
+      (happens (number (n .input .ids)) judgedBank asked sent (judged-holds .state .sizes .places)
+      (judged-holds .state .sizes .downloads))
 
   -- the bank after the call
-  pub bank-after : pastOf (Frame (n .time) (n .ids) (n .frame) (n .buffer) ∷ calls) .bankState ≡ carryOut (e .verdict) judgedBank asked sent
+  pub bank-after : pastOf (Frame (n .input) ∷ calls) .bankState ≡ carryOut
+      (e .verdict) judgedBank asked sent
   unfolding respond
-  bank-after = ap (λ (r : Past). r .bankState) left ∙ ap (λ (v : Verdict). carryOut v judgedBank asked sent) (sym verdict-is)
+  bank-after =
+      ap (λ (r : Past). r .bankState) left ∙ ap (λ (v : Verdict). carryOut v judgedBank asked sent) (sym verdict-is)
 
   pub refused-with : (c : ReturnCode) → e .verdict ≡ verdict.Refused c → RefusedWith c e
   refused-with c own =
       let r = reply-is all-sound newest in
       record {
         formed = ap form r ∙ (verdict-form (e .verdict) (e .request) ∙ ap verdictForm own);
-        coded = ap returnCode r ∙ (verdict-code (e .verdict) (e .request) ∙ ap (λ (v : Verdict). codeField (verdictCode v)) own);
+        coded = ap returnCode r
+            ∙ (verdict-code (e .verdict) (e .request) ∙ ap (λ (v : Verdict). codeField (verdictCode v)) own);
       }
 
   pub well-made : WellMade e → isRequestForm (form asked) ≡ true → Readable asked (length sent)
@@ -165,16 +194,27 @@ module _ {calls : List BankCall} {e : Exchange} (n : Next calls e) where
   -- ---- a request to the transaction t
 
   module _ {t : Bits128} (a : Asks t e) where
+    by-asked : (P : Verdict → Type 0) →
+        ((r : TransactionRequest) → P (judgeTransaction r (judgedBank .bank) asked (length sent))) →
+        P (e .verdict)
+    by-asked P by =
+        subst P (sym verdict-is)
+        (by-request (number (n .input .ids)) judgedBank asked sent P by (well-made (a .made))
+        (rw (sym request-is) (a .kind)))
+
     pub answer : Answer (e .verdict)
-    answer =
-        subst Answer (sym verdict-is)
-        (asked-answer (number (n .ids)) judgedBank asked sent (well-made (a .made)) (rw (sym request-is) (a .kind)))
+    answer = by-asked Answer (by-transaction (number (n .input .ids)) judgedBank asked sent)
+
+    -- an action, where the transaction is open
+    pub acted : notOpen (judgedBank .bank) asked ≡ false → (u : Bits128) × (k : Action) × (e .verdict ≡ verdict.Of u k)
+    acted some = by-asked Acted (by-open (number (n .input .ids)) judgedBank asked sent some)
 
     not-form : {f : Form} → form (e .request) ≡ f → (f ≡ forms.UploadOpening) ⊎ (f ≡ forms.DownloadOpening) → ⊥
     not-form {f} z o = at o (a .kind)
       where
         at : (f ≡ forms.UploadOpening) ⊎ (f ≡ forms.DownloadOpening) →
-            (form (e .request) ≡ forms.UploadTransfer) ⊎ ((form (e .request) ≡ forms.DownloadTransfer) ⊎ (form (e .request) ≡ forms.Receipt)) → ⊥
+            (form (e .request) ≡ forms.UploadTransfer) ⊎
+            ((form (e .request) ≡ forms.DownloadTransfer) ⊎ (form (e .request) ≡ forms.Receipt)) → ⊥
         at (inl y) (inl x) = let u : _≡_ {A = ℕ} 0 1 = cc in omega arith
         at (inl y) (inr (inl x)) = let u : _≡_ {A = ℕ} 0 1 = cc in omega arith
         at (inl y) (inr (inr x)) = let u : _≡_ {A = ℕ} 0 1 = cc in omega arith
@@ -182,7 +222,8 @@ module _ {calls : List BankCall} {e : Exchange} (n : Next calls e) where
         at (inr y) (inr (inl x)) = let u : _≡_ {A = ℕ} 0 1 = cc in omega arith
         at (inr y) (inr (inr x)) = let u : _≡_ {A = ℕ} 0 1 = cc in omega arith
 
-    upload-no-opening : (u : Bits128) (k : UploadAction) → SoundUploadAction k u e (pastOf calls .history) → isOpening (action.Upload k) ≡ false
+    upload-no-opening : (u : Bits128) (k : UploadAction) → SoundUploadAction k u e (pastOf calls .history) →
+        isOpening (action.Upload k) ≡ false
     upload-no-opening u (up.Opened m) s = absurd (not-form (s .opening .asked) (inl refl))
     upload-no-opening u up.Took s = refl
     upload-no-opening u up.TookLast s = refl
@@ -205,14 +246,16 @@ module _ {calls : List BankCall} {e : Exchange} (n : Next calls e) where
     no-opening u (action.Download k) s = download-no-opening u k s
 
     -- an action on it is one on t, open for this subscriber
-    pub asked-open : {u : Bits128} {k : Action} → e .verdict ≡ verdict.Of u k → (u ≡ t) × SoundRequest u e (pastOf calls .history)
+    pub asked-open : {u : Bits128} {k : Action} → e .verdict ≡ verdict.Of u k →
+        (u ≡ t) × SoundRequest u e (pastOf calls .history)
     asked-open {u} {k} own =
         let s = action-sound all-sound newest own in
         let r = request-of k (no-opening u k s) s in
         (r .same ∙ a .to, r)
 
     -- 091101, unless it is open
-    pub unknown-unless : ((u : Bits128) (k : Action) → e .verdict ≡ verdict.Of u k → ⊥) → e .verdict ≡ verdict.Refused code.UnknownTransaction
+    pub unknown-unless : ((u : Bits128) (k : Action) → e .verdict ≡ verdict.Of u k → ⊥) →
+        e .verdict ≡ verdict.Refused code.UnknownTransaction
     unknown-unless never-of = at answer
       where
         at : Answer (e .verdict) → e .verdict ≡ verdict.Refused code.UnknownTransaction

@@ -104,7 +104,7 @@ download-number t e g down.Cancelled o s = never o
 download-number t e g down.Confirmed o s = never o
 download-number t e g down.Declined o s = never o
 
-opening-number : (t : Bits128) (e : Exchange) (g : List Exchange) (k : Action) → isOpening k ≡ true → SoundAction k t e g →
+pub opening-number : (t : Bits128) (e : Exchange) (g : List Exchange) (k : Action) → isOpening k ≡ true → SoundAction k t e g →
     t .low ≡ accepted g
 opening-number t e g (action.Upload a) o s = upload-number t e g a o s
 opening-number t e g (action.Download a) o s = download-number t e g a o s

@@ -43,7 +43,6 @@ use Rattle.bank_verdicts.proofs.Sound.{
   abort,
   underrun,
   exceeded,
-  overfull,
   DownloadSound,
   delivered,
   sentAgain,
@@ -106,13 +105,13 @@ use Rattle.bank_history.proofs.Theorems.{history-sound, reply-is, downl
 
 -- ---- every attempt shows, and every segment up to d was sent
 
-data AllShown : List Exchange → Type 0 where
+pub data AllShown : List Exchange → Type 0 where
   none : AllShown []
   more : {x : Exchange} {h : List Exchange} → ((t : Bits128) → did isAttempt t (x .verdict) ≡ true → Attempt t h x) → AllShown h → AllShown (x ∷ h)
 
-record Tracked (h : List Exchange) : Type 0 where
+pub record Tracked (h : List Exchange) : Type 0 where
   segmentsSent : (t : Bits128) (n : ℕ) → 1 ≤ n → n ≤ times isDelivery t h → Sent t n h
-  shown : AllShown h
+  pub shown : AllShown h
 
 module _ (x : Exchange) (h : List Exchange) (sound : AllSound (x ∷ h)) (known : (t : Bits128) → ever isAction t h ≡ true → t .low < accepted h)
     (old : Tracked h) where
@@ -212,14 +211,14 @@ start-tracked : Tracked (start .history)
 unfolding start times
 start-tracked = record { segmentsSent = λ t n a b. absurd (omega arith); shown = none }
 
-past-tracked : (calls : List BankCall) → Tracked (pastOf calls .history)
+pub past-tracked : (calls : List BankCall) → Tracked (pastOf calls .history)
 unfolding pastOf
 past-tracked [] = start-tracked
 past-tracked (call ∷ calls) =
     let p = pastOf calls in
     let v = past-holds calls .invariant in
     by-call (λ (r : Past). Tracked (r .history)) call p (past-holds calls) (past-tracked calls)
-    (λ time ids frame buffer e z.
+    (λ a e z.
     tracked-more _ (p .history) (subst (λ (r : Past). AllSound (r .history)) z (past-holds (call ∷ calls) .invariant .sound))
     (λ t k. let a = v .known t k in let b = v .counted in omega arith) (past-tracked calls))
     (λ m f e. past-tracked calls)
@@ -287,15 +286,14 @@ attempts-counted calls t =
 abbrev Aborts : Action → Type 0
 Aborts k = codeField (actionCode k) ≡ codeField code.TransactionAbort
 
-upload-few : {r : TransactionRequest} {p : Place} {q : Fields} {n : ℕ} {a : UploadAction} → UploadSound r p q n a →
+upload-few : {r : TransactionRequest} {p : Place} {q : Fields} {a : UploadAction} → UploadSound r p q a →
     (isAttempt (action.Upload a) ≡ true → p .attempts < maxAttempts) × (Aborts (action.Upload a) → maxAttempts ≤ p .attempts)
-upload-few (took f below early room) = ((λ z. never z), (λ z. absurd (omega arith)))
-upload-few (tookLast f last mark room) = ((λ z. never z), (λ z. absurd (omega arith)))
+upload-few (took f below early) = ((λ z. never z), (λ z. absurd (omega arith)))
+upload-few (tookLast f last mark) = ((λ z. never z), (λ z. absurd (omega arith)))
 upload-few (uploadPoint fits few) = ((λ z. few), (λ z. absurd (omega arith)))
 upload-few (abort fits many) = ((λ z. never z), (λ z. many))
 upload-few (underrun f below mark) = ((λ z. never z), (λ z. absurd (omega arith)))
 upload-few (exceeded f last mark) = ((λ z. never z), (λ z. absurd (omega arith)))
-upload-few (overfull over) = ((λ z. never z), (λ z. absurd (omega arith)))
 
 download-few : {r : TransactionRequest} {e : Download} {n : ℕ} {q : Fields} {a : DownloadAction} → DownloadSound r e n q a →
     (isAttempt (action.Download a) ≡ true → e .attempts < maxAttempts) × (Aborts (action.Download a) → maxAttempts ≤ e .attempts)
@@ -344,7 +342,8 @@ module _ {calls : List BankCall} {e : Exchange} (n : Next calls e) where
   by-history : {u : Bits128} {k : Action} → e .verdict ≡ verdict.Of u k → ByHistory (pastOf calls .history) (verdict.Of u k)
   by-history own =
       subst (ByHistory (pastOf calls .history)) own
-      (acted-attempts (judgedBank n) (pastOf calls .history) (judged-holds n) (judged-counted calls (n .time)) (asked n) (sent n) _ (case-is n))
+      (acted-attempts (judgedBank n) (pastOf calls .history) (judged-holds n) (judged-counted calls (n .input .time))
+      (asked n) (sent n) _ (case-is n))
 
   counted-now : {t : Bits128} {m : ℕ} → Attempts t m (pastOf calls .history) → times isAttempt t (pastOf calls .history) ≡ m
   counted-now c = counted-so (history-sound calls) (past-tracked calls .shown) c

@@ -17,7 +17,7 @@ use Rattle.frame_table.specs.Names.{subscriber, transaction, segments, segment,
 use Rattle.frame_table.specs.Table.{isRequestForm}
 use Rattle.octets.proofs.Tests.{never}
 use Rattle.frame_table.proofs.Bits.{bits-same}
-use Rattle.message.specs.Limits.{subscribers, segmentBytes, fileBytes}
+use Rattle.message.specs.Limits.{subscribers, segmentBytes}
 use Rattle.message.specs.Segments.{lastMarkOf}
 use Rattle.bank_state.specs.declared.state.Place.{Place}
 use Rattle.bank_state.specs.declared.state.Use.{Use}
@@ -41,7 +41,6 @@ use Rattle.bank_verdicts.specs.Refusals.{
   uploadAttempt,
   isUnderrun,
   isExceeded,
-  withoutRoom,
   segmentRows,
   uploadRows,
 }
@@ -102,7 +101,7 @@ module _ (w : BankState) (h : List Exchange) (v : Invariant w h) (t : Bits128) (
   upload-is-open = subst (λ (z : Use). PlaceKept z (w .bank .clock) (w .bank .openings) h p (partAt (w .orders) (u .place))) (u .used)
       (place-kept v (u .place) (u .inside))
 
-  find-own : findUpload s t (w .bank) ≡ u .place
+  pub find-own : findUpload s t (w .bank) ≡ u .place
   unfolding findUpload
   find-own =
       let long = v .state .sizes .places in
@@ -119,11 +118,10 @@ module _ (w : BankState) (h : List Exchange) (v : Invariant w h) (t : Bits128) (
 
 -- ---- the next segment fits
 
-judge-take : (p : Place) (q : Fields) (n : ℕ) → segment q ≡ p .taken + 1 → lastMark q ≡ lastMarkOf (segment q) (p .segments) →
-    p .length + n ≤ fileBytes →
-    judgeUpload asks.UploadTransfer p q n ≡ takes p
-unfolding judgeUpload uploadRows segmentRows uploadAttempt isUnderrun isExceeded withoutRoom
-judge-take p q n next mark room = rw (eq-eqb (segment q) (p .taken + 1) next, early, missing, le-ltb fileBytes (p .length + n) room)
+judge-take : (p : Place) (q : Fields) → segment q ≡ p .taken + 1 → lastMark q ≡ lastMarkOf (segment q) (p .segments) →
+    judgeUpload asks.UploadTransfer p q ≡ takes p
+unfolding judgeUpload uploadRows segmentRows uploadAttempt isUnderrun isExceeded
+judge-take p q next mark = rw (eq-eqb (segment q) (p .taken + 1) next, early, missing)
   where
     early : ltb (segment q) (p .segments) && eqb (lastMark q) 1 ≡ false
     early = at (eqb (segment q) (p .segments)) refl
@@ -167,17 +165,13 @@ module _ (first : ℕ) (w : BankState) (h : List Exchange) (v : Invariant w h) (
   found-inside : uploadAt (w .bank) q < placeCount
   found-inside = let e = found in let i = u .inside in omega arith
 
-  judged : judgeUpload asks.UploadTransfer own q (length d) ≡ takes own
-  judged = judge-take own q (length d) (let e = u .taken in omega arith) (mark ∙ ap (lastMarkOf (segment q)) (sym (u .segments)))
-      (let a = isOpenNow .0 .below in
-      let b = isOpenNow .0 .few in
-      let c = isOpenNow .0 .largest in
-      let e = isOpenNow .1 .takings in
-      omega arith)
+  judged : judgeUpload asks.UploadTransfer own q ≡ takes own
+  judged =
+      judge-take own q (let e = u .taken in omega arith) (mark ∙ ap (lastMarkOf (segment q)) (sym (u .segments)))
 
   at-place : judgeTransaction asks.UploadTransfer (w .bank) q (length d)
       ≡ verdict.Of (placeAt (w .bank) (uploadAt (w .bank) q) .transaction)
-      (action.Upload (judgeUpload asks.UploadTransfer (placeAt (w .bank) (uploadAt (w .bank) q)) q (length d)))
+      (action.Upload (judgeUpload asks.UploadTransfer (placeAt (w .bank) (uploadAt (w .bank) q)) q))
   unfolding judgeTransaction transactionRows judgeOpen notOpen
   at-place = rw (lt-leb placeCount (uploadAt (w .bank) q) found-inside, lt-ltb (uploadAt (w .bank) q) placeCount found-inside)
 
@@ -188,7 +182,7 @@ module _ (first : ℕ) (w : BankState) (h : List Exchange) (v : Invariant w h) (
       verdict-by-form first w q d forms.UploadTransfer asked readable
       ∙ (at-place
       ∙ (ap (λ (i : ℕ). verdict.Of (placeAt (w .bank) i .transaction)
-      (action.Upload (judgeUpload asks.UploadTransfer (placeAt (w .bank) i) q (length d)))) found
+      (action.Upload (judgeUpload asks.UploadTransfer (placeAt (w .bank) i) q))) found
       ∙ (ap (λ (a : UploadAction). verdict.Of (own .transaction) (action.Upload a)) judged ∙ same)))
     where
       same : verdict.Of (own .transaction) (action.Upload (cond (eqb (own .taken + 1) (own .segments)) up.TookLast up.Took))

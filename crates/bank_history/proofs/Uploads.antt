@@ -67,7 +67,6 @@ use Rattle.bank_verdicts.proofs.Sound.{
   abort,
   underrun,
   exceeded,
-  overfull,
 }
 use Rattle.bank_history.proofs.Cases.{requestForm, ToUpload}
 use Rattle.bank_history.proofs.Entries.{did-other, known-more, booked-more, booked-last, accepted-own}
@@ -255,8 +254,17 @@ module _ (w : BankState) (h : List Exchange) (v : Invariant w h) (q : Fields) (d
   sound-upload a = record { request = sound-request a; opened = upload-open .1 .place .opened; bare = bare w (subscriber q) }
 
   -- a segment taken
-  module _ (asked : form q ≡ forms.UploadTransfer) (some : 1 ≤ length d) (next : segment q ≡ old .taken + 1)
-      (room : old .length + length d ≤ fileBytes) where
+  module _ (asked : form q ≡ forms.UploadTransfer) (some : 1 ≤ length d) (next : segment q ≡ old .taken + 1) where
+    -- the place has room for it
+    room : old .length + length d ≤ fileBytes
+    room =
+        let o = upload-open .0 in
+        let a = o .below in
+        let b = o .few in
+        let c = o .largest in
+        let e = readable .short in
+        omega arith
+
     sound-taking : (a : UploadAction) → SoundTaking (old .transaction) (now a) h
     sound-taking a = record {
       upload = sound-upload a;
@@ -268,6 +276,7 @@ module _ (w : BankState) (h : List Exchange) (v : Invariant w h) (q : Fields) (d
     full : length (overwrite (partAt (w .orders) i) (old .length) d) ≡ fileBytes
     full =
         let l = part-long in
+        let r = room in
         length-overwrite (partAt (w .orders) i) (old .length) d (omega arith) ∙ l
 
     took-keeps : (segment q ≡ old .segments → ⊥) → (segment q < old .segments → lastMark q ≡ 1 → ⊥) →
@@ -336,23 +345,16 @@ module _ (w : BankState) (h : List Exchange) (v : Invariant w h) (q : Fields) (d
   upload-asked asked f = asked ∙ ap requestForm (f .transfer)
 
   upload-sound-keeps : {r : TransactionRequest} {a : UploadAction} → form q ≡ requestForm r →
-      (form q ≡ forms.UploadTransfer → 1 ≤ length d) → UploadSound r old q (length d) a → Invariant (carryOut (by a) w q d) (now a ∷ h)
-  upload-sound-keeps asked some (took f below early room) =
-      let t = upload-asked asked f in took-keeps t (some t) (f .next) room below early
-  upload-sound-keeps asked some (tookLast f last mark room) =
-      let t = upload-asked asked f in took-last-keeps t (some t) (f .next) room last mark
+      (form q ≡ forms.UploadTransfer → 1 ≤ length d) → UploadSound r old q a →
+      Invariant (carryOut (by a) w q d) (now a ∷ h)
+  upload-sound-keeps asked some (took f below early) =
+      let t = upload-asked asked f in took-keeps t (some t) (f .next) below early
+  upload-sound-keeps asked some (tookLast f last mark) =
+      let t = upload-asked asked f in took-last-keeps t (some t) (f .next) last mark
   upload-sound-keeps asked some (uploadPoint fits few) = point-keeps few
   upload-sound-keeps asked some (abort fits many) = cancel-keeps code.TransactionAbort refl
   upload-sound-keeps asked some (underrun f below mark) = cancel-keeps code.SegmentNumberUnderrun refl
   upload-sound-keeps asked some (exceeded f last mark) = cancel-keeps code.SegmentNumberExceeded refl
-  -- a place always has room for a segment more
-  upload-sound-keeps asked some (overfull e) = absurd (
-      let a = upload-open .0 .below in
-      let b = upload-open .0 .few in
-      let k = upload-open .1 .takings in
-      let l = upload-open .0 .largest in
-      let m = readable .short in
-      omega arith)
 
 pub upload-keeps : (w : BankState) (h : List Exchange) → Invariant w h → (q : Fields) (d : List ℕ) (r : TransactionRequest)
     (a : UploadAction) →

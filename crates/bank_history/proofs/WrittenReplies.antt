@@ -37,9 +37,11 @@ use Rattle.message.proofs.Writable.{
 }
 use Rattle.bank_state.specs.declared.state.Download.{Download}
 use Rattle.bank_state.specs.declared.state.Place.{Place}
-use Rattle.bank_state.specs.declared.state.Use.{Use}
 use Rattle.bank_state.specs.declared.state.Use.the-variants.{Open}
+use Rattle.bank_state.specs.Limits.{storeBytes}
+use Rattle.bank_state.specs.Search.{isOpen}
 use Rattle.bank_state.specs.State.{BankState, placeAt, downloadAt, fileLength}
+use Rattle.bank_rows.specs.Sound.{InRange}
 use Rattle.bank_state.specs.Store.{partAt, fileOf}
 use Rattle.bank_verdicts.specs.declared.verdict.TransactionRequest.{TransactionRequest}
 use Rattle.bank_verdicts.specs.declared.verdict.UploadAction.{UploadAction}
@@ -58,9 +60,7 @@ use Rattle.bank_verdicts.proofs.Sound.{Readable, Acceptable, UploadSound, Downl
 use Rattle.bank_verdicts.proofs.Sound as sound
 use Rattle.message.specs.OrderNumbers.{orderNumberOf}
 use Rattle.bank.specs.Call.{stepBy, mailboxSegment}
-use Rattle.bank_history.specs.History.{Exchange, mailboxFile}
-use Rattle.bank_history.specs.Invariant.{Invariant}
-use Rattle.bank_history.proofs.Parts.{OpenUpload, PlaceKept, place-kept}
+use Rattle.bank_history.specs.History.{mailboxFile}
 use Rattle.bank_history.specs.Answers.{smallestReply}
 use Rattle.bank_history.proofs.Cases.{
   Happens,
@@ -73,7 +73,7 @@ use Rattle.bank_history.proofs.Cases.{
 }
 use Rattle.bank_history.proofs.Cases as cases
 use Rattle.bank_state.proofs.Found.{upload-found, download-found}
-use Rattle.bank_history.proofs.Downloads.{download-open, file-long, carried-segment}
+use Rattle.bank_history.proofs.Downloads.{kept-long, carried-segment}
 use Rattle.bank_history.proofs.Answered.{segment-length}
 use Rattle.bank_history.proofs.RequestBounds.{InWidth}
 use Rattle.bank_history.proofs.MailboxBytes.{file-bytes}
@@ -112,7 +112,8 @@ phase-range false = (omega arith, omega arith)
 
 -- ---- each case of a request
 
-module _ (w : BankState) (h : List Exchange) (v : Invariant w h) (q : Fields) (r : InWidth q) (bytes : Bytes (w .mailboxes)) where
+module _ (w : BankState) (range : InRange (w .bank)) (long : length (w .mailboxes) ≡ storeBytes) (q : Fields)
+    (r : InWidth q) (bytes : Bytes (w .mailboxes)) where
   refused-written : (c : ReturnCode) → WrittenReply (refusal (phase q) (exchange q) c) []
   refused-written c = sent refl (omega arith) (omega arith) (refusal-written (exchange q) (r .numbered) (phase q) c (r .some) (r .most))
 
@@ -151,26 +152,25 @@ module _ (w : BankState) (h : List Exchange) (v : Invariant w h) (q : Fields) (r
     is-upload : (p .used ≡ Open) × (p .subscriber ≡ subscriber q) × (sameBits (p .transaction) (transaction q) ≡ true)
     is-upload = upload-found (subscriber q) (transaction q) p (c .found)
 
-    upload-open : OpenUpload (w .bank .clock) (w .bank .openings) h p (partAt (w .orders) (uploadAt (w .bank) q))
-    upload-open = subst (λ (z : Use). PlaceKept z (w .bank .clock) (w .bank .openings) h p (partAt (w .orders) (uploadAt (w .bank) q)))
-        (is-upload .0) (place-kept v (uploadAt (w .bank) q) (c .inside))
+    upload-open : isOpen (p .used) ≡ true
+    upload-open = ap isOpen (is-upload .0)
 
     upload-wide : Wide (p .transaction)
     upload-wide = subst Wide (sym (bits-same (p .transaction) (transaction q) (is-upload .2))) (r .wide k (c .asked))
 
     taken-written : segment q ≡ p .taken + 1 → WrittenReply (segmentTaken (exchange q) (p .transaction) (segment q)) []
     taken-written next =
-        let a = upload-open .0 .below in
-        let b = upload-open .0 .few in
+        let a = range .below (uploadAt (w .bank) q) upload-open in
+        let b = range .few (uploadAt (w .bank) q) upload-open in
         sent refl (omega arith) (omega arith)
         (segment-taken-written (exchange q) (r .numbered) (p .transaction) upload-wide (segment q) (omega arith))
 
-    sound-upload-written : {a : UploadAction} → UploadSound k p q (length d) a → WrittenReply (uploadReply a (p .transaction) q) []
-    sound-upload-written (sound.took f below early room) = taken-written (f .next)
-    sound-upload-written (sound.tookLast f last mark room) = taken-written (f .next)
+    sound-upload-written : {a : UploadAction} → UploadSound k p q a → WrittenReply (uploadReply a (p .transaction) q) []
+    sound-upload-written (sound.took f below early) = taken-written (f .next)
+    sound-upload-written (sound.tookLast f last mark) = taken-written (f .next)
     sound-upload-written (sound.uploadPoint fits few) =
-        let a = upload-open .0 .below in
-        let b = upload-open .0 .few in
+        let a = range .below (uploadAt (w .bank) q) upload-open in
+        let b = range .few (uploadAt (w .bank) q) upload-open in
         let c = phase-range (eqb (p .taken) 0) in
         sent refl (omega arith) (omega arith)
         (recovery-point-written (exchange q) (r .numbered) (p .transaction) upload-wide (uploadPointPhase (p .taken)) (p .taken)
@@ -178,7 +178,6 @@ module _ (w : BankState) (h : List Exchange) (v : Invariant w h) (q : Fields) (r
     sound-upload-written (sound.abort fits many) = refused-written code.TransactionAbort
     sound-upload-written (sound.underrun f below mark) = refused-written code.SegmentNumberUnderrun
     sound-upload-written (sound.exceeded f last mark) = refused-written code.SegmentNumberExceeded
-    sound-upload-written (sound.overfull over) = refused-written code.InternalError
 
     upload-written : WrittenReply (uploadReply u (p .transaction) q) []
     upload-written = sound-upload-written (c .sound)
@@ -200,12 +199,14 @@ module _ (w : BankState) (h : List Exchange) (v : Invariant w h) (q : Fields) (r
     download-wide : Wide (e .transaction)
     download-wide = subst Wide (sym (is-found .2)) (r .wide k (c .asked))
 
-    within : e .delivered ≤ segmentsOf (length (mailboxFile w (subscriber q)))
-    within = subst (λ (s : ℕ). e .delivered ≤ segmentsOf (length (mailboxFile w s))) (is-found .1)
-        (download-open w h v (downloadOf (w .bank) q) (is-found .0) .0 .within)
-
     segments-now : n ≡ segmentsOf (length (mailboxFile w (subscriber q)))
-    segments-now = ap segmentsOf (sym (file-long w h v (subscriber q) (c .readable .known) (c .readable .most)))
+    segments-now =
+        ap segmentsOf (sym (kept-long w long (range .files) (subscriber q) (c .readable .known) (c .readable .most)))
+
+    within : e .delivered ≤ segmentsOf (length (mailboxFile w (subscriber q)))
+    within = subst (λ (m : ℕ). e .delivered ≤ m) segments-now
+        (subst (λ (s : ℕ). e .delivered ≤ mailboxSegments s (w .bank)) (is-found .1)
+        (range .within (downloadOf (w .bank) q) (is-found .0)))
 
     segment-written : 1 ≤ segment q → segment q ≤ segmentsOf (length (mailboxFile w (subscriber q))) →
         WrittenReply (segmentReply n (e .transaction) q) (mailboxSegment w (subscriber q) (segment q))
@@ -259,7 +260,7 @@ module _ (w : BankState) (h : List Exchange) (v : Invariant w h) (q : Fields) (r
         WrittenReply (downloadOpened (exchange q) n t (lastMarkOf 1 n)) (mailboxSegment w (subscriber q) 1)
     download-opening-written full =
         let n : ℕ = mailboxSegments (subscriber q) (w .bank) in
-        let f = file-long w h v (subscriber q) (a .known) (a .most) in
+        let f = kept-long w long (range .files) (subscriber q) (a .known) (a .most) in
         let b = segments-most (subscriber q) in
         let m : n ≡ segmentsOf (length (mailboxFile w (subscriber q))) = ap segmentsOf (sym f) in
         let s = some-segment (length (mailboxFile w (subscriber q))) (not-zero _ (λ z. full (sym f ∙ z))) in

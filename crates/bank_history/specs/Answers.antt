@@ -13,7 +13,7 @@ use Rattle.bank_history.specs.History.{Exchange, BankCall, Frame, File}
 
 -- the lent ID bytes and the frame of a call, or its file, are bytes
 abbrev pub BytesIn : BankCall → Type 0
-BytesIn (Frame time ids frame buffer) = Bytes ids × Bytes frame
+BytesIn (Frame a) = Bytes (a .ids) × Bytes (a .frame)
 BytesIn (File mailbox file) = Bytes file
 
 pub data AllBytes : List BankCall → Type 0 where

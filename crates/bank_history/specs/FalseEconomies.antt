@@ -1,13 +1,14 @@
 -- Document 01, "False economies", and what else a bank might save: statements on every list of calls to a fresh bank.
 -- They are said by requests, replies and the clock; no verdict and no column of the bank's state is looked at.
 use Prim.Native.Nat.{ℕ, suc, _+_, _≤_, _<_}
-use mathlib.Core.Bool.{cond}
+use mathlib.Core.Bool.{true, cond}
 use mathlib.Core.List.{List, [], _∷_}
 use mathlib.Core.Logic.{_⊎_}
 use mathlib.Core.Path.{_≡_}
 use lib.Dec.{eqb}
 use lib.ListN.{length}
 use Rattle.frame_table.specs.declared.fields.Bits128.{Bits128}
+use Rattle.frame_table.specs.declared.table.Form.{Form}
 use Rattle.frame_table.specs.Forms as forms
 use Rattle.frame_table.specs.Names.{
   phase,
@@ -37,15 +38,14 @@ use Rattle.message.specs.Limits.{
 }
 use Rattle.bank_state.specs.Clock.{advanced}
 use Rattle.bank_state.specs.Limits.{window, idleLimit}
+use Rattle.bank.specs.Call.{FrameInput}
 use Rattle.bank_history.specs.History.{Exchange, BankCall, Frame, Stands, pastOf}
+use Rattle.bank_history.specs.Sound.{isCancelling}
 
 -- after these calls a frame call is answered, and e is its exchange
 pub record Next (calls : List BankCall) (e : Exchange) : Type 0 where
-  pub time : ℕ
-  pub ids : List ℕ
-  pub frame : List ℕ
-  pub buffer : List ℕ
-  pub entered : pastOf (Frame time ids frame buffer ∷ calls) .history ≡ e ∷ pastOf calls .history
+  pub input : FrameInput
+  pub entered : pastOf (Frame input ∷ calls) .history ≡ e ∷ pastOf calls .history
 
 -- ---- requests
 
@@ -100,7 +100,8 @@ pub record Sent (t : Bits128) (n : ℕ) (h : List Exchange) : Type 0 where
 pub data Fits (t : Bits128) (g : List Exchange) (e : Exchange) : Type 0 where
   opens : Opens t e → Fits t g e
   takes : Takes t e → Fits t g e
-  delivers : form (e .reply) ≡ forms.DownloadSegment → transaction (e .reply) ≡ t → (Sent t (segment (e .reply)) g → ⊥) →
+  delivers : form (e .reply) ≡ forms.DownloadSegment → transaction (e .reply) ≡ t →
+      (Sent t (segment (e .reply)) g → ⊥) →
       Fits t g e
 
 -- a recovery point: 01 03 08 09 0D with 061101
@@ -120,6 +121,29 @@ pub data Attempts (t : Bits128) : ℕ → List Exchange → Type 0 where
   one : {n : ℕ} {e : Exchange} {g : List Exchange} → Attempt t g e → Attempts t n g → Attempts t (suc n) (e ∷ g)
   other : {n : ℕ} {e : Exchange} {g : List Exchange} → (Attempt t g e → ⊥) → Attempts t n g → Attempts t n (e ∷ g)
 
+-- a transaction whose opening is answered in the form f, of the subscriber s, is ended without booking: cancelled by
+-- 091102,
+-- 011101 or 091104, by its receipt, a download by 011000 to another receipt ("every download of that mailbox ended")
+pub data Ends (t : Bits128) (f : Form) (s : ℕ) (e : Exchange) : Type 0 where
+  cancelled : form (e .reply) ≡ forms.Refusal → isCancelling (returnCode (e .reply)) ≡ true →
+      transaction (e .request) ≡ t → Ends t f s e
+  receipt : form (e .reply) ≡ forms.ReceiptAnswered → transaction (e .reply) ≡ t → Ends t f s e
+  emptied : f ≡ forms.DownloadOpened → form (e .reply) ≡ forms.ReceiptAnswered →
+      returnCode (e .reply) ≡ codeField code.DownloadPostprocessDone → subscriber (e .request) ≡ s → Ends t f s e
+
+-- it is open after a history, its last fitting request at the clock last: no call came over 3,600 after that, segment N
+-- is not taken, and nothing has ended it
+pub data StillOpen (t : Bits128) (f : Form) (s : ℕ) : ℕ → List Exchange → Type 0 where
+  opened : {e : Exchange} {g : List Exchange} → Opens t e → form (e .reply) ≡ f → subscriber (e .request) ≡ s →
+      StillOpen t f s (e .clock) (e ∷ g)
+  took : {last : ℕ} {e : Exchange} {g : List Exchange} → StillOpen t f s last g → e .clock ≤ last + idleLimit →
+      Takes t e → lastMark (e .request) ≡ 0 → StillOpen t f s (e .clock) (e ∷ g)
+  delivered : {last : ℕ} {e : Exchange} {g : List Exchange} → StillOpen t f s last g → e .clock ≤ last + idleLimit →
+      form (e .reply) ≡ forms.DownloadSegment → transaction (e .reply) ≡ t → (Sent t (segment (e .reply)) g → ⊥) →
+      StillOpen t f s (e .clock) (e ∷ g)
+  other : {last : ℕ} {e : Exchange} {g : List Exchange} → StillOpen t f s last g → e .clock ≤ last + idleLimit →
+      (Fits t g e → ⊥) → (Ends t f s e → ⊥) → StillOpen t f s last (e ∷ g)
+
 -- ---- the statements
 
 pub record FalseEconomies : Type 0 where
@@ -134,17 +158,22 @@ pub record FalseEconomies : Type 0 where
       (n : Next calls e) → Asks t e → Stands f g (pastOf calls .history) → Opens t f →
       (subscriber (e .request) ≡ subscriber (f .request) → ⊥) →
       RefusedWith code.UnknownTransaction e
-      × (pastOf (Frame (n .time) (n .ids) (n .frame) (n .buffer) ∷ calls) .bankState
-      ≡ advanced (n .time) (pastOf calls .bankState))
+      × (pastOf (Frame (n .input) ∷ calls) .bankState
+      ≡ advanced (n .input .time) (pastOf calls .bankState))
   -- "Answering a repeated last segment 000000 (the order is closed: 091101)"
   pub closed : {calls : List BankCall} {e f : Exchange} {g : List Exchange} {t : Bits128} → Next calls e → Asks t e →
       Stands f g (pastOf calls .history) → Takes t f → lastMark (f .request) ≡ 1 → RefusedWith code.UnknownTransaction e
-  -- "Letting a recovery attempt refresh the idle hour": where each fitting request of t is more than 3,600 old, t is gone,
+  -- "Letting a recovery attempt refresh the idle hour": where each fitting request of t is more than 3,600 old, t is
+  -- gone,
   -- whatever attempts came since
   pub idle : {calls : List BankCall} {e : Exchange} {t : Bits128} → Next calls e → Asks t e →
       ((f : Exchange) (g : List Exchange) → Stands f g (pastOf calls .history) → Fits t g f →
       f .clock + idleLimit < e .clock) →
       RefusedWith code.UnknownTransaction e
+  -- an attempt on an open transaction of its subscriber, or any other request to it, never gets 091101
+  pub known : {calls : List BankCall} {e : Exchange} {t : Bits128} {f : Form} {last : ℕ} → Next calls e → Asks t e →
+      StillOpen t f (subscriber (e .request)) last (pastOf calls .history) → e .clock ≤ last + idleLimit →
+      RefusedWith code.UnknownTransaction e → ⊥
   -- "The first five get 061101 with k or d (a download segment sent again carries 000000 instead)"
   pub five : {calls : List BankCall} {e : Exchange} {t : Bits128} {n : ℕ} → Next calls e →
       Attempts t n (pastOf calls .history) → Attempt t (pastOf calls .history) e → n < maxAttempts

@@ -32,7 +32,7 @@ use Rattle.bank.specs.declared.call.FrameAnswer.{FrameAnswer}
 use Rattle.bank.specs.declared.call.FrameAnswer.the-variants.{Reply, WrongLength}
 use Rattle.bank.specs.declared.mailbox.FileAnswer.{FileAnswer}
 use Rattle.bank.specs.declared.mailbox.FileAnswer.the-variants as put
-use Rattle.bank.specs.Call.{Step, respond, frameCall}
+use Rattle.bank.specs.Call.{Step, respond, FrameInput, frameCall}
 use Rattle.bank.specs.Mailbox.{fileCall}
 
 -- One answered frame: the request's fields and data as read, the reply's fields and data, the clock that the call has set,
@@ -66,9 +66,13 @@ exchangeBy s w q d = record {
 unfoldable pub exchangeOf : ℕ → BankState → Fields → List ℕ → Exchange
 exchangeOf first w q d = exchangeBy (respond first w q d) w q d
 
--- A call of the bank: a frame arrives (time, lent ID bytes, frame, reply buffer), or a file goes into a mailbox (mailbox, file)
+-- the exchange of a frame call to the bank w
+abbrev pub callExchange : BankState → FrameInput → Exchange
+callExchange w a = exchangeOf (number (a .ids)) (advanced (a .time) w) (readRequest (a .frame)) (dataOf (a .frame))
+
+-- A call of the bank: a frame arrives, or a file goes into a mailbox (mailbox, file)
 pub data BankCall : Type 0 where
-  Frame : ℕ → List ℕ → List ℕ → List ℕ → BankCall
+  Frame : FrameInput → BankCall
   File : ℕ → List ℕ → BankCall
 
 -- The bank and its stores as the calls so far left them, and the answered frames, the newest first. Unreadable frames are entered too
@@ -91,9 +95,9 @@ placed put.MailboxFull b mailboxes p = p
 
 -- what a call leaves
 unfoldable pub after : BankCall → Past → Past
-after (Frame time ids frame buffer) p =
-    let c = frameCall (p .bankState) time ids frame buffer in
-    entered (c .answer) (c .bankState) (exchangeOf (number ids) (advanced time (p .bankState)) (readRequest frame) (dataOf frame)) p
+after (Frame a) p =
+    let c = frameCall (p .bankState) a in
+    entered (c .answer) (c .bankState) (callExchange (p .bankState) a) p
 after (File mailbox file) p =
     let c = fileCall (p .bankState .bank) mailbox file (p .bankState .mailboxes) in
     placed (c .answer) (c .bank) (c .mailboxes) p

@@ -6,3 +6,5 @@ pub mod Invariant
 pub mod Transactions
 pub mod Answers
 pub mod FalseEconomies
+pub mod Status
+pub mod OnRows

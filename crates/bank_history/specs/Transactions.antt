@@ -16,7 +16,7 @@ use Rattle.bank_state.specs.Limits.{placeCount, idleLimit}
 use Rattle.bank_state.specs.Search.{isFree}
 use Rattle.bank_state.specs.State.{BankState, bankState, placeAt, downloadAt, withFiles}
 use Rattle.bank_state.specs.Store.{partAt}
-use Rattle.bank.specs.Call.{respond}
+use Rattle.bank.specs.Call.{FrameInput, respond}
 use Rattle.bank_verdicts.specs.declared.verdict.DownloadAction.the-variants as down
 use Rattle.bank_verdicts.specs.declared.verdict.Action.the-variants as action
 use Rattle.bank_verdicts.specs.declared.verdict.Verdict.the-variants as verdict
@@ -24,7 +24,7 @@ use Rattle.bank_history.specs.History.{
   Exchange,
   mailboxFile,
   Past,
-  exchangeOf,
+  callExchange,
   isTaking,
   isBooking,
   isUploadOpening,
@@ -37,10 +37,12 @@ use Rattle.bank_history.specs.History.{
 }
 
 -- the past of an answered frame
-abbrev pub answered : ℕ → List ℕ → List ℕ → Past → Past
-answered time ids frame p = record {
-  bankState = respond (number ids) (advanced time (p .bankState)) (readRequest frame) (dataOf frame) .bankState;
-  history = exchangeOf (number ids) (advanced time (p .bankState)) (readRequest frame) (dataOf frame) ∷ p .history;
+abbrev pub answered : FrameInput → Past → Past
+answered a p = record {
+  bankState =
+      respond (number (a .ids)) (advanced (a .time) (p .bankState)) (readRequest (a .frame))
+      (dataOf (a .frame)) .bankState;
+  history = callExchange (p .bankState) a ∷ p .history;
 }
 
 -- the bank with the file in its mailbox

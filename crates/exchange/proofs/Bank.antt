@@ -31,7 +31,18 @@ use Rattle.bank.specs.declared.call.FrameAnswer.{FrameAnswer}
 use Rattle.bank.specs.declared.call.FrameAnswer.the-variants as frameAnswer
 use Rattle.bank.specs.declared.mailbox.FileAnswer.{FileAnswer}
 use Rattle.bank.specs.declared.mailbox.FileAnswer.the-variants as fileAnswer
-use Rattle.bank.specs.Call.{Step, FrameCall, replied, answerOf, lentRight, frameNumber, respond, frameCall}
+use Rattle.bank.specs.Call.{
+  Step,
+  FrameCall,
+  replied,
+  answerOf,
+  lentRight,
+  frameNumber,
+  respond,
+  frameCall,
+  FrameInput,
+  frameRefused,
+}
 use Rattle.bank.specs.Mailbox.{FileCall, fileCall, carryOutFile, fileRefusals, fileNumber}
 use Rattle.bank_history.proofs.Answers.{stepOf}
 use Rattle.bank_verdicts.specs.declared.verdict.DownloadAction.the-variants as down
@@ -49,6 +60,7 @@ use Rattle.bank_history.specs.History.{
   placed,
   exchangeOf,
   mailboxFile,
+  callExchange,
 }
 use Rattle.bank_history.specs.History as history
 use Rattle.bank_history.specs.Invariant.{Invariant, Holds}
@@ -158,47 +170,48 @@ record Replied (k : FrameCall) (s : Step) (buffer : List ℕ) (n : ℕ) : Type 0
   lent : k .buffer ≡ writeBuffer (s .reply) (s .replyData) buffer
   written : writeAnswer (s .reply) (s .replyData) buffer ≡ written.Length n
 
-replied-by : (w : BankState) (time : ℕ) (ids frame buffer : List ℕ) (n : ℕ) →
-    frameCall w time ids frame buffer .answer ≡ frameAnswer.Reply n →
-    Replied (frameCall w time ids frame buffer) (stepOf w time ids frame) buffer n
+replied-by : (w : BankState) (a : FrameInput) (n : ℕ) →
+    frameCall w a .answer ≡ frameAnswer.Reply n →
+    Replied (frameCall w a) (stepOf w a) (a .buffer) n
 unfolding frameCall
-replied-by w time ids frame buffer n = go (lentRight w ids buffer)
+replied-by w a n = go (lentRight w (a .ids) (a .buffer))
   where
     s : Step
-    s = stepOf w time ids frame
+    s = stepOf w a
 
     out : (a : Written) → answerOf a ≡ frameAnswer.Reply n → a ≡ written.Length n
     out (written.Length m) h = cc
     out written.Refused h = absurd (let z : _≡_ {A = ℕ} 0 1 = cc in omega arith)
 
-    go : (b : Bool) → let k = cond b (replied s buffer)
-        (record { bankState = w; buffer = buffer; answer = frameAnswer.WrongLength; number = frameNumber frameAnswer.WrongLength; code = 0 }) in
-        k .answer ≡ frameAnswer.Reply n → Replied k s buffer n
-    go true h = record { bankState = refl; lent = refl; written = out (writeAnswer (s .reply) (s .replyData) buffer) h }
+    go : (b : Bool) → let k = cond b (replied s (a .buffer))
+        (frameRefused w a) in
+        k .answer ≡ frameAnswer.Reply n → Replied k s (a .buffer) n
+    go true h =
+        record { bankState = refl; lent = refl; written = out (writeAnswer (s .reply) (s .replyData) (a .buffer)) h }
     go false h = absurd (let z : _≡_ {A = ℕ} 0 1 = cc in omega arith)
 
-module _ (s : Course) (b : BankPart s) (time : ℕ) (ids frame buffer : List ℕ) (n : ℕ) where
+module _ (s : Course) (b : BankPart s) (a : FrameInput) (n : ℕ) where
   abbrev p : Past
   p = b .past
 
   abbrev k : FrameCall
-  k = frameCall (b .past .bankState) time ids frame buffer
+  k = frameCall (b .past .bankState) a
 
   abbrev x : history.Exchange
-  x = exchangeOf (number ids) (advanced time (b .past .bankState)) (readRequest frame) (dataOf frame)
+  x = callExchange (b .past .bankState) a
 
-  module _ (h : frameCall (b .past .bankState) time ids frame buffer .answer ≡ frameAnswer.Reply n) where
-    told : Replied k (stepOf (p .bankState) time ids frame) buffer n
-    told = replied-by (p .bankState) time ids frame buffer n h
+  module _ (h : frameCall (b .past .bankState) a .answer ≡ frameAnswer.Reply n) where
+    told : Replied k (stepOf (p .bankState) a) (a .buffer) n
+    told = replied-by (p .bankState) a n h
 
-    pub next-is : history.after (Frame time ids frame buffer) p ≡ answered time ids frame p
+    pub next-is : history.after (Frame a) p ≡ answered a p
     unfolding history.after
     next-is =
         ap (λ (a : FrameAnswer). entered a (k .bankState) x p) h
         ∙ ap (λ (w : BankState). record { bankState = w; history = x ∷ p .history }) (told .bankState)
 
-    next-holds : Holds (answered time ids frame p)
-    next-holds = subst Holds next-is (after-holds (Frame time ids frame buffer) p (b .holds))
+    next-holds : Holds (answered a p)
+    next-holds = subst Holds next-is (after-holds (Frame a) p (b .holds))
 
     next-sound : AllSound (x ∷ p .history)
     next-sound = next-holds .invariant .sound
@@ -206,8 +219,9 @@ module _ (s : Course) (b : BankPart s) (time : ℕ) (ids frame buffer : List ℕ
     next-proper : Proper x
     unfolding exchangeOf respond
     next-proper = record {
-      refuses = verdict-refuses (number ids) (advanced time (p .bankState)) (readRequest frame) (dataOf frame);
-      short = mailbox-short (advanced time (p .bankState)) (subscriber (readRequest frame));
+      refuses = verdict-refuses (number (a .ids)) (advanced (a .time) (p .bankState)) (readRequest (a .frame))
+          (dataOf (a .frame));
+      short = mailbox-short (advanced (a .time) (p .bankState)) (subscriber (readRequest (a .frame)));
     }
 
     replied-form : Sized (x .reply) × (isReplyForm (form (x .reply)) ≡ true)
@@ -215,77 +229,81 @@ module _ (s : Course) (b : BankPart s) (time : ℕ) (ids frame buffer : List ℕ
         subst (λ (f : Fields). Sized f × (isReplyForm (form f) ≡ true)) (sym (reply-is next-sound newest))
         (reply-form (x .verdict) (x .request))
 
-    next-clock : k .bankState .bank .clock ≡ advanced time (p .bankState) .bank .clock
+    next-clock : k .bankState .bank .clock ≡ advanced (a .time) (p .bankState) .bank .clock
     next-clock =
-        ap (λ (w : BankState). w .bank .clock) (told .bankState) ∙ answered-clock time ids frame p (b .holds)
-        ∙ sym (advanced-clock time (p .bankState))
+        ap (λ (w : BankState). w .bank .clock) (told .bankState) ∙ answered-clock a p (b .holds)
+        ∙ sym (advanced-clock (a .time) (p .bankState))
 
     next-reply : readReply (take n (k .buffer)) ≡ x .reply
     unfolding exchangeOf
     next-reply =
         let r = replied-form in
-        ap (λ (l : List ℕ). readReply (take n l)) (told .lent) ∙ reply-read (x .reply) (x .replyData) buffer n (r .0) (told .written)
+        ap (λ (l : List ℕ). readReply (take n l)) (told .lent)
+        ∙ reply-read (x .reply) (x .replyData) (a .buffer) n (r .0) (told .written)
         (r .1)
 
     next-data : dataOf (take n (k .buffer)) ≡ x .replyData
     unfolding exchangeOf
     next-data =
-        ap (λ (l : List ℕ). dataOf (take n l)) (told .lent) ∙ data-read (x .reply) (x .replyData) buffer n (replied-form .0)
+        ap (λ (l : List ℕ). dataOf (take n l)) (told .lent)
+        ∙ data-read (x .reply) (x .replyData) (a .buffer) n (replied-form .0)
         (told .written)
 
     module _ (m : ℕ) (low : 1 ≤ m) (high : m ≤ subscribers) where
       was : mailboxFile (p .bankState) m ≡ s .mailboxes m
       was = sym (same-mailbox (p .bankState) m) ∙ ap (λ (w : BankState). mailboxOf w m) (b .bankState) ∙ b .mailboxes m low high
 
-      now : mailboxOf (k .bankState) m ≡ mailboxFile (answered time ids frame p .bankState) m
+      now : mailboxOf (k .bankState) m ≡ mailboxFile (answered a p .bankState) m
       now = same-mailbox (k .bankState) m ∙ ap (λ (w : BankState). mailboxFile w m) (told .bankState)
 
       emptied-own : x .verdict ≡ verdict.Of (transaction (x .request)) (action.Download down.Confirmed) →
-          m ≡ subscriber (readRequest frame) →
-          mailboxFile (answered time ids frame p .bankState) m ≡ []
+          m ≡ subscriber (readRequest (a .frame)) →
+          mailboxFile (answered a p .bankState) m ≡ []
       unfolding exchangeOf respond
       emptied-own own e =
-          let v = advanced-keeps time (p .bankState) (p .history) (b .holds .invariant) in
-          ap (mailboxFile (answered time ids frame p .bankState)) e
+          let v = advanced-keeps (a .time) (p .bankState) (p .history) (b .holds .invariant) in
+          ap (mailboxFile (answered a p .bankState)) e
           ∙ case-empties
-          (happens (number ids) (advanced time (p .bankState)) (readRequest frame) (dataOf frame) (v .state .sizes .places)
+          (happens (number (a .ids)) (advanced (a .time) (p .bankState)) (readRequest (a .frame)) (dataOf (a .frame))
+          (v .state .sizes .places)
           (v .state .sizes .downloads))
           (v .state .sizes) own .empty
 
-      kept-other : (Emptied (answered time ids frame p .bankState) m x → ⊥) →
-          mailboxFile (answered time ids frame p .bankState) m ≡ s .mailboxes m
-      kept-other not = at (frame-mailbox time ids frame p m (b .holds) low)
+      kept-other : (Emptied (answered a p .bankState) m x → ⊥) →
+          mailboxFile (answered a p .bankState) m ≡ s .mailboxes m
+      kept-other not = at (frame-mailbox a p m (b .holds) low)
         where
-          at : (mailboxFile (answered time ids frame p .bankState) m ≡ mailboxFile (p .bankState) m) ⊎ Emptied
-              (answered time ids frame p .bankState) m x →
-              mailboxFile (answered time ids frame p .bankState) m ≡ s .mailboxes m
+          at : (mailboxFile (answered a p .bankState) m ≡ mailboxFile (p .bankState) m) ⊎ Emptied
+              (answered a p .bankState) m x →
+              mailboxFile (answered a p .bankState) m ≡ s .mailboxes m
           at (inl e) = e ∙ was
           at (inr e) = absurd (not e)
 
-      next-mailbox : mailboxOf (k .bankState) m ≡ emptied frame (take n (k .buffer)) (s .mailboxes) m
+      next-mailbox : mailboxOf (k .bankState) m ≡ emptied (a .frame) (take n (k .buffer)) (s .mailboxes) m
       unfolding emptied exchangeOf
       next-mailbox = now ∙ at (eqb (returnCode (readReply (take n (k .buffer)))) (codeField code.DownloadPostprocessDone)) refl
         where
-          own : (d : Bool) → eqb m (subscriber (readRequest frame)) ≡ d →
+          own : (d : Bool) → eqb m (subscriber (readRequest (a .frame))) ≡ d →
               x .verdict ≡ verdict.Of (transaction (x .request)) (action.Download down.Confirmed) →
-              mailboxFile (answered time ids frame p .bankState) m ≡ cond d [] (s .mailboxes m)
-          own true e c = emptied-own c (eqb-true m (subscriber (readRequest frame)) e)
-          own false e c = kept-other (λ z. eqb-false m (subscriber (readRequest frame)) e (sym (z .owner)))
+              mailboxFile (answered a p .bankState) m ≡ cond d [] (s .mailboxes m)
+          own true e c = emptied-own c (eqb-true m (subscriber (readRequest (a .frame))) e)
+          own false e c = kept-other (λ z. eqb-false m (subscriber (readRequest (a .frame))) e (sym (z .owner)))
 
           at : (c : Bool) → eqb (returnCode (readReply (take n (k .buffer)))) (codeField code.DownloadPostprocessDone) ≡ c →
-              mailboxFile (answered time ids frame p .bankState) m
-              ≡ cond c (changed (s .mailboxes) (subscriber (readRequest frame)) []) (s .mailboxes) m
+              mailboxFile (answered a p .bankState) m
+              ≡ cond c (changed (s .mailboxes) (subscriber (readRequest (a .frame))) []) (s .mailboxes) m
           at true e =
               let z = sym (ap returnCode next-reply) ∙ eqb-true _ (codeField code.DownloadPostprocessDone) e in
-              own (eqb m (subscriber (readRequest frame))) refl (done-confirmed next-sound newest next-proper z .0)
+              own (eqb m (subscriber (readRequest (a .frame)))) refl (done-confirmed next-sound newest next-proper z .0)
           at false e = kept-other (λ z. eqb-false _ (codeField code.DownloadPostprocessDone) e
               (ap returnCode next-reply ∙ coded next-sound newest ∙ ap (λ (v : Verdict). codeField (verdictCode v)) (z .confirmed)))
 
     -- the course behind the answered frame
-    frame-part : BankPart (afterFrame (take n (k .buffer)) (k .bankState) (advanced time (p .bankState)) frame s)
+    frame-part : BankPart
+        (afterFrame (take n (k .buffer)) (k .bankState) (advanced (a .time) (p .bankState)) (a .frame) s)
     unfolding exchangeOf
     frame-part = record {
-      past = answered time ids frame p;
+      past = answered a p;
       holds = next-holds;
       bankState = sym (told .bankState);
       entries =
@@ -295,47 +313,47 @@ module _ (s : Course) (b : BankPart s) (time : ℕ) (ids frame buffer : List ℕ
             reply = next-reply;
             replyData = next-data;
             clock = next-clock;
-            box = same-mailbox (advanced time (p .bankState)) (subscriber (readRequest frame));
+            box = same-mailbox (advanced (a .time) (p .bankState)) (subscriber (readRequest (a .frame)));
           }) (b .entries);
       proper = one-more next-proper (b .proper);
       mailboxes = next-mailbox;
     }
 
 -- what an answered frame leaves: its exchange entered, and the bank as its history says
-pub record Entered (s : Course) (b : BankPart s) (time : ℕ) (ids frame buffer : List ℕ) (t : Course) : Type 0 where
+pub record Entered (s : Course) (b : BankPart s) (a : FrameInput) (t : Course) : Type 0 where
   pub exchange : Exchange
   pub exchanged : t .exchanged ≡ exchange ∷ s .exchanged
-  pub request : exchange .request ≡ frame
-  pub same : Entry exchange (exchangeOf (number ids) (advanced time (b .past .bankState)) (readRequest frame) (dataOf frame))
+  pub request : exchange .request ≡ (a .frame)
+  pub same : Entry exchange (callExchange (b .past .bankState) a)
   pub clock : exchange .clock ≡ t .bank .bank .clock
-  pub next : history.after (Frame time ids frame buffer) (b .past) ≡ answered time ids frame (b .past)
-  pub bank : t .bank ≡ answered time ids frame (b .past) .bankState
-  pub sound : AllSound (exchangeOf (number ids) (advanced time (b .past .bankState)) (readRequest frame) (dataOf frame) ∷ b .past .history)
-  pub proper : Proper (exchangeOf (number ids) (advanced time (b .past .bankState)) (readRequest frame) (dataOf frame))
+  pub next : history.after (Frame a) (b .past) ≡ answered a (b .past)
+  pub bank : t .bank ≡ answered a (b .past) .bankState
+  pub sound : AllSound (callExchange (b .past .bankState) a ∷ b .past .history)
+  pub proper : Proper (callExchange (b .past .bankState) a)
 
-entered-by : (s : Course) (b : BankPart s) (time : ℕ) (ids frame buffer : List ℕ) (n : ℕ)
-    (h : frameCall (b .past .bankState) time ids frame buffer .answer ≡ frameAnswer.Reply n) →
-    Entered s b time ids frame buffer
-    (let k = frameCall (b .past .bankState) time ids frame buffer in
-    afterFrame (take n (k .buffer)) (k .bankState) (advanced time (b .past .bankState)) frame s)
+entered-by : (s : Course) (b : BankPart s) (a : FrameInput) (n : ℕ)
+    (h : frameCall (b .past .bankState) a .answer ≡ frameAnswer.Reply n) →
+    Entered s b a
+    (let k = frameCall (b .past .bankState) a in
+    afterFrame (take n (k .buffer)) (k .bankState) (advanced (a .time) (b .past .bankState)) (a .frame) s)
 unfolding exchangeOf
-entered-by s b time ids frame buffer n h = record {
+entered-by s b a n h = record {
   exchange = _;
   exchanged = refl;
   request = refl;
   same = record {
     request = refl;
     requestData = refl;
-    reply = next-reply s b time ids frame buffer n h;
-    replyData = next-data s b time ids frame buffer n h;
-    clock = next-clock s b time ids frame buffer n h;
-    box = same-mailbox (advanced time (b .past .bankState)) (subscriber (readRequest frame));
+    reply = next-reply s b a n h;
+    replyData = next-data s b a n h;
+    clock = next-clock s b a n h;
+    box = same-mailbox (advanced (a .time) (b .past .bankState)) (subscriber (readRequest (a .frame)));
   };
   clock = refl;
-  next = next-is s b time ids frame buffer n h;
-  bank = told s b time ids frame buffer n h .bankState;
-  sound = next-sound s b time ids frame buffer n h;
-  proper = next-proper s b time ids frame buffer n h;
+  next = next-is s b a n h;
+  bank = told s b a n h .bankState;
+  sound = next-sound s b a n h;
+  proper = next-proper s b a n h;
 }
 
 -- ---- a file put
@@ -392,31 +410,34 @@ module _ (s : Course) (b : BankPart s) (mailbox : ℕ) (file : List ℕ) where
 
 -- ---- what calls given no number leave
 
-module _ (s : Course) (b : BankPart s) (w : BankState) (time : ℕ) (ids frame buffer : List ℕ) (same : w ≡ s .bank)
-    (done : callNumber (frameArrives w time ids frame buffer) ≡ 0) where
+module _ (s : Course) (b : BankPart s) (w : BankState) (a : FrameInput) (same : w ≡ s .bank)
+    (done : callNumber (frameArrives w a) ≡ 0) where
   -- what holds after the frame is answered to the bank as it was left holds after the call
-  answered-so : (P : Course → Type 0) → ((n : ℕ) → let k = frameCall (b .past .bankState) time ids frame buffer in
-      k .answer ≡ frameAnswer.Reply n → P (afterFrame (take n (k .buffer)) (k .bankState) (advanced time (b .past .bankState)) frame s)) →
-      P (carryOut (frameArrives w time ids frame buffer) s)
+  answered-so : (P : Course → Type 0) → ((n : ℕ) → let k = frameCall (b .past .bankState) a in
+      k .answer ≡ frameAnswer.Reply n →
+      P (afterFrame (take n (k .buffer)) (k .bankState) (advanced (a .time) (b .past .bankState)) (a .frame) s)) →
+      P (carryOut (frameArrives w a) s)
   answered-so P f =
-      subst (λ (v : BankState). (n : ℕ) × (frameCall v time ids frame buffer .answer ≡ frameAnswer.Reply n) →
-      P (carryOut (frameArrives v time ids frame buffer) s)) (b .bankState ∙ sym same) at
-      (frame-replied (frameCall w time ids frame buffer .answer) done)
+      subst (λ (v : BankState). (n : ℕ) × (frameCall v a .answer ≡ frameAnswer.Reply n) →
+      P (carryOut (frameArrives v a) s)) (b .bankState ∙ sym same) at
+      (frame-replied (frameCall w a .answer) done)
     where
       k : FrameCall
-      k = frameCall (b .past .bankState) time ids frame buffer
+      k = frameCall (b .past .bankState) a
 
-      at : (n : ℕ) × (k .answer ≡ frameAnswer.Reply n) → P (carryOut (frameArrives (b .past .bankState) time ids frame buffer) s)
-      at (n, e) = subst (λ (a : FrameAnswer). P (afterFrame (replyIn a (k .buffer)) (k .bankState) (advanced time (b .past .bankState)) frame s))
+      at : (n : ℕ) × (k .answer ≡ frameAnswer.Reply n) → P (carryOut (frameArrives (b .past .bankState) a) s)
+      at (n, e) =
+          subst (λ (r : FrameAnswer). P
+          (afterFrame (replyIn r (k .buffer)) (k .bankState) (advanced (a .time) (b .past .bankState)) (a .frame) s))
           (sym e) (f n e)
 
   -- a frame call, lent the bank as it was left
-  pub frame-keeps : Later b (carryOut (frameArrives w time ids frame buffer) s)
+  pub frame-keeps : Later b (carryOut (frameArrives w a) s)
   unfolding frame-part
-  frame-keeps = answered-so (Later b) (λ n h. (frame-part s b time ids frame buffer n h, grows))
+  frame-keeps = answered-so (Later b) (λ n h. (frame-part s b a n h, grows))
 
-  pub frame-enters : Entered s b time ids frame buffer (carryOut (frameArrives w time ids frame buffer) s)
-  frame-enters = answered-so (Entered s b time ids frame buffer) (λ n h. entered-by s b time ids frame buffer n h)
+  pub frame-enters : Entered s b a (carryOut (frameArrives w a) s)
+  frame-enters = answered-so (Entered s b a) (λ n h. entered-by s b a n h)
 
 -- a file call, lent the bank and the mailboxes as they were left
 pub file-keeps : (s : Course) (b : BankPart s) (bank : Bank) (mailboxes : List ℕ) (m : ℕ) (file : List ℕ) →

@@ -25,7 +25,7 @@ use Rattle.message.specs.Codes.{codeField}
 use Rattle.message.specs.Limits.{fileBytes}
 use Rattle.bank_state.specs.Limits.{idleLimit, replyRoom}
 use Rattle.bank_state.specs.Search.{openCountOf}
-use Rattle.bank.specs.Call.{frameCall}
+use Rattle.bank.specs.Call.{frameCall, frameInput}
 use Rattle.client.specs.declared.run.Direction.{Direction}
 use Rattle.client.specs.declared.run.Stage.the-variants as stage
 use Rattle.client.specs.declared.run.Word.the-variants.{Lodged, Fetched}
@@ -169,11 +169,12 @@ abbrev replyAt : ℕ → Course → List ℕ
 replyAt n s = nth noExchange n (s .exchanged) .reply
 
 abbrev frameCalled : List ℕ → ℕ → Course → Call
-frameCalled frame time s = frameArrives (s .bank) time (replicate 8 0) frame (replicate replyRoom 0)
+frameCalled frame time s = frameArrives (s .bank) (frameInput time (replicate 8 0) frame (replicate replyRoom 0))
 
 -- the clock as the frame has come
 abbrev frameClock : List ℕ → ℕ → Course → ℕ
-frameClock frame time s = frameCall (s .bank) time (replicate 8 0) frame (replicate replyRoom 0) .bankState .bank .clock
+frameClock frame time s =
+    frameCall (s .bank) (frameInput time (replicate 8 0) frame (replicate replyRoom 0)) .bankState .bank .clock
 
 abbrev pub callOf : Move → Course → Call
 callOf (comes n time) s = frameCalled (requestAt n s) time s
@@ -222,7 +223,8 @@ isAllowed (numbered k) s = not (eqb (callNumber k) 0)
 
 allowed : (m : Move) (s : Course) → isAllowed m s ≡ true → Allowed (callOf m s) s
 allowed (comes n time) s h = λ _. (refl, λ _. issued (requestAt n s) s h)
-allowed (stray frame time) s h = stray-allowed s time (replicate 8 0) frame (replicate replyRoom 0) (off (isSubscribers frame) h)
+allowed (stray frame time) s h =
+    stray-allowed s (frameInput time (replicate 8 0) frame (replicate replyRoom 0)) (off (isSubscribers frame) h)
   where
     off : (b : Bool) → not b ≡ true → b ≡ false
     off true e = sym e

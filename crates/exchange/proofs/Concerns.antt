@@ -19,6 +19,7 @@ use Rattle.bank_state.specs.State.{BankState, bankState}
 use Rattle.bank.specs.declared.mailbox.FileAnswer.{FileAnswer}
 use Rattle.bank.specs.declared.mailbox.FileAnswer.the-variants as fileAnswer
 use Rattle.bank.specs.Mailbox.{FileCall, fileCall, carryOutFile, fileRefusals}
+use Rattle.bank.specs.Call.{FrameInput}
 use Rattle.bank_history.specs.History.{Past, File, placed}
 use Rattle.bank_history.specs.History as bank
 use Rattle.bank_history.specs.Transactions.{UploadUnlessIdle, DownloadUnlessIdle}
@@ -74,13 +75,13 @@ bank-same s v i t e y id o direction u k n last few a = subst (λ (w : BankState
 -- What the call is to run i
 pub data Concern (s : Course) (v : Parts s) (i : ℕ) : Call → Type 0 where
   elsewhere : {k : Call} → Same i s (exec k s) → Untouched s v i (exec k s) → Concern s v i k
-  own-frame : {w : BankState} {time : ℕ} {ids frame buffer : List ℕ} →
-      Entered s (v .bank) time ids frame buffer (exec (frameArrives w time ids frame buffer) s) → IssuedBy i frame s →
-      ((e : Exchange) → In e (s .exchanged) → e .request ≡ frame → ⊥) →
-      NoIdleHour i (exec (frameArrives w time ids frame buffer) s .bank .bank .clock) s →
-      exec (frameArrives w time ids frame buffer) s .issued ≡ s .issued →
-      exec (frameArrives w time ids frame buffer) s .arrived ≡ s .arrived →
-      Concern s v i (frameArrives w time ids frame buffer)
+  own-frame : {w : BankState} {a : FrameInput} →
+      Entered s (v .bank) a (exec (frameArrives w a) s) → IssuedBy i (a .frame) s →
+      ((e : Exchange) → In e (s .exchanged) → e .request ≡ a .frame → ⊥) →
+      NoIdleHour i (exec (frameArrives w a) s .bank .bank .clock) s →
+      exec (frameArrives w a) s .issued ≡ s .issued →
+      exec (frameArrives w a) s .arrived ≡ s .arrived →
+      Concern s v i (frameArrives w a)
   own-begin : {c : Client} {direction : Direction} {u first : ℕ} {l : Lent} → c ≡ s .runs i →
       callNumber (begins i c direction u first l) ≡ 0 → Concern s v i (begins i c direction u first l)
   own-reply : {c : Client} {reply : List ℕ} {l : Lent} → callNumber (replyArrives i c reply l) ≡ 0 → Left i c l s →
@@ -145,26 +146,26 @@ module _ (s : Course) (v : Parts s) (copies : Copied s) (numbers : OneExchangeNu
       at true e = let o = given e in by o (ℕ-discrete (o .0) i)
       at false e = inr (λ p. never (sym e ∙ issued-own p))
 
-  foreign-untouched : (time : ℕ) (ids frame buffer : List ℕ) → (isSubscribers frame ≡ true → (j : ℕ) × IssuedBy j frame s) →
-      (t : Course) → Entered s (v .bank) time ids frame buffer t → (IssuedBy i frame s → ⊥) → Untouched s v i t
-  foreign-untouched time ids frame buffer given t en foreign y id o Upload u k n last few a =
-      upload-standing s v copies numbers time ids frame buffer given t en o foreign a
-  foreign-untouched time ids frame buffer given t en foreign y id o Download u k n last few a =
-      download-standing s v copies numbers time ids frame buffer given t en o foreign (few refl) a
+  foreign-untouched : (a : FrameInput) → (isSubscribers (a .frame) ≡ true → (j : ℕ) × IssuedBy j (a .frame) s) →
+      (t : Course) → Entered s (v .bank) a t → (IssuedBy i (a .frame) s → ⊥) → Untouched s v i t
+  foreign-untouched a given t en foreign y id o Upload u k n last few stood =
+      upload-standing s v copies numbers a given t en o foreign stood
+  foreign-untouched a given t en foreign y id o Download u k n last few stood =
+      download-standing s v copies numbers a given t en o foreign (few refl) stood
 
-  frame-concern : (w : BankState) (time : ℕ) (ids frame buffer : List ℕ) → Premise (frameArrives w time ids frame buffer) s →
-      Turn i (frameArrives w time ids frame buffer) s → callNumber (frameArrives w time ids frame buffer) ≡ 0 →
-      Concern s v i (frameArrives w time ids frame buffer)
-  frame-concern w time ids frame buffer q turn z = at (own-or-not frame (q .1))
+  frame-concern : (w : BankState) (a : FrameInput) → Premise (frameArrives w a) s →
+      Turn i (frameArrives w a) s → callNumber (frameArrives w a) ≡ 0 →
+      Concern s v i (frameArrives w a)
+  frame-concern w a q turn z = at (own-or-not (a .frame) (q .1))
     where
       k : Call
-      k = frameArrives w time ids frame buffer
+      k = frameArrives w a
 
       now : carryOut k s ≡ exec k s
       now = sym (carried k s z)
 
-      en : Entered s (v .bank) time ids frame buffer (exec k s)
-      en = subst (Entered s (v .bank) time ids frame buffer) now (frame-enters s (v .bank) w time ids frame buffer (q .0) z)
+      en : Entered s (v .bank) a (exec k s)
+      en = subst (Entered s (v .bank) a) now (frame-enters s (v .bank) w a (q .0) z)
 
       issued : exec k s .issued ≡ s .issued
       issued = ap (λ (t : Course). t .issued) (carried k s z)
@@ -172,13 +173,13 @@ module _ (s : Course) (v : Parts s) (copies : Copied s) (numbers : OneExchangeNu
       arrivals : exec k s .arrived ≡ s .arrived
       arrivals = ap (λ (t : Course). t .arrived) (carried k s z)
 
-      at : IssuedBy i frame s ⊎ (IssuedBy i frame s → ⊥) → Concern s v i k
+      at : IssuedBy i (a .frame) s ⊎ (IssuedBy i (a .frame) s → ⊥) → Concern s v i k
       at (inl own) =
           let x = turn own in
           own-frame en own (x .0) (subst (λ (t : Course). NoIdleHour i (t .bank .bank .clock) s) now (x .1)) issued arrivals
       at (inr foreign) =
-          elsewhere (foreign-same (en .exchanged) (en .request) issued arrivals (frame-runs s w time ids frame buffer i) foreign)
-          (foreign-untouched time ids frame buffer (q .1) (exec k s) en foreign)
+          elsewhere (foreign-same (en .exchanged) (en .request) issued arrivals (frame-runs s w a i) foreign)
+          (foreign-untouched a (q .1) (exec k s) en foreign)
 
   -- ---- a file
 
@@ -264,7 +265,7 @@ module _ (s : Course) (v : Parts s) (copies : Copied s) (numbers : OneExchangeNu
       at (yes e) = subst (λ (n : ℕ). callNumber (k n) ≡ 0 → Premise (k n) s → Turn i (k n) s → Concern s v i (k n)) e own z q turn
 
   carried-concern : (k : Call) → callNumber k ≡ 0 → Premise k s → Turn i k s → Concern s v i k
-  carried-concern (frameArrives w time ids frame buffer) z q turn = frame-concern w time ids frame buffer q turn z
+  carried-concern (frameArrives w a) z q turn = frame-concern w a q turn z
   carried-concern (filePut b mailboxes m file) z q turn =
       let k = filePut b mailboxes m file in
       let now = sym (carried k s z) in

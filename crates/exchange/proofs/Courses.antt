@@ -13,6 +13,7 @@ use Rattle.client.specs.Run.{Lent, answerNumber}
 use Rattle.client_history.specs.History.{Begin, Reply, NoReply}
 use Rattle.client_history.specs.History as history
 use Rattle.client_history.specs.Invariant.{not-begun}
+use Rattle.bank.specs.Call.{FrameInput}
 use Rattle.exchange.specs.Course.{
   Call,
   frameArrives,
@@ -40,10 +41,10 @@ use Rattle.exchange.proofs.Outstanding.{given-to, other-stays}
 -- ---- both ends
 
 -- a call of the bank leaves the runs
-pub frame-runs : (s : Course) (w : BankState) (time : ℕ) (ids frame buffer : List ℕ) (i : ℕ) →
-    runPast (exec (frameArrives w time ids frame buffer) s) i ≡ runPast s i
-frame-runs s w time ids frame buffer i =
-    by-number (frameArrives w time ids frame buffer) s (λ (t : Course). runPast t i ≡ runPast s i) refl (λ _. refl)
+pub frame-runs : (s : Course) (w : BankState) (a : FrameInput) (i : ℕ) →
+    runPast (exec (frameArrives w a) s) i ≡ runPast s i
+frame-runs s w a i =
+    by-number (frameArrives w a) s (λ (t : Course). runPast t i ≡ runPast s i) refl (λ _. refl)
 
 pub file-runs : (s : Course) (b : Bank) (mailboxes : List ℕ) (m : ℕ) (file : List ℕ) (i : ℕ) →
     runPast (exec (filePut b mailboxes m file) s) i ≡ runPast s i
@@ -96,8 +97,8 @@ no-reply-keeps s v i c l q =
     (run-fair s v i (NoReply l) (λ _. record { payload = q .1; file = q .2 })))
 
 carried-keeps : (k : Call) (s : Course) → Parts s → OneExchangeNumber s → Premise k s → callNumber k ≡ 0 → Parts (carryOut k s)
-carried-keeps (frameArrives w time ids frame buffer) s v n q z =
-    bank-called v (frame-keeps s (v .bank) w time ids frame buffer (q .0) z) (λ i. refl)
+carried-keeps (frameArrives w a) s v n q z =
+    bank-called v (frame-keeps s (v .bank) w a (q .0) z) (λ i. refl)
 carried-keeps (filePut b mailboxes m file) s v n q z = bank-called v (file-keeps s (v .bank) b mailboxes m file q z) (λ i. refl)
 carried-keeps (begins i c direction subscriber first l) s v n q z = begin-keeps s v i c direction subscriber first l q z
 carried-keeps (replyArrives i c reply l) s v n q z = reply-keeps s v n i c reply l q z
@@ -131,7 +132,7 @@ pub data Exchanges (k : Call) (s : Course) : List Exchange → Type 0 where
   enters : {e : Exchange} → (isSubscribers (e .request) ≡ true → (i : ℕ) × IssuedBy i (e .request) s) → Exchanges k s (e ∷ s .exchanged)
 
 carried-exchanges : (k : Call) (s : Course) → Premise k s → Exchanges k s (carryOut k s .exchanged)
-carried-exchanges (frameArrives w time ids frame buffer) s q = enters (q .1)
+carried-exchanges (frameArrives w a) s q = enters (q .1)
 carried-exchanges (filePut b mailboxes m file) s q = nothing
 carried-exchanges (begins i c direction subscriber first l) s q = nothing
 carried-exchanges (replyArrives i c reply l) s q = nothing

@@ -27,7 +27,7 @@ use Rattle.bank_state.specs.Search.{openCountOf}
 use Rattle.bank_state.specs.State.{BankState, noDownload, downloadAt}
 use Rattle.bank_verdicts.specs.declared.verdict.TransactionRequest.{TransactionRequest}
 use Rattle.bank_verdicts.specs.declared.verdict.TransactionRequest.the-variants as asksFor
-use Rattle.bank.specs.Call.{carryOut, respond}
+use Rattle.bank.specs.Call.{carryOut, respond, FrameInput}
 use Rattle.bank_verdicts.specs.declared.verdict.UploadAction.the-variants as up
 use Rattle.bank_verdicts.specs.declared.verdict.DownloadAction.the-variants as down
 use Rattle.bank_verdicts.specs.declared.verdict.Action.{Action}
@@ -35,7 +35,17 @@ use Rattle.bank_verdicts.specs.declared.verdict.Action.the-variants as action
 use Rattle.bank_verdicts.specs.declared.verdict.Verdict.{Verdict}
 use Rattle.bank_verdicts.specs.declared.verdict.Verdict.the-variants as verdict
 use Rattle.bank_verdicts.specs.Judgement.{judge}
-use Rattle.bank_history.specs.History.{Stands, newest, older, ActionIn, isOpening, isAction, opens, exchangeOf}
+use Rattle.bank_history.specs.History.{
+  Stands,
+  newest,
+  older,
+  ActionIn,
+  isOpening,
+  isAction,
+  opens,
+  exchangeOf,
+  callExchange,
+}
 use Rattle.bank_history.specs.History as bank
 use Rattle.bank_history.specs.Sound.{AllSound}
 use Rattle.bank_history.proofs.Cases.{
@@ -253,45 +263,44 @@ module _ (s : Course) (v : Parts s) (copies : Copied s) (numbers : OneExchangeNu
       at (download b u) = fetched (u .step) (u .each (asIssue x) own)
 
   -- a frame that comes to the bank, a copy where it must be one
-  module _ (time : ℕ) (ids frame : List ℕ) (given : isSubscribers frame ≡ true → (j : ℕ) × IssuedBy j frame s)
-      (later : AllSound (exchangeOf (number ids) (advanced time (v .bank .past .bankState)) (readRequest frame)
-      (dataOf frame) ∷ v .bank .past .history)) where
+  module _ (a : FrameInput) (given : isSubscribers (a .frame) ≡ true → (j : ℕ) × IssuedBy j (a .frame) s)
+      (later : AllSound (callExchange (v .bank .past .bankState) a ∷ v .bank .past .history)) where
     abbrev x : bank.Exchange
-    x = exchangeOf (number ids) (advanced time (v .bank .past .bankState)) (readRequest frame) (dataOf frame)
+    x = callExchange (v .bank .past .bankState) a
 
-    pub case-of : {t : Bits128} {k : Action} → exchangeOf (number ids) (advanced time (v .bank .past .bankState)) (readRequest frame)
-        (dataOf frame) .verdict ≡ verdict.Of t k →
-        isOpening k ≡ false → Under (readRequest frame)
+    pub case-of : {t : Bits128} {k : Action} → callExchange (v .bank .past .bankState) a .verdict ≡ verdict.Of t k →
+        isOpening k ≡ false → Under (readRequest (a .frame))
     unfolding exchangeOf respond
     case-of =
-        let w = advanced-keeps time (v .bank .past .bankState) h (v .bank .holds .invariant) in
-        case-under (happens (number ids) (advanced time (v .bank .past .bankState)) (readRequest frame) (dataOf frame) (w .state .sizes .places)
+        let w = advanced-keeps (a .time) (v .bank .past .bankState) h (v .bank .holds .invariant) in
+        case-under (happens (number (a .ids)) (advanced (a .time) (v .bank .past .bankState)) (readRequest (a .frame))
+        (dataOf (a .frame)) (w .state .sizes .places)
         (w .state .sizes .downloads))
 
     -- what acts on the transaction of run i is a copy of its request
     pub acts-own : {i : ℕ} {t : Bits128} {y : Form} → OpenedBy y (v .bank .past .history) t (issuesOf i (s .issued)) →
-        ActionIn isAction t (exchangeOf (number ids) (advanced time (v .bank .past .bankState)) (readRequest frame) (dataOf frame)) →
-        IssuedBy i frame s
+        ActionIn isAction t (callExchange (v .bank .past .bankState) a) →
+        IssuedBy i (a .frame) s
     unfolding exchangeOf
     acts-own {i} {t} o d = by (isOpening (d .action)) refl
       where
-        asked : {k : Action} → x .verdict ≡ verdict.Of t k → isOpening k ≡ false → IssuedBy i frame s
+        asked : {k : Action} → x .verdict ≡ verdict.Of t k → isOpening k ≡ false → IssuedBy i (a .frame) s
         asked {k} own n =
             let r = request-of k n (action-sound later newest own) in
             let u = case-of own n in
             let f = sym (opening-at (λ (e : bank.Exchange). subscriber (e .request)) 0 sound (o .stands) (o .opening)) ∙ r .owner in
             let b = opening-range in
-            let c = given (counts s v copies numbers frame (under-request u) (let z = b .0 in omega arith)
+            let c = given (counts s v copies numbers (a .frame) (under-request u) (let z = b .0 in omega arith)
             (let z = b .1 in omega arith)) in
             let q = ap readRequest (c .1 .3) in
             let p = request-opened (c .1 .1) (c .1 .2) (subst Under (sym q) u) in
             let id : transaction (readRequest (c .1 .0 .frame)) ≡ t = ap transaction q ∙ sym (r .same) in
             let same : c .0 ≡ i = one-opener s v copies numbers (p .1) o (ap (λ (b : Bits128). b .low) id) in
-            subst (λ (j : ℕ). IssuedBy j frame s) same (c .1)
+            subst (λ (j : ℕ). IssuedBy j (a .frame) s) same (c .1)
           where
             opening-range : (1 ≤ subscriber (o .exchange .request)) × (subscriber (o .exchange .request) ≤ subscribers)
             opening-range = opened-range sound (o .stands) (o .opening)
 
-        by : (b : Bool) → isOpening (d .action) ≡ b → IssuedBy i frame s
+        by : (b : Bool) → isOpening (d .action) ≡ b → IssuedBy i (a .frame) s
         by false n = asked (d .is) n
         by true n = absurd (not-again later o (record { action = d .action; is = d .is; opening = n }))

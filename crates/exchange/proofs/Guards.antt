@@ -14,6 +14,7 @@ use Rattle.bank_state.specs.State.{BankState}
 use Rattle.client.specs.declared.run.Client.{Client}
 use Rattle.client.specs.declared.run.Direction.{Direction}
 use Rattle.client.specs.Run.{Lent}
+use Rattle.bank.specs.Call.{FrameInput}
 use Rattle.exchange.specs.Course.{Call, frameArrives, begins, replyArrives, noReply, Course, callNumber}
 use Rattle.exchange.specs.Terms.{IssuedBy, InTurn}
 use Rattle.exchange.specs.Demand3.{isSubscribers, Allowed}
@@ -28,30 +29,30 @@ numbered-in-turn i k s n z = absurd (n z)
 
 -- ---- a frame that is no request of a subscriber, to the bank as it stands
 
-pub stray-allowed : (s : Course) (time : ℕ) (ids frame buffer : List ℕ) → isSubscribers frame ≡ false →
-    Allowed (frameArrives (s .bank) time ids frame buffer) s
-stray-allowed s time ids frame buffer n _ = (refl, λ e. never (sym n ∙ e))
+pub stray-allowed : (s : Course) (a : FrameInput) → isSubscribers (a .frame) ≡ false →
+    Allowed (frameArrives (s .bank) a) s
+stray-allowed s a n _ = (refl, λ e. never (sym n ∙ e))
 
 -- an unreadable frame
-pub unreadable-allowed : (s : Course) (time : ℕ) (ids frame buffer : List ℕ) → isRequestForm (form (readRequest frame)) ≡ false →
-    Allowed (frameArrives (s .bank) time ids frame buffer) s
+pub unreadable-allowed : (s : Course) (a : FrameInput) → isRequestForm (form (readRequest (a .frame))) ≡ false →
+    Allowed (frameArrives (s .bank) a) s
 unfolding isSubscribers
-unreadable-allowed s time ids frame buffer n = stray-allowed s time ids frame buffer (rw n)
+unreadable-allowed s a n = stray-allowed s a (rw n)
 
 -- a frame under no subscriber's number
-pub unknown-allowed : (s : Course) (time : ℕ) (ids frame buffer : List ℕ) →
-    (1 ≤ subscriber (readRequest frame) → subscriber (readRequest frame) ≤ subscribers → ⊥) →
-    Allowed (frameArrives (s .bank) time ids frame buffer) s
+pub unknown-allowed : (s : Course) (a : FrameInput) →
+    (1 ≤ subscriber (readRequest (a .frame)) → subscriber (readRequest (a .frame)) ≤ subscribers → ⊥) →
+    Allowed (frameArrives (s .bank) a) s
 unfolding isSubscribers
-unknown-allowed s time ids frame buffer n = stray-allowed s time ids frame buffer (at (isSubscribers frame) refl)
+unknown-allowed s a n = stray-allowed s a (at (isSubscribers (a .frame)) refl)
   where
     u : ℕ
-    u = subscriber (readRequest frame)
+    u = subscriber (readRequest (a .frame))
 
-    at : (b : Bool) → isSubscribers frame ≡ b → b ≡ false
+    at : (b : Bool) → isSubscribers (a .frame) ≡ b → b ≡ false
     at false e = refl
     at true e =
-        let readable = isRequestForm (form (readRequest frame)) in
+        let readable = isRequestForm (form (readRequest (a .frame))) in
         let most = and-true (readable && leb 1 u) (leb u subscribers) e in
         let least = and-true readable (leb 1 u) (most .0) in
         absurd (n (leb-true 1 u (least .1)) (leb-true u subscribers (most .1)))
@@ -71,6 +72,6 @@ other-in-turn i j other s reply _ = λ same. absurd (other same)
 other-in-turn i j other s no-reply _ = other
 
 -- a frame that the run did not issue
-pub foreign-in-turn : (i : ℕ) (s : Course) (w : BankState) (time : ℕ) (ids frame buffer : List ℕ) → (IssuedBy i frame s → ⊥) →
-    InTurn i (frameArrives w time ids frame buffer) s
-foreign-in-turn i s w time ids frame buffer foreign _ = λ own. absurd (foreign own)
+pub foreign-in-turn : (i : ℕ) (s : Course) (w : BankState) (a : FrameInput) → (IssuedBy i (a .frame) s → ⊥) →
+    InTurn i (frameArrives w a) s
+foreign-in-turn i s w a foreign _ = λ own. absurd (foreign own)

@@ -34,7 +34,8 @@ use Rattle.bank_verdicts.specs.declared.verdict.Verdict.{Verdict}
 use Rattle.bank_verdicts.specs.declared.verdict.Verdict.the-variants as verdict
 use Rattle.bank_verdicts.specs.Judgement.{mailboxSegments}
 use Rattle.bank_verdicts.specs.Replies.{replyTo}
-use Rattle.bank_history.specs.History.{newest, isOpening, exchangeOf}
+use Rattle.bank.specs.Call.{FrameInput}
+use Rattle.bank_history.specs.History.{newest, isOpening, exchangeOf, callExchange}
 use Rattle.bank_history.specs.History as bank
 use Rattle.bank_history.specs.Transactions.{UploadAt, DownloadAt, UploadUnlessIdle, DownloadUnlessIdle, answered}
 use Rattle.bank_history.proofs.Liveness as bankTurn
@@ -136,11 +137,12 @@ module _ (s : Course) (v : Parts s) (copies : Copied s) (numbers : OneExchangeNu
       (bank-replies h (v .bank .holds .invariant .sound) (v .bank .proper)) (runPast s i) (v .runs i) b .1) (issued-in i m r)
 
   -- a frame of the run that was not received before
-  module _ (time : ℕ) (ids frame buffer : List ℕ) (t : Course) (en : Entered s (v .bank) time ids frame buffer t) (own : IssuedBy i frame s)
-      (new : (e : Exchange) → In e (s .exchanged) → e .request ≡ frame → ⊥) (hour : NoIdleHour i (t .bank .bank .clock) s)
+  module _ (a : FrameInput) (t : Course) (en : Entered s (v .bank) a t) (own : IssuedBy i (a .frame) s)
+      (new : (e : Exchange) → In e (s .exchanged) → e .request ≡ a .frame → ⊥)
+      (hour : NoIdleHour i (t .bank .bank .clock) s)
       (issued : t .issued ≡ s .issued) (arrivals : t .arrived ≡ s .arrived) where
     abbrev x : bank.Exchange
-    x = exchangeOf (number ids) (advanced time (v .bank .past .bankState)) (readRequest frame) (dataOf frame)
+    x = callExchange (v .bank .past .bankState) a
 
     abbrev f : Exchange
     f = en .exchange
@@ -172,21 +174,21 @@ module _ (s : Course) (v : Parts s) (copies : Copied s) (numbers : OneExchangeNu
 
     -- where requests below the outstanding one are received, the frame is the outstanding one
     module _ (m : Messages s i (s .runs i .exchange) (s .runs i .exchange)) where
-      is-outstanding : exchange (readRequest frame) ≡ s .runs i .exchange
+      is-outstanding : exchange (readRequest (a .frame)) ≡ s .runs i .exchange
       is-outstanding = at (ℕ-discrete (numberOf (own .0)) (s .runs i .exchange))
         where
-          same : exchange (readRequest frame) ≡ numberOf (own .0)
+          same : exchange (readRequest (a .frame)) ≡ numberOf (own .0)
           same = ap (λ (l : List ℕ). exchange (readRequest l)) (sym (own .3))
 
-          at : Dec (numberOf (own .0) ≡ s .runs i .exchange) → exchange (readRequest frame) ≡ s .runs i .exchange
+          at : Dec (numberOf (own .0) ≡ s .runs i .exchange) → exchange (readRequest (a .frame)) ≡ s .runs i .exchange
           at (yes z) = same ∙ z
           at (no n) =
               let b = issued-below (own .1) (own .2) in
               let y = m .all (own .0) (own .1) (own .2) (omega arith) in
               absurd (new (y .0) (y .1) (y .2 ∙ own .3))
 
-      asked : Asked s i frame
-      asked = own-outstanding s v numbers i frame (issued-begun own) own is-outstanding
+      asked : Asked s i (a .frame)
+      asked = own-outstanding s v numbers i (a .frame) (issued-begun own) own is-outstanding
 
       now-number : {e : Exchange} → e ≡ en .exchange → exchange (readRequest (e .request)) ≡ s .runs i .exchange
       now-number z =
@@ -237,9 +239,10 @@ module _ (s : Course) (v : Parts s) (copies : Copied s) (numbers : OneExchangeNu
 
       -- ---- the reply
 
-      replies : (z : Verdict) → x .verdict ≡ z → readReply (en .exchange .reply) ≡ replyTo z (readRequest frame)
+      replies : (z : Verdict) → x .verdict ≡ z → readReply (en .exchange .reply) ≡ replyTo z (readRequest (a .frame))
       unfolding exchangeOf
-      replies z e = en .same .reply ∙ reply-is (en .sound) newest ∙ ap (λ (u : Verdict). replyTo u (readRequest frame)) e
+      replies z e =
+          en .same .reply ∙ reply-is (en .sound) newest ∙ ap (λ (u : Verdict). replyTo u (readRequest (a .frame))) e
 
       told-by : (direction : Direction) (at : Step) (j : ℕ) → InTurn p direction at j (c .exchange) → Behind direction at j t i c (readReply (f .reply)) →
           State t i p
@@ -256,9 +259,10 @@ module _ (s : Course) (v : Parts s) (copies : Copied s) (numbers : OneExchangeNu
 
       -- ---- the clock and the bank now
 
-      clock-is : max (v .bank .past .bankState .bank .clock) time ≡ t .bank .bank .clock
+      clock-is : max (v .bank .past .bankState .bank .clock) (a .time) ≡ t .bank .bank .clock
       clock-is =
-          sym (ap (λ (w : BankState). w .bank .clock) (en .bank) ∙ bankTurn.answered-clock time ids frame (v .bank .past) (v .bank .holds))
+          sym (ap (λ (w : BankState). w .bank .clock) (en .bank)
+          ∙ bankTurn.answered-clock a (v .bank .past) (v .bank .holds))
 
       -- the latest of the order's requests
       latest-now : (last : ℕ) → ((e : Exchange) → Received i e s → e .clock ≤ last) → last ≤ t .bank .bank .clock →
@@ -270,10 +274,11 @@ module _ (s : Course) (v : Parts s) (copies : Copied s) (numbers : OneExchangeNu
           at (inr y) = let n = b e y in omega arith
 
       not-idle : (o : (last : ℕ) × ((e : Exchange) → Received i e s → e .clock ≤ last) × ((e : Exchange) × Received i e s)) →
-          max (v .bank .past .bankState .bank .clock) time ≤ o .0 + idleLimit
+          max (v .bank .past .bankState .bank .clock) (a .time) ≤ o .0 + idleLimit
       not-idle (last, latest, some) = at hour
         where
-          at : NoIdleHour i (t .bank .bank .clock) s → max (v .bank .past .bankState .bank .clock) time ≤ last + idleLimit
+          at : NoIdleHour i (t .bank .bank .clock) s →
+              max (v .bank .past .bankState .bank .clock) (a .time) ≤ last + idleLimit
           at (inl (e, k, l)) = let n = latest e k in let y = clock-is in omega arith
           at (inr none) = absurd (none (some .0) (some .1))
 
@@ -281,31 +286,33 @@ module _ (s : Course) (v : Parts s) (copies : Copied s) (numbers : OneExchangeNu
           form (readReply (o .reply)) ≡ openedForm direction →
           returnCode (readReply (o .reply)) ≡ codeField code.Ok → transaction (readReply (o .reply)) ≡ id →
           ((e : Exchange) → Received i e t → e .clock ≤ t .bank .bank .clock) →
-          OpenUnlessIdle direction (answered time ids frame (v .bank .past) .bankState) id u k n (max (v .bank .past .bankState .bank .clock) time) →
+          OpenUnlessIdle direction (answered a (v .bank .past) .bankState) id u k n
+          (max (v .bank .past .bankState .bank .clock) (a .time)) →
           Open direction t i u id n k
-      open-now direction id u n k o received a b d latest z = record {
+      open-now direction id u n k o received formed b d latest z = record {
         opening = o;
         received = received;
-        opened = a;
+        opened = formed;
         ok = b;
         id = d;
         last = t .bank .bank .clock;
         latest = latest;
         standing = subst (λ (w : BankState). OpenUnlessIdle direction w id u k n (t .bank .bank .clock)) (sym (en .bank))
-            (subst (OpenUnlessIdle direction (answered time ids frame (v .bank .past) .bankState) id u k n) clock-is z);
+            (subst (OpenUnlessIdle direction (answered a (v .bank .past) .bankState) id u k n) clock-is z);
       }
 
       -- the transaction goes on from an earlier request
       open-on : {direction : Direction} {id : Bits128} {u n k : ℕ} (o : Open direction s i u id n k) (m : ℕ) →
-          o .last ≤ max (v .bank .past .bankState .bank .clock) time →
-          OpenUnlessIdle direction (answered time ids frame (v .bank .past) .bankState) id u m n (max (v .bank .past .bankState .bank .clock) time) →
+          o .last ≤ max (v .bank .past .bankState .bank .clock) (a .time) →
+          OpenUnlessIdle direction (answered a (v .bank .past) .bankState) id u m n
+          (max (v .bank .past .bankState .bank .clock) (a .time)) →
           Open direction t i u id n m
       open-on {direction} {id} {u} {n} o m l z =
           open-now direction id u n m (o .opening) (received-more i (o .opening) (o .received)) (o .opened) (o .ok) (o .id)
           (latest-now (o .last) (o .latest) (let y = clock-is in omega arith)) z
 
       in-hour : {direction : Direction} {id : Bits128} {u n k : ℕ} (o : Open direction s i u id n k) →
-          max (v .bank .past .bankState .bank .clock) time ≤ o .last + idleLimit
+          max (v .bank .past .bankState .bank .clock) (a .time) ≤ o .last + idleLimit
       in-hour o = not-idle (o .last, o .latest, (o .opening, o .received))
 
       -- ---- the opening
@@ -325,7 +332,8 @@ module _ (s : Course) (v : Parts s) (copies : Copied s) (numbers : OneExchangeNu
           by e z (inr k) = first e k
 
       -- its code is 000000: it opened a transaction
-      opening-done : (form (readRequest frame) ≡ forms.UploadOpening) ⊎ (form (readRequest frame) ≡ forms.DownloadOpening) →
+      opening-done : (form (readRequest (a .frame)) ≡ forms.UploadOpening) ⊎
+          (form (readRequest (a .frame)) ≡ forms.DownloadOpening) →
           returnCode (readReply (f .reply)) ≡ codeField code.Ok →
           (id : Bits128) × (k : Action) × (x .verdict ≡ verdict.Of id k) × (isOpening k ≡ true)
       opening-done kind ok = let b = by-code (en .sound) newest (en .proper) code.Ok refl (sym (ap returnCode (en .same .reply)) ∙ ok) in
@@ -333,7 +341,7 @@ module _ (s : Course) (v : Parts s) (copies : Copied s) (numbers : OneExchangeNu
         where
           at : {id : Bits128} {k : Action} → x .verdict ≡ verdict.Of id k → (z : Bool) → isOpening k ≡ z → z ≡ true
           at e true z = refl
-          at e false z = under-not (case-of s v copies numbers time ids frame (λ _. (i, own)) (en .sound) e z) kind
+          at e false z = under-not (case-of s v copies numbers a (λ _. (i, own)) (en .sound) e z) kind
 
       alone-now : ((e : Exchange) → Received i e s → ⊥) → (e : Exchange) → Received i e t → e .clock ≤ t .bank .bank .clock
       alone-now first = latest-now 0 (λ e k. absurd (first e k)) (omega arith)
@@ -343,11 +351,11 @@ module _ (s : Course) (v : Parts s) (copies : Copied s) (numbers : OneExchangeNu
       unfolding exchangeOf
       upload-opening j turn first ok = at (opening-done (inl asks-form) ok)
         where
-          request : readRequest frame
+          request : readRequest (a .frame)
               ≡ uploadOpening (c .subscriber) (c .exchange) (nonceOf (asked .nonce) (c .exchange)) (asked .time) (c .segments)
           request = asked .request ∙ is-uploadOpening c (asked .time) (asked .nonce) [] (turn .direction) (turn .step)
 
-          asks-form : form (readRequest frame) ≡ forms.UploadOpening
+          asks-form : form (readRequest (a .frame)) ≡ forms.UploadOpening
           asks-form = ap form request ∙ form-uploadOpening _ _ _ _ _
 
           opened : (id : Bits128) (m : ℕ) → x .verdict ≡ verdict.Of id (action.Upload (up.Opened m)) → State t i p
@@ -355,18 +363,20 @@ module _ (s : Course) (v : Parts s) (copies : Copied s) (numbers : OneExchangeNu
               let r = replies (verdict.Of id (action.Upload (up.Opened m))) e
               ∙ ap (λ (n : ℕ). uploadOpened n id (orderNumberOf m)) is-outstanding in
               let y = opened-fits (c .exchange) (orderNumberOf m) 0 0 id in
-              let there = bankTurn.upload-opens time ids frame (v .bank .past) (v .bank .holds) id m e in
+              let there = bankTurn.upload-opens a (v .bank .past) (v .bank .holds) id m e in
               told-by Upload step.Opening j turn (
                 id,
                 orderNumberOf m,
                 r,
                 open-now Upload id (c .subscriber) (c .segments) 0 f received-now (ap form r ∙ y .form-is) ok
                     (ap transaction r ∙ opened-fields (c .exchange) (orderNumberOf m) 0 0 id .0) (alone-now first)
-                    (λ _. subst (λ (u : ℕ). UploadAt (answered time ids frame (v .bank .past) .bankState) id u 0 (c .segments)
-                    (max (v .bank .past .bankState .bank .clock) time))
+                    (λ _. subst (λ (u : ℕ). UploadAt (answered a (v .bank .past) .bankState) id u 0 (c .segments)
+                    (max (v .bank .past .bankState .bank .clock) (a .time)))
                     (ap subscriber (asked .request) ∙ outstanding-subscriber c (asked .time) (asked .nonce) [])
-                    (subst (λ (n : ℕ). UploadAt (answered time ids frame (v .bank .past) .bankState) id (subscriber (readRequest frame)) 0 n
-                    (max (v .bank .past .bankState .bank .clock) time)) (ap segments request ∙ opening-segments _ _ _ _ _) there)),
+                    (subst (λ (n : ℕ). UploadAt (answered a (v .bank .past) .bankState) id
+                    (subscriber (readRequest (a .frame))) 0 n
+                    (max (v .bank .past .bankState .bank .clock) (a .time)))
+                    (ap segments request ∙ opening-segments _ _ _ _ _) there)),
               )
 
           at : (id : Bits128) × (k : Action) × (x .verdict ≡ verdict.Of id k) × (isOpening k ≡ true) → State t i p
@@ -384,10 +394,11 @@ module _ (s : Course) (v : Parts s) (copies : Copied s) (numbers : OneExchangeNu
       unfolding exchangeOf
       download-opening j turn first ok = at (opening-done (inr asks-form) ok)
         where
-          request : readRequest frame ≡ downloadOpening (c .subscriber) (c .exchange) (nonceOf (asked .nonce) (c .exchange)) (asked .time)
+          request : readRequest (a .frame) ≡ downloadOpening (c .subscriber) (c .exchange)
+              (nonceOf (asked .nonce) (c .exchange)) (asked .time)
           request = asked .request ∙ is-downloadOpening c (asked .time) (asked .nonce) [] (turn .direction) (turn .step)
 
-          asks-form : form (readRequest frame) ≡ forms.DownloadOpening
+          asks-form : form (readRequest (a .frame)) ≡ forms.DownloadOpening
           asks-form = ap form request ∙ form-downloadOpening _ _ _ _
 
           opened : (id : Bits128) (n : ℕ) → x .verdict ≡ verdict.Of id (action.Download (down.Opened n)) → State t i p
@@ -395,15 +406,15 @@ module _ (s : Course) (v : Parts s) (copies : Copied s) (numbers : OneExchangeNu
               let r = replies (verdict.Of id (action.Download (down.Opened n))) e
               ∙ ap (λ (m : ℕ). downloadOpened m n id (lastMarkOf 1 n)) is-outstanding in
               let y = download-fits (c .exchange) n 0 (lastMarkOf 1 n) id in
-              let there = bankTurn.download-opens time ids frame (v .bank .past) (v .bank .holds) id n e in
+              let there = bankTurn.download-opens a (v .bank .past) (v .bank .holds) id n e in
               told-by Download step.Opening j turn (
                 id,
                 n,
                 r,
                 open-now Download id (c .subscriber) n 1 f received-now (ap form r ∙ y .form-is) ok
                     (ap transaction r ∙ download-fields (c .exchange) n 0 (lastMarkOf 1 n) id .0) (alone-now first)
-                    (λ _. subst (λ (u : ℕ). DownloadAt (answered time ids frame (v .bank .past) .bankState) id u 1
-                    (max (v .bank .past .bankState .bank .clock) time))
+                    (λ _. subst (λ (u : ℕ). DownloadAt (answered a (v .bank .past) .bankState) id u 1
+                    (max (v .bank .past .bankState .bank .clock) (a .time)))
                     (ap subscriber (asked .request) ∙ outstanding-subscriber c (asked .time) (asked .nonce) []) there),
               )
 
@@ -429,14 +440,16 @@ module _ (s : Course) (v : Parts s) (copies : Copied s) (numbers : OneExchangeNu
           told-by Upload step.Segment j turn (
             r,
             within,
-            λ below. open-on o j current (λ _. subst (λ (m : ℕ). UploadAt (answered time ids frame (v .bank .past) .bankState)
-                (c .transaction) (c .subscriber) m (c .segments) (max (v .bank .past .bankState .bank .clock) time)) (sym next)
-                (bankTurn.upload-goes-on time ids frame (v .bank .past) (v .bank .holds) (c .transaction) (c .subscriber) k (c .segments)
+            λ below. open-on o j current (λ _. subst (λ (m : ℕ). UploadAt (answered a (v .bank .past) .bankState)
+                (c .transaction) (c .subscriber) m (c .segments)
+                (max (v .bank .past .bankState .bank .clock) (a .time))) (sym next)
+                (bankTurn.upload-goes-on a (v .bank .past) (v .bank .holds) (c .transaction) (c .subscriber) k
+                (c .segments)
                 (o .last)
                 before kind from to next-segment mark short (in-hour o) (omega arith))),
           )
         where
-          request : readRequest frame
+          request : readRequest (a .frame)
               ≡ uploadTransfer (c .subscriber) (c .exchange) (c .transaction) (c .segment) (lastMarkOf (c .segment) (c .segments))
           request = asked .request ∙ is-uploadTransfer c (asked .time) (asked .nonce) [] (turn .direction) (turn .step)
 
@@ -446,25 +459,25 @@ module _ (s : Course) (v : Parts s) (copies : Copied s) (numbers : OneExchangeNu
               × (lastMark q ≡ lastMarkOf (c .segment) (c .segments))
           fields = transfer-fields _ _ _ _ _
 
-          kind : form (readRequest frame) ≡ forms.UploadTransfer
+          kind : form (readRequest (a .frame)) ≡ forms.UploadTransfer
           kind = ap form request ∙ form-uploadTransfer _ _ _ _ _
 
-          from : subscriber (readRequest frame) ≡ c .subscriber
+          from : subscriber (readRequest (a .frame)) ≡ c .subscriber
           from = ap subscriber request ∙ fields .0
 
-          to : transaction (readRequest frame) ≡ c .transaction
+          to : transaction (readRequest (a .frame)) ≡ c .transaction
           to = ap transaction request ∙ fields .1
 
-          is-segment : segment (readRequest frame) ≡ c .segment
+          is-segment : segment (readRequest (a .frame)) ≡ c .segment
           is-segment = ap segment request ∙ fields .2
 
-          next-segment : segment (readRequest frame) ≡ suc k
+          next-segment : segment (readRequest (a .frame)) ≡ suc k
           next-segment = is-segment ∙ turn .segment ∙ next
 
-          mark : lastMark (readRequest frame) ≡ lastMarkOf (segment (readRequest frame)) (c .segments)
+          mark : lastMark (readRequest (a .frame)) ≡ lastMarkOf (segment (readRequest (a .frame))) (c .segments)
           mark = ap lastMark request ∙ fields .3 ∙ ap (λ (m : ℕ). lastMarkOf m (c .segments)) (sym is-segment)
 
-          short : length (dataOf frame) ≤ segmentBytes
+          short : length (dataOf (a .frame)) ≤ segmentBytes
           short =
               let bytes = asked .bytes ∙ data-transfer c 0 [] (s .payloads i) (turn .direction) (turn .step) in
               let count = upload-run (Gave h) (fileIn h) (bank-replies h (v .bank .holds .invariant .sound) (v .bank .proper)) p (v .runs i)
@@ -478,40 +491,43 @@ module _ (s : Course) (v : Parts s) (copies : Copied s) (numbers : OneExchangeNu
               (sym (v .bank .bankState))
               (o .standing)
 
-          current : o .last ≤ max (v .bank .past .bankState .bank .clock) time
-          current = bankTurn.upload-current time ids frame (v .bank .past) (v .bank .holds) (c .transaction) (c .subscriber) k (c .segments)
+          current : o .last ≤ max (v .bank .past .bankState .bank .clock) (a .time)
+          current = bankTurn.upload-current a (v .bank .past) (v .bank .holds) (c .transaction) (c .subscriber) k
+              (c .segments)
               (o .last) before kind from to next-segment mark short (in-hour o)
 
           r : readReply (f .reply) ≡ segmentTaken (c .exchange) (c .transaction) j
           r =
-              replies _ (bankTurn.upload-takes time ids frame (v .bank .past) (v .bank .holds) (c .transaction) (c .subscriber) k
+              replies _ (bankTurn.upload-takes a (v .bank .past) (v .bank .holds) (c .transaction) (c .subscriber) k
               (c .segments)
               (o .last) before kind from to next-segment mark short (in-hour o))
-              ∙ take-reply (c .transaction) (eqb (k + 1) (c .segments)) (readRequest frame)
-              ∙ ap (λ (n : ℕ). segmentTaken n (c .transaction) (segment (readRequest frame))) is-outstanding
+              ∙ take-reply (c .transaction) (eqb (k + 1) (c .segments)) (readRequest (a .frame))
+              ∙ ap (λ (n : ℕ). segmentTaken n (c .transaction) (segment (readRequest (a .frame)))) is-outstanding
               ∙ ap (segmentTaken (c .exchange) (c .transaction)) (is-segment ∙ turn .segment)
 
       -- ---- a segment and the receipt of a download
 
       module _ (turn-direction : c .direction ≡ Download) (known : isOpen (c .step) ≡ true) (d : ℕ)
-          (o : Open Download s i (c .subscriber) (c .transaction) (c .segments) d) (from : subscriber (readRequest frame) ≡ c .subscriber)
-          (to : transaction (readRequest frame) ≡ c .transaction) where
+          (o : Open Download s i (c .subscriber) (c .transaction) (c .segments) d)
+          (from : subscriber (readRequest (a .frame)) ≡ c .subscriber)
+          (to : transaction (readRequest (a .frame)) ≡ c .transaction) where
         before-download : DownloadUnlessIdle (v .bank .past .bankState) (c .transaction) (c .subscriber) d (o .last)
         before-download = subst (λ (w : BankState). DownloadUnlessIdle w (c .transaction) (c .subscriber) d (o .last)) (sym (v .bank .bankState))
             (o .standing)
 
-        short-download : length (dataOf frame) ≤ segmentBytes
+        short-download : length (dataOf (a .frame)) ≤ segmentBytes
         short-download = let l = ap length (asked .bytes ∙ data-download c 0 [] (s .payloads i) turn-direction) in omega arith
 
-        current-download : o .last ≤ max (v .bank .past .bankState .bank .clock) time
+        current-download : o .last ≤ max (v .bank .past .bankState .bank .clock) (a .time)
         current-download =
-            bankTurn.download-current time ids frame (v .bank .past) (v .bank .holds) (c .transaction) (c .subscriber) d (o .last)
+            bankTurn.download-current a (v .bank .past) (v .bank .holds) (c .transaction) (c .subscriber) d (o .last)
             before-download from to short-download (in-hour o)
 
         -- N as the run knows it
-        count-now : mailboxSegments (subscriber (readRequest frame)) (advanced time (v .bank .past .bankState) .bank) ≡ c .segments
+        count-now : mailboxSegments (subscriber (readRequest (a .frame)))
+            (advanced (a .time) (v .bank .past .bankState) .bank) ≡ c .segments
         count-now =
-            bankTurn.download-segments time ids frame (v .bank .past) (v .bank .holds) (c .transaction) (c .subscriber) d (o .last)
+            bankTurn.download-segments a (v .bank .past) (v .bank .holds) (c .transaction) (c .subscriber) d (o .last)
             before-download from to short-download (in-hour o)
             ∙ sym (file-held (Gave h) (fileIn h) (bank-replies h (v .bank .holds .invariant .sound) (v .bank .proper)) p (v .runs i)
             (issued-begun own) turn-direction known .number)
@@ -523,73 +539,81 @@ module _ (s : Course) (v : Parts s) (copies : Copied s) (numbers : OneExchangeNu
             omega arith,
             within,
             open-on o j (current-download (turn .direction) (ap isOpen (turn .step)) k o from to)
-                (λ _. subst (λ (m : ℕ). DownloadAt (answered time ids frame (v .bank .past) .bankState) (c .transaction) (c .subscriber) m
-                (max (v .bank .past .bankState .bank .clock) time)) (sym next)
-                (bankTurn.download-goes-on time ids frame (v .bank .past) (v .bank .holds) (c .transaction) (c .subscriber) k (o .last)
+                (λ _. subst
+                (λ (m : ℕ). DownloadAt (answered a (v .bank .past) .bankState) (c .transaction) (c .subscriber) m
+                (max (v .bank .past .bankState .bank .clock) (a .time))) (sym next)
+                (bankTurn.download-goes-on a (v .bank .past) (v .bank .holds) (c .transaction) (c .subscriber) k
+                (o .last)
                 (before-download (turn .direction) (ap isOpen (turn .step)) k o from to) from to
                 (short-download (turn .direction) (ap isOpen (turn .step)) k o from to) (in-hour o) kind next-segment reach)),
           )
         where
-          request : readRequest frame ≡ downloadTransfer (c .subscriber) (c .exchange) (c .transaction) (c .segment)
+          request : readRequest (a .frame) ≡ downloadTransfer (c .subscriber) (c .exchange) (c .transaction)
+              (c .segment)
           request = asked .request ∙ is-downloadTransfer c (asked .time) (asked .nonce) [] (turn .direction) (turn .step)
 
           fields : let q = downloadTransfer (c .subscriber) (c .exchange) (c .transaction) (c .segment) in
               (subscriber q ≡ c .subscriber) × (transaction q ≡ c .transaction) × (segment q ≡ c .segment)
           fields = asking-fields _ _ _ _
 
-          kind : form (readRequest frame) ≡ forms.DownloadTransfer
+          kind : form (readRequest (a .frame)) ≡ forms.DownloadTransfer
           kind = ap form request ∙ form-downloadTransfer _ _ _ _
 
-          from : subscriber (readRequest frame) ≡ c .subscriber
+          from : subscriber (readRequest (a .frame)) ≡ c .subscriber
           from = ap subscriber request ∙ fields .0
 
-          to : transaction (readRequest frame) ≡ c .transaction
+          to : transaction (readRequest (a .frame)) ≡ c .transaction
           to = ap transaction request ∙ fields .1
 
-          is-segment : segment (readRequest frame) ≡ j
+          is-segment : segment (readRequest (a .frame)) ≡ j
           is-segment = ap segment request ∙ fields .2 ∙ turn .segment
 
-          next-segment : segment (readRequest frame) ≡ suc k
+          next-segment : segment (readRequest (a .frame)) ≡ suc k
           next-segment = is-segment ∙ next
 
-          count : mailboxSegments (subscriber (readRequest frame)) (advanced time (v .bank .past .bankState) .bank) ≡ c .segments
+          count : mailboxSegments (subscriber (readRequest (a .frame)))
+              (advanced (a .time) (v .bank .past .bankState) .bank) ≡ c .segments
           count = count-now (turn .direction) (ap isOpen (turn .step)) k o from to
 
-          reach : segment (readRequest frame) ≤ mailboxSegments (subscriber (readRequest frame))
-              (advanced time (v .bank .past .bankState) .bank)
+          reach : segment (readRequest (a .frame)) ≤ mailboxSegments (subscriber (readRequest (a .frame)))
+              (advanced (a .time) (v .bank .past .bankState) .bank)
           reach = let a = is-segment in let b = count in omega arith
 
           r : readReply (f .reply) ≡ downloadSegment (c .exchange) (c .transaction) j (lastMarkOf j (c .segments))
           r =
-              replies _ (bankTurn.download-delivers time ids frame (v .bank .past) (v .bank .holds) (c .transaction) (c .subscriber) k
+              replies _ (bankTurn.download-delivers a (v .bank .past) (v .bank .holds) (c .transaction)
+              (c .subscriber) k
               (o .last) (before-download (turn .direction) (ap isOpen (turn .step)) k o from to) from to
               (short-download (turn .direction) (ap isOpen (turn .step)) k o from to) (in-hour o) kind next-segment reach)
-              ∙ ap (λ (n : ℕ). downloadSegment n (c .transaction) (segment (readRequest frame)) (lastMarkOf (segment (readRequest frame))
-              (mailboxSegments (subscriber (readRequest frame)) (advanced time (v .bank .past .bankState) .bank)))) is-outstanding
+              ∙ ap (λ (n : ℕ). downloadSegment n (c .transaction) (segment (readRequest (a .frame)))
+              (lastMarkOf (segment (readRequest (a .frame)))
+              (mailboxSegments (subscriber (readRequest (a .frame)))
+              (advanced (a .time) (v .bank .past .bankState) .bank)))) is-outstanding
               ∙ ap (λ (m : ℕ). downloadSegment (c .exchange) (c .transaction) m (lastMarkOf m
-              (mailboxSegments (subscriber (readRequest frame)) (advanced time (v .bank .past .bankState) .bank)))) is-segment
+              (mailboxSegments (subscriber (readRequest (a .frame)))
+              (advanced (a .time) (v .bank .past .bankState) .bank)))) is-segment
               ∙ ap (λ (n : ℕ). downloadSegment (c .exchange) (c .transaction) j (lastMarkOf j n)) count
 
       download-receipt : (j : ℕ) → InTurn p Download step.Receipt j (c .exchange) → Before Download step.Receipt j s i c → State t i p
       download-receipt j turn (direction, o) =
           told-by Download step.Receipt j turn r
         where
-          request : readRequest frame ≡ receipt (c .subscriber) (c .exchange) (c .transaction) 0
+          request : readRequest (a .frame) ≡ receipt (c .subscriber) (c .exchange) (c .transaction) 0
           request = asked .request ∙ is-receipt c (asked .time) (asked .nonce) [] (turn .direction) (turn .step)
 
           fields : let q = receipt (c .subscriber) (c .exchange) (c .transaction) 0 in
               (subscriber q ≡ c .subscriber) × (transaction q ≡ c .transaction) × (receiptCode q ≡ 0)
           fields = receipt-fields _ _ _ _
 
-          from : subscriber (readRequest frame) ≡ c .subscriber
+          from : subscriber (readRequest (a .frame)) ≡ c .subscriber
           from = ap subscriber request ∙ fields .0
 
-          to : transaction (readRequest frame) ≡ c .transaction
+          to : transaction (readRequest (a .frame)) ≡ c .transaction
           to = ap transaction request ∙ fields .1
 
           r : readReply (f .reply) ≡ receiptAnswered (c .exchange) (c .transaction) code.DownloadPostprocessDone
           r =
-              replies _ (bankTurn.download-confirms time ids frame (v .bank .past) (v .bank .holds) (c .transaction) (c .subscriber)
+              replies _ (bankTurn.download-confirms a (v .bank .past) (v .bank .holds) (c .transaction) (c .subscriber)
               (c .segments) (o .last) (before-download (turn .direction) (ap isOpen (turn .step)) (c .segments) o from to) from to
               (short-download (turn .direction) (ap isOpen (turn .step)) (c .segments) o from to) (in-hour o)
               (ap form request ∙ form-receipt _ _ _ _)

@@ -39,7 +39,7 @@ use Rattle.bank_state.specs.Store.{partAt}
 use Rattle.bank_verdicts.specs.declared.verdict.Action.the-variants as action
 use Rattle.bank_verdicts.specs.declared.verdict.UploadAction.the-variants as up
 use Rattle.bank_verdicts.specs.declared.verdict.Verdict.the-variants as verdict
-use Rattle.bank.specs.Call.{respond}
+use Rattle.bank.specs.Call.{respond, FrameInput}
 use Rattle.bank_history.specs.History.{
   Past,
   Frame,
@@ -228,7 +228,7 @@ run-box s i k payload (answer.Closed w) x m = inl m
 run-box s i k payload (answer.Refused r) x m = inl m
 
 carried-box : (k : Call) (s : Course) (x : Issue) → In x (carryOut k s .issued) → In x (s .issued) ⊎ (x .box ≡ boxNow (carryOut k s) x)
-carried-box (frameArrives w time ids frame buffer) s x m = inl m
+carried-box (frameArrives w a) s x m = inl m
 carried-box (filePut b mailboxes n file) s x m = inl m
 carried-box (begins i c direction u first l) s x m = let k = beginCall c direction u first l in run-box s i k (l .payload) (k .answer) x m
 carried-box (replyArrives i c reply l) s x m = let k = replyCall c reply l in run-box s i k (l .payload) (k .answer) x m
@@ -244,11 +244,11 @@ call-box k s x =
 data BankMove (s : Course) (b : BankPart s) (t : Course) : Type 0 where
   rests : t .bank ≡ s .bank → t .exchanged ≡ s .exchanged → BankMove s b t
   puts : (m : ℕ) (file : List ℕ) → t .bank ≡ bank.after (File m file) (b .past) .bankState → t .exchanged ≡ s .exchanged → BankMove s b t
-  answers : (time : ℕ) (ids frame buffer : List ℕ) → Entered s b time ids frame buffer t → t .issued ≡ s .issued → BankMove s b t
+  answers : (a : FrameInput) → Entered s b a t → t .issued ≡ s .issued → BankMove s b t
 
 carried-move : (k : Call) (s : Course) (v : Parts s) → Premise k s → callNumber k ≡ 0 → BankMove s (v .bank) (carryOut k s)
-carried-move (frameArrives w time ids frame buffer) s v q z =
-    answers time ids frame buffer (frame-enters s (v .bank) w time ids frame buffer (q .0) z) refl
+carried-move (frameArrives w a) s v q z =
+    answers a (frame-enters s (v .bank) w a (q .0) z) refl
 carried-move (filePut b mailboxes m file) s v q z = puts m file (file-bank s v b mailboxes m file q z .0) refl
 carried-move (begins i c direction u first l) s v q z = rests refl refl
 carried-move (replyArrives i c reply l) s v q z = rests refl refl
@@ -267,24 +267,27 @@ move-gone {s} {t} b d {u} g = at d
     at : BankMove s b t → Gone (t .bank) u
     at (rests e z) = subst (λ (w : BankState). Gone w u) (sym e) g
     at (puts m file e z) = subst (λ (w : BankState). Gone w u) (sym e) (gone-stays u (File m file) (b .past) (b .holds) was)
-    at (answers time ids frame buffer en z) =
+    at (answers a en z) =
         subst (λ (w : BankState). Gone w u) (ap (λ (p : Past). p .bankState) (en .next) ∙ sym (en .bank))
-        (gone-stays u (Frame time ids frame buffer) (b .past) (b .holds) was)
+        (gone-stays u (Frame a) (b .past) (b .holds) was)
 
 -- the transaction of a receipt answered 011000 was not gone
-not-gone : {s t : Course} (b : BankPart s) (time : ℕ) (ids frame buffer : List ℕ) (en : Entered s b time ids frame buffer t) →
+not-gone : {s t : Course} (b : BankPart s) (a : FrameInput) (en : Entered s b a t) →
     returnCode (readReply (en .exchange .reply)) ≡ codeField code.DownloadPostprocessDone →
-    Gone (s .bank) (transaction (readRequest frame)) → ⊥
+    Gone (s .bank) (transaction (readRequest (a .frame))) → ⊥
 unfolding exchangeOf respond
-not-gone b time ids frame buffer en z g =
+not-gone b a en z g =
     let w = b .past .bankState in
-    let n = advanced-keeps time w (b .past .history) (b .holds .invariant) in
+    let n = advanced-keeps (a .time) w (b .past .history) (b .holds .invariant) in
     let e = case-empties
-    (happens (number ids) (advanced time w) (readRequest frame) (dataOf frame) (n .state .sizes .places)
+    (happens (number (a .ids)) (advanced (a .time) w) (readRequest (a .frame)) (dataOf (a .frame))
+    (n .state .sizes .places)
     (n .state .sizes .downloads)) (n .state .sizes)
     (done-confirmed (en .sound) newest (en .proper) (ap returnCode (sym (en .same .reply)) ∙ z) .0) in
-    each-download time w (λ (r : Download). r .used ≡ true → r .transaction ≡ transaction (readRequest frame) → ⊥) (λ u. never u)
-    (λ j _. subst (λ (y : BankState). Gone y (transaction (readRequest frame))) (sym (b .bankState)) g .downloads j) (e .row) (e .used) (e .own)
+    each-download (a .time) w (λ (r : Download). r .used ≡ true →
+    r .transaction ≡ transaction (readRequest (a .frame)) → ⊥) (λ u. never u)
+    (λ j _. subst (λ (y : BankState). Gone y (transaction (readRequest (a .frame))))
+    (sym (b .bankState)) g .downloads j) (e .row) (e .used) (e .own)
 
 -- ---- over the calls of a list
 
@@ -327,9 +330,9 @@ receipts-call k s v copies q numbers r = record { issued = issued; held = held }
             let o = r .held e n z in
             (o .0, (o .1 .0, in-more (call-issues k s) (o .1 .1), o .1 .2, o .1 .3, o .1 .4))
 
-        new : (time : ℕ) (ids frame buffer : List ℕ) (en : Entered s (v .bank) time ids frame buffer t) → t .issued ≡ s .issued →
+        new : (a : FrameInput) (en : Entered s (v .bank) a t) → t .issued ≡ s .issued →
             e ≡ en .exchange → HeldWhole t e
-        new time ids frame buffer en same y =
+        new a en same y =
             let o = emptied-held t w later numbers e m z in
             at o (r .issued (o .1 .0) (subst (In (o .1 .0)) same (o .1 .1)) (ap (λ (l : List ℕ). form (readRequest l)) (o .1 .2) ∙ o .0))
           where
@@ -337,7 +340,7 @@ receipts-call k s v copies q numbers r = record { issued = issued; held = held }
                 × ((x : Issue) × In x (t .issued) × (x .frame ≡ e .request) × (x .file ≡ e .box))) →
                 (o .1 .0 .file ≡ o .1 .0 .box) ⊎ Gone (s .bank) (transaction (readRequest (o .1 .0 .frame))) → HeldWhole t e
             at o (inl f) = (o .0, (o .1 .0, o .1 .1, o .1 .2, f, o .1 .3))
-            at o (inr g) = absurd (not-gone (v .bank) time ids frame buffer en
+            at o (inr g) = absurd (not-gone (v .bank) a en
                 (ap (λ (x : Exchange). returnCode (readReply (x .reply))) (sym y) ∙ z)
                 (subst (λ (l : List ℕ). Gone (s .bank) (transaction (readRequest l)))
                 (o .1 .2 ∙ ap (λ (x : Exchange). x .request) y ∙ en .request) g))
@@ -345,10 +348,10 @@ receipts-call k s v copies q numbers r = record { issued = issued; held = held }
         by : BankMove s (v .bank) t → HeldWhole t e
         by (rests a b) = old (subst (In e) b m)
         by (puts n file a b) = old (subst (In e) b m)
-        by (answers time ids frame buffer en same) = at (subst (In e) (en .exchanged) m)
+        by (answers a en same) = at (subst (In e) (en .exchanged) m)
           where
             at : In e (en .exchange ∷ s .exchanged) → HeldWhole t e
-            at (here y) = new time ids frame buffer en same y
+            at (here y) = new a en same y
             at (there n) = old n
 
 pub receipts-start : Receipts start

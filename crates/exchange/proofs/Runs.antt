@@ -85,7 +85,7 @@ other-or-own k s i j stays q z own = at (ℕ-discrete i j)
     at (yes e) = subst (λ (n : ℕ). Premise (k n) s → callNumber (k n) ≡ 0 → RunStep s i (k n) (runPast (exec (k n) s) i)) e own q z
 
 carried-step : (k : Call) (s : Course) → Premise k s → (i : ℕ) → callNumber k ≡ 0 → RunStep s i k (runPast (exec k s) i)
-carried-step (frameArrives w time ids frame buffer) s q i z = rests (frame-runs s w time ids frame buffer i)
+carried-step (frameArrives w a) s q i z = rests (frame-runs s w a i)
 carried-step (filePut b mailboxes m file) s q i z = rests (file-runs s b mailboxes m file i)
 carried-step (begins j c direction subscriber first l) s q i z =
     other-or-own (λ n. begins n c direction subscriber first l) s i j (other-past s j (beginCall c direction subscriber first l) l i) q z

@@ -43,9 +43,9 @@ module _ (i : ℕ) where
       at : (k : Call) → Allowed k s → OneExchangeNumber (exec k s) → Concern s v i k → State (exec k s) i (runPast (exec k s) i)
       at k q later (elsewhere same untouched) =
           subst (State (exec k s) i) (sym (same .past)) (state-same same v untouched (runPast s i) alone z)
-      at k q later (own-frame {w = w} {time = time} {ids = ids} {frame = frame} {buffer = buffer} en own new hour issued arrivals) =
-          subst (State (exec (frameArrives w time ids frame buffer) s) i) (sym (frame-runs s w time ids frame buffer i))
-          (request-moves s v copies numbers i time ids frame buffer (exec (frameArrives w time ids frame buffer) s) en own new hour issued
+      at k q later (own-frame {w = w} {a = a} en own new hour issued arrivals) =
+          subst (State (exec (frameArrives w a) s) i) (sym (frame-runs s w a i))
+          (request-moves s v copies numbers i a (exec (frameArrives w a) s) en own new hour issued
           arrivals z)
       at k q later (own-begin {c = c} {direction = direction} {u = u} {first = first} {l = l} own done) =
           begin-moves s v copies numbers i c direction u first l q later own done z

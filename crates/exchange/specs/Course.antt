@@ -15,7 +15,7 @@ use Rattle.bank_state.specs.State.{BankState, bankState, fresh, fileLength}
 use Rattle.bank_state.specs.Store.{fileOf}
 use Rattle.bank.specs.declared.call.FrameAnswer.{FrameAnswer}
 use Rattle.bank.specs.declared.call.FrameAnswer.the-variants as frameAnswer
-use Rattle.bank.specs.Call.{frameNumber, frameCall}
+use Rattle.bank.specs.Call.{FrameInput, frameNumber, frameCall}
 use Rattle.bank.specs.Mailbox.{fileNumber, FileCall, fileCall}
 use Rattle.client.specs.declared.run.Answer.{Answer}
 use Rattle.client.specs.declared.run.Answer.the-variants as answer
@@ -26,8 +26,8 @@ use Rattle.client.specs.Run.{Lent, ClientCall, notBegun, answerNumber}
 
 -- A call with everything that it brings and is lent; client runs are told apart by a number
 pub data Call : Type 0 where
-  -- a frame to the bank: the bank and its stores, the bank time, the 8 ID bytes, the frame, the reply buffer
-  frameArrives : BankState → ℕ → List ℕ → List ℕ → List ℕ → Call
+  -- a frame to the bank: the bank and its stores; the bank time, the 8 ID bytes, the frame and the reply buffer
+  frameArrives : BankState → FrameInput → Call
   -- a file into a mailbox: the bank, the mailboxes' store, the mailbox, the file
   filePut : Bank → List ℕ → ℕ → List ℕ → Call
   -- begin: direction, subscriber, first exchange number
@@ -180,7 +180,7 @@ emptied request reply mailboxes =
 
 -- document 01's number for a call, 0 where it is given none
 abbrev pub callNumber : Call → ℕ
-callNumber (frameArrives w time ids frame buffer) = frameNumber (frameCall w time ids frame buffer .answer)
+callNumber (frameArrives w a) = frameNumber (frameCall w a .answer)
 callNumber (filePut b mailboxes m file) = fileNumber (fileCall b m file mailboxes .answer)
 callNumber (begins i c direction subscriber first l) = answerNumber (beginCall c direction subscriber first l .answer)
 callNumber (replyArrives i c reply l) = answerNumber (replyCall c reply l .answer)
@@ -220,9 +220,9 @@ afterRun i k payload s = withRun i (k .run) payload (k .file) (withIssued (issue
 
 -- what a call given no number leaves
 abbrev pub carryOut : Call → Course → Course
-carryOut (frameArrives w time ids frame buffer) s =
-    let k = frameCall w time ids frame buffer in
-    afterFrame (replyIn (k .answer) (k .buffer)) (k .bankState) (advanced time w) frame s
+carryOut (frameArrives w a) s =
+    let k = frameCall w a in
+    afterFrame (replyIn (k .answer) (k .buffer)) (k .bankState) (advanced (a .time) w) (a .frame) s
 carryOut (filePut b mailboxes m file) s = afterFile (fileCall b m file mailboxes) m file s
 carryOut (begins i c direction subscriber first l) s = afterRun i (beginCall c direction subscriber first l) (l .payload) s
 carryOut (replyArrives i c reply l) s =

@@ -51,7 +51,7 @@ Left i c l s = (c ≡ s .runs i) × (l .payload ≡ s .payloads i) × (l .file �
 -- "A request that demand 3 names is a copy of one issued earlier in the list; a reply is a copy of one the bank gave earlier for such a
 -- copy": each frame under a subscriber's number, and each reply that reaches a run. A begin brings its own payload and file buffer
 abbrev pub Premise : Call → Course → Type 0
-Premise (frameArrives w time ids frame buffer) s = (w ≡ s .bank) × (isSubscribers frame ≡ true → (i : ℕ) × IssuedBy i frame s)
+Premise (frameArrives w a) s = (w ≡ s .bank) × (isSubscribers (a .frame) ≡ true → (i : ℕ) × IssuedBy i (a .frame) s)
 Premise (filePut b mailboxes m file) s = (b ≡ s .bank .bank) × (mailboxes ≡ s .bank .mailboxes)
 Premise (begins i c direction subscriber first l) s = c ≡ s .runs i
 Premise (replyArrives i c reply l) s = Left i c l s

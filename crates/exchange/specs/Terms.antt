@@ -96,9 +96,9 @@ NoIdleHour i clock s = ((e : Exchange) × Received i e s × (clock ≤ e .clock 
 
 -- what "in turn" asks of a call given no number
 abbrev pub Turn : ℕ → Call → Course → Type 0
-Turn i (frameArrives w time ids frame buffer) s = IssuedBy i frame s →
-    ((e : Exchange) → In e (s .exchanged) → e .request ≡ frame → ⊥)
-    × NoIdleHour i (frameCall w time ids frame buffer .bankState .bank .clock) s
+Turn i (frameArrives w a) s = IssuedBy i (a .frame) s →
+    ((e : Exchange) → In e (s .exchanged) → e .request ≡ a .frame → ⊥)
+    × NoIdleHour i (frameCall w a .bankState .bank .clock) s
 Turn i (filePut b mailboxes m file) s = Unit {0}
 Turn i (begins j c direction subscriber first l) s = Unit {0}
 Turn i (replyArrives j c reply l) s = j ≡ i → (a : Arrival) → In a (s .arrived) → a .run ≡ i → a .reply ≡ reply → ⊥

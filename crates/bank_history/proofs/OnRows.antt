@@ -1,0 +1,219 @@
+-- The calls on lent memory are the calls on the bank that the rows are: what a call leaves is stored and read back,
+-- since the
+-- invariant's bank is one that rows can hold and in range. A bank in range writes every reply.
+use Prim.Native.Nat.{ℕ, _≤_}
+use mathlib.Core.Bool.{Bool, true, false, _&&_}
+use mathlib.Core.List.{List, [], _∷_}
+use mathlib.Core.Path.{_≡_, refl, sym, ap, _∙_, subst}
+use native.Mathlib.Omega.{arith}
+use lib.Dec.{leb, eqb}
+use lib.ListN.{length, replicate}
+use borrow.Author.Tests.{eqb-true, leb-true}
+use Rattle.octets.specs.Bytes.{Bytes}
+use Rattle.octets.proofs.Tests.{and-true}
+use Rattle.message.specs.Verdicts.{decide}
+use Rattle.message.proofs.Verdicts.{by-test}
+use Rattle.bank_state.specs.declared.state.Bank.{Bank}
+use Rattle.bank_state.specs.Limits.{storeBytes, idBytes, replyRoom}
+use Rattle.bank_state.specs.State.{BankState, bankState, fresh}
+use Rattle.bank_rows.specs.Sound.{isSound, InRange}
+use Rattle.bank_rows.specs.State.{bankOf, stored, Held}
+use Rattle.bank_rows.proofs.Range.{zeros-sound}
+use Rattle.bank_rows.proofs.State.{fresh-rows, held-rows, stored-back}
+use Rattle.bank_rows.proofs.Test.{sound-laid, sound-range, stored-sound}
+use Rattle.bank.specs.declared.mailbox.FileAnswer.{FileAnswer}
+use Rattle.bank.specs.declared.mailbox.FileAnswer.the-variants as put
+use Rattle.bank.specs.Call.{FrameInput, FrameCall, frameNumber, lentRight, frameCall}
+use Rattle.bank.specs.Mailbox.{fileRefusals, carryOutFile, fileCall}
+use Rattle.bank.specs.Lent.{
+  Lent,
+  lent,
+  stateOf,
+  keptIn,
+  LentFrameCall,
+  keptFrame,
+  frameTurnedAway,
+  lentFrameCall,
+  keptFile,
+  lentFileCall,
+}
+use Rattle.bank.proofs.Lent.{length-refused, rows-refused, lent-frame}
+use Rattle.bank_history.specs.Answers.{AllBytes, none, more, FrameAnswered}
+use Rattle.bank_history.specs.History.{
+  Exchange,
+  Past,
+  BankCall,
+  Frame,
+  File,
+  callExchange,
+  placed,
+  start,
+  after,
+  pastOf,
+}
+use Rattle.bank_history.specs.Invariant.{Sizes, Invariant}
+use Rattle.bank_history.specs.OnRows.{lentAfter, lentOf, AreBytes, RightlyLent, OnRows}
+use Rattle.bank_history.proofs.Answers.{call-lengths, call-answered, same-bank}
+use Rattle.bank_history.proofs.Held.{in-range, held-bank}
+use Rattle.bank_history.proofs.Keeps.{past-holds}
+
+-- ---- what a call leaves is stored
+
+-- the memory is sound and is this bank with its stores
+record Stands (m : Lent) (w : BankState) : Type 0 where
+  sound : isSound (m .rows) ≡ true
+  state : stateOf m ≡ w
+
+state-same : {b c : Bank} (o m : List ℕ) → b ≡ c → bankState b o m ≡ bankState c o m
+state-same o m z = ap (λ (x : Bank). bankState x o m) z
+
+kept-stands : {h : List Exchange} (m : Lent) (w : BankState) → isSound (m .rows) ≡ true → Invariant w h →
+    Stands (keptIn m w) w
+kept-stands m w sound v =
+    let l = sound-laid (m .rows) sound in
+    let k = held-bank v in
+    record {
+      sound = stored-sound (w .bank) (m .rows) k l (in-range v);
+      state = state-same (w .orders) (w .mailboxes) (stored-back (w .bank) k (m .rows) l);
+    }
+
+lent-file : (rows : List ℕ) (mailbox : ℕ) (file mailboxes : List ℕ) → isSound rows ≡ true →
+    lentFileCall rows mailbox file mailboxes ≡ keptFile rows (fileCall (bankOf rows) mailbox file mailboxes)
+unfolding lentFileCall
+lent-file rows mailbox file mailboxes sound = rw sound
+
+-- a file call's bank and mailboxes are those of the past after it, whatever its answer
+file-placed : (r : FileAnswer) (p : Past) (mailbox : ℕ) (file : List ℕ) →
+    let c = carryOutFile r (p .bankState .bank) mailbox file (p .bankState .mailboxes) in
+    bankState (c .bank) (p .bankState .orders) (c .mailboxes) ≡ placed (c .answer) (c .bank) (c .mailboxes) p .bankState
+file-placed put.Done p mailbox file = refl
+file-placed put.WrongLength p mailbox file = refl
+file-placed put.NoMailbox p mailbox file = refl
+file-placed put.WrongFile p mailbox file = refl
+file-placed put.MailboxFull p mailbox file = refl
+
+module _ {calls : List BankCall} (given : AllBytes calls) (m : Lent) (s : Stands m (pastOf calls .bankState)) where
+  abbrev past : Past
+  past = pastOf calls
+
+  frame-stored : (a : FrameInput) → Bytes (a .ids) → Bytes (a .frame) →
+      lentAfter (Frame a) m ≡ keptIn m (after (Frame a) past .bankState)
+  unfolding lentAfter
+  frame-stored a ids frame =
+      ap (λ (c : LentFrameCall). c .lent) (lent-frame m a (s .sound))
+      ∙ (ap (λ (w : BankState). keptIn m (frameCall w a .bankState)) (s .state)
+      ∙ ap (keptIn m) (sym (same-bank given a ids frame)))
+
+  file-stored : (mailbox : ℕ) (file : List ℕ) →
+      lentAfter (File mailbox file) m ≡ keptIn m (after (File mailbox file) past .bankState)
+  unfolding lentAfter after fileCall
+  file-stored mailbox file =
+      let answer : BankState → FileAnswer =
+      λ (w : BankState). decide (fileRefusals (w .bank) mailbox file (w .mailboxes)) put.Done in
+      let kept : BankState → Lent = λ (w : BankState).
+      let c = carryOutFile (answer w) (w .bank) mailbox file (w .mailboxes) in
+      lent (stored (c .bank) (m .rows)) (w .orders) (c .mailboxes) in
+      rw (lent-file (m .rows) mailbox file (m .mailboxes) (s .sound))
+      (ap kept (s .state) ∙ ap (keptIn m) (file-placed (answer (past .bankState)) past mailbox file))
+
+lent-stands : {calls : List BankCall} → AllBytes calls → Stands (lentOf calls) (pastOf calls .bankState)
+unfolding lentOf pastOf start
+lent-stands none = record { sound = zeros-sound; state = state-same _ _ fresh-rows }
+lent-stands (more {c = Frame a} {calls = calls} b given) =
+    let s = lent-stands given in
+    subst (λ (m : Lent). Stands m (after (Frame a) (pastOf calls) .bankState))
+    (sym (frame-stored given (lentOf calls) s a (b .0) (b .1)))
+    (kept-stands (lentOf calls) _ (s .sound) (past-holds (Frame a ∷ calls) .invariant))
+lent-stands (more {c = File mailbox file} {calls = calls} b given) =
+    let s = lent-stands given in
+    subst (λ (m : Lent). Stands m (after (File mailbox file) (pastOf calls) .bankState))
+    (sym (file-stored given (lentOf calls) s mailbox file))
+    (kept-stands (lentOf calls) _ (s .sound) (past-holds (File mailbox file ∷ calls) .invariant))
+
+-- ---- every sound state
+
+sizes-of : (m : Lent) → isSound (m .rows) ≡ true → length (m .orders) ≡ storeBytes →
+    length (m .mailboxes) ≡ storeBytes → Sizes (stateOf m)
+sizes-of m sound orders mailboxes =
+    let k = held-rows (m .rows) (sound-laid (m .rows) sound) in
+    record {
+      places = k .places;
+      downloads = k .downloads;
+      nonces = k .nonces;
+      files = k .files;
+      orders = orders;
+      mailboxes = mailboxes;
+    }
+
+number-of : (w : BankState) (a : FrameInput) → frameCall w a .number ≡ frameNumber (frameCall w a .answer)
+unfolding frameCall
+number-of w a =
+    by-test (λ (c : FrameCall). c .number ≡ frameNumber (c .answer)) (lentRight w (a .ids) (a .buffer)) (λ _. refl)
+    (λ _. refl)
+
+module _ {m : Lent} {a : FrameInput} (b : AreBytes m a) where
+  frame-given : RightlyLent m a → FrameAnswered (frameCall (stateOf m) a) (a .buffer) (callExchange (stateOf m) a)
+  frame-given r =
+      call-answered (stateOf m) (sound-range (m .rows) (r .rows)) (sizes-of m (r .rows) (r .orders) (r .mailboxes))
+      (b .mailboxes) a
+      (b .ids) (b .frame) (r .ids) (r .room)
+
+  -- the lengths that the call tests
+  lengths : isSound (m .rows) ≡ true → lentRight (stateOf m) (a .ids) (a .buffer) ≡ true → RightlyLent m a
+  unfolding lentRight
+  lengths sound h =
+      let l = call-lengths (stateOf m) (a .ids) (a .buffer) h in
+      let stores = and-true (eqb (length (m .orders)) storeBytes) (eqb (length (m .mailboxes)) storeBytes)
+      (and-true (eqb (length (m .orders)) storeBytes && eqb (length (m .mailboxes)) storeBytes)
+      (eqb (length (a .ids)) idBytes)
+      (and-true (eqb (length (m .orders)) storeBytes && eqb (length (m .mailboxes)) storeBytes && eqb
+      (length (a .ids)) idBytes)
+      (leb replyRoom (length (a .buffer))) h .0) .0) in
+      record {
+        rows = sound;
+        orders = eqb-true _ storeBytes (stores .0);
+        mailboxes = eqb-true _ storeBytes (stores .1);
+        ids = l .0;
+        room = l .1;
+      }
+
+  number-changes-nothing : lentFrameCall m a .number ≡ 1 → lentFrameCall m a ≡ frameTurnedAway m a
+  number-changes-nothing z = at (isSound (m .rows)) refl (lentRight (stateOf m) (a .ids) (a .buffer)) refl
+    where
+      at : (t : Bool) → isSound (m .rows) ≡ t → (u : Bool) → lentRight (stateOf m) (a .ids) (a .buffer) ≡ u →
+          lentFrameCall m a ≡ frameTurnedAway m a
+      at false e u f = rows-refused m a e
+      at true e false f = length-refused m a f
+      at true e true f =
+          let r = frame-given (lengths e f) in
+          let n : lentFrameCall m a .number ≡ 0 =
+          ap (λ (c : LentFrameCall). c .number) (lent-frame m a e)
+          ∙ (number-of (stateOf m) a ∙ ap frameNumber (r .answer)) in
+          absurd (omega arith)
+
+module _ (calls : List BankCall) (given : AllBytes calls) where
+  abbrev now : Lent
+  now = lentOf calls
+
+  next-frame : (a : FrameInput) → lentFrameCall now a ≡ keptFrame now (frameCall (pastOf calls .bankState) a)
+  next-frame a =
+      let s = lent-stands given in
+      lent-frame now a (s .sound) ∙ ap (λ (w : BankState). keptFrame now (frameCall w a)) (s .state)
+
+  next-file : (mailbox : ℕ) (file : List ℕ) → lentFileCall (now .rows) mailbox file (now .mailboxes)
+      ≡ keptFile (now .rows)
+      (fileCall (pastOf calls .bankState .bank) mailbox file (pastOf calls .bankState .mailboxes))
+  next-file mailbox file =
+      let s = lent-stands given in
+      lent-file (now .rows) mailbox file (now .mailboxes) (s .sound)
+      ∙ ap (λ (w : BankState). keptFile (now .rows) (fileCall (w .bank) mailbox file (w .mailboxes))) (s .state)
+
+pub on-rows : OnRows
+on-rows = record {
+  sound = λ given. lent-stands given .sound;
+  state = λ given. lent-stands given .state;
+  frame = λ given. next-frame _ given;
+  file = λ given. next-file _ given;
+  answered = λ r b. (lent-frame _ _ (r .rows), frame-given b r);
+  unchanged = number-changes-nothing;
+}

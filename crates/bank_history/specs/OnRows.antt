@@ -1,0 +1,70 @@
+-- Lists of calls on lent memory, from rows and stores that are all zero, and the statements that they are the calls of
+-- document 01 on the bank that the rows are.
+use Prim.Native.Nat.{ℕ, _≤_}
+use mathlib.Core.Bool.{true}
+use mathlib.Core.List.{List, [], _∷_}
+use mathlib.Core.Path.{_≡_}
+use lib.ListN.{length, replicate}
+use Rattle.octets.specs.Bytes.{Bytes}
+use Rattle.bank_state.specs.Limits.{storeBytes, idBytes, replyRoom}
+use Rattle.bank_rows.specs.Layout.{stateSize}
+use Rattle.bank_rows.specs.Sound.{isSound}
+use Rattle.bank.specs.Call.{FrameInput, frameCall}
+use Rattle.bank.specs.Mailbox.{fileCall}
+use Rattle.bank.specs.Lent.{
+  Lent,
+  lent,
+  stateOf,
+  keptFrame,
+  frameTurnedAway,
+  lentFrameCall,
+  keptFile,
+  lentFileCall,
+}
+use Rattle.bank_history.specs.Answers.{AllBytes, FrameAnswered}
+use Rattle.bank_history.specs.History.{BankCall, Frame, File, callExchange, pastOf}
+
+-- the memory after a call
+unfoldable pub lentAfter : BankCall → Lent → Lent
+lentAfter (Frame a) m = lentFrameCall m a .lent
+lentAfter (File mailbox file) m =
+    let c = lentFileCall (m .rows) mailbox file (m .mailboxes) in lent (c .rows) (m .orders) (c .mailboxes)
+
+-- after a list of calls, the newest first; a fresh bank is all zeros
+unfoldable pub lentOf : List BankCall → Lent
+lentOf [] = lent (replicate stateSize 0) (replicate storeBytes 0) (replicate storeBytes 0)
+lentOf (c ∷ calls) = lentAfter c (lentOf calls)
+
+-- the mailboxes, the ID bytes and the frame are bytes
+pub record AreBytes (m : Lent) (a : FrameInput) : Type 0 where
+  pub mailboxes : Bytes (m .mailboxes)
+  pub ids : Bytes (a .ids)
+  pub frame : Bytes (a .frame)
+
+-- every lent length is right, and the rows are sound
+pub record RightlyLent (m : Lent) (a : FrameInput) : Type 0 where
+  pub rows : isSound (m .rows) ≡ true
+  pub orders : length (m .orders) ≡ storeBytes
+  pub mailboxes : length (m .mailboxes) ≡ storeBytes
+  pub ids : length (a .ids) ≡ idBytes
+  pub room : replyRoom ≤ length (a .buffer)
+
+pub record OnRows : Type 0 where
+  -- after every list of calls the rows are sound, and the memory is the bank with its stores
+  pub sound : {calls : List BankCall} → AllBytes calls → isSound (lentOf calls .rows) ≡ true
+  pub state : {calls : List BankCall} → AllBytes calls → stateOf (lentOf calls) ≡ pastOf calls .bankState
+  -- the next call's answer, number, code and buffer are those of the call on the bank, and the memory keeps what it
+  -- leaves
+  pub frame : {calls : List BankCall} → AllBytes calls → (a : FrameInput) →
+      lentFrameCall (lentOf calls) a ≡ keptFrame (lentOf calls) (frameCall (pastOf calls .bankState) a)
+  pub file : {calls : List BankCall} → AllBytes calls → (mailbox : ℕ) (file : List ℕ) →
+      lentFileCall (lentOf calls .rows) mailbox file (lentOf calls .mailboxes)
+      ≡ keptFile (lentOf calls .rows)
+      (fileCall (pastOf calls .bankState .bank) mailbox file (pastOf calls .bankState .mailboxes))
+  -- in every sound state, whether calls leave it or not, a frame call is answered by a frame
+  pub answered : {m : Lent} {a : FrameInput} → RightlyLent m a → AreBytes m a →
+      (lentFrameCall m a ≡ keptFrame m (frameCall (stateOf m) a))
+      × FrameAnswered (frameCall (stateOf m) a) (a .buffer) (callExchange (stateOf m) a)
+  -- so in every state number 1 comes with nothing changed
+  pub unchanged : {m : Lent} {a : FrameInput} → AreBytes m a → lentFrameCall m a .number ≡ 1 →
+      lentFrameCall m a ≡ frameTurnedAway m a
