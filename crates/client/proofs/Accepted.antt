@@ -109,3 +109,8 @@ begins c direction subscriber first l h =
 pub file-served : (direction : Direction) (l : Lengths) → Serves direction l → direction ≡ Download → l .file ≡ fileBytes
 file-served Upload l s e = not-both refl e
 file-served Download l s e = s .0
+
+-- what an admitted call with a reply or with none may rely on
+pub admitted : (c : Client) (l : Lengths) → runRuling (c .stage) c l ≡ Accept
+    → (c .exchange ≤ maxExchange) × (c .direction ≡ Download → l .file ≡ fileBytes)
+admitted c l h = let known = accepted c l h in (known .exchange, file-served (c .direction) l (known .buffers))

@@ -29,7 +29,7 @@ use Rattle.client.specs.declared.run.Step.{Step}
 use Rattle.client.specs.declared.run.Step.the-variants as step
 use Rattle.client.specs.declared.run.Word.{Word}
 use Rattle.client.specs.CallLists.{Call, begin, arrived, noReply, called, runBehind, issues, requests, maxRequests}
-use Rattle.client.specs.Calls.{beginBy, beginCall, runBy, carryOut, replyCall, noReplyCall}
+use Rattle.client.specs.Calls.{ifAdmitted, admittedBegin, beginCall, carryOut, replyCall, noReplyCall}
 use Rattle.client.specs.Decisions.{onReply, onNoReply}
 use Rattle.client.specs.NextRun.{beginLength, begun, ended}
 use Rattle.client.specs.Requests.{outstanding}
@@ -88,7 +88,7 @@ module _ (c : Client) (q : ℕ) where
 
   begin-standing : (direction : Direction) (subscriber first : ℕ) (l : Lent) → Counted c q → (x : Ruling)
       → beginRuling c direction subscriber first (lengthsOf l) ≡ x
-      → Counted (beginBy x c direction subscriber first l .run) (q + issues (beginBy x c direction subscriber first l .answer))
+      → Counted (ifAdmitted x c l (admittedBegin c direction subscriber first l) .run) (q + issues (ifAdmitted x c l (admittedBegin c direction subscriber first l) .answer))
   begin-standing direction subscriber first l s (Refuse x) e = stays c q s
   begin-standing direction subscriber first l s Accept e =
       let b = begins c direction subscriber first (lengthsOf l) e in
@@ -105,7 +105,7 @@ module _ (c : Client) (q : ℕ) where
         going first (ap isBegun (next-stage decision i c r (length d)) ∙ g) (begun-next c first q b r (length d) decision i led)
 
     run-standing : Counted c q → (x : Ruling) → runRuling (c .stage) c (lengthsOf l) ≡ x
-        → Counted (runBy x decision c r d l .run) (q + issues (runBy x decision c r d l .answer))
+        → Counted (ifAdmitted x c l (carryOut decision c r d l) .run) (q + issues (ifAdmitted x c l (carryOut decision c r d l) .answer))
     run-standing s (Refuse x) e = stays c q s
     run-standing s Accept e = accepted-standing (accepted c (lengthsOf l) e .running) s
 
@@ -162,7 +162,7 @@ exchange-fits ks = standing-exchange (runBehind notBegun ks) (requests notBegun 
 -- "Each request takes the next exchange number": a later call moves the run's by as many as it issues requests
 module _ (c : Client) where
   ruled-rises : (x : Ruling) (decision : Decision) (r : Fields) (d : List ℕ) (l : Lent)
-      → runBy x decision c r d l .run .exchange ≡ c .exchange + issues (runBy x decision c r d l .answer)
+      → ifAdmitted x c l (carryOut decision c r d l) .run .exchange ≡ c .exchange + issues (ifAdmitted x c l (carryOut decision c r d l) .answer)
   unfolding ended
   ruled-rises (Refuse x) decision r d l = sym (add-zero (c .exchange))
   ruled-rises Accept decision r d l =
@@ -198,7 +198,7 @@ request-exchange c time nonce = request-exchange-at c time nonce (c .direction) 
 
 -- "The opening carries the first exchange number itself"
 begin-starts : (c : Client) (direction : Direction) (subscriber first n : ℕ) (l : Lent) (x : Ruling)
-    → beginBy x c direction subscriber first l .answer ≡ answer.Request n → beginBy x c direction subscriber first l .run .exchange ≡ first
+    → ifAdmitted x c l (admittedBegin c direction subscriber first l) .answer ≡ answer.Request n → ifAdmitted x c l (admittedBegin c direction subscriber first l) .run .exchange ≡ first
 unfolding begun
 begin-starts c direction subscriber first n l (Refuse x) h = not-request x n h
 begin-starts c direction subscriber first n l Accept h =
@@ -212,13 +212,13 @@ begin-first c direction subscriber first n l h = begin-starts c direction subscr
 -- an ended run stays ended with its word: no call changes it or issues a request
 module _ (c : Client) (w : Word) (e : c .stage ≡ stage.Ended w) where
   begin-ended : (direction : Direction) (subscriber first : ℕ) (l : Lent) (x : Ruling) → beginRuling c direction subscriber first (lengthsOf l) ≡ x
-      → (beginBy x c direction subscriber first l .run ≡ c) × (issues (beginBy x c direction subscriber first l .answer) ≡ 0)
+      → (ifAdmitted x c l (admittedBegin c direction subscriber first l) .run ≡ c) × (issues (ifAdmitted x c l (admittedBegin c direction subscriber first l) .answer) ≡ 0)
   begin-ended direction subscriber first l (Refuse x) h = (refl, refl)
   begin-ended direction subscriber first l Accept h =
       never (sym (begins c direction subscriber first (lengthsOf l) h .fresh) ∙ ap isBegun e)
 
   run-ended : (decision : Decision) (r : Fields) (d : List ℕ) (l : Lent) (x : Ruling) → runRuling (c .stage) c (lengthsOf l) ≡ x
-      → (runBy x decision c r d l .run ≡ c) × (issues (runBy x decision c r d l .answer) ≡ 0)
+      → (ifAdmitted x c l (carryOut decision c r d l) .run ≡ c) × (issues (ifAdmitted x c l (carryOut decision c r d l) .answer) ≡ 0)
   run-ended decision r d l (Refuse x) h = (refl, refl)
   run-ended decision r d l Accept h = not-ended-running w e (accepted c (lengthsOf l) h .running)
 

@@ -27,7 +27,7 @@ use Rattle.client.specs.declared.run.Direction.{Direction}
 use Rattle.client.specs.declared.run.Ruling.{Ruling}
 use Rattle.client.specs.declared.run.Ruling.the-variants.{Refuse, Accept}
 use Rattle.client.specs.CallLists.{Call, begin, arrived, noReply, called, runBehind}
-use Rattle.client.specs.Calls.{beginBy, beginCall, runBy, replyCall, noReplyCall}
+use Rattle.client.specs.Calls.{ifAdmitted, admittedBegin, beginCall, carryOut, replyCall, noReplyCall}
 use Rattle.client.specs.Decisions.{onReply, onNoReply}
 use Rattle.client.specs.NextRun.{beginLength, begun, goOn, repeated, learned, ended}
 use Rattle.client.specs.Rulings.{beginRuling, runRuling}
@@ -102,13 +102,13 @@ next-wide (Close u) i c r d v w = absurd i
 
 module _ (c : Client) (w : Wide (c .transaction)) where
   ruled-wide : (x : Ruling) (decision : Decision) (r : Fields) (d : List ℕ) (l : Lent) → Wide (transaction r)
-      → Wide (runBy x decision c r d l .run .transaction)
+      → Wide (ifAdmitted x c l (carryOut decision c r d l) .run .transaction)
   unfolding ended
   ruled-wide (Refuse x) decision r d l v = w
   ruled-wide Accept decision r d l v = carried HasWide decision c r d l 0 w (λ u. w) (λ i. next-wide decision i c r (length d) v w)
 
   begun-wide : (x : Ruling) (direction : Direction) (subscriber first : ℕ) (l : Lent)
-      → Wide (beginBy x c direction subscriber first l .run .transaction)
+      → Wide (ifAdmitted x c l (admittedBegin c direction subscriber first l) .run .transaction)
   unfolding begun
   begun-wide (Refuse x) direction subscriber first l = w
   begun-wide Accept direction subscriber first l =

@@ -41,7 +41,7 @@ use Rattle.client.specs.declared.run.Ruling.{Ruling}
 use Rattle.client.specs.declared.run.Ruling.the-variants.{Accept}
 use Rattle.client.specs.declared.run.Step.the-variants as step
 use Rattle.client.specs.CallLists.{Call, begin, arrived, noReply, called, runBehind, requests}
-use Rattle.client.specs.Calls.{isWritten, issued, taken, carryOut, beginCall, runBy, replyCall, noReplyCall}
+use Rattle.client.specs.Calls.{isWritten, issued, taken, carryOut, ifAdmitted, beginCall, replyCall, noReplyCall}
 use Rattle.client.specs.Decisions.{onReply, onNoReply}
 use Rattle.client.specs.NextRun.{beginLength, begun, repeated, learned, fileWith}
 use Rattle.client.specs.Rulings.{beginRuling, runRuling}
@@ -225,7 +225,7 @@ ruling c (noReply l) = runRuling (c .stage) c (lengthsOf l)
 module _ (c : Client) (q : ℕ) (v : Wide (c .transaction)) where
   run-unrefused : (decision : Decision) (r : Fields) (d : List ℕ) (l : Lent) → TypedLent l → Wide (transaction r)
       → Cause c r (length d) decision → Counted c q → runRuling (c .stage) c (lengthsOf l) ≡ Accept
-      → Unrefused (runBy (runRuling (c .stage) c (lengthsOf l)) decision c r d l .answer)
+      → Unrefused (ifAdmitted (runRuling (c .stage) c (lengthsOf l)) c l (carryOut decision c r d l) .answer)
   run-unrefused decision r d l t w k (new n z) e =
       not-new-running (ap (λ (x : Client). x .stage) n) (accepted c (lengthsOf l) e .running)
   run-unrefused decision r d l t w k (going first g b) e =

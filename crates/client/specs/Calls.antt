@@ -69,26 +69,31 @@ carryOut (Return s) c r d l = issued c (goOn s (c .repeats + 1) c) (l .file) l
 carryOut Repeat c r d l = issued c (repeated c) (l .file) l
 carryOut (Close w) c r d l = unchanged (record { run = ended w c; answer = answer.Closed w }) l
 
-abbrev pub beginBy : Ruling → Client → Direction → ℕ → ℕ → Lent → ClientCall
-beginBy (Refuse x) c direction subscriber first l = refused x c l
-beginBy Accept c direction subscriber first l = issued c (begun direction subscriber first (beginLength direction (lengthsOf l))) (l .file) l
+-- numbers 5 to 8 first: a call that is given one changes nothing, an admitted one is carried out
+abbrev pub ifAdmitted : Ruling → Client → Lent → ClientCall → ClientCall
+ifAdmitted (Refuse x) c l done = refused x c l
+ifAdmitted Accept c l done = done
 
 -- begin
+abbrev pub admittedBegin : Client → Direction → ℕ → ℕ → Lent → ClientCall
+admittedBegin c direction subscriber first l =
+    issued c (begun direction subscriber first (beginLength direction (lengthsOf l))) (l .file) l
+
 unfoldable pub beginCall : Client → Direction → ℕ → ℕ → Lent → ClientCall
-beginCall c direction subscriber first l = beginBy (beginRuling c direction subscriber first (lengthsOf l)) c direction subscriber first l
+beginCall c direction subscriber first l =
+    ifAdmitted (beginRuling c direction subscriber first (lengthsOf l)) c l (admittedBegin c direction subscriber first l)
 
-abbrev pub runBy : Ruling → Decision → Client → Fields → List ℕ → Lent → ClientCall
-runBy (Refuse x) decision c r d l = refused x c l
-runBy Accept decision c r d l = carryOut decision c r d l
+-- reply arrived: only an admitted call reads it
+abbrev pub admittedReply : Client → List ℕ → Lent → ClientCall
+admittedReply c frame l =
+    carryOut (onReply c (readReply frame) (length (dataOf frame))) c (readReply frame) (dataOf frame) l
 
--- a reply arrived or none: the decision to which it led is carried out, or the call is given a number
-abbrev pub runCall : Decision → Client → Fields → List ℕ → Lent → ClientCall
-runCall decision c r d l = runBy (runRuling (c .stage) c (lengthsOf l)) decision c r d l
-
--- reply arrived
 unfoldable pub replyCall : Client → List ℕ → Lent → ClientCall
-replyCall c frame l = runCall (onReply c (readReply frame) (length (dataOf frame))) c (readReply frame) (dataOf frame) l
+replyCall c frame l = ifAdmitted (runRuling (c .stage) c (lengthsOf l)) c l (admittedReply c frame l)
 
 -- no reply
+abbrev pub admittedNoReply : Client → Lent → ClientCall
+admittedNoReply c l = carryOut (onNoReply c) c noFields [] l
+
 unfoldable pub noReplyCall : Client → Lent → ClientCall
-noReplyCall c l = runCall (onNoReply c) c noFields [] l
+noReplyCall c l = ifAdmitted (runRuling (c .stage) c (lengthsOf l)) c l (admittedNoReply c l)

@@ -44,8 +44,8 @@ ghost use Rattle.client.specs.Decisions.{onReply, onNoReply};
 ghost use Rattle.client.specs.NextRun.{isNew, fileWith, ended};
 ghost use Rattle.client.specs.Requests.{outstanding, outstandingData};
 ghost use Rattle.client.specs.Run.{lentOf, callOf, maxExchange};
-ghost use Rattle.client.specs.Calls.{ifWritten, outcomeOf, issued, taken, carryOut, runCall};
-ghost use Rattle.client.specs.Calls.{beginCall, replyCall, noReplyCall};
+ghost use Rattle.client.specs.Calls.{ifWritten, outcomeOf, issued, taken, carryOut};
+ghost use Rattle.client.specs.Calls.{beginCall, admittedReply, replyCall, noReplyCall};
 
 // Writes the bytes of segment s, from 1 on, to their place in the file.
 fn put_segment(s: u64, d: &[u8], file: &mut [u8])
@@ -199,32 +199,24 @@ fn carry_out(
     }
 }
 
-// A call with the decision to which a reply or no reply led: it is carried out, or the call is given a number.
-fn run_call(
-    decision: Decision,
+// An admitted call with a reply: only now is the reply read, and what it leads to is carried out.
+fn take_reply(
     c: Client,
-    r: Fields,
-    d: &[u8],
+    frame: &[u8],
     time: u32,
     nonce: [u8; NONCE_BYTES],
     payload: &[u8],
     file: &mut [u8],
     request: &mut [u8],
 ) -> Outcome
-    requires { ⌜ ((decision ≡ onReply c r (length (now d))) ⊎ (decision ≡ onNoReply c)) ⌝ }
-    ensures { λ o. ⌜ callOf o (now (file .exit)) (now (request .exit))
-        ≡ runCall decision c r (now (d .entry)) (lentOf time nonce (now (payload .entry)) (now (file .entry)) (now (request .entry))) ⌝ }
+    requires { ⌜ (c .exchange ≤ maxExchange) × (c .direction ≡ Direction.Download → length (now file) ≡ fileBytes) ⌝ }
+    ensures { λ o. ⌜ callOf o (now (file .exit)) (now (request .exit)) ≡ admittedReply c (now (frame .entry))
+        (lentOf time nonce (now (payload .entry)) (now (file .entry)) (now (request .entry))) ⌝ }
 {
-    let l = Lengths {
-        payload: payload.len(),
-        file: file.len(),
-        request: request.len(),
-    };
-    let ruling = run_ruling(c, l);
-    match ruling {
-        Ruling::Refuse(x) => refused(x, c),
-        Ruling::Accept => carry_out(decision, c, r, d, time, nonce, payload, file, request),
-    }
+    let r = read_reply(frame);
+    let d = data(frame);
+    let decision = on_reply(c, r, d.len());
+    carry_out(decision, c, r, d, time, nonce, payload, file, request)
 }
 
 impl Client {
@@ -240,8 +232,8 @@ impl Client {
         file: &mut [u8],
         request: &mut [u8],
     ) -> Outcome
-        ensures { λ o. ⌜ callOf o (now (file .exit)) (now (request .exit))
-            ≡ beginCall self direction subscriber first (lentOf time nonce (now (payload .entry)) (now (file .entry)) (now (request .entry))) ⌝ }
+        ensures { λ o. ⌜ callOf o (now (file .exit)) (now (request .exit)) ≡ beginCall self direction subscriber first
+            (lentOf time nonce (now (payload .entry)) (now (file .entry)) (now (request .entry))) ⌝ }
     {
         let l = Lengths {
             payload: payload.len(),
@@ -272,13 +264,19 @@ impl Client {
         file: &mut [u8],
         request: &mut [u8],
     ) -> Outcome
-        ensures { λ o. ⌜ callOf o (now (file .exit)) (now (request .exit))
-            ≡ replyCall self (now (frame .entry)) (lentOf time nonce (now (payload .entry)) (now (file .entry)) (now (request .entry))) ⌝ }
+        ensures { λ o. ⌜ callOf o (now (file .exit)) (now (request .exit)) ≡ replyCall self (now (frame .entry))
+            (lentOf time nonce (now (payload .entry)) (now (file .entry)) (now (request .entry))) ⌝ }
     {
-        let r = read_reply(frame);
-        let d = data(frame);
-        let decision = on_reply(self, r, d.len());
-        run_call(decision, self, r, d, time, nonce, payload, file, request)
+        let l = Lengths {
+            payload: payload.len(),
+            file: file.len(),
+            request: request.len(),
+        };
+        let ruling = run_ruling(self, l);
+        match ruling {
+            Ruling::Refuse(x) => refused(x, self),
+            Ruling::Accept => take_reply(self, frame, time, nonce, payload, file, request),
+        }
     }
 
     // No reply came.
@@ -290,20 +288,32 @@ impl Client {
         file: &mut [u8],
         request: &mut [u8],
     ) -> Outcome
-        ensures { λ o. ⌜ callOf o (now (file .exit)) (now (request .exit))
-            ≡ noReplyCall self (lentOf time nonce (now (payload .entry)) (now (file .entry)) (now (request .entry))) ⌝ }
+        ensures { λ o. ⌜ callOf o (now (file .exit)) (now (request .exit)) ≡ noReplyCall self
+            (lentOf time nonce (now (payload .entry)) (now (file .entry)) (now (request .entry))) ⌝ }
     {
-        let decision = on_no_reply(self);
-        run_call(
-            decision,
-            self,
-            Fields::none(),
-            no_data(payload),
-            time,
-            nonce,
-            payload,
-            file,
-            request,
-        )
+        let l = Lengths {
+            payload: payload.len(),
+            file: file.len(),
+            request: request.len(),
+        };
+        let ruling = run_ruling(self, l);
+        match ruling {
+            Ruling::Refuse(x) => refused(x, self),
+            Ruling::Accept => {
+                let decision = on_no_reply(self);
+                let r = Fields::none();
+                carry_out(
+                    decision,
+                    self,
+                    r,
+                    no_data(payload),
+                    time,
+                    nonce,
+                    payload,
+                    file,
+                    request,
+                )
+            }
+        }
     }
 }

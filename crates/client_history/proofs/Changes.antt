@@ -36,9 +36,9 @@ use Rattle.client.specs.Calls.{
   issued,
   taken,
   carryOut,
-  beginBy,
+  ifAdmitted,
+  admittedBegin,
   beginCall,
-  runBy,
   replyCall,
   noReplyCall,
 }
@@ -215,7 +215,7 @@ module _ (Given : Fields → List ℕ → Fields → List ℕ → Type 0) where
 
   module _ (p : Past) (l : Lent) (r : Fields) (d : List ℕ) (decision : Decision) (z : Cause (p .run) r (length d) decision) where
     -- where the ruling gives no number, the decision is carried out
-    ruled : (u : Ruling) → runRuling (p .run .stage) (p .run) (lengthsOf l) ≡ u → let k = runBy u decision (p .run) r d l in
+    ruled : (u : Ruling) → runRuling (p .run .stage) (p .run) (lengthsOf l) ≡ u → let k = ifAdmitted u (p .run) l (carryOut decision (p .run) r d l) in
         (answerNumber (k .answer) ≡ 0 → Kept l p × (isAnswer (p .run) r ≡ true → Answering p r d)) → Change p (left (k .answer) k l p)
     ruled (Refuse x) e f = nothing
     ruled Accept e f =
@@ -223,7 +223,7 @@ module _ (Given : Fields → List ℕ → Fields → List ℕ → Type 0) where
         by-number p l k (k .answer) (λ n. carried p l (f n .0) (accepted (p .run) (lengthsOf l) e) (f n .1) z)
 
   begins-change : (p : Past) (direction : Direction) (s first : ℕ) (l : Lent) (u : Ruling) → beginRuling (p .run) direction s first (lengthsOf l) ≡ u
-      → let k = beginBy u (p .run) direction s first l in Change p (left (k .answer) k l p)
+      → let k = ifAdmitted u (p .run) l (admittedBegin (p .run) direction s first l) in Change p (left (k .answer) k l p)
   begins-change p direction s first l (Refuse x) e = nothing
   begins-change p direction s first l Accept e =
       by-issue (Change p) (p .run) _ (l .file) l p nothing (begins-with direction s first l (begins (p .run) direction s first (lengthsOf l) e))

@@ -41,9 +41,10 @@ use Rattle.client.specs.Calls.{
   issued,
   taken,
   carryOut,
-  beginBy,
+  ifAdmitted,
+  admittedBegin,
+  admittedReply,
   beginCall,
-  runBy,
   replyCall,
 }
 use Rattle.client.specs.Decisions.{
@@ -134,7 +135,7 @@ by-decision P p frame l decision e f = go (runRuling (p .run .stage) (p .run) (l
     Goal k = answerNumber (k .answer) ≡ 0 → P (left (k .answer) k l p)
 
     go : (u : Ruling)
-        → Goal (runBy u (onReply (p .run) (readReply frame) (length (dataOf frame))) (p .run) (readReply frame) (dataOf frame) l)
+        → Goal (ifAdmitted u (p .run) l (admittedReply (p .run) frame l))
     go (Refuse x) = numbered x
     go Accept = subst (λ (z : Decision). Goal (carryOut z (p .run) (readReply frame) (dataOf frame) l)) (sym e) f
 
@@ -371,7 +372,7 @@ begins p direction s first l = go (beginRuling (p .run) direction s first (lengt
     Goal : Past → Type 0
     Goal q = InTurn q direction step.Opening 0 first × (q .run .subscriber ≡ s) × (q .payload ≡ l .payload)
 
-    go : (u : Ruling) → let k = beginBy u (p .run) direction s first l in answerNumber (k .answer) ≡ 0 → Goal (left (k .answer) k l p)
+    go : (u : Ruling) → let k = ifAdmitted u (p .run) l (admittedBegin (p .run) direction s first l) in answerNumber (k .answer) ≡ 0 → Goal (left (k .answer) k l p)
     go (Refuse x) = numbered x
     go Accept =
         by-issued Goal (p .run) _ (l .file) l p
@@ -383,7 +384,7 @@ pub begin-fresh : (c : Client) (direction : Direction) (s first : ℕ) (l : Lent
 unfolding beginCall
 begin-fresh c direction s first l = go (beginRuling c direction s first (lengthsOf l)) refl
   where
-    go : (u : Ruling) → beginRuling c direction s first (lengthsOf l) ≡ u → answerNumber (beginBy u c direction s first l .answer) ≡ 0
+    go : (u : Ruling) → beginRuling c direction s first (lengthsOf l) ≡ u → answerNumber (ifAdmitted u c l (admittedBegin c direction s first l) .answer) ≡ 0
         → isBegun (c .stage) ≡ false
     go (Refuse x) e h = numbered x h
     go Accept e h = rulings.begins c direction s first (lengthsOf l) e .fresh

@@ -5,12 +5,8 @@ use mathlib.Core.List.{List, [], List·Memᴰ·tail as there}
 use mathlib.Core.Path.{_≡_, refl, sym, ap, _∙_}
 use lib.Dec.{eqb}
 use Rattle.frame_table.specs.declared.fields.Fields.{Fields}
-use Rattle.frame.specs.Reader.{readReply}
-use Rattle.frame_table.specs.Names.{noFields}
-use Rattle.frame.specs.Row.{dataOf}
 use Rattle.octets.proofs.Tests.{never}
 use Rattle.client.specs.declared.run.Client.{Client}
-use Rattle.client.specs.declared.run.Decision.{Decision}
 use Rattle.client.specs.declared.run.Direction.{Direction}
 use Rattle.client.specs.declared.run.Direction.the-variants.{Upload, Download}
 use Rattle.client.specs.declared.run.Ruling.{Ruling}
@@ -20,10 +16,18 @@ use Rattle.client.specs.declared.run.Stage.the-variants as stage
 use Rattle.client.specs.declared.run.Step.{Step}
 use Rattle.client.specs.declared.run.Step.the-variants as step
 use Rattle.client.specs.declared.run.Word.{Word}
-use Rattle.client.specs.Calls.{beginBy, beginCall, runBy, replyCall, noReplyCall}
+use Rattle.client.specs.Calls.{
+  ifAdmitted,
+  admittedBegin,
+  admittedReply,
+  admittedNoReply,
+  beginCall,
+  replyCall,
+  noReplyCall,
+}
 use Rattle.client.specs.NextRun.{stepBehind, goOn, repeated, learned, ended}
 use Rattle.client.specs.Rulings.{isBegun, beginRuling, runRuling}
-use Rattle.client.specs.Run.{Lent, lengthsOf}
+use Rattle.client.specs.Run.{Lent, ClientCall, lengthsOf}
 use Rattle.client_history.specs.History.{Event, Begin, Reply, NoReply, Past, issuing, left, after, Fair}
 use Rattle.client_history.specs.Invariant.{isOpen, Steady}
 use Rattle.client.proofs.Accepted.{accepted, begins}
@@ -141,18 +145,21 @@ module _ (p : Past) (w : Word) (e : p .run .stage ≡ stage.Ended w) where
   not-running : {A : Type 0} {s : Stage} → s ≡ stage.Ended w → s ≡ stage.Running → A
   not-running a b = never (let z : _≡_ {A = Bool} false true = cc in z)
 
-  ruled : (l : Lent) (decision : Decision) (r : Fields) (d : List ℕ) (u : Ruling) → runRuling (p .run .stage) (p .run) (lengthsOf l) ≡ u
-      → let k = runBy u decision (p .run) r d l in left (k .answer) k l p ≡ p
-  ruled l decision r d (Refuse x) h = refl
-  ruled l decision r d Accept h = not-running e (accepted (p .run) (lengthsOf l) h .running)
+  -- a call that is not admitted changes nothing
+  not-admitted : (l : Lent) (k : ClientCall) (u : Ruling) → (u ≡ Accept → ⊥)
+      → let o = ifAdmitted u (p .run) l k in left (o .answer) o l p ≡ p
+  not-admitted l k (Refuse x) h = refl
+  not-admitted l k Accept h = absurd (h refl)
 
-  begin-ruled : (direction : Direction) (s first : ℕ) (l : Lent) (u : Ruling) → beginRuling (p .run) direction s first (lengthsOf l) ≡ u
-      → let k = beginBy u (p .run) direction s first l in left (k .answer) k l p ≡ p
-  begin-ruled direction s first l (Refuse x) h = refl
-  begin-ruled direction s first l Accept h = never (sym (begins (p .run) direction s first (lengthsOf l) h .fresh) ∙ ap isBegun e)
+  run-ended : (l : Lent) → runRuling (p .run .stage) (p .run) (lengthsOf l) ≡ Accept → ⊥
+  run-ended l h = not-running e (accepted (p .run) (lengthsOf l) h .running)
 
   pub ended-stays : (v : Event) → after v p ≡ p
   unfolding after beginCall replyCall noReplyCall
-  ended-stays (Begin direction s first l) = begin-ruled direction s first l _ refl
-  ended-stays (Reply frame l) = ruled l _ (readReply frame) (dataOf frame) _ refl
-  ended-stays (NoReply l) = ruled l _ noFields [] _ refl
+  ended-stays (Begin direction s first l) =
+      not-admitted l (admittedBegin (p .run) direction s first l) (beginRuling (p .run) direction s first (lengthsOf l))
+      (λ h. never (sym (begins (p .run) direction s first (lengthsOf l) h .fresh) ∙ ap isBegun e))
+  ended-stays (Reply frame l) =
+      not-admitted l (admittedReply (p .run) frame l) (runRuling (p .run .stage) (p .run) (lengthsOf l)) (run-ended l)
+  ended-stays (NoReply l) =
+      not-admitted l (admittedNoReply (p .run) l) (runRuling (p .run .stage) (p .run) (lengthsOf l)) (run-ended l)

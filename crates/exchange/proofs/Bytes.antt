@@ -38,9 +38,9 @@ use Rattle.client.specs.Calls.{
   issued,
   taken,
   carryOut,
-  beginBy,
+  ifAdmitted,
+  admittedBegin,
   beginCall,
-  runBy,
   replyCall,
   noReplyCall,
 }
@@ -127,7 +127,7 @@ module _ (c : Client) (r : Fields) (d : List ℕ) (l : Lent) where
   carried-issues Repeat n h = issued-issues c (repeated c) (l .file) l n h
   carried-issues (Close w) n h = absurd (let z : _≡_ {A = ℕ} 0 1 = cc in omega arith)
 
-  ruled-issues : (u : Ruling) (decision : Decision) → Issues (runBy u decision c r d l) l
+  ruled-issues : (u : Ruling) (decision : Decision) → Issues (ifAdmitted u c l (carryOut decision c r d l)) l
   ruled-issues (Refuse x) decision n h = absurd (let z : _≡_ {A = ℕ} 0 1 = cc in omega arith)
   ruled-issues Accept decision n h = carried-issues decision n h
 
@@ -136,7 +136,7 @@ module _ (c : Client) (l : Lent) where
   unfolding beginCall
   begin-issues direction subscriber first = go (beginRuling c direction subscriber first (lengthsOf l))
     where
-      go : (u : Ruling) → Issues (beginBy u c direction subscriber first l) l
+      go : (u : Ruling) → Issues (ifAdmitted u c l (admittedBegin c direction subscriber first l)) l
       go (Refuse x) n h = absurd (let z : _≡_ {A = ℕ} 0 1 = cc in omega arith)
       go Accept n h = issued-issues c (begun direction subscriber first (beginLength direction (lengthsOf l))) (l .file) l n h
 
