@@ -24,6 +24,7 @@ use Rattle.client.specs.declared.run.Direction.the-variants.{Upload, Dow
 use Rattle.client.specs.declared.run.Lengths.{Lengths}
 use Rattle.client.specs.declared.run.Ruling.{Ruling}
 use Rattle.client.specs.declared.run.Ruling.the-variants.{Refuse, Accept}
+use Rattle.client.specs.declared.run.RunParameters.{RunParameters}
 use Rattle.client.specs.declared.run.Stage.the-variants as stage
 use Rattle.client.specs.declared.run.Step.{Step}
 use Rattle.client.specs.declared.run.Step.the-variants as step
@@ -34,7 +35,7 @@ use Rattle.client.specs.Decisions.{onReply, onNoReply}
 use Rattle.client.specs.NextRun.{beginLength, begun, ended}
 use Rattle.client.specs.Requests.{outstanding}
 use Rattle.client.specs.Rulings.{isBegun, beginRuling, runRuling}
-use Rattle.client.specs.Run.{Lent, lengthsOf, notBegun, maxExchange}
+use Rattle.client.specs.Run.{Lent, lengthsOf, notBegun, parametersOf, maxExchange}
 use Rattle.client.proofs.Accepted.{accepted, Serves, Begins, begins}
 use Rattle.client.proofs.Apart.{not-both, not-opening-receipt, not-new-running, not-ended-running, not-request}
 use Rattle.client.proofs.Causes.{Cause, by-reply, by-no-reply}
@@ -62,38 +63,38 @@ stays c q s = subst (Counted c) (sym (add-zero q)) s
 -- ---- each call keeps it
 
 begun-course : (direction : Direction) (subscriber first : ℕ) (l : Lengths) → Serves direction l
-    → Course (begun direction subscriber first (beginLength direction l)) 1
+    → Course (begun (parametersOf direction subscriber first) (beginLength direction l)) 1
 begun-course Upload subscriber first l s = up-start subscriber first (l .payload) (s .0) (s .1)
 begun-course Download subscriber first l s = opening-start subscriber first
 
-pub begun-start : (c : Client) (direction : Direction) (subscriber first : ℕ) (l : Lengths) → Begins c direction subscriber first l
-    → Begun (begun direction subscriber first (beginLength direction l)) first 1
+pub begun-start : (c : Client) (params : RunParameters) (l : Lengths) → Begins c params l
+    → Begun (begun params (beginLength (params .direction) l)) (params .first) 1
 unfolding begun
-begun-start c direction subscriber first l b = record {
+begun-start c params l b = record {
   low = b .low;
   high = b .high;
   start = b .start;
   exchange = refl;
   repeats = omega arith;
-  course = begun-course direction subscriber first l (b .buffers);
+  course = begun-course (params .direction) (params .subscriber) (params .first) l (b .buffers);
 }
 
 module _ (c : Client) (q : ℕ) where
-  begun-standing : (direction : Direction) (subscriber first : ℕ) (l : Lent) → Begins c direction subscriber first (lengthsOf l) → Counted c q
-      → Counted (begun direction subscriber first (beginLength direction (lengthsOf l))) (q + 1)
+  begun-standing : (params : RunParameters) (l : Lent) → Begins c params (lengthsOf l) → Counted c q
+      → Counted (begun params (beginLength (params .direction) (lengthsOf l))) (q + 1)
   unfolding begun
-  begun-standing direction subscriber first l b (new e z) =
-      going first refl (rw (z, zero-add) (begun-start c direction subscriber first (lengthsOf l) b))
-  begun-standing direction subscriber first l b (going f g s) = never (sym (b .fresh) ∙ g)
+  begun-standing params l b (new e z) =
+      going (params .first) refl (rw (z, zero-add) (begun-start c params (lengthsOf l) b))
+  begun-standing params l b (going f g s) = never (sym (b .fresh) ∙ g)
 
-  begin-standing : (direction : Direction) (subscriber first : ℕ) (l : Lent) → Counted c q → (x : Ruling)
-      → beginRuling c direction subscriber first (lengthsOf l) ≡ x
-      → Counted (ifAdmitted x c l (admittedBegin c direction subscriber first l) .run) (q + issues (ifAdmitted x c l (admittedBegin c direction subscriber first l) .answer))
-  begin-standing direction subscriber first l s (Refuse x) e = stays c q s
-  begin-standing direction subscriber first l s Accept e =
-      let b = begins c direction subscriber first (lengthsOf l) e in
-      issued-keeps Counted c (begun direction subscriber first (beginLength direction (lengthsOf l))) (l .file) l q s
-      (begun-standing direction subscriber first l b s)
+  begin-standing : (params : RunParameters) (l : Lent) → Counted c q → (x : Ruling)
+      → beginRuling c params (lengthsOf l) ≡ x
+      → Counted (ifAdmitted x c l (admittedBegin c params l) .run) (q + issues (ifAdmitted x c l (admittedBegin c params l) .answer))
+  begin-standing params l s (Refuse x) e = stays c q s
+  begin-standing params l s Accept e =
+      let b = begins c params (lengthsOf l) e in
+      issued-keeps Counted c (begun params (beginLength (params .direction) (lengthsOf l))) (l .file) l q s
+      (begun-standing params l b s)
 
   module _ (decision : Decision) (r : Fields) (d : List ℕ) (l : Lent) (led : Cause c r (length d) decision) where
     accepted-standing : c .stage ≡ stage.Running → Counted c q
@@ -111,8 +112,8 @@ module _ (c : Client) (q : ℕ) where
 
   call-standing : (k : Call) → Counted c q → Counted (called c k .run) (q + issues (called c k .answer))
   unfolding beginCall replyCall noReplyCall
-  call-standing (begin direction subscriber first l) s =
-      begin-standing direction subscriber first l s (beginRuling c direction subscriber first (lengthsOf l)) refl
+  call-standing (begin params l) s =
+      begin-standing params l s (beginRuling c params (lengthsOf l)) refl
   call-standing (arrived frame l) s =
       let r = readReply frame in
       let d = dataOf frame in
@@ -197,25 +198,25 @@ pub request-exchange : (c : Client) (time : ℕ) (nonce : List ℕ) → exchange
 request-exchange c time nonce = request-exchange-at c time nonce (c .direction) (c .step) refl refl
 
 -- "The opening carries the first exchange number itself"
-begin-starts : (c : Client) (direction : Direction) (subscriber first n : ℕ) (l : Lent) (x : Ruling)
-    → ifAdmitted x c l (admittedBegin c direction subscriber first l) .answer ≡ answer.Request n → ifAdmitted x c l (admittedBegin c direction subscriber first l) .run .exchange ≡ first
+begin-starts : (c : Client) (params : RunParameters) (n : ℕ) (l : Lent) (x : Ruling)
+    → ifAdmitted x c l (admittedBegin c params l) .answer ≡ answer.Request n → ifAdmitted x c l (admittedBegin c params l) .run .exchange ≡ params .first
 unfolding begun
-begin-starts c direction subscriber first n l (Refuse x) h = not-request x n h
-begin-starts c direction subscriber first n l Accept h =
-    issued-request c (begun direction subscriber first (beginLength direction (lengthsOf l))) (l .file) l n h (λ (k : Client). k .exchange ≡ first) refl
+begin-starts c params n l (Refuse x) h = not-request x n h
+begin-starts c params n l Accept h =
+    issued-request c (begun params (beginLength (params .direction) (lengthsOf l))) (l .file) l n h (λ (k : Client). k .exchange ≡ params .first) refl
 
-pub begin-first : (c : Client) (direction : Direction) (subscriber first n : ℕ) (l : Lent)
-    → called c (begin direction subscriber first l) .answer ≡ answer.Request n → called c (begin direction subscriber first l) .run .exchange ≡ first
+pub begin-first : (c : Client) (params : RunParameters) (n : ℕ) (l : Lent)
+    → called c (begin params l) .answer ≡ answer.Request n → called c (begin params l) .run .exchange ≡ params .first
 unfolding beginCall
-begin-first c direction subscriber first n l h = begin-starts c direction subscriber first n l (beginRuling c direction subscriber first (lengthsOf l)) h
+begin-first c params n l h = begin-starts c params n l (beginRuling c params (lengthsOf l)) h
 
 -- an ended run stays ended with its word: no call changes it or issues a request
 module _ (c : Client) (w : Word) (e : c .stage ≡ stage.Ended w) where
-  begin-ended : (direction : Direction) (subscriber first : ℕ) (l : Lent) (x : Ruling) → beginRuling c direction subscriber first (lengthsOf l) ≡ x
-      → (ifAdmitted x c l (admittedBegin c direction subscriber first l) .run ≡ c) × (issues (ifAdmitted x c l (admittedBegin c direction subscriber first l) .answer) ≡ 0)
-  begin-ended direction subscriber first l (Refuse x) h = (refl, refl)
-  begin-ended direction subscriber first l Accept h =
-      never (sym (begins c direction subscriber first (lengthsOf l) h .fresh) ∙ ap isBegun e)
+  begin-ended : (params : RunParameters) (l : Lent) (x : Ruling) → beginRuling c params (lengthsOf l) ≡ x
+      → (ifAdmitted x c l (admittedBegin c params l) .run ≡ c) × (issues (ifAdmitted x c l (admittedBegin c params l) .answer) ≡ 0)
+  begin-ended params l (Refuse x) h = (refl, refl)
+  begin-ended params l Accept h =
+      never (sym (begins c params (lengthsOf l) h .fresh) ∙ ap isBegun e)
 
   run-ended : (decision : Decision) (r : Fields) (d : List ℕ) (l : Lent) (x : Ruling) → runRuling (c .stage) c (lengthsOf l) ≡ x
       → (ifAdmitted x c l (carryOut decision c r d l) .run ≡ c) × (issues (ifAdmitted x c l (carryOut decision c r d l) .answer) ≡ 0)
@@ -224,8 +225,8 @@ module _ (c : Client) (w : Word) (e : c .stage ≡ stage.Ended w) where
 
   pub call-ended : (k : Call) → (called c k .run ≡ c) × (issues (called c k .answer) ≡ 0)
   unfolding beginCall replyCall noReplyCall
-  call-ended (begin direction subscriber first l) =
-      begin-ended direction subscriber first l (beginRuling c direction subscriber first (lengthsOf l)) refl
+  call-ended (begin params l) =
+      begin-ended params l (beginRuling c params (lengthsOf l)) refl
   call-ended (arrived frame l) =
       let r = readReply frame in
       run-ended (onReply c r (length (dataOf frame))) r (dataOf frame) l (runRuling (c .stage) c (lengthsOf l)) refl

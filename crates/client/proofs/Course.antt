@@ -18,7 +18,7 @@ use Rattle.client.specs.declared.run.Step.{Step}
 use Rattle.client.specs.declared.run.Step.the-variants as step
 use Rattle.client.specs.declared.run.Word.{Word}
 use Rattle.client.specs.CallLists.{maxRequests}
-use Rattle.client.specs.Run.{maxFirstExchange}
+use Rattle.client.specs.Run.{parametersOf, maxFirstExchange}
 use Rattle.client.specs.NextRun.{begun, stepBehind, goOn, repeated, learned, isNew, holding, ended}
 use Rattle.client.proofs.Apart.{not-both, not-opening-segment, not-opening-receipt, not-segment-receipt}
 use Rattle.message.proofs.Verdicts.{by-test}
@@ -305,7 +305,7 @@ pub record Begun (c : Client) (first q : ℕ) : Type 0 where
 
 -- ---- a run as begun
 
-pub up-start : (subscriber first n : ℕ) → 1 ≤ n → n ≤ fileBytes → Course (begun Upload subscriber first n) 1
+pub up-start : (subscriber first n : ℕ) → 1 ≤ n → n ≤ fileBytes → Course (begun (parametersOf Upload subscriber first) n) 1
 unfolding begun
 up-start subscriber first n some most = up (record {
   direction = refl;
@@ -318,6 +318,6 @@ up-start subscriber first n some most = up (record {
   requests = omega arith;
 })
 
-pub opening-start : (subscriber first : ℕ) → Course (begun Download subscriber first 0) 1
+pub opening-start : (subscriber first : ℕ) → Course (begun (parametersOf Download subscriber first) 0) 1
 unfolding begun segmentsOf
 opening-start subscriber first = opening (record { direction = refl; at = refl; unknown = refl; none = refl; requests = omega arith })

@@ -23,9 +23,9 @@ use Rattle.message.proofs.Writable.{Wide}
 use Rattle.client.specs.declared.run.Client.{Client}
 use Rattle.client.specs.declared.run.Decision.{Decision}
 use Rattle.client.specs.declared.run.Decision.the-variants.{Ignore, Opened, Advance, Return, Repeat, Close}
-use Rattle.client.specs.declared.run.Direction.{Direction}
 use Rattle.client.specs.declared.run.Ruling.{Ruling}
 use Rattle.client.specs.declared.run.Ruling.the-variants.{Refuse, Accept}
+use Rattle.client.specs.declared.run.RunParameters.{RunParameters}
 use Rattle.client.specs.CallLists.{Call, begin, arrived, noReply, called, runBehind}
 use Rattle.client.specs.Calls.{ifAdmitted, admittedBegin, beginCall, carryOut, replyCall, noReplyCall}
 use Rattle.client.specs.Decisions.{onReply, onNoReply}
@@ -44,7 +44,7 @@ pub record TypedLent (l : Lent) : Type 0 where
   pub payload : Bytes (l .payload)
 
 pub data Typed : Call → Type 0 where
-  typed-begin : {direction : Direction} {subscriber first : ℕ} {l : Lent} → TypedLent l → Typed (begin direction subscriber first l)
+  typed-begin : {params : RunParameters} {l : Lent} → TypedLent l → Typed (begin params l)
   typed-reply : {frame : List ℕ} {l : Lent} → Bytes frame → TypedLent l → Typed (arrived frame l)
   typed-no-reply : {l : Lent} → TypedLent l → Typed (noReply l)
 
@@ -107,16 +107,16 @@ module _ (c : Client) (w : Wide (c .transaction)) where
   ruled-wide (Refuse x) decision r d l v = w
   ruled-wide Accept decision r d l v = carried HasWide decision c r d l 0 w (λ u. w) (λ i. next-wide decision i c r (length d) v w)
 
-  begun-wide : (x : Ruling) (direction : Direction) (subscriber first : ℕ) (l : Lent)
-      → Wide (ifAdmitted x c l (admittedBegin c direction subscriber first l) .run .transaction)
+  begun-wide : (x : Ruling) (params : RunParameters) (l : Lent)
+      → Wide (ifAdmitted x c l (admittedBegin c params l) .run .transaction)
   unfolding begun
-  begun-wide (Refuse x) direction subscriber first l = w
-  begun-wide Accept direction subscriber first l =
-      issued-keeps HasWide c (begun direction subscriber first (beginLength direction (lengthsOf l))) (l .file) l 0 w (omega arith, omega arith)
+  begun-wide (Refuse x) params l = w
+  begun-wide Accept params l =
+      issued-keeps HasWide c (begun params (beginLength (params .direction) (lengthsOf l))) (l .file) l 0 w (omega arith, omega arith)
 
   call-wide : (k : Call) → Typed k → Wide (called c k .run .transaction)
   unfolding beginCall replyCall noReplyCall
-  call-wide (begin direction subscriber first l) t = begun-wide (beginRuling c direction subscriber first (lengthsOf l)) direction subscriber first l
+  call-wide (begin params l) t = begun-wide (beginRuling c params (lengthsOf l)) params l
   call-wide (arrived frame l) (typed-reply b t) =
       let r = readReply frame in
       ruled-wide (runRuling (c .stage) c (lengthsOf l)) (onReply c r (length (dataOf frame))) r (dataOf frame) l (reply-wide frame b)

@@ -39,6 +39,7 @@ use Rattle.client.specs.declared.run.Direction.the-variants.{Upload, Dow
 use Rattle.client.specs.declared.run.Lengths.{Lengths}
 use Rattle.client.specs.declared.run.Ruling.{Ruling}
 use Rattle.client.specs.declared.run.Ruling.the-variants.{Accept}
+use Rattle.client.specs.declared.run.RunParameters.{RunParameters}
 use Rattle.client.specs.declared.run.Step.the-variants as step
 use Rattle.client.specs.CallLists.{Call, begin, arrived, noReply, called, runBehind, requests}
 use Rattle.client.specs.Calls.{isWritten, issued, taken, carryOut, ifAdmitted, beginCall, replyCall, noReplyCall}
@@ -208,17 +209,17 @@ begin-same : (direction : Direction) (l : Lengths) → direction ≡ Upload → 
 begin-same Upload l e = refl
 begin-same Download l e = not-both e refl
 
-begin-sent : (c : Client) (direction : Direction) (subscriber first : ℕ) (l : Lent) → TypedLent l → Begins c direction subscriber first (lengthsOf l)
-    → Sent (begun direction subscriber first (beginLength direction (lengthsOf l))) l
+begin-sent : (c : Client) (params : RunParameters) (l : Lent) → TypedLent l → Begins c params (lengthsOf l)
+    → Sent (begun params (beginLength (params .direction) (lengthsOf l))) l
 unfolding begun
-begin-sent c direction subscriber first l t b =
-    outstanding-sent (begun direction subscriber first (beginLength direction (lengthsOf l))) first 1
-    (begun-start c direction subscriber first (lengthsOf l) b)
-    (omega arith, omega arith) l t (begin-same direction (lengthsOf l)) (room-served direction (lengthsOf l) (b .buffers))
+begin-sent c params l t b =
+    outstanding-sent (begun params (beginLength (params .direction) (lengthsOf l))) (params .first) 1
+    (begun-start c params (lengthsOf l) b)
+    (omega arith, omega arith) l t (begin-same (params .direction) (lengthsOf l)) (room-served (params .direction) (lengthsOf l) (b .buffers))
 
 -- how a call is ruled
 abbrev pub ruling : Client → Call → Ruling
-ruling c (begin direction subscriber first l) = beginRuling c direction subscriber first (lengthsOf l)
+ruling c (begin params l) = beginRuling c params (lengthsOf l)
 ruling c (arrived frame l) = runRuling (c .stage) c (lengthsOf l)
 ruling c (noReply l) = runRuling (c .stage) c (lengthsOf l)
 
@@ -233,10 +234,10 @@ module _ (c : Client) (q : ℕ) (v : Wide (c .transaction)) where
 
   call-unrefused : (k : Call) → Typed k → Counted c q → ruling c k ≡ Accept → Unrefused (called c k .answer)
   unfolding beginCall replyCall noReplyCall
-  call-unrefused (begin direction subscriber first l) (typed-begin t) s e =
+  call-unrefused (begin params l) (typed-begin t) s e =
       rw e
-      (issued-unrefused c (begun direction subscriber first (beginLength direction (lengthsOf l))) (l .file) l
-      (begin-sent c direction subscriber first l t (begins c direction subscriber first (lengthsOf l) e)))
+      (issued-unrefused c (begun params (beginLength (params .direction) (lengthsOf l))) (l .file) l
+      (begin-sent c params l t (begins c params (lengthsOf l) e)))
   call-unrefused (arrived frame l) (typed-reply b t) s e =
       let r = readReply frame in
       let d = dataOf frame in

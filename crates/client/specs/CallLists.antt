@@ -6,17 +6,18 @@ use Rattle.client.specs.declared.run.Answer.the-variants as answer
 use Rattle.client.specs.declared.run.Client.{Client}
 use Rattle.client.specs.declared.run.Direction.{Direction}
 use Rattle.client.specs.declared.run.Direction.the-variants.{Upload, Download}
+use Rattle.client.specs.declared.run.RunParameters.{RunParameters}
 use Rattle.client.specs.Run.{Lent, ClientCall}
 use Rattle.client.specs.Calls.{beginCall, replyCall, noReplyCall}
 
 -- "begin, reply arrived, no reply", with all that the call brings and is lent
 pub data Call : Type 0 where
-  begin : Direction → ℕ → ℕ → Lent → Call
+  begin : RunParameters → Lent → Call
   arrived : List ℕ → Lent → Call
   noReply : Lent → Call
 
 abbrev pub called : Client → Call → ClientCall
-called c (begin direction subscriber first l) = beginCall c direction subscriber first l
+called c (begin params l) = beginCall c params l
 called c (arrived frame l) = replyCall c frame l
 called c (noReply l) = noReplyCall c l
 

@@ -13,12 +13,12 @@ use Rattle.client.specs.declared.run.Answer.the-variants as answer
 use Rattle.client.specs.declared.run.Client.{Client}
 use Rattle.client.specs.declared.run.Decision.{Decision}
 use Rattle.client.specs.declared.run.Decision.the-variants.{Ignore, Opened, Advance, Return, Repeat, Close}
-use Rattle.client.specs.declared.run.Direction.{Direction}
 use Rattle.client.specs.declared.run.Outcome.{Outcome}
 use Rattle.client.specs.declared.run.Refusal.{Refusal}
 use Rattle.client.specs.declared.run.Refusal.the-variants.{WrongBuffer}
 use Rattle.client.specs.declared.run.Ruling.{Ruling}
 use Rattle.client.specs.declared.run.Ruling.the-variants.{Refuse, Accept}
+use Rattle.client.specs.declared.run.RunParameters.{RunParameters}
 use Rattle.client.specs.Decisions.{onReply, onNoReply}
 use Rattle.client.specs.NextRun.{beginLength, begun, goOn, repeated, learned, holding, fileWith, ended}
 use Rattle.client.specs.Requests.{outstanding, outstandingData}
@@ -75,13 +75,13 @@ ifAdmitted (Refuse x) c l done = refused x c l
 ifAdmitted Accept c l done = done
 
 -- begin
-abbrev pub admittedBegin : Client → Direction → ℕ → ℕ → Lent → ClientCall
-admittedBegin c direction subscriber first l =
-    issued c (begun direction subscriber first (beginLength direction (lengthsOf l))) (l .file) l
+abbrev pub admittedBegin : Client → RunParameters → Lent → ClientCall
+admittedBegin c params l =
+    issued c (begun params (beginLength (params .direction) (lengthsOf l))) (l .file) l
 
-unfoldable pub beginCall : Client → Direction → ℕ → ℕ → Lent → ClientCall
-beginCall c direction subscriber first l =
-    ifAdmitted (beginRuling c direction subscriber first (lengthsOf l)) c l (admittedBegin c direction subscriber first l)
+unfoldable pub beginCall : Client → RunParameters → Lent → ClientCall
+beginCall c params l =
+    ifAdmitted (beginRuling c params (lengthsOf l)) c l (admittedBegin c params l)
 
 -- reply arrived: only an admitted call reads it
 abbrev pub admittedReply : Client → List ℕ → Lent → ClientCall

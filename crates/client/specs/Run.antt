@@ -5,7 +5,9 @@ use mathlib.Core.List.{List, [], _∷_}
 use lib.ListN.{length}
 pub use Rattle.frame.specs.Writer.{requestRoom}
 use Rattle.client.specs.declared.run.Client.{Client}
+use Rattle.client.specs.declared.run.Direction.{Direction}
 use Rattle.client.specs.declared.run.Direction.the-variants as direction
+use Rattle.client.specs.declared.run.RunParameters.{RunParameters}
 use Rattle.client.specs.declared.run.Stage.the-variants as stage
 use Rattle.client.specs.declared.run.Step.the-variants as step
 use Rattle.client.specs.declared.run.Word.{Word}
@@ -73,6 +75,10 @@ notBegun = record {
   held = 0;
   receipted = false;
 }
+
+-- what a run is begun with, by its parts
+abbrev pub parametersOf : Direction → ℕ → ℕ → RunParameters
+parametersOf direction subscriber first = record { direction = direction; subscriber = subscriber; first = first }
 
 -- "a nonce is 12 lent bytes, then the exchange number"
 abbrev pub nonceBytes : ℕ

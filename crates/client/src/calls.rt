@@ -23,6 +23,7 @@ use crate::run::NONCE_BYTES;
 use crate::run::Outcome;
 use crate::run::Refusal;
 use crate::run::Ruling;
+use crate::run::RunParameters;
 use crate::run::Word;
 use frame::reader::data;
 use frame::reader::read_reply;
@@ -220,19 +221,17 @@ fn take_reply(
 }
 
 impl Client {
-    // Begins a run of this direction, whose opening carries the first exchange number.
+    // Begins a run, whose opening carries the first exchange number.
     pub fn begin(
         self,
-        direction: Direction,
-        subscriber: u64,
-        first: u64,
+        params: RunParameters,
         time: u32,
         nonce: [u8; NONCE_BYTES],
         payload: &[u8],
         file: &mut [u8],
         request: &mut [u8],
     ) -> Outcome
-        ensures { λ o. ⌜ callOf o (now (file .exit)) (now (request .exit)) ≡ beginCall self direction subscriber first
+        ensures { λ o. ⌜ callOf o (now (file .exit)) (now (request .exit)) ≡ beginCall self params
             (lentOf time nonce (now (payload .entry)) (now (file .entry)) (now (request .entry))) ⌝ }
     {
         let l = Lengths {
@@ -240,17 +239,14 @@ impl Client {
             file: file.len(),
             request: request.len(),
         };
-        let ruling = begin_ruling(self, direction, subscriber, first, l);
+        let ruling = begin_ruling(self, params, l);
         match ruling {
             Ruling::Refuse(x) => refused(x, self),
-            Ruling::Accept => issue(
-                self,
-                begun(direction, subscriber, first, begin_length(direction, l)),
-                time,
-                nonce,
-                payload,
-                request,
-            ),
+            Ruling::Accept => {
+                let direction = params.direction;
+                let next = begun(params, begin_length(direction, l));
+                issue(self, next, time, nonce, payload, request)
+            }
         }
     }
 

@@ -31,6 +31,13 @@ pub enum Word {
     NotFetched,
 }
 
+// What a run is begun with: its order's direction, its subscriber, and the first exchange number.
+pub struct RunParameters {
+    pub direction: Direction,
+    pub subscriber: u64,
+    pub first: u64,
+}
+
 pub enum Stage {
     NotBegun,
     Running,

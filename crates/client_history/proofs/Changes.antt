@@ -25,6 +25,7 @@ use Rattle.client.specs.declared.run.Direction.{Direction}
 use Rattle.client.specs.declared.run.Direction.the-variants.{Upload, Download}
 use Rattle.client.specs.declared.run.Ruling.{Ruling}
 use Rattle.client.specs.declared.run.Ruling.the-variants.{Refuse, Accept}
+use Rattle.client.specs.declared.run.RunParameters.{RunParameters}
 use Rattle.client.specs.declared.run.Step.the-variants as step
 use Rattle.client.specs.declared.run.Word.{Word}
 use Rattle.client.specs.declared.run.Word.the-variants.{Lodged, NotLodged, Fetched}
@@ -127,8 +128,8 @@ module _ (Given : Fields → List ℕ → Fields → List ℕ → Type 0) where
 
   pub data Change (p : Past) : Past → Type 0 where
     nothing : Change p p
-    begins-with : (direction : Direction) (s first : ℕ) (l : Lent) → Begins (p .run) direction s first (lengthsOf l)
-        → Change p (issuing (begun direction s first (beginLength direction (lengthsOf l))) (l .payload) (l .file) (l .time) (l .nonce) (p .issues))
+    begins-with : (params : RunParameters) (l : Lent) → Begins (p .run) params (lengthsOf l)
+        → Change p (issuing (begun params (beginLength (params .direction) (lengthsOf l))) (l .payload) (l .file) (l .time) (l .nonce) (p .issues))
     goes : {next : Client} {file : List ℕ} (l : Lent) → Accepted (p .run) (lengthsOf l) → Kept l p → Move p next file
         → Change p (issuing next (p .payload) file (l .time) (l .nonce) (p .issues))
     closes : {w : Word} (l : Lent) → Accepted (p .run) (lengthsOf l) → Kept l p → Ends p w → Change p (ending w p)
@@ -222,15 +223,15 @@ module _ (Given : Fields → List ℕ → Fields → List ℕ → Type 0) where
         let k = carryOut decision (p .run) r d l in
         by-number p l k (k .answer) (λ n. carried p l (f n .0) (accepted (p .run) (lengthsOf l) e) (f n .1) z)
 
-  begins-change : (p : Past) (direction : Direction) (s first : ℕ) (l : Lent) (u : Ruling) → beginRuling (p .run) direction s first (lengthsOf l) ≡ u
-      → let k = ifAdmitted u (p .run) l (admittedBegin (p .run) direction s first l) in Change p (left (k .answer) k l p)
-  begins-change p direction s first l (Refuse x) e = nothing
-  begins-change p direction s first l Accept e =
-      by-issue (Change p) (p .run) _ (l .file) l p nothing (begins-with direction s first l (begins (p .run) direction s first (lengthsOf l) e))
+  begins-change : (p : Past) (params : RunParameters) (l : Lent) (u : Ruling) → beginRuling (p .run) params (lengthsOf l) ≡ u
+      → let k = ifAdmitted u (p .run) l (admittedBegin (p .run) params l) in Change p (left (k .answer) k l p)
+  begins-change p params l (Refuse x) e = nothing
+  begins-change p params l Accept e =
+      by-issue (Change p) (p .run) _ (l .file) l p nothing (begins-with params l (begins (p .run) params (lengthsOf l) e))
 
   pub changes : (p : Past) (e : Event) → Fair Given e p → Change p (after e p)
   unfolding after beginCall replyCall noReplyCall
-  changes p (Begin direction s first l) f = begins-change p direction s first l (beginRuling (p .run) direction s first (lengthsOf l)) refl
+  changes p (Begin params l) f = begins-change p params l (beginRuling (p .run) params (lengthsOf l)) refl
   changes p (Reply frame l) f =
       let r = readReply frame in
       let d = dataOf frame in

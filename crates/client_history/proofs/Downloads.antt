@@ -29,6 +29,7 @@ use Rattle.client.specs.declared.run.Word.the-variants.{Fetched, HeldUnconfirme
 use Rattle.client.specs.Decisions.{says, isOwn, closingWord, restWord, opensDownload, bringsSegment, downloadReturns, confirms}
 use Rattle.client.specs.NextRun.{begun, stepBehind, receiptsBehind, goOn, repeated, learned, isNew, grown, holding, fileWith, ended}
 use Rattle.client.specs.Requests.{nonceOf, outstanding}
+use Rattle.client.specs.Run.{parametersOf}
 use Rattle.client_history.specs.History.{Issue, Past, issueOf, BankReplies}
 use Rattle.client_history.specs.Invariant.{
   DownloadIssue,
@@ -397,13 +398,13 @@ module _ (Given : Fields → List ℕ → Fields → List ℕ → Type 0) where
     -- ---- the begin
 
     pub begun-run : (s first time : ℕ) (nonce payload file : List ℕ) (issues : List Issue) → issues ≡ []
-        → let next = begun Download s first 0 in DownloadRun Given fileAt next file (issueOf next payload file time nonce ∷ issues)
+        → let next = begun (parametersOf Download s first) 0 in DownloadRun Given fileAt next file (issueOf next payload file time nonce ∷ issues)
     unfolding begun
     begun-run s first time nonce payload file issues z =
         record { direction = refl; each = each; receipts = λ h. never h; step = (refl, refl, refl); stage = tt }
       where
         next : Client
-        next = begun Download s first 0
+        next = begun (parametersOf Download s first) 0
 
         new : Issue
         new = issueOf next payload file time nonce

@@ -16,7 +16,7 @@ use Rattle.client.specs.declared.run.Stage.the-variants as stage
 use Rattle.client.specs.declared.run.Word.{Word}
 use Rattle.client.specs.NextRun.{beginLength, begun, goOn, repeated}
 use Rattle.client.specs.Rulings.{isBegun}
-use Rattle.client.specs.Run.{Lent, lengthsOf}
+use Rattle.client.specs.Run.{Lent, lengthsOf, parametersOf}
 use Rattle.client_history.specs.History.{Event, Past, issuing, after, pastOf, BankReplies, Kept, Fair, AllFair}
 use Rattle.client_history.specs.Invariant.{Begun, UploadRun, DownloadRun, Invariant, not-begun, upload, download}
 use Rattle.client.proofs.Accepted.{Accepted, Begins, file-served}
@@ -140,13 +140,15 @@ module _ (Given : Fields → List ℕ → Fields → List ℕ → Type 0) (fileA
 
   -- ---- the begin
 
-  begins : (p : Past) (direction : Direction) (s first : ℕ) (l : Lent) → Begins (p .run) direction s first (lengthsOf l) → p .issues ≡ []
-      → Inv (issuing (begun direction s first (beginLength direction (lengthsOf l))) (l .payload) (l .file) (l .time) (l .nonce) (p .issues))
+  begins : (p : Past) (direction : Direction) (s first : ℕ) (l : Lent) → p .issues ≡ []
+      → let params = parametersOf direction s first in Begins (p .run) params (lengthsOf l)
+      → Inv (issuing (begun params (beginLength direction (lengthsOf l))) (l .payload) (l .file) (l .time) (l .nonce)
+      (p .issues))
   unfolding begun
-  begins p Upload s first l b e =
+  begins p Upload s first l e b =
       upload (begun-first _ (l .payload) (l .file) (l .time) (l .nonce) (p .issues) refl (b .low) (b .high) e)
       (Uploads.begun-run Given s first (l .time) (l .nonce) (l .payload) (l .file) (p .issues) (b .buffers .0) (b .buffers .1) e)
-  begins p Download s first l b e =
+  begins p Download s first l e b =
       download (begun-first _ (l .payload) (l .file) (l .time) (l .nonce) (p .issues) refl (b .low) (b .high) e)
       (Downloads.begun-run Given fileAt s first (l .time) (l .nonce) (l .payload) (l .file) (p .issues) e)
 
@@ -157,9 +159,10 @@ module _ (Given : Fields → List ℕ → Fields → List ℕ → Type 0) (fileA
 
   kept-by : {p q : Past} → Change Given p q → Inv p → Inv q
   kept-by nothing i = i
-  kept-by {p} (begins-with direction s first l b) (not-begun e f) = begins p direction s first l b f
-  kept-by (begins-with direction s first l b) (upload g u) = never (sym (b .fresh) ∙ g .stage)
-  kept-by (begins-with direction s first l b) (download g u) = never (sym (b .fresh) ∙ g .stage)
+  kept-by {p} (begins-with params l b) (not-begun e f) =
+      begins p (params .direction) (params .subscriber) (params .first) l f b
+  kept-by (begins-with params l b) (upload g u) = never (sym (b .fresh) ∙ g .stage)
+  kept-by (begins-with params l b) (download g u) = never (sym (b .fresh) ∙ g .stage)
   kept-by (goes l a k m) (not-begun e f) = idle e (a .running)
   kept-by {p} (goes l a k m) (upload b u) = upload-goes p l a k b u m
   kept-by {p} (goes l a k m) (download b u) = download-goes p l a k b u m

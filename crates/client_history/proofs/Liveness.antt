@@ -28,6 +28,7 @@ use Rattle.client.specs.declared.run.Refusal.{Refusal}
 use Rattle.client.specs.declared.run.Refusal.the-variants.{WrongBuffer, ExchangeTooHigh, NoSubscriber, WrongStage}
 use Rattle.client.specs.declared.run.Ruling.{Ruling}
 use Rattle.client.specs.declared.run.Ruling.the-variants.{Refuse, Accept}
+use Rattle.client.specs.declared.run.RunParameters.{RunParameters}
 use Rattle.client.specs.declared.run.Stage.the-variants as stage
 use Rattle.client.specs.declared.run.Step.{Step}
 use Rattle.client.specs.declared.run.Step.the-variants as step
@@ -363,28 +364,28 @@ opening-refused p frame l done b at other =
 -- ---- THE BEGIN
 
 -- a begin leaves the opening outstanding under the first exchange number
-pub begins : (p : Past) (direction : Direction) (s first : ℕ) (l : Lent) → answerNumber (beginCall (p .run) direction s first l .answer) ≡ 0
-    → let q = after (Begin direction s first l) p in
-    InTurn q direction step.Opening 0 first × (q .run .subscriber ≡ s) × (q .payload ≡ l .payload)
+pub begins : (p : Past) (params : RunParameters) (l : Lent) → answerNumber (beginCall (p .run) params l .answer) ≡ 0
+    → let q = after (Begin params l) p in
+    InTurn q (params .direction) step.Opening 0 (params .first) × (q .run .subscriber ≡ params .subscriber) × (q .payload ≡ l .payload)
 unfolding after beginCall begun
-begins p direction s first l = go (beginRuling (p .run) direction s first (lengthsOf l))
+begins p params l = go (beginRuling (p .run) params (lengthsOf l))
   where
     Goal : Past → Type 0
-    Goal q = InTurn q direction step.Opening 0 first × (q .run .subscriber ≡ s) × (q .payload ≡ l .payload)
+    Goal q = InTurn q (params .direction) step.Opening 0 (params .first) × (q .run .subscriber ≡ params .subscriber) × (q .payload ≡ l .payload)
 
-    go : (u : Ruling) → let k = ifAdmitted u (p .run) l (admittedBegin (p .run) direction s first l) in answerNumber (k .answer) ≡ 0 → Goal (left (k .answer) k l p)
+    go : (u : Ruling) → let k = ifAdmitted u (p .run) l (admittedBegin (p .run) params l) in answerNumber (k .answer) ≡ 0 → Goal (left (k .answer) k l p)
     go (Refuse x) = numbered x
     go Accept =
         by-issued Goal (p .run) _ (l .file) l p
         (record { running = refl; direction = refl; step = refl; segment = refl; repeats = refl; number = refl }, refl, refl)
 
 -- a run already begun is not begun again
-pub begin-fresh : (c : Client) (direction : Direction) (s first : ℕ) (l : Lent) → answerNumber (beginCall c direction s first l .answer) ≡ 0
+pub begin-fresh : (c : Client) (params : RunParameters) (l : Lent) → answerNumber (beginCall c params l .answer) ≡ 0
     → isBegun (c .stage) ≡ false
 unfolding beginCall
-begin-fresh c direction s first l = go (beginRuling c direction s first (lengthsOf l)) refl
+begin-fresh c params l = go (beginRuling c params (lengthsOf l)) refl
   where
-    go : (u : Ruling) → beginRuling c direction s first (lengthsOf l) ≡ u → answerNumber (ifAdmitted u c l (admittedBegin c direction s first l) .answer) ≡ 0
+    go : (u : Ruling) → beginRuling c params (lengthsOf l) ≡ u → answerNumber (ifAdmitted u c l (admittedBegin c params l) .answer) ≡ 0
         → isBegun (c .stage) ≡ false
     go (Refuse x) e h = numbered x h
-    go Accept e h = rulings.begins c direction s first (lengthsOf l) e .fresh
+    go Accept e h = rulings.begins c params (lengthsOf l) e .fresh

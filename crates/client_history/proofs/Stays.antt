@@ -122,7 +122,7 @@ module _ (Given : Fields → List ℕ → Fields → List ℕ → Type 0) where
     number = λ h. refl;
     segments = λ h. refl;
   }
-  steady-by b (begins-with direction s first l g) = never (sym (g .fresh) ∙ b)
+  steady-by b (begins-with params l g) = never (sym (g .fresh) ∙ b)
   steady-by {p} b (goes l a k m) = moved p b l m
   steady-by {p} b (closes {w} l a k m) = record {
     begun = refl;
@@ -156,9 +156,9 @@ module _ (p : Past) (w : Word) (e : p .run .stage ≡ stage.Ended w) where
 
   pub ended-stays : (v : Event) → after v p ≡ p
   unfolding after beginCall replyCall noReplyCall
-  ended-stays (Begin direction s first l) =
-      not-admitted l (admittedBegin (p .run) direction s first l) (beginRuling (p .run) direction s first (lengthsOf l))
-      (λ h. never (sym (begins (p .run) direction s first (lengthsOf l) h .fresh) ∙ ap isBegun e))
+  ended-stays (Begin params l) =
+      not-admitted l (admittedBegin (p .run) params l) (beginRuling (p .run) params (lengthsOf l))
+      (λ h. never (sym (begins (p .run) params (lengthsOf l) h .fresh) ∙ ap isBegun e))
   ended-stays (Reply frame l) =
       not-admitted l (admittedReply (p .run) frame l) (runRuling (p .run .stage) (p .run) (lengthsOf l)) (run-ended l)
   ended-stays (NoReply l) =

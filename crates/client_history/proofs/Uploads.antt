@@ -29,6 +29,7 @@ use Rattle.client.specs.declared.run.Word.the-variants.{Lodged, NotLodged, Uncl
 use Rattle.client.specs.Decisions.{says, answersSegment, closingWord, restWord, endsUpload, lodges, takesSegment, uploadReturns}
 use Rattle.client.specs.NextRun.{begun, stepBehind, goOn, repeated, learned, ended}
 use Rattle.client.specs.Requests.{nonceOf, outstanding}
+use Rattle.client.specs.Run.{parametersOf}
 use Rattle.client_history.specs.History.{Issue, Past, issueOf}
 use Rattle.client_history.specs.Invariant.{
   UploadIssue,
@@ -306,7 +307,7 @@ module _ (Given : Fields → List ℕ → Fields → List ℕ → Type 0) where
   -- ---- the begin
 
   pub begun-run : (s first time : ℕ) (nonce payload file : List ℕ) (issues : List Issue) → 1 ≤ length payload → length payload ≤ fileBytes
-      → issues ≡ [] → let next = begun Upload s first (length payload) in
+      → issues ≡ [] → let next = begun (parametersOf Upload s first) (length payload) in
       UploadRun Given next payload (issueOf next payload file time nonce ∷ issues)
   unfolding begun
   begun-run s first time nonce payload file issues a b z =
@@ -323,7 +324,7 @@ module _ (Given : Fields → List ℕ → Fields → List ℕ → Type 0) where
       }
     where
       next : Client
-      next = begun Upload s first (length payload)
+      next = begun (parametersOf Upload s first) (length payload)
 
       new : Issue
       new = issueOf next payload file time nonce
