@@ -57,7 +57,8 @@ abbrev pub SameLength : Direction → Client → Lengths → Type 0
 SameLength Upload c l = l .payload ≡ c .length
 SameLength Download c l = ℕ
 
-same-length : (direction : Direction) (c : Client) (l : Lengths) → changedLength direction c l ≡ false → SameLength direction c l
+same-length : (direction : Direction) (c : Client) (l : Lengths) → changedLength direction c l ≡ false
+    → SameLength direction c l
 same-length Upload c l h = eqb-true (l .payload) (c .length) (not-false (eqb (l .payload) (c .length)) h)
 same-length Download c l h = 0
 
@@ -108,7 +109,8 @@ begins c params l h =
       fresh = passed (isBegun (c .stage)) _ _ (e .1) .0;
     }
 
-pub file-served : (direction : Direction) (l : Lengths) → Serves direction l → direction ≡ Download → l .file ≡ fileBytes
+pub file-served : (direction : Direction) (l : Lengths) → Serves direction l → direction ≡ Download
+    → l .file ≡ fileBytes
 file-served Upload l s e = not-both refl e
 file-served Download l s e = s .0
 

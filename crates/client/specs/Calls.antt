@@ -41,7 +41,8 @@ isWritten next l = writeAnswer (outstanding next (l .time) (l .nonce)) (outstand
 
 -- the request buffer then
 unfoldable pub requestWith : Client → Lent → List ℕ
-requestWith next l = writeBuffer (outstanding next (l .time) (l .nonce)) (outstandingData next (l .payload)) (l .request)
+requestWith next l =
+    writeBuffer (outstanding next (l .time) (l .nonce)) (outstandingData next (l .payload)) (l .request)
 
 -- the next run's request issued: the run goes on and the file buffer changes only where it is written
 unfoldable pub issued : Client → Client → List ℕ → Lent → ClientCall

@@ -52,7 +52,8 @@ abbrev pub receiptsBehind : Direction → ℕ → ℕ → Bool
 receiptsBehind Upload k n = false
 receiptsBehind Download k n = eqb k n
 
--- the run whose request behind segment k is outstanding, with this many repeats: "Each request takes the next exchange number"
+-- the run whose request after segment k is outstanding, with this many repeats:
+-- "Each request takes the next exchange number"
 unfoldable pub goOn : ℕ → ℕ → Client → Client
 goOn k repeats c = record {
   stage = c .stage;

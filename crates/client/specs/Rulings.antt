@@ -61,7 +61,11 @@ rulingNotBegun l = decide ((ltb (l .request) requestRoom, Refuse WrongBuffer) �
 -- no call leaves a run above the highest exchange number
 unfoldable pub rulingRunning : Client → Lengths → Ruling
 rulingRunning c l =
-    decide ((wrongLengths c l, Refuse WrongBuffer) ∷ (ltb maxExchange (c .exchange), Refuse ExchangeTooHigh) ∷ []) Accept
+    decide
+    ((wrongLengths c l, Refuse WrongBuffer)
+    ∷ (ltb maxExchange (c .exchange), Refuse ExchangeTooHigh)
+    ∷ [])
+    Accept
 
 -- 8: "the run has ended"
 unfoldable pub rulingEnded : Client → Lengths → Ruling

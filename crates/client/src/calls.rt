@@ -77,7 +77,8 @@ fn write_request(
 ) -> Written
     ensures { λ w. ⌜
         (w ≡ writeAnswer (outstanding c time nonce) (outstandingData c (now (payload .entry))) (now (request .entry)))
-        × (now (request .exit) ≡ writeBuffer (outstanding c time nonce) (outstandingData c (now (payload .entry))) (now (request .entry)))
+        × (now (request .exit)
+        ≡ writeBuffer (outstanding c time nonce) (outstandingData c (now (payload .entry))) (now (request .entry)))
         ⌝ }
 {
     let fields = request_of(c, time as u64, nonce);
@@ -104,7 +105,8 @@ fn outcome_of(w: Written, c: Client, next: Client) -> Outcome
 fn hold_if_written(w: Written, c: Client, d: &[u8], file: &mut [u8])
     requires { ⌜ (isNew (c .direction) c ≡ true →
         (c .segment ≤ maxSegments) × (length (now d) ≤ segmentBytes) × (length (now file) ≡ fileBytes)) ⌝ }
-    ensures { λ _. ⌜ now (file .exit) ≡ ifWritten w (fileWith c (now (d .entry)) (now (file .entry))) (now (file .entry)) ⌝ }
+    ensures { λ _. ⌜ now (file .exit)
+        ≡ ifWritten w (fileWith c (now (d .entry)) (now (file .entry))) (now (file .entry)) ⌝ }
 {
     if let Written::Length(_) = w {
         hold(c, d, file);
@@ -140,8 +142,8 @@ fn take_segment(
 ) -> Outcome
     requires { ⌜ (k .segment + 1 < 2 ^ 64) × (k .exchange ≤ maxExchange) × (isNew (k .direction) k ≡ true →
         (k .segment ≤ maxSegments) × (length (now d) ≤ segmentBytes) × (length (now file) ≡ fileBytes)) ⌝ }
-    ensures { λ r. ⌜ callOf r (now (file .exit)) (now (request .exit))
-        ≡ taken c k (now (d .entry)) (lentOf time nonce (now (payload .entry)) (now (file .entry)) (now (request .entry))) ⌝ }
+    ensures { λ r. ⌜ callOf r (now (file .exit)) (now (request .exit)) ≡ taken c k (now (d .entry))
+        (lentOf time nonce (now (payload .entry)) (now (file .entry)) (now (request .entry))) ⌝ }
 {
     let held = holding(d.len(), k);
     let next = go_on(k.segment, k.repeats, held);
@@ -184,8 +186,8 @@ fn carry_out(
 ) -> Outcome
     requires { ⌜ ((decision ≡ onReply c r (length (now d))) ⊎ (decision ≡ onNoReply c)) × (c .exchange ≤ maxExchange)
         × (c .direction ≡ Direction.Download → length (now file) ≡ fileBytes) ⌝ }
-    ensures { λ o. ⌜ callOf o (now (file .exit)) (now (request .exit))
-        ≡ carryOut decision c r (now (d .entry)) (lentOf time nonce (now (payload .entry)) (now (file .entry)) (now (request .entry))) ⌝ }
+    ensures { λ o. ⌜ callOf o (now (file .exit)) (now (request .exit)) ≡ carryOut decision c r (now (d .entry))
+        (lentOf time nonce (now (payload .entry)) (now (file .entry)) (now (request .entry))) ⌝ }
 {
     match decision {
         Decision::Ignore => Outcome {

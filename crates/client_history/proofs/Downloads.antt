@@ -25,7 +25,7 @@ use Rattle.client.specs.declared.run.Stage.the-variants as stage
 use Rattle.client.specs.declared.run.Step.{Step}
 use Rattle.client.specs.declared.run.Step.the-variants as step
 use Rattle.client.specs.declared.run.Word.{Word}
-use Rattle.client.specs.declared.run.Word.the-variants.{Fetched, HeldUnconfirmed, NotFetched}
+use Rattle.client.specs.declared.run.Word.the-variants as word
 use Rattle.client.specs.Decisions.{says, isOwn, closingWord, restWord, opensDownload, bringsSegment, downloadReturns, confirms}
 use Rattle.client.specs.NextRun.{begun, stepBehind, receiptsBehind, goOn, repeated, learned, isNew, grown, holding, fileWith, ended}
 use Rattle.client.specs.Requests.{nonceOf, outstanding}
@@ -375,13 +375,13 @@ module _ (Given : Fields → List ℕ → Fields → List ℕ → Type 0) where
           stepped step.Segment k = k
           stepped step.Receipt k = k
 
-      pub confirmed-run : (r : Fields) (d : List ℕ) → Answered Given p r d → c .step ≡ step.Receipt → confirms c r ≡ true → Closes Fetched
+      pub confirmed-run : (r : Fields) (d : List ℕ) → Answered Given p r d → c .step ≡ step.Receipt → confirms c r ≡ true → Closes word.Fetched
       unfolding ended confirms
       confirmed-run r d a e h =
           let k = and-true (says forms.ReceiptAnswered code.DownloadPostprocessDone receiptPhase r) (isOwn c r) h in
           let q = is-receipt c (a .time) (a .nonce) payload (u .direction) e in
           let g = subst At e (u .step) in
-          ended-with Fetched
+          ended-with word.Fetched
           (record {
             held = g .0;
             whole = g .1;
@@ -393,7 +393,7 @@ module _ (Given : Fields → List ℕ → Fields → List ℕ → Type 0) where
       unfolding restWord ended
       rest-run =
           subst (λ (w : Direction). Closes (closingWord w c)) (sym (u .direction))
-          (by-test Closes (c .receipted) (λ h. ended-with HeldUnconfirmed h) (λ h. ended-with NotFetched h))
+          (by-test Closes (c .receipted) (λ h. ended-with word.HeldUnconfirmed h) (λ h. ended-with word.NotFetched h))
 
     -- ---- the begin
 

@@ -1,7 +1,7 @@
 -- An order in turn: each fitting answer leads to the next step, the receipt, or the closing word.
 use Prim.Native.Nat.{ℕ, _+_, _<_, _≤_}
 use mathlib.Core.Bool.{true, false}
-use mathlib.Core.List.{List, []}
+use mathlib.Core.List.{List}
 use mathlib.Core.Path.{_≡_, refl, sym, ap, _∙_, subst}
 use native.Mathlib.Omega.{arith}
 use lib.ListN.{length}
@@ -33,7 +33,7 @@ use Rattle.client.specs.declared.run.Stage.the-variants as stage
 use Rattle.client.specs.declared.run.Step.{Step}
 use Rattle.client.specs.declared.run.Step.the-variants as step
 use Rattle.client.specs.declared.run.Word.{Word}
-use Rattle.client.specs.declared.run.Word.the-variants.{Lodged, Fetched}
+use Rattle.client.specs.declared.run.Word.the-variants as word
 use Rattle.client.specs.Calls.{
   ifWritten,
   outcomeOf,
@@ -152,7 +152,7 @@ next-in-turn : (k : Client) (direction : Direction) (j : ℕ) (d payload file : 
     (k .exchange + 1)
 unfolding next goOn
 next-in-turn k direction j d payload file l p running w e z =
-    let s = held-same d [] k in
+    let s = held-same (length d) k in
     record {
       running = s .0 .stage ∙ running;
       direction = s .0 .direction ∙ w;
@@ -168,7 +168,7 @@ next-in-turn k direction j d payload file l p running w e z =
 next-known : (k : Client) (d : List ℕ)
     → (next k d .transaction ≡ k .transaction) × (next k d .number ≡ k .number) × (next k d .segments ≡ k .segments)
 unfolding next goOn
-next-known k d = let s = held-same d [] k .1 in (s .transaction, s .number, s .segments)
+next-known k d = let s = held-same (length d) k .1 in (s .transaction, s .number, s .segments)
 
 module _ (p : Past) (frame : List ℕ) (l : Lent) (done : answerNumber (replyCall (p .run) frame l .answer) ≡ 0) where
   abbrev c : Client
@@ -251,10 +251,10 @@ module _ (p : Past) (frame : List ℕ) (l : Lent) (done : answerNumber (replyCal
         (next-in-turn c Upload j d _ _ l p (i .running) (i .direction) s (i .repeats))
 
     -- segment N taken: lodged
-    pub upload-lodges : j ≡ c .segments → then .run .stage ≡ stage.Ended Lodged
+    pub upload-lodges : j ≡ c .segments → then .run .stage ≡ stage.Ended word.Lodged
     unfolding lodges
     upload-lodges h =
-        by-closed Lodged
+        by-closed word.Lodged
         (upload-decision c r (length d) taken-answer (i .direction) step.Segment (i .step)
         ∙ to-lodged c r (length d) (and-intro taken-answers (eq-eqb (c .segment) (c .segments) (i .segment ∙ h))))
 
@@ -314,11 +314,11 @@ module _ (p : Past) (frame : List ℕ) (l : Lent) (done : answerNumber (replyCal
 
   -- the receipt's answer: fetched
   pub download-fetches : (j x : ℕ) → InTurn p Download step.Receipt j x
-      → r ≡ receiptAnswered (c .exchange) (c .transaction) code.DownloadPostprocessDone → then .run .stage ≡ stage.Ended Fetched
+      → r ≡ receiptAnswered (c .exchange) (c .transaction) code.DownloadPostprocessDone → then .run .stage ≡ stage.Ended word.Fetched
   unfolding confirms
   download-fetches j number i e =
       let x = subst (Fits _ _ _ _) (sym e) (receipt-fits (c .exchange) 0 0 0 (c .transaction)) in
-      by-closed Fetched
+      by-closed word.Fetched
       (download-decision c r (length d) (fits-answer c r x refl (λ z. omega arith)) (i .direction) step.Receipt (i .step)
       ∙ to-fetched c r (length d)
       (and-intro (fits-says c r x) (own-true c r (ap transaction e ∙ receipt-fields (c .exchange) 0 0 0 (c .transaction)))))

@@ -40,7 +40,7 @@ use Rattle.client_history.specs.Invariant.{isOpen, Newest, Steady}
 use Rattle.message.proofs.SegmentNumbers.{some-segment}
 use Rattle.client_history.proofs.Fitting.{download-fits, segment-fits, download-fields, segment-fields}
 use Rattle.client_history.proofs.Requests.{outstanding-exchange}
-use Rattle.client_history.proofs.Theorems.{newest-outstanding, steady, upload-run, file-held, begin-fresh}
+use Rattle.client_history.proofs.Theorems.{newest-outstanding, steady, upload-segments, file-held, begin-fresh}
 use Rattle.client_history.proofs.Liveness as clientTurn
 use Rattle.exchange.specs.Course.{Call, begins, replyArrives, Issue, Exchange, Arrival, Course, callNumber, exec}
 use Rattle.exchange.specs.Terms.{IssuedBy, Received}
@@ -412,8 +412,8 @@ module _ (s : Course) (v : Parts s) (copies : Copied s) (numbers : OneExchangeNu
         Behind direction at j s i (s .runs i) (readReply reply) → Next
     told-by Upload step.Opening j turn (id, n, r, o) =
         let z = clientTurn.upload-opens p reply l done-reply j (s .runs i .exchange) n id turn r in
-        let some = upload-run (Gave h) (fileIn h) (bank-replies h (v .bank .holds .invariant .sound) (v .bank .proper)) p (v .runs i) begun
-        (turn .direction) .some in
+        let some = upload-segments (Gave h) (fileIn h) (bank-replies h (v .bank .holds .invariant .sound) (v .bank .proper)) p (v .runs i) begun
+        (turn .direction) .1 in
         next-asks Upload step.Segment 1 (z .0) (0, refl, (let y = z .3 in omega arith), open-then o (sym (z .1)) (sym (z .3)))
     told-by Upload step.Segment j turn (r, within, o) = at (ℕ-discrete j (s .runs i .segments))
       where
