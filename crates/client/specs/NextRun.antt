@@ -12,6 +12,7 @@ use Rattle.client.specs.declared.run.Client.{Client}
 use Rattle.client.specs.declared.run.Direction.{Direction}
 use Rattle.client.specs.declared.run.Direction.the-variants.{Upload, Download}
 use Rattle.client.specs.declared.run.Lengths.{Lengths}
+use Rattle.client.specs.declared.run.RunParameters.{RunParameters}
 use Rattle.client.specs.declared.run.Stage.the-variants as stage
 use Rattle.client.specs.declared.run.Step.{Step}
 use Rattle.client.specs.declared.run.Step.the-variants as step
@@ -23,13 +24,13 @@ beginLength Upload l = l .payload
 beginLength Download l = 0
 
 -- the run as begun, its opening outstanding under the first exchange number
-unfoldable pub begun : Direction → ℕ → ℕ → ℕ → Client
-begun direction subscriber first n = record {
+unfoldable pub begun : RunParameters → ℕ → Client
+begun params n = record {
   stage = stage.Running;
-  direction = direction;
+  direction = params .direction;
   step = step.Opening;
-  subscriber = subscriber;
-  exchange = first;
+  subscriber = params .subscriber;
+  exchange = params .first;
   repeats = 0;
   transaction = record { high = 0; low = 0 };
   number = 0;
@@ -51,7 +52,8 @@ abbrev pub receiptsBehind : Direction → ℕ → ℕ → Bool
 receiptsBehind Upload k n = false
 receiptsBehind Download k n = eqb k n
 
--- the run whose request behind segment k is outstanding, with this many repeats: "Each request takes the next exchange number"
+-- the run whose request after segment k is outstanding, with this many repeats:
+-- "Each request takes the next exchange number"
 unfoldable pub goOn : ℕ → ℕ → Client → Client
 goOn k repeats c = record {
   stage = c .stage;

@@ -2,6 +2,7 @@
 use crate::run::Client;
 use crate::run::Direction;
 use crate::run::Lengths;
+use crate::run::RunParameters;
 use crate::run::Stage;
 use crate::run::Step;
 use crate::run::Word;
@@ -32,15 +33,16 @@ pub(crate) fn begin_length(direction: Direction, l: Lengths) -> u64
 }
 
 // The run as begun.
-pub(crate) fn begun(direction: Direction, subscriber: u64, first: u64, n: u64) -> Client
-    ensures { λ r. ⌜ r ≡ begun direction subscriber first n ⌝ }
+pub(crate) fn begun(params: RunParameters, n: u64) -> Client
+    ensures { λ r. ⌜ r ≡ begun params n ⌝ }
 {
+    let direction = params.direction;
     Client {
         stage: Stage::Running,
         direction: direction,
         step: Step::Opening,
-        subscriber,
-        exchange: first,
+        subscriber: params.subscriber,
+        exchange: params.first,
         repeats: 0,
         transaction: Bits128 { high: 0, low: 0 },
         number: 0,

@@ -25,10 +25,11 @@ use Rattle.client.specs.declared.run.Stage.the-variants as stage
 use Rattle.client.specs.declared.run.Step.{Step}
 use Rattle.client.specs.declared.run.Step.the-variants as step
 use Rattle.client.specs.declared.run.Word.{Word}
-use Rattle.client.specs.declared.run.Word.the-variants.{Fetched, HeldUnconfirmed, NotFetched}
+use Rattle.client.specs.declared.run.Word.the-variants as word
 use Rattle.client.specs.Decisions.{says, isOwn, closingWord, restWord, opensDownload, bringsSegment, downloadReturns, confirms}
 use Rattle.client.specs.NextRun.{begun, stepBehind, receiptsBehind, goOn, repeated, learned, isNew, grown, holding, fileWith, ended}
 use Rattle.client.specs.Requests.{nonceOf, outstanding}
+use Rattle.client.specs.Run.{parametersOf}
 use Rattle.client_history.specs.History.{Issue, Past, issueOf, BankReplies}
 use Rattle.client_history.specs.Invariant.{
   DownloadIssue,
@@ -374,13 +375,13 @@ module _ (Given : Fields → List ℕ → Fields → List ℕ → Type 0) where
           stepped step.Segment k = k
           stepped step.Receipt k = k
 
-      pub confirmed-run : (r : Fields) (d : List ℕ) → Answered Given p r d → c .step ≡ step.Receipt → confirms c r ≡ true → Closes Fetched
+      pub confirmed-run : (r : Fields) (d : List ℕ) → Answered Given p r d → c .step ≡ step.Receipt → confirms c r ≡ true → Closes word.Fetched
       unfolding ended confirms
       confirmed-run r d a e h =
           let k = and-true (says forms.ReceiptAnswered code.DownloadPostprocessDone receiptPhase r) (isOwn c r) h in
           let q = is-receipt c (a .time) (a .nonce) payload (u .direction) e in
           let g = subst At e (u .step) in
-          ended-with Fetched
+          ended-with word.Fetched
           (record {
             held = g .0;
             whole = g .1;
@@ -392,18 +393,18 @@ module _ (Given : Fields → List ℕ → Fields → List ℕ → Type 0) where
       unfolding restWord ended
       rest-run =
           subst (λ (w : Direction). Closes (closingWord w c)) (sym (u .direction))
-          (by-test Closes (c .receipted) (λ h. ended-with HeldUnconfirmed h) (λ h. ended-with NotFetched h))
+          (by-test Closes (c .receipted) (λ h. ended-with word.HeldUnconfirmed h) (λ h. ended-with word.NotFetched h))
 
     -- ---- the begin
 
     pub begun-run : (s first time : ℕ) (nonce payload file : List ℕ) (issues : List Issue) → issues ≡ []
-        → let next = begun Download s first 0 in DownloadRun Given fileAt next file (issueOf next payload file time nonce ∷ issues)
+        → let next = begun (parametersOf Download s first) 0 in DownloadRun Given fileAt next file (issueOf next payload file time nonce ∷ issues)
     unfolding begun
     begun-run s first time nonce payload file issues z =
         record { direction = refl; each = each; receipts = λ h. never h; step = (refl, refl, refl); stage = tt }
       where
         next : Client
-        next = begun Download s first 0
+        next = begun (parametersOf Download s first) 0
 
         new : Issue
         new = issueOf next payload file time nonce

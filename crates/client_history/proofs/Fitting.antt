@@ -25,7 +25,7 @@ use Rattle.client.specs.declared.run.Direction.{Direction}
 use Rattle.client.specs.declared.run.Direction.the-variants.{Upload, Download}
 use Rattle.client.specs.declared.run.Step.{Step}
 use Rattle.client.specs.declared.run.Step.the-variants as step
-use Rattle.client.specs.declared.run.Word.the-variants.{Lodged, Fetched}
+use Rattle.client.specs.declared.run.Word.the-variants as word
 use Rattle.client.specs.Decisions.{
   formIndex,
   says,
@@ -172,7 +172,7 @@ module _ (c : Client) (r : Fields) (n : ℕ) where
   unfolding onUpload
   to-opened h = rw h
 
-  pub to-lodged : lodges c r ≡ true → onUpload step.Segment c r ≡ Close Lodged
+  pub to-lodged : lodges c r ≡ true → onUpload step.Segment c r ≡ Close word.Lodged
   unfolding onUpload
   to-lodged h = rw h
 
@@ -188,6 +188,6 @@ module _ (c : Client) (r : Fields) (n : ℕ) where
   unfolding onDownload
   to-brought h = rw h
 
-  pub to-fetched : confirms c r ≡ true → onDownload step.Receipt c r n ≡ Close Fetched
+  pub to-fetched : confirms c r ≡ true → onDownload step.Receipt c r n ≡ Close word.Fetched
   unfolding onDownload
   to-fetched h = rw h

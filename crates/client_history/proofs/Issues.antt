@@ -1,15 +1,13 @@
 -- What a run of either direction keeps: exchange numbers, the newest issue, and that a reply that counts answers the outstanding request.
-use Prim.Native.Nat.{ℕ, _+_, _<_, _≤_}
-use mathlib.Core.Bool.{true}
-use mathlib.Core.List.{List, [], _∷_, List·Memᴰ as In, List·Memᴰ·head as here, List·Memᴰ·tail as there, List·Memᴰ·not-nil as in-none}
+use Prim.Native.Nat.{ℕ, _+_, _<_}
+use mathlib.Core.List.{List, _∷_, List·Memᴰ as In, List·Memᴰ·head as here, List·Memᴰ·tail as there, List·Memᴰ·not-nil as in-none}
 use mathlib.Core.Path.{_≡_, refl, sym, ap, _∙_, subst}
 use native.Mathlib.Omega.{arith}
 use Rattle.frame_table.specs.declared.fields.Bits128.{Bits128}
 use Rattle.frame_table.specs.declared.fields.Fields.{Fields}
 use Rattle.frame_table.specs.declared.table.Form.{Form}
-use Rattle.frame_table.specs.Names.{subscriber, exchange, form}
+use Rattle.frame_table.specs.Names.{exchange, form}
 use Rattle.message.specs.declared.codes.ReturnCode.{ReturnCode}
-use Rattle.message.specs.Limits.{subscribers}
 use Rattle.client.specs.declared.run.Client.{Client}
 use Rattle.client.specs.declared.run.Direction.{Direction}
 use Rattle.client.specs.declared.run.Direction.the-variants.{Upload, Download}
@@ -18,12 +16,11 @@ use Rattle.client.specs.declared.run.Step.the-variants as step
 use Rattle.client.specs.declared.run.Word.{Word}
 use Rattle.client.specs.NextRun.{ended}
 use Rattle.client.specs.Requests.{uploadRequest, downloadRequest, requestBy, dataBy, outstanding, outstandingData}
-use Rattle.client.specs.Rulings.{isBegun}
 use Rattle.client_history.specs.History.{Issue, Past, heldOf, issueOf, issuing, BankReplies}
-use Rattle.client_history.specs.Invariant.{Numbered, none, more, Newest, Begun, Answered, Got}
+use Rattle.client_history.specs.Bounds.{Numbered, none, more}
+use Rattle.client_history.specs.Invariant.{Newest, Begun, Answered, Got}
 use Rattle.client_history.proofs.Changes.{Answering, ending}
 use Rattle.client.proofs.Replies.{Says, is-answer}
-use Rattle.client_history.proofs.Requests.{outstanding-exchange, outstanding-subscriber}
 
 -- ---- exchange numbers
 
@@ -79,66 +76,21 @@ module _ (w : Word) (c : Client) (time : ℕ) (nonce payload : List ℕ) where
       let d = data-ended (c .direction) in
       λ i. record { request = q i; requestData = d i; file = heldOf c file }
 
--- ---- a begun run
+-- ---- the newest issue
 
-module _ (next : Client) (payload file : List ℕ) (time : ℕ) (nonce : List ℕ) (issues : List Issue) where
-  abbrev new : Issue
-  new = issueOf next payload file time nonce
+pub newest-issued : (next : Client) (payload file : List ℕ) (time : ℕ) (nonce : List ℕ) (issues : List Issue)
+    → Newest (issuing next payload file time nonce issues)
+newest-issued next payload file time nonce issues = record { time = time; nonce = nonce; older = issues; are = refl }
 
-  abbrev now : Past
-  now = issuing next payload file time nonce issues
-
-  newest-is : Newest now
-  newest-is = record { time = time; nonce = nonce; older = issues; are = refl }
-
-  own-is : (s : ℕ) → next .subscriber ≡ s → ((x : Issue) → In x issues → subscriber (x .request) ≡ s)
-      → (x : Issue) → In x (new ∷ issues) → subscriber (x .request) ≡ next .subscriber
-  own-is s e f x (here i) = ap (λ (y : Issue). subscriber (y .request)) i ∙ outstanding-subscriber next time nonce payload
-  own-is s e f x (there m) = f x m ∙ sym e
-
-  pub begun-first : isBegun (next .stage) ≡ true → 1 ≤ next .subscriber → next .subscriber ≤ subscribers → issues ≡ [] → Begun now
-  begun-first b low high e = record {
-    stage = b;
-    low = low;
-    high = high;
-    first = next .exchange;
-    numbers = more (outstanding-exchange next time nonce payload) refl (subst (Numbered (next .exchange) (next .exchange)) (sym e) none);
-    newest = newest-is;
-    own = own-is (next .subscriber) refl (λ x m. absurd (in-none (subst (In x) e m)));
-  }
-
-  pub begun-next : (p : Past) → p .issues ≡ issues → Begun p → isBegun (next .stage) ≡ true → next .exchange ≡ p .run .exchange + 1
-      → next .subscriber ≡ p .run .subscriber → Begun now
-  begun-next p e b g x s = record {
-    stage = g;
-    low = let i = b .low in omega arith;
-    high = let i = b .high in omega arith;
-    first = b .first;
-    numbers =
-        more (outstanding-exchange next time nonce payload) refl
-        (subst (λ (n : ℕ). Numbered (b .first) n issues) (sym x) (subst (Numbered (b .first) (p .run .exchange + 1)) e (b .numbers)));
-    newest = newest-is;
-    own = own-is (p .run .subscriber) s (λ y m. b .own y (subst (In y) (sym e) m));
-  }
-
-pub begun-ended : (w : Word) (p : Past) → Begun p → Begun (ending w p)
-unfolding ended
-begun-ended w p b =
-    let n = b .newest in
-    record {
-      stage = refl;
-      low = b .low;
-      high = b .high;
-      first = b .first;
-      numbers = b .numbers;
-      newest = record {
-        time = n .time;
-        nonce = n .nonce;
-        older = n .older;
-        are = n .are ∙ ap (λ (x : Issue). x ∷ n .older) (sym (issue-ended w (p .run) (n .time) (n .nonce) (p .payload) (p .file)));
-      };
-      own = b .own;
-    }
+pub newest-ended : (w : Word) (p : Past) → Newest p → Newest (ending w p)
+newest-ended w p n = record {
+  time = n .time;
+  nonce = n .nonce;
+  older = n .older;
+  are =
+      n .are
+      ∙ ap (λ (x : Issue). x ∷ n .older) (sym (issue-ended w (p .run) (n .time) (n .nonce) (p .payload) (p .file)));
+}
 
 -- ---- a reply that counts was given to the outstanding request
 
@@ -161,7 +113,7 @@ module _ (Given : Fields → List ℕ → Fields → List ℕ → Type 0) where
           given = subst (λ (x : Issue). Given (x .request) (x .requestData) r d) e (a .given);
         }
         go (there m) =
-            let k = older-below (subst (Numbered (b .first) (p .run .exchange + 1)) (n .are) (b .numbers)) m in
+            let k = older-below (subst (Numbered (b .bounded .first) (p .run .exchange + 1)) (n .are) (b .bounded .numbers)) m in
             absurd (omega (arith, same))
 
   -- it was got by the outstanding request

@@ -1,7 +1,7 @@
 -- An order in turn: each fitting answer leads to the next step, the receipt, or the closing word.
 use Prim.Native.Nat.{ℕ, _+_, _<_, _≤_}
 use mathlib.Core.Bool.{true, false}
-use mathlib.Core.List.{List, []}
+use mathlib.Core.List.{List}
 use mathlib.Core.Path.{_≡_, refl, sym, ap, _∙_, subst}
 use native.Mathlib.Omega.{arith}
 use lib.ListN.{length}
@@ -28,11 +28,12 @@ use Rattle.client.specs.declared.run.Refusal.{Refusal}
 use Rattle.client.specs.declared.run.Refusal.the-variants.{WrongBuffer, ExchangeTooHigh, NoSubscriber, WrongStage}
 use Rattle.client.specs.declared.run.Ruling.{Ruling}
 use Rattle.client.specs.declared.run.Ruling.the-variants.{Refuse, Accept}
+use Rattle.client.specs.declared.run.RunParameters.{RunParameters}
 use Rattle.client.specs.declared.run.Stage.the-variants as stage
 use Rattle.client.specs.declared.run.Step.{Step}
 use Rattle.client.specs.declared.run.Step.the-variants as step
 use Rattle.client.specs.declared.run.Word.{Word}
-use Rattle.client.specs.declared.run.Word.the-variants.{Lodged, Fetched}
+use Rattle.client.specs.declared.run.Word.the-variants as word
 use Rattle.client.specs.Calls.{
   ifWritten,
   outcomeOf,
@@ -41,9 +42,10 @@ use Rattle.client.specs.Calls.{
   issued,
   taken,
   carryOut,
-  beginBy,
+  ifAdmitted,
+  admittedBegin,
+  admittedReply,
   beginCall,
-  runBy,
   replyCall,
 }
 use Rattle.client.specs.Decisions.{
@@ -134,7 +136,7 @@ by-decision P p frame l decision e f = go (runRuling (p .run .stage) (p .run) (l
     Goal k = answerNumber (k .answer) ≡ 0 → P (left (k .answer) k l p)
 
     go : (u : Ruling)
-        → Goal (runBy u (onReply (p .run) (readReply frame) (length (dataOf frame))) (p .run) (readReply frame) (dataOf frame) l)
+        → Goal (ifAdmitted u (p .run) l (admittedReply (p .run) frame l))
     go (Refuse x) = numbered x
     go Accept = subst (λ (z : Decision). Goal (carryOut z (p .run) (readReply frame) (dataOf frame) l)) (sym e) f
 
@@ -150,7 +152,7 @@ next-in-turn : (k : Client) (direction : Direction) (j : ℕ) (d payload file : 
     (k .exchange + 1)
 unfolding next goOn
 next-in-turn k direction j d payload file l p running w e z =
-    let s = held-same d [] k in
+    let s = held-same (length d) k in
     record {
       running = s .0 .stage ∙ running;
       direction = s .0 .direction ∙ w;
@@ -166,7 +168,7 @@ next-in-turn k direction j d payload file l p running w e z =
 next-known : (k : Client) (d : List ℕ)
     → (next k d .transaction ≡ k .transaction) × (next k d .number ≡ k .number) × (next k d .segments ≡ k .segments)
 unfolding next goOn
-next-known k d = let s = held-same d [] k .1 in (s .transaction, s .number, s .segments)
+next-known k d = let s = held-same (length d) k .1 in (s .transaction, s .number, s .segments)
 
 module _ (p : Past) (frame : List ℕ) (l : Lent) (done : answerNumber (replyCall (p .run) frame l .answer) ≡ 0) where
   abbrev c : Client
@@ -249,10 +251,10 @@ module _ (p : Past) (frame : List ℕ) (l : Lent) (done : answerNumber (replyCal
         (next-in-turn c Upload j d _ _ l p (i .running) (i .direction) s (i .repeats))
 
     -- segment N taken: lodged
-    pub upload-lodges : j ≡ c .segments → then .run .stage ≡ stage.Ended Lodged
+    pub upload-lodges : j ≡ c .segments → then .run .stage ≡ stage.Ended word.Lodged
     unfolding lodges
     upload-lodges h =
-        by-closed Lodged
+        by-closed word.Lodged
         (upload-decision c r (length d) taken-answer (i .direction) step.Segment (i .step)
         ∙ to-lodged c r (length d) (and-intro taken-answers (eq-eqb (c .segment) (c .segments) (i .segment ∙ h))))
 
@@ -312,11 +314,11 @@ module _ (p : Past) (frame : List ℕ) (l : Lent) (done : answerNumber (replyCal
 
   -- the receipt's answer: fetched
   pub download-fetches : (j x : ℕ) → InTurn p Download step.Receipt j x
-      → r ≡ receiptAnswered (c .exchange) (c .transaction) code.DownloadPostprocessDone → then .run .stage ≡ stage.Ended Fetched
+      → r ≡ receiptAnswered (c .exchange) (c .transaction) code.DownloadPostprocessDone → then .run .stage ≡ stage.Ended word.Fetched
   unfolding confirms
   download-fetches j number i e =
       let x = subst (Fits _ _ _ _) (sym e) (receipt-fits (c .exchange) 0 0 0 (c .transaction)) in
-      by-closed Fetched
+      by-closed word.Fetched
       (download-decision c r (length d) (fits-answer c r x refl (λ z. omega arith)) (i .direction) step.Receipt (i .step)
       ∙ to-fetched c r (length d)
       (and-intro (fits-says c r x) (own-true c r (ap transaction e ∙ receipt-fields (c .exchange) 0 0 0 (c .transaction)))))
@@ -362,28 +364,28 @@ opening-refused p frame l done b at other =
 -- ---- THE BEGIN
 
 -- a begin leaves the opening outstanding under the first exchange number
-pub begins : (p : Past) (direction : Direction) (s first : ℕ) (l : Lent) → answerNumber (beginCall (p .run) direction s first l .answer) ≡ 0
-    → let q = after (Begin direction s first l) p in
-    InTurn q direction step.Opening 0 first × (q .run .subscriber ≡ s) × (q .payload ≡ l .payload)
+pub begins : (p : Past) (params : RunParameters) (l : Lent) → answerNumber (beginCall (p .run) params l .answer) ≡ 0
+    → let q = after (Begin params l) p in
+    InTurn q (params .direction) step.Opening 0 (params .first) × (q .run .subscriber ≡ params .subscriber) × (q .payload ≡ l .payload)
 unfolding after beginCall begun
-begins p direction s first l = go (beginRuling (p .run) direction s first (lengthsOf l))
+begins p params l = go (beginRuling (p .run) params (lengthsOf l))
   where
     Goal : Past → Type 0
-    Goal q = InTurn q direction step.Opening 0 first × (q .run .subscriber ≡ s) × (q .payload ≡ l .payload)
+    Goal q = InTurn q (params .direction) step.Opening 0 (params .first) × (q .run .subscriber ≡ params .subscriber) × (q .payload ≡ l .payload)
 
-    go : (u : Ruling) → let k = beginBy u (p .run) direction s first l in answerNumber (k .answer) ≡ 0 → Goal (left (k .answer) k l p)
+    go : (u : Ruling) → let k = ifAdmitted u (p .run) l (admittedBegin (p .run) params l) in answerNumber (k .answer) ≡ 0 → Goal (left (k .answer) k l p)
     go (Refuse x) = numbered x
     go Accept =
         by-issued Goal (p .run) _ (l .file) l p
         (record { running = refl; direction = refl; step = refl; segment = refl; repeats = refl; number = refl }, refl, refl)
 
 -- a run already begun is not begun again
-pub begin-fresh : (c : Client) (direction : Direction) (s first : ℕ) (l : Lent) → answerNumber (beginCall c direction s first l .answer) ≡ 0
+pub begin-fresh : (c : Client) (params : RunParameters) (l : Lent) → answerNumber (beginCall c params l .answer) ≡ 0
     → isBegun (c .stage) ≡ false
 unfolding beginCall
-begin-fresh c direction s first l = go (beginRuling c direction s first (lengthsOf l)) refl
+begin-fresh c params l = go (beginRuling c params (lengthsOf l)) refl
   where
-    go : (u : Ruling) → beginRuling c direction s first (lengthsOf l) ≡ u → answerNumber (beginBy u c direction s first l .answer) ≡ 0
+    go : (u : Ruling) → beginRuling c params (lengthsOf l) ≡ u → answerNumber (ifAdmitted u c l (admittedBegin c params l) .answer) ≡ 0
         → isBegun (c .stage) ≡ false
     go (Refuse x) e h = numbered x h
-    go Accept e h = rulings.begins c direction s first (lengthsOf l) e .fresh
+    go Accept e h = rulings.begins c params (lengthsOf l) e .fresh

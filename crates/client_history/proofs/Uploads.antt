@@ -1,5 +1,5 @@
 -- What an upload run keeps.
-use Prim.Native.Nat.{ℕ, _+_, _<_, _≤_, max}
+use Prim.Native.Nat.{ℕ, _+_, _≤_, max}
 use mathlib.Core.Bool.{true}
 use mathlib.Core.List.{List, [], _∷_, List·Memᴰ as In, List·Memᴰ·head as here, List·Memᴰ·tail as there, List·Memᴰ·not-nil as in-none}
 use mathlib.Core.Logic.{inl, inr}
@@ -14,7 +14,7 @@ use Rattle.frame_table.specs.Forms as forms
 use Rattle.frame_table.specs.Names.{transaction, segment, form}
 use Rattle.octets.proofs.Tests.{and-true}
 use Rattle.message.specs.declared.codes.ReturnCode.the-variants as code
-use Rattle.message.specs.Limits.{maxSegments, fileBytes, initialisationPhase}
+use Rattle.message.specs.Limits.{initialisationPhase}
 use Rattle.message.specs.Requests.{uploadTransfer}
 use Rattle.message.specs.Segments.{segmentsOf, lastMarkOf}
 use Rattle.client.specs.declared.run.Client.{Client}
@@ -25,10 +25,11 @@ use Rattle.client.specs.declared.run.Stage.the-variants as stage
 use Rattle.client.specs.declared.run.Step.{Step}
 use Rattle.client.specs.declared.run.Step.the-variants as step
 use Rattle.client.specs.declared.run.Word.{Word}
-use Rattle.client.specs.declared.run.Word.the-variants.{Lodged, NotLodged, Unclear}
-use Rattle.client.specs.Decisions.{says, answersSegment, closingWord, restWord, endsUpload, lodges, takesSegment, uploadReturns}
+use Rattle.client.specs.declared.run.Word.the-variants as word
+use Rattle.client.specs.Decisions.{says, answersSegment, closingWord, restWord, endsUpload, lodges}
 use Rattle.client.specs.NextRun.{begun, stepBehind, goOn, repeated, learned, ended}
 use Rattle.client.specs.Requests.{nonceOf, outstanding}
+use Rattle.client.specs.Run.{parametersOf}
 use Rattle.client_history.specs.History.{Issue, Past, issueOf}
 use Rattle.client_history.specs.Invariant.{
   UploadIssue,
@@ -42,9 +43,7 @@ use Rattle.client_history.specs.Invariant.{
   UploadRun,
 }
 use Rattle.message.proofs.Verdicts.{by-test}
-use Rattle.client.proofs.Causes.{Answers, answers, upload-point, taken-below}
-use Rattle.client_history.proofs.Files.{most-segments}
-use Rattle.message.proofs.SegmentNumbers.{some-segment}
+use Rattle.client.proofs.Causes.{Answers, answers}
 use Rattle.client_history.proofs.Issues.{got, got-in}
 use Rattle.client.proofs.Replies.{said, cancels}
 use Rattle.client_history.proofs.Requests.{
@@ -100,25 +99,16 @@ module _ (Given : Fields → List ℕ → Fields → List ℕ → Type 0) where
     direction : c .direction ≡ Upload
     running : c .stage ≡ stage.Running
     size : c .length ≡ length payload
-    number : c .segments ≡ segmentsOf (length payload)
-    some : 1 ≤ c .segments
-    most : c .segments ≤ maxSegments
-    top : c .issued ≤ c .segments
     each : (x : Issue) → In x issues → UploadIssue (c .subscriber) (c .segments) (c .transaction) (c .issued) payload x
     opened : UploadOpen Given c issues
 
   goes-on : (c : Client) (payload file : List ℕ) (issues : List Issue) (k repeats time : ℕ) (nonce : List ℕ) → Ready c payload issues
-      → k < c .segments → k ≤ c .issued
       → UploadRun Given (goOn k repeats c) payload (issueOf (goOn k repeats c) payload file time nonce ∷ issues)
   unfolding goOn
-  goes-on c payload file issues k repeats time nonce r a b =
+  goes-on c payload file issues k repeats time nonce r =
       record {
         direction = r .direction;
         size = r .size;
-        number = r .number;
-        some = r .some;
-        most = r .most;
-        top = let t = r .top in omega arith;
         each = each;
         step = subst (λ (s : Step). UploadStep Given s next (new ∷ issues)) (sym at) stepped;
         stage = subst (λ (s : Stage). UploadStage Given s next (new ∷ issues)) (sym (r .running)) tt;
@@ -150,10 +140,6 @@ module _ (Given : Fields → List ℕ → Fields → List ℕ → Type 0) where
       direction = u .direction;
       running = running;
       size = u .size;
-      number = u .number;
-      some = u .some;
-      most = u .most;
-      top = u .top;
       each = u .each;
       opened = subst (λ (s : Step). UploadStep Given s c issues) e (u .step) .0;
     }
@@ -164,25 +150,14 @@ module _ (Given : Fields → List ℕ → Fields → List ℕ → Type 0) where
       abbrev Goes : Client → Type 0
       Goes next = UploadRun Given next payload (issueOf next payload file time nonce ∷ issues)
 
-      pub taken : (r : Fields) → c .step ≡ step.Segment → takesSegment c r ≡ true → Goes (goOn (c .segment) (c .repeats) c)
-      taken r e h =
-          goes-on c payload file issues (c .segment) (c .repeats) time nonce (ready e) (taken-below c r h .1)
-          (subst (λ (s : Step). UploadStep Given s c issues) e (u .step) .2)
-
-      pub returned : (r : Fields) → c .step ≡ step.Segment → uploadReturns c r ≡ true → Goes (goOn (segment r) (c .repeats + 1) c)
-      returned r e h =
-          let k = upload-point c r h in
-          goes-on c payload file issues (segment r) (c .repeats + 1) time nonce (ready e) (k .below) (k .reached)
+      pub next-run : c .step ≡ step.Segment → (k repeats : ℕ) → Goes (goOn k repeats c)
+      next-run e k repeats = goes-on c payload file issues k repeats time nonce (ready e)
 
       pub repeated-run : Goes (repeated c)
       unfolding repeated
       repeated-run = record {
         direction = u .direction;
         size = u .size;
-        number = u .number;
-        some = u .some;
-        most = u .most;
-        top = u .top;
         each = each;
         step = stepped (c .step) (u .step);
         stage = subst (λ (s : Stage). UploadStage Given s next (new ∷ issues)) (sym running) tt;
@@ -218,10 +193,6 @@ module _ (Given : Fields → List ℕ → Fields → List ℕ → Type 0) where
           direction = u .direction;
           running = running;
           size = u .size;
-          number = u .number;
-          some = u .some;
-          most = u .most;
-          top = u .top;
           each = λ x m. unsent (subst (λ (s : Step). UploadStep Given s c issues) e (u .step)) (u .each x m);
           opened = record {
             got =
@@ -233,7 +204,6 @@ module _ (Given : Fields → List ℕ → Fields → List ℕ → Type 0) where
             number = refl;
           };
         })
-        (u .some) (omega arith)
 
     -- ---- the closing words
 
@@ -245,10 +215,6 @@ module _ (Given : Fields → List ℕ → Fields → List ℕ → Type 0) where
     ended-with w k = record {
       direction = u .direction;
       size = u .size;
-      number = u .number;
-      some = u .some;
-      most = u .most;
-      top = u .top;
       each = u .each;
       step = stepped (c .step) (u .step);
       stage = k;
@@ -264,8 +230,8 @@ module _ (Given : Fields → List ℕ → Fields → List ℕ → Type 0) where
     rest-run =
         subst (λ (w : Direction). Closes (closingWord w c)) (sym (u .direction))
         (by-test Closes (ltb (c .issued) (c .segments))
-        (λ h. ended-with NotLodged (inl (ltb-true (c .issued) (c .segments) h)))
-        (λ h. ended-with Unclear (ltb-false (c .issued) (c .segments) h)))
+        (λ h. ended-with word.NotLodged (inl (ltb-true (c .issued) (c .segments) h)))
+        (λ h. ended-with word.Unclear (ltb-false (c .issued) (c .segments) h)))
 
     module _ (r : Fields) (d : List ℕ) (e : c .step ≡ step.Segment) (a : Answered Given p r d) where
       asked : outstanding c (a .time) (a .nonce)
@@ -278,23 +244,23 @@ module _ (Given : Fields → List ℕ → Fields → List ℕ → Type 0) where
       asked-id : transaction (outstanding c (a .time) (a .nonce)) ≡ c .transaction
       asked-id = ap transaction asked ∙ id-uploadTransfer _ _ _ _ _
 
-      pub lodged-run : lodges c r ≡ true → Closes Lodged
+      pub lodged-run : lodges c r ≡ true → Closes word.Lodged
       unfolding ended
       lodged-run h =
           let k = lodged-last c r h in
-          ended-with Lodged
+          ended-with word.Lodged
           (record {
             got = got Given {p = p} a asked-form (said _ _ _ r (k .0 .said));
             last = ap segment asked ∙ segment-uploadTransfer _ _ _ _ _ ∙ k .1;
             id = asked-id;
-            opened = open-for {k = ended Lodged c} refl refl (λ x m. m) (ready e .opened);
+            opened = open-for {k = ended word.Lodged c} refl refl (λ x m. m) (ready e .opened);
           })
 
-      pub cancelled-run : endsUpload r ≡ true → Closes NotLodged
+      pub cancelled-run : endsUpload r ≡ true → Closes word.NotLodged
       unfolding ended
       cancelled-run h =
           let k = cancels r h in
-          ended-with NotLodged
+          ended-with word.NotLodged
           (inr (record {
             why = k .why;
             one = k .one;
@@ -305,25 +271,21 @@ module _ (Given : Fields → List ℕ → Fields → List ℕ → Type 0) where
 
   -- ---- the begin
 
-  pub begun-run : (s first time : ℕ) (nonce payload file : List ℕ) (issues : List Issue) → 1 ≤ length payload → length payload ≤ fileBytes
-      → issues ≡ [] → let next = begun Upload s first (length payload) in
+  pub begun-run : (s first time : ℕ) (nonce payload file : List ℕ) (issues : List Issue) → issues ≡ []
+      → let next = begun (parametersOf Upload s first) (length payload) in
       UploadRun Given next payload (issueOf next payload file time nonce ∷ issues)
   unfolding begun
-  begun-run s first time nonce payload file issues a b z =
+  begun-run s first time nonce payload file issues z =
       record {
         direction = refl;
         size = refl;
-        number = refl;
-        some = some-segment (length payload) a;
-        most = most-segments (length payload) b;
-        top = omega arith;
         each = each;
         step = refl;
         stage = tt;
       }
     where
       next : Client
-      next = begun Upload s first (length payload)
+      next = begun (parametersOf Upload s first) (length payload)
 
       new : Issue
       new = issueOf next payload file time nonce

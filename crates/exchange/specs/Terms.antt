@@ -100,7 +100,7 @@ Turn i (frameArrives w a) s = IssuedBy i (a .frame) s →
     ((e : Exchange) → In e (s .exchanged) → e .request ≡ a .frame → ⊥)
     × NoIdleHour i (frameCall w a .bankState .bank .clock) s
 Turn i (filePut b mailboxes m file) s = Unit {0}
-Turn i (begins j c direction subscriber first l) s = Unit {0}
+Turn i (begins j c params l) s = Unit {0}
 Turn i (replyArrives j c reply l) s = j ≡ i → (a : Arrival) → In a (s .arrived) → a .run ≡ i → a .reply ≡ reply → ⊥
 Turn i (noReply j c l) s = j ≡ i → ⊥
 

@@ -24,7 +24,12 @@ receipted-behind-requires c κs = tt
 
 returns : tie.Need-returns
 unfolding goOn
-returns c = simp (← c .before .before .before .step-behind .ensures, ← c .before .larger .ensures, ← c .receipted-behind .ensures)
+returns c =
+    simp (
+      ← c .before .before .before .step-behind .ensures,
+      ← c .before .larger .ensures,
+      ← c .receipted-behind .ensures,
+    )
 
 pub go-on-spec : {M : Type 1} → statement M
 go-on-spec =
