@@ -1,7 +1,10 @@
-// The numbers of document 01 that the bank and the client share. Each has the same name in specs/Limits.antt.
+// The numbers of document 01 that the bank and the client share. Each has the same name in specs/Limits.antt, SEGMENT_SIZE that of SEGMENT_BYTES.
 
 // The bytes of a segment but the last.
 pub const SEGMENT_BYTES: usize = 256;
+
+// The same as a count of a file's bytes.
+pub const SEGMENT_SIZE: u64 = SEGMENT_BYTES as u64;
 
 // The most segments of an order.
 pub const MAX_SEGMENTS: u64 = 15;
