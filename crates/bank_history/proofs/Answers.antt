@@ -1,25 +1,23 @@
--- Every frame gets its reply: a frame of 9 to 312 bytes, which reads as the reply's fields and its data.
-use Prim.Native.Nat.{ℕ, _+_, _^_, _≤_, _<_}
+-- Every frame gets its reply: a frame that its buffer has room for, which reads as the reply's fields and its data.
+use Prim.Native.Nat.{ℕ, _^_, _≤_, _<_}
 use mathlib.Core.Bool.{Bool, true, false, _&&_}
-use mathlib.Core.List.{List, _++_}
+use mathlib.Core.List.{List}
 use mathlib.Core.Path.{_≡_, refl, sym, ap, _∙_, subst}
-use native.Mathlib.Nat.{zero-add}
 use native.Mathlib.Omega.{arith}
 use lib.Dec.{leb, eqb}
-use lib.ListN.{length, take, drop}
-use lib.Seq.{take-at, drop-at}
+use lib.ListN.{length}
 use borrow.Author.Tests.{eqb-true, leb-true}
 use Rattle.frame_table.specs.declared.fields.Fields.{Fields}
-use Rattle.octets.specs.Bytes.{Bytes, number, overwrite}
+use Rattle.octets.specs.Bytes.{Bytes, number}
 use Rattle.frame_table.specs.Names.{subscriber, form}
-use Rattle.frame.specs.Reader.{readRequest, readReply}
+use Rattle.frame.specs.Reader.{readRequest}
 use Rattle.frame.specs.Row.{dataOf}
-use Rattle.frame_table.specs.Table.{isRequestForm, isReplyForm}
+use Rattle.frame_table.specs.Table.{isRequestForm}
 use Rattle.frame.specs.Writer.{frameOf}
 use Rattle.octets.proofs.Tests.{and-true}
-use Rattle.octets.proofs.Numbers.{bytesOf-number, number-lt}
-use Rattle.frame.proofs.Build.{written-in-front}
-use Rattle.frame.proofs.Theorems.{written-reply, written-data}
+use Rattle.octets.proofs.Numbers.{number-small}
+use Rattle.frame.proofs.Written.{written-in-front, written-behind}
+use Rattle.frame.proofs.Theorems.{data-read, reply-read}
 use Rattle.message.specs.Replies.{unreadable}
 use Rattle.message.proofs.Writable.{unreadable-written}
 use Rattle.bank_state.specs.Clock.{advanced}
@@ -32,22 +30,20 @@ use Rattle.bank.specs.Call.{Step, stepBy, respond, lentRight, frameCall}
 use Rattle.bank_history.specs.History.{Exchange, Past, BankCall, Frame, exchangeOf, after, pastOf}
 use Rattle.bank_history.specs.Invariant.{Invariant, Holds}
 use Rattle.bank_history.specs.Transactions.{answered}
-use Rattle.bank_history.specs.Answers.{AllBytes, FrameAnswered}
+use Rattle.bank_history.specs.Answers.{FrameAnswered}
 use Rattle.bank_history.proofs.Cases.{happens}
 use Rattle.bank_history.proofs.Clock.{advanced-keeps}
 use Rattle.bank_history.proofs.Uploads.{bare}
 use Rattle.bank_history.proofs.Keeps.{past-holds}
 use Rattle.bank_history.proofs.Answered.{lent-right, frame-answered}
 use Rattle.bank_history.proofs.RequestBounds.{InWidth, request-in-width}
-use Rattle.bank_history.proofs.MailboxBytes.{advanced-bytes, past-bytes}
 use Rattle.bank_history.proofs.WrittenReplies.{WrittenReply, sent, case-written}
 
 -- ---- the lent bytes
 
 -- the lent ID bytes are a number of 64 bits
 ids-lt : (ids : List ℕ) → Bytes ids → length ids ≡ idBytes → number ids < 2 ^ 64
-ids-lt ids b long =
-    subst (λ (l : List ℕ). number l < 2 ^ 64) (bytesOf-number idBytes ids b long) (number-lt idBytes (number ids))
+ids-lt ids b long = number-small idBytes ids b long
 
 -- what right lent lengths tell of those of a call
 call-lengths : (w : BankState) (ids buffer : List ℕ) → lentRight w ids buffer ≡ true → (length ids ≡ idBytes) × (replyRoom ≤ length buffer)
@@ -71,13 +67,13 @@ unread-is first w q d e = rw e
 
 -- the answer to a readable request
 respond-written : (first : ℕ) (w : BankState) (h : List Exchange) → Invariant w h → (q : Fields) (d : List ℕ) → InWidth q →
-    Bytes (w .mailboxes) → first < 2 ^ 64 → WrittenReply (respond first w q d .reply) (respond first w q d .replyData)
+    first < 2 ^ 64 → WrittenReply (respond first w q d .reply) (respond first w q d .replyData)
 unfolding respond
-respond-written first w h v q d r b small =
-    case-written w h v q r b small (happens first w q d (v .state .sizes .places) (v .state .sizes .downloads))
+respond-written first w h v q d r small =
+    case-written w h v q r small (happens first w q d (v .state .sizes .places) (v .state .sizes .downloads))
 
-module _ (p : Past) (holds : Holds p) (bytes : Bytes (p .bankState .mailboxes)) (time : ℕ) (ids frame : List ℕ) (idsBytes : Bytes ids)
-    (frameBytes : Bytes frame) (right : length ids ≡ idBytes) where
+module _ (p : Past) (holds : Holds p) (time : ℕ) (ids frame : List ℕ) (idsBytes : Bytes ids) (frameBytes : Bytes frame)
+    (right : length ids ≡ idBytes) where
   pub reply-written : WrittenReply (stepOf (p .bankState) time ids frame .reply) (stepOf (p .bankState) time ids frame .replyData)
   reply-written = at (isRequestForm (form (readRequest frame))) refl
     where
@@ -91,11 +87,11 @@ module _ (p : Past) (holds : Holds p) (bytes : Bytes (p .bankState .mailboxes)) 
           WrittenReply (stepOf (p .bankState) time ids frame .reply) (stepOf (p .bankState) time ids frame .replyData)
       at true e =
           respond-written (number ids) w (p .history) v (readRequest frame) (dataOf frame) (request-in-width frame frameBytes e)
-          (advanced-bytes time (p .bankState) bytes) (ids-lt ids idsBytes right)
+          (ids-lt ids idsBytes right)
       at false e =
           subst (λ (s : Step). WrittenReply (s .reply) (s .replyData)) (sym (unread-is (number ids) w (readRequest frame) (dataOf frame) e))
           (subst (WrittenReply unreadable) (sym (bare w (subscriber (readRequest frame))))
-          (sent refl (omega arith) (omega arith) unreadable-written))
+          (sent refl (omega arith) unreadable-written))
 
   module _ (buffer : List ℕ) (room : replyRoom ≤ length buffer) where
     abbrev out : List ℕ
@@ -105,35 +101,32 @@ module _ (p : Past) (holds : Holds p) (bytes : Bytes (p .bankState .mailboxes)) 
     pub call-entered : after (Frame time ids frame buffer) p ≡ answered time ids frame p
     call-entered =
         let r = reply-written in
-        frame-answered time ids frame buffer p holds right room (r .written .accepted, let n = r .written .size in omega (arith, r .most))
+        frame-answered time ids frame buffer p holds right room (r .written .accepted, r .most)
 
     -- its answer is the reply, in front of the buffer
     pub call-answered : FrameAnswered (frameCall (p .bankState) time ids frame buffer) buffer
         (exchangeOf (number ids) (advanced time (p .bankState)) (readRequest frame) (dataOf frame))
-    unfolding frameCall exchangeOf overwrite
+    unfolding frameCall exchangeOf
     call-answered =
         let r = reply-written in
         let t = r .written in
         let s : Step = stepOf (p .bankState) time ids frame in
-        let front = written-in-front (s .reply) (s .replyData) buffer (r .size) (t .accepted) (t .size) (omega (arith, r .most)) in
-        let is : frameCall (p .bankState) time ids frame buffer .buffer ≡ out ++ drop (0 + length out) buffer =
-        rw (lent-right p ids buffer holds right room) (front .1) in
-        let own : take (r .size) (frameCall (p .bankState) time ids frame buffer .buffer) ≡ out =
-        ap (take (r .size)) is ∙ take-at out _ (r .size) (t .size) in
+        let lent = lent-right p ids buffer holds right room in
+        let front = written-in-front (s .reply) (s .replyData) buffer (length out) (t .accepted) refl
+        (omega (arith, r .most)) .0 in
         record {
-          size = r .size;
-          answer = rw (lent-right p ids buffer holds right room, front .0);
+          size = length out;
+          answer = rw (lent, front);
           least = r .least;
           most = r .most;
-          fields = ap readReply own ∙ written-reply (s .reply) (s .replyData) (t .long) (t .accepted) (ap isReplyForm (t .named) ∙ r .kind);
-          contents = ap dataOf own ∙ written-data (s .reply) (s .replyData) (t .long) (t .accepted);
-          untouched = ap (drop (r .size)) is ∙ drop-at out _ (r .size) (t .size)
-              ∙ ap (λ (n : ℕ). drop n buffer) (zero-add (length out) ∙ t .size);
+          fields = rw lent (reply-read (s .reply) (s .replyData) buffer (length out) (t .long) front (r .kind));
+          contents = rw lent (data-read (s .reply) (s .replyData) buffer (length out) (t .long) front);
+          untouched = rw lent (written-behind (s .reply) (s .replyData) buffer (length out) front);
         }
 
--- ---- in every past of calls that bring bytes
+-- ---- in every past
 
-module _ {calls : List BankCall} (given : AllBytes calls) (time : ℕ) (ids frame buffer : List ℕ) (idsBytes : Bytes ids)
+module _ (calls : List BankCall) (time : ℕ) (ids frame buffer : List ℕ) (idsBytes : Bytes ids)
     (frameBytes : Bytes frame) where
   abbrev past : Past
   past = pastOf calls
@@ -143,13 +136,13 @@ module _ {calls : List BankCall} (given : AllBytes calls) (time : ℕ) (ids fram
       FrameAnswered (frameCall (past .bankState) time ids frame buffer) buffer
       (exchangeOf (number ids) (advanced time (past .bankState)) (readRequest frame) (dataOf frame))
   frame-gets-reply right room =
-      call-answered past (past-holds calls) (past-bytes given) time ids frame idsBytes frameBytes right buffer room
+      call-answered past (past-holds calls) time ids frame idsBytes frameBytes right buffer room
 
   -- and its exchange enters the history
   pub frame-entered : length ids ≡ idBytes → replyRoom ≤ length buffer →
       after (Frame time ids frame buffer) past ≡ answered time ids frame past
   frame-entered right room =
-      call-entered past (past-holds calls) (past-bytes given) time ids frame idsBytes frameBytes right buffer room
+      call-entered past (past-holds calls) time ids frame idsBytes frameBytes right buffer room
 
   -- the history's bank is the bank that the call leaves
   pub same-bank : after (Frame time ids frame buffer) past .bankState ≡ frameCall (past .bankState) time ids frame buffer .bankState

@@ -56,7 +56,8 @@ listed-any t c e = listed-as t c Any e
 
 module _ (t least greatest v : ℕ) (e : valuesOf t ≡ Range least greatest) (fit : v < 256 ^ width t) where
   range-is : listed t (bytesOf (width t) v) ≡ inRange least greatest v
-  range-is = listed-as t (bytesOf (width t) v) (Range least greatest) e ∙ ap (inRange least greatest) (number-bytesOf (width t) v fit)
+  range-is = listed-as t (bytesOf (width t) v) (Range least greatest) e
+      ∙ ap (inRange least greatest) (number-bytesOf (width t) v fit)
 
   -- a number is, where it is in the range
   pub listed-range : least ≤ v → v ≤ greatest → listed t (bytesOf (width t) v) ≡ true
@@ -170,7 +171,8 @@ module _ (f : Fields) (d : List ℕ) (a : Fine f d) where
   -- one more field, of any number in its width
   pub fine-any : (t w v : ℕ) → HasRow t w Any → v < 2 ^ 64 → v < 256 ^ w → Fine (with t v f) d
   fine-any t w v row small fit =
-      fine-number t v f d a (ltb-true t tagCount (row .0)) small (rw (row .1) fit) (listed-any t (bytesOf (width t) v) (row .2))
+      fine-number t v f d a (ltb-true t tagCount (row .0)) small (rw (row .1) fit)
+      (listed-any t (bytesOf (width t) v) (row .2))
 
   -- of any 16 bytes
   pub fine-bits : (t : ℕ) (v : Bits128) → HasRow t 16 Any → v .high < 2 ^ 64 → v .low < 2 ^ 64 → Fine (withWide t v f) d
@@ -179,11 +181,13 @@ module _ (f : Fields) (d : List ℕ) (a : Fine f d) where
       fine-wide t v f d a (ltb-true t tagCount (row .0)) low fit (listed-any t (bytesOf (width t) (valueOf v)) (row .2))
 
   -- of a number in its range
-  pub fine-range : (t w v least greatest : ℕ) → HasRow t w (Range least greatest) → greatest < 2 ^ 64 → greatest < 256 ^ w
+  pub fine-range : (t w v least greatest : ℕ) → HasRow t w (Range least greatest) → greatest < 2 ^ 64
+      → greatest < 256 ^ w
       → least ≤ v → v ≤ greatest → Fine (with t v f) d
   fine-range t w v least greatest row small fit l m =
       let n : v < 256 ^ width t = rw (row .1) (omega arith) in
-      fine-number t v f d a (ltb-true t tagCount (row .0)) (omega arith) n (listed-range t least greatest v (row .2) n l m)
+      fine-number t v f d a (ltb-true t tagCount (row .0)) (omega arith) n
+      (listed-range t least greatest v (row .2) n l m)
 
 -- the tag of the data
 pub fine-data : (f : Fields) (d : List ℕ) → Fine f d → Fine (with dataTag 0 f) d

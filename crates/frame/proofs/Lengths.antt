@@ -15,7 +15,17 @@ use Rattle.frame_table.specs.declared.table.RequestForm.the-variants as request
 use Rattle.frame_table.specs.declared.table.ReplyForm.{ReplyForm}
 use Rattle.frame_table.specs.declared.table.ReplyForm.the-variants as reply
 use Rattle.frame_table.specs.Forms as forms
-use Rattle.frame_table.specs.Table.{tagCount, frameLimit, dataTag, width, has, tagsOf, isRequestForm, isReplyForm, isForm}
+use Rattle.frame_table.specs.Table.{
+  tagCount,
+  frameLimit,
+  dataTag,
+  width,
+  has,
+  tagsOf,
+  isRequestForm,
+  isReplyForm,
+  isForm,
+}
 use Rattle.frame_table.specs.Names.{phase, form}
 use Rattle.frame.specs.Row.{piece, join}
 use Rattle.frame.specs.Writer.{

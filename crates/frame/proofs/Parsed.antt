@@ -1,9 +1,20 @@
--- What is known of the fields that are read: each number is in its width, its list and its range, and data have some bytes. Assumes nothing.
+-- What is known of the fields that are read: numbers are in their widths and ranges, and data have some bytes.
+-- Assumes nothing.
 use Prim.Native.Nat.{ℕ, zero, suc, _+_, _*_, _/_, _%_, _^_, _≤_, _<_}
 use mathlib.Core.List.{List, [], _∷_}
 use mathlib.Core.Bool.{Bool, true, false, cond}
 use mathlib.Core.Path.{_≡_, refl, sym, ap, _∙_, subst}
-use native.Mathlib.Nat.{zero-add, mul-comm, pow-suc, div-one, div-add-mod', div-div-eq-div-mul, div-lt-iff-lt-mul, mod-lt, zero-lt-suc}
+use native.Mathlib.Nat.{
+  zero-add,
+  mul-comm,
+  pow-suc,
+  div-one,
+  div-add-mod',
+  div-div-eq-div-mul,
+  div-lt-iff-lt-mul,
+  mod-lt,
+  zero-lt-suc,
+}
 use native.Mathlib.Omega.{arith}
 use lib.Dec.{eqb, lit<}
 use lib.ListN.{length, getD}
@@ -63,7 +74,8 @@ module _ (t : ℕ) (f : Fields) (d : List ℕ) (h : t < tagCount) where
   content-small : (b : Bool) → has (f .tags) t ≡ b → (t ≡ dataTag → ⊥) → number (contentOf t f d) < 256 ^ 16
   content-small true e n =
       let w = width-narrow t h n in
-      let m : 256 ^ width t ≤ 256 ^ 16 = rw (← pow-bytes (width t)) (pow-mono {i = 8 * width t} {j = 128} (omega arith)) in
+      let m : 256 ^ width t ≤ 256 ^ 16 = rw (← pow-bytes (width t)) (pow-mono {i = 8 * width t} {j = 128}
+      (omega arith)) in
       rw (content-number t f d e n) (lt-le (number-lt (width t) (numberOf t f)) m)
   content-small false e n = rw (content-absent t f d e, number-nil) (lit< tt)
 
@@ -87,14 +99,16 @@ module _ (t : ℕ) (f : Fields) (d : List ℕ) (h : t < tagCount) where
 module _ (s : List ℕ) (b : Bytes s) (h : isForm (form (parse s)) ≡ true) (t : ℕ) (m : t < tagCount) where
   field-read : FieldWritable t (parse s) (dataOf s)
   field-read =
-      field-writable t (parse s) (dataOf s) (rw zero-add at (writable-at (parse s) (dataOf s) tagCount 0 t (parsed-says s h b .1) m .0))
+      field-writable t (parse s) (dataOf s) (rw zero-add at (writable-at (parse s) (dataOf s) tagCount 0 t
+      (parsed-says s h b .1) m .0))
 
   pub read-halves : Halves t (parse s)
   read-halves = halves-at t (parse s) (dataOf s) m (eqb t dataTag) refl field-read
 
   module _ (n : t ≡ dataTag → ⊥) (e : has (parse s .tags) t ≡ true) where
     -- a number in a frame of some form is in its width and its list
-    pub read-value : (numberOf t (parse s) < 256 ^ width t) × (listed t (bytesOf (width t) (numberOf t (parse s))) ≡ true)
+    pub read-value : (numberOf t (parse s) < 256 ^ width t)
+        × (listed t (bytesOf (width t) (numberOf t (parse s))) ≡ true)
     read-value = number-bounds t (parse s) (dataOf s) field-read e n
 
     -- and in the range of its tag
@@ -118,13 +132,15 @@ unfolding presentTags
 bit-present zero [] = refl
 bit-present zero (c ∷ r) = rw div-one (let p = present-most (eqb (length c) 0) in omega arith)
 bit-present (suc t) [] =
-    ap (λ (n : ℕ). 0 / n % 2) (pow-suc 2 t ∙ mul-comm (2 ^ t) 2) ∙ ap (λ (n : ℕ). n % 2) (sym (div-div-eq-div-mul 0 2 (2 ^ t)))
+    ap (λ (n : ℕ). 0 / n % 2) (pow-suc 2 t ∙ mul-comm (2 ^ t) 2)
+    ∙ ap (λ (n : ℕ). n % 2) (sym (div-div-eq-div-mul 0 2 (2 ^ t)))
     ∙ bit-present t []
 bit-present (suc t) (c ∷ r) =
     let x : ℕ = present (length c) + 2 * presentTags r in
     let p = present-most (eqb (length c) 0) in
     let half : x / 2 ≡ presentTags r = omega arith in
-    ap (λ (n : ℕ). x / n % 2) (pow-suc 2 t ∙ mul-comm (2 ^ t) 2) ∙ ap (λ (n : ℕ). n % 2) (sym (div-div-eq-div-mul x 2 (2 ^ t)))
+    ap (λ (n : ℕ). x / n % 2) (pow-suc 2 t ∙ mul-comm (2 ^ t) 2)
+    ∙ ap (λ (n : ℕ). n % 2) (sym (div-div-eq-div-mul x 2 (2 ^ t)))
     ∙ ap (λ (n : ℕ). n / 2 ^ t % 2) half ∙ bit-present t r
 
 some-at : (n : ℕ) → present n ≡ 1 → 1 ≤ n
@@ -132,7 +148,8 @@ some-at zero e = absurd (let z : _≡_ {A = ℕ} 0 1 = e in omega arith)
 some-at (suc n) e = omega arith
 
 -- where the tag of the data stands, there are some
-pub read-data : (s : List ℕ) → isForm (form (parse s)) ≡ true → has (parse s .tags) dataTag ≡ true → 1 ≤ length (dataOf s)
+pub read-data : (s : List ℕ) → isForm (form (parse s)) ≡ true → has (parse s .tags) dataTag ≡ true
+    → 1 ≤ length (dataOf s)
 unfolding fieldsOf
 read-data s h e =
     let r : List (List ℕ) = contents tagCount 0 s in

@@ -105,7 +105,8 @@ noFields-halves : (t : ℕ) → t < tagCount → Halves t noFields
 noFields-halves t m = rw (getD-replicate {A = ℕ} tagCount t 0 0 m) (omega arith, omega arith)
 
 -- one argument for requests and replies: k tells the forms read
-module _ (k : Form → Bool) (none : k NoForm ≡ false) (known : (x : Form) → k x ≡ true → isForm x ≡ true) (s : List ℕ) where
+module _ (k : Form → Bool) (none : k NoForm ≡ false) (known : (x : Form) → k x ≡ true → isForm x ≡ true)
+    (s : List ℕ) where
   taken-at : (b : Bool) → k (form (parse s)) ≡ b → k (form (cond b (parse s) noFields)) ≡ true
       → (cond b (parse s) noFields ≡ parse s) × (k (form (parse s)) ≡ true)
   unfolding formOf findForm rowFits
@@ -118,7 +119,8 @@ module _ (k : Form → Bool) (none : k NoForm ≡ false) (known : (x : Form) →
   as-data : k (form (readAs k s)) ≡ true → has (readAs k s .tags) dataTag ≡ true → 1 ≤ length (dataOf s)
   as-data h =
       let r = as-parsed h in
-      subst (λ (f : Fields). has (f .tags) dataTag ≡ true → 1 ≤ length (dataOf s)) (sym (r .0)) (read-data s (known _ (r .1)))
+      subst (λ (f : Fields). has (f .tags) dataTag ≡ true → 1 ≤ length (dataOf s)) (sym (r .0))
+      (read-data s (known _ (r .1)))
 
   module _ (b : Bytes s) where
     halves-at : (t : ℕ) → t < tagCount → (x : Bool) → k (form (parse s)) ≡ x → Halves t (cond x (parse s) noFields)
@@ -135,27 +137,33 @@ module _ (k : Form → Bool) (none : k NoForm ≡ false) (known : (x : Form) →
       as-writable : writable (readAs k s) (dataOf s) ≡ true
       as-writable = let r = as-parsed h in rw (r .0) (writable-parse s (known _ (r .1)) b)
 
-      as-number : (t : ℕ) → t < tagCount → (t ≡ dataTag → ⊥) → has (readAs k s .tags) t ≡ true → InRow t (numberOf t (readAs k s))
+      as-number : (t : ℕ) → t < tagCount → (t ≡ dataTag → ⊥) → has (readAs k s .tags) t ≡ true
+          → InRow t (numberOf t (readAs k s))
       as-number t m n =
           let r = as-parsed h in
-          subst (λ (f : Fields). has (f .tags) t ≡ true → InRow t (numberOf t f)) (sym (r .0)) (λ e. in-row s b (known _ (r .1)) t m n e)
+          subst (λ (f : Fields). has (f .tags) t ≡ true → InRow t (numberOf t f)) (sym (r .0))
+          (λ e. in-row s b (known _ (r .1)) t m n e)
 
 module _ (s : List ℕ) where
   -- a request or a reply that was read is what the frame says
-  pub request-parsed : isRequestForm (form (readRequest s)) ≡ true → (readRequest s ≡ parse s) × (isRequestForm (form (parse s)) ≡ true)
+  pub request-parsed : isRequestForm (form (readRequest s)) ≡ true
+      → (readRequest s ≡ parse s) × (isRequestForm (form (parse s)) ≡ true)
   unfolding readRequest
   request-parsed = as-parsed isRequestForm refl request-form s
 
-  pub reply-parsed : isReplyForm (form (readReply s)) ≡ true → (readReply s ≡ parse s) × (isReplyForm (form (parse s)) ≡ true)
+  pub reply-parsed : isReplyForm (form (readReply s)) ≡ true
+      → (readReply s ≡ parse s) × (isReplyForm (form (parse s)) ≡ true)
   unfolding readReply
   reply-parsed = as-parsed isReplyForm refl reply-form s
 
   -- data that stand have some bytes
-  pub request-data : isRequestForm (form (readRequest s)) ≡ true → has (readRequest s .tags) dataTag ≡ true → 1 ≤ length (dataOf s)
+  pub request-data : isRequestForm (form (readRequest s)) ≡ true → has (readRequest s .tags) dataTag ≡ true
+      → 1 ≤ length (dataOf s)
   unfolding readRequest
   request-data = as-data isRequestForm refl request-form s
 
-  pub reply-data : isReplyForm (form (readReply s)) ≡ true → has (readReply s .tags) dataTag ≡ true → 1 ≤ length (dataOf s)
+  pub reply-data : isReplyForm (form (readReply s)) ≡ true → has (readReply s .tags) dataTag ≡ true
+      → 1 ≤ length (dataOf s)
   unfolding readReply
   reply-data = as-data isReplyForm refl reply-form s
 
@@ -179,7 +187,8 @@ module _ (s : List ℕ) where
       request-writable = as-writable isRequestForm refl request-form s b h
 
       -- a number is in the width and the range that the table says
-      pub request-number : (t : ℕ) → t < tagCount → (t ≡ dataTag → ⊥) → has (readRequest s .tags) t ≡ true → InRow t (numberOf t (readRequest s))
+      pub request-number : (t : ℕ) → t < tagCount → (t ≡ dataTag → ⊥) → has (readRequest s .tags) t ≡ true
+          → InRow t (numberOf t (readRequest s))
       unfolding readRequest
       request-number = as-number isRequestForm refl request-form s b h
 
@@ -192,7 +201,8 @@ module _ (s : List ℕ) where
       unfolding readReply
       reply-writable = as-writable isReplyForm refl reply-form s b h
 
-      pub reply-number : (t : ℕ) → t < tagCount → (t ≡ dataTag → ⊥) → has (readReply s .tags) t ≡ true → InRow t (numberOf t (readReply s))
+      pub reply-number : (t : ℕ) → t < tagCount → (t ≡ dataTag → ⊥) → has (readReply s .tags) t ≡ true
+          → InRow t (numberOf t (readReply s))
       unfolding readReply
       reply-number = as-number isReplyForm refl reply-form s b h
 
@@ -251,5 +261,6 @@ Reached k f n = (writable f segmentData ≡ true) × (k (form f) ≡ true) × (l
 -- both limits are reached
 pub largest-reached : Reached isRequestForm segmentRequest requestRoom × Reached isReplyForm segmentReply replyRoom
 unfolding segmentData segmentRequest segmentReply writable fieldsWritable fieldWritable contentOf contentsOf frameOf dataWhole
-    wellFormed listed spelled allowed inRange width valuesOf highOf lowOf number numberFrom bytesOf fieldBytes piece join formOf findForm rowFits
+    wellFormed listed spelled allowed inRange width valuesOf highOf lowOf number numberFrom bytesOf fieldBytes piece
+    join formOf findForm rowFits
 largest-reached = ((refl, refl, refl), (refl, refl, refl))

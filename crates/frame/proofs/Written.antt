@@ -49,7 +49,8 @@ module _ (f : Fields) (d old : List ℕ) where
   refused-accepted e = refused-at (accepted f d old) e
 
   module _ (n : ℕ) where
-    length-at : (b : Bool) → cond b (Length (length (frameOf f d))) Refused ≡ Length n → (b ≡ true) × (length (frameOf f d) ≡ n)
+    length-at : (b : Bool) → cond b (Length (length (frameOf f d))) Refused ≡ Length n
+        → (b ≡ true) × (length (frameOf f d) ≡ n)
     length-at true e = (refl, cc)
     length-at false e = let z : _≡_ {A = ℕ} 0 1 = cc in absurd (omega arith)
 

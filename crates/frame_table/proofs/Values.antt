@@ -16,7 +16,8 @@ narrow t = eqb t dataTag || (ltb 0 (width t) && leb (width t) 16)
 pub width-narrow : (t : ℕ) → t < tagCount → (t ≡ dataTag → ⊥) → (0 < width t) × (width t ≤ 16)
 unfolding narrow width
 width-narrow t h n =
-    let e = or-true (eqb t dataTag) (ltb 0 (width t) && leb (width t) 16) (ne-eqb t dataTag n) (every-below narrow tagCount refl t h) in
+    let e = or-true (eqb t dataTag) (ltb 0 (width t) && leb (width t) 16) (ne-eqb t dataTag n)
+    (every-below narrow tagCount refl t h) in
     let a = and-true (ltb 0 (width t)) (leb (width t) 16) e in
     (ltb-true 0 (width t) (a .0), leb-true (width t) 16 (a .1))
 
@@ -29,7 +30,8 @@ rangeWidth (Text x) w = true
 ranged : ℕ → Bool
 ranged t = rangeWidth (valuesOf t) (width t)
 
-pub range-narrow : (t least greatest : ℕ) → t < tagCount → valuesOf t ≡ Range least greatest → (0 < width t) × (width t ≤ 8)
+pub range-narrow : (t least greatest : ℕ) → t < tagCount → valuesOf t ≡ Range least greatest
+    → (0 < width t) × (width t ≤ 8)
 unfolding ranged width valuesOf
 range-narrow t least greatest h e =
     let r : rangeWidth (Range least greatest) (width t) ≡ true =

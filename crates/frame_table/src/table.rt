@@ -2,7 +2,8 @@
 use octets::bytes::wide;
 ghost use mathlib.Core.Path.{_≡_};
 ghost use Prim.Native.Nat.{_<_};
-ghost use Rattle.frame_table.specs.Table.{tagCount, fieldRow, width, valuesOf, inRange, allowed, formOf, isRequestForm, isReplyForm};
+ghost use Rattle.frame_table.specs.Table.{tagCount, fieldRow, width, valuesOf, inRange, allowed};
+ghost use Rattle.frame_table.specs.Table.{formOf, isRequestForm, isReplyForm};
 ghost use Rattle.frame_table.specs.declared.table.Characters.the-variants.{CapitalsOrDigits};
 ghost use Rattle.frame_table.specs.declared.table.Form.the-variants.{NoForm, Request};
 ghost use mathlib.Core.Bool.{cond};

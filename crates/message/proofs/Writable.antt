@@ -106,11 +106,13 @@ module _ (f : Fields) (d : List ℕ) (a : Fine f d) where
 
   with-last-mark : (mark : ℕ) → mark ≤ 1 → Fine (with lastMarkTag mark f) d
   unfolding width valuesOf
-  with-last-mark mark h = fine-range f d a lastMarkTag 1 mark 0 1 (refl, refl, refl) (omega arith) (omega arith) (omega arith) h
+  with-last-mark mark h = fine-range f d a lastMarkTag 1 mark 0 1 (refl, refl, refl) (omega arith) (omega arith)
+      (omega arith) h
 
   with-receipt-code : (code : ℕ) → code ≤ 1 → Fine (with receiptCodeTag code f) d
   unfolding width valuesOf
-  with-receipt-code code h = fine-range f d a receiptCodeTag 1 code 0 1 (refl, refl, refl) (omega arith) (omega arith) (omega arith) h
+  with-receipt-code code h = fine-range f d a receiptCodeTag 1 code 0 1 (refl, refl, refl) (omega arith)
+      (omega arith) (omega arith) h
 
   with-type : (v : ℕ) → v < 2 ^ 24 → listed orderTypeTag (bytesOf 3 v) ≡ true → Fine (with orderTypeTag v f) d
   unfolding width
@@ -128,7 +130,8 @@ module _ (f : Fields) (x : Form) where
   written : (d : List ℕ) → Fine f d → form f ≡ x → isForm x ≡ true → formLength x (length d) ≤ frameLimit
       → fieldWritable dataTag f d ≡ true → WrittenAs f d x
   written d a named known fits g =
-      let e : formLength (form f) (length d) ≡ formLength x (length d) = ap (λ (y : Form). formLength y (length d)) named in
+      let e : formLength (form f) (length d) ≡ formLength x (length d) = ap (λ (y : Form). formLength y (length d))
+      named in
       let w = fine-writable f d a g (rw named known) (omega arith) in
       record { long = a .long; accepted = w; named = named; size = form-length f d w ∙ e }
 
@@ -166,7 +169,8 @@ module _ (subscriber exchange : ℕ) (s : Sender subscriber exchange) where
   unfolding width valuesOf
   request-fine d phase h k =
       let p = with-phase noFields d (fine-none d) phase h k in
-      with-long _ d (with-short _ d p subscriberTag subscriber (refl, refl, refl) (s .0)) exchangeTag exchange (refl, refl, refl) (s .1)
+      with-long _ d (with-short _ d p subscriberTag subscriber (refl, refl, refl) (s .0)) exchangeTag exchange
+      (refl, refl, refl) (s .1)
 
   module _ (nonce : Bits128) (timestamp : ℕ) (v : Wide nonce) (t : timestamp < 2 ^ 32) where
     opening-fine : (orderType : ℕ) → orderType < 2 ^ 24 → listed orderTypeTag (bytesOf 3 orderType) ≡ true
@@ -174,7 +178,8 @@ module _ (subscriber exchange : ℕ) (s : Sender subscriber exchange) where
     unfolding width valuesOf
     opening-fine orderType h l =
         let a = with-type _ [] (request-fine [] initialisationPhase (omega arith) (omega arith)) orderType h l in
-        with-long _ [] (with-wide _ [] a nonceTag nonce (refl, refl, refl) v) timestampTag timestamp (refl, refl, refl) t
+        with-long _ [] (with-wide _ [] a nonceTag nonce (refl, refl, refl) v) timestampTag timestamp
+        (refl, refl, refl) t
 
     pub upload-opening-written : (segments : ℕ) → segments < 2 ^ 16
         → WrittenAs (uploadOpening subscriber exchange nonce timestamp segments) [] forms.UploadOpening
@@ -183,7 +188,8 @@ module _ (subscriber exchange : ℕ) (s : Sender subscriber exchange) where
         let a = with-short _ [] (opening-fine ful (omega arith) refl) segmentsTag segments (refl, refl, refl) h in
         plain _ forms.UploadOpening a refl refl refl refl refl
 
-    pub download-opening-written : WrittenAs (downloadOpening subscriber exchange nonce timestamp) [] forms.DownloadOpening
+    pub download-opening-written : WrittenAs (downloadOpening subscriber exchange nonce timestamp) []
+        forms.DownloadOpening
     unfolding downloadOpening width valuesOf listed spelled bytesOf allowed inRange formOf findForm rowFits
     download-opening-written =
         plain _ forms.DownloadOpening (opening-fine fdl (omega arith) refl) refl refl refl refl refl
@@ -192,10 +198,12 @@ module _ (subscriber exchange : ℕ) (s : Sender subscriber exchange) where
     transfer-fine : (d : List ℕ) (segment : ℕ) → segment < 2 ^ 16 → Fine (transferOf subscriber exchange transaction segment) d
     unfolding width valuesOf
     transfer-fine d segment h =
-        let a = with-wide _ d (request-fine d transferPhase (omega arith) (omega arith)) transactionTag transaction (refl, refl, refl) v in
+        let a = with-wide _ d (request-fine d transferPhase (omega arith) (omega arith)) transactionTag transaction
+        (refl, refl, refl) v in
         with-short _ d a segmentTag segment (refl, refl, refl) h
 
-    pub upload-transfer-written : (segment lastMark : ℕ) (d : List ℕ) → segment < 2 ^ 16 → lastMark ≤ 1 → Content d forms.UploadTransfer
+    pub upload-transfer-written : (segment lastMark : ℕ) (d : List ℕ) → segment < 2 ^ 16 → lastMark ≤ 1
+        → Content d forms.UploadTransfer
         → WrittenAs (uploadTransfer subscriber exchange transaction segment lastMark) d forms.UploadTransfer
     unfolding uploadTransfer width formOf findForm rowFits
     upload-transfer-written segment lastMark d h k c =
@@ -208,10 +216,12 @@ module _ (subscriber exchange : ℕ) (s : Sender subscriber exchange) where
     download-transfer-written segment h =
         plain _ forms.DownloadTransfer (transfer-fine [] segment h) refl refl refl refl refl
 
-    pub receipt-written : (code : ℕ) → code ≤ 1 → WrittenAs (receipt subscriber exchange transaction code) [] forms.Receipt
+    pub receipt-written : (code : ℕ) → code ≤ 1
+        → WrittenAs (receipt subscriber exchange transaction code) [] forms.Receipt
     unfolding receipt width valuesOf formOf findForm rowFits
     receipt-written code h =
-        let a = with-wide _ [] (request-fine [] receiptPhase (omega arith) (omega arith)) transactionTag transaction (refl, refl, refl) v in
+        let a = with-wide _ [] (request-fine [] receiptPhase (omega arith) (omega arith)) transactionTag transaction
+        (refl, refl, refl) v in
         plain _ forms.Receipt (with-receipt-code _ [] a code h) refl refl refl refl refl
 
 -- ---- replies
@@ -224,9 +234,11 @@ unreadable-written =
 module _ (exchange : ℕ) (s : exchange < 2 ^ 32) where
   reply-fine : (d : List ℕ) (phase : ℕ) → 1 ≤ phase → phase ≤ 3 → Fine (replyOf phase exchange) d
   unfolding width valuesOf
-  reply-fine d phase h k = with-long _ d (with-phase noFields d (fine-none d) phase h k) exchangeTag exchange (refl, refl, refl) s
+  reply-fine d phase h k = with-long _ d (with-phase noFields d (fine-none d) phase h k) exchangeTag exchange
+      (refl, refl, refl) s
 
-  pub refusal-written : (phase : ℕ) (c : ReturnCode) → 1 ≤ phase → phase ≤ 3 → WrittenAs (refusal phase exchange c) [] forms.Refusal
+  pub refusal-written : (phase : ℕ) (c : ReturnCode) → 1 ≤ phase → phase ≤ 3
+      → WrittenAs (refusal phase exchange c) [] forms.Refusal
   unfolding refusal formOf findForm rowFits width
   refusal-written phase c h k =
       plain _ forms.Refusal (with-code _ [] (reply-fine [] phase h k) c) refl refl refl refl refl
@@ -241,7 +253,8 @@ module _ (exchange : ℕ) (s : exchange < 2 ^ 32) where
     unfolding uploadOpened width valuesOf formOf findForm rowFits
     upload-opened-written orderNumber h =
         let a = with-code _ [] (answer-fine [] initialisationPhase (omega arith) (omega arith)) code.Ok in
-        plain _ forms.UploadOpened (with-long _ [] a orderNumberTag orderNumber (refl, refl, refl) h) refl refl refl refl refl
+        plain _ forms.UploadOpened (with-long _ [] a orderNumberTag orderNumber (refl, refl, refl) h) refl refl refl
+        refl refl
 
     point-written : (phase segment : ℕ) (c : ReturnCode) → 1 ≤ phase → phase ≤ 3 → segment < 2 ^ 16
         → WrittenAs (pointOf phase exchange transaction segment c) [] forms.SegmentTaken
@@ -260,7 +273,8 @@ module _ (exchange : ℕ) (s : exchange < 2 ^ 32) where
     unfolding recoveryPoint
     recovery-point-written phase segment = point-written phase segment code.RecoverySync
 
-    pub receipt-answered-written : (c : ReturnCode) → WrittenAs (receiptAnswered exchange transaction c) [] forms.ReceiptAnswered
+    pub receipt-answered-written : (c : ReturnCode)
+        → WrittenAs (receiptAnswered exchange transaction c) [] forms.ReceiptAnswered
     unfolding receiptAnswered formOf findForm rowFits width
     receipt-answered-written c =
         let a = with-code _ [] (answer-fine [] receiptPhase (omega arith) (omega arith)) c in
@@ -272,15 +286,19 @@ module _ (exchange : ℕ) (s : exchange < 2 ^ 32) where
     segment-fine f d segment lastMark a h k =
         fine-data _ d (with-last-mark _ d (with-short f d a segmentTag segment (refl, refl, refl) h) lastMark k)
 
-    pub download-opened-written : (segments lastMark : ℕ) (d : List ℕ) → segments < 2 ^ 16 → lastMark ≤ 1 → Content d forms.DownloadOpened
+    pub download-opened-written : (segments lastMark : ℕ) (d : List ℕ) → segments < 2 ^ 16 → lastMark ≤ 1
+        → Content d forms.DownloadOpened
         → WrittenAs (downloadOpened exchange segments transaction lastMark) d forms.DownloadOpened
     unfolding downloadOpened width valuesOf formOf findForm rowFits
     download-opened-written segments lastMark d h k c =
-        let r = with-short _ d (reply-fine d initialisationPhase (omega arith) (omega arith)) segmentsTag segments (refl, refl, refl) h in
-        let a = segment-fine _ d 1 lastMark (with-wide _ d r transactionTag transaction (refl, refl, refl) v) (omega arith) k in
+        let r = with-short _ d (reply-fine d initialisationPhase (omega arith) (omega arith)) segmentsTag segments
+        (refl, refl, refl) h in
+        let a = segment-fine _ d 1 lastMark (with-wide _ d r transactionTag transaction (refl, refl, refl) v)
+        (omega arith) k in
         carrying _ forms.DownloadOpened d c (with-code _ d a code.Ok) refl refl refl refl refl
 
-    pub download-segment-written : (segment lastMark : ℕ) (d : List ℕ) → segment < 2 ^ 16 → lastMark ≤ 1 → Content d forms.DownloadSegment
+    pub download-segment-written : (segment lastMark : ℕ) (d : List ℕ) → segment < 2 ^ 16 → lastMark ≤ 1
+        → Content d forms.DownloadSegment
         → WrittenAs (downloadSegment exchange transaction segment lastMark) d forms.DownloadSegment
     unfolding downloadSegment formOf findForm rowFits width
     download-segment-written segment lastMark d h k c =

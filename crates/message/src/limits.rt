@@ -1,9 +1,9 @@
-// The numbers of document 01 that the bank and the client share. Each has the same name in specs/Limits.antt, SEGMENT_SIZE that of SEGMENT_BYTES.
+// The numbers of document 01 that the bank and the client share. Each has the same name in specs/Limits.antt.
 
 // The bytes of a segment but the last.
 pub const SEGMENT_BYTES: usize = 256;
 
-// The same as a count of a file's bytes.
+// The same as a count of a file's bytes: segmentBytes too.
 pub const SEGMENT_SIZE: u64 = SEGMENT_BYTES as u64;
 
 // The most segments of an order.

@@ -48,7 +48,8 @@ returns-2 c =
     let at-values = at-range .before .before in
     let a = at-values .before .before .args in
     let e = sym (at-values .values-of .ensures) ∙ at-range .values .given .1 in
-    c .in-range .ensures ∙ ap (inRange _ _) (c .before .number .ensures .0) ∙ sym (listed-as (a .tag) (a .content .now) _ e)
+    c .in-range .ensures ∙ ap (inRange _ _) (c .before .number .ensures .0)
+    ∙ sym (listed-as (a .tag) (a .content .now) _ e)
 
 returns-3 : tie.Need-returns-3
 returns-3 c =

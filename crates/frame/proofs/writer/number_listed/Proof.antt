@@ -1,4 +1,5 @@
--- `number_listed` meets its contract: the values of the tag say which test it is, and a number in a range has no high half. Assumes nothing.
+-- `number_listed` meets its contract: the values of the tag say which test it is; a number in a range has no high half.
+-- Assumes nothing.
 use Prim.Native.Nat.{_+_, _*_, _^_}
 use mathlib.Core.Path.{_≡_, sym, ap, _∙_}
 use native.Mathlib.Omega.{arith}
