@@ -76,7 +76,7 @@ module _ (f : Fields) (d : List ℕ) where
       length-append (piece t (contentOf t f d)) (join (t + 1) (contentsOf k (t + 1) f d)) ∙ rw (p, length-join k (t + 1) (a .1))
 
   module _ (h : writable f d ≡ true) where
-    writable-parts : (isForm (form f) ≡ true) × (fieldsWritable tagCount 0 f d ≡ true)
+    pub writable-parts : (isForm (form f) ≡ true) × (fieldsWritable tagCount 0 f d ≡ true)
     unfolding writable
     writable-parts =
         let a = and-true (isForm (form f) && fieldsWritable tagCount 0 f d) (leb (length (frameOf f d)) frameLimit) h in

@@ -66,6 +66,12 @@ number-bounds t f d g e n =
     let b = well-formed t (contentOf t f d) (g .fit e) .bytes in
     (subst (λ (x : ℕ). x < 256 ^ width t) z (number-lt (width t) (numberOf t f)), rw k at b)
 
+pub field-in-row : (t : ℕ) (f : Fields) (d : List ℕ) → FieldWritable t f d → has (f .tags) t ≡ true → (t ≡ dataTag → ⊥)
+    → InRow t (numberOf t f)
+field-in-row t f d g e n =
+    let r = number-bounds t f d g e n in
+    record { fits = r .0; within = λ least greatest v. range-listed t least greatest (numberOf t f) v (r .0) (r .1) }
+
 lt-le : {x y z : ℕ} → x < y → y ≤ z → x < z
 lt-le h k = omega arith
 
@@ -113,12 +119,7 @@ module _ (s : List ℕ) (b : Bytes s) (h : isForm (form (parse s)) ≡ true) (t 
 
     -- and in the range of its tag
     pub in-row : InRow t (numberOf t (parse s))
-    in-row =
-        let r = read-value in
-        record {
-          fits = r .0;
-          within = λ least greatest v. range-listed t least greatest (numberOf t (parse s)) v (r .0) (r .1);
-        }
+    in-row = field-in-row t (parse s) (dataOf s) field-read e n
 
 -- ---- "data, 1 or more"
 

@@ -3,6 +3,7 @@ use Prim.Native.Nat.{ℕ, _≤_, _<_}
 use mathlib.Core.List.{List, [], _∷_}
 use mathlib.Core.Bool.{Bool, true, false, cond}
 use mathlib.Core.Path.{_≡_, refl, sym, ap, _∙_, subst}
+use native.Mathlib.Nat.{zero-add}
 use native.Mathlib.Omega.{arith}
 use lib.ListN.{length, take, replicate, getD-replicate}
 use Rattle.frame_table.specs.declared.fields.Fields.{Fields}
@@ -57,10 +58,11 @@ use Rattle.frame.specs.Writer.{
 }
 use Rattle.octets.proofs.Tests.{never}
 use Rattle.frame_table.proofs.Forms.{request-not-reply, reply-not-request, request-form, reply-form}
-use Rattle.frame.proofs.RoundTrip.{Sized, parse-frameOf, dataOf-frameOf, frameOf-parse, writable-parse}
-use Rattle.frame.proofs.Lengths.{form-length, length-limit, length-least, opening-length}
+use Rattle.frame.proofs.Loops.{field-writable}
+use Rattle.frame.proofs.RoundTrip.{Sized, parse-frameOf, dataOf-frameOf, frameOf-parse, writable-parse, writable-at}
+use Rattle.frame.proofs.Lengths.{writable-parts, form-length, length-limit, length-least, opening-length}
 use Rattle.frame.proofs.Written.{written-front}
-use Rattle.frame.proofs.Parsed.{numberOf, Halves, InRow, read-halves, in-row, read-data}
+use Rattle.frame.proofs.Parsed.{numberOf, Halves, InRow, field-in-row, read-halves, in-row, read-data}
 
 -- ---- what is written is read as the same fields and data
 
@@ -205,6 +207,13 @@ module _ (s : List ℕ) where
           → InRow t (numberOf t (readReply s))
       unfolding readReply
       reply-number = as-number isReplyForm refl reply-form s b h
+
+-- the writer accepts a number only in the width and the range that the table says: else it gives number 1
+pub written-number : (f : Fields) (d : List ℕ) → writable f d ≡ true → (t : ℕ) → t < tagCount → (t ≡ dataTag → ⊥)
+    → has (f .tags) t ≡ true → InRow t (numberOf t f)
+written-number f d h t m n e =
+    let w = rw zero-add at (writable-at f d tagCount 0 t (writable-parts f d h .1) m .0) in
+    field-in-row t f d (field-writable t f d w) e n
 
 -- ---- request forms and reply forms cannot be taken for each other
 

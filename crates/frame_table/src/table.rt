@@ -161,20 +161,20 @@ fn field_row(tag: usize) -> Field
     ensures { λ r. ⌜ r ≡ fieldRow tag ⌝ }
 {
     match tag {
-        0 => Field(1, Values::Range(1, 0)), // 00 stands nowhere
-        1 => Field(1, Values::Range(1, 3)), // 01 phase
-        2 => Field(2, Values::Any), // 02 subscriber
-        3 => Field(4, Values::Any), // 03 exchange number
-        4 => Field(3, Values::Text(Characters::CapitalsOrDigits)), // 04 order type
-        5 => Field(16, Values::Any), // 05 nonce
-        6 => Field(4, Values::Any), // 06 timestamp
-        7 => Field(2, Values::Any), // 07 number of segments
-        8 => Field(16, Values::Any), // 08 transaction ID
-        9 => Field(2, Values::Any), // 09 segment number
-        10 => Field(1, Values::Range(0, 1)), // 0A last mark
-        11 => Field(0, Values::Any), // 0B data
-        12 => Field(1, Values::Range(0, 1)), // 0C receipt code
-        13 => Field(6, Values::Text(Characters::Digits)), // 0D return code
+        0 => Field(1, Values::Range(1, 0)), // 00, which stands nowhere
+        PHASE => Field(1, Values::Range(1, 3)), // 01
+        SUBSCRIBER => Field(2, Values::Any), // 02
+        EXCHANGE => Field(4, Values::Any), // 03
+        ORDER_TYPE => Field(3, Values::Text(Characters::CapitalsOrDigits)), // 04
+        NONCE => Field(16, Values::Any), // 05
+        TIMESTAMP => Field(4, Values::Any), // 06
+        SEGMENTS => Field(2, Values::Any), // 07
+        TRANSACTION => Field(16, Values::Any), // 08
+        SEGMENT => Field(2, Values::Any), // 09
+        LAST_MARK => Field(1, Values::Range(0, 1)), // 0A
+        DATA => Field(0, Values::Any), // 0B
+        RECEIPT_CODE => Field(1, Values::Range(0, 1)), // 0C
+        RETURN_CODE => Field(6, Values::Text(Characters::Digits)), // 0D
         _ => Field(4, Values::Any), // 0E order number
     }
 }
