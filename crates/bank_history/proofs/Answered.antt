@@ -2,7 +2,7 @@
 use Prim.Native.Nat.{ℕ, _≤_}
 use mathlib.Core.Bool.{true}
 use mathlib.Core.List.{List, []}
-use mathlib.Core.Path.{_≡_, ap}
+use mathlib.Core.Path.{_≡_, refl, ap}
 use native.Mathlib.Omega.{arith}
 use lib.ListN.{length, length-take, length-drop}
 use borrow.Author.Tests.{eq-eqb, le-leb}
@@ -11,7 +11,8 @@ use Rattle.octets.specs.Bytes.{number}
 use Rattle.frame_table.specs.Names.{segment}
 use Rattle.frame.specs.Reader.{readRequest}
 use Rattle.frame.specs.Row.{dataOf}
-use Rattle.frame.specs.Writer.{frameOf, writable, accepted, writeAnswer}
+use Rattle.frame.specs.Writer.{frameOf, writable}
+use Rattle.frame.proofs.Written.{written-in-front}
 use Rattle.message.specs.Limits.{segmentBytes}
 use Rattle.message.specs.Segments.{segmentsOf, segmentOf}
 use Rattle.bank_state.specs.Clock.{advanced}
@@ -67,16 +68,13 @@ pub frame-answered : (a : FrameInput) (p : Past) → Holds p → length (a .ids)
     (dataOf (a .frame)) in
     (writable (s .reply) (s .replyData) ≡ true) × (length (frameOf (s .reply) (s .replyData)) ≤ replyRoom)) →
     after (Frame a) p ≡ answered a p
-unfolding after frameCall writeAnswer accepted
+unfolding after frameCall
 frame-answered a p holds right room can =
     let s : Step =
     respond (number (a .ids)) (advanced (a .time) (p .bankState)) (readRequest (a .frame)) (dataOf (a .frame)) in
     let short = can .1 in
-    rw (
-      lent-right p (a .ids) (a .buffer) holds right room,
-      can .0,
-      le-leb (length (frameOf (s .reply) (s .replyData))) (length (a .buffer)) (omega arith),
-    )
+    let front = written-in-front (s .reply) (s .replyData) (a .buffer) _ (can .0) refl (omega arith) .0 in
+    rw (lent-right p (a .ids) (a .buffer) holds right room, front)
 
 -- ---- a reply's data
 

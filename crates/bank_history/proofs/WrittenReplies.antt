@@ -1,19 +1,19 @@
--- Each reply of the bank can be written, in 9 to 312 bytes.
-use Prim.Native.Nat.{ℕ, _+_, _-_, _*_, _/_, _%_, _^_, _≤_, _<_}
+-- Each reply of the bank can be written, in as many bytes as the tables say of its form.
+use Prim.Native.Nat.{ℕ, _+_, _/_, _%_, _^_, _≤_, _<_}
 use mathlib.Core.Bool.{Bool, true, false, cond}
 use mathlib.Core.List.{List, []}
 use mathlib.Core.Path.{_≡_, refl, sym, ap, _∙_, subst}
 use native.Mathlib.Omega.{arith}
 use lib.Dec.{eqb}
-use lib.ListN.{length, drop, length-take, length-drop}
+use lib.ListN.{length, length-take, length-drop}
 use Rattle.frame_table.specs.declared.fields.Bits128.{Bits128}
 use Rattle.frame_table.specs.declared.fields.Fields.{Fields}
 use Rattle.frame_table.specs.declared.table.Form.{Form}
-use Rattle.frame_table.specs.Names.{phase, subscriber, exchange, transaction, segment, sameBits}
-use Rattle.frame_table.specs.Table.{isReplyForm}
-use Rattle.frame.specs.Writer.{replyRoom}
-use Rattle.octets.specs.Bytes.{Bytes}
-use Rattle.octets.proofs.Numbers.{bytes-take, bytes-drop}
+use Rattle.frame_table.specs.Forms as forms
+use Rattle.frame_table.specs.Names.{phase, subscriber, exchange, transaction, segment, form, sameBits}
+use Rattle.frame_table.specs.Table.{isReplyForm, isForm}
+use Rattle.frame.specs.Writer.{frameOf, replyRoom, smallestReply}
+use Rattle.frame.proofs.Theorems.{reply-length, reply-least}
 use Rattle.frame_table.proofs.Bits.{bits-same}
 use Rattle.message.specs.declared.codes.ReturnCode.{ReturnCode}
 use Rattle.message.specs.declared.codes.ReturnCode.the-variants as code
@@ -26,6 +26,7 @@ use Rattle.message.proofs.Writable.{
   WrittenAs,
   Wide,
   Content,
+  segment-content,
   unreadable-written,
   refusal-written,
   upload-opened-written,
@@ -61,7 +62,6 @@ use Rattle.bank_verdicts.proofs.Sound as sound
 use Rattle.message.specs.OrderNumbers.{orderNumberOf}
 use Rattle.bank.specs.Call.{stepBy, mailboxSegment}
 use Rattle.bank_history.specs.History.{mailboxFile}
-use Rattle.bank_history.specs.Answers.{smallestReply}
 use Rattle.bank_history.proofs.Cases.{
   Happens,
   ToUpload,
@@ -76,20 +76,27 @@ use Rattle.bank_state.proofs.Found.{upload-found, download-found}
 use Rattle.bank_history.proofs.Downloads.{kept-long, carried-segment}
 use Rattle.bank_history.proofs.Answered.{segment-length}
 use Rattle.bank_history.proofs.RequestBounds.{InWidth}
-use Rattle.bank_history.proofs.MailboxBytes.{file-bytes}
 
 -- a reply that can be written, in as many bytes as the buffer has room for
 pub record WrittenReply (f : Fields) (d : List ℕ) : Type 0 where
   pub named : Form
-  pub size : ℕ
-  pub written : WrittenAs f d named size
-  pub kind : isReplyForm named ≡ true
-  pub least : smallestReply ≤ size
-  pub most : size ≤ replyRoom
+  pub written : WrittenAs f d named
+  pub kind : isReplyForm (form f) ≡ true
+  pub least : smallestReply ≤ length (frameOf f d)
+  pub most : length (frameOf f d) ≤ replyRoom
 
-pub sent : {f : Fields} {d : List ℕ} {x : Form} {n : ℕ} → isReplyForm x ≡ true → smallestReply ≤ n → n ≤ replyRoom →
-    WrittenAs f d x n → WrittenReply f d
-sent {x = x} {n = n} k l m w = record { named = x; size = n; written = w; kind = k; least = l; most = m }
+-- a reply with at most a whole segment as its data is one
+pub sent : {f : Fields} {d : List ℕ} {x : Form} → isReplyForm x ≡ true → length d ≤ segmentBytes → WrittenAs f d x
+    → WrittenReply f d
+sent {f = f} {d = d} {x = x} k m w =
+    let kind = ap isReplyForm (w .named) ∙ k in
+    record {
+      named = x;
+      written = w;
+      kind = kind;
+      least = reply-least f d (w .accepted) kind;
+      most = reply-length f d (w .accepted) kind m;
+    }
 
 -- ---- the numbers that the bank writes
 
@@ -113,9 +120,10 @@ phase-range false = (omega arith, omega arith)
 -- ---- each case of a request
 
 module _ (w : BankState) (range : InRange (w .bank)) (long : length (w .mailboxes) ≡ storeBytes) (q : Fields)
-    (r : InWidth q) (bytes : Bytes (w .mailboxes)) where
+    (r : InWidth q) where
   refused-written : (c : ReturnCode) → WrittenReply (refusal (phase q) (exchange q) c) []
-  refused-written c = sent refl (omega arith) (omega arith) (refusal-written (exchange q) (r .numbered) (phase q) c (r .some) (r .most))
+  refused-written c = sent refl (omega arith) (refusal-written (exchange q) (r .numbered) (phase q) c (r .some)
+      (r .most))
 
   -- a mailbox has at most 15 segments
   segments-most : (s : ℕ) → segmentsOf (length (mailboxFile w s)) ≤ maxSegments
@@ -133,16 +141,8 @@ module _ (w : BankState) (range : InRange (w .bank)) (long : length (w .mailboxe
     part-long : (1 ≤ length part) × (length part ≤ segmentBytes)
     part-long = rw part-is (segment-length (mailboxFile w (subscriber q)) n some within)
 
-    part-bytes : Bytes part
-    unfolding segmentOf
-    part-bytes =
-        let file : List ℕ = mailboxFile w (subscriber q) in
-        let from : ℕ = (n - 1) * segmentBytes in
-        subst Bytes (sym part-is)
-        (bytes-take segmentBytes (drop from file) (bytes-drop from file (file-bytes w (subscriber q) bytes)))
-
-    part-content : (rest : ℕ) → rest ≤ 56 → Content part rest
-    part-content rest few = let l = part-long in record { some = l .0; most = omega arith; bytes = part-bytes }
+    part-content : (x : Form) → isForm x ≡ true → Content part x
+    part-content x known = segment-content part x known (part-long .0) (part-long .1)
 
   -- to the open upload that is found
   module _ (d : List ℕ) (k : TransactionRequest) (u : UploadAction) (c : ToUpload w q d k u) where
@@ -156,13 +156,13 @@ module _ (w : BankState) (range : InRange (w .bank)) (long : length (w .mailboxe
     upload-open = ap isOpen (is-upload .0)
 
     upload-wide : Wide (p .transaction)
-    upload-wide = subst Wide (sym (bits-same (p .transaction) (transaction q) (is-upload .2))) (r .wide k (c .asked))
+    upload-wide = subst Wide (sym (bits-same (p .transaction) (transaction q) (is-upload .2))) (r .wide)
 
     taken-written : segment q ≡ p .taken + 1 → WrittenReply (segmentTaken (exchange q) (p .transaction) (segment q)) []
     taken-written next =
         let a = range .below (uploadAt (w .bank) q) upload-open in
         let b = range .few (uploadAt (w .bank) q) upload-open in
-        sent refl (omega arith) (omega arith)
+        sent refl (omega arith)
         (segment-taken-written (exchange q) (r .numbered) (p .transaction) upload-wide (segment q) (omega arith))
 
     sound-upload-written : {a : UploadAction} → UploadSound k p q a → WrittenReply (uploadReply a (p .transaction) q) []
@@ -172,7 +172,7 @@ module _ (w : BankState) (range : InRange (w .bank)) (long : length (w .mailboxe
         let a = range .below (uploadAt (w .bank) q) upload-open in
         let b = range .few (uploadAt (w .bank) q) upload-open in
         let c = phase-range (eqb (p .taken) 0) in
-        sent refl (omega arith) (omega arith)
+        sent refl (omega arith)
         (recovery-point-written (exchange q) (r .numbered) (p .transaction) upload-wide (uploadPointPhase (p .taken)) (p .taken)
         (c .0) (c .1) (omega arith))
     sound-upload-written (sound.abort fits many) = refused-written code.TransactionAbort
@@ -197,7 +197,7 @@ module _ (w : BankState) (range : InRange (w .bank)) (long : length (w .mailboxe
         (f .0, f .1, bits-same (e .transaction) (transaction q) (f .2))
 
     download-wide : Wide (e .transaction)
-    download-wide = subst Wide (sym (is-found .2)) (r .wide k (c .asked))
+    download-wide = subst Wide (sym (is-found .2)) (r .wide)
 
     segments-now : n ≡ segmentsOf (length (mailboxFile w (subscriber q)))
     segments-now =
@@ -213,14 +213,14 @@ module _ (w : BankState) (range : InRange (w .bank)) (long : length (w .mailboxe
     segment-written some most =
         let b = segments-most (subscriber q) in
         let l = part-long (segment q) some most in
-        sent refl (omega arith) (omega arith)
+        sent refl (omega arith)
         (download-segment-written (exchange q) (r .numbered) (e .transaction) download-wide (segment q)
         (lastMarkOf (segment q) n) (mailboxSegment w (subscriber q) (segment q)) (omega arith)
-        (mark-most (segment q) n) (part-content (segment q) some most 51 (omega arith)))
+        (mark-most (segment q) n) (part-content (segment q) some most forms.DownloadSegment refl))
 
     receipt-written : (x : ReturnCode) → WrittenReply (receiptAnswered (exchange q) (e .transaction) x) []
     receipt-written x =
-        sent refl (omega arith) (omega arith) (receipt-answered-written (exchange q) (r .numbered) (e .transaction) download-wide x)
+        sent refl (omega arith) (receipt-answered-written (exchange q) (r .numbered) (e .transaction) download-wide x)
 
     sound-download-written : {a : DownloadAction} → DownloadSound k e n q a →
         WrittenReply (downloadReply a (e .transaction) q) (mailboxSegment w (subscriber q) (downloadSegmentIn a q))
@@ -231,7 +231,7 @@ module _ (w : BankState) (range : InRange (w .bank)) (long : length (w .mailboxe
         let b = segments-most (subscriber q) in
         let l = within in
         let c = phase-range (eqb (e .delivered) 1) in
-        sent refl (omega arith) (omega arith)
+        sent refl (omega arith)
         (recovery-point-written (exchange q) (r .numbered) (e .transaction) download-wide (downloadPointPhase (e .delivered))
         (e .delivered) (c .0) (c .1) (omega arith))
     sound-download-written (sound.cancelled fits many) = refused-written code.TransactionAbort
@@ -251,7 +251,7 @@ module _ (w : BankState) (range : InRange (w .bank)) (long : length (w .mailboxe
 
     upload-opening-written : WrittenReply (uploadOpened (exchange q) t (orderNumberOf (w .bank .openings))) []
     upload-opening-written =
-        sent refl (omega arith) (omega arith)
+        sent refl (omega arith)
         (upload-opened-written (exchange q) (r .numbered) t opening-wide
         (orderNumberOf (w .bank .openings)) (order-number-lt (w .bank .openings)))
 
@@ -265,14 +265,14 @@ module _ (w : BankState) (range : InRange (w .bank)) (long : length (w .mailboxe
         let m : n ≡ segmentsOf (length (mailboxFile w (subscriber q))) = ap segmentsOf (sym f) in
         let s = some-segment (length (mailboxFile w (subscriber q))) (not-zero _ (λ z. full (sym f ∙ z))) in
         let l = part-long 1 (omega arith) s in
-        sent refl (omega arith) (omega arith)
+        sent refl (omega arith)
         (download-opened-written (exchange q) (r .numbered) t opening-wide n (lastMarkOf 1 n) (mailboxSegment w (subscriber q) 1)
-        (omega arith) (mark-most 1 n) (part-content 1 (omega arith) s 56 (omega arith)))
+        (omega arith) (mark-most 1 n) (part-content 1 (omega arith) s forms.DownloadOpened refl))
 
   pub case-written : {first : ℕ} {d : List ℕ} {x : Verdict} → first < 2 ^ 64 → Happens first w q d x →
       WrittenReply (stepBy x w q d .reply) (stepBy x w q d .replyData)
   unfolding mailboxSegment
-  case-written small cases.unreadable = sent refl (omega arith) (omega arith) unreadable-written
+  case-written small cases.unreadable = sent refl (omega arith) unreadable-written
   case-written small (cases.refused c e) = refused-written c
   case-written {first = first} {d = d} small (opensUpload asked a g n p) = upload-opening-written d first small a g
   case-written {first = first} {d = d} small (opensDownload asked a g n) = download-opening-written d first small a g n

@@ -5,7 +5,7 @@ use mathlib.Core.Path.{_≡_}
 use lib.ListN.{take, drop}
 use Rattle.frame.specs.Reader.{readReply}
 use Rattle.frame.specs.Row.{dataOf}
-use Rattle.frame.specs.Writer.{replyRoom}
+use Rattle.frame.specs.Writer.{replyRoom, smallestReply}
 use Rattle.octets.specs.Bytes.{Bytes}
 use Rattle.bank.specs.declared.call.FrameAnswer.the-variants.{Reply}
 use Rattle.bank.specs.Call.{FrameCall}
@@ -19,10 +19,6 @@ BytesIn (File mailbox file) = Bytes file
 pub data AllBytes : List BankCall → Type 0 where
   none : AllBytes []
   more : {c : BankCall} {calls : List BankCall} → BytesIn c → AllBytes calls → AllBytes (c ∷ calls)
-
--- "unreadable request 0D": three bytes and six digits
-abbrev pub smallestReply : ℕ
-smallestReply = 9
 
 -- the call c into the buffer old is answered by a frame, which says the reply of the exchange e with its data;
 -- "reply bytes behind the reply are untouched"

@@ -8,7 +8,7 @@ use crate::run::Step;
 use crate::run::Word;
 use frame_table::fields::Bits128;
 use frame_table::fields::Fields;
-use message::limits::SEGMENT_BYTES;
+use message::limits::SEGMENT_SIZE;
 use message::segments::segments_of;
 ghost use mathlib.Core.Path.{_≡_};
 ghost use Prim.Native.Nat.{_+_, _*_, _^_, _≤_, _<_, max};
@@ -18,9 +18,6 @@ ghost use Rattle.message.specs.Limits.{segmentBytes, maxSegments};
 ghost use Rattle.client.specs.Run.{maxExchange};
 ghost use Rattle.client.specs.NextRun.{beginLength, begun, stepBehind, receiptsBehind, goOn, repeated, learned};
 ghost use Rattle.client.specs.NextRun.{isNew, holding, ended};
-
-// The bytes of a segment but the last, as a count of a file's bytes.
-const SEGMENT: u64 = SEGMENT_BYTES as u64;
 
 // The bytes that count of what is lent to begin.
 pub(crate) fn begin_length(direction: Direction, l: Lengths) -> u64
@@ -211,7 +208,7 @@ pub(crate) fn holding(d: usize, c: Client) -> Client
         return c;
     }
     let mut next = c;
-    next.length = (c.segment - 1) * SEGMENT + d as u64;
+    next.length = (c.segment - 1) * SEGMENT_SIZE + d as u64;
     next.held = c.held + 1;
     next
 }

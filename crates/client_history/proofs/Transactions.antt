@@ -1,23 +1,14 @@
 -- A run's transaction ID is 16 bytes, over every list of events that bring bytes: it is read from a reply. Assumes nothing.
-use Prim.Native.Nat.{ℕ, _+_, _*_, _^_, _<_}
-use mathlib.Core.Bool.{Bool, true, false}
+use Prim.Native.Nat.{ℕ}
 use mathlib.Core.List.{List, [], _∷_}
 use mathlib.Core.Path.{_≡_, refl, sym, subst, _∙_}
-use native.Mathlib.Nat.{div-lt-iff-lt-mul, mod-lt}
 use native.Mathlib.Omega.{arith}
-use lib.Dec.{lit<}
-use lib.ListN.{length, getD}
-use Rattle.octets.specs.Bytes.{Bytes, number}
-use Rattle.octets.proofs.Numbers.{number-nil, number-lt}
+use Rattle.octets.specs.Bytes.{Bytes}
 use Rattle.frame_table.specs.declared.fields.Fields.{Fields}
-use Rattle.frame_table.specs.Names.{form, transaction}
-use Rattle.frame_table.specs.Table.{tagCount, transactionTag, width, has, isReplyForm}
-use Rattle.frame_table.proofs.Forms.{reply-form}
-use Rattle.frame.specs.Reader.{parse, readReply}
-use Rattle.frame.specs.Row.{highOf, lowOf, dataOf}
-use Rattle.frame.specs.Writer.{contentOf}
-use Rattle.frame.proofs.Loops.{FieldWritable, field-writable, content-absent, content-number}
-use Rattle.frame.proofs.RoundTrip.{parsed-says, writable-at}
+use Rattle.frame_table.specs.Names.{transaction}
+use Rattle.frame_table.specs.Table.{transactionTag}
+use Rattle.frame.specs.Reader.{readReply}
+use Rattle.frame.proofs.Theorems.{reply-halves}
 use Rattle.message.proofs.Writable.{Wide}
 use Rattle.client.specs.declared.run.Client.{Client}
 use Rattle.client.specs.declared.run.Decision.{Decision}
@@ -32,35 +23,9 @@ use Rattle.client_history.proofs.NextRuns.{held-same, learned-transacti
 
 -- ---- what is read
 
-number-wide : (f : Fields) (d : List ℕ) → number (contentOf transactionTag f d) < 256 ^ 16 → FieldWritable transactionTag f d
-    → Wide (transaction f)
-unfolding highOf lowOf
-number-wide f d n w =
-    let x = number (contentOf transactionTag f d) in
-    let some : 0 < 2 ^ 64 = lit< tt in (
-      subst (λ (y : ℕ). y < 2 ^ 64) (w .high) (div-lt-iff-lt-mul {k = 2 ^ 64} {x = x} {y = 2 ^ 64} some .1 n),
-      subst (λ (y : ℕ). y < 2 ^ 64) (w .low) (mod-lt x some),
-    )
-
-content-small : (f : Fields) (d : List ℕ) (b : Bool) → has (f .tags) transactionTag ≡ b → number (contentOf transactionTag f d) < 256 ^ 16
-unfolding width
-content-small f d true e =
-    let x = getD (f .high) transactionTag 0 * 2 ^ 64 + getD (f .low) transactionTag 0 in
-    rw (content-number transactionTag f d e (λ z. omega arith)) (number-lt 16 x)
-content-small f d false e = rw (content-absent transactionTag f d e, number-nil) (lit< tt)
-
-wide-at : (s : List ℕ) → Bytes s → (b : Bool) → isReplyForm (form (parse s)) ≡ b → Wide (transaction (readReply s))
-unfolding readReply
-wide-at s b true e =
-    let f = parse s in
-    let all = parsed-says s (reply-form (form f) e) b .1 in
-    let w = field-writable transactionTag f (dataOf s) (writable-at f (dataOf s) tagCount 0 transactionTag all (omega arith) .0) in
-    rw e (number-wide f (dataOf s) (content-small f (dataOf s) (has (f .tags) transactionTag) refl) w)
-wide-at s b false e = rw e (omega arith, omega arith)
-
 -- the transaction ID of a reply
 pub reply-wide : (s : List ℕ) → Bytes s → Wide (transaction (readReply s))
-reply-wide s b = wide-at s b (isReplyForm (form (parse s))) refl
+reply-wide s b = reply-halves s b transactionTag (omega arith)
 
 -- ---- each event keeps it
 

@@ -1,27 +1,32 @@
 -- From a begin, each request that a run issues is written, in at most 303 bytes: a call that its ruling admits is given no
 -- number. Over every list of events whose arguments are of their types. Assumes nothing.
 use Prim.Native.Nat.{ℕ, _+_, _-_, _*_, _^_, _≤_, _<_}
+use mathlib.Core.Bool.{true}
 use mathlib.Core.List.{List, []}
 use mathlib.Core.Logic.{inl, inr}
 use mathlib.Core.Path.{_≡_, refl, sym, ap, subst, _∙_}
 use native.Mathlib.Omega.{arith}
 use lib.ListN.{length, take, drop, length-take, length-drop}
 use Rattle.octets.specs.Bytes.{Bytes, number}
-use Rattle.octets.proofs.Numbers.{bytes-take, bytes-drop, bytesOf-number, number-lt}
+use Rattle.octets.proofs.Numbers.{bytes-take, bytes-drop, number-small}
 use Rattle.frame_table.specs.declared.fields.Fields.{Fields}
 use Rattle.frame_table.specs.declared.table.Form.{Form}
+use Rattle.frame_table.specs.Forms as forms
 use Rattle.frame_table.specs.Names.{noFields, transaction}
+use Rattle.frame_table.specs.Table.{isRequestForm}
 use Rattle.frame.specs.declared.writer.Written.the-variants.{Length}
 use Rattle.frame.specs.Reader.{readReply}
 use Rattle.frame.specs.Row.{dataOf}
-use Rattle.frame.proofs.Build.{written-in-front}
+use Rattle.frame.specs.Writer.{frameOf}
+use Rattle.frame.proofs.Written.{written-in-front}
+use Rattle.frame.proofs.Theorems.{request-length}
 use Rattle.message.specs.Limits.{segmentBytes}
 use Rattle.message.specs.Segments.{segmentsOf, segmentOf, lastMarkOf}
 use Rattle.message.proofs.SegmentNumbers.{mark-most}
 use Rattle.message.proofs.Writable.{
   WrittenAs,
   Wide,
-  Content,
+  segment-content,
   upload-opening-written,
   download-opening-written,
   upload-transfer-written,
@@ -78,9 +83,6 @@ use Rattle.client_history.proofs.Transactions.{reply-wide, next-wide, t
 
 -- ---- the parts of a request
 
-number-small : (w : ℕ) (s : List ℕ) → Bytes s → length s ≡ w → number s < 256 ^ w
-number-small w s b e = subst (λ (l : List ℕ). number l < 256 ^ w) (bytesOf-number w s b e) (number-lt w (number s))
-
 nonce-wide : (s : List ℕ) (x : ℕ) → length s ≡ nonceBytes → Bytes s → Wide (nonceOf s x)
 unfolding nonceOf
 nonce-wide s x e b =
@@ -88,17 +90,10 @@ nonce-wide s x e b =
     (number-small 8 (take 8 s) (bytes-take 8 s b) (simp length-take (omega arith)), omega arith)
 
 -- each segment of a payload has some bytes, at most 256
-segment-content : (p : List ℕ) (s : ℕ) → Bytes p → 1 ≤ s → s ≤ segmentsOf (length p)
-    → Content (segmentOf p s) 47 × (length (segmentOf p s) ≤ segmentBytes)
+part-length : (p : List ℕ) (s : ℕ) → 1 ≤ s → s ≤ segmentsOf (length p)
+    → (0 < length (segmentOf p s)) × (length (segmentOf p s) ≤ segmentBytes)
 unfolding segmentOf segmentsOf
-segment-content p s b first last = (
-  record {
-    some = simp (length-take, length-drop) (omega arith);
-    most = simp (length-take, length-drop) (omega arith);
-    bytes = bytes-take segmentBytes (drop ((s - 1) * segmentBytes) p) (bytes-drop ((s - 1) * segmentBytes) p b);
-  },
-  simp length-take (omega arith),
-)
+part-length p s first last = (simp (length-take, length-drop) (omega arith), simp length-take (omega arith))
 
 -- ---- the request that a run has outstanding
 
@@ -116,49 +111,56 @@ module _ (c : Client) (issues : List Issue) (b : Bounded c issues) (v : Wide (c 
   sender : (c .subscriber < 2 ^ 16) × (c .exchange < 2 ^ 32)
   sender = (omega (arith, b .high), omega (arith, bounded-exchange b))
 
-  sent : {f : Fields} {d : List ℕ} {x : Form} (n : ℕ) → WrittenAs f d x n → n ≤ requestRoom → outstanding c (l .time) (l .nonce) ≡ f
-      → outstandingData c (l .payload) ≡ d → Sent c l
+  sent : {f : Fields} {d : List ℕ} {x : Form} → WrittenAs f d x → isRequestForm x ≡ true → length d ≤ segmentBytes
+      → outstanding c (l .time) (l .nonce) ≡ f → outstandingData c (l .payload) ≡ d → Sent c l
   unfolding isWritten
-  sent {f} {d} n w k ef ed =
-      record { size = n; small = k; written = rw (ef, ed) (written-in-front f d (l .request) n (w .accepted) (w .size) (omega arith) .0) }
+  sent {f} {d} w k short ef ed =
+      let small = request-length f d (w .accepted) (ap isRequestForm (w .named) ∙ k) short in
+      record {
+        size = length (frameOf f d);
+        small = small;
+        written = rw (ef, ed) (written-in-front f d (l .request) (length (frameOf f d)) (w .accepted) refl
+            (omega arith) .0);
+      }
 
   up-opening-sent : UploadCourse c q → c .step ≡ step.Opening → Sent c l
   unfolding outstanding outstandingData
   up-opening-sent u s =
       let w = upload-opening-written (c .subscriber) (c .exchange) sender (nonceOf (l .nonce) (c .exchange)) (l .time)
       (nonce-wide (l .nonce) (c .exchange) (t .twelve) (t .nonce)) (t .time) (c .segments) (omega (arith, up-segments c q u .1)) in
-      sent 53 w (omega arith) (rw (u .direction, s)) (rw (u .direction, s))
+      sent w refl (omega arith) (rw (u .direction, s)) (rw (u .direction, s))
 
   up-segment-sent : UploadCourse c q → c .step ≡ step.Segment → 1 ≤ c .segment → Sent c l
   unfolding outstanding outstandingData
   up-segment-sent u s some =
       let count = u .count ∙ ap segmentsOf (same (u .direction)) in
       let few = up-segments c q u .1 in
-      let d = segment-content (l .payload) (c .segment) (t .payload) some (omega (arith, count, u .known, u .within)) in
+      let d : List ℕ = segmentOf (l .payload) (c .segment) in
+      let long = part-length (l .payload) (c .segment) some (omega (arith, count, u .known, u .within)) in
       let w = upload-transfer-written (c .subscriber) (c .exchange) sender (c .transaction) v (c .segment)
-      (lastMarkOf (c .segment) (c .segments)) (segmentOf (l .payload) (c .segment)) (omega (arith, u .known, u .within))
-      (mark-most (c .segment) (c .segments)) (d .0) in
-      sent (47 + length (segmentOf (l .payload) (c .segment))) w (omega (arith, d .1)) (rw (u .direction, s)) (rw (u .direction, s))
+      (lastMarkOf (c .segment) (c .segments)) d (omega (arith, u .known, u .within))
+      (mark-most (c .segment) (c .segments)) (segment-content d forms.UploadTransfer refl (long .0) (long .1)) in
+      sent w refl (long .1) (rw (u .direction, s)) (rw (u .direction, s))
 
   down-opening-sent : OpeningCourse c q → Sent c l
   unfolding outstanding outstandingData
   down-opening-sent o =
       let w = download-opening-written (c .subscriber) (c .exchange) sender (nonceOf (l .nonce) (c .exchange)) (l .time)
       (nonce-wide (l .nonce) (c .exchange) (t .twelve) (t .nonce)) (t .time) in
-      sent 48 w (omega arith) (rw (o .direction, o .at)) (rw (o .direction))
+      sent w refl (omega arith) (rw (o .direction, o .at)) (rw (o .direction))
 
   down-segment-sent : DownloadCourse c q → c .step ≡ step.Segment → c .segment ≤ c .segments → Sent c l
   unfolding outstanding outstandingData
   down-segment-sent e s k =
       let small = e .known .most in
       let w = download-transfer-written (c .subscriber) (c .exchange) sender (c .transaction) v (c .segment) (omega arith) in
-      sent 40 w (omega arith) (rw (e .known .direction, s)) (rw (e .known .direction))
+      sent w refl (omega arith) (rw (e .known .direction, s)) (rw (e .known .direction))
 
   receipt-sent : DownloadCourse c q → c .step ≡ step.Receipt → Sent c l
   unfolding outstanding outstandingData
   receipt-sent e s =
       let w = receipt-written (c .subscriber) (c .exchange) sender (c .transaction) v 0 (omega arith) in
-      sent 39 w (omega arith) (rw (e .known .direction, s)) (rw (e .known .direction))
+      sent w refl (omega arith) (rw (e .known .direction, s)) (rw (e .known .direction))
 
   course-sent : Course c q → Sent c l
   course-sent (uploading u) = at (u .place)

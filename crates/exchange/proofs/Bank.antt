@@ -88,7 +88,7 @@ use Rattle.exchange.specs.Course.{
   carryOut,
 }
 use Rattle.exchange.proofs.Calls.{file-done, frame-replied}
-use Rattle.exchange.proofs.Bytes.{reply-read, data-read}
+use Rattle.frame.proofs.Theorems.{data-read, reply-read}
 use Rattle.exchange.proofs.Events.{verdict-refuses, mailbox-short, case-empties}
 use Rattle.exchange.proofs.Told.{Proper, AllProper, coded, done-confirmed}
 use Rattle.exchange.proofs.Told.{none as no-entry, more as one-more}

@@ -1,24 +1,19 @@
 -- The bytes of requests issued and of replies given: the frames of their fields and data, which are read back. Assumes nothing.
 use Prim.Native.Nat.{ℕ}
-use mathlib.Core.Bool.{Bool, true, false, cond}
+use mathlib.Core.Bool.{true}
 use mathlib.Core.List.{List, []}
 use mathlib.Core.Path.{_≡_, refl, ap, _∙_}
 use native.Mathlib.Omega.{arith}
-use lib.Dec.{leb}
 use lib.ListN.{length, take}
-use lib.Seq.{take-at}
 use Rattle.frame_table.specs.declared.fields.Fields.{Fields}
 use Rattle.frame.specs.declared.writer.Written.{Written}
 use Rattle.frame.specs.declared.writer.Written.the-variants as written
-use Rattle.octets.specs.Bytes.{overwrite}
 use Rattle.frame_table.specs.Names.{form}
 use Rattle.frame.specs.Reader.{readRequest, readReply}
 use Rattle.frame.specs.Row.{dataOf}
-use Rattle.frame_table.specs.Table.{isRequestForm, isReplyForm, rowFits, findForm, formOf}
-use Rattle.frame.specs.Writer.{frameOf, writable, accepted, writeAnswer, writeBuffer}
+use Rattle.frame_table.specs.Table.{isRequestForm, rowFits, findForm, formOf}
 use Rattle.frame.proofs.RoundTrip.{Sized}
-use Rattle.octets.proofs.Tests.{and-true}
-use Rattle.frame.proofs.Theorems.{written-request, written-reply, written-data}
+use Rattle.frame.proofs.Theorems.{data-read, request-read}
 use Rattle.message.specs.Requests.{uploadOpening, downloadOpening, uploadTransfer, downloadTransfer, receipt}
 use Rattle.client.specs.declared.run.Answer.the-variants as answer
 use Rattle.client.specs.declared.run.Client.{Client}
@@ -50,31 +45,6 @@ use Rattle.client.specs.NextRun.{beginLength, begun, goOn, repeated, learned, h
 use Rattle.client.specs.Requests.{uploadRequest, downloadRequest, requestBy, outstanding, outstandingData}
 use Rattle.client.specs.Rulings.{beginRuling, runRuling}
 use Rattle.client.specs.Run.{Lent, ClientCall, lengthsOf, callOf}
-
--- ---- what the writer wrote
-
--- the frame stands in front of the buffer
-pub written-front : (f : Fields) (d old : List ℕ) (n : ℕ) → writeAnswer f d old ≡ written.Length n →
-    (writable f d ≡ true) × (take n (writeBuffer f d old) ≡ frameOf f d)
-unfolding writeAnswer writeBuffer accepted overwrite
-written-front f d old n h = go (accepted f d old) refl h
-  where
-    go : (b : Bool) → accepted f d old ≡ b → cond b (written.Length (length (frameOf f d))) written.Refused ≡ written.Length n →
-        (writable f d ≡ true) × (take n (cond b (overwrite old 0 (frameOf f d)) old) ≡ frameOf f d)
-    go true e k =
-        let long : length (frameOf f d) ≡ n = cc in
-        (and-true (writable f d) (leb (length (frameOf f d)) (length old)) e .0, take-at (frameOf f d) _ n long)
-    go false e k = absurd (let z : _≡_ {A = ℕ} 0 1 = cc in omega arith)
-
-module _ (f : Fields) (d old : List ℕ) (n : ℕ) (long : Sized f) (h : writeAnswer f d old ≡ written.Length n) where
-  pub data-read : dataOf (take n (writeBuffer f d old)) ≡ d
-  data-read = let w = written-front f d old n h in ap dataOf (w .1) ∙ written-data f d long (w .0)
-
-  pub request-read : isRequestForm (form f) ≡ true → readRequest (take n (writeBuffer f d old)) ≡ f
-  request-read k = let w = written-front f d old n h in ap readRequest (w .1) ∙ written-request f d long (w .0) k
-
-  pub reply-read : isReplyForm (form f) ≡ true → readReply (take n (writeBuffer f d old)) ≡ f
-  reply-read k = let w = written-front f d old n h in ap readReply (w .1) ∙ written-reply f d long (w .0) k
 
 -- ---- the request that a run has outstanding
 

@@ -184,12 +184,14 @@ record Computed : Type 0 where
 
 computed : Computed
 unfolding frameBytes.numberFrom frameBytes.number frameBytes.bytesOf frameBytes.fieldBytes frameBytes.overwrite frameReader.fieldsOf
-    frameReader.parse frameReader.readRequest frameReader.readReply frameRow.listed frameRow.wellFormed frameRow.stands
-    frameRow.fieldSize frameRow.content frameRow.contents frameRow.behind frameRow.dataOf frameRow.presentTags frameRow.highOf
-    frameRow.lowOf frameRow.eachFrom frameRow.piece frameRow.join frameTable.width frameTable.inRange frameTable.allowed
-    frameTable.rowFits frameTable.findForm frameTable.formOf frameWriter.contentOf frameWriter.contentsOf frameWriter.frameOf
-    frameWriter.lengthFrom frameWriter.frameLength frameWriter.dataWhole frameWriter.fieldWritable frameWriter.fieldsWritable
-    frameWriter.writable frameWriter.accepted frameWriter.writeAnswer frameWriter.writeBuffer messageReplies.uploadOpened
+    frameReader.parse frameReader.readRequest frameReader.readReply frameRow.spelled frameRow.listed
+    frameRow.wellFormed frameRow.stands frameRow.fieldSize frameRow.content frameRow.contents frameRow.behind
+    frameRow.dataOf frameRow.presentTags frameRow.highOf frameRow.lowOf frameRow.eachFrom frameRow.piece frameRow.join
+    frameTable.width frameTable.valuesOf frameTable.inRange frameTable.allowed frameTable.rowFits frameTable.findForm
+    frameTable.formOf frameWriter.contentOf frameWriter.contentsOf frameWriter.frameOf frameWriter.lengthFrom
+    frameWriter.frameLength frameWriter.dataWhole frameWriter.fieldWritable frameWriter.fieldsWritable
+    frameWriter.writable frameWriter.accepted frameWriter.writeAnswer frameWriter.writeBuffer
+    messageReplies.uploadOpened
     messageReplies.downloadOpened messageReplies.segmentTaken messageReplies.recoveryPoint messageReplies.downloadSegment
     messageReplies.receiptAnswered messageReplies.unreadable messageReplies.refusal messageRequests.uploadOpening
     messageRequests.downloadOpening messageRequests.uploadTransfer messageRequests.downloadTransfer messageRequests.receipt

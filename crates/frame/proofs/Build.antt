@@ -1,91 +1,75 @@
--- Fields set one by one, what the writer accepts of them, and what is known of a number that is read. Assumes nothing.
+-- Fields set one by one, and what the writer accepts of them. Assumes nothing.
 use Prim.Native.Nat.{ℕ, zero, suc, _+_, _*_, _/_, _%_, _^_, _≤_, _<_}
 use mathlib.Core.List.{List, [], _∷_, _++_}
 use mathlib.Core.Bool.{Bool, true, false, _&&_, _||_}
-use mathlib.Core.Path.{_≡_, refl, sym, ap, _∙_, subst}
-use native.Mathlib.Nat.{zero-add, div-add-mod', zero-lt-suc, mod-lt}
+use mathlib.Core.Path.{_≡_, refl, sym, ap, _∙_}
 use native.Mathlib.Omega.{arith}
 use lib.ListN.{length, getD, set, length-set}
 use lib.Seq.{getD-set-same, getD-set-other}
 use lib.Arith.{digits-div, digits-mod, digits-lt}
-use borrow.Author.Tests.{eqb-true, eqb-false, ne-eqb, eq-eqb, le-leb, lt-ltb}
-use lib.Dec.{eqb}
+use borrow.Author.Tests.{eqb-true, eqb-false, ne-eqb, eq-eqb, le-leb, lt-ltb, ltb-true, leb-true}
+use lib.Dec.{eqb, ltb, leb}
 use Rattle.frame_table.specs.declared.fields.Bits128.{Bits128}
 use Rattle.frame_table.specs.declared.fields.Fields.{Fields}
-use Rattle.frame.specs.declared.writer.Written.the-variants.{Length}
-use Rattle.octets.specs.Bytes.{Bytes, number, numberFrom, bytesOf, overwrite}
+use Rattle.frame_table.specs.declared.table.Values.{Values}
+use Rattle.frame_table.specs.declared.table.Values.the-variants.{Any, Range}
+use Rattle.octets.specs.Bytes.{number, numberFrom, bytesOf}
 use Rattle.frame_table.specs.Table.{
   tagCount,
   frameLimit,
   dataTag,
-  fieldRow,
   width,
+  valuesOf,
   inRange,
-  allowed,
   has,
   isForm,
 }
-use Rattle.frame_table.specs.Names.{form, withTag, withWide, with}
-use Rattle.frame.specs.Row.{listed, wellFormed, highOf, lowOf, dataOf, join}
-use Rattle.frame.specs.Reader.{parse}
+use Rattle.frame_table.specs.Names.{phase, form, withTag, withWide, with}
+use Rattle.frame.specs.Row.{listed, wellFormed, highOf, lowOf, join}
 use Rattle.frame_table.specs.Names.{noFields}
 use Rattle.frame.specs.Writer.{
   contentOf,
   contentsOf,
   frameOf,
+  lengthFrom,
   frameLength,
+  formLength,
   dataWhole,
   fieldWritable,
   fieldsWritable,
   writable,
-  accepted,
-  writeAnswer,
-  writeBuffer,
 }
 use Rattle.octets.proofs.Tests.{and-true, every-below, or-true}
-use Rattle.octets.proofs.Numbers.{length-bytesOf, number-bytesOf, number-lt}
+use Rattle.octets.proofs.Numbers.{length-bytesOf, number-bytesOf}
 use Rattle.frame_table.proofs.Tags.{has-withTag, withTag-other}
-use Rattle.frame.proofs.Contents.{width-narrow, well-formed}
-use Rattle.frame.proofs.Loops.{FieldWritable, field-writable, content-number}
-use Rattle.frame.proofs.RoundTrip.{Sized, parsed-says, writable-at}
+use Rattle.frame_table.proofs.Forms.{form-tags}
+use Rattle.frame_table.proofs.Values.{width-narrow}
+use Rattle.frame.proofs.Contents.{listed-as}
+use Rattle.frame.proofs.RoundTrip.{Sized}
 use Rattle.frame.proofs.Lengths.{length-join}
 
--- ---- bytes in the value list of a tag
+-- ---- contents in the value list of a tag
 
-listed-snoc-at : (t x : ℕ) (a : List ℕ) (b : ℕ) (y : Bool) → y && listed t a ≡ true
-    → (listed t a ≡ true → listed t (a ++ (b ∷ [])) ≡ true) → y && listed t (a ++ (b ∷ [])) ≡ true
-listed-snoc-at t x a b true h r = r h
-listed-snoc-at t x a b false h r = h
+-- every content is, where any bytes are
+pub listed-any : (t : ℕ) (c : List ℕ) → valuesOf t ≡ Any → listed t c ≡ true
+listed-any t c e = listed-as t c Any e
 
-listed-snoc : (t : ℕ) (a : List ℕ) (b : ℕ) → listed t a ≡ true → allowed t b ≡ true → listed t (a ++ (b ∷ [])) ≡ true
-unfolding listed
-listed-snoc t [] b h k = rw k
-listed-snoc t (x ∷ a) b h k = listed-snoc-at t x a b (allowed t x) h (λ z. listed-snoc t a b z k)
+module _ (t least greatest v : ℕ) (e : valuesOf t ≡ Range least greatest) (fit : v < 256 ^ width t) where
+  range-is : listed t (bytesOf (width t) v) ≡ inRange least greatest v
+  range-is = listed-as t (bytesOf (width t) v) (Range least greatest) e
+      ∙ ap (inRange least greatest) (number-bytesOf (width t) v fit)
 
--- every byte is in the value list of the tag
-unfoldable pub anyByte : ℕ → Bool
-anyByte t = eqb (fieldRow t .1) 0 && eqb (fieldRow t .2) 255
+  -- a number is, where it is in the range
+  pub listed-range : least ≤ v → v ≤ greatest → listed t (bytesOf (width t) v) ≡ true
+  unfolding inRange
+  listed-range l m = range-is ∙ rw (le-leb least v l, le-leb v greatest m)
 
-allowed-any : (t b : ℕ) → anyByte t ≡ true → b < 256 → allowed t b ≡ true
-unfolding anyByte allowed inRange
-allowed-any t b h k =
-    let a = and-true (eqb (fieldRow t .1) 0) (eqb (fieldRow t .2) 255) h in
-    rw (eqb-true (fieldRow t .1) 0 (a .0), eqb-true (fieldRow t .2) 255 (a .1), le-leb 0 b (omega arith), le-leb b 255 (omega arith))
-
-pub listed-bytes : (t : ℕ) (c : List ℕ) → anyByte t ≡ true → Bytes c → listed t c ≡ true
-unfolding listed
-listed-bytes t [] h b = refl
-listed-bytes t (x ∷ c) h b = rw (allowed-any t x h (b 0)) (listed-bytes t c h (λ i. b (suc i)))
-
-pub listed-any : (t w x : ℕ) → anyByte t ≡ true → listed t (bytesOf w x) ≡ true
-unfolding listed bytesOf
-listed-any t zero x h = refl
-listed-any t (suc w) x h =
-    listed-snoc t (bytesOf w (x / 256)) (x % 256) (listed-any t w (x / 256) h) (allowed-any t (x % 256) h (mod-lt x (zero-lt-suc 255)))
-
-pub listed-byte : (t x : ℕ) → x < 256 → allowed t x ≡ true → listed t (bytesOf 1 x) ≡ true
-unfolding listed bytesOf
-listed-byte t x h k = let e : x % 256 ≡ x = omega arith in rw (e, k)
+  -- and only there
+  pub range-listed : listed t (bytesOf (width t) v) ≡ true → (least ≤ v) × (v ≤ greatest)
+  unfolding inRange
+  range-listed h =
+      let a = and-true (leb least v) (leb v greatest) (sym range-is ∙ h) in
+      (leb-true least v (a .0), leb-true v greatest (a .1))
 
 -- ---- one field set
 
@@ -179,17 +163,43 @@ fine-number t v f d a n small fit list =
     let z : 0 * 2 ^ 64 + v ≡ v = omega arith in
     fine-wide t (record { high = 0; low = v }) f d a n small (rw z fit) (rw z list)
 
+-- the table's row of the tag t: its width and its values
+abbrev pub HasRow : ℕ → ℕ → Values → Type 0
+HasRow t w x = (ltb t tagCount ≡ true) × (width t ≡ w) × (valuesOf t ≡ x)
+
+module _ (f : Fields) (d : List ℕ) (a : Fine f d) where
+  -- one more field, of any number in its width
+  pub fine-any : (t w v : ℕ) → HasRow t w Any → v < 2 ^ 64 → v < 256 ^ w → Fine (with t v f) d
+  fine-any t w v row small fit =
+      fine-number t v f d a (ltb-true t tagCount (row .0)) small (rw (row .1) fit)
+      (listed-any t (bytesOf (width t) v) (row .2))
+
+  -- of any 16 bytes
+  pub fine-bits : (t : ℕ) (v : Bits128) → HasRow t 16 Any → v .high < 2 ^ 64 → v .low < 2 ^ 64 → Fine (withWide t v f) d
+  fine-bits t v row high low =
+      let fit : valueOf v < 256 ^ width t = rw (row .1) (value-lt v high low) in
+      fine-wide t v f d a (ltb-true t tagCount (row .0)) low fit (listed-any t (bytesOf (width t) (valueOf v)) (row .2))
+
+  -- of a number in its range
+  pub fine-range : (t w v least greatest : ℕ) → HasRow t w (Range least greatest) → greatest < 2 ^ 64
+      → greatest < 256 ^ w
+      → least ≤ v → v ≤ greatest → Fine (with t v f) d
+  fine-range t w v least greatest row small fit l m =
+      let n : v < 256 ^ width t = rw (row .1) (omega arith) in
+      fine-number t v f d a (ltb-true t tagCount (row .0)) (omega arith) n
+      (listed-range t least greatest v (row .2) n l m)
+
 -- the tag of the data
 pub fine-data : (f : Fields) (d : List ℕ) → Fine f d → Fine (with dataTag 0 f) d
 fine-data f d a = fine-set dataTag (record { high = 0; low = 0 }) f d a (omega arith) (λ e. absurd (e refl))
 
 -- the data field can be written where it stands with some bytes
 pub data-writable : (f : Fields) (d : List ℕ) → has (f .tags) dataTag ≡ true → getD (f .high) dataTag 0 ≡ 0 → getD (f .low) dataTag 0 ≡ 0
-    → 0 < length d → length d ≤ frameLimit → Bytes d → fieldWritable dataTag f d ≡ true
-unfolding fieldWritable contentOf highOf lowOf dataWhole wellFormed width anyByte
-data-writable f d on hi lo k m b =
+    → 0 < length d → length d ≤ frameLimit → fieldWritable dataTag f d ≡ true
+unfolding fieldWritable contentOf highOf lowOf dataWhole wellFormed width valuesOf
+data-writable f d on hi lo k m =
     let some = ne-eqb (length d) 0 (λ z. omega arith) in
-    rw (on, hi, lo, eq-eqb (length d) (length d) refl, le-leb (length d) frameLimit m, some) (listed-bytes dataTag d refl b)
+    rw (on, hi, lo, eq-eqb (length d) (length d) refl, le-leb (length d) frameLimit m, some) (listed-any dataTag d refl)
 
 -- or where it is absent, and there are none
 pub no-data-writable : (f : Fields) → has (f .tags) dataTag ≡ false → getD (f .high) dataTag 0 ≡ 0 → getD (f .low) dataTag 0 ≡ 0
@@ -211,42 +221,9 @@ data-or f d u false e g h = h (eqb-false u dataTag e)
 
 -- what is built so to a form, and is not too long, can be written
 pub fine-writable : (f : Fields) (d : List ℕ) → Fine f d → fieldWritable dataTag f d ≡ true → isForm (form f) ≡ true
-    → frameLength (f .tags) (length d) ≤ frameLimit → writable f d ≡ true
+    → formLength (form f) (length d) ≤ frameLimit → writable f d ≡ true
 unfolding writable frameOf frameLength
 fine-writable f d a g r s =
     let h = all-writable f d tagCount 0 (λ u m. data-or f d u (eqb u dataTag) refl g (λ e. a .each u (omega arith) e)) in
+    let m = ap (λ (m : ℕ). lengthFrom tagCount 0 m (length d)) (form-tags (f .tags) (phase f) r) in
     rw (r, h) (le-leb (length (join 0 (contentsOf tagCount 0 f d))) frameLimit (omega (arith, length-join f d tagCount 0 h)))
-
--- written where there is room, the frame is the front of the buffer
-pub written-in-front : (f : Fields) (d old : List ℕ) (n : ℕ) → writable f d ≡ true → length (frameOf f d) ≡ n → n ≤ length old
-    → (writeAnswer f d old ≡ Length n) × (writeBuffer f d old ≡ overwrite old 0 (frameOf f d))
-unfolding writeAnswer writeBuffer accepted
-written-in-front f d old n h e k = rw (h, e, le-leb n (length old) k) (refl, refl)
-
--- ---- what is known of a number that is read
-
--- the number of tag t
-abbrev pub numberOf : ℕ → Fields → ℕ
-numberOf t f = getD (f .high) t 0 * 2 ^ 64 + getD (f .low) t 0
-
-number-bounds : (t : ℕ) (f : Fields) (d : List ℕ) → FieldWritable t f d → has (f .tags) t ≡ true → (t ≡ dataTag → ⊥)
-    → (numberOf t f < 256 ^ width t) × (listed t (bytesOf (width t) (numberOf t f)) ≡ true)
-unfolding highOf lowOf
-number-bounds t f d g e n =
-    let c : List ℕ = bytesOf (width t) (numberOf t f) in
-    let k : contentOf t f d ≡ c = content-number t f d e n in
-    let p : number c / 2 ^ 64 ≡ getD (f .high) t 0 = rw (k, ne-eqb t dataTag n) at (g .high) in
-    let q : number c % 2 ^ 64 ≡ getD (f .low) t 0 = rw (k, ne-eqb t dataTag n) at (g .low) in
-    let z : number c ≡ numberOf t f =
-    sym (div-add-mod' (number c) (2 ^ 64)) ∙ ap (λ (x : ℕ). x * 2 ^ 64 + number c % 2 ^ 64) p
-    ∙ ap (λ (x : ℕ). getD (f .high) t 0 * 2 ^ 64 + x) q in
-    let b = well-formed t (contentOf t f d) (g .fit e) .bytes in
-    (subst (λ (x : ℕ). x < 256 ^ width t) z (number-lt (width t) (numberOf t f)), rw k at b)
-
--- a number in a frame of some form is in its width and its list
-pub read-value : (s : List ℕ) → Bytes s → isForm (form (parse s)) ≡ true → (t : ℕ) → t < tagCount → (t ≡ dataTag → ⊥)
-    → has (parse s .tags) t ≡ true
-    → (numberOf t (parse s) < 256 ^ width t) × (listed t (bytesOf (width t) (numberOf t (parse s))) ≡ true)
-read-value s b h t m n e =
-    let w = rw zero-add at (writable-at (parse s) (dataOf s) tagCount 0 t (parsed-says s h b .1) m .0) in
-    number-bounds t (parse s) (dataOf s) (field-writable t (parse s) (dataOf s) w) e n

@@ -1,18 +1,22 @@
--- Laws of the fields' table, of a content, and of the field at the front of some bytes. Assumes nothing.
+-- Laws of a content, and of the field at the front of some bytes. Assumes nothing.
 use Prim.Native.Nat.{ℕ, zero, suc, _+_, _-_, _≤_, _<_}
 use mathlib.Core.List.{List, [], _∷_}
-use mathlib.Core.Bool.{Bool, true, false, cond, _&&_, _||_}
+use mathlib.Core.Bool.{Bool, true, false, cond, _&&_}
 use mathlib.Core.Logic.{_⊎_, inl, inr, ⊎-elim}
 use mathlib.Core.Path.{_≡_, refl, ap, _∙_}
 use native.Mathlib.Numerals.{add-one}
 use native.Mathlib.Omega.{arith}
 use lib.ListN.{drop-of-length-le, length, getD, take, drop, length-drop}
-use borrow.Author.Tests.{ltb-true, leb-true, eqb-true, eqb-false, ne-eqb, eq-eqb, not-true}
+use borrow.Author.Tests.{leb-true, eqb-true, eqb-false, ne-eqb, eq-eqb, not-true}
 use lib.Seq.{drop-cons, length-take-le}
-use lib.Dec.{ltb, leb, eqb}
-use Rattle.octets.specs.Bytes.{Bytes, fieldBytes}
-use Rattle.frame_table.specs.Table.{tagCount, frameLimit, dataTag, width, anyByte, allowed}
+use lib.Dec.{leb, eqb}
+use Rattle.octets.specs.Bytes.{fieldBytes}
+use Rattle.frame_table.specs.declared.table.Characters.{Characters}
+use Rattle.frame_table.specs.declared.table.Values.{Values}
+use Rattle.frame_table.specs.Table.{tagCount, frameLimit, dataTag, width, valuesOf, allowed}
 use Rattle.frame.specs.Row.{
+  spelled,
+  isValue,
   listed,
   wellFormed,
   announced,
@@ -25,40 +29,25 @@ use Rattle.frame.specs.Row.{
   eachFrom,
   piece,
 }
-use Rattle.octets.proofs.Tests.{and-true, or-true, every-below}
+use Rattle.octets.proofs.Tests.{and-true, or-true}
 use Rattle.octets.proofs.Numbers.{length-fieldBytes}
-use Rattle.frame_table.proofs.Values.{any-allowed}
-
--- ---- the fields' table
-
-narrow : ℕ → Bool
-narrow t = eqb t dataTag || (ltb 0 (width t) && leb (width t) 16)
-
--- every field but the data has from 1 to 16 bytes
-pub width-narrow : (t : ℕ) → t < tagCount → (t ≡ dataTag → ⊥) → (0 < width t) × (width t ≤ 16)
-unfolding narrow width
-width-narrow t h n =
-    let e = or-true (eqb t dataTag) (ltb 0 (width t) && leb (width t) 16) (ne-eqb t dataTag n) (every-below narrow tagCount refl t h) in
-    let a = and-true (ltb 0 (width t)) (leb (width t) 16) e in
-    (ltb-true 0 (width t) (a .0), leb-true (width t) 16 (a .1))
+use Rattle.frame_table.proofs.Values.{width-narrow}
 
 -- ---- a content
 
-module _ (t : ℕ) (c : List ℕ) (i : ℕ) where
-  pub listed-step : i < length c → listed t (drop i c) ≡ (allowed t (getD c i 0) && listed t (drop (i + 1) c))
-  unfolding listed
-  listed-step h = rw (add-one i, drop-cons c i 0 h)
+module _ (x : Characters) (c : List ℕ) (i : ℕ) where
+  pub spelled-step : i < length c → spelled x (drop i c) ≡ (allowed x (getD c i 0) && spelled x (drop (i + 1) c))
+  unfolding spelled
+  spelled-step h = rw (add-one i, drop-cons c i 0 h)
 
-  pub listed-end : length c ≤ i → listed t (drop i c) ≡ true
-  unfolding listed
-  listed-end h = rw (drop-of-length-le c {i = i} h)
+  pub spelled-end : length c ≤ i → spelled x (drop i c) ≡ true
+  unfolding spelled
+  spelled-end h = rw (drop-of-length-le c {i = i} h)
 
-module _ (t : ℕ) (h : anyByte t ≡ true) where
-  -- where every byte is in the list, bytes are
-  pub any-listed : (c : List ℕ) → Bytes c → listed t c ≡ true
-  unfolding listed
-  any-listed [] k = refl
-  any-listed (b ∷ c) k = rw (any-allowed t h b (k 0)) (any-listed c (λ i. k (suc i)))
+-- in a list of any bytes is every content, in a range or a text those that are
+pub listed-as : (t : ℕ) (c : List ℕ) (v : Values) → valuesOf t ≡ v → listed t c ≡ isValue v c
+unfolding listed
+listed-as t c v e = rw e
 
 pub record WellFormed (t : ℕ) (c : List ℕ) : Type 0 where
   pub most : length c ≤ frameLimit

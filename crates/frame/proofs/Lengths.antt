@@ -15,7 +15,17 @@ use Rattle.frame_table.specs.declared.table.RequestForm.the-variants as request
 use Rattle.frame_table.specs.declared.table.ReplyForm.{ReplyForm}
 use Rattle.frame_table.specs.declared.table.ReplyForm.the-variants as reply
 use Rattle.frame_table.specs.Forms as forms
-use Rattle.frame_table.specs.Table.{tagCount, frameLimit, dataTag, width, has, requestRow, replyRow, tagsOf, isRequestForm, isForm}
+use Rattle.frame_table.specs.Table.{
+  tagCount,
+  frameLimit,
+  dataTag,
+  width,
+  has,
+  tagsOf,
+  isRequestForm,
+  isReplyForm,
+  isForm,
+}
 use Rattle.frame_table.specs.Names.{phase, form}
 use Rattle.frame.specs.Row.{piece, join}
 use Rattle.frame.specs.Writer.{
@@ -24,12 +34,14 @@ use Rattle.frame.specs.Writer.{
   frameOf,
   lengthFrom,
   frameLength,
+  formLength,
   fieldWritable,
   fieldsWritable,
   writable,
   uploadOpeningLength,
   requestRoom,
   replyRoom,
+  smallestReply,
   segmentBytes,
 }
 use Rattle.octets.proofs.Tests.{never, and-true}
@@ -64,7 +76,7 @@ module _ (f : Fields) (d : List ℕ) where
       length-append (piece t (contentOf t f d)) (join (t + 1) (contentsOf k (t + 1) f d)) ∙ rw (p, length-join k (t + 1) (a .1))
 
   module _ (h : writable f d ≡ true) where
-    writable-parts : (isForm (form f) ≡ true) × (fieldsWritable tagCount 0 f d ≡ true)
+    pub writable-parts : (isForm (form f) ≡ true) × (fieldsWritable tagCount 0 f d ≡ true)
     unfolding writable
     writable-parts =
         let a = and-true (isForm (form f) && fieldsWritable tagCount 0 f d) (leb (length (frameOf f d)) frameLimit) h in
@@ -93,7 +105,7 @@ frameLength-grows m n n' h = lengthFrom-grows tagCount 0 m n n' h
 
 -- ---- the lengths that document 01 names, each computed from the tables
 
-requests-fit : (x : RequestForm) → frameLength (requestRow x .1) segmentBytes ≤ requestRoom
+requests-fit : (x : RequestForm) → formLength (Request x) segmentBytes ≤ requestRoom
 unfolding frameLength lengthFrom width
 requests-fit request.UploadOpening = omega arith
 requests-fit request.DownloadOpening = omega arith
@@ -101,7 +113,7 @@ requests-fit request.UploadTransfer = omega arith
 requests-fit request.DownloadTransfer = omega arith
 requests-fit request.Receipt = omega arith
 
-replies-fit : (x : ReplyForm) → frameLength (replyRow x) segmentBytes ≤ replyRoom
+replies-fit : (x : ReplyForm) → formLength (Reply x) segmentBytes ≤ replyRoom
 unfolding frameLength lengthFrom width
 replies-fit reply.UploadOpened = omega arith
 replies-fit reply.DownloadOpened = omega arith
@@ -114,18 +126,42 @@ replies-fit reply.Refusal = omega arith
 abbrev limit : Form → ℕ
 limit x = cond (isRequestForm x) requestRoom replyRoom
 
-in-limit : (x : Form) → isForm x ≡ true → frameLength (tagsOf x) segmentBytes ≤ limit x
+limit-most : (b : Bool) → cond b requestRoom replyRoom ≤ frameLimit
+limit-most true = omega arith
+limit-most false = omega arith
+
+in-limit : (x : Form) → isForm x ≡ true → formLength x segmentBytes ≤ limit x
 in-limit NoForm h = never h
 in-limit (Request x) h = requests-fit x
 in-limit (Reply x) h = replies-fit x
 
-opening-tags : (n : ℕ) → frameLength (tagsOf forms.UploadOpening) n ≡ uploadOpeningLength
+-- with at most a whole segment, every form is within the limit of a frame
+pub segment-fits : (x : Form) → isForm x ≡ true → (n : ℕ) → n ≤ segmentBytes → formLength x n ≤ frameLimit
+segment-fits x h n k =
+    omega (arith, frameLength-grows (tagsOf x) n segmentBytes k, in-limit x h, limit-most (isRequestForm x))
+
+replies-least : (x : ReplyForm) (n : ℕ) → smallestReply ≤ formLength (Reply x) n
+unfolding frameLength lengthFrom width
+replies-least reply.UploadOpened n = omega arith
+replies-least reply.DownloadOpened n = omega arith
+replies-least reply.SegmentTaken n = omega arith
+replies-least reply.DownloadSegment n = omega arith
+replies-least reply.ReceiptAnswered n = omega arith
+replies-least reply.Unreadable n = omega arith
+replies-least reply.Refusal n = omega arith
+
+least : (x : Form) (n : ℕ) → isReplyForm x ≡ true → smallestReply ≤ formLength x n
+least NoForm n h = never h
+least (Request x) n h = never h
+least (Reply x) n h = replies-least x n
+
+opening-tags : (n : ℕ) → formLength forms.UploadOpening n ≡ uploadOpeningLength
 unfolding frameLength lengthFrom width
 opening-tags n = refl
 
 module _ (f : Fields) (d : List ℕ) (h : writable f d ≡ true) where
   -- a frame of a form is as long as the tables say of that form
-  pub form-length : length (frameOf f d) ≡ frameLength (tagsOf (form f)) (length d)
+  pub form-length : length (frameOf f d) ≡ formLength (form f) (length d)
   form-length =
       length-frameOf f d h ∙ ap (λ (m : ℕ). frameLength m (length d)) (form-tags (f .tags) (phase f) (writable-parts f d h .0))
 
@@ -133,5 +169,8 @@ module _ (f : Fields) (d : List ℕ) (h : writable f d ≡ true) where
   length-limit k =
       omega (arith, form-length, frameLength-grows (tagsOf (form f)) (length d) segmentBytes k, in-limit (form f) (writable-parts f d h .0))
 
+  pub length-least : isReplyForm (form f) ≡ true → smallestReply ≤ length (frameOf f d)
+  length-least k = omega (arith, form-length, least (form f) (length d) k)
+
   pub opening-length : form f ≡ forms.UploadOpening → length (frameOf f d) ≡ uploadOpeningLength
-  opening-length e = form-length ∙ ap (λ (x : Form). frameLength (tagsOf x) (length d)) e ∙ opening-tags (length d)
+  opening-length e = form-length ∙ ap (λ (x : Form). formLength x (length d)) e ∙ opening-tags (length d)

@@ -6,4 +6,6 @@ pub mod Numbers
 pub mod RoundTrip
 pub mod Lengths
 pub mod Build
+pub mod Written
+pub mod Parsed
 pub mod Theorems

@@ -37,9 +37,9 @@ use Rattle.octets.proofs.Numbers.{
   length-bytesOf,
 }
 use Rattle.frame_table.proofs.Tags.{twice}
+use Rattle.frame_table.proofs.Values.{width-narrow}
 use Rattle.frame.proofs.Present.{presentTags-next, present-lt}
 use Rattle.frame.proofs.Contents.{
-  width-narrow,
   well-formed,
   present-content,
   turn,

@@ -1,6 +1,6 @@
 -- A field's number and its bytes: which numbers fit, and what the writer's test says of a content that is a number. Assumes nothing.
 use Prim.Native.Nat.{ℕ, zero, suc, _+_, _-_, _*_, _/_, _%_, _^_, _≤_, _<_}
-use mathlib.Core.List.{List, [], _∷_, _++_}
+use mathlib.Core.List.{List, []}
 use mathlib.Core.Bool.{Bool, true, false, _&&_}
 use mathlib.Core.Path.{_≡_, refl, sym, ap, _∙_}
 use native.Mathlib.Nat.{pow-suc, div-add-mod', div-eq-of-lt, div-lt-iff-lt-mul}
@@ -10,13 +10,13 @@ use lib.Dec.{eqb, ltb}
 use lib.ListN.{length}
 use lib.Pow.{pow-add, pow-mono, pow-pos}
 use borrow.Author.Tests.{eqb-true, eqb-false, eq-eqb, ne-eqb, lt-ltb, le-ltb, le-leb, ltb-true, ltb-false}
-use Rattle.octets.specs.Bytes.{Bytes, number, bytesOf}
+use Rattle.octets.specs.Bytes.{number, bytesOf}
 use Rattle.frame_table.specs.Table.{tagCount, dataTag, width}
 use Rattle.frame.specs.Row.{listed, wellFormed, highOf, lowOf}
 use Rattle.frame.specs.Writer.{dataWhole, contentFits}
 use Rattle.octets.proofs.Tests.{ltb-same, and-true-right}
 use Rattle.octets.proofs.Numbers.{number-nil, length-bytesOf, number-bytesOf, number-lt}
-use Rattle.frame.proofs.Contents.{width-narrow}
+use Rattle.frame_table.proofs.Values.{width-narrow}
 
 pub pow-bytes : (w : ℕ) → 2 ^ (8 * w) ≡ 256 ^ w
 pow-bytes zero = refl
@@ -61,6 +61,12 @@ module _ (h l : ℕ) (k : l < 2 ^ 64) where
   low-only w n z =
       let e = pow-mono {i = 8 * w} {j = 64} (omega arith) in
       le-ltb (h * 2 ^ 64 + l) (256 ^ w) (rw (← pow-bytes w) (omega arith))
+
+-- a number of at most eight bytes has no high half
+pub low-alone : (h l w : ℕ) → w ≤ 8 → h * 2 ^ 64 + l < 256 ^ w → l ≡ h * 2 ^ 64 + l
+low-alone h l w n k =
+    let e : 256 ^ w ≤ 2 ^ 64 = rw (← pow-bytes w) (pow-mono {i = 8 * w} {j = 64} (omega arith)) in
+    omega arith
 
 -- ---- the writer's test of a content
 
@@ -121,16 +127,3 @@ module _ (t hi lo : ℕ) (d : List ℕ) (h : t < tagCount) (n : t ≡ dataTag �
   pub number-over : ltb (hi * 2 ^ 64 + lo) (256 ^ width t) ≡ false → contentFits t true own hi lo d ≡ false
   unfolding highOf lowOf
   number-over k = rw (ne-eqb t dataTag n, not-both (ltb-false _ _ k) _ _ refl refl)
-
--- ---- the bytes of a number are bytes
-
-bytes-snoc : (l : List ℕ) (x : ℕ) → Bytes l → x < 256 → Bytes (l ++ (x ∷ []))
-bytes-snoc [] x h k zero = k
-bytes-snoc [] x h k (suc i) = omega arith
-bytes-snoc (y ∷ l) x h k zero = h 0
-bytes-snoc (y ∷ l) x h k (suc i) = bytes-snoc l x (λ j. h (suc j)) k i
-
-pub bytesOf-bytes : (w x : ℕ) → Bytes (bytesOf w x)
-unfolding bytesOf
-bytesOf-bytes zero x = λ i. omega arith
-bytesOf-bytes (suc w) x = bytes-snoc (bytesOf w (x / 256)) (x % 256) (bytesOf-bytes w (x / 256)) (omega arith)

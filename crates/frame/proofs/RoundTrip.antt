@@ -40,8 +40,8 @@ use Rattle.octets.proofs.Tests.{never, and-true}
 use Rattle.octets.proofs.Numbers.{length-fieldBytes, bytes-drop, bytes-take, bytesOf-number}
 use Rattle.frame_table.proofs.Tags.{halves, bit-is}
 use Rattle.frame_table.proofs.Forms.{form-tags-lt}
+use Rattle.frame_table.proofs.Values.{width-narrow}
 use Rattle.frame.proofs.Contents.{
-  width-narrow,
   well-formed,
   Stands,
   size-cases,
@@ -201,7 +201,7 @@ content-at (suc k) t (suc i) s h =
     let more : List ℕ = drop (fieldSize t s) s in
     content-at k (t + 1) i more (omega arith) ∙ ap (λ (n : ℕ). content n (behind i (t + 1) more)) e
 
-data-is : (s : List ℕ) → dataOf s ≡ getD (contents tagCount 0 s) dataTag []
+pub data-is : (s : List ℕ) → dataOf s ≡ getD (contents tagCount 0 s) dataTag []
 unfolding dataOf
 data-is s = sym (content-at tagCount 0 dataTag s (omega arith))
 
@@ -431,6 +431,10 @@ module _ (s : List ℕ) (h : isForm (form (parse s)) ≡ true) where
 
   readable : Readable
   readable = readable-at fit refl
+
+  -- a frame of some form says what its contents are
+  pub parsed-is : parse s ≡ fieldsOf (contents tagCount 0 s)
+  parsed-is = readable .is
 
   module _ (b : Bytes s) where
     pub parsed-says : (contentsOf tagCount 0 (parse s) (dataOf s) ≡ contents tagCount 0 s)

@@ -1,15 +1,19 @@
 -- The results on frames: the round trip both ways, forms that exclude each other, and lengths. Assumes nothing.
-use Prim.Native.Nat.{ℕ, _≤_}
+use Prim.Native.Nat.{ℕ, _≤_, _<_}
 use mathlib.Core.List.{List, [], _∷_}
 use mathlib.Core.Bool.{Bool, true, false, cond}
-use mathlib.Core.Path.{_≡_, refl, sym, _∙_}
-use lib.ListN.{length, replicate}
+use mathlib.Core.Path.{_≡_, refl, sym, ap, _∙_, subst}
+use native.Mathlib.Nat.{zero-add}
+use native.Mathlib.Omega.{arith}
+use lib.ListN.{length, take, replicate, getD-replicate}
 use Rattle.frame_table.specs.declared.fields.Fields.{Fields}
 use Rattle.frame_table.specs.declared.table.Form.{Form}
 use Rattle.frame_table.specs.declared.table.Form.the-variants.{NoForm}
 use Rattle.frame_table.specs.Forms as forms
 use Rattle.octets.specs.Bytes.{Bytes, numberFrom, number, bytesOf, fieldBytes}
+use Rattle.frame.specs.declared.writer.Written.the-variants.{Length}
 use Rattle.frame_table.specs.Table.{
+  tagCount,
   phaseTag,
   subscriberTag,
   exchangeTag,
@@ -20,36 +24,45 @@ use Rattle.frame_table.specs.Table.{
   dataTag,
   returnCodeTag,
   width,
+  valuesOf,
   inRange,
   allowed,
+  has,
   rowFits,
   findForm,
   formOf,
   isRequestForm,
   isReplyForm,
+  isForm,
 }
 use Rattle.frame_table.specs.Names.{form, with}
-use Rattle.frame.specs.Row.{listed, wellFormed, dataOf, highOf, lowOf, piece, join}
-use Rattle.frame.specs.Reader.{parse, readRequest, readReply}
+use Rattle.frame.specs.Row.{spelled, listed, wellFormed, dataOf, highOf, lowOf, piece, join}
+use Rattle.frame.specs.Reader.{parse, readAs, readRequest, readReply}
 use Rattle.frame_table.specs.Names.{noFields}
 use Rattle.frame.specs.Writer.{
   contentOf,
   contentsOf,
   frameOf,
-  frameLength,
+  formLength,
   dataWhole,
   fieldWritable,
   fieldsWritable,
   writable,
+  writeAnswer,
+  writeBuffer,
   uploadOpeningLength,
   requestRoom,
   replyRoom,
+  smallestReply,
   segmentBytes,
 }
 use Rattle.octets.proofs.Tests.{never}
 use Rattle.frame_table.proofs.Forms.{request-not-reply, reply-not-request, request-form, reply-form}
-use Rattle.frame.proofs.RoundTrip.{Sized, parse-frameOf, dataOf-frameOf, frameOf-parse, writable-parse}
-use Rattle.frame.proofs.Lengths.{length-frameOf, length-limit, opening-length}
+use Rattle.frame.proofs.Loops.{field-writable}
+use Rattle.frame.proofs.RoundTrip.{Sized, parse-frameOf, dataOf-frameOf, frameOf-parse, writable-parse, writable-at}
+use Rattle.frame.proofs.Lengths.{writable-parts, form-length, length-limit, length-least, opening-length}
+use Rattle.frame.proofs.Written.{written-front}
+use Rattle.frame.proofs.Parsed.{numberOf, Halves, InRow, field-in-row, read-halves, in-row, read-data}
 
 -- ---- what is written is read as the same fields and data
 
@@ -60,56 +73,147 @@ module _ (f : Fields) (d : List ℕ) (long : Sized f) (h : writable f d ≡ true
   pub written-data : dataOf (frameOf f d) ≡ d
   written-data = dataOf-frameOf f d long h
 
+  -- one argument for requests and replies: k tells the forms read
+  written-as : (k : Form → Bool) → readAs k (frameOf f d) ≡ cond (k (form f)) f noFields
+  written-as k = rw written-parsed
+
   pub written-request : isRequestForm (form f) ≡ true → readRequest (frameOf f d) ≡ f
   unfolding readRequest
-  written-request k = rw (written-parsed, k)
+  written-request k = written-as isRequestForm ∙ rw k
 
   pub written-reply : isReplyForm (form f) ≡ true → readReply (frameOf f d) ≡ f
   unfolding readReply
-  written-reply k = rw (written-parsed, k)
+  written-reply k = written-as isReplyForm ∙ rw k
 
--- ---- what is read is written as the same bytes, and the writer accepts it
+  -- read as a reply, no fields where it is of no reply form
+  pub written-as-reply : readReply (frameOf f d) ≡ cond (isReplyForm (form f)) f noFields
+  unfolding readReply
+  written-as-reply = written-as isReplyForm
+
+-- the same from the front of the buffer, where the writer answered a length
+module _ (f : Fields) (d old : List ℕ) (n : ℕ) (long : Sized f) (h : writeAnswer f d old ≡ Length n) where
+  pub data-read : dataOf (take n (writeBuffer f d old)) ≡ d
+  data-read = let w = written-front f d old n h in ap dataOf (w .1) ∙ written-data f d long (w .0)
+
+  pub request-read : isRequestForm (form f) ≡ true → readRequest (take n (writeBuffer f d old)) ≡ f
+  request-read k = let w = written-front f d old n h in ap readRequest (w .1) ∙ written-request f d long (w .0) k
+
+  pub reply-read : isReplyForm (form f) ≡ true → readReply (take n (writeBuffer f d old)) ≡ f
+  reply-read k = let w = written-front f d old n h in ap readReply (w .1) ∙ written-reply f d long (w .0) k
+
+-- ---- what is read is written as the same bytes, and the writer accepts it; its numbers are in their widths
+
+noFields-halves : (t : ℕ) → t < tagCount → Halves t noFields
+noFields-halves t m = rw (getD-replicate {A = ℕ} tagCount t 0 0 m) (omega arith, omega arith)
 
 -- one argument for requests and replies: k tells the forms read
-module _ (k : Form → Bool) (none : k NoForm ≡ false) (s : List ℕ) where
+module _ (k : Form → Bool) (none : k NoForm ≡ false) (known : (x : Form) → k x ≡ true → isForm x ≡ true)
+    (s : List ℕ) where
   taken-at : (b : Bool) → k (form (parse s)) ≡ b → k (form (cond b (parse s) noFields)) ≡ true
       → (cond b (parse s) noFields ≡ parse s) × (k (form (parse s)) ≡ true)
   unfolding formOf findForm rowFits
   taken-at true e h = (refl, e)
   taken-at false e h = never (sym none ∙ h)
 
--- a request or a reply that was read is what the frame says
-pub request-parsed : (s : List ℕ) → isRequestForm (form (readRequest s)) ≡ true
-    → (readRequest s ≡ parse s) × (isRequestForm (form (parse s)) ≡ true)
-unfolding readRequest
-request-parsed s h = taken-at isRequestForm refl s (isRequestForm (form (parse s))) refl h
+  as-parsed : k (form (readAs k s)) ≡ true → (readAs k s ≡ parse s) × (k (form (parse s)) ≡ true)
+  as-parsed = taken-at (k (form (parse s))) refl
 
-pub reply-parsed : (s : List ℕ) → isReplyForm (form (readReply s)) ≡ true → (readReply s ≡ parse s) × (isReplyForm (form (parse s)) ≡ true)
-unfolding readReply
-reply-parsed s h = taken-at isReplyForm refl s (isReplyForm (form (parse s))) refl h
+  as-data : k (form (readAs k s)) ≡ true → has (readAs k s .tags) dataTag ≡ true → 1 ≤ length (dataOf s)
+  as-data h =
+      let r = as-parsed h in
+      subst (λ (f : Fields). has (f .tags) dataTag ≡ true → 1 ≤ length (dataOf s)) (sym (r .0))
+      (read-data s (known _ (r .1)))
 
-module _ (s : List ℕ) (b : Bytes s) where
-  module _ (h : isRequestForm (form (readRequest s)) ≡ true) where
-    pub request-written : frameOf (readRequest s) (dataOf s) ≡ s
-    request-written =
-        let r = request-parsed s h in
-        rw (r .0) (frameOf-parse s (request-form (form (parse s)) (r .1)) b)
+  module _ (b : Bytes s) where
+    halves-at : (t : ℕ) → t < tagCount → (x : Bool) → k (form (parse s)) ≡ x → Halves t (cond x (parse s) noFields)
+    halves-at t m true e = read-halves s b (known _ e) t m
+    halves-at t m false e = noFields-halves t m
 
-    pub request-writable : writable (readRequest s) (dataOf s) ≡ true
-    request-writable =
-        let r = request-parsed s h in
-        rw (r .0) (writable-parse s (request-form (form (parse s)) (r .1)) b)
+    as-halves : (t : ℕ) → t < tagCount → Halves t (readAs k s)
+    as-halves t m = halves-at t m (k (form (parse s))) refl
 
-  module _ (h : isReplyForm (form (readReply s)) ≡ true) where
-    pub reply-written : frameOf (readReply s) (dataOf s) ≡ s
-    reply-written =
-        let r = reply-parsed s h in
-        rw (r .0) (frameOf-parse s (reply-form (form (parse s)) (r .1)) b)
+    module _ (h : k (form (readAs k s)) ≡ true) where
+      as-written : frameOf (readAs k s) (dataOf s) ≡ s
+      as-written = let r = as-parsed h in rw (r .0) (frameOf-parse s (known _ (r .1)) b)
 
-    pub reply-writable : writable (readReply s) (dataOf s) ≡ true
-    reply-writable =
-        let r = reply-parsed s h in
-        rw (r .0) (writable-parse s (reply-form (form (parse s)) (r .1)) b)
+      as-writable : writable (readAs k s) (dataOf s) ≡ true
+      as-writable = let r = as-parsed h in rw (r .0) (writable-parse s (known _ (r .1)) b)
+
+      as-number : (t : ℕ) → t < tagCount → (t ≡ dataTag → ⊥) → has (readAs k s .tags) t ≡ true
+          → InRow t (numberOf t (readAs k s))
+      as-number t m n =
+          let r = as-parsed h in
+          subst (λ (f : Fields). has (f .tags) t ≡ true → InRow t (numberOf t f)) (sym (r .0))
+          (λ e. in-row s b (known _ (r .1)) t m n e)
+
+module _ (s : List ℕ) where
+  -- a request or a reply that was read is what the frame says
+  pub request-parsed : isRequestForm (form (readRequest s)) ≡ true
+      → (readRequest s ≡ parse s) × (isRequestForm (form (parse s)) ≡ true)
+  unfolding readRequest
+  request-parsed = as-parsed isRequestForm refl request-form s
+
+  pub reply-parsed : isReplyForm (form (readReply s)) ≡ true
+      → (readReply s ≡ parse s) × (isReplyForm (form (parse s)) ≡ true)
+  unfolding readReply
+  reply-parsed = as-parsed isReplyForm refl reply-form s
+
+  -- data that stand have some bytes
+  pub request-data : isRequestForm (form (readRequest s)) ≡ true → has (readRequest s .tags) dataTag ≡ true
+      → 1 ≤ length (dataOf s)
+  unfolding readRequest
+  request-data = as-data isRequestForm refl request-form s
+
+  pub reply-data : isReplyForm (form (readReply s)) ≡ true → has (readReply s .tags) dataTag ≡ true
+      → 1 ≤ length (dataOf s)
+  unfolding readReply
+  reply-data = as-data isReplyForm refl reply-form s
+
+  module _ (b : Bytes s) where
+    -- both halves of a number have 64 bits
+    pub request-halves : (t : ℕ) → t < tagCount → Halves t (readRequest s)
+    unfolding readRequest
+    request-halves = as-halves isRequestForm refl request-form s b
+
+    pub reply-halves : (t : ℕ) → t < tagCount → Halves t (readReply s)
+    unfolding readReply
+    reply-halves = as-halves isReplyForm refl reply-form s b
+
+    module _ (h : isRequestForm (form (readRequest s)) ≡ true) where
+      pub request-written : frameOf (readRequest s) (dataOf s) ≡ s
+      unfolding readRequest
+      request-written = as-written isRequestForm refl request-form s b h
+
+      pub request-writable : writable (readRequest s) (dataOf s) ≡ true
+      unfolding readRequest
+      request-writable = as-writable isRequestForm refl request-form s b h
+
+      -- a number is in the width and the range that the table says
+      pub request-number : (t : ℕ) → t < tagCount → (t ≡ dataTag → ⊥) → has (readRequest s .tags) t ≡ true
+          → InRow t (numberOf t (readRequest s))
+      unfolding readRequest
+      request-number = as-number isRequestForm refl request-form s b h
+
+    module _ (h : isReplyForm (form (readReply s)) ≡ true) where
+      pub reply-written : frameOf (readReply s) (dataOf s) ≡ s
+      unfolding readReply
+      reply-written = as-written isReplyForm refl reply-form s b h
+
+      pub reply-writable : writable (readReply s) (dataOf s) ≡ true
+      unfolding readReply
+      reply-writable = as-writable isReplyForm refl reply-form s b h
+
+      pub reply-number : (t : ℕ) → t < tagCount → (t ≡ dataTag → ⊥) → has (readReply s .tags) t ≡ true
+          → InRow t (numberOf t (readReply s))
+      unfolding readReply
+      reply-number = as-number isReplyForm refl reply-form s b h
+
+-- the writer accepts a number only in the width and the range that the table says: else it gives number 1
+pub written-number : (f : Fields) (d : List ℕ) → writable f d ≡ true → (t : ℕ) → t < tagCount → (t ≡ dataTag → ⊥)
+    → has (f .tags) t ≡ true → InRow t (numberOf t f)
+written-number f d h t m n e =
+    let w = rw zero-add at (writable-at f d tagCount 0 t (writable-parts f d h .1) m .0) in
+    field-in-row t f d (field-writable t f d w) e n
 
 -- ---- request forms and reply forms cannot be taken for each other
 
@@ -127,9 +231,9 @@ reply-excludes-request s h = rw (reply-not-request (form (parse s)) (reply-parse
 -- ---- "Frame lengths: upload opening 53, largest request 303, largest reply 312"
 
 module _ (f : Fields) (d : List ℕ) (h : writable f d ≡ true) where
-  -- a frame is as long as the table says
-  pub frame-length : length (frameOf f d) ≡ frameLength (f .tags) (length d)
-  frame-length = length-frameOf f d h
+  -- a frame is as long as the tables say of its form
+  pub frame-length : length (frameOf f d) ≡ formLength (form f) (length d)
+  frame-length = form-length f d h
 
   pub upload-opening-length : form f ≡ forms.UploadOpening → length (frameOf f d) ≡ uploadOpeningLength
   upload-opening-length = opening-length f d h
@@ -139,6 +243,9 @@ module _ (f : Fields) (d : List ℕ) (h : writable f d ≡ true) where
 
   pub reply-length : isReplyForm (form f) ≡ true → length d ≤ segmentBytes → length (frameOf f d) ≤ replyRoom
   reply-length k n = rw (reply-not-request (form f) k) at (length-limit f d h n)
+
+  pub reply-least : isReplyForm (form f) ≡ true → smallestReply ≤ length (frameOf f d)
+  reply-least = length-least f d h
 
 -- a whole segment of zeros
 unfoldable pub segmentData : List ℕ
@@ -163,5 +270,6 @@ Reached k f n = (writable f segmentData ≡ true) × (k (form f) ≡ true) × (l
 -- both limits are reached
 pub largest-reached : Reached isRequestForm segmentRequest requestRoom × Reached isReplyForm segmentReply replyRoom
 unfolding segmentData segmentRequest segmentReply writable fieldsWritable fieldWritable contentOf contentsOf frameOf dataWhole
-    wellFormed listed allowed inRange width highOf lowOf number numberFrom bytesOf fieldBytes piece join formOf findForm rowFits
+    wellFormed listed spelled allowed inRange width valuesOf highOf lowOf number numberFrom bytesOf fieldBytes piece
+    join formOf findForm rowFits
 largest-reached = ((refl, refl, refl), (refl, refl, refl))

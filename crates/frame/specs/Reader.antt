@@ -1,10 +1,11 @@
 -- Document 01, "The frame": what a frame says.
 use Prim.Native.Nat.{ℕ}
 use mathlib.Core.List.{List}
-use mathlib.Core.Bool.{cond, _&&_}
+use mathlib.Core.Bool.{Bool, cond, _&&_}
 use lib.ListN.{length}
 use lib.Dec.{leb, eqb}
 use Rattle.frame_table.specs.declared.fields.Fields.{Fields}
+use Rattle.frame_table.specs.declared.table.Form.{Form}
 use Rattle.frame_table.specs.Table.{tagCount, frameLimit, isRequestForm, isReplyForm}
 use Rattle.frame_table.specs.Names.{form, noFields}
 use Rattle.frame.specs.Row.{contents, behind, presentTags, highOf, lowOf, eachFrom}
@@ -17,10 +18,14 @@ fieldsOf r = record { tags = presentTags r; high = eachFrom highOf 0 r; low = ea
 unfoldable pub parse : List ℕ → Fields
 parse s = cond (leb (length s) frameLimit && eqb (length (behind tagCount 0 s)) 0) (fieldsOf (contents tagCount 0 s)) noFields
 
--- what a request says; no fields where the frame is of no request form
-unfoldable pub readRequest : List ℕ → Fields
-readRequest s = cond (isRequestForm (form (parse s))) (parse s) noFields
+-- what a frame of the forms k says; no fields where it is of none of them
+abbrev pub readAs : (Form → Bool) → List ℕ → Fields
+readAs k s = cond (k (form (parse s))) (parse s) noFields
 
--- what a reply says; no fields where the frame is of no reply form
+-- what a request says
+unfoldable pub readRequest : List ℕ → Fields
+readRequest s = readAs isRequestForm s
+
+-- what a reply says
 unfoldable pub readReply : List ℕ → Fields
-readReply s = cond (isReplyForm (form (parse s))) (parse s) noFields
+readReply s = readAs isReplyForm s

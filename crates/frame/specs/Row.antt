@@ -5,14 +5,27 @@ use mathlib.Core.Bool.{Bool, true, cond, not, _&&_, _||_}
 use lib.ListN.{length, getD, take, drop}
 use lib.Dec.{leb, eqb}
 use Rattle.octets.specs.Bytes.{number, fieldBytes}
-use Rattle.frame_table.specs.Table.{frameLimit, dataTag, width, allowed}
+use Rattle.frame_table.specs.declared.table.Characters.{Characters}
+use Rattle.frame_table.specs.declared.table.Values.{Values}
+use Rattle.frame_table.specs.declared.table.Values.the-variants.{Any, Range, Text}
+use Rattle.frame_table.specs.Table.{frameLimit, dataTag, width, valuesOf, inRange, allowed}
 
--- every byte is in the value list of the tag
+-- every byte is one of the characters
+unfoldable pub spelled : Characters → List ℕ → Bool
+spelled x [] = true
+spelled x (b ∷ c) = allowed x b && spelled x c
+
+-- the content c is one of the values: any bytes, a number in the range, or a text
+abbrev pub isValue : Values → List ℕ → Bool
+isValue Any c = true
+isValue (Range least greatest) c = inRange least greatest (number c)
+isValue (Text x) c = spelled x c
+
+-- the content is in the value list of the tag
 unfoldable pub listed : ℕ → List ℕ → Bool
-listed t [] = true
-listed t (b ∷ c) = allowed t b && listed t c
+listed t c = isValue (valuesOf t) c
 
--- c can be the content of a field with tag t: "1 or more" bytes, as many as the table says, each in its list
+-- c can be the content of a field with tag t: "1 or more" bytes, as many as the table says, in its value list
 unfoldable pub wellFormed : ℕ → List ℕ → Bool
 wellFormed t c = leb (length c) frameLimit && not (eqb (length c) 0) && (eqb (width t) 0 || eqb (length c) (width t)) && listed t c
 

@@ -5,10 +5,12 @@ use mathlib.Core.Bool.{Bool, true, cond, not, _&&_, _||_}
 use lib.ListN.{length, getD}
 use lib.Dec.{leb, eqb}
 use Rattle.frame_table.specs.declared.fields.Fields.{Fields}
+use Rattle.frame_table.specs.declared.table.Form.{Form}
+use Rattle.frame_table.specs.Forms as forms
 use Rattle.frame.specs.declared.writer.Written.{Written}
 use Rattle.frame.specs.declared.writer.Written.the-variants.{Length, Refused}
 use Rattle.octets.specs.Bytes.{bytesOf, overwrite}
-use Rattle.frame_table.specs.Table.{frameLimit, tagCount, dataTag, width, has, isForm}
+use Rattle.frame_table.specs.Table.{frameLimit, tagCount, dataTag, width, has, tagsOf, isForm}
 use Rattle.frame_table.specs.Names.{form}
 use Rattle.frame.specs.Row.{wellFormed, highOf, lowOf, piece, join}
 
@@ -41,6 +43,10 @@ lengthFrom (suc k) t m n = cond (has m t) (3 + cond (eqb t dataTag) n (width t))
 -- the bytes of a frame with the tags m and n bytes of data
 unfoldable pub frameLength : ℕ → ℕ → ℕ
 frameLength m n = lengthFrom tagCount 0 m n
+
+-- the bytes of a frame of the form x with n bytes of data
+abbrev pub formLength : Form → ℕ → ℕ
+formLength x n = frameLength (tagsOf x) n
 
 -- n bytes are all m bytes of the data, where t is the tag of the data
 unfoldable pub dataWhole : ℕ → ℕ → ℕ → Bool
@@ -96,6 +102,10 @@ requestRoom = 303
 -- "largest reply 312", likewise; "a reply buffer of at least 312 bytes"
 abbrev pub replyRoom : ℕ
 replyRoom = 312
+
+-- "unreadable request 0D"
+abbrev pub smallestReply : ℕ
+smallestReply = formLength forms.Unreadable 0
 
 -- "segments are 256 bytes but the last"
 abbrev pub segmentBytes : ℕ

@@ -2,12 +2,15 @@
 use frame_table::fields::Bits128;
 use frame_table::fields::Fields;
 use frame_table::table;
+use frame_table::table::Characters;
 use frame_table::table::FRAME_LIMIT;
 use frame_table::table::TAGS;
+use frame_table::table::Values;
 use frame_table::table::allowed;
-use frame_table::table::is_any;
+use frame_table::table::in_range;
 use frame_table::table::is_reply_form;
 use frame_table::table::is_request_form;
+use frame_table::table::values_of;
 use frame_table::table::width;
 use octets::bytes::inner;
 use octets::bytes::number;
@@ -16,27 +19,36 @@ ghost use mathlib.Core.Path.{_≡_};
 ghost use mathlib.Core.Bool.{cond};
 ghost use Prim.Native.Nat.{_*_, _^_, _≤_, _<_};
 ghost use lib.ListN.{length};
-ghost use Rattle.frame_table.specs.Table.{tagCount, dataTag};
-ghost use Rattle.frame.specs.Row.{listed, wellFormed, fieldSize, behind, dataOf, present, highOf, lowOf};
+ghost use Rattle.frame_table.specs.Table.{tagCount, dataTag, width};
+ghost use Rattle.frame.specs.Row.{spelled, listed, wellFormed, fieldSize, behind, dataOf, present, highOf, lowOf};
 ghost use Rattle.frame.specs.Reader.{parse, readRequest, readReply};
 ghost use Rattle.frame_table.specs.Names.{noFields};
 
-// Whether each byte of the content is in the value list of the tag.
-pub(crate) fn listed(tag: usize, content: &[u8]) -> bool
-    requires { ⌜ tag < tagCount ⌝ }
-    ensures { λ r. ⌜ r ≡ listed tag (now (content .entry)) ⌝ }
+// Whether each byte of the text is one of the characters.
+pub(crate) fn spelled(characters: Characters, text: &[u8]) -> bool
+    ensures { λ r. ⌜ r ≡ spelled characters (now (text .entry)) ⌝ }
 {
-    if is_any(tag) {
-        return true;
-    }
     let mut i = 0;
-    while i < content.len() {
-        if !allowed(tag, content[i]) {
+    while i < text.len() {
+        if !allowed(characters, text[i]) {
             return false;
         }
         i += 1;
     }
     true
+}
+
+// Whether the content is in the value list of the tag.
+fn listed(tag: usize, content: &[u8]) -> bool
+    requires { ⌜ (tag < tagCount) × ((width tag ≡ 0 → ⊥) → length (now content) ≡ width tag) ⌝ }
+    ensures { λ r. ⌜ r ≡ listed tag (now (content .entry)) ⌝ }
+{
+    let values = values_of(tag);
+    match values {
+        Values::Any => true,
+        Values::Range(least, greatest) => in_range(least, greatest, number(content)),
+        Values::Text(characters) => spelled(characters, content),
+    }
 }
 
 // Whether this can be the content of a field with this tag.

@@ -1,15 +1,18 @@
 // Writing a frame: all fields are checked before the first byte is written.
-use crate::reader::listed;
+use crate::reader::spelled;
 use crate::reader::well_formed;
 use frame_table::fields::Fields;
 use frame_table::fields::has;
+use frame_table::table::Characters;
 use frame_table::table::DATA;
 use frame_table::table::FRAME_LIMIT;
 use frame_table::table::Form;
 use frame_table::table::TAGS;
-use frame_table::table::is_any;
+use frame_table::table::Values;
+use frame_table::table::in_range;
 use frame_table::table::is_reply_form;
 use frame_table::table::is_request_form;
+use frame_table::table::values_of;
 use frame_table::table::width;
 use octets::bytes::digits;
 use octets::bytes::put_field;
@@ -21,7 +24,7 @@ ghost use lib.Dec.{ltb};
 ghost use lib.ListN.{length};
 ghost use Rattle.octets.specs.Bytes.{bytesOf, overwrite};
 ghost use Rattle.frame_table.specs.Table.{tagCount, frameLimit, dataTag, width, has, isForm};
-ghost use Rattle.frame.specs.Row.{listed, piece};
+ghost use Rattle.frame.specs.Row.{spelled, listed, piece};
 ghost use Rattle.frame.specs.Writer.{contentAt, frameOf, dataWhole, contentFits, fieldsWritable, writeAnswer};
 ghost use Rattle.frame.specs.Writer.{writeBuffer, writeNumber, writtenNumber};
 
@@ -105,17 +108,27 @@ fn fits(w: usize, high: u64, low: u64) -> bool
     is_below(low, w)
 }
 
-// Whether the bytes of a number are in the value list of the tag.
+// Whether the last w bytes of a number are a text of the characters.
+fn number_spelled(characters: Characters, w: usize, high: u64, low: u64) -> bool
+    requires { ⌜ w ≤ 16 ⌝ }
+    ensures { λ r. ⌜ r ≡ spelled characters (bytesOf w (high * 2 ^ 64 + low)) ⌝ }
+{
+    let bytes = digits(high, low);
+    let from = 16 - w;
+    spelled(characters, &bytes[from..])
+}
+
+// Whether a number that has no more bytes than the tag is in the value list of the tag.
 fn number_listed(tag: usize, high: u64, low: u64) -> bool
-    requires { ⌜ (tag < tagCount) × (tag ≡ dataTag → ⊥) ⌝ }
+    requires { ⌜ (tag < tagCount) × (tag ≡ dataTag → ⊥) × (high * 2 ^ 64 + low < 256 ^ width tag) ⌝ }
     ensures { λ r. ⌜ r ≡ listed tag (bytesOf (width tag) (high * 2 ^ 64 + low)) ⌝ }
 {
-    if is_any(tag) {
-        return true;
+    let values = values_of(tag);
+    match values {
+        Values::Any => true,
+        Values::Range(least, greatest) => in_range(least, greatest, low),
+        Values::Text(characters) => number_spelled(characters, width(tag), high, low),
     }
-    let bytes = digits(high, low);
-    let from = 16 - width(tag);
-    listed(tag, &bytes[from..])
 }
 
 // Whether a field that is not the data can be written.

@@ -14,6 +14,10 @@ use Rattle.frame_table.specs.declared.table.Form.{Form}
 use Rattle.frame_table.specs.declared.table.Form.the-variants.{NoForm, Request, Reply}
 use Rattle.frame_table.specs.Table.{
   tagCount,
+  phaseTag,
+  subscriberTag,
+  exchangeTag,
+  has,
   requestRow,
   replyRow,
   tagsOf,
@@ -92,6 +96,24 @@ module _ (m p : ℕ) (h : isForm (formOf m p) ≡ true) where
   -- fields of a request form have its phase
   pub request-phase : isRequestForm (formOf m p) ≡ true → p ≡ phaseOf (formOf m p)
   request-phase k = own-phase (formOf m p) p k (form-phase m p h)
+
+-- ---- what every request has
+
+request-row-has : (x : RequestForm)
+    → (has (requestRow x .1) phaseTag ≡ true) × (has (requestRow x .1) subscriberTag ≡ true) ×
+    (has (requestRow x .1) exchangeTag ≡ true)
+request-row-has request.UploadOpening = (refl, refl, refl)
+request-row-has request.DownloadOpening = (refl, refl, refl)
+request-row-has request.UploadTransfer = (refl, refl, refl)
+request-row-has request.DownloadTransfer = (refl, refl, refl)
+request-row-has request.Receipt = (refl, refl, refl)
+
+-- a phase, a subscriber and an exchange number
+pub request-has : (x : Form) → isRequestForm x ≡ true
+    → (has (tagsOf x) phaseTag ≡ true) × (has (tagsOf x) subscriberTag ≡ true) × (has (tagsOf x) exchangeTag ≡ true)
+request-has NoForm h = never h
+request-has (Request x) h = request-row-has x
+request-has (Reply x) h = never h
 
 -- ---- request forms and reply forms
 

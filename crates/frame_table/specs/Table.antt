@@ -4,6 +4,10 @@ use mathlib.Core.List.{List, [], _∷_}
 use mathlib.Core.Bool.{Bool, true, false, cond, _&&_, _||_}
 use lib.ListN.{getD}
 use lib.Dec.{leb, eqb}
+use Rattle.frame_table.specs.declared.table.Characters.{Characters}
+use Rattle.frame_table.specs.declared.table.Characters.the-variants.{Digits, CapitalsOrDigits}
+use Rattle.frame_table.specs.declared.table.Values.{Values}
+use Rattle.frame_table.specs.declared.table.Values.the-variants.{Any, Range, Text}
 use Rattle.frame_table.specs.declared.table.Field.{Field}
 use Rattle.frame_table.specs.declared.table.RequestForm.{RequestForm}
 use Rattle.frame_table.specs.declared.table.RequestForm.the-variants.{UploadOpening, DownloadOpening, UploadTransfer, DownloadTransfer, Receipt}
@@ -84,43 +88,45 @@ returnCodeTag = 13
 abbrev pub orderNumberTag : ℕ
 orderNumberTag = 14
 
--- "content lengths" (0: 1 or more), and the two ranges in which each byte of the content is, for each tag from 0 on
+-- "content lengths" (0: 1 or more), and the values, for each tag from 0 on
 abbrev pub fieldTable : List Field
 fieldTable =
-    (1, 1, 0, 1, 0)  -- 00: no tag
-    ∷ (1, 1, 3, 1, 3)  -- "phase, 1 byte: 1 initialisation, 2 transfer, 3 receipt"
-    ∷ (2, 0, 255, 0, 255)  -- "subscriber, 2"
-    ∷ (4, 0, 255, 0, 255)  -- "exchange number, 4"
-    ∷ (3, 48, 57, 65, 90)  -- "order type, 3 capitals or digits"
-    ∷ (16, 0, 255, 0, 255)  -- "nonce, 16"
-    ∷ (4, 0, 255, 0, 255)  -- "timestamp, 4"
-    ∷ (2, 0, 255, 0, 255)  -- "number of segments, 2"
-    ∷ (16, 0, 255, 0, 255)  -- "transaction ID, 16"
-    ∷ (2, 0, 255, 0, 255)  -- "segment number, 2"
-    ∷ (1, 0, 1, 0, 1)  -- "last mark, 1, 0 or 1"
-    ∷ (0, 0, 255, 0, 255)  -- "data, 1 or more"
-    ∷ (1, 0, 1, 0, 1)  -- "receipt code, 1: 0 taken, 1 not taken"
-    ∷ (6, 48, 57, 48, 57)  -- "return code, 6 ASCII digits"
-    ∷ (4, 0, 255, 0, 255)  -- "order number, 4"
+    (1, Range 1 0)  -- 00: no tag, no value
+    ∷ (1, Range 1 3)  -- "phase, 1 byte: 1 initialisation, 2 transfer, 3 receipt"
+    ∷ (2, Any)  -- "subscriber, 2"
+    ∷ (4, Any)  -- "exchange number, 4"
+    ∷ (3, Text CapitalsOrDigits)  -- "order type, 3 capitals or digits"
+    ∷ (16, Any)  -- "nonce, 16"
+    ∷ (4, Any)  -- "timestamp, 4"
+    ∷ (2, Any)  -- "number of segments, 2"
+    ∷ (16, Any)  -- "transaction ID, 16"
+    ∷ (2, Any)  -- "segment number, 2"
+    ∷ (1, Range 0 1)  -- "last mark, 1, 0 or 1"
+    ∷ (0, Any)  -- "data, 1 or more"
+    ∷ (1, Range 0 1)  -- "receipt code, 1: 0 taken, 1 not taken"
+    ∷ (6, Text Digits)  -- "return code, 6 ASCII digits"
+    ∷ (4, Any)  -- "order number, 4"
     ∷ []
 
+-- the row of a tag; no values where there is no such tag
 abbrev pub fieldRow : ℕ → Field
-fieldRow t = getD fieldTable t (0, 0, 0, 0, 0)
+fieldRow t = getD fieldTable t (0, Range 1 0)
 
 -- the content length of a tag
 unfoldable pub width : ℕ → ℕ
 width t = fieldRow t .0
 
--- every byte is in the value list of a tag
-unfoldable pub anyByte : ℕ → Bool
-anyByte t = eqb (fieldRow t .1) 0 && eqb (fieldRow t .2) 255
+-- the values of a tag
+unfoldable pub valuesOf : ℕ → Values
+valuesOf t = fieldRow t .1
 
 unfoldable pub inRange : ℕ → ℕ → ℕ → Bool
-inRange low high b = leb low b && leb b high
+inRange least greatest n = leb least n && leb n greatest
 
--- the byte is in the value list of the tag
-unfoldable pub allowed : ℕ → ℕ → Bool
-allowed t b = inRange (fieldRow t .1) (fieldRow t .2) b || inRange (fieldRow t .3) (fieldRow t .4) b
+-- the byte is one of the characters: 0 to 9 are 48 to 57, A to Z 65 to 90
+unfoldable pub allowed : Characters → ℕ → Bool
+allowed Digits b = inRange 48 57 b
+allowed CapitalsOrDigits b = inRange 48 57 b || inRange 65 90 b
 
 -- a set of tags as a number: bit t for tag t
 abbrev pub tagSet : List ℕ → ℕ

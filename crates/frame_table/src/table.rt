@@ -1,7 +1,10 @@
 // The two tables: fields by tag, and forms as sets of tags.
+use octets::bytes::wide;
 ghost use mathlib.Core.Path.{_≡_};
 ghost use Prim.Native.Nat.{_<_};
-ghost use Rattle.frame_table.specs.Table.{tagCount, fieldRow, width, anyByte, inRange, allowed, formOf, isRequestForm, isReplyForm};
+ghost use Rattle.frame_table.specs.Table.{tagCount, fieldRow, width, valuesOf, inRange, allowed};
+ghost use Rattle.frame_table.specs.Table.{formOf, isRequestForm, isReplyForm};
+ghost use Rattle.frame_table.specs.declared.table.Characters.the-variants.{CapitalsOrDigits};
 ghost use Rattle.frame_table.specs.declared.table.Form.the-variants.{NoForm, Request};
 ghost use mathlib.Core.Bool.{cond};
 ghost use lib.Dec.{eqb};
@@ -40,8 +43,21 @@ pub const RETURN_CODE: usize = 13;
 
 pub const ORDER_NUMBER: usize = 14;
 
-// A field's content length (0: one byte or more), and the two ranges in which each byte of the content is.
-struct Field(pub usize, pub u8, pub u8, pub u8, pub u8);
+// The characters of a text.
+pub enum Characters {
+    Digits,
+    CapitalsOrDigits,
+}
+
+// What the content of a field can be: any bytes, a number from the least to the greatest, or a text.
+pub enum Values {
+    Any,
+    Range(u64, u64),
+    Text(Characters),
+}
+
+// A field's content length (0: one byte or more), and its values.
+struct Field(pub usize, pub Values);
 
 pub enum RequestForm {
     UploadOpening,
@@ -145,21 +161,21 @@ fn field_row(tag: usize) -> Field
     ensures { λ r. ⌜ r ≡ fieldRow tag ⌝ }
 {
     match tag {
-        0 => Field(1, 1, 0, 1, 0), // 00 stands nowhere
-        1 => Field(1, 1, 3, 1, 3), // 01 phase
-        2 => Field(2, 0, 255, 0, 255), // 02 subscriber
-        3 => Field(4, 0, 255, 0, 255), // 03 exchange number
-        4 => Field(3, 48, 57, 65, 90), // 04 order type
-        5 => Field(16, 0, 255, 0, 255), // 05 nonce
-        6 => Field(4, 0, 255, 0, 255), // 06 timestamp
-        7 => Field(2, 0, 255, 0, 255), // 07 number of segments
-        8 => Field(16, 0, 255, 0, 255), // 08 transaction ID
-        9 => Field(2, 0, 255, 0, 255), // 09 segment number
-        10 => Field(1, 0, 1, 0, 1), // 0A last mark
-        11 => Field(0, 0, 255, 0, 255), // 0B data
-        12 => Field(1, 0, 1, 0, 1), // 0C receipt code
-        13 => Field(6, 48, 57, 48, 57), // 0D return code
-        _ => Field(4, 0, 255, 0, 255), // 0E order number
+        0 => Field(1, Values::Range(1, 0)), // 00, which stands nowhere
+        PHASE => Field(1, Values::Range(1, 3)), // 01
+        SUBSCRIBER => Field(2, Values::Any), // 02
+        EXCHANGE => Field(4, Values::Any), // 03
+        ORDER_TYPE => Field(3, Values::Text(Characters::CapitalsOrDigits)), // 04
+        NONCE => Field(16, Values::Any), // 05
+        TIMESTAMP => Field(4, Values::Any), // 06
+        SEGMENTS => Field(2, Values::Any), // 07
+        TRANSACTION => Field(16, Values::Any), // 08
+        SEGMENT => Field(2, Values::Any), // 09
+        LAST_MARK => Field(1, Values::Range(0, 1)), // 0A
+        DATA => Field(0, Values::Any), // 0B
+        RECEIPT_CODE => Field(1, Values::Range(0, 1)), // 0C
+        RETURN_CODE => Field(6, Values::Text(Characters::Digits)), // 0D
+        _ => Field(4, Values::Any), // 0E order number
     }
 }
 
@@ -172,37 +188,42 @@ pub fn width(tag: usize) -> usize
     field.0
 }
 
-// Whether every byte is in the value list of the tag.
-pub fn is_any(tag: usize) -> bool
+// The values of the tag.
+pub fn values_of(tag: usize) -> Values
     requires { ⌜ tag < tagCount ⌝ }
-    ensures { λ r. ⌜ r ≡ anyByte tag ⌝ }
+    ensures { λ r. ⌜ r ≡ valuesOf tag ⌝ }
 {
     let field = field_row(tag);
-    if field.1 != 0 {
-        return false;
-    }
-    field.2 == 255
+    field.1
 }
 
-fn in_range(low: u8, high: u8, byte: u8) -> bool
-    ensures { λ r. ⌜ r ≡ inRange low high byte ⌝ }
+pub fn in_range(least: u64, greatest: u64, number: u64) -> bool
+    ensures { λ r. ⌜ r ≡ inRange least greatest number ⌝ }
 {
-    if byte < low {
+    if number < least {
         return false;
     }
-    byte <= high
+    number <= greatest
 }
 
-// Whether the byte is in the value list of the tag.
-pub fn allowed(tag: usize, byte: u8) -> bool
-    requires { ⌜ tag < tagCount ⌝ }
-    ensures { λ r. ⌜ r ≡ allowed tag byte ⌝ }
+fn is_capital_or_digit(byte: u64) -> bool
+    ensures { λ r. ⌜ r ≡ allowed CapitalsOrDigits byte ⌝ }
 {
-    let field = field_row(tag);
-    if in_range(field.1, field.2, byte) {
+    if in_range(48, 57, byte) {
         return true;
     }
-    in_range(field.3, field.4, byte)
+    in_range(65, 90, byte)
+}
+
+// Whether the byte is one of the characters.
+pub fn allowed(characters: Characters, byte: u8) -> bool
+    ensures { λ r. ⌜ r ≡ allowed characters byte ⌝ }
+{
+    let b = wide(byte);
+    match characters {
+        Characters::Digits => in_range(48, 57, b),
+        Characters::CapitalsOrDigits => is_capital_or_digit(b),
+    }
 }
 
 // The request form, where the phase is its own.

@@ -7,8 +7,8 @@ use lib.Dec.{eqb, ltb}
 use lib.ListN.{getD}
 use borrow.Author.Tests.{ltb-true}
 use Rattle.octets.specs.Bytes.{bytesOf}
-use Rattle.frame_table.specs.Table.{returnCodeTag, allowed, inRange, width}
-use Rattle.frame.specs.Row.{listed}
+use Rattle.frame_table.specs.Table.{returnCodeTag, allowed, inRange, width, valuesOf}
+use Rattle.frame.specs.Row.{spelled, listed}
 use Rattle.octets.proofs.Tests.{and-true}
 use Rattle.message.specs.declared.codes.ReturnCode.{ReturnCode}
 use Rattle.message.specs.declared.codes.ReturnCode.the-variants as code
@@ -65,7 +65,7 @@ every-code p k h c = ap p (sym (codeOf-field c)) ∙ all-at p returnCodes (place
 
 -- six digits, as document 01 lists the bytes of field 0D
 pub code-listed : (c : ReturnCode) → listed returnCodeTag (bytesOf (width returnCodeTag) (codeField c)) ≡ true
-unfolding listed bytesOf width allowed inRange
+unfolding listed spelled bytesOf width valuesOf allowed inRange
 code-listed = every-code (λ c. listed returnCodeTag (bytesOf (width returnCodeTag) (codeField c))) refl refl
 
 pub code-lt : (c : ReturnCode) → codeField c < 2 ^ 48

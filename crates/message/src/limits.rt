@@ -3,6 +3,9 @@
 // The bytes of a segment but the last.
 pub const SEGMENT_BYTES: usize = 256;
 
+// The same as a count of a file's bytes: segmentBytes too.
+pub const SEGMENT_SIZE: u64 = SEGMENT_BYTES as u64;
+
 // The most segments of an order.
 pub const MAX_SEGMENTS: u64 = 15;
 

@@ -1,5 +1,6 @@
 // Files and payloads in segments.
 use crate::limits::SEGMENT_BYTES;
+use crate::limits::SEGMENT_SIZE;
 use octets::bytes::behind_pieces;
 use octets::bytes::front;
 ghost use mathlib.Core.Path.{_≡_};
@@ -7,17 +8,14 @@ ghost use Prim.Native.Nat.{_+_};
 ghost use lib.Dec.{eqb};
 ghost use Rattle.message.specs.Segments.{segmentsOf, segmentOf, lastMarkOf};
 
-// The bytes of a segment but the last, as a count of a file's bytes.
-const SEGMENT: u64 = SEGMENT_BYTES as u64;
-
 // The number of segments of n bytes.
 pub fn segments_of(n: u64) -> u64
     ensures { λ r. ⌜ r ≡ segmentsOf n ⌝ }
 {
-    if n % SEGMENT == 0 {
-        return n / SEGMENT;
+    if n % SEGMENT_SIZE == 0 {
+        return n / SEGMENT_SIZE;
     }
-    n / SEGMENT + 1
+    n / SEGMENT_SIZE + 1
 }
 
 // Segment s, from 1 on: that part of the bytes itself, empty behind their end.
@@ -27,7 +25,7 @@ pub fn segment_of(file: &[u8], s: u64) -> &[u8]
     if s == 0 {
         return front(file, SEGMENT_BYTES);
     }
-    front(behind_pieces(file, s - 1, SEGMENT), SEGMENT_BYTES)
+    front(behind_pieces(file, s - 1, SEGMENT_SIZE), SEGMENT_BYTES)
 }
 
 // The last mark of segment s of n.

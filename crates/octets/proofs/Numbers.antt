@@ -206,6 +206,10 @@ bytesOf-number w c b e =
     let k : take w c ≡ c = take-all w c (omega arith) in
     ap (λ (l : List ℕ). bytesOf w (number l)) (sym k) ∙ bytesOf-take c b w (omega arith) ∙ k
 
+-- w bytes are a number below 256 ^ w
+pub number-small : (w : ℕ) (s : List ℕ) → Bytes s → length s ≡ w → number s < 256 ^ w
+number-small w s b e = subst (λ (l : List ℕ). number l < 256 ^ w) (bytesOf-number w s b e) (number-lt w (number s))
+
 -- ---- bytes written over others
 
 pub length-fieldBytes : (t : ℕ) (c : List ℕ) → length (fieldBytes t c) ≡ 3 + length c

@@ -1,78 +1,75 @@
--- `listed` meets its contract. The loop's invariant: every byte passed is in the list. Assumes nothing.
-use mathlib.Core.Path.{_≡_, refl, sym, _∙_}
-use Prim.Native.Nat.{_≤_, _-_}
+-- `listed` meets its contract: the values of the tag say which test it is. Assumes nothing.
+use Prim.Native.Nat.{_≤_}
+use mathlib.Core.Path.{_≡_, sym, ap, _∙_}
 use native.Mathlib.Omega.{arith}
-use lib.ListN.{length, drop}
+use lib.ListN.{length}
 use borrow.Author.Needs.{needs}
-use borrow.Author.Tests.{not-true, not-false}
-use Rattle.frame.specs.Row.{listed}
-use Rattle.frame.proofs.Contents.{listed-step, listed-end, any-listed}
+use Rattle.frame_table.specs.Table.{inRange}
+use Rattle.frame_table.proofs.Values.{range-narrow}
+use Rattle.frame.proofs.Contents.{listed-as}
 use Rattle.frame.proofs.reader.listed.Statement.{statement}
 use Rattle.frame.proofs.reader.listed.Tie as tie
 
-abbrev Inv-loop : tie.InvT-loop
-Inv-loop tag content i₀ i = (i ≤ length content) × (listed tag content ≡ listed tag (drop i content))
+values-of-requires : tie.Need-values-of-requires
+values-of-requires c κs = search needs
 
-abbrev μ-loop : tie.MeasureT-loop
-μ-loop tag content i₀ i = length content - i
+enum-told : tie.Need-enum-told
+enum-told c = search needs
 
-is-any-requires : tie.Need-is-any-requires Inv-loop μ-loop
-is-any-requires c κs = search needs
+enum-known-values : tie.Need-enum-known-values
+enum-known-values c = search needs
 
-returns : tie.Need-returns Inv-loop μ-loop
+number-requires : tie.Need-number-requires
+number-requires c κs =
+    let at-values = c .before .before .before in
+    let start = at-values .before .before in
+    let e = sym (at-values .values-of .ensures) ∙ c .before .values .given .1 in
+    let w = range-narrow (start .args .tag) _ _ (start .pre .0) e in
+    omega (arith, start .pre .1 (λ z. omega arith))
+
+in-range-requires : tie.Need-in-range-requires
+in-range-requires c κs = search needs
+
+enum-known-values-2 : tie.Need-enum-known-values-2
+enum-known-values-2 c = search needs
+
+spelled-requires : tie.Need-spelled-requires
+spelled-requires c κs = search needs
+
+returns : tie.Need-returns
 returns c =
-    let a = c .before .before .before .args in
-    sym (any-listed (a .tag) (sym (c .before .is-any .ensures) ∙ c .if1 .taken) (a .content .now) (λ i. omega (arith, c .before .before .shared-slice-known .given i)))
+    let at-values = c .before .before in
+    let a = at-values .before .before .args in
+    sym (listed-as (a .tag) (a .content .now) _ (sym (at-values .values-of .ensures) ∙ c .enum-told .given .1))
 
-loop-holds : tie.Need-loop-holds Inv-loop μ-loop
-loop-holds c = (search needs, refl)
-
-shared-slice-read-allowed : tie.Need-shared-slice-read-allowed Inv-loop μ-loop
-shared-slice-read-allowed c = search needs
-
-allowed-requires : tie.Need-allowed-requires Inv-loop μ-loop
-allowed-requires c κs = search needs
-
-returns-2 : tie.Need-returns-2 Inv-loop μ-loop
+returns-2 : tie.Need-returns-2
 returns-2 c =
-    let start = c .before .before .before .before .before .before .before .before in
-    let l = c .before .before .before .before .loop in
-    let a = start .args in
-    let e = sym (c .before .allowed .ensures) ∙ not-true _ (c .if2 .taken) in
-    sym (l .inv .1 ∙ listed-step (a .tag) (a .content .now) (l .i) (search needs) ∙ rw e)
+    let at-range = c .before .before .before in
+    let at-values = at-range .before .before in
+    let a = at-values .before .before .args in
+    let e = sym (at-values .values-of .ensures) ∙ at-range .values .given .1 in
+    c .in-range .ensures ∙ ap (inRange _ _) (c .before .number .ensures .0)
+    ∙ sym (listed-as (a .tag) (a .content .now) _ e)
 
-add-i : tie.Need-add-i Inv-loop μ-loop
-add-i c = search needs
-
-loop-less : tie.Need-loop-less Inv-loop μ-loop
-loop-less c = search needs
-
-loop-again : tie.Need-loop-again Inv-loop μ-loop
-loop-again c =
-    let start = c .before .before .before .before .before .before .before .before in
-    let l = c .before .before .before .before .loop in
-    let a = start .args in
-    let e = sym (c .before .allowed .ensures) ∙ not-false _ (c .if2 .left) in
-    (search needs, l .inv .1 ∙ listed-step (a .tag) (a .content .now) (l .i) (search needs) ∙ rw e)
-
-returns-3 : tie.Need-returns-3 Inv-loop μ-loop
+returns-3 : tie.Need-returns-3
 returns-3 c =
-    let a = c .before .before .before .before .before .args in
-    sym (c .before .loop .inv .1 ∙ listed-end (a .tag) (a .content .now) (c .before .loop .i) (search needs))
+    let at-text = c .before .before in
+    let at-values = at-text .before .before in
+    let a = at-values .before .before .args in
+    let e = sym (at-values .values-of .ensures) ∙ at-text .values2 .given .1 in
+    c .spelled .ensures ∙ sym (listed-as (a .tag) (a .content .now) _ e)
 
 pub listed-spec : {M : Type 1} → statement M
 listed-spec =
     tie.close
     (tie.spec
-    Inv-loop
-    μ-loop
-    is-any-requires
+    values-of-requires
+    enum-told
+    enum-known-values
+    number-requires
+    in-range-requires
+    enum-known-values-2
+    spelled-requires
     returns
-    loop-holds
-    shared-slice-read-allowed
-    allowed-requires
     returns-2
-    add-i
-    loop-less
-    loop-again
     returns-3)

@@ -6,7 +6,7 @@ use Prim.Native.Nat.{_≤_}
 use borrow.Author.Tests.{eq-eqb, ne-eqb}
 use Rattle.frame_table.specs.Table.{width}
 use Rattle.octets.proofs.Numbers.{last-bytes}
-use Rattle.frame.proofs.Contents.{width-narrow}
+use Rattle.frame_table.proofs.Values.{width-narrow}
 use Rattle.frame.proofs.writer.content.Statement.{statement}
 use Rattle.frame.proofs.writer.content.Tie as tie
 

@@ -1,7 +1,7 @@
 -- `number_writable` meets its contract. Assumes nothing.
 use mathlib.Core.Path.{_≡_, sym, ap, _∙_}
 use borrow.Author.Needs.{needs}
-use borrow.Author.Tests.{not-true, not-false}
+use borrow.Author.Tests.{not-true, not-false, ltb-true}
 use Rattle.frame.proofs.Numbers.{number-fits, number-over}
 use Rattle.frame.proofs.writer.number_writable.Statement.{statement}
 use Rattle.frame.proofs.writer.number_writable.Tie as tie
@@ -20,7 +20,10 @@ returns c =
     sym (number-over (a .tag) (a .high) (a .low) (a .«data» .now) (start .pre .0) (start .pre .1) (search needs) e)
 
 number-listed-requires : tie.Need-number-listed-requires
-number-listed-requires c κs = search needs
+number-listed-requires c κs =
+    let start = c .before .before .before .before in
+    let e = sym (rw (c .before .before .width .ensures) at (c .before .fits2 .ensures)) ∙ not-false _ (c .if1 .left) in
+    (start .pre .0, start .pre .1, ltb-true _ _ e)
 
 returns-2 : tie.Need-returns-2
 returns-2 c =

@@ -5,7 +5,8 @@ use borrow.Author.Needs.{needs}
 use borrow.Author.Tests.{eq-eqb, ne-eqb, not-true, not-false}
 use Rattle.frame_table.specs.Table.{width}
 use Rattle.octets.proofs.Numbers.{length-bytesOf}
-use Rattle.frame.proofs.Contents.{width-narrow, piece-length}
+use Rattle.frame_table.proofs.Values.{width-narrow}
+use Rattle.frame.proofs.Contents.{piece-length}
 use Rattle.frame.proofs.writer.piece_length.Statement.{statement}
 use Rattle.frame.proofs.writer.piece_length.Tie as tie
 
