@@ -95,6 +95,17 @@ module _ (t : ℕ) (s : List ℕ) where
   pub size-le : fieldSize t s ≤ length s
   size-le = ⊎-elim (λ e. omega arith) (λ (e : Stands t s). omega (arith, e .is, e .room)) size-cases
 
+  -- where another tag is at the front, or too few bytes, no field t stands
+  pub none-other : (getD s 0 0 ≡ t → ⊥) → fieldSize t s ≡ 0
+  none-other n = ⊎-elim (λ e. e) (λ (e : Stands t s). absurd (n (e .tag))) size-cases
+
+  pub none-short : length s < 3 → fieldSize t s ≡ 0
+  none-short h = ⊎-elim (λ e. e) (λ (e : Stands t s). absurd (omega (arith, e .room))) size-cases
+
+  -- a field that stands has its three bytes in front
+  pub size-three : (fieldSize t s ≡ 0) ⊎ (3 ≤ fieldSize t s)
+  size-three = ⊎-elim (λ e. inl e) (λ (e : Stands t s). inr (omega (arith, e .is))) size-cases
+
   pub content-none : fieldSize t s ≡ 0 → content t s ≡ []
   unfolding content
   content-none e = rw e

@@ -2,6 +2,7 @@
 pub mod Present
 pub mod Contents
 pub mod Loops
+pub mod Places
 pub mod Numbers
 pub mod RoundTrip
 pub mod Lengths

@@ -1,11 +1,13 @@
 -- What the reader's and the writer's loops keep. Assumes nothing.
-use Prim.Native.Nat.{ℕ, _+_, _-_, _*_, _^_, _≤_, _<_}
+use Prim.Native.Nat.{ℕ, zero, suc, _+_, _-_, _*_, _^_, _≤_, _<_}
 use mathlib.Core.List.{List, [], _∷_, _++_}
 use mathlib.Core.Bool.{Bool, true, false, cond, _&&_}
-use mathlib.Core.Path.{_≡_, refl, sym, ap, _∙_}
+use mathlib.Core.Path.{_≡_, refl, sym, ap, subst, _∙_}
 use native.Mathlib.Nat.{add-zero, mul-zero}
 use native.Mathlib.Omega.{arith}
 use lib.ListN.{length, getD, take, drop, set, length-set, length-append, replicate}
+use lib.Seq.{getD-set-other, set-getD}
+use lib.Dec.{eqb}
 use borrow.Author.Tests.{eqb-true, eq-eqb, ne-eqb, le-leb, lt-leb}
 use Rattle.frame_table.specs.declared.fields.Fields.{Fields}
 use Rattle.octets.specs.Bytes.{bytesOf, overwrite}
@@ -14,6 +16,7 @@ use Rattle.frame_table.specs.Names.{form}
 use Rattle.frame.specs.Row.{
   wellFormed,
   fieldSize,
+  NoneStands,
   content,
   contents,
   behind,
@@ -39,9 +42,11 @@ use Rattle.octets.proofs.Numbers.{
 use Rattle.frame_table.proofs.Tags.{twice}
 use Rattle.frame_table.proofs.Values.{width-narrow}
 use Rattle.frame.proofs.Present.{presentTags-next, present-lt}
+use Rattle.frame.proofs.Numbers.{highOf-nil, lowOf-nil}
 use Rattle.frame.proofs.Contents.{
   well-formed,
   present-content,
+  content-none,
   turn,
   turn-end,
   contents-step,
@@ -52,6 +57,22 @@ use Rattle.frame.proofs.Contents.{
   length-contents,
 }
 
+-- ---- absent tags
+
+-- what absent tags keep holds at the next tag that can stand
+module _ (P : ℕ → Type 0) (rest : List ℕ) (keep : (t : ℕ) → t < tagCount → fieldSize t rest ≡ 0 → P t → P (t + 1)) where
+  skip-by : (k t : ℕ) → t + k ≤ tagCount → NoneStands t (t + k) rest → P t → P (t + k)
+  skip-by zero t m e p = subst P (sym (add-zero t)) p
+  skip-by (suc k) t m e p =
+      let n : t + 1 + k ≡ t + suc k = omega arith in
+      let q = keep t (omega arith) (e t (omega arith) (omega arith)) p in
+      subst P n (skip-by k (t + 1) (omega arith) (λ v a b. e v (omega arith) (omega arith)) q)
+
+  pub skip : (t u : ℕ) → t ≤ u → u ≤ tagCount → NoneStands t u rest → P t → P u
+  skip t u h m e p =
+      let n : t + (u - t) ≡ u = omega arith in
+      subst P n (skip-by (u - t) t (omega arith) (λ v a b. e v a (omega arith)) p)
+
 -- ---- reading
 
 -- the first t tags of s are read, and rest is behind them
@@ -59,6 +80,7 @@ pub record Reading (s : List ℕ) (tags : ℕ) (hi lo rest : List ℕ) (t : ℕ)
   pub most : t ≤ tagCount
   pub small : tags < 2 ^ t
   pub long : (length hi ≡ tagCount) × (length lo ≡ tagCount)
+  pub blank : (u : ℕ) → t ≤ u → (getD hi u 0 ≡ 0) × (getD lo u 0 ≡ 0)
   pub end : behind tagCount 0 s ≡ behind (tagCount - t) t rest
   pub set : presentTags (contents tagCount 0 s) ≡ tags + 2 ^ t * presentTags (contents (tagCount - t) t rest)
   pub highs : eachFrom highOf 0 (contents tagCount 0 s) ≡ overwrite hi t (eachFrom highOf t (contents (tagCount - t) t rest))
@@ -70,12 +92,18 @@ zeros s g =
     let e = length-eachFrom g 0 (contents tagCount 0 s) ∙ length-contents tagCount 0 s in
     sym (overwrite-all (replicate tagCount 0) (eachFrom g 0 (contents tagCount 0 s)) (sym e))
 
+getD-zeros : (n u : ℕ) → _≡_ {A = ℕ} (getD (replicate n 0) u 0) 0
+getD-zeros zero u = refl
+getD-zeros (suc n) zero = refl
+getD-zeros (suc n) (suc u) = getD-zeros n u
+
 pub reading-start : (s : List ℕ) → Reading s 0 (replicate tagCount 0) (replicate tagCount 0) s 0
 reading-start s =
     record {
       most = omega arith;
       small = omega arith;
       long = (refl, refl);
+      blank = λ u h. (getD-zeros tagCount u, getD-zeros tagCount u);
       end = refl;
       set = omega arith;
       highs = zeros s highOf;
@@ -106,6 +134,10 @@ module _ (s : List ℕ) (tags : ℕ) (hi lo rest : List ℕ) (t : ℕ) (r : Read
           most = omega arith;
           small = rw (← twice t) (present-lt (fieldSize t rest) tags (2 ^ t) (r .small));
           long = (length-set hi t _ ∙ r .long .0, length-set lo t _ ∙ r .long .1);
+          blank = λ u k. (
+            getD-set-other hi t u _ 0 (λ e. omega arith) ∙ r .blank u (omega arith) .0,
+            getD-set-other lo t u _ 0 (λ e. omega arith) ∙ r .blank u (omega arith) .1,
+          );
           end = r .end ∙ behind-step tagCount t h rest;
           set = r .set ∙ ap (λ (m : ℕ). tags + 2 ^ t * m) (tags-step t rest h)
               ∙ presentTags-next tags bit (presentTags (later t rest h)) (2 ^ t) (2 ^ (t + 1)) (twice t);
@@ -118,6 +150,19 @@ module _ (s : List ℕ) (tags : ℕ) (hi lo rest : List ℕ) (t : ℕ) (r : Read
         → v ≡ highOf t c → w ≡ lowOf t c → more ≡ drop n rest → Reading s (tags + b) (set hi t v) (set lo t w) more (t + 1)
     unfolding content
     reading-step n b v w c more en eb ec ev ew em = rw (em, ew, ev, ec, eb, en) reading-next
+
+    -- an absent tag leaves what was read
+    pub reading-skip : fieldSize t rest ≡ 0 → Reading s tags hi lo rest (t + 1)
+    reading-skip e =
+        let k = content-none t rest e in
+        let z = r .blank t (omega arith) in
+        let high : set hi t (highOf t (content t rest)) ≡ hi =
+        ap (set hi t) (ap (highOf t) k ∙ highOf-nil t (eqb t dataTag) refl ∙ sym (z .0)) ∙ set-getD hi t 0 in
+        let low : set lo t (lowOf t (content t rest)) ≡ lo =
+        ap (set lo t) (ap (lowOf t) k ∙ lowOf-nil t (eqb t dataTag) refl ∙ sym (z .1)) ∙ set-getD lo t 0 in
+        let m : tags + bit * 2 ^ t ≡ tags = rw e (omega arith) in
+        let d : drop (fieldSize t rest) rest ≡ rest = ap (λ (n : ℕ). drop n rest) e in
+        rw (high, low, m, d) at reading-next
 
   pub reading-end : tagCount ≤ t
       → (behind tagCount 0 s ≡ rest) × (fieldsOf (contents tagCount 0 s) ≡ record { tags = tags; high = hi; low = lo })

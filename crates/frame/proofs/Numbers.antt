@@ -70,12 +70,12 @@ low-alone h l w n k =
 
 -- ---- the writer's test of a content
 
-highOf-nil : (t : ℕ) (b : Bool) → eqb t dataTag ≡ b → highOf t [] ≡ 0
+pub highOf-nil : (t : ℕ) (b : Bool) → eqb t dataTag ≡ b → highOf t [] ≡ 0
 unfolding highOf
 highOf-nil t true e = rw e
 highOf-nil t false e = rw (e, number-nil)
 
-lowOf-nil : (t : ℕ) (b : Bool) → eqb t dataTag ≡ b → lowOf t [] ≡ 0
+pub lowOf-nil : (t : ℕ) (b : Bool) → eqb t dataTag ≡ b → lowOf t [] ≡ 0
 unfolding lowOf
 lowOf-nil t true e = rw e
 lowOf-nil t false e = rw (e, number-nil)

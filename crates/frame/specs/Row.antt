@@ -1,7 +1,8 @@
 -- Document 01, "The frame": "A frame is a row of fields". The row holds a content for each tag from 0 on, [] where the tag is absent.
-use Prim.Native.Nat.{ℕ, zero, suc, _+_, _-_, _*_, _/_, _%_, _^_}
+use Prim.Native.Nat.{ℕ, zero, suc, _+_, _-_, _*_, _/_, _%_, _^_, _≤_, _<_}
 use mathlib.Core.List.{List, [], _∷_, _++_}
 use mathlib.Core.Bool.{Bool, true, cond, not, _&&_, _||_}
+use mathlib.Core.Path.{_≡_}
 use lib.ListN.{length, getD, take, drop}
 use lib.Dec.{leb, eqb}
 use Rattle.octets.specs.Bytes.{number, fieldBytes}
@@ -41,6 +42,10 @@ stands t s = leb 3 (length s) && eqb (getD s 0 0) t && leb (announced s) (length
 unfoldable pub fieldSize : ℕ → List ℕ → ℕ
 fieldSize t s = cond (stands t s) (announced s) 0
 
+-- no field with a tag from t on and below u stands at the front of s
+abbrev pub NoneStands : ℕ → ℕ → List ℕ → Type 0
+NoneStands t u s = (v : ℕ) → t ≤ v → v < u → fieldSize v s ≡ 0
+
 unfoldable pub content : ℕ → List ℕ → List ℕ
 content t s = take (fieldSize t s - 3) (drop 3 s)
 
@@ -57,6 +62,10 @@ behind (suc k) t s = behind k (t + 1) (drop (fieldSize t s) s)
 -- "The data field is returned as that part of the frame itself"
 unfoldable pub dataOf : List ℕ → List ℕ
 dataOf s = content dataTag (behind dataTag 0 s)
+
+-- the data stand in s from a place on to the end
+abbrev pub DataAt : List ℕ → ℕ → ℕ → Type 0
+DataAt s from end = (from ≤ end) × (end ≤ length s) × (take (end - from) (drop from s) ≡ dataOf s)
 
 -- 1 where there are bytes, 0 where there are none
 abbrev pub present : ℕ → ℕ

@@ -16,13 +16,22 @@ use octets::bytes::inner;
 use octets::bytes::number;
 use octets::bytes::wide;
 ghost use mathlib.Core.Path.{_≡_};
-ghost use mathlib.Core.Bool.{cond};
+ghost use mathlib.Core.Bool.{cond, _&&_};
 ghost use Prim.Native.Nat.{_*_, _^_, _≤_, _<_};
 ghost use lib.ListN.{length};
-ghost use Rattle.frame_table.specs.Table.{tagCount, dataTag, width};
-ghost use Rattle.frame.specs.Row.{spelled, listed, wellFormed, fieldSize, behind, dataOf, present, highOf, lowOf};
+ghost use lib.Dec.{leb, eqb};
+ghost use Rattle.frame_table.specs.Table.{tagCount, frameLimit, dataTag, width};
+ghost use Rattle.frame.specs.Row.{spelled, listed, wellFormed, fieldSize, NoneStands, present, highOf, lowOf};
+ghost use Rattle.frame.specs.Row.{dataOf, DataAt};
 ghost use Rattle.frame.specs.Reader.{parse, readRequest, readReply};
 ghost use Rattle.frame_table.specs.Names.{noFields};
+
+// What a frame says, and where its data stand in it: from a place on to the end.
+pub struct Parsed {
+    pub fields: Fields,
+    pub from: usize,
+    pub end: usize,
+}
 
 // Whether each byte of the text is one of the characters.
 pub(crate) fn spelled(characters: Characters, text: &[u8]) -> bool
@@ -121,47 +130,29 @@ fn tag_bit(size: usize, tag: usize) -> u32
     if size == 0 { 0 } else { 1 << tag }
 }
 
-// What the frame says; no fields where it is no row of fields as the table has them.
-fn parse(frame: &[u8]) -> Fields
-    ensures { λ r. ⌜ r ≡ parse (now (frame .entry)) ⌝ }
+// The least tag, from a given one on, whose field can stand at the front of rest; TAGS where there is none.
+fn next_tag(rest: &[u8], least: usize) -> usize
+    requires { ⌜ least ≤ tagCount ⌝ }
+    ensures { λ r. ⌜ (least ≤ r) × (r ≤ tagCount) × NoneStands least r (now (rest .entry)) ⌝ }
 {
-    let mut tags: u32 = 0;
-    let mut high = [0u64; TAGS];
-    let mut low = [0u64; TAGS];
-    let mut rest = frame;
-    let mut tag = 0;
-    while tag < TAGS {
-        let n = field_size(rest, tag);
-        tags = tags + tag_bit(n, tag);
-        let v = value(tag, inner(rest, n));
-        high[tag] = v.high;
-        low[tag] = v.low;
-        rest = &rest[n..];
-        tag += 1;
+    if rest.len() < 3 {
+        return TAGS;
     }
-    if FRAME_LIMIT < frame.len() {
-        return Fields::none();
+    let tag = wide(rest[0]) as usize;
+    if tag < least {
+        return TAGS;
     }
-    if rest.len() == 0 {
-        Fields { tags, high, low }
-    } else {
-        Fields::none()
+    if TAGS <= tag {
+        return TAGS;
     }
+    tag
 }
 
-// The part of the frame behind all fields with tags below end.
-fn behind(frame: &[u8], end: usize) -> &[u8]
-    requires { ⌜ end ≤ tagCount ⌝ }
-    ensures { λ r. ⌜ now r ≡ behind end 0 (now (frame .entry)) ⌝ }
+// The new place where the tag is that of the data, else the old one.
+fn if_data(tag: usize, new: usize, old: usize) -> usize
+    ensures { λ r. ⌜ r ≡ cond (eqb tag dataTag) new old ⌝ }
 {
-    let mut rest = frame;
-    let mut tag = 0;
-    while tag < end {
-        let n = field_size(rest, tag);
-        rest = &rest[n..];
-        tag += 1;
-    }
-    rest
+    if tag == table::DATA { new } else { old }
 }
 
 // The fields where a test on them holds, else no fields.
@@ -171,26 +162,90 @@ fn fields_if(test: bool, fields: Fields) -> Fields
     if test { fields } else { Fields::none() }
 }
 
+// Whether a frame of n bytes is not too long, and none are left over.
+fn is_whole(n: usize, left: usize) -> bool
+    ensures { λ r. ⌜ r ≡ (leb n frameLimit && eqb left 0) ⌝ }
+{
+    if FRAME_LIMIT < n {
+        return false;
+    }
+    left == 0
+}
+
+// What the frame says, no fields where it is no row of fields as the table has them, and where its data stand.
+fn parse(frame: &[u8]) -> Parsed
+    ensures { λ r. ⌜ (r .fields ≡ parse (now (frame .entry))) × DataAt (now (frame .entry)) (r .from) (r .end) ⌝ }
+{
+    let mut tags: u32 = 0;
+    let mut high = [0u64; TAGS];
+    let mut low = [0u64; TAGS];
+    let mut from = 0;
+    let mut end = 0;
+    let mut rest = frame;
+    let mut tag = next_tag(frame, 0);
+    while tag < TAGS {
+        let n = field_size(rest, tag);
+        tags = tags + tag_bit(n, tag);
+        let content = inner(rest, n);
+        let v = value(tag, content);
+        high[tag] = v.high;
+        low[tag] = v.low;
+        rest = &rest[n..];
+        let at = frame.len() - rest.len();
+        from = if_data(tag, at - content.len(), from);
+        end = if_data(tag, at, end);
+        tag = next_tag(rest, tag + 1);
+    }
+    let fields = fields_if(
+        is_whole(frame.len(), rest.len()),
+        Fields { tags, high, low },
+    );
+    Parsed { fields, from, end }
+}
+
+// What a request says, and where its data stand; no fields where the frame is of no request form.
+pub fn read_whole_request(frame: &[u8]) -> Parsed
+    ensures { λ r. ⌜ (r .fields ≡ readRequest (now (frame .entry))) × DataAt (now (frame .entry)) (r .from) (r .end) ⌝ }
+{
+    let p = parse(frame);
+    let said = p.fields;
+    let fields = fields_if(is_request_form(said.form()), said);
+    Parsed {
+        fields,
+        from: p.from,
+        end: p.end,
+    }
+}
+
 // What a request says; no fields where the frame is of no request form.
 pub fn read_request(frame: &[u8]) -> Fields
     ensures { λ r. ⌜ r ≡ readRequest (now (frame .entry)) ⌝ }
 {
-    let fields = parse(frame);
-    fields_if(is_request_form(fields.form()), fields)
+    let p = read_whole_request(frame);
+    p.fields
 }
 
 // What a reply says; no fields where the frame is of no reply form.
 pub fn read_reply(frame: &[u8]) -> Fields
     ensures { λ r. ⌜ r ≡ readReply (now (frame .entry)) ⌝ }
 {
-    let fields = parse(frame);
+    let p = parse(frame);
+    let fields = p.fields;
     fields_if(is_reply_form(fields.form()), fields)
+}
+
+// The content of the data field, by its place: that part of the frame itself.
+pub fn data_at(frame: &[u8], from: usize, end: usize) -> &[u8]
+    requires { ⌜ DataAt (now frame) from end ⌝ }
+    ensures { λ r. ⌜ now r ≡ dataOf (now (frame .entry)) ⌝ }
+{
+    &frame[from..end]
 }
 
 // The content of the data field: that part of the frame itself.
 pub fn data(frame: &[u8]) -> &[u8]
     ensures { λ r. ⌜ now r ≡ dataOf (now (frame .entry)) ⌝ }
 {
-    let rest = behind(frame, table::DATA);
-    inner(rest, field_size(rest, table::DATA))
+    let p = parse(frame);
+    data_at(frame, p.from, p.end)
 }

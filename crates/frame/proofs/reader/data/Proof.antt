@@ -1,37 +1,15 @@
--- `data` meets its contract. Assumes nothing.
-use mathlib.Core.Path.{ap, _∙_}
-use mathlib.Core.List.{List}
-use Prim.Native.Nat.{ℕ, _-_}
-use native.Mathlib.Omega.{arith}
-use lib.ListN.{take, drop}
-use borrow.Author.Needs.{needs}
-use Rattle.frame_table.specs.Table.{dataTag}
-use Rattle.frame.specs.Row.{content, dataOf}
-use Rattle.frame.proofs.Contents.{size-le}
+-- `data` meets its contract: the reader says where the data stand. Assumes nothing.
 use Rattle.frame.proofs.reader.data.Statement.{statement}
 use Rattle.frame.proofs.reader.data.Tie as tie
 
-behind-requires : tie.Need-behind-requires
-behind-requires c κs = search needs
+parse-requires : tie.Need-parse-requires
+parse-requires c κs = tt
 
-field-size-requires : tie.Need-field-size-requires
-field-size-requires c κs = search needs
-
-inner-requires : tie.Need-inner-requires
-inner-requires c κs = omega (arith, c .field-size .ensures, size-le dataTag (c .before .behind .result .now))
+data-at-requires : tie.Need-data-at-requires
+data-at-requires c κs = c .parse .ensures .1
 
 returns : tie.Need-returns
-unfolding dataOf content
-returns c =
-    let rest = c .before .before .behind .result .now in
-    c .inner .ensures ∙ ap (λ (n : ℕ). take (n - 3) (drop 3 rest)) (c .before .field-size .ensures)
-    ∙ ap (λ (l : List ℕ). content dataTag l) (c .before .before .behind .ensures)
+returns c = c .data-at .ensures
 
 pub data-spec : {M : Type 1} → statement M
-data-spec =
-    tie.close
-    (tie.spec
-    behind-requires
-    field-size-requires
-    inner-requires
-    returns)
+data-spec = tie.close (tie.spec parse-requires data-at-requires returns)

@@ -19,8 +19,8 @@ returns : tie.Need-returns
 unfolding readReply
 returns c =
     let i = c .before in
-    let p = i .before .before in
-    rw (← p .parse .ensures, ← i .before .form .ensures, ← i .is-reply-form .ensures) (c .fields-if .ensures)
+    let p = i .before .before .before in
+    rw (← p .parse .ensures .0, ← i .before .form .ensures, ← i .is-reply-form .ensures) (c .fields-if .ensures)
 
 pub read-reply-spec : {M : Type 1} → statement M
 read-reply-spec =

@@ -1,7 +1,7 @@
--- `read_request` meets its contract. Assumes nothing.
+-- `read_whole_request` meets its contract. Assumes nothing.
 use Rattle.frame.specs.Reader.{readRequest}
-use Rattle.frame.proofs.reader.read_request.Statement.{statement}
-use Rattle.frame.proofs.reader.read_request.Tie as tie
+use Rattle.frame.proofs.reader.read_whole_request.Statement.{statement}
+use Rattle.frame.proofs.reader.read_whole_request.Tie as tie
 
 parse-requires : tie.Need-parse-requires
 parse-requires c κs = tt
@@ -19,9 +19,10 @@ returns : tie.Need-returns
 unfolding readRequest
 returns c =
     let i = c .before in
-    let p = i .before .before in
-    rw (← p .parse .ensures, ← i .before .form .ensures, ← i .is-request-form .ensures) (c .fields-if .ensures)
+    let p = i .before .before .before .parse in
+    let f = i .before .form .ensures in
+    (rw (← p .ensures .0, ← f, ← i .is-request-form .ensures) (c .fields-if .ensures), p .ensures .1)
 
-pub read-request-spec : {M : Type 1} → statement M
-read-request-spec =
+pub read-whole-request-spec : {M : Type 1} → statement M
+read-whole-request-spec =
     tie.close (tie.spec parse-requires form-requires is-request-form-requires fields-if-requires returns)
