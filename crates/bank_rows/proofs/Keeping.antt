@@ -108,6 +108,13 @@ module _ {A : Type 0} (w : ℕ) (f : List ℕ → A) (g : A → List ℕ) (p : A
         ap (λ (j : ℕ). overwrite t (w * j) (take w one)) same ∙ overwrite-own t (w * i) w within in
         rw own at (keeping-moved e)
 
+  -- every row passed stays
+  keeping-all : (s : List ℕ) (n k : ℕ) → w * n ≤ length s → k ≤ n → ((i : ℕ) → i < n → p (f (drop (w * i) s)) ≡ true)
+      → Keeping s s n k k
+  keeping-all s n zero fits h all = keeping-start s n
+  keeping-all s n (suc k) fits h all =
+      rw add-one at (keeping-there s s n k k fits (keeping-all s n k fits (omega arith) all) (omega arith) (omega arith) (all k (omega arith)))
+
   -- all rows are passed, and those after the front ones are wiped
   pub keeping-end : (s t u : List ℕ) (n k i : ℕ) → w * n ≤ length s → Keeping s t n k i → n ≤ i
       → u ≡ overwrite t (w * k) (replicate (w * n - w * k) 0) → KeptRows w f g p n k s u
@@ -127,3 +134,11 @@ module _ {A : Type 0} (w : ℕ) (f : List ℕ → A) (g : A → List ℕ) (p : A
         count = sym c;
         is = e ∙ rw (front, z, o, rest, m, q);
       }
+
+  -- every row stays, and nothing is wiped
+  pub kept-all : (s : List ℕ) (n : ℕ) → w * n ≤ length s → ((i : ℕ) → i < n → p (f (drop (w * i) s)) ≡ true)
+      → KeptRows w f g p n n s s
+  kept-all s n fits all =
+      let none : w * n - w * n ≡ 0 = omega arith in
+      keeping-end s s s n n n fits (keeping-all s n n fits (omega arith) all) (omega arith)
+      (rw none (sym (overwrite-own s (w * n) 0 (omega arith))))

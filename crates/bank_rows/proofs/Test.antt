@@ -8,7 +8,7 @@ use native.Mathlib.Numerals.{add-one}
 use native.Mathlib.Omega.{arith}
 use lib.Dec.{eqb, leb, ltb}
 use lib.ListN.{length, getD, List·getD-eq-default}
-use borrow.Author.Tests.{eqb-true, eqb-false, eq-eqb, ne-eqb, leb-true, le-leb, lt-leb, ltb-true, ltb-false, lt-ltb}
+use borrow.Author.Tests.{eqb-true, eqb-false, eq-eqb, ne-eqb, leb-true, le-leb, lt-leb, ltb-true, ltb-false, lt-ltb, le-ltb}
 use Rattle.octets.proofs.Tests.{never, and-true}
 use Rattle.message.specs.Limits.{fileBytes, segmentBytes, maxSegments, subscribers}
 use Rattle.message.specs.Segments.{segmentsOf}
@@ -22,6 +22,8 @@ use Rattle.bank_rows.specs.Layout.{
   filesAt,
   placesAt,
   placeUse,
+  placeSegments,
+  placeTaken,
   placeLength,
   placeWidth,
   downloadsAt,
@@ -99,6 +101,33 @@ only-true false u h e = never e
 true-only : (t u : Bool) → (t ≡ true → u ≡ true) → cond t u true ≡ true
 true-only true u h = h refl
 true-only false u h = refl
+
+module _ (s : List ℕ) (at : ℕ) where
+  pub none-to-come : getD s (at + placeSegments) 0 ≤ getD s (at + placeTaken) 0 → isSoundUpload s at ≡ false
+  unfolding isSoundUpload
+  none-to-come h =
+      let segments = getD s (at + placeSegments) 0 in
+      rw (le-ltb (getD s (at + placeTaken) 0) segments h) (and-no (leb segments maxSegments) refl)
+
+  short-at : (t : Bool) → isSoundUpload s at ≡ t → leb (getD s (at + placeLength) 0) fileBytes && t ≡ t
+  unfolding isSoundUpload
+  short-at false e = and-no (leb (getD s (at + placeLength) 0) fileBytes) refl
+  short-at true e =
+      let segments = getD s (at + placeSegments) 0 in
+      let taken = getD s (at + placeTaken) 0 in
+      let size = getD s (at + placeLength) 0 in
+      let a = and-true (leb segments maxSegments) (ltb taken segments && leb size (taken * segmentBytes)) e in
+      let b = and-true (ltb taken segments) (leb size (taken * segmentBytes)) (a .1) in
+      let few = leb-true segments maxSegments (a .0) in
+      let below = ltb-true taken segments (b .0) in
+      let largest = leb-true size (taken * segmentBytes) (b .1) in
+      rw (le-leb size fileBytes (omega arith))
+
+  -- the segments of an open upload bound its length
+  pub bounded-place : getD s (at + placeUse) 0 ≡ 1 → isSoundUpload s at
+      ≡ (leb (getD s (at + placeUse) 0) 2
+      && (leb (getD s (at + placeLength) 0) fileBytes && cond (eqb (getD s (at + placeUse) 0) 1) (isSoundUpload s at) true))
+  bounded-place e = rw e (sym (short-at (isSoundUpload s at) refl))
 
 -- the numbers of an open upload, and of an open download where the mailboxes' files have these lengths
 abbrev UploadRange : Place → Type 0

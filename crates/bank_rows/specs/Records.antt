@@ -1,9 +1,9 @@
 -- An order place, an open download and a nonce as the numbers of a row.
-use Prim.Native.Nat.{ℕ, _+_}
+use Prim.Native.Nat.{ℕ, _+_, _*_}
 use mathlib.Core.Bool.{Bool, true, not, cond, _&&_}
 use mathlib.Core.List.{List, [], _∷_}
 use lib.Dec.{eqb, leb}
-use lib.ListN.{getD}
+use lib.ListN.{getD, drop}
 use Rattle.frame_table.specs.declared.fields.Bits128.{Bits128}
 use Rattle.bank_state.specs.declared.clock.Ended.{Ended}
 use Rattle.bank_state.specs.declared.state.Use.{Use}
@@ -33,6 +33,7 @@ use Rattle.bank_rows.specs.Layout.{
   nonceHigh,
   nonceLow,
   nonceTimestamp,
+  nonceWidth,
 }
 
 abbrev pub bits : ℕ → ℕ → Bits128
@@ -101,3 +102,6 @@ staysOpen which e = e .used && not (ends which e)
 
 abbrev pub staysRemembered : ℕ → Nonce → Bool
 staysRemembered clock e = e .used && leb clock (e .timestamp + window)
+
+abbrev pub rowStays : ℕ → List ℕ → ℕ → Bool
+rowStays clock area i = staysRemembered clock (nonceOf (drop (nonceWidth * i) area))

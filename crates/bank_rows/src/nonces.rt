@@ -24,7 +24,8 @@ ghost use Rattle.bank_state.specs.Search.{freeNonce, isRemembered};
 ghost use Rattle.bank_state.specs.State.{withNonces};
 ghost use Rattle.bank_rows.specs.Layout.{nonceWidth, noncesSize};
 ghost use Rattle.bank_rows.specs.Rows.{KeptRows};
-ghost use Rattle.bank_rows.specs.Records.{bits, nonceOf, nonceRow, nonceRecord, staysRemembered};
+ghost use Rattle.bank_rows.specs.Records.{bits, nonceOf, nonceRow, nonceRecord, staysRemembered, rowStays};
+ghost use Rattle.bank_rows.specs.Sound.{allBelow};
 ghost use Rattle.bank_rows.specs.State.{nonceCountOf, bankOf, stored, Laid, nonceAt};
 
 // How many nonces are remembered: the first free record.
@@ -78,12 +79,30 @@ pub fn add_nonce(rows: &mut [u64], high: u64, low: u64, timestamp: u64)
     rows[NONCE_COUNT_AT] = (n + 1) as u64;
 }
 
+// Whether no timestamp of the first n rows is too far behind the clock.
+fn all_stay(area: &[u64], n: usize, clock: u64) -> bool
+    requires { ⌜ (n ≤ nonceCount) × (length (now area) ≡ noncesSize) ⌝ }
+    ensures { λ r. ⌜ r ≡ allBelow (rowStays clock (now (area .entry))) n ⌝ }
+{
+    let mut i = 0;
+    while i < n {
+        if is_behind(clock, area[NONCE_WIDTH * i + NONCE_TIMESTAMP], WINDOW) {
+            return false;
+        }
+        i += 1;
+    }
+    true
+}
+
 // Keeps those of the first n rows whose timestamp is not too far behind the clock, and wipes what is freed.
 fn keep_nonces(area: &mut [u64], n: usize, clock: u64) -> usize
     requires { ⌜ (n ≤ nonceCount) × (length (now area) ≡ noncesSize) ⌝ }
     ensures { λ r. ⌜ KeptRows nonceWidth nonceOf nonceRow (staysRemembered clock) n r
         (now (area .entry)) (now (area .exit)) ⌝ }
 {
+    if all_stay(area, n, clock) {
+        return n;
+    }
     let mut kept = 0;
     let mut i = 0;
     while i < n {

@@ -57,16 +57,17 @@ fn is_sound_upload(rows: &[u64], at: usize) -> bool
     ensures { λ r. ⌜ r ≡ isSoundUpload (now (rows .entry)) at ⌝ }
 {
     let segments = rows[at + PLACE_SEGMENTS];
-    if MAX_SEGMENTS < segments {
-        return false;
-    }
     let taken = rows[at + PLACE_TAKEN];
     if segments <= taken {
+        return false;
+    }
+    if MAX_SEGMENTS < segments {
         return false;
     }
     rows[at + PLACE_LENGTH] <= taken * SEGMENT_BYTES as u64
 }
 
+// An open upload's segments bound its length.
 fn is_sound_place(rows: &[u64], i: usize) -> bool
     requires { ⌜ (length (now rows) ≡ stateSize) × (i < placeCount) ⌝ }
     ensures { λ r. ⌜ r ≡ isSoundPlace (now (rows .entry)) i ⌝ }
@@ -75,13 +76,10 @@ fn is_sound_place(rows: &[u64], i: usize) -> bool
     if BOOKED < rows[at + PLACE_USE] {
         return false;
     }
-    if (FILE_BYTES as u64) < rows[at + PLACE_LENGTH] {
-        return false;
+    if rows[at + PLACE_USE] == OPEN {
+        return is_sound_upload(rows, at);
     }
-    if rows[at + PLACE_USE] != OPEN {
-        return true;
-    }
-    is_sound_upload(rows, at)
+    rows[at + PLACE_LENGTH] <= FILE_BYTES as u64
 }
 
 fn are_sound_places(rows: &[u64]) -> bool

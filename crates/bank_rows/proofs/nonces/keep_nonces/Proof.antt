@@ -1,13 +1,14 @@
--- Of the rows passed those that stay stand at the front; then the rows after them are wiped.
+-- Where all rows stay, so do their numbers. Else of the rows passed those that stay stand at the front; then the rows
+-- after them are wiped.
 use borrow.Author.Needs.{needs}
-use Prim.Native.Nat.{_-_}
-use mathlib.Core.Path.{_∙_}
+use Prim.Native.Nat.{_-_, _*_}
+use mathlib.Core.Path.{sym, _∙_}
 use native.Mathlib.Omega.{arith}
 use Rattle.bank_rows.specs.Layout.{nonceWidth}
-use Rattle.bank_rows.specs.Records.{nonceOf, nonceRow, staysRemembered}
-use Rattle.bank_rows.proofs.Keeping.{Keeping, keeping-start, keeping-moved, keeping-none, keeping-end}
+use Rattle.bank_rows.specs.Records.{nonceOf, nonceRow, staysRemembered, rowStays}
+use Rattle.bank_rows.proofs.Keeping.{Keeping, keeping-start, keeping-moved, keeping-none, keeping-end, kept-all}
 use Rattle.bank_rows.proofs.Records.{nonce-wide, nonce-row, stays-remembered}
-use Prim.Native.Nat.{_*_}
+use Rattle.bank_rows.proofs.Test.{all-holds}
 use Rattle.bank_rows.proofs.nonces.keep_nonces.Statement.{statement}
 use Rattle.bank_rows.proofs.nonces.keep_nonces.Tie as tie
 
@@ -17,8 +18,21 @@ Inv-loop area₀ n clock kept₀ i₀ area kept i = Keeping nonceWidth nonceOf n
 abbrev μ-loop : tie.MeasureT-loop
 μ-loop area₀ n clock kept₀ i₀ area kept i = n - i
 
+all-stay-requires : tie.Need-all-stay-requires Inv-loop μ-loop
+all-stay-requires c κs = search needs
+
+same-length : tie.Need-same-length Inv-loop μ-loop
+same-length c = search needs
+
+returns : tie.Need-returns Inv-loop μ-loop
+returns c =
+    let start = c .before .before .before .before in
+    let a = start .args in
+    kept-all nonceWidth nonceOf nonceRow (staysRemembered (a .clock)) nonce-wide nonce-row (a .area .now) (a .n) (omega (arith, start .pre .0, start .pre .1))
+    (all-holds (rowStays (a .clock) (a .area .now)) (a .n) (sym (c .before .all-stay .ensures) ∙ c .if1 .taken))
+
 loop-holds : tie.Need-loop-holds Inv-loop μ-loop
-loop-holds c = let a = c .before .args in keeping-start nonceWidth nonceOf nonceRow (staysRemembered (a .clock)) nonce-wide nonce-row (a .area .now) (a .n)
+loop-holds c = let a = c .before .before .before .before .args in keeping-start nonceWidth nonceOf nonceRow (staysRemembered (a .clock)) nonce-wide nonce-row (a .area .now) (a .n)
 
 add-i : tie.Need-add-i Inv-loop μ-loop
 add-i c = search needs
@@ -47,7 +61,7 @@ mul-move-row-2 c = search needs
 move-row-requires : tie.Need-move-row-requires Inv-loop μ-loop
 move-row-requires c κs =
     let at = c .before .before .before .before .before in
-    let start = at .before .before in
+    let start = at .before .before .before .before .before in
     (λ ne. omega (arith, at .loop .inv .fewer), omega (arith, at .loop .inv .long, start .pre .0, start .pre .1, c .before .before .before .before .loop-test .taken))
 
 add-kept : tie.Need-add-kept Inv-loop μ-loop
@@ -60,12 +74,12 @@ loop-again : tie.Need-loop-again Inv-loop μ-loop
 loop-again c =
     let move = c .before .before in
     let at = c .before .before .before .before .before .before .before .before in
-    let start = at .before .before in
+    let start = at .before .before .before .before .before in
     let a = start .args in
     let l = at .loop in
     rw (move .move-row .ensures)
     (keeping-moved nonceWidth nonceOf nonceRow (staysRemembered (a .clock)) nonce-wide nonce-row (a .area .now) (l .area) (a .n) (l .kept) (l .i)
-    (omega (arith, start .pre .0, start .pre .1)) (l .inv) (c .before .before .before .before .before .before .before .loop-test .taken) (stays-remembered (a .clock) (l .area) (nonceWidth * l .i) (c .before .before .before .before .before .is-behind .ensures) ∙ c .before .before .before .before .if1 .taken))
+    (omega (arith, start .pre .0, start .pre .1)) (l .inv) (c .before .before .before .before .before .before .before .loop-test .taken) (stays-remembered (a .clock) (l .area) (nonceWidth * l .i) (c .before .before .before .before .before .is-behind .ensures) ∙ c .before .before .before .before .if2 .taken))
 
 loop-less-2 : tie.Need-loop-less-2 Inv-loop μ-loop
 loop-less-2 c = search needs
@@ -73,11 +87,11 @@ loop-less-2 c = search needs
 loop-again-2 : tie.Need-loop-again-2 Inv-loop μ-loop
 loop-again-2 c =
     let at = c .before .before .before .before in
-    let start = at .before .before in
+    let start = at .before .before .before .before .before in
     let a = start .args in
     let l = at .loop in
     keeping-none nonceWidth nonceOf nonceRow (staysRemembered (a .clock)) nonce-wide nonce-row (a .area .now) (l .area) (a .n) (l .kept) (l .i)
-    (omega (arith, start .pre .0, start .pre .1)) (l .inv) (c .before .before .before .loop-test .taken) (stays-remembered (a .clock) (l .area) (nonceWidth * l .i) (c .before .is-behind .ensures) ∙ c .if1 .left)
+    (omega (arith, start .pre .0, start .pre .1)) (l .inv) (c .before .before .before .loop-test .taken) (stays-remembered (a .clock) (l .area) (nonceWidth * l .i) (c .before .is-behind .ensures) ∙ c .if2 .left)
 
 mul-wipe : tie.Need-mul-wipe Inv-loop μ-loop
 mul-wipe c = search needs
@@ -88,16 +102,16 @@ mul-wipe-2 c = search needs
 wipe-requires : tie.Need-wipe-requires Inv-loop μ-loop
 wipe-requires c κs =
     let at = c .before .before in
-    let start = at .before .before in
+    let start = at .before .before .before .before .before in
     (omega (arith, at .loop .inv .fewer, at .loop .inv .most), omega (arith, at .loop .inv .long, start .pre .0, start .pre .1))
 
-same-length : tie.Need-same-length Inv-loop μ-loop
-same-length c = search needs
+same-length-2 : tie.Need-same-length-2 Inv-loop μ-loop
+same-length-2 c = search needs
 
-returns : tie.Need-returns Inv-loop μ-loop
-returns c =
+returns-2 : tie.Need-returns-2 Inv-loop μ-loop
+returns-2 c =
     let at = c .before .before .before .before .before in
-    let start = at .before .before in
+    let start = at .before .before .before .before .before in
     let a = start .args in
     let l = at .loop in
     keeping-end nonceWidth nonceOf nonceRow (staysRemembered (a .clock)) nonce-wide nonce-row (a .area .now) (l .area) _ (a .n) (l .kept) (l .i)
@@ -109,6 +123,9 @@ keep-nonces-spec =
     (tie.spec
     Inv-loop
     μ-loop
+    all-stay-requires
+    same-length
+    returns
     loop-holds
     add-i
     mul-is-behind
@@ -127,5 +144,5 @@ keep-nonces-spec =
     mul-wipe
     mul-wipe-2
     wipe-requires
-    same-length
-    returns)
+    same-length-2
+    returns-2)

@@ -1,5 +1,9 @@
--- Its use, its length, then what is open.
-use Rattle.octets.proofs.Tests.{tests}
+-- Its use, then what is open, whose segments bound its length, or its length.
+use Prim.Native.Nat.{_+_, _*_}
+use mathlib.Core.Path.{_∙_}
+use Rattle.octets.proofs.Tests.{tests, and-true-right}
+use Rattle.bank_rows.specs.Layout.{placesAt, placeWidth}
+use Rattle.bank_rows.proofs.Test.{bounded-place}
 use borrow.Author.Needs.{needs}
 use Rattle.bank_rows.proofs.sound.is_sound_place.Statement.{statement}
 use Rattle.bank_rows.proofs.sound.is_sound_place.Tie as tie
@@ -31,26 +35,25 @@ mul-if2 c = search needs
 shared-slice-read-if2 : tie.Need-shared-slice-read-if2
 shared-slice-read-if2 c = search needs
 
-returns-2 : tie.Need-returns-2
-returns-2 c = search tests
-
-add-if3 : tie.Need-add-if3
-add-if3 c = search needs
-
-mul-if3 : tie.Need-mul-if3
-mul-if3 c = search needs
-
-shared-slice-read-if3 : tie.Need-shared-slice-read-if3
-shared-slice-read-if3 c = search needs
-
-returns-3 : tie.Need-returns-3
-returns-3 c = search tests
-
 is-sound-upload-requires : tie.Need-is-sound-upload-requires
 is-sound-upload-requires c κs = search needs
 
-returns-4 : tie.Need-returns-4
-returns-4 c = search (tests, ← c .is-sound-upload .ensures)
+returns-2 : tie.Need-returns-2
+returns-2 c =
+    let a = c .before .before .before .before .before .before .args in
+    c .is-sound-upload .ensures ∙ bounded-place (a .rows .now) (placesAt + placeWidth * a .i) (c .before .if2 .taken)
+
+add-result : tie.Need-add-result
+add-result c = search needs
+
+mul-result : tie.Need-mul-result
+mul-result c = search needs
+
+shared-slice-read-result : tie.Need-shared-slice-read-result
+shared-slice-read-result c = search needs
+
+returns-3 : tie.Need-returns-3
+returns-3 c = search (tests, and-true-right)
 
 pub is-sound-place-spec : {M : Type 1} → statement M
 is-sound-place-spec =
@@ -65,10 +68,9 @@ is-sound-place-spec =
     add-if2
     mul-if2
     shared-slice-read-if2
-    returns-2
-    add-if3
-    mul-if3
-    shared-slice-read-if3
-    returns-3
     is-sound-upload-requires
-    returns-4)
+    returns-2
+    add-result
+    mul-result
+    shared-slice-read-result
+    returns-3)

@@ -1,7 +1,9 @@
--- Its segments, those taken, then its length.
+-- Those taken of its segments, its segments, then its length.
+use mathlib.Core.Path.{sym}
 use Rattle.octets.proofs.Tests.{tests}
-use borrow.Author.Needs.{needs}
 use Rattle.bank_rows.specs.Sound.{isSoundUpload}
+use Rattle.bank_rows.proofs.Test.{none-to-come}
+use borrow.Author.Needs.{needs}
 use Rattle.bank_rows.proofs.sound.is_sound_upload.Statement.{statement}
 use Rattle.bank_rows.proofs.sound.is_sound_upload.Tie as tie
 
@@ -14,10 +16,6 @@ mul-segments c = search needs
 shared-slice-read-segments : tie.Need-shared-slice-read-segments
 shared-slice-read-segments c = search needs
 
-returns : tie.Need-returns
-unfolding isSoundUpload
-returns c = search tests
-
 add-taken : tie.Need-add-taken
 add-taken c = search needs
 
@@ -26,6 +24,11 @@ mul-taken c = search needs
 
 shared-slice-read-taken : tie.Need-shared-slice-read-taken
 shared-slice-read-taken c = search needs
+
+returns : tie.Need-returns
+returns c =
+    let a = c .before .before .before .args in
+    sym (none-to-come (a .rows .now) (a .at) (c .if1 .taken))
 
 returns-2 : tie.Need-returns-2
 unfolding isSoundUpload
@@ -54,10 +57,10 @@ is-sound-upload-spec =
     add-segments
     mul-segments
     shared-slice-read-segments
-    returns
     add-taken
     mul-taken
     shared-slice-read-taken
+    returns
     returns-2
     add-result
     mul-result

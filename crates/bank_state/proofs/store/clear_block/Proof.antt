@@ -8,8 +8,8 @@ use denote.Ref.{now}
 use lib.ListN.{length, replicate, drop, length-set}
 use lib.Seq.{drop-length}
 use Rattle.bank_state.proofs.Stores.{zeros-next}
-use Rattle.bank_state.proofs.store.clear.Statement.{statement}
-use Rattle.bank_state.proofs.store.clear.Tie as tie
+use Rattle.bank_state.proofs.store.clear_block.Statement.{statement}
+use Rattle.bank_state.proofs.store.clear_block.Tie as tie
 
 abbrev Inv-loop : tie.InvT-loop
 Inv-loop part₀ i₀ part i = (i ≤ length part₀) × ((length part ≡ length part₀) × (part ≡ replicate i 0 ++ drop i part₀))
@@ -42,8 +42,8 @@ returns c =
     let e : c .before .loop .i ≡ length (now (c .before .before .args .part)) = omega arith in
     c .before .loop .inv .1 .1 ∙ rw (e, drop-length, append-nil)
 
-pub clear-spec : {M : Type 1} → statement M
-clear-spec =
+pub clear-block-spec : {M : Type 1} → statement M
+clear-block-spec =
     tie.close
     (tie.spec
     Inv-loop
