@@ -9,10 +9,11 @@ use lib.ListN.{length, drop}
 use borrow.Author.Tests.{lt-ltb}
 use Rattle.print.specs.Text.{Put}
 use Rattle.print.proofs.Texts.{put-length, put-then}
+use Rattle.bank.specs.Lent.{Lent}
 use Rattle.marker_session.specs.declared.mark.Marked.{Marked}
 use Rattle.marker_session.specs.Lines.{lineRoom}
 use Rattle.marker_session.specs.Marking.{MarkerState, isReady, called, calledLine, callsTo, linesTo, linesIn}
-use Rattle.marker_session.specs.Marking.{standingOf, Print, printOf, markedNext, markedAll}
+use Rattle.marker_session.specs.Marking.{stateOf, Print, printOf, markedNext, markedAll}
 use Rattle.marker_session.proofs.Calls.{calls-turn, lines-turn, calls-none, lines-none}
 use Rattle.marker_session.proofs.Texts.{line-most}
 
@@ -21,25 +22,25 @@ unfolding calledLine
 line-fits s = line-most _ _ _
 
 -- marking from s into the output old: so many lines are left, and the text is written
-pub record Marking (s : MarkerState) (input old : List ℕ) (left : ℕ) (m : Marked) (orders mailboxes buffer output : List ℕ) : Type 0 where
+pub record Marking (s : MarkerState) (input old : List ℕ) (left : ℕ) (m : Marked) (memory : Lent) (buffer output : List ℕ) : Type 0 where
   pub text : List ℕ
-  pub calls : callsTo (linesIn (length old)) s ≡ callsTo left (standingOf m input orders mailboxes buffer)
-  pub lines : linesTo (linesIn (length old)) s ≡ text ++ linesTo left (standingOf m input orders mailboxes buffer)
+  pub calls : callsTo (linesIn (length old)) s ≡ callsTo left (stateOf m input memory buffer)
+  pub lines : linesTo (linesIn (length old)) s ≡ text ++ linesTo left (stateOf m input memory buffer)
   pub put : Put old 0 text output (m .written)
   pub room : m .written + left * lineRoom ≤ length old
 
-module _ (s : MarkerState) (input old : List ℕ) (m : Marked) (orders mailboxes buffer output : List ℕ) where
+module _ (s : MarkerState) (input old : List ℕ) (m : Marked) (memory : Lent) (buffer output : List ℕ) where
   abbrev now : MarkerState
-  now = standingOf m input orders mailboxes buffer
+  now = stateOf m input memory buffer
 
-  pub marking-next : (left : ℕ) → Marking s input old left m orders mailboxes buffer output
+  pub marking-next : (left : ℕ) → Marking s input old left m memory buffer output
       → 0 < left → isReady (m .calls) (drop (m .used) input) ≡ true
-      → (m′ : Marked) (orders′ mailboxes′ buffer′ output′ : List ℕ)
-      → printOf m′ input orders′ mailboxes′ buffer′ output′ ≡ markedNext (m .written) now output
-      → Marking s input old (left - 1) m′ orders′ mailboxes′ buffer′ output′
-  marking-next zero k h e m′ orders′ mailboxes′ buffer′ output′ p = absurd (omega arith)
-  marking-next (suc n) k h e m′ orders′ mailboxes′ buffer′ output′ p =
-      let there : called now ≡ standingOf m′ input orders′ mailboxes′ buffer′ = ap (λ (x : Print). x .standing) (sym p) in
+      → (m′ : Marked) (memory′ : Lent) (buffer′ output′ : List ℕ)
+      → printOf m′ input memory′ buffer′ output′ ≡ markedNext (m .written) now output
+      → Marking s input old (left - 1) m′ memory′ buffer′ output′
+  marking-next zero k h e m′ memory′ buffer′ output′ p = absurd (omega arith)
+  marking-next (suc n) k h e m′ memory′ buffer′ output′ p =
+      let there : called now ≡ stateOf m′ input memory′ buffer′ = ap (λ (x : Print). x .state) (sym p) in
       let z : suc n - 1 ≡ n = omega arith in
       let fit = line-fits now in
       let place = ap (λ (x : Print). x .written) p in
@@ -56,14 +57,14 @@ module _ (s : MarkerState) (input old : List ℕ) (m : Marked) (orders mailboxes
         room = omega (arith, k .room);
       }
 
-  ended : (left : ℕ) → Marking s input old left m orders mailboxes buffer output → callsTo left now ≡ now → linesTo left now ≡ []
-      → printOf m input orders mailboxes buffer output ≡ markedAll s old
+  ended : (left : ℕ) → Marking s input old left m memory buffer output → callsTo left now ≡ now → linesTo left now ≡ []
+      → printOf m input memory buffer output ≡ markedAll s old
   ended left k c l =
       rw (k .calls ∙ c, k .lines ∙ ap (λ (x : List ℕ). k .text ++ x) l ∙ append-nil (k .text), k .put .place, k .put .bytes)
 
-  pub marking-end : (left : ℕ) → Marking s input old left m orders mailboxes buffer output
+  pub marking-end : (left : ℕ) → Marking s input old left m memory buffer output
       → (ltb 0 left && isReady (m .calls) (drop (m .used) input)) ≡ false
-      → printOf m input orders mailboxes buffer output ≡ markedAll s old
+      → printOf m input memory buffer output ≡ markedAll s old
   unfolding callsTo linesTo
   marking-end zero k e = ended zero k refl refl
   marking-end (suc n) k e =

@@ -2,25 +2,23 @@
 use mathlib.Core.Path.{_≡_, refl, _∙_}
 use native.Mathlib.Omega.{arith}
 use lib.ListN.{length}
-use Rattle.marker_session.specs.Session.{ReadFrom, freshMarker}
+use Rattle.bank.specs.Lent.{lent}
+use Rattle.marker_session.specs.Session.{ReadFrom, startedWith}
 use Rattle.marker_session.proofs.Parts.{reads-begin, reads-next}
 use Rattle.marker_session.proofs.session.read_all.Statement.{statement}
 use Rattle.marker_session.proofs.session.read_all.Tie as tie
 
 abbrev Inv-loop : tie.InvT-loop
-Inv-loop input₀ output₀ orders₀ boxes₀ buffer₀ t₀ input output orders mailboxes buffer t =
-    (length input ≡ length input₀) × (length output ≡ length output₀) × (length orders ≡ length orders₀)
-    × (length mailboxes ≡ length boxes₀) × (length buffer ≡ length buffer₀)
-    × ReadFrom (freshMarker orders₀ boxes₀ buffer₀) t input orders mailboxes buffer
+Inv-loop input₀ output₀ rows₀ orders₀ mailboxes₀ buffer₀ t₀ input output rows orders mailboxes buffer t =
+    (length input ≡ length input₀) × (length output ≡ length output₀) × (length rows ≡ length rows₀)
+    × (length orders ≡ length orders₀) × (length mailboxes ≡ length mailboxes₀) × (length buffer ≡ length buffer₀)
+    × ReadFrom (startedWith (lent rows₀ orders₀ mailboxes₀) buffer₀) t input (lent rows orders mailboxes) buffer
 
 abbrev μ-loop : tie.MeasureT-loop
-μ-loop input₀ output₀ orders₀ boxes₀ buffer₀ t₀ input output orders mailboxes buffer t = t .reads
-
-fresh-requires : tie.Need-fresh-requires Inv-loop μ-loop
-fresh-requires c κs = tt
+μ-loop input₀ output₀ rows₀ orders₀ mailboxes₀ buffer₀ t₀ input output rows orders mailboxes buffer t = t .reads
 
 loop-holds : tie.Need-loop-holds Inv-loop μ-loop
-loop-holds c = (refl, refl, refl, refl, refl, reads-begin _ _ _ _ _ (c .fresh .ensures) refl refl)
+loop-holds c = (refl, refl, refl, refl, refl, refl, reads-begin _ _ _ _ refl refl)
 
 read-on-requires : tie.Need-read-on-requires Inv-loop μ-loop
 read-on-requires c κs =
@@ -74,7 +72,6 @@ read-all-spec =
     (tie.spec
     Inv-loop
     μ-loop
-    fresh-requires
     loop-holds
     read-on-requires
     loop-less
