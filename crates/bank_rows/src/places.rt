@@ -20,11 +20,13 @@ ghost use mathlib.Core.Path.{_≡_};
 ghost use mathlib.Core.Bool.{_&&_};
 ghost use Prim.Native.Nat.{_<_};
 ghost use lib.Dec.{eqb};
+ghost use lib.ListN.{length};
 ghost use Rattle.bank_state.specs.declared.state.Place.{Place};
 ghost use Rattle.bank_state.specs.Limits.{placeCount};
 ghost use Rattle.bank_state.specs.Rows.{countOf};
 ghost use Rattle.bank_state.specs.Search.{isOpen, isFree, isUpload, freePlace, findUpload};
 ghost use Rattle.bank_state.specs.State.{placeAt, withPlace};
+ghost use Rattle.bank_rows.specs.Layout.{stateSize};
 ghost use Rattle.bank_rows.specs.Records.{bits, useOf, numberOfUse};
 ghost use Rattle.bank_rows.specs.State.{bankOf, stored, Laid};
 
@@ -59,7 +61,7 @@ fn number_of_use(used: Use) -> u64
 
 // Place i.
 pub fn place_at(rows: &[u64], i: usize) -> Place
-    requires { ⌜ Laid (now rows) × (i < placeCount) ⌝ }
+    requires { ⌜ (length (now rows) ≡ stateSize) × (i < placeCount) ⌝ }
     ensures { λ r. ⌜ r ≡ placeAt (bankOf (now (rows .entry))) i ⌝ }
 {
     let at = PLACES_AT + PLACE_WIDTH * i;

@@ -158,4 +158,4 @@ read-parts s a b =
     let t = withMore s a in
     let e = append-assoc (s .rest) a b in
     sym (read-more b (length (t .rest)) t)
-    ∙ ap (λ (l : List ℕ). callsOf (record { bankState = s .bankState; buffer = s .buffer; calls = s .calls; rest = l })) e
+    ∙ ap (λ (l : List ℕ). callsOf (record { lent = s .lent; buffer = s .buffer; calls = s .calls; rest = l })) e

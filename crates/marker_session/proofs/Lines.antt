@@ -5,41 +5,70 @@ use mathlib.Core.List.{List, [], _++_, append-assoc, append-nil}
 use mathlib.Core.Path.{_≡_, refl, sym, ap, _∙_}
 use native.Mathlib.Omega.{arith}
 use lib.Dec.{ltb}
-use lib.ListN.{length, drop}
+use lib.ListN.{length, drop, replicate}
+use lib.Seq.{drop-drop}
+use native.Mathlib.Nat.{add-assoc}
 use borrow.Author.Tests.{lt-ltb}
 use Rattle.print.specs.Text.{Put}
 use Rattle.print.proofs.Texts.{put-length, put-then}
+use Rattle.bank_state.specs.Limits.{idBytes}
+use Rattle.bank.specs.Call.{frameInput}
+use Rattle.bank.specs.Lent.{Lent, LentFrameCall, lentFrameCall}
 use Rattle.marker_session.specs.declared.mark.Marked.{Marked}
-use Rattle.marker_session.specs.Lines.{lineRoom}
-use Rattle.marker_session.specs.Marking.{MarkerState, isReady, called, calledLine, callsTo, linesTo, linesIn}
-use Rattle.marker_session.specs.Marking.{standingOf, Print, printOf, markedNext, markedAll}
+use Rattle.marker_session.specs.Lines.{lineRoom, headBytes, timeOf, sizeOf, frameIn, lineOf, codedLine}
+use Rattle.marker_session.specs.Marking.{MarkerState, markerState, isReady, callOf, called, calledLine, callsTo, linesTo, linesIn}
+use Rattle.marker_session.specs.Marking.{stateOf, Print, printOf, markedNext, markedAll}
 use Rattle.marker_session.proofs.Calls.{calls-turn, lines-turn, calls-none, lines-none}
-use Rattle.marker_session.proofs.Texts.{line-most}
+use Rattle.marker_session.proofs.Texts.{line-most, coded-line, call-code}
 
 line-fits : (s : MarkerState) → length (calledLine s) ≤ lineRoom
 unfolding calledLine
 line-fits s = line-most _ _ _
 
+-- one call and its line: what its parts say, put together
+module _ (input : List ℕ) (memory : Lent) (buffer output : List ℕ) (m : Marked) where
+  abbrev here : MarkerState
+  here = stateOf m input memory buffer
+
+  pub marked-call : (rest : List ℕ) → rest ≡ drop (m .used) input → (time : ℕ) → time ≡ timeOf rest
+      → (frame : List ℕ) → frame ≡ frameIn rest → (size : ℕ) → size ≡ sizeOf rest
+      → (k : LentFrameCall) → k ≡ lentFrameCall memory (frameInput time (replicate idBytes 0) frame buffer)
+      → (output′ : List ℕ) (written : ℕ)
+      → Put output (m .written) (codedLine (m .calls + 1) (k .answer) (k .code)) output′ written
+      → _≡_ {A = Print} (record {
+        state = markerState (m .calls + 1) (drop (m .used + headBytes + size) input) (k .lent) (k .buffer);
+        output = output′;
+        written = written;
+      }) (markedNext (m .written) here output)
+  unfolding called calledLine callOf
+  marked-call rest er time et frame ef size es k e output′ written put =
+      let is : k ≡ callOf here = e ∙ rw (et, ef, er) in
+      let line : codedLine (m .calls + 1) (k .answer) (k .code) ≡ calledLine here
+      = coded-line (m .calls + 1) (k .answer) (k .buffer) (k .code) (call-code memory _ k e)
+      ∙ ap (λ (x : LentFrameCall). lineOf (m .calls + 1) (x .answer) (x .buffer)) is in
+      let said : size ≡ sizeOf (drop (m .used) input) = es ∙ ap sizeOf er in
+      rw (put .bytes, put .place, line, is, said, drop-drop, add-assoc)
+
 -- marking from s into the output old: so many lines are left, and the text is written
-pub record Marking (s : MarkerState) (input old : List ℕ) (left : ℕ) (m : Marked) (orders mailboxes buffer output : List ℕ) : Type 0 where
+pub record Marking (s : MarkerState) (input old : List ℕ) (left : ℕ) (m : Marked) (memory : Lent) (buffer output : List ℕ) : Type 0 where
   pub text : List ℕ
-  pub calls : callsTo (linesIn (length old)) s ≡ callsTo left (standingOf m input orders mailboxes buffer)
-  pub lines : linesTo (linesIn (length old)) s ≡ text ++ linesTo left (standingOf m input orders mailboxes buffer)
+  pub calls : callsTo (linesIn (length old)) s ≡ callsTo left (stateOf m input memory buffer)
+  pub lines : linesTo (linesIn (length old)) s ≡ text ++ linesTo left (stateOf m input memory buffer)
   pub put : Put old 0 text output (m .written)
   pub room : m .written + left * lineRoom ≤ length old
 
-module _ (s : MarkerState) (input old : List ℕ) (m : Marked) (orders mailboxes buffer output : List ℕ) where
+module _ (s : MarkerState) (input old : List ℕ) (m : Marked) (memory : Lent) (buffer output : List ℕ) where
   abbrev now : MarkerState
-  now = standingOf m input orders mailboxes buffer
+  now = stateOf m input memory buffer
 
-  pub marking-next : (left : ℕ) → Marking s input old left m orders mailboxes buffer output
+  pub marking-next : (left : ℕ) → Marking s input old left m memory buffer output
       → 0 < left → isReady (m .calls) (drop (m .used) input) ≡ true
-      → (m′ : Marked) (orders′ mailboxes′ buffer′ output′ : List ℕ)
-      → printOf m′ input orders′ mailboxes′ buffer′ output′ ≡ markedNext (m .written) now output
-      → Marking s input old (left - 1) m′ orders′ mailboxes′ buffer′ output′
-  marking-next zero k h e m′ orders′ mailboxes′ buffer′ output′ p = absurd (omega arith)
-  marking-next (suc n) k h e m′ orders′ mailboxes′ buffer′ output′ p =
-      let there : called now ≡ standingOf m′ input orders′ mailboxes′ buffer′ = ap (λ (x : Print). x .standing) (sym p) in
+      → (m′ : Marked) (memory′ : Lent) (buffer′ output′ : List ℕ)
+      → printOf m′ input memory′ buffer′ output′ ≡ markedNext (m .written) now output
+      → Marking s input old (left - 1) m′ memory′ buffer′ output′
+  marking-next zero k h e m′ memory′ buffer′ output′ p = absurd (omega arith)
+  marking-next (suc n) k h e m′ memory′ buffer′ output′ p =
+      let there : called now ≡ stateOf m′ input memory′ buffer′ = ap (λ (x : Print). x .state) (sym p) in
       let z : suc n - 1 ≡ n = omega arith in
       let fit = line-fits now in
       let place = ap (λ (x : Print). x .written) p in
@@ -56,14 +85,14 @@ module _ (s : MarkerState) (input old : List ℕ) (m : Marked) (orders mailboxes
         room = omega (arith, k .room);
       }
 
-  ended : (left : ℕ) → Marking s input old left m orders mailboxes buffer output → callsTo left now ≡ now → linesTo left now ≡ []
-      → printOf m input orders mailboxes buffer output ≡ markedAll s old
+  ended : (left : ℕ) → Marking s input old left m memory buffer output → callsTo left now ≡ now → linesTo left now ≡ []
+      → printOf m input memory buffer output ≡ markedAll s old
   ended left k c l =
       rw (k .calls ∙ c, k .lines ∙ ap (λ (x : List ℕ). k .text ++ x) l ∙ append-nil (k .text), k .put .place, k .put .bytes)
 
-  pub marking-end : (left : ℕ) → Marking s input old left m orders mailboxes buffer output
+  pub marking-end : (left : ℕ) → Marking s input old left m memory buffer output
       → (ltb 0 left && isReady (m .calls) (drop (m .used) input)) ≡ false
-      → printOf m input orders mailboxes buffer output ≡ markedAll s old
+      → printOf m input memory buffer output ≡ markedAll s old
   unfolding callsTo linesTo
   marking-end zero k e = ended zero k refl refl
   marking-end (suc n) k e =

@@ -15,7 +15,9 @@ use Rattle.octets.specs.Bytes.{number}
 use Rattle.frame.specs.Row.{dataOf}
 use Rattle.bank_state.specs.State.{BankState}
 use Rattle.bank_state.specs.Clock.{advanced}
-use Rattle.bank.specs.Call.{Step, FrameCall, respond, replied, replyCode, lentRight, frameCall}
+use Rattle.bank_rows.specs.Sound.{isSound}
+use Rattle.bank.specs.Call.{Step, FrameInput, respond, replied, replyCode, lentRight, frameRefused, frameCall}
+use Rattle.bank.specs.Lent.{Lent, stateOf, LentFrameCall, keptFrame, frameTurnedAway, lentFrameCall}
 use Rattle.marker_session.specs.Lines.{codeOf, answerText, lineOf, codedText, codedLine, lineRoom}
 
 pub answer-most : (a : FrameAnswer) (buffer : List ℕ) → length (answerText a buffer) ≤ codeDigits
@@ -34,19 +36,26 @@ unfolding codedLine lineOf codeOf
 coded-line n (Reply k) buffer code e = rw e
 coded-line n WrongLength buffer code e = refl
 
-module _ (s : Step) (w : BankState) (buffer : List ℕ) where
-  code-at : (b : Bool)
-      → let r : FrameCall = cond b (replied s buffer) (record { bankState = w; buffer = buffer; answer = WrongLength; number = 1; code = 0 }) in
-      r .code ≡ replyCode (r .answer) (r .buffer)
-  code-at true = refl
-  code-at false = refl
-
 -- a call's code is that of the reply that it leaves in the buffer
-pub call-code : (r : FrameCall) (w : BankState) (time : ℕ) (ids frame buffer : List ℕ) → r ≡ frameCall w time ids frame buffer
-    → r .code ≡ replyCode (r .answer) (r .buffer)
-unfolding frameCall
-call-code r w time ids frame buffer e =
-    rw e (code-at (respond (number ids) (advanced time w) (readRequest frame) (dataOf frame)) w buffer (lentRight w ids buffer))
+module _ (m : Lent) (a : FrameInput) where
+  abbrev coded : LentFrameCall → Type 0
+  coded r = r .code ≡ replyCode (r .answer) (r .buffer)
+
+  by-lengths : (s : Step) (w : BankState) (right : Bool)
+      → coded (keptFrame m (cond right (replied s (a .buffer)) (frameRefused w a)))
+  by-lengths s w true = refl
+  by-lengths s w false = refl
+
+  by-rows : (sound : Bool) → coded (cond sound (keptFrame m (frameCall (stateOf m) a)) (frameTurnedAway m a))
+  unfolding frameCall
+  by-rows true =
+      by-lengths (respond (number (a .ids)) (advanced (a .time) (stateOf m)) (readRequest (a .frame)) (dataOf (a .frame)))
+      (stateOf m) (lentRight (stateOf m) (a .ids) (a .buffer))
+  by-rows false = refl
+
+  pub call-code : (r : LentFrameCall) → r ≡ lentFrameCall m a → coded r
+  unfolding lentFrameCall
+  call-code r e = rw e (by-rows (isSound (m .rows)))
 
 pub line-most : (n : ℕ) (a : FrameAnswer) (buffer : List ℕ) → length (lineOf n a buffer) ≤ lineRoom
 unfolding lineOf

@@ -5,22 +5,21 @@ use mathlib.Core.List.{List, [], _++_}
 use lib.Dec.{ltb}
 use lib.ListN.{length, drop, replicate}
 use Rattle.octets.specs.Bytes.{overwrite}
-use Rattle.bank_state.specs.declared.state.Bank.{Bank}
 use Rattle.bank_state.specs.Limits.{idBytes}
-use Rattle.bank_state.specs.State.{BankState, bankState}
-use Rattle.bank.specs.Call.{FrameCall, frameCall}
+use Rattle.bank.specs.Call.{frameInput}
+use Rattle.bank.specs.Lent.{Lent, LentFrameCall, lentFrameCall}
 use Rattle.marker_session.specs.declared.mark.Marked.{Marked}
 use Rattle.marker_session.specs.Lines.{headBytes, timeOf, sizeOf, frameIn, isWhole, lineOf, lineRoom}
 
--- between two calls: the bank and its stores, the reply buffer, the calls so far, the input that is left
+-- between two calls: the memory lent to the bank, the reply buffer, the calls so far, the input that is left
 pub record MarkerState : Type 0 where
-  pub bankState : BankState
+  pub lent : Lent
   pub buffer : List ℕ
   pub calls : ℕ
   pub rest : List ℕ
 
-abbrev pub standing : Bank → ℕ → List ℕ → List ℕ → List ℕ → List ℕ → MarkerState
-standing b calls rest orders mailboxes buffer = record { bankState = bankState b orders mailboxes; buffer = buffer; calls = calls; rest = rest }
+abbrev pub markerState : ℕ → List ℕ → Lent → List ℕ → MarkerState
+markerState calls rest m buffer = record { lent = m; buffer = buffer; calls = calls; rest = rest }
 
 -- the calls that a number of 64 bits counts
 abbrev pub maxCalls : ℕ
@@ -31,13 +30,13 @@ unfoldable pub isReady : ℕ → List ℕ → Bool
 isReady calls rest = ltb calls maxCalls && isWhole rest
 
 -- the call of the record that comes
-unfoldable pub callOf : MarkerState → FrameCall
-callOf s = frameCall (s .bankState) (timeOf (s .rest)) (replicate idBytes 0) (frameIn (s .rest)) (s .buffer)
+unfoldable pub callOf : MarkerState → LentFrameCall
+callOf s = lentFrameCall (s .lent) (frameInput (timeOf (s .rest)) (replicate idBytes 0) (frameIn (s .rest)) (s .buffer))
 
 -- what it leaves
 unfoldable pub called : MarkerState → MarkerState
 called s = record {
-  bankState = callOf s .bankState;
+  lent = callOf s .lent;
   buffer = callOf s .buffer;
   calls = s .calls + 1;
   rest = drop (headBytes + sizeOf (s .rest)) (s .rest);
@@ -61,23 +60,23 @@ linesTo (suc n) s = cond (isReady (s .calls) (s .rest)) (calledLine s ++ linesTo
 unfoldable pub callsOf : MarkerState → MarkerState
 callsOf s = callsTo (length (s .rest)) s
 
--- what marking leaves: the standing, the output, and how many bytes are written
+-- what marking leaves: the marker's state, the output, and how many bytes are written
 pub record Print : Type 0 where
-  pub standing : MarkerState
+  pub state : MarkerState
   pub output : List ℕ
   pub written : ℕ
 
 -- what the code holds between two calls
-abbrev pub standingOf : Marked → List ℕ → List ℕ → List ℕ → List ℕ → MarkerState
-standingOf m input orders mailboxes buffer = standing (m .bank) (m .calls) (drop (m .used) input) orders mailboxes buffer
+abbrev pub stateOf : Marked → List ℕ → Lent → List ℕ → MarkerState
+stateOf m input kept buffer = markerState (m .calls) (drop (m .used) input) kept buffer
 
-abbrev pub printOf : Marked → List ℕ → List ℕ → List ℕ → List ℕ → List ℕ → Print
-printOf m input orders mailboxes buffer output =
-    record { standing = standingOf m input orders mailboxes buffer; output = output; written = m .written }
+abbrev pub printOf : Marked → List ℕ → Lent → List ℕ → List ℕ → Print
+printOf m input kept buffer output =
+    record { state = stateOf m input kept buffer; output = output; written = m .written }
 
 -- lines written into the output from a place on
 abbrev pub leftAt : ℕ → MarkerState → List ℕ → List ℕ → Print
-leftAt at s lines output = record { standing = s; output = overwrite output at lines; written = at + length lines }
+leftAt at s lines output = record { state = s; output = overwrite output at lines; written = at + length lines }
 
 -- one call is marked
 abbrev pub markedNext : ℕ → MarkerState → List ℕ → Print

@@ -8,7 +8,6 @@ use crate::record::size_of;
 use crate::record::time_of;
 use bank::call::frame_arrives;
 use bank_state::limits::ID_BYTES;
-use bank_state::state::Bank;
 use octets::bytes::behind;
 ghost use mathlib.Core.Path.{_≡_};
 ghost use mathlib.Core.Bool.{true, _&&_};
@@ -16,14 +15,14 @@ ghost use Prim.Native.Nat.{_+_, _≤_};
 ghost use lib.Dec.{ltb};
 ghost use lib.ListN.{length, drop};
 ghost use Rattle.marker_session.specs.Lines.{lineRoom};
-ghost use Rattle.marker_session.specs.Marking.{isReady, standing, standingOf, printOf, markedNext, markedAll};
+ghost use Rattle.bank.specs.Lent.{lent};
+ghost use Rattle.marker_session.specs.Marking.{isReady, markerState, stateOf, printOf, markedNext, markedAll};
 
 // The calls that can be counted.
 const MAX_CALLS: u64 = u64::MAX;
 
-// Between two calls: the bank, the calls so far, the input bytes used, the output bytes written.
+// Between two calls: the calls so far, the input bytes used, the output bytes written.
 pub struct Marked {
-    pub bank: Bank,
     pub calls: u64,
     pub used: usize,
     pub written: usize,
@@ -47,6 +46,7 @@ fn mark_call(
     m: Marked,
     input: &[u8],
     output: &mut [u8],
+    rows: &mut [u64],
     orders: &mut [u8],
     mailboxes: &mut [u8],
     buffer: &mut [u8],
@@ -56,9 +56,12 @@ fn mark_call(
         ⌝ }
     ensures { λ r. ⌜
         (printOf r (now (input .entry))
-        (now (orders .exit)) (now (mailboxes .exit)) (now (buffer .exit)) (now (output .exit))
+        (lent (now (rows .exit)) (now (orders .exit)) (now (mailboxes .exit)))
+        (now (buffer .exit)) (now (output .exit))
         ≡ markedNext (m .written)
-        (standingOf m (now (input .entry)) (now (orders .entry)) (now (mailboxes .entry)) (now (buffer .entry)))
+        (stateOf m (now (input .entry))
+        (lent (now (rows .entry)) (now (orders .entry)) (now (mailboxes .entry)))
+        (now (buffer .entry)))
         (now (output .entry)))
         × (r .used ≤ length (now (input .entry)))
         ⌝ }
@@ -66,9 +69,8 @@ fn mark_call(
     let used = m.used;
     let rest = behind(input, used);
     let ids = [0u8; ID_BYTES];
-    let bank = m.bank;
     let o = frame_arrives(
-        bank,
+        rows,
         time_of(rest),
         &ids,
         frame_in(rest),
@@ -79,9 +81,7 @@ fn mark_call(
     let calls = m.calls + 1;
     let answer = o.answer;
     let written = put_line(output, m.written, calls, answer, o.code);
-    let after = o.bank;
     Marked {
-        bank: after,
         calls,
         used: used + HEAD_BYTES + size_of(rest),
         written,
@@ -91,32 +91,34 @@ fn mark_call(
 // The calls of the whole records of the input, as many as the output has room for lines; no more than the input is
 // used.
 pub fn mark(
-    b: Bank,
     calls: u64,
     input: &[u8],
     output: &mut [u8],
+    rows: &mut [u64],
     orders: &mut [u8],
     mailboxes: &mut [u8],
     buffer: &mut [u8],
 ) -> Marked
     ensures { λ r. ⌜
         (printOf r (now (input .entry))
-        (now (orders .exit)) (now (mailboxes .exit)) (now (buffer .exit)) (now (output .exit))
+        (lent (now (rows .exit)) (now (orders .exit)) (now (mailboxes .exit)))
+        (now (buffer .exit)) (now (output .exit))
         ≡ markedAll
-        (standing b calls (now (input .entry)) (now (orders .entry)) (now (mailboxes .entry)) (now (buffer .entry)))
+        (markerState calls (now (input .entry))
+        (lent (now (rows .entry)) (now (orders .entry)) (now (mailboxes .entry)))
+        (now (buffer .entry)))
         (now (output .entry)))
         × (r .used ≤ length (now (input .entry)))
         ⌝ }
 {
     let mut m = Marked {
-        bank: b,
         calls,
         used: 0,
         written: 0,
     };
     let mut left = output.len() / LINE_ROOM;
     while is_ready(input, left, m.calls, m.used) {
-        m = mark_call(m, input, output, orders, mailboxes, buffer);
+        m = mark_call(m, input, output, rows, orders, mailboxes, buffer);
         left -= 1;
     }
     m

@@ -3,10 +3,9 @@ use crate::line::LINE_ROOM;
 use crate::line::header;
 use crate::mark::mark;
 use crate::record::HEAD_BYTES;
+use bank_rows::layout::STATE_SIZE;
 use bank_state::limits::REPLY_ROOM;
 use bank_state::limits::STORE_BYTES;
-use bank_state::state::Bank;
-use bank_state::state::fresh;
 use libc::STDIN_FILENO;
 use libc::STDOUT_FILENO;
 use octets::bytes::front;
@@ -15,7 +14,9 @@ ghost use mathlib.Core.Path.{_≡_};
 ghost use Prim.Native.Nat.{_-_, _≤_, _<_};
 ghost use lib.ListN.{length, take, drop};
 ghost use Rattle.octets.specs.Bytes.{overwrite};
-ghost use Rattle.marker_session.specs.Session.{readingOf, HasRoom, ReadFrom, freshMarker, SessionOf};
+ghost use Rattle.bank_rows.specs.Layout.{stateSize};
+ghost use Rattle.bank.specs.Lent.{lent};
+ghost use Rattle.marker_session.specs.Session.{readingOf, HasRoom, ReadFrom, startedWith, SessionOf};
 
 // The input held: a record of the longest frame.
 const INPUT_BYTES: usize = HEAD_BYTES + 65535;
@@ -23,17 +24,16 @@ const INPUT_BYTES: usize = HEAD_BYTES + 65535;
 // The output: a line for each record that the input can hold.
 const OUTPUT_BYTES: usize = INPUT_BYTES / HEAD_BYTES * LINE_ROOM;
 
-// Between two reads: the bank, the calls so far, the bytes held of a record cut short, the reads that may follow.
+// Between two reads: the calls so far, the bytes held of a record cut short, the reads that may follow.
 struct Reading {
-    pub bank: Bank,
     pub calls: u64,
     pub held: usize,
     pub reads: u64,
 }
 
-// What a session leaves: the bank, and the number of its calls.
+// What a session leaves: the bank's rows, and the number of its calls.
 pub struct SessionEnd {
-    pub bank: Bank,
+    pub rows: [u64; STATE_SIZE],
     pub calls: u64,
 }
 
@@ -87,6 +87,7 @@ fn read_on(
     t: Reading,
     input: &mut [u8],
     output: &mut [u8],
+    rows: &mut [u64],
     orders: &mut [u8],
     mailboxes: &mut [u8],
     buffer: &mut [u8],
@@ -94,28 +95,30 @@ fn read_on(
     requires { ⌜ (0 < t .reads) × (t .held ≤ length (now input)) × HasRoom (now input) (now output) ⌝ }
     ensures { λ r. ⌜
         (r .reads < t .reads)
-        × ReadFrom (readingOf t (now (input .entry)) (now (orders .entry)) (now (mailboxes .entry)) (now (buffer .entry)))
-        r (now (input .exit)) (now (orders .exit)) (now (mailboxes .exit)) (now (buffer .exit))
+        × ReadFrom
+        (readingOf t (now (input .entry))
+        (lent (now (rows .entry)) (now (orders .entry)) (now (mailboxes .entry)))
+        (now (buffer .entry)))
+        r (now (input .exit))
+        (lent (now (rows .exit)) (now (orders .exit)) (now (mailboxes .exit)))
+        (now (buffer .exit))
         ⌝ }
 {
     let held = t.held;
-    let bank = t.bank;
     let n = read_in(input, held);
     let end = held + n;
     let m = mark(
-        bank,
         t.calls,
         &input[..end],
         output,
+        rows,
         orders,
         mailboxes,
         buffer,
     );
     let reads = write_lines(output, m.written, n, t.reads);
     let left = keep(input, m.used, end);
-    let after = m.bank;
     Reading {
-        bank: after,
         calls: m.calls,
         held: left,
         reads,
@@ -127,25 +130,29 @@ fn read_on(
 fn read_all(
     input: &mut [u8],
     output: &mut [u8],
+    rows: &mut [u64],
     orders: &mut [u8],
     mailboxes: &mut [u8],
     buffer: &mut [u8],
 ) -> Reading
     requires { ⌜ HasRoom (now input) (now output) ⌝ }
     ensures { λ r. ⌜
-        ReadFrom (freshMarker (now (orders .entry)) (now (mailboxes .entry)) (now (buffer .entry)))
-        r (now (input .exit)) (now (orders .exit)) (now (mailboxes .exit)) (now (buffer .exit))
+        ReadFrom
+        (startedWith
+        (lent (now (rows .entry)) (now (orders .entry)) (now (mailboxes .entry)))
+        (now (buffer .entry)))
+        r (now (input .exit))
+        (lent (now (rows .exit)) (now (orders .exit)) (now (mailboxes .exit)))
+        (now (buffer .exit))
         ⌝ }
 {
-    let bank = fresh();
     let mut t = Reading {
-        bank,
         calls: 0,
         held: 0,
         reads: u64::MAX,
     };
     while 0 < t.reads {
-        t = read_on(t, input, output, orders, mailboxes, buffer);
+        t = read_on(t, input, output, rows, orders, mailboxes, buffer);
     }
     t
 }
@@ -157,8 +164,10 @@ fn print_header(output: &mut [u8]) {
 }
 
 // Prints the bank's book.
-fn print_book(bank: Bank, output: &mut [u8]) {
-    let n = book(bank, output);
+fn print_book(rows: &[u64], output: &mut [u8])
+    requires { ⌜ length (now rows) ≡ stateSize ⌝ }
+{
+    let n = book(rows, output);
     io::write_all(STDOUT_FILENO, front(output, n));
 }
 
@@ -166,42 +175,48 @@ fn print_book(bank: Bank, output: &mut [u8]) {
 fn print_all(
     input: &mut [u8],
     output: &mut [u8],
+    rows: &mut [u64],
     orders: &mut [u8],
     mailboxes: &mut [u8],
     buffer: &mut [u8],
 ) -> Reading
-    requires { ⌜ HasRoom (now input) (now output) ⌝ }
+    requires { ⌜ HasRoom (now input) (now output) × (length (now rows) ≡ stateSize) ⌝ }
     ensures { λ r. ⌜
-        ReadFrom (freshMarker (now (orders .entry)) (now (mailboxes .entry)) (now (buffer .entry)))
-        r (now (input .exit)) (now (orders .exit)) (now (mailboxes .exit)) (now (buffer .exit))
+        ReadFrom
+        (startedWith
+        (lent (now (rows .entry)) (now (orders .entry)) (now (mailboxes .entry)))
+        (now (buffer .entry)))
+        r (now (input .exit))
+        (lent (now (rows .exit)) (now (orders .exit)) (now (mailboxes .exit)))
+        (now (buffer .exit))
         ⌝ }
 {
     print_header(output);
-    let t = read_all(input, output, orders, mailboxes, buffer);
-    let bank = t.bank;
-    print_book(bank, output);
+    let t = read_all(input, output, rows, orders, mailboxes, buffer);
+    print_book(rows, output);
     t
 }
 
 // Reads all records, and prints, in memory of its own.
 pub fn session() -> SessionEnd
-    ensures { λ r. ⌜ SessionOf (r .bank) (r .calls) ⌝ }
+    ensures { λ r. ⌜ SessionOf (r .rows) (r .calls) ⌝ }
 {
     let mut input = [0u8; INPUT_BYTES];
     let mut output = [0u8; OUTPUT_BYTES];
+    let mut rows = [0u64; STATE_SIZE];
     let mut orders = [0u8; STORE_BYTES];
     let mut mailboxes = [0u8; STORE_BYTES];
     let mut buffer = [0u8; REPLY_ROOM];
     let t = print_all(
         &mut input,
         &mut output,
+        &mut rows,
         &mut orders,
         &mut mailboxes,
         &mut buffer,
     );
-    let bank = t.bank;
     SessionEnd {
-        bank,
+        rows,
         calls: t.calls,
     }
 }

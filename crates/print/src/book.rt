@@ -3,15 +3,17 @@ use crate::text::put_byte;
 use crate::text::put_column;
 use crate::text::put_order_number;
 use crate::text::put_text;
+use bank_rows::places::place_at;
 use bank_state::limits::PLACES;
 use bank_state::search::is_booked;
-use bank_state::state::Bank;
 use bank_state::state::Place;
 use message::order_numbers::order_number_of;
 ghost use mathlib.Core.Path.{_≡_};
 ghost use Prim.Native.Nat.{_+_, _*_, _≤_};
 ghost use lib.ListN.{length};
 ghost use Rattle.bank_state.specs.Limits.{placeCount};
+ghost use Rattle.bank_rows.specs.Layout.{stateSize};
+ghost use Rattle.bank_rows.specs.State.{bankOf};
 ghost use Rattle.print.specs.Text.{Put, rowsTo, printed, printedCount};
 ghost use Rattle.print.specs.Book.{bookHeader, bookHeaderRoom, orderColumns, orderColumnsRoom};
 ghost use Rattle.print.specs.Book.{orderLine, lineAt, bookOf, bookRoom};
@@ -56,30 +58,31 @@ fn put_order(output: &mut [u8], at: usize, p: Place) -> usize
 }
 
 // Writes the lines of all places.
-fn put_orders(output: &mut [u8], at: usize, b: Bank) -> usize
-    requires { ⌜ at + placeCount * orderColumnsRoom ≤ length (now output) ⌝ }
-    ensures { λ r. ⌜ Put (now (output .entry)) at (rowsTo (lineAt b) placeCount) (now (output .exit)) r ⌝ }
+fn put_orders(output: &mut [u8], at: usize, rows: &[u64]) -> usize
+    requires { ⌜ (at + placeCount * orderColumnsRoom ≤ length (now output)) × (length (now rows) ≡ stateSize) ⌝ }
+    ensures { λ r. ⌜ Put (now (output .entry)) at (rowsTo (lineAt (bankOf (now (rows .entry)))) placeCount)
+        (now (output .exit)) r ⌝ }
 {
     let mut end = at;
     let mut i = 0;
     while i < PLACES {
-        let p = b.places[i];
-        end = put_order(output, end, p);
+        end = put_order(output, end, place_at(rows, i));
         i += 1;
     }
     end
 }
 
-// The book at the front of the output, and its length.
-pub fn book(b: Bank, output: &mut [u8]) -> usize
+// The book of the bank that the rows are, at the front of the output, and its length.
+pub fn book(rows: &[u64], output: &mut [u8]) -> usize
+    requires { ⌜ length (now rows) ≡ stateSize ⌝ }
     ensures { λ r. ⌜
-        (now (output .exit) ≡ printed bookRoom (bookOf b) (now (output .entry)))
-        × (r ≡ printedCount bookRoom (bookOf b) (now (output .entry)))
+        (now (output .exit) ≡ printed bookRoom (bookOf (bankOf (now (rows .entry)))) (now (output .entry)))
+        × (r ≡ printedCount bookRoom (bookOf (bankOf (now (rows .entry)))) (now (output .entry)))
         ⌝ }
 {
     if output.len() < BOOK_ROOM {
         return 0;
     }
     let at = put_book_header(output, 0, b'\n');
-    put_orders(output, at, b)
+    put_orders(output, at, rows)
 }

@@ -1,27 +1,25 @@
 -- The record that is ready is read, called, and its line written; it ends within the input. Assumes nothing.
 use mathlib.Core.Path.{ap}
-use native.Mathlib.Nat.{add-assoc}
 use native.Mathlib.Omega.{arith}
 use Prim.Native.Nat.{_+_, _^_, _≤_, _<_}
 use lib.ListN.{length, drop, length-drop}
-use lib.Seq.{drop-drop}
 use Rattle.marker_session.specs.Lines.{headBytes, sizeOf}
-use Rattle.marker_session.specs.Marking.{called, calledLine, callOf}
+use Rattle.bank.specs.Lent.{lent}
 use Rattle.marker_session.proofs.Calls.{Readied, readied}
-use Rattle.marker_session.proofs.Texts.{coded-line, call-code}
+use Rattle.marker_session.proofs.Lines.{marked-call}
 use borrow.Author.Needs.{needs}
 use Rattle.marker_session.proofs.mark.mark_call.Statement.{statement}
 use Rattle.marker_session.proofs.mark.mark_call.Tie as tie
 
 -- the places of the body, from the last back to the first
 abbrev at-frame : tie.After-put-line → tie.After-frame-arrives
-at-frame c = c .before .before .before .before .before .before .before .before .before
+at-frame c = c .before .before .before .before .before .before .before .before .before .before .before
 
 abbrev at-behind : tie.After-frame-arrives → tie.After-behind
 at-behind c = c .before .before .before .before .before .before .before .before
 
 abbrev at-start : tie.After-behind → tie.Start
-at-start c = c .before .before .before .before .before .before
+at-start c = c .before .before .before .before .before .before .before
 
 ready : (c : tie.Start) → let a = c .args in Readied (a .m .calls) (drop (a .m .used) (a .input .now))
 ready c = readied _ _ (c .pre .0)
@@ -58,21 +56,21 @@ frame-arrives-requires : tie.Need-frame-arrives-requires
 frame-arrives-requires c κs = tt
 
 add-calls : tie.Need-add-calls
-add-calls c = omega (arith, ready (at-start (at-behind (c .before .before .before .before .before .before .before))) .count)
+add-calls c = omega (arith, ready (at-start (at-behind (c .before .before .before .before .before .before .before .before .before))) .count)
 
 put-line-requires : tie.Need-put-line-requires
 put-line-requires c κs =
-    let frame = c .before .before .before .before .before .before .before .before in
+    let frame = c .before .before .before .before .before .before .before .before .before .before in
     omega (arith, at-start (at-behind frame) .pre .1)
 
-add-t28 : tie.Need-add-t28
-add-t28 c = omega (arith, end-fits (at-behind (at-frame (c .before .before .before))))
+add-t29 : tie.Need-add-t29
+add-t29 c = omega (arith, end-fits (at-behind (at-frame (c .before .before))))
 
 size-of-requires : tie.Need-size-of-requires
-size-of-requires c κs = omega (arith, head-fits (at-behind (at-frame (c .before .before .before))))
+size-of-requires c κs = omega (arith, head-fits (at-behind (at-frame (c .before .before))))
 
-add-t30 : tie.Need-add-t30
-add-t30 c = omega (arith, c .size-of .ensures, end-fits (at-behind (at-frame (c .before .before .before .before))))
+add-t31 : tie.Need-add-t31
+add-t31 c = omega (arith, c .size-of .ensures, end-fits (at-behind (at-frame (c .before .before .before))))
 
 same-length : tie.Need-same-length
 same-length c = search needs
@@ -86,28 +84,21 @@ same-length-3 c = search needs
 same-length-4 : tie.Need-same-length-4
 same-length-4 c = search needs
 
+same-length-5 : tie.Need-same-length-5
+same-length-5 c = search needs
+
 returns : tie.Need-returns
-unfolding called calledLine callOf
 returns c =
-    let at-line = c .before .before .before .before in
-    let frame = at-line .before .before .before .before .before .before .before .before .before in
+    let at-line = c .before .before .before in
+    let frame = at-frame at-line in
     let at-read = frame .before .before .before .before in
     let at-time = at-read .before .before in
     let behind = at-time .before .before in
-    let code = call-code _ _ _ _ _ _ (frame .frame-arrives .ensures) in
-    let put = rw (coded-line _ _ _ _ code) at (at-line .put-line .ensures) in (
-      rw (
-        drop-drop,
-        ← behind .behind .ensures,
-        ← at-time .time-of .ensures,
-        ← at-read .frame-in .ensures,
-        ← c .size-of .ensures,
-        ← frame .frame-arrives .ensures,
-        put .bytes,
-        put .place,
-        add-assoc,
-      ),
-      omega (arith, c .size-of .ensures, end-within (at-behind frame)),
+    let a = at-start behind .args in (
+      marked-call (a .input .now) (lent (a .rows .now) (a .orders .now) (a .mailboxes .now)) (a .buffer .now) (a .output .now)
+          (a .m) _ (behind .behind .ensures) _ (at-time .time-of .ensures) _ (at-read .frame-in .ensures)
+          _ (c .size-of .ensures) _ (frame .frame-arrives .ensures) _ _ (at-line .put-line .ensures),
+      omega (arith, c .size-of .ensures, end-within behind),
     )
 
 pub mark-call-spec : {M : Type 1} → statement M
@@ -121,11 +112,12 @@ mark-call-spec =
     frame-arrives-requires
     add-calls
     put-line-requires
-    add-t28
+    add-t29
     size-of-requires
-    add-t30
+    add-t31
     same-length
     same-length-2
     same-length-3
     same-length-4
+    same-length-5
     returns)

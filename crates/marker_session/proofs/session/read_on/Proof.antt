@@ -5,16 +5,17 @@ use native.Mathlib.Omega.{arith}
 use lib.ListN.{length}
 use lib.Seq.{length-take-le}
 use borrow.Author.Needs.{needs}
+use Rattle.bank.specs.Lent.{lent}
 use Rattle.marker_session.proofs.Parts.{read-part}
 use Rattle.marker_session.proofs.session.read_on.Statement.{statement}
 use Rattle.marker_session.proofs.session.read_on.Tie as tie
 
 -- the places of the body, from the last back to the first
 abbrev at-mark : tie.After-write-lines-arg → tie.After-mark
-at-mark c = c .before .before .before .before .before .before .before .before .before
+at-mark c = c .before .before .before .before .before .before .before .before .before .before .before
 
 abbrev at-input : tie.After-mark → tie.After-input
-at-input c = c .before .before .before .before .before .before .before
+at-input c = c .before .before .before .before .before .before .before .before
 
 abbrev at-start : tie.After-input → tie.Start
 at-start c = c .before .before .before .before .before .before .before .before .before
@@ -58,18 +59,22 @@ same-length-4 c = search needs
 same-length-5 : tie.Need-same-length-5
 same-length-5 c = search needs
 
+same-length-6 : tie.Need-same-length-6
+same-length-6 c = search needs
+
 returns : tie.Need-returns
 returns c =
-    let keep = c .before .before .before in
+    let keep = c .before .before in
     let mark = at-mark (keep .before .before .before) in
     let input = at-input mark in
     let start = at-start input in
     let read = input .before .read-in in
     let a = start .args in (
       keep .before .before .write-lines .ensures,
-      read-part (a .t) (a .input .now) (a .orders .now) (a .mailboxes .now) (a .buffer .now) (a .output .now) (read .last .0) (read .result)
+      read-part (a .t) (a .input .now) (lent (a .rows .now) (a .orders .now) (a .mailboxes .now)) (a .buffer .now)
+          (a .output .now) (read .last .0) (read .result)
           (input .input .given) (start .pre .1) (start .pre .2) (read .ensures .0) (read .ensures .1)
-          (mark .mark .result) _ _ _ _ (mark .mark .ensures .0) _ _ refl refl (keep .keep .ensures),
+          (mark .mark .result) _ _ _ (mark .mark .ensures .0) _ _ refl (keep .keep .ensures),
     )
 
 pub read-on-spec : {M : Type 1} → statement M
@@ -88,4 +93,5 @@ read-on-spec =
     same-length-3
     same-length-4
     same-length-5
+    same-length-6
     returns)

@@ -4,6 +4,7 @@ use mathlib.Core.Path.{_≡_, sym}
 use native.Mathlib.Omega.{arith}
 use lib.ListN.{length, replicate, length-replicate}
 use Rattle.bank_state.specs.Limits.{storeBytes, replyRoom}
+use Rattle.bank_rows.specs.Layout.{stateSize}
 use Rattle.marker_session.specs.Lines.{headBytes}
 use Rattle.marker_session.specs.Marking.{linesIn}
 use Rattle.marker_session.specs.Session.{HasRoom, inputBytes, outputBytes}
@@ -24,19 +25,22 @@ slice-aggregate-print-all-2 : tie.Need-slice-aggregate-print-all-2
 slice-aggregate-print-all-2 c = zeros outputBytes
 
 slice-aggregate-print-all-3 : tie.Need-slice-aggregate-print-all-3
-slice-aggregate-print-all-3 c = zeros storeBytes
+slice-aggregate-print-all-3 c = zeros stateSize
 
 slice-aggregate-print-all-4 : tie.Need-slice-aggregate-print-all-4
 slice-aggregate-print-all-4 c = zeros storeBytes
 
 slice-aggregate-print-all-5 : tie.Need-slice-aggregate-print-all-5
-slice-aggregate-print-all-5 c = zeros replyRoom
+slice-aggregate-print-all-5 c = zeros storeBytes
+
+slice-aggregate-print-all-6 : tie.Need-slice-aggregate-print-all-6
+slice-aggregate-print-all-6 c = zeros replyRoom
 
 print-all-requires : tie.Need-print-all-requires
-print-all-requires c κs = has-room inputBytes outputBytes (omega arith)
+print-all-requires c κs = (has-room inputBytes outputBytes (omega arith), sym (zeros stateSize))
 
 returns : tie.Need-returns
-returns c = session-of _ _ _ _ _ (c .before .before .before .before .before .before .print-all .ensures)
+returns c = session-of _ _ _ _ (c .before .before .before .before .before .before .print-all .ensures)
 
 pub session-spec : {M : Type 1} → statement M
 session-spec =
@@ -47,5 +51,6 @@ session-spec =
     slice-aggregate-print-all-3
     slice-aggregate-print-all-4
     slice-aggregate-print-all-5
+    slice-aggregate-print-all-6
     print-all-requires
     returns)

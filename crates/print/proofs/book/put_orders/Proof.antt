@@ -3,7 +3,8 @@ use Prim.Native.Nat.{_-_}
 use native.Mathlib.Omega.{arith}
 use borrow.Author.Needs.{needs}
 use Rattle.bank_state.specs.Limits.{placeCount}
-use Rattle.print.specs.Book.{lineAt, orderColumnsRoom}
+use Rattle.bank_rows.specs.State.{bankOf}
+use Rattle.print.specs.Book.{lineAt, orderLine, orderColumnsRoom}
 use Rattle.print.proofs.Texts.{put-length}
 use Rattle.print.proofs.Rows.{Rows, rows-start, rows-left, rows-next, rows-end}
 use Rattle.print.proofs.Lengths.{order-most}
@@ -11,19 +12,17 @@ use Rattle.print.proofs.book.put_orders.Statement.{statement}
 use Rattle.print.proofs.book.put_orders.Tie as tie
 
 abbrev Inv-loop : tie.InvT-loop
-Inv-loop output₀ at b end₀ i₀ output end i = Rows (lineAt b) orderColumnsRoom placeCount output₀ at i output end
+Inv-loop output₀ at rows end₀ i₀ output end i =
+    Rows (lineAt (bankOf rows)) orderColumnsRoom placeCount output₀ at i output end
 
 abbrev μ-loop : tie.MeasureT-loop
-μ-loop output₀ at b end₀ i₀ output end i = placeCount - i
+μ-loop output₀ at rows end₀ i₀ output end i = placeCount - i
 
 loop-holds : tie.Need-loop-holds Inv-loop μ-loop
-loop-holds c = rows-start _ _ _ _ _ (c .before .pre)
+loop-holds c = rows-start _ _ _ _ _ (c .before .before .pre .0)
 
-mul-p : tie.Need-mul-p Inv-loop μ-loop
-mul-p c = search needs
-
-element-copy-out-p : tie.Need-element-copy-out-p Inv-loop μ-loop
-element-copy-out-p c = search needs
+place-at-requires : tie.Need-place-at-requires Inv-loop μ-loop
+place-at-requires c κs = search needs
 
 put-order-requires : tie.Need-put-order-requires Inv-loop μ-loop
 put-order-requires c κs = rows-left _ _ _ _ _ (c .before .before .before .loop .inv) (omega arith)
@@ -37,8 +36,9 @@ loop-less c = search needs
 loop-again : tie.Need-loop-again Inv-loop μ-loop
 loop-again c =
     let at-order = c .before .before in
-    let l = at-order .before .before .before .before .loop in
-    rows-next _ _ _ _ _ (l .inv) (omega arith) (order-most _) (at-order .put-order .ensures)
+    let at-place = at-order .before in
+    let l = at-place .before .before .before .loop in
+    rows-next _ _ _ _ _ (l .inv) (omega arith) (order-most _) (rw (← at-place .place-at .ensures) (at-order .put-order .ensures))
 
 same-length : tie.Need-same-length Inv-loop μ-loop
 same-length c = put-length (c .before .loop .inv .put)
@@ -53,8 +53,7 @@ put-orders-spec =
     Inv-loop
     μ-loop
     loop-holds
-    mul-p
-    element-copy-out-p
+    place-at-requires
     put-order-requires
     add-i
     loop-less
