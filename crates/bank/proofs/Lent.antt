@@ -162,10 +162,10 @@ withRows c rows = record {
 }
 
 module _ (s o m : List ℕ) (l : Laid s) (time : ℕ) where
-  abbrev old : BankState
+  abbrev pub old : BankState
   old = bankState (bankOf s) o m
 
-  advanced-within : Within s (advanced time old .bank)
+  pub advanced-within : Within s (advanced time old .bank)
   unfolding advanced
   advanced-within = within-drops s placeCount _ (within-at-clock s _ (within-own s l))
 

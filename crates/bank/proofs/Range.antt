@@ -7,7 +7,7 @@ use native.Mathlib.Omega.{arith}
 use lib.Dec.{eqb}
 use lib.ListN.{length, getD, set}
 use lib.Seq.{getD-set-other}
-use borrow.Author.Tests.{eqb-false, not-true}
+use borrow.Author.Tests.{eqb-true, eqb-false, not-true}
 use Rattle.frame_table.specs.declared.fields.Fields.{Fields}
 use Rattle.frame_table.specs.Names.{subscriber, segment}
 use Rattle.octets.proofs.Tests.{never, and-true}
@@ -189,6 +189,21 @@ emptied-range {b} r s h o m =
     let apart = eqb-false (e .subscriber) s (not-true _ (and-true (e .used) (not (eqb (e .subscriber) s)) g .1)) in
     let other = getD-set-other (b .files) (s - 1) (e .subscriber - 1) 0 0 (λ x. apart (omega (arith, r .known k u))) in
     rw other (r .within k u)))
+
+-- a file goes into an empty mailbox
+pub stored-range : {b : Bank} → InRange b → (s n : ℕ) → n ≤ fileBytes → fileLength s (b .files) ≡ 0
+    → InRange (withFiles (set (b .files) (s - 1) n) b)
+unfolding fileLength segmentsOf
+stored-range {b} r s n h free = file-range r s n h (λ i u. by i u (eqb (downloadAt b i .subscriber - 1) (s - 1)) refl)
+  where
+    by : (i : ℕ) → downloadAt b i .used ≡ true → (t : Bool) → eqb (downloadAt b i .subscriber - 1) (s - 1) ≡ t
+        → downloadAt b i .delivered ≤ segmentsOf (fileLength (downloadAt b i .subscriber) (set (b .files) (s - 1) n))
+    by i u true e =
+        let same = eqb-true (downloadAt b i .subscriber - 1) (s - 1) e in
+        omega (arith, r .within i u, ap (λ (j : ℕ). getD (b .files) j 0) same, free)
+    by i u false e =
+        rw (getD-set-other (b .files) (s - 1) (downloadAt b i .subscriber - 1) n 0
+        (eqb-false (downloadAt b i .subscriber - 1) (s - 1) e)) (r .within i u)
 
 -- ---- every request
 
