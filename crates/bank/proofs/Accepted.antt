@@ -17,7 +17,8 @@ use Rattle.bank_state.specs.State.{fileLength}
 use Rattle.message.proofs.Verdicts.{all-failed}
 use Rattle.bank_verdicts.specs.Refusals.{noSubscriber}
 use Rattle.bank.specs.declared.mailbox.FileAnswer.{FileAnswer}
-use Rattle.bank.specs.declared.mailbox.FileAnswer.the-variants.{Done, WrongLength, NoMailbox, WrongFile, MailboxFull}
+use Rattle.bank.specs.declared.mailbox.FileAnswer.the-variants.{Done, WrongLength, NoMailbox}
+use Rattle.bank.specs.declared.mailbox.FileAnswer.the-variants.{WrongFile, MailboxFull}
 use Rattle.bank.specs.Mailbox.{fileRefusals}
 
 -- a number of a subscriber, or of a mailbox

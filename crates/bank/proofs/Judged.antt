@@ -31,7 +31,8 @@ module _ (first : ℕ) (b : Bank) (q : Fields) (n : ℕ) (P : Verdict → Type 0
     (refused : (c : ReturnCode) → P (verdict.Refused c))
     (opening : Readable q n → (dir : Direction) (v : Verdict) → OpeningSound first b q dir v
     → judgeOpening dir first b q ≡ v → P v)
-    (upload : Readable q n → (r : TransactionRequest) → uploadAt b q < placeCount → P (uploadVerdict r (uploadAt b q) b q))
+    (upload : Readable q n → (r : TransactionRequest) → uploadAt b q < placeCount
+    → P (uploadVerdict r (uploadAt b q) b q))
     (download : Readable q n → (r : TransactionRequest) → downloadOf b q < placeCount
     → P (downloadVerdict r (downloadOf b q) b q)) where
   -- where no upload is found, a download is

@@ -45,7 +45,8 @@ module _ (m : Lent) (a : FrameInput) (sound : isSound (m .rows) ≡ true) where
   frame-held =
       let v = advanced (a .time) (stateOf m) in
       by-test (λ (c : FrameCall). Held (c .bankState .bank)) (lentRight (stateOf m) (a .ids) (a .buffer))
-      (λ _. held-judged (v .bank) held (readRequest (a .frame)) (v .orders) (v .mailboxes) (dataOf (a .frame)) (number (a .ids)))
+      (λ _. held-judged (v .bank) held (readRequest (a .frame)) (v .orders) (v .mailboxes) (dataOf (a .frame))
+      (number (a .ids)))
       (λ _. held-rows (m .rows) laid)
 
   pub frame-range : InRange (after .bank)
@@ -54,7 +55,8 @@ module _ (m : Lent) (a : FrameInput) (sound : isSound (m .rows) ≡ true) where
       let v = advanced (a .time) (stateOf m) in
       let r = advanced-range (a .time) (stateOf m) (sound-range (m .rows) sound) in
       by-test (λ (c : FrameCall). InRange (c .bankState .bank)) (lentRight (stateOf m) (a .ids) (a .buffer))
-      (λ _. range-judged (v .bank) held r (readRequest (a .frame)) (v .orders) (v .mailboxes) (dataOf (a .frame)) (number (a .ids)))
+      (λ _. range-judged (v .bank) held r (readRequest (a .frame)) (v .orders) (v .mailboxes) (dataOf (a .frame))
+      (number (a .ids)))
       (λ _. sound-range (m .rows) sound)
 
   -- the next call finds a bank's rows
@@ -71,6 +73,9 @@ module _ (m : Lent) (a : FrameInput) (sound : isSound (m .rows) ≡ true) where
 -- ---- a file goes into a mailbox
 
 module _ (s : List ℕ) (mailbox : ℕ) (file mailboxes : List ℕ) (sound : isSound s ≡ true) where
+  abbrev left : Bank
+  left = fileCall (bankOf s) mailbox file mailboxes .bank
+
   abbrev judged : FileAnswer
   judged = decide (fileRefusals (bankOf s) mailbox file mailboxes) answers.Done
 
@@ -84,7 +89,7 @@ module _ (s : List ℕ) (mailbox : ℕ) (file mailboxes : List ℕ) (sound : isS
   held-by answers.WrongFile = own
   held-by answers.MailboxFull = own
 
-  pub file-held : Held (fileCall (bankOf s) mailbox file mailboxes .bank)
+  pub file-held : Held left
   unfolding fileCall
   file-held = held-by judged
 
@@ -97,14 +102,14 @@ module _ (s : List ℕ) (mailbox : ℕ) (file mailboxes : List ℕ) (sound : isS
   range-by answers.WrongFile told = sound-range s sound
   range-by answers.MailboxFull told = sound-range s sound
 
-  pub file-range : InRange (fileCall (bankOf s) mailbox file mailboxes .bank)
+  pub file-range : InRange left
   unfolding fileCall
   file-range = range-by judged refl
 
   pub file-sound : isSound (lentFileCall s mailbox file mailboxes .rows) ≡ true
   unfolding lentFileCall
-  file-sound = rw sound (stored-sound (fileCall (bankOf s) mailbox file mailboxes .bank) s file-held (sound-laid s sound) file-range)
+  file-sound = rw sound (stored-sound left s file-held (sound-laid s sound) file-range)
 
-  pub file-state : bankOf (lentFileCall s mailbox file mailboxes .rows) ≡ fileCall (bankOf s) mailbox file mailboxes .bank
+  pub file-state : bankOf (lentFileCall s mailbox file mailboxes .rows) ≡ left
   unfolding lentFileCall
-  file-state = rw sound (stored-back (fileCall (bankOf s) mailbox file mailboxes .bank) file-held s (sound-laid s sound))
+  file-state = rw sound (stored-back left file-held s (sound-laid s sound))
