@@ -1,4 +1,5 @@
--- A run's transaction ID is 16 bytes, over every list of events that bring bytes: it is read from a reply. Assumes nothing.
+-- A run's transaction ID is 16 bytes, over every list of events that bring bytes: it is read from a reply.
+-- Assumes nothing.
 use Prim.Native.Nat.{ℕ, _+_, _*_, _^_, _<_}
 use mathlib.Core.Bool.{Bool, true, false}
 use mathlib.Core.List.{List, [], _∷_}
@@ -32,7 +33,8 @@ use Rattle.client_history.proofs.NextRuns.{held-same, learned-transacti
 
 -- ---- what is read
 
-number-wide : (f : Fields) (d : List ℕ) → number (contentOf transactionTag f d) < 256 ^ 16 → FieldWritable transactionTag f d
+number-wide : (f : Fields) (d : List ℕ) → number (contentOf transactionTag f d) < 256 ^ 16
+    → FieldWritable transactionTag f d
     → Wide (transaction f)
 unfolding highOf lowOf
 number-wide f d n w =
@@ -42,7 +44,8 @@ number-wide f d n w =
       subst (λ (y : ℕ). y < 2 ^ 64) (w .low) (mod-lt x some),
     )
 
-content-small : (f : Fields) (d : List ℕ) (b : Bool) → has (f .tags) transactionTag ≡ b → number (contentOf transactionTag f d) < 256 ^ 16
+content-small : (f : Fields) (d : List ℕ) (b : Bool) → has (f .tags) transactionTag ≡ b
+    → number (contentOf transactionTag f d) < 256 ^ 16
 unfolding width
 content-small f d true e =
     let x = getD (f .high) transactionTag 0 * 2 ^ 64 + getD (f .low) transactionTag 0 in
@@ -54,7 +57,8 @@ unfolding readReply
 wide-at s b true e =
     let f = parse s in
     let all = parsed-says s (reply-form (form f) e) b .1 in
-    let w = field-writable transactionTag f (dataOf s) (writable-at f (dataOf s) tagCount 0 transactionTag all (omega arith) .0) in
+    let w = field-writable transactionTag f (dataOf s)
+    (writable-at f (dataOf s) tagCount 0 transactionTag all (omega arith) .0) in
     rw e (number-wide f (dataOf s) (content-small f (dataOf s) (has (f .tags) transactionTag) refl) w)
 wide-at s b false e = rw e (omega arith, omega arith)
 
