@@ -9,7 +9,7 @@ use Rattle.client.specs.declared.run.Direction.{Direction}
 use Rattle.client.specs.declared.run.Direction.the-variants.{Upload, Download}
 use Rattle.client.specs.NextRun.{isNew, holding}
 
--- a newly held segment is the next behind those held
+-- a newly held segment is the next after those held
 pub new-next : (direction : Direction) (c : Client) → isNew direction c ≡ true → c .segment ≡ c .held + 1
 new-next Upload c h = never h
 new-next Download c h = eqb-true (c .segment) (c .held + 1) h

@@ -49,7 +49,7 @@ unfoldable pub issued : Client → Client → List ℕ → Lent → ClientCall
 issued c next file l =
     callOf (outcomeOf (isWritten next l) c next) (ifWritten (isWritten next l) file (l .file)) (requestWith next l)
 
--- the segment that the run k has outstanding is answered with the data d: held, and the request behind it issued
+-- the segment that the run k has outstanding is answered with the data d: held, and the request after it issued
 unfoldable pub taken : Client → Client → List ℕ → Lent → ClientCall
 taken c k d l = issued c (goOn (k .segment) (k .repeats) (holding (length d) k)) (fileWith k d (l .file)) l
 

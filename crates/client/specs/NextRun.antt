@@ -42,15 +42,15 @@ begun params n = record {
   receipted = false;
 }
 
--- the step behind segment k: the receipt where a download has them all, else segment k + 1
-abbrev pub stepBehind : Direction → ℕ → ℕ → Step
-stepBehind Upload k n = step.Segment
-stepBehind Download k n = cond (eqb k n) step.Receipt step.Segment
+-- the step after segment k: the receipt where a download has them all, else segment k + 1
+abbrev pub stepAfter : Direction → ℕ → ℕ → Step
+stepAfter Upload k n = step.Segment
+stepAfter Download k n = cond (eqb k n) step.Receipt step.Segment
 
--- a receipt is issued behind the last segment of a download
-abbrev pub receiptsBehind : Direction → ℕ → ℕ → Bool
-receiptsBehind Upload k n = false
-receiptsBehind Download k n = eqb k n
+-- a receipt is issued after the last segment of a download
+abbrev pub receiptsAfter : Direction → ℕ → ℕ → Bool
+receiptsAfter Upload k n = false
+receiptsAfter Download k n = eqb k n
 
 -- the run whose request after segment k is outstanding, with this many repeats:
 -- "Each request takes the next exchange number"
@@ -58,7 +58,7 @@ unfoldable pub goOn : ℕ → ℕ → Client → Client
 goOn k repeats c = record {
   stage = c .stage;
   direction = c .direction;
-  step = stepBehind (c .direction) k (c .segments);
+  step = stepAfter (c .direction) k (c .segments);
   subscriber = c .subscriber;
   exchange = c .exchange + 1;
   repeats = repeats;
@@ -69,7 +69,7 @@ goOn k repeats c = record {
   segment = k + 1;
   issued = max (c .issued) (k + 1);
   held = c .held;
-  receipted = c .receipted || receiptsBehind (c .direction) k (c .segments);
+  receipted = c .receipted || receiptsAfter (c .direction) k (c .segments);
 }
 
 -- the same request again under a new exchange number

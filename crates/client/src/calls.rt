@@ -129,7 +129,7 @@ fn issue(
     outcome_of(w, c, next)
 }
 
-// The segment that the run k has outstanding is answered with the data d: it is held, and the request behind it issued.
+// The segment that the run k has outstanding is answered with the data d: it is held, and the request after it issued.
 fn take_segment(
     c: Client,
     k: Client,

@@ -192,7 +192,7 @@ fn fits_segment(s: u64, n: u64, d: usize, r: Fields) -> bool
     fits_data(s, n, d)
 }
 
-// The phase of a recovery point behind a segment; it is 1 behind segment `first` alone.
+// The phase of a recovery point after a segment; it is 1 after segment `first` alone.
 fn point_phase(segment: u64, first: u64) -> u64
     ensures { λ p. ⌜ p ≡ cond (eqb segment first) initialisationPhase transferPhase ⌝ }
 {

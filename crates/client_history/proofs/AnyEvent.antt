@@ -1,5 +1,5 @@
--- What any event, fair or not, makes of a run and its issues: nothing, a begin, the next request issued, or the run's end.
--- Assumes nothing.
+-- What any event, fair or not, makes of a run and its issues: nothing, a begin, the next request issued, or the run's
+-- end. Assumes nothing.
 use Prim.Native.Nat.{ℕ}
 use mathlib.Core.List.{List, [], _∷_}
 use mathlib.Core.Path.{_≡_, refl}

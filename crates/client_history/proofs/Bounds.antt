@@ -1,5 +1,6 @@
--- "An upload issues at most 6N + 1 requests, a download 6N + 6 (N is 0 while unknown), on any replies": over every list of
--- events, whatever they bring and are lent. Each event keeps the bounds, as each step keeps the course. Assumes nothing.
+-- "An upload issues at most 6N + 1 requests, a download 6N + 6 (N is 0 while unknown), on any replies": over every list
+-- of events, whatever they bring and are lent. Each event keeps the bounds, as each step keeps the course.
+-- Assumes nothing.
 use Prim.Native.Nat.{ℕ, _+_, _≤_}
 use mathlib.Core.Bool.{true}
 use mathlib.Core.List.{List, [], _∷_, List·Memᴰ as In, List·Memᴰ·head as here, List·Memᴰ·tail as there}
@@ -159,7 +160,8 @@ bounds (e ∷ es) = bounds-kept (pastOf es) e (bounds es)
 
 -- ---- the results
 
-most-by : {c : Client} {issues : List Issue} → Bounds c issues → length issues ≤ maxRequests (c .direction) (c .segments)
+most-by : {c : Client} {issues : List Issue} → Bounds c issues
+    → length issues ≤ maxRequests (c .direction) (c .segments)
 most-by (fresh e z) = omega (arith, ap length z)
 most-by {c} {issues} (going b) = course-most c (length issues) (b .course) (b .repeats)
 
@@ -214,7 +216,7 @@ pub all-held : (es : List Event) → pastOf es .run .direction ≡ Download → 
     → pastOf es .run .held ≡ pastOf es .run .segments
 all-held es w s = held-by w s (bounds es)
 
--- the two guards of a download's replies tell nothing in a run from a begin: at most 15 segments are held, and asked for
+-- the guards of a download's replies tell nothing in a run from a begin: at most 15 segments are held, and asked for
 guards-by : {c : Client} {issues : List Issue} → c .direction ≡ Download → Bounds c issues
     → (c .held ≤ maxSegments) × (c .step ≡ step.Segment → c .segment ≤ maxSegments)
 guards-by w (fresh e z) = not-both (ap (λ (k : Client). k .direction) e) w

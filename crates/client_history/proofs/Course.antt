@@ -18,7 +18,7 @@ use Rattle.client.specs.declared.run.Direction.the-variants.{Upload, Download}
 use Rattle.client.specs.declared.run.Step.{Step}
 use Rattle.client.specs.declared.run.Step.the-variants as step
 use Rattle.client.specs.declared.run.Word.{Word}
-use Rattle.client.specs.NextRun.{begun, stepBehind, goOn, repeated, learned, isNew, holding, ended}
+use Rattle.client.specs.NextRun.{begun, stepAfter, goOn, repeated, learned, isNew, holding, ended}
 use Rattle.client.specs.Run.{parametersOf}
 use Rattle.client.proofs.Apart.{not-both, not-opening-segment, not-opening-receipt, not-segment-receipt}
 use Rattle.client.proofs.Causes.{OpensDownload}
@@ -47,15 +47,16 @@ pub up-segments : (c : Client) (q : ℕ) → UploadCourse c q → (1 ≤ c .segm
 unfolding segmentsOf
 up-segments c q u = (omega (arith, u .count, u .some, u .most), omega (arith, u .count, u .some, u .most))
 
--- the request behind segment s issued, as the p-th repeat or return
-pub up-go : (c : Client) (q s p : ℕ) → UploadCourse c q → s < c .segments → s ≤ c .issued → q ≤ 1 + s + p * c .segments → UploadCourse (goOn s p c) (q + 1)
+-- the request after segment s issued, as the p-th repeat or return
+pub up-go : (c : Client) (q s p : ℕ) → UploadCourse c q → s < c .segments → s ≤ c .issued → q ≤ 1 + s + p * c .segments
+    → UploadCourse (goOn s p c) (q + 1)
 unfolding goOn
 up-go c q s p u below near few = record {
   direction = u .direction;
   some = u .some;
   most = u .most;
   count = u .count;
-  place = inr (ap (λ (direction : Direction). stepBehind direction s (c .segments)) (u .direction), omega arith);
+  place = inr (ap (λ (direction : Direction). stepAfter direction s (c .segments)) (u .direction), omega arith);
   known = omega arith;
   within = omega (arith, u .within);
   requests = omega arith;
@@ -65,7 +66,8 @@ at-opening : (at : Step) (s : ℕ) → at ≡ step.Opening → UploadPlace at s 
 at-opening at s o (inl p) = p .1
 at-opening at s o (inr p) = not-opening-segment o (p .0)
 
-pub up-learned : (c : Client) (q : ℕ) (r : Fields) → UploadCourse c q → c .step ≡ step.Opening → UploadCourse (learned Upload r c) q
+pub up-learned : (c : Client) (q : ℕ) (r : Fields) → UploadCourse c q → c .step ≡ step.Opening
+    → UploadCourse (learned Upload r c) q
 up-learned c q r u s = record {
   direction = u .direction;
   some = u .some;
@@ -109,20 +111,21 @@ up-most c q u h = omega (arith, u .requests, u .known, u .within, mul-le-mul-rig
 
 -- ---- downloads
 
-place-behind : (k n : ℕ) → k ≤ n → DownloadPlace (stepBehind Download k n) (k + 1) n
-place-behind k n h =
+place-after : (k n : ℕ) → k ≤ n → DownloadPlace (stepAfter Download k n) (k + 1) n
+place-after k n h =
     by-test (λ (at : Step). DownloadPlace at (k + 1) n) (eqb k n)
     (λ e. inr (refl, ap (λ (m : ℕ). m + 1) (eqb-true k n e)))
     (λ e. inl (refl, (let d = eqb-false k n e in omega arith)))
 
--- the request behind segment s issued, as the p-th repeat or return
-pub down-go : (c : Client) (q s p : ℕ) → SegmentsKnown c → s ≤ c .held → q ≤ s + p * (c .segments + 1) → DownloadCourse (goOn s p c) (q + 1)
+-- the request after segment s issued, as the p-th repeat or return
+pub down-go : (c : Client) (q s p : ℕ) → SegmentsKnown c → s ≤ c .held → q ≤ s + p * (c .segments + 1)
+    → DownloadCourse (goOn s p c) (q + 1)
 unfolding goOn
 down-go c q s p k near few = record {
   known = record { direction = k .direction; some = k .some; most = k .most; within = k .within };
   first = omega arith;
   next = omega arith;
-  place = rw (k .direction) (place-behind s (c .segments) (omega (arith, k .within)));
+  place = rw (k .direction) (place-after s (c .segments) (omega (arith, k .within)));
   requests = omega arith;
 }
 
@@ -132,19 +135,28 @@ pub record Holds (c h : Client) : Type 0 where
   pub same : h .segments ≡ c .segments
   pub held : c .segment ≤ h .held
 
-holds-at : (c : Client) (d : ℕ) (b : Bool) → isNew (c .direction) c ≡ b → SegmentsKnown c → c .segment ≤ c .segments → c .segment ≤ c .held + 1
+holds-at : (c : Client) (d : ℕ) (b : Bool) → isNew (c .direction) c ≡ b → SegmentsKnown c → c .segment ≤ c .segments
+    → c .segment ≤ c .held + 1
     → Holds c (holding d c)
 unfolding holding
 holds-at c d true e k m n = rw e (record {
-  known = record { direction = k .direction; some = k .some; most = k .most; within = omega (arith, new-next (c .direction) c e) };
+  known =
+      record {
+        direction = k .direction;
+        some = k .some;
+        most = k .most;
+        within = omega (arith, new-next (c .direction) c e);
+      };
   same = refl;
   held = n;
 })
 holds-at c d false e k m n =
-    let old = eqb-false (c .segment) (c .held + 1) (sym (ap (λ (direction : Direction). isNew direction c) (k .direction)) ∙ e) in
+    let old = eqb-false (c .segment) (c .held + 1)
+    (sym (ap (λ (direction : Direction). isNew direction c) (k .direction)) ∙ e) in
     rw e (record { known = k; same = refl; held = omega arith })
 
-pub holds : (c : Client) (d : ℕ) → SegmentsKnown c → c .segment ≤ c .segments → c .segment ≤ c .held + 1 → Holds c (holding d c)
+pub holds : (c : Client) (d : ℕ) → SegmentsKnown c → c .segment ≤ c .segments → c .segment ≤ c .held + 1
+    → Holds c (holding d c)
 holds c d k m n = holds-at c d (isNew (c .direction) c) refl k m n
 
 -- the outstanding segment answered
@@ -162,7 +174,8 @@ down-opened c q d r o h =
     let k = learned Download r c in
     let n = segments r in
     let repeats : c .repeats * 1 ≤ c .repeats * (n + 1) = mul-le-mul-left (c .repeats) (omega arith) in
-    let known : SegmentsKnown k = record { direction = o .direction; some = h .some; most = h .most; within = omega (arith, o .none) } in
+    let known : SegmentsKnown k =
+    record { direction = o .direction; some = h .some; most = h .most; within = omega (arith, o .none) } in
     down-taken k q d (c .repeats) known (h .some) (omega arith) (omega (arith, o .requests, mul-one (c .repeats)))
 
 down-place : (at : Step) (s n : ℕ) → DownloadPlace at s n → s ≤ n + 1
@@ -177,10 +190,16 @@ down-transfer c q d e = at (d .place)
     at (inl p) = p .1
     at (inr p) = not-segment-receipt e (p .0)
 
-pub down-returned : (c : Client) (q s : ℕ) → DownloadCourse c q → s ≤ c .held → DownloadCourse (goOn s (c .repeats + 1) c) (q + 1)
+pub down-returned : (c : Client) (q s : ℕ) → DownloadCourse c q → s ≤ c .held
+    → DownloadCourse (goOn s (c .repeats + 1) c) (q + 1)
 down-returned c q s d h =
     down-go c q s (c .repeats + 1) (d .known) h
-    (omega (arith, d .requests, down-place (c .step) (c .segment) (c .segments) (d .place), more (c .repeats) (c .segments + 1)))
+    (omega (
+      arith,
+      d .requests,
+      down-place (c .step) (c .segment) (c .segments) (d .place),
+      more (c .repeats) (c .segments + 1),
+    ))
 
 pub down-repeated : (c : Client) (q : ℕ) → DownloadCourse c q → DownloadCourse (repeated c) (q + 1)
 unfolding repeated
@@ -207,11 +226,18 @@ down-ended c q w d =
 pub opening-repeated : (c : Client) (q : ℕ) → OpeningCourse c q → OpeningCourse (repeated c) (q + 1)
 unfolding repeated
 opening-repeated c q o =
-    record { direction = o .direction; at = o .at; unknown = o .unknown; none = o .none; requests = omega (arith, o .requests) }
+    record {
+      direction = o .direction;
+      at = o .at;
+      unknown = o .unknown;
+      none = o .none;
+      requests = omega (arith, o .requests);
+    }
 
 pub opening-ended : (c : Client) (q : ℕ) (w : Word) → OpeningCourse c q → OpeningCourse (ended w c) q
 unfolding ended
-opening-ended c q w o = record { direction = o .direction; at = o .at; unknown = o .unknown; none = o .none; requests = o .requests }
+opening-ended c q w o =
+    record { direction = o .direction; at = o .at; unknown = o .unknown; none = o .none; requests = o .requests }
 
 -- "a download 6N + 6"
 pub down-most : (c : Client) (q : ℕ) → DownloadCourse c q → c .repeats ≤ 5 → q ≤ 6 * c .segments + 6
@@ -248,7 +274,8 @@ course-segments c q (opening o) = omega (arith, o .unknown)
 course-segments c q (downloading d) = d .known .most
 
 -- at the receipt of a download all segments are held
-pub receipt-held : (c : Client) (q : ℕ) → Course c q → c .direction ≡ Download → c .step ≡ step.Receipt → c .held ≡ c .segments
+pub receipt-held : (c : Client) (q : ℕ) → Course c q → c .direction ≡ Download → c .step ≡ step.Receipt
+    → c .held ≡ c .segments
 receipt-held c q (uploading u) w s = not-both (u .direction) w
 receipt-held c q (opening o) w s = not-opening-receipt (o .at) s
 receipt-held c q (downloading d) w s = at (d .place)
@@ -267,7 +294,8 @@ course-guards c q (downloading d) w =
 
 -- ---- a run as begun
 
-pub up-start : (subscriber first n : ℕ) → 1 ≤ n → n ≤ fileBytes → Course (begun (parametersOf Upload subscriber first) n) 1
+pub up-start : (subscriber first n : ℕ) → 1 ≤ n → n ≤ fileBytes
+    → Course (begun (parametersOf Upload subscriber first) n) 1
 unfolding begun
 up-start subscriber first n some most = uploading (record {
   direction = refl;
@@ -282,4 +310,5 @@ up-start subscriber first n some most = uploading (record {
 
 pub opening-start : (subscriber first : ℕ) → Course (begun (parametersOf Download subscriber first) 0) 1
 unfolding begun segmentsOf
-opening-start subscriber first = opening (record { direction = refl; at = refl; unknown = refl; none = refl; requests = omega arith })
+opening-start subscriber first =
+    opening (record { direction = refl; at = refl; unknown = refl; none = refl; requests = omega arith })

@@ -1,5 +1,5 @@
--- The run that a decision leaves where its request is written: what it has of the run before, and that it keeps the course.
--- Assumes nothing.
+-- The run that a decision leaves where its request is written: what it has of the run before, and that it keeps the
+-- course. Assumes nothing.
 use Prim.Native.Nat.{ℕ, _+_, _*_, _≤_}
 use mathlib.Core.Logic.{_⊎_, inl, inr}
 use mathlib.Core.Path.{_≡_, refl, ap, _∙_}
@@ -85,7 +85,8 @@ goes-next k repeats h c s = record {
   exchange = ap (λ (x : ℕ). x + 1) (s .exchange);
 }
 
-pub next-of : (decision : Decision) → Issuing decision → (c : Client) (r : Fields) (d : ℕ) → Next (nextOf decision c r d) c
+pub next-of : (decision : Decision) → Issuing decision → (c : Client) (r : Fields) (d : ℕ)
+    → Next (nextOf decision c r d) c
 unfolding repeated
 next-of Ignore i c r d = absurd i
 next-of Opened i c r d =
@@ -123,7 +124,8 @@ next-repeats (Close w) i c r d k few = absurd i
 
 -- ---- the course
 
-not-opening : {A : Type 0} (c : Client) → c .step ≡ step.Opening → (c .step ≡ step.Segment) ⊎ (c .step ≡ step.Receipt) → A
+not-opening : {A : Type 0} (c : Client) → c .step ≡ step.Opening → (c .step ≡ step.Segment) ⊎ (c .step ≡ step.Receipt)
+    → A
 not-opening c o (inl s) = not-opening-segment o s
 not-opening c o (inr s) = not-opening-receipt o s
 

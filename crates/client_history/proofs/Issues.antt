@@ -1,6 +1,14 @@
--- What a run of either direction keeps: exchange numbers, the newest issue, and that a reply that counts answers the outstanding request.
+-- What a run of either direction keeps: exchange numbers, the newest issue, and that a reply that counts answers the
+-- outstanding request.
 use Prim.Native.Nat.{ℕ, _+_, _<_}
-use mathlib.Core.List.{List, _∷_, List·Memᴰ as In, List·Memᴰ·head as here, List·Memᴰ·tail as there, List·Memᴰ·not-nil as in-none}
+use mathlib.Core.List.{
+  List,
+  _∷_,
+  List·Memᴰ as In,
+  List·Memᴰ·head as here,
+  List·Memᴰ·tail as there,
+  List·Memᴰ·not-nil as in-none,
+}
 use mathlib.Core.Path.{_≡_, refl, sym, ap, _∙_, subst}
 use native.Mathlib.Omega.{arith}
 use Rattle.frame_table.specs.declared.fields.Bits128.{Bits128}
@@ -41,7 +49,8 @@ one-number (more a b c) (there m) (here j) e =
     absurd (let i = below c m in let h = ap (λ (z : Issue). exchange (z .request)) j in omega arith)
 one-number (more a b c) (there m) (there k) e = one-number c m k e
 
-older-below : {first n : ℕ} {l : List Issue} {y x : Issue} → Numbered first (n + 1) (y ∷ l) → In x l → exchange (x .request) < n
+older-below : {first n : ℕ} {l : List Issue} {y x : Issue} → Numbered first (n + 1) (y ∷ l) → In x l
+    → exchange (x .request) < n
 older-below (more e f k) m = let j = below k m in omega arith
 
 -- ---- the end of a run changes no request
@@ -59,7 +68,8 @@ module _ (w : Word) (c : Client) (time : ℕ) (nonce payload : List ℕ) where
   download-ended step.Segment = refl
   download-ended step.Receipt = refl
 
-  request-ended : (direction : Direction) → requestBy direction (ended w c) time nonce ≡ requestBy direction c time nonce
+  request-ended : (direction : Direction)
+      → requestBy direction (ended w c) time nonce ≡ requestBy direction c time nonce
   unfolding ended
   request-ended Upload = upload-ended (c .step)
   request-ended Download = download-ended (c .step)
@@ -103,9 +113,12 @@ module _ (Given : Fields → List ℕ → Fields → List ℕ → Type 0) where
         n = b .newest
 
         same : exchange (a .issue .request) ≡ p .run .exchange
-        same = let k = is-answer (p .run) r (a .answers) in sym (bank .sameExchange (a .given) (k .reply) (k .readable)) ∙ k .number
+        same =
+            let k = is-answer (p .run) r (a .answers) in sym
+            (bank .sameExchange (a .given) (k .reply) (k .readable)) ∙ k .number
 
-        go : In (a .issue) (issueOf (p .run) (p .payload) (p .file) (n .time) (n .nonce) ∷ n .older) → Answered Given p r d
+        go : In (a .issue) (issueOf (p .run) (p .payload) (p .file) (n .time) (n .nonce) ∷ n .older)
+            → Answered Given p r d
         go (here e) = record {
           time = n .time;
           nonce = n .nonce;
@@ -113,11 +126,13 @@ module _ (Given : Fields → List ℕ → Fields → List ℕ → Type 0) where
           given = subst (λ (x : Issue). Given (x .request) (x .requestData) r d) e (a .given);
         }
         go (there m) =
-            let k = older-below (subst (Numbered (b .bounded .first) (p .run .exchange + 1)) (n .are) (b .bounded .numbers)) m in
+            let k = older-below
+            (subst (Numbered (b .bounded .first) (p .run .exchange + 1)) (n .are) (b .bounded .numbers)) m in
             absurd (omega (arith, same))
 
   -- it was got by the outstanding request
-  abbrev pub got : {p : Past} {r : Fields} {d : List ℕ} {x y : Form} {c : ReturnCode} {phase : ℕ} → (a : Answered Given p r d)
+  abbrev pub got : {p : Past} {r : Fields} {d : List ℕ} {x y : Form} {c : ReturnCode} {phase : ℕ}
+      → (a : Answered Given p r d)
       → form (outstanding (p .run) (a .time) (a .nonce)) ≡ x → Says y c phase r → Got Given (p .issues) x y c
   got {p} {r} {d} a f s = record {
     issue = issueOf (p .run) (p .payload) (p .file) (a .time) (a .nonce);
@@ -131,7 +146,8 @@ module _ (Given : Fields → List ℕ → Fields → List ℕ → Type 0) where
   }
 
   -- and stays so as more is issued
-  abbrev pub got-in : {l m : List Issue} {x y : Form} {c : ReturnCode} → ((i : Issue) → In i l → In i m) → Got Given l x y c
+  abbrev pub got-in : {l m : List Issue} {x y : Form} {c : ReturnCode} → ((i : Issue) → In i l → In i m)
+      → Got Given l x y c
       → Got Given m x y c
   got-in f g = record {
     issue = g .issue;

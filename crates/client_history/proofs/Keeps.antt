@@ -46,7 +46,8 @@ use Rattle.client_history.proofs.Downloads
 use Rattle.client_history.proofs.Issues.{newest-issued, newest-ended, answered}
 use Rattle.client_history.proofs.Uploads
 
-module _ (Given : Fields → List ℕ → Fields → List ℕ → Type 0) (fileAt : Bits128 → List ℕ) (bank : BankReplies Given fileAt) where
+module _ (Given : Fields → List ℕ → Fields → List ℕ → Type 0) (fileAt : Bits128 → List ℕ)
+    (bank : BankReplies Given fileAt) where
   abbrev Inv : Past → Type 0
   Inv = Invariant Given fileAt
 
@@ -121,7 +122,8 @@ module _ (Given : Fields → List ℕ → Fields → List ℕ → Type 0) (fileA
   begins : (p : Past) (direction : Direction) (s first : ℕ) (l : Lent) → p .issues ≡ []
       → let params = parametersOf direction s first in
       let q =
-      issuing (begun params (beginLength direction (lengthsOf l))) (l .payload) (l .file) (l .time) (l .nonce) (p .issues)
+      issuing (begun params (beginLength direction (lengthsOf l))) (l .payload) (l .file) (l .time) (l .nonce)
+      (p .issues)
       in Serves direction (lengthsOf l) → Begun q → Inv q
   begins p Upload s first l e serves b =
       upload b (Uploads.begun-run Given s first (l .time) (l .nonce) (l .payload) (l .file) (p .issues) e)
@@ -161,7 +163,8 @@ module _ (Given : Fields → List ℕ → Fields → List ℕ → Type 0) (fileA
       download (now-issued next (p .payload) file (l .time) (l .nonce) (p .issues) n) (download-goes p l a k b u m)
   kept-by {p} (change.closes l a k m) n (not-begun e f) = idle p l e a
   kept-by {p} (change.closes {w} l a k m) n (upload b u) = upload (now-ended w p b n) (upload-closes p l a k b u m)
-  kept-by {p} (change.closes {w} l a k m) n (download b u) = download (now-ended w p b n) (download-closes p l a k b u m)
+  kept-by {p} (change.closes {w} l a k m) n (download b u) =
+      download (now-ended w p b n) (download-closes p l a k b u m)
 
   bounds-of : {p : Past} → Inv p → Bounds (p .run) (p .issues)
   bounds-of (not-begun e f) = fresh e f

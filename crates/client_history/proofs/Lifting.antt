@@ -65,7 +65,8 @@ module _ (Given Later : Fields → List ℕ → Fields → List ℕ → Type 0)
     upload-step-up step.Receipt k = k
 
     upload-word-up : (w : Word) → UploadWord Given w c l → UploadWord Later w c l
-    upload-word-up word.Lodged k = record { got = got-up (k .got); last = k .last; id = k .id; opened = open-up (k .opened) }
+    upload-word-up word.Lodged k =
+        record { got = got-up (k .got); last = k .last; id = k .id; opened = open-up (k .opened) }
     upload-word-up word.NotLodged (inl k) = inl k
     upload-word-up word.NotLodged (inr k) =
         inr (record { why = k .why; one = k .one; got = got-up (k .got); phase-2 = k .phase-2; id = k .id })
@@ -90,7 +91,8 @@ module _ (Given Later : Fields → List ℕ → Fields → List ℕ → Type 0)
 
   -- ---- download, its transaction's file the same once it is open
 
-  held-up : {f : List ℕ} {t : Bits128} {n held size : ℕ} {file : List ℕ} {l : List Issue} → HeldFile Given f t n held size file l
+  held-up : {f : List ℕ} {t : Bits128} {n held size : ℕ} {file : List ℕ} {l : List Issue}
+      → HeldFile Given f t n held size file l
       → HeldFile Later f t n held size file l
   held-up h = record {
     got = got-up (h .got);
@@ -109,9 +111,11 @@ module _ (Given Later : Fields → List ℕ → Fields → List ℕ → Type 0)
         (f : isOpen (c .step) ≡ true → fileAt (c .transaction) ≡ fileLater (c .transaction)) where
       file-up : isOpen (c .step) ≡ true → FileHeld Given fileAt c file l → FileHeld Later fileLater c file l
       file-up o h =
-          subst (λ (g : List ℕ). HeldFile Later g (c .transaction) (c .segments) (c .held) (c .length) file l) (f o) (held-up h)
+          subst (λ (g : List ℕ). HeldFile Later g (c .transaction) (c .segments) (c .held) (c .length) file l) (f o)
+          (held-up h)
 
-      step-up : (s : Step) → isOpen s ≡ isOpen (c .step) → DownloadStep Given fileAt s c file l → DownloadStep Later fileLater s c file l
+      step-up : (s : Step) → isOpen s ≡ isOpen (c .step) → DownloadStep Given fileAt s c file l
+          → DownloadStep Later fileLater s c file l
       step-up step.Opening e k = k
       step-up step.Segment e k = (file-up (sym e) (k .0), k .1, k .2, k .3)
       step-up step.Receipt e k = (file-up (sym e) (k .0), k .1, k .2)
@@ -159,7 +163,8 @@ module _ (Given Later : Fields → List ℕ → Fields → List ℕ → Type 0)
         stage = stage-up (c .stage) (u .stage);
       }
 
-    pub lifted : (p : Past) → (isOpen (p .run .step) ≡ true → fileAt (p .run .transaction) ≡ fileLater (p .run .transaction))
+    pub lifted : (p : Past)
+        → (isOpen (p .run .step) ≡ true → fileAt (p .run .transaction) ≡ fileLater (p .run .transaction))
         → Invariant Given fileAt p → Invariant Later fileLater p
     lifted p f (not-begun e g) = not-begun e g
     lifted p f (upload b u) = upload b (upload-up (p .run) (p .payload) (p .issues) u)

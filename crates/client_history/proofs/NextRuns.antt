@@ -35,13 +35,16 @@ module _ (c : Client) (d file : List ℕ) where
 
   -- it is newly held, or was held already
   pub by-new : (P : Client → List ℕ → Type 0) (b : Bool) → isNew (c .direction) c ≡ b
-      → (b ≡ true → P (grown (length d) c) (overwrite file ((c .segment - 1) * segmentBytes) d)) → (b ≡ false → P c file) → Held P
+      → (b ≡ true → P (grown (length d) c) (overwrite file ((c .segment - 1) * segmentBytes) d))
+      → (b ≡ false → P c file) → Held P
   unfolding holding fileWith
   by-new P true e f g =
-      subst (λ (b : Bool). P (cond b (grown (length d) c) c) (cond b (overwrite file ((c .segment - 1) * segmentBytes) d) file)) (sym e)
+      subst (λ (b : Bool). P (cond b (grown (length d) c) c)
+      (cond b (overwrite file ((c .segment - 1) * segmentBytes) d) file)) (sym e)
       (f refl)
   by-new P false e f g =
-      subst (λ (b : Bool). P (cond b (grown (length d) c) c) (cond b (overwrite file ((c .segment - 1) * segmentBytes) d) file)) (sym e)
+      subst (λ (b : Bool). P (cond b (grown (length d) c) c)
+      (cond b (overwrite file ((c .segment - 1) * segmentBytes) d) file)) (sym e)
       (g refl)
 
 -- ---- what the run n has of the run c before
@@ -68,7 +71,8 @@ known c = record { transaction = refl; number = refl; segments = refl; segment =
 
 pub learned-same : (w : Direction) (r : Fields) (c : Client) → Same (learned w r c) c
 learned-same Upload r c = record { stage = refl; direction = refl; subscriber = refl; exchange = refl; repeats = refl }
-learned-same Download r c = record { stage = refl; direction = refl; subscriber = refl; exchange = refl; repeats = refl }
+learned-same Download r c =
+    record { stage = refl; direction = refl; subscriber = refl; exchange = refl; repeats = refl }
 
 pub learned-transaction : (w : Direction) (r : Fields) (c : Client) → learned w r c .transaction ≡ transaction r
 learned-transaction Upload r c = refl

@@ -26,36 +26,22 @@ use Rattle.client.specs.Calls.{
   replyCall,
   noReplyCall,
 }
-use Rattle.client.specs.NextRun.{stepBehind, goOn, repeated, learned, ended}
+use Rattle.client.specs.NextRun.{stepAfter, goOn, repeated, learned, ended}
 use Rattle.client.specs.Rulings.{isBegun, beginRuling, runRuling}
 use Rattle.client.specs.Run.{Lent, ClientCall, lengthsOf}
 use Rattle.client_history.specs.History.{Event, Begin, Reply, NoReply, Past, issuing, left, after, pastOf, Fair}
 use Rattle.client_history.specs.Invariant.{isOpen, Steady}
 use Rattle.client.proofs.Accepted.{accepted, begins}
 use Rattle.client.proofs.Apart.{not-ended-running}
-use Rattle.client_history.proofs.Changes.{
-  Move,
-  upload-opens,
-  takes,
-  upload-returns,
-  download-opens,
-  brings,
-  download-returns,
-  repeats,
-  Change,
-  nothing,
-  begins-with,
-  goes,
-  closes,
-  changes,
-}
+use Rattle.client_history.proofs.Changes.{Move, Change}
+use Rattle.client_history.proofs.Changes as change
 use Rattle.client_history.proofs.NextRuns.{Same, Known, same, known, learned-same, held-same, opened-same}
 
 -- ---- a begun run
 
-open-behind : (w : Direction) (k n : ℕ) → isOpen (stepBehind w k n) ≡ true
-open-behind Upload k n = refl
-open-behind Download k n = go (eqb k n)
+open-after : (w : Direction) (k n : ℕ) → isOpen (stepAfter w k n) ≡ true
+open-after Upload k n = refl
+open-after Download k n = go (eqb k n)
   where
     go : (b : Bool) → isOpen (cond b step.Receipt step.Segment) ≡ true
     go true = refl
@@ -65,7 +51,8 @@ module _ (p : Past) (b : isBegun (p .run .stage) ≡ true) (file : List ℕ) (ti
   abbrev Goes : Client → Type 0
   Goes next = Steady p (issuing next (p .payload) file time nonce (p .issues))
 
-  goes-on : (k n : ℕ) (c : Client) → Same c (p .run) → (isOpen (p .run .step) ≡ true → Known c (p .run)) → Goes (goOn k n c)
+  goes-on : (k n : ℕ) (c : Client) → Same c (p .run) → (isOpen (p .run .step) ≡ true → Known c (p .run))
+      → Goes (goOn k n c)
   unfolding goOn
   goes-on k n c s f = record {
     begun = ap isBegun (s .stage) ∙ b;
@@ -73,7 +60,7 @@ module _ (p : Past) (b : isBegun (p .run .stage) ≡ true) (file : List ℕ) (ti
     subscriber-same = s .subscriber;
     payload = refl;
     issues = λ x m. there m;
-    known = λ h. open-behind (c .direction) k (c .segments);
+    known = λ h. open-after (c .direction) k (c .segments);
     transaction-same = λ h. f h .transaction;
     number = λ h. f h .number;
     segments = λ h. f h .segments;
@@ -100,20 +87,23 @@ opening : {A : Type 0} {s : Step} → s ≡ step.Opening → isOpen s ≡ true �
 opening e h = never (sym (ap isOpen e) ∙ h)
 
 module _ (Given : Fields → List ℕ → Fields → List ℕ → Type 0) where
-  moved : (p : Past) → isBegun (p .run .stage) ≡ true → (l : Lent) {next : Client} {file : List ℕ} → Move Given p next file
+  moved : (p : Past) → isBegun (p .run .stage) ≡ true → (l : Lent) {next : Client} {file : List ℕ}
+      → Move Given p next file
       → Steady p (issuing next (p .payload) file (l .time) (l .nonce) (p .issues))
-  moved p b l (upload-opens {r} w s g t) =
+  moved p b l (change.upload-opens {r} w s g t) =
       goes-on p b _ _ _ 0 _ (learned Upload r (p .run)) (learned-same Upload r (p .run)) (opening s)
-  moved p b l (takes w s g t) = goes-same p b _ _ _ _ _
-  moved p b l (upload-returns w s g t) = goes-same p b _ _ _ _ _
-  moved p b l (download-opens {r} {d} w s g t) = goes-on p b _ _ _ 1 _ _ (opened-same Download (length d) r (p .run)) (opening s)
-  moved p b l (brings {r} {d} w s g t) = goes-on p b _ _ _ _ _ _ (held-same (length d) (p .run) .0) (λ h. held-same (length d) (p .run) .1)
-  moved p b l (download-returns w s g t) = goes-same p b _ _ _ _ _
-  moved p b l (repeats t) = repeats-same p b _ _ _
+  moved p b l (change.takes w s g t) = goes-same p b _ _ _ _ _
+  moved p b l (change.upload-returns w s g t) = goes-same p b _ _ _ _ _
+  moved p b l (change.download-opens {r} {d} w s g t) =
+      goes-on p b _ _ _ 1 _ _ (opened-same Download (length d) r (p .run)) (opening s)
+  moved p b l (change.brings {r} {d} w s g t) =
+      goes-on p b _ _ _ _ _ _ (held-same (length d) (p .run) .0) (λ h. held-same (length d) (p .run) .1)
+  moved p b l (change.download-returns w s g t) = goes-same p b _ _ _ _ _
+  moved p b l (change.repeats t) = repeats-same p b _ _ _
 
   steady-by : {p q : Past} → isBegun (p .run .stage) ≡ true → Change Given p q → Steady p q
   unfolding ended
-  steady-by b nothing = record {
+  steady-by b change.nothing = record {
     begun = b;
     direction = refl;
     subscriber-same = refl;
@@ -124,9 +114,9 @@ module _ (Given : Fields → List ℕ → Fields → List ℕ → Type 0) where
     number = λ h. refl;
     segments = λ h. refl;
   }
-  steady-by b (begins-with params l g) = never (sym (g .fresh) ∙ b)
-  steady-by {p} b (goes l a k m) = moved p b l m
-  steady-by {p} b (closes {w} l a k m) = record {
+  steady-by b (change.begins-with params l g) = never (sym (g .fresh) ∙ b)
+  steady-by {p} b (change.goes l a k m) = moved p b l m
+  steady-by {p} b (change.closes {w} l a k m) = record {
     begun = refl;
     direction = refl;
     subscriber-same = refl;
@@ -139,7 +129,7 @@ module _ (Given : Fields → List ℕ → Fields → List ℕ → Type 0) where
   }
 
   pub steady : (p : Past) (e : Event) → Fair Given e p → isBegun (p .run .stage) ≡ true → Steady p (after e p)
-  steady p e f b = steady-by b (changes Given p e f)
+  steady p e f b = steady-by b (change.changes Given p e f)
 
 -- ---- a run that does not run
 

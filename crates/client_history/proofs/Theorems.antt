@@ -28,7 +28,18 @@ use Rattle.client.specs.Decisions.{isAnswer}
 use Rattle.client.specs.Rulings.{isBegun}
 use Rattle.client.proofs.Apart.{not-both}
 use Rattle.client.specs.Run.{notBegun}
-use Rattle.client_history.specs.History.{Issue, Event, Past, heldOf, after, pastOf, BankReplies, GivenTo, Fair, AllFair}
+use Rattle.client_history.specs.History.{
+  Issue,
+  Event,
+  Past,
+  heldOf,
+  after,
+  pastOf,
+  BankReplies,
+  GivenTo,
+  Fair,
+  AllFair,
+}
 use Rattle.client_history.specs.Bounds.{Numbered, UploadCourse}
 use Rattle.client_history.specs.Invariant.{
   Newest,
@@ -69,7 +80,8 @@ use Rattle.client_history.proofs.Issues
 use Rattle.client_history.proofs.Keeps
 -- the invariant as more replies are given
 pub use Rattle.client_history.proofs.Lifting.{lifted}
--- 5. an order in turn: begin, the opening's answer, each segment's, the last one's, the receipt's; and a reply that is ignored
+-- 5. an order in turn: begin, the opening's answer, each segment's, the last one's, the receipt's; and a reply that is
+-- ignored
 pub use Rattle.client_history.proofs.Liveness.{
   begins,
   upload-opens,
@@ -107,7 +119,8 @@ upload-form (uploadOpens number time nonce q d) = inl (ap form q ∙ form-upload
 upload-form (sends number j a c q d) = inr (ap form q ∙ form-uploadTransfer _ _ _ _ _)
 
 download-form : {s n held : ℕ} {t : Bits128} {b : Bool} {f : List ℕ} {x : Issue} → DownloadIssue s n t held b f x
-    → (form (x .request) ≡ forms.DownloadOpening) ⊎ ((form (x .request) ≡ forms.DownloadTransfer) ⊎ (form (x .request) ≡ forms.Receipt))
+    → (form (x .request) ≡ forms.DownloadOpening)
+    ⊎ ((form (x .request) ≡ forms.DownloadTransfer) ⊎ (form (x .request) ≡ forms.Receipt))
 download-form (downloadOpens number time nonce q d) = inl (ap form q ∙ form-downloadOpening _ _ _ _)
 download-form (asks number j a b c e q d) = inr (inl (ap form q ∙ form-downloadTransfer _ _ _ _))
 download-form (confirms number a b c e q d) = inr (inr (ap form q ∙ form-receipt _ _ _ _))
@@ -117,7 +130,8 @@ not-upload : {A : Type 0} {f x : Form} → (f ≡ forms.UploadOpening) ⊎ (f �
 not-upload (inl a) e g h = other-form e a g
 not-upload (inr a) e g h = other-form e a h
 
-not-download : {A : Type 0} {f x : Form} → (f ≡ forms.DownloadOpening) ⊎ ((f ≡ forms.DownloadTransfer) ⊎ (f ≡ forms.Receipt)) → f ≡ x
+not-download : {A : Type 0} {f x : Form}
+    → (f ≡ forms.DownloadOpening) ⊎ ((f ≡ forms.DownloadTransfer) ⊎ (f ≡ forms.Receipt)) → f ≡ x
     → (x ≡ forms.DownloadOpening → _≡_ {A = ℕ} 0 1) → (x ≡ forms.DownloadTransfer → _≡_ {A = ℕ} 0 1)
     → (x ≡ forms.Receipt → _≡_ {A = ℕ} 0 1) → A
 not-download (inl a) e g h k = other-form e a g
@@ -128,7 +142,8 @@ not-download (inr (inr a)) e g h k = other-form e a k
 sent-number : {p : Past} {x : Issue} (s : SegmentSent p x) → segment (x .request) ≡ s .j
 sent-number s = ap segment (s .request) ∙ segment-uploadTransfer _ _ _ _ _
 
-module _ (Given : Fields → List ℕ → Fields → List ℕ → Type 0) (fileAt : Bits128 → List ℕ) (bank : BankReplies Given fileAt) where
+module _ (Given : Fields → List ℕ → Fields → List ℕ → Type 0) (fileAt : Bits128 → List ℕ)
+    (bank : BankReplies Given fileAt) where
   -- ---- THE INVARIANT: of every list of fair events, and from event to event
 
   pub invariant : (es : List Event) → AllFair Given es → Invariant Given fileAt (pastOf es)
@@ -166,10 +181,12 @@ module _ (Given : Fields → List ℕ → Fields → List ℕ → Type 0) (fileA
         go (download g u) = g .bounded .stage
 
     -- exchange numbers: first, first + 1, ... up to the outstanding one, each once
-    pub exchange-numbers : isBegun (p .run .stage) ≡ true → (first : ℕ) × Numbered first (p .run .exchange + 1) (p .issues)
+    pub exchange-numbers : isBegun (p .run .stage) ≡ true
+        → (first : ℕ) × Numbered first (p .run .exchange + 1) (p .issues)
     exchange-numbers b = let g = begun-of b .bounded in (g .first, g .numbers)
 
-    pub one-number : (x y : Issue) → In x (p .issues) → In y (p .issues) → exchange (x .request) ≡ exchange (y .request) → x ≡ y
+    pub one-number : (x y : Issue) → In x (p .issues) → In y (p .issues) → exchange (x .request) ≡ exchange (y .request)
+        → x ≡ y
     one-number x y m n e = go i
       where
         go : Invariant Given fileAt p → x ≡ y
@@ -228,7 +245,8 @@ module _ (Given : Fields → List ℕ → Fields → List ℕ → Type 0) (fileA
       segment-sent e = go i
         where
           sent : UploadCourse (p .run) (length (p .issues))
-              → UploadIssue (p .run .subscriber) (p .run .segments) (p .run .transaction) (p .run .issued) (p .payload) x
+              → UploadIssue (p .run .subscriber) (p .run .segments) (p .run .transaction) (p .run .issued) (p .payload)
+              x
               → SegmentSent p x
           sent k (uploadOpens number time nonce q d) = other-form e (ap form q ∙ form-uploadOpening _ _ _ _ _) (λ z. cc)
           sent k (sends number j a c q d) = record {
@@ -272,13 +290,15 @@ module _ (Given : Fields → List ℕ → Fields → List ℕ → Type 0) (fileA
     -- ---- 3. AN UPLOAD'S END
 
     -- "lodged (segment N answered 000000)"
-    pub lodged : p .run .stage ≡ stage.Ended word.Lodged → (p .run .direction ≡ Upload) × LastTaken Given (p .run) (p .issues)
+    pub lodged : p .run .stage ≡ stage.Ended word.Lodged
+        → (p .run .direction ≡ Upload) × LastTaken Given (p .run) (p .issues)
     lodged e = go i
       where
         go : Invariant Given fileAt p → (p .run .direction ≡ Upload) × LastTaken Given (p .run) (p .issues)
         go (not-begun f g) = never (sym (new-begun f) ∙ ap isBegun e)
         go (upload g u) = (u .direction, subst (λ (s : Stage). UploadStage Given s (p .run) (p .issues)) e (u .stage))
-        go (download g u) = absurd (subst (λ (s : Stage). DownloadStage Given fileAt s (p .run) (p .file) (p .issues)) e (u .stage))
+        go (download g u) =
+            absurd (subst (λ (s : Stage). DownloadStage Given fileAt s (p .run) (p .file) (p .issues)) e (u .stage))
 
     -- "not lodged (segment N never issued, or ended by a reply 01 03 0D of phase 2 with 091102, 091104 or 011101)"
     pub not-lodged : p .run .stage ≡ stage.Ended word.NotLodged
@@ -286,10 +306,12 @@ module _ (Given : Fields → List ℕ → Fields → List ℕ → Type 0) (fileA
     not-lodged e = go i
       where
         go : Invariant Given fileAt p
-            → (p .run .direction ≡ Upload) × ((p .run .issued < p .run .segments) ⊎ Cancelled Given (p .run) (p .issues))
+            → (p .run .direction ≡ Upload)
+            × ((p .run .issued < p .run .segments) ⊎ Cancelled Given (p .run) (p .issues))
         go (not-begun f g) = never (sym (new-begun f) ∙ ap isBegun e)
         go (upload g u) = (u .direction, subst (λ (s : Stage). UploadStage Given s (p .run) (p .issues)) e (u .stage))
-        go (download g u) = absurd (subst (λ (s : Stage). DownloadStage Given fileAt s (p .run) (p .file) (p .issues)) e (u .stage))
+        go (download g u) =
+            absurd (subst (λ (s : Stage). DownloadStage Given fileAt s (p .run) (p .file) (p .issues)) e (u .stage))
 
     -- ---- 4. DOWNLOAD
 
@@ -334,9 +356,11 @@ module _ (Given : Fields → List ℕ → Fields → List ℕ → Type 0) (fileA
       segment-asked e = go i
         where
           asked : p .run .direction ≡ Download
-              → DownloadIssue (p .run .subscriber) (p .run .segments) (p .run .transaction) (p .run .held) (p .run .receipted)
+              → DownloadIssue (p .run .subscriber) (p .run .segments) (p .run .transaction) (p .run .held)
+              (p .run .receipted)
               (fileAt (p .run .transaction)) x → SegmentAsked p x
-          asked w (downloadOpens number time nonce q d) = other-form e (ap form q ∙ form-downloadOpening _ _ _ _) (λ z. cc)
+          asked w (downloadOpens number time nonce q d) =
+              other-form e (ap form q ∙ form-downloadOpening _ _ _ _) (λ z. cc)
           asked w (asks number j a b c f q d) =
               record { download-run = w; number = number; j = j; least = a; next = b; most = c; request = q }
           asked w (confirms number a b c f q d) = other-form e (ap form q ∙ form-receipt _ _ _ _) (λ z. cc)
@@ -351,9 +375,11 @@ module _ (Given : Fields → List ℕ → Fields → List ℕ → Type 0) (fileA
       receipt-issued e = go i
         where
           issued : p .run .direction ≡ Download
-              → DownloadIssue (p .run .subscriber) (p .run .segments) (p .run .transaction) (p .run .held) (p .run .receipted)
+              → DownloadIssue (p .run .subscriber) (p .run .segments) (p .run .transaction) (p .run .held)
+              (p .run .receipted)
               (fileAt (p .run .transaction)) x → ReceiptIssued p (fileAt (p .run .transaction)) x
-          issued w (downloadOpens number time nonce q d) = other-form e (ap form q ∙ form-downloadOpening _ _ _ _) (λ z. cc)
+          issued w (downloadOpens number time nonce q d) =
+              other-form e (ap form q ∙ form-downloadOpening _ _ _ _) (λ z. cc)
           issued w (asks number j a b c f q d) = other-form e (ap form q ∙ form-downloadTransfer _ _ _ _) (λ z. cc)
           issued w (confirms number a b c f q d) =
               record { download-run = w; number = number; whole = a; receipted = c; file = f; request = q }
@@ -368,12 +394,17 @@ module _ (Given : Fields → List ℕ → Fields → List ℕ → Type 0) (fileA
         → (p .run .direction ≡ Download) × Confirmed Given fileAt (p .run) (p .file) (p .issues)
     fetched e = go i
       where
-        go : Invariant Given fileAt p → (p .run .direction ≡ Download) × Confirmed Given fileAt (p .run) (p .file) (p .issues)
+        go : Invariant Given fileAt p
+            → (p .run .direction ≡ Download) × Confirmed Given fileAt (p .run) (p .file) (p .issues)
         go (not-begun f g) = never (sym (new-begun f) ∙ ap isBegun e)
         go (upload g u) = absurd (subst (λ (s : Stage). UploadStage Given s (p .run) (p .issues)) e (u .stage))
-        go (download g u) =
-            (u .direction, subst (λ (s : Stage). DownloadStage Given fileAt s (p .run) (p .file) (p .issues)) e (u .stage))
+        go (download g u) = (
+          u .direction,
+          subst (λ (s : Stage). DownloadStage Given fileAt s (p .run) (p .file) (p .issues)) e
+              (u .stage),
+        )
 
     -- a fetched file is the mailbox's file at its transaction's opening
-    pub fetched-file : p .run .stage ≡ stage.Ended word.Fetched → heldOf (p .run) (p .file) ≡ fileAt (p .run .transaction)
+    pub fetched-file : p .run .stage ≡ stage.Ended word.Fetched
+        → heldOf (p .run) (p .file) ≡ fileAt (p .run .transaction)
     fetched-file e = let k = fetched e .1 in whole-file Given (k .held) (k .whole)

@@ -1,4 +1,5 @@
--- A run's transaction ID is 16 bytes, over every list of events that bring bytes: it is read from a reply. Assumes nothing.
+-- A run's transaction ID is 16 bytes, over every list of events that bring bytes: it is read from a reply.
+-- Assumes nothing.
 use Prim.Native.Nat.{ℕ}
 use mathlib.Core.List.{List, [], _∷_}
 use mathlib.Core.Path.{_≡_, refl, sym, subst, _∙_}

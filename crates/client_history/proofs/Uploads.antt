@@ -1,7 +1,15 @@
 -- What an upload run keeps.
 use Prim.Native.Nat.{ℕ, _+_, _≤_, max}
 use mathlib.Core.Bool.{true}
-use mathlib.Core.List.{List, [], _∷_, List·Memᴰ as In, List·Memᴰ·head as here, List·Memᴰ·tail as there, List·Memᴰ·not-nil as in-none}
+use mathlib.Core.List.{
+  List,
+  [],
+  _∷_,
+  List·Memᴰ as In,
+  List·Memᴰ·head as here,
+  List·Memᴰ·tail as there,
+  List·Memᴰ·not-nil as in-none,
+}
 use mathlib.Core.Logic.{inl, inr}
 use mathlib.Core.Path.{_≡_, refl, sym, ap, _∙_, subst}
 use native.Mathlib.Omega.{arith}
@@ -27,7 +35,7 @@ use Rattle.client.specs.declared.run.Step.the-variants as step
 use Rattle.client.specs.declared.run.Word.{Word}
 use Rattle.client.specs.declared.run.Word.the-variants as word
 use Rattle.client.specs.Decisions.{says, answersSegment, closingWord, restWord, endsUpload, lodges}
-use Rattle.client.specs.NextRun.{begun, stepBehind, goOn, repeated, learned, ended}
+use Rattle.client.specs.NextRun.{begun, stepAfter, goOn, repeated, learned, ended}
 use Rattle.client.specs.Requests.{nonceOf, outstanding}
 use Rattle.client.specs.Run.{parametersOf}
 use Rattle.client_history.specs.History.{Issue, Past, issueOf}
@@ -71,21 +79,25 @@ unsent h (uploadOpens number time nonce q d) = uploadOpens number time nonce q d
 unsent h (sends number j a b q d) = absurd (omega arith)
 
 -- "lodged (segment N answered 000000)"
-lodged-last : (c : Client) (r : Fields) → lodges c r ≡ true → Answers forms.SegmentTaken c r × (c .segment ≡ c .segments)
+lodged-last : (c : Client) (r : Fields) → lodges c r ≡ true
+    → Answers forms.SegmentTaken c r × (c .segment ≡ c .segments)
 unfolding lodges
 lodged-last c r h =
     let a = and-true (answersSegment forms.SegmentTaken c r) (eqb (c .segment) (c .segments)) h in
     (answers forms.SegmentTaken c r (a .0), eqb-true (c .segment) (c .segments) (a .1))
 
 module _ (Given : Fields → List ℕ → Fields → List ℕ → Type 0) where
-  open-for : {c k : Client} {l m : List Issue} → c .transaction ≡ k .transaction → c .number ≡ k .number → ((x : Issue) → In x l → In x m)
+  open-for : {c k : Client} {l m : List Issue} → c .transaction ≡ k .transaction → c .number ≡ k .number
+      → ((x : Issue) → In x l → In x m)
       → UploadOpen Given c l → UploadOpen Given k m
   open-for t n f o = record { got = got-in Given f (o .got); id = o .id ∙ t; number = o .number ∙ n }
 
   -- the outstanding request is one that the run may issue
-  outstanding-issue : (c : Client) (payload file : List ℕ) (time : ℕ) (nonce : List ℕ) (issues : List Issue) → c .direction ≡ Upload
+  outstanding-issue : (c : Client) (payload file : List ℕ) (time : ℕ) (nonce : List ℕ) (issues : List Issue)
+      → c .direction ≡ Upload
       → (s : Step) → c .step ≡ s → UploadStep Given s c issues
-      → UploadIssue (c .subscriber) (c .segments) (c .transaction) (c .issued) payload (issueOf c payload file time nonce)
+      → UploadIssue (c .subscriber) (c .segments) (c .transaction) (c .issued) payload
+      (issueOf c payload file time nonce)
   outstanding-issue c payload file time nonce issues up step.Opening e k =
       uploadOpens (c .exchange) time (nonceOf nonce (c .exchange)) (is-uploadOpening c time nonce payload up e)
       (data-opening c time nonce payload up e)
@@ -102,7 +114,8 @@ module _ (Given : Fields → List ℕ → Fields → List ℕ → Type 0) where
     each : (x : Issue) → In x issues → UploadIssue (c .subscriber) (c .segments) (c .transaction) (c .issued) payload x
     opened : UploadOpen Given c issues
 
-  goes-on : (c : Client) (payload file : List ℕ) (issues : List Issue) (k repeats time : ℕ) (nonce : List ℕ) → Ready c payload issues
+  goes-on : (c : Client) (payload file : List ℕ) (issues : List Issue) (k repeats time : ℕ) (nonce : List ℕ)
+      → Ready c payload issues
       → UploadRun Given (goOn k repeats c) payload (issueOf (goOn k repeats c) payload file time nonce ∷ issues)
   unfolding goOn
   goes-on c payload file issues k repeats time nonce r =
@@ -120,8 +133,8 @@ module _ (Given : Fields → List ℕ → Fields → List ℕ → Type 0) where
       new : Issue
       new = issueOf next payload file time nonce
 
-      at : stepBehind (c .direction) k (c .segments) ≡ step.Segment
-      at = ap (λ (w : Direction). stepBehind w k (c .segments)) (r .direction)
+      at : stepAfter (c .direction) k (c .segments) ≡ step.Segment
+      at = ap (λ (w : Direction). stepAfter w k (c .segments)) (r .direction)
 
       stepped : UploadStep Given step.Segment next (new ∷ issues)
       stepped = (open-for {k = next} refl refl (λ x m. there m) (r .opened), omega arith, omega arith)
@@ -174,10 +187,12 @@ module _ (Given : Fields → List ℕ → Fields → List ℕ → Type 0) where
           stepped step.Segment k = (open-for {k = next} refl refl (λ x m. there m) (k .0), k .1, k .2)
           stepped step.Receipt k = k
 
-          each : (x : Issue) → In x (new ∷ issues) → UploadIssue (c .subscriber) (c .segments) (c .transaction) (c .issued) payload x
+          each : (x : Issue) → In x (new ∷ issues)
+              → UploadIssue (c .subscriber) (c .segments) (c .transaction) (c .issued) payload x
           each x (here e) =
               subst (UploadIssue _ _ _ _ _) (sym e)
-              (outstanding-issue next payload file time nonce (new ∷ issues) (u .direction) (c .step) refl (stepped (c .step) (u .step)))
+              (outstanding-issue next payload file time nonce (new ∷ issues) (u .direction) (c .step) refl
+              (stepped (c .step) (u .step)))
           each x (there m) = u .each x m
 
     -- ---- the opening's answer
@@ -185,8 +200,10 @@ module _ (Given : Fields → List ℕ → Fields → List ℕ → Type 0) where
     abbrev p : Past
     p = record { run = c; payload = payload; file = file; issues = issues }
 
-    pub opened-run : (r : Fields) (d : List ℕ) (time : ℕ) (nonce : List ℕ) → c .step ≡ step.Opening → Answered Given p r d
-        → says forms.UploadOpened code.Ok initialisationPhase r ≡ true → Goes time nonce (goOn 0 (c .repeats) (learned Upload r c))
+    pub opened-run : (r : Fields) (d : List ℕ) (time : ℕ) (nonce : List ℕ) → c .step ≡ step.Opening
+        → Answered Given p r d
+        → says forms.UploadOpened code.Ok initialisationPhase r ≡ true
+        → Goes time nonce (goOn 0 (c .repeats) (learned Upload r c))
     opened-run r d time nonce e a h =
         goes-on (learned Upload r c) payload file issues 0 (c .repeats) time nonce
         (record {
@@ -235,7 +252,8 @@ module _ (Given : Fields → List ℕ → Fields → List ℕ → Type 0) where
 
     module _ (r : Fields) (d : List ℕ) (e : c .step ≡ step.Segment) (a : Answered Given p r d) where
       asked : outstanding c (a .time) (a .nonce)
-          ≡ uploadTransfer (c .subscriber) (c .exchange) (c .transaction) (c .segment) (lastMarkOf (c .segment) (c .segments))
+          ≡ uploadTransfer (c .subscriber) (c .exchange) (c .transaction) (c .segment)
+          (lastMarkOf (c .segment) (c .segments))
       asked = is-uploadTransfer c (a .time) (a .nonce) payload (u .direction) e
 
       asked-form : form (outstanding c (a .time) (a .nonce)) ≡ forms.UploadTransfer
@@ -290,7 +308,8 @@ module _ (Given : Fields → List ℕ → Fields → List ℕ → Type 0) where
       new : Issue
       new = issueOf next payload file time nonce
 
-      each : (x : Issue) → In x (new ∷ issues) → UploadIssue s (segmentsOf (length payload)) (next .transaction) 0 payload x
+      each : (x : Issue) → In x (new ∷ issues)
+          → UploadIssue s (segmentsOf (length payload)) (next .transaction) 0 payload x
       each x (here e) =
           subst (UploadIssue _ _ _ _ _) (sym e)
           (outstanding-issue next payload file time nonce (new ∷ issues) refl step.Opening refl refl)

@@ -1,4 +1,5 @@
--- From a begin, each request that a run issues is written, in at most 303 bytes: a call that its ruling admits is given no
+-- From a begin, each request that a run issues is written, in at most 303 bytes: a call that its ruling admits is given
+-- no
 -- number. Over every list of events whose arguments are of their types. Assumes nothing.
 use Prim.Native.Nat.{ℕ, _+_, _-_, _*_, _^_, _≤_, _<_}
 use mathlib.Core.Bool.{true}
@@ -103,7 +104,8 @@ pub record Sent (c : Client) (l : Lent) : Type 0 where
   pub small : size ≤ requestRoom
   pub written : isWritten c l ≡ Length size
 
-module _ (c : Client) (issues : List Issue) (b : Bounded c issues) (v : Wide (c .transaction)) (l : Lent) (t : TypedLent l)
+module _ (c : Client) (issues : List Issue) (b : Bounded c issues) (v : Wide (c .transaction)) (l : Lent)
+    (t : TypedLent l)
     (same : c .direction ≡ Upload → c .length ≡ length (l .payload)) (room : requestRoom ≤ length (l .request)) where
   abbrev q : ℕ
   q = length issues
@@ -127,7 +129,8 @@ module _ (c : Client) (issues : List Issue) (b : Bounded c issues) (v : Wide (c 
   unfolding outstanding outstandingData
   up-opening-sent u s =
       let w = upload-opening-written (c .subscriber) (c .exchange) sender (nonceOf (l .nonce) (c .exchange)) (l .time)
-      (nonce-wide (l .nonce) (c .exchange) (t .twelve) (t .nonce)) (t .time) (c .segments) (omega (arith, up-segments c q u .1)) in
+      (nonce-wide (l .nonce) (c .exchange) (t .twelve) (t .nonce)) (t .time) (c .segments)
+      (omega (arith, up-segments c q u .1)) in
       sent w refl (omega arith) (rw (u .direction, s)) (rw (u .direction, s))
 
   up-segment-sent : UploadCourse c q → c .step ≡ step.Segment → 1 ≤ c .segment → Sent c l
@@ -153,7 +156,8 @@ module _ (c : Client) (issues : List Issue) (b : Bounded c issues) (v : Wide (c 
   unfolding outstanding outstandingData
   down-segment-sent e s k =
       let small = e .known .most in
-      let w = download-transfer-written (c .subscriber) (c .exchange) sender (c .transaction) v (c .segment) (omega arith) in
+      let w = download-transfer-written (c .subscriber) (c .exchange) sender (c .transaction) v (c .segment)
+      (omega arith) in
       sent w refl (omega arith) (rw (e .known .direction, s)) (rw (e .known .direction))
 
   receipt-sent : DownloadCourse c q → c .step ≡ step.Receipt → Sent c l
@@ -193,7 +197,8 @@ payload-same : (direction : Direction) (c : Client) (l : Lengths) → SameLength
 payload-same Upload c l s e = sym s
 payload-same Download c l s e = not-both e refl
 
-module _ (c : Client) (issues : List Issue) (b : Bounded c issues) (v : Wide (c .transaction)) (l : Lent) (t : TypedLent l)
+module _ (c : Client) (issues : List Issue) (b : Bounded c issues) (v : Wide (c .transaction)) (l : Lent)
+    (t : TypedLent l)
     (a : Accepted c (lengthsOf l)) (r : Fields) (d : List ℕ) (w : Wide (transaction r)) where
   next-sent : (decision : Decision) → Issuing decision → Cause c r (length d) decision
       → Sent (nextOf decision c r (length d)) l
@@ -203,7 +208,8 @@ module _ (c : Client) (issues : List Issue) (b : Bounded c issues) (v : Wide (c 
       λ e.
       let u = sym (next-of decision i c r (length d) .direction) ∙ e in
       next-length decision i c r (length d) u ∙ payload-same (c .direction) c (lengthsOf l) (a .length) u in
-      outstanding-sent next (withRequest next l (l .file) issues) (bounded-next c issues b decision i r (length d) k l (l .file))
+      outstanding-sent next (withRequest next l (l .file) issues)
+      (bounded-next c issues b decision i r (length d) k l (l .file))
       (next-wide decision i c r (length d) w v) l t same (room-served (c .direction) (lengthsOf l) (a .buffers))
 
   carried-unrefused : (decision : Decision) → Cause c r (length d) decision
@@ -229,7 +235,8 @@ begin-sent : (c : Client) (params : RunParameters) (l : Lent) → TypedLent l �
     → Sent (begunBy params l) l
 unfolding begun
 begin-sent c params l t b =
-    outstanding-sent (begunBy params l) (withRequest (begunBy params l) l (l .file) []) (bounded-begun c params l (l .file) b) (omega arith, omega arith) l t
+    outstanding-sent (begunBy params l) (withRequest (begunBy params l) l (l .file) [])
+    (bounded-begun c params l (l .file) b) (omega arith, omega arith) l t
     (begin-same (params .direction) (lengthsOf l)) (room-served (params .direction) (lengthsOf l) (b .buffers))
 
 module _ (c : Client) (issues : List Issue) (v : Wide (c .transaction)) (s : Bounds c issues) where

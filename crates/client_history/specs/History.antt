@@ -85,20 +85,25 @@ unfoldable pub pastOf : List Event → Past
 pastOf [] = start
 pastOf (e ∷ es) = after e (pastOf es)
 
--- What the bank's replies are known to be. Given q d r e: the request with the fields q and the data d was given the reply with r and e.
+-- What the bank's replies are known to be. Given q d r e: the request with the fields q and the data d was given the
+-- reply with r and e.
 -- fileAt t: the file in the mailbox at the opening of the transaction t
 pub record BankReplies (Given : Fields → List ℕ → Fields → List ℕ → Type 0) (fileAt : Bits128 → List ℕ) : Type 0 where
   -- "Reply forms": each but the unreadable request's has the request's exchange number
-  pub sameExchange : {q r : Fields} {d e : List ℕ} → Given q d r e → isReplyForm (form r) ≡ true → (form r ≡ forms.Unreadable → ⊥)
+  pub sameExchange : {q r : Fields} {d e : List ℕ} → Given q d r e → isReplyForm (form r) ≡ true
+      → (form r ≡ forms.Unreadable → ⊥)
       → exchange r ≡ exchange q
   -- "N is the file length divided by 256, rounded up"
   pub number : {q r : Fields} {d e : List ℕ} → Given q d r e → form r ≡ forms.DownloadOpened
       → segments r ≡ segmentsOf (length (fileAt (transaction r)))
   -- "file of 0 or over 3,840 bytes" is in no mailbox
-  pub some : {q r : Fields} {d e : List ℕ} → Given q d r e → form r ≡ forms.DownloadOpened → 0 < length (fileAt (transaction r))
-  pub most : {q r : Fields} {d e : List ℕ} → Given q d r e → form r ≡ forms.DownloadOpened → length (fileAt (transaction r)) ≤ fileBytes
+  pub some : {q r : Fields} {d e : List ℕ} → Given q d r e → form r ≡ forms.DownloadOpened
+      → 0 < length (fileAt (transaction r))
+  pub most : {q r : Fields} {d e : List ℕ} → Given q d r e → form r ≡ forms.DownloadOpened
+      → length (fileAt (transaction r)) ≤ fileBytes
   -- "segment 1 is in it"
-  pub first : {q r : Fields} {d e : List ℕ} → Given q d r e → form r ≡ forms.DownloadOpened → e ≡ segmentOf (fileAt (transaction r)) 1
+  pub first : {q r : Fields} {d e : List ℕ} → Given q d r e → form r ≡ forms.DownloadOpened
+      → e ≡ segmentOf (fileAt (transaction r)) 1
   -- "segments are 256 bytes but the last"
   pub part : {q r : Fields} {d e : List ℕ} → Given q d r e → form r ≡ forms.DownloadSegment
       → e ≡ segmentOf (fileAt (transaction r)) (segment r)

@@ -46,7 +46,8 @@ pub record Begun (p : Past) : Type 0 where
 
 -- what an upload of n segments under the transaction t issues, segments up to top
 pub data UploadIssue (s n : ℕ) (t : Bits128) (top : ℕ) (payload : List ℕ) (x : Issue) : Type 0 where
-  uploadOpens : (number time : ℕ) (nonce : Bits128) → x .request ≡ uploadOpening s number nonce time n → x .requestData ≡ []
+  uploadOpens : (number time : ℕ) (nonce : Bits128) → x .request ≡ uploadOpening s number nonce time n
+      → x .requestData ≡ []
       → UploadIssue s n t top payload x
   -- "It cuts the payload at 256 bytes"
   sends : (number j : ℕ) → 1 ≤ j → j ≤ top → x .request ≡ uploadTransfer s number t j (lastMarkOf j n)
@@ -55,12 +56,15 @@ pub data UploadIssue (s n : ℕ) (t : Bits128) (top : ℕ) (payload : List ℕ) 
 
 -- what a download of the file f, of n segments under the transaction t, issues while it holds segments 1 to held
 pub data DownloadIssue (s n : ℕ) (t : Bits128) (held : ℕ) (receipted : Bool) (f : List ℕ) (x : Issue) : Type 0 where
-  downloadOpens : (number time : ℕ) (nonce : Bits128) → x .request ≡ downloadOpening s number nonce time → x .requestData ≡ []
+  downloadOpens : (number time : ℕ) (nonce : Bits128) → x .request ≡ downloadOpening s number nonce time
+      → x .requestData ≡ []
       → DownloadIssue s n t held receipted f x
-  asks : (number j : ℕ) → 1 ≤ j → j ≤ held + 1 → j ≤ n → 1 ≤ held → x .request ≡ downloadTransfer s number t j → x .requestData ≡ []
+  asks : (number j : ℕ) → 1 ≤ j → j ≤ held + 1 → j ≤ n → 1 ≤ held → x .request ≡ downloadTransfer s number t j
+      → x .requestData ≡ []
       → DownloadIssue s n t held receipted f x
   -- "the run held the whole when, as it issued that receipt, its file was the mailbox's"
-  confirms : (number : ℕ) → held ≡ n → 1 ≤ held → receipted ≡ true → x .file ≡ f → x .request ≡ receipt s number t 0 → x .requestData ≡ []
+  confirms : (number : ℕ) → held ≡ n → 1 ≤ held → receipted ≡ true → x .file ≡ f → x .request ≡ receipt s number t 0
+      → x .requestData ≡ []
       → DownloadIssue s n t held receipted f x
 
 -- the run's transaction is known: its opening was answered
@@ -89,7 +93,8 @@ pub record SegmentSent (p : Past) (x : Issue) : Type 0 where
   pub least : 1 ≤ j
   pub issued : j ≤ p .run .issued
   pub most : j ≤ p .run .segments
-  pub request : x .request ≡ uploadTransfer (p .run .subscriber) number (p .run .transaction) j (lastMarkOf j (p .run .segments))
+  pub request : x .request ≡ uploadTransfer (p .run .subscriber) number (p .run .transaction) j
+      (lastMarkOf j (p .run .segments))
   pub bytes : x .requestData ≡ segmentOf (p .payload) j
 
 -- a download transfer issued: segment j is asked for
@@ -178,7 +183,8 @@ module _ (Given : Fields → List ℕ → Fields → List ℕ → Type 0) where
   pub record UploadRun (c : Client) (payload : List ℕ) (issues : List Issue) : Type 0 where
     pub direction : c .direction ≡ Upload
     pub size : c .length ≡ length payload
-    pub each : (x : Issue) → In x issues → UploadIssue (c .subscriber) (c .segments) (c .transaction) (c .issued) payload x
+    pub each : (x : Issue) → In x issues
+        → UploadIssue (c .subscriber) (c .segments) (c .transaction) (c .issued) payload x
     pub step : UploadStep (c .step) c issues
     pub stage : UploadStage (c .stage) c issues
 
@@ -199,7 +205,8 @@ module _ (Given : Fields → List ℕ → Fields → List ℕ → Type 0) where
 
   module _ (fileAt : Bits128 → List ℕ) where
     abbrev pub FileHeld : Client → List ℕ → List Issue → Type 0
-    FileHeld c file issues = HeldFile (fileAt (c .transaction)) (c .transaction) (c .segments) (c .held) (c .length) file issues
+    FileHeld c file issues =
+        HeldFile (fileAt (c .transaction)) (c .transaction) (c .segments) (c .held) (c .length) file issues
 
     abbrev pub DownloadStep : Step → Client → List ℕ → List Issue → Type 0
     DownloadStep step.Opening c file issues = (c .held ≡ 0) × (c .length ≡ 0) × (c .receipted ≡ false)
@@ -230,7 +237,8 @@ module _ (Given : Fields → List ℕ → Fields → List ℕ → Type 0) where
     pub record DownloadRun (c : Client) (file : List ℕ) (issues : List Issue) : Type 0 where
       pub direction : c .direction ≡ Download
       pub each : (x : Issue) → In x issues
-          → DownloadIssue (c .subscriber) (c .segments) (c .transaction) (c .held) (c .receipted) (fileAt (c .transaction)) x
+          → DownloadIssue (c .subscriber) (c .segments) (c .transaction) (c .held) (c .receipted)
+          (fileAt (c .transaction)) x
       pub receipts : c .receipted ≡ true → Receipts issues
       pub step : DownloadStep (c .step) c file issues
       pub stage : DownloadStage (c .stage) c file issues

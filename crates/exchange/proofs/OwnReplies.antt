@@ -29,7 +29,7 @@ use Rattle.client.specs.declared.run.Step.the-variants as step
 use Rattle.client.specs.declared.run.Word.{Word}
 use Rattle.client.specs.declared.run.Word.the-variants.{Lodged, Fetched}
 use Rattle.client.specs.Calls.{beginCall, replyCall}
-use Rattle.client.specs.NextRun.{stepBehind}
+use Rattle.client.specs.NextRun.{stepAfter}
 use Rattle.client.specs.Rulings.{isBegun}
 use Rattle.client.specs.Run.{Lent, answerNumber}
 use Rattle.client.proofs.Replies.{is-answer}
@@ -394,7 +394,7 @@ module _ (s : Course) (v : Parts s) (copies : Copied s) (numbers : OneExchangeNu
     Next = State (exec (replyArrives i c reply l) s) i (history.after (Reply reply l) (runPast s i))
 
     -- behind segment k of a download: the next segment, or the receipt
-    download-next : (k n : ℕ) → InTurn then Download (stepBehind Download k n) (k + 1) (s .runs i .exchange + 1) → n ≡ then .run .segments →
+    download-next : (k n : ℕ) → InTurn then Download (stepAfter Download k n) (k + 1) (s .runs i .exchange + 1) → n ≡ then .run .segments →
         k ≤ n →
         Open Download (exec (replyArrives i c reply l) s) i (then .run .subscriber) (then .run .transaction) (then .run .segments) k → Next
     download-next k n turn count within o = at (eqb k n) refl turn
