@@ -11,8 +11,8 @@ use bank_state::store::file_of;
 use bank_verdicts::replies::reply_to;
 use bank_verdicts::replies::segment_in;
 use bank_verdicts::verdict::Verdict;
-use frame::reader::data;
-use frame::reader::read_request;
+use frame::reader::data_at;
+use frame::reader::read_whole_request;
 use frame::writer::Written;
 use frame::writer::write;
 use frame_table::fields::Fields;
@@ -166,11 +166,13 @@ pub fn frame_arrives(
         };
     }
     advance(rows, time as u64, orders);
+    let p = read_whole_request(frame);
+    let q = p.fields;
     respond(
         rows,
         number(ids),
-        read_request(frame),
-        data(frame),
+        q,
+        data_at(frame, p.from, p.end),
         orders,
         mailboxes,
         buffer,

@@ -18,7 +18,7 @@ use bank_rows::places::find_upload;
 use bank_rows::places::place_at;
 use bank_rows::places::set_place;
 use bank_state::clock::Ended;
-use bank_state::limits::PLACES;
+use bank_state::limits::PLACE_COUNT;
 use bank_state::store::zero;
 use bank_uploads::uploads::upload_step;
 use bank_verdicts::verdict::Action;
@@ -194,11 +194,11 @@ fn on_transaction(
     let subscriber = q.subscriber();
     let id = q.transaction();
     let i = find_upload(rows, subscriber, id.high, id.low);
-    if i < PLACES {
+    if i < PLACE_COUNT {
         return on_upload(rows, i, asked, q, bytes, orders);
     }
     let j = find_download(rows, subscriber, id.high, id.low);
-    if j < PLACES {
+    if j < PLACE_COUNT {
         return on_download(rows, j, asked, q, mailboxes);
     }
     Verdict::Refused(ReturnCode::UnknownTransaction)

@@ -7,7 +7,7 @@ use lib.ListN.{length, getD}
 use Rattle.frame_table.specs.declared.fields.Bits128.{Bits128}
 use Rattle.bank_state.specs.declared.state.Download.{Download}
 use Rattle.bank_state.specs.declared.state.Nonce.{Nonce}
-use Rattle.bank_state.specs.Limits.{placeCount, storeBytes, nonceCount, maxOpen, openPerSubscriber, maxOpenings}
+use Rattle.bank_state.specs.Limits.{placeCount, storeBytes, nonceCount, maxOpen, maxOpenPerSubscriber, maxOpenings}
 use Rattle.bank_state.specs.Search.{isFree, openCount, openCountOf}
 use Rattle.bank_state.specs.State.{BankState, bankState, noDownload, placeAt}
 use Rattle.bank_state.specs.Store.{partAt}
@@ -49,7 +49,7 @@ module _ (w : BankState) (c o : ℕ) (downs : List Download) (nonces : List Nonc
         (λ (e : Download). suc (e .transaction .low)) 0 downs
     pub memory : Memory c nonces g
     pub openAll : openCount (after .bank) ≤ maxOpen
-    pub openOf : (s : ℕ) → openCountOf s (after .bank) ≤ openPerSubscriber
+    pub openOf : (s : ℕ) → openCountOf s (after .bank) ≤ maxOpenPerSubscriber
     pub known : (t : Bits128) → ever isAction t g ≡ true → t .low < o
     pub booked : (t : Bits128) → ever isBooking t g ≡ true → BookedIn w t
     pub sound : AllSound g

@@ -22,7 +22,7 @@ use Rattle.bank_state.specs.declared.state.Nonce.{Nonce}
 use Rattle.bank_state.specs.declared.state.Place.{Place}
 use Rattle.bank_state.specs.declared.state.Use.{Use}
 use Rattle.bank_state.specs.declared.state.Use.the-variants.{Free, Open, Booked}
-use Rattle.bank_state.specs.Limits.{placeCount, maxOpen, openPerSubscriber}
+use Rattle.bank_state.specs.Limits.{placeCount, maxOpen, maxOpenPerSubscriber}
 use Rattle.bank_state.specs.Rows.{countOf}
 use Rattle.bank_state.specs.Search.{isFree, isOpen, freePlace, freeDownload, freeNonce, openCount, openCountOf}
 use Rattle.bank_state.specs.State.{BankState, noPlace, noDownload, placeAt, downloadAt, fileLength}
@@ -221,11 +221,11 @@ module _ (first : ℕ) (w : BankState) (h : List Exchange) (v : Invariant w h) (
 
       openOf : (s : ℕ) (b : Bool) → eqb (subscriber q) s ≡ b →
           countOf (λ (p : Place). isOpen (p .used) && eqb (p .subscriber) s) (set (w .bank .places) i new)
-          + countOf (λ (e : Download). e .used && eqb (e .subscriber) s) (w .bank .downloads) ≤ openPerSubscriber
+          + countOf (λ (e : Download). e .used && eqb (e .subscriber) s) (w .bank .downloads) ≤ maxOpenPerSubscriber
       openOf s true e =
           let m = count-owner (λ (p : Place). isOpen (p .used)) (λ (p : Place). p .subscriber) (w .bank .places) i new noPlace s in
-          let a : openCountOf s (w .bank) < openPerSubscriber =
-          subst (λ (z : ℕ). openCountOf z (w .bank) < openPerSubscriber) (eqb-true (subscriber q) s e) (acceptable .ofSubscriber) in
+          let a : openCountOf s (w .bank) < maxOpenPerSubscriber =
+          subst (λ (z : ℕ). openCountOf z (w .bank) < maxOpenPerSubscriber) (eqb-true (subscriber q) s e) (acceptable .ofSubscriber) in
           omega arith
       openOf s false e =
           let m = count-other (λ (p : Place). isOpen (p .used)) (λ (p : Place). p .subscriber) (w .bank .places) i new noPlace s e in
@@ -295,11 +295,11 @@ module _ (first : ℕ) (w : BankState) (h : List Exchange) (v : Invariant w h) (
 
       openOf : (s : ℕ) (b : Bool) → eqb (subscriber q) s ≡ b →
           countOf (λ (p : Place). isOpen (p .used) && eqb (p .subscriber) s) (w .bank .places)
-          + countOf (λ (e : Download). e .used && eqb (e .subscriber) s) (set (w .bank .downloads) j new) ≤ openPerSubscriber
+          + countOf (λ (e : Download). e .used && eqb (e .subscriber) s) (set (w .bank .downloads) j new) ≤ maxOpenPerSubscriber
       openOf s true e =
           let m = count-owner (λ (r : Download). r .used) (λ (r : Download). r .subscriber) (w .bank .downloads) j new noDownload s in
-          let a : openCountOf s (w .bank) < openPerSubscriber =
-          subst (λ (z : ℕ). openCountOf z (w .bank) < openPerSubscriber) (eqb-true (subscriber q) s e) (acceptable .ofSubscriber) in
+          let a : openCountOf s (w .bank) < maxOpenPerSubscriber =
+          subst (λ (z : ℕ). openCountOf z (w .bank) < maxOpenPerSubscriber) (eqb-true (subscriber q) s e) (acceptable .ofSubscriber) in
           omega arith
       openOf s false e =
           let m = count-other (λ (r : Download). r .used) (λ (r : Download). r .subscriber) (w .bank .downloads) j new noDownload s e in

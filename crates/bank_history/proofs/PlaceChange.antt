@@ -9,7 +9,7 @@ use lib.ListN.{length, getD, set, length-set}
 use Rattle.frame_table.specs.declared.fields.Bits128.{Bits128}
 use Rattle.bank_state.specs.declared.state.Nonce.{Nonce}
 use Rattle.bank_state.specs.declared.state.Place.{Place}
-use Rattle.bank_state.specs.Limits.{placeCount, storeBytes, nonceCount, maxOpen, openPerSubscriber, maxOpenings}
+use Rattle.bank_state.specs.Limits.{placeCount, storeBytes, nonceCount, maxOpen, maxOpenPerSubscriber, maxOpenings}
 use Rattle.bank_state.specs.Search.{isFree, openCount, openCountOf}
 use Rattle.bank_state.specs.State.{BankState, bankState, noPlace, placeAt, downloadAt, fileLength}
 use Rattle.bank_state.specs.Store.{partAt}
@@ -62,7 +62,7 @@ module _ (w : BankState) (i : ℕ) (p : Place) (o : ℕ) (nonces : List Nonce) (
     pub apartDownload : (j : ℕ) → isFree (p .used) ≡ false → downloadAt (w .bank) j .used ≡ true →
         p .transaction .low ≡ downloadAt (w .bank) j .transaction .low → ⊥
     pub openAll : openCount (changedAt i p o nonces orders w .bank) ≤ maxOpen
-    pub openOf : (s : ℕ) → openCountOf s (changedAt i p o nonces orders w .bank) ≤ openPerSubscriber
+    pub openOf : (s : ℕ) → openCountOf s (changedAt i p o nonces orders w .bank) ≤ maxOpenPerSubscriber
     pub known : (t : Bits128) → ever isAction t g ≡ true → t .low < o
     pub booked : (t : Bits128) → ever isBooking t g ≡ true → BookedIn (changedAt i p o nonces orders w) t
     pub sound : AllSound g

@@ -20,7 +20,7 @@ use Rattle.bank_state.specs.Limits.{
   nonceCount,
   idleLimit,
   maxOpen,
-  openPerSubscriber,
+  maxOpenPerSubscriber,
   maxOpenings,
   window,
 }
@@ -177,7 +177,7 @@ pub record StateHolds (w : BankState) : Type 0 where
   pub nonces : NoncesHold (w .bank .clock) (w .bank .nonces)
   -- at most 8 transactions are open, at most 4 of one subscriber
   pub openAll : openCount (w .bank) ≤ maxOpen
-  pub openOf : (s : ℕ) → openCountOf s (w .bank) ≤ openPerSubscriber
+  pub openOf : (s : ℕ) → openCountOf s (w .bank) ≤ maxOpenPerSubscriber
 
 -- ---- what the history tells of the state
 

@@ -10,8 +10,8 @@ use bank_rows::places::free_place;
 use bank_state::limits::MAX_OPEN;
 use bank_state::limits::MAX_OPEN_PER_SUBSCRIBER;
 use bank_state::limits::MAX_OPENINGS;
-use bank_state::limits::NONCES;
-use bank_state::limits::PLACES;
+use bank_state::limits::NONCE_COUNT;
+use bank_state::limits::PLACE_COUNT;
 use bank_state::limits::WINDOW;
 use bank_verdicts::verdict::Action;
 use bank_verdicts::verdict::Direction;
@@ -116,7 +116,7 @@ fn no_place_free(rows: &[u64], d: Direction) -> bool
     ensures { λ r. ⌜ r ≡ noPlaceFree d (bankOf (now (rows .entry))) ⌝ }
 {
     match d {
-        Direction::Upload => PLACES <= free_place(rows),
+        Direction::Upload => PLACE_COUNT <= free_place(rows),
         Direction::Download => false,
     }
 }
@@ -132,7 +132,7 @@ fn is_full(rows: &[u64], d: Direction) -> bool
     if no_place_free(rows, d) {
         return true;
     }
-    if NONCES <= nonce_count(rows) {
+    if NONCE_COUNT <= nonce_count(rows) {
         return true;
     }
     MAX_OPENINGS <= openings(rows)

@@ -10,7 +10,7 @@ use crate::places::is_open_at;
 use crate::places::set_place;
 use bank_state::clock::Ended;
 use bank_state::limits::IDLE_LIMIT;
-use bank_state::limits::PLACES;
+use bank_state::limits::PLACE_COUNT;
 use bank_state::state::no_place;
 use bank_state::store::zero;
 ghost use mathlib.Core.Path.{_≡_};
@@ -70,7 +70,7 @@ fn drop_uploads(rows: &mut [u64], orders: &mut [u8])
         (now (rows .entry)) (now (rows .exit)) (now (orders .exit))) ⌝ }
 {
     let mut i = 0;
-    while i < PLACES {
+    while i < PLACE_COUNT {
         drop_upload(rows, i, orders);
         i += 1;
     }

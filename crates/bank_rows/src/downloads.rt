@@ -15,7 +15,7 @@ use crate::rows::put;
 use crate::rows::wipe;
 use bank_state::clock::Ended;
 use bank_state::limits::IDLE_LIMIT;
-use bank_state::limits::PLACES;
+use bank_state::limits::PLACE_COUNT;
 use bank_state::state::Download;
 use frame_table::fields::Bits128;
 ghost use mathlib.Core.Path.{_≡_};
@@ -128,7 +128,7 @@ pub fn find_download(rows: &[u64], subscriber: u64, high: u64, low: u64) -> usiz
         }
         i += 1;
     }
-    PLACES
+    PLACE_COUNT
 }
 
 // Whether download i is this subscriber's.

@@ -1,6 +1,6 @@
 // Where the numbers of the bank's state stand in the rows. Each has the same name in specs/Layout.antt.
-use bank_state::limits::NONCES;
-use bank_state::limits::PLACES;
+use bank_state::limits::NONCE_COUNT;
+use bank_state::limits::PLACE_COUNT;
 
 pub const CLOCK_AT: usize = 0;
 
@@ -11,7 +11,7 @@ pub const OPENINGS_AT: usize = CLOCK_AT + 1;
 pub const FILES_AT: usize = OPENINGS_AT + 1;
 
 // How many downloads are open, and how many nonces are remembered.
-pub const DOWNLOAD_COUNT_AT: usize = FILES_AT + PLACES;
+pub const DOWNLOAD_COUNT_AT: usize = FILES_AT + PLACE_COUNT;
 
 pub const NONCE_COUNT_AT: usize = DOWNLOAD_COUNT_AT + 1;
 
@@ -40,7 +40,7 @@ pub const PLACE_LENGTH: usize = 9;
 
 pub const PLACE_WIDTH: usize = 10;
 
-pub const PLACES_SIZE: usize = PLACE_WIDTH * PLACES;
+pub const PLACES_SIZE: usize = PLACE_WIDTH * PLACE_COUNT;
 
 // The numbers of an open download.
 pub const DOWNLOADS_AT: usize = PLACES_AT + PLACES_SIZE;
@@ -59,7 +59,7 @@ pub const DOWNLOAD_LAST: usize = 5;
 
 pub const DOWNLOAD_WIDTH: usize = 6;
 
-pub const DOWNLOADS_SIZE: usize = DOWNLOAD_WIDTH * PLACES;
+pub const DOWNLOADS_SIZE: usize = DOWNLOAD_WIDTH * PLACE_COUNT;
 
 // The numbers of a remembered nonce.
 pub const NONCES_AT: usize = DOWNLOADS_AT + DOWNLOADS_SIZE;
@@ -72,7 +72,7 @@ pub const NONCE_TIMESTAMP: usize = 2;
 
 pub const NONCE_WIDTH: usize = 3;
 
-pub const NONCES_SIZE: usize = NONCE_WIDTH * NONCES;
+pub const NONCES_SIZE: usize = NONCE_WIDTH * NONCE_COUNT;
 
 // All numbers of the state.
 pub const STATE_SIZE: usize = NONCES_AT + NONCES_SIZE;

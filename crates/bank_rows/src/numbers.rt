@@ -2,7 +2,7 @@
 use crate::layout::CLOCK_AT;
 use crate::layout::FILES_AT;
 use crate::layout::OPENINGS_AT;
-use bank_state::limits::PLACES;
+use bank_state::limits::PLACE_COUNT;
 ghost use mathlib.Core.Path.{_≡_};
 ghost use Prim.Native.Nat.{_<_};
 ghost use lib.ListN.{getD, set};
@@ -56,7 +56,7 @@ pub fn file_length_of(rows: &[u64], subscriber: u64) -> u64
         return file_length(rows, 0);
     }
     let i = (subscriber - 1) as usize;
-    if i < PLACES {
+    if i < PLACE_COUNT {
         return file_length(rows, i);
     }
     0

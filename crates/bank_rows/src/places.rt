@@ -12,7 +12,7 @@ use crate::layout::PLACE_USE;
 use crate::layout::PLACE_WIDTH;
 use crate::layout::PLACES_AT;
 use crate::rows::put;
-use bank_state::limits::PLACES;
+use bank_state::limits::PLACE_COUNT;
 use bank_state::state::Place;
 use bank_state::state::Use;
 use frame_table::fields::Bits128;
@@ -128,7 +128,7 @@ pub fn find_upload(rows: &[u64], subscriber: u64, high: u64, low: u64) -> usize
     ensures { λ r. ⌜ r ≡ findUpload subscriber (bits high low) (bankOf (now (rows .entry))) ⌝ }
 {
     let mut i = 0;
-    while i < PLACES {
+    while i < PLACE_COUNT {
         if is_upload_at(rows, i, subscriber, high, low) {
             return i;
         }
@@ -152,7 +152,7 @@ pub fn free_place(rows: &[u64]) -> usize
     ensures { λ r. ⌜ r ≡ freePlace (bankOf (now (rows .entry))) ⌝ }
 {
     let mut i = 0;
-    while i < PLACES {
+    while i < PLACE_COUNT {
         if is_free_at(rows, i) {
             return i;
         }
@@ -177,7 +177,7 @@ pub(crate) fn open_uploads(rows: &[u64]) -> usize
 {
     let mut n: usize = 0;
     let mut i = 0;
-    while i < PLACES {
+    while i < PLACE_COUNT {
         let row = i;
         i += 1;
         if is_open_at(rows, row) {
@@ -208,7 +208,7 @@ pub(crate) fn open_uploads_of(rows: &[u64], subscriber: u64) -> usize
 {
     let mut n: usize = 0;
     let mut i = 0;
-    while i < PLACES {
+    while i < PLACE_COUNT {
         let row = i;
         i += 1;
         if is_open_of(rows, row, subscriber) {

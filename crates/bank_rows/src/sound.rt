@@ -15,8 +15,8 @@ use crate::layout::PLACES_AT;
 use crate::layout::STATE_SIZE;
 use crate::places::BOOKED;
 use crate::places::OPEN;
-use bank_state::limits::NONCES;
-use bank_state::limits::PLACES;
+use bank_state::limits::NONCE_COUNT;
+use bank_state::limits::PLACE_COUNT;
 use message::limits::FILE_BYTES;
 use message::limits::MAX_SEGMENTS;
 use message::limits::SEGMENT_BYTES;
@@ -42,7 +42,7 @@ fn are_sound_files(rows: &[u64]) -> bool
     ensures { λ r. ⌜ r ≡ allBelow (isSoundFile (now (rows .entry))) placeCount ⌝ }
 {
     let mut i = 0;
-    while i < PLACES {
+    while i < PLACE_COUNT {
         if (FILE_BYTES as u64) < rows[FILES_AT + i] {
             return false;
         }
@@ -87,7 +87,7 @@ fn are_sound_places(rows: &[u64]) -> bool
     ensures { λ r. ⌜ r ≡ allBelow (isSoundPlace (now (rows .entry))) placeCount ⌝ }
 {
     let mut i = 0;
-    while i < PLACES {
+    while i < PLACE_COUNT {
         if !is_sound_place(rows, i) {
             return false;
         }
@@ -134,10 +134,10 @@ pub fn is_sound(rows: &[u64]) -> bool
     if rows.len() != STATE_SIZE {
         return false;
     }
-    if (PLACES as u64) < rows[DOWNLOAD_COUNT_AT] {
+    if (PLACE_COUNT as u64) < rows[DOWNLOAD_COUNT_AT] {
         return false;
     }
-    if (NONCES as u64) < rows[NONCE_COUNT_AT] {
+    if (NONCE_COUNT as u64) < rows[NONCE_COUNT_AT] {
         return false;
     }
     if !are_sound_files(rows) {

@@ -26,8 +26,8 @@ window = 300
 abbrev pub maxOpen : ℕ
 maxOpen = 8
 
-abbrev pub openPerSubscriber : ℕ
-openPerSubscriber = 4
+abbrev pub maxOpenPerSubscriber : ℕ
+maxOpenPerSubscriber = 4
 
 -- "64 nonces remembered"
 abbrev pub nonceCount : ℕ

@@ -1,7 +1,7 @@
 // The clock, and the transactions and nonces that it drops.
 use crate::limits::IDLE_LIMIT;
-use crate::limits::NONCES;
-use crate::limits::PLACES;
+use crate::limits::NONCE_COUNT;
+use crate::limits::PLACE_COUNT;
 use crate::limits::WINDOW;
 use crate::search::is_download;
 use crate::search::is_open;
@@ -72,14 +72,14 @@ fn stays(e: Download, which: Ended) -> bool
 }
 
 // Ends downloads; the others move to the front, in the order of their openings.
-pub fn end_downloads(downloads: [Download; PLACES], which: Ended) -> [Download; PLACES]
+pub fn end_downloads(downloads: [Download; PLACE_COUNT], which: Ended) -> [Download; PLACE_COUNT]
     ensures { λ r. ⌜ r ≡ endDownloads which downloads ⌝ }
 {
     let free = no_download();
-    let mut kept = [free; PLACES];
+    let mut kept = [free; PLACE_COUNT];
     let mut n = 0;
     let mut i = 0;
-    while i < PLACES {
+    while i < PLACE_COUNT {
         let e = downloads[i];
         i += 1;
         if stays(e, which) {
@@ -101,14 +101,14 @@ fn is_kept(e: Nonce, clock: u64) -> bool
 }
 
 // Forgets the nonces whose timestamp is too far behind the clock; the others move to the front, in the order of their openings.
-fn forget(nonces: [Nonce; NONCES], clock: u64) -> [Nonce; NONCES]
+fn forget(nonces: [Nonce; NONCE_COUNT], clock: u64) -> [Nonce; NONCE_COUNT]
     ensures { λ r. ⌜ r ≡ forget clock nonces ⌝ }
 {
     let free = no_nonce();
-    let mut kept = [free; NONCES];
+    let mut kept = [free; NONCE_COUNT];
     let mut n = 0;
     let mut i = 0;
-    while i < NONCES {
+    while i < NONCE_COUNT {
         let e = nonces[i];
         i += 1;
         if is_kept(e, clock) {
@@ -176,7 +176,7 @@ fn drop_uploads(b: Bank, orders: &mut [u8]) -> Bank
 {
     let mut c = b;
     let mut i = 0;
-    while i < PLACES {
+    while i < PLACE_COUNT {
         c = drop_upload(c, i, orders);
         i += 1;
     }

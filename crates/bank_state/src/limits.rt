@@ -1,7 +1,7 @@
 // The bank's own numbers of document 01. Each has the same name in specs/Limits.antt.
 
 // Order places, and mailboxes.
-pub const PLACES: usize = 8;
+pub const PLACE_COUNT: usize = 8;
 
 // The bytes of a store: all places, or all mailboxes.
 pub const STORE_BYTES: usize = 30720;
@@ -23,7 +23,7 @@ pub const MAX_OPEN: usize = 8;
 pub const MAX_OPEN_PER_SUBSCRIBER: usize = 4;
 
 // Remembered nonces.
-pub const NONCES: usize = 64;
+pub const NONCE_COUNT: usize = 64;
 
 // Accepted openings: the order numbers A000 to ZZZZ.
 pub const MAX_OPENINGS: u64 = 1213056;

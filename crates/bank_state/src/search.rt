@@ -1,6 +1,6 @@
 // What is open, in use and remembered. A search gives the index of the first record that passes, and the row's length where none does.
-use crate::limits::NONCES;
-use crate::limits::PLACES;
+use crate::limits::NONCE_COUNT;
+use crate::limits::PLACE_COUNT;
 use crate::state::Bank;
 use crate::state::Download;
 use crate::state::Nonce;
@@ -105,11 +105,11 @@ fn place_passes(test: PlaceTest, p: Place) -> bool
     }
 }
 
-fn first_place(places: [Place; PLACES], test: PlaceTest) -> usize
+fn first_place(places: [Place; PLACE_COUNT], test: PlaceTest) -> usize
     ensures { λ r. ⌜ r ≡ firstOf (placePasses test) places ⌝ }
 {
     let mut i = 0;
-    while i < PLACES {
+    while i < PLACE_COUNT {
         let p = places[i];
         if place_passes(test, p) {
             return i;
@@ -119,12 +119,12 @@ fn first_place(places: [Place; PLACES], test: PlaceTest) -> usize
     i
 }
 
-fn count_places(places: [Place; PLACES], test: PlaceTest) -> usize
+fn count_places(places: [Place; PLACE_COUNT], test: PlaceTest) -> usize
     ensures { λ r. ⌜ r ≡ countOf (placePasses test) places ⌝ }
 {
     let mut n: usize = 0;
     let mut i = 0;
-    while i < PLACES {
+    while i < PLACE_COUNT {
         let p = places[i];
         i += 1;
         if place_passes(test, p) {
@@ -166,11 +166,11 @@ fn download_passes(test: DownloadTest, e: Download) -> bool
     }
 }
 
-fn first_download(downloads: [Download; PLACES], test: DownloadTest) -> usize
+fn first_download(downloads: [Download; PLACE_COUNT], test: DownloadTest) -> usize
     ensures { λ r. ⌜ r ≡ firstOf (downloadPasses test) downloads ⌝ }
 {
     let mut i = 0;
-    while i < PLACES {
+    while i < PLACE_COUNT {
         let e = downloads[i];
         if download_passes(test, e) {
             return i;
@@ -180,12 +180,12 @@ fn first_download(downloads: [Download; PLACES], test: DownloadTest) -> usize
     i
 }
 
-fn count_downloads(downloads: [Download; PLACES], test: DownloadTest) -> usize
+fn count_downloads(downloads: [Download; PLACE_COUNT], test: DownloadTest) -> usize
     ensures { λ r. ⌜ r ≡ countOf (downloadPasses test) downloads ⌝ }
 {
     let mut n: usize = 0;
     let mut i = 0;
-    while i < PLACES {
+    while i < PLACE_COUNT {
         let e = downloads[i];
         i += 1;
         if download_passes(test, e) {
@@ -215,11 +215,11 @@ fn nonce_passes(test: NonceTest, e: Nonce) -> bool
     }
 }
 
-fn first_nonce(nonces: [Nonce; NONCES], test: NonceTest) -> usize
+fn first_nonce(nonces: [Nonce; NONCE_COUNT], test: NonceTest) -> usize
     ensures { λ r. ⌜ r ≡ firstOf (noncePasses test) nonces ⌝ }
 {
     let mut i = 0;
-    while i < NONCES {
+    while i < NONCE_COUNT {
         let e = nonces[i];
         if nonce_passes(test, e) {
             return i;
@@ -296,5 +296,5 @@ pub fn is_remembered(b: Bank, value: Bits128) -> bool
     ensures { λ r. ⌜ r ≡ isRemembered value b ⌝ }
 {
     let nonces = b.nonces;
-    first_nonce(nonces, NonceTest::Value(value)) < NONCES
+    first_nonce(nonces, NonceTest::Value(value)) < NONCE_COUNT
 }

@@ -1,6 +1,6 @@
 // The bank's state: order places, open downloads, remembered nonces, and the lengths of the files in the mailboxes.
-use crate::limits::NONCES;
-use crate::limits::PLACES;
+use crate::limits::NONCE_COUNT;
+use crate::limits::PLACE_COUNT;
 use frame_table::fields::Bits128;
 ghost use mathlib.Core.Path.{_≡_};
 ghost use Rattle.bank_state.specs.State.{noPlace, noDownload, noNonce, fresh, fileLength};
@@ -47,10 +47,10 @@ pub struct Nonce {
 pub struct Bank {
     pub clock: u64,
     pub openings: u64,
-    pub places: [Place; PLACES],
-    pub downloads: [Download; PLACES],
-    pub nonces: [Nonce; NONCES],
-    pub files: [u64; PLACES],
+    pub places: [Place; PLACE_COUNT],
+    pub downloads: [Download; PLACE_COUNT],
+    pub nonces: [Nonce; NONCE_COUNT],
+    pub files: [u64; PLACE_COUNT],
 }
 
 // What is free is zero.
@@ -103,30 +103,30 @@ pub fn fresh() -> Bank
     ensures { λ r. ⌜ r ≡ fresh ⌝ }
 {
     let place = no_place();
-    let places = [place; PLACES];
+    let places = [place; PLACE_COUNT];
     let download = no_download();
-    let downloads = [download; PLACES];
+    let downloads = [download; PLACE_COUNT];
     let nonce = no_nonce();
-    let nonces = [nonce; NONCES];
+    let nonces = [nonce; NONCE_COUNT];
     Bank {
         clock: 0,
         openings: 0,
         places,
         downloads,
         nonces,
-        files: [0u64; PLACES],
+        files: [0u64; PLACE_COUNT],
     }
 }
 
 // The length of the file in a subscriber's mailbox, 0 where it is empty.
-pub fn file_length(files: [u64; PLACES], subscriber: u64) -> u64
+pub fn file_length(files: [u64; PLACE_COUNT], subscriber: u64) -> u64
     ensures { λ r. ⌜ r ≡ fileLength subscriber files ⌝ }
 {
     if subscriber == 0 {
         return files[0];
     }
     let i = (subscriber - 1) as usize;
-    if i < PLACES {
+    if i < PLACE_COUNT {
         return files[i];
     }
     0

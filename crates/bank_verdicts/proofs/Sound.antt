@@ -37,7 +37,7 @@ use Rattle.message.proofs.Verdicts.{by-test, and-false}
 use Rattle.bank_state.specs.declared.state.Bank.{Bank}
 use Rattle.bank_state.specs.declared.state.Download.{Download}
 use Rattle.bank_state.specs.declared.state.Place.{Place}
-use Rattle.bank_state.specs.Limits.{placeCount, nonceCount, window, maxOpen, openPerSubscriber, maxOpenings}
+use Rattle.bank_state.specs.Limits.{placeCount, nonceCount, window, maxOpen, maxOpenPerSubscriber, maxOpenings}
 use Rattle.bank_state.specs.Search.{freePlace, freeNonce, openCount, openCountOf, isRemembered}
 use Rattle.bank_state.specs.State.{fileLength}
 use Rattle.bank_verdicts.specs.declared.verdict.Direction.{Direction}
@@ -118,7 +118,7 @@ pub record Acceptable (b : Bank) (q : Fields) : Type 0 where
   pub few : segments q ≤ maxSegments
   pub timely : leb (b .clock) (timestamp q + window) ≡ true
   pub unseen : isRemembered (nonce q) b ≡ false
-  pub ofSubscriber : openCountOf (subscriber q) b < openPerSubscriber
+  pub ofSubscriber : openCountOf (subscriber q) b < maxOpenPerSubscriber
   pub ofAll : openCount b < maxOpen
   pub memory : freeNonce b < nonceCount
   pub numbers : b .openings < maxOpenings
@@ -166,7 +166,7 @@ module _ (first : ℕ) (b : Bank) (q : Fields) where
         few = ltb-false maxSegments (segments q) (failed code.MaxSegmentsExceeded);
         timely = in-time (not-false (inTime (timestamp q) (b .clock)) (replay .0));
         unseen = replay .1;
-        ofSubscriber = leb-false openPerSubscriber (openCountOf (subscriber q) b) (failed code.MaxTransactionsExceeded);
+        ofSubscriber = leb-false maxOpenPerSubscriber (openCountOf (subscriber q) b) (failed code.MaxTransactionsExceeded);
         ofAll = leb-false maxOpen (openCount b) (room .0);
         memory = leb-false nonceCount (freeNonce b) (room .2);
         numbers = leb-false maxOpenings (b .openings) (room .3);

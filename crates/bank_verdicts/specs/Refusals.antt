@@ -24,7 +24,7 @@ use Rattle.message.specs.Limits.{ful, fdl, subscribers, segmentBytes, maxSegmen
 use Rattle.bank_state.specs.declared.state.Bank.{Bank}
 use Rattle.bank_state.specs.declared.state.Download.{Download}
 use Rattle.bank_state.specs.declared.state.Place.{Place}
-use Rattle.bank_state.specs.Limits.{placeCount, nonceCount, window, maxOpen, openPerSubscriber, maxOpenings}
+use Rattle.bank_state.specs.Limits.{placeCount, nonceCount, window, maxOpen, maxOpenPerSubscriber, maxOpenings}
 use Rattle.bank_state.specs.Search.{
   freePlace,
   freeNonce,
@@ -127,7 +127,7 @@ emptyMailbox direction.Download b q = eqb (fileLength (subscriber q) (b .files))
 
 -- 091119: the subscriber has 4 open transactions
 unfoldable pub manyOpen : Bank → Fields → Bool
-manyOpen b q = leb openPerSubscriber (openCountOf (subscriber q) b)
+manyOpen b q = leb maxOpenPerSubscriber (openCountOf (subscriber q) b)
 
 -- ---- ALL SUBSCRIBERS TOGETHER
 

@@ -24,8 +24,8 @@ use Rattle.cases.specs.Table as table
 
 unfoldable pub frames : ℕ
 unfolding octets.numberFrom octets.number octets.bytesOf octets.fieldBytes octets.overwrite
-    frameTable.width frameTable.inRange frameTable.allowed frameTable.rowFits frameTable.findForm frameTable.formOf
-    frameRow.listed frameRow.wellFormed frameRow.stands frameRow.fieldSize frameRow.content frameRow.contents frameRow.behind
+    frameTable.width frameTable.valuesOf frameTable.inRange frameTable.allowed frameTable.rowFits frameTable.findForm frameTable.formOf
+    frameRow.spelled frameRow.listed frameRow.wellFormed frameRow.stands frameRow.fieldSize frameRow.content frameRow.contents frameRow.behind
     frameRow.dataOf frameRow.presentTags frameRow.highOf frameRow.lowOf frameRow.eachFrom frameRow.piece frameRow.join
     frameReader.fieldsOf frameReader.parse frameReader.readRequest frameReader.readReply
     frameWriter.contentOf frameWriter.contentsOf frameWriter.frameOf frameWriter.lengthFrom frameWriter.frameLength
@@ -48,7 +48,7 @@ unfolding clocks.isIdle clocks.freed clocks.dropUpload clocks.dropUploads clocks
     state.fresh state.fileLength store.partAt store.withPart store.zeroed store.fileOf
     refusals.noSubscriber refusals.longData refusals.requestRows refusals.unknownType refusals.manySegments refusals.inTime
     refusals.isReplay refusals.manyOpen refusals.isFull refusals.openingRows refusals.notOpen refusals.transactionRows
-    refusals.uploadAttempt refusals.isUnderrun refusals.isExceeded refusals.withoutRoom refusals.segmentRows refusals.uploadRows
+    refusals.uploadAttempt refusals.isUnderrun refusals.isExceeded refusals.segmentRows refusals.uploadRows
     refusals.downloadAttempt refusals.receiptRows refusals.downloadRows
     judgement.judgeOpening judgement.takes judgement.judgeUpload judgement.judgeDownload judgement.judgeOpen
     judgement.judgeTransaction judgement.judge

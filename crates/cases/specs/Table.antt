@@ -23,7 +23,7 @@ use Rattle.bank_state.specs.Rows.{countOf}
 use Rattle.bank_state.specs.State.{BankState, bankState, fresh}
 use Rattle.bank.specs.declared.call.FrameAnswer.{FrameAnswer}
 use Rattle.bank.specs.declared.call.FrameAnswer.the-variants.{Reply, WrongLength}
-use Rattle.bank.specs.Call.{frameCall}
+use Rattle.bank.specs.Call.{frameInput, frameCall}
 use Rattle.bank.specs.Mailbox.{fileCall}
 
 -- a row of the table
@@ -82,7 +82,7 @@ called (put n) p =
     let c = fileCall (p .bank .bank) 1 (replicate n 7) (p .bank .mailboxes) in
     record { bank = bankState (c .bank) (p .bank .orders) (c .mailboxes); replies = p .replies }
 called (request q d) p =
-    let c = frameCall (p .bank) clock (replicate idBytes 0) (frameOf q d) (replicate replyRoom 0) in
+    let c = frameCall (p .bank) (frameInput clock (replicate idBytes 0) (frameOf q d) (replicate replyRoom 0)) in
     record { bank = c .bankState; replies = p .replies ++ (replyIn (c .answer) (c .buffer) ∷ []) }
 
 unfoldable pub played : List HostCall → Played → Played

@@ -1,6 +1,6 @@
 // The closing tables: the book, the mailboxes, the runs' closing words and the runs' files, written into a lent output.
 use crate::line::put_hex;
-use bank_state::limits::PLACES;
+use bank_state::limits::PLACE_COUNT;
 use bank_state::search::is_booked;
 use bank_state::state::Place;
 use bank_state::store::file_of;
@@ -17,7 +17,7 @@ use print::closing::put_closing;
 use print::text::put_byte;
 use print::text::put_column;
 use print::text::put_text;
-use unit::record::RUNS;
+use unit::record::RUN_COUNT;
 use unit::state::UnitState;
 use unit::state::file_length_of;
 use unit::state::place_of;
@@ -33,7 +33,7 @@ ghost use Rattle.driver_print.specs.Tables.{rowAt, rowCount, tableOf, he
 // The most bytes of a table: the book's header and 16 of its rows.
 pub const TABLE_ROOM: usize = BOOK_HEADER_ROOM
     + 8
-    + RUNS * (ORDER_COLUMNS_ROOM + 2 * FILE_BYTES + 1);
+    + RUN_COUNT * (ORDER_COLUMNS_ROOM + 2 * FILE_BYTES + 1);
 
 // The closing tables.
 pub enum Table {
@@ -166,10 +166,10 @@ fn row_count(t: Table) -> usize
     ensures { λ r. ⌜ r ≡ rowCount t ⌝ }
 {
     match t {
-        Table::Book => PLACES,
-        Table::Mailboxes => PLACES,
-        Table::Words => RUNS,
-        Table::Files => RUNS,
+        Table::Book => PLACE_COUNT,
+        Table::Mailboxes => PLACE_COUNT,
+        Table::Words => RUN_COUNT,
+        Table::Files => RUN_COUNT,
     }
 }
 

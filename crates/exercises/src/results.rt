@@ -3,8 +3,8 @@ use crate::play::content_of;
 use crate::say::VALUES;
 use crate::say::say;
 use crate::say::say_closing;
-use crate::script::RUNS;
-use bank_state::limits::PLACES;
+use crate::script::RUN_COUNT;
+use bank_state::limits::PLACE_COUNT;
 use bank_state::search::is_booked;
 use bank_state::state::Place;
 use bank_state::store::file_of;
@@ -45,7 +45,7 @@ fn is_order(p: Place, c: Client) -> bool {
 // The place of a run's booked order; the number of places where it is not in the book.
 fn find_order(u: UnitState, c: Client) -> usize {
     let mut i = 0;
-    while i < PLACES {
+    while i < PLACE_COUNT {
         if is_order(place_of(u, i), c) {
             return i;
         }
@@ -65,7 +65,7 @@ struct Holding {
 // What the book has of an upload.
 fn book_has(u: UnitState, c: Client, payload: &[u8], orders: &[u8]) -> Holding {
     let i = find_order(u, c);
-    if PLACES <= i {
+    if PLACE_COUNT <= i {
         return Holding {
             there: false,
             length: 0,
@@ -82,7 +82,7 @@ fn book_has(u: UnitState, c: Client, payload: &[u8], orders: &[u8]) -> Holding {
 
 // What the mailbox of a download has, and whether the run, whose file this is, holds the statement.
 fn mailbox_has(u: UnitState, c: Client, statement: &[u8], file: &[u8]) -> Holding {
-    let i = (c.subscriber % (PLACES as u64 + 1)) as usize;
+    let i = (c.subscriber % (PLACE_COUNT as u64 + 1)) as usize;
     let mut length = 0;
     if 0 < i {
         length = file_length_of(u, i - 1);
@@ -147,7 +147,7 @@ fn say_row(c: Client, h: Holding, v: [u64; VALUES]) {
 
 // The row of client run i, from 0 on.
 fn say_run(u: UnitState, i: usize, text: &[u8], orders: &[u8], files: &[u8]) {
-    if RUNS <= i {
+    if RUN_COUNT <= i {
         return;
     }
     let r = u.runs[i];
@@ -169,7 +169,7 @@ fn say_run(u: UnitState, i: usize, text: &[u8], orders: &[u8], files: &[u8]) {
 // The rows of all client runs.
 pub(crate) fn say_results(u: UnitState, text: &[u8], orders: &[u8], files: &[u8]) {
     let mut i = 0;
-    while i < RUNS {
+    while i < RUN_COUNT {
         say_run(u, i, text, orders, files);
         i += 1;
     }

@@ -2,12 +2,12 @@
 use client::run::Direction;
 
 // The client runs, numbered from 1.
-pub(crate) const RUNS: usize = 5;
+pub(crate) const RUN_COUNT: usize = 5;
 
 // An order: direction, subscriber, the bytes of the payload or of the statement, and the run's first exchange number.
 pub(crate) struct Order(pub Direction, pub u64, pub usize, pub u64);
 
-const ORDERS: [Order; RUNS] = [
+const ORDERS: [Order; RUN_COUNT] = [
     Order(Direction::Upload, 1, 700, 100),
     Order(Direction::Download, 2, 300, 200),
     Order(Direction::Upload, 1, 700, 300),
@@ -47,7 +47,7 @@ pub(crate) fn order_of(run: usize) -> Order {
     if run == 0 {
         return ORDERS[0];
     }
-    if RUNS < run {
+    if RUN_COUNT < run {
         return ORDERS[0];
     }
     ORDERS[run - 1]

@@ -4,7 +4,7 @@ use frame_table::fields::Fields;
 use frame_table::table;
 use frame_table::table::Characters;
 use frame_table::table::FRAME_LIMIT;
-use frame_table::table::TAGS;
+use frame_table::table::TAG_COUNT;
 use frame_table::table::Values;
 use frame_table::table::allowed;
 use frame_table::table::in_range;
@@ -130,20 +130,20 @@ fn tag_bit(size: usize, tag: usize) -> u32
     if size == 0 { 0 } else { 1 << tag }
 }
 
-// The least tag, from a given one on, whose field can stand at the front of rest; TAGS where there is none.
+// The least tag, from a given one on, whose field can stand at the front of rest; TAG_COUNT where there is none.
 fn next_tag(rest: &[u8], least: usize) -> usize
     requires { ⌜ least ≤ tagCount ⌝ }
     ensures { λ r. ⌜ (least ≤ r) × (r ≤ tagCount) × NoneStands least r (now (rest .entry)) ⌝ }
 {
     if rest.len() < 3 {
-        return TAGS;
+        return TAG_COUNT;
     }
     let tag = wide(rest[0]) as usize;
     if tag < least {
-        return TAGS;
+        return TAG_COUNT;
     }
-    if TAGS <= tag {
-        return TAGS;
+    if TAG_COUNT <= tag {
+        return TAG_COUNT;
     }
     tag
 }
@@ -177,13 +177,13 @@ fn parse(frame: &[u8]) -> Parsed
     ensures { λ r. ⌜ (r .fields ≡ parse (now (frame .entry))) × DataAt (now (frame .entry)) (r .from) (r .end) ⌝ }
 {
     let mut tags: u32 = 0;
-    let mut high = [0u64; TAGS];
-    let mut low = [0u64; TAGS];
+    let mut high = [0u64; TAG_COUNT];
+    let mut low = [0u64; TAG_COUNT];
     let mut from = 0;
     let mut end = 0;
     let mut rest = frame;
     let mut tag = next_tag(frame, 0);
-    while tag < TAGS {
+    while tag < TAG_COUNT {
         let n = field_size(rest, tag);
         tags = tags + tag_bit(n, tag);
         let content = inner(rest, n);

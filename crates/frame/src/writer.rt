@@ -7,7 +7,7 @@ use frame_table::table::Characters;
 use frame_table::table::DATA;
 use frame_table::table::FRAME_LIMIT;
 use frame_table::table::Form;
-use frame_table::table::TAGS;
+use frame_table::table::TAG_COUNT;
 use frame_table::table::Values;
 use frame_table::table::in_range;
 use frame_table::table::is_reply_form;
@@ -177,7 +177,7 @@ fn frame_length(fields: Fields, data: &[u8]) -> usize
 {
     let mut length = 0;
     let mut tag = 0;
-    while tag < TAGS {
+    while tag < TAG_COUNT {
         if !field_writable(fields.tags, tag, fields.high[tag], fields.low[tag], data) {
             return FRAME_LIMIT + 1;
         }
@@ -232,7 +232,7 @@ pub fn write(fields: Fields, data: &[u8], out: &mut [u8]) -> Written
     }
     let mut at = 0;
     let mut tag = 0;
-    while tag < TAGS {
+    while tag < TAG_COUNT {
         at = put(
             out,
             at,

@@ -11,7 +11,7 @@ use crate::table::RETURN_CODE;
 use crate::table::SEGMENT;
 use crate::table::SEGMENTS;
 use crate::table::SUBSCRIBER;
-use crate::table::TAGS;
+use crate::table::TAG_COUNT;
 use crate::table::TIMESTAMP;
 use crate::table::TRANSACTION;
 use crate::table::form_of;
@@ -31,8 +31,8 @@ pub struct Bits128 {
 // Which tags stand (bit t for tag t), and their numbers, 64 bits high and 64 low; 0 where a tag is absent, and for the data.
 pub struct Fields {
     pub tags: u32,
-    pub high: [u64; TAGS],
-    pub low: [u64; TAGS],
+    pub high: [u64; TAG_COUNT],
+    pub low: [u64; TAG_COUNT],
 }
 
 pub fn same(a: Bits128, b: Bits128) -> bool
@@ -69,8 +69,8 @@ impl Fields {
     {
         Fields {
             tags: 0,
-            high: [0u64; TAGS],
-            low: [0u64; TAGS],
+            high: [0u64; TAG_COUNT],
+            low: [0u64; TAG_COUNT],
         }
     }
 
@@ -181,7 +181,7 @@ impl Fields {
     pub fn with_wide(self, tag: usize, value: Bits128) -> Fields
         ensures { λ r. ⌜ r ≡ withWide tag value self ⌝ }
     {
-        if TAGS <= tag {
+        if TAG_COUNT <= tag {
             return self;
         }
         let mut next = self;

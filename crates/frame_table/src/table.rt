@@ -10,7 +10,7 @@ ghost use mathlib.Core.Bool.{cond};
 ghost use lib.Dec.{eqb};
 
 // How many tags there are, from 0 on.
-pub const TAGS: usize = 15;
+pub const TAG_COUNT: usize = 15;
 
 // How many bytes a frame has at most.
 pub const FRAME_LIMIT: usize = 1024;

@@ -4,7 +4,7 @@ use crate::text::put_column;
 use crate::text::put_order_number;
 use crate::text::put_text;
 use bank_rows::places::place_at;
-use bank_state::limits::PLACES;
+use bank_state::limits::PLACE_COUNT;
 use bank_state::search::is_booked;
 use bank_state::state::Place;
 use message::order_numbers::order_number_of;
@@ -23,7 +23,7 @@ pub const BOOK_HEADER_ROOM: usize = 22 + 1;
 
 pub const ORDER_COLUMNS_ROOM: usize = 4 + 1 + 21 + 21;
 
-pub const BOOK_ROOM: usize = BOOK_HEADER_ROOM + PLACES * ORDER_COLUMNS_ROOM;
+pub const BOOK_ROOM: usize = BOOK_HEADER_ROOM + PLACE_COUNT * ORDER_COLUMNS_ROOM;
 
 // Writes the names of the columns, and the byte after them.
 pub fn put_book_header(output: &mut [u8], at: usize, end: u8) -> usize
@@ -65,7 +65,7 @@ fn put_orders(output: &mut [u8], at: usize, rows: &[u64]) -> usize
 {
     let mut end = at;
     let mut i = 0;
-    while i < PLACES {
+    while i < PLACE_COUNT {
         end = put_order(output, end, place_at(rows, i));
         i += 1;
     }

@@ -8,7 +8,7 @@ ghost use Rattle.unit.specs.Records.{kindOf, headOf, hasLength, bytesAt,
 ghost use Rattle.unit.specs.Records.{isRun, namesRun, isWhole, callOf, isCall};
 
 // The client runs, numbered from 1.
-pub const RUNS: usize = 16;
+pub const RUN_COUNT: usize = 16;
 
 // The bytes of the longest record: an upload's head and a payload of 65,535.
 pub const RECORD_BYTES: usize = 26 + 65535;
@@ -138,7 +138,7 @@ fn is_run(n: u64) -> bool
     if n < 1 {
         return false;
     }
-    n <= RUNS as u64
+    n <= RUN_COUNT as u64
 }
 
 // Whether the record names a run that there is, where it names one.

@@ -1,5 +1,5 @@
 // The unit: one bank and 16 client runs, with what each run keeps between its calls.
-use crate::record::RUNS;
+use crate::record::RUN_COUNT;
 use bank_state::state::Bank;
 use bank_state::state::Place;
 use bank_state::state::fresh as fresh_bank;
@@ -15,7 +15,7 @@ ghost use Rattle.unit.specs.Records.{runCount};
 ghost use Rattle.unit.specs.State.{fresh};
 
 // The bytes of all runs' payload rooms, and of all their file buffers.
-pub const ROOMS_BYTES: usize = RUNS * FILE_BYTES;
+pub const ROOMS_BYTES: usize = RUN_COUNT * FILE_BYTES;
 
 // A client run, the nonce bytes that it keeps, and how many bytes its payload has.
 pub struct Run {
@@ -27,7 +27,7 @@ pub struct Run {
 // The bank and the client runs.
 pub struct UnitState {
     pub bank: Bank,
-    pub runs: [Run; RUNS],
+    pub runs: [Run; RUN_COUNT],
 }
 
 // A unit with a fresh bank and no run begun.
@@ -41,7 +41,7 @@ pub fn fresh() -> UnitState
         nonce: [0u8; NONCE_BYTES],
         payload: 0,
     };
-    let runs = [run; RUNS];
+    let runs = [run; RUN_COUNT];
     UnitState { bank, runs }
 }
 
