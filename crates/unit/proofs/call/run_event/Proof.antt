@@ -1,11 +1,11 @@
--- `run_call` meets its contract: what is kept fits. Assumes nothing.
+-- `run_event` meets its contract: what is kept fits. Assumes nothing.
 use native.Mathlib.Omega.{arith}
 use mathlib.Core.Path.{sym, _∙_}
 use Rattle.unit.proofs.Begins.{kept-fits, begin-head}
 use Rattle.unit.proofs.Steps.{ran}
 use borrow.Author.Needs.{needs}
-use Rattle.unit.proofs.call.run_call.Statement.{statement}
-use Rattle.unit.proofs.call.run_call.Tie as tie
+use Rattle.unit.proofs.call.run_event.Statement.{statement}
+use Rattle.unit.proofs.call.run_event.Tie as tie
 
 nonce-for-requires : tie.Need-nonce-for-requires
 nonce-for-requires c κs =
@@ -46,8 +46,8 @@ returns c =
     (at-keep .before .before .keeps .ensures) (at-keep .keep-payload .ensures) (c .before .before .next-run .ensures)
     (c .before .with-run .ensures) (c .run-answer .ensures)
 
-pub run-call-spec : {M : Type 1} → statement M
-run-call-spec =
+pub run-event-spec : {M : Type 1} → statement M
+run-event-spec =
     tie.close
     (tie.spec
     (λ c κs. search needs)
