@@ -30,35 +30,33 @@ use Rattle.bank_verdicts.specs.declared.verdict.Verdict.the-variants as verdict
 use Rattle.bank_verdicts.specs.Judgement.{transactionOf, mailboxSegments, accepted, judgeOpening}
 use Rattle.bank_verdicts.specs.Judgement.{judgeUpload, judgeDownload, uploadAt, downloadOf, judgeOpen, judgeTransaction}
 use Rattle.bank_verdicts.specs.Refusals.{notOpen, transactionRows}
-use Rattle.bank_verdicts.specs.Replies.{replyTo, segmentIn}
+use Rattle.bank_verdicts.specs.Replies.{segmentIn}
 use Rattle.bank_verdicts.proofs.Sound.{OpeningSound, UploadSound, DownloadSound}
 use Rattle.bank_verdicts.proofs.Sound.{judged-opening, judged-upload, judged-download}
 use Rattle.bank_verdicts.proofs.Sound as sound
 use Rattle.bank_verdicts.proofs.verdict.DownloadAction as actions
 use Rattle.bank_verdicts.proofs.verdict.Verdict.{the-type}
-use Rattle.bank_openings.specs.Openings.{openUpload, openDownload, counted}
+use Rattle.bank_openings.specs.Openings.{openUpload, openDownload}
 use Rattle.bank_uploads.specs.Uploads.{UploadStep, uploadStep}
-use Rattle.bank.specs.declared.call.FrameAnswer.{FrameAnswer}
 use Rattle.bank.specs.Call.{onUpload, uploadActs, staying, onDownload, downloadActs, carryOut}
-use Rattle.bank.specs.Call.{uploadVerdict, downloadVerdict, mailboxSegment, stepBy, SentAs, FrameCall, frameNumber, replied}
+use Rattle.bank.specs.Call.{uploadVerdict, downloadVerdict, fileSegment}
 
--- a verdict whose reply carries a segment leaves the mailboxes and their lengths
-pub same-segment : (v : Verdict) (w : BankState) (q : Fields) (d : List ℕ) (s : ℕ) →
-    mailboxSegment (carryOut v w q d) s (segmentIn v q) ≡ mailboxSegment w s (segmentIn v q)
-unfolding mailboxSegment openDownload counted
-same-segment verdict.Unreadable w q d s = refl
-same-segment (verdict.Refused c) w q d s = refl
-same-segment (verdict.Of t (action.Upload a)) w q d s = refl
-same-segment (verdict.Of t (action.Download (down.Opened n))) w q d s = refl
-same-segment (verdict.Of t (action.Download (down.Delivered n))) w q d s = refl
-same-segment (verdict.Of t (action.Download (down.SentAgain n))) w q d s = refl
-same-segment (verdict.Of t (action.Download (down.Point k))) w q d s = refl
-same-segment (verdict.Of t (action.Download down.Cancelled)) w q d s = refl
-same-segment (verdict.Of t (action.Download down.Confirmed)) w q d s = refl
-same-segment (verdict.Of t (action.Download down.Declined)) w q d s = refl
+-- a verdict whose reply carries a segment leaves the mailboxes
+pub same-segment : (v : Verdict) (w : BankState) (q : Fields) (d : List ℕ) (s size : ℕ) →
+    fileSegment (carryOut v w q d .mailboxes) s size (segmentIn v q) ≡ fileSegment (w .mailboxes) s size (segmentIn v q)
+same-segment verdict.Unreadable w q d s size = refl
+same-segment (verdict.Refused c) w q d s size = refl
+same-segment (verdict.Of t (action.Upload a)) w q d s size = refl
+same-segment (verdict.Of t (action.Download (down.Opened n))) w q d s size = refl
+same-segment (verdict.Of t (action.Download (down.Delivered n))) w q d s size = refl
+same-segment (verdict.Of t (action.Download (down.SentAgain n))) w q d s size = refl
+same-segment (verdict.Of t (action.Download (down.Point k))) w q d s size = refl
+same-segment (verdict.Of t (action.Download down.Cancelled)) w q d s size = refl
+same-segment (verdict.Of t (action.Download down.Confirmed)) w q d s size = refl
+same-segment (verdict.Of t (action.Download down.Declined)) w q d s size = refl
 
 -- the verdicts that are of no transaction
-abbrev ofNoneKeys : List ℕ
+abbrev pub ofNoneKeys : List ℕ
 ofNoneKeys = 0 ∷ 1 ∷ []
 
 -- they change nothing
@@ -191,14 +189,3 @@ module _ (r : TransactionRequest) (b : Bank) (q : Fields) (n : ℕ) where
     pub in-none : placeCount ≤ j → judgeTransaction r b q n ≡ verdict.Refused code.UnknownTransaction
     unfolding judgeTransaction transactionRows notOpen judgeOpen
     in-none k = rw (← e, ← f, le-leb placeCount i h, le-leb placeCount j k)
-
--- ---- the call, from the verdict carried out and the reply written
-
-pub replied-by : (v : Verdict) (w : BankState) (q : Fields) (d : List ℕ)
-    {u : Verdict} {x : BankState} {buffer after : List ℕ} {a : FrameAnswer} {k : ℕ}
-    → u ≡ v → x ≡ carryOut v w q d
-    → SentAs (replyTo u q) (mailboxSegment x (subscriber q) (segmentIn u q)) buffer a k after
-    → _≡_ {A = FrameCall} (record { bankState = x; buffer = after; answer = a; number = frameNumber a; code = k })
-    (replied (stepBy v w q d) buffer)
-replied-by v w q d e f sent =
-    rw (sent .answered, sent .written, sent .coded, e, f, same-segment v w q d (subscriber q))

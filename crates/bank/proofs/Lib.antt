@@ -3,3 +3,5 @@ pub mod Accepted
 pub mod Safety
 pub mod Codes
 pub mod Carried
+pub mod Held
+pub mod Lent

@@ -1,5 +1,5 @@
 -- A frame arrives: the lent lengths, the clock and the drops, the reading, the verdict and what it does, and the reply.
-use Prim.Native.Nat.{ℕ, _-_, _<_, _≤_}
+use Prim.Native.Nat.{ℕ, _-_}
 use mathlib.Core.Path.{_≡_}
 use mathlib.Core.Bool.{Bool, true, false, cond, _&&_}
 use mathlib.Core.List.{List, []}
@@ -15,7 +15,6 @@ use Rattle.frame.specs.Reader.{readRequest, readReply}
 use Rattle.frame.specs.Row.{dataOf}
 use Rattle.frame_table.specs.Table.{isReplyForm}
 use Rattle.frame.specs.Writer.{writeAnswer, writeBuffer}
-use Rattle.message.specs.Limits.{subscribers}
 use Rattle.message.specs.Segments.{segmentOf}
 use Rattle.bank_state.specs.declared.state.Bank.{Bank}
 use Rattle.bank_state.specs.declared.clock.Ended.{Ended}
@@ -41,8 +40,6 @@ use Rattle.bank_openings.specs.Openings.{openUpload, openDownload}
 use Rattle.bank_uploads.specs.Uploads.{placeAfter, bytesAfter}
 use Rattle.bank.specs.declared.call.FrameAnswer.{FrameAnswer}
 use Rattle.bank.specs.declared.call.FrameAnswer.the-variants.{Reply, WrongLength}
-use Rattle.bank.specs.declared.call.FrameOut.{FrameOut}
-use Rattle.bank.specs.declared.steps.Stepped.{Stepped}
 
 -- what a request comes to: its verdict, the bank and its stores after it, and the reply's fields and data
 pub record Step : Type 0 where
@@ -127,10 +124,13 @@ downloadVerdict r j b q =
 
 -- ---- the reply
 
--- the bytes of segment s of a subscriber's mailbox; segment 0 stands for none
+-- the bytes of segment s of a subscriber's file of n bytes; segment 0 stands for none
+abbrev pub fileSegment : List ℕ → ℕ → ℕ → ℕ → List ℕ
+fileSegment mailboxes subscriber n s = cond (eqb s 0) [] (segmentOf (fileOf mailboxes (subscriber - 1) n) s)
+
+-- the bytes of segment s of a subscriber's mailbox
 unfoldable pub mailboxSegment : BankState → ℕ → ℕ → List ℕ
-mailboxSegment w subscriber s =
-    cond (eqb s 0) [] (segmentOf (fileOf (w .mailboxes) (subscriber - 1) (fileLength subscriber (w .bank .files))) s)
+mailboxSegment w subscriber s = fileSegment (w .mailboxes) subscriber (fileLength subscriber (w .bank .files)) s
 
 -- what a verdict on the request q with the data d comes to
 abbrev pub stepBy : Verdict → BankState → Fields → List ℕ → Step

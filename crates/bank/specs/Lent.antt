@@ -7,7 +7,7 @@ use mathlib.Core.Path.{_≡_}
 use lib.ListN.{length}
 use Rattle.frame_table.specs.declared.fields.Fields.{Fields}
 use Rattle.frame_table.specs.Names.{subscriber}
-use Rattle.message.specs.Limits.{subscribers}
+use Rattle.message.specs.Limits.{subscribers, segmentBytes}
 use Rattle.bank_state.specs.Limits.{storeBytes}
 use Rattle.bank_state.specs.State.{BankState, bankState}
 use Rattle.bank_rows.specs.State.{bankOf, stored, Laid}
@@ -17,8 +17,8 @@ use Rattle.bank.specs.declared.call.FrameAnswer.{FrameAnswer}
 use Rattle.bank.specs.declared.call.FrameAnswer.the-variants as frame
 use Rattle.bank.specs.declared.call.FrameOut.{FrameOut}
 use Rattle.bank.specs.declared.mailbox.FileAnswer.{FileAnswer}
-use Rattle.bank.specs.declared.mailbox.FileAnswer.the-variants as file
-use Rattle.bank.specs.Call.{carryOut, FrameInput, frameNumber, FrameCall, frameCall, Step, replied}
+use Rattle.bank.specs.declared.mailbox.FileAnswer.the-variants as answers
+use Rattle.bank.specs.Call.{carryOut, respond, FrameInput, frameNumber, FrameCall, replied, frameCall}
 use Rattle.bank.specs.Mailbox.{fileNumber, FileCall, fileCall}
 
 -- the memory lent to the bank that it keeps between calls: rows, order places, mailboxes
@@ -74,6 +74,10 @@ frameTurnedAway m a = record {
 unfoldable pub lentFrameCall : Lent → FrameInput → LentFrameCall
 lentFrameCall m a = cond (isSound (m .rows)) (keptFrame m (frameCall (stateOf m) a)) (frameTurnedAway m a)
 
+-- a request, read, at the clock that the call has set
+abbrev pub lentRespond : ℕ → Lent → Fields → List ℕ → List ℕ → LentFrameCall
+lentRespond first m q d buffer = keptFrame m (replied (respond first (stateOf m) q d) buffer)
+
 -- ---- a file goes into a mailbox, with the rows and the mailboxes' store lent
 
 pub record LentFileCall : Type 0 where
@@ -96,7 +100,7 @@ keptFile rows c = record {
 unfoldable pub lentFileCall : List ℕ → ℕ → List ℕ → List ℕ → LentFileCall
 lentFileCall rows mailbox file mailboxes =
     cond (isSound rows) (keptFile rows (fileCall (bankOf rows) mailbox file mailboxes))
-    (lentFileCallOf file.WrongLength rows mailboxes)
+    (lentFileCallOf answers.WrongLength rows mailboxes)
 
 -- ---- the steps of a frame call
 
@@ -107,10 +111,11 @@ pub record Prepared (rows orders mailboxes : List ℕ) : Type 0 where
   pub places : length orders ≡ storeBytes
   pub mailboxStore : length mailboxes ≡ storeBytes
 
--- and the request is a subscriber's
-pub record Ready (q : Fields) (rows orders mailboxes : List ℕ) : Type 0 where
+-- and the request is a subscriber's, with at most one segment of data
+pub record Ready (q : Fields) (d rows orders mailboxes : List ℕ) : Type 0 where
   pub known : 0 < subscriber q
   pub most : subscriber q ≤ subscribers
+  pub short : length d ≤ segmentBytes
   pub memory : Prepared rows orders mailboxes
 
 -- what is left where the request q with the data d was judged to be v: the verdict, and the memory

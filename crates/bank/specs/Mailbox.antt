@@ -12,7 +12,6 @@ use Rattle.bank_state.specs.Limits.{storeBytes}
 use Rattle.bank_state.specs.State.{fileLength, withFiles}
 use Rattle.bank.specs.declared.mailbox.FileAnswer.{FileAnswer}
 use Rattle.bank.specs.declared.mailbox.FileAnswer.the-variants.{Done, WrongLength, NoMailbox, WrongFile, MailboxFull}
-use Rattle.bank.specs.declared.mailbox.FileOut.{FileOut}
 
 -- *The host* (a number, nothing changed, clock included)
 unfoldable pub fileRefusals : Bank → ℕ → List ℕ → List ℕ → List (Bool × FileAnswer)
@@ -37,9 +36,6 @@ pub record FileCall : Type 0 where
   pub mailboxes : List ℕ
   pub answer : FileAnswer
   pub number : ℕ
-
-abbrev pub fileCallOf : FileOut → List ℕ → FileCall
-fileCallOf r mailboxes = record { bank = r .bank; mailboxes = mailboxes; answer = r .answer; number = fileNumber (r .answer) }
 
 -- "a number, nothing changed"
 abbrev pub refusedFile : FileAnswer → Bank → List ℕ → FileCall

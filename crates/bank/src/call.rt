@@ -1,12 +1,12 @@
 // A frame arrives: the lent lengths, the clock and the drops, the reading, the verdict carried out, and the reply.
 use crate::mailbox::mailbox_of;
 use crate::steps::step;
-use bank_state::clock::advance;
+use bank_rows::clock::advance;
+use bank_rows::numbers::file_length_of;
+use bank_rows::sound::is_sound;
 use bank_state::limits::ID_BYTES;
 use bank_state::limits::REPLY_ROOM;
 use bank_state::limits::STORE_BYTES;
-use bank_state::state::Bank;
-use bank_state::state::file_length;
 use bank_state::store::file_of;
 use bank_verdicts::replies::reply_to;
 use bank_verdicts::replies::segment_in;
@@ -21,15 +21,12 @@ use message::segments::segment_of;
 use octets::bytes::number;
 ghost use mathlib.Core.Path.{_≡_};
 ghost use mathlib.Core.Bool.{_&&_};
-ghost use mathlib.Core.List.{List};
-ghost use Prim.Native.Nat.{ℕ};
 ghost use lib.Dec.{eqb, leb};
-ghost use lib.ListN.{length};
 ghost use Rattle.frame_table.specs.Names.{subscriber};
 ghost use Rattle.bank_state.specs.Limits.{storeBytes, idBytes, replyRoom};
-ghost use Rattle.bank_state.specs.State.{bankState};
 ghost use Rattle.bank_verdicts.specs.Replies.{replyTo, segmentIn};
-ghost use Rattle.bank.specs.Call.{mailboxSegment, codeIn, SentAs, respond, frameCallOf, replied, frameCall};
+ghost use Rattle.bank.specs.Call.{fileSegment, codeIn, SentAs, frameInput};
+ghost use Rattle.bank.specs.Lent.{lent, lentFrameCallOf, lentRespond, lentFrameCall, Prepared};
 
 // The reply's length in the lent buffer, or document 01's number 1.
 pub enum FrameAnswer {
@@ -37,9 +34,8 @@ pub enum FrameAnswer {
     WrongLength,
 }
 
-// The bank after a call, the call's answer, and the return code of its reply, 0 where there is none.
+// A call's answer, and the return code of its reply, 0 where there is none.
 pub struct FrameOut {
-    pub bank: Bank,
     pub answer: FrameAnswer,
     pub code: u64,
 }
@@ -78,35 +74,30 @@ fn reply_with(fields: Fields, bytes: &[u8], buffer: &mut [u8]) -> Sent
     }
 }
 
-// The bytes of a segment of a subscriber's mailbox; none for segment 0.
-fn mailbox_segment(b: Bank, mailboxes: &[u8], subscriber: u64, segment: u64) -> &[u8]
-    ensures { λ r. ⌜ ((o : List ℕ) → now r ≡ mailboxSegment (bankState b o (now (mailboxes .entry))) subscriber segment) ⌝ }
+// The bytes of a segment of a subscriber's file of n bytes; none for segment 0.
+fn file_segment(mailboxes: &[u8], subscriber: u64, n: u64, segment: u64) -> &[u8]
+    ensures { λ r. ⌜ now r ≡ fileSegment (now (mailboxes .entry)) subscriber n segment ⌝ }
 {
     if segment == 0 {
         return &mailboxes[..0];
     }
-    let files = b.files;
-    let file = file_of(
-        mailboxes,
-        mailbox_of(subscriber),
-        file_length(files, subscriber),
-    );
+    let file = file_of(mailboxes, mailbox_of(subscriber), n);
     segment_of(file, segment)
 }
 
-// The reply that a verdict on the request q gives, with its mailbox's segment where it carries one.
-fn reply(b: Bank, verdict: Verdict, q: Fields, mailboxes: &[u8], buffer: &mut [u8]) -> Sent
-    ensures { λ r. ⌜ ((o : List ℕ) → SentAs (replyTo verdict q)
-        (mailboxSegment (bankState b o (now (mailboxes .entry))) (subscriber q) (segmentIn verdict q))
-        (now (buffer .entry)) (r .answer) (r .code) (now (buffer .exit))) ⌝ }
+// The reply that a verdict on the request q gives, with a segment of its mailbox's file of n bytes where it carries one.
+fn reply(verdict: Verdict, q: Fields, n: u64, mailboxes: &[u8], buffer: &mut [u8]) -> Sent
+    ensures { λ r. ⌜ SentAs (replyTo verdict q)
+        (fileSegment (now (mailboxes .entry)) (subscriber q) n (segmentIn verdict q))
+        (now (buffer .entry)) (r .answer) (r .code) (now (buffer .exit)) ⌝ }
 {
-    let bytes = mailbox_segment(b, mailboxes, q.subscriber(), segment_in(verdict, q));
+    let bytes = file_segment(mailboxes, q.subscriber(), n, segment_in(verdict, q));
     reply_with(reply_to(verdict, q), bytes, buffer)
 }
 
 // A request, read, at the clock that the call has set.
 fn respond(
-    b: Bank,
+    rows: &mut [u64],
     first: u64,
     q: Fields,
     bytes: &[u8],
@@ -114,18 +105,17 @@ fn respond(
     mailboxes: &mut [u8],
     buffer: &mut [u8],
 ) -> FrameOut
-    requires { ⌜ (length (now orders) ≡ storeBytes) × (length (now mailboxes) ≡ storeBytes) ⌝ }
-    ensures { λ r. ⌜ frameCallOf r (now (orders .exit)) (now (mailboxes .exit)) (now (buffer .exit))
-        ≡ replied (respond first (bankState b (now (orders .entry)) (now (mailboxes .entry))) q (now (bytes .entry)))
-        (now (buffer .entry)) ⌝ }
+    requires { ⌜ Prepared (now rows) (now orders) (now mailboxes) ⌝ }
+    ensures { λ r. ⌜ lentFrameCallOf r (lent (now (rows .exit)) (now (orders .exit)) (now (mailboxes .exit)))
+        (now (buffer .exit))
+        ≡ lentRespond first (lent (now (rows .entry)) (now (orders .entry)) (now (mailboxes .entry)))
+        q (now (bytes .entry)) (now (buffer .entry)) ⌝ }
 {
-    let s = step(b, first, q, bytes, orders, mailboxes);
-    let bank = s.bank;
-    let verdict = s.verdict;
-    let sent = reply(bank, verdict, q, mailboxes, buffer);
+    let n = file_length_of(rows, q.subscriber());
+    let verdict = step(rows, first, q, bytes, orders, mailboxes);
+    let sent = reply(verdict, q, n, mailboxes, buffer);
     let answer = sent.answer;
     FrameOut {
-        bank,
         answer,
         code: sent.code,
     }
@@ -147,9 +137,9 @@ fn lent_right(orders: usize, mailboxes: usize, ids: usize, buffer: usize) -> boo
     REPLY_ROOM <= buffer
 }
 
-// A frame arrives at a bank time, with the ID bytes, both stores and the reply buffer lent.
+// A frame arrives at a bank time, with the bank's rows, the ID bytes, both stores and the reply buffer lent.
 pub fn frame_arrives(
-    b: Bank,
+    rows: &mut [u64],
     time: u32,
     ids: &[u8],
     frame: &[u8],
@@ -157,20 +147,26 @@ pub fn frame_arrives(
     mailboxes: &mut [u8],
     buffer: &mut [u8],
 ) -> FrameOut
-    ensures { λ r. ⌜ frameCallOf r (now (orders .exit)) (now (mailboxes .exit)) (now (buffer .exit))
-        ≡ frameCall (bankState b (now (orders .entry)) (now (mailboxes .entry)))
-        time (now (ids .entry)) (now (frame .entry)) (now (buffer .entry)) ⌝ }
+    ensures { λ r. ⌜ lentFrameCallOf r (lent (now (rows .exit)) (now (orders .exit)) (now (mailboxes .exit)))
+        (now (buffer .exit))
+        ≡ lentFrameCall (lent (now (rows .entry)) (now (orders .entry)) (now (mailboxes .entry)))
+        (frameInput time (now (ids .entry)) (now (frame .entry)) (now (buffer .entry))) ⌝ }
 {
     if !lent_right(orders.len(), mailboxes.len(), ids.len(), buffer.len()) {
         return FrameOut {
-            bank: b,
             answer: FrameAnswer::WrongLength,
             code: 0,
         };
     }
-    let c = advance(b, time as u64, orders);
+    if !is_sound(rows) {
+        return FrameOut {
+            answer: FrameAnswer::WrongLength,
+            code: 0,
+        };
+    }
+    advance(rows, time as u64, orders);
     respond(
-        c,
+        rows,
         number(ids),
         read_request(frame),
         data(frame),

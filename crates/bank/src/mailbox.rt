@@ -1,7 +1,8 @@
 // A file goes into a mailbox.
+use bank_rows::numbers::file_length_of;
+use bank_rows::numbers::set_file_length;
+use bank_rows::sound::is_sound;
 use bank_state::limits::STORE_BYTES;
-use bank_state::state::Bank;
-use bank_state::state::file_length;
 use bank_state::store::append;
 use message::limits::FILE_BYTES;
 use message::limits::SUBSCRIBERS;
@@ -13,8 +14,10 @@ ghost use lib.ListN.{length};
 ghost use Rattle.message.specs.Limits.{fileBytes, subscribers};
 ghost use Rattle.message.specs.Verdicts.{decide};
 ghost use Rattle.bank_state.specs.Limits.{storeBytes};
+ghost use Rattle.bank_rows.specs.State.{bankOf, Laid};
 ghost use Rattle.bank.specs.declared.mailbox.FileAnswer.the-variants.{Done};
-ghost use Rattle.bank.specs.Mailbox.{fileCallOf, fileRefusals, carryOutFile, fileCall};
+ghost use Rattle.bank.specs.Mailbox.{fileRefusals, carryOutFile};
+ghost use Rattle.bank.specs.Lent.{lentFileCallOf, keptFile, lentFileCall};
 
 // The file is in the mailbox, or document 01's numbers 1 to 4.
 pub enum FileAnswer {
@@ -23,12 +26,6 @@ pub enum FileAnswer {
     NoMailbox,
     WrongFile,
     MailboxFull,
-}
-
-// The bank after the call, and the call's answer.
-pub struct FileOut {
-    pub bank: Bank,
-    pub answer: FileAnswer,
 }
 
 // Whether this is no number of a mailbox, nor of a subscriber.
@@ -62,8 +59,10 @@ fn is_wrong_file(length: usize) -> bool
 }
 
 // What the host's call gets, checked in document 01's order.
-fn judge_file(b: Bank, mailbox: u64, file: &[u8], mailboxes: &[u8]) -> FileAnswer
-    ensures { λ r. ⌜ r ≡ decide (fileRefusals b mailbox (now (file .entry)) (now (mailboxes .entry))) Done ⌝ }
+fn judge_file(rows: &[u64], mailbox: u64, file: &[u8], mailboxes: &[u8]) -> FileAnswer
+    requires { ⌜ Laid (now rows) ⌝ }
+    ensures { λ r. ⌜ r ≡ decide (fileRefusals (bankOf (now (rows .entry))) mailbox
+        (now (file .entry)) (now (mailboxes .entry))) Done ⌝ }
 {
     if mailboxes.len() != STORE_BYTES {
         return FileAnswer::WrongLength;
@@ -74,37 +73,36 @@ fn judge_file(b: Bank, mailbox: u64, file: &[u8], mailboxes: &[u8]) -> FileAnswe
     if is_wrong_file(file.len()) {
         return FileAnswer::WrongFile;
     }
-    let files = b.files;
-    if file_length(files, mailbox) != 0 {
+    if file_length_of(rows, mailbox) != 0 {
         return FileAnswer::MailboxFull;
     }
     FileAnswer::Done
 }
 
 // The file is written into the mailbox.
-fn store_file(b: Bank, mailbox: u64, file: &[u8], mailboxes: &mut [u8]) -> FileOut
-    requires { ⌜ (0 < mailbox) × (mailbox ≤ subscribers)
+fn store_file(rows: &mut [u64], mailbox: u64, file: &[u8], mailboxes: &mut [u8]) -> FileAnswer
+    requires { ⌜ Laid (now rows) × (0 < mailbox) × (mailbox ≤ subscribers)
         × (length (now file) ≤ fileBytes) × (length (now mailboxes) ≡ storeBytes) ⌝ }
-    ensures { λ r. ⌜ fileCallOf r (now (mailboxes .exit))
-        ≡ carryOutFile Done b mailbox (now (file .entry)) (now (mailboxes .entry)) ⌝ }
+    ensures { λ r. ⌜ lentFileCallOf r (now (rows .exit)) (now (mailboxes .exit)) ≡ keptFile (now (rows .entry))
+        (carryOutFile Done (bankOf (now (rows .entry))) mailbox (now (file .entry)) (now (mailboxes .entry))) ⌝ }
 {
     let m = (mailbox - 1) as usize;
     append(mailboxes, m * FILE_BYTES, file);
-    let mut c = b;
-    c.files[m] = file.len() as u64;
-    FileOut {
-        bank: c,
-        answer: FileAnswer::Done,
-    }
+    set_file_length(rows, m, file.len() as u64);
+    FileAnswer::Done
 }
 
-// A file goes into a mailbox, with the mailboxes' store lent.
-pub fn put_file(b: Bank, mailbox: u64, file: &[u8], mailboxes: &mut [u8]) -> FileOut
-    ensures { λ r. ⌜ fileCallOf r (now (mailboxes .exit)) ≡ fileCall b mailbox (now (file .entry)) (now (mailboxes .entry)) ⌝ }
+// A file goes into a mailbox, with the bank's rows and the mailboxes' store lent.
+pub fn put_file(rows: &mut [u64], mailbox: u64, file: &[u8], mailboxes: &mut [u8]) -> FileAnswer
+    ensures { λ r. ⌜ lentFileCallOf r (now (rows .exit)) (now (mailboxes .exit))
+        ≡ lentFileCall (now (rows .entry)) mailbox (now (file .entry)) (now (mailboxes .entry)) ⌝ }
 {
-    let answer = judge_file(b, mailbox, file, mailboxes);
+    if !is_sound(rows) {
+        return FileAnswer::WrongLength;
+    }
+    let answer = judge_file(rows, mailbox, file, mailboxes);
     match answer {
-        FileAnswer::Done => store_file(b, mailbox, file, mailboxes),
-        _ => FileOut { bank: b, answer },
+        FileAnswer::Done => store_file(rows, mailbox, file, mailboxes),
+        _ => answer,
     }
 }

@@ -7,13 +7,18 @@ use bank_openings::judgement::judge_opening;
 use bank_openings::judgement::mailbox_segments;
 use bank_openings::openings::open_download;
 use bank_openings::openings::open_upload;
+use bank_rows::downloads::download_at;
+use bank_rows::downloads::end_downloads;
+use bank_rows::downloads::find_download;
+use bank_rows::downloads::set_download;
+use bank_rows::numbers::clock;
+use bank_rows::numbers::openings;
+use bank_rows::numbers::set_file_length;
+use bank_rows::places::find_upload;
+use bank_rows::places::place_at;
+use bank_rows::places::set_place;
 use bank_state::clock::Ended;
-use bank_state::clock::end_downloads;
 use bank_state::limits::PLACES;
-use bank_state::search::find_download;
-use bank_state::search::find_upload;
-use bank_state::state::Bank;
-use bank_state::state::Download;
 use bank_state::store::zero;
 use bank_uploads::uploads::upload_step;
 use bank_verdicts::verdict::Action;
@@ -33,208 +38,194 @@ ghost use mathlib.Core.List.{List};
 ghost use Prim.Native.Nat.{ℕ, _<_, _≤_};
 ghost use lib.ListN.{length};
 ghost use Rattle.frame_table.specs.Names.{subscriber, form};
-ghost use Rattle.message.specs.Limits.{subscribers};
+ghost use Rattle.message.specs.Limits.{subscribers, segmentBytes};
 ghost use Rattle.bank_state.specs.Limits.{placeCount, storeBytes};
-ghost use Rattle.bank_state.specs.State.{bankState, downloadAt, withDownload};
+ghost use Rattle.bank_state.specs.State.{downloadAt};
+ghost use Rattle.bank_rows.specs.State.{bankOf, Laid};
+ghost use Rattle.bank_rows.specs.Sound.{InRange};
 ghost use Rattle.bank_verdicts.specs.Judgement.{judgeOpening, uploadAt, downloadOf, judgeTransaction};
 ghost use Rattle.bank_verdicts.specs.Judgement.{judgeRequest, judgeForm, judge};
 ghost use Rattle.bank_downloads.specs.Downloads.{downloadAfter};
-ghost use Rattle.bank.specs.Call.{without, emptied, onDownload, uploadVerdict, downloadVerdict};
-ghost use Rattle.bank.specs.Call.{CarriedOut, Ready};
-
-// The bank after a request, and the verdict on it.
-pub struct Stepped {
-    pub bank: Bank,
-    pub verdict: Verdict,
-}
+ghost use Rattle.bank.specs.Call.{emptied, onDownload, uploadVerdict, downloadVerdict};
+ghost use Rattle.bank.specs.Lent.{lent, stateOf, keptIn, Prepared, Ready, CarriedOut};
 
 // An opening of an upload.
-fn upload_opening(b: Bank, first: u64, q: Fields) -> Stepped
+fn upload_opening(rows: &mut [u64], first: u64, q: Fields) -> Verdict
+    requires { ⌜ Laid (now rows) ⌝ }
     ensures { λ r. ⌜ ((o m d : List ℕ) →
-        CarriedOut (judgeOpening Direction.Upload first b q) (bankState b o m) q d r o m) ⌝ }
+        CarriedOut (judgeOpening Direction.Upload first (bankOf (now (rows .entry))) q)
+        (lent (now (rows .entry)) o m) q d r (lent (now (rows .exit)) o m)) ⌝ }
 {
-    let verdict = judge_opening(b, Direction::Upload, first, q);
+    let verdict = judge_opening(rows, Direction::Upload, first, q);
     match verdict {
-        Verdict::Of(transaction, _) => Stepped {
-            bank: open_upload(b, transaction, b.openings, q),
-            verdict,
-        },
-        _ => Stepped { bank: b, verdict },
+        Verdict::Of(transaction, _) => {
+            let number = openings(rows);
+            open_upload(rows, transaction, number, q);
+            verdict
+        }
+        _ => verdict,
     }
 }
 
 // An opening of a download.
-fn download_opening(b: Bank, first: u64, q: Fields) -> Stepped
+fn download_opening(rows: &mut [u64], first: u64, q: Fields) -> Verdict
+    requires { ⌜ Laid (now rows) ⌝ }
     ensures { λ r. ⌜ ((o m d : List ℕ) →
-        CarriedOut (judgeOpening Direction.Download first b q) (bankState b o m) q d r o m) ⌝ }
+        CarriedOut (judgeOpening Direction.Download first (bankOf (now (rows .entry))) q)
+        (lent (now (rows .entry)) o m) q d r (lent (now (rows .exit)) o m)) ⌝ }
 {
-    let verdict = judge_opening(b, Direction::Download, first, q);
+    let verdict = judge_opening(rows, Direction::Download, first, q);
     match verdict {
-        Verdict::Of(transaction, _) => Stepped {
-            bank: open_download(b, transaction, q),
-            verdict,
-        },
-        _ => Stepped { bank: b, verdict },
+        Verdict::Of(transaction, _) => {
+            open_download(rows, transaction, q);
+            verdict
+        }
+        _ => verdict,
     }
 }
 
 // A request to the open upload found in place i.
 fn on_upload(
-    b: Bank,
+    rows: &mut [u64],
     i: usize,
     asked: TransactionRequest,
     q: Fields,
     bytes: &[u8],
     orders: &mut [u8],
-) -> Stepped
-    requires { ⌜ (i < placeCount) × (i ≡ uploadAt b q) × (length (now orders) ≡ storeBytes) ⌝ }
-    ensures { λ r. ⌜ ((m : List ℕ) → CarriedOut (uploadVerdict asked i b q (length (now (bytes .entry))))
-        (bankState b (now (orders .entry)) m) q (now (bytes .entry)) r (now (orders .exit)) m) ⌝ }
+) -> Verdict
+    requires { ⌜ Laid (now rows) × InRange (bankOf (now rows)) × (i < placeCount) × (i ≡ uploadAt (bankOf (now rows)) q)
+        × (length (now bytes) ≤ segmentBytes) × (length (now orders) ≡ storeBytes) ⌝ }
+    ensures { λ r. ⌜ ((m : List ℕ) →
+        CarriedOut (uploadVerdict asked i (bankOf (now (rows .entry))) q (length (now (bytes .entry))))
+        (lent (now (rows .entry)) (now (orders .entry)) m) q (now (bytes .entry))
+        r (lent (now (rows .exit)) (now (orders .exit)) m)) ⌝ }
 {
-    let p = b.places[i];
+    let p = place_at(rows, i);
+    let time = clock(rows);
     let from = i * FILE_BYTES;
     let end = from + FILE_BYTES;
-    let u = upload_step(b.clock, asked, p, q, bytes, &mut orders[from..end]);
+    let u = upload_step(time, asked, p, q, bytes, &mut orders[from..end]);
     let place = u.place;
-    let mut c = b;
-    c.places[i] = place;
+    set_place(rows, i, place);
     let transaction = p.transaction;
     let action = u.action;
-    Stepped {
-        bank: c,
-        verdict: Verdict::Of(transaction, Action::Upload(action)),
-    }
-}
-
-// The bank with this download in record j.
-fn with_download(b: Bank, j: usize, entry: Download) -> Bank
-    requires { ⌜ j < placeCount ⌝ }
-    ensures { λ r. ⌜ r ≡ withDownload j entry b ⌝ }
-{
-    let mut c = b;
-    c.downloads[j] = entry;
-    c
-}
-
-// The bank without the downloads that end.
-fn without(b: Bank, which: Ended) -> Bank
-    ensures { λ r. ⌜ ((o m : List ℕ) → bankState r o m ≡ without which (bankState b o m)) ⌝ }
-{
-    let downloads = b.downloads;
-    let open = end_downloads(downloads, which);
-    let mut c = b;
-    c.downloads = open;
-    c
+    Verdict::Of(transaction, Action::Upload(action))
 }
 
 // A subscriber's mailbox is emptied, and its downloads end.
-fn emptied(b: Bank, subscriber: u64, mailboxes: &mut [u8]) -> Bank
-    requires { ⌜ (0 < subscriber) × (subscriber ≤ subscribers) × (length (now mailboxes) ≡ storeBytes) ⌝ }
-    ensures { λ r. ⌜ ((o : List ℕ) → bankState r o (now (mailboxes .exit))
-        ≡ emptied subscriber (bankState b o (now (mailboxes .entry)))) ⌝ }
+fn emptied(rows: &mut [u64], subscriber: u64, mailboxes: &mut [u8])
+    requires { ⌜ Laid (now rows) × (0 < subscriber) × (subscriber ≤ subscribers)
+        × (length (now mailboxes) ≡ storeBytes) ⌝ }
+    ensures { λ _. ⌜ ((o : List ℕ) → lent (now (rows .exit)) o (now (mailboxes .exit))
+        ≡ keptIn (lent (now (rows .entry)) o (now (mailboxes .entry)))
+        (emptied subscriber (stateOf (lent (now (rows .entry)) o (now (mailboxes .entry)))))) ⌝ }
 {
     let m = mailbox_of(subscriber);
-    let mut c = without(b, Ended::Mailbox(subscriber));
-    c.files[m] = 0;
+    end_downloads(rows, Ended::Mailbox(subscriber));
+    set_file_length(rows, m, 0);
     zero(mailboxes, m);
-    c
 }
 
-// The bank after a step of the open download of record j, and its mailbox's bytes.
-fn downloads_after(b: Bank, j: usize, s: DownloadStep, q: Fields, mailboxes: &mut [u8]) -> Bank
-    requires { ⌜ (j < placeCount) × (s .entry ≡ downloadAfter (s .action) (b .clock) (downloadAt b j))
+// The step of the open download of record j carried out, and on its mailbox's bytes.
+fn downloads_after(rows: &mut [u64], j: usize, s: DownloadStep, q: Fields, mailboxes: &mut [u8])
+    requires { ⌜ Laid (now rows) × (j < placeCount) × (j ≡ downloadOf (bankOf (now rows)) q)
+        × (s .entry ≡ downloadAfter (s .action) (bankOf (now rows) .clock) (downloadAt (bankOf (now rows)) j))
         × (0 < subscriber q) × (subscriber q ≤ subscribers) × (length (now mailboxes) ≡ storeBytes) ⌝ }
-    ensures { λ r. ⌜ ((o : List ℕ) → bankState r o (now (mailboxes .exit))
-        ≡ onDownload (s .action) j (bankState b o (now (mailboxes .entry))) q) ⌝ }
+    ensures { λ _. ⌜ ((o : List ℕ) → lent (now (rows .exit)) o (now (mailboxes .exit))
+        ≡ keptIn (lent (now (rows .entry)) o (now (mailboxes .entry)))
+        (onDownload (s .action) j (stateOf (lent (now (rows .entry)) o (now (mailboxes .entry)))) q)) ⌝ }
 {
     let action = s.action;
     match action {
-        DownloadAction::Cancelled => without(
-            b,
-            Ended::Transaction(q.subscriber(), q.transaction()),
-        ),
-        DownloadAction::Declined => without(b, Ended::Transaction(q.subscriber(), q.transaction())),
-        DownloadAction::Confirmed => emptied(b, q.subscriber(), mailboxes),
+        DownloadAction::Cancelled => {
+            end_downloads(rows, Ended::Transaction(q.subscriber(), q.transaction()));
+        }
+        DownloadAction::Declined => {
+            end_downloads(rows, Ended::Transaction(q.subscriber(), q.transaction()));
+        }
+        DownloadAction::Confirmed => {
+            emptied(rows, q.subscriber(), mailboxes);
+        }
         _ => {
             let entry = s.entry;
-            with_download(b, j, entry)
+            set_download(rows, j, entry);
         }
     }
 }
 
 // A request to the open download found in record j.
 fn on_download(
-    b: Bank,
+    rows: &mut [u64],
     j: usize,
     asked: TransactionRequest,
     q: Fields,
     mailboxes: &mut [u8],
-) -> Stepped
-    requires { ⌜ (j < placeCount) × (j ≡ downloadOf b q) × (0 < subscriber q) × (subscriber q ≤ subscribers)
-        × (length (now mailboxes) ≡ storeBytes) ⌝ }
-    ensures { λ r. ⌜ ((o d : List ℕ) → CarriedOut (downloadVerdict asked j b q)
-        (bankState b o (now (mailboxes .entry))) q d r o (now (mailboxes .exit))) ⌝ }
+) -> Verdict
+    requires { ⌜ Laid (now rows) × (j < placeCount) × (j ≡ downloadOf (bankOf (now rows)) q)
+        × (0 < subscriber q) × (subscriber q ≤ subscribers) × (length (now mailboxes) ≡ storeBytes) ⌝ }
+    ensures { λ r. ⌜ ((o d : List ℕ) → CarriedOut (downloadVerdict asked j (bankOf (now (rows .entry))) q)
+        (lent (now (rows .entry)) o (now (mailboxes .entry))) q d
+        r (lent (now (rows .exit)) o (now (mailboxes .exit)))) ⌝ }
 {
-    let e = b.downloads[j];
-    let s = download_step(b.clock, asked, e, mailbox_segments(b, q.subscriber()), q);
-    let c = downloads_after(b, j, s, q, mailboxes);
+    let e = download_at(rows, j);
+    let time = clock(rows);
+    let n = mailbox_segments(rows, q.subscriber());
+    let s = download_step(time, asked, e, n, q);
+    downloads_after(rows, j, s, q, mailboxes);
     let transaction = e.transaction;
     let action = s.action;
-    Stepped {
-        bank: c,
-        verdict: Verdict::Of(transaction, Action::Download(action)),
-    }
+    Verdict::Of(transaction, Action::Download(action))
 }
 
 // A request to a transaction: an open upload's, an open download's, or one that is not open.
 fn on_transaction(
-    b: Bank,
+    rows: &mut [u64],
     asked: TransactionRequest,
     q: Fields,
     bytes: &[u8],
     orders: &mut [u8],
     mailboxes: &mut [u8],
-) -> Stepped
-    requires { ⌜ Ready q (now orders) (now mailboxes) ⌝ }
-    ensures { λ r. ⌜ CarriedOut (judgeTransaction asked b q (length (now (bytes .entry))))
-        (bankState b (now (orders .entry)) (now (mailboxes .entry))) q (now (bytes .entry))
-        r (now (orders .exit)) (now (mailboxes .exit)) ⌝ }
+) -> Verdict
+    requires { ⌜ Ready q (now bytes) (now rows) (now orders) (now mailboxes) ⌝ }
+    ensures { λ r. ⌜ CarriedOut (judgeTransaction asked (bankOf (now (rows .entry))) q (length (now (bytes .entry))))
+        (lent (now (rows .entry)) (now (orders .entry)) (now (mailboxes .entry))) q (now (bytes .entry))
+        r (lent (now (rows .exit)) (now (orders .exit)) (now (mailboxes .exit))) ⌝ }
 {
-    let i = find_upload(b, q.subscriber(), q.transaction());
+    let subscriber = q.subscriber();
+    let id = q.transaction();
+    let i = find_upload(rows, subscriber, id.high, id.low);
     if i < PLACES {
-        return on_upload(b, i, asked, q, bytes, orders);
+        return on_upload(rows, i, asked, q, bytes, orders);
     }
-    let j = find_download(b, q.subscriber(), q.transaction());
+    let j = find_download(rows, subscriber, id.high, id.low);
     if j < PLACES {
-        return on_download(b, j, asked, q, mailboxes);
+        return on_download(rows, j, asked, q, mailboxes);
     }
-    Stepped {
-        bank: b,
-        verdict: Verdict::Refused(ReturnCode::UnknownTransaction),
-    }
+    Verdict::Refused(ReturnCode::UnknownTransaction)
 }
 
 // A readable request of a subscriber, by its form.
 fn by_request(
     request: RequestForm,
-    b: Bank,
+    rows: &mut [u64],
     first: u64,
     q: Fields,
     bytes: &[u8],
     orders: &mut [u8],
     mailboxes: &mut [u8],
-) -> Stepped
-    requires { ⌜ Ready q (now orders) (now mailboxes) ⌝ }
-    ensures { λ r. ⌜ CarriedOut (judgeRequest request first b q (length (now (bytes .entry))))
-        (bankState b (now (orders .entry)) (now (mailboxes .entry))) q (now (bytes .entry))
-        r (now (orders .exit)) (now (mailboxes .exit)) ⌝ }
+) -> Verdict
+    requires { ⌜ Ready q (now bytes) (now rows) (now orders) (now mailboxes) ⌝ }
+    ensures { λ r. ⌜ CarriedOut
+        (judgeRequest request first (bankOf (now (rows .entry))) q (length (now (bytes .entry))))
+        (lent (now (rows .entry)) (now (orders .entry)) (now (mailboxes .entry))) q (now (bytes .entry))
+        r (lent (now (rows .exit)) (now (orders .exit)) (now (mailboxes .exit))) ⌝ }
 {
     match request {
-        RequestForm::UploadOpening => upload_opening(b, first, q),
-        RequestForm::DownloadOpening => download_opening(b, first, q),
+        RequestForm::UploadOpening => upload_opening(rows, first, q),
+        RequestForm::DownloadOpening => download_opening(rows, first, q),
         RequestForm::UploadTransfer => {
             on_transaction(
-                b,
+                rows,
                 TransactionRequest::UploadTransfer,
                 q,
                 bytes,
@@ -244,7 +235,7 @@ fn by_request(
         }
         RequestForm::DownloadTransfer => {
             on_transaction(
-                b,
+                rows,
                 TransactionRequest::DownloadTransfer,
                 q,
                 bytes,
@@ -253,70 +244,62 @@ fn by_request(
             )
         }
         RequestForm::Receipt => {
-            on_transaction(b, TransactionRequest::Receipt, q, bytes, orders, mailboxes)
+            on_transaction(
+                rows,
+                TransactionRequest::Receipt,
+                q,
+                bytes,
+                orders,
+                mailboxes,
+            )
         }
     }
 }
 
 // A request of a subscriber, where it is readable.
 fn by_form(
-    b: Bank,
+    rows: &mut [u64],
     first: u64,
     q: Fields,
     bytes: &[u8],
     orders: &mut [u8],
     mailboxes: &mut [u8],
-) -> Stepped
-    requires { ⌜ Ready q (now orders) (now mailboxes) ⌝ }
-    ensures { λ r. ⌜ CarriedOut (judgeForm (form q) first b q (length (now (bytes .entry))))
-        (bankState b (now (orders .entry)) (now (mailboxes .entry))) q (now (bytes .entry))
-        r (now (orders .exit)) (now (mailboxes .exit)) ⌝ }
+) -> Verdict
+    requires { ⌜ Ready q (now bytes) (now rows) (now orders) (now mailboxes) ⌝ }
+    ensures { λ r. ⌜ CarriedOut (judgeForm (form q) first (bankOf (now (rows .entry))) q (length (now (bytes .entry))))
+        (lent (now (rows .entry)) (now (orders .entry)) (now (mailboxes .entry))) q (now (bytes .entry))
+        r (lent (now (rows .exit)) (now (orders .exit)) (now (mailboxes .exit))) ⌝ }
 {
     let form = q.form();
     match form {
-        Form::NoForm => Stepped {
-            bank: b,
-            verdict: Verdict::Unreadable,
-        },
-        Form::Request(request) => by_request(request, b, first, q, bytes, orders, mailboxes),
-        Form::Reply(_) => Stepped {
-            bank: b,
-            verdict: Verdict::Unreadable,
-        },
+        Form::NoForm => Verdict::Unreadable,
+        Form::Request(request) => by_request(request, rows, first, q, bytes, orders, mailboxes),
+        Form::Reply(_) => Verdict::Unreadable,
     }
 }
 
 // A request: judged in document 01's order, and carried out; `first` is the number of the lent ID bytes.
 pub(crate) fn step(
-    b: Bank,
+    rows: &mut [u64],
     first: u64,
     q: Fields,
     bytes: &[u8],
     orders: &mut [u8],
     mailboxes: &mut [u8],
-) -> Stepped
-    requires { ⌜ (length (now orders) ≡ storeBytes) × (length (now mailboxes) ≡ storeBytes) ⌝ }
-    ensures { λ r. ⌜ CarriedOut (judge first b q (length (now (bytes .entry))))
-        (bankState b (now (orders .entry)) (now (mailboxes .entry))) q (now (bytes .entry))
-        r (now (orders .exit)) (now (mailboxes .exit)) ⌝ }
+) -> Verdict
+    requires { ⌜ Prepared (now rows) (now orders) (now mailboxes) ⌝ }
+    ensures { λ r. ⌜ CarriedOut (judge first (bankOf (now (rows .entry))) q (length (now (bytes .entry))))
+        (lent (now (rows .entry)) (now (orders .entry)) (now (mailboxes .entry))) q (now (bytes .entry))
+        r (lent (now (rows .exit)) (now (orders .exit)) (now (mailboxes .exit))) ⌝ }
 {
     if !is_request_form(q.form()) {
-        return Stepped {
-            bank: b,
-            verdict: Verdict::Unreadable,
-        };
+        return Verdict::Unreadable;
     }
     if is_no_mailbox(q.subscriber()) {
-        return Stepped {
-            bank: b,
-            verdict: Verdict::Refused(ReturnCode::UserUnknown),
-        };
+        return Verdict::Refused(ReturnCode::UserUnknown);
     }
     if SEGMENT_BYTES < bytes.len() {
-        return Stepped {
-            bank: b,
-            verdict: Verdict::Refused(ReturnCode::SegmentSizeExceeded),
-        };
+        return Verdict::Refused(ReturnCode::SegmentSizeExceeded);
     }
-    by_form(b, first, q, bytes, orders, mailboxes)
+    by_form(rows, first, q, bytes, orders, mailboxes)
 }

@@ -1,5 +1,5 @@
 -- "Opening.": what an accepted opening leaves.
-use Prim.Native.Nat.{ℕ, _+_}
+use Prim.Native.Nat.{ℕ, _+_, _<_}
 use mathlib.Core.Bool.{true}
 use lib.ListN.{set}
 use Rattle.frame_table.specs.declared.fields.Bits128.{Bits128}
@@ -9,8 +9,29 @@ use Rattle.bank_state.specs.declared.state.Bank.{Bank}
 use Rattle.bank_state.specs.declared.state.Download.{Download}
 use Rattle.bank_state.specs.declared.state.Place.{Place}
 use Rattle.bank_state.specs.declared.state.Use.the-variants.{Open}
+use Rattle.bank_state.specs.Limits.{placeCount, nonceCount, maxOpenings}
 use Rattle.bank_state.specs.Search.{freePlace, freeDownload, freeNonce}
 use Rattle.bank_state.specs.State.{withOpenings, withPlace, withDownload, withNonces}
+use Rattle.bank_verdicts.specs.declared.verdict.Direction.{Direction}
+use Rattle.bank_verdicts.specs.declared.verdict.Direction.the-variants as direction
+
+-- the record that an opening of this direction takes
+abbrev pub freeFor : Direction → Bank → ℕ
+freeFor direction.Upload b = freePlace b
+freeFor direction.Download b = freeDownload b
+
+-- room for one opening more of this direction: a record free, and neither 64 nonces remembered nor 1,213,056 openings
+-- accepted
+pub record Room (d : Direction) (b : Bank) : Type 0 where
+  pub place : freeFor d b < placeCount
+  pub memory : freeNonce b < nonceCount
+  pub numbers : b .openings < maxOpenings
+
+abbrev pub UploadRoom : Bank → Type 0
+UploadRoom b = Room direction.Upload b
+
+abbrev pub DownloadRoom : Bank → Type 0
+DownloadRoom b = Room direction.Download b
 
 -- "The accepted openings are numbered from 0"; "An accepted opening's nonce is remembered"
 unfoldable pub counted : Fields → Bank → Bank

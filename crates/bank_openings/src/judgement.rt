@@ -1,17 +1,18 @@
 // How an opening is judged: each refusal's test by its name in document 01's list, then the list from top to bottom.
+use bank_rows::counts::open_count;
+use bank_rows::counts::open_count_of;
+use bank_rows::nonces::is_remembered;
+use bank_rows::nonces::nonce_count;
+use bank_rows::numbers::clock;
+use bank_rows::numbers::file_length_of;
+use bank_rows::numbers::openings;
+use bank_rows::places::free_place;
 use bank_state::limits::MAX_OPEN;
 use bank_state::limits::MAX_OPEN_PER_SUBSCRIBER;
 use bank_state::limits::MAX_OPENINGS;
 use bank_state::limits::NONCES;
 use bank_state::limits::PLACES;
 use bank_state::limits::WINDOW;
-use bank_state::search::free_nonce;
-use bank_state::search::free_place;
-use bank_state::search::is_remembered;
-use bank_state::search::open_count;
-use bank_state::search::open_count_of;
-use bank_state::state::Bank;
-use bank_state::state::file_length;
 use bank_verdicts::verdict::Action;
 use bank_verdicts::verdict::Direction;
 use bank_verdicts::verdict::DownloadAction;
@@ -25,6 +26,7 @@ use message::limits::FUL;
 use message::limits::MAX_SEGMENTS;
 use message::segments::segments_of;
 ghost use mathlib.Core.Path.{_≡_};
+ghost use Rattle.bank_rows.specs.State.{bankOf, Laid};
 ghost use Rattle.bank_verdicts.specs.Judgement.{accepted, judgeOpening, mailboxSegments};
 ghost use Rattle.bank_verdicts.specs.Refusals.{unknownType, otherDirection, manySegments, inTime, isReplay};
 ghost use Rattle.bank_verdicts.specs.Refusals.{emptyMailbox, manyOpen, noPlaceFree, isFull};
@@ -78,72 +80,78 @@ fn in_time(time: u64, clock: u64) -> bool
 }
 
 // 091103: timestamp not in time, or nonce remembered.
-fn is_replay(b: Bank, q: Fields) -> bool
-    ensures { λ r. ⌜ r ≡ isReplay b q ⌝ }
+fn is_replay(rows: &[u64], q: Fields) -> bool
+    requires { ⌜ Laid (now rows) ⌝ }
+    ensures { λ r. ⌜ r ≡ isReplay (bankOf (now (rows .entry))) q ⌝ }
 {
-    if in_time(q.timestamp(), b.clock) {
-        return is_remembered(b, q.nonce());
+    if in_time(q.timestamp(), clock(rows)) {
+        let nonce = q.nonce();
+        return is_remembered(rows, nonce.high, nonce.low);
     }
     true
 }
 
 // 090005: download, mailbox empty.
-fn empty_mailbox(d: Direction, b: Bank, q: Fields) -> bool
-    ensures { λ r. ⌜ r ≡ emptyMailbox d b q ⌝ }
+fn empty_mailbox(rows: &[u64], d: Direction, q: Fields) -> bool
+    requires { ⌜ Laid (now rows) ⌝ }
+    ensures { λ r. ⌜ r ≡ emptyMailbox d (bankOf (now (rows .entry))) q ⌝ }
 {
-    let files = b.files;
     match d {
         Direction::Upload => false,
-        Direction::Download => file_length(files, q.subscriber()) == 0,
+        Direction::Download => file_length_of(rows, q.subscriber()) == 0,
     }
 }
 
 // 091119: the subscriber has 4 open transactions.
-fn many_open(b: Bank, q: Fields) -> bool
-    ensures { λ r. ⌜ r ≡ manyOpen b q ⌝ }
+fn many_open(rows: &[u64], q: Fields) -> bool
+    requires { ⌜ Laid (now rows) ⌝ }
+    ensures { λ r. ⌜ r ≡ manyOpen (bankOf (now (rows .entry))) q ⌝ }
 {
-    MAX_OPEN_PER_SUBSCRIBER <= open_count_of(b, q.subscriber())
+    MAX_OPEN_PER_SUBSCRIBER <= open_count_of(rows, q.subscriber())
 }
 
 // An upload with 8 places in use.
-fn no_place_free(d: Direction, b: Bank) -> bool
-    ensures { λ r. ⌜ r ≡ noPlaceFree d b ⌝ }
+fn no_place_free(rows: &[u64], d: Direction) -> bool
+    requires { ⌜ Laid (now rows) ⌝ }
+    ensures { λ r. ⌜ r ≡ noPlaceFree d (bankOf (now (rows .entry))) ⌝ }
 {
     match d {
-        Direction::Upload => PLACES <= free_place(b),
+        Direction::Upload => PLACES <= free_place(rows),
         Direction::Download => false,
     }
 }
 
 // 061099: 8 transactions open, an upload with 8 places in use, 64 nonces remembered, or 1,213,056 openings accepted.
-fn is_full(d: Direction, b: Bank) -> bool
-    ensures { λ r. ⌜ r ≡ isFull d b ⌝ }
+fn is_full(rows: &[u64], d: Direction) -> bool
+    requires { ⌜ Laid (now rows) ⌝ }
+    ensures { λ r. ⌜ r ≡ isFull d (bankOf (now (rows .entry))) ⌝ }
 {
-    if MAX_OPEN <= open_count(b) {
+    if MAX_OPEN <= open_count(rows) {
         return true;
     }
-    if no_place_free(d, b) {
+    if no_place_free(rows, d) {
         return true;
     }
-    if NONCES <= free_nonce(b) {
+    if NONCES <= nonce_count(rows) {
         return true;
     }
-    MAX_OPENINGS <= b.openings
+    MAX_OPENINGS <= openings(rows)
 }
 
 // The number of segments of a subscriber's mailbox.
-pub fn mailbox_segments(b: Bank, subscriber: u64) -> u64
-    ensures { λ r. ⌜ r ≡ mailboxSegments subscriber b ⌝ }
+pub fn mailbox_segments(rows: &[u64], subscriber: u64) -> u64
+    requires { ⌜ Laid (now rows) ⌝ }
+    ensures { λ r. ⌜ r ≡ mailboxSegments subscriber (bankOf (now (rows .entry))) ⌝ }
 {
-    let files = b.files;
-    segments_of(file_length(files, subscriber))
+    segments_of(file_length_of(rows, subscriber))
 }
 
 // An accepted opening: its transaction ID is the lent bytes and its number; an upload's order number is that number.
-fn accepted(b: Bank, d: Direction, first: u64, q: Fields) -> Verdict
-    ensures { λ r. ⌜ r ≡ accepted d first b q ⌝ }
+fn accepted(rows: &[u64], d: Direction, first: u64, q: Fields) -> Verdict
+    requires { ⌜ Laid (now rows) ⌝ }
+    ensures { λ r. ⌜ r ≡ accepted d first (bankOf (now (rows .entry))) q ⌝ }
 {
-    let number = b.openings;
+    let number = openings(rows);
     let transaction = Bits128 {
         high: first,
         low: number,
@@ -151,15 +159,16 @@ fn accepted(b: Bank, d: Direction, first: u64, q: Fields) -> Verdict
     match d {
         Direction::Upload => Verdict::Of(transaction, Action::Upload(UploadAction::Opened(number))),
         Direction::Download => {
-            let n = mailbox_segments(b, q.subscriber());
+            let n = mailbox_segments(rows, q.subscriber());
             Verdict::Of(transaction, Action::Download(DownloadAction::Opened(n)))
         }
     }
 }
 
 // An opening in the form of this direction, judged in document 01's order; `first` is the number of the lent ID bytes.
-pub fn judge_opening(b: Bank, d: Direction, first: u64, q: Fields) -> Verdict
-    ensures { λ r. ⌜ r ≡ judgeOpening d first b q ⌝ }
+pub fn judge_opening(rows: &[u64], d: Direction, first: u64, q: Fields) -> Verdict
+    requires { ⌜ Laid (now rows) ⌝ }
+    ensures { λ r. ⌜ r ≡ judgeOpening d first (bankOf (now (rows .entry))) q ⌝ }
 {
     if unknown_type(q) {
         return Verdict::Refused(ReturnCode::InvalidOrderType);
@@ -170,17 +179,17 @@ pub fn judge_opening(b: Bank, d: Direction, first: u64, q: Fields) -> Verdict
     if many_segments(q) {
         return Verdict::Refused(ReturnCode::MaxSegmentsExceeded);
     }
-    if is_replay(b, q) {
+    if is_replay(rows, q) {
         return Verdict::Refused(ReturnCode::MessageReplay);
     }
-    if empty_mailbox(d, b, q) {
+    if empty_mailbox(rows, d, q) {
         return Verdict::Refused(ReturnCode::NoDownloadDataAvailable);
     }
-    if many_open(b, q) {
+    if many_open(rows, q) {
         return Verdict::Refused(ReturnCode::MaxTransactionsExceeded);
     }
-    if is_full(d, b) {
+    if is_full(rows, d) {
         return Verdict::Refused(ReturnCode::InternalError);
     }
-    accepted(b, d, first, q)
+    accepted(rows, d, first, q)
 }

@@ -1,79 +1,42 @@
 // What an accepted opening leaves.
-use bank_state::limits::NONCES;
-use bank_state::limits::PLACES;
-use bank_state::search::free_download;
-use bank_state::search::free_nonce;
-use bank_state::search::free_place;
-use bank_state::state::Bank;
+use bank_rows::downloads::add_download;
+use bank_rows::nonces::add_nonce;
+use bank_rows::numbers::clock;
+use bank_rows::numbers::openings;
+use bank_rows::numbers::set_openings;
+use bank_rows::places::free_place;
+use bank_rows::places::set_place;
 use bank_state::state::Download;
-use bank_state::state::Nonce;
 use bank_state::state::Place;
 use bank_state::state::Use;
 use frame_table::fields::Bits128;
 use frame_table::fields::Fields;
 ghost use mathlib.Core.Path.{_≡_};
 ghost use Prim.Native.Nat.{_<_};
-ghost use lib.ListN.{set};
-ghost use Rattle.bank_state.specs.Limits.{maxOpenings};
-ghost use Rattle.bank_openings.specs.Openings.{counted, openUpload, openDownload};
+ghost use Rattle.bank_state.specs.Limits.{nonceCount, maxOpenings};
+ghost use Rattle.bank_state.specs.Search.{freeNonce};
+ghost use Rattle.bank_rows.specs.State.{bankOf, stored, Laid};
+ghost use Rattle.bank_openings.specs.Openings.{UploadRoom, DownloadRoom, counted, openUpload, openDownload};
 
-// The nonces with this one in record i; unchanged where there is no such record.
-fn set_nonce(nonces: [Nonce; NONCES], i: usize, nonce: Nonce) -> [Nonce; NONCES]
-    ensures { λ r. ⌜ r ≡ set nonces i nonce ⌝ }
+// One opening more is accepted, and its nonce is remembered.
+fn count_opening(rows: &mut [u64], q: Fields)
+    requires { ⌜ Laid (now rows) × (freeNonce (bankOf (now rows)) < nonceCount)
+        × (bankOf (now rows) .openings < maxOpenings) ⌝ }
+    ensures { λ _. ⌜ now (rows .exit) ≡ stored (counted q (bankOf (now (rows .entry)))) (now (rows .entry)) ⌝ }
 {
-    let mut s = nonces;
-    if i < NONCES {
-        s[i] = nonce;
-    }
-    s
-}
-
-// The places with this one as place i; unchanged where there is no such place.
-fn set_place(places: [Place; PLACES], i: usize, place: Place) -> [Place; PLACES]
-    ensures { λ r. ⌜ r ≡ set places i place ⌝ }
-{
-    let mut s = places;
-    if i < PLACES {
-        s[i] = place;
-    }
-    s
-}
-
-// The downloads with this one in record i; unchanged where there is no such record.
-fn set_download(downloads: [Download; PLACES], i: usize, download: Download) -> [Download; PLACES]
-    ensures { λ r. ⌜ r ≡ set downloads i download ⌝ }
-{
-    let mut s = downloads;
-    if i < PLACES {
-        s[i] = download;
-    }
-    s
-}
-
-// The bank with one opening more accepted, and its nonce remembered.
-fn counted(b: Bank, q: Fields) -> Bank
-    requires { ⌜ b .openings < maxOpenings ⌝ }
-    ensures { λ r. ⌜ r ≡ counted q b ⌝ }
-{
-    let value = q.nonce();
-    let nonce = Nonce {
-        used: true,
-        value,
-        timestamp: q.timestamp(),
-    };
-    let nonces = b.nonces;
-    let remembered = set_nonce(nonces, free_nonce(b), nonce);
-    let mut c = b;
-    c.nonces = remembered;
-    c.openings = b.openings + 1;
-    c
+    let n = openings(rows);
+    let nonce = q.nonce();
+    add_nonce(rows, nonce.high, nonce.low, q.timestamp());
+    set_openings(rows, n + 1);
 }
 
 // An accepted upload takes the first free place, with its transaction ID and its order's number.
-pub fn open_upload(b: Bank, transaction: Bits128, number: u64, q: Fields) -> Bank
-    requires { ⌜ b .openings < maxOpenings ⌝ }
-    ensures { λ r. ⌜ r ≡ openUpload transaction number q b ⌝ }
+pub fn open_upload(rows: &mut [u64], transaction: Bits128, number: u64, q: Fields)
+    requires { ⌜ Laid (now rows) × UploadRoom (bankOf (now rows)) ⌝ }
+    ensures { λ _. ⌜ now (rows .exit)
+        ≡ stored (openUpload transaction number q (bankOf (now (rows .entry)))) (now (rows .entry)) ⌝ }
 {
+    let i = free_place(rows);
     let place = Place {
         used: Use::Open,
         transaction,
@@ -82,20 +45,18 @@ pub fn open_upload(b: Bank, transaction: Bits128, number: u64, q: Fields) -> Ban
         segments: q.segments(),
         taken: 0,
         attempts: 0,
-        last: b.clock,
+        last: clock(rows),
         length: 0,
     };
-    let places = b.places;
-    let taken = set_place(places, free_place(b), place);
-    let mut c = counted(b, q);
-    c.places = taken;
-    c
+    count_opening(rows, q);
+    set_place(rows, i, place);
 }
 
 // An accepted download has segment 1 of its mailbox delivered.
-pub fn open_download(b: Bank, transaction: Bits128, q: Fields) -> Bank
-    requires { ⌜ b .openings < maxOpenings ⌝ }
-    ensures { λ r. ⌜ r ≡ openDownload transaction q b ⌝ }
+pub fn open_download(rows: &mut [u64], transaction: Bits128, q: Fields)
+    requires { ⌜ Laid (now rows) × DownloadRoom (bankOf (now rows)) ⌝ }
+    ensures { λ _. ⌜ now (rows .exit)
+        ≡ stored (openDownload transaction q (bankOf (now (rows .entry)))) (now (rows .entry)) ⌝ }
 {
     let download = Download {
         used: true,
@@ -103,11 +64,8 @@ pub fn open_download(b: Bank, transaction: Bits128, q: Fields) -> Bank
         subscriber: q.subscriber(),
         delivered: 1,
         attempts: 0,
-        last: b.clock,
+        last: clock(rows),
     };
-    let downloads = b.downloads;
-    let open = set_download(downloads, free_download(b), download);
-    let mut c = counted(b, q);
-    c.downloads = open;
-    c
+    count_opening(rows, q);
+    add_download(rows, download);
 }

@@ -1,12 +1,12 @@
 -- One change after another: what holds the rows together between the steps of a call. Assumes nothing.
-use Prim.Native.Nat.{ℕ, zero, suc, _+_, max, _≤_, _<_}
+use Prim.Native.Nat.{ℕ, zero, suc, _+_, _*_, max, _≤_, _<_}
 use mathlib.Core.Bool.{Bool, true, false, not, cond, _&&_}
 use mathlib.Core.List.{List, [], _∷_}
 use mathlib.Core.Path.{_≡_, refl, sym, ap, _∙_, subst}
 use native.Mathlib.Numerals.{add-one}
 use native.Mathlib.Omega.{arith}
 use lib.Dec.{leb}
-use lib.ListN.{length, set, length-set}
+use lib.ListN.{length, getD, set, replicate, length-set, length-replicate}
 use Rattle.bank_state.specs.declared.clock.Ended.{Ended}
 use Rattle.bank_state.specs.declared.clock.Ended.the-variants.{Idle}
 use Rattle.bank_state.specs.declared.state.Place.{Place}
@@ -14,13 +14,22 @@ use Rattle.bank_state.specs.declared.state.Download.{Download}
 use Rattle.bank_state.specs.declared.state.Nonce.{Nonce}
 use Rattle.bank_state.specs.declared.state.Bank.{Bank}
 use Rattle.bank_state.specs.Limits.{placeCount, nonceCount}
-use Rattle.bank_state.specs.Rows.{keep, keepOnly}
+use Rattle.bank_state.specs.Rows.{countOf, keep, keepOnly}
 use Rattle.bank_state.specs.Clock.{isIdle, freed, dropUpload, dropUploads, endDownloads, forget, atClock, advanced}
-use Rattle.bank_state.specs.Search.{isOpen}
+use Rattle.bank_state.specs.Search.{isOpen, freeDownload, freeNonce}
 use Rattle.bank_state.specs.Store.{zeroed}
 use Rattle.bank_state.specs.State.{BankState, bankState, noPlace, noDownload, noNonce, withClock, withOpenings, withFiles, withDownload, withDownloads, withNonces, withPlace, placeAt}
 use Rattle.bank_state.proofs.Rows.{length-keepOnly}
-use Rattle.bank_rows.specs.Layout.{downloadWidth, nonceWidth}
+use Rattle.bank_rows.specs.Layout.{
+  downloadCountAt,
+  nonceCountAt,
+  placesAt,
+  placeUse,
+  placeWidth,
+  downloadWidth,
+  nonceWidth,
+  stateSize,
+}
 use Rattle.bank_rows.specs.Records.{downloadOf, nonceOf, staysOpen, staysRemembered}
 use Rattle.bank_rows.specs.State.{
   downloadCountOf,
@@ -38,7 +47,18 @@ use Rattle.bank_rows.specs.State.{
 use Rattle.bank_rows.proofs.General.{length-rows}
 use Rattle.bank_rows.proofs.InUse.{keep-keepOnly, keepOnly-first, changed-first, added-first}
 use Rattle.bank_rows.proofs.Records.{stays-open, stays-kept}
-use Rattle.bank_rows.proofs.State.{open-are, remembered-are, held-rows, stored-own, stored-back, stored-laid, stored-twice}
+use Rattle.bank_rows.proofs.Reading.{free-download, open-downloads, free-nonce}
+use Rattle.bank_rows.proofs.State.{
+  open-are,
+  remembered-are,
+  held-rows,
+  stored-own,
+  stored-back,
+  stored-laid,
+  stored-twice,
+  stored-download-count,
+  stored-nonce-count,
+}
 
 -- a bank that is stored over the rows s with no download and no nonce more than they have
 pub record Within (s : List ℕ) (b : Bank) : Type 0 where
@@ -54,12 +74,20 @@ module _ (s : List ℕ) (l : Laid s) where
     nonces = omega (arith, ap length (remembered-are s l), length-rows nonceWidth nonceOf (nonceCountOf s) (noncesPart s));
   }
 
+  -- a change of the bank stored, stored after it, where that bank has no download and no nonce more than the rows or
+  -- than the bank that the change leaves
+  pub stored-change : (b : Bank) → Held b → (c : Bank → Bank) → Held (c b)
+      → length (openDownloads b) ≤ max (downloadCountOf s) (length (openDownloads (c b)))
+      → length (rememberedNonces b) ≤ max (nonceCountOf s) (length (rememberedNonces (c b)))
+      → (t u : List ℕ) → t ≡ stored b s → u ≡ stored (c (bankOf t)) t → u ≡ stored (c b) s
+  stored-change b k c h d n t u e f =
+      f ∙ ap (λ (r : List ℕ). stored (c (bankOf r)) r) e
+      ∙ ap (λ (x : Bank). stored (c x) (stored b s)) (stored-back b k s l) ∙ stored-twice b (c b) s k h l d n
+
   module _ (b : Bank) (k : Within s b) where
     -- a change of the bank stored, stored after it
     pub stored-next : (c : Bank → Bank) → Held (c b) → (t u : List ℕ) → t ≡ stored b s → u ≡ stored (c (bankOf t)) t → u ≡ stored (c b) s
-    stored-next c h t u e f =
-        f ∙ ap (λ (r : List ℕ). stored (c (bankOf r)) r) e ∙ ap (λ (x : Bank). stored (c x) (stored b s)) (stored-back b (k .held) s l)
-        ∙ stored-twice b (c b) s (k .held) h l (omega (arith, k .downloads)) (omega (arith, k .nonces))
+    stored-next c h = stored-change b (k .held) c h (omega (arith, k .downloads)) (omega (arith, k .nonces))
 
     pub laid-next : (t : List ℕ) → t ≡ stored b s → Laid t
     laid-next t e = rw e (stored-laid b (k .held) s l)
@@ -76,6 +104,47 @@ module _ (s : List ℕ) (l : Laid s) where
             ∙ stored-twice (w .bank) (f w .bank) s (k .held) h l (omega (arith, k .downloads)) (omega (arith, k .nonces));
         store = x .store ∙ ap (λ (v : BankState). v .orders) at;
       }
+
+-- ---- the first free records of a bank that rows can hold
+
+laid-zeros : (s : List ℕ) → length s ≡ stateSize → ((j : ℕ) → getD s j 0 ≡ 0) → Laid s
+laid-zeros s e z = record {
+  long = e;
+  downloads = omega (arith, z downloadCountAt);
+  nonces = omega (arith, z nonceCountAt);
+  uses = λ i h. omega (arith, z (placesAt + (placeWidth * i + placeUse)));
+}
+
+zero-at : (m j : ℕ) → _≡_ {A = ℕ} (getD (replicate m 0) j 0) 0
+zero-at zero j = refl
+zero-at (suc m) zero = refl
+zero-at (suc m) (suc j) = zero-at m j
+
+-- the rows of a fresh bank
+pub zeros-laid : Laid (replicate stateSize 0)
+zeros-laid = laid-zeros (replicate stateSize 0) (length-replicate {A = ℕ} stateSize 0) (zero-at stateSize)
+
+module _ (b : Bank) (k : Held b) where
+  abbrev over : List ℕ
+  over = stored b (replicate stateSize 0)
+
+  back : bankOf over ≡ b
+  back = stored-back b k (replicate stateSize 0) zeros-laid
+
+  -- they stand after the records in use
+  pub held-free-download : freeDownload b ≡ length (openDownloads b)
+  held-free-download =
+      ap freeDownload (sym back) ∙ free-download over ∙ stored-download-count b k (replicate stateSize 0) zeros-laid
+
+  pub held-free-nonce : freeNonce b ≡ length (rememberedNonces b)
+  held-free-nonce =
+      ap freeNonce (sym back) ∙ free-nonce over ∙ stored-nonce-count b k (replicate stateSize 0) zeros-laid
+
+  -- as many as are open
+  pub held-open-downloads : countOf (λ (e : Download). e .used) (b .downloads) ≡ freeDownload b
+  held-open-downloads =
+      ap (λ (x : Bank). countOf (λ (e : Download). e .used) (x .downloads)) (sym back) ∙ open-downloads over
+      ∙ sym (free-download over) ∙ ap freeDownload back
 
 -- ---- the changes of the clock
 

@@ -8,3 +8,4 @@ pub mod Reading
 pub mod Keeping
 pub mod Calls
 pub mod Test
+pub mod Range

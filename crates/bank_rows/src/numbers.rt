@@ -2,11 +2,12 @@
 use crate::layout::CLOCK_AT;
 use crate::layout::FILES_AT;
 use crate::layout::OPENINGS_AT;
+use bank_state::limits::PLACES;
 ghost use mathlib.Core.Path.{_≡_};
 ghost use Prim.Native.Nat.{_<_};
 ghost use lib.ListN.{getD, set};
 ghost use Rattle.bank_state.specs.Limits.{placeCount};
-ghost use Rattle.bank_state.specs.State.{withClock, withOpenings, withFiles};
+ghost use Rattle.bank_state.specs.State.{fileLength, withClock, withOpenings, withFiles};
 ghost use Rattle.bank_rows.specs.State.{bankOf, stored, Laid};
 
 pub fn clock(rows: &[u64]) -> u64
@@ -44,6 +45,21 @@ pub fn file_length(rows: &[u64], i: usize) -> u64
     ensures { λ r. ⌜ r ≡ getD (bankOf (now (rows .entry)) .files) i 0 ⌝ }
 {
     rows[FILES_AT + i]
+}
+
+// The length of the file in a subscriber's mailbox, 0 where it is empty.
+pub fn file_length_of(rows: &[u64], subscriber: u64) -> u64
+    requires { ⌜ Laid (now rows) ⌝ }
+    ensures { λ r. ⌜ r ≡ fileLength subscriber (bankOf (now (rows .entry)) .files) ⌝ }
+{
+    if subscriber == 0 {
+        return file_length(rows, 0);
+    }
+    let i = (subscriber - 1) as usize;
+    if i < PLACES {
+        return file_length(rows, i);
+    }
+    0
 }
 
 pub fn set_file_length(rows: &mut [u64], i: usize, n: u64)

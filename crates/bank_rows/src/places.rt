@@ -33,9 +33,9 @@ ghost use Rattle.bank_rows.specs.State.{bankOf, stored, Laid};
 // A place's use as its number.
 const FREE: u64 = 0;
 
-const OPEN: u64 = 1;
+pub(crate) const OPEN: u64 = 1;
 
-const BOOKED: u64 = 2;
+pub(crate) const BOOKED: u64 = 2;
 
 fn use_of(number: u64) -> Use
     ensures { λ r. ⌜ r ≡ useOf number ⌝ }

@@ -1,30 +1,41 @@
 // The one test of the rows: the numbers that the code relies on.
 use crate::layout::DOWNLOAD_COUNT_AT;
 use crate::layout::DOWNLOAD_DELIVERED;
+use crate::layout::DOWNLOAD_SUBSCRIBER;
 use crate::layout::DOWNLOAD_WIDTH;
 use crate::layout::DOWNLOADS_AT;
 use crate::layout::FILES_AT;
 use crate::layout::NONCE_COUNT_AT;
 use crate::layout::PLACE_LENGTH;
+use crate::layout::PLACE_SEGMENTS;
 use crate::layout::PLACE_TAKEN;
 use crate::layout::PLACE_USE;
 use crate::layout::PLACE_WIDTH;
 use crate::layout::PLACES_AT;
 use crate::layout::STATE_SIZE;
+use crate::places::BOOKED;
+use crate::places::OPEN;
 use bank_state::limits::NONCES;
 use bank_state::limits::PLACES;
 use message::limits::FILE_BYTES;
 use message::limits::MAX_SEGMENTS;
+use message::limits::SEGMENT_BYTES;
+use message::limits::SUBSCRIBERS;
+use message::segments::segments_of;
 ghost use mathlib.Core.Path.{_≡_};
-ghost use Prim.Native.Nat.{_≤_, _<_};
+ghost use Prim.Native.Nat.{_+_, _≤_, _<_};
 ghost use lib.ListN.{length};
 ghost use Rattle.bank_state.specs.Limits.{placeCount};
-ghost use Rattle.bank_rows.specs.Layout.{stateSize};
-ghost use Rattle.bank_rows.specs.Sound.{allBelow, isSoundFile, isSoundPlace, isSoundDownload, isSound};
+ghost use Rattle.bank_rows.specs.Layout.{placeWidth, stateSize};
+ghost use Rattle.bank_rows.specs.Sound.{
+  allBelow,
+  isSoundFile,
+  isSoundUpload,
+  isSoundPlace,
+  isSoundDownload,
+  isSound,
+};
 ghost use Rattle.bank_rows.specs.State.{downloadCountOf};
-
-// The number of the last use, booked.
-const MAX_USE: u64 = 2;
 
 fn are_sound_files(rows: &[u64]) -> bool
     requires { ⌜ length (now rows) ≡ stateSize ⌝ }
@@ -40,18 +51,37 @@ fn are_sound_files(rows: &[u64]) -> bool
     true
 }
 
+// Whether the row that starts here can be an open upload's.
+fn is_sound_upload(rows: &[u64], at: usize) -> bool
+    requires { ⌜ (length (now rows) ≡ stateSize) × (at + placeWidth ≤ stateSize) ⌝ }
+    ensures { λ r. ⌜ r ≡ isSoundUpload (now (rows .entry)) at ⌝ }
+{
+    let segments = rows[at + PLACE_SEGMENTS];
+    if MAX_SEGMENTS < segments {
+        return false;
+    }
+    let taken = rows[at + PLACE_TAKEN];
+    if segments <= taken {
+        return false;
+    }
+    rows[at + PLACE_LENGTH] <= taken * SEGMENT_BYTES as u64
+}
+
 fn is_sound_place(rows: &[u64], i: usize) -> bool
     requires { ⌜ (length (now rows) ≡ stateSize) × (i < placeCount) ⌝ }
     ensures { λ r. ⌜ r ≡ isSoundPlace (now (rows .entry)) i ⌝ }
 {
     let at = PLACES_AT + PLACE_WIDTH * i;
-    if MAX_USE < rows[at + PLACE_USE] {
+    if BOOKED < rows[at + PLACE_USE] {
         return false;
     }
     if (FILE_BYTES as u64) < rows[at + PLACE_LENGTH] {
         return false;
     }
-    rows[at + PLACE_TAKEN] <= MAX_SEGMENTS
+    if rows[at + PLACE_USE] != OPEN {
+        return true;
+    }
+    is_sound_upload(rows, at)
 }
 
 fn are_sound_places(rows: &[u64]) -> bool
@@ -68,6 +98,22 @@ fn are_sound_places(rows: &[u64]) -> bool
     true
 }
 
+fn is_sound_download(rows: &[u64], i: usize) -> bool
+    requires { ⌜ (length (now rows) ≡ stateSize) × (i < placeCount) ⌝ }
+    ensures { λ r. ⌜ r ≡ isSoundDownload (now (rows .entry)) i ⌝ }
+{
+    let at = DOWNLOADS_AT + DOWNLOAD_WIDTH * i;
+    let subscriber = rows[at + DOWNLOAD_SUBSCRIBER];
+    if subscriber < 1 {
+        return false;
+    }
+    if SUBSCRIBERS < subscriber {
+        return false;
+    }
+    let mailbox = (subscriber - 1) as usize;
+    rows[at + DOWNLOAD_DELIVERED] <= segments_of(rows[FILES_AT + mailbox])
+}
+
 fn are_sound_downloads(rows: &[u64]) -> bool
     requires { ⌜ (length (now rows) ≡ stateSize) × (downloadCountOf (now rows) ≤ placeCount) ⌝ }
     ensures { λ r. ⌜ r ≡ allBelow (isSoundDownload (now (rows .entry))) (downloadCountOf (now (rows .entry))) ⌝ }
@@ -75,7 +121,7 @@ fn are_sound_downloads(rows: &[u64]) -> bool
     let n = rows[DOWNLOAD_COUNT_AT] as usize;
     let mut i = 0;
     while i < n {
-        if MAX_SEGMENTS < rows[DOWNLOADS_AT + DOWNLOAD_WIDTH * i + DOWNLOAD_DELIVERED] {
+        if !is_sound_download(rows, i) {
             return false;
         }
         i += 1;

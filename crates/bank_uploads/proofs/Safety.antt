@@ -45,12 +45,12 @@ module _ (clock : ℕ) (p : Place) (opened : p .used ≡ Open) (q : Fields) (d b
   pub booked-by-last : (r : TransactionRequest) → uploadStep clock r p q d bytes .place .used ≡ Booked →
       (segment q ≡ p .taken + 1) × (segment q ≡ p .segments)
   unfolding uploadStep grown booked attempted
-  booked-by-last r = at (judgeUpload r p q (length d)) refl
+  booked-by-last r = at (judgeUpload r p q) refl
     where
-      at : (a : UploadAction) → judgeUpload r p q (length d) ≡ a → carriedOut a clock p d bytes .place .used ≡ Booked →
+      at : (a : UploadAction) → judgeUpload r p q ≡ a → carriedOut a clock p d bytes .place .used ≡ Booked →
           (segment q ≡ p .taken + 1) × (segment q ≡ p .segments)
       at (up.Opened number) h e = not-booked e
       at up.Took h e = not-booked e
-      at up.TookLast h e = let fits = last-fits r p q (length d) h in (fits .0, fits .1)
+      at up.TookLast h e = last-fits r p q h
       at (up.Point k) h e = not-booked e
       at (up.Cancelled c) h e = never (ap isBooked e)

@@ -87,4 +87,4 @@ carriedOut a clock p segmentData bytes =
 
 -- a request to an open upload arrives
 unfoldable pub uploadStep : ℕ → TransactionRequest → Place → Fields → List ℕ → List ℕ → UploadStep
-uploadStep clock r p q segmentData bytes = carriedOut (judgeUpload r p q (length segmentData)) clock p segmentData bytes
+uploadStep clock r p q segmentData bytes = carriedOut (judgeUpload r p q) clock p segmentData bytes

@@ -8,7 +8,6 @@ use bank_verdicts::verdict::TransactionRequest;
 use bank_verdicts::verdict::UploadAction;
 use frame_table::fields::Fields;
 use message::codes::ReturnCode;
-use message::limits::FILE_BYTES;
 use message::limits::MAX_ATTEMPTS;
 use message::segments::is_next;
 ghost use mathlib.Core.Path.{_≡_};
@@ -18,7 +17,7 @@ ghost use Rattle.frame_table.specs.Names.{segment};
 ghost use Rattle.message.specs.Limits.{maxAttempts, fileBytes};
 ghost use Rattle.octets.specs.Bytes.{overwrite};
 ghost use Rattle.bank_state.specs.State.{noPlace};
-ghost use Rattle.bank_verdicts.specs.Refusals.{fitsUpload, isUnderrun, isExceeded, withoutRoom, segmentRows};
+ghost use Rattle.bank_verdicts.specs.Refusals.{fitsUpload, isUnderrun, isExceeded, segmentRows};
 ghost use Rattle.bank_verdicts.specs.Judgement.{judged, takes, judgeUpload};
 ghost use Rattle.bank_uploads.specs.Uploads.{grown, booked, attempted, stepOf, uploadStep};
 
@@ -59,17 +58,6 @@ fn is_exceeded(p: Place, q: Fields) -> bool
     q.last_mark() == 0
 }
 
-// Whether n bytes more are too many for the place.
-fn is_without_room(p: Place, n: usize) -> bool
-    ensures { λ r. ⌜ r ≡ withoutRoom p n ⌝ }
-{
-    if FILE_BYTES < n {
-        return true;
-    }
-    let room = (FILE_BYTES - n) as u64;
-    room < p.length
-}
-
 // Segment N books the order.
 fn takes(p: Place, segment: u64) -> UploadAction
     requires { ⌜ segment ≡ p .taken + 1 ⌝ }
@@ -81,10 +69,10 @@ fn takes(p: Place, segment: u64) -> UploadAction
     UploadAction::Took
 }
 
-// What a segment of n bytes that fits does, checked in document 01's order.
-fn judge_segment(p: Place, q: Fields, n: usize) -> UploadAction
+// What a segment that fits does, checked in document 01's order.
+fn judge_segment(p: Place, q: Fields) -> UploadAction
     requires { ⌜ segment q ≡ p .taken + 1 ⌝ }
-    ensures { λ r. ⌜ r ≡ judged (segmentRows p q n) (takes p) ⌝ }
+    ensures { λ r. ⌜ r ≡ judged (segmentRows p q) (takes p) ⌝ }
 {
     if is_underrun(p, q) {
         return UploadAction::Cancelled(ReturnCode::SegmentNumberUnderrun);
@@ -92,18 +80,15 @@ fn judge_segment(p: Place, q: Fields, n: usize) -> UploadAction
     if is_exceeded(p, q) {
         return UploadAction::Cancelled(ReturnCode::SegmentNumberExceeded);
     }
-    if is_without_room(p, n) {
-        return UploadAction::Cancelled(ReturnCode::InternalError);
-    }
     takes(p, q.segment())
 }
 
-// What a request with n bytes of data does.
-pub fn judge_upload(r: TransactionRequest, p: Place, q: Fields, n: usize) -> UploadAction
-    ensures { λ a. ⌜ a ≡ judgeUpload r p q n ⌝ }
+// What a request does.
+pub fn judge_upload(r: TransactionRequest, p: Place, q: Fields) -> UploadAction
+    ensures { λ a. ⌜ a ≡ judgeUpload r p q ⌝ }
 {
     if fits_upload(r, p, q) {
-        return judge_segment(p, q, n);
+        return judge_segment(p, q);
     }
     if p.attempts < MAX_ATTEMPTS {
         return UploadAction::Point(p.taken);
@@ -169,7 +154,7 @@ fn free(bytes: &mut [u8]) -> Place
     no_place()
 }
 
-// A request to an open upload arrives; `segment` is its data, and `bytes` are the place's bytes.
+// A request to an open upload arrives; `segment` is its data, and `bytes` are the place's bytes, with room for it.
 pub fn upload_step(
     clock: u64,
     r: TransactionRequest,
@@ -178,11 +163,11 @@ pub fn upload_step(
     segment: &[u8],
     bytes: &mut [u8],
 ) -> UploadOut
-    requires { ⌜ length (now bytes) ≡ fileBytes ⌝ }
+    requires { ⌜ (length (now bytes) ≡ fileBytes) × (p .length + length (now segment) ≤ fileBytes) ⌝ }
     ensures { λ o. ⌜ stepOf (o .place) (now (bytes .exit)) (o .action)
         ≡ uploadStep clock r p q (now (segment .entry)) (now (bytes .entry)) ⌝ }
 {
-    let action = judge_upload(r, p, q, segment.len());
+    let action = judge_upload(r, p, q);
     let place = match action {
         UploadAction::Opened(_) => p,
         UploadAction::Took => {

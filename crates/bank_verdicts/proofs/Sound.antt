@@ -32,7 +32,7 @@ use Rattle.frame_table.specs.Table.{isRequestForm}
 use Rattle.octets.proofs.Tests.{never, and-true, or-neither}
 use Rattle.message.specs.declared.codes.ReturnCode.{ReturnCode}
 use Rattle.message.specs.declared.codes.ReturnCode.the-variants as code
-use Rattle.message.specs.Limits.{ful, fdl, subscribers, segmentBytes, maxSegments, maxAttempts, fileBytes}
+use Rattle.message.specs.Limits.{ful, fdl, subscribers, segmentBytes, maxSegments, maxAttempts}
 use Rattle.message.proofs.Verdicts.{by-test, and-false}
 use Rattle.bank_state.specs.declared.state.Bank.{Bank}
 use Rattle.bank_state.specs.declared.state.Download.{Download}
@@ -72,7 +72,6 @@ use Rattle.bank_verdicts.specs.Refusals.{
   uploadAttempt,
   isUnderrun,
   isExceeded,
-  withoutRoom,
   segmentRows,
   uploadRows,
   fitsDownload,
@@ -200,7 +199,7 @@ unfolding transactionRows
 judged-transaction P b q v refuses found =
     judged-by P (transactionRows b q) v (line (λ _ _. refuses) end) (λ failed. found (failed code.UnknownTransaction))
 
--- ---- a request to the open upload in the place p, with n bytes of data
+-- ---- a request to the open upload in the place p
 
 -- "only segment k + 1 fits"
 pub record UploadFits (r : TransactionRequest) (p : Place) (q : Fields) : Type 0 where
@@ -208,28 +207,25 @@ pub record UploadFits (r : TransactionRequest) (p : Place) (q : Fields) : Type 0
   pub next : segment q ≡ p .taken + 1
 
 -- a segment with the right last mark is taken; 061101 to the first five attempts; the codes that cancel
-pub data UploadSound (r : TransactionRequest) (p : Place) (q : Fields) (n : ℕ) : UploadAction → Type 0 where
+pub data UploadSound (r : TransactionRequest) (p : Place) (q : Fields) : UploadAction → Type 0 where
   took : UploadFits r p q → (segment q ≡ p .segments → ⊥) → (segment q < p .segments → lastMark q ≡ 1 → ⊥) →
-      p .length + n ≤ fileBytes → UploadSound r p q n up.Took
-  tookLast : UploadFits r p q → segment q ≡ p .segments → (lastMark q ≡ 0 → ⊥) → p .length + n ≤ fileBytes →
-      UploadSound r p q n up.TookLast
-  uploadPoint : fitsUpload r p q ≡ false → p .attempts < maxAttempts → UploadSound r p q n (up.Point (p .taken))
-  abort : fitsUpload r p q ≡ false → maxAttempts ≤ p .attempts →
-      UploadSound r p q n (up.Cancelled code.TransactionAbort)
+      UploadSound r p q up.Took
+  tookLast : UploadFits r p q → segment q ≡ p .segments → (lastMark q ≡ 0 → ⊥) → UploadSound r p q up.TookLast
+  uploadPoint : fitsUpload r p q ≡ false → p .attempts < maxAttempts → UploadSound r p q (up.Point (p .taken))
+  abort : fitsUpload r p q ≡ false → maxAttempts ≤ p .attempts → UploadSound r p q (up.Cancelled code.TransactionAbort)
   underrun : UploadFits r p q → segment q < p .segments → lastMark q ≡ 1 →
-      UploadSound r p q n (up.Cancelled code.SegmentNumberUnderrun)
+      UploadSound r p q (up.Cancelled code.SegmentNumberUnderrun)
   exceeded : UploadFits r p q → segment q ≡ p .segments → lastMark q ≡ 0 →
-      UploadSound r p q n (up.Cancelled code.SegmentNumberExceeded)
-  overfull : fileBytes < p .length + n → UploadSound r p q n (up.Cancelled code.InternalError)
+      UploadSound r p q (up.Cancelled code.SegmentNumberExceeded)
 
 pub upload-fits : (r : TransactionRequest) (p : Place) (q : Fields) → fitsUpload r p q ≡ true → UploadFits r p q
 upload-fits asked.UploadTransfer p q h = record { transfer = refl; next = eqb-true (segment q) (p .taken + 1) h }
 upload-fits asked.DownloadTransfer p q h = never h
 upload-fits asked.Receipt p q h = never h
 
-module _ (r : TransactionRequest) (p : Place) (q : Fields) (n : ℕ) where
+module _ (r : TransactionRequest) (p : Place) (q : Fields) where
   abbrev P : UploadAction → Type 0
-  P a = UploadSound r p q n a
+  P a = UploadSound r p q a
 
   attempt : uploadAttempt r p q ≡ true → P (up.Point (p .taken))
   unfolding uploadAttempt
@@ -268,27 +264,25 @@ module _ (r : TransactionRequest) (p : Place) (q : Fields) (n : ℕ) where
   not-missing e h =
       eqb-false (lastMark q) 0 (and-false (eqb (segment q) (p .segments)) (eqb (lastMark q) 0) e (eq-eqb _ _ h))
 
-  taken : Fail (uploadRows r p q n) → P (takes p)
-  unfolding uploadRows segmentRows withoutRoom takes
+  taken : Fail (uploadRows r p q) → P (takes p)
+  unfolding uploadRows segmentRows takes
   taken failed =
       let fits = fitting (failed code.TransactionAbort) in
-      let room = ltb-false fileBytes (p .length + n) (failed code.InternalError) in
       by-test P (eqb (p .taken + 1) (p .segments))
       (λ h. let last = fits .next ∙ eqb-true (p .taken + 1) (p .segments) h in
-      tookLast fits last (not-missing (failed code.SegmentNumberExceeded) last) room)
+      tookLast fits last (not-missing (failed code.SegmentNumberExceeded) last))
       (λ h. took fits (λ e. eqb-false (p .taken + 1) (p .segments) h (sym (fits .next) ∙ e))
-      (not-early (failed code.SegmentNumberUnderrun)) room)
+      (not-early (failed code.SegmentNumberUnderrun)))
 
-  pub judged-upload : UploadSound r p q n (judgeUpload r p q n)
-  unfolding judgeUpload uploadRows segmentRows withoutRoom
+  pub judged-upload : UploadSound r p q (judgeUpload r p q)
+  unfolding judgeUpload uploadRows segmentRows
   judged-upload =
-      judged-by P (uploadRows r p q n) (takes p)
+      judged-by P (uploadRows r p q) (takes p)
       (line (λ h _. attempt h)
       (line (λ h above. sixth h (above code.RecoverySync))
       (line (λ h above. early (fitting (above code.TransactionAbort)) h)
       (line (λ h above. missing (fitting (above code.TransactionAbort)) h)
-      (line (λ h _. overfull (ltb-true fileBytes (p .length + n) h))
-      end)))))
+      end))))
       taken
 
 -- ---- a request to the open download e of n segments

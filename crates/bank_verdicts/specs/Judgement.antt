@@ -64,9 +64,9 @@ judgeOpening d first b q = judged (openingRows d b q) (accepted d first b q)
 unfoldable pub takes : Place → UploadAction
 takes p = cond (eqb (p .taken + 1) (p .segments)) up.TookLast up.Took
 
--- a request to the open upload in the place p, with n bytes of data
-unfoldable pub judgeUpload : TransactionRequest → Place → Fields → ℕ → UploadAction
-judgeUpload r p q n = judged (uploadRows r p q n) (takes p)
+-- a request to the open upload in the place p
+unfoldable pub judgeUpload : TransactionRequest → Place → Fields → UploadAction
+judgeUpload r p q = judged (uploadRows r p q) (takes p)
 
 -- a request to the open download e of n segments
 unfoldable pub judgeDownload : TransactionRequest → Download → ℕ → Fields → DownloadAction
@@ -85,7 +85,7 @@ judgeOpen r b q n =
     let p = placeAt b (uploadAt b q) in
     let e = downloadAt b (downloadOf b q) in
     cond (ltb (uploadAt b q) placeCount)
-    (Of (p .transaction) (action.Upload (judgeUpload r p q n)))
+    (Of (p .transaction) (action.Upload (judgeUpload r p q)))
     (Of (e .transaction) (action.Download (judgeDownload r e (mailboxSegments (subscriber q) b) q)))
 
 -- a request to a transaction

@@ -20,7 +20,7 @@ use Rattle.frame_table.specs.Names.{
 use Rattle.frame_table.specs.Table.{isRequestForm}
 use Rattle.message.specs.declared.codes.ReturnCode.{ReturnCode}
 use Rattle.message.specs.declared.codes.ReturnCode.the-variants as code
-use Rattle.message.specs.Limits.{ful, fdl, subscribers, segmentBytes, maxSegments, maxAttempts, fileBytes}
+use Rattle.message.specs.Limits.{ful, fdl, subscribers, segmentBytes, maxSegments, maxAttempts}
 use Rattle.bank_state.specs.declared.state.Bank.{Bank}
 use Rattle.bank_state.specs.declared.state.Download.{Download}
 use Rattle.bank_state.specs.declared.state.Place.{Place}
@@ -165,7 +165,7 @@ notOpen b q =
 unfoldable pub transactionRows : Bank → Fields → List (Row Verdict)
 transactionRows b q = refusing code.UnknownTransaction (notOpen b q) ∷ []
 
--- ---- a request to the open upload in the place p, with n bytes of data
+-- ---- a request to the open upload in the place p
 
 -- "With k segments taken of N, only segment k + 1 fits"
 abbrev pub fitsUpload : TransactionRequest → Place → Fields → Bool
@@ -185,27 +185,22 @@ isUnderrun p q = ltb (segment q) (p .segments) && eqb (lastMark q) 1
 unfoldable pub isExceeded : Place → Fields → Bool
 isExceeded p q = eqb (segment q) (p .segments) && eqb (lastMark q) 0
 
--- a place without room for the segment: no call leaves one
-unfoldable pub withoutRoom : Place → ℕ → Bool
-withoutRoom p n = ltb fileBytes (p .length + n)
-
 -- "cancelled, place zeroed and freed"
 abbrev pub cancelling : ReturnCode → Bool → Row UploadAction
 cancelling c test = (c, test, up.Cancelled c)
 
 -- the lines for a segment that fits
-unfoldable pub segmentRows : Place → Fields → ℕ → List (Row UploadAction)
-segmentRows p q n =
+unfoldable pub segmentRows : Place → Fields → List (Row UploadAction)
+segmentRows p q =
     cancelling code.SegmentNumberUnderrun (isUnderrun p q)
     ∷ cancelling code.SegmentNumberExceeded (isExceeded p q)
-    ∷ cancelling code.InternalError (withoutRoom p n)
     ∷ []
 
-unfoldable pub uploadRows : TransactionRequest → Place → Fields → ℕ → List (Row UploadAction)
-uploadRows r p q n =
+unfoldable pub uploadRows : TransactionRequest → Place → Fields → List (Row UploadAction)
+uploadRows r p q =
     (code.RecoverySync, uploadAttempt r p q, up.Point (p .taken))
     ∷ cancelling code.TransactionAbort (not (fitsUpload r p q))
-    ∷ segmentRows p q n
+    ∷ segmentRows p q
 
 -- ---- a request to the open download e of n segments
 

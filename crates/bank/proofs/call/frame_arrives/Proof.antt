@@ -1,70 +1,87 @@
--- Number 1 where a lent length is wrong; else clock, reading and step, as the definition has them. Assumes nothing.
+-- Number 1 where a lent length is wrong or the rows are no bank's; else clock, reading and step, as the definition has them.
+use mathlib.Core.Bool.{true}
 use mathlib.Core.Path.{_≡_, sym, _∙_}
 use native.Mathlib.Omega.{arith}
 use lib.ListN.{length}
 use borrow.Author.Tests.{not-true, not-false}
 use Rattle.bank_state.specs.Limits.{storeBytes, idBytes}
-use Rattle.bank.specs.Call.{lentRight, frameCall}
+use Rattle.bank_rows.specs.Sound.{isSound}
+use Rattle.bank_rows.proofs.Test.{sound-laid, sound-range}
+use Rattle.bank.specs.Call.{lentRight, frameInput}
+use Rattle.bank.specs.Lent.{lent}
 use Rattle.bank.proofs.Accepted.{lengths-right}
+use Rattle.bank.proofs.Lent.{advanced-prepared, length-refused, rows-refused, frame-carried}
 use borrow.Author.Needs.{needs}
 use Rattle.bank.proofs.call.frame_arrives.Statement.{statement}
 use Rattle.bank.proofs.call.frame_arrives.Tie as tie
 
 -- the lent lengths are right
 right : (c : tie.Else1)
-    → let a = c .before .before .before .before .before .before .before .args in
+    → let a = c .before .before .before .before .before .before .before .before .args in
     (length (a .orders .now) ≡ storeBytes) × (length (a .mailboxes .now) ≡ storeBytes) × (length (a .ids .now) ≡ idBytes)
 right c =
-    let buffer = c .before .before .before .before .before .before .before .args .buffer .now in
+    let buffer = c .before .before .before .before .before .before .before .before .args .buffer .now in
     let right = not-false (c .before .lent-right .result) (c .if1 .left) in
     lengths-right _ _ _ (length buffer) (sym (c .before .lent-right .ensures) ∙ right)
 
+-- the rows are a bank's
+sound : (c : tie.Else2)
+    → isSound (c .before .before .before .before .before .before .before .before .before .before .before .args .rows .now) ≡ true
+sound c = sym (c .before .is-sound .ensures) ∙ not-false (c .before .is-sound .result) (c .if2 .left)
+
 returns : tie.Need-returns
-unfolding frameCall lentRight
-returns c = rw (← c .before .lent-right .ensures, not-true (c .before .lent-right .result) (c .if1 .taken))
+unfolding lentRight
+returns c =
+    sym (length-refused _ _ (sym (c .before .lent-right .ensures) ∙ not-true (c .before .lent-right .result) (c .if1 .taken)))
+
+returns-2 : tie.Need-returns-2
+returns-2 c = sym (rows-refused _ _ (sym (c .before .is-sound .ensures) ∙ not-true (c .before .is-sound .result) (c .if2 .taken)))
 
 advance-requires : tie.Need-advance-requires
-advance-requires c κs = right (c .before) .0
+advance-requires c κs =
+    let at-if2 = c .before .before in
+    (sound-laid _ (sound at-if2), right (at-if2 .before .before .before) .0)
 
 number-requires : tie.Need-number-requires
-number-requires c κs = omega (arith, right (c .before .before .before .before) .2)
+number-requires c κs = omega (arith, right (c .before .before .before .before .before .before .before .before .before .before .before) .2)
 
 respond-requires : tie.Need-respond-requires
 respond-requires c κs =
-    let at-orders = c .before .before .before .before .before .before .before in
-    let lent = right (at-orders .before .before .before) in
-    (at-orders .orders .given ∙ lent .0, lent .1)
+    let at-if2 = c .before .before .before .before .before .before .before .before .before .before .before .before .before .before in
+    let at-if1 = at-if2 .before .before .before in
+    let a = c .before .before .before .before .before .before .before .before .before .before .before .before .before .before .before .before .before .before .before .before .before .before .before .before .before .args in
+    let m = a .mailboxes .now in
+    advanced-prepared (a .rows .now) (a .orders .now) m (sound-laid _ (sound at-if2)) (a .time) _ _ (c .before .before .before .before .before .before .before .before .before .before .before .advance .ensures m)
+    (sound-range _ (sound at-if2)) (c .before .before .before .before .before .before .before .before .orders .given ∙ right at-if1 .0) (right at-if1 .1)
 
-returns-2 : tie.Need-returns-2
-unfolding frameCall lentRight
-returns-2 c =
-    let at-respond = c .before .before .before .before .before .before in
-    let at-data = at-respond .before .before .before .before in
-    let at-read = at-data .before in
-    let at-number = at-read .before in
-    let at-advance = at-number .before .before .before in
-    let at-if1 = at-advance .before .before in
-    rw (
-      ← at-if1 .before .lent-right .ensures,
-      not-false (at-if1 .before .lent-right .result) (at-if1 .if1 .left),
-      ← at-advance .advance .ensures _,
-      ← at-number .number .ensures .0,
-      ← at-read .read-request .ensures,
-      ← at-data .«data» .ensures,
-    ) (at-respond .respond .ensures)
+returns-3 : tie.Need-returns-3
+unfolding lentRight
+returns-3 c =
+    let at-if2 = c .before .before .before .before .before .before .before .before .before .before .before .before .before .before .before .before .before .before .before .before .before .before .before in
+    let at-lent = at-if2 .before .before .before .before in
+    let a = c .before .before .before .before .before .before .before .before .before .before .before .before .before .before .before .before .before .before .before .before .before .before .before .before .before .before .before .before .before .before .before .before .before .before .args in
+    let m = a .mailboxes .now in
+    let lengths = sym (at-lent .lent-right .ensures) ∙ not-false (at-lent .lent-right .result) (c .before .before .before .before .before .before .before .before .before .before .before .before .before .before .before .before .before .before .before .before .before .before .before .before .before .before .if1 .left) in
+    frame-carried (lent (a .rows .now) (a .orders .now) m) (frameInput (a .time) (a .ids .now) (a .frame .now) (a .buffer .now))
+    (sound at-if2) lengths _ _ (c .before .before .before .before .before .before .before .before .before .before .before .before .before .before .before .before .before .before .before .before .advance .ensures m)
+    (c .before .before .before .before .before .before .before .before .before .before .before .before .before .before .number .ensures .0) (c .before .before .before .before .before .before .before .before .before .before .before .before .before .read-request .ensures) (c .before .before .before .before .before .before .before .before .before .before .before .before .«data» .ensures) (c .before .before .before .before .before .before .before .before .respond .ensures)
 
 pub frame-arrives-spec : {M : Type 1} → statement M
 frame-arrives-spec =
     tie.close
     (tie.spec
-    (λ c κs. tt)
+    (λ c κs. search needs)
     returns
+    (λ c κs. search needs)
+    (λ c. search needs)
+    returns-2
     advance-requires
     number-requires
-    (λ c κs. tt)
-    (λ c κs. tt)
+    (λ c κs. search needs)
+    (λ c κs. search needs)
     respond-requires
     (λ c. search needs)
     (λ c. search needs)
     (λ c. search needs)
-    returns-2)
+    (λ c. search needs)
+    returns-3)

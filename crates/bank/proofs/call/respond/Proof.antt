@@ -1,9 +1,13 @@
 -- The verdict is carried out, the reply read off it: where it has data, the mailboxes are as before. Assumes nothing.
-use Rattle.bank_state.specs.State.{bankState}
-use Rattle.bank_verdicts.specs.Judgement.{judge}
+use mathlib.Core.Path.{ap, _∙_}
+use Prim.Native.Nat.{ℕ}
 use lib.ListN.{length}
+use Rattle.bank_state.specs.State.{fileLength}
+use Rattle.bank_rows.specs.State.{bankOf}
+use Rattle.bank_verdicts.specs.Judgement.{judge}
 use Rattle.bank.specs.Call.{respond}
-use Rattle.bank.proofs.Carried.{replied-by}
+use Rattle.bank.specs.Lent.{lent}
+use Rattle.bank.proofs.Lent.{respond-kept}
 use borrow.Author.Needs.{needs}
 use Rattle.bank.proofs.call.respond.Statement.{statement}
 use Rattle.bank.proofs.call.respond.Tie as tie
@@ -11,21 +15,23 @@ use Rattle.bank.proofs.call.respond.Tie as tie
 returns : tie.Need-returns
 unfolding respond
 returns c =
-    let at-reply = c .before .before in
-    let at-step = at-reply .before .before .before .before .before .before .before .before in
-    let a = at-step .before .before .before .before .before .before .before .args in
-    let w = bankState (a .b) (a .orders .now) (a .mailboxes .now) in
-    let step = at-step .step .ensures in
-    let v = judge (a .first) (a .b) (a .q) (length (a .bytes .now)) in
-    replied-by v w (a .q) (a .bytes .now) (step .judged) (step .done)
-    (at-reply .reply .ensures _)
+    let a = c .before .before .before .before .before .before .before .before .before .before .before .before .before .before .before .before .before .before .before .before .before .before .before .args in
+    let b = bankOf (a .rows .now) in
+    let step = c .before .before .before .before .before .before .before .before .before .before .before .step .ensures in
+    let v = judge (a .first) b (a .q) (length (a .bytes .now)) in
+    let n = c .before .before .before .before .before .before .before .before .before .before .before .before .before .before .before .file-length-of .ensures ∙ ap (λ (k : ℕ). fileLength k (b .files)) (c .before .before .before .before .before .before .before .before .before .before .before .before .before .before .before .before .subscriber .ensures) in
+    respond-kept (lent (a .rows .now) (a .orders .now) (a .mailboxes .now)) v (a .q) (a .bytes .now)
+    (step .judged) (step .done) n (c .before .before .reply .ensures)
 
 pub respond-spec : {M : Type 1} → statement M
 respond-spec =
     tie.close
     (tie.spec
     (λ c κs. search needs)
-    (λ c κs. tt)
+    (λ c κs. search needs)
+    (λ c κs. search needs)
+    (λ c κs. search needs)
+    (λ c. search needs)
     (λ c. search needs)
     (λ c. search needs)
     (λ c. search needs)

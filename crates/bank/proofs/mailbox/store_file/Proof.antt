@@ -4,7 +4,7 @@ use Rattle.bank.proofs.mailbox.store_file.Statement.{statement}
 use Rattle.bank.proofs.mailbox.store_file.Tie as tie
 
 returns : tie.Need-returns
-returns c = rw (c .before .before .append .ensures)
+returns c = rw (c .before .before .before .before .before .before .append .ensures, c .before .before .set-file-length .ensures)
 
 pub store-file-spec : {M : Type 1} → statement M
 store-file-spec =
@@ -13,7 +13,7 @@ store-file-spec =
     (λ c. search needs)
     (λ c. search needs)
     (λ c κs. search needs)
-    (λ c. search needs)
+    (λ c κs. search needs)
     (λ c. search needs)
     (λ c. search needs)
     returns)

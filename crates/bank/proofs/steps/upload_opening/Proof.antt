@@ -1,55 +1,50 @@
 -- An opening that acts on a transaction is accepted; the other verdicts change nothing. Assumes nothing.
-use mathlib.Core.Path.{_≡_, sym, ap, _∙_}
-use Rattle.bank_state.specs.declared.state.Bank.{Bank}
-use Rattle.bank_state.specs.State.{bankState}
+use mathlib.Core.Path.{_≡_, sym, ap, _∙_, subst}
+use Rattle.bank_rows.specs.State.{bankOf}
+use Rattle.bank_rows.proofs.State.{held-rows}
 use Rattle.bank_verdicts.specs.declared.verdict.Direction.the-variants as direction
 use Rattle.bank_verdicts.specs.declared.verdict.Verdict.{Verdict}
-use Rattle.bank.specs.Call.{carryOut}
-use Rattle.bank.proofs.Carried.{of-none, opens, upload-opened}
+use Rattle.bank_openings.proofs.Opened.{accepted-room}
+use Rattle.bank.specs.Lent.{lent, CarriedOut}
+use Rattle.bank.proofs.Lent.{none-carried, upload-opening-carried}
 use borrow.Author.Needs.{needs}
 use Rattle.bank.proofs.steps.upload_opening.Statement.{statement}
 use Rattle.bank.proofs.steps.upload_opening.Tie as tie
 
 open-upload-requires : tie.Need-open-upload-requires
 open-upload-requires c κs =
-    let at-judge = c .before .before .before in
-    let a = at-judge .before .args in
-    let told = sym (at-judge .judge-opening .ensures) ∙ c .before .verdict .given .1 in
-    opens (a .first) (a .b) (a .q) direction.Upload told .numbers
+    let start = c .before .before .before .before .before .before .before .before .before in
+    let a = start .args in
+    let s = a .rows .now in
+    let told = sym (c .before .before .before .before .before .before .judge-opening .ensures) ∙ c .before .before .before .before .verdict .given .1 in
+    (start .pre, accepted-room (a .first) (bankOf s) (a .q) (held-rows s (start .pre)) direction.Upload told)
 
 returns : tie.Need-returns
 returns c =
     λ o m d.
-    let at-verdict = c .before .before in
-    let at-judge = at-verdict .before .before in
-    let a = at-judge .before .args in
-    let told = sym (at-judge .judge-opening .ensures) ∙ at-verdict .verdict .given .1 in
-    record {
-      judged = sym told;
-      done =
-          ap (λ (b : Bank). bankState b o m) (c .open-upload .ensures)
-          ∙ upload-opened (a .first) (a .b) (a .q) o m d told;
-    }
+    let a = c .before .before .before .before .before .before .before .before .before .before .before .before .args in
+    let told = sym (c .before .before .before .before .before .before .before .before .before .judge-opening .ensures) ∙ c .before .before .before .before .before .before .before .verdict .given .1 in
+    upload-opening-carried (a .rows .now) o m (a .first) (a .q) d told (c .before .before .before .before .openings .ensures) (c .before .before .open-upload .ensures)
 
 returns-2 : tie.Need-returns-2
 returns-2 c =
     λ o m d.
-    let at-judge = c .before in
-    let a = at-judge .before .args in
-    let w = bankState (a .b) o m in
-    record {
-      judged = at-judge .judge-opening .ensures;
-      done =
-          of-none (at-judge .judge-opening .result) w (a .q) d (c .match .keys2)
-          ∙ ap (λ (v : Verdict). carryOut v w (a .q) d) (at-judge .judge-opening .ensures);
-    }
+    let start = c .before .before .before .before in
+    let a = start .args in
+    let s = a .rows .now in
+    let judged = c .before .judge-opening .ensures in
+    subst (λ (v : Verdict). CarriedOut v (lent s o m) (a .q) d (c .before .judge-opening .result) (lent s o m)) judged
+    (none-carried (c .before .judge-opening .result) s o m (a .q) d (start .pre) (c .match .keys2))
 
 pub upload-opening-spec : {M : Type 1} → statement M
 upload-opening-spec =
     tie.close
     (tie.spec
-    (λ c κs. tt)
+    (λ c κs. search needs)
     (λ c. search needs)
+    (λ c κs. search needs)
     open-upload-requires
+    (λ c. search needs)
     returns
+    (λ c. search needs)
     returns-2)

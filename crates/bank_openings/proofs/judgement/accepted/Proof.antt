@@ -3,6 +3,9 @@ use borrow.Author.Needs.{needs}
 use Rattle.bank_openings.proofs.judgement.accepted.Statement.{statement}
 use Rattle.bank_openings.proofs.judgement.accepted.Tie as tie
 
+openings-requires : tie.Need-openings-requires
+openings-requires c κs = search needs
+
 enum-told : tie.Need-enum-told
 enum-told c = search needs
 
@@ -13,18 +16,26 @@ subscriber-requires : tie.Need-subscriber-requires
 subscriber-requires c κs = tt
 
 mailbox-segments-requires : tie.Need-mailbox-segments-requires
-mailbox-segments-requires c κs = tt
+mailbox-segments-requires c κs = search needs
 
 returns : tie.Need-returns
-returns c = rw (c .enum-told .given .1)
+returns c = rw (c .enum-told .given .1, c .before .before .openings .ensures)
 
 returns-2 : tie.Need-returns-2
-returns-2 c = rw (c .before .before .enum-told2 .given .1, c .mailbox-segments .ensures, c .before .subscriber .ensures)
+returns-2 c =
+    let told = c .before .before in
+    rw (
+      told .enum-told2 .given .1,
+      c .mailbox-segments .ensures,
+      c .before .subscriber .ensures,
+      told .before .before .openings .ensures,
+    )
 
 pub accepted-spec : {M : Type 1} → statement M
 accepted-spec =
     tie.close
     (tie.spec
+    openings-requires
     enum-told
     enum-told-2
     subscriber-requires

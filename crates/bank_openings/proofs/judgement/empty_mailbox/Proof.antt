@@ -12,16 +12,16 @@ enum-told-2 c = search needs
 subscriber-requires : tie.Need-subscriber-requires
 subscriber-requires c κs = tt
 
-file-length-requires : tie.Need-file-length-requires
-file-length-requires c κs = tt
+file-length-of-requires : tie.Need-file-length-of-requires
+file-length-of-requires c κs = search needs
 
 returns : tie.Need-returns
 returns c = search needs
 
 returns-2 : tie.Need-returns-2
-returns-2 c = rw (c .before .before .enum-told2 .given .1, c .file-length .ensures, c .before .subscriber .ensures)
+returns-2 c = rw (c .before .before .enum-told2 .given .1, c .file-length-of .ensures, c .before .subscriber .ensures)
 
 pub empty-mailbox-spec : {M : Type 1} → statement M
 empty-mailbox-spec =
     tie.close
-    (tie.spec enum-told enum-told-2 subscriber-requires file-length-requires returns returns-2)
+    (tie.spec enum-told enum-told-2 subscriber-requires file-length-of-requires returns returns-2)

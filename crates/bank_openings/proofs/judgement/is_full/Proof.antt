@@ -1,26 +1,29 @@
 -- The four causes of 061099 are looked at in the order of the definition's "or". Assumes nothing.
-use mathlib.Core.Path.{_≡_, sym, _∙_}
+use mathlib.Core.Path.{_≡_, sym, ap, _∙_}
+use borrow.Author.Needs.{needs}
 use borrow.Author.Tests.{le-leb, lt-leb}
 use lib.Dec.{leb}
 use mathlib.Core.Bool.{_||_}
 use Rattle.bank_state.specs.Limits.{maxOpen, nonceCount, maxOpenings}
 use Rattle.bank_state.specs.Search.{freeNonce}
+use Rattle.bank_rows.specs.State.{bankOf}
 use Rattle.bank_verdicts.specs.Refusals.{isFull, noPlaceFree}
 use Rattle.bank_openings.proofs.judgement.is_full.Statement.{statement}
 use Rattle.bank_openings.proofs.judgement.is_full.Tie as tie
 
 -- the first cause does not hold
 passed-1 : (c : tie.Else1)
-    → let s = c .before .before .args in
-    isFull (s .d) (s .b)
-    ≡ (noPlaceFree (s .d) (s .b) || (leb nonceCount (freeNonce (s .b)) || leb maxOpenings (s .b .openings)))
+    → let s = c .before .before .before .args in
+    let b = bankOf (s .rows .now) in
+    isFull (s .d) b ≡ (noPlaceFree (s .d) b || (leb nonceCount (freeNonce b) || leb maxOpenings (b .openings)))
 unfolding isFull
 passed-1 c = rw (← c .before .open-count .ensures, lt-leb maxOpen (c .before .open-count .result) (c .if1 .left))
 
 -- nor the second
 passed-2 : (c : tie.Else2)
-    → let s = c .before .before .before .before .args in
-    isFull (s .d) (s .b) ≡ (leb nonceCount (freeNonce (s .b)) || leb maxOpenings (s .b .openings))
+    → let s = c .before .before .before .before .before .args in
+    let b = bankOf (s .rows .now) in
+    isFull (s .d) b ≡ (leb nonceCount (freeNonce b) || leb maxOpenings (b .openings))
 passed-2 c = passed-1 (c .before .before) ∙ rw (← c .before .no-place-free .ensures, c .if2 .left)
 
 returns : tie.Need-returns
@@ -33,22 +36,24 @@ returns-2 c = sym (passed-1 (c .before .before) ∙ rw (← c .before .no-place-
 returns-3 : tie.Need-returns-3
 returns-3 c =
     sym (passed-2 (c .before .before)
-    ∙ rw (← c .before .free-nonce .ensures, le-leb nonceCount (c .before .free-nonce .result) (c .if3 .taken)))
+    ∙ rw (← c .before .nonce-count .ensures, le-leb nonceCount (c .before .nonce-count .result) (c .if3 .taken)))
 
 returns-4 : tie.Need-returns-4
 returns-4 c =
     let e = c .before in
     sym (passed-2 (e .before .before)
-    ∙ rw (← e .before .free-nonce .ensures, lt-leb nonceCount (e .before .free-nonce .result) (e .if3 .left)))
+    ∙ rw (← e .before .nonce-count .ensures, lt-leb nonceCount (e .before .nonce-count .result) (e .if3 .left))
+    (ap (leb maxOpenings) (sym (c .openings .ensures))))
 
 pub is-full-spec : {M : Type 1} → statement M
 is-full-spec =
     tie.close
     (tie.spec
-    (λ c κs. tt)
+    (λ c κs. search needs)
     returns
-    (λ c κs. tt)
+    (λ c κs. search needs)
     returns-2
-    (λ c κs. tt)
+    (λ c κs. search needs)
     returns-3
+    (λ c κs. search needs)
     returns-4)

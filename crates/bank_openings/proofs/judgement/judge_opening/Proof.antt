@@ -2,6 +2,7 @@
 use mathlib.Core.Path.{_≡_, sym, _∙_}
 use Prim.Native.Nat.{ℕ}
 use lib.ListN.{drop}
+use Rattle.bank_rows.specs.State.{bankOf}
 use Rattle.bank_verdicts.specs.Judgement.{judged, accepted, judgeOpening}
 use Rattle.bank_verdicts.specs.Refusals.{openingRows}
 use borrow.Author.Needs.{needs}
@@ -12,37 +13,39 @@ use Rattle.bank_openings.proofs.judgement.judge_opening.Tie as tie
 abbrev Rest : ℕ → tie.Start → Type 0
 Rest k s =
     let a = s .args in
-    judgeOpening (a .d) (a .first) (a .b) (a .q)
-    ≡ judged (drop k (openingRows (a .d) (a .b) (a .q))) (accepted (a .d) (a .first) (a .b) (a .q))
+    let b = bankOf (a .rows .now) in
+    judgeOpening (a .d) (a .first) b (a .q)
+    ≡ judged (drop k (openingRows (a .d) b (a .q))) (accepted (a .d) (a .first) b (a .q))
 
-passed-1 : (c : tie.Else1) → Rest 1 (c .before .before)
+passed-1 : (c : tie.Else1) → Rest 1 (c .before .before .before)
 unfolding judgeOpening openingRows
 passed-1 c = rw (← c .before .unknown-type .ensures, c .if1 .left)
 
-passed-2 : (c : tie.Else2) → Rest 2 (c .before .before .before .before)
+passed-2 : (c : tie.Else2) → Rest 2 (c .before .before .before .before .before)
 unfolding judgeOpening openingRows
 passed-2 c = passed-1 (c .before .before) ∙ rw (← c .before .other-direction .ensures, c .if2 .left)
 
-passed-3 : (c : tie.Else3) → Rest 3 (c .before .before .before .before .before .before)
+passed-3 : (c : tie.Else3) → Rest 3 (c .before .before .before .before .before .before .before)
 unfolding judgeOpening openingRows
 passed-3 c = passed-2 (c .before .before) ∙ rw (← c .before .many-segments .ensures, c .if3 .left)
 
-passed-4 : (c : tie.Else4) → Rest 4 (c .before .before .before .before .before .before .before .before)
+passed-4 : (c : tie.Else4) → Rest 4 (c .before .before .before .before .before .before .before .before .before)
 unfolding judgeOpening openingRows
 passed-4 c = passed-3 (c .before .before) ∙ rw (← c .before .is-replay .ensures, c .if4 .left)
 
-passed-5 : (c : tie.Else5) → Rest 5 (c .before .before .before .before .before .before .before .before .before .before)
+passed-5 : (c : tie.Else5)
+    → Rest 5 (c .before .before .before .before .before .before .before .before .before .before .before)
 unfolding judgeOpening openingRows
 passed-5 c = passed-4 (c .before .before) ∙ rw (← c .before .empty-mailbox .ensures, c .if5 .left)
 
 passed-6 : (c : tie.Else6)
-    → Rest 6 (c .before .before .before .before .before .before .before .before .before .before .before .before)
+    → Rest 6 (c .before .before .before .before .before .before .before .before .before .before .before .before .before)
 unfolding judgeOpening openingRows
 passed-6 c = passed-5 (c .before .before) ∙ rw (← c .before .many-open .ensures, c .if6 .left)
 
 passed-7 : (c : tie.Else7)
     → let e = c .before .before .before .before .before .before in
-    Rest 7 (e .before .before .before .before .before .before .before .before)
+    Rest 7 (e .before .before .before .before .before .before .before .before .before)
 unfolding judgeOpening openingRows
 passed-7 c = passed-6 (c .before .before) ∙ rw (← c .before .is-full .ensures, c .if7 .left)
 
@@ -68,35 +71,35 @@ unfolding judgeOpening openingRows
 returns-3 c = sym (passed-2 (c .before .before) ∙ rw (← c .before .many-segments .ensures, c .if3 .taken))
 
 is-replay-requires : tie.Need-is-replay-requires
-is-replay-requires c κs = tt
+is-replay-requires c κs = search needs
 
 returns-4 : tie.Need-returns-4
 unfolding judgeOpening openingRows
 returns-4 c = sym (passed-3 (c .before .before) ∙ rw (← c .before .is-replay .ensures, c .if4 .taken))
 
 empty-mailbox-requires : tie.Need-empty-mailbox-requires
-empty-mailbox-requires c κs = tt
+empty-mailbox-requires c κs = search needs
 
 returns-5 : tie.Need-returns-5
 unfolding judgeOpening openingRows
 returns-5 c = sym (passed-4 (c .before .before) ∙ rw (← c .before .empty-mailbox .ensures, c .if5 .taken))
 
 many-open-requires : tie.Need-many-open-requires
-many-open-requires c κs = tt
+many-open-requires c κs = search needs
 
 returns-6 : tie.Need-returns-6
 unfolding judgeOpening openingRows
 returns-6 c = sym (passed-5 (c .before .before) ∙ rw (← c .before .many-open .ensures, c .if6 .taken))
 
 is-full-requires : tie.Need-is-full-requires
-is-full-requires c κs = tt
+is-full-requires c κs = search needs
 
 returns-7 : tie.Need-returns-7
 unfolding judgeOpening openingRows
 returns-7 c = sym (passed-6 (c .before .before) ∙ rw (← c .before .is-full .ensures, c .if7 .taken))
 
 accepted-requires : tie.Need-accepted-requires
-accepted-requires c κs = tt
+accepted-requires c κs = search needs
 
 returns-8 : tie.Need-returns-8
 unfolding judgeOpening openingRows

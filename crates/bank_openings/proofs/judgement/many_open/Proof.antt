@@ -8,7 +8,7 @@ subscriber-requires : tie.Need-subscriber-requires
 subscriber-requires c κs = tt
 
 open-count-of-requires : tie.Need-open-count-of-requires
-open-count-of-requires c κs = tt
+open-count-of-requires c κs = search needs
 
 returns : tie.Need-returns
 unfolding manyOpen

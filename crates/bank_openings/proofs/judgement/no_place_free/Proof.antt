@@ -7,7 +7,7 @@ enum-told : tie.Need-enum-told
 enum-told c = search needs
 
 free-place-requires : tie.Need-free-place-requires
-free-place-requires c κs = tt
+free-place-requires c κs = search needs
 
 enum-told-2 : tie.Need-enum-told-2
 enum-told-2 c = search needs

@@ -1,42 +1,62 @@
--- What the calls give stands where the definition has it. Assumes nothing.
-use Rattle.bank_openings.specs.Openings.{openUpload, counted}
+-- One opening more, then its place: two changes stored as one.
+use native.Mathlib.Omega.{arith}
+use Rattle.bank_verdicts.specs.declared.verdict.Direction.the-variants as direction
+use Rattle.bank_openings.proofs.Opened.{counted-laid, upload-stored}
 use borrow.Author.Needs.{needs}
 use Rattle.bank_openings.proofs.openings.open_upload.Statement.{statement}
 use Rattle.bank_openings.proofs.openings.open_upload.Tie as tie
 
+free-place-requires : tie.Need-free-place-requires
+free-place-requires c κs = search needs
+
 subscriber-requires : tie.Need-subscriber-requires
-subscriber-requires c κs = tt
+subscriber-requires c κs = search needs
 
 segments-requires : tie.Need-segments-requires
-segments-requires c κs = tt
+segments-requires c κs = search needs
 
-free-place-requires : tie.Need-free-place-requires
-free-place-requires c κs = tt
+clock-requires : tie.Need-clock-requires
+clock-requires c κs = search needs
+
+count-opening-requires : tie.Need-count-opening-requires
+count-opening-requires c κs = search needs
 
 set-place-requires : tie.Need-set-place-requires
-set-place-requires c κs = tt
+set-place-requires c κs =
+    let count = c .before .before .before in
+    let free = count .before .before .before .before .before .before in
+    let start = free .before .before .before in
+    let a = start .args in (
+      counted-laid (a .rows .now) (start .pre .0) (a .q) direction.Upload (start .pre .1) _
+          (count .count-opening .ensures),
+      omega (arith, free .free-place .ensures, start .pre .1 .place),
+    )
 
-counted-requires : tie.Need-counted-requires
-counted-requires c κs = search needs
+same-length : tie.Need-same-length
+same-length c = search needs
 
 returns : tie.Need-returns
-unfolding openUpload counted
 returns c =
-    rw (
-      c .counted .ensures,
-      c .before .set-place .ensures,
-      c .before .before .free-place .ensures,
-      c .before .before .before .before .segments .ensures,
-      c .before .before .before .before .before .subscriber .ensures,
-    )
+    let set = c .before .before in
+    let count = set .before .before .before .before in
+    let clock = count .before .before in
+    let segments = clock .before .before in
+    let free = segments .before .before in
+    let start = free .before .before .before in
+    let a = start .args in
+    upload-stored (a .rows .now) (start .pre .0) (a .q) (start .pre .1) _ (count .count-opening .ensures) _ _
+    (a .number) (a .transaction) _ (set .set-place .ensures) (free .free-place .ensures)
+    (rw (segments .before .subscriber .ensures, segments .segments .ensures, clock .clock .ensures))
 
 pub open-upload-spec : {M : Type 1} → statement M
 open-upload-spec =
     tie.close
     (tie.spec
+    free-place-requires
     subscriber-requires
     segments-requires
-    free-place-requires
+    clock-requires
+    count-opening-requires
     set-place-requires
-    counted-requires
+    same-length
     returns)

@@ -3,8 +3,8 @@ use native.Mathlib.Omega.{arith}
 use borrow.Author.Needs.{needs}
 use Prim.Native.Nat.{_-_, _≤_}
 use mathlib.Core.Bool.{true}
-use mathlib.Core.Path.{_≡_, sym}
-use borrow.Author.Tests.{le-leb, lt-leb}
+use mathlib.Core.Path.{_≡_, sym, _∙_}
+use borrow.Author.Tests.{not-true, not-false}
 use Rattle.bank_rows.specs.State.{downloadCountOf}
 use Rattle.bank_rows.specs.Sound.{allBelow, isSoundDownload}
 use Rattle.bank_rows.proofs.Test.{all-none, all-next, all-fails}
@@ -23,26 +23,16 @@ shared-slice-read-n c = search needs
 loop-holds : tie.Need-loop-holds Inv-loop μ-loop
 loop-holds c = (omega arith, all-none _)
 
-mul-if1 : tie.Need-mul-if1 Inv-loop μ-loop
-mul-if1 c = search needs
-
-add-if1 : tie.Need-add-if1 Inv-loop μ-loop
-add-if1 c = search needs
-
-add-if1-2 : tie.Need-add-if1-2 Inv-loop μ-loop
-add-if1-2 c = search needs
-
-mul-if1-2 : tie.Need-mul-if1-2 Inv-loop μ-loop
-mul-if1-2 c = search needs
-
-shared-slice-read-if1 : tie.Need-shared-slice-read-if1 Inv-loop μ-loop
-shared-slice-read-if1 c = search needs
+is-sound-download-requires : tie.Need-is-sound-download-requires Inv-loop μ-loop
+is-sound-download-requires c κs = search needs
 
 returns : tie.Need-returns Inv-loop μ-loop
 returns c =
     let at = c .before .before .before in
-    let a = c .before .before .before .before .before .args in
-    sym (all-fails (isSoundDownload (a .rows .now)) (at .loop .i) (downloadCountOf (a .rows .now)) (c .before .before .loop-test .taken) (lt-leb _ _ (c .if1 .taken)))
+    let a = at .before .before .before .args in
+    sym (all-fails (isSoundDownload (a .rows .now)) (at .loop .i) (downloadCountOf (a .rows .now))
+    (c .before .before .loop-test .taken)
+    (sym (c .before .is-sound-download .ensures) ∙ not-true _ (c .if1 .taken)))
 
 add-i : tie.Need-add-i Inv-loop μ-loop
 add-i c = search needs
@@ -53,13 +43,16 @@ loop-less c = search needs
 loop-again : tie.Need-loop-again Inv-loop μ-loop
 loop-again c =
     let at = c .before .before .before in
-    let a = c .before .before .before .before .before .args in
-    (omega (arith, c .before .before .loop-test .taken), all-next (isSoundDownload (a .rows .now)) (at .loop .i) (at .loop .inv .1) (le-leb _ _ (c .if1 .left)))
+    let a = at .before .before .before .args in (
+      omega (arith, c .before .before .loop-test .taken),
+      all-next (isSoundDownload (a .rows .now)) (at .loop .i) (at .loop .inv .1)
+          (sym (c .before .is-sound-download .ensures) ∙ not-false _ (c .if1 .left)),
+    )
 
 returns-2 : tie.Need-returns-2 Inv-loop μ-loop
 returns-2 c =
     let at = c .before in
-    let a = c .before .before .before .args in
+    let a = at .before .before .before .args in
     let e : at .loop .i ≡ downloadCountOf (a .rows .now) = omega (arith, at .loop .inv .0, c .loop-test .left) in
     sym (rw e at (at .loop .inv .1))
 
@@ -71,11 +64,7 @@ are-sound-downloads-spec =
     μ-loop
     shared-slice-read-n
     loop-holds
-    mul-if1
-    add-if1
-    add-if1-2
-    mul-if1-2
-    shared-slice-read-if1
+    is-sound-download-requires
     returns
     add-i
     loop-less

@@ -1,4 +1,4 @@
--- Its use, its length, then its segments taken.
+-- Its use, its length, then what is open.
 use Rattle.octets.proofs.Tests.{tests}
 use borrow.Author.Needs.{needs}
 use Rattle.bank_rows.proofs.sound.is_sound_place.Statement.{statement}
@@ -34,17 +34,23 @@ shared-slice-read-if2 c = search needs
 returns-2 : tie.Need-returns-2
 returns-2 c = search tests
 
-add-result : tie.Need-add-result
-add-result c = search needs
+add-if3 : tie.Need-add-if3
+add-if3 c = search needs
 
-mul-result : tie.Need-mul-result
-mul-result c = search needs
+mul-if3 : tie.Need-mul-if3
+mul-if3 c = search needs
 
-shared-slice-read-result : tie.Need-shared-slice-read-result
-shared-slice-read-result c = search needs
+shared-slice-read-if3 : tie.Need-shared-slice-read-if3
+shared-slice-read-if3 c = search needs
 
 returns-3 : tie.Need-returns-3
 returns-3 c = search tests
+
+is-sound-upload-requires : tie.Need-is-sound-upload-requires
+is-sound-upload-requires c κs = search needs
+
+returns-4 : tie.Need-returns-4
+returns-4 c = search (tests, ← c .is-sound-upload .ensures)
 
 pub is-sound-place-spec : {M : Type 1} → statement M
 is-sound-place-spec =
@@ -60,7 +66,9 @@ is-sound-place-spec =
     mul-if2
     shared-slice-read-if2
     returns-2
-    add-result
-    mul-result
-    shared-slice-read-result
-    returns-3)
+    add-if3
+    mul-if3
+    shared-slice-read-if3
+    returns-3
+    is-sound-upload-requires
+    returns-4)

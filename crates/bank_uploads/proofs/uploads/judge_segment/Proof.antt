@@ -14,6 +14,9 @@ returns-2 c =
     let early = c .before .before in
     rw (← early .before .is-underrun .ensures, early .if1 .left, ← c .before .is-exceeded .ensures, c .if2 .taken)
 
+takes-requires : tie.Need-takes-requires
+takes-requires c κs = c .segment .ensures ∙ c .before .before .before .before .before .pre
+
 returns-3 : tie.Need-returns-3
 unfolding segmentRows
 returns-3 c =
@@ -24,38 +27,9 @@ returns-3 c =
       early .if1 .left,
       ← missing .before .is-exceeded .ensures,
       missing .if2 .left,
-      ← c .before .is-without-room .ensures,
-      c .if3 .taken,
-    )
-
-takes-requires : tie.Need-takes-requires
-takes-requires c κs = c .segment .ensures ∙ c .before .before .before .before .before .before .before .pre
-
-returns-4 : tie.Need-returns-4
-unfolding segmentRows
-returns-4 c =
-    let room = c .before .before in
-    let missing = room .before .before in
-    let early = missing .before .before in
-    rw (
-      ← early .before .is-underrun .ensures,
-      early .if1 .left,
-      ← missing .before .is-exceeded .ensures,
-      missing .if2 .left,
-      ← room .before .is-without-room .ensures,
-      room .if3 .left,
     ) (c .takes .ensures)
 
 pub judge-segment-spec : {M : Type 1} → statement M
 judge-segment-spec =
     tie.close
-    (tie.spec
-    (λ c κs. tt)
-    returns
-    (λ c κs. tt)
-    returns-2
-    (λ c κs. tt)
-    returns-3
-    (λ c κs. tt)
-    takes-requires
-    returns-4)
+    (tie.spec (λ c κs. tt) returns (λ c κs. tt) returns-2 (λ c κs. tt) takes-requires returns-3)

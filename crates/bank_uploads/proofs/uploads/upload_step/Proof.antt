@@ -1,22 +1,11 @@
--- By the action of the request: what is asked of each function follows from the lines that led to the action.
--- Assumes nothing.
+-- By the action of the request: what is asked of each function follows from the lines that led to the action, and from
+-- the place's room. Assumes nothing.
 use mathlib.Core.Path.{sym, _∙_}
-use native.Mathlib.Omega.{arith}
-use lib.ListN.{length}
 use borrow.Author.Needs.{needs}
 use Rattle.bank_uploads.specs.Uploads.{uploadStep}
-use Rattle.bank_uploads.proofs.UploadVerdicts.{took-fits, last-fits, point-answered}
+use Rattle.bank_uploads.proofs.UploadVerdicts.{took-fits, point-answered}
 use Rattle.bank_uploads.proofs.uploads.upload_step.Statement.{statement}
 use Rattle.bank_uploads.proofs.uploads.upload_step.Tie as tie
-
-take-requires : tie.Need-take-requires
-take-requires c κs =
-    let at-action = c .before in
-    let at-judge-upload = at-action .before .before in
-    let start = at-judge-upload .before .before .before in
-    let told = sym (at-judge-upload .judge-upload .ensures) ∙ at-action .enum-told2 .given .1 in
-    let fits = took-fits (start .args .r) (start .args .p) (start .args .q) (length (start .args .segment .now)) told in
-    omega (arith, fits .1, start .pre)
 
 grown-requires : tie.Need-grown-requires
 grown-requires c κs =
@@ -24,32 +13,14 @@ grown-requires c κs =
     let at-judge-upload = at-action .before .before in
     let start = at-judge-upload .before .before .before in
     let told = sym (at-judge-upload .judge-upload .ensures) ∙ at-action .enum-told2 .given .1 in
-    let fits = took-fits (start .args .r) (start .args .p) (start .args .q) (length (start .args .segment .now)) told in
-    (c .segment .ensures ∙ fits .0, fits .1)
-
-take-requires-2 : tie.Need-take-requires-2
-take-requires-2 c κs =
-    let at-action = c .before in
-    let at-judge-upload = at-action .before .before in
-    let start = at-judge-upload .before .before .before in
-    let told = sym (at-judge-upload .judge-upload .ensures) ∙ at-action .enum-told3 .given .1 in
-    let fits = last-fits (start .args .r) (start .args .p) (start .args .q) (length (start .args .segment .now)) told in
-    omega (arith, fits .2, start .pre)
-
-booked-requires : tie.Need-booked-requires
-booked-requires c κs =
-    let at-action = c .before .before .before .before in
-    let at-judge-upload = at-action .before .before in
-    let start = at-judge-upload .before .before .before in
-    let told = sym (at-judge-upload .judge-upload .ensures) ∙ at-action .enum-told3 .given .1 in
-    last-fits (start .args .r) (start .args .p) (start .args .q) (length (start .args .segment .now)) told .2
+    (c .segment .ensures ∙ took-fits (start .args .r) (start .args .p) (start .args .q) told, start .pre .1)
 
 attempted-requires : tie.Need-attempted-requires
 attempted-requires c κs =
     let at-judge-upload = c .before .before in
     let start = at-judge-upload .before .before .before in
     let told = sym (at-judge-upload .judge-upload .ensures) ∙ c .enum-told4 .given .1 in
-    point-answered (start .args .r) (start .args .p) (start .args .q) (length (start .args .segment .now)) told
+    point-answered (start .args .r) (start .args .p) (start .args .q) told
 
 returns : tie.Need-returns
 unfolding uploadStep
@@ -104,12 +75,12 @@ upload-step-spec =
     (λ c κs. tt)
     (λ c. search needs)
     (λ c. search needs)
-    take-requires
+    (λ c κs. search needs)
     (λ c κs. tt)
     grown-requires
     (λ c. search needs)
-    take-requires-2
-    booked-requires
+    (λ c κs. search needs)
+    (λ c κs. search needs)
     (λ c. search needs)
     attempted-requires
     (λ c. search needs)

@@ -1,0 +1,39 @@
+-- A subscriber from 1 to 8 has a mailbox; after the eight the definition gives 0, as the code does.
+use mathlib.Core.Path.{sym}
+use native.Mathlib.Omega.{arith}
+use lib.ListN.{List·getD-eq-default}
+use Rattle.bank_state.specs.State.{fileLength}
+use Rattle.bank_rows.specs.State.{bankOf}
+use Rattle.bank_rows.proofs.State.{held-rows}
+use borrow.Author.Needs.{needs}
+use Rattle.bank_rows.proofs.numbers.file_length_of.Statement.{statement}
+use Rattle.bank_rows.proofs.numbers.file_length_of.Tie as tie
+
+file-length-requires : tie.Need-file-length-requires
+file-length-requires c κs = search needs
+
+returns : tie.Need-returns
+unfolding fileLength
+returns c = rw (c .before .if1 .taken) (c .file-length .ensures)
+
+sub-i : tie.Need-sub-i
+sub-i c = search needs
+
+file-length-requires-2 : tie.Need-file-length-requires-2
+file-length-requires-2 c κs = search needs
+
+returns-2 : tie.Need-returns-2
+unfolding fileLength
+returns-2 c = c .file-length2 .ensures
+
+returns-3 : tie.Need-returns-3
+unfolding fileLength
+returns-3 c =
+    let start = c .before .before .before in
+    let long = held-rows (start .args .rows .now) (start .pre) .files in
+    sym (List·getD-eq-default (bankOf (start .args .rows .now) .files) 0 (omega arith))
+
+pub file-length-of-spec : {M : Type 1} → statement M
+file-length-of-spec =
+    tie.close
+    (tie.spec file-length-requires returns sub-i file-length-requires-2 returns-2 returns-3)
