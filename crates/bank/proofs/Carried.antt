@@ -105,19 +105,18 @@ module _ (first : ℕ) (b : Bank) (q : Fields) {t : Bits128} {a : Action} where
 -- ---- a request to an open transaction opens none
 
 module _ (t : Bits128) (w : BankState) (q : Fields) (d : List ℕ) where
-  upload-acts-by : (r : TransactionRequest) (p : Place) (n : ℕ) (a : UploadAction) → UploadSound r p q n a →
+  upload-acts-by : (r : TransactionRequest) (p : Place) (a : UploadAction) → UploadSound r p q a →
       uploadActs a t w q d ≡ onUpload a (uploadAt (w .bank) q) w d
-  upload-acts-by r p n a (sound.took fits other mark room) = refl
-  upload-acts-by r p n a (sound.tookLast fits last mark room) = refl
-  upload-acts-by r p n a (sound.uploadPoint none few) = refl
-  upload-acts-by r p n a (sound.abort none many) = refl
-  upload-acts-by r p n a (sound.underrun fits below mark) = refl
-  upload-acts-by r p n a (sound.exceeded fits last mark) = refl
-  upload-acts-by r p n a (sound.overfull over) = refl
+  upload-acts-by r p a (sound.took fits other mark) = refl
+  upload-acts-by r p a (sound.tookLast fits last mark) = refl
+  upload-acts-by r p a (sound.uploadPoint none few) = refl
+  upload-acts-by r p a (sound.abort none many) = refl
+  upload-acts-by r p a (sound.underrun fits below mark) = refl
+  upload-acts-by r p a (sound.exceeded fits last mark) = refl
 
-  pub upload-acts : (r : TransactionRequest) (p : Place) (n : ℕ) →
-      uploadActs (judgeUpload r p q n) t w q d ≡ onUpload (judgeUpload r p q n) (uploadAt (w .bank) q) w d
-  upload-acts r p n = upload-acts-by r p n (judgeUpload r p q n) (judged-upload r p q n)
+  pub upload-acts : (r : TransactionRequest) (p : Place) →
+      uploadActs (judgeUpload r p q) t w q d ≡ onUpload (judgeUpload r p q) (uploadAt (w .bank) q) w d
+  upload-acts r p = upload-acts-by r p (judgeUpload r p q) (judged-upload r p q)
 
   download-acts-by : (r : TransactionRequest) (e : Download) (n : ℕ) (a : DownloadAction) → DownloadSound r e n q a →
       downloadActs a t w q ≡ onDownload a (downloadOf (w .bank) q) w q
@@ -136,19 +135,17 @@ module _ (t : Bits128) (w : BankState) (q : Fields) (d : List ℕ) where
 pub landed : (i : ℕ) (w : BankState) (r : TransactionRequest) (q : Fields) (d : List ℕ) {s : UploadStep}
     → s ≡ uploadStep (w .bank .clock) r (placeAt (w .bank) i) q d (partAt (w .orders) i)
     → bankState (withPlace i (s .place) (w .bank)) (withPart (w .orders) i (s .bytes)) (w .mailboxes)
-    ≡ onUpload (judgeUpload r (placeAt (w .bank) i) q (length d)) i w d
+    ≡ onUpload (judgeUpload r (placeAt (w .bank) i) q) i w d
 unfolding uploadStep
 landed i w r q d h =
     ap (λ (s : UploadStep). bankState (withPlace i (s .place) (w .bank)) (withPart (w .orders) i (s .bytes)) (w .mailboxes)) h
 
 -- what a request to the open transaction that was found does
 pub upload-acts-at : (i : ℕ) (w : BankState) (r : TransactionRequest) (q : Fields) (d : List ℕ) → i ≡ uploadAt (w .bank) q
-    → onUpload (judgeUpload r (placeAt (w .bank) i) q (length d)) i w d
-    ≡ carryOut (uploadVerdict r i (w .bank) q (length d)) w q d
+    → onUpload (judgeUpload r (placeAt (w .bank) i) q) i w d ≡ carryOut (uploadVerdict r i (w .bank) q) w q d
 upload-acts-at i w r q d e =
     let p = placeAt (w .bank) i in
-    ap (λ (k : ℕ). onUpload (judgeUpload r p q (length d)) k w d) e
-    ∙ sym (upload-acts (p .transaction) w q d r p (length d))
+    ap (λ (k : ℕ). onUpload (judgeUpload r p q) k w d) e ∙ sym (upload-acts (p .transaction) w q d r p)
 
 pub download-acts-at : (j : ℕ) (w : BankState) (r : TransactionRequest) (q : Fields) (d : List ℕ)
     → j ≡ downloadOf (w .bank) q → let e = downloadAt (w .bank) j in
@@ -176,7 +173,7 @@ stays down.Declined j w q k = absurd (miss stayingKeys 6 tt k)
 -- ---- where a transaction is found, its verdict
 
 module _ (r : TransactionRequest) (b : Bank) (q : Fields) (n : ℕ) where
-  pub in-upload : {i : ℕ} → i ≡ uploadAt b q → i < placeCount → judgeTransaction r b q n ≡ uploadVerdict r i b q n
+  pub in-upload : {i : ℕ} → i ≡ uploadAt b q → i < placeCount → judgeTransaction r b q n ≡ uploadVerdict r i b q
   unfolding judgeTransaction transactionRows notOpen judgeOpen
   in-upload {i} e h =
       rw (← e, lt-leb placeCount i h, lt-ltb i placeCount h)

@@ -1,6 +1,6 @@
 -- The bank that a request leaves is one that rows can hold. Assumes nothing.
 use Prim.Native.Nat.{ℕ, _-_, _<_}
-use mathlib.Core.Bool.{true, false, _&&_}
+use mathlib.Core.Bool.{Bool, true, false, _&&_}
 use mathlib.Core.List.{List}
 use mathlib.Core.Path.{_≡_, refl, sym, ap, _∙_, subst}
 use native.Mathlib.Omega.{arith}
@@ -17,13 +17,16 @@ use Rattle.message.proofs.Verdicts.{by-test, and-false}
 use Rattle.bank_state.specs.declared.clock.Ended.the-variants as ending
 use Rattle.bank_state.specs.declared.state.Bank.{Bank}
 use Rattle.bank_state.specs.declared.state.Download.{Download}
+use Rattle.bank_state.specs.declared.state.Place.{Place}
 use Rattle.bank_state.specs.Limits.{placeCount}
-use Rattle.bank_state.specs.Search.{isDownload, findDownload, freePlace, freeDownload}
-use Rattle.bank_state.specs.State.{BankState, bankState, placeAt, downloadAt}
+use Rattle.bank_state.specs.Search.{isOpen, isUpload, findUpload, isDownload, findDownload}
+use Rattle.bank_state.specs.State.{BankState, bankState, noPlace, placeAt, downloadAt}
+use Rattle.bank_state.proofs.Found.{upload-found}
+use Rattle.bank_state.proofs.Rows.{first-passes}
 use Rattle.bank_rows.specs.State.{downloadCountOf, bankOf, openDownloads, Laid, Held}
 use Rattle.bank_rows.proofs.Calls.{held-free-download, held-place, held-file, held-ended}
 use Rattle.bank_rows.proofs.Calls as calls
-use Rattle.bank_rows.proofs.Reading.{download-read, found-download, free-download}
+use Rattle.bank_rows.proofs.Reading.{length-places-of, download-read, found-download, free-download}
 use Rattle.bank_rows.proofs.State.{held-rows}
 use Rattle.bank_verdicts.specs.declared.verdict.Action.the-variants as action
 use Rattle.bank_verdicts.specs.declared.verdict.Direction.{Direction}
@@ -56,6 +59,16 @@ after-used down.Confirmed t e = refl
 after-used down.Declined t e = refl
 
 module _ (s : List ℕ) (l : Laid s) where
+  -- an upload that is found is open
+  pub upload-open : (q : Fields) {i : ℕ} → i ≡ uploadAt (bankOf s) q → i < placeCount → isOpen (placeAt (bankOf s) i .used) ≡ true
+  unfolding findUpload
+  upload-open q e h =
+      let test : Place → Bool = isUpload (subscriber q) (transaction q) in
+      let at : ℕ = uploadAt (bankOf s) q in
+      let passes = first-passes test (bankOf s .places) noPlace (omega (arith, length-places-of s)) in
+      ap (λ (k : ℕ). isOpen (placeAt (bankOf s) k .used)) e
+      ∙ ap isOpen (upload-found (subscriber q) (transaction q) (placeAt (bankOf s) at) passes .0)
+
   -- a download that is found is one of those in use
   pub download-counted : (q : Fields) {j : ℕ} → j ≡ downloadOf (bankOf s) q → j < placeCount → j < downloadCountOf s
   unfolding findDownload isDownload
@@ -122,7 +135,7 @@ module _ (s : List ℕ) (l : Laid s) (q : Fields) (o m d : List ℕ) where
       let n = mailboxSegments (subscriber q) b in
       judged-transaction P b q _ own
       (λ some. by-test P (ltb (uploadAt b q) placeCount)
-      (λ _. subst (λ (x : BankState). Held (x .bank)) (sym (upload-acts (p .transaction) w q d r p (length d)))
+      (λ _. subst (λ (x : BankState). Held (x .bank)) (sym (upload-acts (p .transaction) w q d r p))
       (held-place (uploadAt b q) _ own))
       (λ none. subst (λ (x : BankState). Held (x .bank))
       (sym (download-acts (e .transaction) w q d r e n))

@@ -93,7 +93,7 @@ module _ (s o m : List ℕ) (i : ℕ) (r : TransactionRequest) (q : Fields) (d :
   pub upload-carried : {p : Place} {t : ℕ} {x : UploadStep} {u after : List ℕ} → p ≡ placeAt (bankOf s) i
       → t ≡ bankOf s .clock → x ≡ uploadStep t r p q d (partAt o i)
       → u ≡ stored (withPlace i (x .place) (bankOf s)) s → after ≡ withPart o i (x .bytes)
-      → CarriedOut (uploadVerdict r i (bankOf s) q (length d)) (lent s o m) q d
+      → CarriedOut (uploadVerdict r i (bankOf s) q) (lent s o m) q d
       (verdict.Of (p .transaction) (action.Upload (x .action))) (lent u after m)
   unfolding uploadStep
   upload-carried {p} {t} {x} {u} {after} placed timed stepped rows bytes =

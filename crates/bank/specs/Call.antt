@@ -114,8 +114,8 @@ carryOut (verdict.Refused c) w q d = w
 carryOut (verdict.Of t a) w q d = acts a t w q d
 
 -- the verdict on a request to the open upload in place i, and to the open download of record j
-abbrev pub uploadVerdict : TransactionRequest → ℕ → Bank → Fields → ℕ → Verdict
-uploadVerdict r i b q n = verdict.Of (placeAt b i .transaction) (action.Upload (judgeUpload r (placeAt b i) q n))
+abbrev pub uploadVerdict : TransactionRequest → ℕ → Bank → Fields → Verdict
+uploadVerdict r i b q = verdict.Of (placeAt b i .transaction) (action.Upload (judgeUpload r (placeAt b i) q))
 
 abbrev pub downloadVerdict : TransactionRequest → ℕ → Bank → Fields → Verdict
 downloadVerdict r j b q =

@@ -96,7 +96,7 @@ fn on_upload(
     requires { ⌜ Laid (now rows) × InRange (bankOf (now rows)) × (i < placeCount) × (i ≡ uploadAt (bankOf (now rows)) q)
         × (length (now bytes) ≤ segmentBytes) × (length (now orders) ≡ storeBytes) ⌝ }
     ensures { λ r. ⌜ ((m : List ℕ) →
-        CarriedOut (uploadVerdict asked i (bankOf (now (rows .entry))) q (length (now (bytes .entry))))
+        CarriedOut (uploadVerdict asked i (bankOf (now (rows .entry))) q)
         (lent (now (rows .entry)) (now (orders .entry)) m) q (now (bytes .entry))
         r (lent (now (rows .exit)) (now (orders .exit)) m)) ⌝ }
 {
