@@ -14,6 +14,7 @@ use Rattle.client.specs.declared.run.Lengths.{Lengths}
 use Rattle.client.specs.declared.run.Refusal.{Refusal}
 use Rattle.client.specs.declared.run.Ruling.{Ruling}
 use Rattle.client.specs.declared.run.Ruling.the-variants.{Refuse, Accept}
+use Rattle.client.specs.declared.run.RunParameters.{RunParameters}
 use Rattle.client.specs.declared.run.Stage.{Stage}
 use Rattle.client.specs.declared.run.Stage.the-variants as stage
 use Rattle.client.specs.Run.{requestRoom, maxFirstExchange, maxExchange}
@@ -56,7 +57,8 @@ abbrev pub SameLength : Direction → Client → Lengths → Type 0
 SameLength Upload c l = l .payload ≡ c .length
 SameLength Download c l = ℕ
 
-same-length : (direction : Direction) (c : Client) (l : Lengths) → changedLength direction c l ≡ false → SameLength direction c l
+same-length : (direction : Direction) (c : Client) (l : Lengths) → changedLength direction c l ≡ false
+    → SameLength direction c l
 same-length Upload c l h = eqb-true (l .payload) (c .length) (not-false (eqb (l .payload) (c .length)) h)
 same-length Download c l h = 0
 
@@ -84,28 +86,35 @@ pub accepted : (c : Client) (l : Lengths) → runRuling (c .stage) c l ≡ Accep
 accepted c l h = accepted-at c l (c .stage) refl h
 
 -- begin
-pub record Begins (c : Client) (direction : Direction) (subscriber first : ℕ) (l : Lengths) : Type 0 where
-  pub buffers : Serves direction l
-  pub start : first ≤ maxFirstExchange
-  pub low : 1 ≤ subscriber
-  pub high : subscriber ≤ subscribers
+pub record Begins (c : Client) (params : RunParameters) (l : Lengths) : Type 0 where
+  pub buffers : Serves (params .direction) l
+  pub start : params .first ≤ maxFirstExchange
+  pub low : 1 ≤ params .subscriber
+  pub high : params .subscriber ≤ subscribers
   pub fresh : isBegun (c .stage) ≡ false
 
-pub begins : (c : Client) (direction : Direction) (subscriber first : ℕ) (l : Lengths) → beginRuling c direction subscriber first l ≡ Accept
-    → Begins c direction subscriber first l
+pub begins : (c : Client) (params : RunParameters) (l : Lengths) → beginRuling c params l ≡ Accept
+    → Begins c params l
 unfolding beginRuling noSubscriber
-begins c direction subscriber first l h =
-    let a = passed (wrongBuffers direction l) _ _ h in
-    let b = passed (ltb maxFirstExchange first) _ _ (a .1) in
-    let e = passed (noSubscriber subscriber) _ _ (b .1) in
-    let g = or-neither (ltb subscriber 1) (ltb subscribers subscriber) (e .0) in record {
-      buffers = serves direction l (a .0);
-      start = ltb-false maxFirstExchange first (b .0);
-      low = ltb-false subscriber 1 (g .0);
-      high = ltb-false subscribers subscriber (g .1);
+begins c params l h =
+    let a = passed (wrongBuffers (params .direction) l) _ _ h in
+    let b = passed (ltb maxFirstExchange (params .first)) _ _ (a .1) in
+    let s = params .subscriber in
+    let e = passed (noSubscriber s) _ _ (b .1) in
+    let g = or-neither (ltb s 1) (ltb subscribers s) (e .0) in record {
+      buffers = serves (params .direction) l (a .0);
+      start = ltb-false maxFirstExchange (params .first) (b .0);
+      low = ltb-false s 1 (g .0);
+      high = ltb-false subscribers s (g .1);
       fresh = passed (isBegun (c .stage)) _ _ (e .1) .0;
     }
 
-pub file-served : (direction : Direction) (l : Lengths) → Serves direction l → direction ≡ Download → l .file ≡ fileBytes
+pub file-served : (direction : Direction) (l : Lengths) → Serves direction l → direction ≡ Download
+    → l .file ≡ fileBytes
 file-served Upload l s e = not-both refl e
 file-served Download l s e = s .0
+
+-- what an admitted call with a reply or with none may rely on
+pub admitted : (c : Client) (l : Lengths) → runRuling (c .stage) c l ≡ Accept
+    → (c .exchange ≤ maxExchange) × (c .direction ≡ Download → l .file ≡ fileBytes)
+admitted c l h = let known = accepted c l h in (known .exchange, file-served (c .direction) l (known .buffers))

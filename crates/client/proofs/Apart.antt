@@ -2,7 +2,6 @@
 use Prim.Native.Nat.{ℕ}
 use mathlib.Core.Path.{_≡_}
 use native.Mathlib.Omega.{arith}
-use Rattle.client.specs.declared.run.Answer.the-variants as answer
 use Rattle.client.specs.declared.run.Direction.{Direction}
 use Rattle.client.specs.declared.run.Direction.the-variants.{Upload, Download}
 use Rattle.client.specs.declared.run.Refusal.{Refusal}
@@ -33,6 +32,3 @@ not-ended-running w a b = absurd (let z : _≡_ {A = ℕ} 0 1 = cc in omega arit
 
 pub not-accepted : {A : Type 0} (x : Refusal) → Refuse x ≡ Accept → A
 not-accepted x h = absurd (let z : _≡_ {A = ℕ} 0 1 = cc in omega arith)
-
-pub not-request : {A : Type 0} (x : Refusal) (n : ℕ) → answer.Refused x ≡ answer.Request n → A
-not-request x n h = absurd (let z : _≡_ {A = ℕ} 0 1 = cc in omega arith)

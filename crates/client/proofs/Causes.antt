@@ -22,7 +22,7 @@ use Rattle.client.specs.declared.run.Direction.{Direction}
 use Rattle.client.specs.declared.run.Direction.the-variants.{Upload, Download}
 use Rattle.client.specs.declared.run.Step.{Step}
 use Rattle.client.specs.declared.run.Step.the-variants as step
-use Rattle.client.specs.declared.run.Word.the-variants.{Lodged, NotLodged, Fetched}
+use Rattle.client.specs.declared.run.Word.the-variants as word
 use Rattle.client.specs.Decisions.{
   says,
   isOwn,
@@ -54,18 +54,23 @@ pub data Cause (c : Client) (r : Fields) (d : ℕ) : Decision → Type 0 where
   not-answered : isAnswer c r ≡ false → Cause c r d Ignore
   upload-opened : c .direction ≡ Upload → c .step ≡ step.Opening → isAnswer c r ≡ true
       → says forms.UploadOpened code.Ok initialisationPhase r ≡ true → Cause c r d Opened
-  lodged : c .direction ≡ Upload → c .step ≡ step.Segment → isAnswer c r ≡ true → lodges c r ≡ true → Cause c r d (Close Lodged)
-  segment-taken : c .direction ≡ Upload → c .step ≡ step.Segment → isAnswer c r ≡ true → takesSegment c r ≡ true → Cause c r d Advance
+  lodged : c .direction ≡ Upload → c .step ≡ step.Segment → isAnswer c r ≡ true → lodges c r ≡ true
+      → Cause c r d (Close word.Lodged)
+  segment-taken : c .direction ≡ Upload → c .step ≡ step.Segment → isAnswer c r ≡ true → takesSegment c r ≡ true
+      → Cause c r d Advance
   upload-returned : c .direction ≡ Upload → c .step ≡ step.Segment → isAnswer c r ≡ true → uploadReturns c r ≡ true
       → Cause c r d (Return (segment r))
   upload-refused : c .direction ≡ Upload → c .step ≡ step.Segment → isAnswer c r ≡ true → endsUpload r ≡ true
-      → Cause c r d (Close NotLodged)
-  download-opened : c .direction ≡ Download → c .step ≡ step.Opening → isAnswer c r ≡ true → opensDownload d r ≡ true → Cause c r d Opened
+      → Cause c r d (Close word.NotLodged)
+  download-opened : c .direction ≡ Download → c .step ≡ step.Opening → isAnswer c r ≡ true → opensDownload d r ≡ true
+      → Cause c r d Opened
   segment-brought : c .direction ≡ Download → c .step ≡ step.Segment → isAnswer c r ≡ true → bringsSegment c r d ≡ true
       → Cause c r d Advance
-  download-returned : c .direction ≡ Download → (c .step ≡ step.Segment) ⊎ (c .step ≡ step.Receipt) → isAnswer c r ≡ true
+  download-returned : c .direction ≡ Download → (c .step ≡ step.Segment) ⊎ (c .step ≡ step.Receipt)
+      → isAnswer c r ≡ true
       → downloadReturns c r ≡ true → Cause c r d (Return (segment r))
-  fetched : c .direction ≡ Download → c .step ≡ step.Receipt → isAnswer c r ≡ true → confirms c r ≡ true → Cause c r d (Close Fetched)
+  fetched : c .direction ≡ Download → c .step ≡ step.Receipt → isAnswer c r ≡ true → confirms c r ≡ true
+      → Cause c r d (Close word.Fetched)
   -- any other or ill-fitting reply, and the sixth repeat or return
   rest : Cause c r d (Close (restWord c))
   no-reply : mayRepeat c ≡ true → Cause c r d Repeat
@@ -74,7 +79,8 @@ module _ (c : Client) (r : Fields) (d : ℕ) where
   by-upload : c .direction ≡ Upload → isAnswer c r ≡ true → (at : Step) → c .step ≡ at → Cause c r d (onUpload at c r)
   unfolding onUpload
   by-upload direction a step.Opening s =
-      by-test (Cause c r d) (says forms.UploadOpened code.Ok initialisationPhase r) (upload-opened direction s a) (λ _. rest)
+      by-test (Cause c r d) (says forms.UploadOpened code.Ok initialisationPhase r) (upload-opened direction s a)
+      (λ _. rest)
   by-upload direction a step.Segment s =
       by-test (Cause c r d) (lodges c r) (lodged direction s a) λ _.
       by-test (Cause c r d) (takesSegment c r) (segment-taken direction s a) λ _.
@@ -82,9 +88,11 @@ module _ (c : Client) (r : Fields) (d : ℕ) where
       by-test (Cause c r d) (endsUpload r) (upload-refused direction s a) (λ _. rest)
   by-upload direction a step.Receipt s = rest
 
-  by-download : c .direction ≡ Download → isAnswer c r ≡ true → (at : Step) → c .step ≡ at → Cause c r d (onDownload at c r d)
+  by-download : c .direction ≡ Download → isAnswer c r ≡ true → (at : Step) → c .step ≡ at
+      → Cause c r d (onDownload at c r d)
   unfolding onDownload
-  by-download direction a step.Opening s = by-test (Cause c r d) (opensDownload d r) (download-opened direction s a) (λ _. rest)
+  by-download direction a step.Opening s =
+      by-test (Cause c r d) (opensDownload d r) (download-opened direction s a) (λ _. rest)
   by-download direction a step.Segment s =
       by-test (Cause c r d) (bringsSegment c r d) (segment-brought direction s a) λ _.
       by-test (Cause c r d) (downloadReturns c r) (download-returned direction (inl s) a) (λ _. rest)
@@ -92,7 +100,8 @@ module _ (c : Client) (r : Fields) (d : ℕ) where
       by-test (Cause c r d) (confirms c r) (fetched direction s a) λ _.
       by-test (Cause c r d) (downloadReturns c r) (download-returned direction (inr s) a) (λ _. rest)
 
-  by-answer : isAnswer c r ≡ true → (direction : Direction) → c .direction ≡ direction → Cause c r d (onAnswer direction c r d)
+  by-answer : isAnswer c r ≡ true → (direction : Direction) → c .direction ≡ direction
+      → Cause c r d (onAnswer direction c r d)
   by-answer a Upload direction = by-upload direction a (c .step) refl
   by-answer a Download direction = by-download direction a (c .step) refl
 
@@ -151,7 +160,11 @@ whole-at : (s n d : ℕ) (b : Bool) → eqb s n ≡ b → fitsData s n d ≡ tru
 unfolding fitsData
 whole-at s n d true e h =
     let a = and-true (leb 1 d) (leb d segmentBytes) (rw e at h) in
-    record { some = leb-true 1 d (a .0); most = leb-true d segmentBytes (a .1); full = λ x. absurd (x (eqb-true s n e)) }
+    record {
+      some = leb-true 1 d (a .0);
+      most = leb-true d segmentBytes (a .1);
+      full = λ x. absurd (x (eqb-true s n e));
+    }
 whole-at s n d false e h =
     let a = eqb-true d segmentBytes (rw e at h) in
     record { some = omega arith; most = omega arith; full = λ x. a }
@@ -185,7 +198,8 @@ answers x c r h =
     let b = and-true (says x code.Ok transferPhase r) (isOwn c r) (a .0) in
     record { said = b .0; own = b .1; number = eqb-true (segment r) (c .segment) (a .1) }
 
-pub taken-below : (c : Client) (r : Fields) → takesSegment c r ≡ true → Answers forms.SegmentTaken c r × (c .segment < c .segments)
+pub taken-below : (c : Client) (r : Fields) → takesSegment c r ≡ true
+    → Answers forms.SegmentTaken c r × (c .segment < c .segments)
 unfolding takesSegment
 taken-below c r h =
     let a = and-true (answersSegment forms.SegmentTaken c r) (ltb (c .segment) (c .segments)) h in

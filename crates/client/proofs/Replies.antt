@@ -24,7 +24,17 @@ use Rattle.message.specs.declared.codes.ReturnCode.the-variants as code
 use Rattle.message.specs.Codes.{codeField}
 use Rattle.message.specs.Limits.{maxSegments, initialisationPhase, transferPhase}
 use Rattle.client.specs.declared.run.Client.{Client}
-use Rattle.client.specs.Decisions.{requestIndex, replyIndex, formIndex, says, isOwn, endsUpload, fitsSegment, opensDownload, isAnswer}
+use Rattle.client.specs.Decisions.{
+  requestIndex,
+  replyIndex,
+  formIndex,
+  says,
+  isOwn,
+  endsUpload,
+  fitsSegment,
+  opensDownload,
+  isAnswer,
+}
 
 -- the form of an index
 abbrev formAt : ℕ → Form
@@ -73,7 +83,8 @@ said x c p r h =
     }
 
 -- a download's opening is answered
-pub opened-says : (d : ℕ) (r : Fields) → opensDownload d r ≡ true → Says forms.DownloadOpened code.Ok initialisationPhase r
+pub opened-says : (d : ℕ) (r : Fields) → opensDownload d r ≡ true
+    → Says forms.DownloadOpened code.Ok initialisationPhase r
 unfolding opensDownload
 opened-says d r h =
     let a = and-true _ (fitsSegment 1 (segments r) d r) h in
@@ -99,7 +110,8 @@ is-answer c r h =
     let b = and-true (isReplyForm (form r)) (not (eqb (formIndex (form r)) (formIndex forms.Unreadable))) (a .0) in
     record {
       reply = b .0;
-      readable = λ e. never (sym (not-true _ (b .1)) ∙ eq-eqb (formIndex (form r)) (formIndex forms.Unreadable) (ap formIndex e));
+      readable = λ e.
+          never (sym (not-true _ (b .1)) ∙ eq-eqb (formIndex (form r)) (formIndex forms.Unreadable) (ap formIndex e));
       number = eqb-true (exchange r) (c .exchange) (a .1);
     }
 
@@ -122,7 +134,9 @@ cancels r h = first (or-cases _ (says forms.Refusal code.SegmentNumberUnderrun t
     pair (inl e) = record { why = code.TransactionAbort; one = inl refl; says-so = said _ _ _ r e }
     pair (inr e) = record { why = code.SegmentNumberExceeded; one = inr (inl refl); says-so = said _ _ _ r e }
 
-    first : (says forms.Refusal code.TransactionAbort transferPhase r || says forms.Refusal code.SegmentNumberExceeded transferPhase r ≡ true)
+    first : (says forms.Refusal code.TransactionAbort transferPhase r
+        || says forms.Refusal code.SegmentNumberExceeded transferPhase r
+        ≡ true)
         ⊎ (says forms.Refusal code.SegmentNumberUnderrun transferPhase r ≡ true) → Cancels r
     first (inl e) = pair (or-cases _ (says forms.Refusal code.SegmentNumberExceeded transferPhase r) e)
     first (inr e) = record { why = code.SegmentNumberUnderrun; one = inr (inr refl); says-so = said _ _ _ r e }

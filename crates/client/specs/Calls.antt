@@ -13,12 +13,12 @@ use Rattle.client.specs.declared.run.Answer.the-variants as answer
 use Rattle.client.specs.declared.run.Client.{Client}
 use Rattle.client.specs.declared.run.Decision.{Decision}
 use Rattle.client.specs.declared.run.Decision.the-variants.{Ignore, Opened, Advance, Return, Repeat, Close}
-use Rattle.client.specs.declared.run.Direction.{Direction}
 use Rattle.client.specs.declared.run.Outcome.{Outcome}
 use Rattle.client.specs.declared.run.Refusal.{Refusal}
 use Rattle.client.specs.declared.run.Refusal.the-variants.{WrongBuffer}
 use Rattle.client.specs.declared.run.Ruling.{Ruling}
 use Rattle.client.specs.declared.run.Ruling.the-variants.{Refuse, Accept}
+use Rattle.client.specs.declared.run.RunParameters.{RunParameters}
 use Rattle.client.specs.Decisions.{onReply, onNoReply}
 use Rattle.client.specs.NextRun.{beginLength, begun, goOn, repeated, learned, holding, fileWith, ended}
 use Rattle.client.specs.Requests.{outstanding, outstandingData}
@@ -41,14 +41,15 @@ isWritten next l = writeAnswer (outstanding next (l .time) (l .nonce)) (outstand
 
 -- the request buffer then
 unfoldable pub requestWith : Client → Lent → List ℕ
-requestWith next l = writeBuffer (outstanding next (l .time) (l .nonce)) (outstandingData next (l .payload)) (l .request)
+requestWith next l =
+    writeBuffer (outstanding next (l .time) (l .nonce)) (outstandingData next (l .payload)) (l .request)
 
 -- the next run's request issued: the run goes on and the file buffer changes only where it is written
 unfoldable pub issued : Client → Client → List ℕ → Lent → ClientCall
 issued c next file l =
     callOf (outcomeOf (isWritten next l) c next) (ifWritten (isWritten next l) file (l .file)) (requestWith next l)
 
--- the segment that the run k has outstanding is answered with the data d: held, and the request behind it issued
+-- the segment that the run k has outstanding is answered with the data d: held, and the request after it issued
 unfoldable pub taken : Client → Client → List ℕ → Lent → ClientCall
 taken c k d l = issued c (goOn (k .segment) (k .repeats) (holding (length d) k)) (fileWith k d (l .file)) l
 
@@ -69,26 +70,31 @@ carryOut (Return s) c r d l = issued c (goOn s (c .repeats + 1) c) (l .file) l
 carryOut Repeat c r d l = issued c (repeated c) (l .file) l
 carryOut (Close w) c r d l = unchanged (record { run = ended w c; answer = answer.Closed w }) l
 
-abbrev pub beginBy : Ruling → Client → Direction → ℕ → ℕ → Lent → ClientCall
-beginBy (Refuse x) c direction subscriber first l = refused x c l
-beginBy Accept c direction subscriber first l = issued c (begun direction subscriber first (beginLength direction (lengthsOf l))) (l .file) l
+-- numbers 5 to 8 first: a call that is given one changes nothing, an admitted one is carried out
+abbrev pub ifAdmitted : Ruling → Client → Lent → ClientCall → ClientCall
+ifAdmitted (Refuse x) c l done = refused x c l
+ifAdmitted Accept c l done = done
 
 -- begin
-unfoldable pub beginCall : Client → Direction → ℕ → ℕ → Lent → ClientCall
-beginCall c direction subscriber first l = beginBy (beginRuling c direction subscriber first (lengthsOf l)) c direction subscriber first l
+abbrev pub admittedBegin : Client → RunParameters → Lent → ClientCall
+admittedBegin c params l =
+    issued c (begun params (beginLength (params .direction) (lengthsOf l))) (l .file) l
 
-abbrev pub runBy : Ruling → Decision → Client → Fields → List ℕ → Lent → ClientCall
-runBy (Refuse x) decision c r d l = refused x c l
-runBy Accept decision c r d l = carryOut decision c r d l
+unfoldable pub beginCall : Client → RunParameters → Lent → ClientCall
+beginCall c params l =
+    ifAdmitted (beginRuling c params (lengthsOf l)) c l (admittedBegin c params l)
 
--- a reply arrived or none: the decision to which it led is carried out, or the call is given a number
-abbrev pub runCall : Decision → Client → Fields → List ℕ → Lent → ClientCall
-runCall decision c r d l = runBy (runRuling (c .stage) c (lengthsOf l)) decision c r d l
+-- reply arrived: only an admitted call reads it
+abbrev pub admittedReply : Client → List ℕ → Lent → ClientCall
+admittedReply c frame l =
+    carryOut (onReply c (readReply frame) (length (dataOf frame))) c (readReply frame) (dataOf frame) l
 
--- reply arrived
 unfoldable pub replyCall : Client → List ℕ → Lent → ClientCall
-replyCall c frame l = runCall (onReply c (readReply frame) (length (dataOf frame))) c (readReply frame) (dataOf frame) l
+replyCall c frame l = ifAdmitted (runRuling (c .stage) c (lengthsOf l)) c l (admittedReply c frame l)
 
 -- no reply
+abbrev pub admittedNoReply : Client → Lent → ClientCall
+admittedNoReply c l = carryOut (onNoReply c) c noFields [] l
+
 unfoldable pub noReplyCall : Client → Lent → ClientCall
-noReplyCall c l = runCall (onNoReply c) c noFields [] l
+noReplyCall c l = ifAdmitted (runRuling (c .stage) c (lengthsOf l)) c l (admittedNoReply c l)

@@ -11,12 +11,29 @@ use Rattle.frame_table.specs.declared.table.ReplyForm.the-variants as reply
 use Rattle.frame_table.specs.declared.table.RequestForm.{RequestForm}
 use Rattle.frame_table.specs.declared.table.RequestForm.the-variants as request
 use Rattle.frame_table.specs.Forms as forms
-use Rattle.frame_table.specs.Names.{phase, exchange, segments, transaction, segment, lastMark, returnCode, form, sameBits}
+use Rattle.frame_table.specs.Names.{
+  phase,
+  exchange,
+  segments,
+  transaction,
+  segment,
+  lastMark,
+  returnCode,
+  form,
+  sameBits,
+}
 use Rattle.frame_table.specs.Table.{isReplyForm}
 use Rattle.message.specs.declared.codes.ReturnCode.{ReturnCode}
 use Rattle.message.specs.declared.codes.ReturnCode.the-variants as code
 use Rattle.message.specs.Codes.{codeField}
-use Rattle.message.specs.Limits.{segmentBytes, maxSegments, maxAttempts, initialisationPhase, transferPhase, receiptPhase}
+use Rattle.message.specs.Limits.{
+  segmentBytes,
+  maxSegments,
+  maxAttempts,
+  initialisationPhase,
+  transferPhase,
+  receiptPhase,
+}
 use Rattle.message.specs.Segments.{lastMarkOf}
 use Rattle.message.specs.Verdicts.{decide}
 use Rattle.client.specs.declared.run.Client.{Client}
@@ -27,7 +44,7 @@ use Rattle.client.specs.declared.run.Direction.the-variants.{Upload, Dow
 use Rattle.client.specs.declared.run.Step.{Step}
 use Rattle.client.specs.declared.run.Step.the-variants as step
 use Rattle.client.specs.declared.run.Word.{Word}
-use Rattle.client.specs.declared.run.Word.the-variants.{Lodged, NotLodged, Unclear, Fetched, HeldUnconfirmed, NotFetched}
+use Rattle.client.specs.declared.run.Word.the-variants as word
 
 -- the place of a form in document 01's list, by which two forms are compared
 abbrev pub requestIndex : RequestForm → ℕ
@@ -61,10 +78,11 @@ unfoldable pub isOwn : Client → Fields → Bool
 isOwn c r = sameBits (transaction r) (c .transaction)
 
 -- a closing word where nothing else is said.
--- Upload: "not lodged (segment N never issued ...); else unclear". Download: "held, unconfirmed (a receipt was issued); else not fetched"
+-- Upload: "not lodged (segment N never issued ...); else unclear".
+-- Download: "held, unconfirmed (a receipt was issued); else not fetched"
 abbrev pub closingWord : Direction → Client → Word
-closingWord Upload c = cond (ltb (c .issued) (c .segments)) NotLodged Unclear
-closingWord Download c = cond (c .receipted) HeldUnconfirmed NotFetched
+closingWord Upload c = cond (ltb (c .issued) (c .segments)) word.NotLodged word.Unclear
+closingWord Download c = cond (c .receipted) word.HeldUnconfirmed word.NotFetched
 
 unfoldable pub restWord : Client → Word
 restWord c = closingWord (c .direction) c
@@ -81,7 +99,8 @@ endsUpload r =
     || says forms.Refusal code.SegmentNumberUnderrun transferPhase r
 
 -- a segment's answer, of this form:
--- "with code 000000 ..., with that step's phase, the run's transaction ID once one is known and the segment number requested"
+-- "with code 000000 ..., with that step's phase, the run's transaction ID once one is known and the segment number
+-- requested"
 unfoldable pub answersSegment : Form → Client → Fields → Bool
 answersSegment x c r = says x code.Ok transferPhase r && isOwn c r && eqb (segment r) (c .segment)
 
@@ -93,12 +112,16 @@ fitsData s n d = cond (eqb s n) (leb 1 d && leb d segmentBytes) (eqb d segmentBy
 unfoldable pub fitsSegment : ℕ → ℕ → ℕ → Fields → Bool
 fitsSegment s n d r = leb s maxSegments && eqb (lastMark r) (lastMarkOf s n) && fitsData s n d
 
--- "a recovery point has instead its point's phase, as under the frame, and its own r": phase 1 is that of the point behind
--- segment first: "1 for segment 0 of an upload, else 2"; a download "counts as phase 1 while only" segment 1 "is delivered"
+-- "a recovery point has instead its point's phase, as under the frame, and its own r": phase 1 is that of the point
+-- after segment first: "1 for segment 0 of an upload, else 2"; a download "counts as phase 1 while only" segment 1
+-- "is delivered"
 unfoldable pub isPoint : ℕ → Client → Fields → Bool
-isPoint first c r = says forms.SegmentTaken code.RecoverySync (cond (eqb (segment r) first) initialisationPhase transferPhase) r && isOwn c r
+isPoint first c r =
+    says forms.SegmentTaken code.RecoverySync (cond (eqb (segment r) first) initialisationPhase transferPhase) r
+    && isOwn c r
 
--- a recovery point leads on if it is below a number of segments and at most the last that the run reached, as one of five
+-- a recovery point leads on, as one of five, if it is below a number of segments and at most the last that the run
+-- reached
 unfoldable pub goesBack : ℕ → ℕ → ℕ → Client → Fields → Bool
 goesBack first below reached c r = isPoint first c r && ltb (segment r) below && leb (segment r) reached && mayRepeat c
 
@@ -135,14 +158,15 @@ bringsSegment c r d = answersSegment forms.DownloadSegment c r && fitsSegment (c
 unfoldable pub confirms : Client → Fields → Bool
 confirms c r = says forms.ReceiptAnswered code.DownloadPostprocessDone receiptPhase r && isOwn c r
 
--- what a reply under the outstanding exchange number leads to in an upload, by step, from top to bottom: "No 061101 fits an opening"
+-- what a reply under the outstanding exchange number leads to in an upload, by step, from top to bottom:
+-- "No 061101 fits an opening"
 abbrev pub uploadRules : Step → Client → Fields → List (Bool × Decision)
 uploadRules step.Opening c r = (says forms.UploadOpened code.Ok initialisationPhase r, Opened) ∷ []
 uploadRules step.Segment c r =
-    (lodges c r, Close Lodged)
+    (lodges c r, Close word.Lodged)
     ∷ (takesSegment c r, Advance)
     ∷ (uploadReturns c r, Return (segment r))
-    ∷ (endsUpload r, Close NotLodged)
+    ∷ (endsUpload r, Close word.NotLodged)
     ∷ []
 uploadRules step.Receipt c r = []
 
@@ -150,7 +174,7 @@ uploadRules step.Receipt c r = []
 abbrev pub downloadRules : Step → Client → Fields → ℕ → List (Bool × Decision)
 downloadRules step.Opening c r d = (opensDownload d r, Opened) ∷ []
 downloadRules step.Segment c r d = (bringsSegment c r d, Advance) ∷ (downloadReturns c r, Return (segment r)) ∷ []
-downloadRules step.Receipt c r d = (confirms c r, Close Fetched) ∷ (downloadReturns c r, Return (segment r)) ∷ []
+downloadRules step.Receipt c r d = (confirms c r, Close word.Fetched) ∷ (downloadReturns c r, Return (segment r)) ∷ []
 
 -- "the sixth ends the run, as does any other or ill-fitting reply"
 unfoldable pub onUpload : Step → Client → Fields → Decision
@@ -166,7 +190,10 @@ onAnswer Download c r d = onDownload (c .step) c r d
 
 -- "A reply that is unreadable or lacks the outstanding request's exchange number is ignored"; a reply 0D has none
 unfoldable pub isAnswer : Client → Fields → Bool
-isAnswer c r = isReplyForm (form r) && not (eqb (formIndex (form r)) (formIndex forms.Unreadable)) && eqb (exchange r) (c .exchange)
+isAnswer c r =
+    isReplyForm (form r)
+    && not (eqb (formIndex (form r)) (formIndex forms.Unreadable))
+    && eqb (exchange r) (c .exchange)
 
 -- a reply arrived: r is what is read of it, d the length of its data
 unfoldable pub onReply : Client → Fields → ℕ → Decision

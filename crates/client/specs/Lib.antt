@@ -5,4 +5,3 @@ pub mod Decisions
 pub mod NextRun
 pub mod Requests
 pub mod Calls
-pub mod CallLists

@@ -12,6 +12,7 @@ use Rattle.client.specs.declared.run.Client.{Client}
 use Rattle.client.specs.declared.run.Direction.{Direction}
 use Rattle.client.specs.declared.run.Direction.the-variants.{Upload, Download}
 use Rattle.client.specs.declared.run.Lengths.{Lengths}
+use Rattle.client.specs.declared.run.RunParameters.{RunParameters}
 use Rattle.client.specs.declared.run.Stage.the-variants as stage
 use Rattle.client.specs.declared.run.Step.{Step}
 use Rattle.client.specs.declared.run.Step.the-variants as step
@@ -23,13 +24,13 @@ beginLength Upload l = l .payload
 beginLength Download l = 0
 
 -- the run as begun, its opening outstanding under the first exchange number
-unfoldable pub begun : Direction → ℕ → ℕ → ℕ → Client
-begun direction subscriber first n = record {
+unfoldable pub begun : RunParameters → ℕ → Client
+begun params n = record {
   stage = stage.Running;
-  direction = direction;
+  direction = params .direction;
   step = step.Opening;
-  subscriber = subscriber;
-  exchange = first;
+  subscriber = params .subscriber;
+  exchange = params .first;
   repeats = 0;
   transaction = record { high = 0; low = 0 };
   number = 0;
@@ -41,22 +42,23 @@ begun direction subscriber first n = record {
   receipted = false;
 }
 
--- the step behind segment k: the receipt where a download has them all, else segment k + 1
-abbrev pub stepBehind : Direction → ℕ → ℕ → Step
-stepBehind Upload k n = step.Segment
-stepBehind Download k n = cond (eqb k n) step.Receipt step.Segment
+-- the step after segment k: the receipt where a download has them all, else segment k + 1
+abbrev pub stepAfter : Direction → ℕ → ℕ → Step
+stepAfter Upload k n = step.Segment
+stepAfter Download k n = cond (eqb k n) step.Receipt step.Segment
 
--- a receipt is issued behind the last segment of a download
-abbrev pub receiptsBehind : Direction → ℕ → ℕ → Bool
-receiptsBehind Upload k n = false
-receiptsBehind Download k n = eqb k n
+-- a receipt is issued after the last segment of a download
+abbrev pub receiptsAfter : Direction → ℕ → ℕ → Bool
+receiptsAfter Upload k n = false
+receiptsAfter Download k n = eqb k n
 
--- the run whose request behind segment k is outstanding, with this many repeats: "Each request takes the next exchange number"
+-- the run whose request after segment k is outstanding, with this many repeats:
+-- "Each request takes the next exchange number"
 unfoldable pub goOn : ℕ → ℕ → Client → Client
 goOn k repeats c = record {
   stage = c .stage;
   direction = c .direction;
-  step = stepBehind (c .direction) k (c .segments);
+  step = stepAfter (c .direction) k (c .segments);
   subscriber = c .subscriber;
   exchange = c .exchange + 1;
   repeats = repeats;
@@ -67,7 +69,7 @@ goOn k repeats c = record {
   segment = k + 1;
   issued = max (c .issued) (k + 1);
   held = c .held;
-  receipted = c .receipted || receiptsBehind (c .direction) k (c .segments);
+  receipted = c .receipted || receiptsAfter (c .direction) k (c .segments);
 }
 
 -- the same request again under a new exchange number

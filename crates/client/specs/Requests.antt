@@ -19,14 +19,16 @@ nonceOf lent exchange = record { high = number (take 8 lent); low = number (drop
 
 -- "Each call brings the time, which an opening carries as its timestamp"
 abbrev pub uploadRequest : Step → Client → ℕ → List ℕ → Fields
-uploadRequest step.Opening c time nonce = uploadOpening (c .subscriber) (c .exchange) (nonceOf nonce (c .exchange)) time (c .segments)
+uploadRequest step.Opening c time nonce =
+    uploadOpening (c .subscriber) (c .exchange) (nonceOf nonce (c .exchange)) time (c .segments)
 uploadRequest step.Segment c time nonce =
     uploadTransfer (c .subscriber) (c .exchange) (c .transaction) (c .segment) (lastMarkOf (c .segment) (c .segments))
 uploadRequest step.Receipt c time nonce = receipt (c .subscriber) (c .exchange) (c .transaction) 0
 
 -- "a receipt carries code 0"
 abbrev pub downloadRequest : Step → Client → ℕ → List ℕ → Fields
-downloadRequest step.Opening c time nonce = downloadOpening (c .subscriber) (c .exchange) (nonceOf nonce (c .exchange)) time
+downloadRequest step.Opening c time nonce =
+    downloadOpening (c .subscriber) (c .exchange) (nonceOf nonce (c .exchange)) time
 downloadRequest step.Segment c time nonce = downloadTransfer (c .subscriber) (c .exchange) (c .transaction) (c .segment)
 downloadRequest step.Receipt c time nonce = receipt (c .subscriber) (c .exchange) (c .transaction) 0
 

@@ -1,7 +1,7 @@
 -- "The client's owner": which call is given which number, in the order 5, 6, 7, 8.
 use Prim.Native.Nat.{ℕ}
 use mathlib.Core.Bool.{Bool, true, false, not, _||_}
-use mathlib.Core.List.{[], _∷_}
+use mathlib.Core.List.{List, [], _∷_}
 use lib.Dec.{ltb, eqb}
 use Rattle.message.specs.Limits.{fileBytes, subscribers}
 use Rattle.message.specs.Verdicts.{decide}
@@ -12,6 +12,7 @@ use Rattle.client.specs.declared.run.Lengths.{Lengths}
 use Rattle.client.specs.declared.run.Refusal.the-variants.{WrongBuffer, ExchangeTooHigh, NoSubscriber, WrongStage}
 use Rattle.client.specs.declared.run.Ruling.{Ruling}
 use Rattle.client.specs.declared.run.Ruling.the-variants.{Refuse, Accept}
+use Rattle.client.specs.declared.run.RunParameters.{RunParameters}
 use Rattle.client.specs.declared.run.Stage.{Stage}
 use Rattle.client.specs.declared.run.Stage.the-variants as stage
 use Rattle.client.specs.Run.{requestRoom, maxFirstExchange, maxExchange}
@@ -41,15 +42,17 @@ isBegun stage.NotBegun = false
 isBegun stage.Running = true
 isBegun (stage.Ended w) = true
 
-unfoldable pub beginRuling : Client → Direction → ℕ → ℕ → Lengths → Ruling
-beginRuling c direction subscriber first l =
-    decide
-    ((wrongBuffers direction l, Refuse WrongBuffer)
-    ∷ (ltb maxFirstExchange first, Refuse ExchangeTooHigh)
-    ∷ (noSubscriber subscriber, Refuse NoSubscriber)
+-- begin's refusals, from top to bottom
+abbrev pub beginRefusals : Client → RunParameters → Lengths → List (Bool × Ruling)
+beginRefusals c params l =
+    (wrongBuffers (params .direction) l, Refuse WrongBuffer)
+    ∷ (ltb maxFirstExchange (params .first), Refuse ExchangeTooHigh)
+    ∷ (noSubscriber (params .subscriber), Refuse NoSubscriber)
     ∷ (isBegun (c .stage), Refuse WrongStage)
-    ∷ [])
-    Accept
+    ∷ []
+
+unfoldable pub beginRuling : Client → RunParameters → Lengths → Ruling
+beginRuling c params l = decide (beginRefusals c params l) Accept
 
 -- 8: "another call to one not begun"
 unfoldable pub rulingNotBegun : Lengths → Ruling
@@ -58,7 +61,11 @@ rulingNotBegun l = decide ((ltb (l .request) requestRoom, Refuse WrongBuffer) �
 -- no call leaves a run above the highest exchange number
 unfoldable pub rulingRunning : Client → Lengths → Ruling
 rulingRunning c l =
-    decide ((wrongLengths c l, Refuse WrongBuffer) ∷ (ltb maxExchange (c .exchange), Refuse ExchangeTooHigh) ∷ []) Accept
+    decide
+    ((wrongLengths c l, Refuse WrongBuffer)
+    ∷ (ltb maxExchange (c .exchange), Refuse ExchangeTooHigh)
+    ∷ [])
+    Accept
 
 -- 8: "the run has ended"
 unfoldable pub rulingEnded : Client → Lengths → Ruling

@@ -5,11 +5,13 @@ use mathlib.Core.List.{List, [], _∷_}
 use lib.ListN.{length}
 pub use Rattle.frame.specs.Writer.{requestRoom}
 use Rattle.client.specs.declared.run.Client.{Client}
+use Rattle.client.specs.declared.run.Direction.{Direction}
 use Rattle.client.specs.declared.run.Direction.the-variants as direction
+use Rattle.client.specs.declared.run.RunParameters.{RunParameters}
 use Rattle.client.specs.declared.run.Stage.the-variants as stage
 use Rattle.client.specs.declared.run.Step.the-variants as step
 use Rattle.client.specs.declared.run.Word.{Word}
-use Rattle.client.specs.declared.run.Word.the-variants.{Lodged, NotLodged, Unclear, Fetched, HeldUnconfirmed, NotFetched}
+use Rattle.client.specs.declared.run.Word.the-variants as word
 use Rattle.client.specs.declared.run.Refusal.{Refusal}
 use Rattle.client.specs.declared.run.Refusal.the-variants.{WrongBuffer, ExchangeTooHigh, NoSubscriber, WrongStage}
 use Rattle.client.specs.declared.run.Answer.{Answer}
@@ -42,18 +44,18 @@ answerNumber (answer.Refused r) = refusalNumber r
 -- "Closing words": their characters as document 01 has them
 abbrev pub wordText : Word → List ℕ
 -- lodged
-wordText Lodged = 108 ∷ 111 ∷ 100 ∷ 103 ∷ 101 ∷ 100 ∷ []
+wordText word.Lodged = 108 ∷ 111 ∷ 100 ∷ 103 ∷ 101 ∷ 100 ∷ []
 -- not lodged
-wordText NotLodged = 110 ∷ 111 ∷ 116 ∷ 32 ∷ 108 ∷ 111 ∷ 100 ∷ 103 ∷ 101 ∷ 100 ∷ []
+wordText word.NotLodged = 110 ∷ 111 ∷ 116 ∷ 32 ∷ 108 ∷ 111 ∷ 100 ∷ 103 ∷ 101 ∷ 100 ∷ []
 -- unclear
-wordText Unclear = 117 ∷ 110 ∷ 99 ∷ 108 ∷ 101 ∷ 97 ∷ 114 ∷ []
+wordText word.Unclear = 117 ∷ 110 ∷ 99 ∷ 108 ∷ 101 ∷ 97 ∷ 114 ∷ []
 -- fetched
-wordText Fetched = 102 ∷ 101 ∷ 116 ∷ 99 ∷ 104 ∷ 101 ∷ 100 ∷ []
+wordText word.Fetched = 102 ∷ 101 ∷ 116 ∷ 99 ∷ 104 ∷ 101 ∷ 100 ∷ []
 -- held, unconfirmed
-wordText HeldUnconfirmed =
+wordText word.HeldUnconfirmed =
     104 ∷ 101 ∷ 108 ∷ 100 ∷ 44 ∷ 32 ∷ 117 ∷ 110 ∷ 99 ∷ 111 ∷ 110 ∷ 102 ∷ 105 ∷ 114 ∷ 109 ∷ 101 ∷ 100 ∷ []
 -- not fetched
-wordText NotFetched = 110 ∷ 111 ∷ 116 ∷ 32 ∷ 102 ∷ 101 ∷ 116 ∷ 99 ∷ 104 ∷ 101 ∷ 100 ∷ []
+wordText word.NotFetched = 110 ∷ 111 ∷ 116 ∷ 32 ∷ 102 ∷ 101 ∷ 116 ∷ 99 ∷ 104 ∷ 101 ∷ 100 ∷ []
 
 -- a run not begun
 abbrev pub notBegun : Client
@@ -74,6 +76,10 @@ notBegun = record {
   receipted = false;
 }
 
+-- what a run is begun with, by its parts
+abbrev pub parametersOf : Direction → ℕ → ℕ → RunParameters
+parametersOf direction subscriber first = record { direction = direction; subscriber = subscriber; first = first }
+
 -- "a nonce is 12 lent bytes, then the exchange number"
 abbrev pub nonceBytes : ℕ
 nonceBytes = 12
@@ -87,7 +93,8 @@ pub record Lent : Type 0 where
   pub request : List ℕ
 
 abbrev pub lentOf : ℕ → List ℕ → List ℕ → List ℕ → List ℕ → Lent
-lentOf time nonce payload file request = record { time = time; nonce = nonce; payload = payload; file = file; request = request }
+lentOf time nonce payload file request =
+    record { time = time; nonce = nonce; payload = payload; file = file; request = request }
 
 -- the lengths of what is lent
 abbrev pub lengthsOf : Lent → Lengths

@@ -23,6 +23,7 @@ use crate::run::NONCE_BYTES;
 use crate::run::Outcome;
 use crate::run::Refusal;
 use crate::run::Ruling;
+use crate::run::RunParameters;
 use crate::run::Word;
 use frame::reader::data;
 use frame::reader::read_reply;
@@ -44,8 +45,8 @@ ghost use Rattle.client.specs.Decisions.{onReply, onNoReply};
 ghost use Rattle.client.specs.NextRun.{isNew, fileWith, ended};
 ghost use Rattle.client.specs.Requests.{outstanding, outstandingData};
 ghost use Rattle.client.specs.Run.{lentOf, callOf, maxExchange};
-ghost use Rattle.client.specs.Calls.{ifWritten, outcomeOf, issued, taken, carryOut, runCall};
-ghost use Rattle.client.specs.Calls.{beginCall, replyCall, noReplyCall};
+ghost use Rattle.client.specs.Calls.{ifWritten, outcomeOf, issued, taken, carryOut};
+ghost use Rattle.client.specs.Calls.{beginCall, admittedReply, replyCall, noReplyCall};
 
 // Writes the bytes of segment s, from 1 on, to their place in the file.
 fn put_segment(s: u64, d: &[u8], file: &mut [u8])
@@ -76,7 +77,8 @@ fn write_request(
 ) -> Written
     ensures { λ w. ⌜
         (w ≡ writeAnswer (outstanding c time nonce) (outstandingData c (now (payload .entry))) (now (request .entry)))
-        × (now (request .exit) ≡ writeBuffer (outstanding c time nonce) (outstandingData c (now (payload .entry))) (now (request .entry)))
+        × (now (request .exit)
+        ≡ writeBuffer (outstanding c time nonce) (outstandingData c (now (payload .entry))) (now (request .entry)))
         ⌝ }
 {
     let fields = request_of(c, time as u64, nonce);
@@ -103,7 +105,8 @@ fn outcome_of(w: Written, c: Client, next: Client) -> Outcome
 fn hold_if_written(w: Written, c: Client, d: &[u8], file: &mut [u8])
     requires { ⌜ (isNew (c .direction) c ≡ true →
         (c .segment ≤ maxSegments) × (length (now d) ≤ segmentBytes) × (length (now file) ≡ fileBytes)) ⌝ }
-    ensures { λ _. ⌜ now (file .exit) ≡ ifWritten w (fileWith c (now (d .entry)) (now (file .entry))) (now (file .entry)) ⌝ }
+    ensures { λ _. ⌜ now (file .exit)
+        ≡ ifWritten w (fileWith c (now (d .entry)) (now (file .entry))) (now (file .entry)) ⌝ }
 {
     if let Written::Length(_) = w {
         hold(c, d, file);
@@ -126,7 +129,7 @@ fn issue(
     outcome_of(w, c, next)
 }
 
-// The segment that the run k has outstanding is answered with the data d: it is held, and the request behind it issued.
+// The segment that the run k has outstanding is answered with the data d: it is held, and the request after it issued.
 fn take_segment(
     c: Client,
     k: Client,
@@ -139,8 +142,8 @@ fn take_segment(
 ) -> Outcome
     requires { ⌜ (k .segment + 1 < 2 ^ 64) × (k .exchange ≤ maxExchange) × (isNew (k .direction) k ≡ true →
         (k .segment ≤ maxSegments) × (length (now d) ≤ segmentBytes) × (length (now file) ≡ fileBytes)) ⌝ }
-    ensures { λ r. ⌜ callOf r (now (file .exit)) (now (request .exit))
-        ≡ taken c k (now (d .entry)) (lentOf time nonce (now (payload .entry)) (now (file .entry)) (now (request .entry))) ⌝ }
+    ensures { λ r. ⌜ callOf r (now (file .exit)) (now (request .exit)) ≡ taken c k (now (d .entry))
+        (lentOf time nonce (now (payload .entry)) (now (file .entry)) (now (request .entry))) ⌝ }
 {
     let held = holding(d.len(), k);
     let next = go_on(k.segment, k.repeats, held);
@@ -183,8 +186,8 @@ fn carry_out(
 ) -> Outcome
     requires { ⌜ ((decision ≡ onReply c r (length (now d))) ⊎ (decision ≡ onNoReply c)) × (c .exchange ≤ maxExchange)
         × (c .direction ≡ Direction.Download → length (now file) ≡ fileBytes) ⌝ }
-    ensures { λ o. ⌜ callOf o (now (file .exit)) (now (request .exit))
-        ≡ carryOut decision c r (now (d .entry)) (lentOf time nonce (now (payload .entry)) (now (file .entry)) (now (request .entry))) ⌝ }
+    ensures { λ o. ⌜ callOf o (now (file .exit)) (now (request .exit)) ≡ carryOut decision c r (now (d .entry))
+        (lentOf time nonce (now (payload .entry)) (now (file .entry)) (now (request .entry))) ⌝ }
 {
     match decision {
         Decision::Ignore => Outcome {
@@ -199,66 +202,53 @@ fn carry_out(
     }
 }
 
-// A call with the decision to which a reply or no reply led: it is carried out, or the call is given a number.
-fn run_call(
-    decision: Decision,
+// An admitted call with a reply: only now is the reply read, and what it leads to is carried out.
+fn take_reply(
     c: Client,
-    r: Fields,
-    d: &[u8],
+    frame: &[u8],
     time: u32,
     nonce: [u8; NONCE_BYTES],
     payload: &[u8],
     file: &mut [u8],
     request: &mut [u8],
 ) -> Outcome
-    requires { ⌜ ((decision ≡ onReply c r (length (now d))) ⊎ (decision ≡ onNoReply c)) ⌝ }
-    ensures { λ o. ⌜ callOf o (now (file .exit)) (now (request .exit))
-        ≡ runCall decision c r (now (d .entry)) (lentOf time nonce (now (payload .entry)) (now (file .entry)) (now (request .entry))) ⌝ }
+    requires { ⌜ (c .exchange ≤ maxExchange) × (c .direction ≡ Direction.Download → length (now file) ≡ fileBytes) ⌝ }
+    ensures { λ o. ⌜ callOf o (now (file .exit)) (now (request .exit)) ≡ admittedReply c (now (frame .entry))
+        (lentOf time nonce (now (payload .entry)) (now (file .entry)) (now (request .entry))) ⌝ }
 {
-    let l = Lengths {
-        payload: payload.len(),
-        file: file.len(),
-        request: request.len(),
-    };
-    let ruling = run_ruling(c, l);
-    match ruling {
-        Ruling::Refuse(x) => refused(x, c),
-        Ruling::Accept => carry_out(decision, c, r, d, time, nonce, payload, file, request),
-    }
+    let r = read_reply(frame);
+    let d = data(frame);
+    let decision = on_reply(c, r, d.len());
+    carry_out(decision, c, r, d, time, nonce, payload, file, request)
 }
 
 impl Client {
-    // Begins a run of this direction, whose opening carries the first exchange number.
+    // Begins a run, whose opening carries the first exchange number.
     pub fn begin(
         self,
-        direction: Direction,
-        subscriber: u64,
-        first: u64,
+        params: RunParameters,
         time: u32,
         nonce: [u8; NONCE_BYTES],
         payload: &[u8],
         file: &mut [u8],
         request: &mut [u8],
     ) -> Outcome
-        ensures { λ o. ⌜ callOf o (now (file .exit)) (now (request .exit))
-            ≡ beginCall self direction subscriber first (lentOf time nonce (now (payload .entry)) (now (file .entry)) (now (request .entry))) ⌝ }
+        ensures { λ o. ⌜ callOf o (now (file .exit)) (now (request .exit)) ≡ beginCall self params
+            (lentOf time nonce (now (payload .entry)) (now (file .entry)) (now (request .entry))) ⌝ }
     {
         let l = Lengths {
             payload: payload.len(),
             file: file.len(),
             request: request.len(),
         };
-        let ruling = begin_ruling(self, direction, subscriber, first, l);
+        let ruling = begin_ruling(self, params, l);
         match ruling {
             Ruling::Refuse(x) => refused(x, self),
-            Ruling::Accept => issue(
-                self,
-                begun(direction, subscriber, first, begin_length(direction, l)),
-                time,
-                nonce,
-                payload,
-                request,
-            ),
+            Ruling::Accept => {
+                let direction = params.direction;
+                let next = begun(params, begin_length(direction, l));
+                issue(self, next, time, nonce, payload, request)
+            }
         }
     }
 
@@ -272,13 +262,19 @@ impl Client {
         file: &mut [u8],
         request: &mut [u8],
     ) -> Outcome
-        ensures { λ o. ⌜ callOf o (now (file .exit)) (now (request .exit))
-            ≡ replyCall self (now (frame .entry)) (lentOf time nonce (now (payload .entry)) (now (file .entry)) (now (request .entry))) ⌝ }
+        ensures { λ o. ⌜ callOf o (now (file .exit)) (now (request .exit)) ≡ replyCall self (now (frame .entry))
+            (lentOf time nonce (now (payload .entry)) (now (file .entry)) (now (request .entry))) ⌝ }
     {
-        let r = read_reply(frame);
-        let d = data(frame);
-        let decision = on_reply(self, r, d.len());
-        run_call(decision, self, r, d, time, nonce, payload, file, request)
+        let l = Lengths {
+            payload: payload.len(),
+            file: file.len(),
+            request: request.len(),
+        };
+        let ruling = run_ruling(self, l);
+        match ruling {
+            Ruling::Refuse(x) => refused(x, self),
+            Ruling::Accept => take_reply(self, frame, time, nonce, payload, file, request),
+        }
     }
 
     // No reply came.
@@ -290,20 +286,32 @@ impl Client {
         file: &mut [u8],
         request: &mut [u8],
     ) -> Outcome
-        ensures { λ o. ⌜ callOf o (now (file .exit)) (now (request .exit))
-            ≡ noReplyCall self (lentOf time nonce (now (payload .entry)) (now (file .entry)) (now (request .entry))) ⌝ }
+        ensures { λ o. ⌜ callOf o (now (file .exit)) (now (request .exit)) ≡ noReplyCall self
+            (lentOf time nonce (now (payload .entry)) (now (file .entry)) (now (request .entry))) ⌝ }
     {
-        let decision = on_no_reply(self);
-        run_call(
-            decision,
-            self,
-            Fields::none(),
-            no_data(payload),
-            time,
-            nonce,
-            payload,
-            file,
-            request,
-        )
+        let l = Lengths {
+            payload: payload.len(),
+            file: file.len(),
+            request: request.len(),
+        };
+        let ruling = run_ruling(self, l);
+        match ruling {
+            Ruling::Refuse(x) => refused(x, self),
+            Ruling::Accept => {
+                let decision = on_no_reply(self);
+                let r = Fields::none();
+                carry_out(
+                    decision,
+                    self,
+                    r,
+                    no_data(payload),
+                    time,
+                    nonce,
+                    payload,
+                    file,
+                    request,
+                )
+            }
+        }
     }
 }

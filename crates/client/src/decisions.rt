@@ -23,9 +23,10 @@ ghost use mathlib.Core.Path.{_≡_};
 ghost use mathlib.Core.Bool.{cond};
 ghost use lib.Dec.{eqb};
 ghost use Rattle.message.specs.Limits.{initialisationPhase, transferPhase};
-ghost use Rattle.client.specs.Decisions.{requestIndex, replyIndex, formIndex, says, isOwn, closingWord, restWord, mayRepeat};
-ghost use Rattle.client.specs.Decisions.{endsUpload, answersSegment, fitsData, fitsSegment, isPoint, goesBack, uploadReturns};
-ghost use Rattle.client.specs.Decisions.{downloadReturns, opensDownload, lodges, takesSegment, bringsSegment, confirms};
+ghost use Rattle.client.specs.Decisions.{requestIndex, replyIndex, formIndex, says, isOwn, closingWord, restWord};
+ghost use Rattle.client.specs.Decisions.{mayRepeat, endsUpload, answersSegment, fitsData, fitsSegment, isPoint};
+ghost use Rattle.client.specs.Decisions.{goesBack, uploadReturns, downloadReturns, opensDownload, lodges};
+ghost use Rattle.client.specs.Decisions.{takesSegment, bringsSegment, confirms};
 ghost use Rattle.client.specs.Decisions.{onUpload, onDownload, onAnswer, isAnswer, onReply, onNoReply};
 
 // The place of a form in document 01's list, requests first.
@@ -191,7 +192,7 @@ fn fits_segment(s: u64, n: u64, d: usize, r: Fields) -> bool
     fits_data(s, n, d)
 }
 
-// The phase of a recovery point behind a segment; it is 1 behind segment `first` alone.
+// The phase of a recovery point after a segment; it is 1 after segment `first` alone.
 fn point_phase(segment: u64, first: u64) -> u64
     ensures { λ p. ⌜ p ≡ cond (eqb segment first) initialisationPhase transferPhase ⌝ }
 {
@@ -217,7 +218,8 @@ fn is_point(first: u64, c: Client, r: Fields) -> bool
     is_own(c, r)
 }
 
-// Whether the reply is a recovery point to go on from: below a number of segments, at most the last reached, and a return left.
+// Whether the reply is a recovery point to go on from: below a number of segments, at most the last reached, and a
+// return left.
 fn goes_back(first: u64, below: u64, reached: u64, c: Client, r: Fields) -> bool
     ensures { λ b. ⌜ b ≡ goesBack first below reached c r ⌝ }
 {

@@ -2,6 +2,7 @@
 use crate::run::Client;
 use crate::run::Direction;
 use crate::run::Lengths;
+use crate::run::RunParameters;
 use crate::run::Stage;
 use crate::run::Step;
 use crate::run::Word;
@@ -15,7 +16,7 @@ ghost use mathlib.Core.Bool.{true, _||_};
 ghost use lib.Dec.{eqb};
 ghost use Rattle.message.specs.Limits.{segmentBytes, maxSegments};
 ghost use Rattle.client.specs.Run.{maxExchange};
-ghost use Rattle.client.specs.NextRun.{beginLength, begun, stepBehind, receiptsBehind, goOn, repeated, learned};
+ghost use Rattle.client.specs.NextRun.{beginLength, begun, stepAfter, receiptsAfter, goOn, repeated, learned};
 ghost use Rattle.client.specs.NextRun.{isNew, holding, ended};
 
 // The bytes of a segment but the last, as a count of a file's bytes.
@@ -32,15 +33,16 @@ pub(crate) fn begin_length(direction: Direction, l: Lengths) -> u64
 }
 
 // The run as begun.
-pub(crate) fn begun(direction: Direction, subscriber: u64, first: u64, n: u64) -> Client
-    ensures { λ r. ⌜ r ≡ begun direction subscriber first n ⌝ }
+pub(crate) fn begun(params: RunParameters, n: u64) -> Client
+    ensures { λ r. ⌜ r ≡ begun params n ⌝ }
 {
+    let direction = params.direction;
     Client {
         stage: Stage::Running,
         direction: direction,
         step: Step::Opening,
-        subscriber,
-        exchange: first,
+        subscriber: params.subscriber,
+        exchange: params.first,
         repeats: 0,
         transaction: Bits128 { high: 0, low: 0 },
         number: 0,
@@ -53,9 +55,9 @@ pub(crate) fn begun(direction: Direction, subscriber: u64, first: u64, n: u64) -
     }
 }
 
-// The step of a download behind segment k of n.
+// The step of a download after segment k of n.
 fn download_step(k: u64, n: u64) -> Step
-    ensures { λ s. ⌜ s ≡ stepBehind Direction.Download k n ⌝ }
+    ensures { λ s. ⌜ s ≡ stepAfter Direction.Download k n ⌝ }
 {
     if k == n {
         return Step::Receipt;
@@ -63,9 +65,9 @@ fn download_step(k: u64, n: u64) -> Step
     Step::Segment
 }
 
-// The step behind segment k of n.
-fn step_behind(direction: Direction, k: u64, n: u64) -> Step
-    ensures { λ s. ⌜ s ≡ stepBehind direction k n ⌝ }
+// The step after segment k of n.
+fn step_after(direction: Direction, k: u64, n: u64) -> Step
+    ensures { λ s. ⌜ s ≡ stepAfter direction k n ⌝ }
 {
     match direction {
         Direction::Upload => Step::Segment,
@@ -73,9 +75,9 @@ fn step_behind(direction: Direction, k: u64, n: u64) -> Step
     }
 }
 
-// Whether a receipt stands behind segment k of n.
-fn receipts_behind(direction: Direction, k: u64, n: u64) -> bool
-    ensures { λ b. ⌜ b ≡ receiptsBehind direction k n ⌝ }
+// Whether a receipt stands after segment k of n.
+fn receipts_after(direction: Direction, k: u64, n: u64) -> bool
+    ensures { λ b. ⌜ b ≡ receiptsAfter direction k n ⌝ }
 {
     match direction {
         Direction::Upload => false,
@@ -83,15 +85,15 @@ fn receipts_behind(direction: Direction, k: u64, n: u64) -> bool
     }
 }
 
-// Whether a receipt was issued, with the one behind segment k.
-fn receipted_behind(c: Client, k: u64) -> bool
-    ensures { λ b. ⌜ b ≡ c .receipted || receiptsBehind (c .direction) k (c .segments) ⌝ }
+// Whether a receipt was issued, with the one after segment k.
+fn receipted_after(c: Client, k: u64) -> bool
+    ensures { λ b. ⌜ b ≡ c .receipted || receiptsAfter (c .direction) k (c .segments) ⌝ }
 {
     if c.receipted {
         return true;
     }
     let direction = c.direction;
-    receipts_behind(direction, k, c.segments)
+    receipts_after(direction, k, c.segments)
 }
 
 fn larger(a: u64, b: u64) -> u64
@@ -103,7 +105,7 @@ fn larger(a: u64, b: u64) -> u64
     a
 }
 
-// The run with the request behind segment k outstanding.
+// The run with the request after segment k outstanding.
 pub(crate) fn go_on(k: u64, repeats: u64, c: Client) -> Client
     requires { ⌜ (k + 1 < 2 ^ 64) × (c .exchange ≤ maxExchange) ⌝ }
     ensures { λ r. ⌜ r ≡ goOn k repeats c ⌝ }
@@ -114,7 +116,7 @@ pub(crate) fn go_on(k: u64, repeats: u64, c: Client) -> Client
     Client {
         stage,
         direction: direction,
-        step: step_behind(direction, k, c.segments),
+        step: step_after(direction, k, c.segments),
         subscriber: c.subscriber,
         exchange: c.exchange + 1,
         repeats,
@@ -125,7 +127,7 @@ pub(crate) fn go_on(k: u64, repeats: u64, c: Client) -> Client
         segment: k + 1,
         issued: larger(c.issued, k + 1),
         held: c.held,
-        receipted: receipted_behind(c, k),
+        receipted: receipted_after(c, k),
     }
 }
 
@@ -176,7 +178,7 @@ pub(crate) fn learned(r: Fields, c: Client) -> Client
     }
 }
 
-// Whether segment s comes next behind those held.
+// Whether segment s comes next after those held.
 fn is_next(s: u64, held: u64) -> bool
     ensures { λ b. ⌜ b ≡ eqb s (held + 1) ⌝ }
 {

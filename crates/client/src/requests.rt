@@ -15,7 +15,8 @@ use message::segments::segment_of;
 use octets::bytes::number;
 ghost use mathlib.Core.Path.{_≡_};
 ghost use mathlib.Core.List.{[]};
-ghost use Rattle.client.specs.Requests.{nonceOf, uploadRequest, downloadRequest, uploadData, outstanding, outstandingData};
+ghost use Rattle.client.specs.Requests.{nonceOf, uploadRequest, downloadRequest, uploadData};
+ghost use Rattle.client.specs.Requests.{outstanding, outstandingData};
 
 // How many numbers the exchange number's four bytes have.
 const EXCHANGES: u64 = 0x1_0000_0000;

@@ -7,6 +7,7 @@ use crate::run::MAX_FIRST_EXCHANGE;
 use crate::run::REQUEST_ROOM;
 use crate::run::Refusal;
 use crate::run::Ruling;
+use crate::run::RunParameters;
 use crate::run::Stage;
 use message::limits::FILE_BYTES;
 use message::limits::SUBSCRIBERS;
@@ -91,22 +92,17 @@ pub fn is_begun(stage: Stage) -> bool
 }
 
 // Whether begin is given a number.
-pub(crate) fn begin_ruling(
-    c: Client,
-    direction: Direction,
-    subscriber: u64,
-    first: u64,
-    l: Lengths,
-) -> Ruling
-    ensures { λ r. ⌜ r ≡ beginRuling c direction subscriber first l ⌝ }
+pub(crate) fn begin_ruling(c: Client, params: RunParameters, l: Lengths) -> Ruling
+    ensures { λ r. ⌜ r ≡ beginRuling c params l ⌝ }
 {
+    let direction = params.direction;
     if wrong_buffers(direction, l) {
         return Ruling::Refuse(Refusal::WrongBuffer);
     }
-    if MAX_FIRST_EXCHANGE < first {
+    if MAX_FIRST_EXCHANGE < params.first {
         return Ruling::Refuse(Refusal::ExchangeTooHigh);
     }
-    if no_subscriber(subscriber) {
+    if no_subscriber(params.subscriber) {
         return Ruling::Refuse(Refusal::NoSubscriber);
     }
     let stage = c.stage;

@@ -31,6 +31,13 @@ pub enum Word {
     NotFetched,
 }
 
+// What a run is begun with: its order's direction, its subscriber, and the first exchange number.
+pub struct RunParameters {
+    pub direction: Direction,
+    pub subscriber: u64,
+    pub first: u64,
+}
+
 pub enum Stage {
     NotBegun,
     Running,
@@ -44,10 +51,10 @@ pub enum Step {
     Receipt,
 }
 
-// `exchange` is the outstanding request's exchange number, `segment` its segment number, `repeats` counts repeats and returns,
-// `transaction` and `number` (the order number) are known once opened, `segments` is N, 0 while unknown. An upload has its
-// payload's `length` and the highest segment `issued`; a download has the bytes held as `length`, the segments `held`, and
-// whether a receipt was issued.
+// `exchange` is the outstanding request's exchange number, `segment` its segment number, `repeats` counts repeats and
+// returns, `transaction` and `number` (the order number) are known once opened, `segments` is N, 0 while unknown.
+// An upload has its payload's `length` and the highest segment `issued`; a download has the bytes held as `length`, the
+// segments `held`, and whether a receipt was issued.
 pub struct Client {
     pub stage: Stage,
     pub direction: Direction,
@@ -99,8 +106,8 @@ pub enum Answer {
     Refused(Refusal),
 }
 
-// What an event leads to: nothing, the opening's answer taken, a segment's answer taken, a return to behind a segment, the
-// request again, or the run's end.
+// What an event leads to: nothing, the opening's answer taken, a segment's answer taken, a return to after a segment,
+// the request again, or the run's end.
 pub enum Decision {
     Ignore,
     Opened,

@@ -25,9 +25,10 @@ use Rattle.client.specs.declared.run.Direction.{Direction}
 use Rattle.client.specs.declared.run.Direction.the-variants.{Upload, Download}
 use Rattle.client.specs.declared.run.Ruling.{Ruling}
 use Rattle.client.specs.declared.run.Ruling.the-variants.{Refuse, Accept}
+use Rattle.client.specs.declared.run.RunParameters.{RunParameters}
 use Rattle.client.specs.declared.run.Step.the-variants as step
 use Rattle.client.specs.declared.run.Word.{Word}
-use Rattle.client.specs.declared.run.Word.the-variants.{Lodged, NotLodged, Fetched}
+use Rattle.client.specs.declared.run.Word.the-variants as word
 use Rattle.client.specs.Calls.{
   ifWritten,
   outcomeOf,
@@ -36,9 +37,9 @@ use Rattle.client.specs.Calls.{
   issued,
   taken,
   carryOut,
-  beginBy,
+  ifAdmitted,
+  admittedBegin,
   beginCall,
-  runBy,
   replyCall,
   noReplyCall,
 }
@@ -61,30 +62,39 @@ use Rattle.client.specs.Decisions.{
 use Rattle.client.specs.NextRun.{beginLength, begun, goOn, repeated, learned, holding, fileWith, ended}
 use Rattle.client.specs.Rulings.{beginRuling, runRuling}
 use Rattle.client.specs.Run.{Lent, ClientCall, lengthsOf, answerNumber, callOf}
-use Rattle.client_history.specs.History.{Issue, Event, Begin, Reply, NoReply, Past, issuing, left, after, Kept, Fair}
-use Rattle.client.proofs.Accepted.{Accepted, accepted, Begins, begins}
-use Rattle.client.proofs.Causes.{
-  Cause,
-  not-answered,
-  upload-opened,
-  lodged,
-  segment-taken,
-  upload-returned,
-  upload-refused,
-  download-opened,
-  segment-brought,
-  download-returned,
-  fetched,
-  rest,
-  no-reply,
-  by-reply,
-  by-no-reply,
+use Rattle.client_history.specs.History.{
+  Issue,
+  Event,
+  Begin,
+  Reply,
+  NoReply,
+  Past,
+  issuing,
+  left,
+  after,
+  Kept,
+  Fair,
 }
+use Rattle.client.proofs.Accepted.{Accepted, accepted, Begins, begins}
+use Rattle.client.proofs.Causes.{Cause, by-reply, by-no-reply}
+use Rattle.client.proofs.Causes as cause
 use Rattle.client_history.proofs.NextRuns.{holding-upload, file-upload}
 
 -- the run ended with a word
 abbrev pub ending : Word → Past → Past
 ending w p = record { run = ended w (p .run); payload = p .payload; file = p .file; issues = p .issues }
+
+-- a request issued, or refused by the writer
+pub by-issue : (P : Past → Type 0) (c next : Client) (file : List ℕ) (l : Lent) (p : Past) → P p
+    → P (issuing next (l .payload) file (l .time) (l .nonce) (p .issues))
+    → P (left (issued c next file l .answer) (issued c next file l) l p)
+unfolding issued
+by-issue P c next file l p same new = go (isWritten next l)
+  where
+    go : (w : Written) → let k = callOf (outcomeOf w c next) (ifWritten w file (l .file)) (requestWith next l) in
+        P (left (k .answer) k l p)
+    go (written.Length n) = new
+    go written.Refused = same
 
 module _ (Given : Fields → List ℕ → Fields → List ℕ → Type 0) where
   -- a reply with the fields r and the data d answers the run, and was given to a request that it issued
@@ -96,109 +106,113 @@ module _ (Given : Fields → List ℕ → Fields → List ℕ → Type 0) where
 
   -- the next run and file buffer where a request is issued
   pub data Move (p : Past) : Client → List ℕ → Type 0 where
-    upload-opens : {r : Fields} {d : List ℕ} → p .run .direction ≡ Upload → p .run .step ≡ step.Opening → Answering p r d
+    upload-opens : {r : Fields} {d : List ℕ} → p .run .direction ≡ Upload → p .run .step ≡ step.Opening
+        → Answering p r d
         → says forms.UploadOpened code.Ok initialisationPhase r ≡ true
         → Move p (goOn 0 (p .run .repeats) (learned Upload r (p .run))) (p .file)
     takes : {r : Fields} {d : List ℕ} → p .run .direction ≡ Upload → p .run .step ≡ step.Segment → Answering p r d
         → takesSegment (p .run) r ≡ true → Move p (goOn (p .run .segment) (p .run .repeats) (p .run)) (p .file)
-    upload-returns : {r : Fields} {d : List ℕ} → p .run .direction ≡ Upload → p .run .step ≡ step.Segment → Answering p r d
+    upload-returns : {r : Fields} {d : List ℕ} → p .run .direction ≡ Upload → p .run .step ≡ step.Segment
+        → Answering p r d
         → uploadReturns (p .run) r ≡ true → Move p (goOn (segment r) (p .run .repeats + 1) (p .run)) (p .file)
-    download-opens : {r : Fields} {d : List ℕ} → p .run .direction ≡ Download → p .run .step ≡ step.Opening → Answering p r d
+    download-opens : {r : Fields} {d : List ℕ} → p .run .direction ≡ Download → p .run .step ≡ step.Opening
+        → Answering p r d
         → opensDownload (length d) r ≡ true
         → Move p (goOn 1 (p .run .repeats) (holding (length d) (learned Download r (p .run))))
         (fileWith (learned Download r (p .run)) d (p .file))
     brings : {r : Fields} {d : List ℕ} → p .run .direction ≡ Download → p .run .step ≡ step.Segment → Answering p r d
         → bringsSegment (p .run) r (length d) ≡ true
-        → Move p (goOn (p .run .segment) (p .run .repeats) (holding (length d) (p .run))) (fileWith (p .run) d (p .file))
+        → Move p (goOn (p .run .segment) (p .run .repeats) (holding (length d) (p .run)))
+        (fileWith (p .run) d (p .file))
     download-returns : {r : Fields} {d : List ℕ} → p .run .direction ≡ Download
         → (p .run .step ≡ step.Segment) ⊎ (p .run .step ≡ step.Receipt)
-        → Answering p r d → downloadReturns (p .run) r ≡ true → Move p (goOn (segment r) (p .run .repeats + 1) (p .run)) (p .file)
+        → Answering p r d → downloadReturns (p .run) r ≡ true
+        → Move p (goOn (segment r) (p .run .repeats + 1) (p .run)) (p .file)
     repeats : mayRepeat (p .run) ≡ true → Move p (repeated (p .run)) (p .file)
 
   -- the word of a run that ends
   pub data Ends (p : Past) : Word → Type 0 where
     last-taken : {r : Fields} {d : List ℕ} → p .run .direction ≡ Upload → p .run .step ≡ step.Segment → Answering p r d
-        → lodges (p .run) r ≡ true → Ends p Lodged
+        → lodges (p .run) r ≡ true → Ends p word.Lodged
     cancelled : {r : Fields} {d : List ℕ} → p .run .direction ≡ Upload → p .run .step ≡ step.Segment → Answering p r d
-        → endsUpload r ≡ true → Ends p NotLodged
+        → endsUpload r ≡ true → Ends p word.NotLodged
     confirmed : {r : Fields} {d : List ℕ} → p .run .direction ≡ Download → p .run .step ≡ step.Receipt → Answering p r d
-        → confirms (p .run) r ≡ true → Ends p Fetched
+        → confirms (p .run) r ≡ true → Ends p word.Fetched
     otherwise : Ends p (restWord (p .run))
 
   pub data Change (p : Past) : Past → Type 0 where
     nothing : Change p p
-    begins-with : (direction : Direction) (s first : ℕ) (l : Lent) → Begins (p .run) direction s first (lengthsOf l)
-        → Change p (issuing (begun direction s first (beginLength direction (lengthsOf l))) (l .payload) (l .file) (l .time) (l .nonce) (p .issues))
+    begins-with : (params : RunParameters) (l : Lent) → Begins (p .run) params (lengthsOf l)
+        → Change p (issuing (begun params (beginLength (params .direction) (lengthsOf l))) (l .payload) (l .file)
+        (l .time) (l .nonce) (p .issues))
     goes : {next : Client} {file : List ℕ} (l : Lent) → Accepted (p .run) (lengthsOf l) → Kept l p → Move p next file
         → Change p (issuing next (p .payload) file (l .time) (l .nonce) (p .issues))
     closes : {w : Word} (l : Lent) → Accepted (p .run) (lengthsOf l) → Kept l p → Ends p w → Change p (ending w p)
 
   -- ---- the calls
 
-  by-kept : (P : List ℕ → List ℕ → Type 0) {l : Lent} {p : Past} → Kept l p → P (p .payload) (p .file) → P (l .payload) (l .file)
-  by-kept P {l} {p} k h = subst (P (l .payload)) (sym (k .file)) (subst (λ (y : List ℕ). P y (p .file)) (sym (k .payload)) h)
-
-  -- a request issued, or refused by the writer
-  pub by-issue : (P : Past → Type 0) (c next : Client) (file : List ℕ) (l : Lent) (p : Past) → P p
-      → P (issuing next (l .payload) file (l .time) (l .nonce) (p .issues))
-      → P (left (issued c next file l .answer) (issued c next file l) l p)
-  unfolding issued
-  by-issue P c next file l p same new = go (isWritten next l)
-    where
-      go : (w : Written) → let k = callOf (outcomeOf w c next) (ifWritten w file (l .file)) (requestWith next l) in
-          P (left (k .answer) k l p)
-      go (written.Length n) = new
-      go written.Refused = same
+  by-kept : (P : List ℕ → List ℕ → Type 0) {l : Lent} {p : Past} → Kept l p → P (p .payload) (p .file)
+      → P (l .payload) (l .file)
+  by-kept P {l} {p} k h =
+      subst (P (l .payload)) (sym (k .file)) (subst (λ (y : List ℕ). P y (p .file)) (sym (k .payload)) h)
 
   module _ (p : Past) (l : Lent) (k : Kept l p) (a : Accepted (p .run) (lengthsOf l)) where
     abbrev Leads : ClientCall → Type 0
     Leads x = Change p (left (x .answer) x l p)
 
     -- a request issued with the file buffer that g makes of the lent one
-    moves : (next : Client) (g : List ℕ → List ℕ) → Move p next (g (p .file)) → Leads (issued (p .run) next (g (l .file)) l)
+    moves : (next : Client) (g : List ℕ → List ℕ) → Move p next (g (p .file))
+        → Leads (issued (p .run) next (g (l .file)) l)
     moves next g m =
         by-issue (Change p) (p .run) next (g (l .file)) l p nothing
         (by-kept (λ (y f : List ℕ). Change p (issuing next y (g f) (l .time) (l .nonce) (p .issues))) k (goes l a k m))
 
     -- the segment that c has outstanding is answered
-    behind : (c : Client) (d : List ℕ) → Move p (goOn (c .segment) (c .repeats) (holding (length d) c)) (fileWith c d (p .file))
+    after-segment : (c : Client) (d : List ℕ)
+        → Move p (goOn (c .segment) (c .repeats) (holding (length d) c)) (fileWith c d (p .file))
         → Leads (taken (p .run) c d l)
     unfolding taken
-    behind c d m = moves (goOn (c .segment) (c .repeats) (holding (length d) c)) (fileWith c d) m
+    after-segment c d m = moves (goOn (c .segment) (c .repeats) (holding (length d) c)) (fileWith c d) m
 
-    behind-upload : (c : Client) (d : List ℕ) → c .direction ≡ Upload → Move p (goOn (c .segment) (c .repeats) c) (p .file)
+    after-upload : (c : Client) (d : List ℕ) → c .direction ≡ Upload
+        → Move p (goOn (c .segment) (c .repeats) c) (p .file)
         → Leads (taken (p .run) c d l)
-    behind-upload c d up m =
-        behind c d
+    after-upload c d up m =
+        after-segment c d
         (subst (Move p (goOn (c .segment) (c .repeats) (holding (length d) c))) (sym (file-upload c up d (p .file)))
-        (subst (λ (n : Client). Move p (goOn (c .segment) (c .repeats) n) (p .file)) (sym (holding-upload c up (length d))) m))
+        (subst (λ (n : Client). Move p (goOn (c .segment) (c .repeats) n) (p .file))
+        (sym (holding-upload c up (length d))) m))
 
-    opened : (direction : Direction) (r : Fields) (d : List ℕ) → p .run .direction ≡ direction → Leads (taken (p .run) (learned direction r (p .run)) d l)
+    opened : (direction : Direction) (r : Fields) (d : List ℕ) → p .run .direction ≡ direction
+        → Leads (taken (p .run) (learned direction r (p .run)) d l)
         → Leads (taken (p .run) (learned (p .run .direction) r (p .run)) d l)
     opened direction r d e h = subst (λ (w : Direction). Leads (taken (p .run) (learned w r (p .run)) d l)) (sym e) h
 
-    ends : {w : Word} → Ends p w → Change p (record { run = ended w (p .run); payload = l .payload; file = l .file; issues = p .issues })
+    ends : {w : Word} → Ends p w
+        → Change p (record { run = ended w (p .run); payload = l .payload; file = l .file; issues = p .issues })
     ends {w} m =
-        by-kept (λ (y g : List ℕ). Change p (record { run = ended w (p .run); payload = y; file = g; issues = p .issues })) k
+        by-kept
+        (λ (y g : List ℕ). Change p (record { run = ended w (p .run); payload = y; file = g; issues = p .issues })) k
         (closes l a k m)
 
     carried : {r : Fields} {d : List ℕ} {decision : Decision} → (isAnswer (p .run) r ≡ true → Answering p r d)
         → Cause (p .run) r (length d) decision → Leads (carryOut decision (p .run) r d l)
-    carried f (not-answered h) =
-        by-kept (λ (y g : List ℕ). Change p (record { run = p .run; payload = y; file = g; issues = p .issues })) k nothing
-    carried {r} {d} f (upload-opened w s h t) =
-        opened Upload r d w (behind-upload (learned Upload r (p .run)) d w (upload-opens w s (f h) t))
-    carried f (lodged w s h t) = ends (last-taken w s (f h) t)
-    carried {r} {d} f (segment-taken w s h t) = behind-upload (p .run) d w (takes w s (f h) t)
-    carried f (upload-returned w s h t) = moves _ (λ g. g) (upload-returns w s (f h) t)
-    carried f (upload-refused w s h t) = ends (cancelled w s (f h) t)
-    carried {r} {d} f (download-opened w s h t) =
-        opened Download r d w (behind (learned Download r (p .run)) d (download-opens w s (f h) t))
-    carried f (segment-brought w s h t) = behind (p .run) _ (brings w s (f h) t)
-    carried f (download-returned w s h t) = moves _ (λ g. g) (download-returns w s (f h) t)
-    carried f (fetched w s h t) = ends (confirmed w s (f h) t)
-    carried f rest = ends otherwise
-    carried f (no-reply h) = moves _ (λ g. g) (repeats h)
+    carried f (cause.not-answered h) =
+        by-kept (λ (y g : List ℕ). Change p (record { run = p .run; payload = y; file = g; issues = p .issues })) k
+        nothing
+    carried {r} {d} f (cause.upload-opened w s h t) =
+        opened Upload r d w (after-upload (learned Upload r (p .run)) d w (upload-opens w s (f h) t))
+    carried f (cause.lodged w s h t) = ends (last-taken w s (f h) t)
+    carried {r} {d} f (cause.segment-taken w s h t) = after-upload (p .run) d w (takes w s (f h) t)
+    carried f (cause.upload-returned w s h t) = moves _ (λ g. g) (upload-returns w s (f h) t)
+    carried f (cause.upload-refused w s h t) = ends (cancelled w s (f h) t)
+    carried {r} {d} f (cause.download-opened w s h t) =
+        opened Download r d w (after-segment (learned Download r (p .run)) d (download-opens w s (f h) t))
+    carried f (cause.segment-brought w s h t) = after-segment (p .run) _ (brings w s (f h) t)
+    carried f (cause.download-returned w s h t) = moves _ (λ g. g) (download-returns w s (f h) t)
+    carried f (cause.fetched w s h t) = ends (confirmed w s (f h) t)
+    carried f cause.rest = ends otherwise
+    carried f (cause.no-reply h) = moves _ (λ g. g) (repeats h)
 
   -- no reply answers nothing
   unanswered : {A : Type 0} (c : Client) → isAnswer c noFields ≡ true → A
@@ -213,28 +227,36 @@ module _ (Given : Fields → List ℕ → Fields → List ℕ → Type 0) where
   by-number p l k (answer.Closed w) f = f refl
   by-number p l k (answer.Refused r) f = nothing
 
-  module _ (p : Past) (l : Lent) (r : Fields) (d : List ℕ) (decision : Decision) (z : Cause (p .run) r (length d) decision) where
+  module _ (p : Past) (l : Lent) (r : Fields) (d : List ℕ) (decision : Decision)
+      (z : Cause (p .run) r (length d) decision) where
     -- where the ruling gives no number, the decision is carried out
-    ruled : (u : Ruling) → runRuling (p .run .stage) (p .run) (lengthsOf l) ≡ u → let k = runBy u decision (p .run) r d l in
-        (answerNumber (k .answer) ≡ 0 → Kept l p × (isAnswer (p .run) r ≡ true → Answering p r d)) → Change p (left (k .answer) k l p)
+    ruled : (u : Ruling) → runRuling (p .run .stage) (p .run) (lengthsOf l) ≡ u
+        → let k = ifAdmitted u (p .run) l (carryOut decision (p .run) r d l) in
+        (answerNumber (k .answer) ≡ 0 → Kept l p × (isAnswer (p .run) r ≡ true → Answering p r d))
+        → Change p (left (k .answer) k l p)
     ruled (Refuse x) e f = nothing
     ruled Accept e f =
         let k = carryOut decision (p .run) r d l in
         by-number p l k (k .answer) (λ n. carried p l (f n .0) (accepted (p .run) (lengthsOf l) e) (f n .1) z)
 
-  begins-change : (p : Past) (direction : Direction) (s first : ℕ) (l : Lent) (u : Ruling) → beginRuling (p .run) direction s first (lengthsOf l) ≡ u
-      → let k = beginBy u (p .run) direction s first l in Change p (left (k .answer) k l p)
-  begins-change p direction s first l (Refuse x) e = nothing
-  begins-change p direction s first l Accept e =
-      by-issue (Change p) (p .run) _ (l .file) l p nothing (begins-with direction s first l (begins (p .run) direction s first (lengthsOf l) e))
+  begins-change : (p : Past) (params : RunParameters) (l : Lent) (u : Ruling)
+      → beginRuling (p .run) params (lengthsOf l) ≡ u
+      → let k = ifAdmitted u (p .run) l (admittedBegin (p .run) params l) in Change p (left (k .answer) k l p)
+  begins-change p params l (Refuse x) e = nothing
+  begins-change p params l Accept e =
+      by-issue (Change p) (p .run) _ (l .file) l p nothing
+      (begins-with params l (begins (p .run) params (lengthsOf l) e))
 
   pub changes : (p : Past) (e : Event) → Fair Given e p → Change p (after e p)
   unfolding after beginCall replyCall noReplyCall
-  changes p (Begin direction s first l) f = begins-change p direction s first l (beginRuling (p .run) direction s first (lengthsOf l)) refl
+  changes p (Begin params l) f = begins-change p params l (beginRuling (p .run) params (lengthsOf l)) refl
   changes p (Reply frame l) f =
       let r = readReply frame in
       let d = dataOf frame in
       ruled p l r d (onReply (p .run) r (length d)) (by-reply (p .run) r (length d)) _ refl
-      (λ n. let g = f n in (g .0, λ h. record { answers = h; issue = g .1 .issue; own = g .1 .own; given = g .1 .given }))
+      (λ n.
+      let g = f n in
+      (g .0, λ h. record { answers = h; issue = g .1 .issue; own = g .1 .own; given = g .1 .given }))
   changes p (NoReply l) f =
-      ruled p l noFields [] (onNoReply (p .run)) (by-no-reply (p .run) noFields 0) _ refl (λ n. (f n, λ h. unanswered (p .run) h))
+      ruled p l noFields [] (onNoReply (p .run)) (by-no-reply (p .run) noFields 0) _ refl
+      (λ n. (f n, λ h. unanswered (p .run) h))

@@ -1,7 +1,15 @@
 -- What a download run keeps.
 use Prim.Native.Nat.{ℕ, _+_, _-_, _*_, _<_, _≤_}
 use mathlib.Core.Bool.{Bool, true, false, cond, _||_}
-use mathlib.Core.List.{List, [], _∷_, List·Memᴰ as In, List·Memᴰ·head as here, List·Memᴰ·tail as there, List·Memᴰ·not-nil as in-none}
+use mathlib.Core.List.{
+  List,
+  [],
+  _∷_,
+  List·Memᴰ as In,
+  List·Memᴰ·head as here,
+  List·Memᴰ·tail as there,
+  List·Memᴰ·not-nil as in-none,
+}
 use mathlib.Core.Logic.{_⊎_, inl, inr}
 use mathlib.Core.Path.{_≡_, refl, sym, ap, _∙_, subst}
 use native.Mathlib.Omega.{arith}
@@ -25,10 +33,32 @@ use Rattle.client.specs.declared.run.Stage.the-variants as stage
 use Rattle.client.specs.declared.run.Step.{Step}
 use Rattle.client.specs.declared.run.Step.the-variants as step
 use Rattle.client.specs.declared.run.Word.{Word}
-use Rattle.client.specs.declared.run.Word.the-variants.{Fetched, HeldUnconfirmed, NotFetched}
-use Rattle.client.specs.Decisions.{says, isOwn, closingWord, restWord, opensDownload, bringsSegment, downloadReturns, confirms}
-use Rattle.client.specs.NextRun.{begun, stepBehind, receiptsBehind, goOn, repeated, learned, isNew, grown, holding, fileWith, ended}
+use Rattle.client.specs.declared.run.Word.the-variants as word
+use Rattle.client.specs.Decisions.{
+  says,
+  isOwn,
+  closingWord,
+  restWord,
+  opensDownload,
+  bringsSegment,
+  downloadReturns,
+  confirms,
+}
+use Rattle.client.specs.NextRun.{
+  begun,
+  stepAfter,
+  receiptsAfter,
+  goOn,
+  repeated,
+  learned,
+  isNew,
+  grown,
+  holding,
+  fileWith,
+  ended,
+}
 use Rattle.client.specs.Requests.{nonceOf, outstanding}
+use Rattle.client.specs.Run.{parametersOf}
 use Rattle.client_history.specs.History.{Issue, Past, issueOf, BankReplies}
 use Rattle.client_history.specs.Invariant.{
   DownloadIssue,
@@ -103,12 +133,14 @@ module _ (Given : Fields → List ℕ → Fields → List ℕ → Type 0) where
   }
 
   -- with all segments held the run's file is the mailbox's
-  pub whole-file : {t : Bits128} {n held size : ℕ} {f file : List ℕ} {l : List Issue} → HeldFile Given f t n held size file l → held ≡ n
+  pub whole-file : {t : Bits128} {n held size : ℕ} {f file : List ℕ} {l : List Issue}
+      → HeldFile Given f t n held size file l → held ≡ n
       → take size file ≡ f
   whole-file {held = held} {f = f} h e = h .bytes ∙ all-held f held (e ∙ h .number)
 
-  -- segment h + 1, as segment s, written behind segments 1 to h
-  module _ (t : Bits128) (n h size s : ℕ) (f file d : List ℕ) (room : length file ≡ fileBytes) (number : n ≡ segmentsOf (length f))
+  -- segment h + 1, as segment s, written after segments 1 to h
+  module _ (t : Bits128) (n h size s : ℕ) (f file d : List ℕ) (room : length file ≡ fileBytes)
+      (number : n ≡ segmentsOf (length f))
       (most : length f ≤ fileBytes) (more : h < n) (next : s ≡ h + 1) where
     place : (s - 1) * segmentBytes ≡ segmentBytes * h
     place = omega arith
@@ -119,7 +151,8 @@ module _ (Given : Fields → List ℕ → Fields → List ℕ → Type 0) where
     inside : segmentBytes * h ≤ length file
     inside = let k = most-segments (length f) most in let b = below in omega arith
 
-    grows : {l : List Issue} (g : Got Given l forms.DownloadOpening forms.DownloadOpened code.Ok) → transaction (g .reply) ≡ t
+    grows : {l : List Issue} (g : Got Given l forms.DownloadOpening forms.DownloadOpened code.Ok)
+        → transaction (g .reply) ≡ t
         → 0 < length f → size ≡ length (take (segmentBytes * h) f) → take size file ≡ take (segmentBytes * h) f
         → d ≡ segmentOf f s
         → HeldFile Given f t n (h + 1) ((s - 1) * segmentBytes + length d) (overwrite file ((s - 1) * segmentBytes) d) l
@@ -141,9 +174,11 @@ module _ (Given : Fields → List ℕ → Fields → List ℕ → Type 0) where
 
   module _ (fileAt : Bits128 → List ℕ) where
     -- the outstanding request is one that the run may issue
-    outstanding-issue : (c : Client) (payload file : List ℕ) (time : ℕ) (nonce : List ℕ) (issues : List Issue) → c .direction ≡ Download
+    outstanding-issue : (c : Client) (payload file : List ℕ) (time : ℕ) (nonce : List ℕ) (issues : List Issue)
+        → c .direction ≡ Download
         → (s : Step) → c .step ≡ s → DownloadStep Given fileAt s c file issues
-        → DownloadIssue (c .subscriber) (c .segments) (c .transaction) (c .held) (c .receipted) (fileAt (c .transaction))
+        → DownloadIssue (c .subscriber) (c .segments) (c .transaction) (c .held) (c .receipted)
+        (fileAt (c .transaction))
         (issueOf c payload file time nonce)
     outstanding-issue c payload file time nonce issues down step.Opening e k =
         downloadOpens (c .exchange) time (nonceOf nonce (c .exchange)) (is-downloadOpening c time nonce payload down e)
@@ -160,12 +195,15 @@ module _ (Given : Fields → List ℕ → Fields → List ℕ → Type 0) where
       direction : c .direction ≡ Download
       running : c .stage ≡ stage.Running
       each : (x : Issue) → In x issues
-          → DownloadIssue (c .subscriber) (c .segments) (c .transaction) (c .held) (c .receipted) (fileAt (c .transaction)) x
+          → DownloadIssue (c .subscriber) (c .segments) (c .transaction) (c .held) (c .receipted)
+          (fileAt (c .transaction)) x
       receipts : c .receipted ≡ true → Receipts issues
       open-file : FileHeld Given fileAt c file issues
 
-    goes-on : (c : Client) (payload file : List ℕ) (issues : List Issue) (k repeats time : ℕ) (nonce : List ℕ) → Ready c file issues
-        → k ≤ c .held → DownloadRun Given fileAt (goOn k repeats c) file (issueOf (goOn k repeats c) payload file time nonce ∷ issues)
+    goes-on : (c : Client) (payload file : List ℕ) (issues : List Issue) (k repeats time : ℕ) (nonce : List ℕ)
+        → Ready c file issues
+        → k ≤ c .held
+        → DownloadRun Given fileAt (goOn k repeats c) file (issueOf (goOn k repeats c) payload file time nonce ∷ issues)
     unfolding goOn
     goes-on c payload file issues k repeats time nonce r a = go (eqb k (c .segments)) refl
       where
@@ -179,11 +217,11 @@ module _ (Given : Fields → List ℕ → Fields → List ℕ → Type 0) where
         kept = held-in (λ x m. there m) (r .open-file)
 
         -- the step, and whether a receipt was issued, by the test on k
-        at : stepBehind (c .direction) k (c .segments) ≡ cond (eqb k (c .segments)) step.Receipt step.Segment
-        at = ap (λ (w : Direction). stepBehind w k (c .segments)) (r .direction)
+        at : stepAfter (c .direction) k (c .segments) ≡ cond (eqb k (c .segments)) step.Receipt step.Segment
+        at = ap (λ (w : Direction). stepAfter w k (c .segments)) (r .direction)
 
-        behind : receiptsBehind (c .direction) k (c .segments) ≡ eqb k (c .segments)
-        behind = ap (λ (w : Direction). receiptsBehind w k (c .segments)) (r .direction)
+        receipt-after : receiptsAfter (c .direction) k (c .segments) ≡ eqb k (c .segments)
+        receipt-after = ap (λ (w : Direction). receiptsAfter w k (c .segments)) (r .direction)
 
         run : (s : Step) → next .step ≡ s → DownloadStep Given fileAt s next file (new ∷ issues)
             → (next .receipted ≡ true → Receipts (new ∷ issues))
@@ -197,7 +235,8 @@ module _ (Given : Fields → List ℕ → Fields → List ℕ → Type 0) where
         }
           where
             each : (x : Issue) → In x (new ∷ issues)
-                → DownloadIssue (c .subscriber) (c .segments) (c .transaction) (c .held) (next .receipted) (fileAt (c .transaction)) x
+                → DownloadIssue (c .subscriber) (c .segments) (c .transaction) (c .held) (next .receipted)
+                (fileAt (c .transaction)) x
             each x (here i) =
                 subst (DownloadIssue _ _ _ _ _ _) (sym i)
                 (outstanding-issue next payload file time nonce (new ∷ issues) (r .direction) s e g)
@@ -208,13 +247,17 @@ module _ (Given : Fields → List ℕ → Fields → List ℕ → Type 0) where
             let z = eqb-true k (c .segments) e in
             let y = ap (λ (b : Bool). cond b step.Receipt step.Segment) e in
             let w : c .held ≡ c .segments = omega (arith, r .open-file .top) in
-            run step.Receipt (at ∙ y) (kept, w, or-right (c .receipted) _ (behind ∙ e))
-            (λ h. (new, here refl, ap form (is-receipt next time nonce payload (r .direction) (at ∙ y)) ∙ form-receipt _ _ _ _))
+            run step.Receipt (at ∙ y) (kept, w, or-right (c .receipted) _ (receipt-after ∙ e))
+            (λ h. (
+              new,
+              here refl,
+              ap form (is-receipt next time nonce payload (r .direction) (at ∙ y)) ∙ form-receipt _ _ _ _,
+            ))
         go false e =
             let z = eqb-false k (c .segments) e in
             let y = ap (λ (b : Bool). cond b step.Receipt step.Segment) e in
             run step.Segment (at ∙ y) (kept, omega arith, omega arith, omega (arith, r .open-file .top))
-            (λ h. let o = r .receipts (or-false (c .receipted) _ (behind ∙ e) h) in (o .0, there (o .1), o .2))
+            (λ h. let o = r .receipts (or-false (c .receipted) _ (receipt-after ∙ e) h) in (o .0, there (o .1), o .2))
 
     module _ (c : Client) (payload file : List ℕ) (issues : List Issue) (u : DownloadRun Given fileAt c file issues)
         (running : c .stage ≡ stage.Running) where
@@ -225,7 +268,8 @@ module _ (Given : Fields → List ℕ → Fields → List ℕ → Type 0) where
       At s = DownloadStep Given fileAt s c file issues
 
       ready : FileHeld Given fileAt c file issues → Ready c file issues
-      ready h = record { direction = u .direction; running = running; each = u .each; receipts = u .receipts; open-file = h }
+      ready h =
+          record { direction = u .direction; running = running; each = u .each; receipts = u .receipts; open-file = h }
 
       -- ---- the next request
 
@@ -236,7 +280,8 @@ module _ (Given : Fields → List ℕ → Fields → List ℕ → Type 0) where
         pub returned : (r : Fields) → (c .step ≡ step.Segment) ⊎ (c .step ≡ step.Receipt) → downloadReturns c r ≡ true
             → Goes (goOn (segment r) (c .repeats + 1) c) file
         returned r e h =
-            goes-on c payload file issues (segment r) (c .repeats + 1) time nonce (ready (held e)) (download-point c r h .reached)
+            goes-on c payload file issues (segment r) (c .repeats + 1) time nonce (ready (held e))
+            (download-point c r h .reached)
           where
             held : (c .step ≡ step.Segment) ⊎ (c .step ≡ step.Receipt) → FileHeld Given fileAt c file issues
             held (inl s) = subst At s (u .step) .0
@@ -264,15 +309,18 @@ module _ (Given : Fields → List ℕ → Fields → List ℕ → Type 0) where
             stepped step.Receipt k = (held-in (λ x m. there m) (k .0), k .1, k .2)
 
             each : (x : Issue) → In x (new ∷ issues)
-                → DownloadIssue (c .subscriber) (c .segments) (c .transaction) (c .held) (c .receipted) (fileAt (c .transaction)) x
+                → DownloadIssue (c .subscriber) (c .segments) (c .transaction) (c .held) (c .receipted)
+                (fileAt (c .transaction)) x
             each x (here e) =
                 subst (DownloadIssue _ _ _ _ _ _) (sym e)
-                (outstanding-issue next payload file time nonce (new ∷ issues) (u .direction) (c .step) refl (stepped (c .step) (u .step)))
+                (outstanding-issue next payload file time nonce (new ∷ issues) (u .direction) (c .step) refl
+                (stepped (c .step) (u .step)))
             each x (there m) = u .each x m
 
       -- ---- a segment's arrival
 
-      module _ (bank : BankReplies Given fileAt) (r : Fields) (d : List ℕ) (a : Answered Given p r d) (room : length file ≡ fileBytes)
+      module _ (bank : BankReplies Given fileAt) (r : Fields) (d : List ℕ) (a : Answered Given p r d)
+          (room : length file ≡ fileBytes)
           (time : ℕ) (nonce : List ℕ) where
         abbrev Moves : Client → List ℕ → Type 0
         Moves next g = Goes time nonce (goOn (c .segment) (c .repeats) next) g
@@ -294,7 +342,8 @@ module _ (Given : Fields → List ℕ → Fields → List ℕ → Type 0) where
                 ∙ ap (λ (t : Bits128). segmentOf (fileAt t) (segment r)) (own-id c r (k .own))
                 ∙ ap (segmentOf (fileAt (c .transaction))) (k .number)
 
-            fresh : isNew (c .direction) c ≡ true → Moves (grown (length d) c) (overwrite file ((c .segment - 1) * segmentBytes) d)
+            fresh : isNew (c .direction) c ≡ true
+                → Moves (grown (length d) c) (overwrite file ((c .segment - 1) * segmentBytes) d)
             fresh z =
                 let i = eqb-true (c .segment) (c .held + 1) (newly z) in
                 let f = at .0 in
@@ -306,7 +355,8 @@ module _ (Given : Fields → List ℕ → Fields → List ℕ → Type 0) where
                   each = λ x y. held-more m (u .each x y);
                   receipts = u .receipts;
                   open-file =
-                      grows (c .transaction) (c .segments) (c .held) (c .length) (c .segment) (fileAt (c .transaction)) file d
+                      grows (c .transaction) (c .segments) (c .held) (c .length) (c .segment) (fileAt (c .transaction))
+                      file d
                       room (f .number) (f .most) m i (f .got) (f .id)
                       (f .least) (f .end) (f .bytes) part;
                 })
@@ -319,9 +369,11 @@ module _ (Given : Fields → List ℕ → Fields → List ℕ → Type 0) where
                 goes-on c payload file issues (c .segment) (c .repeats) time nonce (ready (at .0)) (omega arith)
 
         pub opened-run : c .step ≡ step.Opening → opensDownload (length d) r ≡ true
-            → let k = learned Download r c in Goes time nonce (goOn 1 (c .repeats) (holding (length d) k)) (fileWith k d file)
+            → let k = learned Download r c in Goes time nonce (goOn 1 (c .repeats) (holding (length d) k))
+            (fileWith k d file)
         opened-run e h =
-            by-new k d file (λ (n : Client) (g : List ℕ). Goes time nonce (goOn 1 (c .repeats) n) g) true is-new fresh (λ z. never (sym z))
+            by-new k d file (λ (n : Client) (g : List ℕ). Goes time nonce (goOn 1 (c .repeats) n) g) true is-new fresh
+            (λ z. never (sym z))
           where
             k : Client
             k = learned Download r c
@@ -330,13 +382,16 @@ module _ (Given : Fields → List ℕ → Fields → List ℕ → Type 0) where
             at = subst At e (u .step)
 
             is-new : isNew (c .direction) k ≡ true
-            is-new = ap (λ (w : Direction). isNew w k) (u .direction) ∙ eq-eqb 1 (c .held + 1) (let z = at .0 in omega arith)
+            is-new =
+                ap (λ (w : Direction). isNew w k) (u .direction) ∙ eq-eqb 1 (c .held + 1) (let z = at .0 in omega arith)
 
             says-so : Says forms.DownloadOpened code.Ok initialisationPhase r
             says-so = opened-says (length d) r h
 
             asked : form (outstanding c (a .time) (a .nonce)) ≡ forms.DownloadOpening
-            asked = ap form (is-downloadOpening c (a .time) (a .nonce) payload (u .direction) e) ∙ form-downloadOpening _ _ _ _
+            asked =
+                ap form (is-downloadOpening c (a .time) (a .nonce) payload (u .direction) e)
+                ∙ form-downloadOpening _ _ _ _
 
             fresh : {A : Type 0} → A
                 → Goes time nonce (goOn 1 (c .repeats) (grown (length d) k)) (overwrite file ((1 - 1) * segmentBytes) d)
@@ -367,20 +422,27 @@ module _ (Given : Fields → List ℕ → Fields → List ℕ → Type 0) where
       ended-with : (w : Word) → DownloadWord Given fileAt w (ended w c) file issues → Closes w
       unfolding ended
       ended-with w k =
-          record { direction = u .direction; each = u .each; receipts = u .receipts; step = stepped (c .step) (u .step); stage = k }
+          record {
+            direction = u .direction;
+            each = u .each;
+            receipts = u .receipts;
+            step = stepped (c .step) (u .step);
+            stage = k;
+          }
         where
           stepped : (s : Step) → At s → DownloadStep Given fileAt s (ended w c) file issues
           stepped step.Opening k = k
           stepped step.Segment k = k
           stepped step.Receipt k = k
 
-      pub confirmed-run : (r : Fields) (d : List ℕ) → Answered Given p r d → c .step ≡ step.Receipt → confirms c r ≡ true → Closes Fetched
+      pub confirmed-run : (r : Fields) (d : List ℕ) → Answered Given p r d → c .step ≡ step.Receipt
+          → confirms c r ≡ true → Closes word.Fetched
       unfolding ended confirms
       confirmed-run r d a e h =
           let k = and-true (says forms.ReceiptAnswered code.DownloadPostprocessDone receiptPhase r) (isOwn c r) h in
           let q = is-receipt c (a .time) (a .nonce) payload (u .direction) e in
           let g = subst At e (u .step) in
-          ended-with Fetched
+          ended-with word.Fetched
           (record {
             held = g .0;
             whole = g .1;
@@ -392,18 +454,19 @@ module _ (Given : Fields → List ℕ → Fields → List ℕ → Type 0) where
       unfolding restWord ended
       rest-run =
           subst (λ (w : Direction). Closes (closingWord w c)) (sym (u .direction))
-          (by-test Closes (c .receipted) (λ h. ended-with HeldUnconfirmed h) (λ h. ended-with NotFetched h))
+          (by-test Closes (c .receipted) (λ h. ended-with word.HeldUnconfirmed h) (λ h. ended-with word.NotFetched h))
 
     -- ---- the begin
 
     pub begun-run : (s first time : ℕ) (nonce payload file : List ℕ) (issues : List Issue) → issues ≡ []
-        → let next = begun Download s first 0 in DownloadRun Given fileAt next file (issueOf next payload file time nonce ∷ issues)
+        → let next = begun (parametersOf Download s first) 0 in DownloadRun Given fileAt next file
+        (issueOf next payload file time nonce ∷ issues)
     unfolding begun
     begun-run s first time nonce payload file issues z =
         record { direction = refl; each = each; receipts = λ h. never h; step = (refl, refl, refl); stage = tt }
       where
         next : Client
-        next = begun Download s first 0
+        next = begun (parametersOf Download s first) 0
 
         new : Issue
         new = issueOf next payload file time nonce

@@ -14,9 +14,9 @@ pub before-last : (n h : ℕ) → h < segmentsOf n → segmentBytes * h < n
 unfolding segmentsOf
 before-last n h k = omega arith
 
-pub behind-last : (n : ℕ) → n ≤ segmentBytes * segmentsOf n
+pub segments-cover : (n : ℕ) → n ≤ segmentBytes * segmentsOf n
 unfolding segmentsOf
-behind-last n = omega arith
+segments-cover n = omega arith
 
 pub most-segments : (n : ℕ) → n ≤ fileBytes → segmentsOf n ≤ maxSegments
 unfolding segmentsOf
@@ -25,7 +25,8 @@ most-segments n h = omega arith
 -- all segments are the file
 pub all-held : (f : List ℕ) (n : ℕ) → n ≡ segmentsOf (length f) → take (segmentBytes * n) f ≡ f
 all-held f n e =
-    take-all (segmentBytes * n) f (let k = behind-last (length f) in subst (λ (m : ℕ). length f ≤ segmentBytes * m) (sym e) k)
+    take-all (segmentBytes * n) f
+    (let k = segments-cover (length f) in subst (λ (m : ℕ). length f ≤ segmentBytes * m) (sym e) k)
 
 -- "segments are 256 bytes but the last"
 module _ (f : List ℕ) (j : ℕ) (least : 1 ≤ j) (within : j ≤ segmentsOf (length f)) where
@@ -47,25 +48,28 @@ pub nothing-held : (f file : List ℕ) {h size : ℕ} → h ≡ 0 → size ≡ 0
 nothing-held f file a b = rw (a, b) (refl, refl)
 
 -- one segment more
-pub next-segment : (f : List ℕ) (h : ℕ) → take (segmentBytes * (h + 1)) f ≡ take (segmentBytes * h) f ++ segmentOf f (h + 1)
+pub next-segment : (f : List ℕ) (h : ℕ)
+    → take (segmentBytes * (h + 1)) f ≡ take (segmentBytes * h) f ++ segmentOf f (h + 1)
 unfolding segmentOf
 next-segment f h =
     let a : segmentBytes * (h + 1) ≡ segmentBytes * h + segmentBytes = omega arith in
     let b : (h + 1 - 1) * segmentBytes ≡ segmentBytes * h = omega arith in
     rw (a, b, take-add)
 
-pub length-overwrite : (file d : List ℕ) (at : ℕ) → at + length d ≤ length file → length (overwrite file at d) ≡ length file
+pub length-overwrite : (file d : List ℕ) (at : ℕ) → at + length d ≤ length file
+    → length (overwrite file at d) ≡ length file
 unfolding overwrite
 length-overwrite file d at h = simp (length-append, length-take, length-drop) (omega arith)
 
-pub take-overwrite : (file d : List ℕ) (at : ℕ) → at ≤ length file → take (at + length d) (overwrite file at d) ≡ take at file ++ d
+pub take-overwrite : (file d : List ℕ) (at : ℕ) → at ≤ length file
+    → take (at + length d) (overwrite file at d) ≡ take at file ++ d
 unfolding overwrite
 take-overwrite file d at h =
     let e : length (take at file ++ d) ≡ at + length d = simp (length-append, length-take) (omega arith) in
     ap (take (at + length d)) (sym (append-assoc (take at file) d (drop (at + length d) file)))
     ∙ take-at (take at file ++ d) (drop (at + length d) file) _ e
 
--- segment h + 1 written behind segments 1 to h of the file f, in a buffer of which size bytes are those
+-- segment h + 1 written after segments 1 to h of the file f, in a buffer of which size bytes are those
 module _ (f file d : List ℕ) (h size : ℕ) (more : h < segmentsOf (length f)) (room : segmentBytes * h ≤ length file)
     (end : size ≡ length (take (segmentBytes * h) f)) (bytes : take size file ≡ take (segmentBytes * h) f)
     (next : d ≡ segmentOf f (h + 1)) where
@@ -83,5 +87,6 @@ module _ (f file d : List ℕ) (h size : ℕ) (more : h < segmentsOf (length f))
       sym (length-append (take (segmentBytes * h) file) d ∙ ap (λ (n : ℕ). n + length d) (length-take-le _ file room))
       ∙ ap length joined
 
-  pub grown-bytes : take (segmentBytes * h + length d) (overwrite file (segmentBytes * h) d) ≡ take (segmentBytes * (h + 1)) f
+  pub grown-bytes : take (segmentBytes * h + length d) (overwrite file (segmentBytes * h) d) ≡ take
+      (segmentBytes * (h + 1)) f
   grown-bytes = take-overwrite file d (segmentBytes * h) room ∙ joined

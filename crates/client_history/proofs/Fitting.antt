@@ -11,7 +11,17 @@ use Rattle.frame_table.specs.declared.fields.Bits128.{Bits128}
 use Rattle.frame_table.specs.declared.fields.Fields.{Fields}
 use Rattle.frame_table.specs.declared.table.Form.{Form}
 use Rattle.frame_table.specs.Forms as forms
-use Rattle.frame_table.specs.Names.{phase, exchange, segments, transaction, segment, lastMark, returnCode, orderNumber, form}
+use Rattle.frame_table.specs.Names.{
+  phase,
+  exchange,
+  segments,
+  transaction,
+  segment,
+  lastMark,
+  returnCode,
+  orderNumber,
+  form,
+}
 use Rattle.frame_table.specs.Table.{isReplyForm, rowFits, findForm, formOf}
 use Rattle.message.specs.declared.codes.ReturnCode.{ReturnCode}
 use Rattle.message.specs.declared.codes.ReturnCode.the-variants as code
@@ -25,7 +35,7 @@ use Rattle.client.specs.declared.run.Direction.{Direction}
 use Rattle.client.specs.declared.run.Direction.the-variants.{Upload, Download}
 use Rattle.client.specs.declared.run.Step.{Step}
 use Rattle.client.specs.declared.run.Step.the-variants as step
-use Rattle.client.specs.declared.run.Word.the-variants.{Lodged, Fetched}
+use Rattle.client.specs.declared.run.Word.the-variants as word
 use Rattle.client.specs.Decisions.{
   formIndex,
   says,
@@ -55,7 +65,8 @@ pub and-false : (a b : Bool) → b ≡ false → a && b ≡ false
 and-false true b e = e
 and-false false b e = refl
 
-says-true : (x : Form) (c : ReturnCode) (p : ℕ) (r : Fields) → form r ≡ x → returnCode r ≡ codeField c → phase r ≡ p → says x c p r ≡ true
+says-true : (x : Form) (c : ReturnCode) (p : ℕ) (r : Fields) → form r ≡ x → returnCode r ≡ codeField c → phase r ≡ p
+    → says x c p r ≡ true
 unfolding says
 says-true x c p r a b e = and-intro (and-intro (eq-eqb _ _ (ap formIndex a)) (eq-eqb _ _ b)) (eq-eqb _ _ e)
 
@@ -64,7 +75,8 @@ unfolding isOwn
 own-true c r e = and-intro (eq-eqb _ _ (ap (λ (t : Bits128). t .high) e)) (eq-eqb _ _ (ap (λ (t : Bits128). t .low) e))
 
 -- a reply under the outstanding exchange number, of a reply form but the unreadable request's
-answer-true : (c : Client) (r : Fields) → isReplyForm (form r) ≡ true → (formIndex (form r) ≡ formIndex forms.Unreadable → ⊥)
+answer-true : (c : Client) (r : Fields) → isReplyForm (form r) ≡ true
+    → (formIndex (form r) ≡ formIndex forms.Unreadable → ⊥)
     → exchange r ≡ c .exchange → isAnswer c r ≡ true
 unfolding isAnswer
 answer-true c r a b e = and-intro (and-intro a (ap not (ne-eqb _ _ b))) (eq-eqb _ _ e)
@@ -81,9 +93,11 @@ module _ {x : Form} {k : ReturnCode} {ph : ℕ} (c : Client) (r : Fields) (f : F
   fits-says = says-true x k ph r (f .form-is) (f .code-is) (f .phase-is)
 
   pub fits-answer : isReplyForm x ≡ true → (formIndex x ≡ formIndex forms.Unreadable → ⊥) → isAnswer c r ≡ true
-  fits-answer a b = answer-true c r (ap isReplyForm (f .form-is) ∙ a) (λ e. b (sym (ap formIndex (f .form-is)) ∙ e)) (f .number)
+  fits-answer a b =
+      answer-true c r (ap isReplyForm (f .form-is) ∙ a) (λ e. b (sym (ap formIndex (f .form-is)) ∙ e)) (f .number)
 
-pub answers-true : (x : Form) (c : Client) (r : Fields) → Fits x code.Ok transferPhase (c .exchange) r → transaction r ≡ c .transaction
+pub answers-true : (x : Form) (c : Client) (r : Fields) → Fits x code.Ok transferPhase (c .exchange) r
+    → transaction r ≡ c .transaction
     → segment r ≡ c .segment → answersSegment x c r ≡ true
 unfolding answersSegment
 answers-true x c r f o j = and-intro (and-intro (fits-says c r f) (own-true c r o)) (eq-eqb _ _ j)
@@ -139,12 +153,14 @@ module _ (x n j mark : ℕ) (t : Bits128) where
 
 -- ---- a segment of the file fits
 
-data-at : (s n d : ℕ) (b : Bool) → eqb s n ≡ b → 1 ≤ d → d ≤ segmentBytes → ((s ≡ n → ⊥) → d ≡ segmentBytes) → fitsData s n d ≡ true
+data-at : (s n d : ℕ) (b : Bool) → eqb s n ≡ b → 1 ≤ d → d ≤ segmentBytes → ((s ≡ n → ⊥) → d ≡ segmentBytes)
+    → fitsData s n d ≡ true
 unfolding fitsData
 data-at s n d true e a b f = rw e (and-intro (le-leb 1 d a) (le-leb d segmentBytes b))
 data-at s n d false e a b f = rw e (eq-eqb d segmentBytes (f (eqb-false s n e)))
 
-pub file-fits : (f : List ℕ) (j n : ℕ) (r : Fields) (d : List ℕ) → 1 ≤ j → j ≤ n → n ≤ maxSegments → n ≡ segmentsOf (length f)
+pub file-fits : (f : List ℕ) (j n : ℕ) (r : Fields) (d : List ℕ) → 1 ≤ j → j ≤ n → n ≤ maxSegments
+    → n ≡ segmentsOf (length f)
     → d ≡ segmentOf f j
     → lastMark r ≡ lastMarkOf j n → fitsSegment j n (length d) r ≡ true
 unfolding fitsSegment
@@ -154,7 +170,8 @@ file-fits f j n r d a b m e g k =
     let some = segment-some f j a w in
     let most = segment-most f j a w in
     and-intro (and-intro (le-leb j maxSegments (omega arith)) (eq-eqb _ _ k))
-    (data-at j n (length d) (eqb j n) refl (omega arith) (omega arith) (λ z. h ∙ segment-full f j a w (λ y. z (y ∙ sym e))))
+    (data-at j n (length d) (eqb j n) refl (omega arith) (omega arith)
+    (λ z. h ∙ segment-full f j a w (λ y. z (y ∙ sym e))))
 
 -- ---- what a fitting reply leads to
 
@@ -172,7 +189,7 @@ module _ (c : Client) (r : Fields) (n : ℕ) where
   unfolding onUpload
   to-opened h = rw h
 
-  pub to-lodged : lodges c r ≡ true → onUpload step.Segment c r ≡ Close Lodged
+  pub to-lodged : lodges c r ≡ true → onUpload step.Segment c r ≡ Close word.Lodged
   unfolding onUpload
   to-lodged h = rw h
 
@@ -188,6 +205,6 @@ module _ (c : Client) (r : Fields) (n : ℕ) where
   unfolding onDownload
   to-brought h = rw h
 
-  pub to-fetched : confirms c r ≡ true → onDownload step.Receipt c r n ≡ Close Fetched
+  pub to-fetched : confirms c r ≡ true → onDownload step.Receipt c r n ≡ Close word.Fetched
   unfolding onDownload
   to-fetched h = rw h

@@ -1,15 +1,21 @@
--- What a run of either direction keeps: exchange numbers, the newest issue, and that a reply that counts answers the outstanding request.
-use Prim.Native.Nat.{ℕ, _+_, _<_, _≤_}
-use mathlib.Core.Bool.{true}
-use mathlib.Core.List.{List, [], _∷_, List·Memᴰ as In, List·Memᴰ·head as here, List·Memᴰ·tail as there, List·Memᴰ·not-nil as in-none}
+-- What a run of either direction keeps: exchange numbers, the newest issue, and that a reply that counts answers the
+-- outstanding request.
+use Prim.Native.Nat.{ℕ, _+_, _<_}
+use mathlib.Core.List.{
+  List,
+  _∷_,
+  List·Memᴰ as In,
+  List·Memᴰ·head as here,
+  List·Memᴰ·tail as there,
+  List·Memᴰ·not-nil as in-none,
+}
 use mathlib.Core.Path.{_≡_, refl, sym, ap, _∙_, subst}
 use native.Mathlib.Omega.{arith}
 use Rattle.frame_table.specs.declared.fields.Bits128.{Bits128}
 use Rattle.frame_table.specs.declared.fields.Fields.{Fields}
 use Rattle.frame_table.specs.declared.table.Form.{Form}
-use Rattle.frame_table.specs.Names.{subscriber, exchange, form}
+use Rattle.frame_table.specs.Names.{exchange, form}
 use Rattle.message.specs.declared.codes.ReturnCode.{ReturnCode}
-use Rattle.message.specs.Limits.{subscribers}
 use Rattle.client.specs.declared.run.Client.{Client}
 use Rattle.client.specs.declared.run.Direction.{Direction}
 use Rattle.client.specs.declared.run.Direction.the-variants.{Upload, Download}
@@ -18,12 +24,11 @@ use Rattle.client.specs.declared.run.Step.the-variants as step
 use Rattle.client.specs.declared.run.Word.{Word}
 use Rattle.client.specs.NextRun.{ended}
 use Rattle.client.specs.Requests.{uploadRequest, downloadRequest, requestBy, dataBy, outstanding, outstandingData}
-use Rattle.client.specs.Rulings.{isBegun}
 use Rattle.client_history.specs.History.{Issue, Past, heldOf, issueOf, issuing, BankReplies}
-use Rattle.client_history.specs.Invariant.{Numbered, none, more, Newest, Begun, Answered, Got}
+use Rattle.client_history.specs.Bounds.{Numbered, none, more}
+use Rattle.client_history.specs.Invariant.{Newest, Begun, Answered, Got}
 use Rattle.client_history.proofs.Changes.{Answering, ending}
 use Rattle.client.proofs.Replies.{Says, is-answer}
-use Rattle.client_history.proofs.Requests.{outstanding-exchange, outstanding-subscriber}
 
 -- ---- exchange numbers
 
@@ -44,7 +49,8 @@ one-number (more a b c) (there m) (here j) e =
     absurd (let i = below c m in let h = ap (λ (z : Issue). exchange (z .request)) j in omega arith)
 one-number (more a b c) (there m) (there k) e = one-number c m k e
 
-older-below : {first n : ℕ} {l : List Issue} {y x : Issue} → Numbered first (n + 1) (y ∷ l) → In x l → exchange (x .request) < n
+older-below : {first n : ℕ} {l : List Issue} {y x : Issue} → Numbered first (n + 1) (y ∷ l) → In x l
+    → exchange (x .request) < n
 older-below (more e f k) m = let j = below k m in omega arith
 
 -- ---- the end of a run changes no request
@@ -62,7 +68,8 @@ module _ (w : Word) (c : Client) (time : ℕ) (nonce payload : List ℕ) where
   download-ended step.Segment = refl
   download-ended step.Receipt = refl
 
-  request-ended : (direction : Direction) → requestBy direction (ended w c) time nonce ≡ requestBy direction c time nonce
+  request-ended : (direction : Direction)
+      → requestBy direction (ended w c) time nonce ≡ requestBy direction c time nonce
   unfolding ended
   request-ended Upload = upload-ended (c .step)
   request-ended Download = download-ended (c .step)
@@ -79,66 +86,21 @@ module _ (w : Word) (c : Client) (time : ℕ) (nonce payload : List ℕ) where
       let d = data-ended (c .direction) in
       λ i. record { request = q i; requestData = d i; file = heldOf c file }
 
--- ---- a begun run
+-- ---- the newest issue
 
-module _ (next : Client) (payload file : List ℕ) (time : ℕ) (nonce : List ℕ) (issues : List Issue) where
-  abbrev new : Issue
-  new = issueOf next payload file time nonce
+pub newest-issued : (next : Client) (payload file : List ℕ) (time : ℕ) (nonce : List ℕ) (issues : List Issue)
+    → Newest (issuing next payload file time nonce issues)
+newest-issued next payload file time nonce issues = record { time = time; nonce = nonce; older = issues; are = refl }
 
-  abbrev now : Past
-  now = issuing next payload file time nonce issues
-
-  newest-is : Newest now
-  newest-is = record { time = time; nonce = nonce; older = issues; are = refl }
-
-  own-is : (s : ℕ) → next .subscriber ≡ s → ((x : Issue) → In x issues → subscriber (x .request) ≡ s)
-      → (x : Issue) → In x (new ∷ issues) → subscriber (x .request) ≡ next .subscriber
-  own-is s e f x (here i) = ap (λ (y : Issue). subscriber (y .request)) i ∙ outstanding-subscriber next time nonce payload
-  own-is s e f x (there m) = f x m ∙ sym e
-
-  pub begun-first : isBegun (next .stage) ≡ true → 1 ≤ next .subscriber → next .subscriber ≤ subscribers → issues ≡ [] → Begun now
-  begun-first b low high e = record {
-    stage = b;
-    low = low;
-    high = high;
-    first = next .exchange;
-    numbers = more (outstanding-exchange next time nonce payload) refl (subst (Numbered (next .exchange) (next .exchange)) (sym e) none);
-    newest = newest-is;
-    own = own-is (next .subscriber) refl (λ x m. absurd (in-none (subst (In x) e m)));
-  }
-
-  pub begun-next : (p : Past) → p .issues ≡ issues → Begun p → isBegun (next .stage) ≡ true → next .exchange ≡ p .run .exchange + 1
-      → next .subscriber ≡ p .run .subscriber → Begun now
-  begun-next p e b g x s = record {
-    stage = g;
-    low = let i = b .low in omega arith;
-    high = let i = b .high in omega arith;
-    first = b .first;
-    numbers =
-        more (outstanding-exchange next time nonce payload) refl
-        (subst (λ (n : ℕ). Numbered (b .first) n issues) (sym x) (subst (Numbered (b .first) (p .run .exchange + 1)) e (b .numbers)));
-    newest = newest-is;
-    own = own-is (p .run .subscriber) s (λ y m. b .own y (subst (In y) (sym e) m));
-  }
-
-pub begun-ended : (w : Word) (p : Past) → Begun p → Begun (ending w p)
-unfolding ended
-begun-ended w p b =
-    let n = b .newest in
-    record {
-      stage = refl;
-      low = b .low;
-      high = b .high;
-      first = b .first;
-      numbers = b .numbers;
-      newest = record {
-        time = n .time;
-        nonce = n .nonce;
-        older = n .older;
-        are = n .are ∙ ap (λ (x : Issue). x ∷ n .older) (sym (issue-ended w (p .run) (n .time) (n .nonce) (p .payload) (p .file)));
-      };
-      own = b .own;
-    }
+pub newest-ended : (w : Word) (p : Past) → Newest p → Newest (ending w p)
+newest-ended w p n = record {
+  time = n .time;
+  nonce = n .nonce;
+  older = n .older;
+  are =
+      n .are
+      ∙ ap (λ (x : Issue). x ∷ n .older) (sym (issue-ended w (p .run) (n .time) (n .nonce) (p .payload) (p .file)));
+}
 
 -- ---- a reply that counts was given to the outstanding request
 
@@ -151,9 +113,12 @@ module _ (Given : Fields → List ℕ → Fields → List ℕ → Type 0) where
         n = b .newest
 
         same : exchange (a .issue .request) ≡ p .run .exchange
-        same = let k = is-answer (p .run) r (a .answers) in sym (bank .sameExchange (a .given) (k .reply) (k .readable)) ∙ k .number
+        same =
+            let k = is-answer (p .run) r (a .answers) in sym
+            (bank .sameExchange (a .given) (k .reply) (k .readable)) ∙ k .number
 
-        go : In (a .issue) (issueOf (p .run) (p .payload) (p .file) (n .time) (n .nonce) ∷ n .older) → Answered Given p r d
+        go : In (a .issue) (issueOf (p .run) (p .payload) (p .file) (n .time) (n .nonce) ∷ n .older)
+            → Answered Given p r d
         go (here e) = record {
           time = n .time;
           nonce = n .nonce;
@@ -161,11 +126,13 @@ module _ (Given : Fields → List ℕ → Fields → List ℕ → Type 0) where
           given = subst (λ (x : Issue). Given (x .request) (x .requestData) r d) e (a .given);
         }
         go (there m) =
-            let k = older-below (subst (Numbered (b .first) (p .run .exchange + 1)) (n .are) (b .numbers)) m in
+            let k = older-below
+            (subst (Numbered (b .bounded .first) (p .run .exchange + 1)) (n .are) (b .bounded .numbers)) m in
             absurd (omega (arith, same))
 
   -- it was got by the outstanding request
-  abbrev pub got : {p : Past} {r : Fields} {d : List ℕ} {x y : Form} {c : ReturnCode} {phase : ℕ} → (a : Answered Given p r d)
+  abbrev pub got : {p : Past} {r : Fields} {d : List ℕ} {x y : Form} {c : ReturnCode} {phase : ℕ}
+      → (a : Answered Given p r d)
       → form (outstanding (p .run) (a .time) (a .nonce)) ≡ x → Says y c phase r → Got Given (p .issues) x y c
   got {p} {r} {d} a f s = record {
     issue = issueOf (p .run) (p .payload) (p .file) (a .time) (a .nonce);
@@ -179,7 +146,8 @@ module _ (Given : Fields → List ℕ → Fields → List ℕ → Type 0) where
   }
 
   -- and stays so as more is issued
-  abbrev pub got-in : {l m : List Issue} {x y : Form} {c : ReturnCode} → ((i : Issue) → In i l → In i m) → Got Given l x y c
+  abbrev pub got-in : {l m : List Issue} {x y : Form} {c : ReturnCode} → ((i : Issue) → In i l → In i m)
+      → Got Given l x y c
       → Got Given m x y c
   got-in f g = record {
     issue = g .issue;

@@ -1,5 +1,5 @@
--- Every fair event keeps the invariant.
-use Prim.Native.Nat.{ℕ, _+_}
+-- Every fair event keeps the invariant: the bounds, which any event keeps, and what the run's direction adds.
+use Prim.Native.Nat.{ℕ}
 use mathlib.Core.List.{List, [], _∷_}
 use mathlib.Core.Path.{_≡_, refl, sym, ap, _∙_, subst}
 use native.Mathlib.Omega.{arith}
@@ -11,165 +11,169 @@ use Rattle.message.specs.Limits.{fileBytes}
 use Rattle.client.specs.declared.run.Client.{Client}
 use Rattle.client.specs.declared.run.Direction.{Direction}
 use Rattle.client.specs.declared.run.Direction.the-variants.{Upload, Download}
-use Rattle.client.specs.declared.run.Stage.{Stage}
-use Rattle.client.specs.declared.run.Stage.the-variants as stage
 use Rattle.client.specs.declared.run.Word.{Word}
-use Rattle.client.specs.NextRun.{beginLength, begun, goOn, repeated}
-use Rattle.client.specs.Rulings.{isBegun}
-use Rattle.client.specs.Run.{Lent, lengthsOf}
-use Rattle.client_history.specs.History.{Event, Past, issuing, after, pastOf, BankReplies, Kept, Fair, AllFair}
-use Rattle.client_history.specs.Invariant.{Begun, UploadRun, DownloadRun, Invariant, not-begun, upload, download}
-use Rattle.client.proofs.Accepted.{Accepted, Begins, file-served}
-use Rattle.client.proofs.Apart.{not-both}
-use Rattle.client_history.proofs.Changes.{
-  Move,
-  upload-opens,
-  takes,
-  upload-returns,
-  download-opens,
-  brings,
-  download-returns,
-  repeats,
-  Ends,
-  last-taken,
-  cancelled,
-  confirmed,
-  otherwise,
-  ending,
-  Change,
-  nothing,
-  begins-with,
-  goes,
-  closes,
-  changes,
+use Rattle.client.specs.NextRun.{beginLength, begun, ended}
+use Rattle.client.specs.Run.{Lent, lengthsOf, parametersOf, notBegun}
+use Rattle.client.proofs.Accepted.{Serves, Accepted, file-served}
+use Rattle.client.proofs.Apart.{not-both, not-new-running}
+use Rattle.client_history.specs.Bounds.{Bounded, Bounds, fresh, going}
+use Rattle.client_history.specs.History.{
+  Issue,
+  Event,
+  Past,
+  issueOf,
+  issuing,
+  after,
+  pastOf,
+  BankReplies,
+  Kept,
+  Fair,
+  AllFair,
 }
+use Rattle.client_history.specs.Invariant.{
+  Begun,
+  UploadRun,
+  DownloadRun,
+  Invariant,
+  not-begun,
+  upload,
+  download,
+}
+use Rattle.client_history.proofs.Bounds.{bounded, bounds-kept}
+use Rattle.client_history.proofs.Changes.{Move, Ends, Change, ending}
+use Rattle.client_history.proofs.Changes as change
 use Rattle.client_history.proofs.Downloads
-use Rattle.client_history.proofs.Issues.{begun-first, begun-next, begun-ended, answered}
-use Rattle.client_history.proofs.NextRuns.{Same, same, learned-same, held-same, opened-same}
+use Rattle.client_history.proofs.Issues.{newest-issued, newest-ended, answered}
 use Rattle.client_history.proofs.Uploads
 
-module _ (p : Past) (b : Begun p) (file : List ℕ) (time : ℕ) (nonce : List ℕ) where
-  abbrev Goes : Client → Type 0
-  Goes next = Begun (issuing next (p .payload) file time nonce (p .issues))
-
-  begun-goOn : (k n : ℕ) (c : Client) → Same c (p .run) → Goes (goOn k n c)
-  unfolding goOn
-  begun-goOn k n c s =
-      begun-next _ (p .payload) file time nonce (p .issues) p refl b (ap isBegun (s .stage) ∙ b .stage)
-      (ap (λ (x : ℕ). x + 1) (s .exchange)) (s .subscriber)
-
-  begun-repeated : Goes (repeated (p .run))
-  unfolding repeated
-  begun-repeated = begun-next _ (p .payload) file time nonce (p .issues) p refl b (b .stage) refl refl
-
-module _ (Given : Fields → List ℕ → Fields → List ℕ → Type 0) (fileAt : Bits128 → List ℕ) (bank : BankReplies Given fileAt) where
+module _ (Given : Fields → List ℕ → Fields → List ℕ → Type 0) (fileAt : Bits128 → List ℕ)
+    (bank : BankReplies Given fileAt) where
   abbrev Inv : Past → Type 0
   Inv = Invariant Given fileAt
 
   module _ (p : Past) (l : Lent) (a : Accepted (p .run) (lengthsOf l)) (k : Kept l p) (b : Begun p) where
-    abbrev Goes-on : Client → List ℕ → Type 0
-    Goes-on next file = Inv (issuing next (p .payload) file (l .time) (l .nonce) (p .issues))
-
     abbrev c : Client
     c = p .run
 
-    upload-goes : {next : Client} {file : List ℕ} → UploadRun Given c (p .payload) (p .issues) → Move Given p next file
-        → Goes-on next file
-    upload-goes u (upload-opens {r} {d} w s g t) =
-        upload (begun-goOn p b _ _ _ 0 _ _ (learned-same Upload r c))
-        (Uploads.opened-run Given c (p .payload) (p .file) (p .issues) u (a .running) r d (l .time) (l .nonce) s
-        (answered Given fileAt bank p r d b g) t)
-    upload-goes u (takes {r} w s g t) =
-        upload (begun-goOn p b _ _ _ _ _ _ (same c))
-        (Uploads.taken Given c (p .payload) (p .file) (p .issues) u (a .running) (l .time) (l .nonce) r s t)
-    upload-goes u (upload-returns {r} w s g t) =
-        upload (begun-goOn p b _ _ _ _ _ _ (same c))
-        (Uploads.returned Given c (p .payload) (p .file) (p .issues) u (a .running) (l .time) (l .nonce) r s t)
-    upload-goes u (download-opens w s g t) = not-both (u .direction) w
-    upload-goes u (brings w s g t) = not-both (u .direction) w
-    upload-goes u (download-returns w s g t) = not-both (u .direction) w
-    upload-goes u (repeats t) =
-        upload (begun-repeated p b _ _ _)
-        (Uploads.repeated-run Given c (p .payload) (p .file) (p .issues) u (a .running) (l .time) (l .nonce))
+    -- ---- upload
+
+    module _ (u : UploadRun Given c (p .payload) (p .issues)) where
+      upload-goes : {next : Client} {file : List ℕ} → Move Given p next file
+          → UploadRun Given next (p .payload) (issueOf next (p .payload) file (l .time) (l .nonce) ∷ p .issues)
+      upload-goes (change.upload-opens {r} {d} w s g t) =
+          Uploads.opened-run Given c (p .payload) (p .file) (p .issues) u (a .running) r d (l .time) (l .nonce) s
+          (answered Given fileAt bank p r d b g) t
+      upload-goes (change.takes w s g t) =
+          Uploads.next-run Given c (p .payload) (p .file) (p .issues) u (a .running) (l .time) (l .nonce) s _ _
+      upload-goes (change.upload-returns w s g t) =
+          Uploads.next-run Given c (p .payload) (p .file) (p .issues) u (a .running) (l .time) (l .nonce) s _ _
+      upload-goes (change.download-opens w s g t) = not-both (u .direction) w
+      upload-goes (change.brings w s g t) = not-both (u .direction) w
+      upload-goes (change.download-returns w s g t) = not-both (u .direction) w
+      upload-goes (change.repeats t) =
+          Uploads.repeated-run Given c (p .payload) (p .file) (p .issues) u (a .running) (l .time) (l .nonce)
+
+      upload-closes : {w : Word} → Ends Given p w → UploadRun Given (ended w c) (p .payload) (p .issues)
+      upload-closes (change.last-taken {r} {d} w s g t) =
+          Uploads.lodged-run Given c (p .payload) (p .file) (p .issues) u (a .running) r d s
+          (answered Given fileAt bank p r d b g) t
+      upload-closes (change.cancelled {r} {d} w s g t) =
+          Uploads.cancelled-run Given c (p .payload) (p .file) (p .issues) u (a .running) r d s
+          (answered Given fileAt bank p r d b g) t
+      upload-closes (change.confirmed w s g t) = not-both (u .direction) w
+      upload-closes change.otherwise = Uploads.rest-run Given c (p .payload) (p .file) (p .issues) u (a .running)
+
+    -- ---- download
 
     module _ (u : DownloadRun Given fileAt c (p .file) (p .issues)) where
       -- "a download's file buffer not 3,840" is refused
       room : length (p .file) ≡ fileBytes
-      room = subst (λ (f : List ℕ). length f ≡ fileBytes) (k .file) (file-served (c .direction) (lengthsOf l) (a .buffers) (u .direction))
+      room =
+          subst (λ (f : List ℕ). length f ≡ fileBytes) (k .file)
+          (file-served (c .direction) (lengthsOf l) (a .buffers) (u .direction))
 
-      download-goes : {next : Client} {file : List ℕ} → Move Given p next file → Goes-on next file
-      download-goes (upload-opens w s g t) = not-both w (u .direction)
-      download-goes (takes w s g t) = not-both w (u .direction)
-      download-goes (upload-returns w s g t) = not-both w (u .direction)
-      download-goes (download-opens {r} {d} w s g t) =
-          download (begun-goOn p b _ _ _ 1 _ _ (opened-same d r c))
-          (Downloads.opened-run Given fileAt c (p .payload) (p .file) (p .issues) u (a .running) bank r d
-          (answered Given fileAt bank p r d b g) room (l .time)
-          (l .nonce) s t)
-      download-goes (brings {r} {d} w s g t) =
-          download (begun-goOn p b _ _ _ _ _ _ (held-same d [] c .0))
-          (Downloads.brought-run Given fileAt c (p .payload) (p .file) (p .issues) u (a .running) bank r d
-          (answered Given fileAt bank p r d b g) room (l .time)
-          (l .nonce) s t)
-      download-goes (download-returns {r} w s g t) =
-          download (begun-goOn p b _ _ _ _ _ _ (same c))
-          (Downloads.returned Given fileAt c (p .payload) (p .file) (p .issues) u (a .running) (l .time) (l .nonce) r s t)
-      download-goes (repeats t) =
-          download (begun-repeated p b _ _ _)
-          (Downloads.repeated-run Given fileAt c (p .payload) (p .file) (p .issues) u (a .running) (l .time) (l .nonce))
+      download-goes : {next : Client} {file : List ℕ} → Move Given p next file
+          → DownloadRun Given fileAt next file (issueOf next (p .payload) file (l .time) (l .nonce) ∷ p .issues)
+      download-goes (change.upload-opens w s g t) = not-both w (u .direction)
+      download-goes (change.takes w s g t) = not-both w (u .direction)
+      download-goes (change.upload-returns w s g t) = not-both w (u .direction)
+      download-goes (change.download-opens {r} {d} w s g t) =
+          Downloads.opened-run Given fileAt c (p .payload) (p .file) (p .issues) u (a .running) bank r d
+          (answered Given fileAt bank p r d b g) room (l .time) (l .nonce) s t
+      download-goes (change.brings {r} {d} w s g t) =
+          Downloads.brought-run Given fileAt c (p .payload) (p .file) (p .issues) u (a .running) bank r d
+          (answered Given fileAt bank p r d b g) room (l .time) (l .nonce) s t
+      download-goes (change.download-returns {r} w s g t) =
+          Downloads.returned Given fileAt c (p .payload) (p .file) (p .issues) u (a .running) (l .time) (l .nonce) r s t
+      download-goes (change.repeats t) =
+          Downloads.repeated-run Given fileAt c (p .payload) (p .file) (p .issues) u (a .running) (l .time) (l .nonce)
 
-      download-closes : {w : Word} → Ends Given p w → Inv (ending w p)
-      download-closes (last-taken w s g t) = not-both w (u .direction)
-      download-closes (cancelled w s g t) = not-both w (u .direction)
-      download-closes (confirmed {r} {d} w s g t) =
-          download (begun-ended _ p b)
-          (Downloads.confirmed-run Given fileAt c (p .payload) (p .file) (p .issues) u (a .running) r d
-          (answered Given fileAt bank p r d b g) s t)
-      download-closes otherwise =
-          download (begun-ended _ p b) (Downloads.rest-run Given fileAt c (p .payload) (p .file) (p .issues) u (a .running))
-
-    upload-closes : {w : Word} → UploadRun Given c (p .payload) (p .issues) → Ends Given p w → Inv (ending w p)
-    upload-closes u (last-taken {r} {d} w s g t) =
-        upload (begun-ended _ p b)
-        (Uploads.lodged-run Given c (p .payload) (p .file) (p .issues) u (a .running) r d s (answered Given fileAt bank p r d b g) t)
-    upload-closes u (cancelled {r} {d} w s g t) =
-        upload (begun-ended _ p b)
-        (Uploads.cancelled-run Given c (p .payload) (p .file) (p .issues) u (a .running) r d s (answered Given fileAt bank p r d b g) t)
-    upload-closes u (confirmed w s g t) = not-both (u .direction) w
-    upload-closes u otherwise = upload (begun-ended _ p b) (Uploads.rest-run Given c (p .payload) (p .file) (p .issues) u (a .running))
+      download-closes : {w : Word} → Ends Given p w → DownloadRun Given fileAt (ended w c) (p .file) (p .issues)
+      download-closes (change.last-taken w s g t) = not-both w (u .direction)
+      download-closes (change.cancelled w s g t) = not-both w (u .direction)
+      download-closes (change.confirmed {r} {d} w s g t) =
+          Downloads.confirmed-run Given fileAt c (p .payload) (p .file) (p .issues) u (a .running) r d
+          (answered Given fileAt bank p r d b g) s t
+      download-closes change.otherwise =
+          Downloads.rest-run Given fileAt c (p .payload) (p .file) (p .issues) u (a .running)
 
   -- ---- the begin
 
-  begins : (p : Past) (direction : Direction) (s first : ℕ) (l : Lent) → Begins (p .run) direction s first (lengthsOf l) → p .issues ≡ []
-      → Inv (issuing (begun direction s first (beginLength direction (lengthsOf l))) (l .payload) (l .file) (l .time) (l .nonce) (p .issues))
-  unfolding begun
-  begins p Upload s first l b e =
-      upload (begun-first _ (l .payload) (l .file) (l .time) (l .nonce) (p .issues) refl (b .low) (b .high) e)
-      (Uploads.begun-run Given s first (l .time) (l .nonce) (l .payload) (l .file) (p .issues) (b .buffers .0) (b .buffers .1) e)
-  begins p Download s first l b e =
-      download (begun-first _ (l .payload) (l .file) (l .time) (l .nonce) (p .issues) refl (b .low) (b .high) e)
-      (Downloads.begun-run Given fileAt s first (l .time) (l .nonce) (l .payload) (l .file) (p .issues) e)
+  begins : (p : Past) (direction : Direction) (s first : ℕ) (l : Lent) → p .issues ≡ []
+      → let params = parametersOf direction s first in
+      let q =
+      issuing (begun params (beginLength direction (lengthsOf l))) (l .payload) (l .file) (l .time) (l .nonce)
+      (p .issues)
+      in Serves direction (lengthsOf l) → Begun q → Inv q
+  begins p Upload s first l e serves b =
+      upload b (Uploads.begun-run Given s first (l .time) (l .nonce) (l .payload) (l .file) (p .issues) e)
+  begins p Download s first l e serves b =
+      download b (Downloads.begun-run Given fileAt s first (l .time) (l .nonce) (l .payload) (l .file) (p .issues) e)
 
   -- ---- every change
 
-  idle : {A : Type 0} {s : Stage} → s ≡ stage.NotBegun → s ≡ stage.Running → A
-  idle a b = absurd (let z : _≡_ {A = ℕ} 0 1 = cc in omega arith)
+  -- a run that issued something is within the bounds
+  some-issued : {c : Client} {x : Issue} {issues : List Issue} → Bounds c (x ∷ issues) → Bounded c (x ∷ issues)
+  some-issued (fresh e z) = absurd (let z : _≡_ {A = ℕ} 0 1 = cc in omega arith)
+  some-issued (going b) = b
 
-  kept-by : {p q : Past} → Change Given p q → Inv p → Inv q
-  kept-by nothing i = i
-  kept-by {p} (begins-with direction s first l b) (not-begun e f) = begins p direction s first l b f
-  kept-by (begins-with direction s first l b) (upload g u) = never (sym (b .fresh) ∙ g .stage)
-  kept-by (begins-with direction s first l b) (download g u) = never (sym (b .fresh) ∙ g .stage)
-  kept-by (goes l a k m) (not-begun e f) = idle e (a .running)
-  kept-by {p} (goes l a k m) (upload b u) = upload-goes p l a k b u m
-  kept-by {p} (goes l a k m) (download b u) = download-goes p l a k b u m
-  kept-by (closes l a k m) (not-begun e f) = idle e (a .running)
-  kept-by {p} (closes l a k m) (upload b u) = upload-closes p l a k b u m
-  kept-by {p} (closes l a k m) (download b u) = download-closes p l a k b u m
+  now-issued : (next : Client) (payload file : List ℕ) (time : ℕ) (nonce : List ℕ) (issues : List Issue)
+      → let q = issuing next payload file time nonce issues in Bounds next (q .issues) → Begun q
+  now-issued next payload file time nonce issues s =
+      record { bounded = some-issued s; newest = newest-issued next payload file time nonce issues }
+
+  now-ended : (w : Word) (p : Past) → Begun p → Bounds (ending w p .run) (p .issues) → Begun (ending w p)
+  unfolding ended
+  now-ended w p b s = record { bounded = bounded refl s; newest = newest-ended w p (b .newest) }
+
+  idle : {A : Type 0} (p : Past) (l : Lent) → p .run ≡ notBegun → Accepted (p .run) (lengthsOf l) → A
+  idle p l e a = not-new-running (ap (λ (k : Client). k .stage) e) (a .running)
+
+  kept-by : {p q : Past} → Change Given p q → Bounds (q .run) (q .issues) → Inv p → Inv q
+  kept-by change.nothing n i = i
+  kept-by {p} (change.begins-with params l b) n (not-begun e f) =
+      begins p (params .direction) (params .subscriber) (params .first) l f (b .buffers)
+      (now-issued _ (l .payload) (l .file) (l .time) (l .nonce) (p .issues) n)
+  kept-by (change.begins-with params l b) n (upload g u) = never (sym (b .fresh) ∙ g .bounded .stage)
+  kept-by (change.begins-with params l b) n (download g u) = never (sym (b .fresh) ∙ g .bounded .stage)
+  kept-by {p} (change.goes l a k m) n (not-begun e f) = idle p l e a
+  kept-by {p} (change.goes {next} {file} l a k m) n (upload b u) =
+      upload (now-issued next (p .payload) file (l .time) (l .nonce) (p .issues) n) (upload-goes p l a k b u m)
+  kept-by {p} (change.goes {next} {file} l a k m) n (download b u) =
+      download (now-issued next (p .payload) file (l .time) (l .nonce) (p .issues) n) (download-goes p l a k b u m)
+  kept-by {p} (change.closes l a k m) n (not-begun e f) = idle p l e a
+  kept-by {p} (change.closes {w} l a k m) n (upload b u) = upload (now-ended w p b n) (upload-closes p l a k b u m)
+  kept-by {p} (change.closes {w} l a k m) n (download b u) =
+      download (now-ended w p b n) (download-closes p l a k b u m)
+
+  bounds-of : {p : Past} → Inv p → Bounds (p .run) (p .issues)
+  bounds-of (not-begun e f) = fresh e f
+  bounds-of (upload b u) = going (b .bounded)
+  bounds-of (download b u) = going (b .bounded)
 
   -- THE INVARIANT IS KEPT
   pub kept : (p : Past) (e : Event) → Fair Given e p → Invariant Given fileAt p → Invariant Given fileAt (after e p)
-  kept p e f i = kept-by (changes Given p e f) i
+  kept p e f i = kept-by (change.changes Given p e f) (bounds-kept p e (bounds-of i)) i
 
   -- AND HOLDS OF EVERY LIST OF FAIR EVENTS
   pub invariant : (es : List Event) → AllFair Given es → Invariant Given fileAt (pastOf es)

@@ -1,7 +1,13 @@
--- The laws of a client run's history, and the main results in Theorems.
+-- The laws of a client run's history: the results over any events in Bounds and Writable, over fair ones in Theorems.
 pub mod Requests
 pub mod NextRuns
+pub mod Course
+pub mod Decided
 pub mod Changes
+pub mod AnyEvent
+pub mod Bounds
+pub mod Transactions
+pub mod Writable
 pub mod Issues
 pub mod Files
 pub mod Uploads

@@ -15,7 +15,7 @@ use Rattle.client.specs.declared.run.Stage.the-variants as stage
 use Rattle.client.specs.declared.run.Step.{Step}
 use Rattle.client.specs.declared.run.Step.the-variants as step
 use Rattle.client.specs.declared.run.Word.{Word}
-use Rattle.client.specs.declared.run.Word.the-variants.{Lodged, NotLodged, Unclear, Fetched, HeldUnconfirmed, NotFetched}
+use Rattle.client.specs.declared.run.Word.the-variants as word
 use Rattle.client_history.specs.History.{Issue, Past}
 use Rattle.client_history.specs.Invariant.{
   isOpen,
@@ -65,14 +65,15 @@ module _ (Given Later : Fields → List ℕ → Fields → List ℕ → Type 0)
     upload-step-up step.Receipt k = k
 
     upload-word-up : (w : Word) → UploadWord Given w c l → UploadWord Later w c l
-    upload-word-up Lodged k = record { got = got-up (k .got); last = k .last; id = k .id; opened = open-up (k .opened) }
-    upload-word-up NotLodged (inl k) = inl k
-    upload-word-up NotLodged (inr k) =
+    upload-word-up word.Lodged k =
+        record { got = got-up (k .got); last = k .last; id = k .id; opened = open-up (k .opened) }
+    upload-word-up word.NotLodged (inl k) = inl k
+    upload-word-up word.NotLodged (inr k) =
         inr (record { why = k .why; one = k .one; got = got-up (k .got); phase-2 = k .phase-2; id = k .id })
-    upload-word-up Unclear k = k
-    upload-word-up Fetched k = k
-    upload-word-up HeldUnconfirmed k = k
-    upload-word-up NotFetched k = k
+    upload-word-up word.Unclear k = k
+    upload-word-up word.Fetched k = k
+    upload-word-up word.HeldUnconfirmed k = k
+    upload-word-up word.NotFetched k = k
 
     upload-stage-up : (s : Stage) → UploadStage Given s c l → UploadStage Later s c l
     upload-stage-up stage.NotBegun k = k
@@ -83,10 +84,6 @@ module _ (Given Later : Fields → List ℕ → Fields → List ℕ → Type 0)
     upload-up = record {
       direction = u .direction;
       size = u .size;
-      number = u .number;
-      some = u .some;
-      most = u .most;
-      top = u .top;
       each = u .each;
       step = upload-step-up (c .step) (u .step);
       stage = upload-stage-up (c .stage) (u .stage);
@@ -94,7 +91,8 @@ module _ (Given Later : Fields → List ℕ → Fields → List ℕ → Type 0)
 
   -- ---- download, its transaction's file the same once it is open
 
-  held-up : {f : List ℕ} {t : Bits128} {n held size : ℕ} {file : List ℕ} {l : List Issue} → HeldFile Given f t n held size file l
+  held-up : {f : List ℕ} {t : Bits128} {n held size : ℕ} {file : List ℕ} {l : List Issue}
+      → HeldFile Given f t n held size file l
       → HeldFile Later f t n held size file l
   held-up h = record {
     got = got-up (h .got);
@@ -113,9 +111,11 @@ module _ (Given Later : Fields → List ℕ → Fields → List ℕ → Type 0)
         (f : isOpen (c .step) ≡ true → fileAt (c .transaction) ≡ fileLater (c .transaction)) where
       file-up : isOpen (c .step) ≡ true → FileHeld Given fileAt c file l → FileHeld Later fileLater c file l
       file-up o h =
-          subst (λ (g : List ℕ). HeldFile Later g (c .transaction) (c .segments) (c .held) (c .length) file l) (f o) (held-up h)
+          subst (λ (g : List ℕ). HeldFile Later g (c .transaction) (c .segments) (c .held) (c .length) file l) (f o)
+          (held-up h)
 
-      step-up : (s : Step) → isOpen s ≡ isOpen (c .step) → DownloadStep Given fileAt s c file l → DownloadStep Later fileLater s c file l
+      step-up : (s : Step) → isOpen s ≡ isOpen (c .step) → DownloadStep Given fileAt s c file l
+          → DownloadStep Later fileLater s c file l
       step-up step.Opening e k = k
       step-up step.Segment e k = (file-up (sym e) (k .0), k .1, k .2, k .3)
       step-up step.Receipt e k = (file-up (sym e) (k .0), k .1, k .2)
@@ -127,17 +127,17 @@ module _ (Given Later : Fields → List ℕ → Fields → List ℕ → Type 0)
       open-by step.Receipt k h = refl
 
       word-up : (w : Word) → DownloadWord Given fileAt w c file l → DownloadWord Later fileLater w c file l
-      word-up Lodged k = k
-      word-up NotLodged k = k
-      word-up Unclear k = k
-      word-up Fetched k = record {
+      word-up word.Lodged k = k
+      word-up word.NotLodged k = k
+      word-up word.Unclear k = k
+      word-up word.Fetched k = record {
         held = file-up (open-by (c .step) (u .step) (k .held)) (k .held);
         whole = k .whole;
         got = got-up (k .got);
         id = k .id;
       }
-      word-up HeldUnconfirmed k = k
-      word-up NotFetched k = k
+      word-up word.HeldUnconfirmed k = k
+      word-up word.NotFetched k = k
 
       stage-up : (s : Stage) → DownloadStage Given fileAt s c file l → DownloadStage Later fileLater s c file l
       stage-up stage.NotBegun k = k
@@ -163,7 +163,8 @@ module _ (Given Later : Fields → List ℕ → Fields → List ℕ → Type 0)
         stage = stage-up (c .stage) (u .stage);
       }
 
-    pub lifted : (p : Past) → (isOpen (p .run .step) ≡ true → fileAt (p .run .transaction) ≡ fileLater (p .run .transaction))
+    pub lifted : (p : Past)
+        → (isOpen (p .run .step) ≡ true → fileAt (p .run .transaction) ≡ fileLater (p .run .transaction))
         → Invariant Given fileAt p → Invariant Later fileLater p
     lifted p f (not-begun e g) = not-begun e g
     lifted p f (upload b u) = upload b (upload-up (p .run) (p .payload) (p .issues) u)

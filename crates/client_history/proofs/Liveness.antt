@@ -1,7 +1,7 @@
 -- An order in turn: each fitting answer leads to the next step, the receipt, or the closing word.
 use Prim.Native.Nat.{ℕ, _+_, _<_, _≤_}
 use mathlib.Core.Bool.{true, false}
-use mathlib.Core.List.{List, []}
+use mathlib.Core.List.{List}
 use mathlib.Core.Path.{_≡_, refl, sym, ap, _∙_, subst}
 use native.Mathlib.Omega.{arith}
 use lib.ListN.{length}
@@ -28,11 +28,12 @@ use Rattle.client.specs.declared.run.Refusal.{Refusal}
 use Rattle.client.specs.declared.run.Refusal.the-variants.{WrongBuffer, ExchangeTooHigh, NoSubscriber, WrongStage}
 use Rattle.client.specs.declared.run.Ruling.{Ruling}
 use Rattle.client.specs.declared.run.Ruling.the-variants.{Refuse, Accept}
+use Rattle.client.specs.declared.run.RunParameters.{RunParameters}
 use Rattle.client.specs.declared.run.Stage.the-variants as stage
 use Rattle.client.specs.declared.run.Step.{Step}
 use Rattle.client.specs.declared.run.Step.the-variants as step
 use Rattle.client.specs.declared.run.Word.{Word}
-use Rattle.client.specs.declared.run.Word.the-variants.{Lodged, Fetched}
+use Rattle.client.specs.declared.run.Word.the-variants as word
 use Rattle.client.specs.Calls.{
   ifWritten,
   outcomeOf,
@@ -41,9 +42,10 @@ use Rattle.client.specs.Calls.{
   issued,
   taken,
   carryOut,
-  beginBy,
+  ifAdmitted,
+  admittedBegin,
+  admittedReply,
   beginCall,
-  runBy,
   replyCall,
 }
 use Rattle.client.specs.Decisions.{
@@ -62,7 +64,7 @@ use Rattle.client.specs.Decisions.{
   onAnswer,
   onReply,
 }
-use Rattle.client.specs.NextRun.{begun, stepBehind, goOn, learned, holding, fileWith, ended}
+use Rattle.client.specs.NextRun.{begun, stepAfter, goOn, learned, holding, fileWith, ended}
 use Rattle.client.specs.Rulings.{isBegun, beginRuling, runRuling}
 use Rattle.client.specs.Run.{Lent, ClientCall, lengthsOf, refusalNumber, answerNumber, callOf}
 use Rattle.client_history.specs.History.{Begin, Reply, Past, issuing, left, after, Kept}
@@ -112,7 +114,8 @@ numbered WrongStage h = absurd (omega arith)
 
 -- a request issued
 by-issued : (P : Past → Type 0) (c next : Client) (file : List ℕ) (l : Lent) (p : Past)
-    → P (issuing next (l .payload) file (l .time) (l .nonce) (p .issues)) → answerNumber (issued c next file l .answer) ≡ 0
+    → P (issuing next (l .payload) file (l .time) (l .nonce) (p .issues))
+    → answerNumber (issued c next file l .answer) ≡ 0
     → P (left (issued c next file l .answer) (issued c next file l) l p)
 unfolding issued
 by-issued P c next file l p new = go (isWritten next l)
@@ -125,7 +128,8 @@ by-issued P c next file l p new = go (isWritten next l)
 -- a reply's call by the decision that the reply leads to
 by-decision : (P : Past → Type 0) (p : Past) (frame : List ℕ) (l : Lent) (decision : Decision)
     → onReply (p .run) (readReply frame) (length (dataOf frame)) ≡ decision
-    → (let k = carryOut decision (p .run) (readReply frame) (dataOf frame) l in answerNumber (k .answer) ≡ 0 → P (left (k .answer) k l p))
+    → (let k = carryOut decision (p .run) (readReply frame) (dataOf frame) l in
+    answerNumber (k .answer) ≡ 0 → P (left (k .answer) k l p))
     → answerNumber (replyCall (p .run) frame l .answer) ≡ 0 → P (after (Reply frame l) p)
 unfolding after replyCall
 by-decision P p frame l decision e f = go (runRuling (p .run .stage) (p .run) (lengthsOf l))
@@ -134,30 +138,32 @@ by-decision P p frame l decision e f = go (runRuling (p .run .stage) (p .run) (l
     Goal k = answerNumber (k .answer) ≡ 0 → P (left (k .answer) k l p)
 
     go : (u : Ruling)
-        → Goal (runBy u (onReply (p .run) (readReply frame) (length (dataOf frame))) (p .run) (readReply frame) (dataOf frame) l)
+        → Goal (ifAdmitted u (p .run) l (admittedReply (p .run) frame l))
     go (Refuse x) = numbered x
     go Accept = subst (λ (z : Decision). Goal (carryOut z (p .run) (readReply frame) (dataOf frame) l)) (sym e) f
 
 -- ---- where the run stands then
 
--- the run k with the request behind its outstanding segment, answered with the data d, issued
+-- the run k with the request after its outstanding segment, answered with the data d, issued
 unfoldable next : Client → List ℕ → Client
 next k d = goOn (k .segment) (k .repeats) (holding (length d) k)
 
-next-in-turn : (k : Client) (direction : Direction) (j : ℕ) (d payload file : List ℕ) (l : Lent) (p : Past) → k .stage ≡ stage.Running
+next-in-turn : (k : Client) (direction : Direction) (j : ℕ) (d payload file : List ℕ) (l : Lent) (p : Past)
+    → k .stage ≡ stage.Running
     → k .direction ≡ direction → k .segment ≡ j → k .repeats ≡ 0
-    → InTurn (issuing (next k d) payload file (l .time) (l .nonce) (p .issues)) direction (stepBehind direction j (k .segments)) (j + 1)
+    → InTurn (issuing (next k d) payload file (l .time) (l .nonce) (p .issues)) direction
+    (stepAfter direction j (k .segments)) (j + 1)
     (k .exchange + 1)
 unfolding next goOn
 next-in-turn k direction j d payload file l p running w e z =
-    let s = held-same d [] k in
+    let s = held-same (length d) k in
     record {
       running = s .0 .stage ∙ running;
       direction = s .0 .direction ∙ w;
       step =
-          ap (λ (x : Direction). stepBehind x (k .segment) (holding (length d) k .segments)) (s .0 .direction ∙ w)
-          ∙ ap (λ (x : ℕ). stepBehind direction x (holding (length d) k .segments)) e
-          ∙ ap (stepBehind direction j) (s .1 .segments);
+          ap (λ (x : Direction). stepAfter x (k .segment) (holding (length d) k .segments)) (s .0 .direction ∙ w)
+          ∙ ap (λ (x : ℕ). stepAfter direction x (holding (length d) k .segments)) e
+          ∙ ap (stepAfter direction j) (s .1 .segments);
       segment = ap (λ (x : ℕ). x + 1) e;
       repeats = z;
       number = ap (λ (x : ℕ). x + 1) (s .0 .exchange);
@@ -166,7 +172,7 @@ next-in-turn k direction j d payload file l p running w e z =
 next-known : (k : Client) (d : List ℕ)
     → (next k d .transaction ≡ k .transaction) × (next k d .number ≡ k .number) × (next k d .segments ≡ k .segments)
 unfolding next goOn
-next-known k d = let s = held-same d [] k .1 in (s .transaction, s .number, s .segments)
+next-known k d = let s = held-same (length d) k .1 in (s .transaction, s .number, s .segments)
 
 module _ (p : Past) (frame : List ℕ) (l : Lent) (done : answerNumber (replyCall (p .run) frame l .answer) ≡ 0) where
   abbrev c : Client
@@ -189,11 +195,15 @@ module _ (p : Past) (frame : List ℕ) (l : Lent) (done : answerNumber (replyCal
   by-next P k new h = by-issued P c (next k d) (fileWith k d (l .file)) l p new h
 
   by-opened : (P : Past → Type 0) (direction : Direction) → c .direction ≡ direction → onReply c r (length d) ≡ Opened
-      → P (issuing (next (learned direction r c) d) (l .payload) (fileWith (learned direction r c) d (l .file)) (l .time) (l .nonce) (p .issues))
+      → P (issuing (next (learned direction r c) d) (l .payload) (fileWith (learned direction r c) d (l .file))
+      (l .time) (l .nonce) (p .issues))
       → P then
   by-opened P direction w e new =
       by-decision P p frame l Opened e
-      (subst (λ (x : Direction). let k = taken c (learned x r c) d l in answerNumber (k .answer) ≡ 0 → P (left (k .answer) k l p)) (sym w)
+      (subst
+      (λ (x : Direction). let k = taken c (learned x r c) d l in
+      answerNumber (k .answer) ≡ 0 → P (left (k .answer) k l p))
+      (sym w)
       (by-next P (learned direction r c) new)) done
 
   by-advanced : (P : Past → Type 0) → onReply c r (length d) ≡ Advance
@@ -218,17 +228,20 @@ module _ (p : Past) (frame : List ℕ) (l : Lent) (done : answerNumber (replyCal
       by-opened
       (λ (q : Past). InTurn q Upload step.Segment 1 (c .exchange + 1) × (q .run .transaction ≡ t) × (q .run .number ≡ n)
       × (q .run .segments ≡ c .segments)) Upload (i .direction)
-      (upload-decision c r (length d) a (i .direction) step.Opening (i .step) ∙ to-opened c r (length d) (fits-says c r f)) (
+      (upload-decision c r (length d) a (i .direction) step.Opening (i .step)
+      ∙ to-opened c r (length d) (fits-says c r f)) (
         next-in-turn k Upload 0 d _ _ l p (i .running) (i .direction) refl (i .repeats),
         g .0 ∙ ap transaction e ∙ opened-fields (c .exchange) n 0 0 t .0,
         g .1 ∙ ap orderNumber e ∙ opened-fields (c .exchange) n 0 0 t .1,
         g .2,
       )
 
-  module _ (j x : ℕ) (i : InTurn p Upload step.Segment j x) (e : r ≡ segmentTaken (c .exchange) (c .transaction) j) where
+  module _ (j x : ℕ) (i : InTurn p Upload step.Segment j x)
+      (e : r ≡ segmentTaken (c .exchange) (c .transaction) j) where
     taken-answer : isAnswer c r ≡ true
     taken-answer =
-        fits-answer c r (subst (Fits _ _ _ _) (sym e) (taken-fits (c .exchange) 0 j 0 (c .transaction))) refl (λ z. omega arith)
+        fits-answer c r (subst (Fits _ _ _ _) (sym e) (taken-fits (c .exchange) 0 j 0 (c .transaction))) refl
+        (λ z. omega arith)
 
     taken-answers : answersSegment forms.SegmentTaken c r ≡ true
     taken-answers =
@@ -249,10 +262,10 @@ module _ (p : Past) (frame : List ℕ) (l : Lent) (done : answerNumber (replyCal
         (next-in-turn c Upload j d _ _ l p (i .running) (i .direction) s (i .repeats))
 
     -- segment N taken: lodged
-    pub upload-lodges : j ≡ c .segments → then .run .stage ≡ stage.Ended Lodged
+    pub upload-lodges : j ≡ c .segments → then .run .stage ≡ stage.Ended word.Lodged
     unfolding lodges
     upload-lodges h =
-        by-closed Lodged
+        by-closed word.Lodged
         (upload-decision c r (length d) taken-answer (i .direction) step.Segment (i .step)
         ∙ to-lodged c r (length d) (and-intro taken-answers (eq-eqb (c .segment) (c .segments) (i .segment ∙ h))))
 
@@ -260,9 +273,11 @@ module _ (p : Past) (frame : List ℕ) (l : Lent) (done : answerNumber (replyCal
 
   -- the opening's answer, with segment 1 of the file f, leads to segment 2 or to the receipt
   pub download-opens : (j x n : ℕ) (t : Bits128) (f : List ℕ) → InTurn p Download step.Opening j x
-      → r ≡ downloadOpened (c .exchange) n t (lastMarkOf 1 n) → n ≡ segmentsOf (length f) → 0 < length f → length f ≤ fileBytes
+      → r ≡ downloadOpened (c .exchange) n t (lastMarkOf 1 n) → n ≡ segmentsOf (length f) → 0 < length f
+      → length f ≤ fileBytes
       → d ≡ segmentOf f 1
-      → InTurn then Download (stepBehind Download 1 n) 2 (c .exchange + 1) × (then .run .transaction ≡ t) × (then .run .segments ≡ n)
+      → InTurn then Download (stepAfter Download 1 n) 2 (c .exchange + 1) × (then .run .transaction ≡ t)
+      × (then .run .segments ≡ n)
   unfolding opensDownload
   download-opens j number n t f i e m least most g =
       let x = subst (Fits _ _ _ _) (sym e) (download-fits (c .exchange) n 0 (lastMarkOf 1 n) t) in
@@ -272,18 +287,23 @@ module _ (p : Past) (frame : List ℕ) (l : Lent) (done : answerNumber (replyCal
       let some : 1 ≤ segments r = let z = some-segment (length f) least in omega arith in
       let few : segments r ≤ maxSegments = let z = most-segments (length f) most in omega arith in
       let whole =
-      file-fits f 1 (segments r) r d (omega arith) some few (sn ∙ m) g (ap lastMark e ∙ y .3 ∙ ap (lastMarkOf 1) (sym sn)) in
+      file-fits f 1 (segments r) r d (omega arith) some few (sn ∙ m) g
+      (ap lastMark e ∙ y .3 ∙ ap (lastMarkOf 1) (sym sn)) in
       let fits =
-      and-intro (and-intro (and-intro (and-intro (fits-says c r x) (eq-eqb (segment r) 1 (ap segment e ∙ y .2))) (le-leb 1 _ some))
+      and-intro
+      (and-intro (and-intro (and-intro (fits-says c r x) (eq-eqb (segment r) 1 (ap segment e ∙ y .2)))
+      (le-leb 1 _ some))
       (le-leb _ _ few)) whole in
       let k = learned Download r c in
       let h = next-known k d in
       by-opened
-      (λ (q : Past). InTurn q Download (stepBehind Download 1 n) 2 (c .exchange + 1) × (q .run .transaction ≡ t) × (q .run .segments ≡ n))
+      (λ (q : Past). InTurn q Download (stepAfter Download 1 n) 2 (c .exchange + 1) × (q .run .transaction ≡ t)
+      × (q .run .segments ≡ n))
       Download (i .direction)
       (download-decision c r (length d) a (i .direction) step.Opening (i .step) ∙ to-download c r (length d) fits) (
-        subst (λ (u : ℕ). InTurn (issuing (next k d) (l .payload) (fileWith k d (l .file)) (l .time) (l .nonce) (p .issues)) Download
-            (stepBehind Download 1 u) 2 (c .exchange + 1))
+        subst (λ (u : ℕ). InTurn
+            (issuing (next k d) (l .payload) (fileWith k d (l .file)) (l .time) (l .nonce) (p .issues)) Download
+            (stepAfter Download 1 u) 2 (c .exchange + 1))
             sn (next-in-turn k Download 1 d _ _ l p (i .running) (i .direction) refl (i .repeats)),
         h .0 ∙ ap transaction e ∙ y .0,
         h .2 ∙ sn,
@@ -291,9 +311,10 @@ module _ (p : Past) (frame : List ℕ) (l : Lent) (done : answerNumber (replyCal
 
   -- segment j of the file f leads to segment j + 1 or to the receipt
   pub download-advances : (j x : ℕ) (f : List ℕ) → InTurn p Download step.Segment j x → 1 ≤ j → j ≤ c .segments
-      → r ≡ downloadSegment (c .exchange) (c .transaction) j (lastMarkOf j (c .segments)) → c .segments ≡ segmentsOf (length f)
+      → r ≡ downloadSegment (c .exchange) (c .transaction) j (lastMarkOf j (c .segments))
+      → c .segments ≡ segmentsOf (length f)
       → length f ≤ fileBytes
-      → d ≡ segmentOf f j → InTurn then Download (stepBehind Download j (c .segments)) (j + 1) (c .exchange + 1)
+      → d ≡ segmentOf f j → InTurn then Download (stepAfter Download j (c .segments)) (j + 1) (c .exchange + 1)
   unfolding bringsSegment
   download-advances j number f i least within e m most g =
       let mark = lastMarkOf j (c .segments) in
@@ -305,21 +326,25 @@ module _ (p : Past) (frame : List ℕ) (l : Lent) (done : answerNumber (replyCal
       let fits =
       and-intro (answers-true _ c r x (ap transaction e ∙ y .0) (ap segment e ∙ y .1 ∙ s))
       (subst (λ (z : ℕ). fitsSegment z (c .segments) (length d) r ≡ true) s whole) in
-      by-advanced (λ (q : Past). InTurn q Download (stepBehind Download j (c .segments)) (j + 1) (c .exchange + 1))
-      (download-decision c r (length d) (fits-answer c r x refl (λ z. omega arith)) (i .direction) step.Segment (i .step)
+      by-advanced (λ (q : Past). InTurn q Download (stepAfter Download j (c .segments)) (j + 1) (c .exchange + 1))
+      (download-decision c r (length d) (fits-answer c r x refl (λ z. omega arith)) (i .direction) step.Segment
+      (i .step)
       ∙ to-brought c r (length d) fits)
       (next-in-turn c Download j d _ _ l p (i .running) (i .direction) (i .segment) (i .repeats))
 
   -- the receipt's answer: fetched
   pub download-fetches : (j x : ℕ) → InTurn p Download step.Receipt j x
-      → r ≡ receiptAnswered (c .exchange) (c .transaction) code.DownloadPostprocessDone → then .run .stage ≡ stage.Ended Fetched
+      → r ≡ receiptAnswered (c .exchange) (c .transaction) code.DownloadPostprocessDone
+      → then .run .stage ≡ stage.Ended word.Fetched
   unfolding confirms
   download-fetches j number i e =
       let x = subst (Fits _ _ _ _) (sym e) (receipt-fits (c .exchange) 0 0 0 (c .transaction)) in
-      by-closed Fetched
-      (download-decision c r (length d) (fits-answer c r x refl (λ z. omega arith)) (i .direction) step.Receipt (i .step)
+      by-closed word.Fetched
+      (download-decision c r (length d) (fits-answer c r x refl (λ z. omega arith)) (i .direction) step.Receipt
+      (i .step)
       ∙ to-fetched c r (length d)
-      (and-intro (fits-says c r x) (own-true c r (ap transaction e ∙ receipt-fields (c .exchange) 0 0 0 (c .transaction)))))
+      (and-intro (fits-says c r x)
+      (own-true c r (ap transaction e ∙ receipt-fields (c .exchange) 0 0 0 (c .transaction)))))
 
   -- ---- A REPLY TO AN EARLIER REQUEST
 
@@ -328,31 +353,39 @@ module _ (p : Past) (frame : List ℕ) (l : Lent) (done : answerNumber (replyCal
   unfolding onReply
   ignored-stays k h =
       by-decision (λ (q : Past). q ≡ p) p frame l Ignore (rw h)
-      (λ z. let y = k .payload in let f = k .file in λ i. record { run = c; payload = y i; file = f i; issues = p .issues }) done
+      (λ z. let y = k .payload in let f = k .file in
+      λ i. record { run = c; payload = y i; file = f i; issues = p .issues }) done
 
 -- ---- AN OPENING REFUSED
 
 -- a reply to the opening with another code than 000000 is ignored or ends the run
-at-opening : (P : Decision → Type 0) (c : Client) (r : Fields) (n : ℕ) → c .step ≡ step.Opening → (returnCode r ≡ codeField code.Ok → ⊥)
+at-opening : (P : Decision → Type 0) (c : Client) (r : Fields) (n : ℕ) → c .step ≡ step.Opening
+    → (returnCode r ≡ codeField code.Ok → ⊥)
     → P Ignore → P (Close (restWord c)) → P (onReply c r n)
 unfolding onReply onUpload onDownload
 at-opening P c r n at other ignored closed = by-test P (isAnswer c r) (λ _. by (c .direction)) (λ _. ignored)
   where
     by : (w : Direction) → P (onAnswer w c r n)
     by Upload = subst (λ (s : Step). P (onUpload s c r)) (sym at)
-        (by-test P (says forms.UploadOpened code.Ok initialisationPhase r) (λ h. absurd (other (said _ _ _ r h .code-is))) (λ _. closed))
+        (by-test P (says forms.UploadOpened code.Ok initialisationPhase r)
+        (λ h. absurd (other (said _ _ _ r h .code-is))) (λ _. closed))
     by Download = subst (λ (s : Step). P (onDownload s c r n)) (sym at)
         (by-test P (opensDownload n r) (λ h. absurd (other (opened-says n r h .code-is))) (λ _. closed))
 
 -- so it issues nothing
 pub opening-refused : (p : Past) (frame : List ℕ) (l : Lent) → answerNumber (replyCall (p .run) frame l .answer) ≡ 0
-    → isBegun (p .run .stage) ≡ true → p .run .step ≡ step.Opening → (returnCode (readReply frame) ≡ codeField code.Ok → ⊥)
+    → isBegun (p .run .stage) ≡ true → p .run .step ≡ step.Opening
+    → (returnCode (readReply frame) ≡ codeField code.Ok → ⊥)
     → let q = after (Reply frame l) p in
-    (q .issues ≡ p .issues) × (q .run .step ≡ step.Opening) × (q .run .exchange ≡ p .run .exchange) × (isBegun (q .run .stage) ≡ true)
+    (q .issues ≡ p .issues) × (q .run .step ≡ step.Opening) × (q .run .exchange ≡ p .run .exchange)
+    × (isBegun (q .run .stage) ≡ true)
 unfolding ended
 opening-refused p frame l done b at other =
-    at-opening (λ (x : Decision). onReply (p .run) (readReply frame) (length (dataOf frame)) ≡ x → Goal (after (Reply frame l) p)) (p .run)
-    (readReply frame) (length (dataOf frame)) at other (λ e. by-decision Goal p frame l Ignore e (λ h. (refl, at, refl, b)) done)
+    at-opening
+    (λ (x : Decision). onReply (p .run) (readReply frame) (length (dataOf frame)) ≡ x → Goal (after (Reply frame l) p))
+    (p .run)
+    (readReply frame) (length (dataOf frame)) at other
+    (λ e. by-decision Goal p frame l Ignore e (λ h. (refl, at, refl, b)) done)
     (λ e. by-decision Goal p frame l (Close (restWord (p .run))) e (λ h. (refl, at, refl, refl)) done) refl
   where
     Goal : Past → Type 0
@@ -362,28 +395,43 @@ opening-refused p frame l done b at other =
 -- ---- THE BEGIN
 
 -- a begin leaves the opening outstanding under the first exchange number
-pub begins : (p : Past) (direction : Direction) (s first : ℕ) (l : Lent) → answerNumber (beginCall (p .run) direction s first l .answer) ≡ 0
-    → let q = after (Begin direction s first l) p in
-    InTurn q direction step.Opening 0 first × (q .run .subscriber ≡ s) × (q .payload ≡ l .payload)
+pub begins : (p : Past) (params : RunParameters) (l : Lent) → answerNumber (beginCall (p .run) params l .answer) ≡ 0
+    → let q = after (Begin params l) p in
+    InTurn q (params .direction) step.Opening 0 (params .first) × (q .run .subscriber ≡ params .subscriber)
+    × (q .payload ≡ l .payload)
 unfolding after beginCall begun
-begins p direction s first l = go (beginRuling (p .run) direction s first (lengthsOf l))
+begins p params l = go (beginRuling (p .run) params (lengthsOf l))
   where
     Goal : Past → Type 0
-    Goal q = InTurn q direction step.Opening 0 first × (q .run .subscriber ≡ s) × (q .payload ≡ l .payload)
+    Goal q =
+        InTurn q (params .direction) step.Opening 0 (params .first) × (q .run .subscriber ≡ params .subscriber)
+        × (q .payload ≡ l .payload)
 
-    go : (u : Ruling) → let k = beginBy u (p .run) direction s first l in answerNumber (k .answer) ≡ 0 → Goal (left (k .answer) k l p)
+    go : (u : Ruling) → let k = ifAdmitted u (p .run) l (admittedBegin (p .run) params l) in
+        answerNumber (k .answer) ≡ 0 → Goal (left (k .answer) k l p)
     go (Refuse x) = numbered x
     go Accept =
-        by-issued Goal (p .run) _ (l .file) l p
-        (record { running = refl; direction = refl; step = refl; segment = refl; repeats = refl; number = refl }, refl, refl)
+        by-issued Goal (p .run) _ (l .file) l p (
+          record {
+            running = refl;
+            direction = refl;
+            step = refl;
+            segment = refl;
+            repeats = refl;
+            number = refl;
+          },
+          refl,
+          refl,
+        )
 
 -- a run already begun is not begun again
-pub begin-fresh : (c : Client) (direction : Direction) (s first : ℕ) (l : Lent) → answerNumber (beginCall c direction s first l .answer) ≡ 0
+pub begin-fresh : (c : Client) (params : RunParameters) (l : Lent) → answerNumber (beginCall c params l .answer) ≡ 0
     → isBegun (c .stage) ≡ false
 unfolding beginCall
-begin-fresh c direction s first l = go (beginRuling c direction s first (lengthsOf l)) refl
+begin-fresh c params l = go (beginRuling c params (lengthsOf l)) refl
   where
-    go : (u : Ruling) → beginRuling c direction s first (lengthsOf l) ≡ u → answerNumber (beginBy u c direction s first l .answer) ≡ 0
+    go : (u : Ruling) → beginRuling c params (lengthsOf l) ≡ u
+        → answerNumber (ifAdmitted u c l (admittedBegin c params l) .answer) ≡ 0
         → isBegun (c .stage) ≡ false
     go (Refuse x) e h = numbered x h
-    go Accept e h = rulings.begins c direction s first (lengthsOf l) e .fresh
+    go Accept e h = rulings.begins c params (lengthsOf l) e .fresh

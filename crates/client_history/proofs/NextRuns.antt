@@ -1,10 +1,11 @@
 -- Laws of the next run. Assumes nothing.
 use Prim.Native.Nat.{ℕ, _-_, _*_}
 use mathlib.Core.Bool.{Bool, true, false, cond}
-use mathlib.Core.List.{List, []}
-use mathlib.Core.Path.{_≡_, refl, sym, ap, subst}
+use mathlib.Core.List.{List}
+use mathlib.Core.Path.{_≡_, refl, sym, ap, subst, _∙_}
 use lib.ListN.{length}
 use Rattle.frame_table.specs.declared.fields.Fields.{Fields}
+use Rattle.frame_table.specs.Names.{transaction}
 use Rattle.octets.specs.Bytes.{overwrite}
 use Rattle.message.specs.Limits.{segmentBytes}
 use Rattle.client.specs.declared.run.Client.{Client}
@@ -34,13 +35,16 @@ module _ (c : Client) (d file : List ℕ) where
 
   -- it is newly held, or was held already
   pub by-new : (P : Client → List ℕ → Type 0) (b : Bool) → isNew (c .direction) c ≡ b
-      → (b ≡ true → P (grown (length d) c) (overwrite file ((c .segment - 1) * segmentBytes) d)) → (b ≡ false → P c file) → Held P
+      → (b ≡ true → P (grown (length d) c) (overwrite file ((c .segment - 1) * segmentBytes) d))
+      → (b ≡ false → P c file) → Held P
   unfolding holding fileWith
   by-new P true e f g =
-      subst (λ (b : Bool). P (cond b (grown (length d) c) c) (cond b (overwrite file ((c .segment - 1) * segmentBytes) d) file)) (sym e)
+      subst (λ (b : Bool). P (cond b (grown (length d) c) c)
+      (cond b (overwrite file ((c .segment - 1) * segmentBytes) d) file)) (sym e)
       (f refl)
   by-new P false e f g =
-      subst (λ (b : Bool). P (cond b (grown (length d) c) c) (cond b (overwrite file ((c .segment - 1) * segmentBytes) d) file)) (sym e)
+      subst (λ (b : Bool). P (cond b (grown (length d) c) c)
+      (cond b (overwrite file ((c .segment - 1) * segmentBytes) d) file)) (sym e)
       (g refl)
 
 -- ---- what the run n has of the run c before
@@ -67,19 +71,36 @@ known c = record { transaction = refl; number = refl; segments = refl; segment =
 
 pub learned-same : (w : Direction) (r : Fields) (c : Client) → Same (learned w r c) c
 learned-same Upload r c = record { stage = refl; direction = refl; subscriber = refl; exchange = refl; repeats = refl }
-learned-same Download r c = record { stage = refl; direction = refl; subscriber = refl; exchange = refl; repeats = refl }
+learned-same Download r c =
+    record { stage = refl; direction = refl; subscriber = refl; exchange = refl; repeats = refl }
 
-pub held-same : (d file : List ℕ) (c : Client) → Same (holding (length d) c) c × Known (holding (length d) c) c
-held-same d file c =
-    by-new c d file (λ (n : Client) (g : List ℕ). Same n c × Known n c) (isNew (c .direction) c) refl
-    (λ e. (
-      record { stage = refl; direction = refl; subscriber = refl; exchange = refl; repeats = refl },
-      record { transaction = refl; number = refl; segments = refl; segment = refl },
-    ))
-    (λ e. (same c, known c))
+pub learned-transaction : (w : Direction) (r : Fields) (c : Client) → learned w r c .transaction ≡ transaction r
+learned-transaction Upload r c = refl
+learned-transaction Download r c = refl
 
--- a download's opening answered, with segment 1
-pub opened-same : (d : List ℕ) (r : Fields) (c : Client) → Same (holding (length d) (learned Download r c)) c
-opened-same d r c =
-    let h = held-same d [] (learned Download r c) .0 in
-    record { stage = h .stage; direction = h .direction; subscriber = h .subscriber; exchange = h .exchange; repeats = h .repeats }
+pub learned-length : (w : Direction) (r : Fields) (c : Client) → learned w r c .length ≡ c .length
+learned-length Upload r c = refl
+learned-length Download r c = refl
+
+held-at : (d : ℕ) (c : Client) (b : Bool) → isNew (c .direction) c ≡ b → Same (holding d c) c × Known (holding d c) c
+unfolding holding
+held-at d c true e = rw e (
+  record { stage = refl; direction = refl; subscriber = refl; exchange = refl; repeats = refl },
+  record { transaction = refl; number = refl; segments = refl; segment = refl },
+)
+held-at d c false e = rw e (same c, known c)
+
+pub held-same : (d : ℕ) (c : Client) → Same (holding d c) c × Known (holding d c) c
+held-same d c = held-at d c (isNew (c .direction) c) refl
+
+-- an opening answered
+pub opened-same : (w : Direction) (d : ℕ) (r : Fields) (c : Client) → Same (holding d (learned w r c)) c
+opened-same w d r c =
+    let h = held-same d (learned w r c) .0 in
+    let l = learned-same w r c in record {
+      stage = h .stage ∙ l .stage;
+      direction = h .direction ∙ l .direction;
+      subscriber = h .subscriber ∙ l .subscriber;
+      exchange = h .exchange ∙ l .exchange;
+      repeats = h .repeats ∙ l .repeats;
+    }

@@ -13,19 +13,31 @@ use Rattle.client.specs.declared.run.Direction.{Direction}
 use Rattle.client.specs.declared.run.Direction.the-variants.{Upload, Download}
 use Rattle.client.specs.declared.run.Step.{Step}
 use Rattle.client.specs.declared.run.Step.the-variants as step
-use Rattle.client.specs.Requests.{nonceOf, uploadRequest, downloadRequest, requestBy, uploadData, dataBy, outstanding, outstandingData}
+use Rattle.client.specs.Requests.{
+  nonceOf,
+  uploadRequest,
+  downloadRequest,
+  requestBy,
+  uploadData,
+  dataBy,
+  outstanding,
+  outstandingData,
+}
 
 -- ---- the fields of the request forms
 
-pub form-uploadOpening : (s x : ℕ) (nonce : Bits128) (time n : ℕ) → form (uploadOpening s x nonce time n) ≡ forms.UploadOpening
+pub form-uploadOpening : (s x : ℕ) (nonce : Bits128) (time n : ℕ)
+    → form (uploadOpening s x nonce time n) ≡ forms.UploadOpening
 unfolding uploadOpening formOf findForm rowFits
 form-uploadOpening s x nonce time n = refl
 
-pub form-downloadOpening : (s x : ℕ) (nonce : Bits128) (time : ℕ) → form (downloadOpening s x nonce time) ≡ forms.DownloadOpening
+pub form-downloadOpening : (s x : ℕ) (nonce : Bits128) (time : ℕ)
+    → form (downloadOpening s x nonce time) ≡ forms.DownloadOpening
 unfolding downloadOpening formOf findForm rowFits
 form-downloadOpening s x nonce time = refl
 
-pub form-uploadTransfer : (s x : ℕ) (t : Bits128) (j mark : ℕ) → form (uploadTransfer s x t j mark) ≡ forms.UploadTransfer
+pub form-uploadTransfer : (s x : ℕ) (t : Bits128) (j mark : ℕ)
+    → form (uploadTransfer s x t j mark) ≡ forms.UploadTransfer
 unfolding uploadTransfer formOf findForm rowFits
 form-uploadTransfer s x t j mark = refl
 
@@ -62,11 +74,13 @@ module _ (c : Client) (time : ℕ) (nonce payload : List ℕ) where
     data-upload = ap (λ (w : Direction). dataBy w c payload) up
 
     pub is-uploadOpening : c .step ≡ step.Opening
-        → outstanding c time nonce ≡ uploadOpening (c .subscriber) (c .exchange) (nonceOf nonce (c .exchange)) time (c .segments)
+        → outstanding c time nonce
+        ≡ uploadOpening (c .subscriber) (c .exchange) (nonceOf nonce (c .exchange)) time (c .segments)
     is-uploadOpening at = by-upload ∙ ap (λ (s : Step). uploadRequest s c time nonce) at
 
     pub is-uploadTransfer : c .step ≡ step.Segment → outstanding c time nonce
-        ≡ uploadTransfer (c .subscriber) (c .exchange) (c .transaction) (c .segment) (lastMarkOf (c .segment) (c .segments))
+        ≡ uploadTransfer (c .subscriber) (c .exchange) (c .transaction) (c .segment)
+        (lastMarkOf (c .segment) (c .segments))
     is-uploadTransfer at = by-upload ∙ ap (λ (s : Step). uploadRequest s c time nonce) at
 
     pub data-opening : c .step ≡ step.Opening → outstandingData c payload ≡ []
@@ -88,7 +102,8 @@ module _ (c : Client) (time : ℕ) (nonce payload : List ℕ) where
         → outstanding c time nonce ≡ downloadTransfer (c .subscriber) (c .exchange) (c .transaction) (c .segment)
     is-downloadTransfer at = by-download ∙ ap (λ (s : Step). downloadRequest s c time nonce) at
 
-    pub is-receipt : c .step ≡ step.Receipt → outstanding c time nonce ≡ receipt (c .subscriber) (c .exchange) (c .transaction) 0
+    pub is-receipt : c .step ≡ step.Receipt
+        → outstanding c time nonce ≡ receipt (c .subscriber) (c .exchange) (c .transaction) 0
     is-receipt at = by-download ∙ ap (λ (s : Step). downloadRequest s c time nonce) at
 
     pub data-download : outstandingData c payload ≡ []

@@ -1,6 +1,6 @@
 -- The main results, for the crates above: what holds of a client run after every list of fair events.
 use Prim.Native.Nat.{ℕ, _+_, _<_, _≤_}
-use mathlib.Core.Bool.{Bool, true}
+use mathlib.Core.Bool.{Bool, true, false}
 use mathlib.Core.List.{List, List·Memᴰ as In, List·Memᴰ·not-nil as in-none}
 use mathlib.Core.Logic.{_⊎_, inl, inr}
 use mathlib.Core.Path.{_≡_, sym, ap, _∙_, subst}
@@ -16,19 +16,32 @@ use Rattle.frame.specs.Row.{dataOf}
 use Rattle.octets.proofs.Tests.{never}
 use Rattle.message.specs.Limits.{maxSegments}
 use Rattle.message.specs.Segments.{segmentsOf}
+use Rattle.client.specs.declared.run.Client.{Client}
 use Rattle.client.specs.declared.run.Direction.the-variants.{Upload, Download}
 use Rattle.client.specs.declared.run.Stage.{Stage}
 use Rattle.client.specs.declared.run.Stage.the-variants as stage
 use Rattle.client.specs.declared.run.Step.{Step}
 use Rattle.client.specs.declared.run.Step.the-variants as step
 use Rattle.client.specs.declared.run.Word.{Word}
-use Rattle.client.specs.declared.run.Word.the-variants.{Lodged, NotLodged, Fetched}
+use Rattle.client.specs.declared.run.Word.the-variants as word
 use Rattle.client.specs.Decisions.{isAnswer}
 use Rattle.client.specs.Rulings.{isBegun}
 use Rattle.client.proofs.Apart.{not-both}
-use Rattle.client_history.specs.History.{Issue, Event, Past, heldOf, after, pastOf, BankReplies, GivenTo, Fair, AllFair}
+use Rattle.client.specs.Run.{notBegun}
+use Rattle.client_history.specs.History.{
+  Issue,
+  Event,
+  Past,
+  heldOf,
+  after,
+  pastOf,
+  BankReplies,
+  GivenTo,
+  Fair,
+  AllFair,
+}
+use Rattle.client_history.specs.Bounds.{Numbered, UploadCourse}
 use Rattle.client_history.specs.Invariant.{
-  Numbered,
   Newest,
   Begun,
   isOpen,
@@ -61,12 +74,14 @@ use Rattle.client_history.specs.Invariant.{
   upload,
   download,
 }
+use Rattle.client_history.proofs.Course.{upload-course, up-segments}
 use Rattle.client_history.proofs.Downloads.{whole-file}
 use Rattle.client_history.proofs.Issues
 use Rattle.client_history.proofs.Keeps
 -- the invariant as more replies are given
 pub use Rattle.client_history.proofs.Lifting.{lifted}
--- 5. an order in turn: begin, the opening's answer, each segment's, the last one's, the receipt's; and a reply that is ignored
+-- 5. an order in turn: begin, the opening's answer, each segment's, the last one's, the receipt's; and a reply that is
+-- ignored
 pub use Rattle.client_history.proofs.Liveness.{
   begins,
   upload-opens,
@@ -94,13 +109,18 @@ use Rattle.client_history.proofs.Stays
 other-form : {A : Type 0} {f x y : Form} → f ≡ x → f ≡ y → (x ≡ y → _≡_ {A = ℕ} 0 1) → A
 other-form a b f = absurd (let z = f (sym a ∙ b) in omega arith)
 
+-- a run not begun
+new-begun : {c : Client} → c ≡ notBegun → isBegun (c .stage) ≡ false
+new-begun e = ap (λ (c : Client). isBegun (c .stage)) e
+
 upload-form : {s n top : ℕ} {t : Bits128} {y : List ℕ} {x : Issue} → UploadIssue s n t top y x
     → (form (x .request) ≡ forms.UploadOpening) ⊎ (form (x .request) ≡ forms.UploadTransfer)
 upload-form (uploadOpens number time nonce q d) = inl (ap form q ∙ form-uploadOpening _ _ _ _ _)
 upload-form (sends number j a c q d) = inr (ap form q ∙ form-uploadTransfer _ _ _ _ _)
 
 download-form : {s n held : ℕ} {t : Bits128} {b : Bool} {f : List ℕ} {x : Issue} → DownloadIssue s n t held b f x
-    → (form (x .request) ≡ forms.DownloadOpening) ⊎ ((form (x .request) ≡ forms.DownloadTransfer) ⊎ (form (x .request) ≡ forms.Receipt))
+    → (form (x .request) ≡ forms.DownloadOpening)
+    ⊎ ((form (x .request) ≡ forms.DownloadTransfer) ⊎ (form (x .request) ≡ forms.Receipt))
 download-form (downloadOpens number time nonce q d) = inl (ap form q ∙ form-downloadOpening _ _ _ _)
 download-form (asks number j a b c e q d) = inr (inl (ap form q ∙ form-downloadTransfer _ _ _ _))
 download-form (confirms number a b c e q d) = inr (inr (ap form q ∙ form-receipt _ _ _ _))
@@ -110,7 +130,8 @@ not-upload : {A : Type 0} {f x : Form} → (f ≡ forms.UploadOpening) ⊎ (f �
 not-upload (inl a) e g h = other-form e a g
 not-upload (inr a) e g h = other-form e a h
 
-not-download : {A : Type 0} {f x : Form} → (f ≡ forms.DownloadOpening) ⊎ ((f ≡ forms.DownloadTransfer) ⊎ (f ≡ forms.Receipt)) → f ≡ x
+not-download : {A : Type 0} {f x : Form}
+    → (f ≡ forms.DownloadOpening) ⊎ ((f ≡ forms.DownloadTransfer) ⊎ (f ≡ forms.Receipt)) → f ≡ x
     → (x ≡ forms.DownloadOpening → _≡_ {A = ℕ} 0 1) → (x ≡ forms.DownloadTransfer → _≡_ {A = ℕ} 0 1)
     → (x ≡ forms.Receipt → _≡_ {A = ℕ} 0 1) → A
 not-download (inl a) e g h k = other-form e a g
@@ -121,7 +142,8 @@ not-download (inr (inr a)) e g h k = other-form e a k
 sent-number : {p : Past} {x : Issue} (s : SegmentSent p x) → segment (x .request) ≡ s .j
 sent-number s = ap segment (s .request) ∙ segment-uploadTransfer _ _ _ _ _
 
-module _ (Given : Fields → List ℕ → Fields → List ℕ → Type 0) (fileAt : Bits128 → List ℕ) (bank : BankReplies Given fileAt) where
+module _ (Given : Fields → List ℕ → Fields → List ℕ → Type 0) (fileAt : Bits128 → List ℕ)
+    (bank : BankReplies Given fileAt) where
   -- ---- THE INVARIANT: of every list of fair events, and from event to event
 
   pub invariant : (es : List Event) → AllFair Given es → Invariant Given fileAt (pastOf es)
@@ -145,21 +167,32 @@ module _ (Given : Fields → List ℕ → Fields → List ℕ → Type 0) (fileA
     begun-of b = go i
       where
         go : Invariant Given fileAt p → Begun p
-        go (not-begun e f) = never (sym (ap isBegun e) ∙ b)
+        go (not-begun e f) = never (sym (new-begun e) ∙ b)
         go (upload g u) = g
         go (download g u) = g
 
-    -- exchange numbers: first, first + 1, ... up to the outstanding one, each once
-    pub exchange-numbers : isBegun (p .run .stage) ≡ true → (first : ℕ) × Numbered first (p .run .exchange + 1) (p .issues)
-    exchange-numbers b = let g = begun-of b in (g .first, g .numbers)
+    -- a run that issued something has begun
+    pub issued-begun : (x : Issue) → In x (p .issues) → isBegun (p .run .stage) ≡ true
+    issued-begun x m = go i
+      where
+        go : Invariant Given fileAt p → isBegun (p .run .stage) ≡ true
+        go (not-begun e f) = absurd (in-none (subst (In x) f m))
+        go (upload g u) = g .bounded .stage
+        go (download g u) = g .bounded .stage
 
-    pub one-number : (x y : Issue) → In x (p .issues) → In y (p .issues) → exchange (x .request) ≡ exchange (y .request) → x ≡ y
+    -- exchange numbers: first, first + 1, ... up to the outstanding one, each once
+    pub exchange-numbers : isBegun (p .run .stage) ≡ true
+        → (first : ℕ) × Numbered first (p .run .exchange + 1) (p .issues)
+    exchange-numbers b = let g = begun-of b .bounded in (g .first, g .numbers)
+
+    pub one-number : (x y : Issue) → In x (p .issues) → In y (p .issues) → exchange (x .request) ≡ exchange (y .request)
+        → x ≡ y
     one-number x y m n e = go i
       where
         go : Invariant Given fileAt p → x ≡ y
         go (not-begun f g) = absurd (in-none (subst (In x) g m))
-        go (upload g u) = Issues.one-number (g .numbers) m n e
-        go (download g u) = Issues.one-number (g .numbers) m n e
+        go (upload g u) = Issues.one-number (g .bounded .numbers) m n e
+        go (download g u) = Issues.one-number (g .bounded .numbers) m n e
 
     -- all are under the run's subscriber
     pub one-subscriber : (x : Issue) → In x (p .issues) → subscriber (x .request) ≡ p .run .subscriber
@@ -167,8 +200,8 @@ module _ (Given : Fields → List ℕ → Fields → List ℕ → Type 0) (fileA
       where
         go : Invariant Given fileAt p → subscriber (x .request) ≡ p .run .subscriber
         go (not-begun e f) = absurd (in-none (subst (In x) f m))
-        go (upload g u) = g .own x m
-        go (download g u) = g .own x m
+        go (upload g u) = g .bounded .own x m
+        go (download g u) = g .bounded .own x m
 
     -- the newest issue is the outstanding request
     pub newest-outstanding : isBegun (p .run .stage) ≡ true → Newest p
@@ -189,14 +222,17 @@ module _ (Given : Fields → List ℕ → Fields → List ℕ → Type 0) (fileA
       upload-run = go i
         where
           go : Invariant Given fileAt p → UploadRun Given (p .run) (p .payload) (p .issues)
-          go (not-begun e f) = never (sym (ap isBegun e) ∙ b)
+          go (not-begun e f) = never (sym (new-begun e) ∙ b)
           go (upload g u) = u
           go (download g u) = not-both w (u .direction)
 
       -- "It cuts the payload at 256 bytes": 1 to 15 segments
       pub upload-segments : (p .run .segments ≡ segmentsOf (length (p .payload)))
           × (1 ≤ p .run .segments) × (p .run .segments ≤ maxSegments)
-      upload-segments = let u = upload-run in (u .number, u .some, u .most)
+      upload-segments =
+          let u = upload-course (begun-of b .bounded .course) w in
+          let n = up-segments (p .run) (length (p .issues)) u in
+          (u .count ∙ ap segmentsOf (upload-run .size), n .0, n .1)
 
       -- an upload run issues openings and transfers only
       pub upload-forms : (x : Issue) → In x (p .issues)
@@ -208,24 +244,25 @@ module _ (Given : Fields → List ℕ → Fields → List ℕ → Type 0) (fileA
       pub segment-sent : form (x .request) ≡ forms.UploadTransfer → SegmentSent p x
       segment-sent e = go i
         where
-          sent : UploadRun Given (p .run) (p .payload) (p .issues)
-              → UploadIssue (p .run .subscriber) (p .run .segments) (p .run .transaction) (p .run .issued) (p .payload) x
+          sent : UploadCourse (p .run) (length (p .issues))
+              → UploadIssue (p .run .subscriber) (p .run .segments) (p .run .transaction) (p .run .issued) (p .payload)
+              x
               → SegmentSent p x
-          sent u (uploadOpens number time nonce q d) = other-form e (ap form q ∙ form-uploadOpening _ _ _ _ _) (λ z. cc)
-          sent u (sends number j a c q d) = record {
-            upload-run = u .direction;
+          sent k (uploadOpens number time nonce q d) = other-form e (ap form q ∙ form-uploadOpening _ _ _ _ _) (λ z. cc)
+          sent k (sends number j a c q d) = record {
+            upload-run = k .direction;
             number = number;
             j = j;
             least = a;
             issued = c;
-            most = let t = u .top in omega arith;
+            most = let t = k .within in omega arith;
             request = q;
             bytes = d;
           }
 
           go : Invariant Given fileAt p → SegmentSent p x
           go (not-begun f g) = absurd (in-none (subst (In x) g m))
-          go (upload g u) = sent u (u .each x m)
+          go (upload g u) = sent (upload-course (g .bounded .course) (u .direction)) (u .each x m)
           go (download g u) = not-download (download-form (u .each x m)) e (λ z. cc) (λ z. cc) (λ z. cc)
 
       -- "segment N never issued"
@@ -253,24 +290,28 @@ module _ (Given : Fields → List ℕ → Fields → List ℕ → Type 0) (fileA
     -- ---- 3. AN UPLOAD'S END
 
     -- "lodged (segment N answered 000000)"
-    pub lodged : p .run .stage ≡ stage.Ended Lodged → (p .run .direction ≡ Upload) × LastTaken Given (p .run) (p .issues)
+    pub lodged : p .run .stage ≡ stage.Ended word.Lodged
+        → (p .run .direction ≡ Upload) × LastTaken Given (p .run) (p .issues)
     lodged e = go i
       where
         go : Invariant Given fileAt p → (p .run .direction ≡ Upload) × LastTaken Given (p .run) (p .issues)
-        go (not-begun f g) = never (sym (ap isBegun f) ∙ ap isBegun e)
+        go (not-begun f g) = never (sym (new-begun f) ∙ ap isBegun e)
         go (upload g u) = (u .direction, subst (λ (s : Stage). UploadStage Given s (p .run) (p .issues)) e (u .stage))
-        go (download g u) = absurd (subst (λ (s : Stage). DownloadStage Given fileAt s (p .run) (p .file) (p .issues)) e (u .stage))
+        go (download g u) =
+            absurd (subst (λ (s : Stage). DownloadStage Given fileAt s (p .run) (p .file) (p .issues)) e (u .stage))
 
     -- "not lodged (segment N never issued, or ended by a reply 01 03 0D of phase 2 with 091102, 091104 or 011101)"
-    pub not-lodged : p .run .stage ≡ stage.Ended NotLodged
+    pub not-lodged : p .run .stage ≡ stage.Ended word.NotLodged
         → (p .run .direction ≡ Upload) × ((p .run .issued < p .run .segments) ⊎ Cancelled Given (p .run) (p .issues))
     not-lodged e = go i
       where
         go : Invariant Given fileAt p
-            → (p .run .direction ≡ Upload) × ((p .run .issued < p .run .segments) ⊎ Cancelled Given (p .run) (p .issues))
-        go (not-begun f g) = never (sym (ap isBegun f) ∙ ap isBegun e)
+            → (p .run .direction ≡ Upload)
+            × ((p .run .issued < p .run .segments) ⊎ Cancelled Given (p .run) (p .issues))
+        go (not-begun f g) = never (sym (new-begun f) ∙ ap isBegun e)
         go (upload g u) = (u .direction, subst (λ (s : Stage). UploadStage Given s (p .run) (p .issues)) e (u .stage))
-        go (download g u) = absurd (subst (λ (s : Stage). DownloadStage Given fileAt s (p .run) (p .file) (p .issues)) e (u .stage))
+        go (download g u) =
+            absurd (subst (λ (s : Stage). DownloadStage Given fileAt s (p .run) (p .file) (p .issues)) e (u .stage))
 
     -- ---- 4. DOWNLOAD
 
@@ -280,7 +321,7 @@ module _ (Given : Fields → List ℕ → Fields → List ℕ → Type 0) (fileA
       download-run = go i
         where
           go : Invariant Given fileAt p → DownloadRun Given fileAt (p .run) (p .file) (p .issues)
-          go (not-begun e f) = never (sym (ap isBegun e) ∙ b)
+          go (not-begun e f) = never (sym (new-begun e) ∙ b)
           go (upload g u) = not-both (u .direction) w
           go (download g u) = u
 
@@ -315,9 +356,11 @@ module _ (Given : Fields → List ℕ → Fields → List ℕ → Type 0) (fileA
       segment-asked e = go i
         where
           asked : p .run .direction ≡ Download
-              → DownloadIssue (p .run .subscriber) (p .run .segments) (p .run .transaction) (p .run .held) (p .run .receipted)
+              → DownloadIssue (p .run .subscriber) (p .run .segments) (p .run .transaction) (p .run .held)
+              (p .run .receipted)
               (fileAt (p .run .transaction)) x → SegmentAsked p x
-          asked w (downloadOpens number time nonce q d) = other-form e (ap form q ∙ form-downloadOpening _ _ _ _) (λ z. cc)
+          asked w (downloadOpens number time nonce q d) =
+              other-form e (ap form q ∙ form-downloadOpening _ _ _ _) (λ z. cc)
           asked w (asks number j a b c f q d) =
               record { download-run = w; number = number; j = j; least = a; next = b; most = c; request = q }
           asked w (confirms number a b c f q d) = other-form e (ap form q ∙ form-receipt _ _ _ _) (λ z. cc)
@@ -332,9 +375,11 @@ module _ (Given : Fields → List ℕ → Fields → List ℕ → Type 0) (fileA
       receipt-issued e = go i
         where
           issued : p .run .direction ≡ Download
-              → DownloadIssue (p .run .subscriber) (p .run .segments) (p .run .transaction) (p .run .held) (p .run .receipted)
+              → DownloadIssue (p .run .subscriber) (p .run .segments) (p .run .transaction) (p .run .held)
+              (p .run .receipted)
               (fileAt (p .run .transaction)) x → ReceiptIssued p (fileAt (p .run .transaction)) x
-          issued w (downloadOpens number time nonce q d) = other-form e (ap form q ∙ form-downloadOpening _ _ _ _) (λ z. cc)
+          issued w (downloadOpens number time nonce q d) =
+              other-form e (ap form q ∙ form-downloadOpening _ _ _ _) (λ z. cc)
           issued w (asks number j a b c f q d) = other-form e (ap form q ∙ form-downloadTransfer _ _ _ _) (λ z. cc)
           issued w (confirms number a b c f q d) =
               record { download-run = w; number = number; whole = a; receipted = c; file = f; request = q }
@@ -345,16 +390,21 @@ module _ (Given : Fields → List ℕ → Fields → List ℕ → Type 0) (fileA
           go (download g u) = issued (u .direction) (u .each x m)
 
     -- "fetched (011000)"
-    pub fetched : p .run .stage ≡ stage.Ended Fetched
+    pub fetched : p .run .stage ≡ stage.Ended word.Fetched
         → (p .run .direction ≡ Download) × Confirmed Given fileAt (p .run) (p .file) (p .issues)
     fetched e = go i
       where
-        go : Invariant Given fileAt p → (p .run .direction ≡ Download) × Confirmed Given fileAt (p .run) (p .file) (p .issues)
-        go (not-begun f g) = never (sym (ap isBegun f) ∙ ap isBegun e)
+        go : Invariant Given fileAt p
+            → (p .run .direction ≡ Download) × Confirmed Given fileAt (p .run) (p .file) (p .issues)
+        go (not-begun f g) = never (sym (new-begun f) ∙ ap isBegun e)
         go (upload g u) = absurd (subst (λ (s : Stage). UploadStage Given s (p .run) (p .issues)) e (u .stage))
-        go (download g u) =
-            (u .direction, subst (λ (s : Stage). DownloadStage Given fileAt s (p .run) (p .file) (p .issues)) e (u .stage))
+        go (download g u) = (
+          u .direction,
+          subst (λ (s : Stage). DownloadStage Given fileAt s (p .run) (p .file) (p .issues)) e
+              (u .stage),
+        )
 
     -- a fetched file is the mailbox's file at its transaction's opening
-    pub fetched-file : p .run .stage ≡ stage.Ended Fetched → heldOf (p .run) (p .file) ≡ fileAt (p .run .transaction)
+    pub fetched-file : p .run .stage ≡ stage.Ended word.Fetched
+        → heldOf (p .run) (p .file) ≡ fileAt (p .run .transaction)
     fetched-file e = let k = fetched e .1 in whole-file Given (k .held) (k .whole)

@@ -1,7 +1,15 @@
 -- What an upload run keeps.
-use Prim.Native.Nat.{ℕ, _+_, _<_, _≤_, max}
+use Prim.Native.Nat.{ℕ, _+_, _≤_, max}
 use mathlib.Core.Bool.{true}
-use mathlib.Core.List.{List, [], _∷_, List·Memᴰ as In, List·Memᴰ·head as here, List·Memᴰ·tail as there, List·Memᴰ·not-nil as in-none}
+use mathlib.Core.List.{
+  List,
+  [],
+  _∷_,
+  List·Memᴰ as In,
+  List·Memᴰ·head as here,
+  List·Memᴰ·tail as there,
+  List·Memᴰ·not-nil as in-none,
+}
 use mathlib.Core.Logic.{inl, inr}
 use mathlib.Core.Path.{_≡_, refl, sym, ap, _∙_, subst}
 use native.Mathlib.Omega.{arith}
@@ -14,7 +22,7 @@ use Rattle.frame_table.specs.Forms as forms
 use Rattle.frame_table.specs.Names.{transaction, segment, form}
 use Rattle.octets.proofs.Tests.{and-true}
 use Rattle.message.specs.declared.codes.ReturnCode.the-variants as code
-use Rattle.message.specs.Limits.{maxSegments, fileBytes, initialisationPhase}
+use Rattle.message.specs.Limits.{initialisationPhase}
 use Rattle.message.specs.Requests.{uploadTransfer}
 use Rattle.message.specs.Segments.{segmentsOf, lastMarkOf}
 use Rattle.client.specs.declared.run.Client.{Client}
@@ -25,10 +33,11 @@ use Rattle.client.specs.declared.run.Stage.the-variants as stage
 use Rattle.client.specs.declared.run.Step.{Step}
 use Rattle.client.specs.declared.run.Step.the-variants as step
 use Rattle.client.specs.declared.run.Word.{Word}
-use Rattle.client.specs.declared.run.Word.the-variants.{Lodged, NotLodged, Unclear}
-use Rattle.client.specs.Decisions.{says, answersSegment, closingWord, restWord, endsUpload, lodges, takesSegment, uploadReturns}
-use Rattle.client.specs.NextRun.{begun, stepBehind, goOn, repeated, learned, ended}
+use Rattle.client.specs.declared.run.Word.the-variants as word
+use Rattle.client.specs.Decisions.{says, answersSegment, closingWord, restWord, endsUpload, lodges}
+use Rattle.client.specs.NextRun.{begun, stepAfter, goOn, repeated, learned, ended}
 use Rattle.client.specs.Requests.{nonceOf, outstanding}
+use Rattle.client.specs.Run.{parametersOf}
 use Rattle.client_history.specs.History.{Issue, Past, issueOf}
 use Rattle.client_history.specs.Invariant.{
   UploadIssue,
@@ -42,9 +51,7 @@ use Rattle.client_history.specs.Invariant.{
   UploadRun,
 }
 use Rattle.message.proofs.Verdicts.{by-test}
-use Rattle.client.proofs.Causes.{Answers, answers, upload-point, taken-below}
-use Rattle.client_history.proofs.Files.{most-segments}
-use Rattle.message.proofs.SegmentNumbers.{some-segment}
+use Rattle.client.proofs.Causes.{Answers, answers}
 use Rattle.client_history.proofs.Issues.{got, got-in}
 use Rattle.client.proofs.Replies.{said, cancels}
 use Rattle.client_history.proofs.Requests.{
@@ -72,21 +79,25 @@ unsent h (uploadOpens number time nonce q d) = uploadOpens number time nonce q d
 unsent h (sends number j a b q d) = absurd (omega arith)
 
 -- "lodged (segment N answered 000000)"
-lodged-last : (c : Client) (r : Fields) → lodges c r ≡ true → Answers forms.SegmentTaken c r × (c .segment ≡ c .segments)
+lodged-last : (c : Client) (r : Fields) → lodges c r ≡ true
+    → Answers forms.SegmentTaken c r × (c .segment ≡ c .segments)
 unfolding lodges
 lodged-last c r h =
     let a = and-true (answersSegment forms.SegmentTaken c r) (eqb (c .segment) (c .segments)) h in
     (answers forms.SegmentTaken c r (a .0), eqb-true (c .segment) (c .segments) (a .1))
 
 module _ (Given : Fields → List ℕ → Fields → List ℕ → Type 0) where
-  open-for : {c k : Client} {l m : List Issue} → c .transaction ≡ k .transaction → c .number ≡ k .number → ((x : Issue) → In x l → In x m)
+  open-for : {c k : Client} {l m : List Issue} → c .transaction ≡ k .transaction → c .number ≡ k .number
+      → ((x : Issue) → In x l → In x m)
       → UploadOpen Given c l → UploadOpen Given k m
   open-for t n f o = record { got = got-in Given f (o .got); id = o .id ∙ t; number = o .number ∙ n }
 
   -- the outstanding request is one that the run may issue
-  outstanding-issue : (c : Client) (payload file : List ℕ) (time : ℕ) (nonce : List ℕ) (issues : List Issue) → c .direction ≡ Upload
+  outstanding-issue : (c : Client) (payload file : List ℕ) (time : ℕ) (nonce : List ℕ) (issues : List Issue)
+      → c .direction ≡ Upload
       → (s : Step) → c .step ≡ s → UploadStep Given s c issues
-      → UploadIssue (c .subscriber) (c .segments) (c .transaction) (c .issued) payload (issueOf c payload file time nonce)
+      → UploadIssue (c .subscriber) (c .segments) (c .transaction) (c .issued) payload
+      (issueOf c payload file time nonce)
   outstanding-issue c payload file time nonce issues up step.Opening e k =
       uploadOpens (c .exchange) time (nonceOf nonce (c .exchange)) (is-uploadOpening c time nonce payload up e)
       (data-opening c time nonce payload up e)
@@ -100,25 +111,17 @@ module _ (Given : Fields → List ℕ → Fields → List ℕ → Type 0) where
     direction : c .direction ≡ Upload
     running : c .stage ≡ stage.Running
     size : c .length ≡ length payload
-    number : c .segments ≡ segmentsOf (length payload)
-    some : 1 ≤ c .segments
-    most : c .segments ≤ maxSegments
-    top : c .issued ≤ c .segments
     each : (x : Issue) → In x issues → UploadIssue (c .subscriber) (c .segments) (c .transaction) (c .issued) payload x
     opened : UploadOpen Given c issues
 
-  goes-on : (c : Client) (payload file : List ℕ) (issues : List Issue) (k repeats time : ℕ) (nonce : List ℕ) → Ready c payload issues
-      → k < c .segments → k ≤ c .issued
+  goes-on : (c : Client) (payload file : List ℕ) (issues : List Issue) (k repeats time : ℕ) (nonce : List ℕ)
+      → Ready c payload issues
       → UploadRun Given (goOn k repeats c) payload (issueOf (goOn k repeats c) payload file time nonce ∷ issues)
   unfolding goOn
-  goes-on c payload file issues k repeats time nonce r a b =
+  goes-on c payload file issues k repeats time nonce r =
       record {
         direction = r .direction;
         size = r .size;
-        number = r .number;
-        some = r .some;
-        most = r .most;
-        top = let t = r .top in omega arith;
         each = each;
         step = subst (λ (s : Step). UploadStep Given s next (new ∷ issues)) (sym at) stepped;
         stage = subst (λ (s : Stage). UploadStage Given s next (new ∷ issues)) (sym (r .running)) tt;
@@ -130,8 +133,8 @@ module _ (Given : Fields → List ℕ → Fields → List ℕ → Type 0) where
       new : Issue
       new = issueOf next payload file time nonce
 
-      at : stepBehind (c .direction) k (c .segments) ≡ step.Segment
-      at = ap (λ (w : Direction). stepBehind w k (c .segments)) (r .direction)
+      at : stepAfter (c .direction) k (c .segments) ≡ step.Segment
+      at = ap (λ (w : Direction). stepAfter w k (c .segments)) (r .direction)
 
       stepped : UploadStep Given step.Segment next (new ∷ issues)
       stepped = (open-for {k = next} refl refl (λ x m. there m) (r .opened), omega arith, omega arith)
@@ -150,10 +153,6 @@ module _ (Given : Fields → List ℕ → Fields → List ℕ → Type 0) where
       direction = u .direction;
       running = running;
       size = u .size;
-      number = u .number;
-      some = u .some;
-      most = u .most;
-      top = u .top;
       each = u .each;
       opened = subst (λ (s : Step). UploadStep Given s c issues) e (u .step) .0;
     }
@@ -164,25 +163,14 @@ module _ (Given : Fields → List ℕ → Fields → List ℕ → Type 0) where
       abbrev Goes : Client → Type 0
       Goes next = UploadRun Given next payload (issueOf next payload file time nonce ∷ issues)
 
-      pub taken : (r : Fields) → c .step ≡ step.Segment → takesSegment c r ≡ true → Goes (goOn (c .segment) (c .repeats) c)
-      taken r e h =
-          goes-on c payload file issues (c .segment) (c .repeats) time nonce (ready e) (taken-below c r h .1)
-          (subst (λ (s : Step). UploadStep Given s c issues) e (u .step) .2)
-
-      pub returned : (r : Fields) → c .step ≡ step.Segment → uploadReturns c r ≡ true → Goes (goOn (segment r) (c .repeats + 1) c)
-      returned r e h =
-          let k = upload-point c r h in
-          goes-on c payload file issues (segment r) (c .repeats + 1) time nonce (ready e) (k .below) (k .reached)
+      pub next-run : c .step ≡ step.Segment → (k repeats : ℕ) → Goes (goOn k repeats c)
+      next-run e k repeats = goes-on c payload file issues k repeats time nonce (ready e)
 
       pub repeated-run : Goes (repeated c)
       unfolding repeated
       repeated-run = record {
         direction = u .direction;
         size = u .size;
-        number = u .number;
-        some = u .some;
-        most = u .most;
-        top = u .top;
         each = each;
         step = stepped (c .step) (u .step);
         stage = subst (λ (s : Stage). UploadStage Given s next (new ∷ issues)) (sym running) tt;
@@ -199,10 +187,12 @@ module _ (Given : Fields → List ℕ → Fields → List ℕ → Type 0) where
           stepped step.Segment k = (open-for {k = next} refl refl (λ x m. there m) (k .0), k .1, k .2)
           stepped step.Receipt k = k
 
-          each : (x : Issue) → In x (new ∷ issues) → UploadIssue (c .subscriber) (c .segments) (c .transaction) (c .issued) payload x
+          each : (x : Issue) → In x (new ∷ issues)
+              → UploadIssue (c .subscriber) (c .segments) (c .transaction) (c .issued) payload x
           each x (here e) =
               subst (UploadIssue _ _ _ _ _) (sym e)
-              (outstanding-issue next payload file time nonce (new ∷ issues) (u .direction) (c .step) refl (stepped (c .step) (u .step)))
+              (outstanding-issue next payload file time nonce (new ∷ issues) (u .direction) (c .step) refl
+              (stepped (c .step) (u .step)))
           each x (there m) = u .each x m
 
     -- ---- the opening's answer
@@ -210,18 +200,16 @@ module _ (Given : Fields → List ℕ → Fields → List ℕ → Type 0) where
     abbrev p : Past
     p = record { run = c; payload = payload; file = file; issues = issues }
 
-    pub opened-run : (r : Fields) (d : List ℕ) (time : ℕ) (nonce : List ℕ) → c .step ≡ step.Opening → Answered Given p r d
-        → says forms.UploadOpened code.Ok initialisationPhase r ≡ true → Goes time nonce (goOn 0 (c .repeats) (learned Upload r c))
+    pub opened-run : (r : Fields) (d : List ℕ) (time : ℕ) (nonce : List ℕ) → c .step ≡ step.Opening
+        → Answered Given p r d
+        → says forms.UploadOpened code.Ok initialisationPhase r ≡ true
+        → Goes time nonce (goOn 0 (c .repeats) (learned Upload r c))
     opened-run r d time nonce e a h =
         goes-on (learned Upload r c) payload file issues 0 (c .repeats) time nonce
         (record {
           direction = u .direction;
           running = running;
           size = u .size;
-          number = u .number;
-          some = u .some;
-          most = u .most;
-          top = u .top;
           each = λ x m. unsent (subst (λ (s : Step). UploadStep Given s c issues) e (u .step)) (u .each x m);
           opened = record {
             got =
@@ -233,7 +221,6 @@ module _ (Given : Fields → List ℕ → Fields → List ℕ → Type 0) where
             number = refl;
           };
         })
-        (u .some) (omega arith)
 
     -- ---- the closing words
 
@@ -245,10 +232,6 @@ module _ (Given : Fields → List ℕ → Fields → List ℕ → Type 0) where
     ended-with w k = record {
       direction = u .direction;
       size = u .size;
-      number = u .number;
-      some = u .some;
-      most = u .most;
-      top = u .top;
       each = u .each;
       step = stepped (c .step) (u .step);
       stage = k;
@@ -264,12 +247,13 @@ module _ (Given : Fields → List ℕ → Fields → List ℕ → Type 0) where
     rest-run =
         subst (λ (w : Direction). Closes (closingWord w c)) (sym (u .direction))
         (by-test Closes (ltb (c .issued) (c .segments))
-        (λ h. ended-with NotLodged (inl (ltb-true (c .issued) (c .segments) h)))
-        (λ h. ended-with Unclear (ltb-false (c .issued) (c .segments) h)))
+        (λ h. ended-with word.NotLodged (inl (ltb-true (c .issued) (c .segments) h)))
+        (λ h. ended-with word.Unclear (ltb-false (c .issued) (c .segments) h)))
 
     module _ (r : Fields) (d : List ℕ) (e : c .step ≡ step.Segment) (a : Answered Given p r d) where
       asked : outstanding c (a .time) (a .nonce)
-          ≡ uploadTransfer (c .subscriber) (c .exchange) (c .transaction) (c .segment) (lastMarkOf (c .segment) (c .segments))
+          ≡ uploadTransfer (c .subscriber) (c .exchange) (c .transaction) (c .segment)
+          (lastMarkOf (c .segment) (c .segments))
       asked = is-uploadTransfer c (a .time) (a .nonce) payload (u .direction) e
 
       asked-form : form (outstanding c (a .time) (a .nonce)) ≡ forms.UploadTransfer
@@ -278,23 +262,23 @@ module _ (Given : Fields → List ℕ → Fields → List ℕ → Type 0) where
       asked-id : transaction (outstanding c (a .time) (a .nonce)) ≡ c .transaction
       asked-id = ap transaction asked ∙ id-uploadTransfer _ _ _ _ _
 
-      pub lodged-run : lodges c r ≡ true → Closes Lodged
+      pub lodged-run : lodges c r ≡ true → Closes word.Lodged
       unfolding ended
       lodged-run h =
           let k = lodged-last c r h in
-          ended-with Lodged
+          ended-with word.Lodged
           (record {
             got = got Given {p = p} a asked-form (said _ _ _ r (k .0 .said));
             last = ap segment asked ∙ segment-uploadTransfer _ _ _ _ _ ∙ k .1;
             id = asked-id;
-            opened = open-for {k = ended Lodged c} refl refl (λ x m. m) (ready e .opened);
+            opened = open-for {k = ended word.Lodged c} refl refl (λ x m. m) (ready e .opened);
           })
 
-      pub cancelled-run : endsUpload r ≡ true → Closes NotLodged
+      pub cancelled-run : endsUpload r ≡ true → Closes word.NotLodged
       unfolding ended
       cancelled-run h =
           let k = cancels r h in
-          ended-with NotLodged
+          ended-with word.NotLodged
           (inr (record {
             why = k .why;
             one = k .one;
@@ -305,30 +289,27 @@ module _ (Given : Fields → List ℕ → Fields → List ℕ → Type 0) where
 
   -- ---- the begin
 
-  pub begun-run : (s first time : ℕ) (nonce payload file : List ℕ) (issues : List Issue) → 1 ≤ length payload → length payload ≤ fileBytes
-      → issues ≡ [] → let next = begun Upload s first (length payload) in
+  pub begun-run : (s first time : ℕ) (nonce payload file : List ℕ) (issues : List Issue) → issues ≡ []
+      → let next = begun (parametersOf Upload s first) (length payload) in
       UploadRun Given next payload (issueOf next payload file time nonce ∷ issues)
   unfolding begun
-  begun-run s first time nonce payload file issues a b z =
+  begun-run s first time nonce payload file issues z =
       record {
         direction = refl;
         size = refl;
-        number = refl;
-        some = some-segment (length payload) a;
-        most = most-segments (length payload) b;
-        top = omega arith;
         each = each;
         step = refl;
         stage = tt;
       }
     where
       next : Client
-      next = begun Upload s first (length payload)
+      next = begun (parametersOf Upload s first) (length payload)
 
       new : Issue
       new = issueOf next payload file time nonce
 
-      each : (x : Issue) → In x (new ∷ issues) → UploadIssue s (segmentsOf (length payload)) (next .transaction) 0 payload x
+      each : (x : Issue) → In x (new ∷ issues)
+          → UploadIssue s (segmentsOf (length payload)) (next .transaction) 0 payload x
       each x (here e) =
           subst (UploadIssue _ _ _ _ _) (sym e)
           (outstanding-issue next payload file time nonce (new ∷ issues) refl step.Opening refl refl)

@@ -16,7 +16,7 @@ use Rattle.message.specs.Segments.{segmentsOf, segmentOf}
 use Rattle.client.specs.declared.run.Answer.{Answer}
 use Rattle.client.specs.declared.run.Answer.the-variants as answer
 use Rattle.client.specs.declared.run.Client.{Client}
-use Rattle.client.specs.declared.run.Direction.{Direction}
+use Rattle.client.specs.declared.run.RunParameters.{RunParameters}
 use Rattle.client.specs.Calls.{beginCall, replyCall, noReplyCall}
 use Rattle.client.specs.Requests.{outstanding, outstandingData}
 use Rattle.client.specs.Run.{Lent, ClientCall, notBegun, answerNumber}
@@ -28,9 +28,9 @@ pub record Issue : Type 0 where
   pub file : List ℕ
 
 -- "begin, reply arrived, no reply", with what each brings and is lent:
--- a begin has direction, subscriber and first exchange number, a reply its bytes
+-- a begin has its run's parameters, a reply its bytes
 pub data Event : Type 0 where
-  Begin : Direction → ℕ → ℕ → Lent → Event
+  Begin : RunParameters → Lent → Event
   Reply : List ℕ → Lent → Event
   NoReply : Lent → Event
 
@@ -68,12 +68,12 @@ left (answer.Refused r) k l p = p
 
 -- the call that an event is
 abbrev pub callOf : Event → Client → ClientCall
-callOf (Begin direction subscriber first l) c = beginCall c direction subscriber first l
+callOf (Begin params l) c = beginCall c params l
 callOf (Reply frame l) c = replyCall c frame l
 callOf (NoReply l) c = noReplyCall c l
 
 abbrev pub lentTo : Event → Lent
-lentTo (Begin direction subscriber first l) = l
+lentTo (Begin params l) = l
 lentTo (Reply frame l) = l
 lentTo (NoReply l) = l
 
@@ -85,20 +85,25 @@ unfoldable pub pastOf : List Event → Past
 pastOf [] = start
 pastOf (e ∷ es) = after e (pastOf es)
 
--- What the bank's replies are known to be. Given q d r e: the request with the fields q and the data d was given the reply with r and e.
+-- What the bank's replies are known to be. Given q d r e: the request with the fields q and the data d was given the
+-- reply with r and e.
 -- fileAt t: the file in the mailbox at the opening of the transaction t
 pub record BankReplies (Given : Fields → List ℕ → Fields → List ℕ → Type 0) (fileAt : Bits128 → List ℕ) : Type 0 where
   -- "Reply forms": each but the unreadable request's has the request's exchange number
-  pub sameExchange : {q r : Fields} {d e : List ℕ} → Given q d r e → isReplyForm (form r) ≡ true → (form r ≡ forms.Unreadable → ⊥)
+  pub sameExchange : {q r : Fields} {d e : List ℕ} → Given q d r e → isReplyForm (form r) ≡ true
+      → (form r ≡ forms.Unreadable → ⊥)
       → exchange r ≡ exchange q
   -- "N is the file length divided by 256, rounded up"
   pub number : {q r : Fields} {d e : List ℕ} → Given q d r e → form r ≡ forms.DownloadOpened
       → segments r ≡ segmentsOf (length (fileAt (transaction r)))
   -- "file of 0 or over 3,840 bytes" is in no mailbox
-  pub some : {q r : Fields} {d e : List ℕ} → Given q d r e → form r ≡ forms.DownloadOpened → 0 < length (fileAt (transaction r))
-  pub most : {q r : Fields} {d e : List ℕ} → Given q d r e → form r ≡ forms.DownloadOpened → length (fileAt (transaction r)) ≤ fileBytes
+  pub some : {q r : Fields} {d e : List ℕ} → Given q d r e → form r ≡ forms.DownloadOpened
+      → 0 < length (fileAt (transaction r))
+  pub most : {q r : Fields} {d e : List ℕ} → Given q d r e → form r ≡ forms.DownloadOpened
+      → length (fileAt (transaction r)) ≤ fileBytes
   -- "segment 1 is in it"
-  pub first : {q r : Fields} {d e : List ℕ} → Given q d r e → form r ≡ forms.DownloadOpened → e ≡ segmentOf (fileAt (transaction r)) 1
+  pub first : {q r : Fields} {d e : List ℕ} → Given q d r e → form r ≡ forms.DownloadOpened
+      → e ≡ segmentOf (fileAt (transaction r)) 1
   -- "segments are 256 bytes but the last"
   pub part : {q r : Fields} {d e : List ℕ} → Given q d r e → form r ≡ forms.DownloadSegment
       → e ≡ segmentOf (fileAt (transaction r)) (segment r)
@@ -117,7 +122,7 @@ module _ (Given : Fields → List ℕ → Fields → List ℕ → Type 0) where
 
   -- "a call given a number may be lent others"; a begin is lent what its owner will
   abbrev pub Fair : Event → Past → Type 0
-  Fair (Begin direction subscriber first l) p = Unit {0}
+  Fair (Begin params l) p = Unit {0}
   Fair (Reply frame l) p = answerNumber (replyCall (p .run) frame l .answer) ≡ 0 → Kept l p × GivenTo frame p
   Fair (NoReply l) p = answerNumber (noReplyCall (p .run) l .answer) ≡ 0 → Kept l p
 

@@ -6,7 +6,8 @@ use Rattle.client.specs.declared.run.Stage.the-variants as stage
 use Rattle.client.specs.declared.run.Step.{Step}
 use Rattle.client_history.specs.History.{Past}
 
--- the run has this step outstanding under exchange number x, of segment j where it is a segment's, and has repeated and returned nothing
+-- the run has this step outstanding under exchange number x, of segment j where it is a segment's, and has repeated and
+-- returned nothing
 pub record InTurn (p : Past) (d : Direction) (s : Step) (j x : ℕ) : Type 0 where
   pub running : p .run .stage ≡ stage.Running
   pub direction : p .run .direction ≡ d

@@ -9,11 +9,11 @@ use Rattle.frame_table.specs.declared.fields.Bits128.{Bits128}
 use Rattle.frame_table.specs.declared.fields.Fields.{Fields}
 use Rattle.frame_table.specs.declared.table.Form.{Form}
 use Rattle.frame_table.specs.Forms as forms
-use Rattle.frame_table.specs.Names.{phase, subscriber, exchange, transaction, segment, returnCode, orderNumber, form}
+use Rattle.frame_table.specs.Names.{phase, transaction, segment, returnCode, orderNumber, form}
 use Rattle.message.specs.declared.codes.ReturnCode.{ReturnCode}
 use Rattle.message.specs.declared.codes.ReturnCode.the-variants as code
 use Rattle.message.specs.Codes.{codeField}
-use Rattle.message.specs.Limits.{segmentBytes, maxSegments, fileBytes, subscribers, transferPhase}
+use Rattle.message.specs.Limits.{segmentBytes, fileBytes, transferPhase}
 use Rattle.message.specs.Requests.{uploadOpening, downloadOpening, uploadTransfer, downloadTransfer, receipt}
 use Rattle.message.specs.Segments.{segmentsOf, segmentOf, lastMarkOf}
 use Rattle.client.specs.declared.run.Client.{Client}
@@ -23,18 +23,14 @@ use Rattle.client.specs.declared.run.Stage.the-variants as stage
 use Rattle.client.specs.declared.run.Step.{Step}
 use Rattle.client.specs.declared.run.Step.the-variants as step
 use Rattle.client.specs.declared.run.Word.{Word}
-use Rattle.client.specs.declared.run.Word.the-variants.{Lodged, NotLodged, Unclear, Fetched, HeldUnconfirmed, NotFetched}
+use Rattle.client.specs.declared.run.Word.the-variants as word
 use Rattle.client.specs.Requests.{outstanding, outstandingData}
 use Rattle.client.specs.Rulings.{isBegun}
+use Rattle.client.specs.Run.{notBegun}
+use Rattle.client_history.specs.Bounds.{Bounded}
 use Rattle.client_history.specs.History.{Issue, Past, issueOf}
 
 -- ---- THE REQUESTS ISSUED
-
--- "Each request takes the next exchange number": the issues carry first, first + 1, ... up to before next, each once
-pub data Numbered (first : ℕ) : ℕ → List Issue → Type 0 where
-  none : Numbered first first []
-  more : {n next : ℕ} {x : Issue} {l : List Issue} → exchange (x .request) ≡ n → next ≡ n + 1 → Numbered first n l
-      → Numbered first next (x ∷ l)
 
 -- the newest issue is the outstanding request, with the run's file as it is
 pub record Newest (p : Past) : Type 0 where
@@ -43,19 +39,15 @@ pub record Newest (p : Past) : Type 0 where
   pub older : List Issue
   pub are : p .issues ≡ issueOf (p .run) (p .payload) (p .file) time nonce ∷ older
 
--- what a begun run of either direction keeps
+-- what a begun run of either direction keeps: the bounds, which any events keep, and its outstanding request
 pub record Begun (p : Past) : Type 0 where
-  pub stage : isBegun (p .run .stage) ≡ true
-  pub low : 1 ≤ p .run .subscriber
-  pub high : p .run .subscriber ≤ subscribers
-  pub first : ℕ
-  pub numbers : Numbered first (p .run .exchange + 1) (p .issues)
+  pub bounded : Bounded (p .run) (p .issues)
   pub newest : Newest p
-  pub own : (x : Issue) → In x (p .issues) → subscriber (x .request) ≡ p .run .subscriber
 
 -- what an upload of n segments under the transaction t issues, segments up to top
 pub data UploadIssue (s n : ℕ) (t : Bits128) (top : ℕ) (payload : List ℕ) (x : Issue) : Type 0 where
-  uploadOpens : (number time : ℕ) (nonce : Bits128) → x .request ≡ uploadOpening s number nonce time n → x .requestData ≡ []
+  uploadOpens : (number time : ℕ) (nonce : Bits128) → x .request ≡ uploadOpening s number nonce time n
+      → x .requestData ≡ []
       → UploadIssue s n t top payload x
   -- "It cuts the payload at 256 bytes"
   sends : (number j : ℕ) → 1 ≤ j → j ≤ top → x .request ≡ uploadTransfer s number t j (lastMarkOf j n)
@@ -64,12 +56,15 @@ pub data UploadIssue (s n : ℕ) (t : Bits128) (top : ℕ) (payload : List ℕ) 
 
 -- what a download of the file f, of n segments under the transaction t, issues while it holds segments 1 to held
 pub data DownloadIssue (s n : ℕ) (t : Bits128) (held : ℕ) (receipted : Bool) (f : List ℕ) (x : Issue) : Type 0 where
-  downloadOpens : (number time : ℕ) (nonce : Bits128) → x .request ≡ downloadOpening s number nonce time → x .requestData ≡ []
+  downloadOpens : (number time : ℕ) (nonce : Bits128) → x .request ≡ downloadOpening s number nonce time
+      → x .requestData ≡ []
       → DownloadIssue s n t held receipted f x
-  asks : (number j : ℕ) → 1 ≤ j → j ≤ held + 1 → j ≤ n → 1 ≤ held → x .request ≡ downloadTransfer s number t j → x .requestData ≡ []
+  asks : (number j : ℕ) → 1 ≤ j → j ≤ held + 1 → j ≤ n → 1 ≤ held → x .request ≡ downloadTransfer s number t j
+      → x .requestData ≡ []
       → DownloadIssue s n t held receipted f x
   -- "the run held the whole when, as it issued that receipt, its file was the mailbox's"
-  confirms : (number : ℕ) → held ≡ n → 1 ≤ held → receipted ≡ true → x .file ≡ f → x .request ≡ receipt s number t 0 → x .requestData ≡ []
+  confirms : (number : ℕ) → held ≡ n → 1 ≤ held → receipted ≡ true → x .file ≡ f → x .request ≡ receipt s number t 0
+      → x .requestData ≡ []
       → DownloadIssue s n t held receipted f x
 
 -- the run's transaction is known: its opening was answered
@@ -98,7 +93,8 @@ pub record SegmentSent (p : Past) (x : Issue) : Type 0 where
   pub least : 1 ≤ j
   pub issued : j ≤ p .run .issued
   pub most : j ≤ p .run .segments
-  pub request : x .request ≡ uploadTransfer (p .run .subscriber) number (p .run .transaction) j (lastMarkOf j (p .run .segments))
+  pub request : x .request ≡ uploadTransfer (p .run .subscriber) number (p .run .transaction) j
+      (lastMarkOf j (p .run .segments))
   pub bytes : x .requestData ≡ segmentOf (p .payload) j
 
 -- a download transfer issued: segment j is asked for
@@ -172,12 +168,12 @@ module _ (Given : Fields → List ℕ → Fields → List ℕ → Type 0) where
     pub id : transaction (got .issue .request) ≡ c .transaction
 
   abbrev pub UploadWord : Word → Client → List Issue → Type 0
-  UploadWord Lodged c issues = LastTaken c issues
-  UploadWord NotLodged c issues = (c .issued < c .segments) ⊎ Cancelled c issues
-  UploadWord Unclear c issues = c .segments ≤ c .issued
-  UploadWord Fetched c issues = ⊥
-  UploadWord HeldUnconfirmed c issues = ⊥
-  UploadWord NotFetched c issues = ⊥
+  UploadWord word.Lodged c issues = LastTaken c issues
+  UploadWord word.NotLodged c issues = (c .issued < c .segments) ⊎ Cancelled c issues
+  UploadWord word.Unclear c issues = c .segments ≤ c .issued
+  UploadWord word.Fetched c issues = ⊥
+  UploadWord word.HeldUnconfirmed c issues = ⊥
+  UploadWord word.NotFetched c issues = ⊥
 
   abbrev pub UploadStage : Stage → Client → List Issue → Type 0
   UploadStage stage.NotBegun c issues = ⊥
@@ -187,11 +183,8 @@ module _ (Given : Fields → List ℕ → Fields → List ℕ → Type 0) where
   pub record UploadRun (c : Client) (payload : List ℕ) (issues : List Issue) : Type 0 where
     pub direction : c .direction ≡ Upload
     pub size : c .length ≡ length payload
-    pub number : c .segments ≡ segmentsOf (length payload)
-    pub some : 1 ≤ c .segments
-    pub most : c .segments ≤ maxSegments
-    pub top : c .issued ≤ c .segments
-    pub each : (x : Issue) → In x issues → UploadIssue (c .subscriber) (c .segments) (c .transaction) (c .issued) payload x
+    pub each : (x : Issue) → In x issues
+        → UploadIssue (c .subscriber) (c .segments) (c .transaction) (c .issued) payload x
     pub step : UploadStep (c .step) c issues
     pub stage : UploadStage (c .stage) c issues
 
@@ -212,7 +205,8 @@ module _ (Given : Fields → List ℕ → Fields → List ℕ → Type 0) where
 
   module _ (fileAt : Bits128 → List ℕ) where
     abbrev pub FileHeld : Client → List ℕ → List Issue → Type 0
-    FileHeld c file issues = HeldFile (fileAt (c .transaction)) (c .transaction) (c .segments) (c .held) (c .length) file issues
+    FileHeld c file issues =
+        HeldFile (fileAt (c .transaction)) (c .transaction) (c .segments) (c .held) (c .length) file issues
 
     abbrev pub DownloadStep : Step → Client → List ℕ → List Issue → Type 0
     DownloadStep step.Opening c file issues = (c .held ≡ 0) × (c .length ≡ 0) × (c .receipted ≡ false)
@@ -228,12 +222,12 @@ module _ (Given : Fields → List ℕ → Fields → List ℕ → Type 0) where
       pub id : transaction (got .issue .request) ≡ c .transaction
 
     abbrev pub DownloadWord : Word → Client → List ℕ → List Issue → Type 0
-    DownloadWord Lodged c file issues = ⊥
-    DownloadWord NotLodged c file issues = ⊥
-    DownloadWord Unclear c file issues = ⊥
-    DownloadWord Fetched c file issues = Confirmed c file issues
-    DownloadWord HeldUnconfirmed c file issues = c .receipted ≡ true
-    DownloadWord NotFetched c file issues = c .receipted ≡ false
+    DownloadWord word.Lodged c file issues = ⊥
+    DownloadWord word.NotLodged c file issues = ⊥
+    DownloadWord word.Unclear c file issues = ⊥
+    DownloadWord word.Fetched c file issues = Confirmed c file issues
+    DownloadWord word.HeldUnconfirmed c file issues = c .receipted ≡ true
+    DownloadWord word.NotFetched c file issues = c .receipted ≡ false
 
     abbrev pub DownloadStage : Stage → Client → List ℕ → List Issue → Type 0
     DownloadStage stage.NotBegun c file issues = ⊥
@@ -243,7 +237,8 @@ module _ (Given : Fields → List ℕ → Fields → List ℕ → Type 0) where
     pub record DownloadRun (c : Client) (file : List ℕ) (issues : List Issue) : Type 0 where
       pub direction : c .direction ≡ Download
       pub each : (x : Issue) → In x issues
-          → DownloadIssue (c .subscriber) (c .segments) (c .transaction) (c .held) (c .receipted) (fileAt (c .transaction)) x
+          → DownloadIssue (c .subscriber) (c .segments) (c .transaction) (c .held) (c .receipted)
+          (fileAt (c .transaction)) x
       pub receipts : c .receipted ≡ true → Receipts issues
       pub step : DownloadStep (c .step) c file issues
       pub stage : DownloadStage (c .stage) c file issues
@@ -251,6 +246,6 @@ module _ (Given : Fields → List ℕ → Fields → List ℕ → Type 0) where
     -- ---- EITHER
 
     pub data Invariant (p : Past) : Type 0 where
-      not-begun : p .run .stage ≡ stage.NotBegun → p .issues ≡ [] → Invariant p
+      not-begun : p .run ≡ notBegun → p .issues ≡ [] → Invariant p
       upload : Begun p → UploadRun (p .run) (p .payload) (p .issues) → Invariant p
       download : Begun p → DownloadRun (p .run) (p .file) (p .issues) → Invariant p

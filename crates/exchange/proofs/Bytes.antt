@@ -28,6 +28,7 @@ use Rattle.client.specs.declared.run.Direction.{Direction}
 use Rattle.client.specs.declared.run.Direction.the-variants.{Upload, Download}
 use Rattle.client.specs.declared.run.Ruling.{Ruling}
 use Rattle.client.specs.declared.run.Ruling.the-variants.{Refuse, Accept}
+use Rattle.client.specs.declared.run.RunParameters.{RunParameters}
 use Rattle.client.specs.declared.run.Step.{Step}
 use Rattle.client.specs.declared.run.Step.the-variants as step
 use Rattle.client.specs.Calls.{
@@ -38,9 +39,9 @@ use Rattle.client.specs.Calls.{
   issued,
   taken,
   carryOut,
-  beginBy,
+  ifAdmitted,
+  admittedBegin,
   beginCall,
-  runBy,
   replyCall,
   noReplyCall,
 }
@@ -127,18 +128,18 @@ module _ (c : Client) (r : Fields) (d : List ℕ) (l : Lent) where
   carried-issues Repeat n h = issued-issues c (repeated c) (l .file) l n h
   carried-issues (Close w) n h = absurd (let z : _≡_ {A = ℕ} 0 1 = cc in omega arith)
 
-  ruled-issues : (u : Ruling) (decision : Decision) → Issues (runBy u decision c r d l) l
+  ruled-issues : (u : Ruling) (decision : Decision) → Issues (ifAdmitted u c l (carryOut decision c r d l)) l
   ruled-issues (Refuse x) decision n h = absurd (let z : _≡_ {A = ℕ} 0 1 = cc in omega arith)
   ruled-issues Accept decision n h = carried-issues decision n h
 
 module _ (c : Client) (l : Lent) where
-  pub begin-issues : (direction : Direction) (subscriber first : ℕ) → Issues (beginCall c direction subscriber first l) l
+  pub begin-issues : (params : RunParameters) → Issues (beginCall c params l) l
   unfolding beginCall
-  begin-issues direction subscriber first = go (beginRuling c direction subscriber first (lengthsOf l))
+  begin-issues params = go (beginRuling c params (lengthsOf l))
     where
-      go : (u : Ruling) → Issues (beginBy u c direction subscriber first l) l
+      go : (u : Ruling) → Issues (ifAdmitted u c l (admittedBegin c params l)) l
       go (Refuse x) n h = absurd (let z : _≡_ {A = ℕ} 0 1 = cc in omega arith)
-      go Accept n h = issued-issues c (begun direction subscriber first (beginLength direction (lengthsOf l))) (l .file) l n h
+      go Accept n h = issued-issues c (begun params (beginLength (params .direction) (lengthsOf l))) (l .file) l n h
 
   pub reply-issues : (frame : List ℕ) → Issues (replyCall c frame l) l
   unfolding replyCall

@@ -29,7 +29,7 @@ use Rattle.bank.specs.Call.{frameCall}
 use Rattle.client.specs.declared.run.Direction.{Direction}
 use Rattle.client.specs.declared.run.Stage.the-variants as stage
 use Rattle.client.specs.declared.run.Word.the-variants.{Lodged, Fetched}
-use Rattle.client.specs.Run.{Lent, lentOf, requestRoom, nonceBytes}
+use Rattle.client.specs.Run.{Lent, lentOf, parametersOf, requestRoom, nonceBytes}
 use Rattle.exchange.specs.Course.{
   Call,
   frameArrives,
@@ -179,7 +179,7 @@ abbrev pub callOf : Move → Course → Call
 callOf (comes n time) s = frameCalled (requestAt n s) time s
 callOf (stray frame time) s = frameCalled frame time s
 callOf (puts m file) s = filePut (s .bank .bank) (s .bank .mailboxes) m file
-callOf (begin i direction u first payload) s = begins i (s .runs i) direction u first (lent payload (replicate fileBytes 0))
+callOf (begin i direction u first payload) s = begins i (s .runs i) (parametersOf direction u first) (lent payload (replicate fileBytes 0))
 callOf (reaches i n) s = replyArrives i (s .runs i) (replyAt n s) (lent (s .payloads i) (s .files i))
 callOf (silent i) s = noReply i (s .runs i) (lent (s .payloads i) (s .files i))
 callOf (numbered k) s = k

@@ -28,6 +28,7 @@ use Rattle.client.specs.declared.run.Answer.the-variants as answer
 use Rattle.client.specs.declared.run.Client.{Client}
 use Rattle.client.specs.declared.run.Direction.{Direction}
 use Rattle.client.specs.declared.run.Direction.the-variants.{Upload, Download}
+use Rattle.client.specs.declared.run.RunParameters.{RunParameters}
 use Rattle.client.specs.Calls.{beginCall, replyCall, noReplyCall}
 use Rattle.client.specs.Run.{Lent, ClientCall, answerNumber}
 use Rattle.exchange.specs.Course.{
@@ -81,8 +82,8 @@ pub data Concern (s : Course) (v : Parts s) (i : ℕ) : Call → Type 0 where
       exec (frameArrives w time ids frame buffer) s .issued ≡ s .issued →
       exec (frameArrives w time ids frame buffer) s .arrived ≡ s .arrived →
       Concern s v i (frameArrives w time ids frame buffer)
-  own-begin : {c : Client} {direction : Direction} {u first : ℕ} {l : Lent} → c ≡ s .runs i →
-      callNumber (begins i c direction u first l) ≡ 0 → Concern s v i (begins i c direction u first l)
+  own-begin : {c : Client} {params : RunParameters} {l : Lent} → c ≡ s .runs i →
+      callNumber (begins i c params l) ≡ 0 → Concern s v i (begins i c params l)
   own-reply : {c : Client} {reply : List ℕ} {l : Lent} → callNumber (replyArrives i c reply l) ≡ 0 → Left i c l s →
       GivenFor i reply s → ((a : Arrival) → In a (s .arrived) → a .run ≡ i → a .reply ≡ reply → ⊥) →
       Concern s v i (replyArrives i c reply l)
@@ -278,8 +279,8 @@ module _ (s : Course) (v : Parts s) (copies : Copied s) (numbers : OneExchangeNu
         issued = λ x m r. m;
       }))
       (subst (Untouched s v i) now (file-untouched m file (carryOut k s) (file-bank s v b mailboxes m file q z)))
-  carried-concern (begins j c direction u first l) z q turn =
-      run-concern (λ n. begins n c direction u first l) j z q turn (λ d. (other-same s i j d (beginCall c direction u first l) l, refl))
+  carried-concern (begins j c params l) z q turn =
+      run-concern (λ n. begins n c params l) j z q turn (λ d. (other-same s i j d (beginCall c params l) l, refl))
       (λ y own _. own-begin own y)
   carried-concern (replyArrives j c reply l) z q turn =
       run-concern (λ n. replyArrives n c reply l) j z q turn

@@ -7,7 +7,7 @@ use native.Mathlib.Decide.{ℕ-discrete}
 use Rattle.bank_state.specs.declared.state.Bank.{Bank}
 use Rattle.bank_state.specs.State.{BankState}
 use Rattle.client.specs.declared.run.Client.{Client}
-use Rattle.client.specs.declared.run.Direction.{Direction}
+use Rattle.client.specs.declared.run.RunParameters.{RunParameters}
 use Rattle.client.specs.Calls.{replyCall}
 use Rattle.client.specs.Run.{Lent, answerNumber}
 use Rattle.client_history.specs.History.{Begin, Reply, NoReply}
@@ -57,13 +57,13 @@ bank-called {s} {t} v n same = record {
 }
 
 -- a call of a run
-begin-keeps : (s : Course) (v : Parts s) (i : ℕ) (c : Client) (direction : Direction) (subscriber first : ℕ) (l : Lent) → c ≡ s .runs i →
-    callNumber (begins i c direction subscriber first l) ≡ 0 → Parts (carryOut (begins i c direction subscriber first l) s)
-begin-keeps s v i c direction subscriber first l own =
-    subst (λ (x : Client). callNumber (begins i x direction subscriber first l) ≡ 0 → Parts (carryOut (begins i x direction subscriber first l) s))
+begin-keeps : (s : Course) (v : Parts s) (i : ℕ) (c : Client) (params : RunParameters) (l : Lent) → c ≡ s .runs i →
+    callNumber (begins i c params l) ≡ 0 → Parts (carryOut (begins i c params l) s)
+begin-keeps s v i c params l own =
+    subst (λ (x : Client). callNumber (begins i x params l) ≡ 0 → Parts (carryOut (begins i x params l) s))
     (sym own)
-    (λ z. run-keeps s v i (Begin direction subscriber first l) (begin-issues (s .runs i) l direction subscriber first) z
-    (run-fair s v i (Begin direction subscriber first l) tt))
+    (λ z. run-keeps s v i (Begin params l) (begin-issues (s .runs i) l params) z
+    (run-fair s v i (Begin params l) tt))
 
 -- a reply to a request of the run is fair; one to a request of another run is ignored
 reply-holds : (s : Course) (v : Parts s) → OneExchangeNumber s → (i : ℕ) (reply : List ℕ) (l : Lent) →
@@ -99,7 +99,7 @@ carried-keeps : (k : Call) (s : Course) → Parts s → OneExchangeNumber s → 
 carried-keeps (frameArrives w time ids frame buffer) s v n q z =
     bank-called v (frame-keeps s (v .bank) w time ids frame buffer (q .0) z) (λ i. refl)
 carried-keeps (filePut b mailboxes m file) s v n q z = bank-called v (file-keeps s (v .bank) b mailboxes m file q z) (λ i. refl)
-carried-keeps (begins i c direction subscriber first l) s v n q z = begin-keeps s v i c direction subscriber first l q z
+carried-keeps (begins i c params l) s v n q z = begin-keeps s v i c params l q z
 carried-keeps (replyArrives i c reply l) s v n q z = reply-keeps s v n i c reply l q z
 carried-keeps (noReply i c l) s v n q z = no-reply-keeps s v i c l q z
 
@@ -133,7 +133,7 @@ pub data Exchanges (k : Call) (s : Course) : List Exchange → Type 0 where
 carried-exchanges : (k : Call) (s : Course) → Premise k s → Exchanges k s (carryOut k s .exchanged)
 carried-exchanges (frameArrives w time ids frame buffer) s q = enters (q .1)
 carried-exchanges (filePut b mailboxes m file) s q = nothing
-carried-exchanges (begins i c direction subscriber first l) s q = nothing
+carried-exchanges (begins i c params l) s q = nothing
 carried-exchanges (replyArrives i c reply l) s q = nothing
 carried-exchanges (noReply i c l) s q = nothing
 

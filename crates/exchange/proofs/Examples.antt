@@ -61,7 +61,6 @@ use Rattle.bank_openings.specs.Openings as openings
 use Rattle.bank_uploads.specs.Uploads as uploads
 use Rattle.bank.specs.Call as bankCall
 use Rattle.bank.specs.Mailbox as bankMailbox
-use Rattle.client.specs.CallLists as clientCallLists
 use Rattle.client.specs.Calls as clientCalls
 use Rattle.client.specs.Decisions as clientDecisions
 use Rattle.client.specs.NextRun as clientNextRun
@@ -208,7 +207,7 @@ unfolding frameBytes.numberFrom frameBytes.number frameBytes.bytesOf frameBytes.
     openings.counted openings.openUpload openings.openDownload messageOrderNumbers.character
     messageOrderNumbers.letter messageOrderNumbers.orderNumberOf uploads.grown uploads.booked uploads.attempted
     bankCall.mailboxSegment bankCall.respond bankCall.lentRight bankCall.frameCall
-    bankMailbox.fileRefusals bankMailbox.fileCall clientCallLists.runBehind clientCallLists.requests clientCalls.isWritten
+    bankMailbox.fileRefusals bankMailbox.fileCall clientCalls.isWritten
     clientCalls.requestWith clientCalls.issued clientCalls.taken clientCalls.beginCall clientCalls.replyCall clientCalls.noReplyCall
     clientDecisions.says clientDecisions.isOwn clientDecisions.restWord clientDecisions.mayRepeat clientDecisions.endsUpload
     clientDecisions.answersSegment clientDecisions.fitsData clientDecisions.fitsSegment clientDecisions.isPoint

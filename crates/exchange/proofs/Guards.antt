@@ -12,7 +12,7 @@ use Rattle.octets.proofs.Tests.{never, and-true}
 use Rattle.message.specs.Limits.{subscribers}
 use Rattle.bank_state.specs.State.{BankState}
 use Rattle.client.specs.declared.run.Client.{Client}
-use Rattle.client.specs.declared.run.Direction.{Direction}
+use Rattle.client.specs.declared.run.RunParameters.{RunParameters}
 use Rattle.client.specs.Run.{Lent}
 use Rattle.exchange.specs.Course.{Call, frameArrives, begins, replyArrives, noReply, Course, callNumber}
 use Rattle.exchange.specs.Terms.{IssuedBy, InTurn}
@@ -60,7 +60,7 @@ unknown-allowed s time ids frame buffer n = stray-allowed s time ids frame buffe
 
 -- a call of run j
 pub data OfRun (j : ℕ) : Call → Type 0 where
-  begin : {c : Client} {direction : Direction} {u first : ℕ} {l : Lent} → OfRun j (begins j c direction u first l)
+  begin : {c : Client} {params : RunParameters} {l : Lent} → OfRun j (begins j c params l)
   reply : {c : Client} {bytes : List ℕ} {l : Lent} → OfRun j (replyArrives j c bytes l)
   no-reply : {c : Client} {l : Lent} → OfRun j (noReply j c l)
 

@@ -47,7 +47,7 @@ run-issues s i k (answer.Refused r) = same
 carried-issues : (k : Call) (s : Course) → Issues (s .issued) (carryOut k s .issued)
 carried-issues (frameArrives w time ids frame buffer) s = same
 carried-issues (filePut b mailboxes m file) s = same
-carried-issues (begins i c direction subscriber first l) s = let k = beginCall c direction subscriber first l in run-issues s i k (k .answer)
+carried-issues (begins i c params l) s = let k = beginCall c params l in run-issues s i k (k .answer)
 carried-issues (replyArrives i c reply l) s = let k = replyCall c reply l in run-issues s i k (k .answer)
 carried-issues (noReply i c l) s = let k = noReplyCall c l in run-issues s i k (k .answer)
 

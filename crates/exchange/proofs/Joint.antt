@@ -60,7 +60,7 @@ use Rattle.client_history.specs.Invariant.{
   download,
 }
 use Rattle.client_history.proofs.Requests.{form-uploadTransfer, segment-uploadTransfer, id-uploadTransfer}
-use Rattle.client_history.proofs.Theorems.{segment-sent, segment-opened, one-subscriber}
+use Rattle.client_history.proofs.Theorems.{issued-begun, upload-segments, segment-sent, segment-opened, one-subscriber}
 use Rattle.exchange.specs.Course.{Issue, Exchange, Course}
 use Rattle.exchange.specs.Terms.{IssuedBy, Books, Booked}
 use Rattle.exchange.specs.Demand3.{isSubscribers, OneExchangeNumber}
@@ -228,11 +228,18 @@ module _ (s : Course) (v : Parts s) (copies : Copied s) (numbers : OneExchangeNu
     opened = subst (λ (x : Bits128). OpenedBy forms.UploadOpening (v .bank .past .history) x (issuesOf i (s .issued))) (u .own)
         (opened-upload sound (u .opened))
 
+    pub upload-count : s .runs i .segments ≡ segmentsOf (length (s .payloads i))
+    upload-count =
+        let o = opened in
+        let replies = bank-replies h sound (v .bank .proper) in
+        let begun = issued-begun (Gave h) (fileIn h) replies (runPast s i) (v .runs i) (o .issue) (o .own) in
+        upload-segments (Gave h) (fileIn h) replies (runPast s i) (v .runs i) begun (u .run .direction) .0
+
     pub upload-size : segmentsAt t (v .bank .past .history) ≡ segmentsOf (length (s .payloads i))
     upload-size =
         let o = opened in
         opening-at (λ (e : bank.Exchange). segments (e .request)) 0 sound (o .stands) (o .opening)
-        ∙ ap segments (o .asked) ∙ opening-segments (u .run .each (o .issue) (o .own)) (o .kind) ∙ u .run .number
+        ∙ ap segments (o .asked) ∙ opening-segments (u .run .each (o .issue) (o .own)) (o .kind) ∙ upload-count
 
     pub upload-owner : openedBy t (v .bank .past .history) ≡ s .runs i .subscriber
     upload-owner =

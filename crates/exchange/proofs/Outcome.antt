@@ -112,6 +112,7 @@ use Rattle.exchange.proofs.Joint.{
   Uploads,
   one-opener,
   sender-uploads,
+  upload-count,
   upload-size,
   upload-owner,
   counts,
@@ -183,12 +184,15 @@ module _ (s : Course) (v : Parts s) (copies : Copied s) (numbers : OneExchangeNu
       at : Invariant (Gave (v .bank .past .history)) (fileIn (v .bank .past .history)) (runPast s i) →
           (isRequestForm (form (y .request)) ≡ true) × (1 ≤ subscriber (y .request)) × (subscriber (y .request) ≤ subscribers)
       at (not-begun e g) = absurd (in-none (subst (In y) g m))
-      at (upload b u) = let z = b .own y m in (upload-kind (u .each y m), let l = b .low in omega arith, let l = b .high in omega arith)
-      at (download b u) = let z = b .own y m in (
+      at (upload b u) = let z = b .bounded .own y m in (
+        upload-kind (u .each y m),
+        let l = b .bounded .low in omega arith,
+        let l = b .bounded .high in omega arith,
+      )
+      at (download b u) = let z = b .bounded .own y m in (
         download-kind (u .each y m),
-        let l = b .low in omega arith,
-        let l =
-            b .high in omega arith,
+        let l = b .bounded .low in omega arith,
+        let l = b .bounded .high in omega arith,
       )
 
   pub copied-reply : {i : ℕ} {y : history.Issue} {r : Fields} {d : List ℕ} → In y (issuesOf i (s .issued)) →
@@ -375,7 +379,7 @@ module _ (s : Course) (v : Parts s) (copies : Copied s) (numbers : OneExchangeNu
         record {
           copy = c .copy;
           upload = ap form q ∙ l .got .asked;
-          last = ap segment q ∙ l .last ∙ u .run .number;
+          last = ap segment q ∙ l .last ∙ upload-count s v copies numbers u;
           taken = ap returnCode r ∙ l .got .code;
         },
       ) in
@@ -410,7 +414,7 @@ module _ (s : Course) (v : Parts s) (copies : Copied s) (numbers : OneExchangeNu
           let q : readRequest (c .0 .frame) ≡ readRequest (b .0 .request) = ap readRequest (c .3) in
           last-not-sent (Gave h) (fileIn h) replies (runPast s i) (v .runs i) (asIssue (c .0)) (issued-in i (c .1) (c .2))
           (ap form q ∙ k .upload) l
-          (ap segment q ∙ k .last ∙ sym (u .run .number))
+          (ap segment q ∙ k .last ∙ sym (upload-count s v copies numbers u))
       at (inr l) =
           let a = l .got .given in
           let t = transaction-cancelled sound (a .stands) (ap form (a .reply) ∙ l .got .answered)

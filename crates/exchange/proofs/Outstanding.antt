@@ -3,7 +3,6 @@ use Prim.Native.Nat.{ℕ}
 use mathlib.Core.Bool.{Bool, true, false}
 use mathlib.Core.List.{List, List·Memᴰ as In, List·Memᴰ·head as here}
 use mathlib.Core.Path.{_≡_, refl, sym, ap, _∙_, subst}
-use lib.ListN.{length}
 use Rattle.frame_table.specs.Names.{exchange}
 use Rattle.frame.specs.Reader.{readRequest, readReply}
 use Rattle.frame.specs.Row.{dataOf}
@@ -12,7 +11,7 @@ use Rattle.client.specs.declared.run.Client.{Client}
 use Rattle.client.specs.declared.run.Ruling.{Ruling}
 use Rattle.client.specs.declared.run.Ruling.the-variants.{Refuse, Accept}
 use Rattle.client.specs.declared.run.Stage.the-variants as stage
-use Rattle.client.specs.Calls.{runBy, replyCall}
+use Rattle.client.specs.Calls.{ifAdmitted, admittedReply, replyCall}
 use Rattle.client.specs.Decisions.{isAnswer, onReply}
 use Rattle.client.specs.Requests.{outstanding, outstandingData}
 use Rattle.client.specs.Rulings.{isBegun, runRuling}
@@ -112,7 +111,7 @@ unfolding replyCall
 reply-running c reply l = go (runRuling (c .stage) c (lengthsOf l)) refl
   where
     go : (u : Ruling) → runRuling (c .stage) c (lengthsOf l) ≡ u →
-        answerNumber (runBy u (onReply c (readReply reply) (length (dataOf reply))) c (readReply reply) (dataOf reply) l .answer) ≡ 0 →
+        answerNumber (ifAdmitted u c l (admittedReply c reply l) .answer) ≡ 0 →
         c .stage ≡ stage.Running
     go (Refuse x) e h = numbered x h
     go Accept e h = accepted c (lengthsOf l) e .running
@@ -124,8 +123,8 @@ unfolding replyCall onReply
 reply-ignored c reply l done other = go (runRuling (c .stage) c (lengthsOf l)) done
   where
     go : (u : Ruling) →
-        answerNumber (runBy u (onReply c (readReply reply) (length (dataOf reply))) c (readReply reply) (dataOf reply) l .answer) ≡ 0 →
-        runBy u (onReply c (readReply reply) (length (dataOf reply))) c (readReply reply) (dataOf reply) l .answer ≡ answer.Ignored
+        answerNumber (ifAdmitted u c l (admittedReply c reply l) .answer) ≡ 0 →
+        ifAdmitted u c l (admittedReply c reply l) .answer ≡ answer.Ignored
     go (Refuse x) h = numbered x h
     go Accept h = rw other
 

@@ -22,13 +22,14 @@ use Rattle.bank_history.specs.History as bank
 use Rattle.client.specs.declared.run.Client.{Client}
 use Rattle.client.specs.declared.run.Direction.{Direction}
 use Rattle.client.specs.declared.run.Direction.the-variants.{Upload, Download}
+use Rattle.client.specs.declared.run.RunParameters.{RunParameters}
 use Rattle.client.specs.declared.run.Stage.the-variants as stage
 use Rattle.client.specs.declared.run.Step.{Step}
 use Rattle.client.specs.declared.run.Step.the-variants as step
 use Rattle.client.specs.declared.run.Word.{Word}
 use Rattle.client.specs.declared.run.Word.the-variants.{Lodged, Fetched}
 use Rattle.client.specs.Calls.{beginCall, replyCall}
-use Rattle.client.specs.NextRun.{stepBehind}
+use Rattle.client.specs.NextRun.{stepAfter}
 use Rattle.client.specs.Rulings.{isBegun}
 use Rattle.client.specs.Run.{Lent, answerNumber}
 use Rattle.client.proofs.Replies.{is-answer}
@@ -39,7 +40,7 @@ use Rattle.client_history.specs.Invariant.{isOpen, Newest, Steady}
 use Rattle.message.proofs.SegmentNumbers.{some-segment}
 use Rattle.client_history.proofs.Fitting.{download-fits, segment-fits, download-fields, segment-fields}
 use Rattle.client_history.proofs.Requests.{outstanding-exchange}
-use Rattle.client_history.proofs.Theorems.{newest-outstanding, steady, upload-run, file-held, begin-fresh}
+use Rattle.client_history.proofs.Theorems.{newest-outstanding, steady, upload-segments, file-held, begin-fresh}
 use Rattle.client_history.proofs.Liveness as clientTurn
 use Rattle.exchange.specs.Course.{Call, begins, replyArrives, Issue, Exchange, Arrival, Course, callNumber, exec}
 use Rattle.exchange.specs.Terms.{IssuedBy, Received}
@@ -139,27 +140,27 @@ module _ (k : Call) (s : Course) (v : Parts s) (copies : Copied s) (q : Allowed 
 
 -- ---- THE BEGIN
 
-module _ (s : Course) (v : Parts s) (copies : Copied s) (numbers : OneExchangeNumber s) (i : ℕ) (c : Client) (direction : Direction) (u first : ℕ)
-    (l : Lent) (q : Allowed (begins i c direction u first l) s) (later : OneExchangeNumber (exec (begins i c direction u first l) s))
-    (own : c ≡ s .runs i) (done : callNumber (begins i c direction u first l) ≡ 0) where
+module _ (s : Course) (v : Parts s) (copies : Copied s) (numbers : OneExchangeNumber s) (i : ℕ) (c : Client) (params : RunParameters)
+    (l : Lent) (q : Allowed (begins i c params l) s) (later : OneExchangeNumber (exec (begins i c params l) s))
+    (own : c ≡ s .runs i) (done : callNumber (begins i c params l) ≡ 0) where
   abbrev begin : Call
-  begin = begins i c direction u first l
+  begin = begins i c params l
 
-  done-run : answerNumber (beginCall (s .runs i) direction u first l .answer) ≡ 0
-  done-run = subst (λ (x : Client). answerNumber (beginCall x direction u first l .answer) ≡ 0) own done
+  done-run : answerNumber (beginCall (s .runs i) params l .answer) ≡ 0
+  done-run = subst (λ (x : Client). answerNumber (beginCall x params l .answer) ≡ 0) own done
 
-  begin-left : Leaves s (exec (begins i c direction u first l) s) × (exec (begins i c direction u first l) s .arrived ≡ s .arrived)
+  begin-left : Leaves s (exec (begins i c params l) s) × (exec (begins i c params l) s .arrived ≡ s .arrived)
   begin-left =
       subst (λ (t : Course). Leaves s t × (t .arrived ≡ s .arrived)) (sym (carried begin s done))
       (record { exchanged = refl; bank = refl }, refl)
 
   not-again : {A : Type 0} → isBegun (s .runs i .stage) ≡ true → A
-  not-again b = never (sym (begin-fresh (s .runs i) direction u first l done-run) ∙ b)
+  not-again b = never (sym (begin-fresh (s .runs i) params l done-run) ∙ b)
 
   begin-first : s .runs i .stage ≡ stage.NotBegun → ((a : Arrival) → In a (s .arrived) → a .run ≡ i → ToAnother i (a .reply) s) →
-      State (exec (begins i c direction u first l) s) i (history.after (Begin direction u first l) (runPast s i))
+      State (exec (begins i c params l) s) i (history.after (Begin params l) (runPast s i))
   begin-first e none = asks (record {
-    direction = direction;
+    direction = params .direction;
     at = step.Opening;
     j = 0;
     turn = record {
@@ -181,13 +182,13 @@ module _ (s : Course) (v : Parts s) (copies : Copied s) (numbers : OneExchangeNu
   })
     where
       then : Past
-      then = history.after (Begin direction u first l) (runPast s i)
+      then = history.after (Begin params l) (runPast s i)
 
       past : runPast (exec begin s) i ≡ then
-      past = begin-past s i c own direction u first l done
+      past = begin-past s i c own params l done
 
-      turn : InTurn then direction step.Opening 0 first
-      turn = clientTurn.begins (runPast s i) direction u first l done-run .0
+      turn : InTurn then (params .direction) step.Opening 0 (params .first)
+      turn = clientTurn.begins (runPast s i) params l done-run .0
 
       begun : isBegun (exec begin s .runs i .stage) ≡ true
       begun = ap (λ (p : Past). isBegun (p .run .stage)) past ∙ ap isBegun (turn .running)
@@ -204,10 +205,10 @@ module _ (s : Course) (v : Parts s) (copies : Copied s) (numbers : OneExchangeNu
       at x r b (inl m) = absurd (fresh (x, m, r, refl))
       at x r b (inr z) = absurd (let w = ap (λ (p : Past). p .run .exchange) past in omega arith)
 
-  pub begin-moves : State s i (runPast s i) → State (exec (begins i c direction u first l) s) i (runPast (exec (begins i c direction u first l) s) i)
-  begin-moves z = subst (State (exec begin s) i) (sym (begin-past s i c own direction u first l done)) (at z)
+  pub begin-moves : State s i (runPast s i) → State (exec (begins i c params l) s) i (runPast (exec (begins i c params l) s) i)
+  begin-moves z = subst (State (exec begin s) i) (sym (begin-past s i c own params l done)) (at z)
     where
-      at : State s i (runPast s i) → State (exec begin s) i (history.after (Begin direction u first l) (runPast s i))
+      at : State s i (runPast s i) → State (exec begin s) i (history.after (Begin params l) (runPast s i))
       at (idle e none) = begin-first e none
       at (asks a) = not-again (ap isBegun (a .turn .running))
       at (told a) = not-again (ap isBegun (a .turn .running))
@@ -393,7 +394,7 @@ module _ (s : Course) (v : Parts s) (copies : Copied s) (numbers : OneExchangeNu
     Next = State (exec (replyArrives i c reply l) s) i (history.after (Reply reply l) (runPast s i))
 
     -- behind segment k of a download: the next segment, or the receipt
-    download-next : (k n : ℕ) → InTurn then Download (stepBehind Download k n) (k + 1) (s .runs i .exchange + 1) → n ≡ then .run .segments →
+    download-next : (k n : ℕ) → InTurn then Download (stepAfter Download k n) (k + 1) (s .runs i .exchange + 1) → n ≡ then .run .segments →
         k ≤ n →
         Open Download (exec (replyArrives i c reply l) s) i (then .run .subscriber) (then .run .transaction) (then .run .segments) k → Next
     download-next k n turn count within o = at (eqb k n) refl turn
@@ -411,8 +412,8 @@ module _ (s : Course) (v : Parts s) (copies : Copied s) (numbers : OneExchangeNu
         Behind direction at j s i (s .runs i) (readReply reply) → Next
     told-by Upload step.Opening j turn (id, n, r, o) =
         let z = clientTurn.upload-opens p reply l done-reply j (s .runs i .exchange) n id turn r in
-        let some = upload-run (Gave h) (fileIn h) (bank-replies h (v .bank .holds .invariant .sound) (v .bank .proper)) p (v .runs i) begun
-        (turn .direction) .some in
+        let some = upload-segments (Gave h) (fileIn h) (bank-replies h (v .bank .holds .invariant .sound) (v .bank .proper)) p (v .runs i) begun
+        (turn .direction) .1 in
         next-asks Upload step.Segment 1 (z .0) (0, refl, (let y = z .3 in omega arith), open-then o (sym (z .1)) (sym (z .3)))
     told-by Upload step.Segment j turn (r, within, o) = at (ℕ-discrete j (s .runs i .segments))
       where

@@ -1,7 +1,7 @@
 -- The outstanding request of an order in turn comes to the bank: what it answers, and where the order stands then. Assumes nothing.
 use Prim.Native.Nat.{ℕ, suc, _+_, _<_, _≤_, max}
 use mathlib.Core.Bool.{Bool, true, false, cond}
-use mathlib.Core.List.{List, [], _∷_, List·Memᴰ as In, List·Memᴰ·head as here, List·Memᴰ·tail as there, List·Memᴰ·not-nil as in-none}
+use mathlib.Core.List.{List, [], _∷_, List·Memᴰ as In, List·Memᴰ·head as here, List·Memᴰ·tail as there}
 use mathlib.Core.Logic.{_⊎_, inl, inr}
 use mathlib.Core.Path.{_≡_, refl, sym, ap, _∙_, subst}
 use native.Mathlib.Decide.{ℕ-discrete}
@@ -49,7 +49,7 @@ use Rattle.client.specs.Requests.{nonceOf}
 use Rattle.client.specs.Rulings.{isBegun}
 use Rattle.client_history.specs.History.{Past}
 use Rattle.client_history.specs.InTurn.{InTurn}
-use Rattle.client_history.specs.Invariant.{isOpen, Invariant, not-begun, upload, download}
+use Rattle.client_history.specs.Invariant.{isOpen}
 use Rattle.client_history.proofs.Files.{segment-most}
 use Rattle.client_history.proofs.Fitting.{
   opened-fits,
@@ -73,7 +73,8 @@ use Rattle.client_history.proofs.Requests.{
   data-transfer,
   data-download,
 }
-use Rattle.client_history.proofs.Theorems.{exchange-numbers, upload-run, file-held}
+use Rattle.client_history.proofs.Theorems.{exchange-numbers, upload-segments, file-held}
+use Rattle.client_history.proofs.Theorems as client
 use Rattle.exchange.specs.Course.{Issue, Exchange, Arrival, Course}
 use Rattle.exchange.specs.Terms.{IssuedBy, Received, NoIdleHour}
 use Rattle.exchange.specs.Demand3.{OneExchangeNumber}
@@ -121,12 +122,9 @@ module _ (s : Course) (v : Parts s) (copies : Copied s) (numbers : OneExchangeNu
 
   -- a run that issued something has begun
   pub issued-begun : {frame : List ℕ} → IssuedBy i frame s → isBegun (s .runs i .stage) ≡ true
-  issued-begun (x, m, r, f) = at (v .runs i)
-    where
-      at : Invariant (Gave (v .bank .past .history)) (fileIn (v .bank .past .history)) (runPast s i) → isBegun (s .runs i .stage) ≡ true
-      at (not-begun e g) = absurd (in-none (subst (In _) g (issued-in i m r)))
-      at (upload b u) = b .stage
-      at (download b u) = b .stage
+  issued-begun (x, m, r, f) =
+      client.issued-begun (Gave h) (fileIn h) (bank-replies h (v .bank .holds .invariant .sound) (v .bank .proper))
+      (runPast s i) (v .runs i) _ (issued-in i m r)
 
   -- its numbers go up to the outstanding one
   pub issued-below : {x : Issue} → In x (s .issued) → x .run ≡ i → numberOf x < s .runs i .exchange + 1
@@ -467,8 +465,8 @@ module _ (s : Course) (v : Parts s) (copies : Copied s) (numbers : OneExchangeNu
           short : length (dataOf frame) ≤ segmentBytes
           short =
               let bytes = asked .bytes ∙ data-transfer c 0 [] (s .payloads i) (turn .direction) (turn .step) in
-              let count = upload-run (Gave h) (fileIn h) (bank-replies h (v .bank .holds .invariant .sound) (v .bank .proper)) p (v .runs i)
-              (issued-begun own) (turn .direction) .number in
+              let count = upload-segments (Gave h) (fileIn h) (bank-replies h (v .bank .holds .invariant .sound) (v .bank .proper)) p (v .runs i)
+              (issued-begun own) (turn .direction) .0 in
               let z = turn .segment in
               let m = segment-most (s .payloads i) (c .segment) (omega arith) (omega arith) in
               let l = ap length bytes in omega arith

@@ -230,7 +230,7 @@ run-box s i k payload (answer.Refused r) x m = inl m
 carried-box : (k : Call) (s : Course) (x : Issue) → In x (carryOut k s .issued) → In x (s .issued) ⊎ (x .box ≡ boxNow (carryOut k s) x)
 carried-box (frameArrives w time ids frame buffer) s x m = inl m
 carried-box (filePut b mailboxes n file) s x m = inl m
-carried-box (begins i c direction u first l) s x m = let k = beginCall c direction u first l in run-box s i k (l .payload) (k .answer) x m
+carried-box (begins i c params l) s x m = let k = beginCall c params l in run-box s i k (l .payload) (k .answer) x m
 carried-box (replyArrives i c reply l) s x m = let k = replyCall c reply l in run-box s i k (l .payload) (k .answer) x m
 carried-box (noReply i c l) s x m = let k = noReplyCall c l in run-box s i k (l .payload) (k .answer) x m
 
@@ -250,7 +250,7 @@ carried-move : (k : Call) (s : Course) (v : Parts s) → Premise k s → callNum
 carried-move (frameArrives w time ids frame buffer) s v q z =
     answers time ids frame buffer (frame-enters s (v .bank) w time ids frame buffer (q .0) z) refl
 carried-move (filePut b mailboxes m file) s v q z = puts m file (file-bank s v b mailboxes m file q z .0) refl
-carried-move (begins i c direction u first l) s v q z = rests refl refl
+carried-move (begins i c params l) s v q z = rests refl refl
 carried-move (replyArrives i c reply l) s v q z = rests refl refl
 carried-move (noReply i c l) s v q z = rests refl refl
 

@@ -6,7 +6,7 @@ use mathlib.Core.Path.{_≡_, sym, ap, _∙_, subst}
 use native.Mathlib.Decide.{ℕ-discrete}
 use Rattle.client.specs.declared.run.Answer.the-variants as answer
 use Rattle.client.specs.declared.run.Client.{Client}
-use Rattle.client.specs.declared.run.Direction.{Direction}
+use Rattle.client.specs.declared.run.RunParameters.{RunParameters}
 use Rattle.client.specs.declared.run.Stage.the-variants as stage
 use Rattle.client.specs.declared.run.Word.{Word}
 use Rattle.client.specs.Calls.{beginCall, replyCall, noReplyCall}
@@ -37,8 +37,8 @@ use Rattle.exchange.proofs.Courses.{frame-runs, file-runs}
 -- the run stays, or it gets one event further: begin, reply arrived, no reply
 pub data RunStep (s : Course) (i : ℕ) : Call → Past → Type 0 where
   rests : {k : Call} {p : Past} → p ≡ runPast s i → RunStep s i k p
-  begun : {c : Client} {direction : Direction} {subscriber first : ℕ} {l : Lent} {p : Past} → c ≡ s .runs i →
-      p ≡ history.after (Begin direction subscriber first l) (runPast s i) → RunStep s i (begins i c direction subscriber first l) p
+  begun : {c : Client} {params : RunParameters} {l : Lent} {p : Past} → c ≡ s .runs i →
+      p ≡ history.after (Begin params l) (runPast s i) → RunStep s i (begins i c params l) p
   replied : {c : Client} {reply : List ℕ} {l : Lent} {p : Past} → c ≡ s .runs i →
       p ≡ history.after (Reply reply l) (runPast s i) → RunStep s i (replyArrives i c reply l) p
   no-reply : {c : Client} {l : Lent} {p : Past} → c ≡ s .runs i → p ≡ history.after (NoReply l) (runPast s i) →
@@ -60,11 +60,11 @@ module _ (s : Course) (i : ℕ) (c : Client) (own : c ≡ s .runs i) where
       ap (λ (t : Course). runPast t i) (carried (k c) s z)
       ∙ subst (λ (x : Client). callNumber (k x) ≡ 0 → runPast (carryOut (k x) s) i ≡ p) (sym own) f z
 
-  pub begin-past : (direction : Direction) (subscriber first : ℕ) (l : Lent) → callNumber (begins i c direction subscriber first l) ≡ 0 →
-      runPast (exec (begins i c direction subscriber first l) s) i ≡ history.after (Begin direction subscriber first l) (runPast s i)
-  begin-past direction subscriber first l =
-      by-run (λ x. begins i x direction subscriber first l) _
-      (own-step s i (Begin direction subscriber first l) (begin-issues (s .runs i) l direction subscriber first))
+  pub begin-past : (params : RunParameters) (l : Lent) → callNumber (begins i c params l) ≡ 0 →
+      runPast (exec (begins i c params l) s) i ≡ history.after (Begin params l) (runPast s i)
+  begin-past params l =
+      by-run (λ x. begins i x params l) _
+      (own-step s i (Begin params l) (begin-issues (s .runs i) l params))
 
   pub reply-past : (reply : List ℕ) (l : Lent) → callNumber (replyArrives i c reply l) ≡ 0 →
       runPast (exec (replyArrives i c reply l) s) i ≡ history.after (Reply reply l) (runPast s i)
@@ -87,9 +87,9 @@ other-or-own k s i j stays q z own = at (ℕ-discrete i j)
 carried-step : (k : Call) (s : Course) → Premise k s → (i : ℕ) → callNumber k ≡ 0 → RunStep s i k (runPast (exec k s) i)
 carried-step (frameArrives w time ids frame buffer) s q i z = rests (frame-runs s w time ids frame buffer i)
 carried-step (filePut b mailboxes m file) s q i z = rests (file-runs s b mailboxes m file i)
-carried-step (begins j c direction subscriber first l) s q i z =
-    other-or-own (λ n. begins n c direction subscriber first l) s i j (other-past s j (beginCall c direction subscriber first l) l i) q z
-    (λ own y. begun own (begin-past s i c own direction subscriber first l y))
+carried-step (begins j c params l) s q i z =
+    other-or-own (λ n. begins n c params l) s i j (other-past s j (beginCall c params l) l i) q z
+    (λ own y. begun own (begin-past s i c own params l y))
 carried-step (replyArrives j c reply l) s q i z =
     other-or-own (λ n. replyArrives n c reply l) s i j (other-past s j (replyCall c reply l) l i) q z
     (λ left y. replied (left .0 .0) (reply-past s i c (left .0 .0) reply l y))

@@ -47,8 +47,8 @@ module _ (i : ℕ) where
           subst (State (exec (frameArrives w time ids frame buffer) s) i) (sym (frame-runs s w time ids frame buffer i))
           (request-moves s v copies numbers i time ids frame buffer (exec (frameArrives w time ids frame buffer) s) en own new hour issued
           arrivals z)
-      at k q later (own-begin {c = c} {direction = direction} {u = u} {first = first} {l = l} own done) =
-          begin-moves s v copies numbers i c direction u first l q later own done z
+      at k q later (own-begin {c = c} {params = params} {l = l} own done) =
+          begin-moves s v copies numbers i c params l q later own done z
       at k q later (own-reply {c = c} {reply = reply} {l = l} done left source fresh) =
           reply-moves s v copies numbers i c reply l q later done left source fresh z
 

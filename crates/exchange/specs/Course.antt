@@ -20,7 +20,7 @@ use Rattle.bank.specs.Mailbox.{fileNumber, FileCall, fileCall}
 use Rattle.client.specs.declared.run.Answer.{Answer}
 use Rattle.client.specs.declared.run.Answer.the-variants as answer
 use Rattle.client.specs.declared.run.Client.{Client}
-use Rattle.client.specs.declared.run.Direction.{Direction}
+use Rattle.client.specs.declared.run.RunParameters.{RunParameters}
 use Rattle.client.specs.Calls.{beginCall, replyCall, noReplyCall}
 use Rattle.client.specs.Run.{Lent, ClientCall, notBegun, answerNumber}
 
@@ -31,7 +31,7 @@ pub data Call : Type 0 where
   -- a file into a mailbox: the bank, the mailboxes' store, the mailbox, the file
   filePut : Bank → List ℕ → ℕ → List ℕ → Call
   -- begin: direction, subscriber, first exchange number
-  begins : ℕ → Client → Direction → ℕ → ℕ → Lent → Call
+  begins : ℕ → Client → RunParameters → Lent → Call
   -- reply arrived: its bytes
   replyArrives : ℕ → Client → List ℕ → Lent → Call
   -- no reply
@@ -182,7 +182,7 @@ emptied request reply mailboxes =
 abbrev pub callNumber : Call → ℕ
 callNumber (frameArrives w time ids frame buffer) = frameNumber (frameCall w time ids frame buffer .answer)
 callNumber (filePut b mailboxes m file) = fileNumber (fileCall b m file mailboxes .answer)
-callNumber (begins i c direction subscriber first l) = answerNumber (beginCall c direction subscriber first l .answer)
+callNumber (begins i c params l) = answerNumber (beginCall c params l .answer)
 callNumber (replyArrives i c reply l) = answerNumber (replyCall c reply l .answer)
 callNumber (noReply i c l) = answerNumber (noReplyCall c l .answer)
 
@@ -224,7 +224,7 @@ carryOut (frameArrives w time ids frame buffer) s =
     let k = frameCall w time ids frame buffer in
     afterFrame (replyIn (k .answer) (k .buffer)) (k .bankState) (advanced time w) frame s
 carryOut (filePut b mailboxes m file) s = afterFile (fileCall b m file mailboxes) m file s
-carryOut (begins i c direction subscriber first l) s = afterRun i (beginCall c direction subscriber first l) (l .payload) s
+carryOut (begins i c params l) s = afterRun i (beginCall c params l) (l .payload) s
 carryOut (replyArrives i c reply l) s =
     withArrived (record { run = i; reply = reply } ∷ s .arrived) (afterRun i (replyCall c reply l) (l .payload) s)
 carryOut (noReply i c l) s = afterRun i (noReplyCall c l) (l .payload) s

@@ -53,7 +53,7 @@ Left i c l s = (c ≡ s .runs i) × (l .payload ≡ s .payloads i) × (l .file �
 abbrev pub Premise : Call → Course → Type 0
 Premise (frameArrives w time ids frame buffer) s = (w ≡ s .bank) × (isSubscribers frame ≡ true → (i : ℕ) × IssuedBy i frame s)
 Premise (filePut b mailboxes m file) s = (b ≡ s .bank .bank) × (mailboxes ≡ s .bank .mailboxes)
-Premise (begins i c direction subscriber first l) s = c ≡ s .runs i
+Premise (begins i c params l) s = c ≡ s .runs i
 Premise (replyArrives i c reply l) s = Left i c l s
     × ((e : Exchange) × In e (s .exchanged) × (e .reply ≡ reply) × ((j : ℕ) × IssuedBy j (e .request) s))
 Premise (noReply i c l) s = Left i c l s

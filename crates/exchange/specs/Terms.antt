@@ -100,7 +100,7 @@ Turn i (frameArrives w time ids frame buffer) s = IssuedBy i frame s →
     ((e : Exchange) → In e (s .exchanged) → e .request ≡ frame → ⊥)
     × NoIdleHour i (frameCall w time ids frame buffer .bankState .bank .clock) s
 Turn i (filePut b mailboxes m file) s = Unit {0}
-Turn i (begins j c direction subscriber first l) s = Unit {0}
+Turn i (begins j c params l) s = Unit {0}
 Turn i (replyArrives j c reply l) s = j ≡ i → (a : Arrival) → In a (s .arrived) → a .run ≡ i → a .reply ≡ reply → ⊥
 Turn i (noReply j c l) s = j ≡ i → ⊥
 

@@ -35,7 +35,8 @@ take-segment-requires c κs =
     let a = s .args in
     let led = cause-of s (k .before .enum-told2 .given .1) in
     rw (k .learned .ensures)
-    (opened-takes (a .c) (a .r) (length (a .d .now)) (length (a .file .now)) (s .pre .1) (s .pre .2) (a .c .direction) refl led)
+    (opened-takes (a .c) (a .r) (length (a .d .now)) (length (a .file .now)) (s .pre .1) (s .pre .2) (a .c .direction)
+    refl led)
 
 enum-told-3 : tie.Need-enum-told-3
 enum-told-3 c = search needs
@@ -45,7 +46,8 @@ take-segment-requires-2 c κs =
     let s = c .before .before .before .before .before .before .before .before in
     let a = s .args in
     let led = cause-of s (c .before .before .enum-told3 .given .1) in
-    advance-takes (a .c) (a .r) (length (a .d .now)) (length (a .file .now)) (s .pre .1) (s .pre .2) (segments-fit s) led
+    advance-takes (a .c) (a .r) (length (a .d .now)) (length (a .file .now)) (s .pre .1) (s .pre .2) (segments-fit s)
+    led
 
 enum-known-decision : tie.Need-enum-known-decision
 enum-known-decision c = search needs

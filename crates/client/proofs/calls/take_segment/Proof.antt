@@ -45,7 +45,8 @@ returns c =
     let next-is = g .go-on .ensures ∙ ap (goOn (start .k .segment) (start .k .repeats)) (g .before .holding .ensures) in
     let file = fileWith (start .k) (start .d .now) (start .file .now) in
     rw (← next-is)
-    (issued-is (start .c) (g .go-on .result) file l (w .write-request .result) (w .write-request .ensures .0) (c .outcome-of .ensures)
+    (issued-is (start .c) (g .go-on .result) file l (w .write-request .result) (w .write-request .ensures .0)
+    (c .outcome-of .ensures)
     (stored .hold-if-written .ensures)
     (w .write-request .ensures .1))
 

@@ -19,7 +19,12 @@ unfolding fitsSegment
 returns-2 c =
     let a = c .before .before in
     let b = a .before in
-    simp (le-leb _ _ (b .if1 .left), ← a .last-mark .ensures, ← c .before .last-mark-of .ensures, ne-eqb _ _ (c .if2 .taken))
+    simp (
+      le-leb _ _ (b .if1 .left),
+      ← a .last-mark .ensures,
+      ← c .before .last-mark-of .ensures,
+      ne-eqb _ _ (c .if2 .taken),
+    )
 
 fits-data-requires : tie.Need-fits-data-requires
 fits-data-requires c κs = tt

@@ -14,7 +14,11 @@ returns : tie.Need-returns
 unfolding isAnswer
 returns c =
     let a = c .before .before in
-    simp (← a .form .ensures, ← c .before .is-reply-form .ensures, not-true (c .before .is-reply-form .result) (c .if1 .taken))
+    simp (
+      ← a .form .ensures,
+      ← c .before .is-reply-form .ensures,
+      not-true (c .before .is-reply-form .result) (c .if1 .taken),
+    )
 
 form-index-requires : tie.Need-form-index-requires
 form-index-requires c κs = tt

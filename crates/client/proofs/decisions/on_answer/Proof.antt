@@ -48,27 +48,49 @@ on-receipt-requires c κs = tt
 
 returns : tie.Need-returns
 unfolding onUpload
-returns c = simp (c .before .before .before .enum-told .given .1, c .before .enum-told2 .given .1, ← c .on-upload-opening .ensures)
+returns c =
+    simp (
+      c .before .before .before .enum-told .given .1,
+      c .before .enum-told2 .given .1,
+      ← c .on-upload-opening .ensures,
+    )
 
 returns-2 : tie.Need-returns-2
 unfolding onUpload
-returns-2 c = simp (c .before .before .before .enum-told .given .1, c .before .enum-told3 .given .1, ← c .on-upload-segment .ensures)
+returns-2 c =
+    simp (
+      c .before .before .before .enum-told .given .1,
+      c .before .enum-told3 .given .1,
+      ← c .on-upload-segment .ensures,
+    )
 
 returns-3 : tie.Need-returns-3
 unfolding onUpload
-returns-3 c = simp (c .before .before .before .enum-told .given .1, c .before .enum-told4 .given .1, ← c .rest-word .ensures)
+returns-3 c =
+    simp (c .before .before .before .enum-told .given .1, c .before .enum-told4 .given .1, ← c .rest-word .ensures)
 
 returns-4 : tie.Need-returns-4
 unfolding onDownload
-returns-4 c = simp (c .before .before .before .enum-told5 .given .1, c .before .enum-told6 .given .1, ← c .on-download-opening .ensures)
+returns-4 c =
+    simp (
+      c .before .before .before .enum-told5 .given .1,
+      c .before .enum-told6 .given .1,
+      ← c .on-download-opening .ensures,
+    )
 
 returns-5 : tie.Need-returns-5
 unfolding onDownload
-returns-5 c = simp (c .before .before .before .enum-told5 .given .1, c .before .enum-told7 .given .1, ← c .on-download-segment .ensures)
+returns-5 c =
+    simp (
+      c .before .before .before .enum-told5 .given .1,
+      c .before .enum-told7 .given .1,
+      ← c .on-download-segment .ensures,
+    )
 
 returns-6 : tie.Need-returns-6
 unfolding onDownload
-returns-6 c = simp (c .before .before .before .enum-told5 .given .1, c .before .enum-told8 .given .1, ← c .on-receipt .ensures)
+returns-6 c =
+    simp (c .before .before .before .enum-told5 .given .1, c .before .enum-told8 .given .1, ← c .on-receipt .ensures)
 
 pub on-answer-spec : {M : Type 1} → statement M
 on-answer-spec =

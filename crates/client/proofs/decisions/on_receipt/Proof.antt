@@ -22,7 +22,13 @@ returns-2 c =
     let a = c .before .before in
     let b = a .before in
     let d = b .before in
-    simp (← d .confirms .ensures, b .if1 .left, ← a .download-returns .ensures, c .before .if2 .taken, ← c .segment .ensures)
+    simp (
+      ← d .confirms .ensures,
+      b .if1 .left,
+      ← a .download-returns .ensures,
+      c .before .if2 .taken,
+      ← c .segment .ensures,
+    )
 
 rest-word-requires : tie.Need-rest-word-requires
 rest-word-requires c κs = tt
@@ -33,7 +39,13 @@ returns-3 c =
     let a = c .before .before in
     let b = a .before in
     let d = b .before in
-    simp (← d .confirms .ensures, b .if1 .left, ← a .download-returns .ensures, c .before .if2 .left, ← c .rest-word .ensures)
+    simp (
+      ← d .confirms .ensures,
+      b .if1 .left,
+      ← a .download-returns .ensures,
+      c .before .if2 .left,
+      ← c .rest-word .ensures,
+    )
 
 pub on-receipt-spec : {M : Type 1} → statement M
 on-receipt-spec =

@@ -13,7 +13,8 @@ returns-2 : tie.Need-returns-2
 returns-2 c = sym (eq-eqb (c .before .before .args .s) (c .before .before .args .held + 1) (omega arith))
 
 returns-3 : tie.Need-returns-3
-returns-3 c = sym (ne-eqb (c .before .before .args .s) (c .before .before .args .held + 1) (λ e. c .if2 .left (omega arith)))
+returns-3 c =
+    sym (ne-eqb (c .before .before .args .s) (c .before .before .args .held + 1) (λ e. c .if2 .left (omega arith)))
 
 pub is-next-spec : {M : Type 1} → statement M
 is-next-spec = tie.close (tie.spec returns returns-2 returns-3)

@@ -25,7 +25,8 @@ receipt-requires : tie.Need-receipt-requires
 receipt-requires c κs = tt
 
 returns : tie.Need-returns
-returns c = simp (c .before .before .enum-told .given .1, ← c .before .nonce-of .ensures, ← c .download-opening .ensures)
+returns c =
+    simp (c .before .before .enum-told .given .1, ← c .before .nonce-of .ensures, ← c .download-opening .ensures)
 
 returns-2 : tie.Need-returns-2
 returns-2 c = simp (c .before .enum-told2 .given .1, ← c .download-transfer .ensures)

@@ -31,7 +31,8 @@ returns : tie.Need-returns
 returns c = simp (c .before .before .enum-told .given .1, ← c .before .nonce-of .ensures, ← c .upload-opening .ensures)
 
 returns-2 : tie.Need-returns-2
-returns-2 c = simp (c .before .before .enum-told2 .given .1, ← c .before .last-mark-of .ensures, ← c .upload-transfer .ensures)
+returns-2 c =
+    simp (c .before .before .enum-told2 .given .1, ← c .before .last-mark-of .ensures, ← c .upload-transfer .ensures)
 
 returns-3 : tie.Need-returns-3
 returns-3 c = simp (c .before .enum-told3 .given .1, ← c .receipt .ensures)

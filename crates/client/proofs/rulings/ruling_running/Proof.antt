@@ -13,11 +13,13 @@ returns c = simp (← c .before .wrong-lengths .ensures, c .if1 .taken)
 
 returns-2 : tie.Need-returns-2
 unfolding rulingRunning
-returns-2 c = simp (← c .before .before .before .wrong-lengths .ensures, c .before .before .if1 .left, lt-ltb _ _ (c .if2 .taken))
+returns-2 c =
+    simp (← c .before .before .before .wrong-lengths .ensures, c .before .before .if1 .left, lt-ltb _ _ (c .if2 .taken))
 
 returns-3 : tie.Need-returns-3
 unfolding rulingRunning
-returns-3 c = simp (← c .before .before .before .wrong-lengths .ensures, c .before .before .if1 .left, le-ltb _ _ (c .if2 .left))
+returns-3 c =
+    simp (← c .before .before .before .wrong-lengths .ensures, c .before .before .if1 .left, le-ltb _ _ (c .if2 .left))
 
 pub ruling-running-spec : {M : Type 1} → statement M
 ruling-running-spec = tie.close (tie.spec wrong-lengths-requires returns returns-2 returns-3)

@@ -1,7 +1,7 @@
--- `step_behind` meets its contract. Assumes nothing.
+-- `step_after` meets its contract. Assumes nothing.
 use borrow.Author.Needs.{needs}
-use Rattle.client.proofs.next_run.step_behind.Statement.{statement}
-use Rattle.client.proofs.next_run.step_behind.Tie as tie
+use Rattle.client.proofs.next_run.step_after.Statement.{statement}
+use Rattle.client.proofs.next_run.step_after.Tie as tie
 
 enum-told : tie.Need-enum-told
 enum-told c = search needs
@@ -18,6 +18,6 @@ returns c = search needs
 returns-2 : tie.Need-returns-2
 returns-2 c = simp (c .before .enum-told2 .given .1, ← c .download-step .ensures)
 
-pub step-behind-spec : {M : Type 1} → statement M
-step-behind-spec =
+pub step-after-spec : {M : Type 1} → statement M
+step-after-spec =
     tie.close (tie.spec enum-told enum-told-2 download-step-requires returns returns-2)

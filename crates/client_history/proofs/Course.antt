@@ -1,0 +1,314 @@
+-- Each step of a run keeps its course: how far it is, and how many requests it has issued by then. Assumes nothing.
+use Prim.Native.Nat.{ℕ, _+_, _*_, _≤_, _<_}
+use mathlib.Core.Bool.{Bool, true, false}
+use mathlib.Core.Logic.{inl, inr}
+use mathlib.Core.Path.{_≡_, refl, sym, ap, subst, _∙_}
+use native.Mathlib.Nat.{add-mul, one-mul, mul-one, mul-le-mul-left, mul-le-mul-right}
+use native.Mathlib.Omega.{arith}
+use lib.Dec.{eqb}
+use borrow.Author.Tests.{eqb-true, eqb-false}
+use Rattle.frame_table.specs.declared.fields.Fields.{Fields}
+use Rattle.frame_table.specs.Names.{segments}
+use Rattle.message.specs.Limits.{maxSegments, fileBytes}
+use Rattle.message.specs.Segments.{segmentsOf}
+use Rattle.message.proofs.Verdicts.{by-test}
+use Rattle.client.specs.declared.run.Client.{Client}
+use Rattle.client.specs.declared.run.Direction.{Direction}
+use Rattle.client.specs.declared.run.Direction.the-variants.{Upload, Download}
+use Rattle.client.specs.declared.run.Step.{Step}
+use Rattle.client.specs.declared.run.Step.the-variants as step
+use Rattle.client.specs.declared.run.Word.{Word}
+use Rattle.client.specs.NextRun.{begun, stepAfter, goOn, repeated, learned, isNew, holding, ended}
+use Rattle.client.specs.Run.{parametersOf}
+use Rattle.client.proofs.Apart.{not-both, not-opening-segment, not-opening-receipt, not-segment-receipt}
+use Rattle.client.proofs.Causes.{OpensDownload}
+use Rattle.client.proofs.NextRuns.{new-next}
+use Rattle.client_history.specs.Bounds.{
+  maxRequests,
+  UploadPlace,
+  UploadCourse,
+  OpeningCourse,
+  SegmentsKnown,
+  DownloadPlace,
+  DownloadCourse,
+  Course,
+  uploading,
+  opening,
+  downloading,
+}
+
+-- one more repeat or return
+pub more : (n m : ℕ) → (n + 1) * m ≡ n * m + m
+more n m = add-mul n 1 m ∙ ap (λ (z : ℕ). n * m + z) (one-mul m)
+
+-- ---- uploads
+
+pub up-segments : (c : Client) (q : ℕ) → UploadCourse c q → (1 ≤ c .segments) × (c .segments ≤ maxSegments)
+unfolding segmentsOf
+up-segments c q u = (omega (arith, u .count, u .some, u .most), omega (arith, u .count, u .some, u .most))
+
+-- the request after segment s issued, as the p-th repeat or return
+pub up-go : (c : Client) (q s p : ℕ) → UploadCourse c q → s < c .segments → s ≤ c .issued → q ≤ 1 + s + p * c .segments
+    → UploadCourse (goOn s p c) (q + 1)
+unfolding goOn
+up-go c q s p u below near few = record {
+  direction = u .direction;
+  some = u .some;
+  most = u .most;
+  count = u .count;
+  place = inr (ap (λ (direction : Direction). stepAfter direction s (c .segments)) (u .direction), omega arith);
+  known = omega arith;
+  within = omega (arith, u .within);
+  requests = omega arith;
+}
+
+at-opening : (at : Step) (s : ℕ) → at ≡ step.Opening → UploadPlace at s → s ≡ 0
+at-opening at s o (inl p) = p .1
+at-opening at s o (inr p) = not-opening-segment o (p .0)
+
+pub up-learned : (c : Client) (q : ℕ) (r : Fields) → UploadCourse c q → c .step ≡ step.Opening
+    → UploadCourse (learned Upload r c) q
+up-learned c q r u s = record {
+  direction = u .direction;
+  some = u .some;
+  most = u .most;
+  count = u .count;
+  place = inl (s, refl);
+  known = omega arith;
+  within = u .within;
+  requests = omega (arith, u .requests, at-opening (c .step) (c .segment) s (u .place));
+}
+
+pub up-repeated : (c : Client) (q : ℕ) → UploadCourse c q → UploadCourse (repeated c) (q + 1)
+unfolding repeated
+up-repeated c q u = record {
+  direction = u .direction;
+  some = u .some;
+  most = u .most;
+  count = u .count;
+  place = u .place;
+  known = u .known;
+  within = u .within;
+  requests = omega (arith, u .requests, up-segments c q u .0, more (c .repeats) (c .segments));
+}
+
+pub up-ended : (c : Client) (q : ℕ) (w : Word) → UploadCourse c q → UploadCourse (ended w c) q
+unfolding ended
+up-ended c q w u = record {
+  direction = u .direction;
+  some = u .some;
+  most = u .most;
+  count = u .count;
+  place = u .place;
+  known = u .known;
+  within = u .within;
+  requests = u .requests;
+}
+
+-- "An upload issues at most 6N + 1 requests"
+pub up-most : (c : Client) (q : ℕ) → UploadCourse c q → c .repeats ≤ 5 → q ≤ 6 * c .segments + 1
+up-most c q u h = omega (arith, u .requests, u .known, u .within, mul-le-mul-right (c .segments) h)
+
+-- ---- downloads
+
+place-after : (k n : ℕ) → k ≤ n → DownloadPlace (stepAfter Download k n) (k + 1) n
+place-after k n h =
+    by-test (λ (at : Step). DownloadPlace at (k + 1) n) (eqb k n)
+    (λ e. inr (refl, ap (λ (m : ℕ). m + 1) (eqb-true k n e)))
+    (λ e. inl (refl, (let d = eqb-false k n e in omega arith)))
+
+-- the request after segment s issued, as the p-th repeat or return
+pub down-go : (c : Client) (q s p : ℕ) → SegmentsKnown c → s ≤ c .held → q ≤ s + p * (c .segments + 1)
+    → DownloadCourse (goOn s p c) (q + 1)
+unfolding goOn
+down-go c q s p k near few = record {
+  known = record { direction = k .direction; some = k .some; most = k .most; within = k .within };
+  first = omega arith;
+  next = omega arith;
+  place = rw (k .direction) (place-after s (c .segments) (omega (arith, k .within)));
+  requests = omega arith;
+}
+
+-- the outstanding segment held: those up to it are held then
+pub record Holds (c h : Client) : Type 0 where
+  pub known : SegmentsKnown h
+  pub same : h .segments ≡ c .segments
+  pub held : c .segment ≤ h .held
+
+holds-at : (c : Client) (d : ℕ) (b : Bool) → isNew (c .direction) c ≡ b → SegmentsKnown c → c .segment ≤ c .segments
+    → c .segment ≤ c .held + 1
+    → Holds c (holding d c)
+unfolding holding
+holds-at c d true e k m n = rw e (record {
+  known =
+      record {
+        direction = k .direction;
+        some = k .some;
+        most = k .most;
+        within = omega (arith, new-next (c .direction) c e);
+      };
+  same = refl;
+  held = n;
+})
+holds-at c d false e k m n =
+    let old = eqb-false (c .segment) (c .held + 1)
+    (sym (ap (λ (direction : Direction). isNew direction c) (k .direction)) ∙ e) in
+    rw e (record { known = k; same = refl; held = omega arith })
+
+pub holds : (c : Client) (d : ℕ) → SegmentsKnown c → c .segment ≤ c .segments → c .segment ≤ c .held + 1
+    → Holds c (holding d c)
+holds c d k m n = holds-at c d (isNew (c .direction) c) refl k m n
+
+-- the outstanding segment answered
+pub down-taken : (c : Client) (q d p : ℕ) → SegmentsKnown c → c .segment ≤ c .segments → c .segment ≤ c .held + 1
+    → q ≤ c .segment + p * (c .segments + 1) → DownloadCourse (goOn (c .segment) p (holding d c)) (q + 1)
+down-taken c q d p k m n few =
+    let h = holds c d k m n in
+    let few' = subst (λ (z : ℕ). q ≤ c .segment + p * (z + 1)) (sym (h .same)) few in
+    down-go (holding d c) q (c .segment) p (h .known) (h .held) few'
+
+-- the opening answered
+pub down-opened : (c : Client) (q d : ℕ) (r : Fields) → OpeningCourse c q → OpensDownload r d
+    → DownloadCourse (goOn 1 (c .repeats) (holding d (learned Download r c))) (q + 1)
+down-opened c q d r o h =
+    let k = learned Download r c in
+    let n = segments r in
+    let repeats : c .repeats * 1 ≤ c .repeats * (n + 1) = mul-le-mul-left (c .repeats) (omega arith) in
+    let known : SegmentsKnown k =
+    record { direction = o .direction; some = h .some; most = h .most; within = omega (arith, o .none) } in
+    down-taken k q d (c .repeats) known (h .some) (omega arith) (omega (arith, o .requests, mul-one (c .repeats)))
+
+down-place : (at : Step) (s n : ℕ) → DownloadPlace at s n → s ≤ n + 1
+down-place at s n (inl p) = omega (arith, p .1)
+down-place at s n (inr p) = omega (arith, p .1)
+
+-- the segment of a download's transfer is among the N
+pub down-transfer : (c : Client) (q : ℕ) → DownloadCourse c q → c .step ≡ step.Segment → c .segment ≤ c .segments
+down-transfer c q d e = at (d .place)
+  where
+    at : DownloadPlace (c .step) (c .segment) (c .segments) → c .segment ≤ c .segments
+    at (inl p) = p .1
+    at (inr p) = not-segment-receipt e (p .0)
+
+pub down-returned : (c : Client) (q s : ℕ) → DownloadCourse c q → s ≤ c .held
+    → DownloadCourse (goOn s (c .repeats + 1) c) (q + 1)
+down-returned c q s d h =
+    down-go c q s (c .repeats + 1) (d .known) h
+    (omega (
+      arith,
+      d .requests,
+      down-place (c .step) (c .segment) (c .segments) (d .place),
+      more (c .repeats) (c .segments + 1),
+    ))
+
+pub down-repeated : (c : Client) (q : ℕ) → DownloadCourse c q → DownloadCourse (repeated c) (q + 1)
+unfolding repeated
+down-repeated c q d =
+    let k = d .known in record {
+      known = record { direction = k .direction; some = k .some; most = k .most; within = k .within };
+      first = d .first;
+      next = d .next;
+      place = d .place;
+      requests = omega (arith, d .requests, more (c .repeats) (c .segments + 1));
+    }
+
+pub down-ended : (c : Client) (q : ℕ) (w : Word) → DownloadCourse c q → DownloadCourse (ended w c) q
+unfolding ended
+down-ended c q w d =
+    let k = d .known in record {
+      known = record { direction = k .direction; some = k .some; most = k .most; within = k .within };
+      first = d .first;
+      next = d .next;
+      place = d .place;
+      requests = d .requests;
+    }
+
+pub opening-repeated : (c : Client) (q : ℕ) → OpeningCourse c q → OpeningCourse (repeated c) (q + 1)
+unfolding repeated
+opening-repeated c q o =
+    record {
+      direction = o .direction;
+      at = o .at;
+      unknown = o .unknown;
+      none = o .none;
+      requests = omega (arith, o .requests);
+    }
+
+pub opening-ended : (c : Client) (q : ℕ) (w : Word) → OpeningCourse c q → OpeningCourse (ended w c) q
+unfolding ended
+opening-ended c q w o =
+    record { direction = o .direction; at = o .at; unknown = o .unknown; none = o .none; requests = o .requests }
+
+-- "a download 6N + 6"
+pub down-most : (c : Client) (q : ℕ) → DownloadCourse c q → c .repeats ≤ 5 → q ≤ 6 * c .segments + 6
+down-most c q d h =
+    let place = down-place (c .step) (c .segment) (c .segments) (d .place) in
+    omega (arith, d .requests, mul-le-mul-right (c .segments + 1) h)
+
+-- ---- both directions
+
+-- of an upload
+pub upload-course : {c : Client} {q : ℕ} → Course c q → c .direction ≡ Upload → UploadCourse c q
+upload-course (uploading u) w = u
+upload-course (opening o) w = not-both w (o .direction)
+upload-course (downloading d) w = not-both w (d .known .direction)
+
+pub course-ended : (c : Client) (q : ℕ) (w : Word) → Course c q → Course (ended w c) q
+course-ended c q w (uploading u) = uploading (up-ended c q w u)
+course-ended c q w (opening o) = opening (opening-ended c q w o)
+course-ended c q w (downloading d) = downloading (down-ended c q w d)
+
+pub course-repeated : (c : Client) (q : ℕ) → Course c q → Course (repeated c) (q + 1)
+course-repeated c q (uploading u) = uploading (up-repeated c q u)
+course-repeated c q (opening o) = opening (opening-repeated c q o)
+course-repeated c q (downloading d) = downloading (down-repeated c q d)
+
+pub course-most : (c : Client) (q : ℕ) → Course c q → c .repeats ≤ 5 → q ≤ maxRequests (c .direction) (c .segments)
+course-most c q (uploading u) h = rw (u .direction) (up-most c q u h)
+course-most c q (opening o) h = rw (o .direction) (omega (arith, o .requests))
+course-most c q (downloading d) h = rw (d .known .direction) (down-most c q d h)
+
+pub course-segments : (c : Client) (q : ℕ) → Course c q → c .segments ≤ maxSegments
+course-segments c q (uploading u) = up-segments c q u .1
+course-segments c q (opening o) = omega (arith, o .unknown)
+course-segments c q (downloading d) = d .known .most
+
+-- at the receipt of a download all segments are held
+pub receipt-held : (c : Client) (q : ℕ) → Course c q → c .direction ≡ Download → c .step ≡ step.Receipt
+    → c .held ≡ c .segments
+receipt-held c q (uploading u) w s = not-both (u .direction) w
+receipt-held c q (opening o) w s = not-opening-receipt (o .at) s
+receipt-held c q (downloading d) w s = at (d .place)
+  where
+    at : DownloadPlace (c .step) (c .segment) (c .segments) → c .held ≡ c .segments
+    at (inl p) = not-segment-receipt (p .0) s
+    at (inr p) = omega (arith, p .1, d .next, d .known .within)
+
+-- at most 15 segments are held, and asked for
+pub course-guards : (c : Client) (q : ℕ) → Course c q → c .direction ≡ Download
+    → (c .held ≤ maxSegments) × (c .step ≡ step.Segment → c .segment ≤ maxSegments)
+course-guards c q (uploading u) w = not-both (u .direction) w
+course-guards c q (opening o) w = (omega (arith, o .none), not-opening-segment (o .at))
+course-guards c q (downloading d) w =
+    (omega (arith, d .known .within, d .known .most), λ s. omega (arith, down-transfer c q d s, d .known .most))
+
+-- ---- a run as begun
+
+pub up-start : (subscriber first n : ℕ) → 1 ≤ n → n ≤ fileBytes
+    → Course (begun (parametersOf Upload subscriber first) n) 1
+unfolding begun
+up-start subscriber first n some most = uploading (record {
+  direction = refl;
+  some = some;
+  most = most;
+  count = refl;
+  place = inl (refl, refl);
+  known = omega arith;
+  within = omega arith;
+  requests = omega arith;
+})
+
+pub opening-start : (subscriber first : ℕ) → Course (begun (parametersOf Download subscriber first) 0) 1
+unfolding begun segmentsOf
+opening-start subscriber first =
+    opening (record { direction = refl; at = refl; unknown = refl; none = refl; requests = omega arith })
