@@ -5,9 +5,10 @@ use crate::layout::OPENINGS_AT;
 use bank_state::limits::PLACE_COUNT;
 ghost use mathlib.Core.Path.{_≡_};
 ghost use Prim.Native.Nat.{_<_};
-ghost use lib.ListN.{getD, set};
+ghost use lib.ListN.{length, getD, set};
 ghost use Rattle.bank_state.specs.Limits.{placeCount};
 ghost use Rattle.bank_state.specs.State.{fileLength, withClock, withOpenings, withFiles};
+ghost use Rattle.bank_rows.specs.Layout.{stateSize};
 ghost use Rattle.bank_rows.specs.State.{bankOf, stored, Laid};
 
 pub fn clock(rows: &[u64]) -> u64
@@ -41,7 +42,7 @@ pub fn set_openings(rows: &mut [u64], n: u64)
 
 // The length of the file in mailbox i.
 pub fn file_length(rows: &[u64], i: usize) -> u64
-    requires { ⌜ Laid (now rows) × (i < placeCount) ⌝ }
+    requires { ⌜ (length (now rows) ≡ stateSize) × (i < placeCount) ⌝ }
     ensures { λ r. ⌜ r ≡ getD (bankOf (now (rows .entry)) .files) i 0 ⌝ }
 {
     rows[FILES_AT + i]

@@ -12,6 +12,8 @@ use Rattle.bank_state.specs.declared.state.Place.{Place}
 use Rattle.bank_state.specs.Search.{isBooked}
 use Rattle.bank_state.specs.State.{placeAt}
 use Rattle.bank_state.specs.Store.{partAt, fileOf}
+use Rattle.bank_rows.specs.State.{bankOf}
+use Rattle.bank.specs.Lent.{Lent}
 use Rattle.client.specs.declared.run.Client.{Client}
 use Rattle.client.specs.declared.run.Stage.{Stage}
 use Rattle.client.specs.declared.run.Stage.the-variants as stage
@@ -137,8 +139,8 @@ pub file-fits : (store : List ℕ) (i n : ℕ) → length (fileOf store i n) ≤
 unfolding fileOf partAt
 file-fits store i n = simp (length-take) (omega arith)
 
-pub row-most : (t : Table) (u : UnitState) (orders mailboxes files : List ℕ) (i : ℕ) → length (rowAt t u orders mailboxes files i) ≤ rowRoom
-row-most Book u orders mailboxes files i = order-most (placeAt (u .bank) i) _ (file-fits _ _ _)
-row-most Mailboxes u orders mailboxes files i = file-most (i + 1) _ (file-fits _ _ _)
-row-most Words u orders mailboxes files i = word-most (i + 1) (runAt (u .runs) i .client)
-row-most Files u orders mailboxes files i = file-most (i + 1) _ (file-fits _ _ _)
+pub row-most : (t : Table) (u : UnitState) (m : Lent) (files : List ℕ) (i : ℕ) → length (rowAt t u m files i) ≤ rowRoom
+row-most Book u m files i = order-most (placeAt (bankOf (m .rows)) i) _ (file-fits _ _ _)
+row-most Mailboxes u m files i = file-most (i + 1) _ (file-fits _ _ _)
+row-most Words u m files i = word-most (i + 1) (runAt (u .runs) i .client)
+row-most Files u m files i = file-most (i + 1) _ (file-fits _ _ _)

@@ -10,6 +10,8 @@ use Rattle.bank_state.specs.Limits.{placeCount}
 use Rattle.bank_state.specs.Search.{isBooked}
 use Rattle.bank_state.specs.State.{placeAt}
 use Rattle.bank_state.specs.Store.{fileOf}
+use Rattle.bank_rows.specs.State.{bankOf}
+use Rattle.bank.specs.Lent.{Lent}
 use Rattle.client.specs.declared.run.Client.{Client}
 use Rattle.client.specs.declared.run.Direction.{Direction}
 use Rattle.client.specs.declared.run.Direction.the-variants.{Upload, Download}
@@ -60,11 +62,13 @@ heldBy Upload c = 0
 heldBy Download c = c .length
 
 -- row i of a table: "The book in place order; the mailboxes that hold a file; the runs that have begun ...; and each run's file"
-abbrev pub rowAt : Table → UnitState → List ℕ → List ℕ → List ℕ → ℕ → List ℕ
-rowAt Book u orders mailboxes files i = orderRow (placeAt (u .bank) i) (fileOf orders i (placeAt (u .bank) i .length))
-rowAt Mailboxes u orders mailboxes files i = fileRow (i + 1) (fileOf mailboxes i (getD (u .bank .files) i 0))
-rowAt Words u orders mailboxes files i = wordRow (i + 1) (runAt (u .runs) i .client)
-rowAt Files u orders mailboxes files i =
+abbrev pub rowAt : Table → UnitState → Lent → List ℕ → ℕ → List ℕ
+rowAt Book u m files i =
+    let p = placeAt (bankOf (m .rows)) i in
+    orderRow p (fileOf (m .orders) i (p .length))
+rowAt Mailboxes u m files i = fileRow (i + 1) (fileOf (m .mailboxes) i (getD (bankOf (m .rows) .files) i 0))
+rowAt Words u m files i = wordRow (i + 1) (runAt (u .runs) i .client)
+rowAt Files u m files i =
     let c = runAt (u .runs) i .client in
     fileRow (i + 1) (fileOf files i (heldBy (c .direction) c))
 
@@ -75,9 +79,9 @@ rowCount Mailboxes = placeCount
 rowCount Words = runCount
 rowCount Files = runCount
 
--- a table of the unit, its stores of orders and mailboxes, and the runs' file buffers
-unfoldable pub tableOf : Table → UnitState → List ℕ → List ℕ → List ℕ → List ℕ
-tableOf t u orders mailboxes files = headerText t ++ rowsTo (rowAt t u orders mailboxes files) (rowCount t)
+-- a table of the unit, the memory lent to its bank, and the runs' file buffers
+unfoldable pub tableOf : Table → UnitState → Lent → List ℕ → List ℕ
+tableOf t u m files = headerText t ++ rowsTo (rowAt t u m files) (rowCount t)
 
 -- the most bytes that a header takes, the column "content" with a file of 3,840 bytes, a row of any table, and a table
 abbrev pub headerRoom : ℕ

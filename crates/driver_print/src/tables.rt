@@ -1,5 +1,7 @@
 // The closing tables: the book, the mailboxes, the runs' closing words and the runs' files, written into a lent output.
 use crate::line::put_hex;
+use bank_rows::numbers::file_length;
+use bank_rows::places::place_at;
 use bank_state::limits::PLACE_COUNT;
 use bank_state::search::is_booked;
 use bank_state::state::Place;
@@ -19,12 +21,12 @@ use print::text::put_column;
 use print::text::put_text;
 use unit::record::RUN_COUNT;
 use unit::state::UnitState;
-use unit::state::file_length_of;
-use unit::state::place_of;
 ghost use mathlib.Core.Path.{_≡_};
 ghost use Prim.Native.Nat.{_+_, _*_, _≤_, _<_};
 ghost use lib.ListN.{length};
 ghost use Rattle.message.specs.Limits.{fileBytes};
+ghost use Rattle.bank_rows.specs.Layout.{stateSize};
+ghost use Rattle.bank.specs.Lent.{lent};
 ghost use Rattle.print.specs.Text.{Put, rowsTo, printed, printedCount};
 ghost use Rattle.print.specs.Closing.{closingRoom};
 ghost use Rattle.driver_print.specs.Tables.{headerText, contentText, orderRow, fileRow, stageText, wordRow, heldBy};
@@ -137,14 +139,17 @@ fn put_row(
     at: usize,
     t: Table,
     u: UnitState,
+    rows: &[u64],
     orders: &[u8],
     mailboxes: &[u8],
     files: &[u8],
     i: usize,
 ) -> usize
-    requires { ⌜ (at + rowRoom ≤ length (now output)) × (i < rowCount t) ⌝ }
+    requires { ⌜ (at + rowRoom ≤ length (now output)) × (i < rowCount t) × (length (now rows) ≡ stateSize) ⌝ }
     ensures { λ r. ⌜
-        Put (now (output .entry)) at (rowAt t u (now (orders .entry)) (now (mailboxes .entry)) (now (files .entry)) i) (now (output .exit)) r
+        Put (now (output .entry)) at
+        (rowAt t u (lent (now (rows .entry)) (now (orders .entry)) (now (mailboxes .entry))) (now (files .entry)) i)
+        (now (output .exit)) r
         ⌝ }
 {
     let n = i as u64 + 1;
@@ -152,10 +157,10 @@ fn put_row(
     let client = run.client;
     match t {
         Table::Book => {
-            let p = place_of(u, i);
+            let p = place_at(rows, i);
             put_order(output, at, p, file_of(orders, i, p.length))
         }
-        Table::Mailboxes => put_file(output, at, n, file_of(mailboxes, i, file_length_of(u, i))),
+        Table::Mailboxes => put_file(output, at, n, file_of(mailboxes, i, file_length(rows, i))),
         Table::Words => put_word(output, at, n, client),
         Table::Files => put_file(output, at, n, file_of(files, i, held_by(client))),
     }
@@ -179,21 +184,25 @@ fn put_rows(
     at: usize,
     t: Table,
     u: UnitState,
+    rows: &[u64],
     orders: &[u8],
     mailboxes: &[u8],
     files: &[u8],
 ) -> usize
-    requires { ⌜ at + rowCount t * rowRoom ≤ length (now output) ⌝ }
+    requires { ⌜ (at + rowCount t * rowRoom ≤ length (now output)) × (length (now rows) ≡ stateSize) ⌝ }
     ensures { λ r. ⌜
         Put (now (output .entry)) at
-        (rowsTo (rowAt t u (now (orders .entry)) (now (mailboxes .entry)) (now (files .entry))) (rowCount t)) (now (output .exit)) r
+        (rowsTo
+        (rowAt t u (lent (now (rows .entry)) (now (orders .entry)) (now (mailboxes .entry))) (now (files .entry)))
+        (rowCount t))
+        (now (output .exit)) r
         ⌝ }
 {
     let n = row_count(t);
     let mut end = at;
     let mut i = 0;
     while i < n {
-        end = put_row(output, end, t, u, orders, mailboxes, files, i);
+        end = put_row(output, end, t, u, rows, orders, mailboxes, files, i);
         i += 1;
     }
     end
@@ -203,21 +212,27 @@ fn put_rows(
 pub fn table_of(
     t: Table,
     u: UnitState,
+    rows: &[u64],
     orders: &[u8],
     mailboxes: &[u8],
     files: &[u8],
     output: &mut [u8],
 ) -> usize
+    requires { ⌜ length (now rows) ≡ stateSize ⌝ }
     ensures { λ r. ⌜
         (now (output .exit)
-        ≡ printed tableRoom (tableOf t u (now (orders .entry)) (now (mailboxes .entry)) (now (files .entry))) (now (output .entry)))
+        ≡ printed tableRoom
+        (tableOf t u (lent (now (rows .entry)) (now (orders .entry)) (now (mailboxes .entry))) (now (files .entry)))
+        (now (output .entry)))
         × (r
-        ≡ printedCount tableRoom (tableOf t u (now (orders .entry)) (now (mailboxes .entry)) (now (files .entry))) (now (output .entry)))
+        ≡ printedCount tableRoom
+        (tableOf t u (lent (now (rows .entry)) (now (orders .entry)) (now (mailboxes .entry))) (now (files .entry)))
+        (now (output .entry)))
         ⌝ }
 {
     if output.len() < TABLE_ROOM {
         return 0;
     }
     let at = put_header(output, t);
-    put_rows(output, at, t, u, orders, mailboxes, files)
+    put_rows(output, at, t, u, rows, orders, mailboxes, files)
 }

@@ -5,10 +5,13 @@ use mathlib.Core.Bool.{Bool, true, false, not, _&&_}
 use mathlib.Core.List.{List, [], _∷_, _++_}
 use borrow.Author.Tests.{not-false}
 use Rattle.octets.proofs.Tests.{never}
+use Rattle.bank_state.specs.State.{fresh}
+use Rattle.bank_rows.specs.State.{bankOf}
+use Rattle.bank_rows.proofs.State.{fresh-rows}
 use Rattle.unit.specs.declared.record.Kind.{Kind}
 use Rattle.unit.specs.declared.state.UnitState.{UnitState}
 use Rattle.unit.specs.Records.{callOf, isCall}
-use Rattle.unit.specs.State.{State, stateOf}
+use Rattle.unit.specs.State.{Memory, State, stateOf}
 use Rattle.unit.specs.Call.{UnitCall, unitCall}
 use Rattle.driver_session.specs.Session.{unitAfter, allCalls, Calls, start, Session}
 
@@ -17,9 +20,8 @@ pub no-calls : (s : State) → Calls s s
 unfolding unitAfter allCalls
 no-calls s = record { records = []; each = refl; left = refl }
 
-pub start-calls : (u v : UnitState) (orders mailboxes payloads files buffer : List ℕ) → u ≡ v
-    → Calls (stateOf v orders mailboxes payloads files buffer) (stateOf u orders mailboxes payloads files buffer)
-start-calls u v orders mailboxes payloads files buffer e = rw e (no-calls (stateOf v orders mailboxes payloads files buffer))
+pub start-calls : (u v : UnitState) (m : Memory) → u ≡ v → Calls (stateOf v m) (stateOf u m)
+start-calls u v m e = rw e (no-calls (stateOf v m))
 
 -- the call of the record r, which was tested as t
 pub one-call : (s : State) (r t : List ℕ) (k : Kind) (b : Bool) (o : UnitCall)
@@ -54,6 +56,10 @@ calls-on s t u a b = record {
 }
 
 -- what is lent to the calls is the session's own
-pub session-of : (u : UnitState) (orders mailboxes payloads files buffer : List ℕ)
-    → Calls start (stateOf u orders mailboxes payloads files buffer) → Session u
-session-of u orders mailboxes payloads files buffer h = record { last = stateOf u orders mailboxes payloads files buffer; calls = h; unit = refl }
+pub session-of : (u : UnitState) (m : Memory) → Calls start (stateOf u m) → Session u (m .bank .rows)
+session-of u m h = record { last = stateOf u m; calls = h; unit = refl; bank = refl }
+
+-- the bank that a session starts with is fresh
+pub start-fresh : bankOf (start .memory .bank .rows) ≡ fresh
+unfolding start
+start-fresh = fresh-rows

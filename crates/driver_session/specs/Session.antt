@@ -5,9 +5,11 @@ use mathlib.Core.Bool.{Bool, true, _&&_}
 use mathlib.Core.List.{List, [], _∷_}
 use lib.ListN.{replicate}
 use Rattle.bank_state.specs.Limits.{storeBytes, replyRoom}
+use Rattle.bank_rows.specs.Layout.{stateSize}
+use Rattle.bank.specs.Lent.{lent}
 use Rattle.unit.specs.declared.state.UnitState.{UnitState}
 use Rattle.unit.specs.Records.{callOf, isCall}
-use Rattle.unit.specs.State.{State, fresh, roomsBytes, stateOf}
+use Rattle.unit.specs.State.{State, fresh, roomsBytes, memory, stateOf}
 use Rattle.unit.specs.Call.{unitCall}
 
 -- the unit after the calls of these records, one after the other
@@ -29,16 +31,15 @@ pub record Calls (before after : State) : Type 0 where
 abbrev zeros : ℕ → List ℕ
 zeros n = replicate n 0
 
--- "one fresh bank (8 places, 8 mailboxes) and 16 client runs", and all that is lent to them zeroed
+-- "one fresh bank (8 places, 8 mailboxes) and 16 client runs": no run begun, and all that is lent to them zeroed
 unfoldable pub start : State
-start = stateOf fresh (zeros storeBytes) (zeros storeBytes) (zeros roomsBytes) (zeros roomsBytes) (zeros replyRoom)
+start =
+    let bank = lent (zeros stateSize) (zeros storeBytes) (zeros storeBytes) in
+    stateOf fresh (memory bank (zeros roomsBytes) (zeros roomsBytes) (zeros replyRoom))
 
--- the bank and the runs of a state
-abbrev pub unitOf : State → UnitState
-unitOf s = record { bank = s .bankState .bank; runs = s .runs }
-
--- a unit that a session leaves
-pub record Session (u : UnitState) : Type 0 where
+-- the runs and the bank's rows that a session leaves
+pub record Session (u : UnitState) (rows : List ℕ) : Type 0 where
   pub last : State
   pub calls : Calls start last
-  pub unit : u ≡ unitOf last
+  pub unit : u ≡ last .unit
+  pub bank : rows ≡ last .memory .bank .rows

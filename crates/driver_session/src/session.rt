@@ -1,4 +1,5 @@
 // The driver's session: each record from standard input, its line to standard output; at the end the closing tables.
+use bank_rows::layout::STATE_SIZE;
 use bank_state::limits::REPLY_ROOM;
 use bank_state::limits::STORE_BYTES;
 use driver_print::line::line;
@@ -18,13 +19,23 @@ use unit::record::size_of;
 use unit::state::ROOMS_BYTES;
 use unit::state::UnitState;
 use unit::state::fresh;
-ghost use Rattle.unit.specs.State.{fresh, stateOf};
+ghost use mathlib.Core.Path.{_≡_};
+ghost use lib.ListN.{length};
+ghost use Rattle.bank_rows.specs.Layout.{stateSize};
+ghost use Rattle.bank.specs.Lent.{lent};
+ghost use Rattle.unit.specs.State.{fresh, memory, stateOf};
 ghost use Rattle.driver_session.specs.Session.{Calls, Session};
 
 // Between two records: the unit, and whether the input may go on.
 struct Reading {
     pub unit: UnitState,
     pub more: bool,
+}
+
+// What a session leaves: the client runs, and the bank's rows.
+pub struct SessionEnd {
+    pub unit: UnitState,
+    pub rows: [u64; STATE_SIZE],
 }
 
 // Reads the bytes from a place up to an end, and says whether all came.
@@ -70,6 +81,7 @@ fn step(
     n: u64,
     input: &mut [u8],
     output: &mut [u8],
+    rows: &mut [u64],
     orders: &mut [u8],
     mailboxes: &mut [u8],
     payloads: &mut [u8],
@@ -77,8 +89,12 @@ fn step(
     buffer: &mut [u8],
 ) -> Reading
     ensures { λ r. ⌜ Calls
-        (stateOf u (now (orders .entry)) (now (mailboxes .entry)) (now (payloads .entry)) (now (files .entry)) (now (buffer .entry)))
-        (stateOf (r .unit) (now (orders .exit)) (now (mailboxes .exit)) (now (payloads .exit)) (now (files .exit)) (now (buffer .exit))) ⌝ }
+        (stateOf u
+        (memory (lent (now (rows .entry)) (now (orders .entry)) (now (mailboxes .entry)))
+        (now (payloads .entry)) (now (files .entry)) (now (buffer .entry))))
+        (stateOf (r .unit)
+        (memory (lent (now (rows .exit)) (now (orders .exit)) (now (mailboxes .exit)))
+        (now (payloads .exit)) (now (files .exit)) (now (buffer .exit)))) ⌝ }
 {
     let size = read_record(input);
     if !is_call(call_of(front(input, size))) {
@@ -90,6 +106,7 @@ fn step(
     let o = call(
         u,
         front(input, size),
+        rows,
         orders,
         mailboxes,
         payloads,
@@ -107,6 +124,7 @@ fn step(
 fn read_all(
     input: &mut [u8],
     output: &mut [u8],
+    rows: &mut [u64],
     orders: &mut [u8],
     mailboxes: &mut [u8],
     payloads: &mut [u8],
@@ -114,8 +132,12 @@ fn read_all(
     buffer: &mut [u8],
 ) -> UnitState
     ensures { λ r. ⌜ Calls
-        (stateOf fresh (now (orders .entry)) (now (mailboxes .entry)) (now (payloads .entry)) (now (files .entry)) (now (buffer .entry)))
-        (stateOf r (now (orders .exit)) (now (mailboxes .exit)) (now (payloads .exit)) (now (files .exit)) (now (buffer .exit))) ⌝ }
+        (stateOf fresh
+        (memory (lent (now (rows .entry)) (now (orders .entry)) (now (mailboxes .entry)))
+        (now (payloads .entry)) (now (files .entry)) (now (buffer .entry))))
+        (stateOf r
+        (memory (lent (now (rows .exit)) (now (orders .exit)) (now (mailboxes .exit)))
+        (now (payloads .exit)) (now (files .exit)) (now (buffer .exit)))) ⌝ }
 {
     let unit = fresh();
     let mut t = Reading { unit, more: true };
@@ -128,6 +150,7 @@ fn read_all(
             calls,
             input,
             output,
+            rows,
             orders,
             mailboxes,
             payloads,
@@ -143,42 +166,56 @@ fn close_table(
     t: Table,
     u: UnitState,
     output: &mut [u8],
+    rows: &[u64],
     orders: &[u8],
     mailboxes: &[u8],
     files: &[u8],
-) {
-    let n = table_of(t, u, orders, mailboxes, files, output);
+)
+    requires { ⌜ length (now rows) ≡ stateSize ⌝ }
+{
+    let n = table_of(t, u, rows, orders, mailboxes, files, output);
     io::write_all(STDOUT_FILENO, front(output, n));
 }
 
 // Writes the closing tables.
-fn close(u: UnitState, output: &mut [u8], orders: &[u8], mailboxes: &[u8], files: &[u8]) {
-    close_table(Table::Book, u, output, orders, mailboxes, files);
-    close_table(Table::Mailboxes, u, output, orders, mailboxes, files);
-    close_table(Table::Words, u, output, orders, mailboxes, files);
-    close_table(Table::Files, u, output, orders, mailboxes, files);
+fn close(
+    u: UnitState,
+    output: &mut [u8],
+    rows: &[u64],
+    orders: &[u8],
+    mailboxes: &[u8],
+    files: &[u8],
+)
+    requires { ⌜ length (now rows) ≡ stateSize ⌝ }
+{
+    close_table(Table::Book, u, output, rows, orders, mailboxes, files);
+    close_table(Table::Mailboxes, u, output, rows, orders, mailboxes, files);
+    close_table(Table::Words, u, output, rows, orders, mailboxes, files);
+    close_table(Table::Files, u, output, rows, orders, mailboxes, files);
 }
 
-// Makes the calls of all records, prints, and gives the unit as it is then.
-pub fn session() -> UnitState
-    ensures { λ r. ⌜ Session r ⌝ }
+// Makes the calls of all records, prints, and gives the client runs and the bank's rows as they are then.
+pub fn session() -> SessionEnd
+    ensures { λ r. ⌜ Session (r .unit) (r .rows) ⌝ }
 {
     let mut input = [0u8; RECORD_BYTES];
     let mut output = [0u8; TABLE_ROOM];
+    let mut rows = [0u64; STATE_SIZE];
     let mut orders = [0u8; STORE_BYTES];
     let mut mailboxes = [0u8; STORE_BYTES];
     let mut payloads = [0u8; ROOMS_BYTES];
     let mut files = [0u8; ROOMS_BYTES];
     let mut buffer = [0u8; REPLY_ROOM];
-    let u = read_all(
+    let unit = read_all(
         &mut input,
         &mut output,
+        &mut rows,
         &mut orders,
         &mut mailboxes,
         &mut payloads,
         &mut files,
         &mut buffer,
     );
-    close(u, &mut output, &orders, &mailboxes, &files);
-    u
+    close(unit, &mut output, &rows, &orders, &mailboxes, &files);
+    SessionEnd { unit, rows }
 }

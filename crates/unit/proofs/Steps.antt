@@ -1,4 +1,4 @@
--- The unit behind a call, from what each part of the call leaves. Assumes nothing.
+-- The unit after a call, from what each part of the call leaves. Assumes nothing.
 use Prim.Native.Nat.{ℕ, _+_, _-_, _*_, _≤_}
 use mathlib.Core.Bool.{Bool, false, not, cond}
 use mathlib.Core.List.{List}
@@ -9,6 +9,7 @@ use borrow.Rule.Slice.PartMut.{putMid, midOf}
 use Rattle.message.specs.Limits.{fileBytes}
 use Rattle.bank_state.specs.Store.{partAt, withPart, fileOf}
 use Rattle.bank_state.proofs.Stores.{part-back}
+use Rattle.bank.specs.Lent.{Lent}
 use Rattle.client.specs.declared.run.Client.{Client}
 use Rattle.client.specs.declared.run.Outcome.{Outcome}
 use Rattle.client.specs.Run as client
@@ -17,11 +18,30 @@ use Rattle.unit.specs.declared.record.Event.{Event}
 use Rattle.unit.specs.declared.record.Kind.{Kind}
 use Rattle.unit.specs.declared.record.Kind.the-variants as kind
 use Rattle.unit.specs.declared.call.Answer.{Answer}
+use Rattle.unit.specs.declared.call.RunOut.{RunOut}
 use Rattle.unit.specs.declared.state.Run.{Run}
 use Rattle.unit.specs.declared.state.UnitState.{UnitState}
 use Rattle.unit.specs.Records.{timeOf, nonceOf, bodyOf, callOf}
-use Rattle.unit.specs.State.{State, stateOf, runAt}
-use Rattle.unit.specs.Call.{UnitCall, Ready, roomsRight, unitCallOf, runAnswer, indexOf, begins, eventCall, roomCall, keeps, nextRun, keptPayloads, runStep, stepOf, unitCall}
+use Rattle.unit.specs.State.{Memory, State, memory, stateOf, runAt}
+use Rattle.unit.specs.Call.{
+  UnitCall,
+  Ready,
+  roomsRight,
+  unitCallOf,
+  runAnswer,
+  indexOf,
+  begins,
+  eventCall,
+  roomCall,
+  keeps,
+  nextRun,
+  keptPayloads,
+  runCallOf,
+  runCall,
+  runStep,
+  stepOf,
+  unitCall,
+}
 use Rattle.unit.proofs.Begins.{rooms-lengths}
 use Rattle.unit.proofs.Parts.{callable, whole-head}
 
@@ -41,21 +61,29 @@ pub roomed : (e : Event) (c : Client) (i : ℕ) (r : List ℕ) (time : ℕ) (non
 unfolding roomCall
 roomed e c i r time nonce payload files buffer out file file′ files′ buffer′ lent back o = rw (back, ← lent, ← o)
 
--- a call to a client run
-pub ran : (u : UnitState) (o m payloads files buffer r : List ℕ) (e : Event)
-    (i : ℕ) (begin : Bool) (nonce body held payload : List ℕ) (out : Outcome) (files′ buffer′ : List ℕ)
-    (kept : Bool) (payloads′ : List ℕ) (run : Run) (u′ : UnitState) (answer : Answer)
-    → i ≡ indexOf r → begin ≡ begins e → nonce ≡ cond begin (nonceOf r) (runAt (u .runs) i .nonce) → body ≡ bodyOf (kind.Run e) r
-    → held ≡ fileOf payloads i (runAt (u .runs) i .payload) → payload ≡ cond begin body held
-    → client.callOf out files′ buffer′ ≡ roomCall e (runAt (u .runs) i .client) i r (lentOf (timeOf r) nonce payload files buffer)
+-- a call to run i
+pub ran : (run : Run) (i : ℕ) (bank : Lent) (payloads files buffer r : List ℕ) (e : Event)
+    (begin : Bool) (nonce body held payload : List ℕ) (out : Outcome) (files′ buffer′ : List ℕ)
+    (kept : Bool) (payloads′ : List ℕ) (run′ : Run) (answer : Answer)
+    → begin ≡ begins e → nonce ≡ cond begin (nonceOf r) (run .nonce) → body ≡ bodyOf (kind.Run e) r
+    → held ≡ fileOf payloads i (run .payload) → payload ≡ cond begin body held
+    → client.callOf out files′ buffer′ ≡ roomCall e (run .client) i r (lentOf (timeOf r) nonce payload files buffer)
     → kept ≡ keeps begin (out .answer) → payloads′ ≡ keptPayloads kept payloads i body
-    → run ≡ nextRun kept (runAt (u .runs) i) (out .run) nonce (length body)
-    → u′ ≡ record { bank = u .bank; runs = set (u .runs) i run } → answer ≡ runAnswer (out .answer) (out .run)
-    → unitCallOf (record { unit = u′; answer = answer }) o m payloads′ files′ buffer′ ≡ runStep e (stateOf u o m payloads files buffer) r
+    → run′ ≡ nextRun kept run (out .run) nonce (length body) → answer ≡ runAnswer (out .answer) (out .run)
+    → runCallOf (record { run = run′; answer = answer }) (memory bank payloads′ files′ buffer′)
+    ≡ runCall e i run (memory bank payloads files buffer) r
+unfolding runCall
+ran run i bank payloads files buffer r e begin nonce body held payload out files′ buffer′ kept payloads′ run′ answer
+    eb en ey eh ep ec ek es er ea =
+    rw (ea, er, es, ek, ← eb, ← en, ← ey, ← eh, ← ep, ← ec)
+
+-- the run taken out, called, and put back
+pub put-back : (u u′ : UnitState) (m m′ : Memory) (r : List ℕ) (e : Event) (i : ℕ) (out : RunOut)
+    → i ≡ indexOf r → runCallOf out m′ ≡ runCall e i (runAt (u .runs) i) m r
+    → u′ ≡ record { runs = set (u .runs) i (out .run) }
+    → unitCallOf (record { unit = u′; answer = out .answer }) m′ ≡ runStep e (stateOf u m) r
 unfolding runStep
-ran u o m payloads files buffer r e i begin nonce body held payload out files′ buffer′ kept payloads′ run u′ answer
-    at eb en ey eh ep ec ek es er eu ea =
-    rw (eu, ea, er, es, ek, ← at, ← eb, ← en, ← ey, ← eh, ← ep, ← ec)
+put-back u u′ m m′ r e i out at eo eu = rw (eu, ← at, ← eo)
 
 -- what a call to a run asks, where the rooms are of their lengths
 pub ready : (e : Event) (r payloads files : List ℕ) (right : Bool) (k : Kind)
@@ -67,7 +95,7 @@ ready e r payloads files right k rooms h ek told =
 
 -- the call of a record, where the rooms are of their lengths
 pub called : (s : State) (r : List ℕ) (right : Bool) (k g : Kind) (o : UnitCall)
-    → right ≡ roomsRight (length (s .payloads)) (length (s .files)) → not right ≡ false
+    → right ≡ roomsRight (length (s .memory .payloads)) (length (s .memory .files)) → not right ≡ false
     → k ≡ callOf r → k ≡ g → o ≡ stepOf g s r → o ≡ unitCall s r
 unfolding unitCall
 called s r right k g o rooms h ek told step = rw (← rooms, not-false right h, ← ek, told) step

@@ -5,14 +5,14 @@ use mathlib.Core.Bool.{Bool, true, false, cond, _&&_}
 use mathlib.Core.List.{List}
 use lib.Dec.{eqb}
 use lib.ListN.{length, set}
-use Rattle.bank_state.specs.State.{bankState}
 use Rattle.bank_state.specs.Store.{partAt, withPart, fileOf}
 use Rattle.bank.specs.declared.call.FrameAnswer.{FrameAnswer}
 use Rattle.bank.specs.declared.call.FrameAnswer.the-variants as frame-answer
 use Rattle.bank.specs.declared.mailbox.FileAnswer.{FileAnswer}
 use Rattle.bank.specs.declared.mailbox.FileAnswer.the-variants as file-answer
-use Rattle.bank.specs.Call.{frameCall, frameNumber}
-use Rattle.bank.specs.Mailbox.{fileCall, fileNumber}
+use Rattle.bank.specs.Call.{frameInput, frameNumber}
+use Rattle.bank.specs.Lent.{lent, lentFrameCall, lentFileCall}
+use Rattle.bank.specs.Mailbox.{fileNumber}
 use Rattle.client.specs.declared.run.Answer as client
 use Rattle.client.specs.declared.run.Answer.the-variants as client-answer
 use Rattle.client.specs.declared.run.Client.{Client}
@@ -26,7 +26,9 @@ use Rattle.unit.specs.declared.record.Kind.the-variants as kind
 use Rattle.unit.specs.declared.call.Answer.{Answer}
 use Rattle.unit.specs.declared.call.Answer.the-variants.{Frame, Put, Request, Ignored, Closed, Number, NoCall}
 use Rattle.unit.specs.declared.call.Called.{Called}
+use Rattle.unit.specs.declared.call.RunOut.{RunOut}
 use Rattle.unit.specs.declared.state.Run.{Run}
+use Rattle.unit.specs.declared.state.UnitState.{UnitState}
 use Rattle.unit.specs.Records.{
   headOf,
   bankTimeOf,
@@ -41,7 +43,7 @@ use Rattle.unit.specs.Records.{
   isRun,
   callOf,
 }
-use Rattle.unit.specs.State.{State, roomsBytes, stateOf, runAt}
+use Rattle.unit.specs.State.{Memory, State, roomsBytes, memory, stateOf, runAt}
 
 -- the rooms lent for the runs are of their lengths
 unfoldable pub roomsRight : ℕ → ℕ → Bool
@@ -59,9 +61,11 @@ pub record UnitCall : Type 0 where
   pub state : State
   pub answer : Answer
 
-abbrev pub unitCallOf : Called → List ℕ → List ℕ → List ℕ → List ℕ → List ℕ → UnitCall
-unitCallOf r orders mailboxes payloads files buffer =
-    record { state = stateOf (r .unit) orders mailboxes payloads files buffer; answer = r .answer }
+abbrev pub afterCall : UnitState → Memory → Answer → UnitCall
+afterCall u m a = record { state = stateOf u m; answer = a }
+
+abbrev pub unitCallOf : Called → Memory → UnitCall
+unitCallOf r m = afterCall (r .unit) m (r .answer)
 
 -- the answers of the bank's two calls, and of a client's; a run that ends as lodged has its order number
 abbrev pub frameAnswer : FrameAnswer → Answer
@@ -84,26 +88,17 @@ runAnswer (client-answer.Refused x) c = Number (refusalNumber x)
 -- `F`: a frame to the bank
 unfoldable pub frameStep : State → List ℕ → UnitCall
 frameStep s r =
-    let o = frameCall (s .bankState) (bankTimeOf r) (idsOf r) (bodyOf kind.Frame r) (s .buffer) in
-    record {
-      state = record { bankState = o .bankState; runs = s .runs; payloads = s .payloads; files = s .files; buffer = o .buffer };
-      answer = frameAnswer (o .answer);
-    }
+    let m = s .memory in
+    let o = lentFrameCall (m .bank) (frameInput (bankTimeOf r) (idsOf r) (bodyOf kind.Frame r) (m .buffer)) in
+    afterCall (s .unit) (memory (o .lent) (m .payloads) (m .files) (o .buffer)) (frameAnswer (o .answer))
 
 -- `M`: a file into a mailbox
 unfoldable pub fileStep : State → List ℕ → UnitCall
 fileStep s r =
-    let o = fileCall (s .bankState .bank) (mailboxOf r) (bodyOf kind.File r) (s .bankState .mailboxes) in
-    record {
-      state = record {
-        bankState = bankState (o .bank) (s .bankState .orders) (o .mailboxes);
-        runs = s .runs;
-        payloads = s .payloads;
-        files = s .files;
-        buffer = s .buffer;
-      };
-      answer = fileAnswer (o .answer);
-    }
+    let m = s .memory in
+    let o = lentFileCall (m .bank .rows) (mailboxOf r) (bodyOf kind.File r) (m .bank .mailboxes) in
+    let bank = lent (o .rows) (m .bank .orders) (o .mailboxes) in
+    afterCall (s .unit) (memory bank (m .payloads) (m .files) (m .buffer)) (fileAnswer (o .answer))
 
 -- the run that a record names, from 0 on
 abbrev pub indexOf : List ℕ → ℕ
@@ -144,26 +139,36 @@ abbrev pub keptPayloads : Bool → List ℕ → ℕ → List ℕ → List ℕ
 keptPayloads true payloads i payload = withPart payloads i payload
 keptPayloads false payloads i payload = payloads
 
--- `U`, `D`: begin, with the record's nonce bytes and payload; `R`, `N`: a later call, with those kept
-unfoldable pub runStep : Event → State → List ℕ → UnitCall
-runStep e s r =
-    let i = indexOf r in
-    let run = runAt (s .runs) i in
+-- what a call leaves of its run, and its answer
+pub record RunCall : Type 0 where
+  pub run : Run
+  pub memory : Memory
+  pub answer : Answer
+
+abbrev pub runCallOf : RunOut → Memory → RunCall
+runCallOf r m = record { run = r .run; memory = m; answer = r .answer }
+
+-- run i: a begin with the record's nonce bytes and payload, a later call with those kept
+unfoldable pub runCall : Event → ℕ → Run → Memory → List ℕ → RunCall
+runCall e i run m r =
     let body = bodyOf (kind.Run e) r in
     let nonce = cond (begins e) (nonceOf r) (run .nonce) in
-    let payload = cond (begins e) body (fileOf (s .payloads) i (run .payload)) in
-    let o = roomCall e (run .client) i r (lentOf (timeOf r) nonce payload (s .files) (s .buffer)) in
+    let payload = cond (begins e) body (fileOf (m .payloads) i (run .payload)) in
+    let o = roomCall e (run .client) i r (lentOf (timeOf r) nonce payload (m .files) (m .buffer)) in
     let kept = keeps (begins e) (o .answer) in
     record {
-      state = record {
-        bankState = s .bankState;
-        runs = set (s .runs) i (nextRun kept run (o .run) nonce (length body));
-        payloads = keptPayloads kept (s .payloads) i body;
-        files = o .file;
-        buffer = o .request;
-      };
+      run = nextRun kept run (o .run) nonce (length body);
+      memory = memory (m .bank) (keptPayloads kept (m .payloads) i body) (o .file) (o .request);
       answer = runAnswer (o .answer) (o .run);
     }
+
+-- `U`, `D`, `R`, `N`: the run is taken out, called, and put back
+unfoldable pub runStep : Event → State → List ℕ → UnitCall
+runStep e s r =
+    let runs = s .unit .runs in
+    let i = indexOf r in
+    let o = runCall e i (runAt runs i) (s .memory) r in
+    afterCall (record { runs = set runs i (o .run) }) (o .memory) (o .answer)
 
 -- nothing changes
 abbrev pub unchanged : State → Answer → UnitCall
@@ -178,5 +183,5 @@ stepOf kind.NoCall s r = unchanged s NoCall
 -- one call of the record r on the unit; rooms of another length get number 1, "a lent length differs"
 unfoldable pub unitCall : State → List ℕ → UnitCall
 unitCall s r =
-    cond (roomsRight (length (s .payloads)) (length (s .files))) (stepOf (callOf r) s r)
+    cond (roomsRight (length (s .memory .payloads)) (length (s .memory .files))) (stepOf (callOf r) s r)
     (unchanged s (Number (frameNumber frame-answer.WrongLength)))

@@ -9,7 +9,6 @@ use crate::record::time_at;
 use crate::state::ROOMS_BYTES;
 use crate::state::Run;
 use crate::state::UnitState;
-use crate::state::with_bank;
 use crate::state::with_run;
 use bank::call::FrameAnswer;
 use bank::call::frame_arrives;
@@ -30,14 +29,17 @@ ghost use mathlib.Core.Path.{_≡_};
 ghost use mathlib.Core.Bool.{true, cond};
 ghost use mathlib.Core.List.{List};
 ghost use Prim.Native.Nat.{ℕ, _≤_, _<_};
-ghost use lib.ListN.{length, set};
+ghost use lib.ListN.{length};
 ghost use Rattle.message.specs.Limits.{fileBytes};
+ghost use Rattle.bank.specs.Lent.{Lent, lent};
 ghost use Rattle.client.specs.Calls.{beginCall};
 ghost use Rattle.client.specs.Run.{lentOf, callOf};
 ghost use Rattle.unit.specs.Records.{headOf, timeOf, subscriberOf, firstOf, nonceOf, runOf, isRun, runCount};
-ghost use Rattle.unit.specs.State.{roomsBytes, stateOf};
-ghost use Rattle.unit.specs.Call.{Ready, roomsRight, unitCallOf, frameAnswer, fileAnswer, runAnswer, frameStep, fileStep};
-ghost use Rattle.unit.specs.Call.{indexOf, begins, eventCall, roomCall, keeps, nextRun, keptPayloads, runStep, unitCall};
+ghost use Rattle.unit.specs.declared.state.UnitState.{UnitState};
+ghost use Rattle.unit.specs.State.{roomsBytes, memory, stateOf};
+ghost use Rattle.unit.specs.Call.{Ready, roomsRight, afterCall, unitCallOf, frameAnswer, fileAnswer, runAnswer};
+ghost use Rattle.unit.specs.Call.{frameStep, fileStep, indexOf, begins, eventCall, roomCall, keeps, nextRun};
+ghost use Rattle.unit.specs.Call.{keptPayloads, runCallOf, runCall, runStep, unitCall};
 
 // What a call answers: the length of the reply in the buffer, the file is in the mailbox, the length of the request, the run
 // stays, its closing word with its order number, or the number that the call was given. A record that is no call has none.
@@ -54,6 +56,12 @@ pub enum Answer {
 // The unit after a call, and the call's answer.
 pub struct Called {
     pub unit: UnitState,
+    pub answer: Answer,
+}
+
+// A run after a call, and the call's answer.
+struct RunOut {
+    pub run: Run,
     pub answer: Answer,
 }
 
@@ -112,18 +120,20 @@ fn index_of(record: &[u8]) -> usize
 
 // A frame to the bank.
 fn frame_call(
-    u: UnitState,
     record: &[u8],
+    rows: &mut [u64],
     orders: &mut [u8],
     mailboxes: &mut [u8],
     buffer: &mut [u8],
-) -> Called
-    ensures { λ r. ⌜ ((p f : List ℕ) → unitCallOf r (now (orders .exit)) (now (mailboxes .exit)) p f (now (buffer .exit))
-        ≡ frameStep (stateOf u (now (orders .entry)) (now (mailboxes .entry)) p f (now (buffer .entry))) (now («record» .entry))) ⌝ }
+) -> Answer
+    ensures { λ r. ⌜ ((u : UnitState) (p f : List ℕ)
+        → afterCall u (memory (lent (now (rows .exit)) (now (orders .exit)) (now (mailboxes .exit))) p f (now (buffer .exit))) r
+        ≡ frameStep (stateOf u
+        (memory (lent (now (rows .entry)) (now (orders .entry)) (now (mailboxes .entry))) p f (now (buffer .entry))))
+        (now («record» .entry))) ⌝ }
 {
-    let bank = u.bank;
     let o = frame_arrives(
-        bank,
+        rows,
         time_at(record, 1),
         bytes_at(record, 5, 8),
         body_of(Kind::Frame, record),
@@ -131,32 +141,24 @@ fn frame_call(
         mailboxes,
         buffer,
     );
-    let after = o.bank;
     let answer = o.answer;
-    Called {
-        unit: with_bank(u, after),
-        answer: frame_answer(answer),
-    }
+    frame_answer(answer)
 }
 
 // A file into a mailbox.
-fn file_call(u: UnitState, record: &[u8], mailboxes: &mut [u8]) -> Called
-    ensures { λ r. ⌜ ((o p f b : List ℕ) → unitCallOf r o (now (mailboxes .exit)) p f b
-        ≡ fileStep (stateOf u o (now (mailboxes .entry)) p f b) (now («record» .entry))) ⌝ }
+fn file_call(record: &[u8], rows: &mut [u64], mailboxes: &mut [u8]) -> Answer
+    ensures { λ r. ⌜ ((u : UnitState) (o p f b : List ℕ)
+        → afterCall u (memory (lent (now (rows .exit)) o (now (mailboxes .exit))) p f b) r
+        ≡ fileStep (stateOf u (memory (lent (now (rows .entry)) o (now (mailboxes .entry))) p f b))
+        (now («record» .entry))) ⌝ }
 {
-    let bank = u.bank;
-    let o = put_file(
-        bank,
+    let answer = put_file(
+        rows,
         number_at(record, 1, 2),
         body_of(Kind::File, record),
         mailboxes,
     );
-    let after = o.bank;
-    let answer = o.answer;
-    Called {
-        unit: with_bank(u, after),
-        answer: file_answer(answer),
-    }
+    file_answer(answer)
 }
 
 // Whether an event begins its run.
@@ -328,21 +330,22 @@ fn keep_payload(kept: bool, payloads: &mut [u8], i: usize, payload: &[u8])
     }
 }
 
-// A call to the client run that a record names.
-fn run_call(
-    u: UnitState,
+// A call to run i by the event of a record.
+fn run_event(
+    run: Run,
+    i: usize,
     event: Event,
     record: &[u8],
     payloads: &mut [u8],
     files: &mut [u8],
     buffer: &mut [u8],
-) -> Called
-    requires { ⌜ Ready event (now «record») (now payloads) (now files) ⌝ }
-    ensures { λ r. ⌜ ((o m : List ℕ) → unitCallOf r o m (now (payloads .exit)) (now (files .exit)) (now (buffer .exit))
-        ≡ runStep event (stateOf u o m (now (payloads .entry)) (now (files .entry)) (now (buffer .entry))) (now («record» .entry))) ⌝ }
+) -> RunOut
+    requires { ⌜ (i < runCount) × Ready event (now «record») (now payloads) (now files) ⌝ }
+    ensures { λ r. ⌜ ((bank : Lent)
+        → runCallOf r (memory bank (now (payloads .exit)) (now (files .exit)) (now (buffer .exit)))
+        ≡ runCall event i run (memory bank (now (payloads .entry)) (now (files .entry)) (now (buffer .entry)))
+        (now («record» .entry))) ⌝ }
 {
-    let i = index_of(record);
-    let run = u.runs[i];
     let client = run.client;
     let held = run.nonce;
     let begin = begins(event);
@@ -363,9 +366,35 @@ fn run_call(
     let kept = keeps(begin, answer);
     keep_payload(kept, payloads, i, body);
     let next = next_run(kept, run, after, nonce, body.len() as u64);
+    RunOut {
+        run: next,
+        answer: run_answer(answer, after),
+    }
+}
+
+// A call to the client run that a record names: it is taken out of the unit and put back.
+fn run_call(
+    u: UnitState,
+    event: Event,
+    record: &[u8],
+    payloads: &mut [u8],
+    files: &mut [u8],
+    buffer: &mut [u8],
+) -> Called
+    requires { ⌜ Ready event (now «record») (now payloads) (now files) ⌝ }
+    ensures { λ r. ⌜ ((bank : Lent)
+        → unitCallOf r (memory bank (now (payloads .exit)) (now (files .exit)) (now (buffer .exit)))
+        ≡ runStep event (stateOf u (memory bank (now (payloads .entry)) (now (files .entry)) (now (buffer .entry))))
+        (now («record» .entry))) ⌝ }
+{
+    let i = index_of(record);
+    let run = u.runs[i];
+    let o = run_event(run, i, event, record, payloads, files, buffer);
+    let next = o.run;
+    let answer = o.answer;
     Called {
         unit: with_run(u, i, next),
-        answer: run_answer(answer, after),
+        answer,
     }
 }
 
@@ -383,15 +412,19 @@ fn rooms_right(payloads: usize, files: usize) -> bool
 pub fn call(
     u: UnitState,
     record: &[u8],
+    rows: &mut [u64],
     orders: &mut [u8],
     mailboxes: &mut [u8],
     payloads: &mut [u8],
     files: &mut [u8],
     buffer: &mut [u8],
 ) -> Called
-    ensures { λ r. ⌜ unitCallOf r (now (orders .exit)) (now (mailboxes .exit)) (now (payloads .exit)) (now (files .exit)) (now (buffer .exit))
-        ≡ unitCall
-        (stateOf u (now (orders .entry)) (now (mailboxes .entry)) (now (payloads .entry)) (now (files .entry)) (now (buffer .entry)))
+    ensures { λ r. ⌜ unitCallOf r
+        (memory (lent (now (rows .exit)) (now (orders .exit)) (now (mailboxes .exit)))
+        (now (payloads .exit)) (now (files .exit)) (now (buffer .exit)))
+        ≡ unitCall (stateOf u
+        (memory (lent (now (rows .entry)) (now (orders .entry)) (now (mailboxes .entry)))
+        (now (payloads .entry)) (now (files .entry)) (now (buffer .entry))))
         (now («record» .entry)) ⌝ }
 {
     if !rooms_right(payloads.len(), files.len()) {
@@ -402,8 +435,14 @@ pub fn call(
     }
     let kind = call_of(record);
     match kind {
-        Kind::Frame => frame_call(u, record, orders, mailboxes, buffer),
-        Kind::File => file_call(u, record, mailboxes),
+        Kind::Frame => Called {
+            unit: u,
+            answer: frame_call(record, rows, orders, mailboxes, buffer),
+        },
+        Kind::File => Called {
+            unit: u,
+            answer: file_call(record, rows, mailboxes),
+        },
         Kind::Run(event) => run_call(u, event, record, payloads, files, buffer),
         Kind::NoCall => Called {
             unit: u,

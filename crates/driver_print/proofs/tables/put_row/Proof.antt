@@ -37,8 +37,8 @@ element-copy-out-run c = omega (arith, run-below c)
 enum-told : tie.Need-enum-told
 enum-told c = search needs
 
-place-of-requires : tie.Need-place-of-requires
-place-of-requires c κs = place-below c
+place-at-requires : tie.Need-place-at-requires
+place-at-requires c κs = (search needs, place-below c)
 
 file-of-requires : tie.Need-file-of-requires
 file-of-requires c κs = tt
@@ -49,8 +49,8 @@ put-order-requires c κs = (search needs, rw (c .file-of .ensures) (file-fits _ 
 enum-told-2 : tie.Need-enum-told-2
 enum-told-2 c = search needs
 
-file-length-of-requires : tie.Need-file-length-of-requires
-file-length-of-requires c κs = mailbox-below (c .before)
+file-length-requires : tie.Need-file-length-requires
+file-length-requires c κs = (search needs, mailbox-below (c .before))
 
 file-of-requires-2 : tie.Need-file-of-requires-2
 file-of-requires-2 c κs = tt
@@ -83,7 +83,7 @@ returns : tie.Need-returns
 returns c =
     let at-file = c .before .before .before in
     let at-place = at-file .before .before in
-    rw (at-place .before .enum-told .given .1, ← at-place .place-of .ensures)
+    rw (at-place .before .enum-told .given .1, ← at-place .place-at .ensures)
     (rw (at-file .file-of .ensures) at (c .before .before .put-order .ensures))
 
 same-length-2 : tie.Need-same-length-2
@@ -93,7 +93,7 @@ returns-2 : tie.Need-returns-2
 returns-2 c =
     let at-file = c .before .before .before in
     let at-length = at-file .before in
-    rw (at-length .before .before .enum-told2 .given .1, ← at-length .file-length-of .ensures)
+    rw (at-length .before .before .enum-told2 .given .1, ← at-length .file-length .ensures)
     (rw (at-file .file-of2 .ensures) at (c .before .before .put-file .ensures))
 
 same-length-3 : tie.Need-same-length-3
@@ -120,11 +120,11 @@ put-row-spec =
     mul-run
     element-copy-out-run
     enum-told
-    place-of-requires
+    place-at-requires
     file-of-requires
     put-order-requires
     enum-told-2
-    file-length-of-requires
+    file-length-requires
     file-of-requires-2
     put-file-requires
     enum-told-3

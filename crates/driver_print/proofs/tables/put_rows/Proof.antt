@@ -1,5 +1,6 @@
 -- `put_rows` meets its contract. The loop keeps that the first i rows are written. Assumes nothing.
 use Prim.Native.Nat.{_-_}
+use Rattle.bank.specs.Lent.{lent}
 use Rattle.print.proofs.Texts.{put-length}
 use Rattle.print.proofs.Rows.{Rows, rows-start, rows-left, rows-next, rows-end}
 use Rattle.driver_print.specs.Tables.{rowAt, rowCount, rowRoom}
@@ -9,24 +10,24 @@ use Rattle.driver_print.proofs.tables.put_rows.Statement.{statement}
 use Rattle.driver_print.proofs.tables.put_rows.Tie as tie
 
 abbrev Inv-loop : tie.InvT-loop
-Inv-loop output₀ at t u orders mailboxes files n end₀ i₀ output end i =
-    Rows (rowAt t u orders mailboxes files) rowRoom (rowCount t) output₀ at i output end
+Inv-loop output₀ at t u rows orders mailboxes files n end₀ i₀ output end i =
+    Rows (rowAt t u (lent rows orders mailboxes) files) rowRoom (rowCount t) output₀ at i output end
 
 abbrev μ-loop : tie.MeasureT-loop
-μ-loop output₀ at t u orders mailboxes files n end₀ i₀ output end i = n - i
+μ-loop output₀ at t u rows orders mailboxes files n end₀ i₀ output end i = n - i
 
 row-count-requires : tie.Need-row-count-requires Inv-loop μ-loop
 row-count-requires c κs = tt
 
 loop-holds : tie.Need-loop-holds Inv-loop μ-loop
-loop-holds c = rows-start _ _ _ _ _ (c .before .before .before .before .before .pre)
+loop-holds c = rows-start _ _ _ _ _ (c .before .before .before .before .before .pre .0)
 
 put-row-requires : tie.Need-put-row-requires Inv-loop μ-loop
 put-row-requires c κs =
     let at-test = c .before in
     let at-count = at-test .before .before in
     let below = rw (at-count .row-count .ensures) at (at-test .loop-test .taken) in
-    (rows-left _ _ _ _ _ (at-test .before .loop .inv) below, below)
+    (rows-left _ _ _ _ _ (at-test .before .loop .inv) below, below, search needs)
 
 add-i : tie.Need-add-i Inv-loop μ-loop
 add-i c = search needs
@@ -42,7 +43,7 @@ loop-again c =
     let a = at-count .before .before .before .before .before .args in
     let l = at-test .before .loop in
     let below = rw (at-count .row-count .ensures) at (at-test .loop-test .taken) in
-    let most = row-most (a .t) (a .u) (a .orders .now) (a .mailboxes .now) (a .files .now) (l .i) in
+    let most = row-most (a .t) (a .u) (lent (a .rows .now) (a .orders .now) (a .mailboxes .now)) (a .files .now) (l .i) in
     rows-next _ _ _ _ _ (l .inv) below most (at-row .put-row .ensures)
 
 same-length : tie.Need-same-length Inv-loop μ-loop

@@ -17,7 +17,8 @@ put-rows-requires : tie.Need-put-rows-requires
 put-rows-requires c κs =
     let at-head = c .before .before .before in
     let t = at-head .before .before .before .before .before .before .before .args .t in
-    omega (arith, at-head .put-header .ensures .place, put-length (at-head .put-header .ensures), header-most t, count-most t)
+    let placed = at-head .put-header .ensures in
+    (omega (arith, placed .place, put-length placed, header-most t, count-most t), search needs)
 
 same-length : tie.Need-same-length
 same-length c = search needs

@@ -1,4 +1,4 @@
--- `call` meets its contract. Assumes nothing.
+-- Rooms of other lengths change nothing; else the record's kind says which call it is. Assumes nothing.
 use borrow.Author.Tests.{not-true}
 use Rattle.unit.specs.declared.record.Kind.the-variants.{Frame, File, Run, NoCall}
 use mathlib.Core.Path.{refl}
@@ -21,17 +21,19 @@ run-call-requires c κs =
 
 returns-2 : tie.Need-returns-2
 returns-2 c =
-    let at-frame = c .before .before .before .before .before .before in
-    let at-told = at-frame .before .before .before .before in
+    let at-frame = c .before .before .before .before .before .before .before .before in
+    let at-told = at-frame .before .before .before .before .before in
     let at-call = at-told .before .before in
     called _ _ _ _ Frame _ (at-call .before .before .rooms-right .ensures) (at-call .before .if1 .left) (at-call .call-of .ensures)
-    (at-told .enum-told .given .1) (at-frame .frame-call .ensures _ _)
+    (at-told .enum-told .given .1) (at-frame .frame-call .ensures _ _ _)
 
 returns-3 : tie.Need-returns-3
 returns-3 c =
-    let at-call = c .before .before .before .before .before .before in
+    let at-file = c .before .before .before .before in
+    let at-told = at-file .before .before .before in
+    let at-call = at-told .before .before in
     called _ _ _ _ File _ (at-call .before .before .rooms-right .ensures) (at-call .before .if1 .left) (at-call .call-of .ensures)
-    (c .before .before .before .before .enum-told2 .given .1) (c .before .before .file-call .ensures _ _ _ _)
+    (at-told .enum-told2 .given .1) (at-file .file-call .ensures _ _ _ _ _)
 
 returns-4 : tie.Need-returns-4
 returns-4 c =
@@ -39,7 +41,7 @@ returns-4 c =
     let at-told = at-run .before .before .before .before .before in
     let at-call = at-told .before .before in
     called _ _ _ _ (Run _) _ (at-call .before .before .rooms-right .ensures) (at-call .before .if1 .left) (at-call .call-of .ensures)
-    (at-told .kind .given .1) (at-run .run-call .ensures _ _)
+    (at-told .kind .given .1) (at-run .run-call .ensures _)
 
 returns-5 : tie.Need-returns-5
 returns-5 c =
@@ -64,7 +66,9 @@ call-spec =
     (λ c. search needs)
     (λ c. search needs)
     (λ c. search needs)
+    (λ c. search needs)
     returns-2
+    (λ c. search needs)
     (λ c. search needs)
     returns-3
     (λ c. search needs)

@@ -1,4 +1,4 @@
--- `file_call` meets its contract. Assumes nothing.
+-- The bank's call on the parts of the record, and what its answer says. Assumes nothing.
 use Rattle.unit.specs.Call.{fileStep}
 use borrow.Author.Needs.{needs}
 use Rattle.unit.proofs.call.file_call.Statement.{statement}
@@ -7,12 +7,11 @@ use Rattle.unit.proofs.call.file_call.Tie as tie
 returns : tie.Need-returns
 unfolding fileStep
 returns c =
-    λ o p f b.
+    λ u o p f b.
     let at-file = c .before .before .before .before .before in
     let at-body = at-file .before .before in
     rw (
       c .file-answer .ensures,
-      c .before .with-bank .ensures,
       ← at-body .before .number-at .ensures,
       ← at-body .body-of .ensures,
       ← at-file .put-file .ensures,
@@ -26,6 +25,6 @@ file-call-spec =
     (λ c κs. tt)
     (λ c κs. tt)
     (λ c κs. tt)
-    (λ c κs. tt)
+    (λ c. search needs)
     (λ c. search needs)
     returns)

@@ -1,4 +1,4 @@
--- `frame_call` meets its contract. Assumes nothing.
+-- The bank's call on the parts of the record, and what its answer says. Assumes nothing.
 use Rattle.unit.specs.Call.{frameStep}
 use borrow.Author.Needs.{needs}
 use Rattle.unit.proofs.call.frame_call.Statement.{statement}
@@ -7,12 +7,11 @@ use Rattle.unit.proofs.call.frame_call.Tie as tie
 returns : tie.Need-returns
 unfolding frameStep
 returns c =
-    λ p f.
+    λ u p f.
     let at-frame = c .before .before .before .before .before .before .before .before .before in
     let at-body = at-frame .before .before .before .before in
     rw (
       c .frame-answer .ensures,
-      c .before .with-bank .ensures,
       ← at-body .before .before .time-at .ensures,
       ← at-body .before .bytes-at .ensures,
       ← at-body .body-of .ensures,
@@ -28,7 +27,7 @@ frame-call-spec =
     (λ c κs. tt)
     (λ c κs. tt)
     (λ c κs. tt)
-    (λ c κs. tt)
+    (λ c. search needs)
     (λ c. search needs)
     (λ c. search needs)
     (λ c. search needs)

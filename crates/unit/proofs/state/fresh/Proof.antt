@@ -5,12 +5,11 @@ use Rattle.unit.proofs.state.fresh.Tie as tie
 
 returns : tie.Need-returns
 unfolding fresh
-returns c = rw (c .new .ensures, c .before .fresh .ensures)
+returns c = rw (c .new .ensures)
 
 pub fresh-spec : {M : Type 1} → statement M
 fresh-spec =
     tie.close
     (tie.spec
-    (λ c κs. tt)
     (λ c κs. tt)
     returns)
