@@ -13,7 +13,7 @@ use Rattle.octets.specs.Bytes.{Bytes}
 use Rattle.octets.proofs.Tests.{and-true}
 use Rattle.message.specs.Verdicts.{decide}
 use Rattle.message.proofs.Verdicts.{by-test}
-use Rattle.bank_state.specs.declared.state.Bank.{Bank}
+use Rattle.bank_state.specs.State.{Bank}
 use Rattle.bank_state.specs.Limits.{storeBytes, idBytes, replyRoom}
 use Rattle.bank_state.specs.State.{BankState, bankState, fresh}
 use Rattle.bank_rows.specs.Sound.{isSound, InRange}
