@@ -13,10 +13,12 @@ use Rattle.message.specs.Limits.{subscribers, fileBytes}
 use Rattle.message.specs.Verdicts.{decide}
 use Rattle.bank_state.specs.declared.state.Bank.{Bank}
 use Rattle.bank_state.specs.Limits.{storeBytes, idBytes, replyRoom}
+use Rattle.bank_state.specs.State.{fileLength}
 use Rattle.message.proofs.Verdicts.{all-failed}
 use Rattle.bank_verdicts.specs.Refusals.{noSubscriber}
 use Rattle.bank.specs.declared.mailbox.FileAnswer.{FileAnswer}
-use Rattle.bank.specs.declared.mailbox.FileAnswer.the-variants.{Done, WrongLength, NoMailbox, WrongFile, MailboxFull}
+use Rattle.bank.specs.declared.mailbox.FileAnswer.the-variants.{Done, WrongLength, NoMailbox}
+use Rattle.bank.specs.declared.mailbox.FileAnswer.the-variants.{WrongFile, MailboxFull}
 use Rattle.bank.specs.Mailbox.{fileRefusals}
 
 -- a number of a subscriber, or of a mailbox
@@ -37,16 +39,18 @@ isDone NoMailbox = false
 isDone WrongFile = false
 isDone MailboxFull = false
 
--- a file that goes into a mailbox has room there
+-- a file that goes into a mailbox has room there, and the mailbox is empty
 pub file-fits : (b : Bank) (m : ℕ) (file mailboxes : List ℕ) → decide (fileRefusals b m file mailboxes) Done ≡ Done
     → (0 < m) × (m ≤ subscribers) × (length file ≤ fileBytes) × (length mailboxes ≡ storeBytes)
+    × (fileLength m (b .files) ≡ 0)
 unfolding fileRefusals
 file-fits b m file mailboxes h =
     let failed = all-failed isDone (fileRefusals b m file mailboxes) Done refl (ap isDone h) in
     let n = numbered m (failed 1) in
     let size = or-neither (eqb (length file) 0) (ltb fileBytes (length file)) (failed 2) in
     let lent = eqb-true (length mailboxes) storeBytes (not-false _ (failed 0)) in
-    (n .0, n .1, ltb-false fileBytes (length file) (size .1), lent)
+    let free = eqb-true (fileLength m (b .files)) 0 (not-false _ (failed 3)) in
+    (n .0, n .1, ltb-false fileBytes (length file) (size .1), lent, free)
 
 -- the lent lengths
 pub lengths-right : (orders mailboxes ids buffer : ℕ)

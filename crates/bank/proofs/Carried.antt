@@ -135,10 +135,12 @@ pub landed : (i : ℕ) (w : BankState) (r : TransactionRequest) (q : Fields) (d 
     ≡ onUpload (judgeUpload r (placeAt (w .bank) i) q) i w d
 unfolding uploadStep
 landed i w r q d h =
-    ap (λ (s : UploadStep). bankState (withPlace i (s .place) (w .bank)) (withPart (w .orders) i (s .bytes)) (w .mailboxes)) h
+    ap (λ (s : UploadStep).
+    bankState (withPlace i (s .place) (w .bank)) (withPart (w .orders) i (s .bytes)) (w .mailboxes)) h
 
 -- what a request to the open transaction that was found does
-pub upload-acts-at : (i : ℕ) (w : BankState) (r : TransactionRequest) (q : Fields) (d : List ℕ) → i ≡ uploadAt (w .bank) q
+pub upload-acts-at : (i : ℕ) (w : BankState) (r : TransactionRequest) (q : Fields) (d : List ℕ)
+    → i ≡ uploadAt (w .bank) q
     → onUpload (judgeUpload r (placeAt (w .bank) i) q) i w d ≡ carryOut (uploadVerdict r i (w .bank) q) w q d
 upload-acts-at i w r q d e =
     let p = placeAt (w .bank) i in

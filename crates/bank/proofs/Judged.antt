@@ -30,10 +30,11 @@ use Rattle.bank.specs.Call.{uploadVerdict, downloadVerdict}
 module _ (first : ℕ) (b : Bank) (q : Fields) (n : ℕ) (P : Verdict → Type 0) (unreadable : P verdict.Unreadable)
     (refused : (c : ReturnCode) → P (verdict.Refused c))
     (opening : Readable q n → (dir : Direction) (v : Verdict) → OpeningSound first b q dir v
-        → judgeOpening dir first b q ≡ v → P v)
-    (upload : Readable q n → (r : TransactionRequest) → uploadAt b q < placeCount → P (uploadVerdict r (uploadAt b q) b q))
+    → judgeOpening dir first b q ≡ v → P v)
+    (upload : Readable q n → (r : TransactionRequest) → uploadAt b q < placeCount
+    → P (uploadVerdict r (uploadAt b q) b q))
     (download : Readable q n → (r : TransactionRequest) → downloadOf b q < placeCount
-        → P (downloadVerdict r (downloadOf b q) b q)) where
+    → P (downloadVerdict r (downloadOf b q) b q)) where
   -- where no upload is found, a download is
   found-other : notOpen b q ≡ false → ltb (uploadAt b q) placeCount ≡ false → downloadOf b q < placeCount
   unfolding notOpen

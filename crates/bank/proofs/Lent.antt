@@ -1,4 +1,4 @@
--- The bank's calls on lent rows: the rows after a step are those of the bank that the definition leaves. Assumes nothing.
+-- The bank's calls on lent rows: the rows after a step are those of the bank that the definition leaves.
 use Prim.Native.Nat.{ℕ, _-_, _<_}
 use mathlib.Core.Bool.{Bool, true, false, cond}
 use mathlib.Core.List.{List}
@@ -162,10 +162,10 @@ withRows c rows = record {
 }
 
 module _ (s o m : List ℕ) (l : Laid s) (time : ℕ) where
-  abbrev old : BankState
+  abbrev pub old : BankState
   old = bankState (bankOf s) o m
 
-  advanced-within : Within s (advanced time old .bank)
+  pub advanced-within : Within s (advanced time old .bank)
   unfolding advanced
   advanced-within = within-drops s placeCount _ (within-at-clock s _ (within-own s l))
 
@@ -196,7 +196,8 @@ module _ (s o m : List ℕ) (l : Laid s) (time : ℕ) where
         let after = c (advanced time old) in
         let few = advanced-within in
         let v = advanced time old in
-        let held : Held (after .bankState .bank) = held-judged (v .bank) (few .held) q (v .orders) (v .mailboxes) d first in
+        let held : Held (after .bankState .bank) =
+        held-judged (v .bank) (few .held) q (v .orders) (v .mailboxes) d first in
         let once = ap (stored (after .bankState .bank)) (e .rows)
         ∙ stored-twice (advanced time old .bank) (after .bankState .bank) s (few .held) held l
         (omega (arith, few .downloads)) (omega (arith, few .nonces)) in

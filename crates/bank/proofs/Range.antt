@@ -1,4 +1,4 @@
--- A request and a file leave a bank in range in range, so the rows that a call leaves pass the test again. Assumes nothing.
+-- A request and a file leave a bank in range in range. Assumes nothing.
 use Prim.Native.Nat.{ℕ, zero, suc, _+_, _*_, _-_, _≤_, _<_}
 use mathlib.Core.Bool.{Bool, true, false, not, cond, _&&_}
 use mathlib.Core.List.{List, [], _∷_}
@@ -7,7 +7,7 @@ use native.Mathlib.Omega.{arith}
 use lib.Dec.{eqb}
 use lib.ListN.{length, getD, set}
 use lib.Seq.{getD-set-other}
-use borrow.Author.Tests.{eqb-false, not-true}
+use borrow.Author.Tests.{eqb-true, eqb-false, not-true}
 use Rattle.frame_table.specs.declared.fields.Fields.{Fields}
 use Rattle.frame_table.specs.Names.{subscriber, segment}
 use Rattle.octets.proofs.Tests.{never, and-true}
@@ -32,8 +32,9 @@ use Rattle.bank_verdicts.specs.declared.verdict.DownloadAction.{DownloadAction}
 use Rattle.bank_verdicts.specs.declared.verdict.TransactionRequest.{TransactionRequest}
 use Rattle.bank_verdicts.specs.declared.verdict.UploadAction.{UploadAction}
 use Rattle.bank_verdicts.specs.declared.verdict.Verdict.{Verdict}
-use Rattle.bank_verdicts.specs.Judgement.{mailboxSegments, judgeOpening, judgeUpload, judgeDownload, uploadAt, downloadOf, judge}
-use Rattle.bank_verdicts.proofs.Sound.{Readable, OpeningSound, UploadSound, DownloadSound, judged-upload, judged-download}
+use Rattle.bank_verdicts.specs.Judgement.{mailboxSegments, judgeDownload, uploadAt, downloadOf, judge}
+use Rattle.bank_verdicts.proofs.Sound.{Readable, OpeningSound, UploadSound, DownloadSound}
+use Rattle.bank_verdicts.proofs.Sound.{judged-upload, judged-download}
 use Rattle.bank_verdicts.proofs.Sound as sound
 use Rattle.bank_openings.specs.Openings.{counted, newPlace, openUpload, newDownload, openDownload}
 use Rattle.bank_downloads.specs.Downloads.{downloadAfter}
@@ -74,7 +75,8 @@ module _ {b : Bank} (r : InRange b) where
   place-range : (i : ℕ) (p : Place) → PlaceRange p → InRange (withPlace i p b)
   place-range i p k = record {
     files = r .files;
-    lengths = λ j h. set-each (λ (x : Place). x .length ≤ fileBytes) noPlace p (k .size) (b .places) i j (r .lengths j h);
+    lengths =
+        λ j h. set-each (λ (x : Place). x .length ≤ fileBytes) noPlace p (k .size) (b .places) i j (r .lengths j h);
     few = each (λ (x : Place). x .segments ≤ maxSegments) (k .few) (r .few);
     below = each (λ (x : Place). x .taken < x .segments) (k .below) (r .below);
     largest = each (λ (x : Place). x .length ≤ x .taken * segmentBytes) (k .largest) (r .largest);
@@ -98,13 +100,16 @@ module _ {b : Bank} (r : InRange b) where
     largest = r .largest;
     known = each (λ (x : Download). 1 ≤ x .subscriber) (k .known) (r .known);
     most = each (λ (x : Download). x .subscriber ≤ subscribers) (k .most) (r .most);
-    within = each (λ (x : Download). x .delivered ≤ segmentsOf (fileLength (x .subscriber) (b .files))) (k .within) (r .within);
+    within =
+        each (λ (x : Download). x .delivered ≤ segmentsOf (fileLength (x .subscriber) (b .files)))
+        (k .within) (r .within);
   }
     where
       each : (P : Download → Type 0) → P e → ((i : ℕ) → downloadAt b i .used ≡ true → P (downloadAt b i)) → (i : ℕ) →
           let x = downloadAt (withDownload j e b) i in
           x .used ≡ true → P x
-      each P new old i = set-each (λ (x : Download). x .used ≡ true → P x) noDownload e (λ _. new) (b .downloads) j i (old i)
+      each P new old i =
+          set-each (λ (x : Download). x .used ≡ true → P x) noDownload e (λ _. new) (b .downloads) j i (old i)
 
   counted-range : (q : Fields) → InRange (counted q b)
   unfolding counted
@@ -142,7 +147,8 @@ module _ {b : Bank} (r : InRange b) where
   -- ---- an open download
 
   stays-range : (j clock : ℕ) (q : Fields) → downloadAt b j .used ≡ true → downloadAt b j .subscriber ≡ subscriber q
-      → (t : TransactionRequest) (a : DownloadAction) → DownloadSound t (downloadAt b j) (mailboxSegments (subscriber q) b) q a
+      → (t : TransactionRequest) (a : DownloadAction)
+      → DownloadSound t (downloadAt b j) (mailboxSegments (subscriber q) b) q a
       → DownloadRange (b .files) (downloadAfter a clock (downloadAt b j))
   stays-range j clock q u own t a (sound.delivered asked next most) = record {
     known = r .known j u;
@@ -182,13 +188,29 @@ unfolding ends fileLength
 emptied-range {b} r s h o m =
     file-range (ended-range r (ending.Mailbox s)) s 0 (omega arith)
     (each-endDownloads
-    (λ (e : Download). e .used ≡ true → e .delivered ≤ segmentsOf (fileLength (e .subscriber) (set (b .files) (s - 1) 0)))
+    (λ (e : Download). e .used ≡ true
+    → e .delivered ≤ segmentsOf (fileLength (e .subscriber) (set (b .files) (s - 1) 0)))
     (λ u. never u) (ending.Mailbox s) (b .downloads)
     (λ k _ g u.
     let e = downloadAt b k in
     let apart = eqb-false (e .subscriber) s (not-true _ (and-true (e .used) (not (eqb (e .subscriber) s)) g .1)) in
     let other = getD-set-other (b .files) (s - 1) (e .subscriber - 1) 0 0 (λ x. apart (omega (arith, r .known k u))) in
     rw other (r .within k u)))
+
+-- a file goes into an empty mailbox
+pub stored-range : {b : Bank} → InRange b → (s n : ℕ) → n ≤ fileBytes → fileLength s (b .files) ≡ 0
+    → InRange (withFiles (set (b .files) (s - 1) n) b)
+unfolding fileLength segmentsOf
+stored-range {b} r s n h free = file-range r s n h (λ i u. by i u (eqb (downloadAt b i .subscriber - 1) (s - 1)) refl)
+  where
+    by : (i : ℕ) → downloadAt b i .used ≡ true → (t : Bool) → eqb (downloadAt b i .subscriber - 1) (s - 1) ≡ t
+        → downloadAt b i .delivered ≤ segmentsOf (fileLength (downloadAt b i .subscriber) (set (b .files) (s - 1) n))
+    by i u true e =
+        let same = eqb-true (downloadAt b i .subscriber - 1) (s - 1) e in
+        omega (arith, r .within i u, ap (λ (j : ℕ). getD (b .files) j 0) same, free)
+    by i u false e =
+        rw (getD-set-other (b .files) (s - 1) (downloadAt b i .subscriber - 1) n 0
+        (eqb-false (downloadAt b i .subscriber - 1) (s - 1) e)) (r .within i u)
 
 -- ---- every request
 
@@ -199,7 +221,8 @@ module _ (b : Bank) (k : Held b) (r : InRange b) (q : Fields) (o m d : List ℕ)
   abbrev P : Verdict → Type 0
   P v = InRange (carryOut v w q d .bank)
 
-  opening-range : Readable q (length d) → (first : ℕ) (dir : Direction) (v : Verdict) → OpeningSound first b q dir v → P v
+  opening-range : Readable q (length d) → (first : ℕ) (dir : Direction) (v : Verdict)
+      → OpeningSound first b q dir v → P v
   unfolding openUpload openDownload counted
   opening-range s first dir v (sound.refused e c h) = r
   opening-range s first dir v (sound.upload acc some free) =
@@ -216,12 +239,14 @@ module _ (b : Bank) (k : Held b) (r : InRange b) (q : Fields) (o m d : List ℕ)
         within = some-segment (fileLength (subscriber q) (b .files)) (omega (arith, full));
       })
 
-  upload-left : Readable q (length d) → (t : TransactionRequest) → uploadAt b q < placeCount → P (uploadVerdict t (uploadAt b q) b q)
+  upload-left : Readable q (length d) → (t : TransactionRequest) → uploadAt b q < placeCount
+      → P (uploadVerdict t (uploadAt b q) b q)
   upload-left s t h =
-      let p = placeAt b (uploadAt b q) in
+      let i = uploadAt b q in
+      let p = placeAt b i in
       subst (λ (x : BankState). InRange (x .bank)) (sym (upload-acts (p .transaction) w q d t p))
-      (place-range r (uploadAt b q) _
-      (upload-range r (uploadAt b q) (length d) (b .clock) h (upload-open b k q refl h) (s .short) t q _ (judged-upload t p q)))
+      (place-range r i _
+      (upload-range r i (length d) (b .clock) h (upload-open b k q refl h) (s .short) t q _ (judged-upload t p q)))
 
   module _ (s : Readable q (length d)) (t : TransactionRequest) (h : downloadOf b q < placeCount) where
     abbrev e : Download
@@ -236,7 +261,8 @@ module _ (b : Bank) (k : Held b) (r : InRange b) (q : Fields) (o m d : List ℕ)
         let found = download-open b k q refl h in
         download-range r (downloadOf b q) _ (stays-range r (downloadOf b q) (b .clock) q (found .0) (found .1) t a x)
 
-    on-download-range : (a : DownloadAction) → DownloadSound t e n q a → InRange (onDownload a (downloadOf b q) w q .bank)
+    on-download-range : (a : DownloadAction) → DownloadSound t e n q a
+        → InRange (onDownload a (downloadOf b q) w q .bank)
     on-download-range a (sound.delivered asked next most) = stayed a (sound.delivered asked next most)
     on-download-range a (sound.sentAgain asked some most few) = stayed a (sound.sentAgain asked some most few)
     on-download-range a (sound.downloadPoint none few) = stayed a (sound.downloadPoint none few)
@@ -251,4 +277,5 @@ module _ (b : Bank) (k : Held b) (r : InRange b) (q : Fields) (o m d : List ℕ)
 
   pub range-judged : (first : ℕ) → P (judge first b q (length d))
   range-judged first =
-      judged-each first b q (length d) P r (λ c. r) (λ s dir v x _. opening-range s first dir v x) upload-left download-left
+      judged-each first b q (length d) P r (λ c. r) (λ s dir v x _. opening-range s first dir v x)
+      upload-left download-left

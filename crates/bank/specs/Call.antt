@@ -68,11 +68,13 @@ uploadActs (up.Cancelled c) t w q d = onUpload (up.Cancelled c) (uploadAt (w .ba
 -- the open download of record j, which stays open
 abbrev pub staying : DownloadAction → ℕ → BankState → BankState
 staying a j w =
-    bankState (withDownload j (downloadAfter a (w .bank .clock) (downloadAt (w .bank) j)) (w .bank)) (w .orders) (w .mailboxes)
+    let e = downloadAfter a (w .bank .clock) (downloadAt (w .bank) j) in
+    bankState (withDownload j e (w .bank)) (w .orders) (w .mailboxes)
 
 -- the bank without the downloads that end
 abbrev pub without : Ended → BankState → BankState
-without which w = bankState (withDownloads (endDownloads which (w .bank .downloads)) (w .bank)) (w .orders) (w .mailboxes)
+without which w =
+    bankState (withDownloads (endDownloads which (w .bank .downloads)) (w .bank)) (w .orders) (w .mailboxes)
 
 -- "this transaction ended"
 abbrev pub ended : Fields → BankState → BankState
@@ -184,7 +186,8 @@ replied s buffer = record {
   buffer = writeBuffer (s .reply) (s .replyData) buffer;
   answer = answerOf (writeAnswer (s .reply) (s .replyData) buffer);
   number = frameNumber (answerOf (writeAnswer (s .reply) (s .replyData) buffer));
-  code = replyCode (answerOf (writeAnswer (s .reply) (s .replyData) buffer)) (writeBuffer (s .reply) (s .replyData) buffer);
+  code =
+      replyCode (answerOf (writeAnswer (s .reply) (s .replyData) buffer)) (writeBuffer (s .reply) (s .replyData) buffer);
 }
 
 -- what a frame call brings and is lent besides the bank: the bank time, the 8 ID bytes, the frame, the reply buffer

@@ -11,7 +11,8 @@ use Rattle.bank_state.specs.declared.state.Bank.{Bank}
 use Rattle.bank_state.specs.Limits.{storeBytes}
 use Rattle.bank_state.specs.State.{fileLength, withFiles}
 use Rattle.bank.specs.declared.mailbox.FileAnswer.{FileAnswer}
-use Rattle.bank.specs.declared.mailbox.FileAnswer.the-variants.{Done, WrongLength, NoMailbox, WrongFile, MailboxFull}
+use Rattle.bank.specs.declared.mailbox.FileAnswer.the-variants.{Done, WrongLength, NoMailbox}
+use Rattle.bank.specs.declared.mailbox.FileAnswer.the-variants.{WrongFile, MailboxFull}
 
 -- *The host* (a number, nothing changed, clock included)
 unfoldable pub fileRefusals : Bank → ℕ → List ℕ → List ℕ → List (Bool × FileAnswer)
@@ -54,4 +55,5 @@ carryOutFile WrongFile b mailbox file mailboxes = refusedFile WrongFile b mailbo
 carryOutFile MailboxFull b mailbox file mailboxes = refusedFile MailboxFull b mailboxes
 
 unfoldable pub fileCall : Bank → ℕ → List ℕ → List ℕ → FileCall
-fileCall b mailbox file mailboxes = carryOutFile (decide (fileRefusals b mailbox file mailboxes) Done) b mailbox file mailboxes
+fileCall b mailbox file mailboxes =
+    carryOutFile (decide (fileRefusals b mailbox file mailboxes) Done) b mailbox file mailboxes

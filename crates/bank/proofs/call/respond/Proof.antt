@@ -24,7 +24,9 @@ returns c =
     let b = bankOf (a .rows .now) in
     let step = at-step .step .ensures in
     let v = judge (a .first) b (a .q) (length (a .bytes .now)) in
-    let n = at-file-length-of .file-length-of .ensures ∙ ap (λ (k : ℕ). fileLength k (b .files)) (at-subscriber .subscriber .ensures) in
+    let n =
+    at-file-length-of .file-length-of .ensures
+    ∙ ap (λ (k : ℕ). fileLength k (b .files)) (at-subscriber .subscriber .ensures) in
     respond-kept (lent (a .rows .now) (a .orders .now) (a .mailboxes .now)) v (a .q) (a .bytes .now)
     (step .judged) (step .done) n (at-reply .reply .ensures)
 

@@ -12,7 +12,8 @@ use Rattle.bank_rows.proofs.State.{stored-own}
 use Rattle.bank_rows.proofs.Test.{sound-laid}
 use Rattle.bank.proofs.mailbox.FileAnswer.{the-type}
 use Rattle.bank.specs.declared.mailbox.FileAnswer.{FileAnswer}
-use Rattle.bank.specs.declared.mailbox.FileAnswer.the-variants.{Done, WrongLength, NoMailbox, WrongFile, MailboxFull}
+use Rattle.bank.specs.declared.mailbox.FileAnswer.the-variants.{Done, WrongLength, NoMailbox}
+use Rattle.bank.specs.declared.mailbox.FileAnswer.the-variants.{WrongFile, MailboxFull}
 use Rattle.bank.specs.Mailbox.{refusedFile, carryOutFile, fileCall}
 use Rattle.bank.specs.Lent.{lentFileCallOf, keptFile, lentFileCall}
 use Rattle.bank.proofs.Accepted.{file-fits}

@@ -44,7 +44,11 @@ returns-2 c =
     let at-transaction2 = at-end-downloads2 .before in
     let at-subscriber2 = at-transaction2 .before in
     let at-enum-told2 = at-subscriber2 .before .before in
-    rw (at-enum-told2 .enum-told2 .given .1, ← at-transaction2 .transaction2 .ensures, ← at-subscriber2 .subscriber2 .ensures)
+    rw (
+      at-enum-told2 .enum-told2 .given .1,
+      ← at-transaction2 .transaction2 .ensures,
+      ← at-subscriber2 .subscriber2 .ensures,
+    )
     (lent-same (at-end-downloads2 .end-downloads2 .ensures) refl refl)
 
 returns-3 : tie.Need-returns-3

@@ -70,11 +70,13 @@ returns c =
     let s = a .rows .now in
     let m = a .mailboxes .now in
     let w = bankState (bankOf s) o m in
+    let e = downloadAt (bankOf s) (a .j) in
     let step = stepped at-step in
     record {
       judged =
-          ap (λ (e : Download). verdict.Of (e .transaction) (action.Download (at-step .download-step .result .action))) (at-download-at .download-at .ensures)
-          ∙ ap (λ (x : DownloadStep). verdict.Of (downloadAt (bankOf s) (a .j) .transaction) (action.Download (x .action))) step;
+          ap (λ (x : Download). verdict.Of (x .transaction) (action.Download (at-step .download-step .result .action)))
+          (at-download-at .download-at .ensures)
+          ∙ ap (λ (x : DownloadStep). verdict.Of (e .transaction) (action.Download (x .action))) step;
       done =
           at-after .downloads-after .ensures o
           ∙ ap (λ (x : DownloadStep). keptIn (lent s o m) (onDownload (x .action) (a .j) w (a .q))) step

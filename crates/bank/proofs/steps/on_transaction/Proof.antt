@@ -34,8 +34,8 @@ on-upload-requires c κs =
 returns : tie.Need-returns
 returns c =
     let at-step = c .before .before .before .before in
-    let start = at-step .before .before .before .before .before .before .before .before .before .before .before .before in
     let at-if1 = at-step .before .before .before in
+    let start = at-if1 .before .before .before .before .before .before .before .before .before in
     let a = start .args in
     let n = length (a .bytes .now) in
     rw (in-upload (a .asked) (bankOf (a .rows .now)) (a .q) n (upload-found (at-if1 .before)) (at-if1 .if1 .taken))
@@ -44,20 +44,22 @@ returns c =
 on-download-requires : tie.Need-on-download-requires
 on-download-requires c κs =
     let at-if2 = c .before .before in
-    let start = at-if2 .before .before .before .before .before .before .before .before .before .before .before .before in
+    let at-if1 = at-if2 .before .before .before in
+    let start = at-if1 .before .before .before .before .before .before .before .before .before in
     let m = start .pre .memory in
     (m .laid, at-if2 .if2 .taken, download-found (at-if2 .before), start .pre .known, start .pre .most, m .mailboxStore)
 
 returns-2 : tie.Need-returns-2
 returns-2 c =
     let at-step = c .before .before .before .before in
-    let start = at-step .before .before .before .before .before .before .before .before .before .before .before .before .before .before .before in
     let at-if2 = at-step .before .before .before in
     let at-find = at-if2 .before in
     let at-if1 = at-find .before .before in
+    let start = at-if1 .before .before .before .before .before .before .before .before .before in
     let a = start .args in
     let b = bankOf (a .rows .now) in
-    let found = in-download (a .asked) b (a .q) (length (a .bytes .now)) (upload-found (at-if1 .before)) (at-if1 .if1 .left) in
+    let found = in-download (a .asked) b (a .q) (length (a .bytes .now))
+    (upload-found (at-if1 .before)) (at-if1 .if1 .left) in
     rw (found (download-found at-find) (at-if2 .if2 .taken))
     (at-step .on-download .ensures _ _)
 
@@ -68,7 +70,8 @@ returns-3 c =
     let at-if1 = at-find .before .before in
     let a = start .args in
     let b = bankOf (a .rows .now) in
-    let found = in-none (a .asked) b (a .q) (length (a .bytes .now)) (upload-found (at-if1 .before)) (at-if1 .if1 .left) in
+    let found = in-none (a .asked) b (a .q) (length (a .bytes .now))
+    (upload-found (at-if1 .before)) (at-if1 .if1 .left) in
     rw (found (download-found at-find) (c .if2 .left))
     (record { judged = refl; done = unchanged _ (start .pre .memory .laid) _ _ })
 

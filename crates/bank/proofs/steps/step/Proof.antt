@@ -70,9 +70,9 @@ returns-4 : tie.Need-returns-4
 unfolding judge requestRows longData
 returns-4 c =
     let at-step = c .before .before .before .before .before .before in
-    let start = at-step .before .before .before .before .before .before .before .before .before .before .before .before .before .before .before in
     let at-if3 = at-step .before .before .before .before in
     let at-if1 = at-if3 .before .before .before .before in
+    let start = at-if1 .before .before .before .before .before .before .before in
     let short = le-ltb segmentBytes (length (start .args .bytes .now)) (at-if3 .if3 .left) in
     rw (readable at-if1, known (at-if3 .before), short)
     (at-step .by-form .ensures)

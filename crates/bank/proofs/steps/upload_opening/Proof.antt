@@ -31,7 +31,8 @@ returns c =
     let start = at-judge-opening .before .before .before in
     let a = start .args in
     let told = sym (at-judge-opening .judge-opening .ensures) ∙ at-verdict .verdict .given .1 in
-    upload-opening-carried (a .rows .now) o m (a .first) (a .q) d told (at-openings .openings .ensures) (at-open-upload .open-upload .ensures)
+    upload-opening-carried (a .rows .now) o m (a .first) (a .q) d told (at-openings .openings .ensures)
+    (at-open-upload .open-upload .ensures)
 
 returns-2 : tie.Need-returns-2
 returns-2 c =

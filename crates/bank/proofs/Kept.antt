@@ -1,0 +1,115 @@
+-- The rows that a call leaves pass the test of the next call, and are the bank that the call leaves. Assumes nothing.
+use Prim.Native.Nat.{ℕ, _-_}
+use mathlib.Core.Bool.{true}
+use mathlib.Core.List.{List}
+use mathlib.Core.Path.{_≡_, refl, ap, _∙_}
+use lib.ListN.{length}
+use Rattle.octets.specs.Bytes.{number}
+use Rattle.frame.specs.Reader.{readRequest}
+use Rattle.frame.specs.Row.{dataOf}
+use Rattle.message.specs.Verdicts.{decide}
+use Rattle.message.proofs.Verdicts.{by-test}
+use Rattle.bank_state.specs.declared.state.Bank.{Bank}
+use Rattle.bank_state.specs.Clock.{advanced}
+use Rattle.bank_state.specs.State.{BankState}
+use Rattle.bank_rows.specs.Sound.{isSound, InRange}
+use Rattle.bank_rows.specs.State.{bankOf, stored, Laid, Held}
+use Rattle.bank_rows.proofs.Calls.{held-file}
+use Rattle.bank_rows.proofs.Range.{advanced-range}
+use Rattle.bank_rows.proofs.State.{held-rows, stored-back}
+use Rattle.bank_rows.proofs.Test.{sound-laid, sound-range, stored-sound}
+use Rattle.bank.specs.declared.mailbox.FileAnswer.{FileAnswer}
+use Rattle.bank.specs.declared.mailbox.FileAnswer.the-variants as answers
+use Rattle.bank.specs.Call.{respond, FrameInput, FrameCall, lentRight, frameCall}
+use Rattle.bank.specs.Mailbox.{fileRefusals, carryOutFile, fileCall}
+use Rattle.bank.specs.Lent.{Lent, lent, stateOf, keptIn, lentFrameCall, lentFileCall}
+use Rattle.bank.proofs.Accepted.{file-fits}
+use Rattle.bank.proofs.Held.{held-judged}
+use Rattle.bank.proofs.Lent.{lent-same, advanced-within, lent-frame}
+use Rattle.bank.proofs.Range.{stored-range, range-judged}
+
+-- ---- a frame arrives
+
+module _ (m : Lent) (a : FrameInput) (sound : isSound (m .rows) ≡ true) where
+  abbrev after : BankState
+  after = frameCall (stateOf m) a .bankState
+
+  laid : Laid (m .rows)
+  laid = sound-laid (m .rows) sound
+
+  held : Held (advanced (a .time) (stateOf m) .bank)
+  held = advanced-within (m .rows) (m .orders) (m .mailboxes) laid (a .time) .held
+
+  pub frame-held : Held (after .bank)
+  unfolding frameCall respond
+  frame-held =
+      let v = advanced (a .time) (stateOf m) in
+      by-test (λ (c : FrameCall). Held (c .bankState .bank)) (lentRight (stateOf m) (a .ids) (a .buffer))
+      (λ _. held-judged (v .bank) held (readRequest (a .frame)) (v .orders) (v .mailboxes) (dataOf (a .frame))
+      (number (a .ids)))
+      (λ _. held-rows (m .rows) laid)
+
+  pub frame-range : InRange (after .bank)
+  unfolding frameCall respond
+  frame-range =
+      let v = advanced (a .time) (stateOf m) in
+      let r = advanced-range (a .time) (stateOf m) (sound-range (m .rows) sound) in
+      by-test (λ (c : FrameCall). InRange (c .bankState .bank)) (lentRight (stateOf m) (a .ids) (a .buffer))
+      (λ _. range-judged (v .bank) held r (readRequest (a .frame)) (v .orders) (v .mailboxes) (dataOf (a .frame))
+      (number (a .ids)))
+      (λ _. sound-range (m .rows) sound)
+
+  -- the next call finds a bank's rows
+  pub frame-sound : isSound (lentFrameCall m a .lent .rows) ≡ true
+  frame-sound = rw (lent-frame m a sound) (stored-sound (after .bank) (m .rows) frame-held laid frame-range)
+
+  -- and the bank that this one left
+  pub frame-state : stateOf (lentFrameCall m a .lent) ≡ after
+  frame-state =
+      rw (lent-frame m a sound)
+      (ap (λ (b : Bank). record { bank = b; orders = after .orders; mailboxes = after .mailboxes })
+      (stored-back (after .bank) frame-held (m .rows) laid))
+
+-- ---- a file goes into a mailbox
+
+module _ (s : List ℕ) (mailbox : ℕ) (file mailboxes : List ℕ) (sound : isSound s ≡ true) where
+  abbrev left : Bank
+  left = fileCall (bankOf s) mailbox file mailboxes .bank
+
+  abbrev judged : FileAnswer
+  judged = decide (fileRefusals (bankOf s) mailbox file mailboxes) answers.Done
+
+  own : Held (bankOf s)
+  own = held-rows s (sound-laid s sound)
+
+  held-by : (x : FileAnswer) → Held (carryOutFile x (bankOf s) mailbox file mailboxes .bank)
+  held-by answers.Done = held-file (mailbox - 1) (length file) own
+  held-by answers.WrongLength = own
+  held-by answers.NoMailbox = own
+  held-by answers.WrongFile = own
+  held-by answers.MailboxFull = own
+
+  pub file-held : Held left
+  unfolding fileCall
+  file-held = held-by judged
+
+  range-by : (x : FileAnswer) → judged ≡ x → InRange (carryOutFile x (bankOf s) mailbox file mailboxes .bank)
+  range-by answers.Done told =
+      let fits = file-fits (bankOf s) mailbox file mailboxes told in
+      stored-range (sound-range s sound) mailbox (length file) (fits .2) (fits .4)
+  range-by answers.WrongLength told = sound-range s sound
+  range-by answers.NoMailbox told = sound-range s sound
+  range-by answers.WrongFile told = sound-range s sound
+  range-by answers.MailboxFull told = sound-range s sound
+
+  pub file-range : InRange left
+  unfolding fileCall
+  file-range = range-by judged refl
+
+  pub file-sound : isSound (lentFileCall s mailbox file mailboxes .rows) ≡ true
+  unfolding lentFileCall
+  file-sound = rw sound (stored-sound left s file-held (sound-laid s sound) file-range)
+
+  pub file-state : bankOf (lentFileCall s mailbox file mailboxes .rows) ≡ left
+  unfolding lentFileCall
+  file-state = rw sound (stored-back left file-held s (sound-laid s sound))
