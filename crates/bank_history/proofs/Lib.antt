@@ -30,7 +30,7 @@ pub mod Answered
 pub mod RequestBounds
 pub mod MailboxBytes
 pub mod WrittenReplies
-pub mod Held
+pub mod InRange
 pub mod Answers
 pub mod Theorems
 pub mod Liveness

@@ -37,7 +37,6 @@ use Rattle.bank.specs.Call.{
   replied,
   answerOf,
   lentRight,
-  frameNumber,
   respond,
   frameCall,
   FrameInput,
