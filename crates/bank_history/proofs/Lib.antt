@@ -28,7 +28,6 @@ pub mod DownloadRequests
 pub mod Dropped
 pub mod Answered
 pub mod RequestBounds
-pub mod MailboxBytes
 pub mod WrittenReplies
 pub mod InRange
 pub mod Answers

@@ -86,7 +86,7 @@ module _ {calls : List BankCall} (given : AllBytes calls) (m : Lent) (s : Stands
   frame-stands a ids frame = record {
     sound = frame-sound m a (s .sound);
     state = frame-state m a (s .sound)
-        ∙ (ap (λ (w : BankState). frameCall w a .bankState) (s .state) ∙ sym (same-bank given a ids frame));
+        ∙ (ap (λ (w : BankState). frameCall w a .bankState) (s .state) ∙ sym (same-bank calls a ids frame));
   }
 
   file-stands : (mailbox : ℕ) (file : List ℕ) →
@@ -143,11 +143,10 @@ number-of w a =
     by-test (λ (c : FrameCall). c .number ≡ frameNumber (c .answer)) (lentRight w (a .ids) (a .buffer)) (λ _. refl)
     (λ _. refl)
 
-module _ {m : Lent} {a : FrameInput} (b : AreBytes m a) where
+module _ {m : Lent} {a : FrameInput} (b : AreBytes a) where
   frame-given : RightlyLent m a → FrameAnswered (frameCall (stateOf m) a) (a .buffer) (callExchange (stateOf m) a)
   frame-given r =
-      call-answered (stateOf m) (sound-range (m .rows) (r .rows)) (sizes-of m (r .rows) (r .orders) (r .mailboxes))
-      (b .mailboxes) a
+      call-answered (stateOf m) (sound-range (m .rows) (r .rows)) (sizes-of m (r .rows) (r .orders) (r .mailboxes)) a
       (b .ids) (b .frame) (r .ids) (r .room)
 
   -- the lengths that the call tests
