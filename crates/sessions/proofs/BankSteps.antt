@@ -4,9 +4,9 @@ use mathlib.Core.Bool.{Bool, true, cond}
 use mathlib.Core.List.{List, []}
 use mathlib.Core.Path.{_≡_, refl, sym, ap, _∙_, subst}
 use lib.Dec.{eqb}
+use lib.ListN.{drop}
 use Rattle.octets.specs.Bytes.{Bytes}
 use Rattle.octets.proofs.Numbers.{bytes-take, bytes-drop}
-use Rattle.bank_state.specs.declared.state.Bank.{Bank}
 use Rattle.bank_state.specs.State.{BankState, bankState}
 use Rattle.bank_rows.specs.Sound.{isSound}
 use Rattle.bank_rows.specs.State.{bankOf}
@@ -33,9 +33,9 @@ use Rattle.unit.specs.Call.{frameAnswer, fileAnswer, frameStep, fileStep}
 use Rattle.sessions.specs.Sessions.{frameOf, putOf, Told, told}
 use Rattle.sessions.proofs.Standing.{SameRunAt, Standing, Stepped, past-bank, same-bank, rows-sound}
 
-body-bytes : (k : Kind) {r : List ℕ} → Bytes r → Bytes (bodyOf k r)
+body-bytes : (k : Kind) (r : List ℕ) → Bytes r → Bytes (bodyOf k r)
 unfolding bodyOf
-body-bytes k {r} b = bytes-take (sizeOf k r) _ (bytes-drop (headOf k) r b)
+body-bytes k r b = bytes-take (sizeOf k r) (drop (headOf k) r) (bytes-drop (headOf k) r b)
 
 -- ---- the course's bank after the call
 
@@ -74,7 +74,7 @@ module _ (s : Course) (p : Past) (own : s .bank ≡ p .bankState) where
 
 -- ---- the steps
 
-module _ {u : State} {s : Course} (v : Standing u s) {r : List ℕ} (b : Bytes r) where
+module _ {u : State} {s : Course} (v : Standing u s) (r : List ℕ) (b : Bytes r) where
   abbrev input : FrameInput
   input = frameInput (bankTimeOf r) (idsOf r) (bodyOf kind.Frame r) (u .memory .buffer)
 
@@ -85,7 +85,7 @@ module _ {u : State} {s : Course} (v : Standing u s) {r : List ℕ} (b : Bytes r
       record {
         calls = _;
         bytes =
-            more {c = Frame input} (bytes-take 8 _ (bytes-drop 5 r b), body-bytes kind.Frame b) (v .bytes);
+            more {c = Frame input} (bytes-take 8 (drop 5 r) (bytes-drop 5 r b), body-bytes kind.Frame r b) (v .bytes);
         memory = ap (λ (m : bank.Lent). lentFrameCall m input .lent) (v .memory);
         course =
             ap (λ (x : BankState). exec (frameArrives x input) s .bank) (past-bank v)
@@ -119,7 +119,7 @@ module _ {u : State} {s : Course} (v : Standing u s) {r : List ℕ} (b : Bytes r
       let w = bank.stateOf (u .memory .bank) in
       record {
         calls = _;
-        bytes = more {c = File mailbox file} (body-bytes kind.File b) (v .bytes);
+        bytes = more {c = File mailbox file} (body-bytes kind.File r b) (v .bytes);
         memory = ap (rows.lentAfter (File mailbox file)) (v .memory);
         course =
             ap (λ (x : BankState). exec (filePut (x .bank) (x .mailboxes) mailbox file) s .bank) (past-bank v)

@@ -216,12 +216,12 @@ module _ {u : State} {s : Course} (v : Standing u s) (r : List ℕ) (e : Event) 
   -- given a number: nothing changed
   stays : kept ≡ false → (o .run ≡ run .client) × (o .file ≡ l .file) → Standing next s
   unfolding lentTo
-  stays no same = stands s refl (λ j h. at j h (ℕ-discrete j i))
+  stays zero same = stands s refl (λ j h. at j h (ℕ-discrete j i))
     where
       own : SameRunAt next s i
       own =
           let h = v .runs i inside in
-          by-parts (own-client ∙ same .0) (own-payload ∙ ap (λ (b : Bool). cond b body (payloadAt u i)) no)
+          by-parts (own-client ∙ same .0) (own-payload ∙ ap (λ (b : Bool). cond b body (payloadAt u i)) zero)
           (own-file ∙ same .1) refl refl refl h
 
       at : (j : ℕ) → j < runCount → Dec (j ≡ i) → SameRunAt next s j

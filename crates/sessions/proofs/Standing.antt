@@ -4,7 +4,7 @@ use Prim.Native.Nat.{ℕ, _<_}
 use mathlib.Core.Bool.{Bool, true, false, cond}
 use mathlib.Core.List.{List}
 use mathlib.Core.Path.{_≡_, refl, sym, ap, _∙_}
-use lib.ListN.{length, length-replicate, getD-replicate}
+use lib.ListN.{length, replicate, length-replicate, getD-replicate}
 use borrow.Author.Tests.{eq-eqb}
 use Rattle.octets.proofs.Tests.{never}
 use Rattle.bank_state.specs.State.{BankState}
@@ -16,12 +16,12 @@ use Rattle.bank_history.specs.History as history
 use Rattle.bank_history.specs.OnRows as rows
 use Rattle.bank_history.proofs.OnRows.{on-rows}
 use Rattle.client.specs.declared.run.Client.{Client}
-use Rattle.client.specs.Rulings.{isBegun}
+use Rattle.client.specs.Run.{nonceBytes}
 use Rattle.exchange.specs.Course.{Call, Course, start, callNumber, exec}
 use Rattle.unit.specs.declared.record.Kind.{Kind}
 use Rattle.unit.specs.declared.state.Run.{Run}
 use Rattle.unit.specs.Records.{runCount, callOf}
-use Rattle.unit.specs.State.{State, fresh, roomsBytes, runAt}
+use Rattle.unit.specs.State.{State, newRun, fresh, roomsBytes}
 use Rattle.unit.specs.Call.{UnitCall, roomsRight, stepOf, unitCall}
 use Rattle.sessions.specs.Sessions.{
   freshUnit,
@@ -63,7 +63,7 @@ module _ {u : State} {s : Course} (v : Standing u s) where
   same-bank = past-bank ∙ sym (v .course)
 
   pub rows-sound : isSound (u .memory .bank .rows) ≡ true
-  rows-sound = ap (λ (m : bank.Lent). isSound (m .rows)) (v .memory) ∙ on-rows .sound (v .bytes)
+  rows-sound = ap (λ (m : bank.Lent). isSound (m .rows)) (v .memory) ∙ on-rows .sound (v .calls)
 
   pub same : Same u s
   same = record { bank = same-bank; runs = v .runs }
@@ -72,13 +72,14 @@ module _ {u : State} {s : Course} (v : Standing u s) where
   rooms-right : roomsRight (length (u .memory .payloads)) (length (u .memory .files)) ≡ true
   unfolding roomsRight
   rooms-right =
-      rw (eq-eqb (length (u .memory .payloads)) roomsBytes (v .payloads),
-      eq-eqb (length (u .memory .files)) roomsBytes (v .files))
+      rw (
+        eq-eqb (length (u .memory .payloads)) roomsBytes (v .payloads),
+        eq-eqb (length (u .memory .files)) roomsBytes (v .files),
+      )
 
   pub made : (r : List ℕ) (k : Kind) → callOf r ≡ k → unitCall u r ≡ stepOf k u r
   unfolding unitCall
-  made r k e =
-      ap (λ (b : Bool). cond b (stepOf (callOf r) u r) _) rooms-right ∙ ap (λ (g : Kind). stepOf g u r) e
+  made r k e = rw rooms-right (ap (λ (g : Kind). stepOf g u r) e)
 
 -- ---- a fresh unit
 
@@ -89,7 +90,7 @@ fresh-standing = record {
   bytes = none;
   memory = refl;
   course = refl;
-  count = length-replicate runCount _;
+  count = length-replicate {A = Run} runCount (newRun (replicate nonceBytes 0));
   payloads = length-replicate {A = ℕ} roomsBytes 0;
   files = length-replicate {A = ℕ} roomsBytes 0;
   runs = λ i h. record {

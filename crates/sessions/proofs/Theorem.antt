@@ -67,7 +67,7 @@ use Rattle.sessions.proofs.RunSteps.{run-step}
 run-inside : (n : ℕ) → (1 ≤ n) × (n ≤ runCount) → n - 1 < runCount
 run-inside n h = omega arith
 
-module _ {u : State} {s : Course} {r : List ℕ} {rs : List (List ℕ)} (k : Call) (step : Stepped s k (unitCall u r))
+module _ (u : State) {s : Course} (r : List ℕ) (rs : List (List ℕ)) (k : Call) (step : Stepped s k (unitCall u r))
     (first : (ks : List Call) → callFirst (callOf r) u r ks ≡ k ∷ ks)
     (rest : IsCourse (unitCall u r .state) rs (exec k s)) where
   abbrev ks : List Call
@@ -85,7 +85,7 @@ module _ {u : State} {s : Course} {r : List ℕ} {rs : List (List ℕ)} (k : Cal
         ∙ ap (map toldBy) (sym (first ks));
   }
 
-module _ {u : State} {s : Course} (v : Standing u s) {r : List ℕ} (b : Bytes r) where
+module _ {u : State} {s : Course} (v : Standing u s) (r : List ℕ) (b : Bytes r) where
   -- the call of the record, and the course after it
   record Next : Type 0 where
     call : Call
@@ -101,8 +101,8 @@ module _ {u : State} {s : Course} (v : Standing u s) {r : List ℕ} (b : Bytes r
   }
 
   next-call : (g : Kind) → callOf r ≡ g → isCall g ≡ true → Next
-  next-call kind.Frame e h = as-made kind.Frame e _ (frame-step v b) (λ ks. refl)
-  next-call kind.File e h = as-made kind.File e _ (file-step v b) (λ ks. refl)
+  next-call kind.Frame e h = as-made kind.Frame e _ (frame-step v r b) (λ ks. refl)
+  next-call kind.File e h = as-made kind.File e _ (file-step v r b) (λ ks. refl)
   next-call (kind.Run x) e h =
       let inside = run-inside (runOf r) (run-within (runOf r) (callable r (kind.Run x) refl e .run)) in
       as-made (kind.Run x) e _ (run-step v r inside x) (λ ks. refl)
@@ -111,9 +111,9 @@ module _ {u : State} {s : Course} (v : Standing u s) {r : List ℕ} (b : Bytes r
 is-course : {rs : List (List ℕ)} → Records rs → {u : State} {s : Course} → Standing u s → IsCourse u rs s
 unfolding callsOf unitAfter answersOf after
 is-course none v = record { given = tt; same = same v; answers = refl }
-is-course (more {r = r} b h more-records) {u} {s} v =
-    let n = next-call v b (callOf r) refl h in
-    joined (n .call) (n .step) (n .first) (is-course more-records (n .step .standing))
+is-course (more {r = r} {rs = rs} b h more-records) {u} {s} v =
+    let n = next-call v r b (callOf r) refl h in
+    joined u r rs (n .call) (n .step) (n .first) (is-course more-records (n .step .standing))
 
 pub sessions : Sessions
 unfolding Sessions
@@ -132,9 +132,9 @@ allowed : (ks : List Call) (s : Course) → AtEach Given ks s → AtEach Copy ks
 allowed [] s g c = tt
 allowed (k ∷ ks) s g c = (λ z. premise k s (g .0 z) (c .0 z), allowed ks (exec k s) (g .1) (c .1))
 
-first-records : (rs : List (List ℕ)) {ts : List (List ℕ)} → Records (rs ++ ts) → Records rs
-first-records [] h = none
-first-records (r ∷ rs) (more b e h) = more b e (first-records rs h)
+first-records : (rs ts : List (List ℕ)) → Records (rs ++ ts) → Records rs
+first-records [] ts h = none
+first-records (r ∷ rs) ts (more b e h) = more b e (first-records rs ts h)
 
 -- the calls of a session and of its continuation
 first-appended : (g : Kind) (u : State) (r : List ℕ) (ks ls : List Call) → callFirst g u r (ks ++ ls) ≡ callFirst g u r ks ++ ls
@@ -178,12 +178,11 @@ pub sessions-close : SessionsClose
 unfolding SessionsClose Demand3
 sessions-close rs ts records copies numbers =
     let all = allowed (callsOf freshUnit (rs ++ ts)) start (is-course records fresh-standing .given) copies in
-    let here = is-course (first-records rs records) fresh-standing .same in
+    let here = is-course (first-records rs ts records) fresh-standing .same in
     let split = appended freshUnit rs ts in
     let d = demand3 (callsOf freshUnit rs) (callsOf (unitAfter freshUnit rs) ts)
     (subst (λ (l : List Call). AllAllowed l start) split all)
-    (subst (λ (l : List Call). OneExchangeNumber (after l start)) split numbers) in
-    (
+    (subst (λ (l : List Call). OneExchangeNumber (after l start)) split numbers) in (
       d .0,
       d .1,
       closes here (d .0),

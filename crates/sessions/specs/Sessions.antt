@@ -191,10 +191,10 @@ AtEach P (k ∷ ks) s = (callNumber k ≡ 0 → P k s) × AtEach P ks (exec k s)
 -- ---- THE CLAIM
 
 -- a run of the unit is that of the course: the client, and once begun its payload and its file buffer
-pub record SameRun (own : Client) (payload file : List ℕ) (c : Client) (p f : List ℕ) : Type 0 where
+pub record SameRun (own : Client) (kept buffer : List ℕ) (c : Client) (p f : List ℕ) : Type 0 where
   pub client : own ≡ c
-  pub payload : isBegun (c .stage) ≡ true → payload ≡ p
-  pub file : isBegun (c .stage) ≡ true → file ≡ f
+  pub payload : isBegun (c .stage) ≡ true → kept ≡ p
+  pub file : isBegun (c .stage) ≡ true → buffer ≡ f
 
 -- the unit is what the course has left: the bank with its stores that the unit's memory is, and each of the 16 runs
 pub record Same (u : State) (s : Course) : Type 0 where
