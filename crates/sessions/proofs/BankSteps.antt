@@ -1,20 +1,19 @@
 -- `F` and `M`: the memory keeps what the call on the bank leaves, and the course's bank is the same; no run changes.
 use Prim.Native.Nat.{ℕ}
-use mathlib.Core.Bool.{Bool, true, cond}
+use mathlib.Core.Bool.{cond}
 use mathlib.Core.List.{List, []}
-use mathlib.Core.Path.{_≡_, refl, sym, ap, _∙_, subst}
+use mathlib.Core.Path.{_≡_, refl, ap, _∙_}
 use lib.Dec.{eqb}
 use lib.ListN.{drop}
 use Rattle.octets.specs.Bytes.{Bytes}
 use Rattle.octets.proofs.Numbers.{bytes-take, bytes-drop}
 use Rattle.bank_state.specs.State.{BankState, bankState}
-use Rattle.bank_rows.specs.Sound.{isSound}
 use Rattle.bank_rows.specs.State.{bankOf}
 use Rattle.bank.specs.declared.call.FrameAnswer.{FrameAnswer}
 use Rattle.bank.specs.declared.call.FrameAnswer.the-variants as frame
 use Rattle.bank.specs.declared.mailbox.FileAnswer.{FileAnswer}
 use Rattle.bank.specs.declared.mailbox.FileAnswer.the-variants as put
-use Rattle.bank.specs.Call.{FrameInput, FrameCall, frameInput, frameNumber, frameCall}
+use Rattle.bank.specs.Call.{FrameInput, frameInput, frameNumber, frameCall}
 use Rattle.bank.specs.Mailbox.{FileCall, fileNumber, fileCall}
 use Rattle.bank.specs.Lent.{LentFrameCall, LentFileCall, lentFrameCall, keptFile, lentFileCall}
 use Rattle.bank.specs.Lent as bank
@@ -27,10 +26,10 @@ use Rattle.exchange.specs.Course.{Course, frameArrives, filePut, carryOut, exec
 use Rattle.exchange.proofs.Calls.{by-number}
 use Rattle.unit.specs.declared.record.Kind.{Kind}
 use Rattle.unit.specs.declared.record.Kind.the-variants as kind
-use Rattle.unit.specs.Records.{bankTimeOf, idsOf, mailboxOf, bytesAt, headOf, sizeOf, bodyOf}
+use Rattle.unit.specs.Records.{bankTimeOf, idsOf, mailboxOf, headOf, sizeOf, bodyOf}
 use Rattle.unit.specs.State.{State}
 use Rattle.unit.specs.Call.{frameAnswer, fileAnswer, frameStep, fileStep}
-use Rattle.sessions.specs.Sessions.{frameOf, putOf, Told, told}
+use Rattle.sessions.specs.Sessions.{frameOf, putOf, told}
 use Rattle.sessions.proofs.Standing.{SameRunAt, Standing, Stepped, past-bank, same-bank, rows-sound}
 
 body-bytes : (k : Kind) (r : List ℕ) → Bytes r → Bytes (bodyOf k r)
@@ -154,6 +153,7 @@ module _ {u : State} {s : Course} (v : Standing u s) (r : List ℕ) (b : Bytes r
     );
     standing = file-standing;
     answer =
-        no-bytes (lentFileCall (u .memory .bank .rows) mailbox file (u .memory .bank .mailboxes) .answer) (u .memory .buffer)
+        no-bytes (lentFileCall (u .memory .bank .rows) mailbox file (u .memory .bank .mailboxes) .answer)
+        (u .memory .buffer)
         ∙ ap (λ (o : LentFileCall). told (fileAnswer (o .answer)) []) file-kept;
   }

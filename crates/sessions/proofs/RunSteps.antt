@@ -1,18 +1,16 @@
--- `U`, `D`, `R`, `N`: the run that the record names is what its call leaves, in the unit and in the course; a call given a
--- number leaves both as they were; the other runs and the bank stay.
+-- `U`, `D`, `R`, `N`: the run that the record names is what its call leaves, in the unit and in the course; a call given
+-- a number leaves both as they were; the other runs and the bank stay.
 use Prim.Native.Nat.{ℕ, _≤_, _<_}
 use mathlib.Core.Bool.{Bool, true, false, cond}
 use mathlib.Core.List.{List}
 use mathlib.Core.Path.{_≡_, refl, sym, ap, _∙_, subst}
 use native.Mathlib.Decide.{ℕ-discrete}
 use native.Mathlib.Omega.{arith}
-use lib.Dec.{eqb}
-use lib.ListN.{length, set, take, length-set}
+use lib.ListN.{length, take, length-set}
 use lib.Seq.{getD-set-same, getD-set-other}
 use borrow.Author.Tests.{eq-eqb, ne-eqb}
 use Rattle.message.specs.Limits.{fileBytes}
-use Rattle.bank_state.specs.State.{BankState}
-use Rattle.bank_state.specs.Store.{partAt, withPart, fileOf}
+use Rattle.bank_state.specs.Store.{fileOf}
 use Rattle.client.specs.declared.run.Answer as client
 use Rattle.client.specs.declared.run.Answer.the-variants as answer
 use Rattle.client.specs.declared.run.Client.{Client}
@@ -25,7 +23,7 @@ use Rattle.unit.specs.declared.record.Event.the-variants.{Upload, Download, Rep
 use Rattle.unit.specs.declared.record.Kind.the-variants as kind
 use Rattle.unit.specs.declared.state.Run.{Run}
 use Rattle.unit.specs.Records.{timeOf, nonceOf, bodyOf, runCount}
-use Rattle.unit.specs.State.{State, roomsBytes, newRun, runAt}
+use Rattle.unit.specs.State.{State, roomsBytes, runAt}
 use Rattle.unit.specs.Call.{indexOf, eventCall, roomCall, keeps, nextRun, keptPayloads, runCall, runStep}
 use Rattle.unit.specs.Call as unit
 use Rattle.unit.proofs.Begins.{kept-fits}
@@ -191,7 +189,7 @@ module _ {u : State} {s : Course} (v : Standing u s) (r : List ℕ) (e : Event) 
     unfolding runStep runCall roomCall lentTo
     other-payload =
         ap (λ (x : Run). fileOf (keptPayloads kept (u .memory .payloads) i body) j (x .payload)) other-set
-        ∙ kept-other (u .memory .payloads) (v .payloads) i inside body kept fits j (runAt (u .unit .runs) j .payload) other
+        ∙ kept-other (u .memory .payloads) (v .payloads) i inside body kept fits j _ other
 
     other-file : fileAt next j ≡ fileAt u j
     unfolding runStep runCall roomCall lentTo

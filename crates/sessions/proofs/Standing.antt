@@ -1,13 +1,12 @@
--- The unit and the course that its calls leave stand alike: the unit's memory is what a list of the bank's calls leaves,
--- the course's bank is the bank after them, the rooms have their lengths, and each run is the course's.
+-- The unit and the course that its calls leave: the unit's memory is what a list of the bank's calls leaves, the course's
+-- bank is the bank after them, the rooms have their lengths, and each run is the course's.
 use Prim.Native.Nat.{ℕ, _<_}
-use mathlib.Core.Bool.{Bool, true, false, cond}
+use mathlib.Core.Bool.{true}
 use mathlib.Core.List.{List}
 use mathlib.Core.Path.{_≡_, refl, sym, ap, _∙_}
 use lib.ListN.{length, replicate, length-replicate, getD-replicate}
 use borrow.Author.Tests.{eq-eqb}
 use Rattle.octets.proofs.Tests.{never}
-use Rattle.bank_state.specs.State.{BankState}
 use Rattle.bank_rows.specs.Sound.{isSound}
 use Rattle.bank.specs.Lent as bank
 use Rattle.bank_history.specs.Answers.{AllBytes, none}
@@ -15,7 +14,6 @@ use Rattle.bank_history.specs.History.{BankCall, pastOf}
 use Rattle.bank_history.specs.History as history
 use Rattle.bank_history.specs.OnRows as rows
 use Rattle.bank_history.proofs.OnRows.{on-rows}
-use Rattle.client.specs.declared.run.Client.{Client}
 use Rattle.client.specs.Run.{nonceBytes}
 use Rattle.exchange.specs.Course.{Call, Course, start, callNumber, exec}
 use Rattle.unit.specs.declared.record.Kind.{Kind}

@@ -1,5 +1,5 @@
--- The unit after the calls of records, and the list of demand 3's calls that these records are: one claim over every list
--- of records, and demand 3's clauses said of the unit.
+-- The unit after the calls of records, and the list of demand 3's calls that these records are: one claim over every
+-- list of records, and demand 3's clauses said of the unit.
 use Prim.Native.Nat.{ℕ, _<_}
 use mathlib.Core.Path.{_≡_}
 use mathlib.Core.Bool.{true, cond}
@@ -10,7 +10,6 @@ use Rattle.frame_table.specs.Forms as forms
 use Rattle.frame_table.specs.Names.{subscriber}
 use Rattle.frame.specs.Reader.{readRequest}
 use Rattle.bank_state.specs.Limits.{storeBytes, replyRoom}
-use Rattle.bank_state.specs.State.{BankState}
 use Rattle.bank_state.specs.Store.{partAt, fileOf}
 use Rattle.bank_rows.specs.Layout.{stateSize}
 use Rattle.bank.specs.Call.{frameInput, frameCall}
@@ -47,10 +46,9 @@ use Rattle.unit.specs.declared.record.Event.{Event}
 use Rattle.unit.specs.declared.record.Event.the-variants.{Upload, Download, Reply, NoReply}
 use Rattle.unit.specs.declared.record.Kind.{Kind}
 use Rattle.unit.specs.declared.record.Kind.the-variants as kind
-use Rattle.unit.specs.declared.state.Run.{Run}
 use Rattle.unit.specs.Records.{bankTimeOf, idsOf, mailboxOf, timeOf, nonceOf, bodyOf, runCount, callOf, isCall}
-use Rattle.unit.specs.State.{Memory, State, fresh, roomsBytes, memory, stateOf, runAt}
-use Rattle.unit.specs.Call.{UnitCall, frameAnswer, fileAnswer, runAnswer, indexOf, paramsOf, unitCall}
+use Rattle.unit.specs.State.{State, fresh, roomsBytes, memory, stateOf, runAt}
+use Rattle.unit.specs.Call.{frameAnswer, fileAnswer, runAnswer, indexOf, paramsOf, unitCall}
 use Rattle.unit.specs.Call as unit
 
 -- ---- A SESSION OF THE UNIT
