@@ -11,7 +11,7 @@ use Rattle.frame_table.specs.Names.{subscriber}
 use Rattle.octets.proofs.Tests.{and-true, or-neither}
 use Rattle.message.specs.Limits.{subscribers, fileBytes}
 use Rattle.message.specs.Verdicts.{decide}
-use Rattle.bank_state.specs.declared.state.Bank.{Bank}
+use Rattle.bank_state.specs.State.{Bank}
 use Rattle.bank_state.specs.Limits.{storeBytes, idBytes, replyRoom}
 use Rattle.bank_state.specs.State.{fileLength}
 use Rattle.message.proofs.Verdicts.{all-failed}

@@ -9,7 +9,7 @@ use Rattle.frame.specs.Reader.{readRequest}
 use Rattle.frame.specs.Row.{dataOf}
 use Rattle.message.specs.Verdicts.{decide}
 use Rattle.message.proofs.Verdicts.{by-test}
-use Rattle.bank_state.specs.declared.state.Bank.{Bank}
+use Rattle.bank_state.specs.State.{Bank}
 use Rattle.bank_state.specs.Clock.{advanced}
 use Rattle.bank_state.specs.State.{BankState}
 use Rattle.bank_rows.specs.Sound.{isSound, InRange}

@@ -14,7 +14,7 @@ use Rattle.octets.specs.Bytes.{number}
 use Rattle.frame.specs.Reader.{readRequest}
 use Rattle.frame.specs.Row.{dataOf}
 use Rattle.bank_state.specs.declared.clock.Ended.{Ended}
-use Rattle.bank_state.specs.declared.state.Bank.{Bank}
+use Rattle.bank_state.specs.State.{Bank}
 use Rattle.bank_state.specs.declared.state.Place.{Place}
 use Rattle.bank_state.specs.Clock.{endDownloads, advanced}
 use Rattle.bank_state.specs.Limits.{placeCount, storeBytes}

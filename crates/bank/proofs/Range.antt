@@ -15,7 +15,7 @@ use Rattle.message.specs.Limits.{fileBytes, segmentBytes, maxSegments, subscrib
 use Rattle.message.specs.Segments.{segmentsOf}
 use Rattle.message.proofs.SegmentNumbers.{some-segment}
 use Rattle.bank_state.specs.declared.clock.Ended.the-variants as ending
-use Rattle.bank_state.specs.declared.state.Bank.{Bank}
+use Rattle.bank_state.specs.State.{Bank}
 use Rattle.bank_state.specs.declared.state.Download.{Download}
 use Rattle.bank_state.specs.declared.state.Place.{Place}
 use Rattle.bank_state.specs.Clock.{ends, endDownloads}

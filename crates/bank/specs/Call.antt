@@ -16,7 +16,7 @@ use Rattle.frame.specs.Row.{dataOf}
 use Rattle.frame_table.specs.Table.{isReplyForm}
 use Rattle.frame.specs.Writer.{writeAnswer, writeBuffer}
 use Rattle.message.specs.Segments.{segmentOf}
-use Rattle.bank_state.specs.declared.state.Bank.{Bank}
+use Rattle.bank_state.specs.State.{Bank}
 use Rattle.bank_state.specs.declared.clock.Ended.{Ended}
 use Rattle.bank_state.specs.declared.clock.Ended.the-variants as ending
 use Rattle.bank_state.specs.Clock.{advanced, endDownloads}

@@ -7,7 +7,7 @@ use lib.ListN.{length, set}
 use Rattle.octets.specs.Bytes.{overwrite}
 use Rattle.message.specs.Limits.{subscribers, fileBytes}
 use Rattle.message.specs.Verdicts.{decide}
-use Rattle.bank_state.specs.declared.state.Bank.{Bank}
+use Rattle.bank_state.specs.State.{Bank}
 use Rattle.bank_state.specs.Limits.{storeBytes}
 use Rattle.bank_state.specs.State.{fileLength, withFiles}
 use Rattle.bank.specs.declared.mailbox.FileAnswer.{FileAnswer}

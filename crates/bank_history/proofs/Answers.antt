@@ -36,7 +36,7 @@ use Rattle.bank_history.specs.Transactions.{answered}
 use Rattle.bank_history.specs.Answers.{FrameAnswered}
 use Rattle.bank_history.proofs.Cases.{happens}
 use Rattle.bank_history.proofs.Clock.{sized}
-use Rattle.bank_history.proofs.Held.{in-range}
+use Rattle.bank_history.proofs.InRange.{in-range}
 use Rattle.bank_history.proofs.Uploads.{bare}
 use Rattle.bank_history.proofs.Keeps.{past-holds}
 use Rattle.bank_history.proofs.Answered.{stores-right, frame-answered}

@@ -18,7 +18,7 @@ use Rattle.message.specs.Limits.{maxAttempts}
 use Rattle.message.specs.Segments.{segmentsOf, segmentOf}
 use Rattle.bank_state.specs.declared.clock.Ended.the-variants as ending
 use Rattle.bank_state.specs.declared.state.Download.{Download}
-use Rattle.bank_state.specs.declared.state.Nonce.{Nonce}
+use Rattle.bank_state.specs.State.{Nonce}
 use Rattle.bank_state.specs.Clock.{ends, endDownloads}
 use Rattle.bank_state.specs.Limits.{placeCount, storeBytes}
 use Rattle.bank_state.specs.Search.{isDownload}

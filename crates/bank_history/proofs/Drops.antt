@@ -1,12 +1,13 @@
 -- Drops: by how each transaction stands by the history, a call's clock takes out of the bank exactly the open ones that
 -- are idle, in the order of their openings.
-use Prim.Native.Nat.{ℕ, zero, suc, _+_, _≤_, _<_}
-use mathlib.Core.Bool.{Bool, true, false, cond, _||_}
+use Prim.Native.Nat.{ℕ, suc, _+_, _≤_}
+use mathlib.Core.Bool.{Bool, true, false, cond}
 use mathlib.Core.List.{
   List,
   [],
   _∷_,
   _++_,
+  map,
   append-nil,
   List·Memᴰ as In,
   List·Memᴰ·head as here,
@@ -25,9 +26,7 @@ use Rattle.bank_state.specs.Clock.{isIdle, advanced}
 use Rattle.bank_state.specs.Rows.{keep}
 use Rattle.bank_state.specs.State.{BankState}
 use Rattle.bank_verdicts.specs.declared.verdict.Direction.{Direction}
-use Rattle.bank_verdicts.specs.declared.verdict.UploadAction.{UploadAction}
 use Rattle.bank_verdicts.specs.declared.verdict.UploadAction.the-variants as up
-use Rattle.bank_verdicts.specs.declared.verdict.DownloadAction.{DownloadAction}
 use Rattle.bank_verdicts.specs.declared.verdict.DownloadAction.the-variants as down
 use Rattle.bank_verdicts.specs.declared.verdict.Action.{Action}
 use Rattle.bank_verdicts.specs.declared.verdict.Action.the-variants as action
@@ -45,7 +44,6 @@ use Rattle.bank_history.specs.History.{
   isDownloadOpening,
   accepted,
   opens,
-  ever,
   pastOf,
 }
 use Rattle.bank_history.specs.Invariant.{Invariant}
@@ -73,6 +71,9 @@ use Rattle.bank_history.specs.Status.{
   openings,
   isIdleAt,
   drops,
+  Drop,
+  actedIn,
+  eventsOf,
   OpenAs,
   OpenIn,
   upload,
@@ -86,7 +87,7 @@ use Rattle.bank_history.specs.Status.{
   Drops,
 }
 use Rattle.bank_history.proofs.Downloads.{download-open}
-use Rattle.bank_history.proofs.Entries.{same-bits, accepted-own}
+use Rattle.bank_history.proofs.Entries.{same-bits}
 use Rattle.bank_history.proofs.Keeps.{past-holds}
 use Rattle.bank_history.proofs.NextCall.{clock-is}
 use Rattle.bank_history.proofs.Positions.{ever-stands, opening-number}
@@ -96,7 +97,6 @@ use Rattle.bank_history.proofs.Statuses.{
   open-told,
   open-advanced,
   advanced-told,
-  not-dropped,
   past-told,
 }
 use Rattle.bank_history.proofs.Theorems.{history-sound}
@@ -143,6 +143,36 @@ in-either {A} {x} (y ∷ l) m (there i) = at (in-either l m i)
     at : In x l ⊎ In x m → In x (y ∷ l) ⊎ In x m
     at (inl k) = inl (there k)
     at (inr k) = inr k
+
+-- a call's drops are those of its events
+module _ (t : Bits128) where
+  drop-in : (l : List Bits128) → In t l → In (Drop t) (map Drop l)
+  drop-in [] i = absurd (in-none i)
+  drop-in (u ∷ l) (here z) = here (ap Drop z)
+  drop-in (u ∷ l) (there i) = there (drop-in l i)
+
+  in-drop : (l : List Bits128) → In (Drop t) (map Drop l) → In t l
+  in-drop [] i = absurd (in-none i)
+  in-drop (u ∷ l) (here z) = let same : t ≡ u = cc in here same
+  in-drop (u ∷ l) (there i) = there (in-drop l i)
+
+  no-act : (v : Verdict) → In (Drop t) (actedIn v) → ⊥
+  no-act verdict.Unreadable i = in-none i
+  no-act (verdict.Refused c) i = in-none i
+  no-act (verdict.Of u k) (here z) = let x : _≡_ {A = ℕ} 0 1 = cc in omega arith
+  no-act (verdict.Of u k) (there i) = in-none i
+
+  event-drops : (e : Exchange) (h : List Exchange) → In (Drop t) (eventsOf e h) → In t (drops (e .clock) h)
+  unfolding eventsOf
+  event-drops e h i = at (in-either (map Drop (drops (e .clock) h)) (actedIn (e .verdict)) i)
+    where
+      at : In (Drop t) (map Drop (drops (e .clock) h)) ⊎ In (Drop t) (actedIn (e .verdict)) → In t (drops (e .clock) h)
+      at (inl k) = in-drop (drops (e .clock) h) k
+      at (inr k) = absurd (no-act (e .verdict) k)
+
+  drops-event : (e : Exchange) (h : List Exchange) → In t (drops (e .clock) h) → In (Drop t) (eventsOf e h)
+  unfolding eventsOf
+  drops-event e h i = in-left (map Drop (drops (e .clock) h)) (actedIn (e .verdict)) (drop-in (drops (e .clock) h) i)
 
 numbered-more : {m : ℕ} {l : List Bits128} (t : Bits128) → Numbered m l → t .low ≡ m + length l →
     Numbered m (l ++ (t ∷ []))
@@ -393,8 +423,8 @@ unfolding drops
 call-drops = record {
   told = λ calls t d s last. open-told (past-told calls);
   shown = λ calls t d s last. open-shown (past-told calls);
-  gone = drops-gone;
-  stays = others-stay;
+  gone = λ n t i. drops-gone n t (event-drops t _ _ i);
+  stays = λ n t d s last o i. others-stay n t d s last o (λ k. i (drops-event t _ _ k));
   ordered = λ calls clock. rising-keep _ 0 (omega arith) (opened-numbered (history-sound calls) .0);
   numbered = λ calls. opened-numbered (history-sound calls) .0;
   counted = λ calls. opened-numbered (history-sound calls) .1;

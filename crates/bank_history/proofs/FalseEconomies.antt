@@ -23,7 +23,7 @@ use Rattle.message.specs.declared.codes.ReturnCode.the-variants as code
 use Rattle.message.specs.Codes.{codeField}
 use Rattle.message.specs.Limits.{ful, fdl, maxSegments, initialisationPhase, transferPhase}
 use Rattle.message.specs.Replies.{uploadOpened, downloadOpened, segmentTaken, recoveryPoint, downloadSegment, receiptAnswered, refusal}
-use Rattle.bank_state.specs.declared.state.Bank.{Bank}
+use Rattle.bank_state.specs.State.{Bank}
 use Rattle.bank_state.specs.Clock.{advanced}
 use Rattle.bank_state.specs.Limits.{window}
 use Rattle.bank_state.specs.Search.{isRemembered}

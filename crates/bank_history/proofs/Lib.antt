@@ -28,9 +28,8 @@ pub mod DownloadRequests
 pub mod Dropped
 pub mod Answered
 pub mod RequestBounds
-pub mod MailboxBytes
 pub mod WrittenReplies
-pub mod Held
+pub mod InRange
 pub mod Answers
 pub mod Theorems
 pub mod Liveness

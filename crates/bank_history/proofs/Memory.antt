@@ -9,7 +9,7 @@ use lib.ListN.{length, set, replicate, length-append}
 use lib.Seq.{set-at}
 use borrow.Author.Tests.{leb-false, lt-leb}
 use Rattle.octets.proofs.Tests.{never}
-use Rattle.bank_state.specs.declared.state.Nonce.{Nonce}
+use Rattle.bank_state.specs.State.{Nonce}
 use Rattle.bank_state.specs.Clock.{forget}
 use Rattle.bank_state.specs.Limits.{nonceCount, window}
 use Rattle.bank_state.specs.Rows.{firstOf, keep, keepOnly}

@@ -35,7 +35,7 @@ use Rattle.bank_verdicts.specs.declared.verdict.Action.the-variants as action
 use Rattle.bank_verdicts.specs.declared.verdict.Verdict.{Verdict}
 use Rattle.bank_verdicts.specs.declared.verdict.Verdict.the-variants as verdict
 use Rattle.bank_verdicts.specs.Refusals.{notOpen, transactionRows}
-use Rattle.bank_verdicts.specs.Judgement.{uploadAt, judgeOpen, judgeTransaction, judgeForm, judge}
+use Rattle.bank_verdicts.specs.Judgement.{uploadAt, judgeOpen, judgeTransaction, judge}
 use Rattle.bank_verdicts.proofs.Sound.{Readable, judged-transaction}
 use Rattle.bank.specs.Call.{carryOut, respond}
 use Rattle.bank_history.specs.History.{
@@ -50,7 +50,7 @@ use Rattle.bank_history.specs.History.{
   isOpening,
 }
 use Rattle.bank_history.specs.Sound.{SoundRequest, SoundAction, SoundUploadAction, SoundDownloadAction, AllSound}
-use Rattle.bank_history.specs.Invariant.{Invariant, Holds}
+use Rattle.bank_history.specs.Invariant.{Invariant}
 use Rattle.bank_history.specs.Transactions.{answered}
 use Rattle.bank_history.specs.FalseEconomies.{Next, WellMade, Asks, RefusedWith}
 use Rattle.bank_history.proofs.Cases.{Happens, happens}

@@ -1,46 +1,45 @@
 -- The calls on lent memory are the calls on the bank that the rows are: what a call leaves is stored and read back,
 -- since the
 -- invariant's bank is one that rows can hold and in range. A bank in range writes every reply.
-use Prim.Native.Nat.{ℕ, _≤_}
+use Prim.Native.Nat.{ℕ}
 use mathlib.Core.Bool.{Bool, true, false, _&&_}
-use mathlib.Core.List.{List, [], _∷_}
-use mathlib.Core.Path.{_≡_, refl, sym, ap, _∙_, subst}
+use mathlib.Core.List.{List}
+use mathlib.Core.Path.{_≡_, refl, sym, ap, _∙_}
 use native.Mathlib.Omega.{arith}
 use lib.Dec.{leb, eqb}
 use lib.ListN.{length, replicate}
-use borrow.Author.Tests.{eqb-true, leb-true}
+use borrow.Author.Tests.{eqb-true}
 use Rattle.octets.specs.Bytes.{Bytes}
 use Rattle.octets.proofs.Tests.{and-true}
 use Rattle.message.specs.Verdicts.{decide}
 use Rattle.message.proofs.Verdicts.{by-test}
-use Rattle.bank_state.specs.declared.state.Bank.{Bank}
+use Rattle.bank_state.specs.State.{Bank}
 use Rattle.bank_state.specs.Limits.{storeBytes, idBytes, replyRoom}
-use Rattle.bank_state.specs.State.{BankState, bankState, fresh}
-use Rattle.bank_rows.specs.Sound.{isSound, InRange}
-use Rattle.bank_rows.specs.State.{bankOf, stored, Held}
+use Rattle.bank_state.specs.State.{BankState, bankState}
+use Rattle.bank_rows.specs.Sound.{isSound}
+use Rattle.bank_rows.specs.State.{bankOf}
 use Rattle.bank_rows.proofs.Range.{zeros-sound}
-use Rattle.bank_rows.proofs.State.{fresh-rows, held-rows, stored-back}
-use Rattle.bank_rows.proofs.Test.{sound-laid, sound-range, stored-sound}
+use Rattle.bank_rows.proofs.State.{fresh-rows, held-rows}
+use Rattle.bank_rows.proofs.Test.{sound-laid, sound-range}
 use Rattle.bank.specs.declared.mailbox.FileAnswer.{FileAnswer}
 use Rattle.bank.specs.declared.mailbox.FileAnswer.the-variants as put
 use Rattle.bank.specs.Call.{FrameInput, FrameCall, frameNumber, lentRight, frameCall}
 use Rattle.bank.specs.Mailbox.{fileRefusals, carryOutFile, fileCall}
 use Rattle.bank.specs.Lent.{
   Lent,
-  lent,
   stateOf,
-  keptIn,
   LentFrameCall,
   keptFrame,
   frameTurnedAway,
   lentFrameCall,
   keptFile,
+  LentFileCall,
   lentFileCall,
 }
+use Rattle.bank.proofs.Kept.{frame-sound, frame-state, file-sound, file-state}
 use Rattle.bank.proofs.Lent.{length-refused, rows-refused, lent-frame}
 use Rattle.bank_history.specs.Answers.{AllBytes, none, more, FrameAnswered}
 use Rattle.bank_history.specs.History.{
-  Exchange,
   Past,
   BankCall,
   Frame,
@@ -51,11 +50,9 @@ use Rattle.bank_history.specs.History.{
   after,
   pastOf,
 }
-use Rattle.bank_history.specs.Invariant.{Sizes, Invariant}
+use Rattle.bank_history.specs.Invariant.{Sizes}
 use Rattle.bank_history.specs.OnRows.{lentAfter, lentOf, AreBytes, RightlyLent, OnRows}
 use Rattle.bank_history.proofs.Answers.{call-lengths, call-answered, same-bank}
-use Rattle.bank_history.proofs.Held.{in-range, held-bank}
-use Rattle.bank_history.proofs.Keeps.{past-holds}
 
 -- ---- what a call leaves is stored
 
@@ -63,19 +60,6 @@ use Rattle.bank_history.proofs.Keeps.{past-holds}
 record Stands (m : Lent) (w : BankState) : Type 0 where
   sound : isSound (m .rows) ≡ true
   state : stateOf m ≡ w
-
-state-same : {b c : Bank} (o m : List ℕ) → b ≡ c → bankState b o m ≡ bankState c o m
-state-same o m z = ap (λ (x : Bank). bankState x o m) z
-
-kept-stands : {h : List Exchange} (m : Lent) (w : BankState) → isSound (m .rows) ≡ true → Invariant w h →
-    Stands (keptIn m w) w
-kept-stands m w sound v =
-    let l = sound-laid (m .rows) sound in
-    let k = held-bank v in
-    record {
-      sound = stored-sound (w .bank) (m .rows) k l (in-range v);
-      state = state-same (w .orders) (w .mailboxes) (stored-back (w .bank) k (m .rows) l);
-    }
 
 lent-file : (rows : List ℕ) (mailbox : ℕ) (file mailboxes : List ℕ) → isSound rows ≡ true →
     lentFileCall rows mailbox file mailboxes ≡ keptFile rows (fileCall (bankOf rows) mailbox file mailboxes)
@@ -96,39 +80,47 @@ module _ {calls : List BankCall} (given : AllBytes calls) (m : Lent) (s : Stands
   abbrev past : Past
   past = pastOf calls
 
-  frame-stored : (a : FrameInput) → Bytes (a .ids) → Bytes (a .frame) →
-      lentAfter (Frame a) m ≡ keptIn m (after (Frame a) past .bankState)
+  frame-stands : (a : FrameInput) → Bytes (a .ids) → Bytes (a .frame) →
+      Stands (lentAfter (Frame a) m) (after (Frame a) past .bankState)
   unfolding lentAfter
-  frame-stored a ids frame =
-      ap (λ (c : LentFrameCall). c .lent) (lent-frame m a (s .sound))
-      ∙ (ap (λ (w : BankState). keptIn m (frameCall w a .bankState)) (s .state)
-      ∙ ap (keptIn m) (sym (same-bank given a ids frame)))
+  frame-stands a ids frame = record {
+    sound = frame-sound m a (s .sound);
+    state = frame-state m a (s .sound)
+        ∙ (ap (λ (w : BankState). frameCall w a .bankState) (s .state) ∙ sym (same-bank calls a ids frame));
+  }
 
-  file-stored : (mailbox : ℕ) (file : List ℕ) →
-      lentAfter (File mailbox file) m ≡ keptIn m (after (File mailbox file) past .bankState)
+  file-stands : (mailbox : ℕ) (file : List ℕ) →
+      Stands (lentAfter (File mailbox file) m) (after (File mailbox file) past .bankState)
   unfolding lentAfter after fileCall
-  file-stored mailbox file =
-      let answer : BankState → FileAnswer =
-      λ (w : BankState). decide (fileRefusals (w .bank) mailbox file (w .mailboxes)) put.Done in
-      let kept : BankState → Lent = λ (w : BankState).
+  file-stands mailbox file =
+      let rows = m .rows in
+      let answer : BankState → FileAnswer = λ (w : BankState).
+      decide (fileRefusals (w .bank) mailbox file (w .mailboxes)) put.Done in
+      let left : BankState → BankState = λ (w : BankState).
       let c = carryOutFile (answer w) (w .bank) mailbox file (w .mailboxes) in
-      lent (stored (c .bank) (m .rows)) (w .orders) (c .mailboxes) in
-      rw (lent-file (m .rows) mailbox file (m .mailboxes) (s .sound))
-      (ap kept (s .state) ∙ ap (keptIn m) (file-placed (answer (past .bankState)) past mailbox file))
+      bankState (c .bank) (w .orders) (c .mailboxes) in
+      let kept = lent-file rows mailbox file (m .mailboxes) (s .sound) in
+      record {
+        sound = file-sound rows mailbox file (m .mailboxes) (s .sound);
+        state =
+            ap (λ (b : Bank). bankState b (m .orders) (lentFileCall rows mailbox file (m .mailboxes) .mailboxes))
+            (file-state rows mailbox file (m .mailboxes) (s .sound))
+            ∙ (ap (λ (c : LentFileCall). bankState (fileCall (bankOf rows) mailbox file (m .mailboxes) .bank)
+            (m .orders)
+            (c .mailboxes)) kept
+            ∙ (ap left (s .state) ∙ file-placed (answer (past .bankState)) past mailbox file));
+      }
 
 lent-stands : {calls : List BankCall} → AllBytes calls → Stands (lentOf calls) (pastOf calls .bankState)
 unfolding lentOf pastOf start
-lent-stands none = record { sound = zeros-sound; state = state-same _ _ fresh-rows }
+lent-stands none = record {
+  sound = zeros-sound;
+  state = ap (λ (b : Bank). bankState b (replicate storeBytes 0) (replicate storeBytes 0)) fresh-rows;
+}
 lent-stands (more {c = Frame a} {calls = calls} b given) =
-    let s = lent-stands given in
-    subst (λ (m : Lent). Stands m (after (Frame a) (pastOf calls) .bankState))
-    (sym (frame-stored given (lentOf calls) s a (b .0) (b .1)))
-    (kept-stands (lentOf calls) _ (s .sound) (past-holds (Frame a ∷ calls) .invariant))
+    frame-stands given (lentOf calls) (lent-stands given) a (b .0) (b .1)
 lent-stands (more {c = File mailbox file} {calls = calls} b given) =
-    let s = lent-stands given in
-    subst (λ (m : Lent). Stands m (after (File mailbox file) (pastOf calls) .bankState))
-    (sym (file-stored given (lentOf calls) s mailbox file))
-    (kept-stands (lentOf calls) _ (s .sound) (past-holds (File mailbox file ∷ calls) .invariant))
+    file-stands given (lentOf calls) (lent-stands given) mailbox file
 
 -- ---- every sound state
 
@@ -151,11 +143,10 @@ number-of w a =
     by-test (λ (c : FrameCall). c .number ≡ frameNumber (c .answer)) (lentRight w (a .ids) (a .buffer)) (λ _. refl)
     (λ _. refl)
 
-module _ {m : Lent} {a : FrameInput} (b : AreBytes m a) where
+module _ {m : Lent} {a : FrameInput} (b : AreBytes a) where
   frame-given : RightlyLent m a → FrameAnswered (frameCall (stateOf m) a) (a .buffer) (callExchange (stateOf m) a)
   frame-given r =
-      call-answered (stateOf m) (sound-range (m .rows) (r .rows)) (sizes-of m (r .rows) (r .orders) (r .mailboxes))
-      (b .mailboxes) a
+      call-answered (stateOf m) (sound-range (m .rows) (r .rows)) (sizes-of m (r .rows) (r .orders) (r .mailboxes)) a
       (b .ids) (b .frame) (r .ids) (r .room)
 
   -- the lengths that the call tests

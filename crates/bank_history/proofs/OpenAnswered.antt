@@ -1,8 +1,8 @@
 -- A request to an open transaction never gets 091101: open by the replies is open by the history, so it is open in the
 -- bank,
 -- and its request is found there.
-use Prim.Native.Nat.{ℕ, _+_, _≤_, _<_}
-use mathlib.Core.Bool.{Bool, true, false, cond, _&&_}
+use Prim.Native.Nat.{ℕ, _+_, _≤_}
+use mathlib.Core.Bool.{Bool, true, false, cond}
 use mathlib.Core.List.{List, _∷_}
 use mathlib.Core.Logic.{_⊎_, inl, inr}
 use mathlib.Core.Path.{_≡_, refl, sym, ap, _∙_, subst}
@@ -13,13 +13,13 @@ use Rattle.frame_table.specs.declared.fields.Bits128.{Bits128}
 use Rattle.frame_table.specs.declared.fields.Fields.{Fields}
 use Rattle.frame_table.specs.declared.table.Form.{Form}
 use Rattle.frame_table.specs.Forms as forms
-use Rattle.frame_table.specs.Names.{subscriber, transaction, segments, segment, lastMark, returnCode, form, sameBits}
+use Rattle.frame_table.specs.Names.{subscriber, transaction, segments, segment, lastMark, form, sameBits}
 use Rattle.frame_table.proofs.Bits.{bits-same}
 use Rattle.octets.proofs.Tests.{never}
 use Rattle.message.specs.declared.codes.ReturnCode.{ReturnCode}
 use Rattle.message.specs.declared.codes.ReturnCode.the-variants as code
 use Rattle.message.specs.Codes.{codeField}
-use Rattle.bank_state.specs.Clock.{isIdle, advanced}
+use Rattle.bank_state.specs.Clock.{isIdle}
 use Rattle.bank_state.specs.Limits.{placeCount, idleLimit}
 use Rattle.bank_state.specs.Search.{findUpload, findDownload}
 use Rattle.bank_state.specs.State.{BankState}
@@ -59,7 +59,6 @@ use Rattle.bank_history.specs.Invariant.{Invariant}
 use Rattle.bank_history.specs.Status.{
   Status,
   Open,
-  Dropped,
   EndedByReceipt,
   dropIdle,
   refreshed,

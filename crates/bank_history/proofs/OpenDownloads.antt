@@ -15,7 +15,7 @@ use Rattle.octets.proofs.Tests.{never, and-true-right}
 use Rattle.frame_table.proofs.Bits.{bits-same}
 use Rattle.bank_state.specs.declared.clock.Ended.{Ended}
 use Rattle.bank_state.specs.declared.clock.Ended.the-variants as ended
-use Rattle.bank_state.specs.declared.state.Bank.{Bank}
+use Rattle.bank_state.specs.State.{Bank}
 use Rattle.bank_state.specs.declared.state.Download.{Download}
 use Rattle.bank_state.specs.Clock.{isIdle, ends, endDownloads, advanced}
 use Rattle.bank_state.specs.Limits.{placeCount, idleLimit}

@@ -16,9 +16,9 @@ use Rattle.frame_table.specs.Names.{subscriber, nonce, timestamp, segments, for
 use Rattle.octets.proofs.Tests.{never, and-true}
 use Rattle.message.specs.Limits.{fileBytes}
 use Rattle.message.specs.Segments.{segmentsOf}
-use Rattle.bank_state.specs.declared.state.Bank.{Bank}
+use Rattle.bank_state.specs.State.{Bank}
 use Rattle.bank_state.specs.declared.state.Download.{Download}
-use Rattle.bank_state.specs.declared.state.Nonce.{Nonce}
+use Rattle.bank_state.specs.State.{Nonce}
 use Rattle.bank_state.specs.declared.state.Place.{Place}
 use Rattle.bank_state.specs.declared.state.Use.{Use}
 use Rattle.bank_state.specs.declared.state.Use.the-variants.{Free, Open, Booked}

@@ -7,7 +7,7 @@ use mathlib.Core.Path.{_≡_, refl, sym, _∙_}
 use native.Mathlib.Omega.{arith}
 use lib.ListN.{length, getD, set, length-set}
 use Rattle.frame_table.specs.declared.fields.Bits128.{Bits128}
-use Rattle.bank_state.specs.declared.state.Nonce.{Nonce}
+use Rattle.bank_state.specs.State.{Nonce}
 use Rattle.bank_state.specs.declared.state.Place.{Place}
 use Rattle.bank_state.specs.Limits.{placeCount, storeBytes, nonceCount, maxOpen, maxOpenPerSubscriber, maxOpenings}
 use Rattle.bank_state.specs.Search.{isFree, openCount, openCountOf}

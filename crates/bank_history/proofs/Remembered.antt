@@ -9,7 +9,7 @@ use lib.ListN.{length, replicate}
 use borrow.Author.Tests.{lt-ltb, le-leb}
 use Rattle.frame_table.specs.declared.fields.Bits128.{Bits128}
 use Rattle.frame_table.specs.Names.{nonce, timestamp, sameBits}
-use Rattle.bank_state.specs.declared.state.Nonce.{Nonce}
+use Rattle.bank_state.specs.State.{Nonce}
 use Rattle.bank_state.specs.Limits.{nonceCount, window}
 use Rattle.bank_state.specs.Rows.{firstOf, keep}
 use Rattle.bank_state.specs.Search.{isRemembered}

@@ -1,6 +1,6 @@
 -- The first five attempts of a transaction are answered and the sixth cancels: its column of attempts is the number that
 -- the replies show.
-use Prim.Native.Nat.{ℕ, zero, suc, _+_, _≤_, _<_}
+use Prim.Native.Nat.{ℕ, suc, _≤_, _<_}
 use mathlib.Core.Bool.{Bool, true, false, cond}
 use mathlib.Core.List.{List, [], _∷_}
 use mathlib.Core.Logic.{_⊎_, inl, inr}
@@ -10,9 +10,8 @@ use native.Mathlib.Omega.{arith}
 use Rattle.frame_table.specs.declared.fields.Bits128.{Bits128}
 use Rattle.frame_table.specs.declared.fields.Fields.{Fields}
 use Rattle.frame_table.specs.Forms as forms
-use Rattle.frame_table.specs.Names.{subscriber, transaction, segments, segment, returnCode, form}
+use Rattle.frame_table.specs.Names.{subscriber, transaction, segment, form}
 use Rattle.octets.proofs.Tests.{never}
-use Rattle.message.specs.declared.codes.ReturnCode.{ReturnCode}
 use Rattle.message.specs.declared.codes.ReturnCode.the-variants as code
 use Rattle.message.specs.Codes.{codeField}
 use Rattle.message.specs.Limits.{maxAttempts}
@@ -21,7 +20,7 @@ use Rattle.bank_state.specs.declared.state.Download.{Download}
 use Rattle.bank_state.specs.declared.state.Place.{Place}
 use Rattle.bank_state.specs.declared.state.Use.{Use}
 use Rattle.bank_state.specs.Search.{isOpen}
-use Rattle.bank_state.specs.State.{BankState, noBits, placeAt, downloadAt}
+use Rattle.bank_state.specs.State.{BankState, placeAt, downloadAt}
 use Rattle.bank_state.specs.Store.{partAt}
 use Rattle.bank_state.proofs.Found.{upload-found, download-found}
 use Rattle.bank_verdicts.specs.declared.verdict.TransactionRequest.{TransactionRequest}
@@ -55,19 +54,15 @@ use Rattle.bank_history.specs.History.{
   Exchange,
   BankCall,
   Past,
-  Stands,
   newest,
   older,
-  ActionIn,
   isAction,
   isDelivery,
-  isOpening,
   did,
   ever,
   times,
   accepted,
   start,
-  after,
   pastOf,
 }
 use Rattle.bank_history.specs.Sound.{isCancelling, AllSound}
@@ -101,7 +96,7 @@ use Rattle.bank_history.proofs.SentSegments.{
   again-number,
   delivered-new,
 }
-use Rattle.bank_history.proofs.Theorems.{history-sound, reply-is, download-opened, recovery-point, transaction-cancelled}
+use Rattle.bank_history.proofs.Theorems.{history-sound, reply-is, recovery-point, transaction-cancelled}
 
 -- ---- every attempt shows, and every segment up to d was sent
 

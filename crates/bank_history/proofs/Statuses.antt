@@ -1,15 +1,15 @@
 -- How each transaction stands by the history is how it stands in the bank: the open rows are those open by the history,
 -- with their columns, after the clock's step, after each case of a request, and so after every list of calls.
 use Prim.{tt}
-use Prim.Native.Nat.{ℕ, _+_, _≤_, _<_, max}
-use mathlib.Core.Bool.{Bool, true, false, cond, not, _&&_}
+use Prim.Native.Nat.{ℕ, _+_, _<_, max}
+use mathlib.Core.Bool.{Bool, true, false, cond}
 use mathlib.Core.List.{List, [], _∷_}
 use mathlib.Core.Path.{_≡_, refl, sym, ap, _∙_, subst}
 use native.Mathlib.Omega.{arith}
 use lib.Dec.{eqb}
 use lib.ListN.{length, getD, set}
 use lib.Seq.{getD-set-same}
-use borrow.Author.Tests.{ltb-false, not-true, eqb-true, eq-eqb}
+use borrow.Author.Tests.{ltb-false, not-true, eq-eqb}
 use Rattle.frame_table.specs.declared.fields.Bits128.{Bits128}
 use Rattle.frame_table.specs.declared.fields.Fields.{Fields}
 use Rattle.frame_table.specs.Names.{subscriber, transaction, segments, sameBits}
@@ -30,7 +30,7 @@ use Rattle.bank_state.specs.Search.{isFree, isOpen, isDownload, freePlace, free
 use Rattle.bank_state.specs.State.{BankState, noPlace, noDownload, fresh, placeAt, downloadAt}
 use Rattle.bank_state.proofs.Drops.{each-endDownloads}
 use Rattle.bank_state.proofs.Found.{upload-found, download-found}
-use Rattle.bank_openings.specs.Openings.{counted, newPlace, newDownload, openUpload, openDownload}
+use Rattle.bank_openings.specs.Openings.{counted, openUpload, openDownload}
 use Rattle.bank_verdicts.specs.declared.verdict.Direction.{Direction}
 use Rattle.bank_verdicts.specs.declared.verdict.Direction.the-variants as direction
 use Rattle.bank_verdicts.specs.declared.verdict.UploadAction.{UploadAction}
@@ -43,7 +43,7 @@ use Rattle.bank_verdicts.specs.declared.verdict.Verdict.{Verdict}
 use Rattle.bank_verdicts.specs.declared.verdict.Verdict.the-variants as verdict
 use Rattle.bank_verdicts.specs.Judgement.{transactionOf, mailboxSegments, uploadAt, downloadOf}
 use Rattle.bank_uploads.specs.Uploads.{grown, booked, attempted, placeAfter}
-use Rattle.bank.specs.Call.{onUpload, downloadActs, carryOut, respond}
+use Rattle.bank.specs.Call.{onUpload, carryOut, respond}
 use Rattle.bank_history.specs.History.{
   Exchange,
   Past,
@@ -55,8 +55,8 @@ use Rattle.bank_history.specs.History.{
   start,
   pastOf,
 }
-use Rattle.bank_history.specs.Invariant.{Sizes, Invariant, Holds}
-use Rattle.bank_history.specs.Transactions.{UploadAt, DownloadAt, filled}
+use Rattle.bank_history.specs.Invariant.{Sizes, Invariant}
+use Rattle.bank_history.specs.Transactions.{filled}
 use Rattle.bank_history.specs.Status.{
   Status,
   NotOpened,
@@ -71,7 +71,6 @@ use Rattle.bank_history.specs.Status.{
   dropIdle,
   refreshed,
   isDownloadOf,
-  endedByReceipt,
   uploadStatus,
   downloadStatus,
   otherDownload,
@@ -96,7 +95,7 @@ use Rattle.bank_history.proofs.Cases.{
 }
 use Rattle.bank_history.proofs.Clock.{advanced-keeps, advanced-clock, each-advanced, each-download}
 use Rattle.bank_history.proofs.Counted.{open-used}
-use Rattle.bank_history.proofs.Downloads.{download-open, downloads-apart, downloads-other, places-other}
+use Rattle.bank_history.proofs.Downloads.{download-open, downloads-other, places-other}
 use Rattle.bank_history.proofs.Entries.{same-bits, other-bits}
 use Rattle.bank_history.proofs.Keeps.{past-holds}
 use Rattle.bank_history.proofs.Liveness.{by-call}

@@ -13,8 +13,8 @@ use Rattle.frame.specs.Reader.{readRequest}
 use Rattle.frame.specs.Row.{dataOf}
 use Rattle.message.specs.declared.codes.ReturnCode.{ReturnCode}
 use Rattle.message.specs.declared.codes.ReturnCode.the-variants as code
-use Rattle.bank_state.specs.declared.state.Bank.{Bank}
-use Rattle.bank_state.specs.declared.state.Nonce.{Nonce}
+use Rattle.bank_state.specs.State.{Bank}
+use Rattle.bank_state.specs.State.{Nonce}
 use Rattle.bank_state.specs.Clock.{advanced}
 use Rattle.bank_state.specs.Limits.{storeBytes, window}
 use Rattle.bank_state.specs.Rows.{keep}

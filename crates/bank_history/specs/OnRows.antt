@@ -35,9 +35,8 @@ unfoldable pub lentOf : List BankCall → Lent
 lentOf [] = lent (replicate stateSize 0) (replicate storeBytes 0) (replicate storeBytes 0)
 lentOf (c ∷ calls) = lentAfter c (lentOf calls)
 
--- the mailboxes, the ID bytes and the frame are bytes
-pub record AreBytes (m : Lent) (a : FrameInput) : Type 0 where
-  pub mailboxes : Bytes (m .mailboxes)
+-- the ID bytes and the frame are bytes
+pub record AreBytes (a : FrameInput) : Type 0 where
   pub ids : Bytes (a .ids)
   pub frame : Bytes (a .frame)
 
@@ -62,9 +61,9 @@ pub record OnRows : Type 0 where
       ≡ keptFile (lentOf calls .rows)
       (fileCall (pastOf calls .bankState .bank) mailbox file (pastOf calls .bankState .mailboxes))
   -- in every sound state, whether calls leave it or not, a frame call is answered by a frame
-  pub answered : {m : Lent} {a : FrameInput} → RightlyLent m a → AreBytes m a →
+  pub answered : {m : Lent} {a : FrameInput} → RightlyLent m a → AreBytes a →
       (lentFrameCall m a ≡ keptFrame m (frameCall (stateOf m) a))
       × FrameAnswered (frameCall (stateOf m) a) (a .buffer) (callExchange (stateOf m) a)
   -- so in every state number 1 comes with nothing changed
-  pub unchanged : {m : Lent} {a : FrameInput} → AreBytes m a → lentFrameCall m a .number ≡ 1 →
+  pub unchanged : {m : Lent} {a : FrameInput} → AreBytes a → lentFrameCall m a .number ≡ 1 →
       lentFrameCall m a ≡ frameTurnedAway m a

@@ -1,7 +1,7 @@
 -- How each transaction stands after a history, the openings in their order, and what each call drops: by the exchanges
 -- and their clocks alone. Then the statements on every list of calls to a fresh bank.
 use Prim.Native.Nat.{ℕ, suc, _≤_}
-use mathlib.Core.Bool.{Bool, true, false, cond}
+use mathlib.Core.Bool.{Bool, false, cond}
 use mathlib.Core.List.{List, [], _∷_, _++_, map, List·Memᴰ as In}
 use mathlib.Core.Path.{_≡_}
 use lib.Dec.{eqb}
@@ -177,12 +177,13 @@ pub record Drops : Type 0 where
   pub shown : (calls : List BankCall) (t : Bits128) (d : Direction) (s last : ℕ) →
       status t (pastOf calls .history) ≡ Open d s last →
       OpenAs (pastOf calls .bankState) t d s last
-  -- a call's clock takes out of the bank exactly its drops, and leaves the other open transactions as they are
+  -- a call's clock takes out of the bank exactly what its events drop, and leaves the other open transactions as they
+  -- are
   pub gone : {calls : List BankCall} {e : Exchange} (n : Next calls e) (t : Bits128) →
-      In t (drops (e .clock) (pastOf calls .history)) →
+      In (Drop t) (eventsOf e (pastOf calls .history)) →
       OpenIn (pastOf calls .bankState) t × (OpenIn (advanced (n .input .time) (pastOf calls .bankState)) t → ⊥)
   pub stays : {calls : List BankCall} {e : Exchange} (n : Next calls e) (t : Bits128) (d : Direction) (s last : ℕ) →
-      OpenAs (pastOf calls .bankState) t d s last → (In t (drops (e .clock) (pastOf calls .history)) → ⊥) →
+      OpenAs (pastOf calls .bankState) t d s last → (In (Drop t) (eventsOf e (pastOf calls .history)) → ⊥) →
       OpenAs (advanced (n .input .time) (pastOf calls .bankState)) t d s last
   -- the oldest opening first
   pub ordered : (calls : List BankCall) (clock : ℕ) → Rising 0 (drops clock (pastOf calls .history))

@@ -7,7 +7,7 @@ use lib.ListN.{set}
 use Rattle.frame_table.specs.declared.fields.Bits128.{Bits128}
 use Rattle.frame_table.specs.declared.fields.Fields.{Fields}
 use Rattle.frame_table.specs.Names.{nonce, timestamp}
-use Rattle.bank_state.specs.declared.state.Bank.{Bank}
+use Rattle.bank_state.specs.State.{Bank}
 use Rattle.bank_state.specs.declared.state.Download.{Download}
 use Rattle.bank_state.specs.declared.state.Place.{Place}
 use Rattle.bank_state.specs.Limits.{placeCount, nonceCount, maxOpen}

@@ -11,8 +11,8 @@ use Rattle.bank_state.specs.declared.clock.Ended.{Ended}
 use Rattle.bank_state.specs.declared.clock.Ended.the-variants.{Idle}
 use Rattle.bank_state.specs.declared.state.Place.{Place}
 use Rattle.bank_state.specs.declared.state.Download.{Download}
-use Rattle.bank_state.specs.declared.state.Nonce.{Nonce}
-use Rattle.bank_state.specs.declared.state.Bank.{Bank}
+use Rattle.bank_state.specs.State.{Nonce}
+use Rattle.bank_state.specs.State.{Bank}
 use Rattle.bank_state.specs.Limits.{placeCount, nonceCount}
 use Rattle.bank_state.specs.Rows.{countOf, keep, keepOnly}
 use Rattle.bank_state.specs.Clock.{isIdle, freed, dropUpload, dropUploads, endDownloads, forget, atClock, advanced}

@@ -11,7 +11,7 @@ use Rattle.message.specs.Limits.{fileBytes, segmentBytes, maxSegments, subscrib
 use Rattle.message.specs.Segments.{segmentsOf}
 use Rattle.bank_state.specs.declared.clock.Ended.{Ended}
 use Rattle.bank_state.specs.declared.clock.Ended.the-variants.{Idle}
-use Rattle.bank_state.specs.declared.state.Bank.{Bank}
+use Rattle.bank_state.specs.State.{Bank}
 use Rattle.bank_state.specs.declared.state.Download.{Download}
 use Rattle.bank_state.specs.declared.state.Place.{Place}
 use Rattle.bank_state.specs.Clock.{freed, dropUpload, dropUploads, endDownloads, atClock, advanced}

@@ -14,7 +14,7 @@ use Rattle.frame_table.specs.Names.{sameBits}
 use Rattle.frame_table.specs.declared.fields.Bits128.{Bits128}
 use Rattle.bank_state.specs.declared.state.Place.{Place}
 use Rattle.bank_state.specs.declared.state.Download.{Download}
-use Rattle.bank_state.specs.declared.state.Nonce.{Nonce}
+use Rattle.bank_state.specs.State.{Nonce}
 use Rattle.bank_state.specs.Limits.{placeCount, nonceCount}
 use Rattle.bank_state.specs.Rows.{firstOf, countOf}
 use Rattle.bank_state.specs.Search.{isOpen, isFree, isUpload, isDownload, freeDownload, freeNonce, isRemembered}

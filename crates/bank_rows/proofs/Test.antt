@@ -12,7 +12,7 @@ use borrow.Author.Tests.{eqb-true, eqb-false, eq-eqb, ne-eqb, leb-true, le-leb, 
 use Rattle.octets.proofs.Tests.{never, and-true}
 use Rattle.message.specs.Limits.{fileBytes, segmentBytes, maxSegments, subscribers}
 use Rattle.message.specs.Segments.{segmentsOf}
-use Rattle.bank_state.specs.declared.state.Bank.{Bank}
+use Rattle.bank_state.specs.State.{Bank}
 use Rattle.bank_state.specs.declared.state.Download.{Download}
 use Rattle.bank_state.specs.declared.state.Place.{Place}
 use Rattle.bank_state.specs.Limits.{placeCount, nonceCount}

@@ -14,8 +14,8 @@ use Rattle.octets.proofs.Numbers.{length-overwrite, overwrite-all}
 use Rattle.octets.proofs.Tests.{and-true}
 use Rattle.bank_state.specs.declared.state.Place.{Place}
 use Rattle.bank_state.specs.declared.state.Download.{Download}
-use Rattle.bank_state.specs.declared.state.Nonce.{Nonce}
-use Rattle.bank_state.specs.declared.state.Bank.{Bank}
+use Rattle.bank_state.specs.State.{Nonce}
+use Rattle.bank_state.specs.State.{Bank}
 use Rattle.bank_state.specs.Limits.{placeCount, nonceCount}
 use Rattle.bank_state.specs.Rows.{keep, keepOnly}
 use Rattle.bank_state.proofs.Rows.{length-keep}

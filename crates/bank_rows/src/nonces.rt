@@ -17,7 +17,7 @@ ghost use Prim.Native.Nat.{_*_, _≤_, _<_};
 ghost use lib.ListN.{length, set};
 ghost use lib.Dec.{eqb};
 ghost use Rattle.frame_table.specs.Names.{sameBits};
-ghost use Rattle.bank_state.specs.declared.state.Nonce.{Nonce};
+ghost use Rattle.bank_state.specs.State.{Nonce};
 ghost use Rattle.bank_state.specs.Limits.{nonceCount};
 ghost use Rattle.bank_state.specs.Clock.{forget};
 ghost use Rattle.bank_state.specs.Search.{freeNonce, isRemembered};

@@ -8,14 +8,8 @@ use Rattle.bank_state.specs.declared.state.Use.{Use}
 use Rattle.bank_state.specs.declared.state.Use.the-variants.{Free, Open, Booked}
 use Rattle.bank_state.specs.declared.state.Place.{Place}
 use Rattle.bank_state.specs.declared.state.Download.{Download}
-use Rattle.bank_state.specs.declared.state.Nonce.{Nonce}
-use Rattle.bank_state.specs.declared.state.Bank.{Bank}
-use Rattle.bank_state.specs.declared.search.PlaceTest.{PlaceTest}
-use Rattle.bank_state.specs.declared.search.PlaceTest.the-variants as place-test
-use Rattle.bank_state.specs.declared.search.DownloadTest.{DownloadTest}
-use Rattle.bank_state.specs.declared.search.DownloadTest.the-variants as download-test
-use Rattle.bank_state.specs.declared.search.NonceTest.{NonceTest}
-use Rattle.bank_state.specs.declared.search.NonceTest.the-variants as nonce-test
+use Rattle.bank_state.specs.State.{Nonce}
+use Rattle.bank_state.specs.State.{Bank}
 use Rattle.bank_state.specs.Limits.{nonceCount}
 use Rattle.bank_state.specs.Rows.{firstOf, countOf}
 
@@ -73,21 +67,3 @@ openCountOf s b =
 -- "nonce remembered": of an accepted opening, against all subscribers
 unfoldable pub isRemembered : Bits128 → Bank → Bool
 isRemembered value b = ltb (firstOf (λ (e : Nonce). e .used && sameBits (e .value) value) (b .nonces)) nonceCount
-
--- the tests above as values: what the loops of the searches and counts take
-
-abbrev pub placePasses : PlaceTest → Place → Bool
-placePasses place-test.Free p = isFree (p .used)
-placePasses place-test.Open p = isOpen (p .used)
-placePasses (place-test.OpenOf subscriber) p = isOpen (p .used) && eqb (p .subscriber) subscriber
-placePasses (place-test.Upload subscriber transaction) p = isUpload subscriber transaction p
-
-abbrev pub downloadPasses : DownloadTest → Download → Bool
-downloadPasses download-test.Free e = not (e .used)
-downloadPasses download-test.Open e = e .used
-downloadPasses (download-test.OpenOf subscriber) e = e .used && eqb (e .subscriber) subscriber
-downloadPasses (download-test.Download subscriber transaction) e = isDownload subscriber transaction e
-
-abbrev pub noncePasses : NonceTest → Nonce → Bool
-noncePasses nonce-test.Free e = not (e .used)
-noncePasses (nonce-test.Value value) e = e .used && sameBits (e .value) value

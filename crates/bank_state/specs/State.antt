@@ -1,15 +1,29 @@
 -- The bank's state with its two stores, a fresh bank, and the state with one part changed.
 use Prim.Native.Nat.{ℕ, _-_}
-use mathlib.Core.Bool.{false}
+use mathlib.Core.Bool.{Bool, false}
 use mathlib.Core.List.{List}
 use lib.ListN.{replicate, set, getD}
 use Rattle.frame_table.specs.declared.fields.Bits128.{Bits128}
 use Rattle.bank_state.specs.declared.state.Use.the-variants.{Free}
 use Rattle.bank_state.specs.declared.state.Place.{Place}
 use Rattle.bank_state.specs.declared.state.Download.{Download}
-use Rattle.bank_state.specs.declared.state.Nonce.{Nonce}
-use Rattle.bank_state.specs.declared.state.Bank.{Bank}
 use Rattle.bank_state.specs.Limits.{placeCount, nonceCount}
+
+-- the nonce of an accepted opening, with its timestamp
+pub record Nonce : Type 0 where
+  pub used : Bool
+  pub value : Bits128
+  pub timestamp : ℕ
+
+-- The bank's state. Open downloads and nonces stand in the order of their openings, without gaps; `files` has the length
+-- of each mailbox's file, 0 where it is empty
+pub record Bank : Type 0 where
+  pub clock : ℕ
+  pub openings : ℕ
+  pub places : List Place
+  pub downloads : List Download
+  pub nonces : List Nonce
+  pub files : List ℕ
 
 -- The bank and the bytes lent to it that it keeps between calls: the order places' store and the mailboxes' store
 pub record BankState : Type 0 where

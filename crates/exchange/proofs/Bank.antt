@@ -22,7 +22,7 @@ use Rattle.message.specs.declared.codes.ReturnCode.the-variants as code
 use Rattle.message.specs.Codes.{codeField}
 use Rattle.message.specs.Limits.{subscribers}
 use Rattle.message.specs.Verdicts.{decide}
-use Rattle.bank_state.specs.declared.state.Bank.{Bank}
+use Rattle.bank_state.specs.State.{Bank}
 use Rattle.bank_state.specs.Clock.{advanced}
 use Rattle.bank_state.specs.Limits.{placeCount}
 use Rattle.bank_state.specs.State.{BankState, bankState, fresh, fileLength}
@@ -37,7 +37,6 @@ use Rattle.bank.specs.Call.{
   replied,
   answerOf,
   lentRight,
-  frameNumber,
   respond,
   frameCall,
   FrameInput,

@@ -7,7 +7,7 @@ use mathlib.Core.Path.{_≡_, refl, sym, ap, subst}
 use native.Mathlib.Decide.{ℕ-discrete}
 use native.Mathlib.Omega.{arith}
 use borrow.Author.Tests.{eq-eqb, ne-eqb}
-use Rattle.bank_state.specs.declared.state.Bank.{Bank}
+use Rattle.bank_state.specs.State.{Bank}
 use Rattle.bank.specs.declared.call.FrameAnswer.{FrameAnswer}
 use Rattle.bank.specs.declared.call.FrameAnswer.the-variants as frameAnswer
 use Rattle.bank.specs.declared.mailbox.FileAnswer.{FileAnswer}

@@ -13,7 +13,7 @@ use Rattle.frame_table.specs.Names.{exchange}
 use Rattle.frame.specs.Reader.{readRequest}
 use Rattle.octets.proofs.Tests.{never}
 use Rattle.message.specs.Verdicts.{decide}
-use Rattle.bank_state.specs.declared.state.Bank.{Bank}
+use Rattle.bank_state.specs.State.{Bank}
 use Rattle.bank_state.specs.Search.{openCountOf}
 use Rattle.bank_state.specs.State.{BankState, bankState}
 use Rattle.bank.specs.declared.mailbox.FileAnswer.{FileAnswer}

@@ -10,7 +10,6 @@ use Rattle.octets.specs.Bytes.{number}
 use Rattle.frame_table.specs.Names.{subscriber}
 use Rattle.frame.specs.Reader.{readRequest}
 use Rattle.frame.specs.Row.{dataOf}
-use Rattle.bank_state.specs.Clock.{advanced}
 use Rattle.octets.proofs.Tests.{never}
 use Rattle.bank_state.specs.Search.{openCountOf}
 use Rattle.bank_state.specs.State.{BankState}

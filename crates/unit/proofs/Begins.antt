@@ -10,12 +10,12 @@ use borrow.Author.Tests.{eqb-true}
 use Rattle.octets.proofs.Tests.{never, and-true}
 use Rattle.message.specs.Limits.{fileBytes}
 use Rattle.client.specs.declared.run.Client.{Client}
-use Rattle.client.specs.declared.run.Direction.{Direction}
 use Rattle.client.specs.declared.run.Ruling.{Ruling}
 use Rattle.client.specs.declared.run.Ruling.the-variants.{Refuse, Accept}
+use Rattle.client.specs.declared.run.RunParameters.{RunParameters}
 use Rattle.client.specs.Run.{Lent, ClientCall, lengthsOf}
 use Rattle.client.specs.Rulings.{beginRuling}
-use Rattle.client.specs.Calls.{beginBy, beginCall}
+use Rattle.client.specs.Calls.{ifAdmitted, admittedBegin, beginCall}
 use Rattle.client.proofs.Accepted as accepted
 use Rattle.client.proofs.Accepted.{Serves}
 use Rattle.client.specs.declared.run.Answer.{Answer}
@@ -27,15 +27,15 @@ use Rattle.unit.specs.Records.{headOf, sizeOf, bodyOf}
 use Rattle.unit.specs.State.{roomsBytes}
 use Rattle.unit.specs.Call.{begins, roomCall, keeps, roomsRight}
 
-module _ (c : Client) (direction : Direction) (subscriber first : ℕ) (l : Lent) where
-  serves-at : (u : Ruling) → beginRuling c direction subscriber first (lengthsOf l) ≡ u
-      → keeps true (beginBy u c direction subscriber first l .answer) ≡ true → Serves direction (lengthsOf l)
+module _ (c : Client) (params : RunParameters) (l : Lent) where
+  serves-at : (u : Ruling) → beginRuling c params (lengthsOf l) ≡ u
+      → keeps true (ifAdmitted u c l (admittedBegin c params l) .answer) ≡ true → Serves (params .direction) (lengthsOf l)
   serves-at (Refuse x) e h = never h
-  serves-at Accept e h = accepted.begins c direction subscriber first (lengthsOf l) e .buffers
+  serves-at Accept e h = accepted.begins c params (lengthsOf l) e .buffers
 
-  kept-serves : keeps true (beginCall c direction subscriber first l .answer) ≡ true → Serves direction (lengthsOf l)
+  kept-serves : keeps true (beginCall c params l .answer) ≡ true → Serves (params .direction) (lengthsOf l)
   unfolding beginCall
-  kept-serves h = serves-at (beginRuling c direction subscriber first (lengthsOf l)) refl h
+  kept-serves h = serves-at (beginRuling c params (lengthsOf l)) refl h
 
 only-begin : (begin : Bool) (a : Answer) → keeps begin a ≡ true → begin ≡ true
 only-begin begin (answer.Request n) h = h
@@ -47,7 +47,7 @@ kept-fits-at : (e : Event) (c : Client) (i : ℕ) (r : List ℕ) (l : Lent) (bod
     → l .payload ≡ cond (begins e) body held → body ≡ bodyOf (Run e) r → keeps (begins e) (roomCall e c i r l .answer) ≡ true
     → length body ≤ fileBytes
 unfolding roomCall bodyOf sizeOf
-kept-fits-at Upload c i r l body held p q h = omega (arith, ap length p, kept-serves c _ _ _ _ h .1)
+kept-fits-at Upload c i r l body held p q h = omega (arith, ap length p, kept-serves c _ _ h .1)
 kept-fits-at Download c i r l body held p q h = omega (arith, ap length q)
 kept-fits-at Reply c i r l body held p q h = never (only-begin false (roomCall Reply c i r l .answer) h)
 kept-fits-at NoReply c i r l body held p q h = never (only-begin false (roomCall NoReply c i r l .answer) h)

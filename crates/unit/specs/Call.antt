@@ -16,8 +16,10 @@ use Rattle.bank.specs.Mailbox.{fileNumber}
 use Rattle.client.specs.declared.run.Answer as client
 use Rattle.client.specs.declared.run.Answer.the-variants as client-answer
 use Rattle.client.specs.declared.run.Client.{Client}
+use Rattle.client.specs.declared.run.Direction.{Direction}
 use Rattle.client.specs.declared.run.Direction.the-variants as direction
-use Rattle.client.specs.Run.{Lent, ClientCall, lentOf, refusalNumber}
+use Rattle.client.specs.declared.run.RunParameters.{RunParameters}
+use Rattle.client.specs.Run.{Lent, ClientCall, parametersOf, lentOf, refusalNumber}
 use Rattle.client.specs.Calls.{beginCall, replyCall, noReplyCall}
 use Rattle.unit.specs.declared.record.Event.{Event}
 use Rattle.unit.specs.declared.record.Event.the-variants.{Upload, Download, Reply, NoReply}
@@ -111,10 +113,14 @@ begins Download = true
 begins Reply = false
 begins NoReply = false
 
+-- what the record r begins its run with
+abbrev pub paramsOf : Direction → List ℕ → RunParameters
+paramsOf way r = parametersOf way (subscriberOf r) (firstOf r)
+
 -- "begin, as an upload", "begin, as a download", "reply arrived", "no reply": a client's call by the event of the record r
 abbrev pub eventCall : Event → Client → List ℕ → Lent → ClientCall
-eventCall Upload c r l = beginCall c direction.Upload (subscriberOf r) (firstOf r) l
-eventCall Download c r l = beginCall c direction.Download (subscriberOf r) (firstOf r) l
+eventCall Upload c r l = beginCall c (paramsOf direction.Upload r) l
+eventCall Download c r l = beginCall c (paramsOf direction.Download r) l
 eventCall Reply c r l = replyCall c (bodyOf (kind.Run Reply) r) l
 eventCall NoReply c r l = noReplyCall c l
 

@@ -21,6 +21,7 @@ use client::run::Client;
 use client::run::Direction;
 use client::run::NONCE_BYTES;
 use client::run::Outcome;
+use client::run::RunParameters;
 use client::run::Word;
 use client::run::refusal_number;
 use message::limits::FILE_BYTES;
@@ -34,11 +35,11 @@ ghost use Rattle.message.specs.Limits.{fileBytes};
 ghost use Rattle.bank.specs.Lent.{Lent, lent};
 ghost use Rattle.client.specs.Calls.{beginCall};
 ghost use Rattle.client.specs.Run.{lentOf, callOf};
-ghost use Rattle.unit.specs.Records.{headOf, timeOf, subscriberOf, firstOf, nonceOf, runOf, isRun, runCount};
+ghost use Rattle.unit.specs.Records.{headOf, timeOf, nonceOf, runOf, isRun, runCount};
 ghost use Rattle.unit.specs.declared.state.UnitState.{UnitState};
 ghost use Rattle.unit.specs.State.{roomsBytes, memory, stateOf};
 ghost use Rattle.unit.specs.Call.{Ready, roomsRight, afterCall, unitCallOf, frameAnswer, fileAnswer, runAnswer};
-ghost use Rattle.unit.specs.Call.{frameStep, fileStep, indexOf, begins, eventCall, roomCall, keeps, nextRun};
+ghost use Rattle.unit.specs.Call.{frameStep, fileStep, indexOf, begins, paramsOf, eventCall, roomCall, keeps, nextRun};
 ghost use Rattle.unit.specs.Call.{keptPayloads, runCallOf, runCall, runStep, unitCall};
 
 // What a call answers: the length of the reply in the buffer, the file is in the mailbox, the length of the request, the run
@@ -194,6 +195,17 @@ fn payload_for<'a>(begin: bool, body: &'a [u8], kept: &'a [u8]) -> &'a [u8]
     kept
 }
 
+// What a record begins its run with.
+fn params_of(direction: Direction, record: &[u8]) -> RunParameters
+    ensures { λ r. ⌜ r ≡ paramsOf direction (now («record» .entry)) ⌝ }
+{
+    RunParameters {
+        direction,
+        subscriber: number_at(record, 6, 2),
+        first: number_at(record, 8, 4),
+    }
+}
+
 // Begins a client's run with what the record says.
 fn begin(
     client: Client,
@@ -205,19 +217,11 @@ fn begin(
     buffer: &mut [u8],
 ) -> Outcome
     ensures { λ r. ⌜ callOf r (now (file .exit)) (now (buffer .exit))
-        ≡ beginCall client direction (subscriberOf (now («record» .entry))) (firstOf (now («record» .entry)))
+        ≡ beginCall client (paramsOf direction (now («record» .entry)))
         (lentOf (timeOf (now («record» .entry))) nonce (now (payload .entry)) (now (file .entry)) (now (buffer .entry))) ⌝ }
 {
-    client.begin(
-        direction,
-        number_at(record, 6, 2),
-        number_at(record, 8, 4),
-        time_at(record, 2),
-        nonce,
-        payload,
-        file,
-        buffer,
-    )
+    let params = params_of(direction, record);
+    client.begin(params, time_at(record, 2), nonce, payload, file, buffer)
 }
 
 // A client's call by the event of a record.
@@ -301,7 +305,7 @@ fn keeps(begin: bool, answer: ClientAnswer) -> bool
     }
 }
 
-// The run behind a call.
+// The run after a call.
 fn next_run(kept: bool, run: Run, client: Client, nonce: [u8; NONCE_BYTES], payload: u64) -> Run
     ensures { λ r. ⌜ r ≡ nextRun kept run client nonce payload ⌝ }
 {

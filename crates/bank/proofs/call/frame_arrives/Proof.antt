@@ -49,12 +49,12 @@ advance-requires c κs =
 
 number-requires : tie.Need-number-requires
 number-requires c κs =
-    let at-if1 = c .before .before .before .before .before .before .before .before .before .before .before in
+    let at-if1 = c .before .before .before .before .before .before .before .before .before .before .before .before .before in
     omega (arith, right at-if1 .2)
 
 respond-requires : tie.Need-respond-requires
 respond-requires c κs =
-    let at-orders = c .before .before .before .before .before .before .before .before in
+    let at-orders = c .before .before .before .before .before .before .before .before .before in
     let at-advance = at-orders .before .before .before in
     let at-if2 = at-advance .before .before .before in
     let start = at-if2 .before .before .before .before .before .before .before .before .before .before .before in
@@ -70,9 +70,9 @@ unfolding lentRight
 returns-3 c =
     let at-respond = c .before .before .before .before .before .before .before .before in
     let at-data = at-respond .before .before .before .before in
-    let at-read-request = at-data .before in
-    let at-number = at-read-request .before in
-    let at-advance = at-number .before .before .before .before .before .before in
+    let at-number = at-data .before in
+    let at-read = at-number .before .before .before in
+    let at-advance = at-read .before .before .before .before .before in
     let at-if2 = at-advance .before .before .before in
     let at-if1 = at-if2 .before .before .before in
     let start = at-if1 .before .before .before .before .before .before .before .before in
@@ -83,7 +83,7 @@ returns-3 c =
     frame-carried (lent (a .rows .now) (a .orders .now) m)
     (frameInput (a .time) (a .ids .now) (a .frame .now) (a .buffer .now))
     (sound at-if2) lengths _ _ (at-advance .advance .ensures m)
-    (at-number .number .ensures .0) (at-read-request .read-request .ensures) (at-data .«data» .ensures)
+    (at-number .number .ensures .0) (at-read .read-whole-request .ensures .0) (at-data .data-at .ensures)
     (at-respond .respond .ensures)
 
 pub frame-arrives-spec : {M : Type 1} → statement M
@@ -96,8 +96,8 @@ frame-arrives-spec =
     (λ c. search needs)
     returns-2
     advance-requires
-    number-requires
     (λ c κs. search needs)
+    number-requires
     (λ c κs. search needs)
     respond-requires
     (λ c. search needs)

@@ -5,7 +5,7 @@ use mathlib.Core.Path.{_≡_, sym, ap, _∙_}
 use borrow.Author.Needs.{needs}
 use Rattle.frame_table.specs.declared.fields.Fields.{Fields}
 use Rattle.frame_table.specs.Names.{timestamp}
-use Rattle.bank_state.specs.declared.state.Bank.{Bank}
+use Rattle.bank_state.specs.State.{Bank}
 use Rattle.bank_rows.specs.State.{bankOf}
 use Rattle.bank_verdicts.specs.Refusals.{inTime, isReplay}
 use Rattle.bank_openings.proofs.judgement.is_replay.Statement.{statement}
