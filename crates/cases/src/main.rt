@@ -61,13 +61,37 @@ fn print_cases() {
     let mut orders = [0u8; STORE_BYTES];
     let mut mailboxes = [0u8; STORE_BYTES];
     let nothing = [0u8; 0];
-    let a = ask(opening(15), &nothing, &mut rows, &mut orders, &mut mailboxes);
+    let a = ask(
+        opening(15),
+        &nothing,
+        &mut rows,
+        &mut orders,
+        &mut mailboxes,
+    );
     print_case(b"15 segments ", a);
-    let b = ask(opening(16), &nothing, &mut rows, &mut orders, &mut mailboxes);
+    let b = ask(
+        opening(16),
+        &nothing,
+        &mut rows,
+        &mut orders,
+        &mut mailboxes,
+    );
     print_case(b"16 segments ", b);
-    let c = ask(segment(1), &[7u8; 256], &mut rows, &mut orders, &mut mailboxes);
+    let c = ask(
+        segment(1),
+        &[7u8; 256],
+        &mut rows,
+        &mut orders,
+        &mut mailboxes,
+    );
     print_case(b"256 data bytes ", c);
-    let d = ask(segment(2), &[7u8; 257], &mut rows, &mut orders, &mut mailboxes);
+    let d = ask(
+        segment(2),
+        &[7u8; 257],
+        &mut rows,
+        &mut orders,
+        &mut mailboxes,
+    );
     print_case(b"257 data bytes ", d);
 }
 

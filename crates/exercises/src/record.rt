@@ -141,15 +141,10 @@ fn head_of(act: u8, run: u8) -> Head {
     }
 }
 
-// The body of a move's record, the content of its order or its message. What follows a record without one is not read.
-fn body_of<'a>(act: u8, content: &'a [u8], frame: &'a [u8]) -> &'a [u8] {
-    if act == b'f' {
-        return content;
-    }
-    if act == b'b' {
-        return content;
-    }
-    frame
+// Whether the body of a record is the content of an order, and not a message. What follows a record without one is not
+// read.
+fn takes_content(act: u8) -> bool {
+    act == b'f' || act == b'b'
 }
 
 // Writes the record of a move. A lost message makes no call: its record is empty.
@@ -160,7 +155,11 @@ pub(crate) fn put_record(record: &mut [u8], m: Move, content: &[u8], frame: &[u8
     let h = head_of(m.act, m.run);
     put_number(record, 0, h.width, h.number);
     put_number(record, 6, 6, h.order);
-    put_body(record, h.body, body_of(m.act, content, frame));
+    if takes_content(m.act) {
+        put_body(record, h.body, content);
+    } else {
+        put_body(record, h.body, frame);
+    }
 }
 
 // The place of a move's message.

@@ -65,7 +65,13 @@ struct Holding {
 }
 
 // What the book has of an upload.
-fn book_has(rows: &[u64; STATE_SIZE], subscriber: u64, number: u64, payload: &[u8], orders: &[u8]) -> Holding {
+fn book_has(
+    rows: &[u64; STATE_SIZE],
+    subscriber: u64,
+    number: u64,
+    payload: &[u8],
+    orders: &[u8],
+) -> Holding {
     let i = find_order(rows, subscriber, number);
     if PLACE_COUNT <= i {
         return Holding {
@@ -83,7 +89,12 @@ fn book_has(rows: &[u64; STATE_SIZE], subscriber: u64, number: u64, payload: &[u
 }
 
 // What the mailbox of a download has, and whether the run, whose file this is, holds the statement.
-fn mailbox_has(rows: &[u64; STATE_SIZE], subscriber: u64, statement: &[u8], file: &[u8]) -> Holding {
+fn mailbox_has(
+    rows: &[u64; STATE_SIZE],
+    subscriber: u64,
+    statement: &[u8],
+    file: &[u8],
+) -> Holding {
     let i = (subscriber % (PLACE_COUNT as u64 + 1)) as usize;
     let mut length = 0;
     if 0 < i {
@@ -183,17 +194,43 @@ fn say_row(stage: Stage, direction: Direction, h: Holding, v: [u64; VALUES]) {
 }
 
 // What the bank has of the order of client run i, from 0 on.
-fn holding(c: Client, i: usize, rows: &[u64; STATE_SIZE], content: &[u8], orders: &[u8], files: &[u8]) -> Holding {
+fn bank_has(
+    c: Client,
+    i: usize,
+    rows: &[u64; STATE_SIZE],
+    content: &[u8],
+    orders: &[u8],
+    files: &[u8],
+) -> Holding {
     let direction = c.direction;
     match direction {
         Direction::Upload => book_has(rows, c.subscriber, c.number, content, orders),
-        Direction::Download => mailbox_has(rows, c.subscriber, content, file_of(files, i, c.length)),
+        Direction::Download => mailbox_has(
+            rows,
+            c.subscriber,
+            content,
+            file_of(files, i, c.length),
+        ),
     }
 }
 
 // The row of client run i, from 0 on.
-fn say_run(c: Client, i: usize, rows: &[u64; STATE_SIZE], text: &[u8], orders: &[u8], files: &[u8]) {
-    let h = holding(c, i, rows, content_of(text, (i % 16) as u8 + 1), orders, files);
+fn say_run(
+    c: Client,
+    i: usize,
+    rows: &[u64; STATE_SIZE],
+    text: &[u8],
+    orders: &[u8],
+    files: &[u8],
+) {
+    let h = bank_has(
+        c,
+        i,
+        rows,
+        content_of(text, (i % 16) as u8 + 1),
+        orders,
+        files,
+    );
     let mut v = [0u64; VALUES];
     v[1] = (i % 16) as u64 + 1;
     v[2] = c.subscriber;
@@ -205,7 +242,13 @@ fn say_run(c: Client, i: usize, rows: &[u64; STATE_SIZE], text: &[u8], orders: &
 }
 
 // The rows of all client runs.
-pub(crate) fn say_results(u: UnitState, rows: &[u64; STATE_SIZE], text: &[u8], orders: &[u8], files: &[u8]) {
+pub(crate) fn say_results(
+    u: UnitState,
+    rows: &[u64; STATE_SIZE],
+    text: &[u8],
+    orders: &[u8],
+    files: &[u8],
+) {
     let mut i = 0;
     while i < RUN_COUNT {
         let r = u.runs[i];
