@@ -16,8 +16,8 @@ use message::codes::ReturnCode;
 use message::codes::code_field;
 use unit::call::Answer;
 
-// The texts, numbered from 0: acts from 0, requests from 6, replies from 11, return codes' names in Annex 1 from 20, what
-// became of a message and what the call answered from 24, and what frames a message from 29.
+// The texts, numbered from 0: acts from 0, requests from 6, replies from 11, return codes' names in Annex 1 from 20,
+// what became of a message and what the call answered from 24, and what frames a message from 29.
 fn say_text(k: usize, v: [u64; VALUES]) {
     say(
         b"\
