@@ -1,7 +1,7 @@
 -- A client run, its closing words and the numbers that its calls are given.
 use Prim.Native.Nat.{ℕ}
 use mathlib.Core.Bool.{false}
-use mathlib.Core.List.{List, [], _∷_}
+use mathlib.Core.List.{List}
 use lib.ListN.{length}
 pub use Rattle.frame.specs.Writer.{requestRoom}
 use Rattle.octets.specs.Texts.{ascii}
