@@ -1,6 +1,6 @@
 -- What tests on truth values and on times tell. Assumes nothing.
 use Prim.Native.Nat.{ℕ, _+_, _-_, _≤_}
-use mathlib.Core.Bool.{Bool, true, false, not, _&&_}
+use mathlib.Core.Bool.{Bool, true, false, not}
 use mathlib.Core.Path.{_≡_, refl, sym, _∙_}
 use native.Mathlib.Omega.{arith}
 use lib.Dec.{ltb, leb}
@@ -21,6 +21,3 @@ not-ltb-at a b false e = sym (le-leb b a (ltb-false a b e))
 
 pub not-ltb : (a b : ℕ) → not (ltb a b) ≡ leb b a
 not-ltb a b = not-ltb-at a b (ltb a b) refl
-
-pub and-with : (a : Bool) {x y : Bool} → a ≡ true → x ≡ y → x ≡ (a && y)
-and-with a h e = rw h e
