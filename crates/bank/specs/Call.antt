@@ -187,7 +187,8 @@ replied s buffer = record {
   answer = answerOf (writeAnswer (s .reply) (s .replyData) buffer);
   number = frameNumber (answerOf (writeAnswer (s .reply) (s .replyData) buffer));
   code =
-      replyCode (answerOf (writeAnswer (s .reply) (s .replyData) buffer)) (writeBuffer (s .reply) (s .replyData) buffer);
+      replyCode (answerOf (writeAnswer (s .reply) (s .replyData) buffer))
+      (writeBuffer (s .reply) (s .replyData) buffer);
 }
 
 -- what a frame call brings and is lent besides the bank: the bank time, the 8 ID bytes, the frame, the reply buffer

@@ -3,7 +3,7 @@
 -- invariant's bank is one that rows can hold and in range. A bank in range writes every reply.
 use Prim.Native.Nat.{ℕ}
 use mathlib.Core.Bool.{Bool, true, false, _&&_}
-use mathlib.Core.List.{List}
+use mathlib.Core.List.{List, [], _∷_}
 use mathlib.Core.Path.{_≡_, refl, sym, ap, _∙_}
 use native.Mathlib.Omega.{arith}
 use lib.Dec.{leb, eqb}
@@ -54,12 +54,14 @@ use Rattle.bank_history.specs.Invariant.{Sizes}
 use Rattle.bank_history.specs.OnRows.{lentAfter, lentOf, AreBytes, RightlyLent, OnRows}
 use Rattle.bank_history.proofs.Answers.{call-lengths, call-answered, same-bank}
 
--- ---- what a call leaves is stored
+-- ---- after every list of calls
 
--- the memory is sound and is this bank with its stores
-record Stands (m : Lent) (w : BankState) : Type 0 where
-  sound : isSound (m .rows) ≡ true
-  state : stateOf m ≡ w
+lent-sound : (calls : List BankCall) → isSound (lentOf calls .rows) ≡ true
+unfolding lentOf lentAfter
+lent-sound [] = zeros-sound
+lent-sound (Frame a ∷ calls) = frame-sound (lentOf calls) a (lent-sound calls)
+lent-sound (File mailbox file ∷ calls) =
+    file-sound (lentOf calls .rows) mailbox file (lentOf calls .mailboxes) (lent-sound calls)
 
 lent-file : (rows : List ℕ) (mailbox : ℕ) (file mailboxes : List ℕ) → isSound rows ≡ true →
     lentFileCall rows mailbox file mailboxes ≡ keptFile rows (fileCall (bankOf rows) mailbox file mailboxes)
@@ -76,51 +78,41 @@ file-placed put.NoMailbox p mailbox file = refl
 file-placed put.WrongFile p mailbox file = refl
 file-placed put.MailboxFull p mailbox file = refl
 
-module _ {calls : List BankCall} (given : AllBytes calls) (m : Lent) (s : Stands m (pastOf calls .bankState)) where
+module _ {calls : List BankCall} (given : AllBytes calls) (m : Lent) (sound : isSound (m .rows) ≡ true)
+    (same : stateOf m ≡ pastOf calls .bankState) where
   abbrev past : Past
   past = pastOf calls
 
-  frame-stands : (a : FrameInput) → Bytes (a .ids) → Bytes (a .frame) →
-      Stands (lentAfter (Frame a) m) (after (Frame a) past .bankState)
+  after-frame : (a : FrameInput) → Bytes (a .ids) → Bytes (a .frame) →
+      stateOf (lentAfter (Frame a) m) ≡ after (Frame a) past .bankState
   unfolding lentAfter
-  frame-stands a ids frame = record {
-    sound = frame-sound m a (s .sound);
-    state = frame-state m a (s .sound)
-        ∙ (ap (λ (w : BankState). frameCall w a .bankState) (s .state) ∙ sym (same-bank calls a ids frame));
-  }
+  after-frame a ids frame =
+      frame-state m a sound
+      ∙ (ap (λ (w : BankState). frameCall w a .bankState) same ∙ sym (same-bank calls a ids frame))
 
-  file-stands : (mailbox : ℕ) (file : List ℕ) →
-      Stands (lentAfter (File mailbox file) m) (after (File mailbox file) past .bankState)
+  after-file : (mailbox : ℕ) (file : List ℕ) →
+      stateOf (lentAfter (File mailbox file) m) ≡ after (File mailbox file) past .bankState
   unfolding lentAfter after fileCall
-  file-stands mailbox file =
+  after-file mailbox file =
       let rows = m .rows in
       let answer : BankState → FileAnswer = λ (w : BankState).
       decide (fileRefusals (w .bank) mailbox file (w .mailboxes)) put.Done in
       let left : BankState → BankState = λ (w : BankState).
       let c = carryOutFile (answer w) (w .bank) mailbox file (w .mailboxes) in
       bankState (c .bank) (w .orders) (c .mailboxes) in
-      let kept = lent-file rows mailbox file (m .mailboxes) (s .sound) in
-      record {
-        sound = file-sound rows mailbox file (m .mailboxes) (s .sound);
-        state =
-            ap (λ (b : Bank). bankState b (m .orders) (lentFileCall rows mailbox file (m .mailboxes) .mailboxes))
-            (file-state rows mailbox file (m .mailboxes) (s .sound))
-            ∙ (ap (λ (c : LentFileCall). bankState (fileCall (bankOf rows) mailbox file (m .mailboxes) .bank)
-            (m .orders)
-            (c .mailboxes)) kept
-            ∙ (ap left (s .state) ∙ file-placed (answer (past .bankState)) past mailbox file));
-      }
+      ap (λ (b : Bank). bankState b (m .orders) (lentFileCall rows mailbox file (m .mailboxes) .mailboxes))
+      (file-state rows mailbox file (m .mailboxes) sound)
+      ∙ (ap (λ (c : LentFileCall). bankState (fileCall (bankOf rows) mailbox file (m .mailboxes) .bank) (m .orders)
+      (c .mailboxes)) (lent-file rows mailbox file (m .mailboxes) sound)
+      ∙ (ap left same ∙ file-placed (answer (past .bankState)) past mailbox file))
 
-lent-stands : {calls : List BankCall} → AllBytes calls → Stands (lentOf calls) (pastOf calls .bankState)
+lent-state : {calls : List BankCall} → AllBytes calls → stateOf (lentOf calls) ≡ pastOf calls .bankState
 unfolding lentOf pastOf start
-lent-stands none = record {
-  sound = zeros-sound;
-  state = ap (λ (b : Bank). bankState b (replicate storeBytes 0) (replicate storeBytes 0)) fresh-rows;
-}
-lent-stands (more {c = Frame a} {calls = calls} b given) =
-    frame-stands given (lentOf calls) (lent-stands given) a (b .0) (b .1)
-lent-stands (more {c = File mailbox file} {calls = calls} b given) =
-    file-stands given (lentOf calls) (lent-stands given) mailbox file
+lent-state none = ap (λ (b : Bank). bankState b (replicate storeBytes 0) (replicate storeBytes 0)) fresh-rows
+lent-state (more {c = Frame a} {calls = calls} b given) =
+    after-frame given (lentOf calls) (lent-sound calls) (lent-state given) a (b .0) (b .1)
+lent-state (more {c = File mailbox file} {calls = calls} b given) =
+    after-file given (lentOf calls) (lent-sound calls) (lent-state given) mailbox file
 
 -- ---- every sound state
 
@@ -188,21 +180,20 @@ module _ (calls : List BankCall) (given : AllBytes calls) where
 
   next-frame : (a : FrameInput) → lentFrameCall now a ≡ keptFrame now (frameCall (pastOf calls .bankState) a)
   next-frame a =
-      let s = lent-stands given in
-      lent-frame now a (s .sound) ∙ ap (λ (w : BankState). keptFrame now (frameCall w a)) (s .state)
+      lent-frame now a (lent-sound calls) ∙ ap (λ (w : BankState). keptFrame now (frameCall w a)) (lent-state given)
 
   next-file : (mailbox : ℕ) (file : List ℕ) → lentFileCall (now .rows) mailbox file (now .mailboxes)
       ≡ keptFile (now .rows)
       (fileCall (pastOf calls .bankState .bank) mailbox file (pastOf calls .bankState .mailboxes))
   next-file mailbox file =
-      let s = lent-stands given in
-      lent-file (now .rows) mailbox file (now .mailboxes) (s .sound)
-      ∙ ap (λ (w : BankState). keptFile (now .rows) (fileCall (w .bank) mailbox file (w .mailboxes))) (s .state)
+      lent-file (now .rows) mailbox file (now .mailboxes) (lent-sound calls)
+      ∙ ap (λ (w : BankState). keptFile (now .rows) (fileCall (w .bank) mailbox file (w .mailboxes)))
+      (lent-state given)
 
 pub on-rows : OnRows
 on-rows = record {
-  sound = λ given. lent-stands given .sound;
-  state = λ given. lent-stands given .state;
+  sound = lent-sound;
+  state = lent-state;
   frame = λ given. next-frame _ given;
   file = λ given. next-file _ given;
   answered = λ r b. (lent-frame _ _ (r .rows), frame-given b r);

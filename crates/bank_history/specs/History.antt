@@ -35,8 +35,8 @@ use Rattle.bank.specs.declared.mailbox.FileAnswer.the-variants as put
 use Rattle.bank.specs.Call.{Step, respond, FrameInput, frameCall}
 use Rattle.bank.specs.Mailbox.{fileCall}
 
--- One answered frame: the request's fields and data as read, the reply's fields and data, the clock that the call has set,
--- the file of the subscriber's mailbox as the request was judged, and the verdict
+-- One answered frame: the request's fields and data as read, the reply's fields and data, the clock that the call has
+-- set, the file of the subscriber's mailbox as the request was judged, and the verdict
 pub record Exchange : Type 0 where
   pub request : Fields
   pub requestData : List ℕ
@@ -75,7 +75,8 @@ pub data BankCall : Type 0 where
   Frame : FrameInput → BankCall
   File : ℕ → List ℕ → BankCall
 
--- The bank and its stores as the calls so far left them, and the answered frames, the newest first. Unreadable frames are entered too
+-- The bank and its stores as the calls so far left them, and the answered frames, the newest first. Unreadable frames
+-- are entered too
 pub record Past : Type 0 where
   pub bankState : BankState
   pub history : List Exchange
@@ -87,7 +88,8 @@ entered WrongLength w e p = p
 
 -- a file call's answer
 abbrev pub placed : FileAnswer → Bank → List ℕ → Past → Past
-placed put.Done b mailboxes p = record { bankState = bankState b (p .bankState .orders) mailboxes; history = p .history }
+placed put.Done b mailboxes p =
+    record { bankState = bankState b (p .bankState .orders) mailboxes; history = p .history }
 placed put.WrongLength b mailboxes p = p
 placed put.NoMailbox b mailboxes p = p
 placed put.WrongFile b mailboxes p = p
@@ -102,7 +104,8 @@ after (File mailbox file) p =
     let c = fileCall (p .bankState .bank) mailbox file (p .bankState .mailboxes) in
     placed (c .answer) (c .bank) (c .mailboxes) p
 
--- "Fresh means clock 0, no opening accepted, nothing open, booked or remembered, and every lent byte kept between calls 0"
+-- "Fresh means clock 0, no opening accepted, nothing open, booked or remembered, and every lent byte kept between
+-- calls 0"
 unfoldable pub start : Past
 start = record { bankState = bankState fresh (replicate storeBytes 0) (replicate storeBytes 0); history = [] }
 
@@ -116,7 +119,8 @@ pub data Stands (e : Exchange) (g : List Exchange) : List Exchange → Type 0 wh
   newest : Stands e g (e ∷ g)
   older : {x : Exchange} {h : List Exchange} → Stands e g h → Stands e g (x ∷ h)
 
--- What an action is: it opens an upload, opens a download, takes a segment, books the order, delivers a segment, ends without booking
+-- What an action is: it opens an upload, opens a download, takes a segment, books the order, delivers a segment, ends
+-- without booking
 pub record Kind : Type 0 where
   pub opensUpload : Bool
   pub opensDownload : Bool
@@ -238,7 +242,8 @@ numberIn verdict.Unreadable = 0
 numberIn (verdict.Refused c) = 0
 numberIn (verdict.Of t k) = actionNumber k
 
--- the subscriber that opened t, an upload's order number and number of segments, the file in the mailbox at a download's opening
+-- the subscriber that opened t, an upload's order number and number of segments, the file in the mailbox at a
+-- download's opening
 abbrev pub openedBy : Bits128 → List Exchange → ℕ
 openedBy t h = atOpening (λ (e : Exchange). subscriber (e .request)) 0 t h
 

@@ -1,4 +1,5 @@
--- The bank's invariant: what holds of the state and the stores after every list of calls, and what the history tells of them.
+-- The bank's invariant: what holds of the state and the stores after every list of calls, and what the history tells
+-- of them.
 use Prim.Native.Nat.{ℕ, suc, _+_, _-_, _*_, _<_, _≤_}
 use mathlib.Core.Bool.{Bool, true, false}
 use mathlib.Core.List.{List, [], _∷_, _++_}
@@ -74,8 +75,8 @@ pub record NoSteps (p : Place) : Type 0 where
   pub attempts : p .attempts ≡ 0
   pub last : p .last ≡ 0
 
--- a place in use, with the number of openings and the place's bytes: the columns that a booked order keeps, transaction ID,
--- subscriber, number of its order and length
+-- a place in use, with the number of openings and the place's bytes: the columns that a booked order keeps, transaction
+-- ID, subscriber, number of its order and length
 pub record UsedPlace (openings : ℕ) (t : Bits128) (subscriber number size : ℕ) (bytes : List ℕ) : Type 0 where
   -- "The transaction ID is the 8 lent bytes, then the number", that of an accepted opening; so is the order's number
   pub counted : t .low < openings
@@ -137,7 +138,8 @@ pub record MailboxHolds (n : ℕ) (bytes : List ℕ) : Type 0 where
 -- each nonce of a list is used, "while its timestamp is at most 300 behind the clock"
 pub data AllRemembered (clock : ℕ) : List Nonce → Type 0 where
   end : AllRemembered clock []
-  next : {e : Nonce} {l : List Nonce} → e .used ≡ true → leb clock (e .timestamp + window) ≡ true → AllRemembered clock l →
+  next : {e : Nonce} {l : List Nonce} → e .used ≡ true → leb clock (e .timestamp + window) ≡ true →
+      AllRemembered clock l →
       AllRemembered clock (e ∷ l)
 
 -- the nonces remembered at a clock stand first, and the others are free
@@ -158,7 +160,8 @@ pub record StateHolds (w : BankState) : Type 0 where
   pub numbers : w .bank .openings ≤ maxOpenings
   -- each place is free and zero, or in use with its columns in their ranges and zeros behind its bytes
   pub places : (i : ℕ) → i < placeCount →
-      PlaceHolds (placeAt (w .bank) i .used) (w .bank .clock) (w .bank .openings) (placeAt (w .bank) i) (partAt (w .orders) i)
+      PlaceHolds (placeAt (w .bank) i .used) (w .bank .clock) (w .bank .openings) (placeAt (w .bank) i)
+      (partAt (w .orders) i)
   -- each record of downloads is zero, or an open download with its columns in their ranges
   pub downloads : (j : ℕ) →
       DownloadHolds (downloadAt (w .bank) j .used) (w .bank .clock) (w .bank .openings)
@@ -168,7 +171,8 @@ pub record StateHolds (w : BankState) : Type 0 where
   -- no two places in use have one transaction or one order number, and no place has the transaction of an open download
   pub placesApart : (i j : ℕ) → i < placeCount → j < placeCount → isFree (placeAt (w .bank) i .used) ≡ false →
       isFree (placeAt (w .bank) j .used) ≡ false → Alike (placeAt (w .bank) i) (placeAt (w .bank) j) → i ≡ j
-  pub apart : (i j : ℕ) → i < placeCount → isFree (placeAt (w .bank) i .used) ≡ false → downloadAt (w .bank) j .used ≡ true →
+  pub apart : (i j : ℕ) → i < placeCount → isFree (placeAt (w .bank) i .used) ≡ false →
+      downloadAt (w .bank) j .used ≡ true →
       placeAt (w .bank) i .transaction .low ≡ downloadAt (w .bank) j .transaction .low → ⊥
   -- open downloads stand first, in the order of their openings
   pub inOrder : Packed (λ (e : Download). e .used) noDownload (λ (e : Download). e .transaction .low)
@@ -221,7 +225,8 @@ PlaceTold Booked h p bytes = OrderTold h p bytes
 
 -- of an open download, with the file now in its mailbox
 pub record OpenTold (h : List Exchange) (file : List ℕ) (e : Download) : Type 0 where
-  -- its transaction was opened by an accepted opening of this subscriber; d segments were delivered; nothing has ended it
+  -- its transaction was opened by an accepted opening of this subscriber; d segments were delivered; nothing has ended
+  -- it
   pub opened : ever isDownloadOpening (e .transaction) h ≡ true
   pub owner : openedBy (e .transaction) h ≡ e .subscriber
   pub deliveries : times isDelivery (e .transaction) h ≡ e .delivered
@@ -252,10 +257,12 @@ pub record Invariant (w : BankState) (h : List Exchange) : Type 0 where
   -- the openings are counted
   pub counted : w .bank .openings ≡ accepted h
   -- each place in use holds exactly what was taken for it
-  pub places : (i : ℕ) → i < placeCount → PlaceTold (placeAt (w .bank) i .used) h (placeAt (w .bank) i) (partAt (w .orders) i)
+  pub places : (i : ℕ) → i < placeCount →
+      PlaceTold (placeAt (w .bank) i .used) h (placeAt (w .bank) i) (partAt (w .orders) i)
   -- each open download is one of the file at its opening
   pub downloads : (j : ℕ) →
-      DownloadTold (downloadAt (w .bank) j .used) h (mailboxFile w (downloadAt (w .bank) j .subscriber)) (downloadAt (w .bank) j)
+      DownloadTold (downloadAt (w .bank) j .used) h (mailboxFile w (downloadAt (w .bank) j .subscriber))
+      (downloadAt (w .bank) j)
   pub memory : Memory (w .bank .clock) (w .bank .nonces) h
   -- every transaction of the history has a number below that of the next opening
   pub known : (t : Bits128) → ever isAction t h ≡ true → t .low < w .bank .openings
@@ -266,8 +273,10 @@ pub record Invariant (w : BankState) (h : List Exchange) : Type 0 where
 
 -- no open transaction is idle: "open at 3,600, gone at 3,601"
 pub record NoneIdle (w : BankState) : Type 0 where
-  pub places : (i : ℕ) → i < placeCount → isOpen (placeAt (w .bank) i .used) ≡ true → w .bank .clock ≤ placeAt (w .bank) i .last + idleLimit
-  pub downloads : (j : ℕ) → downloadAt (w .bank) j .used ≡ true → w .bank .clock ≤ downloadAt (w .bank) j .last + idleLimit
+  pub places : (i : ℕ) → i < placeCount → isOpen (placeAt (w .bank) i .used) ≡ true →
+      w .bank .clock ≤ placeAt (w .bank) i .last + idleLimit
+  pub downloads : (j : ℕ) → downloadAt (w .bank) j .used ≡ true →
+      w .bank .clock ≤ downloadAt (w .bank) j .last + idleLimit
 
 -- what holds after every list of calls
 pub record Holds (p : Past) : Type 0 where

@@ -1,4 +1,4 @@
--- The definitions of the bank's history and of its invariant.
+-- The definitions of the bank's history, of its invariant, and of what holds after every list of calls.
 pub mod History
 pub mod Packed
 pub mod Sound

@@ -50,10 +50,9 @@ pub record RightlyLent (m : Lent) (a : FrameInput) : Type 0 where
 
 pub record OnRows : Type 0 where
   -- after every list of calls the rows are sound, and the memory is the bank with its stores
-  pub sound : {calls : List BankCall} → AllBytes calls → isSound (lentOf calls .rows) ≡ true
+  pub sound : (calls : List BankCall) → isSound (lentOf calls .rows) ≡ true
   pub state : {calls : List BankCall} → AllBytes calls → stateOf (lentOf calls) ≡ pastOf calls .bankState
-  -- the next call's answer, number, code and buffer are those of the call on the bank, and the memory keeps what it
-  -- leaves
+  -- the next call answers as the call on the bank does: answer, number, code, buffer; the memory keeps what it leaves
   pub frame : {calls : List BankCall} → AllBytes calls → (a : FrameInput) →
       lentFrameCall (lentOf calls) a ≡ keptFrame (lentOf calls) (frameCall (pastOf calls .bankState) a)
   pub file : {calls : List BankCall} → AllBytes calls → (mailbox : ℕ) (file : List ℕ) →

@@ -45,7 +45,8 @@ abbrev pub isCancelling : ℕ → Bool
 isCancelling n = eqb n (codeField code.TransactionAbort) || eqb n (codeField code.SegmentNumberUnderrun) || eqb n
     (codeField code.SegmentNumberExceeded)
 
--- "The accepted openings are numbered from 0": t has the next number; the request is of this opening form, from a subscriber 1 to 8
+-- "The accepted openings are numbered from 0": t has the next number; the request is of this opening form, from a
+-- subscriber 1 to 8
 pub record SoundOpening (f : Form) (t : Bits128) (e : Exchange) (h : List Exchange) : Type 0 where
   pub numbered : t .low ≡ accepted h
   pub asked : form (e .request) ≡ f

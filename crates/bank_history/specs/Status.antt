@@ -25,9 +25,8 @@ use Rattle.bank_history.specs.FalseEconomies.{Next}
 use Rattle.bank_history.specs.History.{Exchange, BankCall, isOpening, accepted, pastOf}
 use Rattle.bank_history.specs.Transactions.{UploadAt, DownloadAt}
 
--- Open: direction, subscriber, clock of the last fitting request. The others have ended: booked, 011000 or 011001 to
--- its
--- receipt, 011000 to another receipt of its subscriber, cancelled, dropped
+-- Open: direction, subscriber, clock of the last fitting request. The others have ended: booked; 011000 to its receipt,
+-- 011001 to its receipt, 011000 to another receipt of its subscriber; cancelled; dropped
 pub data Status : Type 0 where
   NotOpened : Status
   Open : Direction → ℕ → ℕ → Status
@@ -177,8 +176,7 @@ pub record Drops : Type 0 where
   pub shown : (calls : List BankCall) (t : Bits128) (d : Direction) (s last : ℕ) →
       status t (pastOf calls .history) ≡ Open d s last →
       OpenAs (pastOf calls .bankState) t d s last
-  -- a call's clock takes out of the bank exactly what its events drop, and leaves the other open transactions as they
-  -- are
+  -- a call's clock takes out of the bank exactly what its events drop; what else is open stays as it is
   pub gone : {calls : List BankCall} {e : Exchange} (n : Next calls e) (t : Bits128) →
       In (Drop t) (eventsOf e (pastOf calls .history)) →
       OpenIn (pastOf calls .bankState) t × (OpenIn (advanced (n .input .time) (pastOf calls .bankState)) t → ⊥)

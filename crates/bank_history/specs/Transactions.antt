@@ -51,7 +51,8 @@ filled mailbox file w =
     bankState (withFiles (set (w .bank .files) (mailbox - 1) (length file)) (w .bank)) (w .orders)
     (overwrite (w .mailboxes) ((mailbox - 1) * fileBytes) file)
 
--- what a booked place holds: the subscriber and the number of its accepted opening, and exactly the data of segments 1 to N
+-- what a booked place holds: the subscriber and the number of its accepted opening, and exactly the data of segments 1
+-- to N
 pub record Order (w : BankState) (h : List Exchange) (t : Bits128) (i : ℕ) : Type 0 where
   pub inside : i < placeCount
   pub used : placeAt (w .bank) i .used ≡ Booked
@@ -64,15 +65,16 @@ pub record Order (w : BankState) (h : List Exchange) (t : Bits128) (i : ℕ) : T
   pub opened : ever isUploadOpening t h ≡ true
   pub last : ever isBooking t h ≡ true
 
--- "until a receipt of its subscriber is answered 011000, which alone empties it": the exchange e has emptied mailbox m of the bank w
+-- "until a receipt of its subscriber is answered 011000, which alone empties it": the exchange e has emptied mailbox m
+-- of the bank w
 pub record Emptied (w : BankState) (m : ℕ) (e : Exchange) : Type 0 where
   pub id : Bits128
   pub confirmed : e .verdict ≡ verdict.Of id (action.Download down.Confirmed)
   pub owner : Names.subscriber (e .request) ≡ m
   pub empty : mailboxFile w m ≡ []
 
--- "The bank's mailbox holds exactly the file last put in by a call given no number": the bank w has got the file into mailbox m, and is
--- w′ now
+-- "The bank's mailbox holds exactly the file last put in by a call given no number": the bank w has got the file into
+-- mailbox m, and is w′ now
 pub record Filled (w w′ : BankState) (m : ℕ) (file : List ℕ) : Type 0 where
   pub was : mailboxFile w m ≡ []
   pub now : mailboxFile w′ m ≡ file

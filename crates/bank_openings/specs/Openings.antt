@@ -59,7 +59,14 @@ openUpload t number q b = withPlace (freePlace b) (newPlace t number (b .clock) 
 
 -- a download just opened: "its opening delivered segment 1"
 abbrev pub newDownload : Bits128 → ℕ → Fields → Download
-newDownload t clock q = record { used = true; transaction = t; subscriber = subscriber q; delivered = 1; attempts = 0; last = clock }
+newDownload t clock q = record {
+  used = true;
+  transaction = t;
+  subscriber = subscriber q;
+  delivered = 1;
+  attempts = 0;
+  last = clock;
+}
 
 -- "download opened ... (segment 1 is in it)"
 unfoldable pub openDownload : Bits128 → Fields → Bank → Bank

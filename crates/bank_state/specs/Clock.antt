@@ -11,7 +11,8 @@ use Rattle.bank_state.specs.State.{Bank}
 use Rattle.bank_state.specs.Limits.{placeCount, idleLimit, window}
 use Rattle.bank_state.specs.Rows.{keepOnly}
 use Rattle.bank_state.specs.Search.{isOpen, isDownload}
-use Rattle.bank_state.specs.State.{BankState, bankState, noPlace, noDownload, noNonce, withClock, withPlace, withDownloads, withNonces, placeAt}
+use Rattle.bank_state.specs.State.{BankState, bankState, noPlace, noDownload, noNonce, withClock, withPlace}
+use Rattle.bank_state.specs.State.{withDownloads, withNonces, placeAt}
 use Rattle.bank_state.specs.Store.{zeroed}
 
 -- "whose last fitting request (its opening included) is more than 3,600 seconds old"
@@ -24,7 +25,8 @@ freed i w = bankState (withPlace i noPlace (w .bank)) (zeroed (w .orders) i) (w 
 
 -- "a dropped upload's place is zeroed and freed"
 unfoldable pub dropUpload : ℕ → BankState → BankState
-dropUpload i w = cond (isOpen (placeAt (w .bank) i .used) && isIdle (w .bank .clock) (placeAt (w .bank) i .last)) (freed i w) w
+dropUpload i w = cond (isOpen (placeAt (w .bank) i .used) && isIdle (w .bank .clock) (placeAt (w .bank) i .last))
+    (freed i w) w
 
 -- the idle uploads of the first n places dropped
 unfoldable pub dropUploads : ℕ → BankState → BankState
@@ -47,8 +49,10 @@ forget clock l = keepOnly (λ (e : Nonce). e .used && leb clock (e .timestamp + 
 
 -- the state at a clock, but for its uploads
 unfoldable pub atClock : ℕ → Bank → Bank
-atClock clock b = withNonces (forget clock (b .nonces)) (withDownloads (endDownloads (Idle clock) (b .downloads)) (withClock clock b))
+atClock clock b = withNonces (forget clock (b .nonces))
+    (withDownloads (endDownloads (Idle clock) (b .downloads)) (withClock clock b))
 
 -- "A call first sets the clock to the larger of its old value and the time given. Then it drops every transaction ..."
 unfoldable pub advanced : ℕ → BankState → BankState
-advanced time w = dropUploads placeCount (bankState (atClock (max (w .bank .clock) time) (w .bank)) (w .orders) (w .mailboxes))
+advanced time w = dropUploads placeCount
+    (bankState (atClock (max (w .bank .clock) time) (w .bank)) (w .orders) (w .mailboxes))

@@ -42,7 +42,8 @@ freeNonce b = firstOf (λ (e : Nonce). not (e .used)) (b .nonces)
 
 -- an upload open for this subscriber under this transaction ID, and where it is
 unfoldable pub isUpload : ℕ → Bits128 → Place → Bool
-isUpload subscriber transaction p = isOpen (p .used) && eqb (p .subscriber) subscriber && sameBits (p .transaction) transaction
+isUpload subscriber transaction p = isOpen (p .used) && eqb (p .subscriber) subscriber
+    && sameBits (p .transaction) transaction
 
 unfoldable pub findUpload : ℕ → Bits128 → Bank → ℕ
 findUpload subscriber transaction b = firstOf (isUpload subscriber transaction) (b .places)

@@ -15,8 +15,8 @@ pub record Nonce : Type 0 where
   pub value : Bits128
   pub timestamp : ℕ
 
--- The bank's state. Open downloads and nonces stand in the order of their openings, without gaps; `files` has the length
--- of each mailbox's file, 0 where it is empty
+-- The bank's state. Open downloads and nonces stand in the order of their openings, without gaps; `files` has the
+-- length of each mailbox's file, 0 where it is empty
 pub record Bank : Type 0 where
   pub clock : ℕ
   pub openings : ℕ
@@ -39,7 +39,17 @@ abbrev pub noBits : Bits128
 noBits = record { high = 0; low = 0 }
 
 abbrev pub noPlace : Place
-noPlace = record { used = Free; transaction = noBits; subscriber = 0; number = 0; segments = 0; taken = 0; attempts = 0; last = 0; length = 0 }
+noPlace = record {
+  used = Free;
+  transaction = noBits;
+  subscriber = 0;
+  number = 0;
+  segments = 0;
+  taken = 0;
+  attempts = 0;
+  last = 0;
+  length = 0;
+}
 
 abbrev pub noDownload : Download
 noDownload = record { used = false; transaction = noBits; subscriber = 0; delivered = 0; attempts = 0; last = 0 }
@@ -61,22 +71,64 @@ fresh = record {
 -- one part of the state changed
 
 abbrev pub withClock : ℕ → Bank → Bank
-withClock t b = record { clock = t; openings = b .openings; places = b .places; downloads = b .downloads; nonces = b .nonces; files = b .files }
+withClock t b = record {
+  clock = t;
+  openings = b .openings;
+  places = b .places;
+  downloads = b .downloads;
+  nonces = b .nonces;
+  files = b .files;
+}
 
 abbrev pub withOpenings : ℕ → Bank → Bank
-withOpenings n b = record { clock = b .clock; openings = n; places = b .places; downloads = b .downloads; nonces = b .nonces; files = b .files }
+withOpenings n b = record {
+  clock = b .clock;
+  openings = n;
+  places = b .places;
+  downloads = b .downloads;
+  nonces = b .nonces;
+  files = b .files;
+}
 
 abbrev pub withPlaces : List Place → Bank → Bank
-withPlaces l b = record { clock = b .clock; openings = b .openings; places = l; downloads = b .downloads; nonces = b .nonces; files = b .files }
+withPlaces l b = record {
+  clock = b .clock;
+  openings = b .openings;
+  places = l;
+  downloads = b .downloads;
+  nonces = b .nonces;
+  files = b .files;
+}
 
 abbrev pub withDownloads : List Download → Bank → Bank
-withDownloads l b = record { clock = b .clock; openings = b .openings; places = b .places; downloads = l; nonces = b .nonces; files = b .files }
+withDownloads l b = record {
+  clock = b .clock;
+  openings = b .openings;
+  places = b .places;
+  downloads = l;
+  nonces = b .nonces;
+  files = b .files;
+}
 
 abbrev pub withNonces : List Nonce → Bank → Bank
-withNonces l b = record { clock = b .clock; openings = b .openings; places = b .places; downloads = b .downloads; nonces = l; files = b .files }
+withNonces l b = record {
+  clock = b .clock;
+  openings = b .openings;
+  places = b .places;
+  downloads = b .downloads;
+  nonces = l;
+  files = b .files;
+}
 
 abbrev pub withFiles : List ℕ → Bank → Bank
-withFiles l b = record { clock = b .clock; openings = b .openings; places = b .places; downloads = b .downloads; nonces = b .nonces; files = l }
+withFiles l b = record {
+  clock = b .clock;
+  openings = b .openings;
+  places = b .places;
+  downloads = b .downloads;
+  nonces = b .nonces;
+  files = l;
+}
 
 abbrev pub placeAt : Bank → ℕ → Place
 placeAt b i = getD (b .places) i noPlace

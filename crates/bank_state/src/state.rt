@@ -1,5 +1,5 @@
-// An order place and an open download, as they are taken out of the bank's rows and put back. The bank as a whole is the
-// record `Bank` of specs/State.antt.
+// An order place and an open download, as they are taken out of the bank's rows and put back. The bank as a whole is
+// the record `Bank` of specs/State.antt.
 use frame_table::fields::Bits128;
 ghost use mathlib.Core.Path.{_≡_};
 ghost use Rattle.bank_state.specs.State.{noPlace};
@@ -11,8 +11,8 @@ pub enum Use {
     Booked,
 }
 
-// An order place: an open upload or a booked order. `number` is the number of its opening, `taken` counts its segments taken,
-// `last` is the clock at its last fitting request, `length` counts its bytes.
+// An order place: an open upload or a booked order. `number` is the number of its opening, `taken` counts its
+// segments taken, `last` is the clock at its last fitting request, `length` counts its bytes.
 pub struct Place {
     pub used: Use,
     pub transaction: Bits128,

@@ -15,7 +15,8 @@ use Rattle.message.specs.Codes.{asciiDigits}
 use Rattle.message.specs.Limits.{segmentBytes}
 use Rattle.message.specs.OrderNumbers.{orderNumberOf}
 use Rattle.message.specs.Requests.{uploadOpening, downloadOpening, uploadTransfer, downloadTransfer, receipt}
-use Rattle.message.specs.Replies.{uploadOpened, downloadOpened, segmentTaken, downloadSegment, receiptAnswered, unreadable, refusal}
+use Rattle.message.specs.Replies.{uploadOpened, downloadOpened, segmentTaken, downloadSegment, receiptAnswered}
+use Rattle.message.specs.Replies.{unreadable, refusal}
 use Rattle.bank_state.specs.declared.state.Place.{Place}
 use Rattle.bank_state.specs.Limits.{storeBytes, idBytes}
 use Rattle.bank_state.specs.Search.{isBooked}

@@ -1,4 +1,4 @@
--- The laws of a client run's history: the results over any events in Bounds and Writable, over fair ones in Theorems.
+-- The laws of a client run's history, and the main results in Theorems: over any events, and over fair ones.
 pub mod Requests
 pub mod NextRuns
 pub mod Course

@@ -1,4 +1,4 @@
--- The main results, for the crates above: what holds of a client run after every list of fair events.
+-- The main results, for the crates above: what holds of a client run after any events, and after fair ones.
 use Prim.Native.Nat.{ℕ, _+_, _<_, _≤_}
 use mathlib.Core.Bool.{Bool, true, false}
 use mathlib.Core.List.{List, List·Memᴰ as In, List·Memᴰ·not-nil as in-none}
@@ -74,6 +74,16 @@ use Rattle.client_history.specs.Invariant.{
   upload,
   download,
 }
+-- 0. after any events, fair or not: how many requests, under which numbers, and that each is written
+pub use Rattle.client_history.proofs.Bounds.{
+  bounds,
+  requests-most,
+  exchange-fits,
+  exchange-rises,
+  all-held,
+  guards-idle,
+}
+pub use Rattle.client_history.proofs.Writable.{unrefused}
 use Rattle.client_history.proofs.Course.{upload-course, up-segments}
 use Rattle.client_history.proofs.Downloads.{whole-file}
 use Rattle.client_history.proofs.Issues

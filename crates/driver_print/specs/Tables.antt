@@ -61,7 +61,8 @@ abbrev pub heldBy : Direction → Client → ℕ
 heldBy Upload c = 0
 heldBy Download c = c .length
 
--- row i of a table: "The book in place order; the mailboxes that hold a file; the runs that have begun ...; and each run's file"
+-- row i of a table: "The book in place order; the mailboxes that hold a file; the runs that have begun ...; and each
+-- run's file"
 abbrev pub rowAt : Table → UnitState → Lent → List ℕ → ℕ → List ℕ
 rowAt Book u m files i =
     let p = placeAt (bankOf (m .rows)) i in

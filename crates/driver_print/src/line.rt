@@ -47,7 +47,8 @@ pub(crate) fn put_hex(output: &mut [u8], at: usize, bytes: &[u8]) -> usize
 // Writes a name and the bytes behind it in hexadecimal.
 fn put_named(output: &mut [u8], at: usize, name: &[u8], bytes: &[u8]) -> usize
     requires { ⌜ at + (length (now name) + 2 * length (now bytes)) ≤ length (now output) ⌝ }
-    ensures { λ r. ⌜ Put (now (output .entry)) at (now (name .entry) ++ hexOf (now (bytes .entry))) (now (output .exit)) r ⌝ }
+    ensures { λ r. ⌜ Put (now (output .entry)) at (now (name .entry) ++ hexOf (now (bytes .entry)))
+        (now (output .exit)) r ⌝ }
 {
     let a = put_text(output, at, name);
     put_hex(output, a, bytes)
@@ -89,8 +90,10 @@ fn put_line(output: &mut [u8], n: u64, answer: Answer, buffer: &[u8]) -> usize
 pub fn line(n: u64, answer: Answer, buffer: &[u8], output: &mut [u8]) -> usize
     ensures { λ r. ⌜
         (now (output .exit)
-        ≡ printed (lineRoom (length (now (buffer .entry)))) (lineOf n answer (now (buffer .entry))) (now (output .entry)))
-        × (r ≡ printedCount (lineRoom (length (now (buffer .entry)))) (lineOf n answer (now (buffer .entry))) (now (output .entry)))
+        ≡ printed (lineRoom (length (now (buffer .entry)))) (lineOf n answer (now (buffer .entry)))
+        (now (output .entry)))
+        × (r ≡ printedCount (lineRoom (length (now (buffer .entry)))) (lineOf n answer (now (buffer .entry)))
+        (now (output .entry)))
         ⌝ }
 {
     let room = output.len();

@@ -29,8 +29,10 @@ ghost use Rattle.bank_rows.specs.Layout.{stateSize};
 ghost use Rattle.bank.specs.Lent.{lent};
 ghost use Rattle.print.specs.Text.{Put, rowsTo, printed, printedCount};
 ghost use Rattle.print.specs.Closing.{closingRoom};
-ghost use Rattle.driver_print.specs.Tables.{headerText, contentText, orderRow, fileRow, stageText, wordRow, heldBy};
-ghost use Rattle.driver_print.specs.Tables.{rowAt, rowCount, tableOf, headerRoom, contentRoom, rowRoom, tableRoom};
+ghost use Rattle.driver_print.specs.Tables.{headerText, contentText, orderRow, fileRow, stageText, wordRow};
+ghost use Rattle.driver_print.specs.Tables.{heldBy};
+ghost use Rattle.driver_print.specs.Tables.{rowAt, rowCount, tableOf, headerRoom, contentRoom, rowRoom};
+ghost use Rattle.driver_print.specs.Tables.{tableRoom};
 
 // The most bytes of a table: the book's header and 16 of its rows.
 pub const TABLE_ROOM: usize = BOOK_HEADER_ROOM

@@ -120,7 +120,8 @@ fn step(
     Reading { unit, more }
 }
 
-// The calls of all records. Nothing says that an input ends, so the calls are counted up to a number that no run reaches.
+// The calls of all records. Nothing says that an input ends, so the calls are counted up to a number that no run
+// reaches.
 fn read_all(
     input: &mut [u8],
     output: &mut [u8],

@@ -1,4 +1,5 @@
--- A list of calls to one bank and to client runs, and what it leaves: the steps are the definitions that the calls' contracts cite.
+-- A list of calls to one bank and to client runs, and what it leaves: the steps are the definitions that the calls'
+-- contracts cite.
 use Prim.Native.Nat.{ℕ, _-_}
 use mathlib.Core.Bool.{cond}
 use mathlib.Core.List.{List, [], _∷_}
@@ -37,15 +38,16 @@ pub data Call : Type 0 where
   -- no reply
   noReply : ℕ → Client → Lent → Call
 
--- a request issued: by which run, its bytes, and as it was issued the run's file and the file that its subscriber's mailbox held
+-- a request issued: by which run, its bytes, and as it was issued the run's file and the file that its subscriber's
+-- mailbox held
 pub record Issue : Type 0 where
   pub run : ℕ
   pub frame : List ℕ
   pub file : List ℕ
   pub box : List ℕ
 
--- a frame and the reply that the bank gave it, the clock then, and the file that the mailbox of the frame's subscriber held as the frame
--- came: after clock and drops, before the answer
+-- a frame and the reply that the bank gave it, the clock then, and the file that the mailbox of the frame's subscriber
+-- held as the frame came: after clock and drops, before the answer
 pub record Exchange : Type 0 where
   pub request : List ℕ
   pub reply : List ℕ
@@ -57,8 +59,8 @@ pub record Arrival : Type 0 where
   pub run : ℕ
   pub reply : List ℕ
 
--- What a list of calls has left: at the bank's end, at each run's end, the file last put into each mailbox and not emptied by 011000,
--- and all that was issued, exchanged and arrived, the newest first
+-- What a list of calls has left: at the bank's end, at each run's end, the file last put into each mailbox and not
+-- emptied by 011000, and all that was issued, exchanged and arrived, the newest first
 pub record Course : Type 0 where
   pub bank : BankState
   pub runs : ℕ → Client
@@ -197,7 +199,12 @@ afterFrame reply now before request s =
     withBank now
     (withMailboxes (emptied request reply (s .mailboxes))
     (withExchanged
-    (record { request = request; reply = reply; clock = now .bank .clock; box = mailboxOf before (subscriber (readRequest request)) }
+    (record {
+      request = request;
+      reply = reply;
+      clock = now .bank .clock;
+      box = mailboxOf before (subscriber (readRequest request));
+    }
     ∷ s .exchanged) s))
 
 -- a file put into mailbox m
@@ -208,7 +215,12 @@ afterFile k m file s =
 -- the requests issued, with the one of n bytes that a call of run i issues
 abbrev pub issuedBy : Answer → ℕ → ClientCall → Course → List Issue
 issuedBy (answer.Request n) i k s =
-    record { run = i; frame = take n (k .request); file = heldOf (k .run) (k .file); box = mailboxOf (s .bank) (k .run .subscriber) }
+    record {
+      run = i;
+      frame = take n (k .request);
+      file = heldOf (k .run) (k .file);
+      box = mailboxOf (s .bank) (k .run .subscriber);
+    }
     ∷ s .issued
 issuedBy answer.Ignored i k s = s .issued
 issuedBy (answer.Closed w) i k s = s .issued

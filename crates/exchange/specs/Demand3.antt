@@ -34,7 +34,18 @@ use Rattle.exchange.specs.Course.{
   heldOf,
 }
 use Rattle.exchange.specs.Lists.{AtMostOne, NoDup}
-use Rattle.exchange.specs.Terms.{IssuedBy, Books, Booked, Opened, Order, InBook, OrderOf, Accepted, AllInTurn, Settled}
+use Rattle.exchange.specs.Terms.{
+  IssuedBy,
+  Books,
+  Booked,
+  Opened,
+  Order,
+  InBook,
+  OrderOf,
+  Accepted,
+  AllInTurn,
+  Settled,
+}
 
 -- ---- THE PREMISES
 
@@ -43,13 +54,14 @@ unfoldable pub isSubscribers : List ℕ → Bool
 isSubscribers frame = isRequestForm (form (readRequest frame)) && leb 1 (subscriber (readRequest frame)) && leb
     (subscriber (readRequest frame)) subscribers
 
--- "Each call gets state, stores, payload and file buffer as the last call not given a number left them at its end (the bank, or that
--- client run)"
+-- "Each call gets state, stores, payload and file buffer as the last call not given a number left them at its end (the
+-- bank, or that client run)"
 abbrev pub Left : ℕ → Client → Lent → Course → Type 0
 Left i c l s = (c ≡ s .runs i) × (l .payload ≡ s .payloads i) × (l .file ≡ s .files i)
 
--- "A request that demand 3 names is a copy of one issued earlier in the list; a reply is a copy of one the bank gave earlier for such a
--- copy": each frame under a subscriber's number, and each reply that reaches a run. A begin brings its own payload and file buffer
+-- "A request that demand 3 names is a copy of one issued earlier in the list; a reply is a copy of one the bank gave
+-- earlier for such a copy": each frame under a subscriber's number, and each reply that reaches a run. A begin brings
+-- its own payload and file buffer
 abbrev pub Premise : Call → Course → Type 0
 Premise (frameArrives w a) s = (w ≡ s .bank) × (isSubscribers (a .frame) ≡ true → (i : ℕ) × IssuedBy i (a .frame) s)
 Premise (filePut b mailboxes m file) s = (b ≡ s .bank .bank) × (mailboxes ≡ s .bank .mailboxes)
@@ -90,14 +102,16 @@ pub record Outcome (s : Course) : Type 0 where
   -- "a fetched file is the mailbox's file at its transaction's opening"
   pub fetched : (i : ℕ) → s .runs i .stage ≡ stage.Ended Fetched → (e : Exchange) × Opened forms.DownloadOpened s i e
       × (subscriber (readRequest (e .request)) ≡ s .runs i .subscriber) × (heldOf (s .runs i) (s .files i) ≡ e .box)
-  -- "The bank's mailbox holds exactly the file last put in by a call given no number, until a receipt of its subscriber is answered
-  -- 011000, which alone empties it"
+  -- "The bank's mailbox holds exactly the file last put in by a call given no number, until a receipt of its subscriber
+  -- is answered 011000, which alone empties it"
   pub mailbox : (m : ℕ) → 1 ≤ m → m ≤ subscribers → mailboxOf (s .bank) m ≡ s .mailboxes m
-  -- "a mailbox is emptied only after its client held the whole": "as it issued that receipt, its file was the mailbox's", a run of the
-  -- mailbox's subscriber; and it is the mailbox's file still as the bank answers
-  pub emptied : (e : Exchange) → In e (s .exchanged) → returnCode (readReply (e .reply)) ≡ codeField code.DownloadPostprocessDone →
+  -- "a mailbox is emptied only after its client held the whole": "as it issued that receipt, its file was the
+  -- mailbox's", a run of the mailbox's subscriber; and it is the mailbox's file still as the bank answers
+  pub emptied : (e : Exchange) → In e (s .exchanged) →
+      returnCode (readReply (e .reply)) ≡ codeField code.DownloadPostprocessDone →
       (form (readRequest (e .request)) ≡ forms.Receipt)
-      × ((x : Issue) × In x (s .issued) × (x .frame ≡ e .request) × (s .runs (x .run) .subscriber ≡ subscriber (readRequest (e .request)))
+      × ((x : Issue) × In x (s .issued) × (x .frame ≡ e .request)
+      × (s .runs (x .run) .subscriber ≡ subscriber (readRequest (e .request)))
       × (x .file ≡ x .box) × (x .file ≡ e .box))
 
 -- "an order in turn closes as lodged or fetched"

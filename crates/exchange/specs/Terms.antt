@@ -1,4 +1,5 @@
--- The terms of demand 3, as document 01's paragraph behind it fixes them: copies, booked, an order, in turn, an idle hour.
+-- The terms of demand 3, as document 01's paragraph behind it fixes them: copies, booked, an order, in turn, an idle
+-- hour.
 use Prim.Native.Nat.{ℕ, _+_, _<_, _≤_}
 use mathlib.Core.Path.{_≡_}
 use mathlib.Core.Logic.{_⊎_}
@@ -44,7 +45,8 @@ IssuedBy i frame s = (x : Issue) × In x (s .issued) × (x .run ≡ i) × (x .fr
 abbrev pub Received : ℕ → Exchange → Course → Type 0
 Received i e s = In e (s .exchanged) × IssuedBy i (e .request) s
 
--- the opening of the run's transaction: a request of the run, answered in the opening's form with 000000 and the run's transaction ID
+-- the opening of the run's transaction: a request of the run, answered in the opening's form with 000000 and the run's
+-- transaction ID
 pub record Opened (answer : Form) (s : Course) (i : ℕ) (e : Exchange) : Type 0 where
   pub received : Received i e s
   pub answered : form (readReply (e .reply)) ≡ answer
@@ -92,7 +94,8 @@ pub record OrderOf (s : Course) (i : ℕ) (o : Order) : Type 0 where
 
 -- "An idle hour is over 3,600 on the clock from the arrival of one of the order's requests to that of the next"
 abbrev pub NoIdleHour : ℕ → ℕ → Course → Type 0
-NoIdleHour i clock s = ((e : Exchange) × Received i e s × (clock ≤ e .clock + idleLimit)) ⊎ ((e : Exchange) → Received i e s → ⊥)
+NoIdleHour i clock s =
+    ((e : Exchange) × Received i e s × (clock ≤ e .clock + idleLimit)) ⊎ ((e : Exchange) → Received i e s → ⊥)
 
 -- what "in turn" asks of a call given no number
 abbrev pub Turn : ℕ → Call → Course → Type 0
@@ -104,8 +107,8 @@ Turn i (begins j c params l) s = Unit {0}
 Turn i (replyArrives j c reply l) s = j ≡ i → (a : Arrival) → In a (s .arrived) → a .run ≡ i → a .reply ≡ reply → ⊥
 Turn i (noReply j c l) s = j ≡ i → ⊥
 
--- "whose messages each arrive once, in turn": "calls given a number left out, the run's only calls are begin and the arrivals of these
--- replies"
+-- "whose messages each arrive once, in turn": "calls given a number left out, the run's only calls are begin and the
+-- arrivals of these replies"
 abbrev pub InTurn : ℕ → Call → Course → Type 0
 InTurn i k s = callNumber k ≡ 0 → Turn i k s
 
@@ -114,7 +117,8 @@ abbrev pub Accepted : ℕ → Course → Type 0
 Accepted i s = (e : Exchange) × Received i e s × ((form (readReply (e .reply)) ≡ forms.UploadOpened)
     ⊎ (form (readReply (e .reply)) ≡ forms.DownloadOpened)) × (returnCode (readReply (e .reply)) ≡ codeField code.Ok)
 
--- "its subscriber having nothing else open meanwhile": from the acceptance of its opening on, while the run is not ended
+-- "its subscriber having nothing else open meanwhile": from the acceptance of its opening on, while the run is not
+-- ended
 abbrev pub Alone : ℕ → Course → Type 0
 Alone i s = Accepted i s → s .runs i .stage ≡ stage.Running → openCountOf (s .runs i .subscriber) (s .bank .bank) ≤ 1
 
@@ -124,5 +128,7 @@ AllInTurn i (k ∷ ks) s = Alone i s × InTurn i k s × AllInTurn i ks (exec k s
 
 -- "once none of its messages is under way"
 pub record Settled (s : Course) (i : ℕ) : Type 0 where
-  pub requests : (x : Issue) → In x (s .issued) → x .run ≡ i → (e : Exchange) × In e (s .exchanged) × (e .request ≡ x .frame)
-  pub replies : (e : Exchange) → Received i e s → (a : Arrival) × In a (s .arrived) × (a .run ≡ i) × (a .reply ≡ e .reply)
+  pub requests : (x : Issue) → In x (s .issued) → x .run ≡ i →
+      (e : Exchange) × In e (s .exchanged) × (e .request ≡ x .frame)
+  pub replies : (e : Exchange) → Received i e s →
+      (a : Arrival) × In a (s .arrived) × (a .run ≡ i) × (a .reply ≡ e .reply)

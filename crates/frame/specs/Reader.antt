@@ -16,7 +16,8 @@ fieldsOf r = record { tags = presentTags r; high = eachFrom highOf 0 r; low = ea
 
 -- "Each field stands once, tags rising, nothing behind", at most 1,024 bytes; else no fields
 unfoldable pub parse : List ℕ → Fields
-parse s = cond (leb (length s) frameLimit && eqb (length (behind tagCount 0 s)) 0) (fieldsOf (contents tagCount 0 s)) noFields
+parse s = cond (leb (length s) frameLimit && eqb (length (behind tagCount 0 s)) 0)
+    (fieldsOf (contents tagCount 0 s)) noFields
 
 -- what a frame of the forms k says; no fields where it is of none of them
 abbrev pub readAs : (Form → Bool) → List ℕ → Fields

@@ -1,4 +1,5 @@
--- Document 01, "The frame": "A frame is a row of fields". The row holds a content for each tag from 0 on, [] where the tag is absent.
+-- Document 01, "The frame": "A frame is a row of fields". The row holds a content for each tag from 0 on, [] where
+-- the tag is absent.
 use Prim.Native.Nat.{ℕ, zero, suc, _+_, _-_, _*_, _/_, _%_, _^_, _≤_, _<_}
 use mathlib.Core.List.{List, [], _∷_, _++_}
 use mathlib.Core.Bool.{Bool, true, cond, not, _&&_, _||_}
@@ -28,7 +29,8 @@ listed t c = isValue (valuesOf t) c
 
 -- c can be the content of a field with tag t: "1 or more" bytes, as many as the table says, in its value list
 unfoldable pub wellFormed : ℕ → List ℕ → Bool
-wellFormed t c = leb (length c) frameLimit && not (eqb (length c) 0) && (eqb (width t) 0 || eqb (length c) (width t)) && listed t c
+wellFormed t c = leb (length c) frameLimit && not (eqb (length c) 0)
+    && (eqb (width t) 0 || eqb (length c) (width t)) && listed t c
 
 -- how many bytes the field at the front says that it takes
 abbrev pub announced : List ℕ → ℕ
@@ -36,7 +38,8 @@ announced s = 3 + getD s 1 0 * 256 + getD s 2 0
 
 -- a field with tag t stands whole at the front of s
 unfoldable pub stands : ℕ → List ℕ → Bool
-stands t s = leb 3 (length s) && eqb (getD s 0 0) t && leb (announced s) (length s) && wellFormed t (take (announced s - 3) (drop 3 s))
+stands t s = leb 3 (length s) && eqb (getD s 0 0) t && leb (announced s) (length s)
+    && wellFormed t (take (announced s - 3) (drop 3 s))
 
 -- how many bytes the field t takes at the front of s; 0 where no such field stands there
 unfoldable pub fieldSize : ℕ → List ℕ → ℕ
@@ -49,12 +52,14 @@ NoneStands t u s = (v : ℕ) → t ≤ v → v < u → fieldSize v s ≡ 0
 unfoldable pub content : ℕ → List ℕ → List ℕ
 content t s = take (fieldSize t s - 3) (drop 3 s)
 
--- "Each field stands once, tags rising": the contents of the k tags from t on, each looked for behind the field before it
+-- "Each field stands once, tags rising": the contents of the k tags from t on, each looked for behind the field
+-- before it
 unfoldable pub contents : ℕ → ℕ → List ℕ → List (List ℕ)
 contents zero t s = []
 contents (suc k) t s = content t s ∷ contents k (t + 1) (drop (fieldSize t s) s)
 
--- "Reading goes on with the rest of the frame, from where the last field ended": what stands behind the k tags from t on
+-- "Reading goes on with the rest of the frame, from where the last field ended": what stands behind the k tags from t
+-- on
 unfoldable pub behind : ℕ → ℕ → List ℕ → List ℕ
 behind zero t s = s
 behind (suc k) t s = behind k (t + 1) (drop (fieldSize t s) s)

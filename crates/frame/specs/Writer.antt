@@ -52,7 +52,8 @@ formLength x n = frameLength (tagsOf x) n
 unfoldable pub dataWhole : ℕ → ℕ → ℕ → Bool
 dataWhole t n m = not (eqb t dataTag) || eqb n m
 
--- the content c of tag t, which stands or not, reads as its number, the data d is whole, and a field that stands is well-formed
+-- the content c of tag t, which stands or not, reads as its number, the data d is whole, and a field that stands is
+-- well-formed
 abbrev pub contentFits : ℕ → Bool → List ℕ → ℕ → ℕ → List ℕ → Bool
 contentFits t stands c hi lo d =
     eqb (highOf t c) hi && eqb (lowOf t c) lo && dataWhole t (length c) (length d) && (not stands || wellFormed t c)

@@ -37,7 +37,8 @@ pub enum Written {
 // The content of the field: the data, the last bytes of its number, or nothing.
 fn content<'a>(tags: u32, tag: usize, bytes: &'a [u8], data: &'a [u8]) -> &'a [u8]
     requires { ⌜ (tag < tagCount) × (length (now bytes) ≡ 16) ⌝ }
-    ensures { λ r. ⌜ ((hi lo : ℕ) → now (bytes .entry) ≡ bytesOf 8 hi ++ bytesOf 8 lo → lo < 2 ^ 64 → now r ≡ contentAt tags tag hi lo (now («data» .entry))) ⌝ }
+    ensures { λ r. ⌜ ((hi lo : ℕ) → now (bytes .entry) ≡ bytesOf 8 hi ++ bytesOf 8 lo → lo < 2 ^ 64 → now r
+        ≡ contentAt tags tag hi lo (now («data» .entry))) ⌝ }
 {
     if has(tags, tag) {
         if tag == DATA {
@@ -134,7 +135,8 @@ fn number_listed(tag: usize, high: u64, low: u64) -> bool
 // Whether a field that is not the data can be written.
 fn number_writable(tag: usize, high: u64, low: u64, data: &[u8]) -> bool
     requires { ⌜ (tag < tagCount) × (tag ≡ dataTag → ⊥) ⌝ }
-    ensures { λ r. ⌜ r ≡ contentFits tag true (bytesOf (width tag) (high * 2 ^ 64 + low)) high low (now («data» .entry)) ⌝ }
+    ensures { λ r. ⌜ r ≡ contentFits tag true (bytesOf (width tag) (high * 2 ^ 64 + low)) high low
+        (now («data» .entry)) ⌝ }
 {
     if !fits(width(tag), high, low) {
         return false;
@@ -145,7 +147,8 @@ fn number_writable(tag: usize, high: u64, low: u64, data: &[u8]) -> bool
 // Whether the field can be written: its content reads as its number, and is well-formed where the tag stands.
 fn field_writable(tags: u32, tag: usize, high: u64, low: u64, data: &[u8]) -> bool
     requires { ⌜ tag < tagCount ⌝ }
-    ensures { λ r. ⌜ r ≡ contentFits tag (has tags tag) (contentAt tags tag high low (now («data» .entry))) high low (now («data» .entry)) ⌝ }
+    ensures { λ r. ⌜ r ≡ contentFits tag (has tags tag) (contentAt tags tag high low (now («data» .entry))) high low
+        (now («data» .entry)) ⌝ }
 {
     if !has(tags, tag) {
         return absent_writable(tag, high, low, data);
@@ -173,7 +176,8 @@ fn piece_length(tags: u32, tag: usize, data: &[u8]) -> usize
 
 // How many bytes the frame has; over the limit where a field cannot be written.
 fn frame_length(fields: Fields, data: &[u8]) -> usize
-    ensures { λ r. ⌜ r ≡ cond (fieldsWritable tagCount 0 fields (now («data» .entry))) (length (frameOf fields (now («data» .entry)))) (frameLimit + 1) ⌝ }
+    ensures { λ r. ⌜ r ≡ cond (fieldsWritable tagCount 0 fields (now («data» .entry)))
+        (length (frameOf fields (now («data» .entry)))) (frameLimit + 1) ⌝ }
 {
     let mut length = 0;
     let mut tag = 0;
@@ -189,8 +193,11 @@ fn frame_length(fields: Fields, data: &[u8]) -> usize
 
 // Writes the field into out from a place on; the place behind it.
 fn put(out: &mut [u8], at: usize, tags: u32, tag: usize, high: u64, low: u64, data: &[u8]) -> usize
-    requires { ⌜ (tag < tagCount) × (length (contentAt tags tag high low (now «data»)) < 65536) × (at + length (piece tag (contentAt tags tag high low (now «data»))) ≤ length (now out)) ⌝ }
-    ensures { λ r. ⌜ (r ≡ at + length (piece tag (contentAt tags tag high low (now («data» .entry))))) × (now (out .exit) ≡ overwrite (now (out .entry)) at (piece tag (contentAt tags tag high low (now («data» .entry))))) ⌝ }
+    requires { ⌜ (tag < tagCount) × (length (contentAt tags tag high low (now «data»)) < 65536)
+        × (at + length (piece tag (contentAt tags tag high low (now «data»))) ≤ length (now out)) ⌝ }
+    ensures { λ r. ⌜ (r ≡ at + length (piece tag (contentAt tags tag high low (now («data» .entry)))))
+        × (now (out .exit) ≡ overwrite (now (out .entry)) at
+        (piece tag (contentAt tags tag high low (now («data» .entry))))) ⌝ }
 {
     if !has(tags, tag) {
         return at;

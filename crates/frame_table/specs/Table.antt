@@ -10,7 +10,8 @@ use Rattle.frame_table.specs.declared.table.Values.{Values}
 use Rattle.frame_table.specs.declared.table.Values.the-variants.{Any, Range, Text}
 use Rattle.frame_table.specs.declared.table.Field.{Field}
 use Rattle.frame_table.specs.declared.table.RequestForm.{RequestForm}
-use Rattle.frame_table.specs.declared.table.RequestForm.the-variants.{UploadOpening, DownloadOpening, UploadTransfer, DownloadTransfer, Receipt}
+use Rattle.frame_table.specs.declared.table.RequestForm.the-variants.{UploadOpening, DownloadOpening}
+use Rattle.frame_table.specs.declared.table.RequestForm.the-variants.{UploadTransfer, DownloadTransfer, Receipt}
 use Rattle.frame_table.specs.declared.table.ReplyForm.{ReplyForm}
 use Rattle.frame_table.specs.declared.table.ReplyForm.the-variants.{
   UploadOpened,
@@ -159,7 +160,8 @@ abbrev pub replyRow : ReplyForm → ℕ
 replyRow UploadOpened = tagSet (phaseTag ∷ exchangeTag ∷ transactionTag ∷ returnCodeTag ∷ orderNumberTag ∷ [])
 -- "download opened 01 03 07 08 09 0A 0B 0D"
 replyRow DownloadOpened =
-    tagSet (phaseTag ∷ exchangeTag ∷ segmentsTag ∷ transactionTag ∷ segmentTag ∷ lastMarkTag ∷ dataTag ∷ returnCodeTag ∷ [])
+    tagSet (phaseTag ∷ exchangeTag ∷ segmentsTag ∷ transactionTag ∷ segmentTag ∷ lastMarkTag ∷ dataTag
+    ∷ returnCodeTag ∷ [])
 -- "upload segment taken and recovery point 01 03 08 09 0D"
 replyRow SegmentTaken = tagSet (phaseTag ∷ exchangeTag ∷ transactionTag ∷ segmentTag ∷ returnCodeTag ∷ [])
 -- "download segment 01 03 08 09 0A 0B 0D"
@@ -187,7 +189,8 @@ hasPhase (Reply x) p = true
 -- "these forms only"
 abbrev pub formTable : List Form
 formTable =
-    Request UploadOpening ∷ Request DownloadOpening ∷ Request UploadTransfer ∷ Request DownloadTransfer ∷ Request Receipt
+    Request UploadOpening ∷ Request DownloadOpening ∷ Request UploadTransfer ∷ Request DownloadTransfer
+    ∷ Request Receipt
     ∷ Reply UploadOpened ∷ Reply DownloadOpened ∷ Reply SegmentTaken ∷ Reply DownloadSegment ∷ Reply ReceiptAnswered
     ∷ Reply Unreadable ∷ Reply Refusal ∷ []
 

@@ -19,8 +19,10 @@ ghost use mathlib.Core.Path.{_≡_};
 ghost use Prim.Native.Nat.{_<_};
 ghost use Rattle.frame_table.specs.Table.{tagCount, has};
 ghost use Rattle.frame_table.specs.Names.{noFields};
-ghost use Rattle.frame_table.specs.Names.{phase, subscriber, exchange, orderType, nonce, timestamp, segments, transaction, segment};
-ghost use Rattle.frame_table.specs.Names.{lastMark, receiptCode, returnCode, orderNumber, form, withTag, with, withWide, sameBits};
+ghost use Rattle.frame_table.specs.Names.{phase, subscriber, exchange, orderType, nonce, timestamp, segments};
+ghost use Rattle.frame_table.specs.Names.{transaction, segment};
+ghost use Rattle.frame_table.specs.Names.{lastMark, receiptCode, returnCode, orderNumber, form, withTag, with};
+ghost use Rattle.frame_table.specs.Names.{withWide, sameBits};
 
 // 16 bytes as two numbers: a transaction ID or a nonce.
 pub struct Bits128 {
@@ -28,7 +30,8 @@ pub struct Bits128 {
     pub low: u64,
 }
 
-// Which tags stand (bit t for tag t), and their numbers, 64 bits high and 64 low; 0 where a tag is absent, and for the data.
+// Which tags stand (bit t for tag t), and their numbers, 64 bits high and 64 low; 0 where a tag is absent, and for
+// the data.
 pub struct Fields {
     pub tags: u32,
     pub high: [u64; TAG_COUNT],

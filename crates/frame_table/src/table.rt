@@ -155,7 +155,8 @@ const UNREADABLE: u32 = 1 << RETURN_CODE;
 
 const REFUSAL: u32 = 1 << PHASE | 1 << EXCHANGE | 1 << RETURN_CODE;
 
-// The row of the tag: the table of fields. As a match it is looked up in place; an array would be built anew at each use.
+// The row of the tag: the table of fields. As a match it is looked up in place; an array would be built anew at each
+// use.
 fn field_row(tag: usize) -> Field
     requires { ⌜ tag < tagCount ⌝ }
     ensures { λ r. ⌜ r ≡ fieldRow tag ⌝ }

@@ -1,4 +1,5 @@
--- "The marker's print": the calls of the records of an input, one after the other, and their lines. "the lent ID bytes are 0"
+-- "The marker's print": the calls of the records of an input, one after the other, and their lines. "the lent ID
+-- bytes are 0"
 use Prim.Native.Nat.{ℕ, zero, suc, _+_, _/_}
 use mathlib.Core.Bool.{Bool, cond, _&&_}
 use mathlib.Core.List.{List, [], _++_}

@@ -47,7 +47,8 @@ startedWith m buffer = markerState 0 [] m buffer
 abbrev pub freshMemory : Lent
 freshMemory = lent (replicate stateSize 0) (replicate storeBytes 0) (replicate storeBytes 0)
 
--- the calls of the whole records of an input, one after the other: "Fresh means clock 0, .. and every lent byte kept between calls 0"
+-- the calls of the whole records of an input, one after the other: "Fresh means clock 0, .. and every lent byte kept
+-- between calls 0"
 unfoldable pub session : List ℕ → MarkerState
 session input = readOn (startedWith freshMemory (replicate replyRoom 0)) input
 

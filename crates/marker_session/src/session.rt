@@ -125,8 +125,8 @@ fn read_on(
     }
 }
 
-// Reads on to the end of the input. Nothing says that an input ends, so the reads are counted down from a number that no run
-// uses up.
+// Reads on to the end of the input. Nothing says that an input ends, so the reads are counted down from a number that
+// no run uses up.
 fn read_all(
     input: &mut [u8],
     output: &mut [u8],

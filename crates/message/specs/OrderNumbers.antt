@@ -1,4 +1,5 @@
--- "An upload's order number is that number in base 36 (0 to 9, A to Z), three characters, behind a letter counting A to Z"
+-- "An upload's order number is that number in base 36 (0 to 9, A to Z), three characters, behind a letter counting A
+-- to Z"
 use Prim.Native.Nat.{ℕ, _+_, _*_, _/_, _%_}
 use mathlib.Core.Bool.{cond}
 use lib.Dec.{ltb}

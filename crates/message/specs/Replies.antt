@@ -2,7 +2,8 @@
 use Prim.Native.Nat.{ℕ}
 use Rattle.frame_table.specs.declared.fields.Fields.{Fields}
 use Rattle.frame_table.specs.declared.fields.Bits128.{Bits128}
-use Rattle.frame_table.specs.Table.{phaseTag, exchangeTag, segmentsTag, transactionTag, segmentTag, lastMarkTag, dataTag, returnCodeTag, orderNumberTag}
+use Rattle.frame_table.specs.Table.{phaseTag, exchangeTag, segmentsTag, transactionTag, segmentTag, lastMarkTag}
+use Rattle.frame_table.specs.Table.{dataTag, returnCodeTag, orderNumberTag}
 use Rattle.frame_table.specs.Names.{noFields}
 use Rattle.frame_table.specs.Names.{with, withWide}
 use Rattle.message.specs.declared.codes.ReturnCode.{ReturnCode}
@@ -21,7 +22,8 @@ withCode c f = with returnCodeTag (codeField c) f
 -- "upload opened 01 03 08 0D 0E"
 unfoldable pub uploadOpened : ℕ → Bits128 → ℕ → Fields
 uploadOpened exchange transaction orderNumber =
-    with orderNumberTag orderNumber (withCode code.Ok (withWide transactionTag transaction (replyOf initialisationPhase exchange)))
+    with orderNumberTag orderNumber
+    (withCode code.Ok (withWide transactionTag transaction (replyOf initialisationPhase exchange)))
 
 -- a segment's fields 09 0A 0B behind the transaction ID; the data stands beside the fields
 abbrev pub withSegment : ℕ → ℕ → Fields → Fields
@@ -31,7 +33,8 @@ withSegment segment lastMark f = with dataTag 0 (with lastMarkTag lastMark (with
 unfoldable pub downloadOpened : ℕ → ℕ → Bits128 → ℕ → Fields
 downloadOpened exchange segments transaction lastMark =
     withCode code.Ok
-    (withSegment 1 lastMark (withWide transactionTag transaction (with segmentsTag segments (replyOf initialisationPhase exchange))))
+    (withSegment 1 lastMark
+    (withWide transactionTag transaction (with segmentsTag segments (replyOf initialisationPhase exchange))))
 
 -- 01 03 08 09 0D
 abbrev pub pointOf : ℕ → ℕ → Bits128 → ℕ → ReturnCode → Fields
@@ -49,11 +52,13 @@ recoveryPoint phase exchange transaction segment = pointOf phase exchange transa
 -- "download segment 01 03 08 09 0A 0B 0D"
 unfoldable pub downloadSegment : ℕ → Bits128 → ℕ → ℕ → Fields
 downloadSegment exchange transaction segment lastMark =
-    withCode code.Ok (withSegment segment lastMark (withWide transactionTag transaction (replyOf transferPhase exchange)))
+    withCode code.Ok (withSegment segment lastMark
+    (withWide transactionTag transaction (replyOf transferPhase exchange)))
 
 -- "receipt answered 01 03 08 0D"
 unfoldable pub receiptAnswered : ℕ → Bits128 → ReturnCode → Fields
-receiptAnswered exchange transaction c = withCode c (withWide transactionTag transaction (replyOf receiptPhase exchange))
+receiptAnswered exchange transaction c = withCode c
+    (withWide transactionTag transaction (replyOf receiptPhase exchange))
 
 -- "unreadable request 0D"
 unfoldable pub unreadable : Fields

@@ -2,23 +2,27 @@
 use Prim.Native.Nat.{ℕ}
 use Rattle.frame_table.specs.declared.fields.Fields.{Fields}
 use Rattle.frame_table.specs.declared.fields.Bits128.{Bits128}
-use Rattle.frame_table.specs.Table.{phaseTag, subscriberTag, exchangeTag, orderTypeTag, nonceTag, timestampTag, segmentsTag, transactionTag, segmentTag, lastMarkTag, dataTag, receiptCodeTag}
+use Rattle.frame_table.specs.Table.{phaseTag, subscriberTag, exchangeTag, orderTypeTag, nonceTag, timestampTag}
+use Rattle.frame_table.specs.Table.{segmentsTag, transactionTag, segmentTag, lastMarkTag, dataTag, receiptCodeTag}
 use Rattle.frame_table.specs.Names.{noFields}
 use Rattle.frame_table.specs.Names.{with, withWide}
 use Rattle.message.specs.Limits.{initialisationPhase, transferPhase, receiptPhase, ful, fdl}
 
 -- phase, subscriber and exchange number stand in every request
 abbrev pub requestOf : ℕ → ℕ → ℕ → Fields
-requestOf phase subscriber exchange = with exchangeTag exchange (with subscriberTag subscriber (with phaseTag phase noFields))
+requestOf phase subscriber exchange = with exchangeTag exchange
+    (with subscriberTag subscriber (with phaseTag phase noFields))
 
 -- an opening's fields 01 to 06
 abbrev pub openingOf : ℕ → ℕ → ℕ → Bits128 → ℕ → Fields
 openingOf subscriber exchange orderType nonce timestamp =
-    with timestampTag timestamp (withWide nonceTag nonce (with orderTypeTag orderType (requestOf initialisationPhase subscriber exchange)))
+    with timestampTag timestamp
+    (withWide nonceTag nonce (with orderTypeTag orderType (requestOf initialisationPhase subscriber exchange)))
 
 -- "upload opening (phase 1): 01 to 07"
 unfoldable pub uploadOpening : ℕ → ℕ → Bits128 → ℕ → ℕ → Fields
-uploadOpening subscriber exchange nonce timestamp segments = with segmentsTag segments (openingOf subscriber exchange ful nonce timestamp)
+uploadOpening subscriber exchange nonce timestamp segments = with segmentsTag segments
+    (openingOf subscriber exchange ful nonce timestamp)
 
 -- "download opening (phase 1): 01 to 06"
 unfoldable pub downloadOpening : ℕ → ℕ → Bits128 → ℕ → Fields

@@ -1,5 +1,5 @@
-// The messages of the practice bank: return codes, order numbers, the numbers that both ends share, and each request and reply as the
-// fields of its form.
+// The messages of the practice bank: return codes, order numbers, the numbers that both ends share, and each request
+// and reply as the fields of its form.
 pub mod codes;
 pub mod limits;
 pub mod order_numbers;

@@ -16,7 +16,9 @@ use frame_table::table::SEGMENT;
 use frame_table::table::SEGMENTS;
 use frame_table::table::TRANSACTION;
 ghost use mathlib.Core.Path.{_≡_};
-ghost use Rattle.message.specs.Replies.{replyOf, withCode, uploadOpened, withSegment, downloadOpened, pointOf, segmentTaken, recoveryPoint, downloadSegment, receiptAnswered, unreadable, refusal};
+ghost use Rattle.message.specs.Replies.{replyOf, withCode, uploadOpened, withSegment, downloadOpened, pointOf};
+ghost use Rattle.message.specs.Replies.{segmentTaken, recoveryPoint, downloadSegment, receiptAnswered};
+ghost use Rattle.message.specs.Replies.{unreadable, refusal};
 
 // 01 03, which stand in every reply but the one to an unreadable request.
 fn reply_of(phase: u64, exchange: u64) -> Fields

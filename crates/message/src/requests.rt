@@ -19,7 +19,8 @@ use frame_table::table::SUBSCRIBER;
 use frame_table::table::TIMESTAMP;
 use frame_table::table::TRANSACTION;
 ghost use mathlib.Core.Path.{_≡_};
-ghost use Rattle.message.specs.Requests.{requestOf, openingOf, uploadOpening, downloadOpening, transferOf, uploadTransfer, downloadTransfer, receipt};
+ghost use Rattle.message.specs.Requests.{requestOf, openingOf, uploadOpening, downloadOpening, transferOf};
+ghost use Rattle.message.specs.Requests.{uploadTransfer, downloadTransfer, receipt};
 
 // 01 02 03, which stand in every request.
 fn request_of(phase: u64, subscriber: u64, exchange: u64) -> Fields

@@ -46,7 +46,8 @@ pub fn behind(s: &[u8], at: usize) -> &[u8]
     &s[at..]
 }
 
-// What stands behind the first k pieces of this size; nothing where there are fewer. The product is made only where it is within the bytes.
+// What stands behind the first k pieces of this size; nothing where there are fewer. The product is made only where
+// it is within the bytes.
 pub fn behind_pieces(s: &[u8], k: u64, size: u64) -> &[u8]
     requires { ⌜ 0 < size ⌝ }
     ensures { λ r. ⌜ now r ≡ drop (k * size) (now (s .entry)) ⌝ }

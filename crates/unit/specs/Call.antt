@@ -117,7 +117,8 @@ begins NoReply = false
 abbrev pub paramsOf : Direction → List ℕ → RunParameters
 paramsOf way r = parametersOf way (subscriberOf r) (firstOf r)
 
--- "begin, as an upload", "begin, as a download", "reply arrived", "no reply": a client's call by the event of the record r
+-- "begin, as an upload", "begin, as a download", "reply arrived", "no reply": a client's call by the event of the
+-- record r
 abbrev pub eventCall : Event → Client → List ℕ → Lent → ClientCall
 eventCall Upload c r l = beginCall c (paramsOf direction.Upload r) l
 eventCall Download c r l = beginCall c (paramsOf direction.Download r) l
@@ -128,7 +129,14 @@ eventCall NoReply c r l = noReplyCall c l
 unfoldable pub roomCall : Event → Client → ℕ → List ℕ → Lent → ClientCall
 roomCall e c i r l =
     let o = eventCall e c r (lentOf (l .time) (l .nonce) (l .payload) (partAt (l .file) i) (l .request)) in
-    record { run = o .run; file = withPart (l .file) i (o .file); request = o .request; answer = o .answer; number = o .number }
+    record {
+      run = o .run;
+      file = withPart (l .file) i (o .file);
+      request = o .request;
+      answer = o .answer;
+      number =
+          o .number;
+    }
 
 -- "A begin that is given a number leaves the run's payload and nonce bytes as they were; one that is not keeps them"
 abbrev pub keeps : Bool → client.Answer → Bool

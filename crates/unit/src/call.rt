@@ -39,11 +39,13 @@ ghost use Rattle.unit.specs.Records.{headOf, timeOf, nonceOf, runOf, isR
 ghost use Rattle.unit.specs.declared.state.UnitState.{UnitState};
 ghost use Rattle.unit.specs.State.{roomsBytes, memory, stateOf};
 ghost use Rattle.unit.specs.Call.{Ready, roomsRight, afterCall, unitCallOf, frameAnswer, fileAnswer, runAnswer};
-ghost use Rattle.unit.specs.Call.{frameStep, fileStep, indexOf, begins, paramsOf, eventCall, roomCall, keeps, nextRun};
+ghost use Rattle.unit.specs.Call.{frameStep, fileStep, indexOf, begins, paramsOf, eventCall, roomCall, keeps};
+ghost use Rattle.unit.specs.Call.{nextRun};
 ghost use Rattle.unit.specs.Call.{keptPayloads, runCallOf, runCall, runStep, unitCall};
 
-// What a call answers: the length of the reply in the buffer, the file is in the mailbox, the length of the request, the run
-// stays, its closing word with its order number, or the number that the call was given. A record that is no call has none.
+// What a call answers: the length of the reply in the buffer, the file is in the mailbox, the length of the request,
+// the run stays, its closing word with its order number, or the number that the call was given. A record that is no
+// call has none.
 pub enum Answer {
     Frame(usize),
     Put,
@@ -128,7 +130,8 @@ fn frame_call(
     buffer: &mut [u8],
 ) -> Answer
     ensures { λ r. ⌜ ((u : UnitState) (p f : List ℕ)
-        → afterCall u (memory (lent (now (rows .exit)) (now (orders .exit)) (now (mailboxes .exit))) p f (now (buffer .exit))) r
+        → afterCall u (memory (lent (now (rows .exit)) (now (orders .exit)) (now (mailboxes .exit))) p f
+        (now (buffer .exit))) r
         ≡ frameStep (stateOf u
         (memory (lent (now (rows .entry)) (now (orders .entry)) (now (mailboxes .entry))) p f (now (buffer .entry))))
         (now («record» .entry))) ⌝ }
@@ -218,7 +221,8 @@ fn begin(
 ) -> Outcome
     ensures { λ r. ⌜ callOf r (now (file .exit)) (now (buffer .exit))
         ≡ beginCall client (paramsOf direction (now («record» .entry)))
-        (lentOf (timeOf (now («record» .entry))) nonce (now (payload .entry)) (now (file .entry)) (now (buffer .entry))) ⌝ }
+        (lentOf (timeOf (now («record» .entry))) nonce (now (payload .entry)) (now (file .entry))
+        (now (buffer .entry))) ⌝ }
 {
     let params = params_of(direction, record);
     client.begin(params, time_at(record, 2), nonce, payload, file, buffer)
@@ -236,7 +240,8 @@ fn event_call(
 ) -> Outcome
     ensures { λ r. ⌜ callOf r (now (file .exit)) (now (buffer .exit))
         ≡ eventCall event client (now («record» .entry))
-        (lentOf (timeOf (now («record» .entry))) nonce (now (payload .entry)) (now (file .entry)) (now (buffer .entry))) ⌝ }
+        (lentOf (timeOf (now («record» .entry))) nonce (now (payload .entry)) (now (file .entry))
+        (now (buffer .entry))) ⌝ }
 {
     let time = time_at(record, 2);
     let body = body_of(Kind::Run(event), record);
@@ -278,7 +283,8 @@ fn room_call(
     requires { ⌜ (i < runCount) × (length (now files) ≡ roomsBytes) ⌝ }
     ensures { λ r. ⌜ callOf r (now (files .exit)) (now (buffer .exit))
         ≡ roomCall event client i (now («record» .entry))
-        (lentOf (timeOf (now («record» .entry))) nonce (now (payload .entry)) (now (files .entry)) (now (buffer .entry))) ⌝ }
+        (lentOf (timeOf (now («record» .entry))) nonce (now (payload .entry)) (now (files .entry))
+        (now (buffer .entry))) ⌝ }
 {
     let from = i * FILE_BYTES;
     let end = from + FILE_BYTES;
@@ -326,7 +332,8 @@ fn next_run(kept: bool, run: Run, client: Client, nonce: [u8; NONCE_BYTES], payl
 
 // Keeps the payload of a begin in the room of run i.
 fn keep_payload(kept: bool, payloads: &mut [u8], i: usize, payload: &[u8])
-    requires { ⌜ (i < runCount) × (length (now payloads) ≡ roomsBytes) × (kept ≡ true → length (now payload) ≤ fileBytes) ⌝ }
+    requires { ⌜ (i < runCount) × (length (now payloads) ≡ roomsBytes)
+        × (kept ≡ true → length (now payload) ≤ fileBytes) ⌝ }
     ensures { λ _. ⌜ now (payloads .exit) ≡ keptPayloads kept (now (payloads .entry)) i (now (payload .entry)) ⌝ }
 {
     if kept {

@@ -6,15 +6,6 @@ use Rattle.bank_rows.proofs.Calls.{at-clock-laid, advanced-stored}
 use Rattle.bank_rows.proofs.clock.advance.Statement.{statement}
 use Rattle.bank_rows.proofs.clock.advance.Tie as tie
 
-clock-requires : tie.Need-clock-requires
-clock-requires c κs = search needs
-
-larger-requires : tie.Need-larger-requires
-larger-requires c κs = search needs
-
-set-to-requires : tie.Need-set-to-requires
-set-to-requires c κs = search needs
-
 drop-uploads-requires : tie.Need-drop-uploads-requires
 drop-uploads-requires c κs =
     let set = c .before .before .before .before in
@@ -24,12 +15,6 @@ drop-uploads-requires c κs =
           (set .before .before .larger .ensures ∙ ap (λ (n : ℕ). max n (a .time)) (set .before .before .before .clock .ensures)) _ (set .set-to .ensures),
       start .pre .1,
     )
-
-same-length : tie.Need-same-length
-same-length c = search needs
-
-same-length-2 : tie.Need-same-length-2
-same-length-2 c = search needs
 
 returns : tie.Need-returns
 returns c =
@@ -43,11 +28,5 @@ returns c =
 pub advance-spec : {M : Type 1} → statement M
 advance-spec =
     tie.close
-    (tie.spec
-    clock-requires
-    larger-requires
-    set-to-requires
-    drop-uploads-requires
-    same-length
-    same-length-2
-    returns)
+    (tie.spec (λ c κs. search needs) (λ c κs. search needs) (λ c κs. search needs) drop-uploads-requires
+    (λ c. search needs) (λ c. search needs) returns)

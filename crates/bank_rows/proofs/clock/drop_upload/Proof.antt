@@ -4,27 +4,6 @@ use borrow.Author.Needs.{needs}
 use Rattle.bank_rows.proofs.clock.drop_upload.Statement.{statement}
 use Rattle.bank_rows.proofs.clock.drop_upload.Tie as tie
 
-clock-requires : tie.Need-clock-requires
-clock-requires c κs = search needs
-
-is-idle-upload-requires : tie.Need-is-idle-upload-requires
-is-idle-upload-requires c κs = search needs
-
-no-place-requires : tie.Need-no-place-requires
-no-place-requires c κs = search needs
-
-set-place-requires : tie.Need-set-place-requires
-set-place-requires c κs = search needs
-
-zero-requires : tie.Need-zero-requires
-zero-requires c κs = search needs
-
-same-length : tie.Need-same-length
-same-length c = search needs
-
-same-length-2 : tie.Need-same-length-2
-same-length-2 c = search needs
-
 returns : tie.Need-returns
 returns c =
     let set = c .before .before .before .before .before .before in
@@ -34,9 +13,6 @@ returns c =
     dropped-idle (a .rows .now) (start .pre .0) (a .orders .now) (a .i) _ (if1 .before .before .before .clock .ensures)
     (if1 .before .is-idle-upload .ensures) (if1 .if1 .taken) _ _ _ (set .before .no-place .ensures) (set .set-place .ensures)
     (c .before .before .zero .ensures)
-
-same-length-3 : tie.Need-same-length-3
-same-length-3 c = search needs
 
 returns-2 : tie.Need-returns-2
 returns-2 c =
@@ -48,14 +24,5 @@ returns-2 c =
 pub drop-upload-spec : {M : Type 1} → statement M
 drop-upload-spec =
     tie.close
-    (tie.spec
-    clock-requires
-    is-idle-upload-requires
-    no-place-requires
-    set-place-requires
-    zero-requires
-    same-length
-    same-length-2
-    returns
-    same-length-3
-    returns-2)
+    (tie.spec (λ c κs. search needs) (λ c κs. search needs) (λ c κs. search needs) (λ c κs. search needs)
+    (λ c κs. search needs) (λ c. search needs) (λ c. search needs) returns (λ c. search needs) returns-2)

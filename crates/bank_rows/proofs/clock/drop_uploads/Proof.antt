@@ -36,12 +36,6 @@ drop-upload-requires c κs =
       c .before .before .loop-test .taken,
     )
 
-add-i : tie.Need-add-i Inv-loop μ-loop
-add-i c = search needs
-
-loop-less : tie.Need-loop-less Inv-loop μ-loop
-loop-less c = search needs
-
 loop-again : tie.Need-loop-again Inv-loop μ-loop
 loop-again c =
     let at = c .before .before .before .before .before .before .before .before in
@@ -70,14 +64,5 @@ returns c =
 pub drop-uploads-spec : {M : Type 1} → statement M
 drop-uploads-spec =
     tie.close
-    (tie.spec
-    Inv-loop
-    μ-loop
-    loop-holds
-    drop-upload-requires
-    add-i
-    loop-less
-    loop-again
-    same-length
-    same-length-2
-    returns)
+    (tie.spec Inv-loop μ-loop loop-holds drop-upload-requires (λ c. search needs) (λ c. search needs) loop-again
+    same-length same-length-2 returns)

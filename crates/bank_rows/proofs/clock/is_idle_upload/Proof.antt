@@ -11,9 +11,6 @@ use borrow.Author.Needs.{needs}
 use Rattle.bank_rows.proofs.clock.is_idle_upload.Statement.{statement}
 use Rattle.bank_rows.proofs.clock.is_idle_upload.Tie as tie
 
-is-open-at-requires : tie.Need-is-open-at-requires
-is-open-at-requires c κs = search needs
-
 returns : tie.Need-returns
 unfolding isIdle
 returns c =
@@ -21,24 +18,6 @@ returns c =
     let e : isOpen (placeAt (bankOf (a .rows .now)) (a .i) .used) ≡ false =
     sym (c .before .is-open-at .ensures) ∙ not-true _ (c .if1 .taken) in
     rw e
-
-mul-at : tie.Need-mul-at
-mul-at c = search needs
-
-add-at : tie.Need-add-at
-add-at c = search needs
-
-add-is-behind : tie.Need-add-is-behind
-add-is-behind c = search needs
-
-mul-is-behind : tie.Need-mul-is-behind
-mul-is-behind c = search needs
-
-shared-slice-read-is-behind : tie.Need-shared-slice-read-is-behind
-shared-slice-read-is-behind c = search needs
-
-is-behind-requires : tie.Need-is-behind-requires
-is-behind-requires c κs = search needs
 
 returns-2 : tie.Need-returns-2
 unfolding isIdle
@@ -52,13 +31,5 @@ returns-2 c =
 pub is-idle-upload-spec : {M : Type 1} → statement M
 is-idle-upload-spec =
     tie.close
-    (tie.spec
-    is-open-at-requires
-    returns
-    mul-at
-    add-at
-    add-is-behind
-    mul-is-behind
-    shared-slice-read-is-behind
-    is-behind-requires
-    returns-2)
+    (tie.spec (λ c κs. search needs) returns (λ c. search needs) (λ c. search needs) (λ c. search needs)
+    (λ c. search needs) (λ c. search needs) (λ c κs. search needs) returns-2)

@@ -4,9 +4,6 @@ use borrow.Author.Needs.{needs}
 use Rattle.bank_rows.proofs.clock.set_to.Statement.{statement}
 use Rattle.bank_rows.proofs.clock.set_to.Tie as tie
 
-set-clock-requires : tie.Need-set-clock-requires
-set-clock-requires c κs = search needs
-
 end-downloads-requires : tie.Need-end-downloads-requires
 end-downloads-requires c κs =
     let set = c .before .before .before in
@@ -20,9 +17,6 @@ forget-requires c κs =
     let start = set .before .before .before in
     ended-laid (start .args .rows .now) (start .pre) (start .args .clock) _ (set .set-clock .ensures) _ (end .end-downloads .ensures)
 
-same-length : tie.Need-same-length
-same-length c = search needs
-
 returns : tie.Need-returns
 returns c =
     let end = c .before .before .before .before .before .before in
@@ -33,5 +27,4 @@ returns c =
 
 pub set-to-spec : {M : Type 1} → statement M
 set-to-spec =
-    tie.close
-    (tie.spec set-clock-requires end-downloads-requires forget-requires same-length returns)
+    tie.close (tie.spec (λ c κs. search needs) end-downloads-requires forget-requires (λ c. search needs) returns)

@@ -11,12 +11,6 @@ use borrow.Author.Needs.{needs}
 use Rattle.bank_rows.proofs.counts.open_count.Statement.{statement}
 use Rattle.bank_rows.proofs.counts.open_count.Tie as tie
 
-open-uploads-requires : tie.Need-open-uploads-requires
-open-uploads-requires c κs = search needs
-
-download-count-requires : tie.Need-download-count-requires
-download-count-requires c κs = search needs
-
 add-result : tie.Need-add-result
 add-result c =
     let start = c .before .before .before in
@@ -33,4 +27,4 @@ returns c =
 
 pub open-count-spec : {M : Type 1} → statement M
 open-count-spec =
-    tie.close (tie.spec open-uploads-requires download-count-requires add-result returns)
+    tie.close (tie.spec (λ c κs. search needs) (λ c κs. search needs) add-result returns)

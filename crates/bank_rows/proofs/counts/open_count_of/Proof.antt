@@ -10,12 +10,6 @@ use borrow.Author.Needs.{needs}
 use Rattle.bank_rows.proofs.counts.open_count_of.Statement.{statement}
 use Rattle.bank_rows.proofs.counts.open_count_of.Tie as tie
 
-open-uploads-of-requires : tie.Need-open-uploads-of-requires
-open-uploads-of-requires c κs = search needs
-
-open-downloads-of-requires : tie.Need-open-downloads-of-requires
-open-downloads-of-requires c κs = search needs
-
 add-result : tie.Need-add-result
 add-result c =
     let start = c .before .before .before in
@@ -31,4 +25,4 @@ returns c = rw (c .before .open-uploads-of .ensures, c .open-downloads-of .ensur
 
 pub open-count-of-spec : {M : Type 1} → statement M
 open-count-of-spec =
-    tie.close (tie.spec open-uploads-of-requires open-downloads-of-requires add-result returns)
+    tie.close (tie.spec (λ c κs. search needs) (λ c κs. search needs) add-result returns)

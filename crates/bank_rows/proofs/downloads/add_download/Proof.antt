@@ -5,20 +5,8 @@ use borrow.Author.Needs.{needs}
 use Rattle.bank_rows.proofs.downloads.add_download.Statement.{statement}
 use Rattle.bank_rows.proofs.downloads.add_download.Tie as tie
 
-slice-read-n : tie.Need-slice-read-n
-slice-read-n c = search needs
-
 put-download-requires : tie.Need-put-download-requires
 put-download-requires c κs = let start = c .before .before .before in (start .pre .0, start .pre .1)
-
-add-rows : tie.Need-add-rows
-add-rows c = search needs
-
-slice-write-rows : tie.Need-slice-write-rows
-slice-write-rows c = search needs
-
-same-length : tie.Need-same-length
-same-length c = search needs
 
 returns : tie.Need-returns
 returns c =
@@ -31,4 +19,5 @@ returns c =
 pub add-download-spec : {M : Type 1} → statement M
 add-download-spec =
     tie.close
-    (tie.spec slice-read-n put-download-requires add-rows slice-write-rows same-length returns)
+    (tie.spec (λ c. search needs) put-download-requires (λ c. search needs) (λ c. search needs) (λ c. search needs)
+    returns)

@@ -5,11 +5,8 @@ use borrow.Author.Needs.{needs}
 use Rattle.bank_rows.proofs.downloads.download_count.Statement.{statement}
 use Rattle.bank_rows.proofs.downloads.download_count.Tie as tie
 
-shared-slice-read-result : tie.Need-shared-slice-read-result
-shared-slice-read-result c = search needs
-
 returns : tie.Need-returns
 returns c = sym (free-download (c .before .args .rows .now))
 
 pub download-count-spec : {M : Type 1} → statement M
-download-count-spec = tie.close (tie.spec shared-slice-read-result returns)
+download-count-spec = tie.close (tie.spec (search needs) returns)

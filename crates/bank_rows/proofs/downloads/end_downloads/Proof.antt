@@ -8,27 +8,6 @@ use borrow.Author.Needs.{needs}
 use Rattle.bank_rows.proofs.downloads.end_downloads.Statement.{statement}
 use Rattle.bank_rows.proofs.downloads.end_downloads.Tie as tie
 
-slice-read-n : tie.Need-slice-read-n
-slice-read-n c = search needs
-
-sub-keep-downloads : tie.Need-sub-keep-downloads
-sub-keep-downloads c = search needs
-
-part-keep-downloads-start : tie.Need-part-keep-downloads-start
-part-keep-downloads-start c = search needs
-
-part-keep-downloads-end : tie.Need-part-keep-downloads-end
-part-keep-downloads-end c = search needs
-
-keep-downloads-requires : tie.Need-keep-downloads-requires
-keep-downloads-requires c κs = search needs
-
-slice-write-rows : tie.Need-slice-write-rows
-slice-write-rows c = search needs
-
-same-length : tie.Need-same-length
-same-length c = search needs
-
 returns : tie.Need-returns
 unfolding endDownloads
 returns c =
@@ -40,12 +19,5 @@ returns c =
 pub end-downloads-spec : {M : Type 1} → statement M
 end-downloads-spec =
     tie.close
-    (tie.spec
-    slice-read-n
-    sub-keep-downloads
-    part-keep-downloads-start
-    part-keep-downloads-end
-    keep-downloads-requires
-    slice-write-rows
-    same-length
-    returns)
+    (tie.spec (λ c. search needs) (λ c. search needs) (λ c. search needs) (λ c. search needs) (λ c κs. search needs)
+    (λ c. search needs) (λ c. search needs) returns)

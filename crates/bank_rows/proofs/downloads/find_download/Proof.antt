@@ -18,9 +18,6 @@ Inv-loop rows subscriber high low n i₀ i = (i ≤ n) × Searched (isDownload s
 abbrev μ-loop : tie.MeasureT-loop
 μ-loop rows subscriber high low n i₀ i = n - i
 
-shared-slice-read-n : tie.Need-shared-slice-read-n Inv-loop μ-loop
-shared-slice-read-n c = search needs
-
 loop-holds : tie.Need-loop-holds Inv-loop μ-loop
 loop-holds c = (omega arith, searched-start _ _)
 
@@ -34,12 +31,6 @@ returns c =
     let start = at .before .before .before in
     let h = length-downloads-of (start .args .rows .now) (start .pre) in
     searched-hit _ _ noDownload _ (at .loop .inv .1) (omega (arith, start .pre .downloads, c .before .before .loop-test .taken)) (sym (c .before .is-download-at .ensures) ∙ c .if1 .taken)
-
-add-i : tie.Need-add-i Inv-loop μ-loop
-add-i c = search needs
-
-loop-less : tie.Need-loop-less Inv-loop μ-loop
-loop-less c = search needs
 
 loop-again : tie.Need-loop-again Inv-loop μ-loop
 loop-again c =
@@ -62,14 +53,5 @@ returns-2 c =
 pub find-download-spec : {M : Type 1} → statement M
 find-download-spec =
     tie.close
-    (tie.spec
-    Inv-loop
-    μ-loop
-    shared-slice-read-n
-    loop-holds
-    is-download-at-requires
-    returns
-    add-i
-    loop-less
-    loop-again
-    returns-2)
+    (tie.spec Inv-loop μ-loop (search needs) loop-holds is-download-at-requires returns (search needs) (search needs)
+    loop-again returns-2)

@@ -20,32 +20,11 @@ abbrev μ-loop : tie.MeasureT-loop
 loop-holds : tie.Need-loop-holds Inv-loop μ-loop
 loop-holds c = let a = c .before .args in keeping-start downloadWidth downloadOf downloadRow (staysOpen (a .which)) download-wide download-row (a .area .now) (a .n)
 
-add-i : tie.Need-add-i Inv-loop μ-loop
-add-i c = search needs
-
-mul-ends-at : tie.Need-mul-ends-at Inv-loop μ-loop
-mul-ends-at c = search needs
-
-ends-at-requires : tie.Need-ends-at-requires Inv-loop μ-loop
-ends-at-requires c κs = search needs
-
-mul-move-row : tie.Need-mul-move-row Inv-loop μ-loop
-mul-move-row c = search needs
-
-mul-move-row-2 : tie.Need-mul-move-row-2 Inv-loop μ-loop
-mul-move-row-2 c = search needs
-
 move-row-requires : tie.Need-move-row-requires Inv-loop μ-loop
 move-row-requires c κs =
     let at = c .before .before .before .before .before in
     let start = at .before .before in
     (λ ne. omega (arith, at .loop .inv .fewer), omega (arith, at .loop .inv .long, start .pre .0, start .pre .1, c .before .before .before .before .loop-test .taken))
-
-add-kept : tie.Need-add-kept Inv-loop μ-loop
-add-kept c = search needs
-
-loop-less : tie.Need-loop-less Inv-loop μ-loop
-loop-less c = search needs
 
 loop-again : tie.Need-loop-again Inv-loop μ-loop
 loop-again c =
@@ -58,9 +37,6 @@ loop-again c =
     (keeping-moved downloadWidth downloadOf downloadRow (staysOpen (a .which)) download-wide download-row (a .area .now) (l .area) (a .n) (l .kept) (l .i)
     (omega (arith, start .pre .0, start .pre .1)) (l .inv) (c .before .before .before .before .before .before .before .loop-test .taken) (ap not (sym (c .before .before .before .before .before .ends-at .ensures)) ∙ c .before .before .before .before .if1 .taken))
 
-loop-less-2 : tie.Need-loop-less-2 Inv-loop μ-loop
-loop-less-2 c = search needs
-
 loop-again-2 : tie.Need-loop-again-2 Inv-loop μ-loop
 loop-again-2 c =
     let at = c .before .before .before .before in
@@ -70,20 +46,11 @@ loop-again-2 c =
     keeping-none downloadWidth downloadOf downloadRow (staysOpen (a .which)) download-wide download-row (a .area .now) (l .area) (a .n) (l .kept) (l .i)
     (omega (arith, start .pre .0, start .pre .1)) (l .inv) (c .before .before .before .loop-test .taken) (ap not (sym (c .before .ends-at .ensures)) ∙ c .if1 .left)
 
-mul-wipe : tie.Need-mul-wipe Inv-loop μ-loop
-mul-wipe c = search needs
-
-mul-wipe-2 : tie.Need-mul-wipe-2 Inv-loop μ-loop
-mul-wipe-2 c = search needs
-
 wipe-requires : tie.Need-wipe-requires Inv-loop μ-loop
 wipe-requires c κs =
     let at = c .before .before in
     let start = at .before .before in
     (omega (arith, at .loop .inv .fewer, at .loop .inv .most), omega (arith, at .loop .inv .long, start .pre .0, start .pre .1))
-
-same-length : tie.Need-same-length Inv-loop μ-loop
-same-length c = search needs
 
 returns : tie.Need-returns Inv-loop μ-loop
 returns c =
@@ -97,23 +64,6 @@ returns c =
 pub keep-downloads-spec : {M : Type 1} → statement M
 keep-downloads-spec =
     tie.close
-    (tie.spec
-    Inv-loop
-    μ-loop
-    loop-holds
-    add-i
-    mul-ends-at
-    ends-at-requires
-    mul-move-row
-    mul-move-row-2
-    move-row-requires
-    add-kept
-    loop-less
-    loop-again
-    loop-less-2
-    loop-again-2
-    mul-wipe
-    mul-wipe-2
-    wipe-requires
-    same-length
-    returns)
+    (tie.spec Inv-loop μ-loop loop-holds (search needs) (search needs) (search needs) (search needs) (search needs)
+    move-row-requires (search needs) (search needs) loop-again (search needs) loop-again-2 (search needs) (search needs)
+    wipe-requires (search needs) returns)

@@ -19,9 +19,6 @@ Inv-loop rows subscriber count n₀ i₀ n i = (i ≤ count) × Counted (λ (e :
 abbrev μ-loop : tie.MeasureT-loop
 μ-loop rows subscriber count n₀ i₀ n i = count - i
 
-shared-slice-read-count : tie.Need-shared-slice-read-count Inv-loop μ-loop
-shared-slice-read-count c = search needs
-
 loop-holds : tie.Need-loop-holds Inv-loop μ-loop
 loop-holds c = (omega arith, counted-start _ _)
 
@@ -34,9 +31,6 @@ is-download-of-requires c κs = (c .before .before .before .before .pre, c .loop
 add-n : tie.Need-add-n Inv-loop μ-loop
 add-n c = let at = c .before .before .before in omega (arith, at .loop .inv .1 .most, at .before .before .before .pre .downloads, at .loop .inv .0)
 
-loop-less : tie.Need-loop-less Inv-loop μ-loop
-loop-less c = search needs
-
 loop-again : tie.Need-loop-again Inv-loop μ-loop
 loop-again c =
     let at = c .before .before .before in
@@ -45,9 +39,6 @@ loop-again c =
       omega arith,
       counted-one _ _ noDownload _ _ (at .loop .inv .1) (omega (arith, start .pre .downloads, c .before .before .loop-test .taken)) (sym (c .before .is-download-of .ensures) ∙ c .if1 .taken),
     )
-
-loop-less-2 : tie.Need-loop-less-2 Inv-loop μ-loop
-loop-less-2 c = search needs
 
 loop-again-2 : tie.Need-loop-again-2 Inv-loop μ-loop
 loop-again-2 c =
@@ -69,16 +60,5 @@ returns c =
 pub open-downloads-of-spec : {M : Type 1} → statement M
 open-downloads-of-spec =
     tie.close
-    (tie.spec
-    Inv-loop
-    μ-loop
-    shared-slice-read-count
-    loop-holds
-    add-i
-    is-download-of-requires
-    add-n
-    loop-less
-    loop-again
-    loop-less-2
-    loop-again-2
-    returns)
+    (tie.spec Inv-loop μ-loop (search needs) loop-holds add-i is-download-of-requires add-n (search needs) loop-again
+    (search needs) loop-again-2 returns)

@@ -9,9 +9,6 @@ use Rattle.bank_rows.proofs.downloads.set_download.Tie as tie
 put-download-requires : tie.Need-put-download-requires
 put-download-requires c κs = let start = c .before .before in (start .pre .0, omega (arith, start .pre .0 .downloads))
 
-same-length : tie.Need-same-length
-same-length c = search needs
-
 returns : tie.Need-returns
 returns c =
     let put = c .before .before in
@@ -20,4 +17,4 @@ returns c =
     put .put-download .ensures ∙ download-write (a .rows .now) (start .pre .0) (a .e) (start .pre .2) (a .i) (start .pre .1)
 
 pub set-download-spec : {M : Type 1} → statement M
-set-download-spec = tie.close (tie.spec put-download-requires same-length returns)
+set-download-spec = tie.close (tie.spec put-download-requires (search needs) returns)

@@ -7,30 +7,6 @@ use borrow.Author.Needs.{needs}
 use Rattle.bank_rows.proofs.nonces.add_nonce.Statement.{statement}
 use Rattle.bank_rows.proofs.nonces.add_nonce.Tie as tie
 
-slice-read-n : tie.Need-slice-read-n
-slice-read-n c = search needs
-
-mul-put : tie.Need-mul-put
-mul-put c = search needs
-
-add-put : tie.Need-add-put
-add-put c = search needs
-
-slice-aggregate-put : tie.Need-slice-aggregate-put
-slice-aggregate-put c = search needs
-
-put-requires : tie.Need-put-requires
-put-requires c κs = search needs
-
-add-rows : tie.Need-add-rows
-add-rows c = search needs
-
-slice-write-rows : tie.Need-slice-write-rows
-slice-write-rows c = search needs
-
-same-length : tie.Need-same-length
-same-length c = search needs
-
 returns : tie.Need-returns
 returns c =
     let put = c .before .before in
@@ -42,13 +18,5 @@ returns c =
 pub add-nonce-spec : {M : Type 1} → statement M
 add-nonce-spec =
     tie.close
-    (tie.spec
-    slice-read-n
-    mul-put
-    add-put
-    slice-aggregate-put
-    put-requires
-    add-rows
-    slice-write-rows
-    same-length
-    returns)
+    (tie.spec (λ c. search needs) (λ c. search needs) (λ c. search needs) (λ c. search needs) (λ c κs. search needs)
+    (λ c. search needs) (λ c. search needs) (λ c. search needs) returns)

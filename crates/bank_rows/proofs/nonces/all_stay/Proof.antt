@@ -21,33 +21,12 @@ abbrev μ-loop : tie.MeasureT-loop
 loop-holds : tie.Need-loop-holds Inv-loop μ-loop
 loop-holds c = (omega arith, all-none _)
 
-mul-is-behind : tie.Need-mul-is-behind Inv-loop μ-loop
-mul-is-behind c = search needs
-
-add-is-behind : tie.Need-add-is-behind Inv-loop μ-loop
-add-is-behind c = search needs
-
-mul-is-behind-2 : tie.Need-mul-is-behind-2 Inv-loop μ-loop
-mul-is-behind-2 c = search needs
-
-shared-slice-read-is-behind : tie.Need-shared-slice-read-is-behind Inv-loop μ-loop
-shared-slice-read-is-behind c = search needs
-
-is-behind-requires : tie.Need-is-behind-requires Inv-loop μ-loop
-is-behind-requires c κs = search needs
-
 returns : tie.Need-returns Inv-loop μ-loop
 returns c =
     let at = c .before .before .before .before in
     let a = at .before .before .args in
     sym (all-fails (rowStays (a .clock) (a .area .now)) (at .loop .i) (a .n) (c .before .before .before .loop-test .taken)
     (stays-remembered (a .clock) (a .area .now) (nonceWidth * at .loop .i) (c .before .is-behind .ensures) ∙ ap not (c .if1 .taken)))
-
-add-i : tie.Need-add-i Inv-loop μ-loop
-add-i c = search needs
-
-loop-less : tie.Need-loop-less Inv-loop μ-loop
-loop-less c = search needs
 
 loop-again : tie.Need-loop-again Inv-loop μ-loop
 loop-again c =
@@ -67,17 +46,5 @@ returns-2 c =
 pub all-stay-spec : {M : Type 1} → statement M
 all-stay-spec =
     tie.close
-    (tie.spec
-    Inv-loop
-    μ-loop
-    loop-holds
-    mul-is-behind
-    add-is-behind
-    mul-is-behind-2
-    shared-slice-read-is-behind
-    is-behind-requires
-    returns
-    add-i
-    loop-less
-    loop-again
-    returns-2)
+    (tie.spec Inv-loop μ-loop loop-holds (search needs) (search needs) (search needs) (search needs) (search needs)
+    returns (search needs) (search needs) loop-again returns-2)

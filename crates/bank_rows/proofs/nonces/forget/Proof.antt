@@ -8,27 +8,6 @@ use borrow.Author.Needs.{needs}
 use Rattle.bank_rows.proofs.nonces.forget.Statement.{statement}
 use Rattle.bank_rows.proofs.nonces.forget.Tie as tie
 
-slice-read-n : tie.Need-slice-read-n
-slice-read-n c = search needs
-
-sub-keep-nonces : tie.Need-sub-keep-nonces
-sub-keep-nonces c = search needs
-
-part-keep-nonces-start : tie.Need-part-keep-nonces-start
-part-keep-nonces-start c = search needs
-
-part-keep-nonces-end : tie.Need-part-keep-nonces-end
-part-keep-nonces-end c = search needs
-
-keep-nonces-requires : tie.Need-keep-nonces-requires
-keep-nonces-requires c κs = search needs
-
-slice-write-rows : tie.Need-slice-write-rows
-slice-write-rows c = search needs
-
-same-length : tie.Need-same-length
-same-length c = search needs
-
 returns : tie.Need-returns
 unfolding forget
 returns c =
@@ -40,12 +19,5 @@ returns c =
 pub forget-spec : {M : Type 1} → statement M
 forget-spec =
     tie.close
-    (tie.spec
-    slice-read-n
-    sub-keep-nonces
-    part-keep-nonces-start
-    part-keep-nonces-end
-    keep-nonces-requires
-    slice-write-rows
-    same-length
-    returns)
+    (tie.spec (λ c. search needs) (λ c. search needs) (λ c. search needs) (λ c. search needs) (λ c κs. search needs)
+    (λ c. search needs) (λ c. search needs) returns)

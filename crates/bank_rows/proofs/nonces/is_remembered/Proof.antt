@@ -17,9 +17,6 @@ Inv-loop rows high low n i₀ i = (i ≤ n) × Searched (isNonce rows (bits high
 abbrev μ-loop : tie.MeasureT-loop
 μ-loop rows high low n i₀ i = n - i
 
-shared-slice-read-n : tie.Need-shared-slice-read-n Inv-loop μ-loop
-shared-slice-read-n c = search needs
-
 loop-holds : tie.Need-loop-holds Inv-loop μ-loop
 loop-holds c = (omega arith, searched-start _ _)
 
@@ -39,9 +36,6 @@ returns c =
 
 add-i : tie.Need-add-i Inv-loop μ-loop
 add-i c = let start = c .before .before .before .before .before .before in omega (arith, start .pre .nonces, c .before .before .loop-test .taken)
-
-loop-less : tie.Need-loop-less Inv-loop μ-loop
-loop-less c = search needs
 
 loop-again : tie.Need-loop-again Inv-loop μ-loop
 loop-again c =
@@ -66,14 +60,5 @@ returns-2 c =
 pub is-remembered-spec : {M : Type 1} → statement M
 is-remembered-spec =
     tie.close
-    (tie.spec
-    Inv-loop
-    μ-loop
-    shared-slice-read-n
-    loop-holds
-    is-nonce-at-requires
-    returns
-    add-i
-    loop-less
-    loop-again
+    (tie.spec Inv-loop μ-loop (search needs) loop-holds is-nonce-at-requires returns add-i (search needs) loop-again
     returns-2)

@@ -18,12 +18,6 @@ Inv-loop area₀ n clock kept₀ i₀ area kept i = Keeping nonceWidth nonceOf n
 abbrev μ-loop : tie.MeasureT-loop
 μ-loop area₀ n clock kept₀ i₀ area kept i = n - i
 
-all-stay-requires : tie.Need-all-stay-requires Inv-loop μ-loop
-all-stay-requires c κs = search needs
-
-same-length : tie.Need-same-length Inv-loop μ-loop
-same-length c = search needs
-
 returns : tie.Need-returns Inv-loop μ-loop
 returns c =
     let start = c .before .before .before .before in
@@ -34,41 +28,11 @@ returns c =
 loop-holds : tie.Need-loop-holds Inv-loop μ-loop
 loop-holds c = let a = c .before .before .before .before .args in keeping-start nonceWidth nonceOf nonceRow (staysRemembered (a .clock)) nonce-wide nonce-row (a .area .now) (a .n)
 
-add-i : tie.Need-add-i Inv-loop μ-loop
-add-i c = search needs
-
-mul-is-behind : tie.Need-mul-is-behind Inv-loop μ-loop
-mul-is-behind c = search needs
-
-add-is-behind : tie.Need-add-is-behind Inv-loop μ-loop
-add-is-behind c = search needs
-
-mul-is-behind-2 : tie.Need-mul-is-behind-2 Inv-loop μ-loop
-mul-is-behind-2 c = search needs
-
-slice-read-is-behind : tie.Need-slice-read-is-behind Inv-loop μ-loop
-slice-read-is-behind c = search needs
-
-is-behind-requires : tie.Need-is-behind-requires Inv-loop μ-loop
-is-behind-requires c κs = search needs
-
-mul-move-row : tie.Need-mul-move-row Inv-loop μ-loop
-mul-move-row c = search needs
-
-mul-move-row-2 : tie.Need-mul-move-row-2 Inv-loop μ-loop
-mul-move-row-2 c = search needs
-
 move-row-requires : tie.Need-move-row-requires Inv-loop μ-loop
 move-row-requires c κs =
     let at = c .before .before .before .before .before in
     let start = at .before .before .before .before .before in
     (λ ne. omega (arith, at .loop .inv .fewer), omega (arith, at .loop .inv .long, start .pre .0, start .pre .1, c .before .before .before .before .loop-test .taken))
-
-add-kept : tie.Need-add-kept Inv-loop μ-loop
-add-kept c = search needs
-
-loop-less : tie.Need-loop-less Inv-loop μ-loop
-loop-less c = search needs
 
 loop-again : tie.Need-loop-again Inv-loop μ-loop
 loop-again c =
@@ -81,9 +45,6 @@ loop-again c =
     (keeping-moved nonceWidth nonceOf nonceRow (staysRemembered (a .clock)) nonce-wide nonce-row (a .area .now) (l .area) (a .n) (l .kept) (l .i)
     (omega (arith, start .pre .0, start .pre .1)) (l .inv) (c .before .before .before .before .before .before .before .loop-test .taken) (stays-remembered (a .clock) (l .area) (nonceWidth * l .i) (c .before .before .before .before .before .is-behind .ensures) ∙ c .before .before .before .before .if2 .taken))
 
-loop-less-2 : tie.Need-loop-less-2 Inv-loop μ-loop
-loop-less-2 c = search needs
-
 loop-again-2 : tie.Need-loop-again-2 Inv-loop μ-loop
 loop-again-2 c =
     let at = c .before .before .before .before in
@@ -93,20 +54,11 @@ loop-again-2 c =
     keeping-none nonceWidth nonceOf nonceRow (staysRemembered (a .clock)) nonce-wide nonce-row (a .area .now) (l .area) (a .n) (l .kept) (l .i)
     (omega (arith, start .pre .0, start .pre .1)) (l .inv) (c .before .before .before .loop-test .taken) (stays-remembered (a .clock) (l .area) (nonceWidth * l .i) (c .before .is-behind .ensures) ∙ c .if2 .left)
 
-mul-wipe : tie.Need-mul-wipe Inv-loop μ-loop
-mul-wipe c = search needs
-
-mul-wipe-2 : tie.Need-mul-wipe-2 Inv-loop μ-loop
-mul-wipe-2 c = search needs
-
 wipe-requires : tie.Need-wipe-requires Inv-loop μ-loop
 wipe-requires c κs =
     let at = c .before .before in
     let start = at .before .before .before .before .before in
     (omega (arith, at .loop .inv .fewer, at .loop .inv .most), omega (arith, at .loop .inv .long, start .pre .0, start .pre .1))
-
-same-length-2 : tie.Need-same-length-2 Inv-loop μ-loop
-same-length-2 c = search needs
 
 returns-2 : tie.Need-returns-2 Inv-loop μ-loop
 returns-2 c =
@@ -120,29 +72,7 @@ returns-2 c =
 pub keep-nonces-spec : {M : Type 1} → statement M
 keep-nonces-spec =
     tie.close
-    (tie.spec
-    Inv-loop
-    μ-loop
-    all-stay-requires
-    same-length
-    returns
-    loop-holds
-    add-i
-    mul-is-behind
-    add-is-behind
-    mul-is-behind-2
-    slice-read-is-behind
-    is-behind-requires
-    mul-move-row
-    mul-move-row-2
-    move-row-requires
-    add-kept
-    loop-less
-    loop-again
-    loop-less-2
-    loop-again-2
-    mul-wipe
-    mul-wipe-2
-    wipe-requires
-    same-length-2
-    returns-2)
+    (tie.spec Inv-loop μ-loop (search needs) (search needs) returns loop-holds (search needs) (search needs)
+    (search needs) (search needs) (search needs) (search needs) (search needs) (search needs) move-row-requires
+    (search needs) (search needs) loop-again (search needs) loop-again-2 (search needs) (search needs) wipe-requires
+    (search needs) returns-2)

@@ -5,11 +5,8 @@ use borrow.Author.Needs.{needs}
 use Rattle.bank_rows.proofs.nonces.nonce_count.Statement.{statement}
 use Rattle.bank_rows.proofs.nonces.nonce_count.Tie as tie
 
-shared-slice-read-result : tie.Need-shared-slice-read-result
-shared-slice-read-result c = search needs
-
 returns : tie.Need-returns
 returns c = sym (free-nonce (c .before .args .rows .now))
 
 pub nonce-count-spec : {M : Type 1} → statement M
-nonce-count-spec = tie.close (tie.spec shared-slice-read-result returns)
+nonce-count-spec = tie.close (tie.spec (search needs) returns)

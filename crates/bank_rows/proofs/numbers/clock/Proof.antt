@@ -5,12 +5,9 @@ use borrow.Author.Needs.{needs}
 use Rattle.bank_rows.proofs.numbers.clock.Statement.{statement}
 use Rattle.bank_rows.proofs.numbers.clock.Tie as tie
 
-shared-slice-read-result : tie.Need-shared-slice-read-result
-shared-slice-read-result c = search needs
-
 returns : tie.Need-returns
 unfolding bankOf
 returns c = refl
 
 pub clock-spec : {M : Type 1} → statement M
-clock-spec = tie.close (tie.spec shared-slice-read-result returns)
+clock-spec = tie.close (tie.spec (search needs) returns)

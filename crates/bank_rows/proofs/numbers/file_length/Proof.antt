@@ -4,17 +4,8 @@ use borrow.Author.Needs.{needs}
 use Rattle.bank_rows.proofs.numbers.file_length.Statement.{statement}
 use Rattle.bank_rows.proofs.numbers.file_length.Tie as tie
 
-add-result : tie.Need-add-result
-add-result c = search needs
-
-mul-result : tie.Need-mul-result
-mul-result c = search needs
-
-shared-slice-read-result : tie.Need-shared-slice-read-result
-shared-slice-read-result c = search needs
-
 returns : tie.Need-returns
 returns c = let a = c .before .args in file-read (a .rows .now) (a .i) (c .before .pre .1)
 
 pub file-length-spec : {M : Type 1} → statement M
-file-length-spec = tie.close (tie.spec add-result mul-result shared-slice-read-result returns)
+file-length-spec = tie.close (tie.spec (search needs) (search needs) (search needs) returns)

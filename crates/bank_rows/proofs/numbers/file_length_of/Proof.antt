@@ -9,18 +9,9 @@ use borrow.Author.Needs.{needs}
 use Rattle.bank_rows.proofs.numbers.file_length_of.Statement.{statement}
 use Rattle.bank_rows.proofs.numbers.file_length_of.Tie as tie
 
-file-length-requires : tie.Need-file-length-requires
-file-length-requires c κs = search needs
-
 returns : tie.Need-returns
 unfolding fileLength
 returns c = rw (c .before .if1 .taken) (c .file-length .ensures)
-
-sub-i : tie.Need-sub-i
-sub-i c = search needs
-
-file-length-requires-2 : tie.Need-file-length-requires-2
-file-length-requires-2 c κs = search needs
 
 returns-2 : tie.Need-returns-2
 unfolding fileLength
@@ -35,5 +26,4 @@ returns-3 c =
 
 pub file-length-of-spec : {M : Type 1} → statement M
 file-length-of-spec =
-    tie.close
-    (tie.spec file-length-requires returns sub-i file-length-requires-2 returns-2 returns-3)
+    tie.close (tie.spec (λ c κs. search needs) returns (λ c. search needs) (λ c κs. search needs) returns-2 returns-3)

@@ -5,12 +5,9 @@ use borrow.Author.Needs.{needs}
 use Rattle.bank_rows.proofs.numbers.openings.Statement.{statement}
 use Rattle.bank_rows.proofs.numbers.openings.Tie as tie
 
-shared-slice-read-result : tie.Need-shared-slice-read-result
-shared-slice-read-result c = search needs
-
 returns : tie.Need-returns
 unfolding bankOf
 returns c = refl
 
 pub openings-spec : {M : Type 1} → statement M
-openings-spec = tie.close (tie.spec shared-slice-read-result returns)
+openings-spec = tie.close (tie.spec (search needs) returns)

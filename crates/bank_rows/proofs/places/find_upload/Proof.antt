@@ -22,21 +22,12 @@ abbrev μ-loop : tie.MeasureT-loop
 loop-holds : tie.Need-loop-holds Inv-loop μ-loop
 loop-holds c = searched-start _ _
 
-is-upload-at-requires : tie.Need-is-upload-at-requires Inv-loop μ-loop
-is-upload-at-requires c κs = search needs
-
 returns : tie.Need-returns Inv-loop μ-loop
 unfolding findUpload
 returns c =
     let at = c .before .before .before in
     let h = length-places-of (at .before .before .args .rows .now) in
     searched-hit _ _ noPlace _ (at .loop .inv) (omega arith) (sym (c .before .is-upload-at .ensures) ∙ c .if1 .taken)
-
-add-i : tie.Need-add-i Inv-loop μ-loop
-add-i c = search needs
-
-loop-less : tie.Need-loop-less Inv-loop μ-loop
-loop-less c = search needs
 
 loop-again : tie.Need-loop-again Inv-loop μ-loop
 loop-again c =
@@ -54,13 +45,5 @@ returns-2 c =
 pub find-upload-spec : {M : Type 1} → statement M
 find-upload-spec =
     tie.close
-    (tie.spec
-    Inv-loop
-    μ-loop
-    loop-holds
-    is-upload-at-requires
-    returns
-    add-i
-    loop-less
-    loop-again
-    returns-2)
+    (tie.spec Inv-loop μ-loop loop-holds (λ c κs. search needs) returns (λ c. search needs) (λ c. search needs)
+    loop-again returns-2)

@@ -5,24 +5,9 @@ use borrow.Author.Needs.{needs}
 use Rattle.bank_rows.proofs.places.is_open_at.Statement.{statement}
 use Rattle.bank_rows.proofs.places.is_open_at.Tie as tie
 
-mul-at : tie.Need-mul-at
-mul-at c = search needs
-
-add-at : tie.Need-add-at
-add-at c = search needs
-
-add-result : tie.Need-add-result
-add-result c = search needs
-
-mul-result : tie.Need-mul-result
-mul-result c = search needs
-
-shared-slice-read-result : tie.Need-shared-slice-read-result
-shared-slice-read-result c = search needs
-
 returns : tie.Need-returns
 returns c = let start = c .before in sym (open-read (start .args .rows .now) (start .args .i) (start .pre .1))
 
 pub is-open-at-spec : {M : Type 1} → statement M
 is-open-at-spec =
-    tie.close (tie.spec mul-at add-at add-result mul-result shared-slice-read-result returns)
+    tie.close (tie.spec (search needs) (search needs) (search needs) (search needs) (search needs) returns)

@@ -22,26 +22,14 @@ abbrev μ-loop : tie.MeasureT-loop
 loop-holds : tie.Need-loop-holds Inv-loop μ-loop
 loop-holds c = counted-start _ _
 
-add-i : tie.Need-add-i Inv-loop μ-loop
-add-i c = search needs
-
-is-open-at-requires : tie.Need-is-open-at-requires Inv-loop μ-loop
-is-open-at-requires c κs = search needs
-
 add-n : tie.Need-add-n Inv-loop μ-loop
 add-n c = let at = c .before .before .before in omega (arith, at .loop .inv .most)
-
-loop-less : tie.Need-loop-less Inv-loop μ-loop
-loop-less c = search needs
 
 loop-again : tie.Need-loop-again Inv-loop μ-loop
 loop-again c =
     let at = c .before .before .before in
     let h = length-places-of (at .before .before .args .rows .now) in
     counted-one _ _ noPlace _ _ (at .loop .inv) (omega arith) (sym (c .before .is-open-at .ensures) ∙ c .if1 .taken)
-
-loop-less-2 : tie.Need-loop-less-2 Inv-loop μ-loop
-loop-less-2 c = search needs
 
 loop-again-2 : tie.Need-loop-again-2 Inv-loop μ-loop
 loop-again-2 c =
@@ -58,15 +46,5 @@ returns c =
 pub open-uploads-spec : {M : Type 1} → statement M
 open-uploads-spec =
     tie.close
-    (tie.spec
-    Inv-loop
-    μ-loop
-    loop-holds
-    add-i
-    is-open-at-requires
-    add-n
-    loop-less
-    loop-again
-    loop-less-2
-    loop-again-2
-    returns)
+    (tie.spec Inv-loop μ-loop loop-holds (λ c. search needs) (λ c κs. search needs) add-n (λ c. search needs) loop-again
+    (λ c. search needs) loop-again-2 returns)

@@ -19,11 +19,5 @@ returns c =
 copy-row-requires : tie.Need-copy-row-requires
 copy-row-requires c κs = let start = c .before .before .before in (start .pre .0 (c .before .if1 .left), start .pre .1)
 
-same-length : tie.Need-same-length
-same-length c = search needs
-
-returns-2 : tie.Need-returns-2
-returns-2 c = search needs
-
 pub move-row-spec : {M : Type 1} → statement M
-move-row-spec = tie.close (tie.spec returns copy-row-requires same-length returns-2)
+move-row-spec = tie.close (tie.spec returns copy-row-requires (λ c. search needs) (λ c. search needs))

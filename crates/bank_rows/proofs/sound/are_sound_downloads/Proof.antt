@@ -17,14 +17,8 @@ Inv-loop rows n i₀ i = (i ≤ n) × (allBelow (isSoundDownload rows) i ≡ tru
 abbrev μ-loop : tie.MeasureT-loop
 μ-loop rows n i₀ i = n - i
 
-shared-slice-read-n : tie.Need-shared-slice-read-n Inv-loop μ-loop
-shared-slice-read-n c = search needs
-
 loop-holds : tie.Need-loop-holds Inv-loop μ-loop
 loop-holds c = (omega arith, all-none _)
-
-is-sound-download-requires : tie.Need-is-sound-download-requires Inv-loop μ-loop
-is-sound-download-requires c κs = search needs
 
 returns : tie.Need-returns Inv-loop μ-loop
 returns c =
@@ -33,12 +27,6 @@ returns c =
     sym (all-fails (isSoundDownload (a .rows .now)) (at .loop .i) (downloadCountOf (a .rows .now))
     (c .before .before .loop-test .taken)
     (sym (c .before .is-sound-download .ensures) ∙ not-true _ (c .if1 .taken)))
-
-add-i : tie.Need-add-i Inv-loop μ-loop
-add-i c = search needs
-
-loop-less : tie.Need-loop-less Inv-loop μ-loop
-loop-less c = search needs
 
 loop-again : tie.Need-loop-again Inv-loop μ-loop
 loop-again c =
@@ -59,14 +47,5 @@ returns-2 c =
 pub are-sound-downloads-spec : {M : Type 1} → statement M
 are-sound-downloads-spec =
     tie.close
-    (tie.spec
-    Inv-loop
-    μ-loop
-    shared-slice-read-n
-    loop-holds
-    is-sound-download-requires
-    returns
-    add-i
-    loop-less
-    loop-again
+    (tie.spec Inv-loop μ-loop (search needs) loop-holds (search needs) returns (search needs) (search needs) loop-again
     returns-2)

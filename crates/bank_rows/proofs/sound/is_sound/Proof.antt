@@ -9,25 +9,16 @@ use Rattle.bank_rows.proofs.sound.is_sound.Tie as tie
 returns : tie.Need-returns
 returns c = other-length (c .before .before .args .rows .now) (c .if1 .taken)
 
-shared-slice-read-if2 : tie.Need-shared-slice-read-if2
-shared-slice-read-if2 c = search needs
-
 returns-2 : tie.Need-returns-2
 returns-2 c =
     let if1 = c .before .before in
     many-downloads (if1 .before .before .args .rows .now) (if1 .if1 .left) (c .if2 .taken)
-
-shared-slice-read-if3 : tie.Need-shared-slice-read-if3
-shared-slice-read-if3 c = search needs
 
 returns-3 : tie.Need-returns-3
 returns-3 c =
     let if2 = c .before .before in
     let if1 = if2 .before .before in
     many-nonces (if1 .before .before .args .rows .now) (if1 .if1 .left) (if2 .if2 .left) (c .if3 .taken)
-
-are-sound-files-requires : tie.Need-are-sound-files-requires
-are-sound-files-requires c κs = search needs
 
 returns-4 : tie.Need-returns-4
 returns-4 c =
@@ -36,9 +27,6 @@ returns-4 c =
     let if1 = if2 .before .before in
     bad-file (if1 .before .before .args .rows .now) (if1 .if1 .left) (if2 .if2 .left) (if3 .if3 .left)
     (sym (c .before .are-sound-files .ensures) ∙ not-true _ (c .if4 .taken))
-
-are-sound-places-requires : tie.Need-are-sound-places-requires
-are-sound-places-requires c κs = search needs
 
 returns-5 : tie.Need-returns-5
 returns-5 c =
@@ -49,9 +37,6 @@ returns-5 c =
     bad-place (if1 .before .before .args .rows .now) (if1 .if1 .left) (if2 .if2 .left) (if3 .if3 .left)
     (sym (if4 .before .are-sound-files .ensures) ∙ not-false _ (if4 .if4 .left))
     (sym (c .before .are-sound-places .ensures) ∙ not-true _ (c .if5 .taken))
-
-are-sound-downloads-requires : tie.Need-are-sound-downloads-requires
-are-sound-downloads-requires c κs = search needs
 
 returns-6 : tie.Need-returns-6
 returns-6 c =
@@ -68,15 +53,5 @@ returns-6 c =
 pub is-sound-spec : {M : Type 1} → statement M
 is-sound-spec =
     tie.close
-    (tie.spec
-    returns
-    shared-slice-read-if2
-    returns-2
-    shared-slice-read-if3
-    returns-3
-    are-sound-files-requires
-    returns-4
-    are-sound-places-requires
-    returns-5
-    are-sound-downloads-requires
-    returns-6)
+    (tie.spec returns (search needs) returns-2 (search needs) returns-3 (search needs) returns-4 (search needs)
+    returns-5 (search needs) returns-6)
