@@ -59,14 +59,7 @@ use Rattle.frame.specs.Writer.{
 use Rattle.octets.proofs.Tests.{never}
 use Rattle.frame_table.proofs.Forms.{request-not-reply, reply-not-request, request-form, reply-form}
 use Rattle.frame.proofs.Loops.{field-writable}
-use Rattle.frame.proofs.RoundTrip.{
-  Sized,
-  parse-frameOf,
-  dataOf-frameOf,
-  frameOf-parse,
-  writable-parse,
-  writable-at,
-}
+use Rattle.frame.proofs.RoundTrip.{Sized, parse-frameOf, dataOf-frameOf, frameOf-parse, writable-parse, writable-at}
 use Rattle.frame.proofs.Lengths.{writable-parts, form-length, length-limit, length-least, opening-length}
 use Rattle.frame.proofs.Written.{written-front}
 use Rattle.frame.proofs.Parsed.{numberOf, Halves, InRow, field-in-row, read-halves, in-row, read-data}

@@ -3,8 +3,7 @@ use mathlib.Core.Path.{_≡_, sym, ap, _∙_}
 use lib.ListN.{length, length-map}
 use borrow.Author.Needs.{needs}
 use Rattle.frame.proofs.RoundTrip.{Sized}
-use Rattle.bank.specs.Call.{codeIn}
-use Rattle.bank.proofs.Codes.{coded-at, length-accepted, refused-accepted}
+use Rattle.bank.proofs.Codes.{written-code, refused-code}
 use Rattle.bank.proofs.call.reply_with.Statement.{statement}
 use Rattle.bank.proofs.call.reply_with.Tie as tie
 
@@ -23,11 +22,11 @@ returns c =
     let a = start .args in
     let wrote = at-write .write .ensures in
     let told = c .before .before .written .given .1 in
-    let taken = length-accepted (a .fields) (a .bytes .now) (a .buffer .now) _ (sym (wrote .0) ∙ told) in
+    let code = written-code (a .fields) (a .bytes .now) (a .buffer .now) (long start) _ (sym (wrote .0) ∙ told) in
     record {
       answered = rw (← wrote .0, told);
       written = wrote .1;
-      coded = c .code-in .ensures ∙ sym (coded-at (a .fields) (a .bytes .now) (a .buffer .now) (long start) _ taken);
+      coded = c .code-in .ensures ∙ sym code;
     }
 
 returns-2 : tie.Need-returns-2
@@ -37,11 +36,11 @@ returns-2 c =
     let a = start .args in
     let wrote = at-write .write .ensures in
     let told = c .enum-told .given .1 in
-    let left = refused-accepted (a .fields) (a .bytes .now) (a .buffer .now) (sym (wrote .0) ∙ told) in
+    let code = refused-code (a .fields) (a .bytes .now) (a .buffer .now) (sym (wrote .0) ∙ told) in
     record {
       answered = rw (← wrote .0, told);
       written = wrote .1;
-      coded = sym (coded-at (a .fields) (a .bytes .now) (a .buffer .now) (long start) _ left);
+      coded = sym code;
     }
 
 pub reply-with-spec : {M : Type 1} → statement M
