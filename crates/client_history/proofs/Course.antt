@@ -253,6 +253,21 @@ upload-course (uploading u) w = u
 upload-course (opening o) w = not-both w (o .direction)
 upload-course (downloading d) w = not-both w (d .known .direction)
 
+-- what the course of an upload says of the outstanding request, by its step
+abbrev pub UploadAt : Step → Client → Type 0
+UploadAt step.Opening c = Unit {0}
+UploadAt step.Segment c = (1 ≤ c .segment) × (c .segment ≤ c .issued)
+UploadAt step.Receipt c = Unit {0}
+
+pub upload-at : {c : Client} {q : ℕ} (s : Step) → c .step ≡ s → UploadCourse c q → UploadAt s c
+upload-at step.Opening e u = tt
+upload-at {c} step.Segment e u = at (u .place)
+  where
+    at : UploadPlace (c .step) (c .segment) → (1 ≤ c .segment) × (c .segment ≤ c .issued)
+    at (inl p) = not-opening-segment (p .0) e
+    at (inr p) = (p .1, u .known)
+upload-at step.Receipt e u = tt
+
 pub course-ended : (c : Client) (q : ℕ) (w : Word) → Course c q → Course (ended w c) q
 course-ended c q w (uploading u) = uploading (up-ended c q w u)
 course-ended c q w (opening o) = opening (opening-ended c q w o)
@@ -283,6 +298,19 @@ receipt-held c q (downloading d) w s = at (d .place)
     at : DownloadPlace (c .step) (c .segment) (c .segments) → c .held ≡ c .segments
     at (inl p) = not-segment-receipt (p .0) s
     at (inr p) = omega (arith, p .1, d .next, d .known .within)
+
+-- what the course of a download says of the outstanding request, by its step
+abbrev pub DownloadAt : Step → Client → Type 0
+DownloadAt step.Opening c = Unit {0}
+DownloadAt step.Segment c = (1 ≤ c .segment) × (c .segment ≤ c .held + 1) × (c .segment ≤ c .segments)
+DownloadAt step.Receipt c = c .held ≡ c .segments
+
+pub download-at : {c : Client} {q : ℕ} (s : Step) → c .step ≡ s → c .direction ≡ Download → Course c q → DownloadAt s c
+download-at step.Opening e w k = tt
+download-at step.Segment e w (uploading u) = not-both (u .direction) w
+download-at step.Segment e w (opening o) = not-opening-segment (o .at) e
+download-at {c} {q} step.Segment e w (downloading d) = (d .first, d .next, down-transfer c q d e)
+download-at {c} {q} step.Receipt e w k = receipt-held c q k w e
 
 -- at most 15 segments are held, and asked for
 pub course-guards : (c : Client) (q : ℕ) → Course c q → c .direction ≡ Download

@@ -78,6 +78,7 @@ use Rattle.client_history.specs.Invariant.{
 use Rattle.message.proofs.Verdicts.{by-test}
 use Rattle.client.proofs.Causes.{brought, download-point, opens}
 use Rattle.client_history.proofs.Files.{most-segments, nothing-held, all-held, grown-end, grown-bytes}
+use Rattle.client_history.proofs.Course.{DownloadAt}
 use Rattle.client_history.proofs.Issues.{got, got-in}
 use Rattle.client_history.proofs.NextRuns.{Held, by-new}
 use Rattle.client.proofs.Replies.{Says, said, opened-says, own-id}
@@ -176,18 +177,18 @@ module _ (Given : Fields → List ℕ → Fields → List ℕ → Type 0) where
     -- the outstanding request is one that the run may issue
     outstanding-issue : (c : Client) (payload file : List ℕ) (time : ℕ) (nonce : List ℕ) (issues : List Issue)
         → c .direction ≡ Download
-        → (s : Step) → c .step ≡ s → DownloadStep Given fileAt s c file issues
+        → (s : Step) → c .step ≡ s → DownloadAt s c → DownloadStep Given fileAt s c file issues
         → DownloadIssue (c .subscriber) (c .segments) (c .transaction) (c .held) (c .receipted)
         (fileAt (c .transaction))
         (issueOf c payload file time nonce)
-    outstanding-issue c payload file time nonce issues down step.Opening e k =
+    outstanding-issue c payload file time nonce issues down step.Opening e p k =
         downloadOpens (c .exchange) time (nonceOf nonce (c .exchange)) (is-downloadOpening c time nonce payload down e)
         (data-download c time nonce payload down)
-    outstanding-issue c payload file time nonce issues down step.Segment e k =
-        asks (c .exchange) (c .segment) (k .1) (k .2) (k .3) (k .0 .some)
+    outstanding-issue c payload file time nonce issues down step.Segment e p k =
+        asks (c .exchange) (c .segment) (p .0) (p .1) (p .2) (k .some)
         (is-downloadTransfer c time nonce payload down e) (data-download c time nonce payload down)
-    outstanding-issue c payload file time nonce issues down step.Receipt e k =
-        receipt-issued (c .exchange) (k .1) (k .0 .some) (k .2) (whole-file (k .0) (k .1))
+    outstanding-issue c payload file time nonce issues down step.Receipt e p k =
+        receipt-issued (c .exchange) p (k .0 .some) (k .1) (whole-file (k .0) p)
         (is-receipt c time nonce payload down e) (data-download c time nonce payload down)
 
     -- an open download that runs
@@ -223,10 +224,10 @@ module _ (Given : Fields → List ℕ → Fields → List ℕ → Type 0) where
         receipt-after : receiptsAfter (c .direction) k (c .segments) ≡ eqb k (c .segments)
         receipt-after = ap (λ (w : Direction). receiptsAfter w k (c .segments)) (r .direction)
 
-        run : (s : Step) → next .step ≡ s → DownloadStep Given fileAt s next file (new ∷ issues)
+        run : (s : Step) → next .step ≡ s → DownloadAt s next → DownloadStep Given fileAt s next file (new ∷ issues)
             → (next .receipted ≡ true → Receipts (new ∷ issues))
             → DownloadRun Given fileAt next file (new ∷ issues)
-        run s e g f = record {
+        run s e p g f = record {
           direction = r .direction;
           each = each;
           receipts = f;
@@ -239,7 +240,7 @@ module _ (Given : Fields → List ℕ → Fields → List ℕ → Type 0) where
                 (fileAt (c .transaction)) x
             each x (here i) =
                 subst (DownloadIssue _ _ _ _ _ _) (sym i)
-                (outstanding-issue next payload file time nonce (new ∷ issues) (r .direction) s e g)
+                (outstanding-issue next payload file time nonce (new ∷ issues) (r .direction) s e p g)
             each x (there m) = receipted-more (next .receipted) (or-left (c .receipted) _) (r .each x m)
 
         go : (b : Bool) → eqb k (c .segments) ≡ b → DownloadRun Given fileAt next file (new ∷ issues)
@@ -247,7 +248,7 @@ module _ (Given : Fields → List ℕ → Fields → List ℕ → Type 0) where
             let z = eqb-true k (c .segments) e in
             let y = ap (λ (b : Bool). cond b step.Receipt step.Segment) e in
             let w : c .held ≡ c .segments = omega (arith, r .open-file .top) in
-            run step.Receipt (at ∙ y) (kept, w, or-right (c .receipted) _ (receipt-after ∙ e))
+            run step.Receipt (at ∙ y) w (kept, or-right (c .receipted) _ (receipt-after ∙ e))
             (λ h. (
               new,
               here refl,
@@ -256,7 +257,7 @@ module _ (Given : Fields → List ℕ → Fields → List ℕ → Type 0) where
         go false e =
             let z = eqb-false k (c .segments) e in
             let y = ap (λ (b : Bool). cond b step.Receipt step.Segment) e in
-            run step.Segment (at ∙ y) (kept, omega arith, omega arith, omega (arith, r .open-file .top))
+            run step.Segment (at ∙ y) (omega arith, omega arith, omega (arith, r .open-file .top)) kept
             (λ h. let o = r .receipts (or-false (c .receipted) _ (receipt-after ∙ e) h) in (o .0, there (o .1), o .2))
 
     module _ (c : Client) (payload file : List ℕ) (issues : List Issue) (u : DownloadRun Given fileAt c file issues)
@@ -284,12 +285,12 @@ module _ (Given : Fields → List ℕ → Fields → List ℕ → Type 0) where
             (download-point c r h .reached)
           where
             held : (c .step ≡ step.Segment) ⊎ (c .step ≡ step.Receipt) → FileHeld Given fileAt c file issues
-            held (inl s) = subst At s (u .step) .0
+            held (inl s) = subst At s (u .step)
             held (inr s) = subst At s (u .step) .0
 
-        pub repeated-run : Goes (repeated c) file
+        pub repeated-run : DownloadAt (c .step) c → Goes (repeated c) file
         unfolding repeated
-        repeated-run = record {
+        repeated-run place = record {
           direction = u .direction;
           each = each;
           receipts = λ h. let o = u .receipts h in (o .0, there (o .1), o .2);
@@ -303,10 +304,15 @@ module _ (Given : Fields → List ℕ → Fields → List ℕ → Type 0) where
             new : Issue
             new = issueOf next payload file time nonce
 
+            placed : (s : Step) → DownloadAt s c → DownloadAt s next
+            placed step.Opening k = k
+            placed step.Segment k = k
+            placed step.Receipt k = k
+
             stepped : (s : Step) → At s → DownloadStep Given fileAt s next file (new ∷ issues)
             stepped step.Opening k = k
-            stepped step.Segment k = (held-in (λ x m. there m) (k .0), k .1, k .2, k .3)
-            stepped step.Receipt k = (held-in (λ x m. there m) (k .0), k .1, k .2)
+            stepped step.Segment k = held-in (λ x m. there m) k
+            stepped step.Receipt k = (held-in (λ x m. there m) (k .0), k .1)
 
             each : (x : Issue) → In x (new ∷ issues)
                 → DownloadIssue (c .subscriber) (c .segments) (c .transaction) (c .held) (c .receipted)
@@ -314,7 +320,7 @@ module _ (Given : Fields → List ℕ → Fields → List ℕ → Type 0) where
             each x (here e) =
                 subst (DownloadIssue _ _ _ _ _ _) (sym e)
                 (outstanding-issue next payload file time nonce (new ∷ issues) (u .direction) (c .step) refl
-                (stepped (c .step) (u .step)))
+                (placed (c .step) place) (stepped (c .step) (u .step)))
             each x (there m) = u .each x m
 
       -- ---- a segment's arrival
@@ -329,8 +335,9 @@ module _ (Given : Fields → List ℕ → Fields → List ℕ → Type 0) where
         newly : {b : Bool} → isNew (c .direction) c ≡ b → eqb (c .segment) (c .held + 1) ≡ b
         newly h = sym (ap (λ (w : Direction). isNew w c) (u .direction)) ∙ h
 
-        pub brought-run : c .step ≡ step.Segment → bringsSegment c r (length d) ≡ true → Held c d file Moves
-        brought-run e h = by-new c d file Moves (isNew (c .direction) c) refl fresh again
+        pub brought-run : c .step ≡ step.Segment → DownloadAt step.Segment c → bringsSegment c r (length d) ≡ true
+            → Held c d file Moves
+        brought-run e place h = by-new c d file Moves (isNew (c .direction) c) refl fresh again
           where
             at : At step.Segment
             at = subst At e (u .step)
@@ -346,8 +353,8 @@ module _ (Given : Fields → List ℕ → Fields → List ℕ → Type 0) where
                 → Moves (grown (length d) c) (overwrite file ((c .segment - 1) * segmentBytes) d)
             fresh z =
                 let i = eqb-true (c .segment) (c .held + 1) (newly z) in
-                let f = at .0 in
-                let m : c .held < c .segments = let j = at .3 in omega arith in
+                let f = at in
+                let m : c .held < c .segments = let j = place .2 in omega arith in
                 goes-on (grown (length d) c) payload _ issues (c .segment) (c .repeats) time nonce
                 (record {
                   direction = u .direction;
@@ -365,8 +372,8 @@ module _ (Given : Fields → List ℕ → Fields → List ℕ → Type 0) where
             again : isNew (c .direction) c ≡ false → Moves c file
             again z =
                 let i = eqb-false (c .segment) (c .held + 1) (newly z) in
-                let j = at .2 in
-                goes-on c payload file issues (c .segment) (c .repeats) time nonce (ready (at .0)) (omega arith)
+                let j = place .1 in
+                goes-on c payload file issues (c .segment) (c .repeats) time nonce (ready at) (omega arith)
 
         pub opened-run : c .step ≡ step.Opening → opensDownload (length d) r ≡ true
             → let k = learned Download r c in Goes time nonce (goOn 1 (c .repeats) (holding (length d) k))
@@ -436,16 +443,16 @@ module _ (Given : Fields → List ℕ → Fields → List ℕ → Type 0) where
           stepped step.Receipt k = k
 
       pub confirmed-run : (r : Fields) (d : List ℕ) → Answered Given p r d → c .step ≡ step.Receipt
-          → confirms c r ≡ true → Closes word.Fetched
+          → DownloadAt step.Receipt c → confirms c r ≡ true → Closes word.Fetched
       unfolding ended confirms
-      confirmed-run r d a e h =
+      confirmed-run r d a e place h =
           let k = and-true (says forms.ReceiptAnswered code.DownloadPostprocessDone receiptPhase r) (isOwn c r) h in
           let q = is-receipt c (a .time) (a .nonce) payload (u .direction) e in
           let g = subst At e (u .step) in
           ended-with word.Fetched
           (record {
             held = g .0;
-            whole = g .1;
+            whole = place;
             got = got Given {p = p} a (ap form q ∙ form-receipt _ _ _ _) (said _ _ _ r (k .0));
             id = ap transaction q ∙ id-receipt _ _ _ _;
           })
@@ -475,5 +482,5 @@ module _ (Given : Fields → List ℕ → Fields → List ℕ → Type 0) where
             → DownloadIssue s (next .segments) (next .transaction) 0 false (fileAt (next .transaction)) x
         each x (here e) =
             subst (DownloadIssue _ _ _ _ _ _) (sym e)
-            (outstanding-issue next payload file time nonce (new ∷ issues) refl step.Opening refl (refl, refl, refl))
+            (outstanding-issue next payload file time nonce (new ∷ issues) refl step.Opening refl tt (refl, refl, refl))
         each x (there m) = absurd (in-none (subst (In x) z m))

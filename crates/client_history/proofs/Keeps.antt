@@ -11,6 +11,8 @@ use Rattle.message.specs.Limits.{fileBytes}
 use Rattle.client.specs.declared.run.Client.{Client}
 use Rattle.client.specs.declared.run.Direction.{Direction}
 use Rattle.client.specs.declared.run.Direction.the-variants.{Upload, Download}
+use Rattle.client.specs.declared.run.Step.{Step}
+use Rattle.client.specs.declared.run.Step.the-variants as step
 use Rattle.client.specs.declared.run.Word.{Word}
 use Rattle.client.specs.NextRun.{beginLength, begun, ended}
 use Rattle.client.specs.Run.{Lent, lengthsOf, parametersOf, notBegun}
@@ -42,6 +44,7 @@ use Rattle.client_history.specs.Invariant.{
 use Rattle.client_history.proofs.Bounds.{bounded, bounds-kept}
 use Rattle.client_history.proofs.Changes.{Move, Ends, Change, ending}
 use Rattle.client_history.proofs.Changes as change
+use Rattle.client_history.proofs.Course.{upload-course, upload-at, DownloadAt, download-at}
 use Rattle.client_history.proofs.Downloads
 use Rattle.client_history.proofs.Issues.{newest-issued, newest-ended, answered}
 use Rattle.client_history.proofs.Uploads
@@ -72,6 +75,7 @@ module _ (Given : Fields → List ℕ → Fields → List ℕ → Type 0) (fileA
       upload-goes (change.download-returns w s g t) = not-both (u .direction) w
       upload-goes (change.repeats t) =
           Uploads.repeated-run Given c (p .payload) (p .file) (p .issues) u (a .running) (l .time) (l .nonce)
+          (upload-at (c .step) refl (upload-course (b .bounded .course) (u .direction)))
 
       upload-closes : {w : Word} → Ends Given p w → UploadRun Given (ended w c) (p .payload) (p .issues)
       upload-closes (change.last-taken {r} {d} w s g t) =
@@ -92,6 +96,9 @@ module _ (Given : Fields → List ℕ → Fields → List ℕ → Type 0) (fileA
           subst (λ (f : List ℕ). length f ≡ fileBytes) (k .file)
           (file-served (c .direction) (lengthsOf l) (a .buffers) (u .direction))
 
+      place : (s : Step) → c .step ≡ s → DownloadAt s c
+      place s e = download-at s e (u .direction) (b .bounded .course)
+
       download-goes : {next : Client} {file : List ℕ} → Move Given p next file
           → DownloadRun Given fileAt next file (issueOf next (p .payload) file (l .time) (l .nonce) ∷ p .issues)
       download-goes (change.upload-opens w s g t) = not-both w (u .direction)
@@ -102,18 +109,19 @@ module _ (Given : Fields → List ℕ → Fields → List ℕ → Type 0) (fileA
           (answered Given fileAt bank p r d b g) room (l .time) (l .nonce) s t
       download-goes (change.brings {r} {d} w s g t) =
           Downloads.brought-run Given fileAt c (p .payload) (p .file) (p .issues) u (a .running) bank r d
-          (answered Given fileAt bank p r d b g) room (l .time) (l .nonce) s t
+          (answered Given fileAt bank p r d b g) room (l .time) (l .nonce) s (place step.Segment s) t
       download-goes (change.download-returns {r} w s g t) =
           Downloads.returned Given fileAt c (p .payload) (p .file) (p .issues) u (a .running) (l .time) (l .nonce) r s t
       download-goes (change.repeats t) =
           Downloads.repeated-run Given fileAt c (p .payload) (p .file) (p .issues) u (a .running) (l .time) (l .nonce)
+          (place (c .step) refl)
 
       download-closes : {w : Word} → Ends Given p w → DownloadRun Given fileAt (ended w c) (p .file) (p .issues)
       download-closes (change.last-taken w s g t) = not-both w (u .direction)
       download-closes (change.cancelled w s g t) = not-both w (u .direction)
       download-closes (change.confirmed {r} {d} w s g t) =
           Downloads.confirmed-run Given fileAt c (p .payload) (p .file) (p .issues) u (a .running) r d
-          (answered Given fileAt bank p r d b g) s t
+          (answered Given fileAt bank p r d b g) s (place step.Receipt s) t
       download-closes change.otherwise =
           Downloads.rest-run Given fileAt c (p .payload) (p .file) (p .issues) u (a .running)
 

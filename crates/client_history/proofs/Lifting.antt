@@ -61,7 +61,7 @@ module _ (Given Later : Fields → List ℕ → Fields → List ℕ → Type 0)
   module _ (c : Client) (payload : List ℕ) (l : List Issue) (u : UploadRun Given c payload l) where
     upload-step-up : (s : Step) → UploadStep Given s c l → UploadStep Later s c l
     upload-step-up step.Opening k = k
-    upload-step-up step.Segment k = (open-up (k .0), k .1, k .2)
+    upload-step-up step.Segment k = open-up k
     upload-step-up step.Receipt k = k
 
     upload-word-up : (w : Word) → UploadWord Given w c l → UploadWord Later w c l
@@ -117,8 +117,8 @@ module _ (Given Later : Fields → List ℕ → Fields → List ℕ → Type 0)
       step-up : (s : Step) → isOpen s ≡ isOpen (c .step) → DownloadStep Given fileAt s c file l
           → DownloadStep Later fileLater s c file l
       step-up step.Opening e k = k
-      step-up step.Segment e k = (file-up (sym e) (k .0), k .1, k .2, k .3)
-      step-up step.Receipt e k = (file-up (sym e) (k .0), k .1, k .2)
+      step-up step.Segment e k = file-up (sym e) k
+      step-up step.Receipt e k = (file-up (sym e) (k .0), k .1)
 
       -- a run that holds a segment is open
       open-by : (s : Step) → DownloadStep Given fileAt s c file l → FileHeld Given fileAt c file l → isOpen s ≡ true

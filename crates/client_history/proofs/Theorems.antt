@@ -289,7 +289,7 @@ module _ (Given : Fields → List ℕ → Fields → List ℕ → Type 0) (fileA
 
           opened : (at : Step) → UploadStep Given at (p .run) (p .issues) → UploadOpen Given (p .run) (p .issues)
           opened step.Opening k = absurd (let a = s .least in let b = s .issued in omega arith)
-          opened step.Segment k = k .0
+          opened step.Segment k = k
           opened step.Receipt k = absurd k
 
           go : Invariant Given fileAt p → UploadOpen Given (p .run) (p .issues)
@@ -342,7 +342,7 @@ module _ (Given : Fields → List ℕ → Fields → List ℕ → Type 0) (fileA
           go : (s : Step) → isOpen s ≡ true → DownloadStep Given fileAt s (p .run) (p .file) (p .issues)
               → FileHeld Given fileAt (p .run) (p .file) (p .issues)
           go step.Opening h k = never h
-          go step.Segment h k = k .0
+          go step.Segment h k = k
           go step.Receipt h k = k .0
 
       -- with all segments held the run's file is the mailbox's at the opening

@@ -52,6 +52,7 @@ use Rattle.client_history.specs.Invariant.{
 }
 use Rattle.message.proofs.Verdicts.{by-test}
 use Rattle.client.proofs.Causes.{Answers, answers}
+use Rattle.client_history.proofs.Course.{UploadAt}
 use Rattle.client_history.proofs.Issues.{got, got-in}
 use Rattle.client.proofs.Replies.{said, cancels}
 use Rattle.client_history.proofs.Requests.{
@@ -95,16 +96,16 @@ module _ (Given : Fields → List ℕ → Fields → List ℕ → Type 0) where
   -- the outstanding request is one that the run may issue
   outstanding-issue : (c : Client) (payload file : List ℕ) (time : ℕ) (nonce : List ℕ) (issues : List Issue)
       → c .direction ≡ Upload
-      → (s : Step) → c .step ≡ s → UploadStep Given s c issues
+      → (s : Step) → c .step ≡ s → UploadAt s c → UploadStep Given s c issues
       → UploadIssue (c .subscriber) (c .segments) (c .transaction) (c .issued) payload
       (issueOf c payload file time nonce)
-  outstanding-issue c payload file time nonce issues up step.Opening e k =
+  outstanding-issue c payload file time nonce issues up step.Opening e p k =
       uploadOpens (c .exchange) time (nonceOf nonce (c .exchange)) (is-uploadOpening c time nonce payload up e)
       (data-opening c time nonce payload up e)
-  outstanding-issue c payload file time nonce issues up step.Segment e k =
-      sends (c .exchange) (c .segment) (k .1) (k .2) (is-uploadTransfer c time nonce payload up e)
+  outstanding-issue c payload file time nonce issues up step.Segment e p k =
+      sends (c .exchange) (c .segment) (p .0) (p .1) (is-uploadTransfer c time nonce payload up e)
       (data-transfer c time nonce payload up e)
-  outstanding-issue c payload file time nonce issues up step.Receipt e k = absurd k
+  outstanding-issue c payload file time nonce issues up step.Receipt e p k = absurd k
 
   -- an open upload that runs
   record Ready (c : Client) (payload : List ℕ) (issues : List Issue) : Type 0 where
@@ -137,13 +138,14 @@ module _ (Given : Fields → List ℕ → Fields → List ℕ → Type 0) where
       at = ap (λ (w : Direction). stepAfter w k (c .segments)) (r .direction)
 
       stepped : UploadStep Given step.Segment next (new ∷ issues)
-      stepped = (open-for {k = next} refl refl (λ x m. there m) (r .opened), omega arith, omega arith)
+      stepped = open-for {k = next} refl refl (λ x m. there m) (r .opened)
 
       each : (x : Issue) → In x (new ∷ issues)
           → UploadIssue (c .subscriber) (c .segments) (c .transaction) (max (c .issued) (k + 1)) payload x
       each x (here e) =
           subst (UploadIssue _ _ _ _ _) (sym e)
-          (outstanding-issue next payload file time nonce (new ∷ issues) (r .direction) step.Segment at stepped)
+          (outstanding-issue next payload file time nonce (new ∷ issues) (r .direction) step.Segment at
+          (omega arith, omega arith) stepped)
       each x (there m) = higher (omega arith) (r .each x m)
 
   module _ (c : Client) (payload file : List ℕ) (issues : List Issue) (u : UploadRun Given c payload issues)
@@ -154,7 +156,7 @@ module _ (Given : Fields → List ℕ → Fields → List ℕ → Type 0) where
       running = running;
       size = u .size;
       each = u .each;
-      opened = subst (λ (s : Step). UploadStep Given s c issues) e (u .step) .0;
+      opened = subst (λ (s : Step). UploadStep Given s c issues) e (u .step);
     }
 
     -- ---- the next request
@@ -166,9 +168,9 @@ module _ (Given : Fields → List ℕ → Fields → List ℕ → Type 0) where
       pub next-run : c .step ≡ step.Segment → (k repeats : ℕ) → Goes (goOn k repeats c)
       next-run e k repeats = goes-on c payload file issues k repeats time nonce (ready e)
 
-      pub repeated-run : Goes (repeated c)
+      pub repeated-run : UploadAt (c .step) c → Goes (repeated c)
       unfolding repeated
-      repeated-run = record {
+      repeated-run place = record {
         direction = u .direction;
         size = u .size;
         each = each;
@@ -182,9 +184,14 @@ module _ (Given : Fields → List ℕ → Fields → List ℕ → Type 0) where
           new : Issue
           new = issueOf next payload file time nonce
 
+          placed : (s : Step) → UploadAt s c → UploadAt s next
+          placed step.Opening k = k
+          placed step.Segment k = k
+          placed step.Receipt k = k
+
           stepped : (s : Step) → UploadStep Given s c issues → UploadStep Given s next (new ∷ issues)
           stepped step.Opening k = k
-          stepped step.Segment k = (open-for {k = next} refl refl (λ x m. there m) (k .0), k .1, k .2)
+          stepped step.Segment k = open-for {k = next} refl refl (λ x m. there m) k
           stepped step.Receipt k = k
 
           each : (x : Issue) → In x (new ∷ issues)
@@ -192,7 +199,7 @@ module _ (Given : Fields → List ℕ → Fields → List ℕ → Type 0) where
           each x (here e) =
               subst (UploadIssue _ _ _ _ _) (sym e)
               (outstanding-issue next payload file time nonce (new ∷ issues) (u .direction) (c .step) refl
-              (stepped (c .step) (u .step)))
+              (placed (c .step) place) (stepped (c .step) (u .step)))
           each x (there m) = u .each x m
 
     -- ---- the opening's answer
@@ -239,7 +246,7 @@ module _ (Given : Fields → List ℕ → Fields → List ℕ → Type 0) where
       where
         stepped : (s : Step) → UploadStep Given s c issues → UploadStep Given s (ended w c) issues
         stepped step.Opening k = k
-        stepped step.Segment k = (open-for {k = ended w c} refl refl (λ x m. m) (k .0), k .1, k .2)
+        stepped step.Segment k = open-for {k = ended w c} refl refl (λ x m. m) k
         stepped step.Receipt k = k
 
     pub rest-run : Closes (restWord c)
@@ -312,5 +319,5 @@ module _ (Given : Fields → List ℕ → Fields → List ℕ → Type 0) where
           → UploadIssue s (segmentsOf (length payload)) (next .transaction) 0 payload x
       each x (here e) =
           subst (UploadIssue _ _ _ _ _) (sym e)
-          (outstanding-issue next payload file time nonce (new ∷ issues) refl step.Opening refl refl)
+          (outstanding-issue next payload file time nonce (new ∷ issues) refl step.Opening refl tt refl)
       each x (there m) = absurd (in-none (subst (In x) z m))

@@ -149,7 +149,7 @@ module _ (Given : Fields → List ℕ → Fields → List ℕ → Type 0) where
 
   abbrev pub UploadStep : Step → Client → List Issue → Type 0
   UploadStep step.Opening c issues = c .issued ≡ 0
-  UploadStep step.Segment c issues = UploadOpen c issues × (1 ≤ c .segment) × (c .segment ≤ c .issued)
+  UploadStep step.Segment c issues = UploadOpen c issues
   UploadStep step.Receipt c issues = ⊥
 
   -- "lodged (segment N answered 000000)"
@@ -210,9 +210,8 @@ module _ (Given : Fields → List ℕ → Fields → List ℕ → Type 0) where
 
     abbrev pub DownloadStep : Step → Client → List ℕ → List Issue → Type 0
     DownloadStep step.Opening c file issues = (c .held ≡ 0) × (c .length ≡ 0) × (c .receipted ≡ false)
-    DownloadStep step.Segment c file issues =
-        FileHeld c file issues × (1 ≤ c .segment) × (c .segment ≤ c .held + 1) × (c .segment ≤ c .segments)
-    DownloadStep step.Receipt c file issues = FileHeld c file issues × (c .held ≡ c .segments) × (c .receipted ≡ true)
+    DownloadStep step.Segment c file issues = FileHeld c file issues
+    DownloadStep step.Receipt c file issues = FileHeld c file issues × (c .receipted ≡ true)
 
     -- "fetched (011000)"
     pub record Confirmed (c : Client) (file : List ℕ) (issues : List Issue) : Type 0 where

@@ -170,7 +170,7 @@ run-lifts {h} (grows {x = x}) sound later p (upload b u) = lifted (Gave h) (Gave
     at : (s : Step) → isOpen s ≡ true → UploadStep (Gave h) s (p .run) (p .issues) →
         OpenedBy forms.UploadOpening h (p .run .transaction) (p .issues)
     at step.Opening o k = never o
-    at step.Segment o k = opened-upload sound (k .0)
+    at step.Segment o k = opened-upload sound k
     at step.Receipt o k = absurd k
 run-lifts {h} (grows {x = x}) sound later p (download b u) = lifted (Gave h) (Gave (x ∷ h)) gave-more (fileIn h) (fileIn (x ∷ h)) p
     (λ o. file-stays sound later (at (p .run .step) o (u .step))) (download b u)
@@ -178,7 +178,7 @@ run-lifts {h} (grows {x = x}) sound later p (download b u) = lifted (Gave h) (Ga
     at : (s : Step) → isOpen s ≡ true → DownloadStep (Gave h) (fileIn h) s (p .run) (p .file) (p .issues) →
         OpenedBy forms.DownloadOpening h (p .run .transaction) (p .issues)
     at step.Opening o k = never o
-    at step.Segment o k = opened-download sound (k .0)
+    at step.Segment o k = opened-download sound k
     at step.Receipt o k = opened-download sound (k .0)
 
 -- ---- a call of the run

@@ -246,7 +246,7 @@ module _ (s : Course) (v : Parts s) (copies : Copied s) (numbers : OneExchangeNu
           (s .runs j) (s .files j) (issuesOf j (s .issued)) →
           OpenedBy forms.DownloadOpening (v .bank .past .history) (s .runs j .transaction) (issuesOf j (s .issued))
       held l step.Opening k = absurd (let z = k .0 in omega arith)
-      held l step.Segment k = opened-download sound (k .0)
+      held l step.Segment k = opened-download sound k
       held l step.Receipt k = opened-download sound (k .0)
 
       fetched : DownloadStep (Gave (v .bank .past .history)) (fileIn (v .bank .past .history)) (s .runs j .step) (s .runs j)

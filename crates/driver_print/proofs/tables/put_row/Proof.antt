@@ -9,20 +9,21 @@ use Rattle.driver_print.proofs.tables.put_row.Statement.{statement}
 use Rattle.driver_print.proofs.tables.put_row.Tie as tie
 
 -- the row's run is one of the unit's, and so is a row's place or mailbox
-run-below : (c : tie.After-shared-slice-known3) → c .before .before .before .before .args .i < runCount
+run-below : (c : tie.After-shared-slice-known4) → c .before .before .before .before .before .args .i < runCount
 run-below c =
-    let start = c .before .before .before .before in
+    let start = c .before .before .before .before .before in
     omega (arith, start .pre .1, count-most (start .args .t))
 
-place-below : (c : tie.After-enum-told) → c .before .before .before .before .before .before .before .before .args .i < placeCount
+place-below : (c : tie.After-enum-told)
+    → c .before .before .before .before .before .before .before .before .before .args .i < placeCount
 place-below c =
-    let start = c .before .before .before .before .before .before .before .before in
+    let start = c .before .before .before .before .before .before .before .before .before in
     rw (c .enum-told .given .1) at (start .pre .1)
 
 mailbox-below : (c : tie.After-enum-told2)
-    → c .before .before .before .before .before .before .before .before .args .i < placeCount
+    → c .before .before .before .before .before .before .before .before .before .args .i < placeCount
 mailbox-below c =
-    let start = c .before .before .before .before .before .before .before .before in
+    let start = c .before .before .before .before .before .before .before .before .before in
     rw (c .enum-told2 .given .1) at (start .pre .1)
 
 add-n : tie.Need-add-n

@@ -20,7 +20,7 @@ row-count-requires : tie.Need-row-count-requires Inv-loop μ-loop
 row-count-requires c κs = tt
 
 loop-holds : tie.Need-loop-holds Inv-loop μ-loop
-loop-holds c = rows-start _ _ _ _ _ (c .before .before .before .before .before .pre .0)
+loop-holds c = rows-start _ _ _ _ _ (c .before .before .before .before .before .before .pre .0)
 
 put-row-requires : tie.Need-put-row-requires Inv-loop μ-loop
 put-row-requires c κs =
@@ -40,7 +40,7 @@ loop-again c =
     let at-row = c .before .before in
     let at-test = at-row .before .before in
     let at-count = at-test .before .before in
-    let a = at-count .before .before .before .before .before .args in
+    let a = at-count .before .before .before .before .before .before .args in
     let l = at-test .before .loop in
     let below = rw (at-count .row-count .ensures) at (at-test .loop-test .taken) in
     let most = row-most (a .t) (a .u) (lent (a .rows .now) (a .orders .now) (a .mailboxes .now)) (a .files .now) (l .i) in

@@ -16,7 +16,7 @@ put-header-requires c κs = search needs
 put-rows-requires : tie.Need-put-rows-requires
 put-rows-requires c κs =
     let at-head = c .before .before .before in
-    let t = at-head .before .before .before .before .before .before .before .args .t in
+    let t = at-head .before .before .before .before .before .before .before .before .args .t in
     let placed = at-head .put-header .ensures in
     (omega (arith, placed .place, put-length placed, header-most t, count-most t), search needs)
 

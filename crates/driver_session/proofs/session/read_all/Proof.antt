@@ -3,27 +3,30 @@ use native.Mathlib.Omega.{arith}
 use Prim.Native.Nat.{_-_}
 use mathlib.Core.Path.{_≡_, refl, _∙_}
 use lib.ListN.{length}
-use Rattle.unit.specs.State.{fresh, stateOf}
+use Rattle.bank.specs.Lent.{lent}
+use Rattle.unit.specs.State.{fresh, memory, stateOf}
 use Rattle.driver_session.specs.Session.{Calls}
 use Rattle.driver_session.proofs.Sessions.{start-calls, calls-on}
 use Rattle.driver_session.proofs.session.read_all.Statement.{statement}
 use Rattle.driver_session.proofs.session.read_all.Tie as tie
 
 abbrev Inv-loop : tie.InvT-loop
-Inv-loop input₀ output₀ orders₀ boxes₀ payloads₀ files₀ buffer₀ t₀ calls₀ input output orders mailboxes payloads files buffer t calls =
-    (length input ≡ length input₀) × (length output ≡ length output₀) × (length orders ≡ length orders₀) × (length mailboxes ≡ length boxes₀)
-    × (length payloads ≡ length payloads₀) × (length files ≡ length files₀) × (length buffer ≡ length buffer₀)
-    × Calls (stateOf fresh orders₀ boxes₀ payloads₀ files₀ buffer₀) (stateOf (t .unit) orders mailboxes payloads files buffer)
+Inv-loop input₀ output₀ rows₀ orders₀ boxes₀ payloads₀ files₀ buffer₀ t₀ calls₀ input output rows orders mailboxes payloads files buffer t calls =
+    (length input ≡ length input₀) × (length output ≡ length output₀) × (length rows ≡ length rows₀)
+    × (length orders ≡ length orders₀) × (length mailboxes ≡ length boxes₀) × (length payloads ≡ length payloads₀)
+    × (length files ≡ length files₀) × (length buffer ≡ length buffer₀)
+    × Calls (stateOf fresh (memory (lent rows₀ orders₀ boxes₀) payloads₀ files₀ buffer₀))
+    (stateOf (t .unit) (memory (lent rows orders mailboxes) payloads files buffer))
 
 abbrev μ-loop : tie.MeasureT-loop
-μ-loop input₀ output₀ orders₀ boxes₀ payloads₀ files₀ buffer₀ t₀ calls₀ input output orders mailboxes payloads files buffer t calls =
+μ-loop input₀ output₀ rows₀ orders₀ boxes₀ payloads₀ files₀ buffer₀ t₀ calls₀ input output rows orders mailboxes payloads files buffer t calls =
     18446744073709551615 - calls
 
 fresh-requires : tie.Need-fresh-requires Inv-loop μ-loop
 fresh-requires c κs = tt
 
 loop-holds : tie.Need-loop-holds Inv-loop μ-loop
-loop-holds c = (refl, refl, refl, refl, refl, refl, refl, start-calls _ _ _ _ _ _ _ (c .fresh .ensures))
+loop-holds c = (refl, refl, refl, refl, refl, refl, refl, refl, start-calls _ _ _ (c .fresh .ensures))
 
 add-calls : tie.Need-add-calls Inv-loop μ-loop
 add-calls c = omega (arith, c .before .loop-test .taken)
@@ -33,8 +36,8 @@ step-requires c κs = tt
 
 loop-less : tie.Need-loop-less Inv-loop μ-loop
 loop-less c =
-    let at-step = c .before .before .before .before .before .before .before .before .before .before .before .before .before .before in
-    let in-loop = at-step .before .before .before .before .before .before .before .before .before .before in
+    let at-step = c .before .before .before .before .before .before .before .before .before .before .before .before .before .before .before .before in
+    let in-loop = at-step .before .before .before .before .before .before .before .before .before .before .before in
     omega (arith, in-loop .loop-test .taken)
 
 loop-again : tie.Need-loop-again Inv-loop μ-loop
@@ -44,17 +47,20 @@ loop-again c =
     let payloads-back = files-back .before .before in
     let mailboxes-back = payloads-back .before .before in
     let orders-back = mailboxes-back .before .before in
-    let output-back = orders-back .before .before in
+    let rows-back = orders-back .before .before in
+    let output-back = rows-back .before .before in
     let input-back = output-back .before .before in
-    let inv = input-back .before .before .before .before .before .before .before .before .before .before .before .before .loop .inv in (
+    let at-step = input-back .before in
+    let inv = at-step .before .before .before .before .before .before .before .before .before .before .before .before .loop .inv in (
       input-back .input .given ∙ inv .0,
       output-back .output .given ∙ inv .1,
-      orders-back .orders .given ∙ inv .2,
-      mailboxes-back .mailboxes .given ∙ inv .3,
-      payloads-back .payloads .given ∙ inv .4,
-      files-back .files .given ∙ inv .5,
-      buffer-back .buffer .given ∙ inv .6,
-      calls-on _ _ _ (inv .7) (input-back .before .step .ensures),
+      rows-back .rows .given ∙ inv .2,
+      orders-back .orders .given ∙ inv .3,
+      mailboxes-back .mailboxes .given ∙ inv .4,
+      payloads-back .payloads .given ∙ inv .5,
+      files-back .files .given ∙ inv .6,
+      buffer-back .buffer .given ∙ inv .7,
+      calls-on _ _ _ (inv .8) (at-step .step .ensures),
     )
 
 same-length : tie.Need-same-length Inv-loop μ-loop
@@ -78,8 +84,11 @@ same-length-6 c = c .before .before .loop .inv .5
 same-length-7 : tie.Need-same-length-7 Inv-loop μ-loop
 same-length-7 c = c .before .before .loop .inv .6
 
+same-length-8 : tie.Need-same-length-8 Inv-loop μ-loop
+same-length-8 c = c .before .before .loop .inv .7
+
 returns : tie.Need-returns Inv-loop μ-loop
-returns c = c .before .before .loop .inv .7
+returns c = c .before .before .loop .inv .8
 
 pub read-all-spec : {M : Type 1} → statement M
 read-all-spec =
@@ -100,4 +109,5 @@ read-all-spec =
     same-length-5
     same-length-6
     same-length-7
+    same-length-8
     returns)

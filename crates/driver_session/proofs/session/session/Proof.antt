@@ -9,8 +9,8 @@ returns : tie.Need-returns
 unfolding start
 returns c =
     let at-files = c .before .before in
-    let at-read-all = at-files .before .before .before .before .before .before .before .before .before .before .before in
-    session-of _ _ _ _ _ _ (at-read-all .read-all .ensures)
+    let at-read-all = at-files .before .before .before .before .before .before .before .before .before .before .before .before .before in
+    session-of _ _ (at-read-all .read-all .ensures)
 
 pub session-spec : {M : Type 1} → statement M
 session-spec =
@@ -23,10 +23,12 @@ session-spec =
     (λ c. search needs)
     (λ c. search needs)
     (λ c. search needs)
-    (λ c κs. tt)
-    (λ c. search needs)
-    (λ c. search needs)
-    (λ c. search needs)
     (λ c. search needs)
     (λ c κs. tt)
+    (λ c. search needs)
+    (λ c. search needs)
+    (λ c. search needs)
+    (λ c. search needs)
+    (λ c. search needs)
+    (λ c κs. search needs)
     returns)

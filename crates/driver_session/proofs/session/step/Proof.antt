@@ -13,8 +13,8 @@ returns c = no-calls _
 same-length-2 : tie.Need-same-length-2
 same-length-2 c =
     let at-buffer = c .before .before .before .before .before .before .before .before .before .before in
-    let at-call = at-buffer .before .before .before .before .before .before .before .before .before in
-    at-call .before .before .before .before .before .before .before .before .before .before .before .before .before .before .input .given
+    let at-call = at-buffer .before .before .before .before .before .before .before .before .before .before .before in
+    at-call .before .before .before .before .before .before .before .before .before .before .before .before .before .before .before .input .given
 
 same-length-3 : tie.Need-same-length-3
 same-length-3 c = c .before .before .before .before .output .given
@@ -22,29 +22,34 @@ same-length-3 c = c .before .before .before .before .output .given
 same-length-4 : tie.Need-same-length-4
 same-length-4 c =
     let at-buffer = c .before .before .before .before .before .before .before .before .before .before in
-    at-buffer .before .before .before .before .before .before .before .before .orders .given
+    at-buffer .before .before .before .before .before .before .before .before .before .before .rows .given
 
 same-length-5 : tie.Need-same-length-5
 same-length-5 c =
     let at-buffer = c .before .before .before .before .before .before .before .before .before .before in
-    at-buffer .before .before .before .before .before .before .mailboxes .given
+    at-buffer .before .before .before .before .before .before .before .before .orders .given
 
 same-length-6 : tie.Need-same-length-6
 same-length-6 c =
     let at-buffer = c .before .before .before .before .before .before .before .before .before .before in
-    at-buffer .before .before .before .before .payloads .given
+    at-buffer .before .before .before .before .before .before .mailboxes .given
 
 same-length-7 : tie.Need-same-length-7
-same-length-7 c = c .before .before .before .before .before .before .before .before .before .before .before .before .files .given
+same-length-7 c =
+    let at-buffer = c .before .before .before .before .before .before .before .before .before .before in
+    at-buffer .before .before .before .before .payloads .given
 
 same-length-8 : tie.Need-same-length-8
-same-length-8 c = c .before .before .before .before .before .before .before .before .before .before .buffer .given
+same-length-8 c = c .before .before .before .before .before .before .before .before .before .before .before .before .files .given
+
+same-length-9 : tie.Need-same-length-9
+same-length-9 c = c .before .before .before .before .before .before .before .before .before .before .buffer .given
 
 returns-2 : tie.Need-returns-2
 returns-2 c =
     let at-buffer = c .before .before .before .before .before .before .before .before .before .before in
-    let at-call = at-buffer .before .before .before .before .before .before .before .before .before in
-    let at-record = at-call .before .before .before .before .before .before in
+    let at-call = at-buffer .before .before .before .before .before .before .before .before .before .before .before in
+    let at-record = at-call .before .before .before .before .before .before .before in
     let at-test = at-record .before .before in
     let at-kind = at-test .before .before in
     one-call _ _ _ _ _ _ (at-kind .call-of .ensures) (at-test .before .is-call .ensures) (at-test .if1 .left)
@@ -72,4 +77,5 @@ step-spec =
     same-length-6
     same-length-7
     same-length-8
+    same-length-9
     returns-2)
