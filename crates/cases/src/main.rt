@@ -1,12 +1,9 @@
 // The unstarred cases of document 01 as they come out, and the return codes with their names.
-use bank::call::FrameAnswer;
 use bank::call::frame_arrives;
+use bank_rows::layout::STATE_SIZE;
 use bank_state::limits::ID_BYTES;
 use bank_state::limits::REPLY_ROOM;
 use bank_state::limits::STORE_BYTES;
-use bank_state::state::Bank;
-use bank_state::state::fresh;
-use frame::reader::read_reply;
 use frame::writer::Written;
 use frame::writer::write;
 use frame_table::fields::Bits128;
@@ -23,40 +20,21 @@ use print::text::code_digits;
 // The bank time of every call, and every timestamp.
 const CLOCK: u32 = 1000;
 
-// The bank after a call, and the number of its reply's field 0D.
-struct Answered {
-    pub bank: Bank,
-    pub code: u64,
-}
-
-// The return code in the reply; 0 where the call was given a number.
-fn code_in(answer: FrameAnswer, buffer: &[u8]) -> u64 {
-    match answer {
-        FrameAnswer::Reply(n) => read_reply(front(buffer, n)).return_code(),
-        FrameAnswer::WrongLength => 0,
-    }
-}
-
-// A frame arrives.
-fn send(b: Bank, frame: &[u8], orders: &mut [u8], mailboxes: &mut [u8]) -> Answered {
+// A frame arrives: the return code of its reply, 0 where the call was given a number.
+fn send(frame: &[u8], rows: &mut [u64], orders: &mut [u8], mailboxes: &mut [u8]) -> u64 {
     let ids = [0u8; ID_BYTES];
     let mut buffer = [0u8; REPLY_ROOM];
-    let o = frame_arrives(b, CLOCK, &ids, frame, orders, mailboxes, &mut buffer);
-    let bank = o.bank;
-    let answer = o.answer;
-    Answered {
-        bank,
-        code: code_in(answer, &buffer),
-    }
+    let o = frame_arrives(rows, CLOCK, &ids, frame, orders, mailboxes, &mut buffer);
+    o.code
 }
 
-// A request arrives.
-fn ask(b: Bank, q: Fields, bytes: &[u8], orders: &mut [u8], mailboxes: &mut [u8]) -> Answered {
+// A request arrives: the return code of its reply, 0 where it could not be written.
+fn ask(q: Fields, bytes: &[u8], rows: &mut [u64], orders: &mut [u8], mailboxes: &mut [u8]) -> u64 {
     let mut frame = [0u8; FRAME_LIMIT];
     let written = write(q, bytes, &mut frame);
     match written {
-        Written::Length(n) => send(b, front(&frame, n), orders, mailboxes),
-        Written::Refused => Answered { bank: b, code: 0 },
+        Written::Length(n) => send(front(&frame, n), rows, orders, mailboxes),
+        Written::Refused => 0,
     }
 }
 
@@ -77,30 +55,44 @@ fn print_case(sent: &[u8], code: u64) {
     io::write_all(STDOUT_FILENO, b"\n");
 }
 
-// 15 and 16 segments.
-fn print_openings(bank: Bank, orders: &mut [u8], mailboxes: &mut [u8]) -> Bank {
-    let nothing = [0u8; 0];
-    let a = ask(bank, opening(15), &nothing, orders, mailboxes);
-    print_case(b"15 segments ", a.code);
-    let b = ask(a.bank, opening(16), &nothing, orders, mailboxes);
-    print_case(b"16 segments ", b.code);
-    b.bank
-}
-
-// 256 and 257 data bytes.
-fn print_segments(bank: Bank, orders: &mut [u8], mailboxes: &mut [u8]) {
-    let a = ask(bank, segment(1), &[7u8; 256], orders, mailboxes);
-    print_case(b"256 data bytes ", a.code);
-    let b = ask(a.bank, segment(2), &[7u8; 257], orders, mailboxes);
-    print_case(b"257 data bytes ", b.code);
-}
-
-// The cases of document 01 that are run.
+// 15 and 16 segments, and 256 and 257 data bytes.
 fn print_cases() {
+    let mut rows = [0u64; STATE_SIZE];
     let mut orders = [0u8; STORE_BYTES];
     let mut mailboxes = [0u8; STORE_BYTES];
-    let bank = print_openings(fresh(), &mut orders, &mut mailboxes);
-    print_segments(bank, &mut orders, &mut mailboxes);
+    let nothing = [0u8; 0];
+    let a = ask(
+        opening(15),
+        &nothing,
+        &mut rows,
+        &mut orders,
+        &mut mailboxes,
+    );
+    print_case(b"15 segments ", a);
+    let b = ask(
+        opening(16),
+        &nothing,
+        &mut rows,
+        &mut orders,
+        &mut mailboxes,
+    );
+    print_case(b"16 segments ", b);
+    let c = ask(
+        segment(1),
+        &[7u8; 256],
+        &mut rows,
+        &mut orders,
+        &mut mailboxes,
+    );
+    print_case(b"256 data bytes ", c);
+    let d = ask(
+        segment(2),
+        &[7u8; 257],
+        &mut rows,
+        &mut orders,
+        &mut mailboxes,
+    );
+    print_case(b"257 data bytes ", d);
 }
 
 // A line: the code's six digits, and its name in Annex 1.

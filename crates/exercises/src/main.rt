@@ -1,21 +1,31 @@
 // The exercises A, B and C on standard output: a script played on the unit, each move with its line.
 mod lines;
-mod play;
+mod record;
 mod results;
 mod say;
 mod script;
 
+use bank_rows::layout::STATE_SIZE;
+use bank_state::limits::REPLY_ROOM;
 use bank_state::limits::STORE_BYTES;
 use libc::STDOUT_FILENO;
-use play::Course;
-use play::MESSAGES;
-use play::no_message;
-use play::play;
+use lines::say_line;
+use record::MAIL_BYTES;
+use record::RECORD_BYTES;
+use record::content_of;
+use record::hold_back;
+use record::keep;
+use record::message_of;
+use record::put_record;
 use results::say_book;
 use results::say_results;
 use script::MOVES;
 use script::MOVES_A;
+use script::Move;
+use script::move_at;
+use unit::call::call;
 use unit::state::ROOMS_BYTES;
+use unit::state::UnitState;
 use unit::state::fresh;
 
 // The text of which the orders' bytes are parts.
@@ -32,60 +42,88 @@ fn example_text() -> [u8; TEXT_BYTES] {
     text
 }
 
-// Plays the moves from one place of the script up to another.
-fn play_moves(
-    c: Course,
-    from: usize,
-    end: usize,
+// Prints the heading before move i.
+fn say_heading(i: usize) {
+    if i == 0 {
+        io::write_all(
+            STDOUT_FILENO,
+            b"exercise A: an upload and a statement, no message lost\n",
+        );
+    } else if i == MOVES_A {
+        io::write_all(
+            STDOUT_FILENO,
+            b"exercise B: the same while messages are lost, repeated and late\n",
+        );
+    }
+}
+
+// Plays a move on the unit, and prints its line.
+fn play_move(
+    u: UnitState,
+    m: Move,
     text: &[u8],
+    mail: &mut [u8],
+    rows: &mut [u64],
     orders: &mut [u8],
     mailboxes: &mut [u8],
     payloads: &mut [u8],
     files: &mut [u8],
-) -> Course {
-    let mut t = c;
-    let mut i = from;
-    while i < end {
-        let at = i;
-        i += 1;
-        t = play(t, at, i as u64, text, orders, mailboxes, payloads, files);
-    }
-    t
+) -> UnitState {
+    let mut record = [0u8; RECORD_BYTES];
+    let mut buffer = [0u8; REPLY_ROOM];
+    put_record(&mut record, m, content_of(text, m.run), message_of(mail, m));
+    let o = call(
+        u,
+        &record,
+        rows,
+        orders,
+        mailboxes,
+        payloads,
+        files,
+        &mut buffer,
+    );
+    let answer = o.answer;
+    say_line(m, message_of(mail, m), answer);
+    hold_back(mail, m.fate, &record);
+    keep(mail, answer, &buffer);
+    o.unit
 }
 
-// Exercises A, B and C with orders whose bytes are parts of this text.
-fn exercise(text: &[u8]) {
+// Plays the script.
+fn play(
+    script: &[u8],
+    text: &[u8],
+    mail: &mut [u8],
+    rows: &mut [u64],
+    orders: &mut [u8],
+    mailboxes: &mut [u8],
+    payloads: &mut [u8],
+    files: &mut [u8],
+) -> UnitState {
+    let mut u = fresh();
+    let mut i = 0;
+    while i < MOVES {
+        say_heading(i);
+        let m = move_at(script, i);
+        i += 1;
+        u = play_move(u, m, text, mail, rows, orders, mailboxes, payloads, files);
+    }
+    u
+}
+
+// Exercises A, B and C by a script, with orders whose bytes are parts of this text.
+fn exercise(script: &[u8], text: &[u8]) {
+    let mut mail = [0u8; MAIL_BYTES];
+    let mut rows = [0u64; STATE_SIZE];
     let mut orders = [0u8; STORE_BYTES];
     let mut mailboxes = [0u8; STORE_BYTES];
     let mut payloads = [0u8; ROOMS_BYTES];
     let mut files = [0u8; ROOMS_BYTES];
-    let unit = fresh();
-    let none = no_message();
-    let mail = [none; MESSAGES];
-    let start = Course { unit, mail };
-    io::write_all(
-        STDOUT_FILENO,
-        b"exercise A: an upload and a statement, no message lost\n",
-    );
-    let a = play_moves(
-        start,
-        0,
-        MOVES_A,
+    let u = play(
+        script,
         text,
-        &mut orders,
-        &mut mailboxes,
-        &mut payloads,
-        &mut files,
-    );
-    io::write_all(
-        STDOUT_FILENO,
-        b"exercise B: the same while messages are lost, repeated and late\n",
-    );
-    let b = play_moves(
-        a,
-        MOVES_A,
-        MOVES,
-        text,
+        &mut mail,
+        &mut rows,
         &mut orders,
         &mut mailboxes,
         &mut payloads,
@@ -95,12 +133,20 @@ fn exercise(text: &[u8]) {
         STDOUT_FILENO,
         b"exercise C: each order's closing word beside what the bank has\n",
     );
-    let after = b.unit;
-    say_results(after, text, &orders, &files);
-    say_book(after);
+    say_results(u, &rows, text, &orders, &files);
+    say_book(&rows);
 }
 
+// The script begins with a blank move.
 fn main() {
     let text = example_text();
-    exercise(&text);
+    exercise(
+        b"    \
+        f2  b1  q1  r1  q1  r1  q1  r1  q1  r1  \
+        b2  q2  r2  q2  r2  q2  r2  \
+        b3  q3x n3  q3  r3  q3c r3  q3  r3x n3  q3  r3  q3l r3  q3c r3  q3l r3x \
+        b4  q4  r4  q4  r4  q4  r4x n4  q4  r4  \
+        f5  b5  q5  r5  q5  r5x n5  q5  r5  q5  r5  q5  r5  ",
+        &text,
+    );
 }

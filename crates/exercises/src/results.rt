@@ -1,9 +1,13 @@
 // Exercise C: a run's closing word beside what the bank has, whether the word is true of it, and the bank's book.
-use crate::play::content_of;
+use crate::record::content_of;
 use crate::say::VALUES;
 use crate::say::say;
 use crate::say::say_closing;
+use crate::say::say_end;
 use crate::script::RUN_COUNT;
+use bank_rows::layout::STATE_SIZE;
+use bank_rows::numbers::file_length;
+use bank_rows::places::place_at;
 use bank_state::limits::PLACE_COUNT;
 use bank_state::search::is_booked;
 use bank_state::state::Place;
@@ -18,8 +22,6 @@ use octets::bytes::front;
 use print::book::BOOK_ROOM;
 use print::book::book;
 use unit::state::UnitState;
-use unit::state::file_length_of;
-use unit::state::place_of;
 
 // Whether two byte rows are the same.
 fn same_bytes(a: &[u8], b: &[u8]) -> bool {
@@ -36,17 +38,17 @@ fn same_bytes(a: &[u8], b: &[u8]) -> bool {
     true
 }
 
-// Whether a place holds the booked order of a run.
-fn is_order(p: Place, c: Client) -> bool {
+// Whether a place holds the booked order of a subscriber under this number.
+fn is_order(p: Place, subscriber: u64, number: u64) -> bool {
     let used = p.used;
-    is_booked(used) && p.subscriber == c.subscriber && order_number_of(p.number) == c.number
+    is_booked(used) && p.subscriber == subscriber && order_number_of(p.number) == number
 }
 
-// The place of a run's booked order; the number of places where it is not in the book.
-fn find_order(u: UnitState, c: Client) -> usize {
+// The place of a booked order; the number of places where it is not in the book.
+fn find_order(rows: &[u64; STATE_SIZE], subscriber: u64, number: u64) -> usize {
     let mut i = 0;
     while i < PLACE_COUNT {
-        if is_order(place_of(u, i), c) {
+        if is_order(place_at(rows, i), subscriber, number) {
             return i;
         }
         i += 1;
@@ -63,8 +65,14 @@ struct Holding {
 }
 
 // What the book has of an upload.
-fn book_has(u: UnitState, c: Client, payload: &[u8], orders: &[u8]) -> Holding {
-    let i = find_order(u, c);
+fn book_has(
+    rows: &[u64; STATE_SIZE],
+    subscriber: u64,
+    number: u64,
+    payload: &[u8],
+    orders: &[u8],
+) -> Holding {
+    let i = find_order(rows, subscriber, number);
     if PLACE_COUNT <= i {
         return Holding {
             there: false,
@@ -72,7 +80,7 @@ fn book_has(u: UnitState, c: Client, payload: &[u8], orders: &[u8]) -> Holding {
             same: false,
         };
     }
-    let p = place_of(u, i);
+    let p = place_at(rows, i);
     Holding {
         there: true,
         length: p.length,
@@ -81,11 +89,16 @@ fn book_has(u: UnitState, c: Client, payload: &[u8], orders: &[u8]) -> Holding {
 }
 
 // What the mailbox of a download has, and whether the run, whose file this is, holds the statement.
-fn mailbox_has(u: UnitState, c: Client, statement: &[u8], file: &[u8]) -> Holding {
-    let i = (c.subscriber % (PLACE_COUNT as u64 + 1)) as usize;
+fn mailbox_has(
+    rows: &[u64; STATE_SIZE],
+    subscriber: u64,
+    statement: &[u8],
+    file: &[u8],
+) -> Holding {
+    let i = (subscriber % (PLACE_COUNT as u64 + 1)) as usize;
     let mut length = 0;
     if 0 < i {
-        length = file_length_of(u, i - 1);
+        length = file_length(rows, i - 1);
     }
     Holding {
         there: true,
@@ -106,79 +119,148 @@ fn is_true(w: Word, h: Holding) -> bool {
     }
 }
 
+// The texts of a row, numbered from 0.
+fn say_text(k: usize, v: [u64; VALUES]) {
+    say(
+        b"\
+            client 1, upload: \n\
+            client 1, download: \n\
+            open\n\
+            ; book 7, 3 bytes\n\
+            ; book nothing\n\
+            ; mailbox 2, 3 bytes\n\
+            ; true\n\
+            ; false\n\
+            ",
+        k,
+        v,
+    );
+}
+
 // The closing word, and whether it is true; a run that has not ended has none.
-fn say_word(stage: Stage, number: u64, h: Holding, bank: &[u8], v: [u64; VALUES]) {
-    let mut holds = true;
+fn say_word(stage: Stage, number: u64, h: Holding, v: [u64; VALUES]) -> bool {
     match stage {
-        Stage::NotBegun => say(b"open", v),
-        Stage::Running => say(b"open", v),
+        Stage::NotBegun => {
+            say_text(2, v);
+            true
+        }
+        Stage::Running => {
+            say_text(2, v);
+            true
+        }
         Stage::Ended(w) => {
             say_closing(w, number);
-            holds = is_true(w, h);
+            is_true(w, h)
         }
-    }
-    say(bank, v);
-    if holds {
-        say(b"; true\n", v);
-    } else {
-        say(b"; false\n", v);
     }
 }
 
-// The row of a run from what the bank has.
-fn say_row(c: Client, h: Holding, v: [u64; VALUES]) {
-    let stage = c.stage;
-    let direction = c.direction;
+// The text of whose order it is.
+fn run_text(direction: Direction) -> usize {
+    match direction {
+        Direction::Upload => 0,
+        Direction::Download => 1,
+    }
+}
+
+// The text of what the bank has.
+fn holding_text(direction: Direction, there: bool) -> usize {
     match direction {
         Direction::Upload => {
-            say(b"client 1, upload: ", v);
-            if h.there {
-                say_word(stage, c.number, h, b"; book 7, 3 bytes", v);
-            } else {
-                say_word(stage, c.number, h, b"; book nothing", v);
+            if there {
+                return 3;
             }
+            4
         }
-        Direction::Download => {
-            say(b"client 1, download: ", v);
-            say_word(stage, c.number, h, b"; mailbox 2, 3 bytes", v);
-        }
+        Direction::Download => 5,
+    }
+}
+
+// The text of whether a word is true.
+fn truth_text(holds: bool) -> usize {
+    if holds {
+        return 6;
+    }
+    7
+}
+
+// The row of a run from what the bank has.
+fn say_row(stage: Stage, direction: Direction, h: Holding, v: [u64; VALUES]) {
+    say_text(run_text(direction), v);
+    let holds = say_word(stage, v[7], h, v);
+    say_text(holding_text(direction, h.there), v);
+    say_text(truth_text(holds), v);
+    say_end();
+}
+
+// What the bank has of the order of client run i, from 0 on.
+fn bank_has(
+    c: Client,
+    i: usize,
+    rows: &[u64; STATE_SIZE],
+    content: &[u8],
+    orders: &[u8],
+    files: &[u8],
+) -> Holding {
+    let direction = c.direction;
+    match direction {
+        Direction::Upload => book_has(rows, c.subscriber, c.number, content, orders),
+        Direction::Download => mailbox_has(
+            rows,
+            c.subscriber,
+            content,
+            file_of(files, i, c.length),
+        ),
     }
 }
 
 // The row of client run i, from 0 on.
-fn say_run(u: UnitState, i: usize, text: &[u8], orders: &[u8], files: &[u8]) {
-    if RUN_COUNT <= i {
-        return;
-    }
-    let r = u.runs[i];
-    let c = r.client;
-    let direction = c.direction;
-    let content = content_of(text, i + 1);
-    let h = match direction {
-        Direction::Upload => book_has(u, c, content, orders),
-        Direction::Download => mailbox_has(u, c, content, file_of(files, i, c.length)),
-    };
+fn say_run(
+    c: Client,
+    i: usize,
+    rows: &[u64; STATE_SIZE],
+    text: &[u8],
+    orders: &[u8],
+    files: &[u8],
+) {
+    let h = bank_has(
+        c,
+        i,
+        rows,
+        content_of(text, (i % 16) as u8 + 1),
+        orders,
+        files,
+    );
     let mut v = [0u64; VALUES];
-    v[1] = i as u64 + 1;
+    v[1] = (i % 16) as u64 + 1;
     v[2] = c.subscriber;
     v[3] = h.length;
     v[7] = c.number;
-    say_row(c, h, v);
+    let stage = c.stage;
+    let direction = c.direction;
+    say_row(stage, direction, h, v);
 }
 
 // The rows of all client runs.
-pub(crate) fn say_results(u: UnitState, text: &[u8], orders: &[u8], files: &[u8]) {
+pub(crate) fn say_results(
+    u: UnitState,
+    rows: &[u64; STATE_SIZE],
+    text: &[u8],
+    orders: &[u8],
+    files: &[u8],
+) {
     let mut i = 0;
     while i < RUN_COUNT {
-        say_run(u, i, text, orders, files);
+        let r = u.runs[i];
+        let c = r.client;
+        say_run(c, i, rows, text, orders, files);
         i += 1;
     }
 }
 
 // The bank's book.
-pub(crate) fn say_book(u: UnitState) {
+pub(crate) fn say_book(rows: &[u64; STATE_SIZE]) {
     let mut output = [0u8; BOOK_ROOM];
-    let bank = u.bank;
-    let n = book(bank, &mut output);
+    let n = book(rows, &mut output);
     io::write_all(STDOUT_FILENO, front(&output, n));
 }

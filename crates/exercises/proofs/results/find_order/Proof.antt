@@ -7,16 +7,16 @@ use Rattle.exercises.proofs.results.find_order.Statement.{statement}
 use Rattle.exercises.proofs.results.find_order.Tie as tie
 
 abbrev Inv-loop : tie.InvT-loop
-Inv-loop u c i₀ i = 0 ≤ i
+Inv-loop rows subscriber number i₀ i = 0 ≤ i
 
 abbrev μ-loop : tie.MeasureT-loop
-μ-loop u c i₀ i = placeCount - i
+μ-loop rows subscriber number i₀ i = placeCount - i
 
 loop-holds : tie.Need-loop-holds Inv-loop μ-loop
 loop-holds c = omega arith
 
-place-of-requires : tie.Need-place-of-requires Inv-loop μ-loop
-place-of-requires c κs = search needs
+place-at-requires : tie.Need-place-at-requires Inv-loop μ-loop
+place-at-requires c κs = search needs
 
 add-i : tie.Need-add-i Inv-loop μ-loop
 add-i c = search needs
@@ -34,7 +34,7 @@ find-order-spec =
     Inv-loop
     μ-loop
     loop-holds
-    place-of-requires
+    place-at-requires
     (λ c κs. tt)
     (λ c. tt)
     add-i

@@ -6,10 +6,10 @@ use Rattle.exercises.proofs.results.say_results.Statement.{statement}
 use Rattle.exercises.proofs.results.say_results.Tie as tie
 
 abbrev Inv-loop : tie.InvT-loop
-Inv-loop u text orders files i₀ i = 0 ≤ i
+Inv-loop u rows text orders files i₀ i = 0 ≤ i
 
 abbrev μ-loop : tie.MeasureT-loop
-μ-loop u text orders files i₀ i = 5 - i
+μ-loop u rows text orders files i₀ i = 5 - i
 
 pub say-results-spec : {M : Type 1} → statement M
 say-results-spec =
@@ -18,6 +18,8 @@ say-results-spec =
     Inv-loop
     μ-loop
     (λ c. omega arith)
+    (λ c. search needs)
+    (λ c. search needs)
     (λ c κs. tt)
     (λ c. search needs)
     (λ c. search needs)

@@ -1,4 +1,4 @@
--- The measure is the number of bytes that are left. Assumes nothing.
+-- The measure is the number of bytes that are left; there are no more lines than bytes. Assumes nothing.
 use Prim.Native.Nat.{_-_, _≤_}
 use native.Mathlib.Omega.{arith}
 use lib.ListN.{length}
@@ -7,10 +7,10 @@ use Rattle.exercises.proofs.say.say.Statement.{statement}
 use Rattle.exercises.proofs.say.say.Tie as tie
 
 abbrev Inv-loop : tie.InvT-loop
-Inv-loop text v i₀ i = 0 ≤ i
+Inv-loop table k v line₀ i₀ line i = line ≤ i
 
 abbrev μ-loop : tie.MeasureT-loop
-μ-loop text v i₀ i = length text - i
+μ-loop table k v line₀ i₀ line i = length table - i
 
 pub say-spec : {M : Type 1} → statement M
 say-spec =
@@ -20,8 +20,13 @@ say-spec =
     μ-loop
     (λ c. omega arith)
     (λ c. search needs)
+    (λ c. search needs)
+    (λ c. search needs)
+    (λ c. search needs)
+    (λ c. omega arith)
     (λ c κs. tt)
     (λ c. search needs)
+    (λ c. omega arith)
     (λ c. search needs)
     (λ c. omega arith)
     (λ c. tt))

@@ -1,0 +1,67 @@
+-- The measure is the number of moves that are left; what is lent keeps its length. Assumes nothing.
+use Prim.Native.Nat.{_-_}
+use mathlib.Core.Path.{_≡_, refl, _∙_}
+use native.Mathlib.Omega.{arith}
+use lib.ListN.{length}
+use borrow.Author.Needs.{needs}
+use Rattle.exercises.proofs.play.Statement.{statement}
+use Rattle.exercises.proofs.play.Tie as tie
+
+abbrev Inv-loop : tie.InvT-loop
+Inv-loop script text mail₀ rows₀ orders₀ boxes₀ payloads₀ files₀ u₀ i₀ mail rows orders mailboxes payloads files u i =
+    (length mail ≡ length mail₀)
+    × (length rows ≡ length rows₀)
+    × (length orders ≡ length orders₀)
+    × (length mailboxes ≡ length boxes₀)
+    × (length payloads ≡ length payloads₀)
+    × (length files ≡ length files₀)
+
+abbrev μ-loop : tie.MeasureT-loop
+μ-loop script text mail₀ rows₀ orders₀ boxes₀ payloads₀ files₀ u₀ i₀ mail rows orders mailboxes payloads files u i =
+    58 - i
+
+loop-less : tie.Need-loop-less Inv-loop μ-loop
+loop-less c =
+    let at-mail = c .before .before .before .before .before .before .before .before .before .before .before in
+    let at-move = at-mail .before .before .before .before .before .before .before .before in
+    omega (arith, at-move .before .before .loop-test .taken)
+
+loop-again : tie.Need-loop-again Inv-loop μ-loop
+loop-again c =
+    let at-files = c .before in
+    let at-payloads = at-files .before .before in
+    let at-boxes = at-payloads .before .before in
+    let at-orders = at-boxes .before .before in
+    let at-rows = at-orders .before .before in
+    let at-mail = at-rows .before .before in
+    let at-move = at-mail .before .before .before .before .before .before .before .before in
+    let inv = at-move .before .before .before .loop .inv in (
+      at-mail .mail .given ∙ inv .0,
+      at-rows .rows .given ∙ inv .1,
+      at-orders .orders .given ∙ inv .2,
+      at-boxes .mailboxes .given ∙ inv .3,
+      at-payloads .payloads .given ∙ inv .4,
+      at-files .files .given ∙ inv .5,
+    )
+
+pub play-spec : {M : Type 1} → statement M
+play-spec =
+    tie.close
+    (tie.spec
+    Inv-loop
+    μ-loop
+    (λ c κs. tt)
+    (λ c. (refl, refl, refl, refl, refl, refl))
+    (λ c κs. tt)
+    (λ c κs. tt)
+    (λ c. search needs)
+    (λ c κs. tt)
+    loop-less
+    loop-again
+    (λ c. c .before .loop .inv .0)
+    (λ c. c .before .loop .inv .1)
+    (λ c. c .before .loop .inv .2)
+    (λ c. c .before .loop .inv .3)
+    (λ c. c .before .loop .inv .4)
+    (λ c. c .before .loop .inv .5)
+    (λ c. tt))

@@ -1,0 +1,174 @@
+-- A client's call keeps the length of a file buffer of 3,840 bytes; one given a number changes nothing; a reply or none
+-- is taken by a run that has begun.
+use Prim.Native.Nat.{ℕ, _-_, _*_, _≤_}
+use mathlib.Core.Bool.{Bool, true, false, cond}
+use mathlib.Core.List.{List, []}
+use mathlib.Core.Path.{_≡_, refl, ap}
+use native.Mathlib.Omega.{arith}
+use lib.ListN.{length}
+use Rattle.octets.specs.Bytes.{overwrite}
+use Rattle.octets.proofs.Numbers.{length-overwrite}
+use Rattle.octets.proofs.Tests.{never}
+use Rattle.frame_table.specs.declared.fields.Fields.{Fields}
+use Rattle.frame_table.specs.Names.{noFields}
+use Rattle.frame.specs.declared.writer.Written.{Written}
+use Rattle.frame.specs.declared.writer.Written.the-variants as written
+use Rattle.frame.specs.Reader.{readReply}
+use Rattle.frame.specs.Row.{dataOf}
+use Rattle.message.specs.Limits.{segmentBytes, maxSegments, fileBytes}
+use Rattle.client.specs.declared.run.Answer.the-variants as answer
+use Rattle.client.specs.declared.run.Client.{Client}
+use Rattle.client.specs.declared.run.Decision.{Decision}
+use Rattle.client.specs.declared.run.Decision.the-variants.{Ignore, Opened, Advance, Return, Repeat, Close}
+use Rattle.client.specs.declared.run.Refusal.{Refusal}
+use Rattle.client.specs.declared.run.Refusal.the-variants.{WrongBuffer, ExchangeTooHigh, NoSubscriber, WrongStage}
+use Rattle.client.specs.declared.run.Ruling.{Ruling}
+use Rattle.client.specs.declared.run.Ruling.the-variants.{Refuse, Accept}
+use Rattle.client.specs.declared.run.RunParameters.{RunParameters}
+use Rattle.client.specs.declared.run.Stage.{Stage}
+use Rattle.client.specs.Calls.{
+  ifWritten,
+  outcomeOf,
+  isWritten,
+  requestWith,
+  issued,
+  taken,
+  carryOut,
+  ifAdmitted,
+  admittedBegin,
+  beginCall,
+  admittedReply,
+  replyCall,
+  admittedNoReply,
+  noReplyCall,
+}
+use Rattle.client.specs.Decisions.{onReply, onNoReply}
+use Rattle.client.specs.NextRun.{isNew, fileWith, learned}
+use Rattle.client.specs.Rulings.{beginRuling, runRuling, isBegun}
+use Rattle.client.specs.Run.{Lent, ClientCall, callOf, lengthsOf, answerNumber, refusalNumber, maxExchange}
+use Rattle.client.proofs.Accepted.{accepted}
+use Rattle.client.proofs.Causes.{Cause, by-reply, by-no-reply, brought}
+use Rattle.client.proofs.Causes as cause
+use Rattle.client.proofs.Feasible.{opened-takes}
+use Rattle.unit.specs.declared.record.Event.{Event}
+use Rattle.unit.specs.declared.record.Event.the-variants.{Upload, Download, Reply, NoReply}
+use Rattle.unit.specs.Call.{eventCall}
+
+-- what a call to the run c that is lent l leaves
+pub record Keeps (c : Client) (l : Lent) (k : ClientCall) : Type 0 where
+  pub long : length (k .file) ≡ length (l .file)
+  pub refused : (x : Refusal) → k .answer ≡ answer.Refused x → (k .run ≡ c) × (k .file ≡ l .file)
+
+-- ---- a request issued
+
+issued-keeps : (c next : Client) (file : List ℕ) (l : Lent) → length file ≡ length (l .file) →
+    Keeps c l (issued c next file l)
+unfolding issued
+issued-keeps c next file l e = at (isWritten next l)
+  where
+    at : (w : Written) → Keeps c l (callOf (outcomeOf w c next) (ifWritten w file (l .file)) (requestWith next l))
+    at (written.Length n) =
+        record { long = e; refused = λ x h. absurd (let z : _≡_ {A = ℕ} 0 1 = cc in omega arith) }
+    at written.Refused = record { long = refl; refused = λ x h. (refl, refl) }
+
+-- a newly held segment has its place in the file buffer
+file-long : (k : Client) (d file : List ℕ) → length file ≡ fileBytes →
+    (isNew (k .direction) k ≡ true → (k .segment ≤ maxSegments) × (length d ≤ segmentBytes)) →
+    length (fileWith k d file) ≡ length file
+unfolding fileWith
+file-long k d file whole fits = at (isNew (k .direction) k) refl
+  where
+    at : (t : Bool) → isNew (k .direction) k ≡ t →
+        length (cond t (overwrite file ((k .segment - 1) * segmentBytes) d) file) ≡ length file
+    at true e =
+        let f = fits e in
+        let place = f .0 in
+        let size = f .1 in
+        length-overwrite file ((k .segment - 1) * segmentBytes) d (omega arith)
+    at false e = refl
+
+advance-fits : (c : Client) (r : Fields) (d : ℕ) → Cause c r d Advance → isNew (c .direction) c ≡ true →
+    (c .segment ≤ maxSegments) × (d ≤ segmentBytes)
+advance-fits c r d (cause.segment-taken w s a h) new = never (rw w at new)
+advance-fits c r d (cause.segment-brought w s a h) new =
+    let b = brought c r d h .1 in (b .place, b .bytes .most)
+
+module _ (c : Client) (l : Lent) (whole : length (l .file) ≡ fileBytes) (low : c .exchange ≤ maxExchange) where
+  carried-keeps : (decision : Decision) (r : Fields) (d : List ℕ) → Cause c r (length d) decision →
+      Keeps c l (carryOut decision c r d l)
+  unfolding taken
+  carried-keeps Ignore r d k =
+      record { long = refl; refused = λ x h. absurd (let z : _≡_ {A = ℕ} 0 1 = cc in omega arith) }
+  carried-keeps Opened r d k =
+      let takes = opened-takes c r (length d) (length (l .file)) low (λ _. whole) (c .direction) refl k in
+      issued-keeps c _ _ l
+      (file-long (learned (c .direction) r c) d (l .file) whole (λ new. let t = takes .2 new in (t .0, t .1)))
+  carried-keeps Advance r d k =
+      issued-keeps c _ _ l (file-long c d (l .file) whole (advance-fits c r (length d) k))
+  carried-keeps (Return s) r d k = issued-keeps c _ (l .file) l refl
+  carried-keeps Repeat r d k = issued-keeps c _ (l .file) l refl
+  carried-keeps (Close w) r d k =
+      record { long = refl; refused = λ x h. absurd (let z : _≡_ {A = ℕ} 0 1 = cc in omega arith) }
+
+-- ---- the calls
+
+admitted-keeps : (u : Ruling) (c : Client) (l : Lent) (done : ClientCall) → (u ≡ Accept → Keeps c l done) →
+    Keeps c l (ifAdmitted u c l done)
+admitted-keeps (Refuse x) c l done f = record { long = refl; refused = λ y h. (refl, refl) }
+admitted-keeps Accept c l done f = f refl
+
+begin-keeps : (c : Client) (params : RunParameters) (l : Lent) → Keeps c l (beginCall c params l)
+unfolding beginCall
+begin-keeps c params l =
+    admitted-keeps (beginRuling c params (lengthsOf l)) c l (admittedBegin c params l)
+    (λ _. issued-keeps c _ (l .file) l refl)
+
+module _ (c : Client) (l : Lent) (whole : length (l .file) ≡ fileBytes) where
+  reply-keeps : (frame : List ℕ) → Keeps c l (replyCall c frame l)
+  unfolding replyCall
+  reply-keeps frame =
+      admitted-keeps (runRuling (c .stage) c (lengthsOf l)) c l (admittedReply c frame l)
+      (λ a. carried-keeps c l whole (accepted c (lengthsOf l) a .exchange)
+      (onReply c (readReply frame) (length (dataOf frame))) (readReply frame) (dataOf frame)
+      (by-reply c (readReply frame) (length (dataOf frame))))
+
+  no-reply-keeps : Keeps c l (noReplyCall c l)
+  unfolding noReplyCall
+  no-reply-keeps =
+      admitted-keeps (runRuling (c .stage) c (lengthsOf l)) c l (admittedNoReply c l)
+      (λ a. carried-keeps c l whole (accepted c (lengthsOf l) a .exchange) (onNoReply c) noFields []
+      (by-no-reply c noFields 0))
+
+  pub event-keeps : (e : Event) (r : List ℕ) → Keeps c l (eventCall e c r l)
+  event-keeps Upload r = begin-keeps c _ l
+  event-keeps Download r = begin-keeps c _ l
+  event-keeps Reply r = reply-keeps _
+  event-keeps NoReply r = no-reply-keeps
+
+-- ---- no number
+
+pub refusal-numbered : (x : Refusal) → refusalNumber x ≡ 0 → ⊥
+refusal-numbered WrongBuffer z = omega arith
+refusal-numbered ExchangeTooHigh z = omega arith
+refusal-numbered NoSubscriber z = omega arith
+refusal-numbered WrongStage z = omega arith
+
+is-admitted : (u : Ruling) (c : Client) (l : Lent) (done : ClientCall) →
+    answerNumber (ifAdmitted u c l done .answer) ≡ 0 → u ≡ Accept
+is-admitted (Refuse x) c l done z = absurd (refusal-numbered x z)
+is-admitted Accept c l done z = refl
+
+module _ (c : Client) (l : Lent) where
+  begun-by : (done : ClientCall) →
+      answerNumber (ifAdmitted (runRuling (c .stage) c (lengthsOf l)) c l done .answer) ≡ 0 → isBegun (c .stage) ≡ true
+  begun-by done z =
+      let a = is-admitted (runRuling (c .stage) c (lengthsOf l)) c l done z in
+      ap (λ (x : Stage). isBegun x) (accepted c (lengthsOf l) a .running)
+
+  pub reply-begun : (frame : List ℕ) → answerNumber (replyCall c frame l .answer) ≡ 0 → isBegun (c .stage) ≡ true
+  unfolding replyCall
+  reply-begun frame z = begun-by (admittedReply c frame l) z
+
+  pub no-reply-begun : answerNumber (noReplyCall c l .answer) ≡ 0 → isBegun (c .stage) ≡ true
+  unfolding noReplyCall
+  no-reply-begun z = begun-by (admittedNoReply c l) z

@@ -1,0 +1,241 @@
+-- The unit after the calls of records, and the list of demand 3's calls that these records are: one claim over every
+-- list of records, and demand 3's clauses said of the unit.
+use Prim.Native.Nat.{ℕ, _<_}
+use mathlib.Core.Path.{_≡_}
+use mathlib.Core.Bool.{true, cond}
+use mathlib.Core.List.{List, [], _∷_, _++_, map, List·Memᴰ as In}
+use lib.ListN.{take, replicate}
+use Rattle.octets.specs.Bytes.{Bytes}
+use Rattle.frame_table.specs.Forms as forms
+use Rattle.frame_table.specs.Names.{subscriber}
+use Rattle.frame.specs.Reader.{readRequest}
+use Rattle.bank_state.specs.Limits.{storeBytes, replyRoom}
+use Rattle.bank_state.specs.Store.{partAt, fileOf}
+use Rattle.bank_rows.specs.Layout.{stateSize}
+use Rattle.bank.specs.Call.{frameInput, frameCall}
+use Rattle.bank.specs.Mailbox.{fileCall}
+use Rattle.bank.specs.Lent.{lent}
+use Rattle.bank.specs.Lent as bank
+use Rattle.client.specs.declared.run.Client.{Client}
+use Rattle.client.specs.declared.run.Direction.the-variants as direction
+use Rattle.client.specs.declared.run.Stage.the-variants as stage
+use Rattle.client.specs.declared.run.Word.the-variants.{Lodged, NotLodged, Fetched}
+use Rattle.client.specs.Calls.{beginCall, replyCall, noReplyCall}
+use Rattle.client.specs.Rulings.{isBegun}
+use Rattle.client.specs.Run.{Lent, ClientCall, lentOf}
+use Rattle.exchange.specs.Course.{
+  Call,
+  frameArrives,
+  filePut,
+  begins,
+  replyArrives,
+  noReply,
+  Exchange,
+  Course,
+  start,
+  callNumber,
+  exec,
+  after,
+  heldOf,
+}
+use Rattle.exchange.specs.Demand3.{isSubscribers, Left, OneExchangeNumber, Outcome, ClosesInTurn}
+use Rattle.exchange.specs.Terms.{IssuedBy, Booked, Opened, Order, InBook, OrderOf}
+use Rattle.unit.specs.declared.call.Answer.{Answer}
+use Rattle.unit.specs.declared.call.Answer.the-variants.{Frame, Put, Request, Ignored, Closed, Number, NoCall}
+use Rattle.unit.specs.declared.record.Event.{Event}
+use Rattle.unit.specs.declared.record.Event.the-variants.{Upload, Download, Reply, NoReply}
+use Rattle.unit.specs.declared.record.Kind.{Kind}
+use Rattle.unit.specs.declared.record.Kind.the-variants as kind
+use Rattle.unit.specs.Records.{bankTimeOf, idsOf, mailboxOf, timeOf, nonceOf, bodyOf, runCount, callOf, isCall}
+use Rattle.unit.specs.State.{State, fresh, roomsBytes, memory, stateOf, runAt}
+use Rattle.unit.specs.Call.{frameAnswer, fileAnswer, runAnswer, indexOf, paramsOf, unitCall}
+use Rattle.unit.specs.Call as unit
+
+-- ---- A SESSION OF THE UNIT
+
+abbrev zeros : ℕ → List ℕ
+zeros n = replicate n 0
+
+-- "one fresh bank (8 places, 8 mailboxes) and 16 client runs": no run begun, and all that is lent to them zeroed
+unfoldable pub freshUnit : State
+freshUnit =
+    let bank = lent (zeros stateSize) (zeros storeBytes) (zeros storeBytes) in
+    stateOf fresh (memory bank (zeros roomsBytes) (zeros roomsBytes) (zeros replyRoom))
+
+-- the driver's records: bytes, and each is a call; what is no call ends the input
+pub data Records : List (List ℕ) → Type 0 where
+  none : Records []
+  more : {r : List ℕ} {rs : List (List ℕ)} → Bytes r → isCall (callOf r) ≡ true → Records rs → Records (r ∷ rs)
+
+-- the unit after the calls of these records, one after the other
+unfoldable pub unitAfter : State → List (List ℕ) → State
+unitAfter u [] = u
+unitAfter u (r ∷ rs) = unitAfter (unitCall u r .state) rs
+
+-- run i of the unit, from 0 on: the client, and the payload that it keeps
+abbrev pub clientAt : State → ℕ → Client
+clientAt u i = runAt (u .unit .runs) i .client
+
+abbrev pub payloadAt : State → ℕ → List ℕ
+payloadAt u i = fileOf (u .memory .payloads) i (runAt (u .unit .runs) i .payload)
+
+abbrev pub fileAt : State → ℕ → List ℕ
+fileAt u i = partAt (u .memory .files) i
+
+-- ---- A RECORD AS A CALL OF DEMAND 3
+
+-- `F`: a frame to the bank that the unit's rows are
+unfoldable pub frameOf : State → List ℕ → Call
+frameOf u r =
+    frameArrives (bank.stateOf (u .memory .bank))
+    (frameInput (bankTimeOf r) (idsOf r) (bodyOf kind.Frame r) (u .memory .buffer))
+
+-- `M`: a file into a mailbox
+unfoldable pub putOf : State → List ℕ → Call
+putOf u r =
+    let w = bank.stateOf (u .memory .bank) in filePut (w .bank) (w .mailboxes) (mailboxOf r) (bodyOf kind.File r)
+
+-- what the unit lends to run i: to a begin the record's nonce bytes and payload, to a later call those that it keeps
+unfoldable pub lentTo : Event → ℕ → State → List ℕ → Lent
+lentTo e i u r =
+    let nonce = cond (unit.begins e) (nonceOf r) (runAt (u .unit .runs) i .nonce) in
+    let payload = cond (unit.begins e) (bodyOf (kind.Run e) r) (payloadAt u i) in
+    lentOf (timeOf r) nonce payload (fileAt u i) (u .memory .buffer)
+
+-- `U`, `D`, `R`, `N`: a call of run i
+abbrev pub runCallOf : Event → ℕ → Client → List ℕ → Lent → Call
+runCallOf Upload i c r l = begins i c (paramsOf direction.Upload r) l
+runCallOf Download i c r l = begins i c (paramsOf direction.Download r) l
+runCallOf Reply i c r l = replyArrives i c (bodyOf (kind.Run Reply) r) l
+runCallOf NoReply i c r l = noReply i c l
+
+abbrev pub runOf : Event → State → List ℕ → Call
+runOf e u r = let i = indexOf r in runCallOf e i (clientAt u i) r (lentTo e i u r)
+
+-- the call of a record of this kind, before the calls ks
+abbrev pub callFirst : Kind → State → List ℕ → List Call → List Call
+callFirst kind.Frame u r ks = frameOf u r ∷ ks
+callFirst kind.File u r ks = putOf u r ∷ ks
+callFirst (kind.Run e) u r ks = runOf e u r ∷ ks
+callFirst kind.NoCall u r ks = ks
+
+-- the calls of these records
+unfoldable pub callsOf : State → List (List ℕ) → List Call
+callsOf u [] = []
+callsOf u (r ∷ rs) = callFirst (callOf r) u r (callsOf (unitCall u r .state) rs)
+
+-- ---- WHAT IS ANSWERED
+
+-- an answer with the bytes of its reply or request
+pub record Told : Type 0 where
+  pub answer : Answer
+  pub bytes : List ℕ
+
+abbrev pub bytesIn : Answer → List ℕ → List ℕ
+bytesIn (Frame n) buffer = take n buffer
+bytesIn Put buffer = []
+bytesIn (Request n) buffer = take n buffer
+bytesIn Ignored buffer = []
+bytesIn (Closed w n) buffer = []
+bytesIn (Number n) buffer = []
+bytesIn NoCall buffer = []
+
+abbrev pub told : Answer → List ℕ → Told
+told a buffer = record { answer = a; bytes = bytesIn a buffer }
+
+-- by the unit, record by record
+unfoldable pub answersOf : State → List (List ℕ) → List Told
+answersOf u [] = []
+answersOf u (r ∷ rs) =
+    let o = unitCall u r in told (o .answer) (o .state .memory .buffer) ∷ answersOf (o .state) rs
+
+-- by a call of demand 3: its reply, its request, its closing word, or the number that it is given
+abbrev pub toldByRun : ClientCall → Told
+toldByRun k = told (runAnswer (k .answer) (k .run)) (k .request)
+
+abbrev pub toldBy : Call → Told
+toldBy (frameArrives w a) = let k = frameCall w a in told (frameAnswer (k .answer)) (k .buffer)
+toldBy (filePut b mailboxes m file) = told (fileAnswer (fileCall b m file mailboxes .answer)) []
+toldBy (begins i c params l) = toldByRun (beginCall c params l)
+toldBy (replyArrives i c reply l) = toldByRun (replyCall c reply l)
+toldBy (noReply i c l) = toldByRun (noReplyCall c l)
+
+-- ---- THE PREMISES OF DEMAND 3, ONE BY ONE
+
+-- "Each call gets state, stores, payload and file buffer as the last call not given a number left them at its end (the
+-- bank, or that client run)"; a begin brings its own payload and file buffer
+abbrev pub Given : Call → Course → Type 0
+Given (frameArrives w a) s = w ≡ s .bank
+Given (filePut b mailboxes m file) s = (b ≡ s .bank .bank) × (mailboxes ≡ s .bank .mailboxes)
+Given (begins i c params l) s = c ≡ s .runs i
+Given (replyArrives i c reply l) s = Left i c l s
+Given (noReply i c l) s = Left i c l s
+
+-- "A request that demand 3 names is a copy of one issued earlier in the list; a reply is a copy of one the bank gave
+-- earlier for such a copy"
+abbrev pub Copy : Call → Course → Type 0
+Copy (frameArrives w a) s = isSubscribers (a .frame) ≡ true → (i : ℕ) × IssuedBy i (a .frame) s
+Copy (filePut b mailboxes m file) s = Unit {0}
+Copy (begins i c params l) s = Unit {0}
+Copy (replyArrives i c reply l) s =
+    (e : Exchange) × In e (s .exchanged) × (e .reply ≡ reply) × ((j : ℕ) × IssuedBy j (e .request) s)
+Copy (noReply i c l) s = Unit {0}
+
+-- what holds of each call given no number, in the course that the calls before it leave
+abbrev pub AtEach : (Call → Course → Type 0) → List Call → Course → Type 0
+AtEach P [] s = Unit {0}
+AtEach P (k ∷ ks) s = (callNumber k ≡ 0 → P k s) × AtEach P ks (exec k s)
+
+-- ---- THE CLAIM
+
+-- a run of the unit is that of the course: the client, and once begun its payload and its file buffer
+pub record SameRun (own : Client) (kept buffer : List ℕ) (c : Client) (p f : List ℕ) : Type 0 where
+  pub client : own ≡ c
+  pub payload : isBegun (c .stage) ≡ true → kept ≡ p
+  pub file : isBegun (c .stage) ≡ true → buffer ≡ f
+
+-- the unit is what the course has left: the bank with its stores that the unit's memory is, and each of the 16 runs
+pub record Same (u : State) (s : Course) : Type 0 where
+  pub bank : bank.stateOf (u .memory .bank) ≡ s .bank
+  pub runs : (i : ℕ) → i < runCount →
+      SameRun (clientAt u i) (payloadAt u i) (fileAt u i) (s .runs i) (s .payloads i) (s .files i)
+
+-- "for every list of the driver's records, what the unit is and answers after them is what a list of demand 3's calls
+-- leaves in which each call gets what the last one at its end left"
+pub record IsCourse (u : State) (rs : List (List ℕ)) (s : Course) : Type 0 where
+  pub given : AtEach Given (callsOf u rs) s
+  pub same : Same (unitAfter u rs) (after (callsOf u rs) s)
+  pub answers : answersOf u rs ≡ map toldBy (callsOf u rs)
+
+unfoldable pub Sessions : Type 0
+Sessions = (rs : List (List ℕ)) → Records rs → IsCourse freshUnit rs start
+
+-- ---- DEMAND 3 OF THE UNIT
+
+-- the course of a session
+abbrev pub courseOf : List (List ℕ) → Course
+courseOf rs = after (callsOf freshUnit rs) start
+
+-- demand 3's clauses on the closing words, of the unit u
+pub record Closes (u : State) (s : Course) : Type 0 where
+  -- "'lodged' names its booked order"
+  pub lodged : (i : ℕ) → i < runCount → clientAt u i .stage ≡ stage.Ended Lodged →
+      Booked s i × ((j : ℕ) × (o : Order) × InBook s j o × OrderOf s i o × (o .number ≡ clientAt u i .number))
+  -- "'not lodged' means never booked"
+  pub notLodged : (i : ℕ) → i < runCount → clientAt u i .stage ≡ stage.Ended NotLodged → Booked s i → ⊥
+  -- "a fetched file is the mailbox's file at its transaction's opening"
+  pub fetched : (i : ℕ) → i < runCount → clientAt u i .stage ≡ stage.Ended Fetched →
+      (e : Exchange) × Opened forms.DownloadOpened s i e
+      × (subscriber (readRequest (e .request)) ≡ clientAt u i .subscriber)
+      × (heldOf (clientAt u i) (fileAt u i) ≡ e .box)
+
+-- "demand 3 speaks of its closing words whenever its records copy requests and replies"; and "not lodged" in every
+-- continuation of the session
+unfoldable pub SessionsClose : Type 0
+SessionsClose = (rs ts : List (List ℕ)) → Records (rs ++ ts) → AtEach Copy (callsOf freshUnit (rs ++ ts)) start →
+    OneExchangeNumber (courseOf (rs ++ ts)) →
+    Outcome (courseOf rs)
+    × ClosesInTurn (callsOf freshUnit rs)
+    × Closes (unitAfter freshUnit rs) (courseOf rs)
+    × ((i : ℕ) → i < runCount → clientAt (unitAfter freshUnit rs) i .stage ≡ stage.Ended NotLodged →
+    Booked (courseOf (rs ++ ts)) i → ⊥)
