@@ -1,9 +1,10 @@
 -- A client run, its closing words and the numbers that its calls are given.
 use Prim.Native.Nat.{ℕ}
 use mathlib.Core.Bool.{false}
-use mathlib.Core.List.{List, [], _∷_}
+use mathlib.Core.List.{List}
 use lib.ListN.{length}
 pub use Rattle.frame.specs.Writer.{requestRoom}
+use Rattle.octets.specs.Texts.{ascii}
 use Rattle.client.specs.declared.run.Client.{Client}
 use Rattle.client.specs.declared.run.Direction.{Direction}
 use Rattle.client.specs.declared.run.Direction.the-variants as direction
@@ -41,21 +42,14 @@ answerNumber answer.Ignored = 0
 answerNumber (answer.Closed w) = 0
 answerNumber (answer.Refused r) = refusalNumber r
 
--- "Closing words": their characters as document 01 has them
+-- "Closing words", as document 01 writes them
 abbrev pub wordText : Word → List ℕ
--- lodged
-wordText word.Lodged = 108 ∷ 111 ∷ 100 ∷ 103 ∷ 101 ∷ 100 ∷ []
--- not lodged
-wordText word.NotLodged = 110 ∷ 111 ∷ 116 ∷ 32 ∷ 108 ∷ 111 ∷ 100 ∷ 103 ∷ 101 ∷ 100 ∷ []
--- unclear
-wordText word.Unclear = 117 ∷ 110 ∷ 99 ∷ 108 ∷ 101 ∷ 97 ∷ 114 ∷ []
--- fetched
-wordText word.Fetched = 102 ∷ 101 ∷ 116 ∷ 99 ∷ 104 ∷ 101 ∷ 100 ∷ []
--- held, unconfirmed
-wordText word.HeldUnconfirmed =
-    104 ∷ 101 ∷ 108 ∷ 100 ∷ 44 ∷ 32 ∷ 117 ∷ 110 ∷ 99 ∷ 111 ∷ 110 ∷ 102 ∷ 105 ∷ 114 ∷ 109 ∷ 101 ∷ 100 ∷ []
--- not fetched
-wordText word.NotFetched = 110 ∷ 111 ∷ 116 ∷ 32 ∷ 102 ∷ 101 ∷ 116 ∷ 99 ∷ 104 ∷ 101 ∷ 100 ∷ []
+wordText word.Lodged = ascii "lodged"
+wordText word.NotLodged = ascii "not lodged"
+wordText word.Unclear = ascii "unclear"
+wordText word.Fetched = ascii "fetched"
+wordText word.HeldUnconfirmed = ascii "held, unconfirmed"
+wordText word.NotFetched = ascii "not fetched"
 
 -- a run not begun
 abbrev pub notBegun : Client

@@ -1,2 +1,3 @@
--- The definitions of bytes as numbers and as fields, and of what a copy leaves.
+-- The definitions of bytes as numbers, as fields and as texts, and of what a copy leaves.
 pub mod Bytes
+pub mod Texts

@@ -1,18 +1,12 @@
--- Quoted texts as bytes, numbers in digits, and texts written into an output.
+-- Numbers in digits, and texts written into an output.
 use Prim.Native.Nat.{ℕ, zero, suc, _+_, _/_, _%_, _≤_}
-use Prim.Native.Char.{code}
-use Prim.Native.String.{String, [] as []ˢ, _∷_ as _∷ˢ_}
 use mathlib.Core.Path.{_≡_}
 use mathlib.Core.Bool.{cond}
 use mathlib.Core.List.{List, [], _∷_, _++_}
 use lib.Dec.{ltb, leb}
 use lib.ListN.{length}
 use Rattle.octets.specs.Bytes.{overwrite}
-
--- the bytes of a quoted text of ASCII characters
-abbrev pub ascii : String → List ℕ
-ascii []ˢ = []
-ascii (c ∷ˢ s) = code c ∷ ascii s
+pub use Rattle.octets.specs.Texts.{ascii}
 
 -- the last w digits of x in base b, the digit d as the byte first + d
 unfoldable pub digitsIn : ℕ → ℕ → ℕ → ℕ → List ℕ
