@@ -1,5 +1,5 @@
 -- The bank's calls on lent memory: rows of numbers and two stores. The rows are a bank; the call is document 01's on
--- this bank, and every number of the rows after it is said. Rows that no call leaves get number 1.
+-- this bank, and every number of the rows after it is said. Rows that fail the one test, `isSound`, get number 1.
 use Prim.Native.Nat.{ℕ, _<_, _≤_}
 use mathlib.Core.Bool.{cond}
 use mathlib.Core.List.{List}
