@@ -7,6 +7,21 @@ use borrow.Author.Needs.{needs}
 use Rattle.bank_rows.proofs.downloads.is_download_at.Statement.{statement}
 use Rattle.bank_rows.proofs.downloads.is_download_at.Tie as tie
 
+mul-at : tie.Need-mul-at
+mul-at c = search needs
+
+add-at : tie.Need-add-at
+add-at c = search needs
+
+add-if1 : tie.Need-add-if1
+add-if1 c = search needs
+
+mul-if1 : tie.Need-mul-if1
+mul-if1 c = search needs
+
+shared-slice-read-if1 : tie.Need-shared-slice-read-if1
+shared-slice-read-if1 c = search needs
+
 returns : tie.Need-returns
 returns c =
     let start = c .before .before in
@@ -14,12 +29,30 @@ returns c =
     rw (download-read (a .rows .now) (start .pre .0) (a .i) (start .pre .1))
     (download-low (a .rows .now) (downloadsAt + downloadWidth * a .i) (a .subscriber) (a .high) (a .low) (ne-eqb _ _ (c .if1 .taken)))
 
+add-if2 : tie.Need-add-if2
+add-if2 c = search needs
+
+mul-if2 : tie.Need-mul-if2
+mul-if2 c = search needs
+
+shared-slice-read-if2 : tie.Need-shared-slice-read-if2
+shared-slice-read-if2 c = search needs
+
 returns-2 : tie.Need-returns-2
 returns-2 c =
     let start = c .before .before .before .before in
     let a = start .args in
     rw (download-read (a .rows .now) (start .pre .0) (a .i) (start .pre .1))
     (download-high (a .rows .now) (downloadsAt + downloadWidth * a .i) (a .subscriber) (a .high) (a .low) (ne-eqb _ _ (c .if2 .taken)))
+
+add-result : tie.Need-add-result
+add-result c = search needs
+
+mul-result : tie.Need-mul-result
+mul-result c = search needs
+
+shared-slice-read-result : tie.Need-shared-slice-read-result
+shared-slice-read-result c = search needs
 
 returns-3 : tie.Need-returns-3
 returns-3 c =
@@ -31,5 +64,18 @@ returns-3 c =
 pub is-download-at-spec : {M : Type 1} → statement M
 is-download-at-spec =
     tie.close
-    (tie.spec (search needs) (search needs) (search needs) (search needs) (search needs) returns (search needs)
-    (search needs) (search needs) returns-2 (search needs) (search needs) (search needs) returns-3)
+    (tie.spec
+    mul-at
+    add-at
+    add-if1
+    mul-if1
+    shared-slice-read-if1
+    returns
+    add-if2
+    mul-if2
+    shared-slice-read-if2
+    returns-2
+    add-result
+    mul-result
+    shared-slice-read-result
+    returns-3)

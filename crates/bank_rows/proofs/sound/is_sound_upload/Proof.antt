@@ -7,6 +7,24 @@ use borrow.Author.Needs.{needs}
 use Rattle.bank_rows.proofs.sound.is_sound_upload.Statement.{statement}
 use Rattle.bank_rows.proofs.sound.is_sound_upload.Tie as tie
 
+add-segments : tie.Need-add-segments
+add-segments c = search needs
+
+mul-segments : tie.Need-mul-segments
+mul-segments c = search needs
+
+shared-slice-read-segments : tie.Need-shared-slice-read-segments
+shared-slice-read-segments c = search needs
+
+add-taken : tie.Need-add-taken
+add-taken c = search needs
+
+mul-taken : tie.Need-mul-taken
+mul-taken c = search needs
+
+shared-slice-read-taken : tie.Need-shared-slice-read-taken
+shared-slice-read-taken c = search needs
+
 returns : tie.Need-returns
 returns c =
     let a = c .before .before .before .args in
@@ -16,6 +34,18 @@ returns-2 : tie.Need-returns-2
 unfolding isSoundUpload
 returns-2 c = search tests
 
+add-result : tie.Need-add-result
+add-result c = search needs
+
+mul-result : tie.Need-mul-result
+mul-result c = search needs
+
+shared-slice-read-result : tie.Need-shared-slice-read-result
+shared-slice-read-result c = search needs
+
+mul-result-2 : tie.Need-mul-result-2
+mul-result-2 c = search needs
+
 returns-3 : tie.Need-returns-3
 unfolding isSoundUpload
 returns-3 c = search tests
@@ -23,5 +53,17 @@ returns-3 c = search tests
 pub is-sound-upload-spec : {M : Type 1} → statement M
 is-sound-upload-spec =
     tie.close
-    (tie.spec (search needs) (search needs) (search needs) (search needs) (search needs) (search needs) returns
-    returns-2 (search needs) (search needs) (search needs) (search needs) returns-3)
+    (tie.spec
+    add-segments
+    mul-segments
+    shared-slice-read-segments
+    add-taken
+    mul-taken
+    shared-slice-read-taken
+    returns
+    returns-2
+    add-result
+    mul-result
+    shared-slice-read-result
+    mul-result-2
+    returns-3)
