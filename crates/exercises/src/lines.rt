@@ -5,7 +5,6 @@ use crate::say::say_closing;
 use crate::say::say_end;
 use crate::script::Move;
 use crate::script::order_of;
-use client::run::Direction;
 use frame::reader::read_reply;
 use frame::reader::read_request;
 use frame_table::fields::Fields;
@@ -16,181 +15,93 @@ use message::codes::ReturnCode;
 use message::codes::code_field;
 use unit::call::Answer;
 
-// The texts, numbered from 0: acts from 0, requests from 6, replies from 11, return codes' names in Annex 1 from 20,
-// what became of a message and what the call answered from 24, and what frames a message from 29.
-fn say_text(k: usize, v: [u64; VALUES]) {
-    say(
-        b"\
-            0 host -> bank: file for mailbox 2, 3 bytes\n\
-            0 client 1: upload begun\n\
-            0 client 1: download begun\n\
-            0 client 1 -> bank: \n\
-            0 bank -> client 1: \n\
-            0 client 1: no reply\n\
-            upload opening of 5 segments\n\
-            download opening\n\
-            upload segment 49\n\
-            download segment 4\n\
-            receipt\n\
-            upload opened, order 7\n\
-            download opened with segment 4 of 5\n\
-            segment 4 taken\n\
-            recovery point at segment 4\n\
-            download segment 49\n\
-            receipt answered\n\
-            unreadable request\n\
-            refusal\n\
-            no message\n\
-            EBICS_OK\n\
-            EBICS_DOWNLOAD_POSTPROCESS_DONE\n\
-            EBICS_TX_RECOVERY_SYNC\n\
-            EBICS_TX_UNKNOWN_TXID\n\
-            , lost\n\
-            , late\n\
-            , ignored\n\
-            , closed: \n\
-            , number 0\n\
-            , 8 \n\
-            , exchange 6\n\
-            , exchange 6, repeated\n\
-            ",
-        k,
-        v,
-    );
-}
-
-// The number of no text.
-const NO_TEXT: usize = 99;
-
-// The text of an act.
-fn act_text(act: u8, direction: Direction) -> usize {
-    match act {
-        b'f' => 0,
-        b'b' => begin_text(direction),
-        b'q' => 3,
-        b'r' => 4,
-        _ => 5,
-    }
-}
-
-fn begin_text(direction: Direction) -> usize {
-    match direction {
-        Direction::Upload => 1,
-        Direction::Download => 2,
-    }
-}
-
-fn request_text(form: RequestForm) -> usize {
+// The key of what a request says.
+fn request_key(form: RequestForm) -> u8 {
     match form {
-        RequestForm::UploadOpening => 6,
-        RequestForm::DownloadOpening => 7,
-        RequestForm::UploadTransfer => 8,
-        RequestForm::DownloadTransfer => 9,
-        RequestForm::Receipt => 10,
+        RequestForm::UploadOpening => b'1',
+        RequestForm::DownloadOpening => b'2',
+        RequestForm::UploadTransfer => b'3',
+        RequestForm::DownloadTransfer => b'4',
+        RequestForm::Receipt => b'5',
     }
 }
 
-fn reply_text(form: ReplyForm, code: u64) -> usize {
+// The key of what a reply says.
+fn reply_key(form: ReplyForm, code: u64) -> u8 {
     match form {
-        ReplyForm::UploadOpened => 11,
-        ReplyForm::DownloadOpened => 12,
-        ReplyForm::SegmentTaken => taken_text(code),
-        ReplyForm::DownloadSegment => 15,
-        ReplyForm::ReceiptAnswered => 16,
-        ReplyForm::Unreadable => 17,
-        ReplyForm::Refusal => 18,
+        ReplyForm::UploadOpened => b'a',
+        ReplyForm::DownloadOpened => b'b',
+        ReplyForm::SegmentTaken => taken_key(code),
+        ReplyForm::DownloadSegment => b'g',
+        ReplyForm::ReceiptAnswered => b'h',
+        ReplyForm::Unreadable => b'j',
+        ReplyForm::Refusal => b'k',
     }
 }
 
-// The text of the answer to an upload's segment, or of a recovery point.
-fn taken_text(code: u64) -> usize {
+// The key of the answer to an upload's segment, or of a recovery point.
+fn taken_key(code: u64) -> u8 {
     if code == code_field(ReturnCode::RecoverySync) {
-        return 14;
+        return b'f';
     }
-    13
+    b'e'
 }
 
-// The text of what a frame says.
-fn frame_text(form: Form, code: u64) -> usize {
+// The key of what a frame says.
+fn frame_key(form: Form, code: u64) -> u8 {
     match form {
-        Form::NoForm => 19,
-        Form::Request(request) => request_text(request),
-        Form::Reply(reply) => reply_text(reply, code),
+        Form::NoForm => b'6',
+        Form::Request(request) => request_key(request),
+        Form::Reply(reply) => reply_key(reply, code),
     }
 }
 
-// The text of the name of a return code that the script meets.
-fn name_text(code: u64) -> usize {
+// The key of the name of a return code that the script meets.
+fn name_key(code: u64) -> u8 {
     if code == code_field(ReturnCode::Ok) {
-        return 20;
+        return b'O';
     }
     if code == code_field(ReturnCode::DownloadPostprocessDone) {
-        return 21;
+        return b'S';
     }
     if code == code_field(ReturnCode::RecoverySync) {
-        return 22;
+        return b'Y';
     }
     if code == code_field(ReturnCode::UnknownTransaction) {
-        return 23;
+        return b'K';
     }
-    NO_TEXT
+    0
 }
 
-// The text of what became of the message.
-fn fate_text(fate: u8) -> usize {
-    match fate {
-        b'x' => 24,
-        b'l' => 25,
-        _ => NO_TEXT,
+// What the message of a move says, and whether it repeats one.
+fn say_message(letter: u8, form: Form, repeated: bool, v: [u64; VALUES]) {
+    say(frame_key(form, v[8]), v);
+    if letter == b'R' {
+        say(b'C', v);
+        say(name_key(v[8]), v);
     }
-}
-
-// What a request says, and whether it repeats one.
-fn say_request(form: Form, repeated: bool, v: [u64; VALUES]) {
-    say_text(frame_text(form, v[8]), v);
+    say(b'E', v);
     if repeated {
-        say_text(31, v);
-    } else {
-        say_text(30, v);
-    }
-}
-
-// What a reply says, with its return code.
-fn say_reply(form: Form, v: [u64; VALUES]) {
-    say_text(frame_text(form, v[8]), v);
-    say_text(29, v);
-    say_text(name_text(v[8]), v);
-    say_text(30, v);
-}
-
-// What the message of a move says.
-fn say_message(act: u8, form: Form, repeated: bool, v: [u64; VALUES]) {
-    match act {
-        b'q' => say_request(form, repeated, v),
-        b'r' => say_reply(form, v),
-        _ => (),
+        say(b'P', v);
     }
 }
 
 // What the call answered, but for a message, whose own line follows.
 fn say_answer(answer: Answer, v: [u64; VALUES]) {
     match answer {
-        Answer::Frame(_) => (),
-        Answer::Put => (),
-        Answer::Request(_) => (),
-        Answer::Ignored => say_text(26, v),
+        Answer::Ignored => say(b'i', v),
         Answer::Closed(word, number) => {
-            say_text(27, v);
+            say(b'w', v);
             say_closing(word, number);
         }
-        Answer::Number(n) => say_text(28, [n; VALUES]),
-        Answer::NoCall => (),
+        Answer::Number(n) => say(b'n', [n; VALUES]),
+        _ => (),
     }
 }
 
 // What the frame of a move says.
-fn fields_of(act: u8, frame: &[u8]) -> Fields {
-    if act == b'r' {
+fn fields_of(letter: u8, frame: &[u8]) -> Fields {
+    if letter == b'R' {
         return read_reply(frame);
     }
     read_request(frame)
@@ -215,13 +126,13 @@ fn values_of(m: Move, q: Fields) -> [u64; VALUES] {
 
 // Prints the line of a move that made this answer.
 pub(crate) fn say_line(m: Move, frame: &[u8], answer: Answer) {
-    let o = order_of(m.run);
-    let direction = o.direction;
-    let q = fields_of(m.act, frame);
+    let q = fields_of(m.letter, frame);
     let v = values_of(m, q);
-    say_text(act_text(m.act, direction), v);
-    say_message(m.act, q.form(), m.repeated, v);
-    say_text(fate_text(m.fate), v);
+    say(m.letter, v);
+    if m.letter == b'F' || m.letter == b'R' {
+        say_message(m.letter, q.form(), m.repeated, v);
+    }
+    say(m.fate, v);
     say_answer(answer, v);
     say_end();
 }

@@ -12,11 +12,10 @@ use libc::STDOUT_FILENO;
 use lines::say_line;
 use record::MAIL_BYTES;
 use record::RECORD_BYTES;
-use record::content_of;
 use record::hold_back;
 use record::keep;
 use record::message_of;
-use record::put_record;
+use record::put_move;
 use results::say_book;
 use results::say_results;
 use script::MOVES;
@@ -71,7 +70,7 @@ fn play_move(
 ) -> UnitState {
     let mut record = [0u8; RECORD_BYTES];
     let mut buffer = [0u8; REPLY_ROOM];
-    put_record(&mut record, m, content_of(text, m.run), message_of(mail, m));
+    put_move(&mut record, m, text, mail);
     let o = call(
         u,
         &record,
@@ -104,7 +103,7 @@ fn play(
     let mut i = 0;
     while i < MOVES {
         say_heading(i);
-        let m = move_at(script, i);
+        let m = move_at(script, i as u8);
         i += 1;
         u = play_move(u, m, text, mail, rows, orders, mailboxes, payloads, files);
     }
@@ -142,11 +141,11 @@ fn main() {
     let text = example_text();
     exercise(
         b"    \
-        f2  b1  q1  r1  q1  r1  q1  r1  q1  r1  \
-        b2  q2  r2  q2  r2  q2  r2  \
-        b3  q3x n3  q3  r3  q3c r3  q3  r3x n3  q3  r3  q3l r3  q3c r3  q3l r3x \
-        b4  q4  r4  q4  r4  q4  r4x n4  q4  r4  \
-        f5  b5  q5  r5  q5  r5x n5  q5  r5  q5  r5  q5  r5  ",
+        M2  U1  F1  R1  F1  R1  F1  R1  F1  R1  \
+        D2  F2  R2  F2  R2  F2  R2  \
+        U3  F3x N3  F3  R3  F3c R3  F3  R3x N3  F3  R3  F3l R3  F3c R3  F3l R3x \
+        U4  F4  R4  F4  R4  F4  R4x N4  F4  R4  \
+        M5  D5  F5  R5  F5  R5x N5  F5  R5  F5  R5  F5  R5  ",
         &text,
     );
 }

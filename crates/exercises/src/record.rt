@@ -3,7 +3,6 @@ use crate::script::Move;
 use crate::script::byte_at;
 use crate::script::order_of;
 use bank_state::limits::REPLY_ROOM;
-use client::run::Direction;
 use octets::bytes::behind;
 use octets::bytes::copy;
 use octets::bytes::front;
@@ -74,100 +73,58 @@ struct Head {
     pub body: usize,
 }
 
-// The first six bytes of a record to a client run: its letter, the run, the time.
-fn run_head(letter: u8, run: u8) -> u64 {
-    (letter as u64 * 256 + run as u64) * 4294967296 + TIME
-}
-
-// The letter of a begin.
-fn begin_letter(direction: Direction) -> u8 {
-    match direction {
-        Direction::Upload => b'U',
-        Direction::Download => b'D',
-    }
-}
-
-// The head of a begin; the nonce bytes are 0.
-fn begin_head(run: u8) -> Head {
+// The head of a move's record; the bank's ID bytes and the nonce bytes are 0, and a run's first exchange number is its
+// number in hundreds.
+fn head_of(letter: u8, run: u8) -> Head {
     let o = order_of(run);
-    let direction = o.direction;
-    Head {
-        number: run_head(begin_letter(direction), run),
-        width: 6,
-        order: o.subscriber as u64 * 4294967296 + o.first as u64,
-        body: 24,
+    let subscriber = o.subscriber as u64;
+    let first = letter as u64;
+    let named = (first * 256 + run as u64) * 4294967296 + TIME;
+    match letter {
+        b'M' => Head {
+            number: first * 65536 + subscriber,
+            width: 3,
+            order: 0,
+            body: 3,
+        },
+        b'F' => Head {
+            number: first * 4294967296 + TIME,
+            width: 5,
+            order: 0,
+            body: FRAME_AT,
+        },
+        b'U' | b'D' => Head {
+            number: named,
+            width: 6,
+            order: subscriber * 4294967296 + run as u64 * 100,
+            body: 24,
+        },
+        _ => Head {
+            number: named,
+            width: 6,
+            order: 0,
+            body: 6,
+        },
     }
 }
 
-// The head of a reply or of no reply to a client run.
-fn event_head(letter: u8, run: u8) -> Head {
-    Head {
-        number: run_head(letter, run),
-        width: 6,
-        order: 0,
-        body: 6,
-    }
-}
-
-// The head of a file for a mailbox.
-fn file_head(run: u8) -> Head {
-    let o = order_of(run);
-    Head {
-        number: b'M' as u64 * 65536 + o.subscriber as u64,
-        width: 3,
-        order: 0,
-        body: 3,
-    }
-}
-
-// The head of a frame to the bank; the ID bytes are 0.
-fn frame_head() -> Head {
-    Head {
-        number: b'F' as u64 * 4294967296 + TIME,
-        width: 5,
-        order: 0,
-        body: FRAME_AT,
-    }
-}
-
-// The head of a move's record.
-fn head_of(act: u8, run: u8) -> Head {
-    match act {
-        b'f' => file_head(run),
-        b'b' => begin_head(run),
-        b'q' => frame_head(),
-        b'r' => event_head(b'R', run),
-        _ => event_head(b'N', run),
-    }
-}
-
-// Whether the body of a record is the content of an order, and not a message. What follows a record without one is not
-// read.
-fn takes_content(act: u8) -> bool {
-    act == b'f' || act == b'b'
-}
-
-// Writes the record of a move. A lost message makes no call: its record is empty.
-pub(crate) fn put_record(record: &mut [u8], m: Move, content: &[u8], frame: &[u8]) {
+// Writes the record of a move, whose body this is. A lost message makes no call: its record is empty.
+fn put_record(record: &mut [u8], m: Move, body: &[u8]) {
     if m.fate == b'x' {
         return;
     }
-    let h = head_of(m.act, m.run);
+    let h = head_of(m.letter, m.run);
     put_number(record, 0, h.width, h.number);
     put_number(record, 6, 6, h.order);
-    if takes_content(m.act) {
-        put_body(record, h.body, content);
-    } else {
-        put_body(record, h.body, frame);
-    }
+    put_body(record, h.body, body);
 }
 
 // The place of a move's message.
-fn place_of(act: u8, fate: u8) -> usize {
+fn place_of(letter: u8, fate: u8) -> usize {
     if fate == b'l' {
         return COPY_AT;
     }
-    if act == b'r' {
+    if letter == b'R' {
         return REPLY_AT;
     }
     REQUEST_AT
@@ -175,19 +132,25 @@ fn place_of(act: u8, fate: u8) -> usize {
 
 // The message of a move.
 pub(crate) fn message_of(mail: &[u8], m: Move) -> &[u8] {
-    body_at(mail, place_of(m.act, m.fate))
+    body_at(mail, place_of(m.letter, m.fate))
+}
+
+// Writes the record of a move: its body is the content of an order, or a message. What follows a record without one is
+// not read.
+pub(crate) fn put_move(record: &mut [u8], m: Move, text: &[u8], mail: &[u8]) {
+    let letter = m.letter;
+    match letter {
+        b'F' | b'R' => put_record(record, m, message_of(mail, m)),
+        _ => put_record(record, m, content_of(text, m.run)),
+    }
 }
 
 // Keeps the reply or the request that a call wrote into the buffer.
 pub(crate) fn keep(mail: &mut [u8], answer: Answer, buffer: &[u8]) {
     match answer {
         Answer::Frame(n) => put_body(mail, REPLY_AT, front(buffer, n)),
-        Answer::Put => (),
         Answer::Request(n) => put_body(mail, REQUEST_AT, front(buffer, n)),
-        Answer::Ignored => (),
-        Answer::Closed(_, _) => (),
-        Answer::Number(_) => (),
-        Answer::NoCall => (),
+        _ => (),
     }
 }
 

@@ -56,10 +56,13 @@ fn find_order(rows: &[u64; STATE_SIZE], subscriber: u64, number: u64) -> usize {
     i
 }
 
-// What the bank has of a run's order: whether it has one (a mailbox is always there), how many bytes, and whether the
-// order's bytes are in the book, or with the client.
+// The key of the text where the book does not have the order.
+const NO_ORDER: u8 = b'Z';
+
+// What the bank has of a run's order: the key of its text, how many bytes, and whether the order's bytes are in the
+// book, or with the client.
 struct Holding {
-    pub there: bool,
+    pub key: u8,
     pub length: u64,
     pub same: bool,
 }
@@ -75,14 +78,14 @@ fn book_has(
     let i = find_order(rows, subscriber, number);
     if PLACE_COUNT <= i {
         return Holding {
-            there: false,
+            key: NO_ORDER,
             length: 0,
             same: false,
         };
     }
     let p = place_at(rows, i);
     Holding {
-        there: true,
+        key: b'B',
         length: p.length,
         same: same_bytes(file_of(orders, i, p.length), payload),
     }
@@ -101,7 +104,7 @@ fn mailbox_has(
         length = file_length(rows, i - 1);
     }
     Holding {
-        there: true,
+        key: b'X',
         length,
         same: same_bytes(file, statement),
     }
@@ -111,7 +114,7 @@ fn mailbox_has(
 fn is_true(w: Word, h: Holding) -> bool {
     match w {
         Word::Lodged => h.same,
-        Word::NotLodged => !h.there,
+        Word::NotLodged => h.key == NO_ORDER,
         Word::Unclear => true,
         Word::Fetched => h.length == 0 && h.same,
         Word::HeldUnconfirmed => h.same,
@@ -119,77 +122,33 @@ fn is_true(w: Word, h: Holding) -> bool {
     }
 }
 
-// The texts of a row, numbered from 0.
-fn say_text(k: usize, v: [u64; VALUES]) {
-    say(
-        b"\
-            client 1, upload: \n\
-            client 1, download: \n\
-            open\n\
-            ; book 7, 3 bytes\n\
-            ; book nothing\n\
-            ; mailbox 2, 3 bytes\n\
-            ; true\n\
-            ; false\n\
-            ",
-        k,
-        v,
-    );
-}
-
 // The closing word, and whether it is true; a run that has not ended has none.
 fn say_word(stage: Stage, number: u64, h: Holding, v: [u64; VALUES]) -> bool {
     match stage {
-        Stage::NotBegun => {
-            say_text(2, v);
-            true
-        }
-        Stage::Running => {
-            say_text(2, v);
-            true
-        }
         Stage::Ended(w) => {
             say_closing(w, number);
             is_true(w, h)
         }
-    }
-}
-
-// The text of whose order it is.
-fn run_text(direction: Direction) -> usize {
-    match direction {
-        Direction::Upload => 0,
-        Direction::Download => 1,
-    }
-}
-
-// The text of what the bank has.
-fn holding_text(direction: Direction, there: bool) -> usize {
-    match direction {
-        Direction::Upload => {
-            if there {
-                return 3;
-            }
-            4
+        _ => {
+            say(b'o', v);
+            true
         }
-        Direction::Download => 5,
     }
-}
-
-// The text of whether a word is true.
-fn truth_text(holds: bool) -> usize {
-    if holds {
-        return 6;
-    }
-    7
 }
 
 // The row of a run from what the bank has.
 fn say_row(stage: Stage, direction: Direction, h: Holding, v: [u64; VALUES]) {
-    say_text(run_text(direction), v);
+    match direction {
+        Direction::Upload => say(b'u', v),
+        Direction::Download => say(b'd', v),
+    }
     let holds = say_word(stage, v[7], h, v);
-    say_text(holding_text(direction, h.there), v);
-    say_text(truth_text(holds), v);
+    say(h.key, v);
+    if holds {
+        say(b'T', v);
+    } else {
+        say(b'W', v);
+    }
     say_end();
 }
 

@@ -52,19 +52,75 @@ fn say_byte(b: u8, v: [u64; VALUES]) {
     }
 }
 
-// Prints text k, from 0 on, of a table with a text to a line; nothing after the last.
-pub(crate) fn say(table: &[u8], k: usize, v: [u64; VALUES]) {
-    let mut line: usize = 0;
+// Prints the text of a table that has this key: a line is the key of a text, and the text.
+fn say_keyed(table: &[u8], key: u8, v: [u64; VALUES]) {
+    let mut current = 0;
     let mut i = 0;
     while i < table.len() {
         let b = table[i];
         i += 1;
-        if b == b'\n' {
-            line += 1;
-        } else if line == k {
+        if current == 0 {
+            current = b;
+        } else if b == b'\n' {
+            current = 0;
+        } else if current == key {
             say_byte(b, v);
         }
     }
+}
+
+// Prints the text of a key, or nothing where no text has it. The keys: a record's letter for the line of a move; 1 to
+// 6 for what a request says, a to k for a reply; E for what follows each of them, P a request that repeats one, C the
+// code of a reply, O, S, Y and K the codes' names in Annex 1; x and l for what became of a message; i, w and n for
+// what the call answered; u and d for a run's row in exercise C, o for a run that has not ended, B, Z and X for what
+// the bank has, T and W for whether the closing word is true.
+pub(crate) fn say(key: u8, v: [u64; VALUES]) {
+    say_keyed(
+        b"\
+            M0 host -> bank: file for mailbox 2, 3 bytes\n\
+            U0 client 1: upload begun\n\
+            D0 client 1: download begun\n\
+            F0 client 1 -> bank: \n\
+            R0 bank -> client 1: \n\
+            N0 client 1: no reply\n\
+            1upload opening of 5 segments\n\
+            2download opening\n\
+            3upload segment 49\n\
+            4download segment 4\n\
+            5receipt\n\
+            6no message\n\
+            aupload opened, order 7\n\
+            bdownload opened with segment 4 of 5\n\
+            esegment 4 taken\n\
+            frecovery point at segment 4\n\
+            gdownload segment 49\n\
+            hreceipt answered\n\
+            junreadable request\n\
+            krefusal\n\
+            E, exchange 6\n\
+            P, repeated\n\
+            C, 8 \n\
+            OEBICS_OK\n\
+            SEBICS_DOWNLOAD_POSTPROCESS_DONE\n\
+            YEBICS_TX_RECOVERY_SYNC\n\
+            KEBICS_TX_UNKNOWN_TXID\n\
+            x, lost\n\
+            l, late\n\
+            i, ignored\n\
+            w, closed: \n\
+            n, number 0\n\
+            uclient 1, upload: \n\
+            dclient 1, download: \n\
+            oopen\n\
+            B; book 7, 3 bytes\n\
+            Z; book nothing\n\
+            X; mailbox 2, 3 bytes\n\
+            T; true\n\
+            W; false\n\
+            ",
+        key,
+        v,
+    );
 }
 
 // Prints a closing word, with its order number where the order is lodged.

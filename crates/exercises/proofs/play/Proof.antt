@@ -53,6 +53,7 @@ play-spec =
     (λ c κs. tt)
     (λ c. (refl, refl, refl, refl, refl, refl))
     (λ c κs. tt)
+    (λ c. search needs)
     (λ c κs. tt)
     (λ c. search needs)
     (λ c κs. tt)

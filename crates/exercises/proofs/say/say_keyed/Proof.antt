@@ -1,19 +1,19 @@
--- The measure is the number of bytes that are left; there are no more lines than bytes. Assumes nothing.
+-- The measure is the number of bytes that are left. Assumes nothing.
 use Prim.Native.Nat.{_-_, _≤_}
 use native.Mathlib.Omega.{arith}
 use lib.ListN.{length}
 use borrow.Author.Needs.{needs}
-use Rattle.exercises.proofs.say.say.Statement.{statement}
-use Rattle.exercises.proofs.say.say.Tie as tie
+use Rattle.exercises.proofs.say.say_keyed.Statement.{statement}
+use Rattle.exercises.proofs.say.say_keyed.Tie as tie
 
 abbrev Inv-loop : tie.InvT-loop
-Inv-loop table k v line₀ i₀ line i = line ≤ i
+Inv-loop table key v current₀ i₀ current i = 0 ≤ i
 
 abbrev μ-loop : tie.MeasureT-loop
-μ-loop table k v line₀ i₀ line i = length table - i
+μ-loop table key v current₀ i₀ current i = length table - i
 
-pub say-spec : {M : Type 1} → statement M
-say-spec =
+pub say-keyed-spec : {M : Type 1} → statement M
+say-keyed-spec =
     tie.close
     (tie.spec
     Inv-loop
@@ -22,6 +22,7 @@ say-spec =
     (λ c. search needs)
     (λ c. search needs)
     (λ c. search needs)
+    (λ c. omega arith)
     (λ c. search needs)
     (λ c. omega arith)
     (λ c κs. tt)
