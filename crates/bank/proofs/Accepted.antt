@@ -1,13 +1,11 @@
--- What a request, a file and lent lengths that are not refused tell. Assumes nothing.
+-- What a file and lent lengths that are not refused tell. Assumes nothing.
 use Prim.Native.Nat.{ℕ, _≤_, _<_}
-use mathlib.Core.Bool.{Bool, true, false, _&&_, _||_}
+use mathlib.Core.Bool.{Bool, true, false, _&&_}
 use mathlib.Core.List.{List}
 use mathlib.Core.Path.{_≡_, refl, ap}
 use lib.Dec.{eqb, leb, ltb}
 use lib.ListN.{length}
 use borrow.Author.Tests.{eqb-true, ltb-false, not-false}
-use Rattle.frame_table.specs.declared.fields.Fields.{Fields}
-use Rattle.frame_table.specs.Names.{subscriber}
 use Rattle.octets.proofs.Tests.{and-true, or-neither}
 use Rattle.message.specs.Limits.{subscribers, fileBytes}
 use Rattle.message.specs.Verdicts.{decide}
@@ -15,22 +13,11 @@ use Rattle.bank_state.specs.State.{Bank}
 use Rattle.bank_state.specs.Limits.{storeBytes, idBytes, replyRoom}
 use Rattle.bank_state.specs.State.{fileLength}
 use Rattle.message.proofs.Verdicts.{all-failed}
-use Rattle.bank_verdicts.specs.Refusals.{noSubscriber}
+use Rattle.bank_steps.proofs.Accepted.{numbered}
 use Rattle.bank.specs.declared.mailbox.FileAnswer.{FileAnswer}
 use Rattle.bank.specs.declared.mailbox.FileAnswer.the-variants.{Done, WrongLength, NoMailbox}
 use Rattle.bank.specs.declared.mailbox.FileAnswer.the-variants.{WrongFile, MailboxFull}
 use Rattle.bank.specs.Mailbox.{fileRefusals}
-
--- a number of a subscriber, or of a mailbox
-numbered : (n : ℕ) → ltb n 1 || ltb subscribers n ≡ false → (0 < n) × (n ≤ subscribers)
-numbered n h =
-    let a = or-neither (ltb n 1) (ltb subscribers n) h in
-    (ltb-false n 1 (a .0), ltb-false subscribers n (a .1))
-
--- a request that line 091003 does not refuse is one of a subscriber
-pub request-known : (q : Fields) → noSubscriber q ≡ false → (0 < subscriber q) × (subscriber q ≤ subscribers)
-unfolding noSubscriber
-request-known q h = numbered (subscriber q) h
 
 abbrev isDone : FileAnswer → Bool
 isDone Done = true

@@ -6,12 +6,12 @@ use mathlib.Core.Path.{_≡_, refl, ap, _∙_}
 use Rattle.frame_table.specs.declared.fields.Fields.{Fields}
 use Rattle.frame_table.specs.Table.{isReplyForm}
 use Rattle.frame_table.specs.Names.{returnCode, form, noFields}
-use Rattle.frame.specs.declared.writer.Written.the-variants.{Length, Refused}
-use Rattle.frame.specs.Reader.{readReply}
-use Rattle.frame.specs.Writer.{writeAnswer, writeBuffer}
+use Rattle.frame_writer.specs.declared.writer.Written.the-variants.{Length, Refused}
+use Rattle.frame_reader.specs.Reader.{readReply}
+use Rattle.frame_writer.specs.Writer.{writeAnswer, writeBuffer}
 use Rattle.frame.proofs.RoundTrip.{Sized}
 use Rattle.frame.proofs.Theorems.{written-as-reply}
-use Rattle.frame.proofs.Written.{written-front}
+use Rattle.frame_writer.proofs.Written.{written-front}
 use Rattle.bank.specs.Call.{answerOf, replyCode, codeIn}
 
 module _ (f : Fields) (d old : List ℕ) where

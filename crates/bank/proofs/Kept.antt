@@ -5,28 +5,29 @@ use mathlib.Core.List.{List}
 use mathlib.Core.Path.{_≡_, refl, ap, _∙_}
 use lib.ListN.{length}
 use Rattle.octets.specs.Bytes.{number}
-use Rattle.frame.specs.Reader.{readRequest}
-use Rattle.frame.specs.Row.{dataOf}
+use Rattle.frame_reader.specs.Reader.{readRequest}
+use Rattle.frame_row.specs.Row.{dataOf}
 use Rattle.message.specs.Verdicts.{decide}
 use Rattle.message.proofs.Verdicts.{by-test}
 use Rattle.bank_state.specs.State.{Bank}
 use Rattle.bank_state.specs.Clock.{advanced}
 use Rattle.bank_state.specs.State.{BankState}
-use Rattle.bank_rows.specs.Sound.{isSound, InRange}
+use Rattle.bank_sound.specs.Sound.{isSound, InRange}
 use Rattle.bank_rows.specs.State.{bankOf, stored, Laid, Held}
 use Rattle.bank_rows.proofs.Calls.{held-file}
-use Rattle.bank_rows.proofs.Range.{advanced-range}
+use Rattle.bank_sound.proofs.Range.{advanced-range}
 use Rattle.bank_rows.proofs.State.{held-rows, stored-back}
-use Rattle.bank_rows.proofs.Test.{sound-laid, sound-range, stored-sound}
+use Rattle.bank_sound.proofs.Test.{sound-laid, sound-range, stored-sound}
+use Rattle.bank_steps.specs.Lent.{Lent, stateOf}
+use Rattle.bank_steps.proofs.Held.{held-judged}
+use Rattle.bank_steps.proofs.Range.{stored-range, range-judged}
 use Rattle.bank.specs.declared.mailbox.FileAnswer.{FileAnswer}
 use Rattle.bank.specs.declared.mailbox.FileAnswer.the-variants as answers
 use Rattle.bank.specs.Call.{respond, FrameInput, FrameCall, lentRight, frameCall}
 use Rattle.bank.specs.Mailbox.{fileRefusals, carryOutFile, fileCall}
-use Rattle.bank.specs.Lent.{Lent, lent, stateOf, keptIn, lentFrameCall, lentFileCall}
+use Rattle.bank.specs.Lent.{lentFrameCall, lentFileCall}
 use Rattle.bank.proofs.Accepted.{file-fits}
-use Rattle.bank.proofs.Held.{held-judged}
-use Rattle.bank.proofs.Lent.{lent-same, advanced-within, lent-frame}
-use Rattle.bank.proofs.Range.{stored-range, range-judged}
+use Rattle.bank.proofs.Lent.{advanced-within, lent-frame}
 
 -- ---- a frame arrives
 

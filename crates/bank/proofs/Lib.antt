@@ -2,9 +2,5 @@
 pub mod Accepted
 pub mod Safety
 pub mod Codes
-pub mod Carried
-pub mod Judged
-pub mod Held
-pub mod Range
 pub mod Lent
 pub mod Kept

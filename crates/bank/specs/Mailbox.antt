@@ -5,11 +5,12 @@ use mathlib.Core.List.{List, [], _∷_}
 use lib.Dec.{ltb, eqb}
 use lib.ListN.{length, set}
 use Rattle.octets.specs.Bytes.{overwrite}
-use Rattle.message.specs.Limits.{subscribers, fileBytes}
+use Rattle.message.specs.Limits.{fileBytes}
 use Rattle.message.specs.Verdicts.{decide}
 use Rattle.bank_state.specs.State.{Bank}
 use Rattle.bank_state.specs.Limits.{storeBytes}
 use Rattle.bank_state.specs.State.{fileLength, withFiles}
+use Rattle.bank_steps.specs.Mailboxes.{isNoMailbox}
 use Rattle.bank.specs.declared.mailbox.FileAnswer.{FileAnswer}
 use Rattle.bank.specs.declared.mailbox.FileAnswer.the-variants.{Done, WrongLength, NoMailbox}
 use Rattle.bank.specs.declared.mailbox.FileAnswer.the-variants.{WrongFile, MailboxFull}
@@ -18,7 +19,7 @@ use Rattle.bank.specs.declared.mailbox.FileAnswer.the-variants.{WrongFil
 unfoldable pub fileRefusals : Bank → ℕ → List ℕ → List ℕ → List (Bool × FileAnswer)
 fileRefusals b mailbox file mailboxes =
     (not (eqb (length mailboxes) storeBytes), WrongLength)
-    ∷ (ltb mailbox 1 || ltb subscribers mailbox, NoMailbox)
+    ∷ (isNoMailbox mailbox, NoMailbox)
     ∷ (eqb (length file) 0 || ltb fileBytes (length file), WrongFile)
     ∷ (not (eqb (fileLength mailbox (b .files)) 0), MailboxFull)
     ∷ []

@@ -1,22 +1,22 @@
 // A frame arrives: the lent lengths, the clock and the drops, the reading, the verdict carried out, and the reply.
-use crate::mailbox::mailbox_of;
-use crate::steps::step;
-use bank_rows::clock::advance;
+use bank_clock::clock::advance;
 use bank_rows::numbers::file_length_of;
-use bank_rows::sound::is_sound;
+use bank_sound::sound::is_sound;
 use bank_state::limits::ID_BYTES;
 use bank_state::limits::REPLY_ROOM;
 use bank_state::limits::STORE_BYTES;
 use bank_state::store::file_of;
+use bank_steps::mailboxes::mailbox_of;
+use bank_steps::steps::step;
 use bank_verdicts::replies::reply_to;
 use bank_verdicts::replies::segment_in;
 use bank_verdicts::verdict::Verdict;
-use frame::reader::data_at;
-use frame::reader::read_whole_request;
-use frame::writer::Written;
-use frame::writer::write;
+use frame_reader::reader::data_at;
+use frame_reader::reader::read_whole_request;
 use frame_table::fields::Fields;
 use frame_table::table::is_reply_form;
+use frame_writer::writer::Written;
+use frame_writer::writer::write;
 use message::segments::segment_of;
 use octets::bytes::number;
 ghost use mathlib.Core.Path.{_≡_};
@@ -26,7 +26,8 @@ ghost use Rattle.frame_table.specs.Names.{subscriber};
 ghost use Rattle.bank_state.specs.Limits.{storeBytes, idBytes, replyRoom};
 ghost use Rattle.bank_verdicts.specs.Replies.{replyTo, segmentIn};
 ghost use Rattle.bank.specs.Call.{fileSegment, codeIn, SentAs, frameInput};
-ghost use Rattle.bank.specs.Lent.{lent, lentFrameCallOf, lentRespond, lentFrameCall, Prepared};
+ghost use Rattle.bank_steps.specs.Lent.{lent, Prepared};
+ghost use Rattle.bank.specs.Lent.{lentFrameCallOf, lentRespond, lentFrameCall};
 
 // The reply's length in the lent buffer, or document 01's number 1.
 pub enum FrameAnswer {

@@ -1,14 +1,14 @@
 // A file goes into a mailbox.
 use bank_rows::numbers::file_length_of;
 use bank_rows::numbers::set_file_length;
-use bank_rows::sound::is_sound;
+use bank_sound::sound::is_sound;
 use bank_state::limits::STORE_BYTES;
 use bank_state::store::append;
+use bank_steps::mailboxes::is_no_mailbox;
 use message::limits::FILE_BYTES;
-use message::limits::SUBSCRIBERS;
 ghost use mathlib.Core.Path.{_≡_};
 ghost use mathlib.Core.Bool.{_||_};
-ghost use Prim.Native.Nat.{_-_, _<_, _≤_};
+ghost use Prim.Native.Nat.{_<_, _≤_};
 ghost use lib.Dec.{eqb, ltb};
 ghost use lib.ListN.{length};
 ghost use Rattle.message.specs.Limits.{fileBytes, subscribers};
@@ -26,26 +26,6 @@ pub enum FileAnswer {
     NoMailbox,
     WrongFile,
     MailboxFull,
-}
-
-// Whether this is no number of a mailbox, nor of a subscriber.
-pub(crate) fn is_no_mailbox(number: u64) -> bool
-    ensures { λ r. ⌜ r ≡ (ltb number 1 || ltb subscribers number) ⌝ }
-{
-    if number < 1 {
-        return true;
-    }
-    SUBSCRIBERS < number
-}
-
-// The place of a mailbox among the mailboxes, by its number.
-pub(crate) fn mailbox_of(number: u64) -> usize
-    ensures { λ r. ⌜ r ≡ number - 1 ⌝ }
-{
-    if number == 0 {
-        return 0;
-    }
-    (number - 1) as usize
 }
 
 // Whether this is no length of a file.

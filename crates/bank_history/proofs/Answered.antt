@@ -9,10 +9,10 @@ use borrow.Author.Tests.{eq-eqb, le-leb}
 use Rattle.frame_table.specs.declared.fields.Bits128.{Bits128}
 use Rattle.octets.specs.Bytes.{number}
 use Rattle.frame_table.specs.Names.{segment}
-use Rattle.frame.specs.Reader.{readRequest}
-use Rattle.frame.specs.Row.{dataOf}
-use Rattle.frame.specs.Writer.{frameOf, writable}
-use Rattle.frame.proofs.Written.{written-in-front}
+use Rattle.frame_reader.specs.Reader.{readRequest}
+use Rattle.frame_row.specs.Row.{dataOf}
+use Rattle.frame_writer.specs.Writer.{frameOf, writable}
+use Rattle.frame_writer.proofs.Written.{written-in-front}
 use Rattle.message.specs.Limits.{segmentBytes}
 use Rattle.message.specs.Segments.{segmentsOf, segmentOf}
 use Rattle.bank_state.specs.Clock.{advanced}

@@ -10,13 +10,13 @@ use borrow.Author.Tests.{eqb-true, leb-true}
 use Rattle.frame_table.specs.declared.fields.Fields.{Fields}
 use Rattle.octets.specs.Bytes.{Bytes, number}
 use Rattle.frame_table.specs.Names.{subscriber, form}
-use Rattle.frame.specs.Reader.{readRequest}
-use Rattle.frame.specs.Row.{dataOf}
+use Rattle.frame_reader.specs.Reader.{readRequest}
+use Rattle.frame_row.specs.Row.{dataOf}
 use Rattle.frame_table.specs.Table.{isRequestForm}
-use Rattle.frame.specs.Writer.{frameOf}
+use Rattle.frame_writer.specs.Writer.{frameOf}
 use Rattle.octets.proofs.Tests.{and-true}
 use Rattle.octets.proofs.Numbers.{number-small}
-use Rattle.frame.proofs.Written.{written-in-front, written-behind}
+use Rattle.frame_writer.proofs.Written.{written-in-front, written-behind}
 use Rattle.frame.proofs.Theorems.{data-read, reply-read}
 use Rattle.message.specs.Replies.{unreadable}
 use Rattle.message.proofs.Writable.{unreadable-written}
@@ -24,8 +24,8 @@ use Rattle.bank_state.specs.Clock.{advanced}
 use Rattle.bank_state.specs.Limits.{storeBytes, idBytes, replyRoom}
 use Rattle.bank_state.specs.State.{BankState}
 use Rattle.bank_state.proofs.Drops.{Sized, advanced-sized}
-use Rattle.bank_rows.specs.Sound.{InRange}
-use Rattle.bank_rows.proofs.Range.{advanced-range}
+use Rattle.bank_sound.specs.Sound.{InRange}
+use Rattle.bank_sound.proofs.Range.{advanced-range}
 use Rattle.bank_verdicts.specs.declared.verdict.Verdict.the-variants as verdict
 use Rattle.bank_verdicts.specs.Refusals.{requestRows}
 use Rattle.bank_verdicts.specs.Judgement.{judge}

@@ -47,7 +47,7 @@ use Rattle.bank_verdicts.specs.Judgement.{
   judgeForm,
   judge,
 }
-use Rattle.bank.specs.Call.{onUpload, uploadActs}
+use Rattle.bank_steps.specs.Steps.{onUpload, uploadActs}
 use Rattle.bank_history.specs.History.{isOpening}
 use Rattle.bank_verdicts.proofs.Sound.{
   Readable,

@@ -12,8 +12,8 @@ use Rattle.frame_table.specs.declared.fields.Bits128.{Bits128}
 use Rattle.frame_table.specs.declared.fields.Fields.{Fields}
 use Rattle.octets.specs.Bytes.{number}
 use Rattle.frame_table.specs.Names.{subscriber, transaction}
-use Rattle.frame.specs.Reader.{readRequest}
-use Rattle.frame.specs.Row.{dataOf}
+use Rattle.frame_reader.specs.Reader.{readRequest}
+use Rattle.frame_row.specs.Row.{dataOf}
 use Rattle.octets.proofs.Tests.{never}
 use Rattle.message.specs.Limits.{subscribers}
 use Rattle.bank_state.specs.declared.clock.Ended.{Ended}
@@ -39,19 +39,8 @@ use Rattle.bank.specs.declared.call.FrameAnswer.{FrameAnswer}
 use Rattle.bank.specs.declared.call.FrameAnswer.the-variants.{Reply, WrongLength}
 use Rattle.bank.specs.declared.mailbox.FileAnswer.{FileAnswer}
 use Rattle.bank.specs.declared.mailbox.FileAnswer.the-variants as put
-use Rattle.bank.specs.Call.{
-  Step,
-  FrameCall,
-  onUpload,
-  downloadActs,
-  emptied,
-  lentRight,
-  carryOut,
-  replied,
-  respond,
-  frameCall,
-  FrameInput,
-}
+use Rattle.bank_steps.specs.Steps.{onUpload, downloadActs, emptied, carryOut}
+use Rattle.bank.specs.Call.{Step, FrameCall, lentRight, replied, respond, frameCall, FrameInput}
 use Rattle.bank.specs.Mailbox.{fileNumber, carryOutFile, fileCall}
 use Rattle.bank_history.specs.History.{
   Exchange,

@@ -9,8 +9,8 @@ use lib.ListN.{length, getD, set}
 use Rattle.frame_table.specs.declared.fields.Bits128.{Bits128}
 use Rattle.frame_table.specs.declared.fields.Fields.{Fields}
 use Rattle.frame_table.specs.Names.{subscriber, transaction, sameBits}
-use Rattle.frame.specs.Reader.{readRequest}
-use Rattle.frame.specs.Row.{dataOf}
+use Rattle.frame_reader.specs.Reader.{readRequest}
+use Rattle.frame_row.specs.Row.{dataOf}
 use Rattle.octets.specs.Bytes.{number}
 use Rattle.octets.proofs.Tests.{never}
 use Rattle.bank_state.specs.declared.clock.Ended.{Ended}
@@ -36,7 +36,8 @@ use Rattle.bank_verdicts.specs.declared.verdict.Verdict.{Verdict}
 use Rattle.bank_verdicts.specs.declared.verdict.Verdict.the-variants as verdict
 use Rattle.bank_verdicts.specs.Judgement.{transactionOf, uploadAt, downloadOf}
 use Rattle.bank_uploads.specs.Uploads.{grown, booked, attempted, placeAfter}
-use Rattle.bank.specs.Call.{onUpload, downloadActs, carryOut, respond}
+use Rattle.bank_steps.specs.Steps.{onUpload, downloadActs, carryOut}
+use Rattle.bank.specs.Call.{respond}
 use Rattle.bank_history.specs.History.{
   Exchange,
   Past,

@@ -42,7 +42,8 @@ use Rattle.bank_verdicts.specs.Judgement.{
 }
 use Rattle.bank_verdicts.proofs.Sound.{Readable}
 use Rattle.bank_openings.specs.Openings.{counted, openDownload}
-use Rattle.bank.specs.Call.{carryOut, respond}
+use Rattle.bank_steps.specs.Steps.{carryOut}
+use Rattle.bank.specs.Call.{respond}
 use Rattle.bank_history.specs.History.{Exchange, mailboxFile, opens}
 use Rattle.bank_history.specs.Invariant.{Invariant}
 use Rattle.bank_history.proofs.Parts.{OpenDownload}

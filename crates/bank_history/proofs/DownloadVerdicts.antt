@@ -32,7 +32,8 @@ use Rattle.bank_verdicts.specs.declared.verdict.Verdict.{Verdict}
 use Rattle.bank_verdicts.specs.declared.verdict.Verdict.the-variants as verdict
 use Rattle.bank_downloads.specs.Downloads.{movedTo}
 use Rattle.bank_verdicts.specs.Judgement.{mailboxSegments, downloadOf}
-use Rattle.bank.specs.Call.{ended, carryOut, mailboxSegment}
+use Rattle.bank_steps.specs.Steps.{ended, carryOut}
+use Rattle.bank.specs.Call.{mailboxSegment}
 use Rattle.bank_history.specs.History.{Exchange, downloadKind, mailboxFile, isDelivery, times}
 use Rattle.bank_history.specs.Sound.{SoundRequest, SoundDownload, SoundData, SoundReceipt, SoundDownloadAction}
 use Rattle.bank_history.specs.Invariant.{MailboxHolds, Invariant}

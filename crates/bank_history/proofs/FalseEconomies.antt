@@ -41,7 +41,7 @@ use Rattle.bank_verdicts.specs.declared.verdict.Verdict.the-variants as verdict
 use Rattle.bank_verdicts.specs.Refusals.{unknownType, manySegments, isReplay, inTime, openingRows}
 use Rattle.bank_verdicts.specs.Judgement.{judgeOpening, judge}
 use Rattle.bank_verdicts.specs.Replies.{replyTo, uploadReply, downloadReply, actionReply}
-use Rattle.bank.specs.Call.{carryOut}
+use Rattle.bank_steps.specs.Steps.{carryOut}
 use Rattle.bank_history.specs.History.{
   Exchange,
   BankCall,

@@ -16,7 +16,7 @@ use Rattle.bank_state.specs.Limits.{placeCount}
 use Rattle.bank_state.specs.Search.{isOpen}
 use Rattle.bank_state.specs.State.{BankState, noPlace, placeAt, downloadAt, fileLength}
 use Rattle.bank_state.specs.Store.{partAt}
-use Rattle.bank_rows.specs.Sound.{InRange}
+use Rattle.bank_sound.specs.Sound.{InRange}
 use Rattle.bank_history.specs.History.{Exchange}
 use Rattle.bank_history.specs.Invariant.{OpenPlace, PlaceHolds, Invariant}
 use Rattle.bank_history.proofs.Downloads.{file-long, download-open}

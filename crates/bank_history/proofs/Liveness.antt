@@ -12,8 +12,8 @@ use Rattle.frame_table.specs.declared.fields.Fields.{Fields}
 use Rattle.frame_table.specs.Forms as forms
 use Rattle.octets.specs.Bytes.{number}
 use Rattle.frame_table.specs.Names.{subscriber, transaction, segments, segment, lastMark, receiptCode, form}
-use Rattle.frame.specs.Reader.{readRequest}
-use Rattle.frame.specs.Row.{dataOf}
+use Rattle.frame_reader.specs.Reader.{readRequest}
+use Rattle.frame_row.specs.Row.{dataOf}
 use Rattle.message.specs.Limits.{segmentBytes}
 use Rattle.message.specs.Segments.{segmentsOf, lastMarkOf}
 use Rattle.bank_state.specs.Clock.{advanced}
@@ -27,7 +27,8 @@ use Rattle.bank_verdicts.specs.declared.verdict.Verdict.{Verdict}
 use Rattle.bank_verdicts.specs.declared.verdict.Verdict.the-variants as verdict
 use Rattle.bank_verdicts.specs.Judgement.{mailboxSegments, uploadAt}
 use Rattle.bank_openings.specs.Openings.{counted, openUpload, openDownload}
-use Rattle.bank.specs.Call.{downloadActs, carryOut, respond, FrameInput}
+use Rattle.bank_steps.specs.Steps.{downloadActs, carryOut}
+use Rattle.bank.specs.Call.{respond, FrameInput}
 use Rattle.bank_history.specs.History.{
   Exchange,
   Past,

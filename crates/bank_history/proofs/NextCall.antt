@@ -15,8 +15,8 @@ use Rattle.frame_table.specs.Forms as forms
 use Rattle.frame_table.specs.Names.{form, returnCode}
 use Rattle.frame_table.specs.Table.{isRequestForm}
 use Rattle.octets.specs.Bytes.{number}
-use Rattle.frame.specs.Reader.{readRequest}
-use Rattle.frame.specs.Row.{dataOf}
+use Rattle.frame_reader.specs.Reader.{readRequest}
+use Rattle.frame_row.specs.Row.{dataOf}
 use Rattle.message.specs.declared.codes.ReturnCode.{ReturnCode}
 use Rattle.message.specs.declared.codes.ReturnCode.the-variants as code
 use Rattle.message.specs.Codes.{codeField}
@@ -37,7 +37,8 @@ use Rattle.bank_verdicts.specs.declared.verdict.Verdict.the-variants as verdict
 use Rattle.bank_verdicts.specs.Refusals.{notOpen, transactionRows}
 use Rattle.bank_verdicts.specs.Judgement.{uploadAt, judgeOpen, judgeTransaction, judge}
 use Rattle.bank_verdicts.proofs.Sound.{Readable, judged-transaction}
-use Rattle.bank.specs.Call.{carryOut, respond}
+use Rattle.bank_steps.specs.Steps.{carryOut}
+use Rattle.bank.specs.Call.{respond}
 use Rattle.bank_history.specs.History.{
   Exchange,
   BankCall,

@@ -26,7 +26,7 @@ use Rattle.bank_verdicts.specs.declared.verdict.Action.the-variants as action
 use Rattle.bank_verdicts.specs.declared.verdict.Verdict.{Verdict}
 use Rattle.bank_verdicts.specs.Judgement.{uploadAt, downloadOf}
 use Rattle.bank_uploads.specs.Uploads.{grown, booked, attempted, placeAfter}
-use Rattle.bank.specs.Call.{onUpload, downloadActs, carryOut}
+use Rattle.bank_steps.specs.Steps.{onUpload, downloadActs, carryOut}
 use Rattle.bank_history.specs.History.{isOpening}
 use Rattle.bank_history.specs.Invariant.{NoneIdle}
 use Rattle.bank_state.proofs.Drops.{each-endDownloads}

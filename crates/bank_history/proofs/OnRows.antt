@@ -16,18 +16,17 @@ use Rattle.message.proofs.Verdicts.{by-test}
 use Rattle.bank_state.specs.State.{Bank}
 use Rattle.bank_state.specs.Limits.{storeBytes, idBytes, replyRoom}
 use Rattle.bank_state.specs.State.{BankState, bankState}
-use Rattle.bank_rows.specs.Sound.{isSound}
+use Rattle.bank_sound.specs.Sound.{isSound}
 use Rattle.bank_rows.specs.State.{bankOf}
-use Rattle.bank_rows.proofs.Range.{zeros-sound}
+use Rattle.bank_sound.proofs.Range.{zeros-sound}
 use Rattle.bank_rows.proofs.State.{fresh-rows, held-rows}
-use Rattle.bank_rows.proofs.Test.{sound-laid, sound-range}
+use Rattle.bank_sound.proofs.Test.{sound-laid, sound-range}
 use Rattle.bank.specs.declared.mailbox.FileAnswer.{FileAnswer}
 use Rattle.bank.specs.declared.mailbox.FileAnswer.the-variants as put
 use Rattle.bank.specs.Call.{FrameInput, FrameCall, frameNumber, lentRight, frameCall}
 use Rattle.bank.specs.Mailbox.{fileRefusals, carryOutFile, fileCall}
+use Rattle.bank_steps.specs.Lent.{Lent, stateOf}
 use Rattle.bank.specs.Lent.{
-  Lent,
-  stateOf,
   LentFrameCall,
   keptFrame,
   frameTurnedAway,

@@ -28,7 +28,7 @@ use Rattle.bank_verdicts.specs.declared.verdict.Verdict.{Verdict}
 use Rattle.bank_verdicts.specs.declared.verdict.Verdict.the-variants as verdict
 use Rattle.bank_verdicts.specs.Judgement.{uploadAt, downloadOf}
 use Rattle.bank_openings.specs.Openings.{counted, openUpload, openDownload}
-use Rattle.bank.specs.Call.{downloadActs, carryOut}
+use Rattle.bank_steps.specs.Steps.{downloadActs, carryOut}
 use Rattle.bank_history.specs.History.{Exchange, isOpening, isAction, did}
 use Rattle.bank_history.specs.Invariant.{Invariant}
 use Rattle.bank_history.specs.Transactions.{DownloadAt, DownloadUnlessIdle}

@@ -21,7 +21,7 @@ use Rattle.bank_verdicts.specs.declared.verdict.DownloadAction.the-variants as 
 use Rattle.bank_verdicts.specs.declared.verdict.Verdict.{Verdict}
 use Rattle.bank_verdicts.specs.Judgement.{uploadAt}
 use Rattle.bank_openings.specs.Openings.{counted, openUpload, openDownload}
-use Rattle.bank.specs.Call.{downloadActs, carryOut}
+use Rattle.bank_steps.specs.Steps.{downloadActs, carryOut}
 use Rattle.bank_history.specs.History.{Exchange, isAction, did}
 use Rattle.bank_history.specs.Invariant.{Sizes, Invariant}
 use Rattle.bank_history.specs.Transactions.{UploadAt, UploadUnlessIdle}

@@ -28,7 +28,7 @@ use Rattle.bank_state.specs.Search.{isFree, isOpen, freePlace, freeDownload, fr
 use Rattle.bank_state.specs.State.{BankState, noPlace, noDownload, placeAt, downloadAt, fileLength}
 use Rattle.bank_state.specs.Store.{partAt}
 use Rattle.bank_openings.specs.Openings.{counted, newPlace, openUpload, newDownload, openDownload}
-use Rattle.bank.specs.Call.{carryOut}
+use Rattle.bank_steps.specs.Steps.{carryOut}
 use Rattle.bank_verdicts.specs.declared.verdict.Action.the-variants as action
 use Rattle.bank_verdicts.specs.declared.verdict.DownloadAction.the-variants as down
 use Rattle.bank_verdicts.specs.declared.verdict.UploadAction.the-variants as up

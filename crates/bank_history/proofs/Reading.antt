@@ -5,8 +5,8 @@ use mathlib.Core.Path.{_≡_, ap, _∙_}
 use lib.ListN.{length}
 use Rattle.frame_table.specs.Forms as forms
 use Rattle.frame_table.specs.Names.{phase, form}
-use Rattle.frame.specs.Reader.{readRequest}
-use Rattle.frame.specs.Row.{dataOf}
+use Rattle.frame_reader.specs.Reader.{readRequest}
+use Rattle.frame_row.specs.Row.{dataOf}
 use Rattle.frame_table.specs.Table.{dataTag, has, tagsOf, isRequestForm, isForm}
 use Rattle.frame_table.proofs.Forms.{form-tags}
 use Rattle.frame.proofs.Theorems.{request-data}

@@ -7,7 +7,7 @@ use native.Mathlib.Omega.{arith}
 use Rattle.frame_table.specs.declared.fields.Fields.{Fields}
 use Rattle.octets.specs.Bytes.{Bytes}
 use Rattle.frame_table.specs.Names.{phase, exchange, transaction, form}
-use Rattle.frame.specs.Reader.{readRequest}
+use Rattle.frame_reader.specs.Reader.{readRequest}
 use Rattle.frame_table.specs.Table.{
   tagCount,
   phaseTag,

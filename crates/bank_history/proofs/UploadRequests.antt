@@ -48,7 +48,8 @@ use Rattle.bank_verdicts.specs.Judgement.{uploadAt, takes, judgeUpload, judgeOp
 use Rattle.bank_verdicts.proofs.Sound.{Readable}
 use Rattle.bank_openings.specs.Openings.{counted, openUpload}
 use Rattle.bank_uploads.specs.Uploads.{grown}
-use Rattle.bank.specs.Call.{carryOut, respond}
+use Rattle.bank_steps.specs.Steps.{carryOut}
+use Rattle.bank.specs.Call.{respond}
 use Rattle.bank_history.specs.History.{Exchange, opens}
 use Rattle.bank_history.specs.Invariant.{Invariant}
 use Rattle.bank_history.proofs.Parts.{OpenUpload, PlaceKept, place-kept}

@@ -36,7 +36,8 @@ use Rattle.bank_verdicts.specs.declared.verdict.Verdict.{Verdict}
 use Rattle.bank_verdicts.specs.declared.verdict.Verdict.the-variants as verdict
 use Rattle.bank_verdicts.specs.Judgement.{uploadAt}
 use Rattle.bank_uploads.specs.Uploads.{grown, booked, attempted}
-use Rattle.bank.specs.Call.{onUpload, carryOut, mailboxSegment, stepBy}
+use Rattle.bank_steps.specs.Steps.{onUpload, carryOut}
+use Rattle.bank.specs.Call.{mailboxSegment, stepBy}
 use Rattle.bank_history.specs.History.{
   Exchange,
   exchangeBy,

@@ -12,7 +12,7 @@ use Rattle.frame_table.specs.declared.table.Form.{Form}
 use Rattle.frame_table.specs.Forms as forms
 use Rattle.frame_table.specs.Names.{phase, subscriber, exchange, transaction, segment, form, sameBits}
 use Rattle.frame_table.specs.Table.{isReplyForm, isForm}
-use Rattle.frame.specs.Writer.{frameOf, replyRoom, smallestReply}
+use Rattle.frame_writer.specs.Writer.{frameOf, replyRoom, smallestReply}
 use Rattle.frame.proofs.Theorems.{reply-length, reply-least}
 use Rattle.frame_table.proofs.Bits.{bits-same}
 use Rattle.message.specs.declared.codes.ReturnCode.{ReturnCode}
@@ -42,7 +42,7 @@ use Rattle.bank_state.specs.declared.state.Use.the-variants.{Open}
 use Rattle.bank_state.specs.Limits.{storeBytes}
 use Rattle.bank_state.specs.Search.{isOpen}
 use Rattle.bank_state.specs.State.{BankState, placeAt, downloadAt, fileLength}
-use Rattle.bank_rows.specs.Sound.{InRange}
+use Rattle.bank_sound.specs.Sound.{InRange}
 use Rattle.bank_state.specs.Store.{partAt, fileOf}
 use Rattle.bank_verdicts.specs.declared.verdict.TransactionRequest.{TransactionRequest}
 use Rattle.bank_verdicts.specs.declared.verdict.UploadAction.{UploadAction}

@@ -3,9 +3,9 @@ use Prim.Native.Nat.{ℕ, _≤_}
 use mathlib.Core.List.{List, [], _∷_}
 use mathlib.Core.Path.{_≡_}
 use lib.ListN.{take, drop}
-use Rattle.frame.specs.Reader.{readReply}
-use Rattle.frame.specs.Row.{dataOf}
-use Rattle.frame.specs.Writer.{replyRoom, smallestReply}
+use Rattle.frame_reader.specs.Reader.{readReply}
+use Rattle.frame_row.specs.Row.{dataOf}
+use Rattle.frame_writer.specs.Writer.{replyRoom, smallestReply}
 use Rattle.octets.specs.Bytes.{Bytes}
 use Rattle.bank.specs.declared.call.FrameAnswer.the-variants.{Reply}
 use Rattle.bank.specs.Call.{FrameCall}

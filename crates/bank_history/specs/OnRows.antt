@@ -8,19 +8,11 @@ use lib.ListN.{length, replicate}
 use Rattle.octets.specs.Bytes.{Bytes}
 use Rattle.bank_state.specs.Limits.{storeBytes, idBytes, replyRoom}
 use Rattle.bank_rows.specs.Layout.{stateSize}
-use Rattle.bank_rows.specs.Sound.{isSound}
+use Rattle.bank_sound.specs.Sound.{isSound}
 use Rattle.bank.specs.Call.{FrameInput, frameCall}
 use Rattle.bank.specs.Mailbox.{fileCall}
-use Rattle.bank.specs.Lent.{
-  Lent,
-  lent,
-  stateOf,
-  keptFrame,
-  frameTurnedAway,
-  lentFrameCall,
-  keptFile,
-  lentFileCall,
-}
+use Rattle.bank_steps.specs.Lent.{Lent, lent, stateOf}
+use Rattle.bank.specs.Lent.{keptFrame, frameTurnedAway, lentFrameCall, keptFile, lentFileCall}
 use Rattle.bank_history.specs.Answers.{AllBytes, FrameAnswered}
 use Rattle.bank_history.specs.History.{BankCall, Frame, File, callExchange, pastOf}
 

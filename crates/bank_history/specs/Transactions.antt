@@ -7,8 +7,8 @@ use lib.ListN.{length, set, replicate}
 use Rattle.frame_table.specs.declared.fields.Bits128.{Bits128}
 use Rattle.octets.specs.Bytes.{number, overwrite}
 use Rattle.frame_table.specs.Names
-use Rattle.frame.specs.Reader.{readRequest}
-use Rattle.frame.specs.Row.{dataOf}
+use Rattle.frame_reader.specs.Reader.{readRequest}
+use Rattle.frame_row.specs.Row.{dataOf}
 use Rattle.message.specs.Limits.{fileBytes}
 use Rattle.bank_state.specs.Clock.{advanced}
 use Rattle.bank_state.specs.declared.state.Use.the-variants.{Open, Booked}

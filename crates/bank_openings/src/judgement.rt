@@ -1,8 +1,8 @@
 // How an opening is judged: each refusal's test by its name in document 01's list, then the list from top to bottom.
-use bank_rows::counts::open_count;
-use bank_rows::counts::open_count_of;
-use bank_rows::nonces::is_remembered;
-use bank_rows::nonces::nonce_count;
+use bank_lists::counts::open_count;
+use bank_lists::counts::open_count_of;
+use bank_lists::nonces::is_remembered;
+use bank_lists::nonces::nonce_count;
 use bank_rows::numbers::clock;
 use bank_rows::numbers::file_length_of;
 use bank_rows::numbers::openings;

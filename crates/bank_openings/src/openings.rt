@@ -1,6 +1,6 @@
 // What an accepted opening leaves.
-use bank_rows::downloads::add_download;
-use bank_rows::nonces::add_nonce;
+use bank_lists::downloads::add_download;
+use bank_lists::nonces::add_nonce;
 use bank_rows::numbers::clock;
 use bank_rows::numbers::openings;
 use bank_rows::numbers::set_openings;

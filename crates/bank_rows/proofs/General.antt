@@ -3,7 +3,7 @@ use Prim.Native.Nat.{ℕ, zero, suc, _+_, _-_, _*_, max, _≤_, _<_}
 use mathlib.Core.Bool.{Bool, true, false, cond}
 use mathlib.Core.List.{List, [], _∷_, _++_, append-assoc, append-nil}
 use mathlib.Core.Path.{_≡_, refl, sym, ap, _∙_}
-use native.Mathlib.Nat.{zero-add, add-zero, mul-zero, mul-suc, add-comm, mul-le-mul-left}
+use native.Mathlib.Nat.{zero-add, mul-zero, mul-suc, add-comm}
 use native.Mathlib.Numerals.{add-one}
 use native.Mathlib.Omega.{arith}
 use lib.Dec.{ltb}
@@ -24,23 +24,7 @@ use lib.ListN.{
   take-append-drop,
   List·getD-append,
 }
-use lib.Seq.{
-  getD-drop,
-  drop-drop,
-  drop-cons,
-  drop-at,
-  take-at,
-  take-suc,
-  set-at,
-  length-take-le,
-  take-add,
-  take-append-le,
-  drop-append-le,
-  take-append-add,
-  drop-append-add,
-  getD-append-add,
-  ext-getD,
-}
+use lib.Seq.{getD-drop, drop-drop, drop-cons, drop-at, take-suc, set-at, length-take-le, take-add, take-append-le, drop-append-le, take-append-add, drop-append-add, getD-append-add, ext-getD}
 use Rattle.octets.specs.Bytes.{overwrite}
 use Rattle.bank_state.specs.Rows.{keep}
 use Rattle.bank_rows.specs.Rows.{rowsOf, numbersOf, written}

@@ -8,7 +8,7 @@ use native.Mathlib.Omega.{arith}
 use lib.ListN.{length, getD, drop, set, replicate, length-append, length-set, length-replicate, List·getD-append}
 use lib.Seq.{drop-at, set-at, set-append-left, getD-append-add}
 use Rattle.bank_state.specs.Rows.{firstOf, countOf, keep, keepOnly}
-use Rattle.bank_state.proofs.Rows.{keep-append, length-keep, length-keepOnly}
+use Rattle.bank_state.proofs.Rows.{keep-append, length-keepOnly}
 use Rattle.bank_state.proofs.Loops.{Searched, Counted}
 use Rattle.bank_rows.specs.Rows.{rowsOf, rowsInUse, numbersOf, written}
 use Rattle.bank_rows.proofs.General.{length-rows, rows-at, length-numbers, rows-numbers, written-twice}

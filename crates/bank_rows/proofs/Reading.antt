@@ -67,15 +67,7 @@ use Rattle.bank_rows.proofs.General.{rows-at, length-rows}
 use Rattle.bank_rows.proofs.InUse.{in-use-at, free-at, none-in-use, all-in-use, first-after, count-in-use}
 use Rattle.bank_rows.proofs.Records.{open-is, free-is}
 use Rattle.bank_rows.proofs.State.{part-at, held-rows}
-
--- ---- tests in any order
-
-pub and-no : (a : Bool) {b : Bool} → b ≡ false → (a && b) ≡ false
-and-no true e = e
-and-no false e = refl
-
-pub no-and : {a : Bool} (b : Bool) → a ≡ false → (a && b) ≡ false
-no-and b e = rw e
+use Rattle.bank_rows.proofs.Tests.{and-no, no-and}
 
 -- ---- a column of a row
 

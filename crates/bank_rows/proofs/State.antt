@@ -1,24 +1,10 @@
 -- Laws of the bank that the rows are and of the rows after a call. Assumes nothing.
 use Prim.Native.Nat.{ℕ, zero, suc, _+_, _-_, _*_, max, _≤_, _<_}
-use mathlib.Core.Bool.{Bool, true, false}
+use mathlib.Core.Bool.{true}
 use mathlib.Core.List.{List, [], _∷_, _++_, append-assoc, append-nil}
 use mathlib.Core.Path.{_≡_, refl, sym, ap, _∙_}
-use native.Mathlib.Nat.{add-zero}
 use native.Mathlib.Omega.{arith}
-use lib.ListN.{
-  length,
-  getD,
-  take,
-  drop,
-  set,
-  replicate,
-  length-append,
-  length-take,
-  length-drop,
-  length-set,
-  take-append-drop,
-  List·getD-append,
-}
+use lib.ListN.{length, getD, take, drop, set, replicate, length-append, length-take, length-drop, take-append-drop, List·getD-append}
 use lib.Seq.{getD-drop, getD-take, getD-at, getD-append-add, drop-drop, drop-at, take-at, take-all, set-at, set-append-left}
 use Rattle.octets.specs.Bytes.{overwrite}
 use Rattle.bank_state.specs.declared.state.Use.{Use}
@@ -28,9 +14,9 @@ use Rattle.bank_state.specs.declared.state.Download.{Download}
 use Rattle.bank_state.specs.State.{Nonce}
 use Rattle.bank_state.specs.State.{Bank}
 use Rattle.bank_state.specs.Limits.{placeCount, nonceCount}
-use Rattle.bank_state.specs.Rows.{keep, keepOnly}
+use Rattle.bank_state.specs.Rows.{keep}
 use Rattle.bank_state.proofs.Rows.{length-keep}
-use Rattle.bank_state.specs.State.{noPlace, noDownload, noNonce, fresh}
+use Rattle.bank_state.specs.State.{noDownload, noNonce, fresh}
 use Rattle.bank_rows.specs.Layout.{
   clockAt,
   openingsAt,
@@ -66,19 +52,7 @@ use Rattle.bank_rows.specs.State.{
   Laid,
   Held,
 }
-use Rattle.bank_rows.proofs.General.{
-  overwrite-after,
-  overwrite-within,
-  listed-take,
-  take-listed,
-  length-numbers,
-  length-rows,
-  numbers-rows,
-  rows-numbers,
-  written-own,
-  written-twice,
-  length-written,
-}
+use Rattle.bank_rows.proofs.General.{overwrite-after, overwrite-within, listed-take, take-listed, length-numbers, length-rows, numbers-rows, rows-numbers, written-own, length-written}
 use Rattle.bank_rows.proofs.InUse.{keep-in-use, in-use-first, length-in-use, keep-true, in-use-back, rows-twice}
 use Rattle.bank_rows.proofs.Records.{
   place-wide,

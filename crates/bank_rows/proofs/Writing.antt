@@ -1,17 +1,14 @@
 -- What each write makes of the rows: the bank with one part changed, stored. Assumes nothing.
-use Prim.Native.Nat.{ℕ, suc, _+_, _-_, _*_, max, _≤_, _<_}
-use mathlib.Core.Bool.{Bool, true, false, not, _&&_}
+use Prim.Native.Nat.{ℕ, _+_, _-_, _*_, max, _≤_, _<_}
+use mathlib.Core.Bool.{Bool, true, false}
 use mathlib.Core.List.{List, [], _∷_, _++_}
 use mathlib.Core.Path.{_≡_, refl, sym, ap, _∙_}
-use native.Mathlib.Nat.{add-zero}
-use native.Mathlib.Numerals.{add-one}
 use native.Mathlib.Omega.{arith}
-use lib.ListN.{length, getD, take, drop, set, replicate, length-append, length-take, length-set, take-append-drop}
-use lib.Seq.{drop-at, take-at, length-take-le}
+use lib.ListN.{length, take, drop, set, length-append, length-set, take-append-drop}
+use lib.Seq.{length-take-le}
 use borrow.Rule.Slice.PartMut.{putMid, midOf}
 use Rattle.octets.specs.Bytes.{overwrite}
 use Rattle.octets.proofs.Numbers.{length-overwrite, overwrite-all}
-use Rattle.octets.proofs.Tests.{and-true}
 use Rattle.bank_state.specs.declared.state.Place.{Place}
 use Rattle.bank_state.specs.declared.state.Download.{Download}
 use Rattle.bank_state.specs.State.{Nonce}
@@ -31,22 +28,7 @@ use Rattle.bank_state.specs.State.{
   withPlace,
   withDownload,
 }
-use Rattle.bank_rows.specs.Layout.{
-  clockAt,
-  openingsAt,
-  filesAt,
-  downloadCountAt,
-  nonceCountAt,
-  placesAt,
-  placeWidth,
-  placesSize,
-  downloadsAt,
-  downloadWidth,
-  downloadsSize,
-  noncesAt,
-  nonceWidth,
-  noncesSize,
-}
+use Rattle.bank_rows.specs.Layout.{clockAt, openingsAt, filesAt, downloadCountAt, nonceCountAt, placesAt, placeWidth, downloadsAt, downloadWidth, downloadsSize, noncesAt, nonceWidth, noncesSize}
 use Rattle.bank_rows.specs.Rows.{rowsOf, rowsInUse, numbersOf, written, KeptRows}
 use Rattle.bank_rows.specs.Records.{placeRow, downloadOf, downloadRow, nonceOf, nonceRow}
 use Rattle.bank_rows.specs.State.{
@@ -63,17 +45,7 @@ use Rattle.bank_rows.specs.State.{
   Laid,
   Held,
 }
-use Rattle.bank_rows.proofs.General.{
-  overwrite-within,
-  overwrite-front,
-  length-numbers,
-  length-rows,
-  numbers-append,
-  numbers-one,
-  numbers-set,
-  written-over,
-  length-written,
-}
+use Rattle.bank_rows.proofs.General.{overwrite-within, length-numbers, length-rows, numbers-append, numbers-one, numbers-set, written-over, length-written}
 use Rattle.bank_rows.proofs.InUse.{keep-then-free, keep-keepOnly, keep-added, keep-changed}
 use Rattle.bank_rows.proofs.Records.{place-wide, download-wide, nonce-wide}
 use Rattle.bank_rows.proofs.State.{

@@ -3,4 +3,3 @@ pub mod Layout
 pub mod Rows
 pub mod Records
 pub mod State
-pub mod Sound

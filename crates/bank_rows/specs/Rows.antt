@@ -1,6 +1,6 @@
 -- Rows of w numbers in lent memory, for any w: what they are, their numbers, and rows wiped where they are freed.
 use Prim.Native.Nat.{ℕ, zero, suc, _-_, _*_, max}
-use mathlib.Core.Bool.{Bool}
+use mathlib.Core.Bool.{Bool, true, _&&_}
 use mathlib.Core.List.{List, [], _∷_, _++_}
 use mathlib.Core.Path.{_≡_}
 use lib.ListN.{length, drop, replicate}
@@ -29,3 +29,8 @@ pub record KeptRows {A : Type 0} (w : ℕ) (f : List ℕ → A) (g : A → List 
     (area after : List ℕ) : Type 0 where
   pub count : left ≡ length (keep p (rowsOf w f n area))
   pub is : after ≡ written (w * n) (numbersOf g (keep p (rowsOf w f n area))) area
+
+-- a test holds of every number below n
+unfoldable pub allBelow : (ℕ → Bool) → ℕ → Bool
+allBelow p zero = true
+allBelow p (suc n) = allBelow p n && p n

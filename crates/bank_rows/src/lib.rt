@@ -1,10 +1,5 @@
-// The bank's state in lent rows of numbers.
-pub mod clock;
-pub mod counts;
-pub mod downloads;
+// The bank's state in lent rows of numbers: their layout, the numbers before the rows, and the order places.
 pub mod layout;
-pub mod nonces;
 pub mod numbers;
 pub mod places;
 pub mod rows;
-pub mod sound;

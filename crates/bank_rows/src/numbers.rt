@@ -18,7 +18,7 @@ pub fn clock(rows: &[u64]) -> u64
     rows[CLOCK_AT]
 }
 
-pub(crate) fn set_clock(rows: &mut [u64], clock: u64)
+pub fn set_clock(rows: &mut [u64], clock: u64)
     requires { ⌜ Laid (now rows) ⌝ }
     ensures { λ _. ⌜ now (rows .exit) ≡ stored (withClock clock (bankOf (now (rows .entry)))) (now (rows .entry)) ⌝ }
 {

@@ -33,9 +33,9 @@ ghost use Rattle.bank_rows.specs.State.{bankOf, stored, Laid};
 // A place's use as its number.
 const FREE: u64 = 0;
 
-pub(crate) const OPEN: u64 = 1;
+pub const OPEN: u64 = 1;
 
-pub(crate) const BOOKED: u64 = 2;
+pub const BOOKED: u64 = 2;
 
 fn use_of(number: u64) -> Use
     ensures { λ r. ⌜ r ≡ useOf number ⌝ }
@@ -162,7 +162,7 @@ pub fn free_place(rows: &[u64]) -> usize
 }
 
 // Whether place i holds an open upload.
-pub(crate) fn is_open_at(rows: &[u64], i: usize) -> bool
+pub fn is_open_at(rows: &[u64], i: usize) -> bool
     requires { ⌜ Laid (now rows) × (i < placeCount) ⌝ }
     ensures { λ r. ⌜ r ≡ isOpen (placeAt (bankOf (now (rows .entry))) i .used) ⌝ }
 {
@@ -171,7 +171,7 @@ pub(crate) fn is_open_at(rows: &[u64], i: usize) -> bool
 }
 
 // The open uploads.
-pub(crate) fn open_uploads(rows: &[u64]) -> usize
+pub fn open_uploads(rows: &[u64]) -> usize
     requires { ⌜ Laid (now rows) ⌝ }
     ensures { λ r. ⌜ r ≡ countOf (λ (p : Place). isOpen (p .used)) (bankOf (now (rows .entry)) .places) ⌝ }
 {
@@ -201,7 +201,7 @@ fn is_open_of(rows: &[u64], i: usize, subscriber: u64) -> bool
 }
 
 // The open uploads of a subscriber.
-pub(crate) fn open_uploads_of(rows: &[u64], subscriber: u64) -> usize
+pub fn open_uploads_of(rows: &[u64], subscriber: u64) -> usize
     requires { ⌜ Laid (now rows) ⌝ }
     ensures { λ r. ⌜ r ≡ countOf (λ (p : Place). isOpen (p .used) && eqb (p .subscriber) subscriber)
         (bankOf (now (rows .entry)) .places) ⌝ }

@@ -15,9 +15,13 @@ use Rattle.bank_state.specs.State.{BankState, bankState, noPlace, noDown
 use Rattle.bank_state.specs.State.{withDownloads, withNonces, placeAt}
 use Rattle.bank_state.specs.Store.{zeroed}
 
+-- a time that is more than this many seconds behind the clock
+abbrev pub isBehind : ℕ → ℕ → ℕ → Bool
+isBehind clock time seconds = ltb (time + seconds) clock
+
 -- "whose last fitting request (its opening included) is more than 3,600 seconds old"
 unfoldable pub isIdle : ℕ → ℕ → Bool
-isIdle clock last = ltb (last + idleLimit) clock
+isIdle clock last = isBehind clock last idleLimit
 
 -- "place zeroed and freed"
 unfoldable pub freed : ℕ → BankState → BankState

@@ -1,6 +1,6 @@
 -- The bank's own numbers of document 01.
 use Prim.Native.Nat.{ℕ}
-pub use Rattle.frame.specs.Writer.{replyRoom}
+pub use Rattle.frame_writer.specs.Writer.{replyRoom}
 
 -- "Lent: 8 order places and 8 mailboxes"
 abbrev pub placeCount : ℕ

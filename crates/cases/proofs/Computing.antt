@@ -2,9 +2,9 @@
 use Prim.Native.Nat.{ℕ}
 use Rattle.octets.specs.Bytes as octets
 use Rattle.frame_table.specs.Table as frameTable
-use Rattle.frame.specs.Row as frameRow
-use Rattle.frame.specs.Reader as frameReader
-use Rattle.frame.specs.Writer as frameWriter
+use Rattle.frame_row.specs.Row as frameRow
+use Rattle.frame_reader.specs.Reader as frameReader
+use Rattle.frame_writer.specs.Writer as frameWriter
 use Rattle.message.specs.OrderNumbers as orderNumbers
 use Rattle.message.specs.Replies as replies
 use Rattle.message.specs.Requests as requests

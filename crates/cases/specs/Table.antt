@@ -8,8 +8,8 @@ use Rattle.frame_table.specs.declared.fields.Bits128.{Bits128}
 use Rattle.frame_table.specs.declared.fields.Fields.{Fields}
 use Rattle.octets.specs.Bytes.{number}
 use Rattle.frame_table.specs.Names.{segment, segments, returnCode, orderNumber, noFields}
-use Rattle.frame.specs.Reader.{readReply}
-use Rattle.frame.specs.Writer.{frameOf, replyRoom}
+use Rattle.frame_reader.specs.Reader.{readReply}
+use Rattle.frame_writer.specs.Writer.{frameOf, replyRoom}
 use Rattle.message.specs.declared.codes.ReturnCode.the-variants as code
 use Rattle.message.specs.Codes.{asciiDigits}
 use Rattle.message.specs.Limits.{segmentBytes}

@@ -1,8 +1,2 @@
--- The laws of the client run that its functions and its history rest on.
-pub mod Apart
-pub mod NextRuns
-pub mod Replies
-pub mod Causes
-pub mod Accepted
-pub mod Feasible
+-- The laws of the client's calls that its functions rest on.
 pub mod Issues

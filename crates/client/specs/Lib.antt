@@ -1,7 +1,2 @@
--- The definitions of the client run.
-pub mod Run
-pub mod Rulings
-pub mod Decisions
-pub mod NextRun
-pub mod Requests
+-- The definitions of the client's calls.
 pub mod Calls

@@ -1,35 +1,34 @@
-// The calls: begin, a reply arrived, no reply. Each takes the run and returns the next.
-use crate::decisions::on_no_reply;
-use crate::decisions::on_reply;
-use crate::next_run::begin_length;
-use crate::next_run::begun;
-use crate::next_run::ended;
-use crate::next_run::go_on;
-use crate::next_run::holding;
-use crate::next_run::is_new;
-use crate::next_run::learned;
-use crate::next_run::repeated;
-use crate::requests::data_of;
-use crate::requests::no_data;
-use crate::requests::request_of;
-use crate::rulings::begin_ruling;
-use crate::rulings::run_ruling;
-use crate::run::Answer;
-use crate::run::Client;
-use crate::run::Decision;
-use crate::run::Direction;
-use crate::run::Lengths;
-use crate::run::NONCE_BYTES;
-use crate::run::Outcome;
-use crate::run::Refusal;
-use crate::run::Ruling;
-use crate::run::RunParameters;
-use crate::run::Word;
-use frame::reader::data;
-use frame::reader::read_reply;
-use frame::writer::Written;
-use frame::writer::write;
+// The calls: begin, a reply arrived, no reply. Each takes the client with its run and returns it with the next.
+use client_rules::decisions::on_no_reply;
+use client_rules::decisions::on_reply;
+use client_rules::rulings::begin_ruling;
+use client_rules::rulings::run_ruling;
+use client_run::next_run::begin_length;
+use client_run::next_run::begun;
+use client_run::next_run::ended;
+use client_run::next_run::go_on;
+use client_run::next_run::holding;
+use client_run::next_run::is_new;
+use client_run::next_run::learned;
+use client_run::next_run::repeated;
+use client_run::requests::data_of;
+use client_run::requests::no_data;
+use client_run::requests::request_of;
+use client_run::run::Answer;
+use client_run::run::ClientRun;
+use client_run::run::Decision;
+use client_run::run::Direction;
+use client_run::run::Lengths;
+use client_run::run::NONCE_BYTES;
+use client_run::run::Refusal;
+use client_run::run::Ruling;
+use client_run::run::RunParameters;
+use client_run::run::Word;
+use frame_reader::reader::data;
+use frame_reader::reader::read_reply;
 use frame_table::fields::Fields;
+use frame_writer::writer::Written;
+use frame_writer::writer::write;
 use message::limits::SEGMENT_BYTES;
 use octets::bytes::copy;
 ghost use mathlib.Core.Path.{_≡_};
@@ -39,14 +38,25 @@ ghost use mathlib.Core.List.{List};
 ghost use Prim.Native.Nat.{ℕ, _+_, _-_, _*_, _^_, _≤_, _<_};
 ghost use lib.ListN.{length};
 ghost use Rattle.octets.specs.Bytes.{overwrite};
-ghost use Rattle.frame.specs.Writer.{writeAnswer, writeBuffer};
+ghost use Rattle.frame_writer.specs.Writer.{writeAnswer, writeBuffer};
 ghost use Rattle.message.specs.Limits.{segmentBytes, maxSegments, fileBytes};
-ghost use Rattle.client.specs.Decisions.{onReply, onNoReply};
-ghost use Rattle.client.specs.NextRun.{isNew, fileWith, ended};
-ghost use Rattle.client.specs.Requests.{outstanding, outstandingData};
-ghost use Rattle.client.specs.Run.{lentOf, callOf, maxExchange};
-ghost use Rattle.client.specs.Calls.{ifWritten, outcomeOf, issued, taken, carryOut};
+ghost use Rattle.client_run.specs.NextRun.{isNew, fileWith, ended};
+ghost use Rattle.client_run.specs.Requests.{outstanding, outstandingData};
+ghost use Rattle.client_run.specs.Run.{lentOf, maxExchange};
+ghost use Rattle.client_rules.specs.Decisions.{onReply, onNoReply};
+ghost use Rattle.client.specs.Calls.{newClient, outcome, callOf, ifWritten, outcomeOf, issued, taken, carryOut};
 ghost use Rattle.client.specs.Calls.{beginCall, admittedReply, replyCall, noReplyCall};
+
+// A client with its run: the calls are its methods.
+pub struct Client {
+    pub run: ClientRun,
+}
+
+// What a call returns: the client with its next run, and the answer.
+pub struct Outcome {
+    pub client: Client,
+    pub answer: Answer,
+}
 
 // Writes the bytes of segment s, from 1 on, to their place in the file.
 fn put_segment(s: u64, d: &[u8], file: &mut [u8])
@@ -57,7 +67,7 @@ fn put_segment(s: u64, d: &[u8], file: &mut [u8])
 }
 
 // Writes the data of the outstanding segment into the file where it is newly held.
-fn hold(c: Client, d: &[u8], file: &mut [u8])
+fn hold(c: ClientRun, d: &[u8], file: &mut [u8])
     requires { ⌜ (isNew (c .direction) c ≡ true →
         (c .segment ≤ maxSegments) × (length (now d) ≤ segmentBytes) × (length (now file) ≡ fileBytes)) ⌝ }
     ensures { λ _. ⌜ now (file .exit) ≡ fileWith c (now (d .entry)) (now (file .entry)) ⌝ }
@@ -69,7 +79,7 @@ fn hold(c: Client, d: &[u8], file: &mut [u8])
 
 // Writes the request that the run has outstanding.
 fn write_request(
-    c: Client,
+    c: ClientRun,
     time: u32,
     nonce: [u8; NONCE_BYTES],
     payload: &[u8],
@@ -86,23 +96,23 @@ fn write_request(
 }
 
 // The next run where its request is written; the run as it was where it is not.
-fn outcome_of(w: Written, c: Client, next: Client) -> Outcome
+fn outcome_of(w: Written, c: ClientRun, next: ClientRun) -> Outcome
     ensures { λ r. ⌜ r ≡ outcomeOf w c next ⌝ }
 {
     match w {
         Written::Length(n) => Outcome {
-            run: next,
+            client: Client { run: next },
             answer: Answer::Request(n),
         },
         Written::Refused => Outcome {
-            run: c,
+            client: Client { run: c },
             answer: Answer::Refused(Refusal::WrongBuffer),
         },
     }
 }
 
 // The file buffer changes only where the request is written.
-fn hold_if_written(w: Written, c: Client, d: &[u8], file: &mut [u8])
+fn hold_if_written(w: Written, c: ClientRun, d: &[u8], file: &mut [u8])
     requires { ⌜ (isNew (c .direction) c ≡ true →
         (c .segment ≤ maxSegments) × (length (now d) ≤ segmentBytes) × (length (now file) ≡ fileBytes)) ⌝ }
     ensures { λ _. ⌜ now (file .exit)
@@ -115,8 +125,8 @@ fn hold_if_written(w: Written, c: Client, d: &[u8], file: &mut [u8])
 
 // Issues the next run's request; the file buffer, whatever it is, stays.
 fn issue(
-    c: Client,
-    next: Client,
+    c: ClientRun,
+    next: ClientRun,
     time: u32,
     nonce: [u8; NONCE_BYTES],
     payload: &[u8],
@@ -131,8 +141,8 @@ fn issue(
 
 // The segment that the run k has outstanding is answered with the data d: it is held, and the request after it issued.
 fn take_segment(
-    c: Client,
-    k: Client,
+    c: ClientRun,
+    k: ClientRun,
     d: &[u8],
     time: u32,
     nonce: [u8; NONCE_BYTES],
@@ -153,21 +163,21 @@ fn take_segment(
 }
 
 // The run ended with a word.
-fn close(w: Word, c: Client) -> Outcome
-    ensures { λ r. ⌜ r ≡ record { run = ended w c; answer = Answer.Closed w } ⌝ }
+fn close(w: Word, c: ClientRun) -> Outcome
+    ensures { λ r. ⌜ r ≡ outcome (ended w c) (Answer.Closed w) ⌝ }
 {
     Outcome {
-        run: ended(w, c),
+        client: Client { run: ended(w, c) },
         answer: Answer::Closed(w),
     }
 }
 
 // The run as it was, with a number.
-fn refused(x: Refusal, c: Client) -> Outcome
-    ensures { λ r. ⌜ r ≡ record { run = c; answer = Answer.Refused x } ⌝ }
+fn refused(x: Refusal, c: ClientRun) -> Outcome
+    ensures { λ r. ⌜ r ≡ outcome c (Answer.Refused x) ⌝ }
 {
     Outcome {
-        run: c,
+        client: Client { run: c },
         answer: Answer::Refused(x),
     }
 }
@@ -175,7 +185,7 @@ fn refused(x: Refusal, c: Client) -> Outcome
 // What the decision, to which a reply or no reply led, makes of the run and the buffers.
 fn carry_out(
     decision: Decision,
-    c: Client,
+    c: ClientRun,
     r: Fields,
     d: &[u8],
     time: u32,
@@ -191,7 +201,7 @@ fn carry_out(
 {
     match decision {
         Decision::Ignore => Outcome {
-            run: c,
+            client: Client { run: c },
             answer: Answer::Ignored,
         },
         Decision::Opened => take_segment(c, learned(r, c), d, time, nonce, payload, file, request),
@@ -204,7 +214,7 @@ fn carry_out(
 
 // An admitted call with a reply: only now is the reply read, and what it leads to is carried out.
 fn take_reply(
-    c: Client,
+    c: ClientRun,
     frame: &[u8],
     time: u32,
     nonce: [u8; NONCE_BYTES],
@@ -223,6 +233,15 @@ fn take_reply(
 }
 
 impl Client {
+    // A client whose run is not begun.
+    pub fn new() -> Client
+        ensures { λ r. ⌜ r ≡ newClient ⌝ }
+    {
+        Client {
+            run: ClientRun::new(),
+        }
+    }
+
     // Begins a run, whose opening carries the first exchange number.
     pub fn begin(
         self,
@@ -233,21 +252,22 @@ impl Client {
         file: &mut [u8],
         request: &mut [u8],
     ) -> Outcome
-        ensures { λ o. ⌜ callOf o (now (file .exit)) (now (request .exit)) ≡ beginCall self params
+        ensures { λ o. ⌜ callOf o (now (file .exit)) (now (request .exit)) ≡ beginCall (self .run) params
             (lentOf time nonce (now (payload .entry)) (now (file .entry)) (now (request .entry))) ⌝ }
     {
+        let c = self.run;
         let l = Lengths {
             payload: payload.len(),
             file: file.len(),
             request: request.len(),
         };
-        let ruling = begin_ruling(self, params, l);
+        let ruling = begin_ruling(c, params, l);
         match ruling {
-            Ruling::Refuse(x) => refused(x, self),
+            Ruling::Refuse(x) => refused(x, c),
             Ruling::Accept => {
                 let direction = params.direction;
                 let next = begun(params, begin_length(direction, l));
-                issue(self, next, time, nonce, payload, request)
+                issue(c, next, time, nonce, payload, request)
             }
         }
     }
@@ -262,18 +282,19 @@ impl Client {
         file: &mut [u8],
         request: &mut [u8],
     ) -> Outcome
-        ensures { λ o. ⌜ callOf o (now (file .exit)) (now (request .exit)) ≡ replyCall self (now (frame .entry))
+        ensures { λ o. ⌜ callOf o (now (file .exit)) (now (request .exit)) ≡ replyCall (self .run) (now (frame .entry))
             (lentOf time nonce (now (payload .entry)) (now (file .entry)) (now (request .entry))) ⌝ }
     {
+        let c = self.run;
         let l = Lengths {
             payload: payload.len(),
             file: file.len(),
             request: request.len(),
         };
-        let ruling = run_ruling(self, l);
+        let ruling = run_ruling(c, l);
         match ruling {
-            Ruling::Refuse(x) => refused(x, self),
-            Ruling::Accept => take_reply(self, frame, time, nonce, payload, file, request),
+            Ruling::Refuse(x) => refused(x, c),
+            Ruling::Accept => take_reply(c, frame, time, nonce, payload, file, request),
         }
     }
 
@@ -286,23 +307,24 @@ impl Client {
         file: &mut [u8],
         request: &mut [u8],
     ) -> Outcome
-        ensures { λ o. ⌜ callOf o (now (file .exit)) (now (request .exit)) ≡ noReplyCall self
+        ensures { λ o. ⌜ callOf o (now (file .exit)) (now (request .exit)) ≡ noReplyCall (self .run)
             (lentOf time nonce (now (payload .entry)) (now (file .entry)) (now (request .entry))) ⌝ }
     {
+        let c = self.run;
         let l = Lengths {
             payload: payload.len(),
             file: file.len(),
             request: request.len(),
         };
-        let ruling = run_ruling(self, l);
+        let ruling = run_ruling(c, l);
         match ruling {
-            Ruling::Refuse(x) => refused(x, self),
+            Ruling::Refuse(x) => refused(x, c),
             Ruling::Accept => {
-                let decision = on_no_reply(self);
+                let decision = on_no_reply(c);
                 let r = Fields::none();
                 carry_out(
                     decision,
-                    self,
+                    c,
                     r,
                     no_data(payload),
                     time,

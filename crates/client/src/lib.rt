@@ -1,7 +1,2 @@
 // The client end: a run of one upload or one download, handed in and handed back at each call.
 pub mod calls;
-mod decisions;
-mod next_run;
-mod requests;
-pub mod rulings;
-pub mod run;

@@ -6,15 +6,15 @@ use mathlib.Core.Path.{_≡_, refl}
 use lib.ListN.{length}
 use Rattle.frame_table.specs.declared.fields.Fields.{Fields}
 use Rattle.frame_table.specs.Names.{noFields}
-use Rattle.frame.specs.Reader.{readReply}
-use Rattle.frame.specs.Row.{dataOf}
-use Rattle.client.specs.declared.run.Client.{Client}
-use Rattle.client.specs.declared.run.Decision.{Decision}
-use Rattle.client.specs.declared.run.Decision.the-variants.{Ignore, Opened, Advance, Return, Repeat, Close}
-use Rattle.client.specs.declared.run.Ruling.{Ruling}
-use Rattle.client.specs.declared.run.Ruling.the-variants.{Refuse, Accept}
-use Rattle.client.specs.declared.run.RunParameters.{RunParameters}
-use Rattle.client.specs.declared.run.Word.{Word}
+use Rattle.frame_reader.specs.Reader.{readReply}
+use Rattle.frame_row.specs.Row.{dataOf}
+use Rattle.client_run.specs.declared.run.ClientRun.{ClientRun}
+use Rattle.client_run.specs.declared.run.Decision.{Decision}
+use Rattle.client_run.specs.declared.run.Decision.the-variants.{Ignore, Opened, Advance, Return, Repeat, Close}
+use Rattle.client_run.specs.declared.run.Ruling.{Ruling}
+use Rattle.client_run.specs.declared.run.Ruling.the-variants.{Refuse, Accept}
+use Rattle.client_run.specs.declared.run.RunParameters.{RunParameters}
+use Rattle.client_run.specs.declared.run.Word.{Word}
 use Rattle.client.specs.Calls.{
   taken,
   carryOut,
@@ -26,25 +26,25 @@ use Rattle.client.specs.Calls.{
   replyCall,
   noReplyCall,
 }
-use Rattle.client.specs.Decisions.{onReply, onNoReply}
-use Rattle.client.specs.NextRun.{beginLength, begun, learned, fileWith, ended}
-use Rattle.client.specs.Rulings.{beginRuling, runRuling}
-use Rattle.client.specs.Run.{Lent, ClientCall, lengthsOf}
-use Rattle.client.proofs.Accepted.{Accepted, accepted, Begins, begins}
-use Rattle.client.proofs.Causes.{Cause, by-reply, by-no-reply}
+use Rattle.client_run.specs.NextRun.{beginLength, begun, learned, fileWith, ended}
+use Rattle.client_run.specs.Run.{Lent, ClientCall, lengthsOf}
+use Rattle.client_rules.specs.Decisions.{onReply, onNoReply}
+use Rattle.client_rules.specs.Rulings.{beginRuling, runRuling}
+use Rattle.client_rules.proofs.Accepted.{Accepted, accepted, Begins, begins}
+use Rattle.client_rules.proofs.Causes.{Cause, by-reply, by-no-reply}
 use Rattle.client_history.specs.History.{Issue, Event, Begin, Reply, NoReply, Past, issueOf, left, after}
 use Rattle.client_history.proofs.Changes.{by-issue}
 use Rattle.client_history.proofs.Decided.{Issuing, nextOf}
 
 -- the issues with the request of the run next, and the run that a begin leaves
-abbrev pub withRequest : Client → Lent → List ℕ → List Issue → List Issue
+abbrev pub withRequest : ClientRun → Lent → List ℕ → List Issue → List Issue
 withRequest next l file issues = issueOf next (l .payload) file (l .time) (l .nonce) ∷ issues
 
-abbrev pub begunBy : RunParameters → Lent → Client
+abbrev pub begunBy : RunParameters → Lent → ClientRun
 begunBy params l = begun params (beginLength (params .direction) (lengthsOf l))
 
 -- Read r: the fields r are those of the event's reply, or of none
-pub data AnyChange (Read : Fields → Type 0) (p : Past) : Client → List Issue → Type 0 where
+pub data AnyChange (Read : Fields → Type 0) (p : Past) : ClientRun → List Issue → Type 0 where
   nothing : AnyChange Read p (p .run) (p .issues)
   begins-with : (params : RunParameters) (l : Lent) (file : List ℕ) → Begins (p .run) params (lengthsOf l)
       → AnyChange Read p (begunBy params l) (withRequest (begunBy params l) l file (p .issues))

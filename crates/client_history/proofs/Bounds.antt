@@ -13,20 +13,20 @@ use Rattle.frame_table.specs.declared.fields.Fields.{Fields}
 use Rattle.frame_table.specs.Names.{subscriber}
 use Rattle.octets.proofs.Tests.{never}
 use Rattle.message.specs.Limits.{maxSegments}
-use Rattle.client.specs.declared.run.Client.{Client}
-use Rattle.client.specs.declared.run.Decision.{Decision}
-use Rattle.client.specs.declared.run.Direction.{Direction}
-use Rattle.client.specs.declared.run.Direction.the-variants.{Upload, Download}
-use Rattle.client.specs.declared.run.Lengths.{Lengths}
-use Rattle.client.specs.declared.run.RunParameters.{RunParameters}
-use Rattle.client.specs.declared.run.Step.the-variants as step
-use Rattle.client.specs.declared.run.Word.{Word}
-use Rattle.client.specs.NextRun.{beginLength, begun, ended}
-use Rattle.client.specs.Rulings.{isBegun}
-use Rattle.client.specs.Run.{Lent, lengthsOf, parametersOf, maxExchange}
-use Rattle.client.proofs.Accepted.{Serves, Begins}
-use Rattle.client.proofs.Apart.{not-both, not-opening-receipt, not-new-running}
-use Rattle.client.proofs.Causes.{Cause}
+use Rattle.client_run.specs.declared.run.ClientRun.{ClientRun}
+use Rattle.client_run.specs.declared.run.Decision.{Decision}
+use Rattle.client_run.specs.declared.run.Direction.{Direction}
+use Rattle.client_run.specs.declared.run.Direction.the-variants.{Upload, Download}
+use Rattle.client_run.specs.declared.run.Lengths.{Lengths}
+use Rattle.client_run.specs.declared.run.RunParameters.{RunParameters}
+use Rattle.client_run.specs.declared.run.Step.the-variants as step
+use Rattle.client_run.specs.declared.run.Word.{Word}
+use Rattle.client_run.specs.NextRun.{beginLength, begun, ended}
+use Rattle.client_run.specs.Run.{Lent, lengthsOf, parametersOf, maxExchange}
+use Rattle.client_run.proofs.Apart.{not-both, not-opening-receipt, not-new-running}
+use Rattle.client_rules.specs.Rulings.{isBegun}
+use Rattle.client_rules.proofs.Accepted.{Serves, Begins}
+use Rattle.client_rules.proofs.Causes.{Cause}
 use Rattle.client_history.specs.Bounds.{maxRequests, Numbered, none, more, Course, Bounded, Bounds, fresh, going}
 use Rattle.client_history.specs.History.{Issue, Event, Begin, Reply, NoReply, Past, after, pastOf}
 use Rattle.client_history.proofs.AnyEvent.{
@@ -55,7 +55,7 @@ use Rattle.client_history.proofs.Requests.{outstanding-exchange, outsta
 -- ---- one request more
 
 -- the issues of the run next, of the subscriber s, and before it of the same
-own-more : (next : Client) (l : Lent) (file : List ℕ) (issues : List Issue) (s : ℕ) → next .subscriber ≡ s
+own-more : (next : ClientRun) (l : Lent) (file : List ℕ) (issues : List Issue) (s : ℕ) → next .subscriber ≡ s
     → ((x : Issue) → In x issues → subscriber (x .request) ≡ s)
     → (x : Issue) → In x (withRequest next l file issues) → subscriber (x .request) ≡ next .subscriber
 own-more next l file issues s e f x (here i) =
@@ -67,7 +67,7 @@ begun-course : (direction : Direction) (subscriber first : ℕ) (l : Lengths) �
 begun-course Upload subscriber first l s = up-start subscriber first (l .payload) (s .0) (s .1)
 begun-course Download subscriber first l s = opening-start subscriber first
 
-pub bounded-begun : (c : Client) (params : RunParameters) (l : Lent) (file : List ℕ) → Begins c params (lengthsOf l)
+pub bounded-begun : (c : ClientRun) (params : RunParameters) (l : Lent) (file : List ℕ) → Begins c params (lengthsOf l)
     → Bounded (begunBy params l) (withRequest (begunBy params l) l file [])
 unfolding begun
 bounded-begun c params l file b =
@@ -83,7 +83,7 @@ bounded-begun c params l file b =
       course = begun-course (params .direction) (params .subscriber) (params .first) (lengthsOf l) (b .buffers);
     }
 
-module _ (c : Client) (issues : List Issue) (b : Bounded c issues) where
+module _ (c : ClientRun) (issues : List Issue) (b : Bounded c issues) where
   pub bounded-next : (decision : Decision) → Issuing decision → (r : Fields) (d : ℕ) → Cause c r d decision
       → (l : Lent) (file : List ℕ) → let next = nextOf decision c r d in Bounded next (withRequest next l file issues)
   bounded-next decision i r d k l file =
@@ -120,12 +120,12 @@ module _ (c : Client) (issues : List Issue) (b : Bounded c issues) where
 
 -- ---- every event keeps the bounds
 
-pub bounded : {c : Client} {issues : List Issue} → isBegun (c .stage) ≡ true → Bounds c issues → Bounded c issues
-bounded b (fresh e z) = never (sym (ap (λ (k : Client). isBegun (k .stage)) e) ∙ b)
+pub bounded : {c : ClientRun} {issues : List Issue} → isBegun (c .stage) ≡ true → Bounds c issues → Bounded c issues
+bounded b (fresh e z) = never (sym (ap (λ (k : ClientRun). isBegun (k .stage)) e) ∙ b)
 bounded b (going g) = g
 
 module _ (Read : Fields → Type 0) where
-  bounds-by : {p : Past} {c : Client} {issues : List Issue} → AnyChange Read p c issues → Bounds (p .run) (p .issues)
+  bounds-by : {p : Past} {c : ClientRun} {issues : List Issue} → AnyChange Read p c issues → Bounds (p .run) (p .issues)
       → Bounds c issues
   bounds-by nothing s = s
   bounds-by {p} (begins-with params l file b) (fresh e z) =
@@ -135,10 +135,10 @@ module _ (Read : Fields → Type 0) where
       (bounded-begun (p .run) params l file b))
   bounds-by (begins-with params l file b) (going g) = never (sym (b .fresh) ∙ g .stage)
   bounds-by (goes decision r d l file a i k read) (fresh e z) =
-      not-new-running (ap (λ (x : Client). x .stage) e) (a .running)
+      not-new-running (ap (λ (x : ClientRun). x .stage) e) (a .running)
   bounds-by {p} (goes decision r d l file a i k read) (going g) =
       going (bounded-next (p .run) (p .issues) g decision i r (length d) k l file)
-  bounds-by (closes w l a) (fresh e z) = not-new-running (ap (λ (x : Client). x .stage) e) (a .running)
+  bounds-by (closes w l a) (fresh e z) = not-new-running (ap (λ (x : ClientRun). x .stage) e) (a .running)
   bounds-by {p} (closes w l a) (going g) = going (bounded-ended (p .run) (p .issues) g w)
 
 abbrev Any : Fields → Type 0
@@ -160,7 +160,7 @@ bounds (e ∷ es) = bounds-kept (pastOf es) e (bounds es)
 
 -- ---- the results
 
-most-by : {c : Client} {issues : List Issue} → Bounds c issues
+most-by : {c : ClientRun} {issues : List Issue} → Bounds c issues
     → length issues ≤ maxRequests (c .direction) (c .segments)
 most-by (fresh e z) = omega (arith, ap length z)
 most-by {c} {issues} (going b) = course-most c (length issues) (b .course) (b .repeats)
@@ -178,22 +178,22 @@ numbered-length : {first n : ℕ} {l : List Issue} → Numbered first n l → n 
 numbered-length none = omega arith
 numbered-length (more e f k) = let j = numbered-length k in omega arith
 
-pub bounded-exchange : {c : Client} {issues : List Issue} → Bounded c issues → c .exchange ≤ maxExchange
+pub bounded-exchange : {c : ClientRun} {issues : List Issue} → Bounded c issues → c .exchange ≤ maxExchange
 bounded-exchange {c} {issues} b =
     let few = most-by (going b) in
     let top = most-fits (c .direction) (c .segments) (course-segments c (length issues) (b .course)) in
     omega (arith, b .start, numbered-length (b .numbers))
 
 -- exchange numbers fit their field
-exchange-by : {c : Client} {issues : List Issue} → Bounds c issues → c .exchange ≤ maxExchange
-exchange-by (fresh e z) = omega (arith, ap (λ (k : Client). k .exchange) e)
+exchange-by : {c : ClientRun} {issues : List Issue} → Bounds c issues → c .exchange ≤ maxExchange
+exchange-by (fresh e z) = omega (arith, ap (λ (k : ClientRun). k .exchange) e)
 exchange-by (going b) = bounded-exchange b
 
 pub exchange-fits : (es : List Event) → pastOf es .run .exchange ≤ maxExchange
 exchange-fits es = exchange-by (bounds es)
 
 -- "Each request takes the next exchange number": an event moves a begun run's by as many as it issues requests
-rises-by : {p : Past} {c : Client} {issues : List Issue} → isBegun (p .run .stage) ≡ true → AnyChange Any p c issues
+rises-by : {p : Past} {c : ClientRun} {issues : List Issue} → isBegun (p .run .stage) ≡ true → AnyChange Any p c issues
     → c .exchange + length (p .issues) ≡ p .run .exchange + length issues
 unfolding ended
 rises-by b nothing = refl
@@ -207,9 +207,9 @@ pub exchange-rises : (p : Past) (e : Event) → isBegun (p .run .stage) ≡ true
 exchange-rises p e b = rises-by b (any-change Any p e (any-read e))
 
 -- a receipt is outstanding only where the segments 1 to N are held
-held-by : {c : Client} {issues : List Issue} → c .direction ≡ Download → c .step ≡ step.Receipt → Bounds c issues
+held-by : {c : ClientRun} {issues : List Issue} → c .direction ≡ Download → c .step ≡ step.Receipt → Bounds c issues
     → c .held ≡ c .segments
-held-by w s (fresh e z) = not-opening-receipt (ap (λ (k : Client). k .step) e) s
+held-by w s (fresh e z) = not-opening-receipt (ap (λ (k : ClientRun). k .step) e) s
 held-by {c} {issues} w s (going b) = receipt-held c (length issues) (b .course) w s
 
 pub all-held : (es : List Event) → pastOf es .run .direction ≡ Download → pastOf es .run .step ≡ step.Receipt
@@ -217,9 +217,9 @@ pub all-held : (es : List Event) → pastOf es .run .direction ≡ Download → 
 all-held es w s = held-by w s (bounds es)
 
 -- the guards of a download's replies tell nothing in a run from a begin: at most 15 segments are held, and asked for
-guards-by : {c : Client} {issues : List Issue} → c .direction ≡ Download → Bounds c issues
+guards-by : {c : ClientRun} {issues : List Issue} → c .direction ≡ Download → Bounds c issues
     → (c .held ≤ maxSegments) × (c .step ≡ step.Segment → c .segment ≤ maxSegments)
-guards-by w (fresh e z) = not-both (ap (λ (k : Client). k .direction) e) w
+guards-by w (fresh e z) = not-both (ap (λ (k : ClientRun). k .direction) e) w
 guards-by {c} {issues} w (going b) = course-guards c (length issues) (b .course) w
 
 pub guards-idle : (es : List Event) → pastOf es .run .direction ≡ Download

@@ -7,30 +7,31 @@ use mathlib.Core.Path.{_≡_, refl, sym, subst}
 use lib.ListN.{length}
 use Rattle.frame_table.specs.declared.fields.Fields.{Fields}
 use Rattle.frame_table.specs.Forms as forms
-use Rattle.frame.specs.declared.writer.Written.{Written}
-use Rattle.frame.specs.declared.writer.Written.the-variants as written
+use Rattle.frame_writer.specs.declared.writer.Written.{Written}
+use Rattle.frame_writer.specs.declared.writer.Written.the-variants as written
 use Rattle.frame_table.specs.Names.{segment}
-use Rattle.frame.specs.Reader.{readReply}
+use Rattle.frame_reader.specs.Reader.{readReply}
 use Rattle.frame_table.specs.Names.{noFields}
-use Rattle.frame.specs.Row.{dataOf}
+use Rattle.frame_row.specs.Row.{dataOf}
 use Rattle.frame_table.specs.Table.{rowFits, findForm, formOf}
 use Rattle.octets.proofs.Tests.{never}
 use Rattle.message.specs.declared.codes.ReturnCode.the-variants as code
 use Rattle.message.specs.Limits.{initialisationPhase}
-use Rattle.client.specs.declared.run.Answer.{Answer}
-use Rattle.client.specs.declared.run.Answer.the-variants as answer
-use Rattle.client.specs.declared.run.Client.{Client}
-use Rattle.client.specs.declared.run.Decision.{Decision}
-use Rattle.client.specs.declared.run.Direction.{Direction}
-use Rattle.client.specs.declared.run.Direction.the-variants.{Upload, Download}
-use Rattle.client.specs.declared.run.Ruling.{Ruling}
-use Rattle.client.specs.declared.run.Ruling.the-variants.{Refuse, Accept}
-use Rattle.client.specs.declared.run.RunParameters.{RunParameters}
-use Rattle.client.specs.declared.run.Step.the-variants as step
-use Rattle.client.specs.declared.run.Word.{Word}
-use Rattle.client.specs.declared.run.Word.the-variants as word
+use Rattle.client_run.specs.declared.run.Answer.{Answer}
+use Rattle.client_run.specs.declared.run.Answer.the-variants as answer
+use Rattle.client_run.specs.declared.run.ClientRun.{ClientRun}
+use Rattle.client_run.specs.declared.run.Decision.{Decision}
+use Rattle.client_run.specs.declared.run.Direction.{Direction}
+use Rattle.client_run.specs.declared.run.Direction.the-variants.{Upload, Download}
+use Rattle.client_run.specs.declared.run.Ruling.{Ruling}
+use Rattle.client_run.specs.declared.run.Ruling.the-variants.{Refuse, Accept}
+use Rattle.client_run.specs.declared.run.RunParameters.{RunParameters}
+use Rattle.client_run.specs.declared.run.Step.the-variants as step
+use Rattle.client_run.specs.declared.run.Word.{Word}
+use Rattle.client_run.specs.declared.run.Word.the-variants as word
 use Rattle.client.specs.Calls.{
   ifWritten,
+  callOf,
   outcomeOf,
   isWritten,
   requestWith,
@@ -43,7 +44,9 @@ use Rattle.client.specs.Calls.{
   replyCall,
   noReplyCall,
 }
-use Rattle.client.specs.Decisions.{
+use Rattle.client_run.specs.NextRun.{beginLength, begun, goOn, repeated, learned, holding, fileWith, ended}
+use Rattle.client_run.specs.Run.{Lent, ClientCall, lengthsOf, answerNumber}
+use Rattle.client_rules.specs.Decisions.{
   says,
   restWord,
   mayRepeat,
@@ -59,9 +62,7 @@ use Rattle.client.specs.Decisions.{
   onReply,
   onNoReply,
 }
-use Rattle.client.specs.NextRun.{beginLength, begun, goOn, repeated, learned, holding, fileWith, ended}
-use Rattle.client.specs.Rulings.{beginRuling, runRuling}
-use Rattle.client.specs.Run.{Lent, ClientCall, lengthsOf, answerNumber, callOf}
+use Rattle.client_rules.specs.Rulings.{beginRuling, runRuling}
 use Rattle.client_history.specs.History.{
   Issue,
   Event,
@@ -75,9 +76,9 @@ use Rattle.client_history.specs.History.{
   Kept,
   Fair,
 }
-use Rattle.client.proofs.Accepted.{Accepted, accepted, Begins, begins}
-use Rattle.client.proofs.Causes.{Cause, by-reply, by-no-reply}
-use Rattle.client.proofs.Causes as cause
+use Rattle.client_rules.proofs.Accepted.{Accepted, accepted, Begins, begins}
+use Rattle.client_rules.proofs.Causes.{Cause, by-reply, by-no-reply}
+use Rattle.client_rules.proofs.Causes as cause
 use Rattle.client_history.proofs.NextRuns.{holding-upload, file-upload}
 
 -- the run ended with a word
@@ -85,7 +86,7 @@ abbrev pub ending : Word → Past → Past
 ending w p = record { run = ended w (p .run); payload = p .payload; file = p .file; issues = p .issues }
 
 -- a request issued, or refused by the writer
-pub by-issue : (P : Past → Type 0) (c next : Client) (file : List ℕ) (l : Lent) (p : Past) → P p
+pub by-issue : (P : Past → Type 0) (c next : ClientRun) (file : List ℕ) (l : Lent) (p : Past) → P p
     → P (issuing next (l .payload) file (l .time) (l .nonce) (p .issues))
     → P (left (issued c next file l .answer) (issued c next file l) l p)
 unfolding issued
@@ -105,7 +106,7 @@ module _ (Given : Fields → List ℕ → Fields → List ℕ → Type 0) where
     pub given : Given (issue .request) (issue .requestData) r d
 
   -- the next run and file buffer where a request is issued
-  pub data Move (p : Past) : Client → List ℕ → Type 0 where
+  pub data Move (p : Past) : ClientRun → List ℕ → Type 0 where
     upload-opens : {r : Fields} {d : List ℕ} → p .run .direction ≡ Upload → p .run .step ≡ step.Opening
         → Answering p r d
         → says forms.UploadOpened code.Ok initialisationPhase r ≡ true
@@ -145,7 +146,7 @@ module _ (Given : Fields → List ℕ → Fields → List ℕ → Type 0) where
     begins-with : (params : RunParameters) (l : Lent) → Begins (p .run) params (lengthsOf l)
         → Change p (issuing (begun params (beginLength (params .direction) (lengthsOf l))) (l .payload) (l .file)
         (l .time) (l .nonce) (p .issues))
-    goes : {next : Client} {file : List ℕ} (l : Lent) → Accepted (p .run) (lengthsOf l) → Kept l p → Move p next file
+    goes : {next : ClientRun} {file : List ℕ} (l : Lent) → Accepted (p .run) (lengthsOf l) → Kept l p → Move p next file
         → Change p (issuing next (p .payload) file (l .time) (l .nonce) (p .issues))
     closes : {w : Word} (l : Lent) → Accepted (p .run) (lengthsOf l) → Kept l p → Ends p w → Change p (ending w p)
 
@@ -161,26 +162,26 @@ module _ (Given : Fields → List ℕ → Fields → List ℕ → Type 0) where
     Leads x = Change p (left (x .answer) x l p)
 
     -- a request issued with the file buffer that g makes of the lent one
-    moves : (next : Client) (g : List ℕ → List ℕ) → Move p next (g (p .file))
+    moves : (next : ClientRun) (g : List ℕ → List ℕ) → Move p next (g (p .file))
         → Leads (issued (p .run) next (g (l .file)) l)
     moves next g m =
         by-issue (Change p) (p .run) next (g (l .file)) l p nothing
         (by-kept (λ (y f : List ℕ). Change p (issuing next y (g f) (l .time) (l .nonce) (p .issues))) k (goes l a k m))
 
     -- the segment that c has outstanding is answered
-    after-segment : (c : Client) (d : List ℕ)
+    after-segment : (c : ClientRun) (d : List ℕ)
         → Move p (goOn (c .segment) (c .repeats) (holding (length d) c)) (fileWith c d (p .file))
         → Leads (taken (p .run) c d l)
     unfolding taken
     after-segment c d m = moves (goOn (c .segment) (c .repeats) (holding (length d) c)) (fileWith c d) m
 
-    after-upload : (c : Client) (d : List ℕ) → c .direction ≡ Upload
+    after-upload : (c : ClientRun) (d : List ℕ) → c .direction ≡ Upload
         → Move p (goOn (c .segment) (c .repeats) c) (p .file)
         → Leads (taken (p .run) c d l)
     after-upload c d up m =
         after-segment c d
         (subst (Move p (goOn (c .segment) (c .repeats) (holding (length d) c))) (sym (file-upload c up d (p .file)))
-        (subst (λ (n : Client). Move p (goOn (c .segment) (c .repeats) n) (p .file))
+        (subst (λ (n : ClientRun). Move p (goOn (c .segment) (c .repeats) n) (p .file))
         (sym (holding-upload c up (length d))) m))
 
     opened : (direction : Direction) (r : Fields) (d : List ℕ) → p .run .direction ≡ direction
@@ -215,7 +216,7 @@ module _ (Given : Fields → List ℕ → Fields → List ℕ → Type 0) where
     carried f (cause.no-reply h) = moves _ (λ g. g) (repeats h)
 
   -- no reply answers nothing
-  unanswered : {A : Type 0} (c : Client) → isAnswer c noFields ≡ true → A
+  unanswered : {A : Type 0} (c : ClientRun) → isAnswer c noFields ≡ true → A
   unfolding isAnswer formOf findForm rowFits
   unanswered c h = never h
 

@@ -12,17 +12,17 @@ use Rattle.frame_table.specs.Names.{segments}
 use Rattle.message.specs.Limits.{maxSegments, fileBytes}
 use Rattle.message.specs.Segments.{segmentsOf}
 use Rattle.message.proofs.Verdicts.{by-test}
-use Rattle.client.specs.declared.run.Client.{Client}
-use Rattle.client.specs.declared.run.Direction.{Direction}
-use Rattle.client.specs.declared.run.Direction.the-variants.{Upload, Download}
-use Rattle.client.specs.declared.run.Step.{Step}
-use Rattle.client.specs.declared.run.Step.the-variants as step
-use Rattle.client.specs.declared.run.Word.{Word}
-use Rattle.client.specs.NextRun.{begun, stepAfter, goOn, repeated, learned, isNew, holding, ended}
-use Rattle.client.specs.Run.{parametersOf}
-use Rattle.client.proofs.Apart.{not-both, not-opening-segment, not-opening-receipt, not-segment-receipt}
-use Rattle.client.proofs.Causes.{OpensDownload}
-use Rattle.client.proofs.NextRuns.{new-next}
+use Rattle.client_run.specs.declared.run.ClientRun.{ClientRun}
+use Rattle.client_run.specs.declared.run.Direction.{Direction}
+use Rattle.client_run.specs.declared.run.Direction.the-variants.{Upload, Download}
+use Rattle.client_run.specs.declared.run.Step.{Step}
+use Rattle.client_run.specs.declared.run.Step.the-variants as step
+use Rattle.client_run.specs.declared.run.Word.{Word}
+use Rattle.client_run.specs.NextRun.{begun, stepAfter, goOn, repeated, learned, isNew, holding, ended}
+use Rattle.client_run.specs.Run.{parametersOf}
+use Rattle.client_run.proofs.Apart.{not-both, not-opening-segment, not-opening-receipt, not-segment-receipt}
+use Rattle.client_run.proofs.NextRuns.{new-next}
+use Rattle.client_rules.proofs.Causes.{OpensDownload}
 use Rattle.client_history.specs.Bounds.{
   maxRequests,
   UploadPlace,
@@ -43,12 +43,12 @@ more n m = add-mul n 1 m ∙ ap (λ (z : ℕ). n * m + z) (one-mul m)
 
 -- ---- uploads
 
-pub up-segments : (c : Client) (q : ℕ) → UploadCourse c q → (1 ≤ c .segments) × (c .segments ≤ maxSegments)
+pub up-segments : (c : ClientRun) (q : ℕ) → UploadCourse c q → (1 ≤ c .segments) × (c .segments ≤ maxSegments)
 unfolding segmentsOf
 up-segments c q u = (omega (arith, u .count, u .some, u .most), omega (arith, u .count, u .some, u .most))
 
 -- the request after segment s issued, as the p-th repeat or return
-pub up-go : (c : Client) (q s p : ℕ) → UploadCourse c q → s < c .segments → s ≤ c .issued → q ≤ 1 + s + p * c .segments
+pub up-go : (c : ClientRun) (q s p : ℕ) → UploadCourse c q → s < c .segments → s ≤ c .issued → q ≤ 1 + s + p * c .segments
     → UploadCourse (goOn s p c) (q + 1)
 unfolding goOn
 up-go c q s p u below near few = record {
@@ -66,7 +66,7 @@ at-opening : (at : Step) (s : ℕ) → at ≡ step.Opening → UploadPlace at s 
 at-opening at s o (inl p) = p .1
 at-opening at s o (inr p) = not-opening-segment o (p .0)
 
-pub up-learned : (c : Client) (q : ℕ) (r : Fields) → UploadCourse c q → c .step ≡ step.Opening
+pub up-learned : (c : ClientRun) (q : ℕ) (r : Fields) → UploadCourse c q → c .step ≡ step.Opening
     → UploadCourse (learned Upload r c) q
 up-learned c q r u s = record {
   direction = u .direction;
@@ -79,7 +79,7 @@ up-learned c q r u s = record {
   requests = omega (arith, u .requests, at-opening (c .step) (c .segment) s (u .place));
 }
 
-pub up-repeated : (c : Client) (q : ℕ) → UploadCourse c q → UploadCourse (repeated c) (q + 1)
+pub up-repeated : (c : ClientRun) (q : ℕ) → UploadCourse c q → UploadCourse (repeated c) (q + 1)
 unfolding repeated
 up-repeated c q u = record {
   direction = u .direction;
@@ -92,7 +92,7 @@ up-repeated c q u = record {
   requests = omega (arith, u .requests, up-segments c q u .0, more (c .repeats) (c .segments));
 }
 
-pub up-ended : (c : Client) (q : ℕ) (w : Word) → UploadCourse c q → UploadCourse (ended w c) q
+pub up-ended : (c : ClientRun) (q : ℕ) (w : Word) → UploadCourse c q → UploadCourse (ended w c) q
 unfolding ended
 up-ended c q w u = record {
   direction = u .direction;
@@ -106,7 +106,7 @@ up-ended c q w u = record {
 }
 
 -- "An upload issues at most 6N + 1 requests"
-pub up-most : (c : Client) (q : ℕ) → UploadCourse c q → c .repeats ≤ 5 → q ≤ 6 * c .segments + 1
+pub up-most : (c : ClientRun) (q : ℕ) → UploadCourse c q → c .repeats ≤ 5 → q ≤ 6 * c .segments + 1
 up-most c q u h = omega (arith, u .requests, u .known, u .within, mul-le-mul-right (c .segments) h)
 
 -- ---- downloads
@@ -118,7 +118,7 @@ place-after k n h =
     (λ e. inl (refl, (let d = eqb-false k n e in omega arith)))
 
 -- the request after segment s issued, as the p-th repeat or return
-pub down-go : (c : Client) (q s p : ℕ) → SegmentsKnown c → s ≤ c .held → q ≤ s + p * (c .segments + 1)
+pub down-go : (c : ClientRun) (q s p : ℕ) → SegmentsKnown c → s ≤ c .held → q ≤ s + p * (c .segments + 1)
     → DownloadCourse (goOn s p c) (q + 1)
 unfolding goOn
 down-go c q s p k near few = record {
@@ -130,12 +130,12 @@ down-go c q s p k near few = record {
 }
 
 -- the outstanding segment held: those up to it are held then
-pub record Holds (c h : Client) : Type 0 where
+pub record Holds (c h : ClientRun) : Type 0 where
   pub known : SegmentsKnown h
   pub same : h .segments ≡ c .segments
   pub held : c .segment ≤ h .held
 
-holds-at : (c : Client) (d : ℕ) (b : Bool) → isNew (c .direction) c ≡ b → SegmentsKnown c → c .segment ≤ c .segments
+holds-at : (c : ClientRun) (d : ℕ) (b : Bool) → isNew (c .direction) c ≡ b → SegmentsKnown c → c .segment ≤ c .segments
     → c .segment ≤ c .held + 1
     → Holds c (holding d c)
 unfolding holding
@@ -155,12 +155,12 @@ holds-at c d false e k m n =
     (sym (ap (λ (direction : Direction). isNew direction c) (k .direction)) ∙ e) in
     rw e (record { known = k; same = refl; held = omega arith })
 
-pub holds : (c : Client) (d : ℕ) → SegmentsKnown c → c .segment ≤ c .segments → c .segment ≤ c .held + 1
+pub holds : (c : ClientRun) (d : ℕ) → SegmentsKnown c → c .segment ≤ c .segments → c .segment ≤ c .held + 1
     → Holds c (holding d c)
 holds c d k m n = holds-at c d (isNew (c .direction) c) refl k m n
 
 -- the outstanding segment answered
-pub down-taken : (c : Client) (q d p : ℕ) → SegmentsKnown c → c .segment ≤ c .segments → c .segment ≤ c .held + 1
+pub down-taken : (c : ClientRun) (q d p : ℕ) → SegmentsKnown c → c .segment ≤ c .segments → c .segment ≤ c .held + 1
     → q ≤ c .segment + p * (c .segments + 1) → DownloadCourse (goOn (c .segment) p (holding d c)) (q + 1)
 down-taken c q d p k m n few =
     let h = holds c d k m n in
@@ -168,7 +168,7 @@ down-taken c q d p k m n few =
     down-go (holding d c) q (c .segment) p (h .known) (h .held) few'
 
 -- the opening answered
-pub down-opened : (c : Client) (q d : ℕ) (r : Fields) → OpeningCourse c q → OpensDownload r d
+pub down-opened : (c : ClientRun) (q d : ℕ) (r : Fields) → OpeningCourse c q → OpensDownload r d
     → DownloadCourse (goOn 1 (c .repeats) (holding d (learned Download r c))) (q + 1)
 down-opened c q d r o h =
     let k = learned Download r c in
@@ -183,14 +183,14 @@ down-place at s n (inl p) = omega (arith, p .1)
 down-place at s n (inr p) = omega (arith, p .1)
 
 -- the segment of a download's transfer is among the N
-pub down-transfer : (c : Client) (q : ℕ) → DownloadCourse c q → c .step ≡ step.Segment → c .segment ≤ c .segments
+pub down-transfer : (c : ClientRun) (q : ℕ) → DownloadCourse c q → c .step ≡ step.Segment → c .segment ≤ c .segments
 down-transfer c q d e = at (d .place)
   where
     at : DownloadPlace (c .step) (c .segment) (c .segments) → c .segment ≤ c .segments
     at (inl p) = p .1
     at (inr p) = not-segment-receipt e (p .0)
 
-pub down-returned : (c : Client) (q s : ℕ) → DownloadCourse c q → s ≤ c .held
+pub down-returned : (c : ClientRun) (q s : ℕ) → DownloadCourse c q → s ≤ c .held
     → DownloadCourse (goOn s (c .repeats + 1) c) (q + 1)
 down-returned c q s d h =
     down-go c q s (c .repeats + 1) (d .known) h
@@ -201,7 +201,7 @@ down-returned c q s d h =
       more (c .repeats) (c .segments + 1),
     ))
 
-pub down-repeated : (c : Client) (q : ℕ) → DownloadCourse c q → DownloadCourse (repeated c) (q + 1)
+pub down-repeated : (c : ClientRun) (q : ℕ) → DownloadCourse c q → DownloadCourse (repeated c) (q + 1)
 unfolding repeated
 down-repeated c q d =
     let k = d .known in record {
@@ -212,7 +212,7 @@ down-repeated c q d =
       requests = omega (arith, d .requests, more (c .repeats) (c .segments + 1));
     }
 
-pub down-ended : (c : Client) (q : ℕ) (w : Word) → DownloadCourse c q → DownloadCourse (ended w c) q
+pub down-ended : (c : ClientRun) (q : ℕ) (w : Word) → DownloadCourse c q → DownloadCourse (ended w c) q
 unfolding ended
 down-ended c q w d =
     let k = d .known in record {
@@ -223,7 +223,7 @@ down-ended c q w d =
       requests = d .requests;
     }
 
-pub opening-repeated : (c : Client) (q : ℕ) → OpeningCourse c q → OpeningCourse (repeated c) (q + 1)
+pub opening-repeated : (c : ClientRun) (q : ℕ) → OpeningCourse c q → OpeningCourse (repeated c) (q + 1)
 unfolding repeated
 opening-repeated c q o =
     record {
@@ -234,13 +234,13 @@ opening-repeated c q o =
       requests = omega (arith, o .requests);
     }
 
-pub opening-ended : (c : Client) (q : ℕ) (w : Word) → OpeningCourse c q → OpeningCourse (ended w c) q
+pub opening-ended : (c : ClientRun) (q : ℕ) (w : Word) → OpeningCourse c q → OpeningCourse (ended w c) q
 unfolding ended
 opening-ended c q w o =
     record { direction = o .direction; at = o .at; unknown = o .unknown; none = o .none; requests = o .requests }
 
 -- "a download 6N + 6"
-pub down-most : (c : Client) (q : ℕ) → DownloadCourse c q → c .repeats ≤ 5 → q ≤ 6 * c .segments + 6
+pub down-most : (c : ClientRun) (q : ℕ) → DownloadCourse c q → c .repeats ≤ 5 → q ≤ 6 * c .segments + 6
 down-most c q d h =
     let place = down-place (c .step) (c .segment) (c .segments) (d .place) in
     omega (arith, d .requests, mul-le-mul-right (c .segments + 1) h)
@@ -248,18 +248,18 @@ down-most c q d h =
 -- ---- both directions
 
 -- of an upload
-pub upload-course : {c : Client} {q : ℕ} → Course c q → c .direction ≡ Upload → UploadCourse c q
+pub upload-course : {c : ClientRun} {q : ℕ} → Course c q → c .direction ≡ Upload → UploadCourse c q
 upload-course (uploading u) w = u
 upload-course (opening o) w = not-both w (o .direction)
 upload-course (downloading d) w = not-both w (d .known .direction)
 
 -- what the course of an upload says of the outstanding request, by its step
-abbrev pub UploadAt : Step → Client → Type 0
+abbrev pub UploadAt : Step → ClientRun → Type 0
 UploadAt step.Opening c = Unit {0}
 UploadAt step.Segment c = (1 ≤ c .segment) × (c .segment ≤ c .issued)
 UploadAt step.Receipt c = Unit {0}
 
-pub upload-at : {c : Client} {q : ℕ} (s : Step) → c .step ≡ s → UploadCourse c q → UploadAt s c
+pub upload-at : {c : ClientRun} {q : ℕ} (s : Step) → c .step ≡ s → UploadCourse c q → UploadAt s c
 upload-at step.Opening e u = tt
 upload-at {c} step.Segment e u = at (u .place)
   where
@@ -268,28 +268,28 @@ upload-at {c} step.Segment e u = at (u .place)
     at (inr p) = (p .1, u .known)
 upload-at step.Receipt e u = tt
 
-pub course-ended : (c : Client) (q : ℕ) (w : Word) → Course c q → Course (ended w c) q
+pub course-ended : (c : ClientRun) (q : ℕ) (w : Word) → Course c q → Course (ended w c) q
 course-ended c q w (uploading u) = uploading (up-ended c q w u)
 course-ended c q w (opening o) = opening (opening-ended c q w o)
 course-ended c q w (downloading d) = downloading (down-ended c q w d)
 
-pub course-repeated : (c : Client) (q : ℕ) → Course c q → Course (repeated c) (q + 1)
+pub course-repeated : (c : ClientRun) (q : ℕ) → Course c q → Course (repeated c) (q + 1)
 course-repeated c q (uploading u) = uploading (up-repeated c q u)
 course-repeated c q (opening o) = opening (opening-repeated c q o)
 course-repeated c q (downloading d) = downloading (down-repeated c q d)
 
-pub course-most : (c : Client) (q : ℕ) → Course c q → c .repeats ≤ 5 → q ≤ maxRequests (c .direction) (c .segments)
+pub course-most : (c : ClientRun) (q : ℕ) → Course c q → c .repeats ≤ 5 → q ≤ maxRequests (c .direction) (c .segments)
 course-most c q (uploading u) h = rw (u .direction) (up-most c q u h)
 course-most c q (opening o) h = rw (o .direction) (omega (arith, o .requests))
 course-most c q (downloading d) h = rw (d .known .direction) (down-most c q d h)
 
-pub course-segments : (c : Client) (q : ℕ) → Course c q → c .segments ≤ maxSegments
+pub course-segments : (c : ClientRun) (q : ℕ) → Course c q → c .segments ≤ maxSegments
 course-segments c q (uploading u) = up-segments c q u .1
 course-segments c q (opening o) = omega (arith, o .unknown)
 course-segments c q (downloading d) = d .known .most
 
 -- at the receipt of a download all segments are held
-pub receipt-held : (c : Client) (q : ℕ) → Course c q → c .direction ≡ Download → c .step ≡ step.Receipt
+pub receipt-held : (c : ClientRun) (q : ℕ) → Course c q → c .direction ≡ Download → c .step ≡ step.Receipt
     → c .held ≡ c .segments
 receipt-held c q (uploading u) w s = not-both (u .direction) w
 receipt-held c q (opening o) w s = not-opening-receipt (o .at) s
@@ -300,12 +300,12 @@ receipt-held c q (downloading d) w s = at (d .place)
     at (inr p) = omega (arith, p .1, d .next, d .known .within)
 
 -- what the course of a download says of the outstanding request, by its step
-abbrev pub DownloadAt : Step → Client → Type 0
+abbrev pub DownloadAt : Step → ClientRun → Type 0
 DownloadAt step.Opening c = Unit {0}
 DownloadAt step.Segment c = (1 ≤ c .segment) × (c .segment ≤ c .held + 1) × (c .segment ≤ c .segments)
 DownloadAt step.Receipt c = c .held ≡ c .segments
 
-pub download-at : {c : Client} {q : ℕ} (s : Step) → c .step ≡ s → c .direction ≡ Download → Course c q → DownloadAt s c
+pub download-at : {c : ClientRun} {q : ℕ} (s : Step) → c .step ≡ s → c .direction ≡ Download → Course c q → DownloadAt s c
 download-at step.Opening e w k = tt
 download-at step.Segment e w (uploading u) = not-both (u .direction) w
 download-at step.Segment e w (opening o) = not-opening-segment (o .at) e
@@ -313,7 +313,7 @@ download-at {c} {q} step.Segment e w (downloading d) = (d .first, d .next, down-
 download-at {c} {q} step.Receipt e w k = receipt-held c q k w e
 
 -- at most 15 segments are held, and asked for
-pub course-guards : (c : Client) (q : ℕ) → Course c q → c .direction ≡ Download
+pub course-guards : (c : ClientRun) (q : ℕ) → Course c q → c .direction ≡ Download
     → (c .held ≤ maxSegments) × (c .step ≡ step.Segment → c .segment ≤ maxSegments)
 course-guards c q (uploading u) w = not-both (u .direction) w
 course-guards c q (opening o) w = (omega (arith, o .none), not-opening-segment (o .at))

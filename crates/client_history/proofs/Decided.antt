@@ -6,17 +6,17 @@ use mathlib.Core.Path.{_≡_, refl, ap, _∙_}
 use native.Mathlib.Omega.{arith}
 use Rattle.frame_table.specs.declared.fields.Fields.{Fields}
 use Rattle.message.specs.Limits.{maxAttempts}
-use Rattle.client.specs.declared.run.Client.{Client}
-use Rattle.client.specs.declared.run.Decision.{Decision}
-use Rattle.client.specs.declared.run.Decision.the-variants.{Ignore, Opened, Advance, Return, Repeat, Close}
-use Rattle.client.specs.declared.run.Direction.{Direction}
-use Rattle.client.specs.declared.run.Direction.the-variants.{Upload, Download}
-use Rattle.client.specs.declared.run.Step.the-variants as step
-use Rattle.client.specs.NextRun.{goOn, repeated, learned, holding, ended}
-use Rattle.client.proofs.Apart.{not-both, not-opening-segment, not-opening-receipt}
-use Rattle.client.proofs.Causes.{Cause, upload-point, download-point, taken-below, opens}
-use Rattle.client.proofs.Causes as cause
-use Rattle.client.proofs.Feasible.{repeat-fits, return-left}
+use Rattle.client_run.specs.declared.run.ClientRun.{ClientRun}
+use Rattle.client_run.specs.declared.run.Decision.{Decision}
+use Rattle.client_run.specs.declared.run.Decision.the-variants.{Ignore, Opened, Advance, Return, Repeat, Close}
+use Rattle.client_run.specs.declared.run.Direction.{Direction}
+use Rattle.client_run.specs.declared.run.Direction.the-variants.{Upload, Download}
+use Rattle.client_run.specs.declared.run.Step.the-variants as step
+use Rattle.client_run.specs.NextRun.{goOn, repeated, learned, holding, ended}
+use Rattle.client_run.proofs.Apart.{not-both, not-opening-segment, not-opening-receipt}
+use Rattle.client_rules.proofs.Causes.{Cause, upload-point, download-point, taken-below, opens}
+use Rattle.client_rules.proofs.Causes as cause
+use Rattle.client_rules.proofs.Feasible.{repeat-fits, return-left}
 use Rattle.client_history.specs.Bounds.{
   UploadCourse,
   DownloadPlace,
@@ -57,7 +57,7 @@ Issuing Repeat = Unit {0}
 Issuing (Close w) = ⊥
 
 -- the run that a decision leaves where its request is written
-abbrev pub nextOf : Decision → Client → Fields → ℕ → Client
+abbrev pub nextOf : Decision → ClientRun → Fields → ℕ → ClientRun
 nextOf Ignore c r d = c
 nextOf Opened c r d =
     let k = learned (c .direction) r c in
@@ -70,13 +70,13 @@ nextOf (Close w) c r d = ended w c
 -- ---- what it has of the run before
 
 -- "Each request takes the next exchange number"
-pub record Next (n c : Client) : Type 0 where
+pub record Next (n c : ClientRun) : Type 0 where
   pub stage : n .stage ≡ c .stage
   pub direction : n .direction ≡ c .direction
   pub subscriber : n .subscriber ≡ c .subscriber
   pub exchange : n .exchange ≡ c .exchange + 1
 
-goes-next : (k repeats : ℕ) (h c : Client) → Same h c → Next (goOn k repeats h) c
+goes-next : (k repeats : ℕ) (h c : ClientRun) → Same h c → Next (goOn k repeats h) c
 unfolding goOn
 goes-next k repeats h c s = record {
   stage = s .stage;
@@ -85,7 +85,7 @@ goes-next k repeats h c s = record {
   exchange = ap (λ (x : ℕ). x + 1) (s .exchange);
 }
 
-pub next-of : (decision : Decision) → Issuing decision → (c : Client) (r : Fields) (d : ℕ)
+pub next-of : (decision : Decision) → Issuing decision → (c : ClientRun) (r : Fields) (d : ℕ)
     → Next (nextOf decision c r d) c
 unfolding repeated
 next-of Ignore i c r d = absurd i
@@ -98,21 +98,21 @@ next-of Repeat i c r d = record { stage = refl; direction = refl; subscriber = r
 next-of (Close w) i c r d = absurd i
 
 -- an upload's payload stays as long as it was
-pub next-length : (decision : Decision) → Issuing decision → (c : Client) (r : Fields) (d : ℕ) → c .direction ≡ Upload
+pub next-length : (decision : Decision) → Issuing decision → (c : ClientRun) (r : Fields) (d : ℕ) → c .direction ≡ Upload
     → nextOf decision c r d .length ≡ c .length
 unfolding goOn repeated
 next-length Ignore i c r d w = absurd i
 next-length Opened i c r d w =
     let k = learned (c .direction) r c in
-    ap (λ (h : Client). h .length) (holding-upload k (learned-same (c .direction) r c .direction ∙ w) d)
+    ap (λ (h : ClientRun). h .length) (holding-upload k (learned-same (c .direction) r c .direction ∙ w) d)
     ∙ learned-length (c .direction) r c
-next-length Advance i c r d w = ap (λ (h : Client). h .length) (holding-upload c w d)
+next-length Advance i c r d w = ap (λ (h : ClientRun). h .length) (holding-upload c w d)
 next-length (Return s) i c r d w = refl
 next-length Repeat i c r d w = refl
 next-length (Close u) i c r d w = absurd i
 
 -- "These repeats and returns number at most five"
-pub next-repeats : (decision : Decision) → Issuing decision → (c : Client) (r : Fields) (d : ℕ) → Cause c r d decision
+pub next-repeats : (decision : Decision) → Issuing decision → (c : ClientRun) (r : Fields) (d : ℕ) → Cause c r d decision
     → c .repeats ≤ maxAttempts → nextOf decision c r d .repeats ≤ maxAttempts
 unfolding goOn repeated
 next-repeats Ignore i c r d k few = absurd i
@@ -124,12 +124,12 @@ next-repeats (Close w) i c r d k few = absurd i
 
 -- ---- the course
 
-not-opening : {A : Type 0} (c : Client) → c .step ≡ step.Opening → (c .step ≡ step.Segment) ⊎ (c .step ≡ step.Receipt)
+not-opening : {A : Type 0} (c : ClientRun) → c .step ≡ step.Opening → (c .step ≡ step.Segment) ⊎ (c .step ≡ step.Receipt)
     → A
 not-opening c o (inl s) = not-opening-segment o s
 not-opening c o (inr s) = not-opening-receipt o s
 
-module _ (c : Client) (q : ℕ) (r : Fields) (d : ℕ) where
+module _ (c : ClientRun) (q : ℕ) (r : Fields) (d : ℕ) where
   down-opened-not : {A : Type 0} → DownloadCourse c q → c .step ≡ step.Opening → A
   down-opened-not e s = at (e .place)
     where

@@ -25,26 +25,16 @@ use Rattle.octets.proofs.Tests.{never, and-true, or-left, or-right}
 use Rattle.message.specs.declared.codes.ReturnCode.the-variants as code
 use Rattle.message.specs.Limits.{segmentBytes, fileBytes, initialisationPhase, receiptPhase}
 use Rattle.message.specs.Segments.{segmentsOf, segmentOf}
-use Rattle.client.specs.declared.run.Client.{Client}
-use Rattle.client.specs.declared.run.Direction.{Direction}
-use Rattle.client.specs.declared.run.Direction.the-variants.{Download}
-use Rattle.client.specs.declared.run.Stage.{Stage}
-use Rattle.client.specs.declared.run.Stage.the-variants as stage
-use Rattle.client.specs.declared.run.Step.{Step}
-use Rattle.client.specs.declared.run.Step.the-variants as step
-use Rattle.client.specs.declared.run.Word.{Word}
-use Rattle.client.specs.declared.run.Word.the-variants as word
-use Rattle.client.specs.Decisions.{
-  says,
-  isOwn,
-  closingWord,
-  restWord,
-  opensDownload,
-  bringsSegment,
-  downloadReturns,
-  confirms,
-}
-use Rattle.client.specs.NextRun.{
+use Rattle.client_run.specs.declared.run.ClientRun.{ClientRun}
+use Rattle.client_run.specs.declared.run.Direction.{Direction}
+use Rattle.client_run.specs.declared.run.Direction.the-variants.{Download}
+use Rattle.client_run.specs.declared.run.Stage.{Stage}
+use Rattle.client_run.specs.declared.run.Stage.the-variants as stage
+use Rattle.client_run.specs.declared.run.Step.{Step}
+use Rattle.client_run.specs.declared.run.Step.the-variants as step
+use Rattle.client_run.specs.declared.run.Word.{Word}
+use Rattle.client_run.specs.declared.run.Word.the-variants as word
+use Rattle.client_run.specs.NextRun.{
   begun,
   stepAfter,
   receiptsAfter,
@@ -57,8 +47,18 @@ use Rattle.client.specs.NextRun.{
   fileWith,
   ended,
 }
-use Rattle.client.specs.Requests.{nonceOf, outstanding}
-use Rattle.client.specs.Run.{parametersOf}
+use Rattle.client_run.specs.Requests.{nonceOf, outstanding}
+use Rattle.client_run.specs.Run.{parametersOf}
+use Rattle.client_rules.specs.Decisions.{
+  says,
+  isOwn,
+  closingWord,
+  restWord,
+  opensDownload,
+  bringsSegment,
+  downloadReturns,
+  confirms,
+}
 use Rattle.client_history.specs.History.{Issue, Past, issueOf, BankReplies}
 use Rattle.client_history.specs.Invariant.{
   DownloadIssue,
@@ -76,12 +76,12 @@ use Rattle.client_history.specs.Invariant.{
   DownloadRun,
 }
 use Rattle.message.proofs.Verdicts.{by-test}
-use Rattle.client.proofs.Causes.{brought, download-point, opens}
+use Rattle.client_rules.proofs.Causes.{brought, download-point, opens}
 use Rattle.client_history.proofs.Files.{most-segments, nothing-held, all-held, grown-end, grown-bytes}
 use Rattle.client_history.proofs.Course.{DownloadAt}
 use Rattle.client_history.proofs.Issues.{got, got-in}
 use Rattle.client_history.proofs.NextRuns.{Held, by-new}
-use Rattle.client.proofs.Replies.{Says, said, opened-says, own-id}
+use Rattle.client_rules.proofs.Replies.{Says, said, opened-says, own-id}
 use Rattle.client_history.proofs.Requests.{
   form-downloadOpening,
   form-receipt,
@@ -175,7 +175,7 @@ module _ (Given : Fields → List ℕ → Fields → List ℕ → Type 0) where
 
   module _ (fileAt : Bits128 → List ℕ) where
     -- the outstanding request is one that the run may issue
-    outstanding-issue : (c : Client) (payload file : List ℕ) (time : ℕ) (nonce : List ℕ) (issues : List Issue)
+    outstanding-issue : (c : ClientRun) (payload file : List ℕ) (time : ℕ) (nonce : List ℕ) (issues : List Issue)
         → c .direction ≡ Download
         → (s : Step) → c .step ≡ s → DownloadAt s c → DownloadStep Given fileAt s c file issues
         → DownloadIssue (c .subscriber) (c .segments) (c .transaction) (c .held) (c .receipted)
@@ -192,7 +192,7 @@ module _ (Given : Fields → List ℕ → Fields → List ℕ → Type 0) where
         (is-receipt c time nonce payload down e) (data-download c time nonce payload down)
 
     -- an open download that runs
-    record Ready (c : Client) (file : List ℕ) (issues : List Issue) : Type 0 where
+    record Ready (c : ClientRun) (file : List ℕ) (issues : List Issue) : Type 0 where
       direction : c .direction ≡ Download
       running : c .stage ≡ stage.Running
       each : (x : Issue) → In x issues
@@ -201,14 +201,14 @@ module _ (Given : Fields → List ℕ → Fields → List ℕ → Type 0) where
       receipts : c .receipted ≡ true → Receipts issues
       open-file : FileHeld Given fileAt c file issues
 
-    goes-on : (c : Client) (payload file : List ℕ) (issues : List Issue) (k repeats time : ℕ) (nonce : List ℕ)
+    goes-on : (c : ClientRun) (payload file : List ℕ) (issues : List Issue) (k repeats time : ℕ) (nonce : List ℕ)
         → Ready c file issues
         → k ≤ c .held
         → DownloadRun Given fileAt (goOn k repeats c) file (issueOf (goOn k repeats c) payload file time nonce ∷ issues)
     unfolding goOn
     goes-on c payload file issues k repeats time nonce r a = go (eqb k (c .segments)) refl
       where
-        next : Client
+        next : ClientRun
         next = goOn k repeats c
 
         new : Issue
@@ -260,7 +260,7 @@ module _ (Given : Fields → List ℕ → Fields → List ℕ → Type 0) where
             run step.Segment (at ∙ y) (omega arith, omega arith, omega (arith, r .open-file .top)) kept
             (λ h. let o = r .receipts (or-false (c .receipted) _ (receipt-after ∙ e) h) in (o .0, there (o .1), o .2))
 
-    module _ (c : Client) (payload file : List ℕ) (issues : List Issue) (u : DownloadRun Given fileAt c file issues)
+    module _ (c : ClientRun) (payload file : List ℕ) (issues : List Issue) (u : DownloadRun Given fileAt c file issues)
         (running : c .stage ≡ stage.Running) where
       abbrev p : Past
       p = record { run = c; payload = payload; file = file; issues = issues }
@@ -275,7 +275,7 @@ module _ (Given : Fields → List ℕ → Fields → List ℕ → Type 0) where
       -- ---- the next request
 
       module _ (time : ℕ) (nonce : List ℕ) where
-        abbrev Goes : Client → List ℕ → Type 0
+        abbrev Goes : ClientRun → List ℕ → Type 0
         Goes next g = DownloadRun Given fileAt next g (issueOf next payload g time nonce ∷ issues)
 
         pub returned : (r : Fields) → (c .step ≡ step.Segment) ⊎ (c .step ≡ step.Receipt) → downloadReturns c r ≡ true
@@ -298,7 +298,7 @@ module _ (Given : Fields → List ℕ → Fields → List ℕ → Type 0) where
           stage = subst (λ (s : Stage). DownloadStage Given fileAt s next file (new ∷ issues)) (sym running) tt;
         }
           where
-            next : Client
+            next : ClientRun
             next = repeated c
 
             new : Issue
@@ -328,7 +328,7 @@ module _ (Given : Fields → List ℕ → Fields → List ℕ → Type 0) where
       module _ (bank : BankReplies Given fileAt) (r : Fields) (d : List ℕ) (a : Answered Given p r d)
           (room : length file ≡ fileBytes)
           (time : ℕ) (nonce : List ℕ) where
-        abbrev Moves : Client → List ℕ → Type 0
+        abbrev Moves : ClientRun → List ℕ → Type 0
         Moves next g = Goes time nonce (goOn (c .segment) (c .repeats) next) g
 
         -- by the test on the outstanding segment
@@ -379,10 +379,10 @@ module _ (Given : Fields → List ℕ → Fields → List ℕ → Type 0) where
             → let k = learned Download r c in Goes time nonce (goOn 1 (c .repeats) (holding (length d) k))
             (fileWith k d file)
         opened-run e h =
-            by-new k d file (λ (n : Client) (g : List ℕ). Goes time nonce (goOn 1 (c .repeats) n) g) true is-new fresh
+            by-new k d file (λ (n : ClientRun) (g : List ℕ). Goes time nonce (goOn 1 (c .repeats) n) g) true is-new fresh
             (λ z. never (sym z))
           where
-            k : Client
+            k : ClientRun
             k = learned Download r c
 
             at : At step.Opening
@@ -472,7 +472,7 @@ module _ (Given : Fields → List ℕ → Fields → List ℕ → Type 0) where
     begun-run s first time nonce payload file issues z =
         record { direction = refl; each = each; receipts = λ h. never h; step = (refl, refl, refl); stage = tt }
       where
-        next : Client
+        next : ClientRun
         next = begun (parametersOf Download s first) 0
 
         new : Issue

@@ -29,14 +29,14 @@ use Rattle.message.specs.Codes.{codeField}
 use Rattle.message.specs.Limits.{segmentBytes, maxSegments, initialisationPhase, transferPhase, receiptPhase}
 use Rattle.message.specs.Replies.{uploadOpened, downloadOpened, segmentTaken, downloadSegment, receiptAnswered}
 use Rattle.message.specs.Segments.{segmentsOf, segmentOf, lastMarkOf}
-use Rattle.client.specs.declared.run.Client.{Client}
-use Rattle.client.specs.declared.run.Decision.the-variants.{Opened, Advance, Close}
-use Rattle.client.specs.declared.run.Direction.{Direction}
-use Rattle.client.specs.declared.run.Direction.the-variants.{Upload, Download}
-use Rattle.client.specs.declared.run.Step.{Step}
-use Rattle.client.specs.declared.run.Step.the-variants as step
-use Rattle.client.specs.declared.run.Word.the-variants as word
-use Rattle.client.specs.Decisions.{
+use Rattle.client_run.specs.declared.run.ClientRun.{ClientRun}
+use Rattle.client_run.specs.declared.run.Decision.the-variants.{Opened, Advance, Close}
+use Rattle.client_run.specs.declared.run.Direction.{Direction}
+use Rattle.client_run.specs.declared.run.Direction.the-variants.{Upload, Download}
+use Rattle.client_run.specs.declared.run.Step.{Step}
+use Rattle.client_run.specs.declared.run.Step.the-variants as step
+use Rattle.client_run.specs.declared.run.Word.the-variants as word
+use Rattle.client_rules.specs.Decisions.{
   formIndex,
   says,
   isOwn,
@@ -70,12 +70,12 @@ says-true : (x : Form) (c : ReturnCode) (p : ℕ) (r : Fields) → form r ≡ x 
 unfolding says
 says-true x c p r a b e = and-intro (and-intro (eq-eqb _ _ (ap formIndex a)) (eq-eqb _ _ b)) (eq-eqb _ _ e)
 
-pub own-true : (c : Client) (r : Fields) → transaction r ≡ c .transaction → isOwn c r ≡ true
+pub own-true : (c : ClientRun) (r : Fields) → transaction r ≡ c .transaction → isOwn c r ≡ true
 unfolding isOwn
 own-true c r e = and-intro (eq-eqb _ _ (ap (λ (t : Bits128). t .high) e)) (eq-eqb _ _ (ap (λ (t : Bits128). t .low) e))
 
 -- a reply under the outstanding exchange number, of a reply form but the unreadable request's
-answer-true : (c : Client) (r : Fields) → isReplyForm (form r) ≡ true
+answer-true : (c : ClientRun) (r : Fields) → isReplyForm (form r) ≡ true
     → (formIndex (form r) ≡ formIndex forms.Unreadable → ⊥)
     → exchange r ≡ c .exchange → isAnswer c r ≡ true
 unfolding isAnswer
@@ -88,7 +88,7 @@ pub record Fits (x : Form) (k : ReturnCode) (ph n : ℕ) (r : Fields) : Type 0 w
   pub phase-is : phase r ≡ ph
   pub number : exchange r ≡ n
 
-module _ {x : Form} {k : ReturnCode} {ph : ℕ} (c : Client) (r : Fields) (f : Fits x k ph (c .exchange) r) where
+module _ {x : Form} {k : ReturnCode} {ph : ℕ} (c : ClientRun) (r : Fields) (f : Fits x k ph (c .exchange) r) where
   pub fits-says : says x k ph r ≡ true
   fits-says = says-true x k ph r (f .form-is) (f .code-is) (f .phase-is)
 
@@ -96,7 +96,7 @@ module _ {x : Form} {k : ReturnCode} {ph : ℕ} (c : Client) (r : Fields) (f : F
   fits-answer a b =
       answer-true c r (ap isReplyForm (f .form-is) ∙ a) (λ e. b (sym (ap formIndex (f .form-is)) ∙ e)) (f .number)
 
-pub answers-true : (x : Form) (c : Client) (r : Fields) → Fits x code.Ok transferPhase (c .exchange) r
+pub answers-true : (x : Form) (c : ClientRun) (r : Fields) → Fits x code.Ok transferPhase (c .exchange) r
     → transaction r ≡ c .transaction
     → segment r ≡ c .segment → answersSegment x c r ≡ true
 unfolding answersSegment
@@ -175,7 +175,7 @@ file-fits f j n r d a b m e g k =
 
 -- ---- what a fitting reply leads to
 
-module _ (c : Client) (r : Fields) (n : ℕ) (a : isAnswer c r ≡ true) where
+module _ (c : ClientRun) (r : Fields) (n : ℕ) (a : isAnswer c r ≡ true) where
   pub upload-decision : c .direction ≡ Upload → (s : Step) → c .step ≡ s → onReply c r n ≡ onUpload s c r
   unfolding onReply
   upload-decision w s e = rw a (ap (λ (z : Direction). onAnswer z c r n) w ∙ ap (λ (z : Step). onUpload z c r) e)
@@ -184,7 +184,7 @@ module _ (c : Client) (r : Fields) (n : ℕ) (a : isAnswer c r ≡ true) where
   unfolding onReply
   download-decision w s e = rw a (ap (λ (z : Direction). onAnswer z c r n) w ∙ ap (λ (z : Step). onDownload z c r n) e)
 
-module _ (c : Client) (r : Fields) (n : ℕ) where
+module _ (c : ClientRun) (r : Fields) (n : ℕ) where
   pub to-opened : says forms.UploadOpened code.Ok initialisationPhase r ≡ true → onUpload step.Opening c r ≡ Opened
   unfolding onUpload
   to-opened h = rw h

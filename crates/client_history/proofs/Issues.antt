@@ -16,19 +16,19 @@ use Rattle.frame_table.specs.declared.fields.Fields.{Fields}
 use Rattle.frame_table.specs.declared.table.Form.{Form}
 use Rattle.frame_table.specs.Names.{exchange, form}
 use Rattle.message.specs.declared.codes.ReturnCode.{ReturnCode}
-use Rattle.client.specs.declared.run.Client.{Client}
-use Rattle.client.specs.declared.run.Direction.{Direction}
-use Rattle.client.specs.declared.run.Direction.the-variants.{Upload, Download}
-use Rattle.client.specs.declared.run.Step.{Step}
-use Rattle.client.specs.declared.run.Step.the-variants as step
-use Rattle.client.specs.declared.run.Word.{Word}
-use Rattle.client.specs.NextRun.{ended}
-use Rattle.client.specs.Requests.{uploadRequest, downloadRequest, requestBy, dataBy, outstanding, outstandingData}
+use Rattle.client_run.specs.declared.run.ClientRun.{ClientRun}
+use Rattle.client_run.specs.declared.run.Direction.{Direction}
+use Rattle.client_run.specs.declared.run.Direction.the-variants.{Upload, Download}
+use Rattle.client_run.specs.declared.run.Step.{Step}
+use Rattle.client_run.specs.declared.run.Step.the-variants as step
+use Rattle.client_run.specs.declared.run.Word.{Word}
+use Rattle.client_run.specs.NextRun.{ended}
+use Rattle.client_run.specs.Requests.{uploadRequest, downloadRequest, requestBy, dataBy, outstanding, outstandingData}
 use Rattle.client_history.specs.History.{Issue, Past, heldOf, issueOf, issuing, BankReplies}
 use Rattle.client_history.specs.Bounds.{Numbered, none, more}
 use Rattle.client_history.specs.Invariant.{Newest, Begun, Answered, Got}
 use Rattle.client_history.proofs.Changes.{Answering, ending}
-use Rattle.client.proofs.Replies.{Says, is-answer}
+use Rattle.client_rules.proofs.Replies.{Says, is-answer}
 
 -- ---- exchange numbers
 
@@ -55,7 +55,7 @@ older-below (more e f k) m = let j = below k m in omega arith
 
 -- ---- the end of a run changes no request
 
-module _ (w : Word) (c : Client) (time : ℕ) (nonce payload : List ℕ) where
+module _ (w : Word) (c : ClientRun) (time : ℕ) (nonce payload : List ℕ) where
   upload-ended : (s : Step) → uploadRequest s (ended w c) time nonce ≡ uploadRequest s c time nonce
   unfolding ended
   upload-ended step.Opening = refl
@@ -88,7 +88,7 @@ module _ (w : Word) (c : Client) (time : ℕ) (nonce payload : List ℕ) where
 
 -- ---- the newest issue
 
-pub newest-issued : (next : Client) (payload file : List ℕ) (time : ℕ) (nonce : List ℕ) (issues : List Issue)
+pub newest-issued : (next : ClientRun) (payload file : List ℕ) (time : ℕ) (nonce : List ℕ) (issues : List Issue)
     → Newest (issuing next payload file time nonce issues)
 newest-issued next payload file time nonce issues = record { time = time; nonce = nonce; older = issues; are = refl }
 

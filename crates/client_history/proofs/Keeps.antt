@@ -8,16 +8,16 @@ use Rattle.frame_table.specs.declared.fields.Bits128.{Bits128}
 use Rattle.frame_table.specs.declared.fields.Fields.{Fields}
 use Rattle.octets.proofs.Tests.{never}
 use Rattle.message.specs.Limits.{fileBytes}
-use Rattle.client.specs.declared.run.Client.{Client}
-use Rattle.client.specs.declared.run.Direction.{Direction}
-use Rattle.client.specs.declared.run.Direction.the-variants.{Upload, Download}
-use Rattle.client.specs.declared.run.Step.{Step}
-use Rattle.client.specs.declared.run.Step.the-variants as step
-use Rattle.client.specs.declared.run.Word.{Word}
-use Rattle.client.specs.NextRun.{beginLength, begun, ended}
-use Rattle.client.specs.Run.{Lent, lengthsOf, parametersOf, notBegun}
-use Rattle.client.proofs.Accepted.{Serves, Accepted, file-served}
-use Rattle.client.proofs.Apart.{not-both, not-new-running}
+use Rattle.client_run.specs.declared.run.ClientRun.{ClientRun}
+use Rattle.client_run.specs.declared.run.Direction.{Direction}
+use Rattle.client_run.specs.declared.run.Direction.the-variants.{Upload, Download}
+use Rattle.client_run.specs.declared.run.Step.{Step}
+use Rattle.client_run.specs.declared.run.Step.the-variants as step
+use Rattle.client_run.specs.declared.run.Word.{Word}
+use Rattle.client_run.specs.NextRun.{beginLength, begun, ended}
+use Rattle.client_run.specs.Run.{Lent, lengthsOf, parametersOf, notBegun}
+use Rattle.client_run.proofs.Apart.{not-both, not-new-running}
+use Rattle.client_rules.proofs.Accepted.{Serves, Accepted, file-served}
 use Rattle.client_history.specs.Bounds.{Bounded, Bounds, fresh, going}
 use Rattle.client_history.specs.History.{
   Issue,
@@ -55,13 +55,13 @@ module _ (Given : Fields → List ℕ → Fields → List ℕ → Type 0) (fileA
   Inv = Invariant Given fileAt
 
   module _ (p : Past) (l : Lent) (a : Accepted (p .run) (lengthsOf l)) (k : Kept l p) (b : Begun p) where
-    abbrev c : Client
+    abbrev c : ClientRun
     c = p .run
 
     -- ---- upload
 
     module _ (u : UploadRun Given c (p .payload) (p .issues)) where
-      upload-goes : {next : Client} {file : List ℕ} → Move Given p next file
+      upload-goes : {next : ClientRun} {file : List ℕ} → Move Given p next file
           → UploadRun Given next (p .payload) (issueOf next (p .payload) file (l .time) (l .nonce) ∷ p .issues)
       upload-goes (change.upload-opens {r} {d} w s g t) =
           Uploads.opened-run Given c (p .payload) (p .file) (p .issues) u (a .running) r d (l .time) (l .nonce) s
@@ -99,7 +99,7 @@ module _ (Given : Fields → List ℕ → Fields → List ℕ → Type 0) (fileA
       place : (s : Step) → c .step ≡ s → DownloadAt s c
       place s e = download-at s e (u .direction) (b .bounded .course)
 
-      download-goes : {next : Client} {file : List ℕ} → Move Given p next file
+      download-goes : {next : ClientRun} {file : List ℕ} → Move Given p next file
           → DownloadRun Given fileAt next file (issueOf next (p .payload) file (l .time) (l .nonce) ∷ p .issues)
       download-goes (change.upload-opens w s g t) = not-both w (u .direction)
       download-goes (change.takes w s g t) = not-both w (u .direction)
@@ -141,11 +141,11 @@ module _ (Given : Fields → List ℕ → Fields → List ℕ → Type 0) (fileA
   -- ---- every change
 
   -- a run that issued something is within the bounds
-  some-issued : {c : Client} {x : Issue} {issues : List Issue} → Bounds c (x ∷ issues) → Bounded c (x ∷ issues)
+  some-issued : {c : ClientRun} {x : Issue} {issues : List Issue} → Bounds c (x ∷ issues) → Bounded c (x ∷ issues)
   some-issued (fresh e z) = absurd (let z : _≡_ {A = ℕ} 0 1 = cc in omega arith)
   some-issued (going b) = b
 
-  now-issued : (next : Client) (payload file : List ℕ) (time : ℕ) (nonce : List ℕ) (issues : List Issue)
+  now-issued : (next : ClientRun) (payload file : List ℕ) (time : ℕ) (nonce : List ℕ) (issues : List Issue)
       → let q = issuing next payload file time nonce issues in Bounds next (q .issues) → Begun q
   now-issued next payload file time nonce issues s =
       record { bounded = some-issued s; newest = newest-issued next payload file time nonce issues }
@@ -155,7 +155,7 @@ module _ (Given : Fields → List ℕ → Fields → List ℕ → Type 0) (fileA
   now-ended w p b s = record { bounded = bounded refl s; newest = newest-ended w p (b .newest) }
 
   idle : {A : Type 0} (p : Past) (l : Lent) → p .run ≡ notBegun → Accepted (p .run) (lengthsOf l) → A
-  idle p l e a = not-new-running (ap (λ (k : Client). k .stage) e) (a .running)
+  idle p l e a = not-new-running (ap (λ (k : ClientRun). k .stage) e) (a .running)
 
   kept-by : {p q : Past} → Change Given p q → Bounds (q .run) (q .issues) → Inv p → Inv q
   kept-by change.nothing n i = i

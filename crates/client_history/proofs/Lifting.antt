@@ -9,13 +9,13 @@ use Rattle.frame_table.specs.declared.fields.Bits128.{Bits128}
 use Rattle.frame_table.specs.declared.fields.Fields.{Fields}
 use Rattle.frame_table.specs.declared.table.Form.{Form}
 use Rattle.message.specs.declared.codes.ReturnCode.{ReturnCode}
-use Rattle.client.specs.declared.run.Client.{Client}
-use Rattle.client.specs.declared.run.Stage.{Stage}
-use Rattle.client.specs.declared.run.Stage.the-variants as stage
-use Rattle.client.specs.declared.run.Step.{Step}
-use Rattle.client.specs.declared.run.Step.the-variants as step
-use Rattle.client.specs.declared.run.Word.{Word}
-use Rattle.client.specs.declared.run.Word.the-variants as word
+use Rattle.client_run.specs.declared.run.ClientRun.{ClientRun}
+use Rattle.client_run.specs.declared.run.Stage.{Stage}
+use Rattle.client_run.specs.declared.run.Stage.the-variants as stage
+use Rattle.client_run.specs.declared.run.Step.{Step}
+use Rattle.client_run.specs.declared.run.Step.the-variants as step
+use Rattle.client_run.specs.declared.run.Word.{Word}
+use Rattle.client_run.specs.declared.run.Word.the-variants as word
 use Rattle.client_history.specs.History.{Issue, Past}
 use Rattle.client_history.specs.Invariant.{
   isOpen,
@@ -55,10 +55,10 @@ module _ (Given Later : Fields → List ℕ → Fields → List ℕ → Type 0)
 
   -- ---- upload
 
-  open-up : {c : Client} {l : List Issue} → UploadOpen Given c l → UploadOpen Later c l
+  open-up : {c : ClientRun} {l : List Issue} → UploadOpen Given c l → UploadOpen Later c l
   open-up o = record { got = got-up (o .got); id = o .id; number = o .number }
 
-  module _ (c : Client) (payload : List ℕ) (l : List Issue) (u : UploadRun Given c payload l) where
+  module _ (c : ClientRun) (payload : List ℕ) (l : List Issue) (u : UploadRun Given c payload l) where
     upload-step-up : (s : Step) → UploadStep Given s c l → UploadStep Later s c l
     upload-step-up step.Opening k = k
     upload-step-up step.Segment k = open-up k
@@ -107,7 +107,7 @@ module _ (Given Later : Fields → List ℕ → Fields → List ℕ → Type 0)
   }
 
   module _ (fileAt fileLater : Bits128 → List ℕ) where
-    module _ (c : Client) (file : List ℕ) (l : List Issue) (u : DownloadRun Given fileAt c file l)
+    module _ (c : ClientRun) (file : List ℕ) (l : List Issue) (u : DownloadRun Given fileAt c file l)
         (f : isOpen (c .step) ≡ true → fileAt (c .transaction) ≡ fileLater (c .transaction)) where
       file-up : isOpen (c .step) ≡ true → FileHeld Given fileAt c file l → FileHeld Later fileLater c file l
       file-up o h =

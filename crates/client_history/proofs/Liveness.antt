@@ -9,33 +9,34 @@ use borrow.Author.Tests.{lt-ltb, le-leb, eq-eqb, ne-eqb}
 use Rattle.frame_table.specs.declared.fields.Bits128.{Bits128}
 use Rattle.frame_table.specs.declared.fields.Fields.{Fields}
 use Rattle.frame_table.specs.Forms as forms
-use Rattle.frame.specs.declared.writer.Written.{Written}
-use Rattle.frame.specs.declared.writer.Written.the-variants as written
+use Rattle.frame_writer.specs.declared.writer.Written.{Written}
+use Rattle.frame_writer.specs.declared.writer.Written.the-variants as written
 use Rattle.frame_table.specs.Names.{returnCode, exchange, segments, transaction, segment, lastMark, orderNumber}
-use Rattle.frame.specs.Reader.{readReply}
-use Rattle.frame.specs.Row.{dataOf}
+use Rattle.frame_reader.specs.Reader.{readReply}
+use Rattle.frame_row.specs.Row.{dataOf}
 use Rattle.message.specs.declared.codes.ReturnCode.the-variants as code
 use Rattle.message.specs.Codes.{codeField}
 use Rattle.message.specs.Limits.{maxSegments, fileBytes, initialisationPhase}
 use Rattle.message.specs.Replies.{uploadOpened, downloadOpened, segmentTaken, downloadSegment, receiptAnswered}
 use Rattle.message.specs.Segments.{segmentsOf, segmentOf, lastMarkOf}
-use Rattle.client.specs.declared.run.Client.{Client}
-use Rattle.client.specs.declared.run.Decision.{Decision}
-use Rattle.client.specs.declared.run.Decision.the-variants.{Ignore, Opened, Advance, Close}
-use Rattle.client.specs.declared.run.Direction.{Direction}
-use Rattle.client.specs.declared.run.Direction.the-variants.{Upload, Download}
-use Rattle.client.specs.declared.run.Refusal.{Refusal}
-use Rattle.client.specs.declared.run.Refusal.the-variants.{WrongBuffer, ExchangeTooHigh, NoSubscriber, WrongStage}
-use Rattle.client.specs.declared.run.Ruling.{Ruling}
-use Rattle.client.specs.declared.run.Ruling.the-variants.{Refuse, Accept}
-use Rattle.client.specs.declared.run.RunParameters.{RunParameters}
-use Rattle.client.specs.declared.run.Stage.the-variants as stage
-use Rattle.client.specs.declared.run.Step.{Step}
-use Rattle.client.specs.declared.run.Step.the-variants as step
-use Rattle.client.specs.declared.run.Word.{Word}
-use Rattle.client.specs.declared.run.Word.the-variants as word
+use Rattle.client_run.specs.declared.run.ClientRun.{ClientRun}
+use Rattle.client_run.specs.declared.run.Decision.{Decision}
+use Rattle.client_run.specs.declared.run.Decision.the-variants.{Ignore, Opened, Advance, Close}
+use Rattle.client_run.specs.declared.run.Direction.{Direction}
+use Rattle.client_run.specs.declared.run.Direction.the-variants.{Upload, Download}
+use Rattle.client_run.specs.declared.run.Refusal.{Refusal}
+use Rattle.client_run.specs.declared.run.Refusal.the-variants.{WrongBuffer, ExchangeTooHigh, NoSubscriber, WrongStage}
+use Rattle.client_run.specs.declared.run.Ruling.{Ruling}
+use Rattle.client_run.specs.declared.run.Ruling.the-variants.{Refuse, Accept}
+use Rattle.client_run.specs.declared.run.RunParameters.{RunParameters}
+use Rattle.client_run.specs.declared.run.Stage.the-variants as stage
+use Rattle.client_run.specs.declared.run.Step.{Step}
+use Rattle.client_run.specs.declared.run.Step.the-variants as step
+use Rattle.client_run.specs.declared.run.Word.{Word}
+use Rattle.client_run.specs.declared.run.Word.the-variants as word
 use Rattle.client.specs.Calls.{
   ifWritten,
+  callOf,
   outcomeOf,
   isWritten,
   requestWith,
@@ -48,7 +49,9 @@ use Rattle.client.specs.Calls.{
   beginCall,
   replyCall,
 }
-use Rattle.client.specs.Decisions.{
+use Rattle.client_run.specs.NextRun.{begun, stepAfter, goOn, learned, holding, fileWith, ended}
+use Rattle.client_run.specs.Run.{Lent, ClientCall, lengthsOf, refusalNumber, answerNumber}
+use Rattle.client_rules.specs.Decisions.{
   answersSegment,
   fitsSegment,
   opensDownload,
@@ -64,17 +67,15 @@ use Rattle.client.specs.Decisions.{
   onAnswer,
   onReply,
 }
-use Rattle.client.specs.NextRun.{begun, stepAfter, goOn, learned, holding, fileWith, ended}
-use Rattle.client.specs.Rulings.{isBegun, beginRuling, runRuling}
-use Rattle.client.specs.Run.{Lent, ClientCall, lengthsOf, refusalNumber, answerNumber, callOf}
+use Rattle.client_rules.specs.Rulings.{isBegun, beginRuling, runRuling}
 use Rattle.client_history.specs.History.{Begin, Reply, Past, issuing, left, after, Kept}
 use Rattle.client_history.specs.InTurn.{InTurn}
 use Rattle.client_history.proofs.Files.{most-segments}
 use Rattle.message.proofs.SegmentNumbers.{some-segment}
-use Rattle.client.proofs.Accepted as rulings
+use Rattle.client_rules.proofs.Accepted as rulings
 use Rattle.message.proofs.Verdicts.{by-test}
 use Rattle.client_history.proofs.NextRuns.{held-same}
-use Rattle.client.proofs.Replies.{said, opened-says}
+use Rattle.client_rules.proofs.Replies.{said, opened-says}
 use Rattle.client_history.proofs.Fitting.{
   and-intro,
   and-false,
@@ -113,7 +114,7 @@ numbered NoSubscriber h = absurd (omega arith)
 numbered WrongStage h = absurd (omega arith)
 
 -- a request issued
-by-issued : (P : Past → Type 0) (c next : Client) (file : List ℕ) (l : Lent) (p : Past)
+by-issued : (P : Past → Type 0) (c next : ClientRun) (file : List ℕ) (l : Lent) (p : Past)
     → P (issuing next (l .payload) file (l .time) (l .nonce) (p .issues))
     → answerNumber (issued c next file l .answer) ≡ 0
     → P (left (issued c next file l .answer) (issued c next file l) l p)
@@ -145,10 +146,10 @@ by-decision P p frame l decision e f = go (runRuling (p .run .stage) (p .run) (l
 -- ---- where the run stands then
 
 -- the run k with the request after its outstanding segment, answered with the data d, issued
-unfoldable next : Client → List ℕ → Client
+unfoldable next : ClientRun → List ℕ → ClientRun
 next k d = goOn (k .segment) (k .repeats) (holding (length d) k)
 
-next-in-turn : (k : Client) (direction : Direction) (j : ℕ) (d payload file : List ℕ) (l : Lent) (p : Past)
+next-in-turn : (k : ClientRun) (direction : Direction) (j : ℕ) (d payload file : List ℕ) (l : Lent) (p : Past)
     → k .stage ≡ stage.Running
     → k .direction ≡ direction → k .segment ≡ j → k .repeats ≡ 0
     → InTurn (issuing (next k d) payload file (l .time) (l .nonce) (p .issues)) direction
@@ -169,13 +170,13 @@ next-in-turn k direction j d payload file l p running w e z =
       number = ap (λ (x : ℕ). x + 1) (s .0 .exchange);
     }
 
-next-known : (k : Client) (d : List ℕ)
+next-known : (k : ClientRun) (d : List ℕ)
     → (next k d .transaction ≡ k .transaction) × (next k d .number ≡ k .number) × (next k d .segments ≡ k .segments)
 unfolding next goOn
 next-known k d = let s = held-same (length d) k .1 in (s .transaction, s .number, s .segments)
 
 module _ (p : Past) (frame : List ℕ) (l : Lent) (done : answerNumber (replyCall (p .run) frame l .answer) ≡ 0) where
-  abbrev c : Client
+  abbrev c : ClientRun
   c = p .run
 
   abbrev r : Fields
@@ -188,7 +189,7 @@ module _ (p : Past) (frame : List ℕ) (l : Lent) (done : answerNumber (replyCal
   then = after (Reply frame l) p
 
   -- an answered step leads to the next
-  by-next : (P : Past → Type 0) (k : Client)
+  by-next : (P : Past → Type 0) (k : ClientRun)
       → P (issuing (next k d) (l .payload) (fileWith k d (l .file)) (l .time) (l .nonce) (p .issues))
       → answerNumber (taken c k d l .answer) ≡ 0 → P (left (taken c k d l .answer) (taken c k d l) l p)
   unfolding taken next
@@ -359,7 +360,7 @@ module _ (p : Past) (frame : List ℕ) (l : Lent) (done : answerNumber (replyCal
 -- ---- AN OPENING REFUSED
 
 -- a reply to the opening with another code than 000000 is ignored or ends the run
-at-opening : (P : Decision → Type 0) (c : Client) (r : Fields) (n : ℕ) → c .step ≡ step.Opening
+at-opening : (P : Decision → Type 0) (c : ClientRun) (r : Fields) (n : ℕ) → c .step ≡ step.Opening
     → (returnCode r ≡ codeField code.Ok → ⊥)
     → P Ignore → P (Close (restWord c)) → P (onReply c r n)
 unfolding onReply onUpload onDownload
@@ -425,7 +426,7 @@ begins p params l = go (beginRuling (p .run) params (lengthsOf l))
         )
 
 -- a run already begun is not begun again
-pub begin-fresh : (c : Client) (params : RunParameters) (l : Lent) → answerNumber (beginCall c params l .answer) ≡ 0
+pub begin-fresh : (c : ClientRun) (params : RunParameters) (l : Lent) → answerNumber (beginCall c params l .answer) ≡ 0
     → isBegun (c .stage) ≡ false
 unfolding beginCall
 begin-fresh c params l = go (beginRuling c params (lengthsOf l)) refl

@@ -8,12 +8,12 @@ use Rattle.frame_table.specs.Names.{subscriber, exchange, transaction, segment,
 use Rattle.frame_table.specs.Table.{rowFits, findForm, formOf}
 use Rattle.message.specs.Requests.{uploadOpening, downloadOpening, uploadTransfer, downloadTransfer, receipt}
 use Rattle.message.specs.Segments.{segmentOf, lastMarkOf}
-use Rattle.client.specs.declared.run.Client.{Client}
-use Rattle.client.specs.declared.run.Direction.{Direction}
-use Rattle.client.specs.declared.run.Direction.the-variants.{Upload, Download}
-use Rattle.client.specs.declared.run.Step.{Step}
-use Rattle.client.specs.declared.run.Step.the-variants as step
-use Rattle.client.specs.Requests.{
+use Rattle.client_run.specs.declared.run.ClientRun.{ClientRun}
+use Rattle.client_run.specs.declared.run.Direction.{Direction}
+use Rattle.client_run.specs.declared.run.Direction.the-variants.{Upload, Download}
+use Rattle.client_run.specs.declared.run.Step.{Step}
+use Rattle.client_run.specs.declared.run.Step.the-variants as step
+use Rattle.client_run.specs.Requests.{
   nonceOf,
   uploadRequest,
   downloadRequest,
@@ -63,7 +63,7 @@ id-receipt s x t n = refl
 
 -- ---- the outstanding request
 
-module _ (c : Client) (time : ℕ) (nonce payload : List ℕ) where
+module _ (c : ClientRun) (time : ℕ) (nonce payload : List ℕ) where
   module _ (up : c .direction ≡ Upload) where
     by-upload : outstanding c time nonce ≡ uploadRequest (c .step) c time nonce
     unfolding outstanding

@@ -7,16 +7,16 @@ use lib.Dec.{eqb}
 use lib.ListN.{length}
 use Rattle.frame_table.specs.declared.fields.Fields.{Fields}
 use Rattle.octets.proofs.Tests.{never}
-use Rattle.client.specs.declared.run.Client.{Client}
-use Rattle.client.specs.declared.run.Direction.{Direction}
-use Rattle.client.specs.declared.run.Direction.the-variants.{Upload, Download}
-use Rattle.client.specs.declared.run.Ruling.{Ruling}
-use Rattle.client.specs.declared.run.Ruling.the-variants.{Refuse, Accept}
-use Rattle.client.specs.declared.run.RunParameters.{RunParameters}
-use Rattle.client.specs.declared.run.Stage.the-variants as stage
-use Rattle.client.specs.declared.run.Step.{Step}
-use Rattle.client.specs.declared.run.Step.the-variants as step
-use Rattle.client.specs.declared.run.Word.{Word}
+use Rattle.client_run.specs.declared.run.ClientRun.{ClientRun}
+use Rattle.client_run.specs.declared.run.Direction.{Direction}
+use Rattle.client_run.specs.declared.run.Direction.the-variants.{Upload, Download}
+use Rattle.client_run.specs.declared.run.Ruling.{Ruling}
+use Rattle.client_run.specs.declared.run.Ruling.the-variants.{Refuse, Accept}
+use Rattle.client_run.specs.declared.run.RunParameters.{RunParameters}
+use Rattle.client_run.specs.declared.run.Stage.the-variants as stage
+use Rattle.client_run.specs.declared.run.Step.{Step}
+use Rattle.client_run.specs.declared.run.Step.the-variants as step
+use Rattle.client_run.specs.declared.run.Word.{Word}
 use Rattle.client.specs.Calls.{
   ifAdmitted,
   admittedBegin,
@@ -26,13 +26,13 @@ use Rattle.client.specs.Calls.{
   replyCall,
   noReplyCall,
 }
-use Rattle.client.specs.NextRun.{stepAfter, goOn, repeated, learned, ended}
-use Rattle.client.specs.Rulings.{isBegun, beginRuling, runRuling}
-use Rattle.client.specs.Run.{Lent, ClientCall, lengthsOf}
+use Rattle.client_run.specs.NextRun.{stepAfter, goOn, repeated, learned, ended}
+use Rattle.client_run.specs.Run.{Lent, ClientCall, lengthsOf}
+use Rattle.client_rules.specs.Rulings.{isBegun, beginRuling, runRuling}
 use Rattle.client_history.specs.History.{Event, Begin, Reply, NoReply, Past, issuing, left, after, pastOf, Fair}
 use Rattle.client_history.specs.Invariant.{isOpen, Steady}
-use Rattle.client.proofs.Accepted.{accepted, begins}
-use Rattle.client.proofs.Apart.{not-ended-running}
+use Rattle.client_run.proofs.Apart.{not-ended-running}
+use Rattle.client_rules.proofs.Accepted.{accepted, begins}
 use Rattle.client_history.proofs.Changes.{Move, Change}
 use Rattle.client_history.proofs.Changes as change
 use Rattle.client_history.proofs.NextRuns.{Same, Known, same, known, learned-same, held-same, opened-same}
@@ -48,10 +48,10 @@ open-after Download k n = go (eqb k n)
     go false = refl
 
 module _ (p : Past) (b : isBegun (p .run .stage) ≡ true) (file : List ℕ) (time : ℕ) (nonce : List ℕ) where
-  abbrev Goes : Client → Type 0
+  abbrev Goes : ClientRun → Type 0
   Goes next = Steady p (issuing next (p .payload) file time nonce (p .issues))
 
-  goes-on : (k n : ℕ) (c : Client) → Same c (p .run) → (isOpen (p .run .step) ≡ true → Known c (p .run))
+  goes-on : (k n : ℕ) (c : ClientRun) → Same c (p .run) → (isOpen (p .run .step) ≡ true → Known c (p .run))
       → Goes (goOn k n c)
   unfolding goOn
   goes-on k n c s f = record {
@@ -87,7 +87,7 @@ opening : {A : Type 0} {s : Step} → s ≡ step.Opening → isOpen s ≡ true �
 opening e h = never (sym (ap isOpen e) ∙ h)
 
 module _ (Given : Fields → List ℕ → Fields → List ℕ → Type 0) where
-  moved : (p : Past) → isBegun (p .run .stage) ≡ true → (l : Lent) {next : Client} {file : List ℕ}
+  moved : (p : Past) → isBegun (p .run .stage) ≡ true → (l : Lent) {next : ClientRun} {file : List ℕ}
       → Move Given p next file
       → Steady p (issuing next (p .payload) file (l .time) (l .nonce) (p .issues))
   moved p b l (change.upload-opens {r} w s g t) =

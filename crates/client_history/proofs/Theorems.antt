@@ -11,23 +11,23 @@ use Rattle.frame_table.specs.declared.fields.Fields.{Fields}
 use Rattle.frame_table.specs.declared.table.Form.{Form}
 use Rattle.frame_table.specs.Forms as forms
 use Rattle.frame_table.specs.Names.{subscriber, exchange, transaction, segment, form}
-use Rattle.frame.specs.Reader.{readReply}
-use Rattle.frame.specs.Row.{dataOf}
+use Rattle.frame_reader.specs.Reader.{readReply}
+use Rattle.frame_row.specs.Row.{dataOf}
 use Rattle.octets.proofs.Tests.{never}
 use Rattle.message.specs.Limits.{maxSegments}
 use Rattle.message.specs.Segments.{segmentsOf}
-use Rattle.client.specs.declared.run.Client.{Client}
-use Rattle.client.specs.declared.run.Direction.the-variants.{Upload, Download}
-use Rattle.client.specs.declared.run.Stage.{Stage}
-use Rattle.client.specs.declared.run.Stage.the-variants as stage
-use Rattle.client.specs.declared.run.Step.{Step}
-use Rattle.client.specs.declared.run.Step.the-variants as step
-use Rattle.client.specs.declared.run.Word.{Word}
-use Rattle.client.specs.declared.run.Word.the-variants as word
-use Rattle.client.specs.Decisions.{isAnswer}
-use Rattle.client.specs.Rulings.{isBegun}
-use Rattle.client.proofs.Apart.{not-both}
-use Rattle.client.specs.Run.{notBegun}
+use Rattle.client_run.specs.declared.run.ClientRun.{ClientRun}
+use Rattle.client_run.specs.declared.run.Direction.the-variants.{Upload, Download}
+use Rattle.client_run.specs.declared.run.Stage.{Stage}
+use Rattle.client_run.specs.declared.run.Stage.the-variants as stage
+use Rattle.client_run.specs.declared.run.Step.{Step}
+use Rattle.client_run.specs.declared.run.Step.the-variants as step
+use Rattle.client_run.specs.declared.run.Word.{Word}
+use Rattle.client_run.specs.declared.run.Word.the-variants as word
+use Rattle.client_run.proofs.Apart.{not-both}
+use Rattle.client_run.specs.Run.{notBegun}
+use Rattle.client_rules.specs.Decisions.{isAnswer}
+use Rattle.client_rules.specs.Rulings.{isBegun}
 use Rattle.client_history.specs.History.{
   Issue,
   Event,
@@ -120,8 +120,8 @@ other-form : {A : Type 0} {f x y : Form} → f ≡ x → f ≡ y → (x ≡ y �
 other-form a b f = absurd (let z = f (sym a ∙ b) in omega arith)
 
 -- a run not begun
-new-begun : {c : Client} → c ≡ notBegun → isBegun (c .stage) ≡ false
-new-begun e = ap (λ (c : Client). isBegun (c .stage)) e
+new-begun : {c : ClientRun} → c ≡ notBegun → isBegun (c .stage) ≡ false
+new-begun e = ap (λ (c : ClientRun). isBegun (c .stage)) e
 
 upload-form : {s n top : ℕ} {t : Bits128} {y : List ℕ} {x : Issue} → UploadIssue s n t top y x
     → (form (x .request) ≡ forms.UploadOpening) ⊎ (form (x .request) ≡ forms.UploadTransfer)

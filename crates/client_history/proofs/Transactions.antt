@@ -9,13 +9,13 @@ use Rattle.octets.specs.Bytes.{Bytes}
 use Rattle.frame_table.specs.declared.fields.Fields.{Fields}
 use Rattle.frame_table.specs.Names.{transaction}
 use Rattle.frame_table.specs.Table.{transactionTag}
-use Rattle.frame.specs.Reader.{readReply}
+use Rattle.frame_reader.specs.Reader.{readReply}
 use Rattle.frame.proofs.Theorems.{reply-halves}
 use Rattle.message.proofs.Writable.{Wide}
-use Rattle.client.specs.declared.run.Client.{Client}
-use Rattle.client.specs.declared.run.Decision.{Decision}
-use Rattle.client.specs.declared.run.Decision.the-variants.{Ignore, Opened, Advance, Return, Repeat, Close}
-use Rattle.client.specs.NextRun.{begun, goOn, repeated, learned, ended}
+use Rattle.client_run.specs.declared.run.ClientRun.{ClientRun}
+use Rattle.client_run.specs.declared.run.Decision.{Decision}
+use Rattle.client_run.specs.declared.run.Decision.the-variants.{Ignore, Opened, Advance, Return, Repeat, Close}
+use Rattle.client_run.specs.NextRun.{begun, goOn, repeated, learned, ended}
 use Rattle.client_history.specs.Bounds.{Typed, typed-begin, typed-reply, typed-no-reply}
 use Rattle.client_history.specs.Bounds.{AllTyped, typed-more}
 use Rattle.client_history.specs.History.{Issue, Event, Past, pastOf}
@@ -31,7 +31,7 @@ reply-wide s b = reply-halves s b transactionTag (omega arith)
 
 -- ---- each event keeps it
 
-pub next-wide : (decision : Decision) → Issuing decision → (c : Client) (r : Fields) (d : ℕ) → Wide (transaction r)
+pub next-wide : (decision : Decision) → Issuing decision → (c : ClientRun) (r : Fields) (d : ℕ) → Wide (transaction r)
     → Wide (c .transaction) → Wide (nextOf decision c r d .transaction)
 unfolding goOn repeated
 next-wide Ignore i c r d v w = absurd i
@@ -46,7 +46,7 @@ next-wide (Close u) i c r d v w = absurd i
 abbrev HasWide : Fields → Type 0
 HasWide r = Wide (transaction r)
 
-wide-by : {p : Past} {c : Client} {issues : List Issue} → AnyChange HasWide p c issues → Wide (p .run .transaction)
+wide-by : {p : Past} {c : ClientRun} {issues : List Issue} → AnyChange HasWide p c issues → Wide (p .run .transaction)
     → Wide (c .transaction)
 unfolding begun ended
 wide-by nothing w = w

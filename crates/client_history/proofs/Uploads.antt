@@ -25,19 +25,19 @@ use Rattle.message.specs.declared.codes.ReturnCode.the-variants as code
 use Rattle.message.specs.Limits.{initialisationPhase}
 use Rattle.message.specs.Requests.{uploadTransfer}
 use Rattle.message.specs.Segments.{segmentsOf, lastMarkOf}
-use Rattle.client.specs.declared.run.Client.{Client}
-use Rattle.client.specs.declared.run.Direction.{Direction}
-use Rattle.client.specs.declared.run.Direction.the-variants.{Upload}
-use Rattle.client.specs.declared.run.Stage.{Stage}
-use Rattle.client.specs.declared.run.Stage.the-variants as stage
-use Rattle.client.specs.declared.run.Step.{Step}
-use Rattle.client.specs.declared.run.Step.the-variants as step
-use Rattle.client.specs.declared.run.Word.{Word}
-use Rattle.client.specs.declared.run.Word.the-variants as word
-use Rattle.client.specs.Decisions.{says, answersSegment, closingWord, restWord, endsUpload, lodges}
-use Rattle.client.specs.NextRun.{begun, stepAfter, goOn, repeated, learned, ended}
-use Rattle.client.specs.Requests.{nonceOf, outstanding}
-use Rattle.client.specs.Run.{parametersOf}
+use Rattle.client_run.specs.declared.run.ClientRun.{ClientRun}
+use Rattle.client_run.specs.declared.run.Direction.{Direction}
+use Rattle.client_run.specs.declared.run.Direction.the-variants.{Upload}
+use Rattle.client_run.specs.declared.run.Stage.{Stage}
+use Rattle.client_run.specs.declared.run.Stage.the-variants as stage
+use Rattle.client_run.specs.declared.run.Step.{Step}
+use Rattle.client_run.specs.declared.run.Step.the-variants as step
+use Rattle.client_run.specs.declared.run.Word.{Word}
+use Rattle.client_run.specs.declared.run.Word.the-variants as word
+use Rattle.client_run.specs.NextRun.{begun, stepAfter, goOn, repeated, learned, ended}
+use Rattle.client_run.specs.Requests.{nonceOf, outstanding}
+use Rattle.client_run.specs.Run.{parametersOf}
+use Rattle.client_rules.specs.Decisions.{says, answersSegment, closingWord, restWord, endsUpload, lodges}
 use Rattle.client_history.specs.History.{Issue, Past, issueOf}
 use Rattle.client_history.specs.Invariant.{
   UploadIssue,
@@ -51,10 +51,10 @@ use Rattle.client_history.specs.Invariant.{
   UploadRun,
 }
 use Rattle.message.proofs.Verdicts.{by-test}
-use Rattle.client.proofs.Causes.{Answers, answers}
+use Rattle.client_rules.proofs.Causes.{Answers, answers}
 use Rattle.client_history.proofs.Course.{UploadAt}
 use Rattle.client_history.proofs.Issues.{got, got-in}
-use Rattle.client.proofs.Replies.{said, cancels}
+use Rattle.client_rules.proofs.Replies.{said, cancels}
 use Rattle.client_history.proofs.Requests.{
   form-uploadOpening,
   form-uploadTransfer,
@@ -80,7 +80,7 @@ unsent h (uploadOpens number time nonce q d) = uploadOpens number time nonce q d
 unsent h (sends number j a b q d) = absurd (omega arith)
 
 -- "lodged (segment N answered 000000)"
-lodged-last : (c : Client) (r : Fields) → lodges c r ≡ true
+lodged-last : (c : ClientRun) (r : Fields) → lodges c r ≡ true
     → Answers forms.SegmentTaken c r × (c .segment ≡ c .segments)
 unfolding lodges
 lodged-last c r h =
@@ -88,13 +88,13 @@ lodged-last c r h =
     (answers forms.SegmentTaken c r (a .0), eqb-true (c .segment) (c .segments) (a .1))
 
 module _ (Given : Fields → List ℕ → Fields → List ℕ → Type 0) where
-  open-for : {c k : Client} {l m : List Issue} → c .transaction ≡ k .transaction → c .number ≡ k .number
+  open-for : {c k : ClientRun} {l m : List Issue} → c .transaction ≡ k .transaction → c .number ≡ k .number
       → ((x : Issue) → In x l → In x m)
       → UploadOpen Given c l → UploadOpen Given k m
   open-for t n f o = record { got = got-in Given f (o .got); id = o .id ∙ t; number = o .number ∙ n }
 
   -- the outstanding request is one that the run may issue
-  outstanding-issue : (c : Client) (payload file : List ℕ) (time : ℕ) (nonce : List ℕ) (issues : List Issue)
+  outstanding-issue : (c : ClientRun) (payload file : List ℕ) (time : ℕ) (nonce : List ℕ) (issues : List Issue)
       → c .direction ≡ Upload
       → (s : Step) → c .step ≡ s → UploadAt s c → UploadStep Given s c issues
       → UploadIssue (c .subscriber) (c .segments) (c .transaction) (c .issued) payload
@@ -108,14 +108,14 @@ module _ (Given : Fields → List ℕ → Fields → List ℕ → Type 0) where
   outstanding-issue c payload file time nonce issues up step.Receipt e p k = absurd k
 
   -- an open upload that runs
-  record Ready (c : Client) (payload : List ℕ) (issues : List Issue) : Type 0 where
+  record Ready (c : ClientRun) (payload : List ℕ) (issues : List Issue) : Type 0 where
     direction : c .direction ≡ Upload
     running : c .stage ≡ stage.Running
     size : c .length ≡ length payload
     each : (x : Issue) → In x issues → UploadIssue (c .subscriber) (c .segments) (c .transaction) (c .issued) payload x
     opened : UploadOpen Given c issues
 
-  goes-on : (c : Client) (payload file : List ℕ) (issues : List Issue) (k repeats time : ℕ) (nonce : List ℕ)
+  goes-on : (c : ClientRun) (payload file : List ℕ) (issues : List Issue) (k repeats time : ℕ) (nonce : List ℕ)
       → Ready c payload issues
       → UploadRun Given (goOn k repeats c) payload (issueOf (goOn k repeats c) payload file time nonce ∷ issues)
   unfolding goOn
@@ -128,7 +128,7 @@ module _ (Given : Fields → List ℕ → Fields → List ℕ → Type 0) where
         stage = subst (λ (s : Stage). UploadStage Given s next (new ∷ issues)) (sym (r .running)) tt;
       }
     where
-      next : Client
+      next : ClientRun
       next = goOn k repeats c
 
       new : Issue
@@ -148,7 +148,7 @@ module _ (Given : Fields → List ℕ → Fields → List ℕ → Type 0) where
           (omega arith, omega arith) stepped)
       each x (there m) = higher (omega arith) (r .each x m)
 
-  module _ (c : Client) (payload file : List ℕ) (issues : List Issue) (u : UploadRun Given c payload issues)
+  module _ (c : ClientRun) (payload file : List ℕ) (issues : List Issue) (u : UploadRun Given c payload issues)
       (running : c .stage ≡ stage.Running) where
     ready : c .step ≡ step.Segment → Ready c payload issues
     ready e = record {
@@ -162,7 +162,7 @@ module _ (Given : Fields → List ℕ → Fields → List ℕ → Type 0) where
     -- ---- the next request
 
     module _ (time : ℕ) (nonce : List ℕ) where
-      abbrev Goes : Client → Type 0
+      abbrev Goes : ClientRun → Type 0
       Goes next = UploadRun Given next payload (issueOf next payload file time nonce ∷ issues)
 
       pub next-run : c .step ≡ step.Segment → (k repeats : ℕ) → Goes (goOn k repeats c)
@@ -178,7 +178,7 @@ module _ (Given : Fields → List ℕ → Fields → List ℕ → Type 0) where
         stage = subst (λ (s : Stage). UploadStage Given s next (new ∷ issues)) (sym running) tt;
       }
         where
-          next : Client
+          next : ClientRun
           next = repeated c
 
           new : Issue
@@ -309,7 +309,7 @@ module _ (Given : Fields → List ℕ → Fields → List ℕ → Type 0) where
         stage = tt;
       }
     where
-      next : Client
+      next : ClientRun
       next = begun (parametersOf Upload s first) (length payload)
 
       new : Issue

@@ -15,11 +15,11 @@ use Rattle.frame_table.specs.declared.table.Form.{Form}
 use Rattle.frame_table.specs.Forms as forms
 use Rattle.frame_table.specs.Names.{noFields, transaction}
 use Rattle.frame_table.specs.Table.{isRequestForm}
-use Rattle.frame.specs.declared.writer.Written.the-variants.{Length}
-use Rattle.frame.specs.Reader.{readReply}
-use Rattle.frame.specs.Row.{dataOf}
-use Rattle.frame.specs.Writer.{frameOf}
-use Rattle.frame.proofs.Written.{written-in-front}
+use Rattle.frame_writer.specs.declared.writer.Written.the-variants.{Length}
+use Rattle.frame_reader.specs.Reader.{readReply}
+use Rattle.frame_row.specs.Row.{dataOf}
+use Rattle.frame_writer.specs.Writer.{frameOf}
+use Rattle.frame_writer.proofs.Written.{written-in-front}
 use Rattle.frame.proofs.Theorems.{request-length}
 use Rattle.message.specs.Limits.{segmentBytes}
 use Rattle.message.specs.Segments.{segmentsOf, segmentOf, lastMarkOf}
@@ -34,24 +34,24 @@ use Rattle.message.proofs.Writable.{
   download-transfer-written,
   receipt-written,
 }
-use Rattle.client.specs.declared.run.Client.{Client}
-use Rattle.client.specs.declared.run.Decision.{Decision}
-use Rattle.client.specs.declared.run.Decision.the-variants.{Ignore, Opened, Advance, Return, Repeat, Close}
-use Rattle.client.specs.declared.run.Direction.{Direction}
-use Rattle.client.specs.declared.run.Direction.the-variants.{Upload, Download}
-use Rattle.client.specs.declared.run.Lengths.{Lengths}
-use Rattle.client.specs.declared.run.Ruling.the-variants.{Accept}
-use Rattle.client.specs.declared.run.RunParameters.{RunParameters}
-use Rattle.client.specs.declared.run.Step.the-variants as step
+use Rattle.client_run.specs.declared.run.ClientRun.{ClientRun}
+use Rattle.client_run.specs.declared.run.Decision.{Decision}
+use Rattle.client_run.specs.declared.run.Decision.the-variants.{Ignore, Opened, Advance, Return, Repeat, Close}
+use Rattle.client_run.specs.declared.run.Direction.{Direction}
+use Rattle.client_run.specs.declared.run.Direction.the-variants.{Upload, Download}
+use Rattle.client_run.specs.declared.run.Lengths.{Lengths}
+use Rattle.client_run.specs.declared.run.Ruling.the-variants.{Accept}
+use Rattle.client_run.specs.declared.run.RunParameters.{RunParameters}
+use Rattle.client_run.specs.declared.run.Step.the-variants as step
 use Rattle.client.specs.Calls.{isWritten, issued, taken, carryOut, ifAdmitted, beginCall, replyCall, noReplyCall}
-use Rattle.client.specs.Decisions.{onReply, onNoReply}
-use Rattle.client.specs.NextRun.{beginLength, begun, learned, fileWith}
-use Rattle.client.specs.Requests.{nonceOf, outstanding, outstandingData}
-use Rattle.client.specs.Rulings.{runRuling}
-use Rattle.client.specs.Run.{Lent, lengthsOf, nonceBytes, requestRoom}
-use Rattle.client.proofs.Accepted.{Serves, SameLength, Accepted, accepted, Begins, begins}
-use Rattle.client.proofs.Apart.{not-both, not-new-running}
-use Rattle.client.proofs.Causes.{Cause, by-reply, by-no-reply}
+use Rattle.client_run.specs.NextRun.{beginLength, begun, learned, fileWith}
+use Rattle.client_run.specs.Requests.{nonceOf, outstanding, outstandingData}
+use Rattle.client_run.specs.Run.{Lent, lengthsOf, nonceBytes, requestRoom}
+use Rattle.client_run.proofs.Apart.{not-both, not-new-running}
+use Rattle.client_rules.specs.Decisions.{onReply, onNoReply}
+use Rattle.client_rules.specs.Rulings.{runRuling}
+use Rattle.client_rules.proofs.Accepted.{Serves, SameLength, Accepted, accepted, Begins, begins}
+use Rattle.client_rules.proofs.Causes.{Cause, by-reply, by-no-reply}
 use Rattle.client_history.specs.Bounds.{
   UploadPlace,
   UploadCourse,
@@ -99,12 +99,12 @@ part-length p s first last = (simp (length-take, length-drop) (omega arith), sim
 -- ---- the request that a run has outstanding
 
 -- it is written in at most 303 bytes
-pub record Sent (c : Client) (l : Lent) : Type 0 where
+pub record Sent (c : ClientRun) (l : Lent) : Type 0 where
   pub size : ℕ
   pub small : size ≤ requestRoom
   pub written : isWritten c l ≡ Length size
 
-module _ (c : Client) (issues : List Issue) (b : Bounded c issues) (v : Wide (c .transaction)) (l : Lent)
+module _ (c : ClientRun) (issues : List Issue) (b : Bounded c issues) (v : Wide (c .transaction)) (l : Lent)
     (t : TypedLent l)
     (same : c .direction ≡ Upload → c .length ≡ length (l .payload)) (room : requestRoom ≤ length (l .request)) where
   abbrev q : ℕ
@@ -184,7 +184,7 @@ module _ (c : Client) (issues : List Issue) (b : Bounded c issues) (v : Wide (c 
 
 -- ---- the calls
 
-issued-unrefused : (c next : Client) (file : List ℕ) (l : Lent) → Sent next l → Unrefused (issued c next file l .answer)
+issued-unrefused : (c next : ClientRun) (file : List ℕ) (l : Lent) → Sent next l → Unrefused (issued c next file l .answer)
 unfolding issued
 issued-unrefused c next file l s = rw (s .written) (s .small)
 
@@ -192,12 +192,12 @@ room-served : (direction : Direction) (l : Lengths) → Serves direction l → r
 room-served Upload l s = s .2
 room-served Download l s = s .1
 
-payload-same : (direction : Direction) (c : Client) (l : Lengths) → SameLength direction c l → direction ≡ Upload
+payload-same : (direction : Direction) (c : ClientRun) (l : Lengths) → SameLength direction c l → direction ≡ Upload
     → c .length ≡ l .payload
 payload-same Upload c l s e = sym s
 payload-same Download c l s e = not-both e refl
 
-module _ (c : Client) (issues : List Issue) (b : Bounded c issues) (v : Wide (c .transaction)) (l : Lent)
+module _ (c : ClientRun) (issues : List Issue) (b : Bounded c issues) (v : Wide (c .transaction)) (l : Lent)
     (t : TypedLent l)
     (a : Accepted c (lengthsOf l)) (r : Fields) (d : List ℕ) (w : Wide (transaction r)) where
   next-sent : (decision : Decision) → Issuing decision → Cause c r (length d) decision
@@ -231,7 +231,7 @@ begin-same : (direction : Direction) (l : Lengths) → direction ≡ Upload → 
 begin-same Upload l e = refl
 begin-same Download l e = not-both e refl
 
-begin-sent : (c : Client) (params : RunParameters) (l : Lent) → TypedLent l → Begins c params (lengthsOf l)
+begin-sent : (c : ClientRun) (params : RunParameters) (l : Lent) → TypedLent l → Begins c params (lengthsOf l)
     → Sent (begunBy params l) l
 unfolding begun
 begin-sent c params l t b =
@@ -239,7 +239,7 @@ begin-sent c params l t b =
     (bounded-begun c params l (l .file) b) (omega arith, omega arith) l t
     (begin-same (params .direction) (lengthsOf l)) (room-served (params .direction) (lengthsOf l) (b .buffers))
 
-module _ (c : Client) (issues : List Issue) (v : Wide (c .transaction)) (s : Bounds c issues) where
+module _ (c : ClientRun) (issues : List Issue) (v : Wide (c .transaction)) (s : Bounds c issues) where
   run-unrefused : (decision : Decision) (r : Fields) (d : List ℕ) (l : Lent) → TypedLent l → Wide (transaction r)
       → Cause c r (length d) decision → runRuling (c .stage) c (lengthsOf l) ≡ Accept
       → Unrefused (ifAdmitted (runRuling (c .stage) c (lengthsOf l)) c l (carryOut decision c r d l) .answer)
@@ -249,7 +249,7 @@ module _ (c : Client) (issues : List Issue) (v : Wide (c .transaction)) (s : Bou
       a = accepted c (lengthsOf l) e
 
       at : Bounds c issues → Unrefused (carryOut decision c r d l .answer)
-      at (fresh n z) = not-new-running (ap (λ (x : Client). x .stage) n) (a .running)
+      at (fresh n z) = not-new-running (ap (λ (x : ClientRun). x .stage) n) (a .running)
       at (going b) = carried-unrefused c issues b v l t a r d w decision k
 
   call-unrefused : (e : Event) → Typed e → rulingOf e c ≡ Accept → Unrefused (callOf e c .answer)

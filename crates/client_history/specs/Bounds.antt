@@ -9,17 +9,17 @@ use Rattle.octets.specs.Bytes.{Bytes}
 use Rattle.frame_table.specs.Names.{subscriber, exchange}
 use Rattle.message.specs.Limits.{maxSegments, maxAttempts, fileBytes, subscribers}
 use Rattle.message.specs.Segments.{segmentsOf}
-use Rattle.client.specs.declared.run.Answer.{Answer}
-use Rattle.client.specs.declared.run.Answer.the-variants as answer
-use Rattle.client.specs.declared.run.Client.{Client}
-use Rattle.client.specs.declared.run.Direction.{Direction}
-use Rattle.client.specs.declared.run.Direction.the-variants.{Upload, Download}
-use Rattle.client.specs.declared.run.Ruling.{Ruling}
-use Rattle.client.specs.declared.run.RunParameters.{RunParameters}
-use Rattle.client.specs.declared.run.Step.{Step}
-use Rattle.client.specs.declared.run.Step.the-variants as step
-use Rattle.client.specs.Rulings.{isBegun, beginRuling, runRuling}
-use Rattle.client.specs.Run.{Lent, lengthsOf, nonceBytes, notBegun, maxFirstExchange, requestRoom}
+use Rattle.client_run.specs.declared.run.Answer.{Answer}
+use Rattle.client_run.specs.declared.run.Answer.the-variants as answer
+use Rattle.client_run.specs.declared.run.ClientRun.{ClientRun}
+use Rattle.client_run.specs.declared.run.Direction.{Direction}
+use Rattle.client_run.specs.declared.run.Direction.the-variants.{Upload, Download}
+use Rattle.client_run.specs.declared.run.Ruling.{Ruling}
+use Rattle.client_run.specs.declared.run.RunParameters.{RunParameters}
+use Rattle.client_run.specs.declared.run.Step.{Step}
+use Rattle.client_run.specs.declared.run.Step.the-variants as step
+use Rattle.client_run.specs.Run.{Lent, lengthsOf, nonceBytes, notBegun, maxFirstExchange, requestRoom}
+use Rattle.client_rules.specs.Rulings.{isBegun, beginRuling, runRuling}
 use Rattle.client_history.specs.History.{Issue, Event, Begin, Reply, NoReply}
 
 -- "An upload issues at most 6N + 1 requests, a download 6N + 6 (N is 0 while unknown)"
@@ -40,7 +40,7 @@ abbrev pub UploadPlace : Step → ℕ → Type 0
 UploadPlace at s = ((at ≡ step.Opening) × (s ≡ 0)) ⊎ ((at ≡ step.Segment) × (1 ≤ s))
 
 -- an upload: each return costs at most N requests more, and so does each repeat
-pub record UploadCourse (c : Client) (q : ℕ) : Type 0 where
+pub record UploadCourse (c : ClientRun) (q : ℕ) : Type 0 where
   pub direction : c .direction ≡ Upload
   pub some : 1 ≤ c .length
   pub most : c .length ≤ fileBytes
@@ -51,7 +51,7 @@ pub record UploadCourse (c : Client) (q : ℕ) : Type 0 where
   pub requests : q ≤ 1 + c .segment + c .repeats * c .segments
 
 -- a download's opening is outstanding
-pub record OpeningCourse (c : Client) (q : ℕ) : Type 0 where
+pub record OpeningCourse (c : ClientRun) (q : ℕ) : Type 0 where
   pub direction : c .direction ≡ Download
   pub at : c .step ≡ step.Opening
   pub unknown : c .segments ≡ 0
@@ -59,7 +59,7 @@ pub record OpeningCourse (c : Client) (q : ℕ) : Type 0 where
   pub requests : q ≤ 1 + c .repeats
 
 -- a download whose N is known
-pub record SegmentsKnown (c : Client) : Type 0 where
+pub record SegmentsKnown (c : ClientRun) : Type 0 where
   pub direction : c .direction ≡ Download
   pub some : 1 ≤ c .segments
   pub most : c .segments ≤ maxSegments
@@ -70,14 +70,14 @@ abbrev pub DownloadPlace : Step → ℕ → ℕ → Type 0
 DownloadPlace at s n = ((at ≡ step.Segment) × (s ≤ n)) ⊎ ((at ≡ step.Receipt) × (s ≡ n + 1))
 
 -- an open download: each return costs at most N + 1 requests more, and so does each repeat
-pub record DownloadCourse (c : Client) (q : ℕ) : Type 0 where
+pub record DownloadCourse (c : ClientRun) (q : ℕ) : Type 0 where
   pub known : SegmentsKnown c
   pub first : 1 ≤ c .segment
   pub next : c .segment ≤ c .held + 1
   pub place : DownloadPlace (c .step) (c .segment) (c .segments)
   pub requests : q ≤ c .segment + c .repeats * (c .segments + 1)
 
-pub data Course (c : Client) (q : ℕ) : Type 0 where
+pub data Course (c : ClientRun) (q : ℕ) : Type 0 where
   uploading : UploadCourse c q → Course c q
   opening : OpeningCourse c q → Course c q
   downloading : DownloadCourse c q → Course c q
@@ -85,7 +85,7 @@ pub data Course (c : Client) (q : ℕ) : Type 0 where
 -- ---- EITHER DIRECTION
 
 -- a begun run and the requests that it issued
-pub record Bounded (c : Client) (issues : List Issue) : Type 0 where
+pub record Bounded (c : ClientRun) (issues : List Issue) : Type 0 where
   pub stage : isBegun (c .stage) ≡ true
   pub low : 1 ≤ c .subscriber
   pub high : c .subscriber ≤ subscribers
@@ -96,7 +96,7 @@ pub record Bounded (c : Client) (issues : List Issue) : Type 0 where
   pub repeats : c .repeats ≤ maxAttempts
   pub course : Course c (length issues)
 
-pub data Bounds (c : Client) (issues : List Issue) : Type 0 where
+pub data Bounds (c : ClientRun) (issues : List Issue) : Type 0 where
   fresh : c ≡ notBegun → issues ≡ [] → Bounds c issues
   going : Bounded c issues → Bounds c issues
 
@@ -118,7 +118,7 @@ pub data AllTyped : List Event → Type 0 where
   typed-none : AllTyped []
   typed-more : {e : Event} {es : List Event} → Typed e → AllTyped es → AllTyped (e ∷ es)
 
-abbrev pub rulingOf : Event → Client → Ruling
+abbrev pub rulingOf : Event → ClientRun → Ruling
 rulingOf (Begin params l) c = beginRuling c params (lengthsOf l)
 rulingOf (Reply frame l) c = runRuling (c .stage) c (lengthsOf l)
 rulingOf (NoReply l) c = runRuling (c .stage) c (lengthsOf l)

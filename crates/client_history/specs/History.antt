@@ -8,18 +8,18 @@ use Rattle.frame_table.specs.declared.fields.Bits128.{Bits128}
 use Rattle.frame_table.specs.declared.fields.Fields.{Fields}
 use Rattle.frame_table.specs.Forms as forms
 use Rattle.frame_table.specs.Names.{exchange, segments, transaction, segment, form}
-use Rattle.frame.specs.Reader.{readReply}
-use Rattle.frame.specs.Row.{dataOf}
+use Rattle.frame_reader.specs.Reader.{readReply}
+use Rattle.frame_row.specs.Row.{dataOf}
 use Rattle.frame_table.specs.Table.{isReplyForm}
 use Rattle.message.specs.Limits.{fileBytes}
 use Rattle.message.specs.Segments.{segmentsOf, segmentOf}
-use Rattle.client.specs.declared.run.Answer.{Answer}
-use Rattle.client.specs.declared.run.Answer.the-variants as answer
-use Rattle.client.specs.declared.run.Client.{Client}
-use Rattle.client.specs.declared.run.RunParameters.{RunParameters}
+use Rattle.client_run.specs.declared.run.Answer.{Answer}
+use Rattle.client_run.specs.declared.run.Answer.the-variants as answer
+use Rattle.client_run.specs.declared.run.ClientRun.{ClientRun}
+use Rattle.client_run.specs.declared.run.RunParameters.{RunParameters}
 use Rattle.client.specs.Calls.{beginCall, replyCall, noReplyCall}
-use Rattle.client.specs.Requests.{outstanding, outstandingData}
-use Rattle.client.specs.Run.{Lent, ClientCall, notBegun, answerNumber}
+use Rattle.client_run.specs.Requests.{outstanding, outstandingData}
+use Rattle.client_run.specs.Run.{Lent, ClientCall, notBegun, answerNumber}
 
 -- A request issued: its fields, its data, and the run's file as it was issued
 pub record Issue : Type 0 where
@@ -36,7 +36,7 @@ pub data Event : Type 0 where
 
 -- The run, its payload and its file buffer as the calls so far left them, and the requests issued, the newest first
 pub record Past : Type 0 where
-  pub run : Client
+  pub run : ClientRun
   pub payload : List ℕ
   pub file : List ℕ
   pub issues : List Issue
@@ -46,16 +46,16 @@ abbrev pub start : Past
 start = record { run = notBegun; payload = []; file = []; issues = [] }
 
 -- "A run's file is its file buffer up to the end of the last segment held"
-abbrev pub heldOf : Client → List ℕ → List ℕ
+abbrev pub heldOf : ClientRun → List ℕ → List ℕ
 heldOf c file = take (c .length) file
 
 -- the issue of the request that the run has outstanding
-abbrev pub issueOf : Client → List ℕ → List ℕ → ℕ → List ℕ → Issue
+abbrev pub issueOf : ClientRun → List ℕ → List ℕ → ℕ → List ℕ → Issue
 issueOf c payload file time nonce =
     record { request = outstanding c time nonce; requestData = outstandingData c payload; file = heldOf c file }
 
 -- the run goes on with its request issued
-abbrev pub issuing : Client → List ℕ → List ℕ → ℕ → List ℕ → List Issue → Past
+abbrev pub issuing : ClientRun → List ℕ → List ℕ → ℕ → List ℕ → List Issue → Past
 issuing c payload file time nonce issues =
     record { run = c; payload = payload; file = file; issues = issueOf c payload file time nonce ∷ issues }
 
@@ -67,7 +67,7 @@ left (answer.Closed w) k l p = record { run = k .run; payload = l .payload; file
 left (answer.Refused r) k l p = p
 
 -- the call that an event is
-abbrev pub callOf : Event → Client → ClientCall
+abbrev pub callOf : Event → ClientRun → ClientCall
 callOf (Begin params l) c = beginCall c params l
 callOf (Reply frame l) c = replyCall c frame l
 callOf (NoReply l) c = noReplyCall c l

@@ -16,17 +16,17 @@ use Rattle.message.specs.Codes.{codeField}
 use Rattle.message.specs.Limits.{segmentBytes, fileBytes, transferPhase}
 use Rattle.message.specs.Requests.{uploadOpening, downloadOpening, uploadTransfer, downloadTransfer, receipt}
 use Rattle.message.specs.Segments.{segmentsOf, segmentOf, lastMarkOf}
-use Rattle.client.specs.declared.run.Client.{Client}
-use Rattle.client.specs.declared.run.Direction.the-variants.{Upload, Download}
-use Rattle.client.specs.declared.run.Stage.{Stage}
-use Rattle.client.specs.declared.run.Stage.the-variants as stage
-use Rattle.client.specs.declared.run.Step.{Step}
-use Rattle.client.specs.declared.run.Step.the-variants as step
-use Rattle.client.specs.declared.run.Word.{Word}
-use Rattle.client.specs.declared.run.Word.the-variants as word
-use Rattle.client.specs.Requests.{outstanding, outstandingData}
-use Rattle.client.specs.Rulings.{isBegun}
-use Rattle.client.specs.Run.{notBegun}
+use Rattle.client_run.specs.declared.run.ClientRun.{ClientRun}
+use Rattle.client_run.specs.declared.run.Direction.the-variants.{Upload, Download}
+use Rattle.client_run.specs.declared.run.Stage.{Stage}
+use Rattle.client_run.specs.declared.run.Stage.the-variants as stage
+use Rattle.client_run.specs.declared.run.Step.{Step}
+use Rattle.client_run.specs.declared.run.Step.the-variants as step
+use Rattle.client_run.specs.declared.run.Word.{Word}
+use Rattle.client_run.specs.declared.run.Word.the-variants as word
+use Rattle.client_run.specs.Requests.{outstanding, outstandingData}
+use Rattle.client_run.specs.Run.{notBegun}
+use Rattle.client_rules.specs.Rulings.{isBegun}
 use Rattle.client_history.specs.Bounds.{Bounded}
 use Rattle.client_history.specs.History.{Issue, Past, issueOf}
 
@@ -142,32 +142,32 @@ module _ (Given : Fields → List ℕ → Fields → List ℕ → Type 0) where
   -- ---- UPLOAD
 
   -- "the order number opened with its transaction ID"
-  pub record UploadOpen (c : Client) (issues : List Issue) : Type 0 where
+  pub record UploadOpen (c : ClientRun) (issues : List Issue) : Type 0 where
     pub got : Got issues forms.UploadOpening forms.UploadOpened code.Ok
     pub id : transaction (got .reply) ≡ c .transaction
     pub number : orderNumber (got .reply) ≡ c .number
 
-  abbrev pub UploadStep : Step → Client → List Issue → Type 0
+  abbrev pub UploadStep : Step → ClientRun → List Issue → Type 0
   UploadStep step.Opening c issues = c .issued ≡ 0
   UploadStep step.Segment c issues = UploadOpen c issues
   UploadStep step.Receipt c issues = ⊥
 
   -- "lodged (segment N answered 000000)"
-  pub record LastTaken (c : Client) (issues : List Issue) : Type 0 where
+  pub record LastTaken (c : ClientRun) (issues : List Issue) : Type 0 where
     pub got : Got issues forms.UploadTransfer forms.SegmentTaken code.Ok
     pub last : segment (got .issue .request) ≡ c .segments
     pub id : transaction (got .issue .request) ≡ c .transaction
     pub opened : UploadOpen c issues
 
   -- "ended by a reply 01 03 0D of phase 2 with 091102, 091104 or 011101"
-  pub record Cancelled (c : Client) (issues : List Issue) : Type 0 where
+  pub record Cancelled (c : ClientRun) (issues : List Issue) : Type 0 where
     pub why : ReturnCode
     pub one : (why ≡ code.TransactionAbort) ⊎ ((why ≡ code.SegmentNumberExceeded) ⊎ (why ≡ code.SegmentNumberUnderrun))
     pub got : Got issues forms.UploadTransfer forms.Refusal why
     pub phase-2 : phase (got .reply) ≡ transferPhase
     pub id : transaction (got .issue .request) ≡ c .transaction
 
-  abbrev pub UploadWord : Word → Client → List Issue → Type 0
+  abbrev pub UploadWord : Word → ClientRun → List Issue → Type 0
   UploadWord word.Lodged c issues = LastTaken c issues
   UploadWord word.NotLodged c issues = (c .issued < c .segments) ⊎ Cancelled c issues
   UploadWord word.Unclear c issues = c .segments ≤ c .issued
@@ -175,12 +175,12 @@ module _ (Given : Fields → List ℕ → Fields → List ℕ → Type 0) where
   UploadWord word.HeldUnconfirmed c issues = ⊥
   UploadWord word.NotFetched c issues = ⊥
 
-  abbrev pub UploadStage : Stage → Client → List Issue → Type 0
+  abbrev pub UploadStage : Stage → ClientRun → List Issue → Type 0
   UploadStage stage.NotBegun c issues = ⊥
   UploadStage stage.Running c issues = Unit {0}
   UploadStage (stage.Ended w) c issues = UploadWord w c issues
 
-  pub record UploadRun (c : Client) (payload : List ℕ) (issues : List Issue) : Type 0 where
+  pub record UploadRun (c : ClientRun) (payload : List ℕ) (issues : List Issue) : Type 0 where
     pub direction : c .direction ≡ Upload
     pub size : c .length ≡ length payload
     pub each : (x : Issue) → In x issues
@@ -204,23 +204,23 @@ module _ (Given : Fields → List ℕ → Fields → List ℕ → Type 0) where
     pub bytes : take size file ≡ take (segmentBytes * held) f
 
   module _ (fileAt : Bits128 → List ℕ) where
-    abbrev pub FileHeld : Client → List ℕ → List Issue → Type 0
+    abbrev pub FileHeld : ClientRun → List ℕ → List Issue → Type 0
     FileHeld c file issues =
         HeldFile (fileAt (c .transaction)) (c .transaction) (c .segments) (c .held) (c .length) file issues
 
-    abbrev pub DownloadStep : Step → Client → List ℕ → List Issue → Type 0
+    abbrev pub DownloadStep : Step → ClientRun → List ℕ → List Issue → Type 0
     DownloadStep step.Opening c file issues = (c .held ≡ 0) × (c .length ≡ 0) × (c .receipted ≡ false)
     DownloadStep step.Segment c file issues = FileHeld c file issues
     DownloadStep step.Receipt c file issues = FileHeld c file issues × (c .receipted ≡ true)
 
     -- "fetched (011000)"
-    pub record Confirmed (c : Client) (file : List ℕ) (issues : List Issue) : Type 0 where
+    pub record Confirmed (c : ClientRun) (file : List ℕ) (issues : List Issue) : Type 0 where
       pub held : FileHeld c file issues
       pub whole : c .held ≡ c .segments
       pub got : Got issues forms.Receipt forms.ReceiptAnswered code.DownloadPostprocessDone
       pub id : transaction (got .issue .request) ≡ c .transaction
 
-    abbrev pub DownloadWord : Word → Client → List ℕ → List Issue → Type 0
+    abbrev pub DownloadWord : Word → ClientRun → List ℕ → List Issue → Type 0
     DownloadWord word.Lodged c file issues = ⊥
     DownloadWord word.NotLodged c file issues = ⊥
     DownloadWord word.Unclear c file issues = ⊥
@@ -228,12 +228,12 @@ module _ (Given : Fields → List ℕ → Fields → List ℕ → Type 0) where
     DownloadWord word.HeldUnconfirmed c file issues = c .receipted ≡ true
     DownloadWord word.NotFetched c file issues = c .receipted ≡ false
 
-    abbrev pub DownloadStage : Stage → Client → List ℕ → List Issue → Type 0
+    abbrev pub DownloadStage : Stage → ClientRun → List ℕ → List Issue → Type 0
     DownloadStage stage.NotBegun c file issues = ⊥
     DownloadStage stage.Running c file issues = Unit {0}
     DownloadStage (stage.Ended w) c file issues = DownloadWord w c file issues
 
-    pub record DownloadRun (c : Client) (file : List ℕ) (issues : List Issue) : Type 0 where
+    pub record DownloadRun (c : ClientRun) (file : List ℕ) (issues : List Issue) : Type 0 where
       pub direction : c .direction ≡ Download
       pub each : (x : Issue) → In x issues
           → DownloadIssue (c .subscriber) (c .segments) (c .transaction) (c .held) (c .receipted)

@@ -13,11 +13,11 @@ use Rattle.bank_state.specs.Search.{isBooked}
 use Rattle.bank_state.specs.State.{placeAt}
 use Rattle.bank_state.specs.Store.{partAt, fileOf}
 use Rattle.bank_rows.specs.State.{bankOf}
-use Rattle.bank.specs.Lent.{Lent}
-use Rattle.client.specs.declared.run.Client.{Client}
-use Rattle.client.specs.declared.run.Stage.{Stage}
-use Rattle.client.specs.declared.run.Stage.the-variants as stage
-use Rattle.client.specs.Rulings.{isBegun}
+use Rattle.bank_steps.specs.Lent.{Lent}
+use Rattle.client_run.specs.declared.run.ClientRun.{ClientRun}
+use Rattle.client_run.specs.declared.run.Stage.{Stage}
+use Rattle.client_run.specs.declared.run.Stage.the-variants as stage
+use Rattle.client_rules.specs.Rulings.{isBegun}
 use Rattle.print.specs.Text.{Put, space, newline, column, columnRoom}
 use Rattle.print.specs.Book.{orderColumns}
 use Rattle.print.proofs.Digits.{decimal-most, column-most}
@@ -127,7 +127,7 @@ stage-most stage.NotBegun x = omega arith
 stage-most stage.Running x = omega arith
 stage-most (stage.Ended w) x = closing-most w x
 
-word-most : (n : ℕ) (c : Client) → length (wordRow n c) ≤ rowRoom
+word-most : (n : ℕ) (c : ClientRun) → length (wordRow n c) ≤ rowRoom
 unfolding wordRow
 word-most n c =
     let text = stageText (c .stage) (c .number) in
@@ -142,5 +142,5 @@ file-fits store i n = simp (length-take) (omega arith)
 pub row-most : (t : Table) (u : UnitState) (m : Lent) (files : List ℕ) (i : ℕ) → length (rowAt t u m files i) ≤ rowRoom
 row-most Book u m files i = order-most (placeAt (bankOf (m .rows)) i) _ (file-fits _ _ _)
 row-most Mailboxes u m files i = file-most (i + 1) _ (file-fits _ _ _)
-row-most Words u m files i = word-most (i + 1) (runAt (u .runs) i .client)
+row-most Words u m files i = word-most (i + 1) (runAt (u .runs) i .client .run)
 row-most Files u m files i = file-most (i + 1) _ (file-fits _ _ _)

@@ -11,13 +11,13 @@ use Rattle.bank_state.specs.Search.{isBooked}
 use Rattle.bank_state.specs.State.{placeAt}
 use Rattle.bank_state.specs.Store.{fileOf}
 use Rattle.bank_rows.specs.State.{bankOf}
-use Rattle.bank.specs.Lent.{Lent}
-use Rattle.client.specs.declared.run.Client.{Client}
-use Rattle.client.specs.declared.run.Direction.{Direction}
-use Rattle.client.specs.declared.run.Direction.the-variants.{Upload, Download}
-use Rattle.client.specs.declared.run.Stage.{Stage}
-use Rattle.client.specs.declared.run.Stage.the-variants as stage
-use Rattle.client.specs.Rulings.{isBegun}
+use Rattle.bank_steps.specs.Lent.{Lent}
+use Rattle.client_run.specs.declared.run.ClientRun.{ClientRun}
+use Rattle.client_run.specs.declared.run.Direction.{Direction}
+use Rattle.client_run.specs.declared.run.Direction.the-variants.{Upload, Download}
+use Rattle.client_run.specs.declared.run.Stage.{Stage}
+use Rattle.client_run.specs.declared.run.Stage.the-variants as stage
+use Rattle.client_rules.specs.Rulings.{isBegun}
 use Rattle.print.specs.Text.{ascii, space, newline, column, rowsTo}
 use Rattle.print.specs.Book.{bookHeader, bookHeaderRoom, orderColumns, orderColumnsRoom}
 use Rattle.print.specs.Closing.{closingText}
@@ -53,11 +53,11 @@ stageText stage.NotBegun x = []
 stageText stage.Running x = ascii "open"
 stageText (stage.Ended w) x = closingText w x
 
-unfoldable pub wordRow : ℕ → Client → List ℕ
+unfoldable pub wordRow : ℕ → ClientRun → List ℕ
 wordRow n c = cond (isBegun (c .stage)) (column n space ++ (stageText (c .stage) (c .number) ++ (newline ∷ []))) []
 
 -- "its file buffer up to the end of the last segment held"; an upload holds none
-abbrev pub heldBy : Direction → Client → ℕ
+abbrev pub heldBy : Direction → ClientRun → ℕ
 heldBy Upload c = 0
 heldBy Download c = c .length
 
@@ -68,9 +68,9 @@ rowAt Book u m files i =
     let p = placeAt (bankOf (m .rows)) i in
     orderRow p (fileOf (m .orders) i (p .length))
 rowAt Mailboxes u m files i = fileRow (i + 1) (fileOf (m .mailboxes) i (getD (bankOf (m .rows) .files) i 0))
-rowAt Words u m files i = wordRow (i + 1) (runAt (u .runs) i .client)
+rowAt Words u m files i = wordRow (i + 1) (runAt (u .runs) i .client .run)
 rowAt Files u m files i =
-    let c = runAt (u .runs) i .client in
+    let c = runAt (u .runs) i .client .run in
     fileRow (i + 1) (fileOf files i (heldBy (c .direction) c))
 
 -- how many rows a table has at most: one for each place, mailbox or run

@@ -6,10 +6,10 @@ use bank_state::limits::PLACE_COUNT;
 use bank_state::search::is_booked;
 use bank_state::state::Place;
 use bank_state::store::file_of;
-use client::rulings::is_begun;
-use client::run::Client;
-use client::run::Direction;
-use client::run::Stage;
+use client_rules::rulings::is_begun;
+use client_run::run::ClientRun;
+use client_run::run::Direction;
+use client_run::run::Stage;
 use message::limits::FILE_BYTES;
 use print::book::BOOK_HEADER_ROOM;
 use print::book::ORDER_COLUMNS_ROOM;
@@ -26,7 +26,7 @@ ghost use Prim.Native.Nat.{_+_, _*_, _≤_, _<_};
 ghost use lib.ListN.{length};
 ghost use Rattle.message.specs.Limits.{fileBytes};
 ghost use Rattle.bank_rows.specs.Layout.{stateSize};
-ghost use Rattle.bank.specs.Lent.{lent};
+ghost use Rattle.bank_steps.specs.Lent.{lent};
 ghost use Rattle.print.specs.Text.{Put, rowsTo, printed, printedCount};
 ghost use Rattle.print.specs.Closing.{closingRoom};
 ghost use Rattle.driver_print.specs.Tables.{headerText, contentText, orderRow, fileRow, stageText, wordRow};
@@ -111,7 +111,7 @@ fn put_stage(output: &mut [u8], at: usize, stage: Stage, number: u64) -> usize
 }
 
 // Writes the row of a run that has begun.
-fn put_word(output: &mut [u8], at: usize, n: u64, c: Client) -> usize
+fn put_word(output: &mut [u8], at: usize, n: u64, c: ClientRun) -> usize
     requires { ⌜ at + rowRoom ≤ length (now output) ⌝ }
     ensures { λ r. ⌜ Put (now (output .entry)) at (wordRow n c) (now (output .exit)) r ⌝ }
 {
@@ -125,7 +125,7 @@ fn put_word(output: &mut [u8], at: usize, n: u64, c: Client) -> usize
 }
 
 // How many bytes of its file a run holds.
-fn held_by(c: Client) -> u64
+fn held_by(c: ClientRun) -> u64
     ensures { λ r. ⌜ r ≡ heldBy (c .direction) c ⌝ }
 {
     let direction = c.direction;
@@ -156,15 +156,15 @@ fn put_row(
 {
     let n = i as u64 + 1;
     let run = u.runs[i];
-    let client = run.client;
+    let c = run.client.run;
     match t {
         Table::Book => {
             let p = place_at(rows, i);
             put_order(output, at, p, file_of(orders, i, p.length))
         }
         Table::Mailboxes => put_file(output, at, n, file_of(mailboxes, i, file_length(rows, i))),
-        Table::Words => put_word(output, at, n, client),
-        Table::Files => put_file(output, at, n, file_of(files, i, held_by(client))),
+        Table::Words => put_word(output, at, n, c),
+        Table::Files => put_file(output, at, n, file_of(files, i, held_by(c))),
     }
 }
 

@@ -6,7 +6,7 @@ use mathlib.Core.List.{List, [], _∷_}
 use lib.ListN.{replicate}
 use Rattle.bank_state.specs.Limits.{storeBytes, replyRoom}
 use Rattle.bank_rows.specs.Layout.{stateSize}
-use Rattle.bank.specs.Lent.{lent}
+use Rattle.bank_steps.specs.Lent.{lent}
 use Rattle.unit.specs.declared.state.UnitState.{UnitState}
 use Rattle.unit.specs.Records.{callOf, isCall}
 use Rattle.unit.specs.State.{State, fresh, roomsBytes, memory, stateOf}

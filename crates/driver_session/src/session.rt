@@ -22,7 +22,7 @@ use unit::state::fresh;
 ghost use mathlib.Core.Path.{_≡_};
 ghost use lib.ListN.{length};
 ghost use Rattle.bank_rows.specs.Layout.{stateSize};
-ghost use Rattle.bank.specs.Lent.{lent};
+ghost use Rattle.bank_steps.specs.Lent.{lent};
 ghost use Rattle.unit.specs.State.{fresh, memory, stateOf};
 ghost use Rattle.driver_session.specs.Session.{Calls, Session};
 

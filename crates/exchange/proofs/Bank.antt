@@ -9,14 +9,14 @@ use lib.Dec.{eqb}
 use lib.ListN.{take, getD-replicate}
 use borrow.Author.Tests.{eqb-true, eqb-false}
 use Rattle.frame_table.specs.declared.fields.Fields.{Fields}
-use Rattle.frame.specs.declared.writer.Written.{Written}
-use Rattle.frame.specs.declared.writer.Written.the-variants as written
+use Rattle.frame_writer.specs.declared.writer.Written.{Written}
+use Rattle.frame_writer.specs.declared.writer.Written.the-variants as written
 use Rattle.octets.specs.Bytes.{number}
 use Rattle.frame_table.specs.Names.{subscriber, transaction, returnCode, form}
-use Rattle.frame.specs.Reader.{readRequest, readReply}
-use Rattle.frame.specs.Row.{dataOf}
+use Rattle.frame_reader.specs.Reader.{readRequest, readReply}
+use Rattle.frame_row.specs.Row.{dataOf}
 use Rattle.frame_table.specs.Table.{isReplyForm}
-use Rattle.frame.specs.Writer.{writeAnswer, writeBuffer}
+use Rattle.frame_writer.specs.Writer.{writeAnswer, writeBuffer}
 use Rattle.frame.proofs.RoundTrip.{Sized}
 use Rattle.message.specs.declared.codes.ReturnCode.the-variants as code
 use Rattle.message.specs.Codes.{codeField}

@@ -6,28 +6,29 @@ use mathlib.Core.Path.{_≡_, refl, ap, _∙_}
 use native.Mathlib.Omega.{arith}
 use lib.ListN.{length, take}
 use Rattle.frame_table.specs.declared.fields.Fields.{Fields}
-use Rattle.frame.specs.declared.writer.Written.{Written}
-use Rattle.frame.specs.declared.writer.Written.the-variants as written
+use Rattle.frame_writer.specs.declared.writer.Written.{Written}
+use Rattle.frame_writer.specs.declared.writer.Written.the-variants as written
 use Rattle.frame_table.specs.Names.{form}
-use Rattle.frame.specs.Reader.{readRequest, readReply}
-use Rattle.frame.specs.Row.{dataOf}
+use Rattle.frame_reader.specs.Reader.{readRequest, readReply}
+use Rattle.frame_row.specs.Row.{dataOf}
 use Rattle.frame_table.specs.Table.{isRequestForm, rowFits, findForm, formOf}
 use Rattle.frame.proofs.RoundTrip.{Sized}
 use Rattle.frame.proofs.Theorems.{data-read, request-read}
 use Rattle.message.specs.Requests.{uploadOpening, downloadOpening, uploadTransfer, downloadTransfer, receipt}
-use Rattle.client.specs.declared.run.Answer.the-variants as answer
-use Rattle.client.specs.declared.run.Client.{Client}
-use Rattle.client.specs.declared.run.Decision.{Decision}
-use Rattle.client.specs.declared.run.Decision.the-variants.{Ignore, Opened, Advance, Return, Repeat, Close}
-use Rattle.client.specs.declared.run.Direction.{Direction}
-use Rattle.client.specs.declared.run.Direction.the-variants.{Upload, Download}
-use Rattle.client.specs.declared.run.Ruling.{Ruling}
-use Rattle.client.specs.declared.run.Ruling.the-variants.{Refuse, Accept}
-use Rattle.client.specs.declared.run.RunParameters.{RunParameters}
-use Rattle.client.specs.declared.run.Step.{Step}
-use Rattle.client.specs.declared.run.Step.the-variants as step
+use Rattle.client_run.specs.declared.run.Answer.the-variants as answer
+use Rattle.client_run.specs.declared.run.ClientRun.{ClientRun}
+use Rattle.client_run.specs.declared.run.Decision.{Decision}
+use Rattle.client_run.specs.declared.run.Decision.the-variants.{Ignore, Opened, Advance, Return, Repeat, Close}
+use Rattle.client_run.specs.declared.run.Direction.{Direction}
+use Rattle.client_run.specs.declared.run.Direction.the-variants.{Upload, Download}
+use Rattle.client_run.specs.declared.run.Ruling.{Ruling}
+use Rattle.client_run.specs.declared.run.Ruling.the-variants.{Refuse, Accept}
+use Rattle.client_run.specs.declared.run.RunParameters.{RunParameters}
+use Rattle.client_run.specs.declared.run.Step.{Step}
+use Rattle.client_run.specs.declared.run.Step.the-variants as step
 use Rattle.client.specs.Calls.{
   ifWritten,
+  callOf,
   outcomeOf,
   isWritten,
   requestWith,
@@ -40,18 +41,18 @@ use Rattle.client.specs.Calls.{
   replyCall,
   noReplyCall,
 }
-use Rattle.client.specs.Decisions.{onReply, onNoReply}
-use Rattle.client.specs.NextRun.{beginLength, begun, goOn, repeated, learned, holding, fileWith}
-use Rattle.client.specs.Requests.{uploadRequest, downloadRequest, requestBy, outstanding, outstandingData}
-use Rattle.client.specs.Rulings.{beginRuling, runRuling}
-use Rattle.client.specs.Run.{Lent, ClientCall, lengthsOf, callOf}
+use Rattle.client_run.specs.NextRun.{beginLength, begun, goOn, repeated, learned, holding, fileWith}
+use Rattle.client_run.specs.Requests.{uploadRequest, downloadRequest, requestBy, outstanding, outstandingData}
+use Rattle.client_run.specs.Run.{Lent, ClientCall, lengthsOf}
+use Rattle.client_rules.specs.Decisions.{onReply, onNoReply}
+use Rattle.client_rules.specs.Rulings.{beginRuling, runRuling}
 
 -- ---- the request that a run has outstanding
 
 abbrev IsRequest : Fields → Type 0
 IsRequest f = Sized f × (isRequestForm (form f) ≡ true)
 
-pub outstanding-request : (c : Client) (time : ℕ) (nonce : List ℕ) → IsRequest (outstanding c time nonce)
+pub outstanding-request : (c : ClientRun) (time : ℕ) (nonce : List ℕ) → IsRequest (outstanding c time nonce)
 unfolding outstanding uploadOpening uploadTransfer downloadOpening downloadTransfer receipt formOf findForm rowFits
 outstanding-request c time nonce = go (c .direction)
   where
@@ -77,7 +78,7 @@ pub record Issued (k : ClientCall) (l : Lent) (n : ℕ) : Type 0 where
 abbrev Issues : ClientCall → Lent → Type 0
 Issues k l = (n : ℕ) → k .answer ≡ answer.Request n → Issued k l n
 
-issued-issues : (c next : Client) (file : List ℕ) (l : Lent) → Issues (issued c next file l) l
+issued-issues : (c next : ClientRun) (file : List ℕ) (l : Lent) → Issues (issued c next file l) l
 unfolding issued
 issued-issues c next file l n = go (isWritten next l) refl
   where
@@ -86,7 +87,7 @@ issued-issues c next file l n = go (isWritten next l) refl
     go (written.Length m) e h = record { answer = cc; buffer = refl }
     go written.Refused e h = absurd (let z : _≡_ {A = ℕ} 0 1 = cc in omega arith)
 
-module _ (c : Client) (r : Fields) (d : List ℕ) (l : Lent) where
+module _ (c : ClientRun) (r : Fields) (d : List ℕ) (l : Lent) where
   carried-issues : (decision : Decision) → Issues (carryOut decision c r d l) l
   unfolding taken
   carried-issues Ignore n h = absurd (let z : _≡_ {A = ℕ} 0 1 = cc in omega arith)
@@ -102,7 +103,7 @@ module _ (c : Client) (r : Fields) (d : List ℕ) (l : Lent) where
   ruled-issues (Refuse x) decision n h = absurd (let z : _≡_ {A = ℕ} 0 1 = cc in omega arith)
   ruled-issues Accept decision n h = carried-issues decision n h
 
-module _ (c : Client) (l : Lent) where
+module _ (c : ClientRun) (l : Lent) where
   pub begin-issues : (params : RunParameters) → Issues (beginCall c params l) l
   unfolding beginCall
   begin-issues params = go (beginRuling c params (lengthsOf l))

@@ -12,8 +12,8 @@ use Rattle.frame_table.specs.declared.fields.Fields.{Fields}
 use Rattle.frame_table.specs.declared.table.Form.{Form}
 use Rattle.frame_table.specs.Forms as forms
 use Rattle.frame_table.specs.Names.{transaction, segments, form}
-use Rattle.frame.specs.Reader.{readRequest}
-use Rattle.frame.specs.Row.{dataOf}
+use Rattle.frame_reader.specs.Reader.{readRequest}
+use Rattle.frame_row.specs.Row.{dataOf}
 use Rattle.octets.proofs.Tests.{never}
 use Rattle.bank_verdicts.specs.declared.verdict.Action.the-variants as action
 use Rattle.bank_verdicts.specs.declared.verdict.DownloadAction.the-variants as down
@@ -23,12 +23,12 @@ use Rattle.bank_history.specs.History.{Stands, older}
 use Rattle.bank_history.specs.History as bank
 use Rattle.bank_history.specs.Sound.{AllSound}
 use Rattle.bank_history.proofs.Theorems.{upload-opened, download-opened}
-use Rattle.client.specs.declared.run.Answer.{Answer}
-use Rattle.client.specs.declared.run.Answer.the-variants as answer
-use Rattle.client.specs.declared.run.Client.{Client}
-use Rattle.client.specs.declared.run.Step.{Step}
-use Rattle.client.specs.declared.run.Step.the-variants as step
-use Rattle.client.specs.Run.{Lent, ClientCall, answerNumber}
+use Rattle.client_run.specs.declared.run.Answer.{Answer}
+use Rattle.client_run.specs.declared.run.Answer.the-variants as answer
+use Rattle.client_run.specs.declared.run.ClientRun.{ClientRun}
+use Rattle.client_run.specs.declared.run.Step.{Step}
+use Rattle.client_run.specs.declared.run.Step.the-variants as step
+use Rattle.client_run.specs.Run.{Lent, ClientCall, answerNumber}
 use Rattle.client_history.specs.History.{Event, Past, issueOf, left, callOf, lentTo, Fair}
 use Rattle.client_history.specs.History as history
 use Rattle.client_history.specs.Invariant.{isOpen, UploadOpen, UploadStep, HeldFile, DownloadStep, Invariant, not-begun, upload, download}
@@ -98,7 +98,7 @@ pub record OpenedBy (x : Form) (h : List bank.Exchange) (t : Bits128) (issues : 
   pub kind : form (issue .request) ≡ x
 
 module _ {h : List bank.Exchange} (sound : AllSound h) where
-  pub opened-upload : {c : Client} {issues : List history.Issue} → UploadOpen (Gave h) c issues →
+  pub opened-upload : {c : ClientRun} {issues : List history.Issue} → UploadOpen (Gave h) c issues →
       OpenedBy forms.UploadOpening h (c .transaction) issues
   opened-upload {c} o =
       let a = o .got .given in

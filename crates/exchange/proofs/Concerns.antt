@@ -10,7 +10,7 @@ use lib.ListN.{length}
 use Rattle.frame_table.specs.declared.fields.Bits128.{Bits128}
 use Rattle.frame_table.specs.declared.table.Form.{Form}
 use Rattle.frame_table.specs.Names.{exchange}
-use Rattle.frame.specs.Reader.{readRequest}
+use Rattle.frame_reader.specs.Reader.{readRequest}
 use Rattle.octets.proofs.Tests.{never}
 use Rattle.message.specs.Verdicts.{decide}
 use Rattle.bank_state.specs.State.{Bank}
@@ -24,14 +24,14 @@ use Rattle.bank_history.specs.History.{Past, File, placed}
 use Rattle.bank_history.specs.History as bank
 use Rattle.bank_history.specs.Transactions.{UploadUnlessIdle, DownloadUnlessIdle}
 use Rattle.bank_history.proofs.Liveness.{upload-stays, download-stays}
-use Rattle.client.specs.declared.run.Answer.{Answer}
-use Rattle.client.specs.declared.run.Answer.the-variants as answer
-use Rattle.client.specs.declared.run.Client.{Client}
-use Rattle.client.specs.declared.run.Direction.{Direction}
-use Rattle.client.specs.declared.run.Direction.the-variants.{Upload, Download}
-use Rattle.client.specs.declared.run.RunParameters.{RunParameters}
+use Rattle.client_run.specs.declared.run.Answer.{Answer}
+use Rattle.client_run.specs.declared.run.Answer.the-variants as answer
+use Rattle.client_run.specs.declared.run.ClientRun.{ClientRun}
+use Rattle.client_run.specs.declared.run.Direction.{Direction}
+use Rattle.client_run.specs.declared.run.Direction.the-variants.{Upload, Download}
+use Rattle.client_run.specs.declared.run.RunParameters.{RunParameters}
 use Rattle.client.specs.Calls.{beginCall, replyCall, noReplyCall}
-use Rattle.client.specs.Run.{Lent, ClientCall, answerNumber}
+use Rattle.client_run.specs.Run.{Lent, ClientCall, answerNumber}
 use Rattle.exchange.specs.Course.{
   Call,
   frameArrives,
@@ -83,9 +83,9 @@ pub data Concern (s : Course) (v : Parts s) (i : ℕ) : Call → Type 0 where
       exec (frameArrives w a) s .issued ≡ s .issued →
       exec (frameArrives w a) s .arrived ≡ s .arrived →
       Concern s v i (frameArrives w a)
-  own-begin : {c : Client} {params : RunParameters} {l : Lent} → c ≡ s .runs i →
+  own-begin : {c : ClientRun} {params : RunParameters} {l : Lent} → c ≡ s .runs i →
       callNumber (begins i c params l) ≡ 0 → Concern s v i (begins i c params l)
-  own-reply : {c : Client} {reply : List ℕ} {l : Lent} → callNumber (replyArrives i c reply l) ≡ 0 → Left i c l s →
+  own-reply : {c : ClientRun} {reply : List ℕ} {l : Lent} → callNumber (replyArrives i c reply l) ≡ 0 → Left i c l s →
       GivenFor i reply s → ((a : Arrival) → In a (s .arrived) → a .run ≡ i → a .reply ≡ reply → ⊥) →
       Concern s v i (replyArrives i c reply l)
 
@@ -222,7 +222,7 @@ module _ (s : Course) (v : Parts s) (copies : Copied s) (numbers : OneExchangeNu
       arrivals b (there m) r = inl m
 
   -- a reply that reaches the run: to its own request, or to another run's
-  reply-concern : (c : Client) (reply : List ℕ) (l : Lent) → callNumber (replyArrives i c reply l) ≡ 0 →
+  reply-concern : (c : ClientRun) (reply : List ℕ) (l : Lent) → callNumber (replyArrives i c reply l) ≡ 0 →
       Premise (replyArrives i c reply l) s → Turn i (replyArrives i c reply l) s → Concern s v i (replyArrives i c reply l)
   reply-concern c reply l done (left, (e, m, z, (j, copy))) fresh = at (ℕ-discrete j i)
     where
@@ -236,12 +236,12 @@ module _ (s : Course) (v : Parts s) (copies : Copied s) (numbers : OneExchangeNu
       now = sym (carried (replyArrives i c reply l) s done)
 
       done-run : answerNumber (replyCall (s .runs i) reply l .answer) ≡ 0
-      done-run = subst (λ (x : Client). answerNumber (replyCall x reply l .answer) ≡ 0) (left .0) done
+      done-run = subst (λ (x : ClientRun). answerNumber (replyCall x reply l .answer) ≡ 0) (left .0) done
 
       at : Dec (j ≡ i) → Concern s v i (replyArrives i c reply l)
       at (yes same) = own-reply done left (e, m, z, subst (λ (n : ℕ). IssuedBy n (e .request) s) same copy) (fresh refl)
       at (no other) =
-          let ignored : k .answer ≡ answer.Ignored = ap (λ (x : Client). replyCall x reply l .answer) (left .0)
+          let ignored : k .answer ≡ answer.Ignored = ap (λ (x : ClientRun). replyCall x reply l .answer) (left .0)
           ∙ other-ignored s v numbers i reply l done-run (left .1, left .2) j other (e, m, z, copy) in
           elsewhere
           (subst (Same i s) now (ignored-same refl (ap (λ (a : Answer). issuedBy a i k s) ignored) refl

@@ -6,10 +6,10 @@ use mathlib.Core.Path.{_≡_, refl, sym, subst}
 use native.Mathlib.Decide.{ℕ-discrete}
 use Rattle.bank_state.specs.State.{Bank}
 use Rattle.bank_state.specs.State.{BankState}
-use Rattle.client.specs.declared.run.Client.{Client}
-use Rattle.client.specs.declared.run.RunParameters.{RunParameters}
+use Rattle.client_run.specs.declared.run.ClientRun.{ClientRun}
+use Rattle.client_run.specs.declared.run.RunParameters.{RunParameters}
 use Rattle.client.specs.Calls.{replyCall}
-use Rattle.client.specs.Run.{Lent, answerNumber}
+use Rattle.client_run.specs.Run.{Lent, answerNumber}
 use Rattle.client_history.specs.History.{Begin, Reply, NoReply}
 use Rattle.client_history.specs.History as history
 use Rattle.client_history.specs.Invariant.{not-begun}
@@ -58,10 +58,10 @@ bank-called {s} {t} v n same = record {
 }
 
 -- a call of a run
-begin-keeps : (s : Course) (v : Parts s) (i : ℕ) (c : Client) (params : RunParameters) (l : Lent) → c ≡ s .runs i →
+begin-keeps : (s : Course) (v : Parts s) (i : ℕ) (c : ClientRun) (params : RunParameters) (l : Lent) → c ≡ s .runs i →
     callNumber (begins i c params l) ≡ 0 → Parts (carryOut (begins i c params l) s)
 begin-keeps s v i c params l own =
-    subst (λ (x : Client). callNumber (begins i x params l) ≡ 0 → Parts (carryOut (begins i x params l) s))
+    subst (λ (x : ClientRun). callNumber (begins i x params l) ≡ 0 → Parts (carryOut (begins i x params l) s))
     (sym own)
     (λ z. run-keeps s v i (Begin params l) (begin-issues (s .runs i) l params) z
     (run-fair s v i (Begin params l) tt))
@@ -82,17 +82,17 @@ reply-holds s v numbers i reply l done left (e, m, z, (j, copy)) = at (ℕ-discr
     at (no other) =
         subst (RunHolds (v .bank .past .history)) (sym (other-stays s v numbers i reply l done left j other (e, m, z, copy))) (v .runs i)
 
-reply-keeps : (s : Course) (v : Parts s) → OneExchangeNumber s → (i : ℕ) (c : Client) (reply : List ℕ) (l : Lent) →
+reply-keeps : (s : Course) (v : Parts s) → OneExchangeNumber s → (i : ℕ) (c : ClientRun) (reply : List ℕ) (l : Lent) →
     Premise (replyArrives i c reply l) s → callNumber (replyArrives i c reply l) ≡ 0 → Parts (carryOut (replyArrives i c reply l) s)
 reply-keeps s v numbers i c reply l q =
-    subst (λ (x : Client). callNumber (replyArrives i x reply l) ≡ 0 → Parts (carryOut (replyArrives i x reply l) s)) (sym (q .0 .0))
+    subst (λ (x : ClientRun). callNumber (replyArrives i x reply l) ≡ 0 → Parts (carryOut (replyArrives i x reply l) s)) (sym (q .0 .0))
     (λ z. let p = run-keeps s v i (Reply reply l) (reply-issues (s .runs i) l reply) z
     (reply-holds s v numbers i reply l z (q .0 .1, q .0 .2) (q .1)) in record { bank = p .bank; runs = p .runs })
 
-no-reply-keeps : (s : Course) (v : Parts s) (i : ℕ) (c : Client) (l : Lent) → Left i c l s → callNumber (noReply i c l) ≡ 0 →
+no-reply-keeps : (s : Course) (v : Parts s) (i : ℕ) (c : ClientRun) (l : Lent) → Left i c l s → callNumber (noReply i c l) ≡ 0 →
     Parts (carryOut (noReply i c l) s)
 no-reply-keeps s v i c l q =
-    subst (λ (x : Client). callNumber (noReply i x l) ≡ 0 → Parts (carryOut (noReply i x l) s)) (sym (q .0))
+    subst (λ (x : ClientRun). callNumber (noReply i x l) ≡ 0 → Parts (carryOut (noReply i x l) s)) (sym (q .0))
     (λ z. run-keeps s v i (NoReply l) (no-reply-issues (s .runs i) l) z
     (run-fair s v i (NoReply l) (λ _. record { payload = q .1; file = q .2 })))
 

@@ -46,7 +46,7 @@ use Rattle.bank_verdicts.specs.Judgement.{
   judge,
 }
 use Rattle.bank_verdicts.proofs.Lines.{allRows, judged-by, each-such}
-use Rattle.bank.specs.Call.{downloadActs, emptied, carryOut}
+use Rattle.bank_steps.specs.Steps.{downloadActs, emptied, carryOut}
 use Rattle.bank_history.specs.History.{mailboxFile}
 use Rattle.bank_history.specs.Invariant.{Sizes}
 use Rattle.bank_history.proofs.Cases.{Happens, unreadable, refused, opensUpload, opensDownload, toUpload, toDownload}

@@ -16,8 +16,8 @@ use Rattle.frame_table.specs.declared.table.Form.{Form}
 use Rattle.frame_table.specs.Forms as forms
 use Rattle.octets.specs.Bytes.{number}
 use Rattle.frame_table.specs.Names.{subscriber, transaction, form}
-use Rattle.frame.specs.Reader.{readRequest}
-use Rattle.frame.specs.Row.{dataOf}
+use Rattle.frame_reader.specs.Reader.{readRequest}
+use Rattle.frame_row.specs.Row.{dataOf}
 use Rattle.frame_table.specs.Table.{isRequestForm}
 use Rattle.octets.proofs.Tests.{never}
 use Rattle.bank_state.specs.Clock.{advanced}
@@ -27,7 +27,8 @@ use Rattle.bank_state.specs.Search.{openCountOf}
 use Rattle.bank_state.specs.State.{BankState, noDownload, downloadAt}
 use Rattle.bank_verdicts.specs.declared.verdict.TransactionRequest.{TransactionRequest}
 use Rattle.bank_verdicts.specs.declared.verdict.TransactionRequest.the-variants as asksFor
-use Rattle.bank.specs.Call.{carryOut, respond, FrameInput}
+use Rattle.bank_steps.specs.Steps.{carryOut}
+use Rattle.bank.specs.Call.{respond, FrameInput}
 use Rattle.bank_verdicts.specs.declared.verdict.UploadAction.the-variants as up
 use Rattle.bank_verdicts.specs.declared.verdict.DownloadAction.the-variants as down
 use Rattle.bank_verdicts.specs.declared.verdict.Action.{Action}
@@ -81,8 +82,8 @@ use Rattle.client_history.specs.Invariant.{
 }
 use Rattle.client_history.proofs.Requests.{form-uploadOpening, form-downloadOpening, form-uploadTransfer, id-uploadTransfer, id-receipt}
 use Rattle.client_history.proofs.Theorems.{segment-opened}
-use Rattle.client.specs.declared.run.Step.{Step}
-use Rattle.client.specs.declared.run.Step.the-variants as step
+use Rattle.client_run.specs.declared.run.Step.{Step}
+use Rattle.client_run.specs.declared.run.Step.the-variants as step
 use Rattle.message.specs.Limits.{subscribers}
 use Rattle.message.specs.Requests as requests
 use Rattle.exchange.specs.Course.{Issue, Course}

@@ -7,13 +7,13 @@ use lib.Dec.{leb}
 use borrow.Author.Tests.{leb-true}
 use Rattle.frame_table.specs.Names.{subscriber, form}
 use Rattle.frame_table.specs.Table.{isRequestForm}
-use Rattle.frame.specs.Reader.{readRequest}
+use Rattle.frame_reader.specs.Reader.{readRequest}
 use Rattle.octets.proofs.Tests.{never, and-true}
 use Rattle.message.specs.Limits.{subscribers}
 use Rattle.bank_state.specs.State.{BankState}
-use Rattle.client.specs.declared.run.Client.{Client}
-use Rattle.client.specs.declared.run.RunParameters.{RunParameters}
-use Rattle.client.specs.Run.{Lent}
+use Rattle.client_run.specs.declared.run.ClientRun.{ClientRun}
+use Rattle.client_run.specs.declared.run.RunParameters.{RunParameters}
+use Rattle.client_run.specs.Run.{Lent}
 use Rattle.bank.specs.Call.{FrameInput}
 use Rattle.exchange.specs.Course.{Call, frameArrives, begins, replyArrives, noReply, Course, callNumber}
 use Rattle.exchange.specs.Terms.{IssuedBy, InTurn}
@@ -61,9 +61,9 @@ unknown-allowed s a n = stray-allowed s a (at (isSubscribers (a .frame)) refl)
 
 -- a call of run j
 pub data OfRun (j : ℕ) : Call → Type 0 where
-  begin : {c : Client} {params : RunParameters} {l : Lent} → OfRun j (begins j c params l)
-  reply : {c : Client} {bytes : List ℕ} {l : Lent} → OfRun j (replyArrives j c bytes l)
-  no-reply : {c : Client} {l : Lent} → OfRun j (noReply j c l)
+  begin : {c : ClientRun} {params : RunParameters} {l : Lent} → OfRun j (begins j c params l)
+  reply : {c : ClientRun} {bytes : List ℕ} {l : Lent} → OfRun j (replyArrives j c bytes l)
+  no-reply : {c : ClientRun} {l : Lent} → OfRun j (noReply j c l)
 
 -- a call of another run
 pub other-in-turn : (i j : ℕ) → (j ≡ i → ⊥) → (s : Course) {k : Call} → OfRun j k → InTurn i k s

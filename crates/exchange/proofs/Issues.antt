@@ -3,11 +3,11 @@ use Prim.Native.Nat.{ℕ}
 use mathlib.Core.List.{List, [], _∷_, map, List·Memᴰ as In, List·Memᴰ·head as here, List·Memᴰ·tail as there, List·Memᴰ·not-nil as in-none}
 use mathlib.Core.Path.{_≡_, sym, ap, _∙_, subst}
 use Rattle.frame_table.specs.Names.{exchange}
-use Rattle.frame.specs.Reader.{readRequest}
-use Rattle.client.specs.declared.run.Answer.{Answer}
-use Rattle.client.specs.declared.run.Answer.the-variants as answer
+use Rattle.frame_reader.specs.Reader.{readRequest}
+use Rattle.client_run.specs.declared.run.Answer.{Answer}
+use Rattle.client_run.specs.declared.run.Answer.the-variants as answer
 use Rattle.client.specs.Calls.{beginCall, replyCall, noReplyCall}
-use Rattle.client.specs.Run.{ClientCall}
+use Rattle.client_run.specs.Run.{ClientCall}
 use Rattle.exchange.specs.Course.{
   Call,
   frameArrives,

@@ -12,8 +12,8 @@ use Rattle.frame_table.specs.declared.fields.Fields.{Fields}
 use Rattle.frame_table.specs.declared.table.Form.{Form}
 use Rattle.frame_table.specs.Forms as forms
 use Rattle.frame_table.specs.Names.{subscriber, exchange, transaction, segments, segment, returnCode, form}
-use Rattle.frame.specs.Reader.{readRequest}
-use Rattle.frame.specs.Row.{dataOf}
+use Rattle.frame_reader.specs.Reader.{readRequest}
+use Rattle.frame_row.specs.Row.{dataOf}
 use Rattle.frame_table.specs.Table.{isRequestForm}
 use Rattle.octets.proofs.Tests.{never, or-left, or-right}
 use Rattle.message.specs.Codes.{codeField}
@@ -45,7 +45,7 @@ use Rattle.bank_history.specs.Sound.{AllSound}
 use Rattle.bank_history.proofs.Positions.{action-sound, booking-last}
 use Rattle.bank_history.proofs.Replies.{verdictCode}
 use Rattle.bank_history.proofs.Theorems.{taking-sound, taken-last-books, booking-takes-last, ever-stands, stands-ever, received-payload}
-use Rattle.client.proofs.Apart.{not-both}
+use Rattle.client_run.proofs.Apart.{not-both}
 use Rattle.client_history.specs.History as history
 use Rattle.client_history.specs.Invariant.{
   UploadIssue,

@@ -1,4 +1,4 @@
--- The proof of demand 3: both ends' parts of a course, the outcome of every list, an order in turn, the theorem, examples.
+-- The proof of demand 3: both ends' parts of a course, the outcome of every list, an order in turn, the theorem.
 pub mod Bytes
 pub mod Events
 pub mod Told
@@ -24,5 +24,3 @@ pub mod OwnRequests
 pub mod OwnReplies
 pub mod Turn
 pub mod Theorem
-pub mod Checked
-pub mod Examples

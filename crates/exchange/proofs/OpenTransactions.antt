@@ -8,8 +8,8 @@ use Rattle.frame_table.specs.declared.fields.Bits128.{Bits128}
 use Rattle.frame_table.specs.declared.table.Form.{Form}
 use Rattle.octets.specs.Bytes.{number}
 use Rattle.frame_table.specs.Names.{subscriber}
-use Rattle.frame.specs.Reader.{readRequest}
-use Rattle.frame.specs.Row.{dataOf}
+use Rattle.frame_reader.specs.Reader.{readRequest}
+use Rattle.frame_row.specs.Row.{dataOf}
 use Rattle.octets.proofs.Tests.{never}
 use Rattle.bank_state.specs.Search.{openCountOf}
 use Rattle.bank_state.specs.State.{BankState}
@@ -22,8 +22,8 @@ use Rattle.bank_history.specs.History as bank
 use Rattle.bank_history.specs.Transactions.{DownloadAt, UploadUnlessIdle, DownloadUnlessIdle}
 use Rattle.bank_history.proofs.Entries.{did-same}
 use Rattle.bank_history.proofs.Liveness.{upload-stays, download-stays, clock-grows}
-use Rattle.client.specs.declared.run.Direction.{Direction}
-use Rattle.client.specs.declared.run.Direction.the-variants.{Upload, Download}
+use Rattle.client_run.specs.declared.run.Direction.{Direction}
+use Rattle.client_run.specs.declared.run.Direction.the-variants.{Upload, Download}
 use Rattle.exchange.specs.Course.{Course}
 use Rattle.exchange.specs.Terms.{IssuedBy}
 use Rattle.exchange.specs.Demand3.{isSubscribers, OneExchangeNumber}

@@ -10,7 +10,7 @@ use Rattle.frame_table.specs.declared.fields.Fields.{Fields}
 use Rattle.frame_table.specs.declared.table.Form.{Form}
 use Rattle.frame_table.specs.Forms as forms
 use Rattle.frame_table.specs.Names.{exchange, transaction, returnCode, form, segments}
-use Rattle.frame.specs.Reader.{readRequest, readReply}
+use Rattle.frame_reader.specs.Reader.{readRequest, readReply}
 use Rattle.message.specs.declared.codes.ReturnCode.the-variants as code
 use Rattle.message.specs.Codes.{codeField}
 use Rattle.message.specs.Replies.{uploadOpened, downloadOpened, segmentTaken, downloadSegment, receiptAnswered}
@@ -21,15 +21,15 @@ use Rattle.bank_verdicts.specs.declared.verdict.DownloadAction.the-variants as 
 use Rattle.bank_verdicts.specs.declared.verdict.UploadAction.the-variants as up
 use Rattle.bank_verdicts.specs.declared.verdict.Verdict.the-variants as verdict
 use Rattle.bank_history.proofs.Theorems.{upload-opened, download-opened}
-use Rattle.client.specs.declared.run.Client.{Client}
-use Rattle.client.specs.declared.run.Direction.{Direction}
-use Rattle.client.specs.declared.run.Direction.the-variants.{Upload, Download}
-use Rattle.client.specs.declared.run.Stage.the-variants as stage
-use Rattle.client.specs.declared.run.Step.{Step}
-use Rattle.client.specs.declared.run.Step.the-variants as step
-use Rattle.client.specs.declared.run.Word.the-variants.{Lodged, Fetched}
-use Rattle.client.specs.Decisions.{isAnswer}
-use Rattle.client.specs.Rulings.{isBegun}
+use Rattle.client_run.specs.declared.run.ClientRun.{ClientRun}
+use Rattle.client_run.specs.declared.run.Direction.{Direction}
+use Rattle.client_run.specs.declared.run.Direction.the-variants.{Upload, Download}
+use Rattle.client_run.specs.declared.run.Stage.the-variants as stage
+use Rattle.client_run.specs.declared.run.Step.{Step}
+use Rattle.client_run.specs.declared.run.Step.the-variants as step
+use Rattle.client_run.specs.declared.run.Word.the-variants.{Lodged, Fetched}
+use Rattle.client_rules.specs.Decisions.{isAnswer}
+use Rattle.client_rules.specs.Rulings.{isBegun}
 use Rattle.client_history.specs.History.{Past}
 use Rattle.client_history.specs.InTurn.{InTurn}
 use Rattle.client_history.proofs.Fitting.{Fits, fits-answer, opened-fits, taken-fits, download-fits, segment-fits, receipt-fits}
@@ -141,14 +141,14 @@ open-stays keeps back bank o = record {
 -- ---- THE STATES
 
 -- the bank before the outstanding request comes
-abbrev pub Before : Direction → Step → ℕ → Course → ℕ → Client → Type 0
+abbrev pub Before : Direction → Step → ℕ → Course → ℕ → ClientRun → Type 0
 Before direction step.Opening j s i c = (e : Exchange) → Received i e s → ⊥
 Before direction step.Segment j s i c =
     (k : ℕ) × (j ≡ suc k) × (j ≤ c .segments) × Open direction s i (c .subscriber) (c .transaction) (c .segments) k
 Before direction step.Receipt j s i c = (direction ≡ Download) × Open direction s i (c .subscriber) (c .transaction) (c .segments) (c .segments)
 
 -- the bank once it is received, and its reply's fields
-abbrev pub Behind : Direction → Step → ℕ → Course → ℕ → Client → Fields → Type 0
+abbrev pub Behind : Direction → Step → ℕ → Course → ℕ → ClientRun → Fields → Type 0
 Behind Upload step.Opening j s i c r =
     (t : Bits128) × (n : ℕ) × (r ≡ uploadOpened (c .exchange) t n) × Open Upload s i (c .subscriber) t (c .segments) 0
 Behind Upload step.Segment j s i c r =
@@ -163,7 +163,7 @@ Behind Download step.Segment j s i c r =
 Behind Download step.Receipt j s i c r = r ≡ receiptAnswered (c .exchange) (c .transaction) code.DownloadPostprocessDone
 
 -- such a reply answers the outstanding request
-behind-answers : (direction : Direction) (at : Step) (j : ℕ) (s : Course) (i : ℕ) (c : Client) (r : Fields) → Behind direction at j s i c r →
+behind-answers : (direction : Direction) (at : Step) (j : ℕ) (s : Course) (i : ℕ) (c : ClientRun) (r : Fields) → Behind direction at j s i c r →
     isAnswer c r ≡ true
 behind-answers Upload step.Opening j s i c r (t, n, e, o) =
     fits-answer c r (subst (Fits _ _ _ _) (sym e) (opened-fits (c .exchange) n 0 0 t)) refl (λ z. omega arith)

@@ -13,7 +13,7 @@ use Rattle.frame_table.specs.declared.fields.Fields.{Fields}
 use Rattle.frame_table.specs.declared.table.Form.{Form}
 use Rattle.frame_table.specs.Forms as forms
 use Rattle.frame_table.specs.Names.{subscriber, exchange, transaction, segments, segment, returnCode, orderNumber, form}
-use Rattle.frame.specs.Reader.{readRequest, readReply}
+use Rattle.frame_reader.specs.Reader.{readRequest, readReply}
 use Rattle.frame_table.specs.Table.{isRequestForm}
 use Rattle.octets.proofs.Tests.{never}
 use Rattle.message.specs.declared.codes.ReturnCode.{ReturnCode}
@@ -59,8 +59,8 @@ use Rattle.bank_history.proofs.Theorems.{
   ended-unbooked,
   stands-ever,
 }
-use Rattle.client.specs.declared.run.Stage.the-variants as stage
-use Rattle.client.specs.declared.run.Word.the-variants.{Lodged, NotLodged, Fetched}
+use Rattle.client_run.specs.declared.run.Stage.the-variants as stage
+use Rattle.client_run.specs.declared.run.Word.the-variants.{Lodged, NotLodged, Fetched}
 use Rattle.client_history.specs.History.{Past, BankReplies}
 use Rattle.client_history.specs.History as history
 use Rattle.client_history.specs.Invariant.{

@@ -4,20 +4,20 @@ use mathlib.Core.Bool.{Bool, true, false}
 use mathlib.Core.List.{List, List·Memᴰ as In, List·Memᴰ·head as here}
 use mathlib.Core.Path.{_≡_, refl, sym, ap, _∙_, subst}
 use Rattle.frame_table.specs.Names.{exchange}
-use Rattle.frame.specs.Reader.{readRequest, readReply}
-use Rattle.frame.specs.Row.{dataOf}
-use Rattle.client.specs.declared.run.Answer.the-variants as answer
-use Rattle.client.specs.declared.run.Client.{Client}
-use Rattle.client.specs.declared.run.Ruling.{Ruling}
-use Rattle.client.specs.declared.run.Ruling.the-variants.{Refuse, Accept}
-use Rattle.client.specs.declared.run.Stage.the-variants as stage
+use Rattle.frame_reader.specs.Reader.{readRequest, readReply}
+use Rattle.frame_row.specs.Row.{dataOf}
+use Rattle.client_run.specs.declared.run.Answer.the-variants as answer
+use Rattle.client_run.specs.declared.run.ClientRun.{ClientRun}
+use Rattle.client_run.specs.declared.run.Ruling.{Ruling}
+use Rattle.client_run.specs.declared.run.Ruling.the-variants.{Refuse, Accept}
+use Rattle.client_run.specs.declared.run.Stage.the-variants as stage
 use Rattle.client.specs.Calls.{ifAdmitted, admittedReply, replyCall}
-use Rattle.client.specs.Decisions.{isAnswer, onReply}
-use Rattle.client.specs.Requests.{outstanding, outstandingData}
-use Rattle.client.specs.Rulings.{isBegun, runRuling}
-use Rattle.client.specs.Run.{Lent, lengthsOf, answerNumber}
-use Rattle.client.proofs.Accepted.{accepted}
-use Rattle.client.proofs.Replies.{is-answer}
+use Rattle.client_run.specs.Requests.{outstanding, outstandingData}
+use Rattle.client_run.specs.Run.{Lent, lengthsOf, answerNumber}
+use Rattle.client_rules.specs.Decisions.{isAnswer, onReply}
+use Rattle.client_rules.specs.Rulings.{isBegun, runRuling}
+use Rattle.client_rules.proofs.Accepted.{accepted}
+use Rattle.client_rules.proofs.Replies.{is-answer}
 use Rattle.client_history.specs.History.{Reply, issueOf, GivenTo}
 use Rattle.client_history.specs.History as history
 use Rattle.client_history.proofs.Liveness.{numbered}
@@ -106,7 +106,7 @@ given-to s v i reply (e, m, z, (x, n, r, c)) =
     }
 
 -- a call of a reply that is given no number comes to a run that goes on
-reply-running : (c : Client) (reply : List ℕ) (l : Lent) → answerNumber (replyCall c reply l .answer) ≡ 0 → c .stage ≡ stage.Running
+reply-running : (c : ClientRun) (reply : List ℕ) (l : Lent) → answerNumber (replyCall c reply l .answer) ≡ 0 → c .stage ≡ stage.Running
 unfolding replyCall
 reply-running c reply l = go (runRuling (c .stage) c (lengthsOf l)) refl
   where
@@ -117,7 +117,7 @@ reply-running c reply l = go (runRuling (c .stage) c (lengthsOf l)) refl
     go Accept e h = accepted c (lengthsOf l) e .running
 
 -- and its answer is Ignored if the reply does not answer the outstanding request
-reply-ignored : (c : Client) (reply : List ℕ) (l : Lent) → answerNumber (replyCall c reply l .answer) ≡ 0 →
+reply-ignored : (c : ClientRun) (reply : List ℕ) (l : Lent) → answerNumber (replyCall c reply l .answer) ≡ 0 →
     isAnswer c (readReply reply) ≡ false → replyCall c reply l .answer ≡ answer.Ignored
 unfolding replyCall onReply
 reply-ignored c reply l done other = go (runRuling (c .stage) c (lengthsOf l)) done

@@ -12,27 +12,27 @@ use borrow.Author.Tests.{eq-eqb, eqb-true, eqb-false}
 use Rattle.frame_table.specs.declared.fields.Bits128.{Bits128}
 use Rattle.frame_table.specs.Forms as forms
 use Rattle.frame_table.specs.Names.{exchange, transaction, segments, segment, returnCode, form}
-use Rattle.frame.specs.Reader.{readRequest, readReply}
-use Rattle.frame.specs.Row.{dataOf}
+use Rattle.frame_reader.specs.Reader.{readRequest, readReply}
+use Rattle.frame_row.specs.Row.{dataOf}
 use Rattle.octets.proofs.Tests.{never}
 use Rattle.message.specs.Limits.{fileBytes}
 use Rattle.message.specs.Segments.{segmentsOf, segmentOf, lastMarkOf}
 use Rattle.bank_state.specs.State.{BankState}
 use Rattle.bank_history.specs.History as bank
-use Rattle.client.specs.declared.run.Client.{Client}
-use Rattle.client.specs.declared.run.Direction.{Direction}
-use Rattle.client.specs.declared.run.Direction.the-variants.{Upload, Download}
-use Rattle.client.specs.declared.run.RunParameters.{RunParameters}
-use Rattle.client.specs.declared.run.Stage.the-variants as stage
-use Rattle.client.specs.declared.run.Step.{Step}
-use Rattle.client.specs.declared.run.Step.the-variants as step
-use Rattle.client.specs.declared.run.Word.{Word}
-use Rattle.client.specs.declared.run.Word.the-variants.{Lodged, Fetched}
+use Rattle.client_run.specs.declared.run.ClientRun.{ClientRun}
+use Rattle.client_run.specs.declared.run.Direction.{Direction}
+use Rattle.client_run.specs.declared.run.Direction.the-variants.{Upload, Download}
+use Rattle.client_run.specs.declared.run.RunParameters.{RunParameters}
+use Rattle.client_run.specs.declared.run.Stage.the-variants as stage
+use Rattle.client_run.specs.declared.run.Step.{Step}
+use Rattle.client_run.specs.declared.run.Step.the-variants as step
+use Rattle.client_run.specs.declared.run.Word.{Word}
+use Rattle.client_run.specs.declared.run.Word.the-variants.{Lodged, Fetched}
 use Rattle.client.specs.Calls.{beginCall, replyCall}
-use Rattle.client.specs.NextRun.{stepAfter}
-use Rattle.client.specs.Rulings.{isBegun}
-use Rattle.client.specs.Run.{Lent, answerNumber}
-use Rattle.client.proofs.Replies.{is-answer}
+use Rattle.client_run.specs.NextRun.{stepAfter}
+use Rattle.client_run.specs.Run.{Lent, answerNumber}
+use Rattle.client_rules.specs.Rulings.{isBegun}
+use Rattle.client_rules.proofs.Replies.{is-answer}
 use Rattle.client_history.specs.History.{Begin, Reply, Past, issueOf, GivenTo}
 use Rattle.client_history.specs.History as history
 use Rattle.client_history.specs.InTurn.{InTurn}
@@ -140,14 +140,14 @@ module _ (k : Call) (s : Course) (v : Parts s) (copies : Copied s) (q : Allowed 
 
 -- ---- THE BEGIN
 
-module _ (s : Course) (v : Parts s) (copies : Copied s) (numbers : OneExchangeNumber s) (i : ℕ) (c : Client) (params : RunParameters)
+module _ (s : Course) (v : Parts s) (copies : Copied s) (numbers : OneExchangeNumber s) (i : ℕ) (c : ClientRun) (params : RunParameters)
     (l : Lent) (q : Allowed (begins i c params l) s) (later : OneExchangeNumber (exec (begins i c params l) s))
     (own : c ≡ s .runs i) (done : callNumber (begins i c params l) ≡ 0) where
   abbrev begin : Call
   begin = begins i c params l
 
   done-run : answerNumber (beginCall (s .runs i) params l .answer) ≡ 0
-  done-run = subst (λ (x : Client). answerNumber (beginCall x params l .answer) ≡ 0) own done
+  done-run = subst (λ (x : ClientRun). answerNumber (beginCall x params l .answer) ≡ 0) own done
 
   begin-left : Leaves s (exec (begins i c params l) s) × (exec (begins i c params l) s .arrived ≡ s .arrived)
   begin-left =
@@ -218,7 +218,7 @@ module _ (s : Course) (v : Parts s) (copies : Copied s) (numbers : OneExchangeNu
 
 -- ---- A REPLY
 
-module _ (s : Course) (v : Parts s) (copies : Copied s) (numbers : OneExchangeNumber s) (i : ℕ) (c : Client) (reply : List ℕ) (l : Lent)
+module _ (s : Course) (v : Parts s) (copies : Copied s) (numbers : OneExchangeNumber s) (i : ℕ) (c : ClientRun) (reply : List ℕ) (l : Lent)
     (q : Allowed (replyArrives i c reply l) s) (later : OneExchangeNumber (exec (replyArrives i c reply l) s))
     (done : callNumber (replyArrives i c reply l) ≡ 0) (left : Left i c l s)
     (source : GivenFor i reply s)
@@ -226,7 +226,7 @@ module _ (s : Course) (v : Parts s) (copies : Copied s) (numbers : OneExchangeNu
   abbrev arrives : Call
   arrives = replyArrives i c reply l
 
-  abbrev run : Client
+  abbrev run : ClientRun
   run = s .runs i
 
   abbrev p : Past
@@ -239,7 +239,7 @@ module _ (s : Course) (v : Parts s) (copies : Copied s) (numbers : OneExchangeNu
   h = v .bank .past .history
 
   done-reply : answerNumber (replyCall (s .runs i) reply l .answer) ≡ 0
-  done-reply = subst (λ (x : Client). answerNumber (replyCall x reply l .answer) ≡ 0) (left .0) done
+  done-reply = subst (λ (x : ClientRun). answerNumber (replyCall x reply l .answer) ≡ 0) (left .0) done
 
   reply-left : Leaves s (exec (replyArrives i c reply l) s)
       × (exec (replyArrives i c reply l) s .arrived ≡ record { run = i; reply = reply } ∷ s .arrived)
@@ -468,7 +468,7 @@ module _ (s : Course) (v : Parts s) (copies : Copied s) (numbers : OneExchangeNu
     where
       ended-then : (w : Word) → s .runs i .stage ≡ stage.Ended w → then .run .stage ≡ stage.Ended w
       ended-then w e =
-          ap (λ (x : Past). x .run .stage) (sym past) ∙ ap (λ (x : Client). x .stage) (run-ended arrives s q i w e) ∙ e
+          ap (λ (x : Past). x .run .stage) (sym past) ∙ ap (λ (x : ClientRun). x .stage) (run-ended arrives s q i w e) ∙ e
 
       at : State s i (runPast s i) → State (exec arrives s) i then
       at (idle e none) = never (sym (ap isBegun e) ∙ issued-begun s v copies numbers i (source .3))

@@ -13,8 +13,8 @@ use Rattle.frame_table.specs.declared.fields.Fields.{Fields}
 use Rattle.frame_table.specs.Forms as forms
 use Rattle.octets.specs.Bytes.{number}
 use Rattle.frame_table.specs.Names.{subscriber, exchange, transaction, segments, segment, lastMark, receiptCode, returnCode, form}
-use Rattle.frame.specs.Reader.{readRequest, readReply}
-use Rattle.frame.specs.Row.{dataOf}
+use Rattle.frame_reader.specs.Reader.{readRequest, readReply}
+use Rattle.frame_row.specs.Row.{dataOf}
 use Rattle.octets.proofs.Tests.{never}
 use Rattle.message.specs.declared.codes.ReturnCode.the-variants as code
 use Rattle.message.specs.Codes.{codeField}
@@ -41,13 +41,13 @@ use Rattle.bank_history.specs.Transactions.{UploadAt, DownloadAt, UploadUnlessI
 use Rattle.bank_history.proofs.Liveness as bankTurn
 use Rattle.bank_history.proofs.Positions.{action-sound}
 use Rattle.bank_history.proofs.Theorems.{reply-is}
-use Rattle.client.specs.declared.run.Client.{Client}
-use Rattle.client.specs.declared.run.Direction.{Direction}
-use Rattle.client.specs.declared.run.Direction.the-variants.{Upload, Download}
-use Rattle.client.specs.declared.run.Step.{Step}
-use Rattle.client.specs.declared.run.Step.the-variants as step
-use Rattle.client.specs.Requests.{nonceOf}
-use Rattle.client.specs.Rulings.{isBegun}
+use Rattle.client_run.specs.declared.run.ClientRun.{ClientRun}
+use Rattle.client_run.specs.declared.run.Direction.{Direction}
+use Rattle.client_run.specs.declared.run.Direction.the-variants.{Upload, Download}
+use Rattle.client_run.specs.declared.run.Step.{Step}
+use Rattle.client_run.specs.declared.run.Step.the-variants as step
+use Rattle.client_run.specs.Requests.{nonceOf}
+use Rattle.client_rules.specs.Rulings.{isBegun}
 use Rattle.client_history.specs.History.{Past}
 use Rattle.client_history.specs.InTurn.{InTurn}
 use Rattle.client_history.specs.Invariant.{isOpen}
@@ -115,7 +115,7 @@ module _ (s : Course) (v : Parts s) (copies : Copied s) (numbers : OneExchangeNu
   abbrev p : Past
   p = runPast s i
 
-  abbrev c : Client
+  abbrev c : ClientRun
   c = s .runs i
 
   abbrev h : List bank.Exchange

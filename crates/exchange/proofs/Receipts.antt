@@ -22,8 +22,8 @@ use Rattle.frame_table.specs.declared.table.Form.{Form}
 use Rattle.frame_table.specs.Forms as forms
 use Rattle.octets.specs.Bytes.{number}
 use Rattle.frame_table.specs.Names.{subscriber, transaction, returnCode, form}
-use Rattle.frame.specs.Reader.{readRequest, readReply}
-use Rattle.frame.specs.Row.{dataOf}
+use Rattle.frame_reader.specs.Reader.{readRequest, readReply}
+use Rattle.frame_row.specs.Row.{dataOf}
 use Rattle.octets.proofs.Tests.{never}
 use Rattle.message.specs.declared.codes.ReturnCode.the-variants as code
 use Rattle.message.specs.Codes.{codeField}
@@ -61,11 +61,11 @@ use Rattle.bank_history.proofs.Clock.{advanced-keeps, each-download}
 use Rattle.bank_history.proofs.Downloads.{download-open}
 use Rattle.bank_history.proofs.Positions.{action-sound}
 use Rattle.bank_history.proofs.Theorems.{ever-stands, stands-ever, gone-stays}
-use Rattle.client.specs.declared.run.Answer.{Answer}
-use Rattle.client.specs.declared.run.Answer.the-variants as answer
+use Rattle.client_run.specs.declared.run.Answer.{Answer}
+use Rattle.client_run.specs.declared.run.Answer.the-variants as answer
 use Rattle.client.specs.Calls.{beginCall, replyCall, noReplyCall}
-use Rattle.client.specs.Run.{ClientCall}
-use Rattle.client.proofs.Apart.{not-both}
+use Rattle.client_run.specs.Run.{ClientCall}
+use Rattle.client_run.proofs.Apart.{not-both}
 use Rattle.client_history.specs.History.{BankReplies}
 use Rattle.client_history.specs.History as history
 use Rattle.client_history.specs.Invariant.{

@@ -6,11 +6,11 @@ use mathlib.Core.Path.{_≡_, refl, sym, ap, _∙_, subst}
 use native.Mathlib.Omega.{arith}
 use Rattle.frame_table.specs.declared.fields.Fields.{Fields}
 use Rattle.frame_table.specs.Names.{subscriber, exchange, form}
-use Rattle.frame.specs.Reader.{readRequest}
+use Rattle.frame_reader.specs.Reader.{readRequest}
 use Rattle.frame_table.specs.Table.{isRequestForm}
-use Rattle.client.specs.declared.run.Answer.{Answer}
-use Rattle.client.specs.declared.run.Answer.the-variants as answer
-use Rattle.client.specs.Run.{Lent, ClientCall}
+use Rattle.client_run.specs.declared.run.Answer.{Answer}
+use Rattle.client_run.specs.declared.run.Answer.the-variants as answer
+use Rattle.client_run.specs.Run.{Lent, ClientCall}
 use Rattle.exchange.specs.Course.{Call, Issue, Exchange, Arrival, Course, issuedBy, afterRun, exec}
 use Rattle.exchange.specs.Terms.{IssuedBy, Received}
 use Rattle.exchange.specs.Demand3.{Allowed, OneExchangeNumber}

@@ -4,13 +4,13 @@ use mathlib.Core.List.{List, [], _∷_}
 use mathlib.Core.Logic.{_⊎_, inl, inr}
 use mathlib.Core.Path.{_≡_, sym, ap, _∙_, subst}
 use native.Mathlib.Decide.{ℕ-discrete}
-use Rattle.client.specs.declared.run.Answer.the-variants as answer
-use Rattle.client.specs.declared.run.Client.{Client}
-use Rattle.client.specs.declared.run.RunParameters.{RunParameters}
-use Rattle.client.specs.declared.run.Stage.the-variants as stage
-use Rattle.client.specs.declared.run.Word.{Word}
+use Rattle.client_run.specs.declared.run.Answer.the-variants as answer
+use Rattle.client_run.specs.declared.run.ClientRun.{ClientRun}
+use Rattle.client_run.specs.declared.run.RunParameters.{RunParameters}
+use Rattle.client_run.specs.declared.run.Stage.the-variants as stage
+use Rattle.client_run.specs.declared.run.Word.{Word}
 use Rattle.client.specs.Calls.{beginCall, replyCall, noReplyCall}
-use Rattle.client.specs.Run.{Lent, answerNumber}
+use Rattle.client_run.specs.Run.{Lent, answerNumber}
 use Rattle.client_history.specs.History.{Event, Begin, Reply, NoReply, Past, callOf, lentTo}
 use Rattle.client_history.specs.History as history
 use Rattle.client_history.proofs.Stays.{ended-stays}
@@ -37,11 +37,11 @@ use Rattle.exchange.proofs.Courses.{frame-runs, file-runs}
 -- the run stays, or it gets one event further: begin, reply arrived, no reply
 pub data RunStep (s : Course) (i : ℕ) : Call → Past → Type 0 where
   rests : {k : Call} {p : Past} → p ≡ runPast s i → RunStep s i k p
-  begun : {c : Client} {params : RunParameters} {l : Lent} {p : Past} → c ≡ s .runs i →
+  begun : {c : ClientRun} {params : RunParameters} {l : Lent} {p : Past} → c ≡ s .runs i →
       p ≡ history.after (Begin params l) (runPast s i) → RunStep s i (begins i c params l) p
-  replied : {c : Client} {reply : List ℕ} {l : Lent} {p : Past} → c ≡ s .runs i →
+  replied : {c : ClientRun} {reply : List ℕ} {l : Lent} {p : Past} → c ≡ s .runs i →
       p ≡ history.after (Reply reply l) (runPast s i) → RunStep s i (replyArrives i c reply l) p
-  no-reply : {c : Client} {l : Lent} {p : Past} → c ≡ s .runs i → p ≡ history.after (NoReply l) (runPast s i) →
+  no-reply : {c : ClientRun} {l : Lent} {p : Past} → c ≡ s .runs i → p ≡ history.after (NoReply l) (runPast s i) →
       RunStep s i (noReply i c l) p
 
 -- run i after its own event
@@ -52,13 +52,13 @@ own-step : (s : Course) (i : ℕ) (e : Event) → ((n : ℕ) → callOf e (s .ru
 unfolding history.after
 own-step s i e issues done = own-past s i (callOf e (s .runs i)) (lentTo e) issues done
 
-module _ (s : Course) (i : ℕ) (c : Client) (own : c ≡ s .runs i) where
+module _ (s : Course) (i : ℕ) (c : ClientRun) (own : c ≡ s .runs i) where
   -- a call that is made of the run as it was left
-  by-run : (k : Client → Call) (p : Past) → (callNumber (k (s .runs i)) ≡ 0 → runPast (carryOut (k (s .runs i)) s) i ≡ p) →
+  by-run : (k : ClientRun → Call) (p : Past) → (callNumber (k (s .runs i)) ≡ 0 → runPast (carryOut (k (s .runs i)) s) i ≡ p) →
       callNumber (k c) ≡ 0 → runPast (exec (k c) s) i ≡ p
   by-run k p f z =
       ap (λ (t : Course). runPast t i) (carried (k c) s z)
-      ∙ subst (λ (x : Client). callNumber (k x) ≡ 0 → runPast (carryOut (k x) s) i ≡ p) (sym own) f z
+      ∙ subst (λ (x : ClientRun). callNumber (k x) ≡ 0 → runPast (carryOut (k x) s) i ≡ p) (sym own) f z
 
   pub begin-past : (params : RunParameters) (l : Lent) → callNumber (begins i c params l) ≡ 0 →
       runPast (exec (begins i c params l) s) i ≡ history.after (Begin params l) (runPast s i)
@@ -120,4 +120,4 @@ pub stays-ended : (ks : List Call) (s : Course) → AllAllowed ks s → (i : ℕ
 unfolding after
 stays-ended [] s q i w e = e
 stays-ended (k ∷ ks) s q i w e =
-    stays-ended ks (exec k s) (q .1) i w (ap (λ (c : Client). c .stage) (run-ended k s (q .0) i w e) ∙ e)
+    stays-ended ks (exec k s) (q .1) i w (ap (λ (c : ClientRun). c .stage) (run-ended k s (q .0) i w e) ∙ e)

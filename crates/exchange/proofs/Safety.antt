@@ -2,8 +2,8 @@
 use Prim.Native.Nat.{ℕ}
 use mathlib.Core.List.{List, [], _∷_, _++_}
 use mathlib.Core.Path.{_≡_, refl, ap, _∙_, subst}
-use Rattle.client.specs.declared.run.Stage.the-variants as stage
-use Rattle.client.specs.declared.run.Word.the-variants.{NotLodged}
+use Rattle.client_run.specs.declared.run.Stage.the-variants as stage
+use Rattle.client_run.specs.declared.run.Word.the-variants.{NotLodged}
 use Rattle.exchange.specs.Course.{Call, Course, start, exec, after}
 use Rattle.exchange.specs.Terms.{Booked}
 use Rattle.exchange.specs.Demand3.{AllAllowed, OneExchangeNumber, Outcome}

@@ -5,12 +5,12 @@ use mathlib.Core.Logic.{_⊎_, inl, inr}
 use mathlib.Core.Path.{_≡_, refl, sym, ap, _∙_, subst}
 use native.Mathlib.Omega.{arith}
 use Rattle.frame_table.specs.Names.{exchange}
-use Rattle.frame.specs.Reader.{readRequest, readReply}
+use Rattle.frame_reader.specs.Reader.{readRequest, readReply}
 use Rattle.octets.proofs.Tests.{never}
-use Rattle.client.specs.declared.run.Stage.the-variants as stage
-use Rattle.client.specs.declared.run.Word.the-variants.{Lodged, Fetched}
-use Rattle.client.specs.Rulings.{isBegun}
-use Rattle.client.proofs.Replies.{is-answer}
+use Rattle.client_run.specs.declared.run.Stage.the-variants as stage
+use Rattle.client_run.specs.declared.run.Word.the-variants.{Lodged, Fetched}
+use Rattle.client_rules.specs.Rulings.{isBegun}
+use Rattle.client_rules.proofs.Replies.{is-answer}
 use Rattle.exchange.specs.Course.{Call, frameArrives, Arrival, Course, start, exec, after}
 use Rattle.exchange.specs.Terms.{InTurn, Received, Accepted, Alone, AllInTurn, Settled}
 use Rattle.exchange.specs.Demand3.{Allowed, AllAllowed, OneExchangeNumber, ClosesInTurn}

@@ -6,7 +6,7 @@ use mathlib.Core.List.{List, [], _∷_}
 use lib.Dec.{eqb}
 use lib.ListN.{length, take, replicate}
 use Rattle.frame_table.specs.Names.{subscriber, returnCode}
-use Rattle.frame.specs.Reader.{readRequest, readReply}
+use Rattle.frame_reader.specs.Reader.{readRequest, readReply}
 use Rattle.message.specs.declared.codes.ReturnCode.the-variants as code
 use Rattle.message.specs.Codes.{codeField}
 use Rattle.bank_state.specs.State.{Bank}
@@ -18,12 +18,12 @@ use Rattle.bank.specs.declared.call.FrameAnswer.{FrameAnswer}
 use Rattle.bank.specs.declared.call.FrameAnswer.the-variants as frameAnswer
 use Rattle.bank.specs.Call.{FrameInput, frameNumber, frameCall}
 use Rattle.bank.specs.Mailbox.{fileNumber, FileCall, fileCall}
-use Rattle.client.specs.declared.run.Answer.{Answer}
-use Rattle.client.specs.declared.run.Answer.the-variants as answer
-use Rattle.client.specs.declared.run.Client.{Client}
-use Rattle.client.specs.declared.run.RunParameters.{RunParameters}
+use Rattle.client_run.specs.declared.run.Answer.{Answer}
+use Rattle.client_run.specs.declared.run.Answer.the-variants as answer
+use Rattle.client_run.specs.declared.run.ClientRun.{ClientRun}
+use Rattle.client_run.specs.declared.run.RunParameters.{RunParameters}
 use Rattle.client.specs.Calls.{beginCall, replyCall, noReplyCall}
-use Rattle.client.specs.Run.{Lent, ClientCall, notBegun, answerNumber}
+use Rattle.client_run.specs.Run.{Lent, ClientCall, notBegun, answerNumber}
 
 -- A call with everything that it brings and is lent; client runs are told apart by a number
 pub data Call : Type 0 where
@@ -32,11 +32,11 @@ pub data Call : Type 0 where
   -- a file into a mailbox: the bank, the mailboxes' store, the mailbox, the file
   filePut : Bank → List ℕ → ℕ → List ℕ → Call
   -- begin: direction, subscriber, first exchange number
-  begins : ℕ → Client → RunParameters → Lent → Call
+  begins : ℕ → ClientRun → RunParameters → Lent → Call
   -- reply arrived: its bytes
-  replyArrives : ℕ → Client → List ℕ → Lent → Call
+  replyArrives : ℕ → ClientRun → List ℕ → Lent → Call
   -- no reply
-  noReply : ℕ → Client → Lent → Call
+  noReply : ℕ → ClientRun → Lent → Call
 
 -- a request issued: by which run, its bytes, and as it was issued the run's file and the file that its subscriber's
 -- mailbox held
@@ -63,7 +63,7 @@ pub record Arrival : Type 0 where
 -- emptied by 011000, and all that was issued, exchanged and arrived, the newest first
 pub record Course : Type 0 where
   pub bank : BankState
-  pub runs : ℕ → Client
+  pub runs : ℕ → ClientRun
   pub payloads : ℕ → List ℕ
   pub files : ℕ → List ℕ
   pub mailboxes : ℕ → List ℕ
@@ -102,7 +102,7 @@ withBank w s = record {
 }
 
 -- run i, its payload and its file buffer
-abbrev pub withRun : ℕ → Client → List ℕ → List ℕ → Course → Course
+abbrev pub withRun : ℕ → ClientRun → List ℕ → List ℕ → Course → Course
 withRun i c payload file s = record {
   bank = s .bank;
   runs = changed (s .runs) i c;
@@ -169,7 +169,7 @@ unfoldable pub mailboxOf : BankState → ℕ → List ℕ
 mailboxOf w m = fileOf (w .mailboxes) (m - 1) (fileLength m (w .bank .files))
 
 -- "A run's file is its file buffer up to the end of the last segment held"
-unfoldable pub heldOf : Client → List ℕ → List ℕ
+unfoldable pub heldOf : ClientRun → List ℕ → List ℕ
 heldOf c file = take (c .length) file
 
 -- the mailbox of the request's subscriber is emptied by 011000

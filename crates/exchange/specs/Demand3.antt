@@ -7,15 +7,15 @@ use mathlib.Core.List.{List, [], _∷_, _++_, map, List·Memᴰ as In}
 use lib.Dec.{leb}
 use Rattle.frame_table.specs.Forms as forms
 use Rattle.frame_table.specs.Names.{subscriber, exchange, returnCode, form}
-use Rattle.frame.specs.Reader.{readRequest, readReply}
+use Rattle.frame_reader.specs.Reader.{readRequest, readReply}
 use Rattle.frame_table.specs.Table.{isRequestForm}
 use Rattle.message.specs.declared.codes.ReturnCode.the-variants as code
 use Rattle.message.specs.Codes.{codeField}
 use Rattle.message.specs.Limits.{subscribers}
-use Rattle.client.specs.declared.run.Client.{Client}
-use Rattle.client.specs.declared.run.Stage.the-variants as stage
-use Rattle.client.specs.declared.run.Word.the-variants.{Lodged, NotLodged, Fetched}
-use Rattle.client.specs.Run.{Lent}
+use Rattle.client_run.specs.declared.run.ClientRun.{ClientRun}
+use Rattle.client_run.specs.declared.run.Stage.the-variants as stage
+use Rattle.client_run.specs.declared.run.Word.the-variants.{Lodged, NotLodged, Fetched}
+use Rattle.client_run.specs.Run.{Lent}
 use Rattle.exchange.specs.Course.{
   Call,
   frameArrives,
@@ -56,7 +56,7 @@ isSubscribers frame = isRequestForm (form (readRequest frame)) && leb 1 (subscri
 
 -- "Each call gets state, stores, payload and file buffer as the last call not given a number left them at its end (the
 -- bank, or that client run)"
-abbrev pub Left : ℕ → Client → Lent → Course → Type 0
+abbrev pub Left : ℕ → ClientRun → Lent → Course → Type 0
 Left i c l s = (c ≡ s .runs i) × (l .payload ≡ s .payloads i) × (l .file ≡ s .files i)
 
 -- "A request that demand 3 names is a copy of one issued earlier in the list; a reply is a copy of one the bank gave

@@ -8,7 +8,7 @@ use lib.ListN.{length, take}
 use Rattle.frame_table.specs.declared.table.Form.{Form}
 use Rattle.frame_table.specs.Forms as forms
 use Rattle.frame_table.specs.Names.{subscriber, segment, transaction, returnCode, orderNumber, form}
-use Rattle.frame.specs.Reader.{readRequest, readReply}
+use Rattle.frame_reader.specs.Reader.{readRequest, readReply}
 use Rattle.message.specs.declared.codes.ReturnCode.the-variants as code
 use Rattle.message.specs.Codes.{codeField}
 use Rattle.message.specs.Segments.{segmentsOf}
@@ -19,7 +19,7 @@ use Rattle.bank_state.specs.State.{placeAt}
 use Rattle.bank_state.specs.Store.{partAt}
 use Rattle.message.specs.OrderNumbers.{orderNumberOf}
 use Rattle.bank.specs.Call.{frameCall}
-use Rattle.client.specs.declared.run.Stage.the-variants as stage
+use Rattle.client_run.specs.declared.run.Stage.the-variants as stage
 use Rattle.exchange.specs.Course.{
   Call,
   frameArrives,

@@ -12,10 +12,10 @@ use bank_state::limits::PLACE_COUNT;
 use bank_state::search::is_booked;
 use bank_state::state::Place;
 use bank_state::store::file_of;
-use client::run::Client;
-use client::run::Direction;
-use client::run::Stage;
-use client::run::Word;
+use client_run::run::ClientRun;
+use client_run::run::Direction;
+use client_run::run::Stage;
+use client_run::run::Word;
 use libc::STDOUT_FILENO;
 use message::order_numbers::order_number_of;
 use octets::bytes::front;
@@ -154,7 +154,7 @@ fn say_row(stage: Stage, direction: Direction, h: Holding, v: [u64; VALUES]) {
 
 // What the bank has of the order of client run i, from 0 on.
 fn bank_has(
-    c: Client,
+    c: ClientRun,
     i: usize,
     rows: &[u64; STATE_SIZE],
     content: &[u8],
@@ -175,7 +175,7 @@ fn bank_has(
 
 // The row of client run i, from 0 on.
 fn say_run(
-    c: Client,
+    c: ClientRun,
     i: usize,
     rows: &[u64; STATE_SIZE],
     text: &[u8],
@@ -211,7 +211,7 @@ pub(crate) fn say_results(
     let mut i = 0;
     while i < RUN_COUNT {
         let r = u.runs[i];
-        let c = r.client;
+        let c = r.client.run;
         say_run(c, i, rows, text, orders, files);
         i += 1;
     }

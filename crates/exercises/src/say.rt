@@ -1,5 +1,5 @@
 // Texts on standard output, in which a digit stands for a value.
-use client::run::Word;
+use client_run::run::Word;
 use libc::STDOUT_FILENO;
 use octets::bytes::front;
 use print::closing::put_closing;

@@ -25,9 +25,9 @@ use Rattle.frame_table.specs.Table.{
   isForm,
 }
 use Rattle.frame_table.specs.Names.{phase, form, withTag, withWide, with}
-use Rattle.frame.specs.Row.{listed, wellFormed, highOf, lowOf, join}
+use Rattle.frame_row.specs.Row.{listed, wellFormed, highOf, lowOf, join}
 use Rattle.frame_table.specs.Names.{noFields}
-use Rattle.frame.specs.Writer.{
+use Rattle.frame_writer.specs.Writer.{
   contentOf,
   contentsOf,
   frameOf,
@@ -44,7 +44,7 @@ use Rattle.octets.proofs.Numbers.{length-bytesOf, number-bytesOf}
 use Rattle.frame_table.proofs.Tags.{has-withTag, withTag-other}
 use Rattle.frame_table.proofs.Forms.{form-tags}
 use Rattle.frame_table.proofs.Values.{width-narrow}
-use Rattle.frame.proofs.Contents.{listed-as}
+use Rattle.frame_row.proofs.Contents.{listed-as}
 use Rattle.frame.proofs.RoundTrip.{Sized}
 use Rattle.frame.proofs.Lengths.{length-join}
 

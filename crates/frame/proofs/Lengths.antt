@@ -27,8 +27,8 @@ use Rattle.frame_table.specs.Table.{
   isForm,
 }
 use Rattle.frame_table.specs.Names.{phase, form}
-use Rattle.frame.specs.Row.{piece, join}
-use Rattle.frame.specs.Writer.{
+use Rattle.frame_row.specs.Row.{piece, join}
+use Rattle.frame_writer.specs.Writer.{
   contentOf,
   contentsOf,
   frameOf,
@@ -47,8 +47,8 @@ use Rattle.frame.specs.Writer.{
 use Rattle.octets.proofs.Tests.{never, and-true}
 use Rattle.octets.proofs.Numbers.{length-bytesOf, length-fieldBytes}
 use Rattle.frame_table.proofs.Forms.{form-tags}
-use Rattle.frame.proofs.Contents.{well-formed, piece-none, piece-some}
-use Rattle.frame.proofs.Loops.{FieldWritable, field-writable, content-absent, content-number}
+use Rattle.frame_row.proofs.Contents.{well-formed, piece-none, piece-some}
+use Rattle.frame_writer.proofs.Loops.{FieldWritable, field-writable, content-absent, content-number}
 
 -- ---- the length by the table
 

@@ -25,15 +25,15 @@ use Rattle.frame_table.specs.declared.table.Values.the-variants.{Range}
 use Rattle.octets.specs.Bytes.{Bytes, number, bytesOf}
 use Rattle.frame_table.specs.Table.{tagCount, dataTag, width, valuesOf, has, isForm}
 use Rattle.frame_table.specs.Names.{form}
-use Rattle.frame.specs.Row.{contents, listed, dataOf, present, presentTags, highOf, lowOf}
-use Rattle.frame.specs.Reader.{fieldsOf, parse}
-use Rattle.frame.specs.Writer.{contentOf}
+use Rattle.frame_row.specs.Row.{contents, listed, dataOf, present, presentTags, highOf, lowOf}
+use Rattle.frame_reader.specs.Reader.{fieldsOf, parse}
+use Rattle.frame_writer.specs.Writer.{contentOf}
 use Rattle.octets.proofs.Numbers.{number-nil, number-lt}
 use Rattle.frame_table.proofs.Tags.{bit-is}
 use Rattle.frame_table.proofs.Values.{width-narrow}
-use Rattle.frame.proofs.Contents.{well-formed}
-use Rattle.frame.proofs.Loops.{FieldWritable, field-writable, content-absent, content-number}
-use Rattle.frame.proofs.Numbers.{pow-bytes}
+use Rattle.frame_row.proofs.Contents.{well-formed}
+use Rattle.frame_writer.proofs.Loops.{FieldWritable, field-writable, content-absent, content-number}
+use Rattle.frame_writer.proofs.Numbers.{pow-bytes}
 use Rattle.frame.proofs.RoundTrip.{parsed-is, parsed-says, writable-at, data-is}
 use Rattle.frame.proofs.Build.{range-listed}
 

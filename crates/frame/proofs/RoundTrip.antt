@@ -16,7 +16,7 @@ use Rattle.frame_table.specs.declared.fields.Fields.{Fields}
 use Rattle.octets.specs.Bytes.{Bytes, number, bytesOf, fieldBytes}
 use Rattle.frame_table.specs.Table.{tagCount, frameLimit, dataTag, width, has, rowFits, findForm, formOf, isForm}
 use Rattle.frame_table.specs.Names.{form}
-use Rattle.frame.specs.Row.{
+use Rattle.frame_row.specs.Row.{
   wellFormed,
   announced,
   stands,
@@ -33,15 +33,15 @@ use Rattle.frame.specs.Row.{
   piece,
   join,
 }
-use Rattle.frame.specs.Reader.{fieldsOf, parse}
+use Rattle.frame_reader.specs.Reader.{fieldsOf, parse}
 use Rattle.frame_table.specs.Names.{noFields}
-use Rattle.frame.specs.Writer.{contentOf, contentsOf, frameOf, dataWhole, fieldWritable, fieldsWritable, writable}
+use Rattle.frame_writer.specs.Writer.{contentOf, contentsOf, frameOf, dataWhole, fieldWritable, fieldsWritable, writable}
 use Rattle.octets.proofs.Tests.{never, and-true}
 use Rattle.octets.proofs.Numbers.{length-fieldBytes, bytes-drop, bytes-take, bytesOf-number}
 use Rattle.frame_table.proofs.Tags.{halves, bit-is}
 use Rattle.frame_table.proofs.Forms.{form-tags-lt}
 use Rattle.frame_table.proofs.Values.{width-narrow}
-use Rattle.frame.proofs.Contents.{
+use Rattle.frame_row.proofs.Contents.{
   well-formed,
   Stands,
   size-cases,
@@ -54,7 +54,7 @@ use Rattle.frame.proofs.Contents.{
   piece-none,
   piece-some,
 }
-use Rattle.frame.proofs.Loops.{FieldWritable, field-writable, content-absent}
+use Rattle.frame_writer.proofs.Loops.{FieldWritable, field-writable, content-absent}
 
 empty : (c : List ℕ) → length c ≡ 0 → c ≡ []
 empty [] e = refl

@@ -11,7 +11,7 @@ use Rattle.frame_table.specs.declared.table.Form.{Form}
 use Rattle.frame_table.specs.declared.table.Form.the-variants.{NoForm}
 use Rattle.frame_table.specs.Forms as forms
 use Rattle.octets.specs.Bytes.{Bytes, numberFrom, number, bytesOf, fieldBytes}
-use Rattle.frame.specs.declared.writer.Written.the-variants.{Length}
+use Rattle.frame_writer.specs.declared.writer.Written.the-variants.{Length}
 use Rattle.frame_table.specs.Table.{
   tagCount,
   phaseTag,
@@ -36,10 +36,10 @@ use Rattle.frame_table.specs.Table.{
   isForm,
 }
 use Rattle.frame_table.specs.Names.{form, with}
-use Rattle.frame.specs.Row.{spelled, listed, wellFormed, dataOf, highOf, lowOf, piece, join}
-use Rattle.frame.specs.Reader.{parse, readAs, readRequest, readReply}
+use Rattle.frame_row.specs.Row.{spelled, listed, wellFormed, dataOf, highOf, lowOf, piece, join}
+use Rattle.frame_reader.specs.Reader.{parse, readAs, readRequest, readReply}
 use Rattle.frame_table.specs.Names.{noFields}
-use Rattle.frame.specs.Writer.{
+use Rattle.frame_writer.specs.Writer.{
   contentOf,
   contentsOf,
   frameOf,
@@ -58,10 +58,10 @@ use Rattle.frame.specs.Writer.{
 }
 use Rattle.octets.proofs.Tests.{never}
 use Rattle.frame_table.proofs.Forms.{request-not-reply, reply-not-request, request-form, reply-form}
-use Rattle.frame.proofs.Loops.{field-writable}
+use Rattle.frame_writer.proofs.Loops.{field-writable}
 use Rattle.frame.proofs.RoundTrip.{Sized, parse-frameOf, dataOf-frameOf, frameOf-parse, writable-parse, writable-at}
 use Rattle.frame.proofs.Lengths.{writable-parts, form-length, length-limit, length-least, opening-length}
-use Rattle.frame.proofs.Written.{written-front}
+use Rattle.frame_writer.proofs.Written.{written-front}
 use Rattle.frame.proofs.Parsed.{numberOf, Halves, InRow, field-in-row, read-halves, in-row, read-data}
 
 -- ---- what is written is read as the same fields and data

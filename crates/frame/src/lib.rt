@@ -1,3 +1,1 @@
-// Frames: rows of fields. Reader and writer walk the tables.
-pub mod reader;
-pub mod writer;
+// The laws that frame reader and frame writer have together. Proof; no code.

@@ -13,7 +13,8 @@ use Rattle.print.specs.Text.{Put}
 use Rattle.print.proofs.Texts.{put-length, put-then}
 use Rattle.bank_state.specs.Limits.{idBytes}
 use Rattle.bank.specs.Call.{frameInput}
-use Rattle.bank.specs.Lent.{Lent, LentFrameCall, lentFrameCall}
+use Rattle.bank_steps.specs.Lent.{Lent}
+use Rattle.bank.specs.Lent.{LentFrameCall, lentFrameCall}
 use Rattle.marker_session.specs.declared.mark.Marked.{Marked}
 use Rattle.marker_session.specs.Lines.{lineRoom, headBytes, timeOf, sizeOf, frameIn, lineOf, codedLine}
 use Rattle.marker_session.specs.Marking.{MarkerState, markerState, isReady, callOf, called, calledLine, callsTo, linesTo, linesIn}

@@ -8,7 +8,7 @@ use lib.Seq.{take-append-seam, take-take}
 use Rattle.octets.specs.Bytes.{overwrite}
 use Rattle.octets.proofs.Numbers.{length-overwrite}
 use Rattle.bank_state.specs.Limits.{replyRoom}
-use Rattle.bank.specs.Lent.{Lent}
+use Rattle.bank_steps.specs.Lent.{Lent}
 use Rattle.marker_session.specs.declared.mark.Marked.{Marked}
 use Rattle.marker_session.specs.declared.session.Reading.{Reading}
 use Rattle.marker_session.specs.Marking.{MarkerState, markerState, callsTo, callsOf, linesIn, Print, printOf, markedAll}

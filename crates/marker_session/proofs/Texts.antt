@@ -6,18 +6,19 @@ use mathlib.Core.Path.{_≡_, refl}
 use native.Mathlib.Omega.{arith}
 use lib.ListN.{length, take, length-append}
 use Rattle.frame_table.specs.Names.{returnCode}
-use Rattle.frame.specs.Reader.{readRequest, readReply}
+use Rattle.frame_reader.specs.Reader.{readRequest, readReply}
 use Rattle.print.specs.Text.{codeDigits, digitCountTo, digitCount, decimal, space, newline, column}
 use Rattle.print.proofs.Digits.{length-digitsIn, column-most}
 use Rattle.bank.specs.declared.call.FrameAnswer.{FrameAnswer}
 use Rattle.bank.specs.declared.call.FrameAnswer.the-variants.{Reply, WrongLength}
 use Rattle.octets.specs.Bytes.{number}
-use Rattle.frame.specs.Row.{dataOf}
+use Rattle.frame_row.specs.Row.{dataOf}
 use Rattle.bank_state.specs.State.{BankState}
 use Rattle.bank_state.specs.Clock.{advanced}
-use Rattle.bank_rows.specs.Sound.{isSound}
+use Rattle.bank_sound.specs.Sound.{isSound}
 use Rattle.bank.specs.Call.{Step, FrameInput, respond, replied, replyCode, lentRight, frameRefused, frameCall}
-use Rattle.bank.specs.Lent.{Lent, stateOf, LentFrameCall, keptFrame, frameTurnedAway, lentFrameCall}
+use Rattle.bank_steps.specs.Lent.{Lent, stateOf}
+use Rattle.bank.specs.Lent.{LentFrameCall, keptFrame, frameTurnedAway, lentFrameCall}
 use Rattle.marker_session.specs.Lines.{codeOf, answerText, lineOf, codedText, codedLine, lineRoom}
 
 pub answer-most : (a : FrameAnswer) (buffer : List ℕ) → length (answerText a buffer) ≤ codeDigits

@@ -6,7 +6,7 @@ use lib.Dec.{leb}
 use lib.ListN.{length, take, drop}
 use Rattle.octets.specs.Bytes.{number}
 use Rattle.frame_table.specs.Names.{returnCode}
-use Rattle.frame.specs.Reader.{readReply}
+use Rattle.frame_reader.specs.Reader.{readReply}
 use Rattle.print.specs.Text.{ascii, maxDigits, codeDigits, codeText, decimal, space, newline, column}
 use Rattle.bank.specs.declared.call.FrameAnswer.{FrameAnswer}
 use Rattle.bank.specs.declared.call.FrameAnswer.the-variants.{Reply, WrongLength}

@@ -8,7 +8,8 @@ use lib.ListN.{length, drop, replicate}
 use Rattle.octets.specs.Bytes.{overwrite}
 use Rattle.bank_state.specs.Limits.{idBytes}
 use Rattle.bank.specs.Call.{frameInput}
-use Rattle.bank.specs.Lent.{Lent, LentFrameCall, lentFrameCall}
+use Rattle.bank_steps.specs.Lent.{Lent}
+use Rattle.bank.specs.Lent.{LentFrameCall, lentFrameCall}
 use Rattle.marker_session.specs.declared.mark.Marked.{Marked}
 use Rattle.marker_session.specs.Lines.{headBytes, timeOf, sizeOf, frameIn, isWhole, lineOf, lineRoom}
 

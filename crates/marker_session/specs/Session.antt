@@ -5,7 +5,7 @@ use mathlib.Core.List.{List, [], _++_}
 use lib.ListN.{length, take, replicate}
 use Rattle.bank_state.specs.Limits.{storeBytes, replyRoom}
 use Rattle.bank_rows.specs.Layout.{stateSize}
-use Rattle.bank.specs.Lent.{Lent, lent}
+use Rattle.bank_steps.specs.Lent.{Lent, lent}
 use Rattle.marker_session.specs.declared.session.Reading.{Reading}
 use Rattle.marker_session.specs.Lines.{headBytes, lineRoom}
 use Rattle.marker_session.specs.Marking.{MarkerState, markerState, callsOf, linesIn}

@@ -15,7 +15,7 @@ ghost use Prim.Native.Nat.{_+_, _≤_};
 ghost use lib.Dec.{ltb};
 ghost use lib.ListN.{length, drop};
 ghost use Rattle.marker_session.specs.Lines.{lineRoom};
-ghost use Rattle.bank.specs.Lent.{lent};
+ghost use Rattle.bank_steps.specs.Lent.{lent};
 ghost use Rattle.marker_session.specs.Marking.{isReady, markerState, stateOf, printOf, markedNext, markedAll};
 
 // The calls that can be counted.

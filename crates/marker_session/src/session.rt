@@ -15,7 +15,7 @@ ghost use Prim.Native.Nat.{_-_, _≤_, _<_};
 ghost use lib.ListN.{length, take, drop};
 ghost use Rattle.octets.specs.Bytes.{overwrite};
 ghost use Rattle.bank_rows.specs.Layout.{stateSize};
-ghost use Rattle.bank.specs.Lent.{lent};
+ghost use Rattle.bank_steps.specs.Lent.{lent};
 ghost use Rattle.marker_session.specs.Session.{readingOf, HasRoom, ReadFrom, startedWith, SessionOf};
 
 // The input held: a record of the longest frame.

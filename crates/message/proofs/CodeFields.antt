@@ -8,7 +8,7 @@ use lib.ListN.{getD}
 use borrow.Author.Tests.{ltb-true}
 use Rattle.octets.specs.Bytes.{bytesOf}
 use Rattle.frame_table.specs.Table.{returnCodeTag, allowed, inRange, width, valuesOf}
-use Rattle.frame.specs.Row.{spelled, listed}
+use Rattle.frame_row.specs.Row.{spelled, listed}
 use Rattle.octets.proofs.Tests.{and-true}
 use Rattle.message.specs.declared.codes.ReturnCode.{ReturnCode}
 use Rattle.message.specs.declared.codes.ReturnCode.the-variants as code

@@ -39,8 +39,8 @@ use Rattle.frame_table.specs.Table.{
 }
 use Rattle.frame_table.specs.Names.{form, with, withWide}
 use Rattle.frame_table.specs.Names.{noFields}
-use Rattle.frame.specs.Row.{spelled, listed}
-use Rattle.frame.specs.Writer.{frameOf, formLength, fieldWritable, writable, segmentBytes}
+use Rattle.frame_row.specs.Row.{spelled, listed}
+use Rattle.frame_writer.specs.Writer.{frameOf, formLength, fieldWritable, writable, segmentBytes}
 use Rattle.frame.proofs.RoundTrip.{Sized}
 use Rattle.frame.proofs.Lengths.{segment-fits, form-length}
 use Rattle.frame.proofs.Build.{

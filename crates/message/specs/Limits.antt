@@ -1,6 +1,6 @@
 -- The numbers of document 01 that the bank and the client share.
 use Prim.Native.Nat.{ℕ}
-pub use Rattle.frame.specs.Writer.{segmentBytes}
+pub use Rattle.frame_writer.specs.Writer.{segmentBytes}
 
 -- "over 15 segments" are too many
 abbrev pub maxSegments : ℕ

@@ -3,8 +3,8 @@ use Prim.Native.Nat.{ℕ, _≤_}
 use mathlib.Core.List.{[], _∷_, _++_}
 use native.Mathlib.Omega.{arith}
 use lib.ListN.{length, length-append}
-use Rattle.client.specs.declared.run.Word.{Word}
-use Rattle.client.specs.declared.run.Word.the-variants.{Lodged, NotLodged, Unclear, Fetched, HeldUnconfirmed, NotFetched}
+use Rattle.client_run.specs.declared.run.Word.{Word}
+use Rattle.client_run.specs.declared.run.Word.the-variants.{Lodged, NotLodged, Unclear, Fetched, HeldUnconfirmed, NotFetched}
 use Rattle.bank_state.specs.declared.state.Place.{Place}
 use Rattle.bank_state.specs.Search.{isBooked}
 use Rattle.message.specs.OrderNumbers.{orderNumberOf}

@@ -1,7 +1,7 @@
 // A closing word, written into a lent output.
 use crate::text::put_order_number;
 use crate::text::put_text;
-use client::run::Word;
+use client_run::run::Word;
 ghost use Prim.Native.Nat.{_+_, _≤_};
 ghost use lib.ListN.{length};
 ghost use Rattle.print.specs.Text.{Put};

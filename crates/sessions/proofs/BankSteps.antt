@@ -16,7 +16,7 @@ use Rattle.bank.specs.declared.mailbox.FileAnswer.the-variants as put
 use Rattle.bank.specs.Call.{FrameInput, frameInput, frameNumber, frameCall}
 use Rattle.bank.specs.Mailbox.{FileCall, fileNumber, fileCall}
 use Rattle.bank.specs.Lent.{LentFrameCall, LentFileCall, lentFrameCall, keptFile, lentFileCall}
-use Rattle.bank.specs.Lent as bank
+use Rattle.bank_steps.specs.Lent as bank
 use Rattle.bank.proofs.Lent.{lent-frame}
 use Rattle.bank_history.specs.Answers.{more}
 use Rattle.bank_history.specs.History.{Past, Frame, File, entered, placed, callExchange, pastOf}

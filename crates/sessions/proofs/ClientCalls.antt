@@ -11,23 +11,24 @@ use Rattle.octets.proofs.Numbers.{length-overwrite}
 use Rattle.octets.proofs.Tests.{never}
 use Rattle.frame_table.specs.declared.fields.Fields.{Fields}
 use Rattle.frame_table.specs.Names.{noFields}
-use Rattle.frame.specs.declared.writer.Written.{Written}
-use Rattle.frame.specs.declared.writer.Written.the-variants as written
-use Rattle.frame.specs.Reader.{readReply}
-use Rattle.frame.specs.Row.{dataOf}
+use Rattle.frame_writer.specs.declared.writer.Written.{Written}
+use Rattle.frame_writer.specs.declared.writer.Written.the-variants as written
+use Rattle.frame_reader.specs.Reader.{readReply}
+use Rattle.frame_row.specs.Row.{dataOf}
 use Rattle.message.specs.Limits.{segmentBytes, maxSegments, fileBytes}
-use Rattle.client.specs.declared.run.Answer.the-variants as answer
-use Rattle.client.specs.declared.run.Client.{Client}
-use Rattle.client.specs.declared.run.Decision.{Decision}
-use Rattle.client.specs.declared.run.Decision.the-variants.{Ignore, Opened, Advance, Return, Repeat, Close}
-use Rattle.client.specs.declared.run.Refusal.{Refusal}
-use Rattle.client.specs.declared.run.Refusal.the-variants.{WrongBuffer, ExchangeTooHigh, NoSubscriber, WrongStage}
-use Rattle.client.specs.declared.run.Ruling.{Ruling}
-use Rattle.client.specs.declared.run.Ruling.the-variants.{Refuse, Accept}
-use Rattle.client.specs.declared.run.RunParameters.{RunParameters}
-use Rattle.client.specs.declared.run.Stage.{Stage}
+use Rattle.client_run.specs.declared.run.Answer.the-variants as answer
+use Rattle.client_run.specs.declared.run.ClientRun.{ClientRun}
+use Rattle.client_run.specs.declared.run.Decision.{Decision}
+use Rattle.client_run.specs.declared.run.Decision.the-variants.{Ignore, Opened, Advance, Return, Repeat, Close}
+use Rattle.client_run.specs.declared.run.Refusal.{Refusal}
+use Rattle.client_run.specs.declared.run.Refusal.the-variants.{WrongBuffer, ExchangeTooHigh, NoSubscriber, WrongStage}
+use Rattle.client_run.specs.declared.run.Ruling.{Ruling}
+use Rattle.client_run.specs.declared.run.Ruling.the-variants.{Refuse, Accept}
+use Rattle.client_run.specs.declared.run.RunParameters.{RunParameters}
+use Rattle.client_run.specs.declared.run.Stage.{Stage}
 use Rattle.client.specs.Calls.{
   ifWritten,
+  callOf,
   outcomeOf,
   isWritten,
   requestWith,
@@ -42,26 +43,26 @@ use Rattle.client.specs.Calls.{
   admittedNoReply,
   noReplyCall,
 }
-use Rattle.client.specs.Decisions.{onReply, onNoReply}
-use Rattle.client.specs.NextRun.{isNew, fileWith, learned}
-use Rattle.client.specs.Rulings.{beginRuling, runRuling, isBegun}
-use Rattle.client.specs.Run.{Lent, ClientCall, callOf, lengthsOf, answerNumber, refusalNumber, maxExchange}
-use Rattle.client.proofs.Accepted.{accepted}
-use Rattle.client.proofs.Causes.{Cause, by-reply, by-no-reply, brought}
-use Rattle.client.proofs.Causes as cause
-use Rattle.client.proofs.Feasible.{opened-takes}
+use Rattle.client_run.specs.NextRun.{isNew, fileWith, learned}
+use Rattle.client_run.specs.Run.{Lent, ClientCall, lengthsOf, answerNumber, refusalNumber, maxExchange}
+use Rattle.client_rules.specs.Decisions.{onReply, onNoReply}
+use Rattle.client_rules.specs.Rulings.{beginRuling, runRuling, isBegun}
+use Rattle.client_rules.proofs.Accepted.{accepted}
+use Rattle.client_rules.proofs.Causes.{Cause, by-reply, by-no-reply, brought}
+use Rattle.client_rules.proofs.Causes as cause
+use Rattle.client_rules.proofs.Feasible.{opened-takes}
 use Rattle.unit.specs.declared.record.Event.{Event}
 use Rattle.unit.specs.declared.record.Event.the-variants.{Upload, Download, Reply, NoReply}
 use Rattle.unit.specs.Call.{eventCall}
 
 -- what a call to the run c that is lent l leaves
-pub record Keeps (c : Client) (l : Lent) (k : ClientCall) : Type 0 where
+pub record Keeps (c : ClientRun) (l : Lent) (k : ClientCall) : Type 0 where
   pub long : length (k .file) ≡ length (l .file)
   pub refused : (x : Refusal) → k .answer ≡ answer.Refused x → (k .run ≡ c) × (k .file ≡ l .file)
 
 -- ---- a request issued
 
-issued-keeps : (c next : Client) (file : List ℕ) (l : Lent) → length file ≡ length (l .file) →
+issued-keeps : (c next : ClientRun) (file : List ℕ) (l : Lent) → length file ≡ length (l .file) →
     Keeps c l (issued c next file l)
 unfolding issued
 issued-keeps c next file l e = at (isWritten next l)
@@ -72,7 +73,7 @@ issued-keeps c next file l e = at (isWritten next l)
     at written.Refused = record { long = refl; refused = λ x h. (refl, refl) }
 
 -- a newly held segment has its place in the file buffer
-file-long : (k : Client) (d file : List ℕ) → length file ≡ fileBytes →
+file-long : (k : ClientRun) (d file : List ℕ) → length file ≡ fileBytes →
     (isNew (k .direction) k ≡ true → (k .segment ≤ maxSegments) × (length d ≤ segmentBytes)) →
     length (fileWith k d file) ≡ length file
 unfolding fileWith
@@ -87,13 +88,13 @@ file-long k d file whole fits = at (isNew (k .direction) k) refl
         length-overwrite file ((k .segment - 1) * segmentBytes) d (omega arith)
     at false e = refl
 
-advance-fits : (c : Client) (r : Fields) (d : ℕ) → Cause c r d Advance → isNew (c .direction) c ≡ true →
+advance-fits : (c : ClientRun) (r : Fields) (d : ℕ) → Cause c r d Advance → isNew (c .direction) c ≡ true →
     (c .segment ≤ maxSegments) × (d ≤ segmentBytes)
 advance-fits c r d (cause.segment-taken w s a h) new = never (rw w at new)
 advance-fits c r d (cause.segment-brought w s a h) new =
     let b = brought c r d h .1 in (b .place, b .bytes .most)
 
-module _ (c : Client) (l : Lent) (whole : length (l .file) ≡ fileBytes) (low : c .exchange ≤ maxExchange) where
+module _ (c : ClientRun) (l : Lent) (whole : length (l .file) ≡ fileBytes) (low : c .exchange ≤ maxExchange) where
   carried-keeps : (decision : Decision) (r : Fields) (d : List ℕ) → Cause c r (length d) decision →
       Keeps c l (carryOut decision c r d l)
   unfolding taken
@@ -112,18 +113,18 @@ module _ (c : Client) (l : Lent) (whole : length (l .file) ≡ fileBytes) (low :
 
 -- ---- the calls
 
-admitted-keeps : (u : Ruling) (c : Client) (l : Lent) (done : ClientCall) → (u ≡ Accept → Keeps c l done) →
+admitted-keeps : (u : Ruling) (c : ClientRun) (l : Lent) (done : ClientCall) → (u ≡ Accept → Keeps c l done) →
     Keeps c l (ifAdmitted u c l done)
 admitted-keeps (Refuse x) c l done f = record { long = refl; refused = λ y h. (refl, refl) }
 admitted-keeps Accept c l done f = f refl
 
-begin-keeps : (c : Client) (params : RunParameters) (l : Lent) → Keeps c l (beginCall c params l)
+begin-keeps : (c : ClientRun) (params : RunParameters) (l : Lent) → Keeps c l (beginCall c params l)
 unfolding beginCall
 begin-keeps c params l =
     admitted-keeps (beginRuling c params (lengthsOf l)) c l (admittedBegin c params l)
     (λ _. issued-keeps c _ (l .file) l refl)
 
-module _ (c : Client) (l : Lent) (whole : length (l .file) ≡ fileBytes) where
+module _ (c : ClientRun) (l : Lent) (whole : length (l .file) ≡ fileBytes) where
   reply-keeps : (frame : List ℕ) → Keeps c l (replyCall c frame l)
   unfolding replyCall
   reply-keeps frame =
@@ -153,12 +154,12 @@ refusal-numbered ExchangeTooHigh z = omega arith
 refusal-numbered NoSubscriber z = omega arith
 refusal-numbered WrongStage z = omega arith
 
-is-admitted : (u : Ruling) (c : Client) (l : Lent) (done : ClientCall) →
+is-admitted : (u : Ruling) (c : ClientRun) (l : Lent) (done : ClientCall) →
     answerNumber (ifAdmitted u c l done .answer) ≡ 0 → u ≡ Accept
 is-admitted (Refuse x) c l done z = absurd (refusal-numbered x z)
 is-admitted Accept c l done z = refl
 
-module _ (c : Client) (l : Lent) where
+module _ (c : ClientRun) (l : Lent) where
   begun-by : (done : ClientCall) →
       answerNumber (ifAdmitted (runRuling (c .stage) c (lengthsOf l)) c l done .answer) ≡ 0 → isBegun (c .stage) ≡ true
   begun-by done z =

@@ -3,12 +3,12 @@
 use Prim.Native.Nat.{ℕ, _<_}
 use mathlib.Core.List.{List, [], _∷_, _++_}
 use mathlib.Core.Path.{_≡_, refl, sym, ap, _∙_, subst}
-use Rattle.client.specs.declared.run.Client.{Client}
-use Rattle.client.specs.declared.run.Stage.{Stage}
-use Rattle.client.specs.declared.run.Stage.the-variants as stage
-use Rattle.client.specs.declared.run.Word.{Word}
-use Rattle.client.specs.declared.run.Word.the-variants.{Lodged, NotLodged, Fetched}
-use Rattle.client.specs.Rulings.{isBegun}
+use Rattle.client_run.specs.declared.run.ClientRun.{ClientRun}
+use Rattle.client_run.specs.declared.run.Stage.{Stage}
+use Rattle.client_run.specs.declared.run.Stage.the-variants as stage
+use Rattle.client_run.specs.declared.run.Word.{Word}
+use Rattle.client_run.specs.declared.run.Word.the-variants.{Lodged, NotLodged, Fetched}
+use Rattle.client_rules.specs.Rulings.{isBegun}
 use Rattle.exchange.specs.Course.{
   Call,
   frameArrives,
@@ -99,22 +99,22 @@ module _ {u : State} {s : Course} (m : Same u s) (i : ℕ) (inside : i < runCoun
   own = m .runs i inside .client
 
   ended : (w : Word) → clientAt u i .stage ≡ stage.Ended w → s .runs i .stage ≡ stage.Ended w
-  ended w e = ap (λ (c : Client). c .stage) (sym own) ∙ e
+  ended w e = ap (λ (c : ClientRun). c .stage) (sym own) ∙ e
 
   held : (w : Word) → clientAt u i .stage ≡ stage.Ended w →
       heldOf (clientAt u i) (fileAt u i) ≡ heldOf (s .runs i) (s .files i)
   held w e =
-      ap (λ (c : Client). heldOf c (fileAt u i)) own
+      ap (λ (c : ClientRun). heldOf c (fileAt u i)) own
       ∙ ap (heldOf (s .runs i)) (m .runs i inside .file (ap (λ (x : Stage). isBegun x) (ended w e)))
 
 closes : {u : State} {s : Course} → Same u s → Outcome s → Closes u s
 closes {u} {s} m out = record {
   lodged = λ i h e. let x = out .lodged i (ended m i h Lodged e) in
       let o = x .1 in
-      (x .0, (o .0, o .1, o .2, o .3, o .4 ∙ ap (λ (c : Client). c .number) (sym (own m i h))));
+      (x .0, (o .0, o .1, o .2, o .3, o .4 ∙ ap (λ (c : ClientRun). c .number) (sym (own m i h))));
   notLodged = λ i h e. out .notLodged i (ended m i h NotLodged e);
   fetched = λ i h e. let x = out .fetched i (ended m i h Fetched e) in
-      (x .0, x .1, x .2 ∙ ap (λ (c : Client). c .subscriber) (sym (own m i h)), held m i h Fetched e ∙ x .3);
+      (x .0, x .1, x .2 ∙ ap (λ (c : ClientRun). c .subscriber) (sym (own m i h)), held m i h Fetched e ∙ x .3);
 }
 
 pub sessions-close : SessionsClose

@@ -11,11 +11,11 @@ use lib.Seq.{getD-set-same, getD-set-other}
 use borrow.Author.Tests.{eq-eqb, ne-eqb}
 use Rattle.message.specs.Limits.{fileBytes}
 use Rattle.bank_state.specs.Store.{fileOf}
-use Rattle.client.specs.declared.run.Answer as client
-use Rattle.client.specs.declared.run.Answer.the-variants as answer
-use Rattle.client.specs.declared.run.Client.{Client}
-use Rattle.client.specs.Rulings.{isBegun}
-use Rattle.client.specs.Run.{Lent, ClientCall, lentOf, answerNumber}
+use Rattle.client_run.specs.declared.run.Answer as client
+use Rattle.client_run.specs.declared.run.Answer.the-variants as answer
+use Rattle.client_run.specs.declared.run.ClientRun.{ClientRun}
+use Rattle.client_run.specs.Run.{Lent, ClientCall, lentOf, answerNumber}
+use Rattle.client_rules.specs.Rulings.{isBegun}
 use Rattle.exchange.specs.Course.{Call, Course, callNumber, changed, carryOut, exec}
 use Rattle.exchange.proofs.Calls.{numbered-stays, carried}
 use Rattle.unit.specs.declared.record.Event.{Event}
@@ -46,7 +46,7 @@ use Rattle.sessions.proofs.Standing.{SameRunAt, Standing, Stepped}
 
 -- ---- a call of a run in the course
 
-module _ (i : ℕ) (c : Client) (r : List ℕ) (l : Lent) where
+module _ (i : ℕ) (c : ClientRun) (r : List ℕ) (l : Lent) where
   number-is : (e : Event) → callNumber (runCallOf e i c r l) ≡ answerNumber (eventCall e c r l .answer)
   number-is Upload = refl
   number-is Download = refl
@@ -80,10 +80,10 @@ module _ {A : Type 0} (f : ℕ → A) (i : ℕ) (a : A) where
   changed-other j other = ap (λ (b : Bool). cond b a (f j)) (ne-eqb j i other)
 
 -- the same run by equal parts
-by-parts : {a a′ c c′ : Client} {p p′ f f′ q q′ g g′ : List ℕ} → a ≡ a′ → p ≡ p′ → f ≡ f′ → c ≡ c′ → q ≡ q′ → g ≡ g′ →
+by-parts : {a a′ c c′ : ClientRun} {p p′ f f′ q q′ g g′ : List ℕ} → a ≡ a′ → p ≡ p′ → f ≡ f′ → c ≡ c′ → q ≡ q′ → g ≡ g′ →
     SameRun a′ p′ f′ c′ q′ g′ → SameRun a p f c q g
 by-parts ea ep ef ec eq eg h =
-    let begun = ap (λ (x : Client). isBegun (x .stage)) (sym ec) in
+    let begun = ap (λ (x : ClientRun). isBegun (x .stage)) (sym ec) in
     record {
       client = ea ∙ h .client ∙ sym ec;
       payload = λ b. ep ∙ h .payload (begun ∙ b) ∙ sym eq;
@@ -92,7 +92,7 @@ by-parts ea ep ef ec eq eg h =
 
 -- ---- what a call keeps of the record
 
-next-client : (kept : Bool) (run : Run) (c : Client) (nonce : List ℕ) (n : ℕ) → nextRun kept run c nonce n .client ≡ c
+next-client : (kept : Bool) (run : Run) (c : ClientRun) (nonce : List ℕ) (n : ℕ) → nextRun kept run c nonce n .client .run ≡ c
 next-client true run c nonce n = refl
 next-client false run c nonce n = refl
 
@@ -101,7 +101,7 @@ module _ (d : List ℕ) (whole : length d ≡ roomsBytes) (i : ℕ) (inside : i 
   kept-room true fits = length-room d whole i inside body (fits refl)
   kept-room false fits = whole
 
-  kept-own : (kept : Bool) → (kept ≡ true → length body ≤ fileBytes) → (run : Run) (c : Client) (nonce : List ℕ) →
+  kept-own : (kept : Bool) → (kept ≡ true → length body ≤ fileBytes) → (run : Run) (c : ClientRun) (nonce : List ℕ) →
       fileOf (keptPayloads kept d i body) i (nextRun kept run c nonce (length body) .payload)
       ≡ cond kept body (fileOf d i (run .payload))
   kept-own true fits run c nonce = room-file d whole i inside body (fits refl)
@@ -126,7 +126,7 @@ module _ {u : State} {s : Course} (v : Standing u s) (r : List ℕ) (e : Event) 
   l = lentTo e i u r
 
   abbrev o : ClientCall
-  o = eventCall e (run .client) r l
+  o = eventCall e (run .client .run) r l
 
   abbrev body : List ℕ
   body = bodyOf (kind.Run e) r
@@ -141,8 +141,8 @@ module _ {u : State} {s : Course} (v : Standing u s) (r : List ℕ) (e : Event) 
   unfolding lentTo
   file-whole = length-part (u .memory .files) (v .files) i inside
 
-  known : calls.Keeps (run .client) l o
-  known = event-keeps (run .client) l file-whole e r
+  known : calls.Keeps (run .client .run) l o
+  known = event-keeps (run .client .run) l file-whole e r
 
   left-whole : length (o .file) ≡ fileBytes
   left-whole = known .long ∙ file-whole
@@ -153,7 +153,7 @@ module _ {u : State} {s : Course} (v : Standing u s) (r : List ℕ) (e : Event) 
       let nonce = cond (unit.begins e) (nonceOf r) (run .nonce) in
       let held = payloadAt u i in
       let lent = lentOf (timeOf r) nonce (cond (unit.begins e) body held) (u .memory .files) (u .memory .buffer) in
-      kept-fits e (run .client) i r lent body held (unit.begins e) kept (roomCall e (run .client) i r lent) refl refl
+      kept-fits e (run .client .run) i r lent body held (unit.begins e) kept (roomCall e (run .client .run) i r lent) refl refl
       refl refl refl h
 
   -- the run itself
@@ -163,7 +163,7 @@ module _ {u : State} {s : Course} (v : Standing u s) (r : List ℕ) (e : Event) 
   run-set = getD-set-same (u .unit .runs) i _ _ (let n = v .count in omega arith)
 
   own-client : clientAt next i ≡ o .run
-  own-client = ap (λ (x : Run). x .client) run-set ∙ next-client kept run (o .run) (l .nonce) (length body)
+  own-client = ap (λ (x : Run). x .client .run) run-set ∙ next-client kept run (o .run) (l .nonce) (length body)
 
   own-payload : payloadAt next i ≡ cond kept body (payloadAt u i)
   unfolding runStep runCall roomCall lentTo
@@ -183,7 +183,7 @@ module _ {u : State} {s : Course} (v : Standing u s) (r : List ℕ) (e : Event) 
     other-set = getD-set-other (u .unit .runs) i j _ _ other
 
     other-client : clientAt next j ≡ clientAt u j
-    other-client = ap (λ (x : Run). x .client) other-set
+    other-client = ap (λ (x : Run). x .client .run) other-set
 
     other-payload : payloadAt next j ≡ payloadAt u j
     unfolding runStep runCall roomCall lentTo
@@ -212,7 +212,7 @@ module _ {u : State} {s : Course} (v : Standing u s) (r : List ℕ) (e : Event) 
   }
 
   -- given a number: nothing changed
-  stays : kept ≡ false → (o .run ≡ run .client) × (o .file ≡ l .file) → Standing next s
+  stays : kept ≡ false → (o .run ≡ run .client .run) × (o .file ≡ l .file) → Standing next s
   unfolding lentTo
   stays zero same = stands s refl (λ j h. at j h (ℕ-discrete j i))
     where
@@ -228,14 +228,14 @@ module _ {u : State} {s : Course} (v : Standing u s) (r : List ℕ) (e : Event) 
           by-parts (other-client j z) (other-payload j z) (other-file j z) refl refl refl (v .runs j h)
 
   -- given none: run i is what the call leaves
-  moves : kept ≡ unit.begins e → (t : Course) → Carried i (run .client) r l s t o → Standing next t
+  moves : kept ≡ unit.begins e → (t : Course) → Carried i (run .client .run) r l s t o → Standing next t
   unfolding lentTo
   moves is t k = stands t (k .bank) (λ j h. at j h (ℕ-discrete j i))
     where
       own : SameRunAt next t i
       own =
           by-parts own-client (own-payload ∙ ap (λ (b : Bool). cond b body (payloadAt u i)) is) own-file
-          (ap (λ (f : ℕ → Client). f i) (k .runs) ∙ changed-own (s .runs) i (o .run))
+          (ap (λ (f : ℕ → ClientRun). f i) (k .runs) ∙ changed-own (s .runs) i (o .run))
           (ap (λ (f : ℕ → List ℕ). f i) (k .payloads) ∙ changed-own (s .payloads) i (l .payload))
           (ap (λ (f : ℕ → List ℕ). f i) (k .files) ∙ changed-own (s .files) i (o .file))
           (record { client = refl; payload = λ _. refl; file = λ _. refl })
@@ -244,7 +244,7 @@ module _ {u : State} {s : Course} (v : Standing u s) (r : List ℕ) (e : Event) 
       at j h (yes z) = subst (λ (n : ℕ). SameRunAt next t n) (sym z) own
       at j h (no z) =
           by-parts (other-client j z) (other-payload j z) (other-file j z)
-          (ap (λ (f : ℕ → Client). f j) (k .runs) ∙ changed-other (s .runs) i (o .run) j z)
+          (ap (λ (f : ℕ → ClientRun). f j) (k .runs) ∙ changed-other (s .runs) i (o .run) j z)
           (ap (λ (f : ℕ → List ℕ). f j) (k .payloads) ∙ changed-other (s .payloads) i (l .payload) j z)
           (ap (λ (f : ℕ → List ℕ). f j) (k .files) ∙ changed-other (s .files) i (o .file) j z)
           (v .runs j h)
@@ -257,8 +257,8 @@ module _ {u : State} {s : Course} (v : Standing u s) (r : List ℕ) (e : Event) 
 
       given-none : kept ≡ unit.begins e → answerNumber (o .answer) ≡ 0 → Standing next (exec (runOf e u r) s)
       given-none is z =
-          subst (Standing next) (sym (carried (runOf e u r) s (number-is i (run .client) r l e ∙ z)))
-          (moves is (carryOut (runOf e u r) s) (run-carried i (run .client) r l e s))
+          subst (Standing next) (sym (carried (runOf e u r) s (number-is i (run .client .run) r l e ∙ z)))
+          (moves is (carryOut (runOf e u r) s) (run-carried i (run .client .run) r l e s))
 
       at : (a : client.Answer) → o .answer ≡ a → Standing next (exec (runOf e u r) s)
       at (answer.Request n) z = given-none (ap (keeps (unit.begins e)) z) (ap answerNumber z)
@@ -267,7 +267,7 @@ module _ {u : State} {s : Course} (v : Standing u s) (r : List ℕ) (e : Event) 
       at (answer.Refused x) z =
           subst (Standing next)
           (sym (numbered-stays (runOf e u r) s
-          (λ n. refusal-numbered x (sym (number-is i (run .client) r l e ∙ ap answerNumber z) ∙ n))))
+          (λ n. refusal-numbered x (sym (number-is i (run .client .run) r l e ∙ ap answerNumber z) ∙ n))))
           (stays (ap (keeps (unit.begins e)) z) (known .refused x z))
 
 -- ---- what the call gets
@@ -277,7 +277,7 @@ module _ {u : State} {s : Course} (v : Standing u s) (r : List ℕ) (inside : in
   j = indexOf r
 
   begun : isBegun (clientAt u j .stage) ≡ true → isBegun (s .runs j .stage) ≡ true
-  begun b = ap (λ (x : Client). isBegun (x .stage)) (sym (v .runs j inside .client)) ∙ b
+  begun b = ap (λ (x : ClientRun). isBegun (x .stage)) (sym (v .runs j inside .client)) ∙ b
 
   run-given : (e : Event) → callNumber (runOf e u r) ≡ 0 → Given (runOf e u r) s
   unfolding lentTo

@@ -7,14 +7,14 @@ use mathlib.Core.Path.{_≡_, refl, sym, ap, _∙_}
 use lib.ListN.{length, replicate, length-replicate, getD-replicate}
 use borrow.Author.Tests.{eq-eqb}
 use Rattle.octets.proofs.Tests.{never}
-use Rattle.bank_rows.specs.Sound.{isSound}
-use Rattle.bank.specs.Lent as bank
+use Rattle.bank_sound.specs.Sound.{isSound}
+use Rattle.bank_steps.specs.Lent as bank
 use Rattle.bank_history.specs.Answers.{AllBytes, none}
 use Rattle.bank_history.specs.History.{BankCall, pastOf}
 use Rattle.bank_history.specs.History as history
 use Rattle.bank_history.specs.OnRows as rows
 use Rattle.bank_history.proofs.OnRows.{on-rows}
-use Rattle.client.specs.Run.{nonceBytes}
+use Rattle.client_run.specs.Run.{nonceBytes}
 use Rattle.exchange.specs.Course.{Call, Course, start, callNumber, exec}
 use Rattle.unit.specs.declared.record.Kind.{Kind}
 use Rattle.unit.specs.declared.state.Run.{Run}
@@ -92,7 +92,7 @@ fresh-standing = record {
   payloads = length-replicate {A = ℕ} roomsBytes 0;
   files = length-replicate {A = ℕ} roomsBytes 0;
   runs = λ i h. record {
-    client = ap (λ (x : Run). x .client) (getD-replicate runCount i _ _ h);
+    client = ap (λ (x : Run). x .client .run) (getD-replicate runCount i _ _ h);
     payload = λ b. never b;
     file = λ b. never b;
   };

@@ -8,21 +8,21 @@ use lib.ListN.{take, replicate}
 use Rattle.octets.specs.Bytes.{Bytes}
 use Rattle.frame_table.specs.Forms as forms
 use Rattle.frame_table.specs.Names.{subscriber}
-use Rattle.frame.specs.Reader.{readRequest}
+use Rattle.frame_reader.specs.Reader.{readRequest}
 use Rattle.bank_state.specs.Limits.{storeBytes, replyRoom}
 use Rattle.bank_state.specs.Store.{partAt, fileOf}
 use Rattle.bank_rows.specs.Layout.{stateSize}
 use Rattle.bank.specs.Call.{frameInput, frameCall}
 use Rattle.bank.specs.Mailbox.{fileCall}
-use Rattle.bank.specs.Lent.{lent}
-use Rattle.bank.specs.Lent as bank
-use Rattle.client.specs.declared.run.Client.{Client}
-use Rattle.client.specs.declared.run.Direction.the-variants as direction
-use Rattle.client.specs.declared.run.Stage.the-variants as stage
-use Rattle.client.specs.declared.run.Word.the-variants.{Lodged, NotLodged, Fetched}
+use Rattle.bank_steps.specs.Lent.{lent}
+use Rattle.bank_steps.specs.Lent as bank
+use Rattle.client_run.specs.declared.run.ClientRun.{ClientRun}
+use Rattle.client_run.specs.declared.run.Direction.the-variants as direction
+use Rattle.client_run.specs.declared.run.Stage.the-variants as stage
+use Rattle.client_run.specs.declared.run.Word.the-variants.{Lodged, NotLodged, Fetched}
 use Rattle.client.specs.Calls.{beginCall, replyCall, noReplyCall}
-use Rattle.client.specs.Rulings.{isBegun}
-use Rattle.client.specs.Run.{Lent, ClientCall, lentOf}
+use Rattle.client_run.specs.Run.{Lent, ClientCall, lentOf}
+use Rattle.client_rules.specs.Rulings.{isBegun}
 use Rattle.exchange.specs.Course.{
   Call,
   frameArrives,
@@ -73,8 +73,8 @@ unitAfter u [] = u
 unitAfter u (r ∷ rs) = unitAfter (unitCall u r .state) rs
 
 -- run i of the unit, from 0 on: the client, and the payload that it keeps
-abbrev pub clientAt : State → ℕ → Client
-clientAt u i = runAt (u .unit .runs) i .client
+abbrev pub clientAt : State → ℕ → ClientRun
+clientAt u i = runAt (u .unit .runs) i .client .run
 
 abbrev pub payloadAt : State → ℕ → List ℕ
 payloadAt u i = fileOf (u .memory .payloads) i (runAt (u .unit .runs) i .payload)
@@ -103,7 +103,7 @@ lentTo e i u r =
     lentOf (timeOf r) nonce payload (fileAt u i) (u .memory .buffer)
 
 -- `U`, `D`, `R`, `N`: a call of run i
-abbrev pub runCallOf : Event → ℕ → Client → List ℕ → Lent → Call
+abbrev pub runCallOf : Event → ℕ → ClientRun → List ℕ → Lent → Call
 runCallOf Upload i c r l = begins i c (paramsOf direction.Upload r) l
 runCallOf Download i c r l = begins i c (paramsOf direction.Download r) l
 runCallOf Reply i c r l = replyArrives i c (bodyOf (kind.Run Reply) r) l
@@ -189,7 +189,7 @@ AtEach P (k ∷ ks) s = (callNumber k ≡ 0 → P k s) × AtEach P ks (exec k s)
 -- ---- THE CLAIM
 
 -- a run of the unit is that of the course: the client, and once begun its payload and its file buffer
-pub record SameRun (own : Client) (kept buffer : List ℕ) (c : Client) (p f : List ℕ) : Type 0 where
+pub record SameRun (own : ClientRun) (kept buffer : List ℕ) (c : ClientRun) (p f : List ℕ) : Type 0 where
   pub client : own ≡ c
   pub payload : isBegun (c .stage) ≡ true → kept ≡ p
   pub file : isBegun (c .stage) ≡ true → buffer ≡ f

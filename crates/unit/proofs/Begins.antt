@@ -9,17 +9,17 @@ use lib.Dec.{eqb}
 use borrow.Author.Tests.{eqb-true}
 use Rattle.octets.proofs.Tests.{never, and-true}
 use Rattle.message.specs.Limits.{fileBytes}
-use Rattle.client.specs.declared.run.Client.{Client}
-use Rattle.client.specs.declared.run.Ruling.{Ruling}
-use Rattle.client.specs.declared.run.Ruling.the-variants.{Refuse, Accept}
-use Rattle.client.specs.declared.run.RunParameters.{RunParameters}
-use Rattle.client.specs.Run.{Lent, ClientCall, lengthsOf}
-use Rattle.client.specs.Rulings.{beginRuling}
+use Rattle.client_run.specs.declared.run.ClientRun.{ClientRun}
+use Rattle.client_run.specs.declared.run.Ruling.{Ruling}
+use Rattle.client_run.specs.declared.run.Ruling.the-variants.{Refuse, Accept}
+use Rattle.client_run.specs.declared.run.RunParameters.{RunParameters}
+use Rattle.client_run.specs.Run.{Lent, ClientCall, lengthsOf}
+use Rattle.client_rules.specs.Rulings.{beginRuling}
 use Rattle.client.specs.Calls.{ifAdmitted, admittedBegin, beginCall}
-use Rattle.client.proofs.Accepted as accepted
-use Rattle.client.proofs.Accepted.{Serves}
-use Rattle.client.specs.declared.run.Answer.{Answer}
-use Rattle.client.specs.declared.run.Answer.the-variants as answer
+use Rattle.client_run.specs.declared.run.Answer.{Answer}
+use Rattle.client_run.specs.declared.run.Answer.the-variants as answer
+use Rattle.client_rules.proofs.Accepted as accepted
+use Rattle.client_rules.proofs.Accepted.{Serves}
 use Rattle.unit.specs.declared.record.Event.{Event}
 use Rattle.unit.specs.declared.record.Event.the-variants.{Upload, Download, Reply, NoReply}
 use Rattle.unit.specs.declared.record.Kind.the-variants.{Run}
@@ -27,7 +27,7 @@ use Rattle.unit.specs.Records.{headOf, sizeOf, bodyOf}
 use Rattle.unit.specs.State.{roomsBytes}
 use Rattle.unit.specs.Call.{begins, roomCall, keeps, roomsRight}
 
-module _ (c : Client) (params : RunParameters) (l : Lent) where
+module _ (c : ClientRun) (params : RunParameters) (l : Lent) where
   serves-at : (u : Ruling) → beginRuling c params (lengthsOf l) ≡ u
       → keeps true (ifAdmitted u c l (admittedBegin c params l) .answer) ≡ true → Serves (params .direction) (lengthsOf l)
   serves-at (Refuse x) e h = never h
@@ -43,7 +43,7 @@ only-begin begin answer.Ignored h = h
 only-begin begin (answer.Closed w) h = h
 only-begin begin (answer.Refused x) h = never h
 
-kept-fits-at : (e : Event) (c : Client) (i : ℕ) (r : List ℕ) (l : Lent) (body held : List ℕ)
+kept-fits-at : (e : Event) (c : ClientRun) (i : ℕ) (r : List ℕ) (l : Lent) (body held : List ℕ)
     → l .payload ≡ cond (begins e) body held → body ≡ bodyOf (Run e) r → keeps (begins e) (roomCall e c i r l .answer) ≡ true
     → length body ≤ fileBytes
 unfolding roomCall bodyOf sizeOf
@@ -53,7 +53,7 @@ kept-fits-at Reply c i r l body held p q h = never (only-begin false (roomCall R
 kept-fits-at NoReply c i r l body held p q h = never (only-begin false (roomCall NoReply c i r l .answer) h)
 
 -- the payload that a begin keeps fits into its room
-pub kept-fits : (e : Event) (c : Client) (i : ℕ) (r : List ℕ) (l : Lent) (body held : List ℕ) (begin kept : Bool) (o : ClientCall)
+pub kept-fits : (e : Event) (c : ClientRun) (i : ℕ) (r : List ℕ) (l : Lent) (body held : List ℕ) (begin kept : Bool) (o : ClientCall)
     → begin ≡ begins e → l .payload ≡ cond begin body held → body ≡ bodyOf (Run e) r → o ≡ roomCall e c i r l
     → kept ≡ keeps begin (o .answer) → kept ≡ true → length body ≤ fileBytes
 kept-fits e c i r l body held begin kept o eb p q eo ek h =

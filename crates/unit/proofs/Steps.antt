@@ -9,11 +9,11 @@ use borrow.Rule.Slice.PartMut.{putMid, midOf}
 use Rattle.message.specs.Limits.{fileBytes}
 use Rattle.bank_state.specs.Store.{partAt, withPart, fileOf}
 use Rattle.bank_state.proofs.Stores.{part-back}
-use Rattle.bank.specs.Lent.{Lent}
-use Rattle.client.specs.declared.run.Client.{Client}
-use Rattle.client.specs.declared.run.Outcome.{Outcome}
-use Rattle.client.specs.Run as client
-use Rattle.client.specs.Run.{lentOf}
+use Rattle.bank_steps.specs.Lent.{Lent}
+use Rattle.client_run.specs.declared.run.ClientRun.{ClientRun}
+use Rattle.client.specs.declared.calls.Outcome.{Outcome}
+use Rattle.client_run.specs.Run.{lentOf}
+use Rattle.client.specs.Calls as client
 use Rattle.unit.specs.declared.record.Event.{Event}
 use Rattle.unit.specs.declared.record.Kind.{Kind}
 use Rattle.unit.specs.declared.record.Kind.the-variants as kind
@@ -53,7 +53,7 @@ unfolding withPart
 part-kept files x i h e = part-back files x (i * fileBytes) fileBytes h e
 
 -- a client's call with the file buffer of run i
-pub roomed : (e : Event) (c : Client) (i : ℕ) (r : List ℕ) (time : ℕ) (nonce payload files buffer : List ℕ)
+pub roomed : (e : Event) (c : ClientRun) (i : ℕ) (r : List ℕ) (time : ℕ) (nonce payload files buffer : List ℕ)
     (out : Outcome) (file file′ files′ buffer′ : List ℕ)
     → file ≡ partAt files i → files′ ≡ withPart files i file′
     → client.callOf out file′ buffer′ ≡ eventCall e c r (lentOf time nonce payload file buffer)
@@ -67,9 +67,9 @@ pub ran : (run : Run) (i : ℕ) (bank : Lent) (payloads files buffer r : List �
     (kept : Bool) (payloads′ : List ℕ) (run′ : Run) (answer : Answer)
     → begin ≡ begins e → nonce ≡ cond begin (nonceOf r) (run .nonce) → body ≡ bodyOf (kind.Run e) r
     → held ≡ fileOf payloads i (run .payload) → payload ≡ cond begin body held
-    → client.callOf out files′ buffer′ ≡ roomCall e (run .client) i r (lentOf (timeOf r) nonce payload files buffer)
+    → client.callOf out files′ buffer′ ≡ roomCall e (run .client .run) i r (lentOf (timeOf r) nonce payload files buffer)
     → kept ≡ keeps begin (out .answer) → payloads′ ≡ keptPayloads kept payloads i body
-    → run′ ≡ nextRun kept run (out .run) nonce (length body) → answer ≡ runAnswer (out .answer) (out .run)
+    → run′ ≡ nextRun kept run (out .client .run) nonce (length body) → answer ≡ runAnswer (out .answer) (out .client .run)
     → runCallOf (record { run = run′; answer = answer }) (memory bank payloads′ files′ buffer′)
     ≡ runCall e i run (memory bank payloads files buffer) r
 unfolding runCall

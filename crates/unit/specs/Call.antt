@@ -11,15 +11,16 @@ use Rattle.bank.specs.declared.call.FrameAnswer.the-variants as frame-answer
 use Rattle.bank.specs.declared.mailbox.FileAnswer.{FileAnswer}
 use Rattle.bank.specs.declared.mailbox.FileAnswer.the-variants as file-answer
 use Rattle.bank.specs.Call.{frameInput, frameNumber}
-use Rattle.bank.specs.Lent.{lent, lentFrameCall, lentFileCall}
+use Rattle.bank_steps.specs.Lent.{lent}
+use Rattle.bank.specs.Lent.{lentFrameCall, lentFileCall}
 use Rattle.bank.specs.Mailbox.{fileNumber}
-use Rattle.client.specs.declared.run.Answer as client
-use Rattle.client.specs.declared.run.Answer.the-variants as client-answer
-use Rattle.client.specs.declared.run.Client.{Client}
-use Rattle.client.specs.declared.run.Direction.{Direction}
-use Rattle.client.specs.declared.run.Direction.the-variants as direction
-use Rattle.client.specs.declared.run.RunParameters.{RunParameters}
-use Rattle.client.specs.Run.{Lent, ClientCall, parametersOf, lentOf, refusalNumber}
+use Rattle.client_run.specs.declared.run.Answer as client
+use Rattle.client_run.specs.declared.run.Answer.the-variants as client-answer
+use Rattle.client_run.specs.declared.run.ClientRun.{ClientRun}
+use Rattle.client_run.specs.declared.run.Direction.{Direction}
+use Rattle.client_run.specs.declared.run.Direction.the-variants as direction
+use Rattle.client_run.specs.declared.run.RunParameters.{RunParameters}
+use Rattle.client_run.specs.Run.{Lent, ClientCall, parametersOf, lentOf, refusalNumber}
 use Rattle.client.specs.Calls.{beginCall, replyCall, noReplyCall}
 use Rattle.unit.specs.declared.record.Event.{Event}
 use Rattle.unit.specs.declared.record.Event.the-variants.{Upload, Download, Reply, NoReply}
@@ -81,7 +82,7 @@ fileAnswer file-answer.NoMailbox = Number (fileNumber file-answer.NoMailbox)
 fileAnswer file-answer.WrongFile = Number (fileNumber file-answer.WrongFile)
 fileAnswer file-answer.MailboxFull = Number (fileNumber file-answer.MailboxFull)
 
-abbrev pub runAnswer : client.Answer → Client → Answer
+abbrev pub runAnswer : client.Answer → ClientRun → Answer
 runAnswer (client-answer.Request n) c = Request n
 runAnswer client-answer.Ignored c = Ignored
 runAnswer (client-answer.Closed w) c = Closed w (c .number)
@@ -119,14 +120,14 @@ paramsOf way r = parametersOf way (subscriberOf r) (firstOf r)
 
 -- "begin, as an upload", "begin, as a download", "reply arrived", "no reply": a client's call by the event of the
 -- record r
-abbrev pub eventCall : Event → Client → List ℕ → Lent → ClientCall
+abbrev pub eventCall : Event → ClientRun → List ℕ → Lent → ClientCall
 eventCall Upload c r l = beginCall c (paramsOf direction.Upload r) l
 eventCall Download c r l = beginCall c (paramsOf direction.Download r) l
 eventCall Reply c r l = replyCall c (bodyOf (kind.Run Reply) r) l
 eventCall NoReply c r l = noReplyCall c l
 
 -- the same where the file buffers of all runs are lent, of which the client has that of run i
-unfoldable pub roomCall : Event → Client → ℕ → List ℕ → Lent → ClientCall
+unfoldable pub roomCall : Event → ClientRun → ℕ → List ℕ → Lent → ClientCall
 roomCall e c i r l =
     let o = eventCall e c r (lentOf (l .time) (l .nonce) (l .payload) (partAt (l .file) i) (l .request)) in
     record {
@@ -145,9 +146,9 @@ keeps begin client-answer.Ignored = begin
 keeps begin (client-answer.Closed w) = begin
 keeps begin (client-answer.Refused x) = false
 
-abbrev pub nextRun : Bool → Run → Client → List ℕ → ℕ → Run
-nextRun true run next nonce n = record { client = next; nonce = nonce; payload = n }
-nextRun false run next nonce n = record { client = next; nonce = run .nonce; payload = run .payload }
+abbrev pub nextRun : Bool → Run → ClientRun → List ℕ → ℕ → Run
+nextRun true run next nonce n = record { client = record { run = next }; nonce = nonce; payload = n }
+nextRun false run next nonce n = record { client = record { run = next }; nonce = run .nonce; payload = run .payload }
 
 abbrev pub keptPayloads : Bool → List ℕ → ℕ → List ℕ → List ℕ
 keptPayloads true payloads i payload = withPart payloads i payload
@@ -168,7 +169,7 @@ runCall e i run m r =
     let body = bodyOf (kind.Run e) r in
     let nonce = cond (begins e) (nonceOf r) (run .nonce) in
     let payload = cond (begins e) body (fileOf (m .payloads) i (run .payload)) in
-    let o = roomCall e (run .client) i r (lentOf (timeOf r) nonce payload (m .files) (m .buffer)) in
+    let o = roomCall e (run .client .run) i r (lentOf (timeOf r) nonce payload (m .files) (m .buffer)) in
     let kept = keeps (begins e) (o .answer) in
     record {
       run = nextRun kept run (o .run) nonce (length body);

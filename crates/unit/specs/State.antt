@@ -3,8 +3,9 @@ use Prim.Native.Nat.{ℕ, _*_}
 use mathlib.Core.List.{List, []}
 use lib.ListN.{replicate, getD}
 use Rattle.message.specs.Limits.{fileBytes}
-use Rattle.bank.specs.Lent.{Lent}
-use Rattle.client.specs.Run.{nonceBytes, notBegun}
+use Rattle.bank_steps.specs.Lent.{Lent}
+use Rattle.client_run.specs.Run.{nonceBytes}
+use Rattle.client.specs.Calls.{newClient}
 use Rattle.unit.specs.declared.state.Run.{Run}
 use Rattle.unit.specs.declared.state.UnitState.{UnitState}
 use Rattle.unit.specs.Records.{runCount}
@@ -15,7 +16,7 @@ roomsBytes = runCount * fileBytes
 
 -- a run not begun, with no payload
 abbrev pub newRun : List ℕ → Run
-newRun nonce = record { client = notBegun; nonce = nonce; payload = 0 }
+newRun nonce = record { client = newClient; nonce = nonce; payload = 0 }
 
 -- "16 client runs, numbered 1 to 16, none begun"
 unfoldable pub fresh : UnitState

@@ -16,14 +16,14 @@ use bank::mailbox::FileAnswer;
 use bank::mailbox::put_file;
 use bank_state::store::append;
 use bank_state::store::file_of;
-use client::run::Answer as ClientAnswer;
-use client::run::Client;
-use client::run::Direction;
-use client::run::NONCE_BYTES;
-use client::run::Outcome;
-use client::run::RunParameters;
-use client::run::Word;
-use client::run::refusal_number;
+use client::calls::Client;
+use client::calls::Outcome;
+use client_run::run::Answer as ClientAnswer;
+use client_run::run::Direction;
+use client_run::run::NONCE_BYTES;
+use client_run::run::RunParameters;
+use client_run::run::Word;
+use client_run::run::refusal_number;
 use message::limits::FILE_BYTES;
 use octets::bytes::copy;
 ghost use mathlib.Core.Path.{_≡_};
@@ -32,9 +32,9 @@ ghost use mathlib.Core.List.{List};
 ghost use Prim.Native.Nat.{ℕ, _≤_, _<_};
 ghost use lib.ListN.{length};
 ghost use Rattle.message.specs.Limits.{fileBytes};
-ghost use Rattle.bank.specs.Lent.{Lent, lent};
-ghost use Rattle.client.specs.Calls.{beginCall};
-ghost use Rattle.client.specs.Run.{lentOf, callOf};
+ghost use Rattle.bank_steps.specs.Lent.{Lent, lent};
+ghost use Rattle.client_run.specs.Run.{lentOf};
+ghost use Rattle.client.specs.Calls.{callOf, beginCall};
 ghost use Rattle.unit.specs.Records.{headOf, timeOf, nonceOf, runOf, isRun, runCount};
 ghost use Rattle.unit.specs.declared.state.UnitState.{UnitState};
 ghost use Rattle.unit.specs.State.{roomsBytes, memory, stateOf};
@@ -93,12 +93,12 @@ fn file_answer(answer: FileAnswer) -> Answer
 
 // What a client's answer says.
 fn run_answer(answer: ClientAnswer, client: Client) -> Answer
-    ensures { λ r. ⌜ r ≡ runAnswer answer client ⌝ }
+    ensures { λ r. ⌜ r ≡ runAnswer answer (client .run) ⌝ }
 {
     match answer {
         ClientAnswer::Request(n) => Answer::Request(n),
         ClientAnswer::Ignored => Answer::Ignored,
-        ClientAnswer::Closed(w) => Answer::Closed(w, client.number),
+        ClientAnswer::Closed(w) => Answer::Closed(w, client.run.number),
         ClientAnswer::Refused(x) => Answer::Number(refusal_number(x)),
     }
 }
@@ -220,7 +220,7 @@ fn begin(
     buffer: &mut [u8],
 ) -> Outcome
     ensures { λ r. ⌜ callOf r (now (file .exit)) (now (buffer .exit))
-        ≡ beginCall client (paramsOf direction (now («record» .entry)))
+        ≡ beginCall (client .run) (paramsOf direction (now («record» .entry)))
         (lentOf (timeOf (now («record» .entry))) nonce (now (payload .entry)) (now (file .entry))
         (now (buffer .entry))) ⌝ }
 {
@@ -239,7 +239,7 @@ fn event_call(
     buffer: &mut [u8],
 ) -> Outcome
     ensures { λ r. ⌜ callOf r (now (file .exit)) (now (buffer .exit))
-        ≡ eventCall event client (now («record» .entry))
+        ≡ eventCall event (client .run) (now («record» .entry))
         (lentOf (timeOf (now («record» .entry))) nonce (now (payload .entry)) (now (file .entry))
         (now (buffer .entry))) ⌝ }
 {
@@ -282,7 +282,7 @@ fn room_call(
 ) -> Outcome
     requires { ⌜ (i < runCount) × (length (now files) ≡ roomsBytes) ⌝ }
     ensures { λ r. ⌜ callOf r (now (files .exit)) (now (buffer .exit))
-        ≡ roomCall event client i (now («record» .entry))
+        ≡ roomCall event (client .run) i (now («record» .entry))
         (lentOf (timeOf (now («record» .entry))) nonce (now (payload .entry)) (now (files .entry))
         (now (buffer .entry))) ⌝ }
 {
@@ -313,7 +313,7 @@ fn keeps(begin: bool, answer: ClientAnswer) -> bool
 
 // The run after a call.
 fn next_run(kept: bool, run: Run, client: Client, nonce: [u8; NONCE_BYTES], payload: u64) -> Run
-    ensures { λ r. ⌜ r ≡ nextRun kept run client nonce payload ⌝ }
+    ensures { λ r. ⌜ r ≡ nextRun kept run (client .run) nonce payload ⌝ }
 {
     if kept {
         return Run {
@@ -373,7 +373,7 @@ fn run_event(
         buffer,
     );
     let answer = o.answer;
-    let after = o.run;
+    let after = o.client;
     let kept = keeps(begin, answer);
     keep_payload(kept, payloads, i, body);
     let next = next_run(kept, run, after, nonce, body.len() as u64);

@@ -1,7 +1,7 @@
 // The unit's client runs, with what each keeps between its calls. The bank's state is in lent rows.
 use crate::record::RUN_COUNT;
-use client::run::Client;
-use client::run::NONCE_BYTES;
+use client::calls::Client;
+use client_run::run::NONCE_BYTES;
 use message::limits::FILE_BYTES;
 ghost use mathlib.Core.Path.{_≡_};
 ghost use Prim.Native.Nat.{_<_};

@@ -5,10 +5,10 @@ use native.Mathlib.Omega.{arith}
 use lib.ListN.{length}
 use borrow.Author.Tests.{not-true, not-false}
 use Rattle.bank_state.specs.Limits.{storeBytes, idBytes}
-use Rattle.bank_rows.specs.Sound.{isSound}
-use Rattle.bank_rows.proofs.Test.{sound-laid, sound-range}
+use Rattle.bank_sound.specs.Sound.{isSound}
+use Rattle.bank_sound.proofs.Test.{sound-laid, sound-range}
 use Rattle.bank.specs.Call.{lentRight, frameInput}
-use Rattle.bank.specs.Lent.{lent}
+use Rattle.bank_steps.specs.Lent.{lent}
 use Rattle.bank.proofs.Accepted.{lengths-right}
 use Rattle.bank.proofs.Lent.{advanced-prepared, length-refused, rows-refused, frame-carried}
 use borrow.Author.Needs.{needs}

@@ -6,7 +6,7 @@ use Rattle.bank_state.specs.State.{fileLength}
 use Rattle.bank_rows.specs.State.{bankOf}
 use Rattle.bank_verdicts.specs.Judgement.{judge}
 use Rattle.bank.specs.Call.{respond}
-use Rattle.bank.specs.Lent.{lent}
+use Rattle.bank_steps.specs.Lent.{lent}
 use Rattle.bank.proofs.Lent.{respond-kept}
 use borrow.Author.Needs.{needs}
 use Rattle.bank.proofs.call.respond.Statement.{statement}

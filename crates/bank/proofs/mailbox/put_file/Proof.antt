@@ -7,9 +7,9 @@ use borrow.Author.Tests.{not-true, not-false}
 use types.Run.{OneOf, miss}
 use denote.Enum.Declared.{tagOf}
 use Rattle.bank_rows.specs.State.{bankOf, Laid}
-use Rattle.bank_rows.specs.Sound.{isSound}
+use Rattle.bank_sound.specs.Sound.{isSound}
 use Rattle.bank_rows.proofs.State.{stored-own}
-use Rattle.bank_rows.proofs.Test.{sound-laid}
+use Rattle.bank_sound.proofs.Test.{sound-laid}
 use Rattle.bank.proofs.mailbox.FileAnswer.{the-type}
 use Rattle.bank.specs.declared.mailbox.FileAnswer.{FileAnswer}
 use Rattle.bank.specs.declared.mailbox.FileAnswer.the-variants.{Done, WrongLength, NoMailbox}

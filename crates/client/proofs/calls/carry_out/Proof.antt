@@ -3,9 +3,9 @@ use Prim.Native.Nat.{_^_, _<_}
 use mathlib.Core.Path.{_≡_, refl, subst}
 use native.Mathlib.Omega.{arith}
 use lib.ListN.{length}
-use Rattle.client.specs.declared.run.Decision.{Decision}
-use Rattle.client.proofs.Causes.{Cause, cause}
-use Rattle.client.proofs.Feasible.{opened-takes, advance-takes, return-fits, return-left, repeat-fits}
+use Rattle.client_run.specs.declared.run.Decision.{Decision}
+use Rattle.client_rules.proofs.Causes.{Cause, cause}
+use Rattle.client_rules.proofs.Feasible.{opened-takes, advance-takes, return-fits, return-left, repeat-fits}
 use borrow.Author.Needs.{needs}
 use Rattle.client.proofs.calls.carry_out.Statement.{statement}
 use Rattle.client.proofs.calls.carry_out.Tie as tie

@@ -3,13 +3,13 @@ use mathlib.Core.Bool.{true}
 use mathlib.Core.Path.{_≡_, sym, _∙_}
 use native.Mathlib.Omega.{arith}
 use borrow.Author.Needs.{needs}
-use Rattle.client.specs.declared.run.Client.{Client}
-use Rattle.client.specs.NextRun.{isNew, fileWith}
-use Rattle.client.proofs.NextRuns.{new-next}
+use Rattle.client_run.specs.declared.run.ClientRun.{ClientRun}
+use Rattle.client_run.specs.NextRun.{isNew, fileWith}
+use Rattle.client_run.proofs.NextRuns.{new-next}
 use Rattle.client.proofs.calls.hold.Statement.{statement}
 use Rattle.client.proofs.calls.hold.Tie as tie
 
-abbrev run-of : tie.Then1 → Client
+abbrev run-of : tie.Then1 → ClientRun
 run-of c = c .before .before .before .before .args .c
 
 -- the segment is newly held

@@ -1,7 +1,7 @@
 -- `issue` meets its contract. Assumes nothing.
 use mathlib.Core.Path.{sym}
 use Rattle.client.specs.Calls.{isWritten, requestWith}
-use Rattle.client.specs.Run.{lentOf}
+use Rattle.client_run.specs.Run.{lentOf}
 use Rattle.client.proofs.Issues.{issued-is, if-same}
 use borrow.Author.Needs.{needs}
 use Rattle.client.proofs.calls.issue.Statement.{statement}

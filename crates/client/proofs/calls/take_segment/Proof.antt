@@ -1,10 +1,10 @@
 -- `take_segment` meets its contract. Assumes nothing.
 use mathlib.Core.Path.{ap, _∙_}
 use Rattle.client.specs.Calls.{isWritten, requestWith, taken}
-use Rattle.client.specs.NextRun.{goOn, fileWith}
-use Rattle.client.specs.Run.{lentOf}
+use Rattle.client_run.specs.NextRun.{goOn, fileWith}
+use Rattle.client_run.specs.Run.{lentOf}
 use Rattle.client.proofs.Issues.{issued-is}
-use Rattle.client.proofs.NextRuns.{holding-exchange}
+use Rattle.client_run.proofs.NextRuns.{holding-exchange}
 use borrow.Author.Needs.{needs}
 use Rattle.client.proofs.calls.take_segment.Statement.{statement}
 use Rattle.client.proofs.calls.take_segment.Tie as tie

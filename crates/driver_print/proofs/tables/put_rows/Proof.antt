@@ -1,6 +1,6 @@
 -- `put_rows` meets its contract. The loop keeps that the first i rows are written. Assumes nothing.
 use Prim.Native.Nat.{_-_}
-use Rattle.bank.specs.Lent.{lent}
+use Rattle.bank_steps.specs.Lent.{lent}
 use Rattle.print.proofs.Texts.{put-length}
 use Rattle.print.proofs.Rows.{Rows, rows-start, rows-left, rows-next, rows-end}
 use Rattle.driver_print.specs.Tables.{rowAt, rowCount, rowRoom}

@@ -3,7 +3,7 @@ use native.Mathlib.Omega.{arith}
 use Prim.Native.Nat.{_-_}
 use mathlib.Core.Path.{_≡_, refl, _∙_}
 use lib.ListN.{length}
-use Rattle.bank.specs.Lent.{lent}
+use Rattle.bank_steps.specs.Lent.{lent}
 use Rattle.unit.specs.State.{fresh, memory, stateOf}
 use Rattle.driver_session.specs.Session.{Calls}
 use Rattle.driver_session.proofs.Sessions.{start-calls, calls-on}

@@ -10,7 +10,7 @@ use lib.ListN.{length, drop}
 use borrow.Author.Tests.{ltb-true}
 use Rattle.octets.proofs.Tests.{and-true}
 use Rattle.marker_session.specs.Marking.{isReady, markerState}
-use Rattle.bank.specs.Lent.{lent}
+use Rattle.bank_steps.specs.Lent.{lent}
 use Rattle.print.proofs.Texts.{put-length, put-nothing}
 use Rattle.marker_session.proofs.Lines.{Marking, marking-next, marking-end}
 use Rattle.marker_session.proofs.mark.mark.Statement.{statement}

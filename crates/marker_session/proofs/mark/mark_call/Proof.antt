@@ -4,7 +4,7 @@ use native.Mathlib.Omega.{arith}
 use Prim.Native.Nat.{_+_, _^_, _≤_, _<_}
 use lib.ListN.{length, drop, length-drop}
 use Rattle.marker_session.specs.Lines.{headBytes, sizeOf}
-use Rattle.bank.specs.Lent.{lent}
+use Rattle.bank_steps.specs.Lent.{lent}
 use Rattle.marker_session.proofs.Calls.{Readied, readied}
 use Rattle.marker_session.proofs.Lines.{marked-call}
 use borrow.Author.Needs.{needs}

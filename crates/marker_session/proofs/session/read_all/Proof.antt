@@ -2,7 +2,7 @@
 use mathlib.Core.Path.{_≡_, refl, _∙_}
 use native.Mathlib.Omega.{arith}
 use lib.ListN.{length}
-use Rattle.bank.specs.Lent.{lent}
+use Rattle.bank_steps.specs.Lent.{lent}
 use Rattle.marker_session.specs.Session.{ReadFrom, startedWith}
 use Rattle.marker_session.proofs.Parts.{reads-begin, reads-next}
 use Rattle.marker_session.proofs.session.read_all.Statement.{statement}

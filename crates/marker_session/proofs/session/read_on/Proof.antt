@@ -5,7 +5,7 @@ use native.Mathlib.Omega.{arith}
 use lib.ListN.{length}
 use lib.Seq.{length-take-le}
 use borrow.Author.Needs.{needs}
-use Rattle.bank.specs.Lent.{lent}
+use Rattle.bank_steps.specs.Lent.{lent}
 use Rattle.marker_session.proofs.Parts.{read-part}
 use Rattle.marker_session.proofs.session.read_on.Statement.{statement}
 use Rattle.marker_session.proofs.session.read_on.Tie as tie

@@ -1,0 +1,2 @@
+-- The laws of the clock's steps.
+pub mod Steps

@@ -1,0 +1,2 @@
+// The one test of the bank's rows.
+pub mod sound;

@@ -1,0 +1,172 @@
+-- What a verdict on a request leaves alone, and what it does where its transaction is open. Assumes nothing.
+use Prim.Native.Nat.{ℕ, _<_, _≤_}
+use mathlib.Core.List.{List, [], _∷_}
+use mathlib.Core.Path.{_≡_, refl, sym, ap, _∙_}
+use native.Mathlib.Omega.{arith}
+use lib.ListN.{length}
+use borrow.Author.Tests.{lt-ltb, le-ltb, lt-leb, le-leb}
+use types.Run.{OneOf, miss}
+use denote.Enum.Declared.{tagOf}
+use Rattle.frame_table.specs.declared.fields.Bits128.{Bits128}
+use Rattle.frame_table.specs.declared.fields.Fields.{Fields}
+use Rattle.frame_table.specs.Names.{subscriber}
+use Rattle.message.specs.declared.codes.ReturnCode.the-variants as code
+use Rattle.bank_state.specs.State.{Bank}
+use Rattle.bank_state.specs.declared.state.Download.{Download}
+use Rattle.bank_state.specs.declared.state.Place.{Place}
+use Rattle.bank_state.specs.Limits.{placeCount}
+use Rattle.bank_state.specs.State.{BankState, bankState, placeAt, downloadAt, withPlace}
+use Rattle.bank_state.specs.Store.{partAt, withPart}
+use Rattle.bank_verdicts.specs.declared.verdict.Action.{Action}
+use Rattle.bank_verdicts.specs.declared.verdict.Action.the-variants as action
+use Rattle.bank_verdicts.specs.declared.verdict.Direction.{Direction}
+use Rattle.bank_verdicts.specs.declared.verdict.Direction.the-variants as direction
+use Rattle.bank_verdicts.specs.declared.verdict.DownloadAction.{DownloadAction}
+use Rattle.bank_verdicts.specs.declared.verdict.DownloadAction.the-variants as down
+use Rattle.bank_verdicts.specs.declared.verdict.TransactionRequest.{TransactionRequest}
+use Rattle.bank_verdicts.specs.declared.verdict.UploadAction.{UploadAction}
+use Rattle.bank_verdicts.specs.declared.verdict.Verdict.{Verdict}
+use Rattle.bank_verdicts.specs.declared.verdict.Verdict.the-variants as verdict
+use Rattle.bank_verdicts.specs.Judgement.{transactionOf, mailboxSegments, accepted, judgeOpening}
+use Rattle.bank_verdicts.specs.Judgement.{judgeUpload, judgeDownload, uploadAt, downloadOf, judgeOpen, judgeTransaction}
+use Rattle.bank_verdicts.specs.Refusals.{notOpen, transactionRows}
+use Rattle.bank_verdicts.proofs.Sound.{OpeningSound, UploadSound, DownloadSound}
+use Rattle.bank_verdicts.proofs.Sound.{judged-opening, judged-upload, judged-download}
+use Rattle.bank_verdicts.proofs.Sound as sound
+use Rattle.bank_verdicts.proofs.verdict.DownloadAction as actions
+use Rattle.bank_verdicts.proofs.verdict.Verdict.{the-type}
+use Rattle.bank_openings.specs.Openings.{openUpload, openDownload}
+use Rattle.bank_uploads.specs.Uploads.{UploadStep, uploadStep}
+use Rattle.bank_steps.specs.Steps.{onUpload, uploadActs, staying, onDownload, downloadActs, carryOut}
+use Rattle.bank_steps.specs.Steps.{uploadVerdict, downloadVerdict}
+
+-- the verdicts that are of no transaction
+abbrev pub ofNoneKeys : List ℕ
+ofNoneKeys = 0 ∷ 1 ∷ []
+
+-- they change nothing
+pub of-none : (v : Verdict) (w : BankState) (q : Fields) (d : List ℕ) →
+    OneOf ofNoneKeys (tagOf the-type v) → w ≡ carryOut v w q d
+of-none verdict.Unreadable w q d k = refl
+of-none (verdict.Refused c) w q d k = refl
+of-none (verdict.Of t a) w q d k = absurd (miss ofNoneKeys 2 tt k)
+
+-- ---- an opening of a transaction
+
+module _ (first : ℕ) (b : Bank) (q : Fields) {t : Bits128} {a : Action} where
+  opens-by : (dir : Direction) (v : Verdict) → OpeningSound first b q dir v → v ≡ verdict.Of t a
+      → v ≡ accepted dir first b q
+  opens-by dir v (sound.refused d c h) e = absurd (let z : _≡_ {A = ℕ} 0 1 = cc in omega arith)
+  opens-by dir v (sound.upload acc some free) e = refl
+  opens-by dir v (sound.download acc full) e = refl
+
+  -- one that acts on a transaction is accepted
+  opens : (dir : Direction) → judgeOpening dir first b q ≡ verdict.Of t a
+      → judgeOpening dir first b q ≡ accepted dir first b q
+  opens dir e = opens-by dir (judgeOpening dir first b q) (judged-opening first b q dir) e
+
+  module _ (o m d : List ℕ) where
+    pub upload-opened : judgeOpening direction.Upload first b q ≡ verdict.Of t a
+        → bankState (openUpload t (b .openings) q b) o m
+        ≡ carryOut (judgeOpening direction.Upload first b q) (bankState b o m) q d
+    upload-opened e =
+        let known = opens direction.Upload e in
+        let same : t ≡ transactionOf first b = cc in
+        ap (λ (id : Bits128). bankState (openUpload id (b .openings) q b) o m) same
+        ∙ sym (ap (λ (v : Verdict). carryOut v (bankState b o m) q d) known)
+
+    pub download-opened : judgeOpening direction.Download first b q ≡ verdict.Of t a
+        → bankState (openDownload t q b) o m
+        ≡ carryOut (judgeOpening direction.Download first b q) (bankState b o m) q d
+    download-opened e =
+        let known = opens direction.Download e in
+        let same : t ≡ transactionOf first b = cc in
+        ap (λ (id : Bits128). bankState (openDownload id q b) o m) same
+        ∙ sym (ap (λ (v : Verdict). carryOut v (bankState b o m) q d) known)
+
+-- ---- a request to an open transaction opens none
+
+module _ (t : Bits128) (w : BankState) (q : Fields) (d : List ℕ) where
+  upload-acts-by : (r : TransactionRequest) (p : Place) (a : UploadAction) → UploadSound r p q a →
+      uploadActs a t w q d ≡ onUpload a (uploadAt (w .bank) q) w d
+  upload-acts-by r p a (sound.took fits other mark) = refl
+  upload-acts-by r p a (sound.tookLast fits last mark) = refl
+  upload-acts-by r p a (sound.uploadPoint none few) = refl
+  upload-acts-by r p a (sound.abort none many) = refl
+  upload-acts-by r p a (sound.underrun fits below mark) = refl
+  upload-acts-by r p a (sound.exceeded fits last mark) = refl
+
+  pub upload-acts : (r : TransactionRequest) (p : Place) →
+      uploadActs (judgeUpload r p q) t w q d ≡ onUpload (judgeUpload r p q) (uploadAt (w .bank) q) w d
+  upload-acts r p = upload-acts-by r p (judgeUpload r p q) (judged-upload r p q)
+
+  download-acts-by : (r : TransactionRequest) (e : Download) (n : ℕ) (a : DownloadAction) → DownloadSound r e n q a →
+      downloadActs a t w q ≡ onDownload a (downloadOf (w .bank) q) w q
+  download-acts-by r e n a (sound.delivered asked next most) = refl
+  download-acts-by r e n a (sound.sentAgain asked some most few) = refl
+  download-acts-by r e n a (sound.downloadPoint none few) = refl
+  download-acts-by r e n a (sound.cancelled none many) = refl
+  download-acts-by r e n a (sound.confirmed asked all zero) = refl
+  download-acts-by r e n a (sound.declined asked all other) = refl
+
+  pub download-acts : (r : TransactionRequest) (e : Download) (n : ℕ) →
+      downloadActs (judgeDownload r e n q) t w q ≡ onDownload (judgeDownload r e n q) (downloadOf (w .bank) q) w q
+  download-acts r e n = download-acts-by r e n (judgeDownload r e n q) (judged-download e n q r)
+
+-- the step of the upload in place i, put back
+pub landed : (i : ℕ) (w : BankState) (r : TransactionRequest) (q : Fields) (d : List ℕ) {s : UploadStep}
+    → s ≡ uploadStep (w .bank .clock) r (placeAt (w .bank) i) q d (partAt (w .orders) i)
+    → bankState (withPlace i (s .place) (w .bank)) (withPart (w .orders) i (s .bytes)) (w .mailboxes)
+    ≡ onUpload (judgeUpload r (placeAt (w .bank) i) q) i w d
+unfolding uploadStep
+landed i w r q d h =
+    ap (λ (s : UploadStep).
+    bankState (withPlace i (s .place) (w .bank)) (withPart (w .orders) i (s .bytes)) (w .mailboxes)) h
+
+-- what a request to the open transaction that was found does
+pub upload-acts-at : (i : ℕ) (w : BankState) (r : TransactionRequest) (q : Fields) (d : List ℕ)
+    → i ≡ uploadAt (w .bank) q
+    → onUpload (judgeUpload r (placeAt (w .bank) i) q) i w d ≡ carryOut (uploadVerdict r i (w .bank) q) w q d
+upload-acts-at i w r q d e =
+    let p = placeAt (w .bank) i in
+    ap (λ (k : ℕ). onUpload (judgeUpload r p q) k w d) e ∙ sym (upload-acts (p .transaction) w q d r p)
+
+pub download-acts-at : (j : ℕ) (w : BankState) (r : TransactionRequest) (q : Fields) (d : List ℕ)
+    → j ≡ downloadOf (w .bank) q → let e = downloadAt (w .bank) j in
+    onDownload (judgeDownload r e (mailboxSegments (subscriber q) (w .bank)) q) j w q
+    ≡ carryOut (downloadVerdict r j (w .bank) q) w q d
+download-acts-at j w r q d e =
+    let x = downloadAt (w .bank) j in
+    let n = mailboxSegments (subscriber q) (w .bank) in
+    ap (λ (k : ℕ). onDownload (judgeDownload r x n q) k w q) e ∙ sym (download-acts (x .transaction) w q d r x n)
+
+-- the actions that keep a download open, and an opening's
+abbrev stayingKeys : List ℕ
+stayingKeys = 0 ∷ 1 ∷ 2 ∷ 3 ∷ []
+
+pub stays : (a : DownloadAction) (j : ℕ) (w : BankState) (q : Fields) → OneOf stayingKeys (tagOf actions.the-type a)
+    → staying a j w ≡ onDownload a j w q
+stays (down.Opened n) j w q k = refl
+stays (down.Delivered n) j w q k = refl
+stays (down.SentAgain n) j w q k = refl
+stays (down.Point d) j w q k = refl
+stays down.Cancelled j w q k = absurd (miss stayingKeys 4 tt k)
+stays down.Confirmed j w q k = absurd (miss stayingKeys 5 tt k)
+stays down.Declined j w q k = absurd (miss stayingKeys 6 tt k)
+
+-- ---- where a transaction is found, its verdict
+
+module _ (r : TransactionRequest) (b : Bank) (q : Fields) (n : ℕ) where
+  pub in-upload : {i : ℕ} → i ≡ uploadAt b q → i < placeCount → judgeTransaction r b q n ≡ uploadVerdict r i b q
+  unfolding judgeTransaction transactionRows notOpen judgeOpen
+  in-upload {i} e h =
+      rw (← e, lt-leb placeCount i h, lt-ltb i placeCount h)
+
+  module _ {i j : ℕ} (e : i ≡ uploadAt b q) (h : placeCount ≤ i) (f : j ≡ downloadOf b q) where
+    pub in-download : j < placeCount → judgeTransaction r b q n ≡ downloadVerdict r j b q
+    unfolding judgeTransaction transactionRows notOpen judgeOpen
+    in-download k = rw (← e, ← f, le-leb placeCount i h, lt-leb placeCount j k, le-ltb i placeCount h)
+
+    pub in-none : placeCount ≤ j → judgeTransaction r b q n ≡ verdict.Refused code.UnknownTransaction
+    unfolding judgeTransaction transactionRows notOpen judgeOpen
+    in-none k = rw (← e, ← f, le-leb placeCount i h, le-leb placeCount j k)

@@ -1,0 +1,8 @@
+-- The laws that several proofs, and the crates above, cite.
+pub mod Accepted
+pub mod Safety
+pub mod Carried
+pub mod Judged
+pub mod Held
+pub mod Range
+pub mod Lent

@@ -1,0 +1,3 @@
+-- The definitions of the client's rules.
+pub mod Rulings
+pub mod Decisions

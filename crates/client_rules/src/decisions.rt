@@ -1,0 +1,445 @@
+// What fits each step of a run, and what each event leads to.
+use client_run::run::ClientRun;
+use client_run::run::Decision;
+use client_run::run::Direction;
+use client_run::run::Step;
+use client_run::run::Word;
+use frame_table::fields::Fields;
+use frame_table::fields::same;
+use frame_table::table::Form;
+use frame_table::table::ReplyForm;
+use frame_table::table::RequestForm;
+use frame_table::table::is_reply_form;
+use message::codes::ReturnCode;
+use message::codes::code_field;
+use message::limits::INITIALISATION_PHASE;
+use message::limits::MAX_ATTEMPTS;
+use message::limits::MAX_SEGMENTS;
+use message::limits::RECEIPT_PHASE;
+use message::limits::SEGMENT_BYTES;
+use message::limits::TRANSFER_PHASE;
+use message::segments::last_mark_of;
+ghost use mathlib.Core.Path.{_≡_};
+ghost use mathlib.Core.Bool.{cond};
+ghost use lib.Dec.{eqb};
+ghost use Rattle.message.specs.Limits.{initialisationPhase, transferPhase};
+ghost use Rattle.client_rules.specs.Decisions.{requestIndex, replyIndex, formIndex, says, isOwn, closingWord, restWord};
+ghost use Rattle.client_rules.specs.Decisions.{mayRepeat, endsUpload, answersSegment, fitsData, fitsSegment, isPoint};
+ghost use Rattle.client_rules.specs.Decisions.{goesBack, uploadReturns, downloadReturns, opensDownload, lodges};
+ghost use Rattle.client_rules.specs.Decisions.{takesSegment, bringsSegment, confirms};
+ghost use Rattle.client_rules.specs.Decisions.{onUpload, onDownload, onAnswer, isAnswer, onReply, onNoReply};
+
+// The place of a form in document 01's list, requests first.
+fn request_index(form: RequestForm) -> u64
+    ensures { λ r. ⌜ r ≡ requestIndex form ⌝ }
+{
+    match form {
+        RequestForm::UploadOpening => 1,
+        RequestForm::DownloadOpening => 2,
+        RequestForm::UploadTransfer => 3,
+        RequestForm::DownloadTransfer => 4,
+        RequestForm::Receipt => 5,
+    }
+}
+
+fn reply_index(form: ReplyForm) -> u64
+    ensures { λ r. ⌜ r ≡ replyIndex form ⌝ }
+{
+    match form {
+        ReplyForm::UploadOpened => 6,
+        ReplyForm::DownloadOpened => 7,
+        ReplyForm::SegmentTaken => 8,
+        ReplyForm::DownloadSegment => 9,
+        ReplyForm::ReceiptAnswered => 10,
+        ReplyForm::Unreadable => 11,
+        ReplyForm::Refusal => 12,
+    }
+}
+
+fn form_index(form: Form) -> u64
+    ensures { λ r. ⌜ r ≡ formIndex form ⌝ }
+{
+    match form {
+        Form::NoForm => 0,
+        Form::Request(x) => request_index(x),
+        Form::Reply(x) => reply_index(x),
+    }
+}
+
+// Whether the reply is of this form, with this code and this phase.
+fn says(form: Form, code: ReturnCode, phase: u64, r: Fields) -> bool
+    ensures { λ b. ⌜ b ≡ says form code phase r ⌝ }
+{
+    if form_index(r.form()) != form_index(form) {
+        return false;
+    }
+    if r.return_code() != code_field(code) {
+        return false;
+    }
+    r.phase() == phase
+}
+
+// Whether the reply has the run's transaction ID.
+fn is_own(c: ClientRun, r: Fields) -> bool
+    ensures { λ b. ⌜ b ≡ isOwn c r ⌝ }
+{
+    let own = c.transaction;
+    same(r.transaction(), own)
+}
+
+// The closing word of an upload where nothing else is said.
+fn upload_word(c: ClientRun) -> Word
+    ensures { λ w. ⌜ w ≡ closingWord Direction.Upload c ⌝ }
+{
+    if c.issued < c.segments {
+        return Word::NotLodged;
+    }
+    Word::Unclear
+}
+
+// The closing word of a download where nothing else is said.
+fn download_word(c: ClientRun) -> Word
+    ensures { λ w. ⌜ w ≡ closingWord Direction.Download c ⌝ }
+{
+    if c.receipted {
+        return Word::HeldUnconfirmed;
+    }
+    Word::NotFetched
+}
+
+// The closing word where nothing else is said.
+pub(crate) fn rest_word(c: ClientRun) -> Word
+    ensures { λ w. ⌜ w ≡ restWord c ⌝ }
+{
+    let direction = c.direction;
+    match direction {
+        Direction::Upload => upload_word(c),
+        Direction::Download => download_word(c),
+    }
+}
+
+// Whether another repeat or return is left.
+pub(crate) fn may_repeat(c: ClientRun) -> bool
+    ensures { λ b. ⌜ b ≡ mayRepeat c ⌝ }
+{
+    c.repeats < MAX_ATTEMPTS
+}
+
+// Whether the reply is a refusal that ends an upload as not lodged.
+fn ends_upload(r: Fields) -> bool
+    ensures { λ b. ⌜ b ≡ endsUpload r ⌝ }
+{
+    if says(
+        Form::Reply(ReplyForm::Refusal),
+        ReturnCode::TransactionAbort,
+        TRANSFER_PHASE,
+        r,
+    ) {
+        return true;
+    }
+    if says(
+        Form::Reply(ReplyForm::Refusal),
+        ReturnCode::SegmentNumberExceeded,
+        TRANSFER_PHASE,
+        r,
+    ) {
+        return true;
+    }
+    says(
+        Form::Reply(ReplyForm::Refusal),
+        ReturnCode::SegmentNumberUnderrun,
+        TRANSFER_PHASE,
+        r,
+    )
+}
+
+// Whether the reply answers the outstanding segment in this form, its data aside.
+fn answers_segment(form: Form, c: ClientRun, r: Fields) -> bool
+    ensures { λ b. ⌜ b ≡ answersSegment form c r ⌝ }
+{
+    if !says(form, ReturnCode::Ok, TRANSFER_PHASE, r) {
+        return false;
+    }
+    if !is_own(c, r) {
+        return false;
+    }
+    r.segment() == c.segment
+}
+
+// Whether d bytes of data fit segment s of n.
+fn fits_data(s: u64, n: u64, d: usize) -> bool
+    ensures { λ b. ⌜ b ≡ fitsData s n d ⌝ }
+{
+    if s != n {
+        return d == SEGMENT_BYTES;
+    }
+    if d < 1 {
+        return false;
+    }
+    d <= SEGMENT_BYTES
+}
+
+// Whether the reply's last mark and d bytes of data fit segment s of n.
+fn fits_segment(s: u64, n: u64, d: usize, r: Fields) -> bool
+    ensures { λ b. ⌜ b ≡ fitsSegment s n d r ⌝ }
+{
+    if MAX_SEGMENTS < s {
+        return false;
+    }
+    if r.last_mark() != last_mark_of(s, n) {
+        return false;
+    }
+    fits_data(s, n, d)
+}
+
+// The phase of a recovery point after a segment; it is 1 after segment `first` alone.
+fn point_phase(segment: u64, first: u64) -> u64
+    ensures { λ p. ⌜ p ≡ cond (eqb segment first) initialisationPhase transferPhase ⌝ }
+{
+    if segment == first {
+        return INITIALISATION_PHASE;
+    }
+    TRANSFER_PHASE
+}
+
+// Whether the reply is a recovery point of the run.
+fn is_point(first: u64, c: ClientRun, r: Fields) -> bool
+    ensures { λ b. ⌜ b ≡ isPoint first c r ⌝ }
+{
+    let phase = point_phase(r.segment(), first);
+    if !says(
+        Form::Reply(ReplyForm::SegmentTaken),
+        ReturnCode::RecoverySync,
+        phase,
+        r,
+    ) {
+        return false;
+    }
+    is_own(c, r)
+}
+
+// Whether the reply is a recovery point to go on from: below a number of segments, at most the last reached, and a
+// return left.
+fn goes_back(first: u64, below: u64, reached: u64, c: ClientRun, r: Fields) -> bool
+    ensures { λ b. ⌜ b ≡ goesBack first below reached c r ⌝ }
+{
+    if !is_point(first, c, r) {
+        return false;
+    }
+    let point = r.segment();
+    if below <= point {
+        return false;
+    }
+    if reached < point {
+        return false;
+    }
+    may_repeat(c)
+}
+
+// Whether the reply is a recovery point that an upload goes on from.
+fn upload_returns(c: ClientRun, r: Fields) -> bool
+    ensures { λ b. ⌜ b ≡ uploadReturns c r ⌝ }
+{
+    goes_back(0, c.segments, c.issued, c, r)
+}
+
+// Whether the reply is a recovery point that a download goes on from.
+fn download_returns(c: ClientRun, r: Fields) -> bool
+    ensures { λ b. ⌜ b ≡ downloadReturns c r ⌝ }
+{
+    goes_back(1, MAX_SEGMENTS + 1, c.held, c, r)
+}
+
+// Whether the reply, with d bytes of data, answers a download's opening.
+fn opens_download(d: usize, r: Fields) -> bool
+    ensures { λ b. ⌜ b ≡ opensDownload d r ⌝ }
+{
+    if !says(
+        Form::Reply(ReplyForm::DownloadOpened),
+        ReturnCode::Ok,
+        INITIALISATION_PHASE,
+        r,
+    ) {
+        return false;
+    }
+    if r.segment() != 1 {
+        return false;
+    }
+    let n = r.segments();
+    if n < 1 {
+        return false;
+    }
+    if MAX_SEGMENTS < n {
+        return false;
+    }
+    fits_segment(1, n, d, r)
+}
+
+// An upload's opening is outstanding.
+fn on_upload_opening(c: ClientRun, r: Fields) -> Decision
+    ensures { λ e. ⌜ e ≡ onUpload Step.Opening c r ⌝ }
+{
+    if says(
+        Form::Reply(ReplyForm::UploadOpened),
+        ReturnCode::Ok,
+        INITIALISATION_PHASE,
+        r,
+    ) {
+        return Decision::Opened;
+    }
+    Decision::Close(rest_word(c))
+}
+
+// Whether the reply answers segment N of an upload.
+fn lodges(c: ClientRun, r: Fields) -> bool
+    ensures { λ b. ⌜ b ≡ lodges c r ⌝ }
+{
+    if !answers_segment(Form::Reply(ReplyForm::SegmentTaken), c, r) {
+        return false;
+    }
+    c.segment == c.segments
+}
+
+// Whether the reply answers an earlier segment of an upload.
+fn takes_segment(c: ClientRun, r: Fields) -> bool
+    ensures { λ b. ⌜ b ≡ takesSegment c r ⌝ }
+{
+    if !answers_segment(Form::Reply(ReplyForm::SegmentTaken), c, r) {
+        return false;
+    }
+    c.segment < c.segments
+}
+
+// An upload's segment is outstanding.
+fn on_upload_segment(c: ClientRun, r: Fields) -> Decision
+    ensures { λ e. ⌜ e ≡ onUpload Step.Segment c r ⌝ }
+{
+    if lodges(c, r) {
+        return Decision::Close(Word::Lodged);
+    }
+    if takes_segment(c, r) {
+        return Decision::Advance;
+    }
+    if upload_returns(c, r) {
+        return Decision::Return(r.segment());
+    }
+    if ends_upload(r) {
+        return Decision::Close(Word::NotLodged);
+    }
+    Decision::Close(rest_word(c))
+}
+
+// A download's opening is outstanding.
+fn on_download_opening(c: ClientRun, r: Fields, d: usize) -> Decision
+    ensures { λ e. ⌜ e ≡ onDownload Step.Opening c r d ⌝ }
+{
+    if opens_download(d, r) {
+        return Decision::Opened;
+    }
+    Decision::Close(rest_word(c))
+}
+
+// Whether the reply, with d bytes of data, brings the outstanding segment of a download.
+fn brings_segment(c: ClientRun, r: Fields, d: usize) -> bool
+    ensures { λ b. ⌜ b ≡ bringsSegment c r d ⌝ }
+{
+    if !answers_segment(Form::Reply(ReplyForm::DownloadSegment), c, r) {
+        return false;
+    }
+    fits_segment(c.segment, c.segments, d, r)
+}
+
+// A download's segment is outstanding.
+fn on_download_segment(c: ClientRun, r: Fields, d: usize) -> Decision
+    ensures { λ e. ⌜ e ≡ onDownload Step.Segment c r d ⌝ }
+{
+    if brings_segment(c, r, d) {
+        return Decision::Advance;
+    }
+    if download_returns(c, r) {
+        return Decision::Return(r.segment());
+    }
+    Decision::Close(rest_word(c))
+}
+
+// Whether the reply answers the receipt.
+fn confirms(c: ClientRun, r: Fields) -> bool
+    ensures { λ b. ⌜ b ≡ confirms c r ⌝ }
+{
+    if !says(
+        Form::Reply(ReplyForm::ReceiptAnswered),
+        ReturnCode::DownloadPostprocessDone,
+        RECEIPT_PHASE,
+        r,
+    ) {
+        return false;
+    }
+    is_own(c, r)
+}
+
+// A receipt is outstanding.
+fn on_receipt(c: ClientRun, r: Fields) -> Decision
+    ensures { λ e. ⌜ e ≡ onDownload Step.Receipt c r 0 ⌝ }
+{
+    if confirms(c, r) {
+        return Decision::Close(Word::Fetched);
+    }
+    if download_returns(c, r) {
+        return Decision::Return(r.segment());
+    }
+    Decision::Close(rest_word(c))
+}
+
+// The outstanding request is answered by a reply with d bytes of data. An upload has no receipt.
+fn on_answer(c: ClientRun, r: Fields, d: usize) -> Decision
+    ensures { λ e. ⌜ e ≡ onAnswer (c .direction) c r d ⌝ }
+{
+    let direction = c.direction;
+    let step = c.step;
+    match direction {
+        Direction::Upload => match step {
+            Step::Opening => on_upload_opening(c, r),
+            Step::Segment => on_upload_segment(c, r),
+            Step::Receipt => Decision::Close(rest_word(c)),
+        },
+        Direction::Download => match step {
+            Step::Opening => on_download_opening(c, r, d),
+            Step::Segment => on_download_segment(c, r, d),
+            Step::Receipt => on_receipt(c, r),
+        },
+    }
+}
+
+// Whether the reply answers the outstanding request.
+fn is_answer(c: ClientRun, r: Fields) -> bool
+    ensures { λ b. ⌜ b ≡ isAnswer c r ⌝ }
+{
+    let form = r.form();
+    if !is_reply_form(form) {
+        return false;
+    }
+    if form_index(form) == form_index(Form::Reply(ReplyForm::Unreadable)) {
+        return false;
+    }
+    r.exchange() == c.exchange
+}
+
+// A reply arrived, with d bytes of data.
+pub fn on_reply(c: ClientRun, r: Fields, d: usize) -> Decision
+    ensures { λ e. ⌜ e ≡ onReply c r d ⌝ }
+{
+    if is_answer(c, r) {
+        return on_answer(c, r, d);
+    }
+    Decision::Ignore
+}
+
+// No reply came.
+pub fn on_no_reply(c: ClientRun) -> Decision
+    ensures { λ e. ⌜ e ≡ onNoReply c ⌝ }
+{
+    if may_repeat(c) {
+        return Decision::Repeat;
+    }
+    Decision::Close(rest_word(c))
+}

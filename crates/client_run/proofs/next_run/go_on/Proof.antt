@@ -1,0 +1,44 @@
+-- `go_on` meets its contract. Assumes nothing.
+use Rattle.client_run.specs.NextRun.{goOn}
+use borrow.Author.Needs.{needs}
+use Rattle.client_run.proofs.next_run.go_on.Statement.{statement}
+use Rattle.client_run.proofs.next_run.go_on.Tie as tie
+
+step-after-requires : tie.Need-step-after-requires
+step-after-requires c κs = tt
+
+add-t8 : tie.Need-add-t8
+add-t8 c = search needs
+
+add-t9 : tie.Need-add-t9
+add-t9 c = search needs
+
+add-larger : tie.Need-add-larger
+add-larger c = search needs
+
+larger-requires : tie.Need-larger-requires
+larger-requires c κs = tt
+
+receipted-after-requires : tie.Need-receipted-after-requires
+receipted-after-requires c κs = tt
+
+returns : tie.Need-returns
+unfolding goOn
+returns c =
+    simp (
+      ← c .before .before .before .step-after .ensures,
+      ← c .before .larger .ensures,
+      ← c .receipted-after .ensures,
+    )
+
+pub go-on-spec : {M : Type 1} → statement M
+go-on-spec =
+    tie.close
+    (tie.spec
+    step-after-requires
+    add-t8
+    add-t9
+    add-larger
+    larger-requires
+    receipted-after-requires
+    returns)

@@ -1,0 +1,4 @@
+-- The definitions of a client run.
+pub mod Run
+pub mod NextRun
+pub mod Requests

@@ -1,0 +1,149 @@
+// A client run, its closing words, and the answers of its calls.
+use frame_table::fields::Bits128;
+ghost use mathlib.Core.Path.{_≡_};
+ghost use Rattle.client_run.specs.Run.{notBegun, refusalNumber};
+
+// The bytes lent for a nonce: the exchange number follows them.
+pub const NONCE_BYTES: usize = 12;
+
+// The bytes of the largest request, which a request buffer has at least.
+pub const REQUEST_ROOM: usize = 303;
+
+// The highest first exchange number of a run.
+pub const MAX_FIRST_EXCHANGE: u64 = 4_294_967_200;
+
+// The highest exchange number: its field has 4 bytes.
+pub const MAX_EXCHANGE: u64 = 4_294_967_295;
+
+// The direction of a run's order.
+pub enum Direction {
+    Upload,
+    Download,
+}
+
+// The closing words of document 01.
+pub enum Word {
+    Lodged,
+    NotLodged,
+    Unclear,
+    Fetched,
+    HeldUnconfirmed,
+    NotFetched,
+}
+
+// What a run is begun with: its order's direction, its subscriber, and the first exchange number.
+pub struct RunParameters {
+    pub direction: Direction,
+    pub subscriber: u64,
+    pub first: u64,
+}
+
+pub enum Stage {
+    NotBegun,
+    Running,
+    Ended(Word),
+}
+
+// The step whose request is outstanding.
+pub enum Step {
+    Opening,
+    Segment,
+    Receipt,
+}
+
+// A client run. `exchange` is the outstanding request's exchange number, `segment` its segment number, `repeats` counts repeats and
+// returns, `transaction` and `number` (the order number) are known once opened, `segments` is N, 0 while unknown.
+// An upload has its payload's `length` and the highest segment `issued`; a download has the bytes held as `length`, the
+// segments `held`, and whether a receipt was issued.
+pub struct ClientRun {
+    pub stage: Stage,
+    pub direction: Direction,
+    pub step: Step,
+    pub subscriber: u64,
+    pub exchange: u64,
+    pub repeats: u64,
+    pub transaction: Bits128,
+    pub number: u64,
+    pub length: u64,
+    pub segments: u64,
+    pub segment: u64,
+    pub issued: u64,
+    pub held: u64,
+    pub receipted: bool,
+}
+
+// Why a call is given a number: a buffer, the first exchange number, the subscriber, or the run's stage.
+pub enum Refusal {
+    WrongBuffer,
+    ExchangeTooHigh,
+    NoSubscriber,
+    WrongStage,
+}
+
+// Document 01's number for the client's owner.
+pub fn refusal_number(refusal: Refusal) -> u64
+    ensures { λ r. ⌜ r ≡ refusalNumber refusal ⌝ }
+{
+    match refusal {
+        Refusal::WrongBuffer => 5,
+        Refusal::ExchangeTooHigh => 6,
+        Refusal::NoSubscriber => 7,
+        Refusal::WrongStage => 8,
+    }
+}
+
+// Whether a call is given a number.
+pub enum Ruling {
+    Refuse(Refusal),
+    Accept,
+}
+
+// What a call answers: the length of the request issued in the lent buffer, nothing, the closing word, or a number.
+pub enum Answer {
+    Request(usize),
+    Ignored,
+    Closed(Word),
+    Refused(Refusal),
+}
+
+// What an event leads to: nothing, the opening's answer taken, a segment's answer taken, a return to after a segment,
+// the request again, or the run's end.
+pub enum Decision {
+    Ignore,
+    Opened,
+    Advance,
+    Return(u64),
+    Repeat,
+    Close(Word),
+}
+
+// The lengths of what is lent to a call.
+pub struct Lengths {
+    pub payload: usize,
+    pub file: usize,
+    pub request: usize,
+}
+
+impl ClientRun {
+    // A run not begun.
+    pub fn new() -> ClientRun
+        ensures { λ r. ⌜ r ≡ notBegun ⌝ }
+    {
+        ClientRun {
+            stage: Stage::NotBegun,
+            direction: Direction::Upload,
+            step: Step::Opening,
+            subscriber: 0,
+            exchange: 0,
+            repeats: 0,
+            transaction: Bits128 { high: 0, low: 0 },
+            number: 0,
+            length: 0,
+            segments: 0,
+            segment: 0,
+            issued: 0,
+            held: 0,
+            receipted: false,
+        }
+    }
+}

@@ -1,0 +1,3 @@
+-- Lists whose premises are tests, and the computed examples of demand 3.
+pub mod Checked
+pub mod Examples

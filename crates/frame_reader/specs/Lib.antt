@@ -1,0 +1,2 @@
+-- Document 01, "The frame": reading.
+pub mod Reader

@@ -1,0 +1,2 @@
+// Reading a frame: one reader over the tables.
+pub mod reader;

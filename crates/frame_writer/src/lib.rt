@@ -1,0 +1,2 @@
+// Writing a frame: one writer over the tables.
+pub mod writer;
