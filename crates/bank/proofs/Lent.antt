@@ -88,7 +88,7 @@ module _ (s o m : List ℕ) (l : Laid s) (time : ℕ) where
     pub advanced-laid : Laid t
     advanced-laid = laid-next s l (advanced time old .bank) advanced-within t (e .rows)
 
-    advanced-back : bankOf t ≡ advanced time old .bank
+    pub advanced-back : bankOf t ≡ advanced time old .bank
     advanced-back = ap bankOf (e .rows) ∙ stored-back (advanced time old .bank) (advanced-within .held) s l
 
     advanced-state : stateOf (lent t p m) ≡ advanced time old

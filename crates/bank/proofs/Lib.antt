@@ -4,3 +4,4 @@ pub mod Safety
 pub mod Codes
 pub mod Lent
 pub mod Kept
+pub mod Entered

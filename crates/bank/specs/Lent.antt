@@ -38,15 +38,13 @@ keptFrame m c = record {
   code = c .code;
 }
 
+-- number 1, and no reply
+abbrev pub noReply : FrameOut
+noReply = record { answer = frame.WrongLength; code = 0 }
+
 -- number 1, nothing changed
 abbrev pub frameTurnedAway : Lent → FrameInput → LentFrameCall
-frameTurnedAway m a = record {
-  lent = m;
-  buffer = a .buffer;
-  answer = frame.WrongLength;
-  number = frameNumber frame.WrongLength;
-  code = 0;
-}
+frameTurnedAway m a = lentFrameCallOf noReply m (a .buffer)
 
 unfoldable pub lentFrameCall : Lent → FrameInput → LentFrameCall
 lentFrameCall m a = cond (isSound (m .rows)) (keptFrame m (frameCall (stateOf m) a)) (frameTurnedAway m a)

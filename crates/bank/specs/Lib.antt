@@ -1,4 +1,5 @@
--- The definitions of the bank's two calls.
+-- The definitions of the bank's two calls, and of what a frame call enters into the journal.
 pub mod Call
 pub mod Mailbox
 pub mod Lent
+pub mod Journal

@@ -1,5 +1,10 @@
 // A frame arrives: the lent lengths, the clock and the drops, the reading, the verdict carried out, and the reply.
 use bank_clock::clock::advance;
+use bank_events::actions::named_order;
+use bank_events::actions::no_events;
+use bank_events::actions::verdict_order;
+use bank_events::actions::with_action;
+use bank_events::drops::drops;
 use bank_rows::numbers::file_length_of;
 use bank_sound::sound::is_sound;
 use bank_state::limits::ID_BYTES;
@@ -17,17 +22,25 @@ use frame_table::fields::Fields;
 use frame_table::table::is_reply_form;
 use frame_writer::writer::Written;
 use frame_writer::writer::write;
+use journal::event::Batch;
 use message::segments::segment_of;
 use octets::bytes::number;
 ghost use mathlib.Core.Path.{_≡_};
 ghost use mathlib.Core.Bool.{_&&_};
+ghost use mathlib.Core.List.{List, [], _++_};
+ghost use Prim.Native.Nat.{_≤_};
 ghost use lib.Dec.{eqb, leb};
 ghost use Rattle.frame_table.specs.Names.{subscriber};
-ghost use Rattle.bank_state.specs.Limits.{storeBytes, idBytes, replyRoom};
+ghost use Rattle.bank_state.specs.Limits.{placeCount, storeBytes, idBytes, replyRoom};
+ghost use Rattle.bank_rows.specs.State.{bankOf};
 ghost use Rattle.bank_verdicts.specs.Replies.{replyTo, segmentIn};
 ghost use Rattle.bank.specs.Call.{fileSegment, codeIn, SentAs, frameInput};
-ghost use Rattle.bank_steps.specs.Lent.{lent, Prepared};
-ghost use Rattle.bank.specs.Lent.{lentFrameCallOf, lentRespond, lentFrameCall};
+ghost use Rattle.bank_steps.specs.Lent.{lent, stateOf, Prepared};
+ghost use Rattle.journal.specs.declared.event.Entry.{Entry};
+ghost use Rattle.journal.specs.Events.{entriesIn};
+ghost use Rattle.bank_events.specs.Entries.{Holds};
+ghost use Rattle.bank.specs.Journal.{requestEntries, enteredBy, ifAnswered};
+ghost use Rattle.bank.specs.Lent.{noReply, lentFrameCallOf, lentRespond, lentFrameCall};
 
 // The reply's length in the lent buffer, or document 01's number 1.
 pub enum FrameAnswer {
@@ -41,10 +54,10 @@ pub struct FrameOut {
     pub code: u64,
 }
 
-// The answer of a reply that was to be written, and its return code, 0 where it was not.
-struct Sent {
-    pub answer: FrameAnswer,
-    pub code: u64,
+// What a call on the bank's rows comes to: its answer, and the events that it enters.
+pub struct FrameStep {
+    pub out: FrameOut,
+    pub batch: Batch,
 }
 
 // The return code that a reader of these fields finds; 0 where they are of no reply form.
@@ -57,18 +70,18 @@ fn code_in(fields: Fields) -> u64
     0
 }
 
-// The reply written into the lent buffer.
-fn reply_with(fields: Fields, bytes: &[u8], buffer: &mut [u8]) -> Sent
+// The reply written into the lent buffer: its answer, and its return code, 0 where it was not written.
+fn reply_with(fields: Fields, bytes: &[u8], buffer: &mut [u8]) -> FrameOut
     ensures { λ r. ⌜ SentAs fields (now (bytes .entry)) (now (buffer .entry))
         (r .answer) (r .code) (now (buffer .exit)) ⌝ }
 {
     let written = write(fields, bytes, buffer);
     match written {
-        Written::Length(n) => Sent {
+        Written::Length(n) => FrameOut {
             answer: FrameAnswer::Reply(n),
             code: code_in(fields),
         },
-        Written::Refused => Sent {
+        Written::Refused => FrameOut {
             answer: FrameAnswer::WrongLength,
             code: 0,
         },
@@ -87,7 +100,7 @@ fn file_segment(mailboxes: &[u8], subscriber: u64, n: u64, segment: u64) -> &[u8
 }
 
 // The reply that a verdict on the request q gives; n is the length of the file in its mailbox.
-fn reply(verdict: Verdict, q: Fields, n: u64, mailboxes: &[u8], buffer: &mut [u8]) -> Sent
+fn reply(verdict: Verdict, q: Fields, n: u64, mailboxes: &[u8], buffer: &mut [u8]) -> FrameOut
     ensures { λ r. ⌜ SentAs (replyTo verdict q)
         (fileSegment (now (mailboxes .entry)) (subscriber q) n (segmentIn verdict q))
         (now (buffer .entry)) (r .answer) (r .code) (now (buffer .exit)) ⌝ }
@@ -96,30 +109,55 @@ fn reply(verdict: Verdict, q: Fields, n: u64, mailboxes: &[u8], buffer: &mut [u8
     reply_with(reply_to(verdict, q), bytes, buffer)
 }
 
-// A request, read, at the clock that the call has set.
+// A call given number 1 enters nothing.
+fn if_answered(answer: FrameAnswer, batch: Batch) -> Batch
+    ensures { λ r. ⌜ ((es : List Entry) → Holds batch es → Holds r (ifAnswered answer es)) ⌝ }
+{
+    match answer {
+        FrameAnswer::Reply(_) => batch,
+        FrameAnswer::WrongLength => no_events(),
+    }
+}
+
+// A request, read, at the clock that the call has set; it enters its event after the drops.
 fn respond(
     rows: &mut [u64],
+    dropped: Batch,
     first: u64,
     q: Fields,
     bytes: &[u8],
     orders: &mut [u8],
     mailboxes: &mut [u8],
     buffer: &mut [u8],
-) -> FrameOut
-    requires { ⌜ Prepared (now rows) (now orders) (now mailboxes) ⌝ }
-    ensures { λ r. ⌜ lentFrameCallOf r (lent (now (rows .exit)) (now (orders .exit)) (now (mailboxes .exit)))
+) -> FrameStep
+    requires { ⌜ Prepared (now rows) (now orders) (now mailboxes) × (dropped .count ≤ placeCount) ⌝ }
+    ensures { λ r. ⌜ (lentFrameCallOf (r .out) (lent (now (rows .exit)) (now (orders .exit)) (now (mailboxes .exit)))
         (now (buffer .exit))
         ≡ lentRespond first (lent (now (rows .entry)) (now (orders .entry)) (now (mailboxes .entry)))
-        q (now (bytes .entry)) (now (buffer .entry)) ⌝ }
+        q (now (bytes .entry)) (now (buffer .entry)))
+        × Holds (r .batch) (ifAnswered (r .out .answer) (entriesIn dropped
+        ++ requestEntries first (bankOf (now (rows .entry))) q (now (bytes .entry)))) ⌝ }
 {
     let n = file_length_of(rows, q.subscriber());
+    let named = named_order(rows, q);
     let verdict = step(rows, first, q, bytes, orders, mailboxes);
-    let sent = reply(verdict, q, n, mailboxes, buffer);
-    let answer = sent.answer;
-    FrameOut {
-        answer,
-        code: sent.code,
-    }
+    let out = reply(verdict, q, n, mailboxes, buffer);
+    let answer = out.answer;
+    let entered = with_action(dropped, verdict, verdict_order(verdict, named), q);
+    let batch = if_answered(answer, entered);
+    FrameStep { out, batch }
+}
+
+// Number 1, and no events.
+fn turned_away() -> FrameStep
+    ensures { λ r. ⌜ (r .out ≡ noReply) × Holds (r .batch) [] ⌝ }
+{
+    let out = FrameOut {
+        answer: FrameAnswer::WrongLength,
+        code: 0,
+    };
+    let batch = no_events();
+    FrameStep { out, batch }
 }
 
 // Whether the lent lengths are right.
@@ -140,7 +178,7 @@ fn lent_right(orders: usize, mailboxes: usize, ids: usize, buffer: usize) -> boo
 }
 
 // A frame arrives at a bank time, with the bank's rows, the ID bytes, both stores and the reply buffer lent.
-pub fn frame_arrives(
+pub fn answer_frame(
     rows: &mut [u64],
     time: u32,
     ids: &[u8],
@@ -148,29 +186,28 @@ pub fn frame_arrives(
     orders: &mut [u8],
     mailboxes: &mut [u8],
     buffer: &mut [u8],
-) -> FrameOut
-    ensures { λ r. ⌜ lentFrameCallOf r (lent (now (rows .exit)) (now (orders .exit)) (now (mailboxes .exit)))
+) -> FrameStep
+    ensures { λ r. ⌜ (lentFrameCallOf (r .out) (lent (now (rows .exit)) (now (orders .exit)) (now (mailboxes .exit)))
         (now (buffer .exit))
         ≡ lentFrameCall (lent (now (rows .entry)) (now (orders .entry)) (now (mailboxes .entry)))
-        (frameInput time (now (ids .entry)) (now (frame .entry)) (now (buffer .entry))) ⌝ }
+        (frameInput time (now (ids .entry)) (now (frame .entry)) (now (buffer .entry))))
+        × Holds (r .batch) (ifAnswered (r .out .answer)
+        (enteredBy (stateOf (lent (now (rows .entry)) (now (orders .entry)) (now (mailboxes .entry))))
+        (frameInput time (now (ids .entry)) (now (frame .entry)) (now (buffer .entry))))) ⌝ }
 {
     if !lent_right(orders.len(), mailboxes.len(), ids.len(), buffer.len()) {
-        return FrameOut {
-            answer: FrameAnswer::WrongLength,
-            code: 0,
-        };
+        return turned_away();
     }
     if !is_sound(rows) {
-        return FrameOut {
-            answer: FrameAnswer::WrongLength,
-            code: 0,
-        };
+        return turned_away();
     }
+    let dropped = drops(rows, time as u64);
     advance(rows, time as u64, orders);
     let p = read_whole_request(frame);
     let q = p.fields;
     respond(
         rows,
+        dropped,
         number(ids),
         q,
         data_at(frame, p.from, p.end),

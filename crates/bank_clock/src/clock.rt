@@ -26,7 +26,7 @@ ghost use Rattle.bank_state.specs.State.{bankState, placeAt};
 ghost use Rattle.bank_rows.specs.State.{bankOf, stored, Laid, StoredWith};
 
 // Whether place i holds an open upload that is idle at this clock.
-fn is_idle_upload(rows: &[u64], i: usize, clock: u64) -> bool
+pub fn is_idle_upload(rows: &[u64], i: usize, clock: u64) -> bool
     requires { ⌜ Laid (now rows) × (i < placeCount) ⌝ }
     ensures { λ r. ⌜ r ≡ (isOpen (placeAt (bankOf (now (rows .entry))) i .used)
         && isIdle clock (placeAt (bankOf (now (rows .entry))) i .last)) ⌝ }
@@ -66,7 +66,7 @@ fn drop_uploads(rows: &mut [u64], orders: &mut [u8])
     }
 }
 
-fn larger(x: u64, y: u64) -> u64
+pub fn larger(x: u64, y: u64) -> u64
     ensures { λ r. ⌜ r ≡ max x y ⌝ }
 {
     if x < y { y } else { x }

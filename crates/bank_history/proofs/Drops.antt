@@ -104,7 +104,7 @@ use Rattle.bank_history.proofs.UploadRequests.{upload-is-open}
 
 -- ---- lists
 
-in-keep : {A : Type 0} (p : A → Bool) {x : A} (l : List A) → In x l → p x ≡ true → In x (keep p l)
+pub in-keep : {A : Type 0} (p : A → Bool) {x : A} (l : List A) → In x l → p x ≡ true → In x (keep p l)
 unfolding keep
 in-keep p [] i z = absurd (in-none i)
 in-keep {A} p {x} (y ∷ l) i z = at (p y) refl i (λ j. in-keep p l j z)
@@ -115,7 +115,7 @@ in-keep {A} p {x} (y ∷ l) i z = at (p y) refl i (λ j. in-keep p l j z)
     at false e (here k) later = never (sym e ∙ (ap p (sym k) ∙ z))
     at false e (there k) later = later k
 
-keep-in : {A : Type 0} (p : A → Bool) {x : A} (l : List A) → In x (keep p l) → In x l × (p x ≡ true)
+pub keep-in : {A : Type 0} (p : A → Bool) {x : A} (l : List A) → In x (keep p l) → In x l × (p x ≡ true)
 unfolding keep
 keep-in p [] i = absurd (in-none i)
 keep-in {A} p {x} (y ∷ l) i = at (p y) refl i (keep-in p l)
@@ -126,16 +126,16 @@ keep-in {A} p {x} (y ∷ l) i = at (p y) refl i (keep-in p l)
     at true e (there k) later = let r = later k in (there (r .0), r .1)
     at false e k later = let r = later k in (there (r .0), r .1)
 
-in-left : {A : Type 0} {x : A} (l m : List A) → In x l → In x (l ++ m)
+pub in-left : {A : Type 0} {x : A} (l m : List A) → In x l → In x (l ++ m)
 in-left [] m i = absurd (in-none i)
 in-left (y ∷ l) m (here e) = here e
 in-left (y ∷ l) m (there i) = there (in-left l m i)
 
-in-right : {A : Type 0} {x : A} (l m : List A) → In x m → In x (l ++ m)
+pub in-right : {A : Type 0} {x : A} (l m : List A) → In x m → In x (l ++ m)
 in-right [] m i = i
 in-right (y ∷ l) m i = there (in-right l m i)
 
-in-either : {A : Type 0} {x : A} (l m : List A) → In x (l ++ m) → In x l ⊎ In x m
+pub in-either : {A : Type 0} {x : A} (l m : List A) → In x (l ++ m) → In x l ⊎ In x m
 in-either [] m i = inr i
 in-either (y ∷ l) m (here e) = inl (here e)
 in-either {A} {x} (y ∷ l) m (there i) = at (in-either l m i)
@@ -179,7 +179,7 @@ numbered-more : {m : ℕ} {l : List Bits128} (t : Bits128) → Numbered m l → 
 numbered-more {m} t none z = one {m = m} {t = t} (omega arith) none
 numbered-more t (one e r) z = one e (numbered-more t r (omega arith))
 
-rising-keep : (p : Bits128 → Bool) {n : ℕ} (m : ℕ) {l : List Bits128} → n ≤ m → Numbered m l → Rising n (keep p l)
+pub rising-keep : (p : Bits128 → Bool) {n : ℕ} (m : ℕ) {l : List Bits128} → n ≤ m → Numbered m l → Rising n (keep p l)
 unfolding keep
 rising-keep p m a none = end
 rising-keep p {n} m a (one {t = t} {l = l} e r) =
@@ -192,7 +192,7 @@ rising-keep p {n} m a (one {t = t} {l = l} e r) =
 
 -- ---- the openings
 
-opened-numbered : {h : List Exchange} → AllSound h → Numbered 0 (openings h) × (length (openings h) ≡ accepted h)
+pub opened-numbered : {h : List Exchange} → AllSound h → Numbered 0 (openings h) × (length (openings h) ≡ accepted h)
 unfolding openings accepted
 opened-numbered sounds.none = (none, refl)
 opened-numbered (sounds.more {e = e} {h = h} s r) = at (e .verdict) (s .verdict) (opened-numbered r)
@@ -219,12 +219,12 @@ opened-numbered (sounds.more {e = e} {h = h} s r) = at (e .verdict) (s .verdict)
         )
         by false o = same k
 
-listed : {t : Bits128} {e : Exchange} {g h : List Exchange} → Stands e g h → ActionIn isOpening t e → In t (openings h)
+pub listed : {t : Bits128} {e : Exchange} {g h : List Exchange} → Stands e g h → ActionIn isOpening t e → In t (openings h)
 unfolding openings
 listed {t} {e} {g} newest a = in-right (openings g) (openedIn (e .verdict)) (rw (a .is) (rw (a .kind) (here refl)))
 listed (older {x = x} {h = h} s) a = in-left (openings h) (openedIn (x .verdict)) (listed s a)
 
-open-listed : (w : BankState) (h : List Exchange) → Invariant w h → {t : Bits128} {d : Direction} {s last : ℕ} →
+pub open-listed : (w : BankState) (h : List Exchange) → Invariant w h → {t : Bits128} {d : Direction} {s last : ℕ} →
     OpenAs w t d s last → In t (openings h)
 open-listed w h v {t} (upload {s = s} {k = k} {n = n} {last = last} u) =
     let o = ever-stands isUploadOpening _ h (upload-is-open w h v t s k n last u .1 .place .opened) in

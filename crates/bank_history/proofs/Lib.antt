@@ -43,4 +43,14 @@ pub mod OpenAnswered
 pub mod FalseEconomies
 pub mod Statuses
 pub mod Drops
+pub mod ByReplies
+pub mod DropOrder
+pub mod Plain
+pub mod Journal
+pub mod Closed
+pub mod JournalUploads
+pub mod JournalCounts
+pub mod JournalOrders
+pub mod JournalExample
 pub mod OnRows
+pub mod OnSessions

@@ -138,7 +138,7 @@ module _ (f : Action → Bool) (t : Bits128) where
   unfolding times
   times-grows e g = by-test (λ (m : ℕ). times f t g ≤ m) (did f t (e .verdict)) (λ _. omega arith) (λ _. omega arith)
 
-  never-times : (h : List Exchange) → ever f t h ≡ false → times f t h ≡ 0
+  pub never-times : (h : List Exchange) → ever f t h ≡ false → times f t h ≡ 0
   unfolding ever times
   never-times [] e = refl
   never-times (x ∷ h) e = at (did f t (x .verdict)) (never-times h) e

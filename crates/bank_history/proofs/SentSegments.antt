@@ -82,7 +82,7 @@ stands-times p t {e} {g} (older {x = x} {h = h} s) =
     let a = stands-times p t s in
     by-test (λ (m : ℕ). times p t (e ∷ g) ≤ m) (did p t (x .verdict)) (λ _. omega arith) (λ _. omega arith)
 
-sound-before : {e : Exchange} {g h : List Exchange} → AllSound h → Stands e g h → AllSound g
+pub sound-before : {e : Exchange} {g h : List Exchange} → AllSound h → Stands e g h → AllSound g
 sound-before (more s r) newest = r
 sound-before (more s r) (older p) = sound-before r p
 

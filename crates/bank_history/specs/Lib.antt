@@ -7,4 +7,8 @@ pub mod Transactions
 pub mod Answers
 pub mod FalseEconomies
 pub mod Status
+pub mod ByReplies
+pub mod Journal
+pub mod JournalOrders
 pub mod OnRows
+pub mod OnSessions

@@ -1,5 +1,5 @@
 // The unstarred cases of document 01 as they come out, and the return codes with their names.
-use bank::call::frame_arrives;
+use bank::call::answer_frame;
 use bank_rows::layout::STATE_SIZE;
 use bank_state::limits::ID_BYTES;
 use bank_state::limits::REPLY_ROOM;
@@ -24,7 +24,8 @@ const CLOCK: u32 = 1000;
 fn send(frame: &[u8], rows: &mut [u64], orders: &mut [u8], mailboxes: &mut [u8]) -> u64 {
     let ids = [0u8; ID_BYTES];
     let mut buffer = [0u8; REPLY_ROOM];
-    let o = frame_arrives(rows, CLOCK, &ids, frame, orders, mailboxes, &mut buffer);
+    let step = answer_frame(rows, CLOCK, &ids, frame, orders, mailboxes, &mut buffer);
+    let o = step.out;
     o.code
 }
 

@@ -1,2 +1,4 @@
--- The laws of the client's calls that its functions rest on.
+-- The laws of the client's calls that its functions and the crates above rest on.
 pub mod Issues
+pub mod Journal
+pub mod Lent

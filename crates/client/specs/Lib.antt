@@ -1,2 +1,3 @@
 -- The definitions of the client's calls.
 pub mod Calls
+pub mod Journal

@@ -8,6 +8,11 @@ use lib.Dec.{eqb}
 use lib.ListN.{length, getD, take, set, length-append, length-take, length-set}
 use lib.Seq.{take-suc}
 use Rattle.message.specs.Limits.{fileBytes}
+use Rattle.message.specs.OrderNumbers.{orderNumberOf}
+use Rattle.journal.specs.declared.event.Event.{Event}
+use Rattle.journal.specs.declared.event.Kind.{Kind}
+use Rattle.journal.specs.declared.event.Kind.the-variants as kind
+use Rattle.journal.specs.Events.{recordCount, noEvent}
 use Rattle.bank_state.specs.declared.state.Place.{Place}
 use Rattle.bank_state.specs.Search.{isBooked}
 use Rattle.bank_state.specs.State.{placeAt}
@@ -18,9 +23,9 @@ use Rattle.client_run.specs.declared.run.ClientRun.{ClientRun}
 use Rattle.client_run.specs.declared.run.Stage.{Stage}
 use Rattle.client_run.specs.declared.run.Stage.the-variants as stage
 use Rattle.client_rules.specs.Rulings.{isBegun}
-use Rattle.print.specs.Text.{Put, space, newline, column, columnRoom}
+use Rattle.print.specs.Text.{Put, orderNumberText, space, newline, column, columnRoom}
 use Rattle.print.specs.Book.{orderColumns}
-use Rattle.print.proofs.Digits.{decimal-most, column-most}
+use Rattle.print.proofs.Digits.{decimal-most, order-number-most, column-most}
 use Rattle.print.proofs.Texts.{put-then, put-one, cond-most}
 use Rattle.print.specs.Closing.{closingRoom}
 use Rattle.print.proofs.Lengths.{closing-most, columns-most}
@@ -30,7 +35,7 @@ use Rattle.unit.specs.declared.state.UnitState.{UnitState}
 use Rattle.unit.specs.Records.{runCount}
 use Rattle.unit.specs.State.{runAt}
 use Rattle.driver_print.specs.declared.tables.Table.{Table}
-use Rattle.driver_print.specs.declared.tables.Table.the-variants.{Book, Mailboxes, Words, Files}
+use Rattle.driver_print.specs.declared.tables.Table.the-variants.{Book, Mailboxes, Words, Files, Journal}
 use Rattle.driver_print.specs.Line.{hexDigit, hexOf, answerText, answerRoom}
 use Rattle.driver_print.specs.Tables.{
   headerText,
@@ -39,11 +44,17 @@ use Rattle.driver_print.specs.Tables.{
   fileRow,
   stageText,
   wordRow,
+  kindText,
+  isUsed,
+  eventRow,
   rowAt,
   rowCount,
   headerRoom,
   contentRoom,
   rowRoom,
+  kindRoom,
+  eventRoom,
+  roomOf,
 }
 
 -- ---- hexadecimal
@@ -81,6 +92,7 @@ answer-most answer.Put buffer = omega arith
 answer-most (answer.Request n) buffer = omega (arith, hex-front n buffer)
 answer-most answer.Ignored buffer = omega arith
 answer-most (answer.Closed w x) buffer = omega (arith, closing-most w x)
+answer-most answer.Unchanged buffer = omega arith
 answer-most (answer.Number n) buffer = omega (arith, decimal-most n)
 answer-most answer.NoCall buffer = omega arith
 
@@ -89,12 +101,22 @@ header-most Book = omega arith
 header-most Mailboxes = omega arith
 header-most Words = omega arith
 header-most Files = omega arith
+header-most Journal = omega arith
 
-pub count-most : (t : Table) → rowCount t ≤ runCount
+-- the rows of a table fit, and are not many
+pub rows-fit : (t : Table) → rowCount t * roomOf t ≤ runCount * rowRoom
+rows-fit Book = omega arith
+rows-fit Mailboxes = omega arith
+rows-fit Words = omega arith
+rows-fit Files = omega arith
+rows-fit Journal = omega arith
+
+pub count-most : (t : Table) → rowCount t ≤ recordCount
 count-most Book = omega arith
 count-most Mailboxes = omega arith
 count-most Words = omega arith
 count-most Files = omega arith
+count-most Journal = omega arith
 
 -- a number in front of a text, a text and the newline behind it
 length-numbered : (n : ℕ) (text : List ℕ) → length (column n space ++ text) ≤ columnRoom + length text
@@ -134,13 +156,40 @@ word-most n c =
     cond-most (isBegun (c .stage)) (column n space ++ (text ++ (newline ∷ []))) [] rowRoom
     (omega (arith, length-numbered n (text ++ (newline ∷ [])), length-ended text, stage-most (c .stage) (c .number))) (omega arith)
 
+pub kind-most : (k : Kind) → length (kindText k) ≤ kindRoom
+kind-most kind.Unused = omega arith
+kind-most kind.Opened = omega arith
+kind-most kind.Booked = omega arith
+kind-most kind.Cancelled = omega arith
+kind-most kind.Dropped = omega arith
+
+event-most : (e : Event) → length (eventRow e) ≤ eventRoom
+unfolding eventRow
+event-most e =
+    let last = space ∷ kindText (e .kind) in
+    let number = orderNumberText (orderNumberOf (e .order)) in
+    let order = number ++ last in
+    let named = column (e .subscriber) space ++ order in
+    let timed = column (e .clock) space ++ named in
+    cond-most (isUsed (e .kind)) (column (e .number) space ++ timed) [] eventRoom
+    (omega (
+      arith,
+      length-numbered (e .number) timed,
+      length-numbered (e .clock) named,
+      length-numbered (e .subscriber) order,
+      length-append number last,
+      order-number-most (orderNumberOf (e .order)),
+      kind-most (e .kind),
+    )) (omega arith)
+
 -- a file of a store is no longer than its place
 pub file-fits : (store : List ℕ) (i n : ℕ) → length (fileOf store i n) ≤ fileBytes
 unfolding fileOf partAt
 file-fits store i n = simp (length-take) (omega arith)
 
-pub row-most : (t : Table) (u : UnitState) (m : Lent) (files : List ℕ) (i : ℕ) → length (rowAt t u m files i) ≤ rowRoom
+pub row-most : (t : Table) (u : UnitState) (m : Lent) (files : List ℕ) (i : ℕ) → length (rowAt t u m files i) ≤ roomOf t
 row-most Book u m files i = order-most (placeAt (bankOf (m .rows)) i) _ (file-fits _ _ _)
 row-most Mailboxes u m files i = file-most (i + 1) _ (file-fits _ _ _)
 row-most Words u m files i = word-most (i + 1) (runAt (u .runs) i .client .run)
 row-most Files u m files i = file-most (i + 1) _ (file-fits _ _ _)
+row-most Journal u m files i = event-most (getD (u .journal) i noEvent)

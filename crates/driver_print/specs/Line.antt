@@ -7,7 +7,16 @@ use lib.ListN.{take}
 use Rattle.print.specs.Text.{ascii, maxDigits, decimal, space, newline, column, columnRoom}
 use Rattle.print.specs.Closing.{closingText}
 use Rattle.unit.specs.declared.call.Answer.{Answer}
-use Rattle.unit.specs.declared.call.Answer.the-variants.{Frame, Put, Request, Ignored, Closed, Number, NoCall}
+use Rattle.unit.specs.declared.call.Answer.the-variants.{
+  Frame,
+  Put,
+  Request,
+  Ignored,
+  Closed,
+  Unchanged,
+  Number,
+  NoCall,
+}
 
 -- "lower-case hexadecimal"
 unfoldable pub hexDigit : ℕ → ℕ
@@ -24,6 +33,7 @@ answerText Put buffer = ascii "put"
 answerText (Request n) buffer = ascii "request " ++ hexOf (take n buffer)
 answerText Ignored buffer = ascii "ignored"
 answerText (Closed w x) buffer = ascii "closed " ++ closingText w x
+answerText Unchanged buffer = ascii "unchanged"
 answerText (Number n) buffer = ascii "number " ++ decimal n
 answerText NoCall buffer = []
 

@@ -1,10 +1,15 @@
--- "At the end of the input": the book, the mailboxes, the runs' closing words and the runs' files.
+-- "At the end of the input": the book, the mailboxes, the runs' closing words, the runs' files and the journal.
 use Prim.Native.Nat.{ℕ, _+_, _*_}
-use mathlib.Core.Bool.{cond}
+use mathlib.Core.Bool.{Bool, true, false, cond}
 use mathlib.Core.List.{List, [], _∷_, _++_}
 use lib.Dec.{eqb}
 use lib.ListN.{length, getD}
 use Rattle.message.specs.Limits.{fileBytes}
+use Rattle.message.specs.OrderNumbers.{orderNumberOf}
+use Rattle.journal.specs.declared.event.Event.{Event}
+use Rattle.journal.specs.declared.event.Kind.{Kind}
+use Rattle.journal.specs.declared.event.Kind.the-variants as kind
+use Rattle.journal.specs.Events.{recordCount, noEvent}
 use Rattle.bank_state.specs.declared.state.Place.{Place}
 use Rattle.bank_state.specs.Limits.{placeCount}
 use Rattle.bank_state.specs.Search.{isBooked}
@@ -18,14 +23,14 @@ use Rattle.client_run.specs.declared.run.Direction.the-variants.{Upload, Downlo
 use Rattle.client_run.specs.declared.run.Stage.{Stage}
 use Rattle.client_run.specs.declared.run.Stage.the-variants as stage
 use Rattle.client_rules.specs.Rulings.{isBegun}
-use Rattle.print.specs.Text.{ascii, space, newline, column, rowsTo}
-use Rattle.print.specs.Book.{bookHeader, bookHeaderRoom, orderColumns, orderColumnsRoom}
+use Rattle.print.specs.Text.{ascii, orderCharacters, orderNumberText, space, newline, column, columnRoom, rowsTo}
+use Rattle.print.specs.Book.{bookHeader, orderColumns, orderColumnsRoom}
 use Rattle.print.specs.Closing.{closingText}
 use Rattle.unit.specs.declared.state.UnitState.{UnitState}
 use Rattle.unit.specs.Records.{runCount}
 use Rattle.unit.specs.State.{runAt}
 use Rattle.driver_print.specs.declared.tables.Table.{Table}
-use Rattle.driver_print.specs.declared.tables.Table.the-variants.{Book, Mailboxes, Words, Files}
+use Rattle.driver_print.specs.declared.tables.Table.the-variants.{Book, Mailboxes, Words, Files, Journal}
 use Rattle.driver_print.specs.Line.{hexOf}
 
 abbrev pub headerText : Table → List ℕ
@@ -33,6 +38,7 @@ headerText Book = bookHeader space ++ ascii "content\n"
 headerText Mailboxes = ascii "mailbox bytes content\n"
 headerText Words = ascii "run word\n"
 headerText Files = ascii "run bytes content\n"
+headerText Journal = ascii "event clock subscriber order kind\n"
 
 -- the column "content", the last of its row
 unfoldable pub contentText : List ℕ → List ℕ
@@ -61,8 +67,31 @@ abbrev pub heldBy : Direction → ClientRun → ℕ
 heldBy Upload c = 0
 heldBy Download c = c .length
 
+-- what happened to an upload, the column "kind", the last of its row
+abbrev pub kindText : Kind → List ℕ
+kindText kind.Unused = []
+kindText kind.Opened = ascii "opened\n"
+kindText kind.Booked = ascii "booked\n"
+kindText kind.Cancelled = ascii "cancelled\n"
+kindText kind.Dropped = ascii "dropped\n"
+
+abbrev pub isUsed : Kind → Bool
+isUsed kind.Unused = false
+isUsed kind.Opened = true
+isUsed kind.Booked = true
+isUsed kind.Cancelled = true
+isUsed kind.Dropped = true
+
+-- a record of the journal: event, clock, subscriber, order, kind; one that is not in use has no row
+unfoldable pub eventRow : Event → List ℕ
+eventRow e =
+    cond (isUsed (e .kind))
+    (column (e .number) space ++ (column (e .clock) space ++ (column (e .subscriber) space
+    ++ (orderNumberText (orderNumberOf (e .order)) ++ (space ∷ kindText (e .kind))))))
+    []
+
 -- row i of a table: "The book in place order; the mailboxes that hold a file; the runs that have begun ...; and each
--- run's file"
+-- run's file", and the journal, oldest first
 abbrev pub rowAt : Table → UnitState → Lent → List ℕ → ℕ → List ℕ
 rowAt Book u m files i =
     let p = placeAt (bankOf (m .rows)) i in
@@ -72,27 +101,44 @@ rowAt Words u m files i = wordRow (i + 1) (runAt (u .runs) i .client .run)
 rowAt Files u m files i =
     let c = runAt (u .runs) i .client .run in
     fileRow (i + 1) (fileOf files i (heldBy (c .direction) c))
+rowAt Journal u m files i = eventRow (getD (u .journal) i noEvent)
 
--- how many rows a table has at most: one for each place, mailbox or run
+-- how many rows a table has at most: one for each place, mailbox, run or record
 abbrev pub rowCount : Table → ℕ
 rowCount Book = placeCount
 rowCount Mailboxes = placeCount
 rowCount Words = runCount
 rowCount Files = runCount
+rowCount Journal = recordCount
 
 -- a table of the unit, the memory lent to its bank, and the runs' file buffers
 unfoldable pub tableOf : Table → UnitState → Lent → List ℕ → List ℕ
 tableOf t u m files = headerText t ++ rowsTo (rowAt t u m files) (rowCount t)
 
--- the most bytes that a header takes, the column "content" with a file of 3,840 bytes, a row of any table, and a table
+-- the most bytes that a header takes, the column "content" with a file of 3,840 bytes, a row with it, the column
+-- "kind", and a row of the journal
 abbrev pub headerRoom : ℕ
-headerRoom = bookHeaderRoom + 8
+headerRoom = 34
 
 abbrev pub contentRoom : ℕ
 contentRoom = 2 * fileBytes + 1
 
 abbrev pub rowRoom : ℕ
 rowRoom = orderColumnsRoom + contentRoom
+
+abbrev pub kindRoom : ℕ
+kindRoom = 10
+
+abbrev pub eventRoom : ℕ
+eventRoom = columnRoom + columnRoom + columnRoom + orderCharacters + 1 + kindRoom
+
+-- the same of a row of each table, and of a table: 16 rows of files are longer than 64 of the journal
+abbrev pub roomOf : Table → ℕ
+roomOf Book = rowRoom
+roomOf Mailboxes = rowRoom
+roomOf Words = rowRoom
+roomOf Files = rowRoom
+roomOf Journal = eventRoom
 
 abbrev pub tableRoom : ℕ
 tableRoom = headerRoom + runCount * rowRoom

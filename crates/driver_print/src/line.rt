@@ -68,6 +68,7 @@ fn put_answer(output: &mut [u8], at: usize, answer: Answer, buffer: &[u8]) -> us
             let a = put_text(output, at, b"closed ");
             put_closing(output, a, word, number)
         }
+        Answer::Unchanged => put_text(output, at, b"unchanged"),
         Answer::Number(n) => {
             let a = put_text(output, at, b"number ");
             put_decimal(output, a, n)

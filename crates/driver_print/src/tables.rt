@@ -1,4 +1,5 @@
-// The closing tables: the book, the mailboxes, the runs' closing words and the runs' files, written into a lent output.
+// The closing tables: the book, the mailboxes, the runs' closing words, the runs' files and the journal, written into a
+// lent output.
 use crate::line::put_hex;
 use bank_rows::numbers::file_length;
 use bank_rows::places::place_at;
@@ -10,14 +11,18 @@ use client_rules::rulings::is_begun;
 use client_run::run::ClientRun;
 use client_run::run::Direction;
 use client_run::run::Stage;
+use journal::event::Event;
+use journal::event::Kind;
+use journal::event::RECORD_COUNT;
 use message::limits::FILE_BYTES;
-use print::book::BOOK_HEADER_ROOM;
+use message::order_numbers::order_number_of;
 use print::book::ORDER_COLUMNS_ROOM;
 use print::book::put_book_header;
 use print::book::put_order_columns;
 use print::closing::put_closing;
 use print::text::put_byte;
 use print::text::put_column;
+use print::text::put_order_number;
 use print::text::put_text;
 use unit::record::RUN_COUNT;
 use unit::state::UnitState;
@@ -30,14 +35,12 @@ ghost use Rattle.bank_steps.specs.Lent.{lent};
 ghost use Rattle.print.specs.Text.{Put, rowsTo, printed, printedCount};
 ghost use Rattle.print.specs.Closing.{closingRoom};
 ghost use Rattle.driver_print.specs.Tables.{headerText, contentText, orderRow, fileRow, stageText, wordRow};
-ghost use Rattle.driver_print.specs.Tables.{heldBy};
-ghost use Rattle.driver_print.specs.Tables.{rowAt, rowCount, tableOf, headerRoom, contentRoom, rowRoom};
+ghost use Rattle.driver_print.specs.Tables.{heldBy, kindText, isUsed, eventRow, rowAt, rowCount, tableOf};
+ghost use Rattle.driver_print.specs.Tables.{headerRoom, contentRoom, rowRoom, kindRoom, eventRoom, roomOf};
 ghost use Rattle.driver_print.specs.Tables.{tableRoom};
 
-// The most bytes of a table: the book's header and 16 of its rows.
-pub const TABLE_ROOM: usize = BOOK_HEADER_ROOM
-    + 8
-    + RUN_COUNT * (ORDER_COLUMNS_ROOM + 2 * FILE_BYTES + 1);
+// The most bytes of a table: the journal's header and 16 of the book's rows.
+pub const TABLE_ROOM: usize = 34 + RUN_COUNT * (ORDER_COLUMNS_ROOM + 2 * FILE_BYTES + 1);
 
 // The closing tables.
 pub enum Table {
@@ -45,6 +48,7 @@ pub enum Table {
     Mailboxes,
     Words,
     Files,
+    Journal,
 }
 
 // Writes the header of a table at the front of the output.
@@ -60,6 +64,7 @@ fn put_header(output: &mut [u8], t: Table) -> usize
         Table::Mailboxes => put_text(output, 0, b"mailbox bytes content\n"),
         Table::Words => put_text(output, 0, b"run word\n"),
         Table::Files => put_text(output, 0, b"run bytes content\n"),
+        Table::Journal => put_text(output, 0, b"event clock subscriber order kind\n"),
     }
 }
 
@@ -135,6 +140,50 @@ fn held_by(c: ClientRun) -> u64
     }
 }
 
+// Writes what happened to an upload, to the line's end. A record that is not in use says nothing.
+fn put_kind(output: &mut [u8], at: usize, kind: Kind) -> usize
+    requires { ⌜ at + kindRoom ≤ length (now output) ⌝ }
+    ensures { λ r. ⌜ Put (now (output .entry)) at (kindText kind) (now (output .exit)) r ⌝ }
+{
+    match kind {
+        Kind::Unused => at,
+        Kind::Opened => put_text(output, at, b"opened\n"),
+        Kind::Booked => put_text(output, at, b"booked\n"),
+        Kind::Cancelled => put_text(output, at, b"cancelled\n"),
+        Kind::Dropped => put_text(output, at, b"dropped\n"),
+    }
+}
+
+// Whether a record is in use.
+fn is_used(kind: Kind) -> bool
+    ensures { λ r. ⌜ r ≡ isUsed kind ⌝ }
+{
+    match kind {
+        Kind::Unused => false,
+        Kind::Opened => true,
+        Kind::Booked => true,
+        Kind::Cancelled => true,
+        Kind::Dropped => true,
+    }
+}
+
+// Writes the row of a record that is in use.
+fn put_event(output: &mut [u8], at: usize, e: Event) -> usize
+    requires { ⌜ at + eventRoom ≤ length (now output) ⌝ }
+    ensures { λ r. ⌜ Put (now (output .entry)) at (eventRow e) (now (output .exit)) r ⌝ }
+{
+    let kind = e.kind;
+    if !is_used(kind) {
+        return at;
+    }
+    let a = put_column(output, at, e.number, b' ');
+    let b = put_column(output, a, e.clock, b' ');
+    let c = put_column(output, b, e.subscriber, b' ');
+    let d = put_order_number(output, c, order_number_of(e.order));
+    let f = put_byte(output, d, b' ');
+    put_kind(output, f, kind)
+}
+
 // Writes row i of a table.
 fn put_row(
     output: &mut [u8],
@@ -147,7 +196,7 @@ fn put_row(
     files: &[u8],
     i: usize,
 ) -> usize
-    requires { ⌜ (at + rowRoom ≤ length (now output)) × (i < rowCount t) × (length (now rows) ≡ stateSize) ⌝ }
+    requires { ⌜ (at + roomOf t ≤ length (now output)) × (i < rowCount t) × (length (now rows) ≡ stateSize) ⌝ }
     ensures { λ r. ⌜
         Put (now (output .entry)) at
         (rowAt t u (lent (now (rows .entry)) (now (orders .entry)) (now (mailboxes .entry))) (now (files .entry)) i)
@@ -155,16 +204,21 @@ fn put_row(
         ⌝ }
 {
     let n = i as u64 + 1;
-    let run = u.runs[i];
-    let c = run.client.run;
     match t {
         Table::Book => {
             let p = place_at(rows, i);
             put_order(output, at, p, file_of(orders, i, p.length))
         }
         Table::Mailboxes => put_file(output, at, n, file_of(mailboxes, i, file_length(rows, i))),
-        Table::Words => put_word(output, at, n, c),
-        Table::Files => put_file(output, at, n, file_of(files, i, held_by(c))),
+        Table::Words => {
+            let run = u.runs[i];
+            put_word(output, at, n, run.client.run)
+        }
+        Table::Files => {
+            let run = u.runs[i];
+            put_file(output, at, n, file_of(files, i, held_by(run.client.run)))
+        }
+        Table::Journal => put_event(output, at, u.journal[i]),
     }
 }
 
@@ -177,6 +231,7 @@ fn row_count(t: Table) -> usize
         Table::Mailboxes => PLACE_COUNT,
         Table::Words => RUN_COUNT,
         Table::Files => RUN_COUNT,
+        Table::Journal => RECORD_COUNT,
     }
 }
 
@@ -191,7 +246,7 @@ fn put_rows(
     mailboxes: &[u8],
     files: &[u8],
 ) -> usize
-    requires { ⌜ (at + rowCount t * rowRoom ≤ length (now output)) × (length (now rows) ≡ stateSize) ⌝ }
+    requires { ⌜ (at + rowCount t * roomOf t ≤ length (now output)) × (length (now rows) ≡ stateSize) ⌝ }
     ensures { λ r. ⌜
         Put (now (output .entry)) at
         (rowsTo

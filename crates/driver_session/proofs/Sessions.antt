@@ -8,6 +8,7 @@ use Rattle.octets.proofs.Tests.{never}
 use Rattle.bank_state.specs.State.{fresh}
 use Rattle.bank_rows.specs.State.{bankOf}
 use Rattle.bank_rows.proofs.State.{fresh-rows}
+use Rattle.bank_session.specs.Session.{bankRows}
 use Rattle.unit.specs.declared.record.Kind.{Kind}
 use Rattle.unit.specs.declared.state.UnitState.{UnitState}
 use Rattle.unit.specs.Records.{callOf, isCall}
@@ -60,6 +61,6 @@ pub session-of : (u : UnitState) (m : Memory) → Calls start (stateOf u m) → 
 session-of u m h = record { last = stateOf u m; calls = h; unit = refl; bank = refl }
 
 -- the bank that a session starts with is fresh
-pub start-fresh : bankOf (start .memory .bank .rows) ≡ fresh
+pub start-fresh : bankOf (bankRows (start .memory .bank .rows)) ≡ fresh
 unfolding start
 start-fresh = fresh-rows

@@ -5,8 +5,8 @@ use mathlib.Core.Bool.{Bool, true, _&&_}
 use mathlib.Core.List.{List, [], _∷_}
 use lib.ListN.{replicate}
 use Rattle.bank_state.specs.Limits.{storeBytes, replyRoom}
-use Rattle.bank_rows.specs.Layout.{stateSize}
 use Rattle.bank_steps.specs.Lent.{lent}
+use Rattle.bank_session.specs.Session.{sessionSize}
 use Rattle.unit.specs.declared.state.UnitState.{UnitState}
 use Rattle.unit.specs.Records.{callOf, isCall}
 use Rattle.unit.specs.State.{State, fresh, roomsBytes, memory, stateOf}
@@ -34,10 +34,10 @@ zeros n = replicate n 0
 -- "one fresh bank (8 places, 8 mailboxes) and 16 client runs": no run begun, and all that is lent to them zeroed
 unfoldable pub start : State
 start =
-    let bank = lent (zeros stateSize) (zeros storeBytes) (zeros storeBytes) in
+    let bank = lent (zeros sessionSize) (zeros storeBytes) (zeros storeBytes) in
     stateOf fresh (memory bank (zeros roomsBytes) (zeros roomsBytes) (zeros replyRoom))
 
--- the runs and the bank's rows that a session leaves
+-- the runs, the journal and the session's numbers that a session leaves
 pub record Session (u : UnitState) (rows : List ℕ) : Type 0 where
   pub last : State
   pub calls : Calls start last

@@ -1,5 +1,6 @@
 // The driver's session: each record from standard input, its line to standard output; at the end the closing tables.
 use bank_rows::layout::STATE_SIZE;
+use bank_session::layout::SESSION_SIZE;
 use bank_state::limits::REPLY_ROOM;
 use bank_state::limits::STORE_BYTES;
 use driver_print::line::line;
@@ -21,8 +22,8 @@ use unit::state::UnitState;
 use unit::state::fresh;
 ghost use mathlib.Core.Path.{_≡_};
 ghost use lib.ListN.{length};
-ghost use Rattle.bank_rows.specs.Layout.{stateSize};
 ghost use Rattle.bank_steps.specs.Lent.{lent};
+ghost use Rattle.bank_session.specs.Session.{sessionSize};
 ghost use Rattle.unit.specs.State.{fresh, memory, stateOf};
 ghost use Rattle.driver_session.specs.Session.{Calls, Session};
 
@@ -32,10 +33,10 @@ struct Reading {
     pub more: bool,
 }
 
-// What a session leaves: the client runs, and the bank's rows.
+// What a session leaves: the client runs with the journal, and the session's numbers.
 pub struct SessionEnd {
     pub unit: UnitState,
-    pub rows: [u64; STATE_SIZE],
+    pub rows: [u64; SESSION_SIZE],
 }
 
 // Reads the bytes from a place up to an end, and says whether all came.
@@ -172,9 +173,10 @@ fn close_table(
     mailboxes: &[u8],
     files: &[u8],
 )
-    requires { ⌜ length (now rows) ≡ stateSize ⌝ }
+    requires { ⌜ length (now rows) ≡ sessionSize ⌝ }
 {
-    let n = table_of(t, u, rows, orders, mailboxes, files, output);
+    let bank = &rows[..STATE_SIZE];
+    let n = table_of(t, u, bank, orders, mailboxes, files, output);
     io::write_all(STDOUT_FILENO, front(output, n));
 }
 
@@ -187,21 +189,22 @@ fn close(
     mailboxes: &[u8],
     files: &[u8],
 )
-    requires { ⌜ length (now rows) ≡ stateSize ⌝ }
+    requires { ⌜ length (now rows) ≡ sessionSize ⌝ }
 {
     close_table(Table::Book, u, output, rows, orders, mailboxes, files);
     close_table(Table::Mailboxes, u, output, rows, orders, mailboxes, files);
     close_table(Table::Words, u, output, rows, orders, mailboxes, files);
     close_table(Table::Files, u, output, rows, orders, mailboxes, files);
+    close_table(Table::Journal, u, output, rows, orders, mailboxes, files);
 }
 
-// Makes the calls of all records, prints, and gives the client runs and the bank's rows as they are then.
+// Makes the calls of all records, prints, and gives what the session leaves.
 pub fn session() -> SessionEnd
     ensures { λ r. ⌜ Session (r .unit) (r .rows) ⌝ }
 {
     let mut input = [0u8; RECORD_BYTES];
     let mut output = [0u8; TABLE_ROOM];
-    let mut rows = [0u64; STATE_SIZE];
+    let mut rows = [0u64; SESSION_SIZE];
     let mut orders = [0u8; STORE_BYTES];
     let mut mailboxes = [0u8; STORE_BYTES];
     let mut payloads = [0u8; ROOMS_BYTES];

@@ -8,6 +8,7 @@ use native.Mathlib.Omega.{arith}
 use lib.Dec.{eqb}
 use lib.ListN.{take, getD-replicate}
 use borrow.Author.Tests.{eqb-true, eqb-false}
+use Rattle.frame_table.specs.declared.fields.Bits128.{Bits128}
 use Rattle.frame_table.specs.declared.fields.Fields.{Fields}
 use Rattle.frame_writer.specs.declared.writer.Written.{Written}
 use Rattle.frame_writer.specs.declared.writer.Written.the-variants as written
@@ -22,6 +23,7 @@ use Rattle.message.specs.declared.codes.ReturnCode.the-variants as code
 use Rattle.message.specs.Codes.{codeField}
 use Rattle.message.specs.Limits.{subscribers}
 use Rattle.message.specs.Verdicts.{decide}
+use Rattle.journal.specs.Row.{Journal}
 use Rattle.bank_state.specs.State.{Bank}
 use Rattle.bank_state.specs.Clock.{advanced}
 use Rattle.bank_state.specs.Limits.{placeCount}
@@ -31,17 +33,7 @@ use Rattle.bank.specs.declared.call.FrameAnswer.{FrameAnswer}
 use Rattle.bank.specs.declared.call.FrameAnswer.the-variants as frameAnswer
 use Rattle.bank.specs.declared.mailbox.FileAnswer.{FileAnswer}
 use Rattle.bank.specs.declared.mailbox.FileAnswer.the-variants as fileAnswer
-use Rattle.bank.specs.Call.{
-  Step,
-  FrameCall,
-  replied,
-  answerOf,
-  lentRight,
-  respond,
-  frameCall,
-  FrameInput,
-  frameRefused,
-}
+use Rattle.bank.specs.Call.{Step, FrameCall, replied, answerOf, lentRight, respond, frameCall, FrameInput, frameRefused}
 use Rattle.bank.specs.Mailbox.{FileCall, fileCall, carryOutFile, fileRefusals, fileNumber}
 use Rattle.bank_history.proofs.Answers.{stepOf}
 use Rattle.bank_verdicts.specs.declared.verdict.DownloadAction.the-variants as down
@@ -49,6 +41,8 @@ use Rattle.bank_verdicts.specs.declared.verdict.Action.the-variants as action
 use Rattle.bank_verdicts.specs.declared.verdict.Verdict.{Verdict}
 use Rattle.bank_verdicts.specs.declared.verdict.Verdict.the-variants as verdict
 use Rattle.bank_history.specs.History.{
+  BankCall,
+  pastOf,
   Past,
   Frame,
   File,
@@ -64,6 +58,9 @@ use Rattle.bank_history.specs.History.{
 use Rattle.bank_history.specs.History as history
 use Rattle.bank_history.specs.Invariant.{Invariant, Holds}
 use Rattle.bank_history.specs.Sound.{AllSound}
+use Rattle.bank.specs.Journal.{journalAfter, journalBy}
+use Rattle.bank_history.specs.Journal.{journalOver, journalOf}
+use Rattle.bank_history.specs.JournalOrders.{NeverBooked}
 use Rattle.bank_history.specs.Transactions.{answered, filled, Emptied}
 use Rattle.bank_history.proofs.Clock.{advanced-clock, advanced-keeps}
 use Rattle.bank_history.proofs.Cases.{happens}
@@ -85,12 +82,14 @@ use Rattle.exchange.specs.Course.{
   afterFrame,
   afterFile,
   carryOut,
+  withJournal,
 }
-use Rattle.exchange.proofs.Calls.{file-done, frame-replied}
+use Rattle.exchange.proofs.Calls.{file-done, frame-replied, frame-done}
 use Rattle.frame.proofs.Theorems.{data-read, reply-read}
 use Rattle.exchange.proofs.Events.{verdict-refuses, mailbox-short, case-empties}
 use Rattle.exchange.proofs.Told.{Proper, AllProper, coded, done-confirmed}
 use Rattle.exchange.proofs.Told.{none as no-entry, more as one-more}
+use Rattle.exchange.proofs.Journal.{never-more}
 
 -- ---- entry by entry
 
@@ -135,9 +134,13 @@ listed (more s r) (older p) = let o = listed r p in (o .0, there (o .1), o .2)
 
 -- ---- the bank's part
 
--- of the bank, the exchanges and the file last put into each mailbox
-pub record BankEnd (bank : BankState) (exchanged : List Exchange) (lastPut : ℕ → List ℕ) : Type 0 where
+-- of the bank, its journal, the exchanges and the file last put into each mailbox
+pub record BankEnd (bank : BankState) (journal : Journal) (exchanged : List Exchange) (lastPut : ℕ → List ℕ) : Type 0 where
+  -- the calls of the bank that were given no number, and what they leave
+  pub calls : List BankCall
   pub past : Past
+  pub since : past ≡ pastOf calls
+  pub entered-events : journalOf calls ≡ journal
   pub holds : Holds past
   pub bankState : past .bankState ≡ bank
   pub entries : Entries exchanged (past .history)
@@ -147,15 +150,18 @@ pub record BankEnd (bank : BankState) (exchanged : List Exchange) (lastPut : ℕ
 
 -- of a course: no call of a run touches it
 abbrev pub BankPart : Course → Type 0
-BankPart s = BankEnd (s .bank) (s .exchanged) (s .mailboxes)
+BankPart s = BankEnd (s .bank) (s .journal) (s .exchanged) (s .mailboxes)
 
 -- a call enters at most one exchange
 pub data Grows (h : List history.Exchange) : List history.Exchange → Type 0 where
   stays : Grows h h
   grows : {x : history.Exchange} → Grows h (x ∷ h)
 
-abbrev pub Later : {w : BankState} {l : List Exchange} {m : ℕ → List ℕ} → BankEnd w l m → Course → Type 0
-Later b t = (n : BankPart t) × Grows (b .past .history) (n .past .history)
+-- the bank's part after a call
+pub record Later (s : Course) (b : BankPart s) (t : Course) : Type 0 where
+  pub bank : BankPart t
+  pub more : Grows (b .past .history) (bank .past .history)
+  pub never : (u : Bits128) → NeverBooked (b .calls) u → NeverBooked (bank .calls) u
 
 pub same-mailbox : (w : BankState) (m : ℕ) → mailboxOf w m ≡ mailboxFile w m
 unfolding mailboxOf mailboxFile
@@ -297,12 +303,22 @@ module _ (s : Course) (b : BankPart s) (a : FrameInput) (n : ℕ) where
           at false e = kept-other (λ z. eqb-false _ (codeField code.DownloadPostprocessDone) e
               (ap returnCode next-reply ∙ coded next-sound newest ∙ ap (λ (v : Verdict). codeField (verdictCode v)) (z .confirmed)))
 
+    next-journal : journalOf (Frame a ∷ b .calls) ≡ journalAfter (p .bankState) a (s .journal)
+    unfolding journalOf journalOver
+    next-journal =
+        ap (λ (r : Past). journalOver (Frame a) r (journalOf (b .calls))) (sym (b .since))
+        ∙ ap (λ (j : Journal). journalOver (Frame a) p j) (b .entered-events)
+        ∙ ap (λ (x : FrameAnswer). journalBy x (journalAfter (p .bankState) a (s .journal)) (s .journal)) h
+
     -- the course behind the answered frame
-    frame-part : BankPart
-        (afterFrame (take n (k .buffer)) (k .bankState) (advanced (a .time) (p .bankState)) (a .frame) s)
-    unfolding exchangeOf
+    frame-part : BankPart (withJournal (journalAfter (p .bankState) a (s .journal))
+        (afterFrame (take n (k .buffer)) (k .bankState) (advanced (a .time) (p .bankState)) (a .frame) s))
+    unfolding exchangeOf pastOf
     frame-part = record {
+      calls = Frame a ∷ b .calls;
       past = answered a p;
+      since = sym next-is ∙ ap (history.after (Frame a)) (b .since);
+      entered-events = next-journal;
       holds = next-holds;
       bankState = sym (told .bankState);
       entries =
@@ -334,7 +350,8 @@ entered-by : (s : Course) (b : BankPart s) (a : FrameInput) (n : ℕ)
     (h : frameCall (b .past .bankState) a .answer ≡ frameAnswer.Reply n) →
     Entered s b a
     (let k = frameCall (b .past .bankState) a in
-    afterFrame (take n (k .buffer)) (k .bankState) (advanced (a .time) (b .past .bankState)) (a .frame) s)
+    withJournal (journalAfter (b .past .bankState) a (s .journal))
+    (afterFrame (take n (k .buffer)) (k .bankState) (advanced (a .time) (b .past .bankState)) (a .frame) s))
 unfolding exchangeOf
 entered-by s b a n h = record {
   exchange = _;
@@ -368,20 +385,26 @@ module _ (s : Course) (b : BankPart s) (mailbox : ℕ) (file : List ℕ) where
   put = carryOutFile fileAnswer.Done (b .past .bankState .bank) mailbox file (b .past .bankState .mailboxes)
 
   file-by : FileSound bankBefore mailbox file boxesBefore fileAnswer.Done →
-      Holds (placed fileAnswer.Done (put .bank) (put .mailboxes) (b .past)) → Later b (afterFile put mailbox file s)
-  unfolding mailboxOf
-  file-by (rejected l) holds = absurd (omega arith)
-  file-by (done known most some short empty) holds = (
-    record {
+      Holds (placed fileAnswer.Done (put .bank) (put .mailboxes) (b .past)) →
+      history.after (File mailbox file) (b .past) ≡ placed fileAnswer.Done (put .bank) (put .mailboxes) (b .past) →
+      Later s b (afterFile put mailbox file s)
+  unfolding mailboxOf journalOf journalOver pastOf
+  file-by (rejected l) holds next = absurd (omega arith)
+  file-by (done known most some short empty) holds next = record {
+    bank = record {
+      calls = File mailbox file ∷ b .calls;
+      since = sym next ∙ ap (history.after (File mailbox file)) (b .since);
+      entered-events = b .entered-events;
       past = record { bankState = filled mailbox file (b .past .bankState); history = b .past .history };
       holds = holds;
       bankState = ap (λ (w : BankState). bankState (put .bank) (w .orders) (put .mailboxes)) (b .bankState);
       entries = b .entries;
       proper = b .proper;
       mailboxes = λ m low high. same-mailbox _ m ∙ at m low high (eqb m mailbox) refl;
-    },
-    stays,
-  )
+    };
+    more = stays;
+    never = λ u. never-more (File mailbox file);
+  }
     where
       v : Invariant (b .past .bankState) (b .past .history)
       v = b .holds .invariant
@@ -397,57 +420,65 @@ module _ (s : Course) (b : BankPart s) (mailbox : ℕ) (file : List ℕ) where
           ∙ sym (same-mailbox (b .past .bankState) m) ∙ ap (λ (w : BankState). mailboxOf w m) (b .bankState) ∙ b .mailboxes m low high
 
   file-part : fileNumber (fileCall bankBefore mailbox file boxesBefore .answer) ≡ 0 →
-      Later b (afterFile (fileCall bankBefore mailbox file boxesBefore) mailbox file s)
+      Later s b (afterFile (fileCall bankBefore mailbox file boxesBefore) mailbox file s)
   unfolding fileCall history.after
   file-part h =
       let a = decide (fileRefusals bankBefore mailbox file boxesBefore) fileAnswer.Done in
       let e : a ≡ fileAnswer.Done = file-done a bankBefore mailbox file boxesBefore h in
       let k : FileAnswer → FileCall = λ x. carryOutFile x bankBefore mailbox file boxesBefore in
       subst (λ (x : FileAnswer). FileSound bankBefore mailbox file boxesBefore x →
-      Holds (placed (k x .answer) (k x .bank) (k x .mailboxes) (b .past)) → Later b (afterFile (k x) mailbox file s)) (sym e) file-by
-      (judged-file bankBefore mailbox file boxesBefore) (after-holds (File mailbox file) (b .past) (b .holds))
+      Holds (placed (k x .answer) (k x .bank) (k x .mailboxes) (b .past)) →
+      history.after (File mailbox file) (b .past) ≡ placed (k x .answer) (k x .bank) (k x .mailboxes) (b .past) →
+      Later s b (afterFile (k x) mailbox file s)) (sym e) file-by
+      (judged-file bankBefore mailbox file boxesBefore) (after-holds (File mailbox file) (b .past) (b .holds)) refl
 
 -- ---- what calls given no number leave
 
-module _ (s : Course) (b : BankPart s) (w : BankState) (a : FrameInput) (same : w ≡ s .bank)
-    (done : callNumber (frameArrives w a) ≡ 0) where
-  -- what holds after the frame is answered to the bank as it was left holds after the call
+module _ (s : Course) (b : BankPart s) (w : BankState) (j : Journal) (a : FrameInput) (same : w ≡ s .bank) (lent : j ≡ s .journal)
+    (done : callNumber (frameArrives w j a) ≡ 0) where
+  -- what holds after the frame is answered to the bank and the journal as they were left holds after the call
   answered-so : (P : Course → Type 0) → ((n : ℕ) → let k = frameCall (b .past .bankState) a in
       k .answer ≡ frameAnswer.Reply n →
-      P (afterFrame (take n (k .buffer)) (k .bankState) (advanced (a .time) (b .past .bankState)) (a .frame) s)) →
-      P (carryOut (frameArrives w a) s)
+      P (withJournal (journalAfter (b .past .bankState) a (s .journal))
+      (afterFrame (take n (k .buffer)) (k .bankState) (advanced (a .time) (b .past .bankState)) (a .frame) s))) →
+      P (carryOut (frameArrives w j a) s)
   answered-so P f =
-      subst (λ (v : BankState). (n : ℕ) × (frameCall v a .answer ≡ frameAnswer.Reply n) →
-      P (carryOut (frameArrives v a) s)) (b .bankState ∙ sym same) at
-      (frame-replied (frameCall w a .answer) done)
+      subst (λ (i : Journal). P (carryOut (frameArrives w i a) s)) (sym lent)
+      (subst (λ (v : BankState). (n : ℕ) × (frameCall v a .answer ≡ frameAnswer.Reply n) →
+      P (carryOut (frameArrives v (s .journal) a) s)) (b .bankState ∙ sym same) at
+      (frame-replied (frameCall w a .answer) (frame-done w j a done)))
     where
       k : FrameCall
       k = frameCall (b .past .bankState) a
 
-      at : (n : ℕ) × (k .answer ≡ frameAnswer.Reply n) → P (carryOut (frameArrives (b .past .bankState) a) s)
+      at : (n : ℕ) × (k .answer ≡ frameAnswer.Reply n) → P (carryOut (frameArrives (b .past .bankState) (s .journal) a) s)
       at (n, e) =
-          subst (λ (r : FrameAnswer). P
-          (afterFrame (replyIn r (k .buffer)) (k .bankState) (advanced (a .time) (b .past .bankState)) (a .frame) s))
+          subst (λ (r : FrameAnswer). P (withJournal (journalAfter (b .past .bankState) a (s .journal))
+          (afterFrame (replyIn r (k .buffer)) (k .bankState) (advanced (a .time) (b .past .bankState)) (a .frame) s)))
           (sym e) (f n e)
 
-  -- a frame call, lent the bank as it was left
-  pub frame-keeps : Later b (carryOut (frameArrives w a) s)
+  -- a frame call, lent the bank and the journal as they were left
+  pub frame-keeps : Later s b (carryOut (frameArrives w j a) s)
   unfolding frame-part
-  frame-keeps = answered-so (Later b) (λ n h. (frame-part s b a n h, grows))
+  frame-keeps = answered-so (Later s b) (λ n h. record {
+    bank = frame-part s b a n h;
+    more = grows;
+    never = λ u. never-more (Frame a);
+  })
 
-  pub frame-enters : Entered s b a (carryOut (frameArrives w a) s)
+  pub frame-enters : Entered s b a (carryOut (frameArrives w j a) s)
   frame-enters = answered-so (Entered s b a) (λ n h. entered-by s b a n h)
 
 -- a file call, lent the bank and the mailboxes as they were left
 pub file-keeps : (s : Course) (b : BankPart s) (bank : Bank) (mailboxes : List ℕ) (m : ℕ) (file : List ℕ) →
     (bank ≡ s .bank .bank) × (mailboxes ≡ s .bank .mailboxes) → callNumber (filePut bank mailboxes m file) ≡ 0 →
-    Later b (carryOut (filePut bank mailboxes m file) s)
+    Later s b (carryOut (filePut bank mailboxes m file) s)
 file-keeps s b bank mailboxes m file same =
     subst (λ (c : Bank). P c mailboxes) (ap (λ (w : BankState). w .bank) (b .bankState) ∙ sym (same .0))
     (subst (P (b .past .bankState .bank)) (ap (λ (w : BankState). w .mailboxes) (b .bankState) ∙ sym (same .1)) (file-part s b m file))
   where
     P : Bank → List ℕ → Type 0
-    P c l = fileNumber (fileCall c m file l .answer) ≡ 0 → Later b (afterFile (fileCall c m file l) m file s)
+    P c l = fileNumber (fileCall c m file l .answer) ≡ 0 → Later s b (afterFile (fileCall c m file l) m file s)
 
 -- before the first call
 fresh-mailbox : (m : ℕ) → 1 ≤ m → m ≤ subscribers → mailboxOf (start .bank) m ≡ []
@@ -456,9 +487,12 @@ fresh-mailbox m low high = ap (λ (n : ℕ). take n (partAt (start .bank .mailbo
     (getD-replicate placeCount (m - 1) 0 0 (omega arith))
 
 pub bank-start : BankPart start
-unfolding start history.pastOf history.start
+unfolding start pastOf history.start journalOf
 bank-start = record {
-  past = history.pastOf [];
+  calls = [];
+  since = refl;
+  entered-events = refl;
+  past = pastOf [];
   holds = past-holds [];
   bankState = refl;
   entries = none;

@@ -4,6 +4,7 @@ use mathlib.Core.Bool.{Bool, true, false, cond}
 use mathlib.Core.List.{List, [], _∷_, List·Memᴰ as In, List·Memᴰ·head as here, List·Memᴰ·tail as there, List·Memᴰ·not-nil as in-none}
 use mathlib.Core.Path.{_≡_, refl, sym, ap, _∙_, subst}
 use native.Mathlib.Decide.{ℕ-discrete}
+use native.Mathlib.Omega.{arith}
 use lib.Dec.{eqb}
 use lib.ListN.{take}
 use borrow.Author.Tests.{eq-eqb, ne-eqb, eqb-true}
@@ -15,25 +16,33 @@ use Rattle.frame_table.specs.Names.{transaction, segments, form}
 use Rattle.frame_reader.specs.Reader.{readRequest}
 use Rattle.frame_row.specs.Row.{dataOf}
 use Rattle.octets.proofs.Tests.{never}
+use Rattle.bank_verdicts.specs.declared.verdict.Action.{Action}
 use Rattle.bank_verdicts.specs.declared.verdict.Action.the-variants as action
 use Rattle.bank_verdicts.specs.declared.verdict.DownloadAction.the-variants as down
 use Rattle.bank_verdicts.specs.declared.verdict.UploadAction.the-variants as up
 use Rattle.bank_verdicts.specs.declared.verdict.Verdict.the-variants as verdict
-use Rattle.bank_history.specs.History.{Stands, older}
+use Rattle.bank_history.specs.History.{Stands, older, BankCall, isBooking, did, ever}
 use Rattle.bank_history.specs.History as bank
+use Rattle.bank_history.specs.JournalOrders.{NeverBooked}
 use Rattle.bank_history.specs.Sound.{AllSound}
 use Rattle.bank_history.proofs.Theorems.{upload-opened, download-opened}
 use Rattle.client_run.specs.declared.run.Answer.{Answer}
 use Rattle.client_run.specs.declared.run.Answer.the-variants as answer
 use Rattle.client_run.specs.declared.run.ClientRun.{ClientRun}
+use Rattle.client_run.specs.declared.run.Stage.{Stage}
+use Rattle.client_run.specs.declared.run.Stage.the-variants as stage
 use Rattle.client_run.specs.declared.run.Step.{Step}
 use Rattle.client_run.specs.declared.run.Step.the-variants as step
+use Rattle.client_run.specs.declared.run.Word.{Word}
+use Rattle.client_run.specs.declared.run.Word.the-variants as word
 use Rattle.client_run.specs.Run.{Lent, ClientCall, answerNumber}
+use Rattle.client_rules.specs.Rulings.{isBegun}
 use Rattle.client_history.specs.History.{Event, Past, issueOf, left, callOf, lentTo, Fair}
 use Rattle.client_history.specs.History as history
 use Rattle.client_history.specs.Invariant.{isOpen, UploadOpen, UploadStep, HeldFile, DownloadStep, Invariant, not-begun, upload, download}
 use Rattle.client_history.proofs.Lifting.{lifted}
 use Rattle.client_history.proofs.Liveness.{numbered}
+use Rattle.client_history.proofs.Stays.{ended-stays}
 use Rattle.client_history.proofs.Theorems.{kept}
 use Rattle.exchange.specs.Course.{Issue, Exchange, Course, withRun, withIssued, heldOf, issuedBy, afterRun}
 use Rattle.exchange.proofs.Bytes.{Issued, issued-request, issued-data}
@@ -158,13 +167,60 @@ gave-more q r d e a = record {
   replyData = a .replyData;
 }
 
-abbrev pub RunHolds : List bank.Exchange → Past → Type 0
-RunHolds h p = Invariant (Gave h) (fileIn h) p
+-- the past with its run at a stage
+abbrev pub atStage : Stage → Past → Past
+atStage x p = record {
+  run = record {
+    stage = x;
+    direction = p .run .direction;
+    step = p .run .step;
+    subscriber = p .run .subscriber;
+    exchange = p .run .exchange;
+    repeats = p .run .repeats;
+    transaction = p .run .transaction;
+    number = p .run .number;
+    length = p .run .length;
+    segments = p .run .segments;
+    segment = p .run .segment;
+    issued = p .run .issued;
+    held = p .run .held;
+    receipted = p .run .receipted;
+  };
+  payload = p .payload;
+  file = p .file;
+  issues = p .issues;
+}
 
-pub run-lifts : {h k : List bank.Exchange} → Grows h k → AllSound h → AllSound k → (p : Past) → RunHolds h p → RunHolds k p
-run-lifts stays sound later p v = v
-run-lifts grows sound later p (not-begun e g) = not-begun e g
-run-lifts {h} (grows {x = x}) sound later p (upload b u) = lifted (Gave h) (Gave (x ∷ h)) gave-more (fileIn h) (fileIn (x ∷ h)) p
+pub stage-same : (x : Stage) (p : Past) → x ≡ p .run .stage → atStage x p ≡ p
+stage-same x p z = ap (λ (y : Stage). atStage y p) z
+
+-- what became of a run that its own events left at a stage: it is as they left it, or it was unclear and the journal
+-- closed it; then its upload is booked, or never booked
+pub data Judged (calls : List BankCall) (h : List bank.Exchange) (c : ClientRun) (x : Stage) : Type 0 where
+  as-left : x ≡ c .stage → Judged calls h c x
+  lodged-by : x ≡ stage.Ended word.Unclear → c .stage ≡ stage.Ended word.Lodged → ever isBooking (c .transaction) h ≡ true →
+      Judged calls h c x
+  ended-by : x ≡ stage.Ended word.Unclear → c .stage ≡ stage.Ended word.NotLodged → NeverBooked calls (c .transaction) → Judged calls h c x
+
+ever-more : (f : Action → Bool) (t : Bits128) (x : bank.Exchange) (h : List bank.Exchange) → ever f t h ≡ true → ever f t (x ∷ h) ≡ true
+unfolding ever
+ever-more f t x h e = at (did f t (x .verdict))
+  where
+    at : (b : Bool) → cond b true (ever f t h) ≡ true
+    at true = refl
+    at false = e
+
+-- the run's part: its own events left it at a stage
+pub record RunHolds (calls : List BankCall) (h : List bank.Exchange) (p : Past) : Type 0 where
+  pub left : Stage
+  pub own : Invariant (Gave h) (fileIn h) (atStage left p)
+  pub word : Judged calls h (p .run) left
+
+past-lifts : {h k : List bank.Exchange} → Grows h k → AllSound h → AllSound k → (p : Past) → Invariant (Gave h) (fileIn h) p →
+    Invariant (Gave k) (fileIn k) p
+past-lifts stays sound later p v = v
+past-lifts grows sound later p (not-begun e g) = not-begun e g
+past-lifts {h} (grows {x = x}) sound later p (upload b u) = lifted (Gave h) (Gave (x ∷ h)) gave-more (fileIn h) (fileIn (x ∷ h)) p
     (λ o. file-stays sound later (at (p .run .step) o (u .step))) (upload b u)
   where
     at : (s : Step) → isOpen s ≡ true → UploadStep (Gave h) s (p .run) (p .issues) →
@@ -172,7 +228,7 @@ run-lifts {h} (grows {x = x}) sound later p (upload b u) = lifted (Gave h) (Gave
     at step.Opening o k = never o
     at step.Segment o k = opened-upload sound k
     at step.Receipt o k = absurd k
-run-lifts {h} (grows {x = x}) sound later p (download b u) = lifted (Gave h) (Gave (x ∷ h)) gave-more (fileIn h) (fileIn (x ∷ h)) p
+past-lifts {h} (grows {x = x}) sound later p (download b u) = lifted (Gave h) (Gave (x ∷ h)) gave-more (fileIn h) (fileIn (x ∷ h)) p
     (λ o. file-stays sound later (at (p .run .step) o (u .step))) (download b u)
   where
     at : (s : Step) → isOpen s ≡ true → DownloadStep (Gave h) (fileIn h) s (p .run) (p .file) (p .issues) →
@@ -180,6 +236,21 @@ run-lifts {h} (grows {x = x}) sound later p (download b u) = lifted (Gave h) (Ga
     at step.Opening o k = never o
     at step.Segment o k = opened-download sound k
     at step.Receipt o k = opened-download sound (k .0)
+
+module _ {calls more : List BankCall} {h k : List bank.Exchange} (g : Grows h k)
+    (never : (t : Bits128) → NeverBooked calls t → NeverBooked more t) where
+  judged-lifts : {c : ClientRun} {x : Stage} → Judged calls h c x → Judged more k c x
+  judged-lifts (as-left z) = as-left z
+  judged-lifts {c} (lodged-by z e b) = lodged-by z e (at g)
+    where
+      at : {l : List bank.Exchange} → Grows h l → ever isBooking (c .transaction) l ≡ true
+      at stays = b
+      at (grows {x = x}) = ever-more isBooking (c .transaction) x h b
+  judged-lifts {c} (ended-by z e b) = ended-by z e (never (c .transaction) b)
+
+  pub run-lifts : AllSound h → AllSound k → (p : Past) → RunHolds calls h p → RunHolds more k p
+  run-lifts sound later p r =
+      record { left = r .left; own = past-lifts g sound later (atStage (r .left) p) (r .own); word = judged-lifts (r .word) }
 
 -- ---- a call of the run
 
@@ -220,7 +291,34 @@ new-other s i j k (answer.Refused r) h = refl
 -- both ends of a course
 pub record Parts (s : Course) : Type 0 where
   pub bank : BankPart s
-  pub runs : (i : ℕ) → RunHolds (bank .past .history) (runPast s i)
+  pub runs : (i : ℕ) → RunHolds (bank .calls) (bank .past .history) (runPast s i)
+
+-- the past of the run's own events
+abbrev pub ownPast : {s : Course} → Parts s → ℕ → Past
+ownPast {s} v i = atStage (v .runs i .left) (runPast s i)
+
+-- it has begun if the run has
+pub begun-same : (s : Course) (v : Parts s) (i : ℕ) → isBegun (v .runs i .left) ≡ isBegun (s .runs i .stage)
+begun-same s v i = at (v .runs i .word)
+  where
+    at : {x : Stage} → Judged (v .bank .calls) (v .bank .past .history) (s .runs i) x → isBegun x ≡ isBegun (s .runs i .stage)
+    at (as-left z) = ap isBegun z
+    at (lodged-by z e b) = ap isBegun z ∙ sym (ap isBegun e)
+    at (ended-by z e b) = ap isBegun z ∙ sym (ap isBegun e)
+
+-- a run that goes on is as its own events left it
+pub running-own : (s : Course) (v : Parts s) (i : ℕ) → s .runs i .stage ≡ stage.Running → ownPast v i ≡ runPast s i
+running-own s v i e = at (v .runs i .word)
+  where
+    at : {x : Stage} → Judged (v .bank .calls) (v .bank .past .history) (s .runs i) x → atStage x (runPast s i) ≡ runPast s i
+    at (as-left z) = stage-same _ (runPast s i) z
+    at (lodged-by z f b) = absurd (let y : _≡_ {A = ℕ} 0 1 = cc in omega arith)
+    at (ended-by z f b) = absurd (let y : _≡_ {A = ℕ} 0 1 = cc in omega arith)
+
+pub running-holds : (s : Course) (v : Parts s) (i : ℕ) → s .runs i .stage ≡ stage.Running →
+    Invariant (Gave (v .bank .past .history)) (fileIn (v .bank .past .history)) (runPast s i)
+running-holds s v i e =
+    let h = v .bank .past .history in subst (Invariant (Gave h) (fileIn h)) (running-own s v i e) (v .runs i .own)
 
 module _ (s : Course) (i : ℕ) (k : ClientCall) (l : Lent) where
   -- the run is left as its history says
@@ -243,14 +341,31 @@ module _ (s : Course) (i : ℕ) (k : ClientCall) (l : Lent) where
   other-past j d = other-run s i k (l .payload) (issuedBy (k .answer) i k s) j d (new-other s i j k (k .answer) d)
 
 module _ (s : Course) (v : Parts s) (i : ℕ) (e : Event) where
-  -- what a fair event leaves of the run
-  pub run-fair : Fair (Gave (v .bank .past .history)) e (runPast s i) → RunHolds (v .bank .past .history) (history.after e (runPast s i))
-  run-fair fair =
-      let h = v .bank .past .history in
-      kept (Gave h) (fileIn h) (bank-replies h (v .bank .holds .invariant .sound) (v .bank .proper)) (runPast s i) e fair (v .runs i)
+  -- what a fair event leaves of the run; one that the journal closed has ended
+  pub run-fair : Fair (Gave (v .bank .past .history)) e (runPast s i) →
+      RunHolds (v .bank .calls) (v .bank .past .history) (history.after e (runPast s i))
+  run-fair fair = at (v .runs i .own) (v .runs i .word)
+    where
+      h : List bank.Exchange
+      h = v .bank .past .history
+
+      ended : (w : Word) → s .runs i .stage ≡ stage.Ended w → RunHolds (v .bank .calls) h (history.after e (runPast s i))
+      ended w z = subst (RunHolds (v .bank .calls) h) (sym (ended-stays (runPast s i) w z e)) (v .runs i)
+
+      at : {x : Stage} → Invariant (Gave h) (fileIn h) (atStage x (runPast s i)) → Judged (v .bank .calls) h (s .runs i) x →
+          RunHolds (v .bank .calls) h (history.after e (runPast s i))
+      at own (as-left z) = record {
+        left = history.after e (runPast s i) .run .stage;
+        own = kept (Gave h) (fileIn h) (bank-replies h (v .bank .holds .invariant .sound) (v .bank .proper)) (runPast s i) e fair
+            (subst (Invariant (Gave h) (fileIn h)) (stage-same _ (runPast s i) z) own);
+        word = as-left refl;
+      }
+      at own (lodged-by z f b) = ended word.Lodged f
+      at own (ended-by z f b) = ended word.NotLodged f
 
   pub run-keeps : ((n : ℕ) → callOf e (s .runs i) .answer ≡ answer.Request n → Issued (callOf e (s .runs i)) (lentTo e) n) →
-      answerNumber (callOf e (s .runs i) .answer) ≡ 0 → RunHolds (v .bank .past .history) (history.after e (runPast s i)) →
+      answerNumber (callOf e (s .runs i) .answer) ≡ 0 →
+      RunHolds (v .bank .calls) (v .bank .past .history) (history.after e (runPast s i)) →
       Parts (afterRun i (callOf e (s .runs i)) (lentTo e .payload) s)
   unfolding history.after
   run-keeps issues done own = record { bank = v .bank; runs = λ j. at j (ℕ-discrete j i) }
@@ -258,12 +373,12 @@ module _ (s : Course) (v : Parts s) (i : ℕ) (e : Event) where
       k : ClientCall
       k = callOf e (s .runs i)
 
-      h : List bank.Exchange
-      h = v .bank .past .history
+      Holds : Past → Type 0
+      Holds p = RunHolds (v .bank .calls) (v .bank .past .history) p
 
       now : ℕ → Past
       now j = runPast (afterRun i k (lentTo e .payload) s) j
 
-      at : (j : ℕ) → Dec (j ≡ i) → RunHolds h (now j)
-      at j (yes z) = subst (λ (n : ℕ). RunHolds h (now n)) (sym z) (subst (RunHolds h) (sym (own-past s i k (lentTo e) issues done)) own)
-      at j (no z) = subst (RunHolds h) (sym (other-past s i k (lentTo e) j z)) (v .runs j)
+      at : (j : ℕ) → Dec (j ≡ i) → Holds (now j)
+      at j (yes z) = subst (λ (n : ℕ). Holds (now n)) (sym z) (subst Holds (sym (own-past s i k (lentTo e) issues done)) own)
+      at j (no z) = subst Holds (sym (other-past s i k (lentTo e) j z)) (v .runs j)

@@ -13,6 +13,8 @@ use Rattle.frame_table.specs.Names.{exchange}
 use Rattle.frame_reader.specs.Reader.{readRequest}
 use Rattle.octets.proofs.Tests.{never}
 use Rattle.message.specs.Verdicts.{decide}
+use Rattle.journal.specs.declared.event.Event.{Event}
+use Rattle.journal.specs.Row.{Journal}
 use Rattle.bank_state.specs.State.{Bank}
 use Rattle.bank_state.specs.Search.{openCountOf}
 use Rattle.bank_state.specs.State.{BankState, bankState}
@@ -30,7 +32,10 @@ use Rattle.client_run.specs.declared.run.ClientRun.{ClientRun}
 use Rattle.client_run.specs.declared.run.Direction.{Direction}
 use Rattle.client_run.specs.declared.run.Direction.the-variants.{Upload, Download}
 use Rattle.client_run.specs.declared.run.RunParameters.{RunParameters}
+use Rattle.client_run.specs.declared.run.Stage.the-variants as stage
+use Rattle.client_run.specs.declared.run.Word.the-variants.{Unclear}
 use Rattle.client.specs.Calls.{beginCall, replyCall, noReplyCall}
+use Rattle.client.specs.Journal.{journalCall}
 use Rattle.client_run.specs.Run.{Lent, ClientCall, answerNumber}
 use Rattle.exchange.specs.Course.{
   Call,
@@ -39,6 +44,7 @@ use Rattle.exchange.specs.Course.{
   begins,
   replyArrives,
   noReply,
+  journalHanded,
   Issue,
   Exchange,
   Arrival,
@@ -56,6 +62,16 @@ use Rattle.exchange.proofs.Bank.{Entered, frame-enters}
 use Rattle.exchange.proofs.Clients.{issuesOf, runPast, issued-in, OpenedBy, Parts}
 use Rattle.exchange.proofs.Issues.{one-issue}
 use Rattle.exchange.proofs.Outstanding.{GivenFor, other-ignored, other-stays}
+use Rattle.exchange.proofs.Handed.{
+  Handing,
+  unchanged,
+  lodges,
+  ends,
+  handing,
+  withRunOf,
+  handed-own,
+  handed-other,
+}
 use Rattle.exchange.proofs.Courses.{Copied, frame-runs}
 use Rattle.exchange.proofs.Received.{ToAnother, Same, same-refl, other-same, foreign-same, ignored-same}
 use Rattle.exchange.proofs.Joint.{counts}
@@ -76,18 +92,20 @@ bank-same s v i t e y id o direction u k n last few a = subst (λ (w : BankState
 -- What the call is to run i
 pub data Concern (s : Course) (v : Parts s) (i : ℕ) : Call → Type 0 where
   elsewhere : {k : Call} → Same i s (exec k s) → Untouched s v i (exec k s) → Concern s v i k
-  own-frame : {w : BankState} {a : FrameInput} →
-      Entered s (v .bank) a (exec (frameArrives w a) s) → IssuedBy i (a .frame) s →
+  own-frame : {w : BankState} {j : Journal} {a : FrameInput} →
+      Entered s (v .bank) a (exec (frameArrives w j a) s) → IssuedBy i (a .frame) s →
       ((e : Exchange) → In e (s .exchanged) → e .request ≡ a .frame → ⊥) →
-      NoIdleHour i (exec (frameArrives w a) s .bank .bank .clock) s →
-      exec (frameArrives w a) s .issued ≡ s .issued →
-      exec (frameArrives w a) s .arrived ≡ s .arrived →
-      Concern s v i (frameArrives w a)
+      NoIdleHour i (exec (frameArrives w j a) s .bank .bank .clock) s →
+      exec (frameArrives w j a) s .issued ≡ s .issued →
+      exec (frameArrives w j a) s .arrived ≡ s .arrived →
+      Concern s v i (frameArrives w j a)
   own-begin : {c : ClientRun} {params : RunParameters} {l : Lent} → c ≡ s .runs i →
       callNumber (begins i c params l) ≡ 0 → Concern s v i (begins i c params l)
   own-reply : {c : ClientRun} {reply : List ℕ} {l : Lent} → callNumber (replyArrives i c reply l) ≡ 0 → Left i c l s →
       GivenFor i reply s → ((a : Arrival) → In a (s .arrived) → a .run ≡ i → a .reply ≡ reply → ⊥) →
       Concern s v i (replyArrives i c reply l)
+  -- the journal, to an unclear run; any other run it leaves as it is
+  own-journal : {k : Call} → s .runs i .stage ≡ stage.Ended Unclear → Concern s v i k
 
 -- a call that changes nothing
 nothing-new : (s : Course) (v : Parts s) (i : ℕ) (t : Course) → t ≡ s → Same i s t × Untouched s v i t
@@ -154,19 +172,19 @@ module _ (s : Course) (v : Parts s) (copies : Copied s) (numbers : OneExchangeNu
   foreign-untouched a given t en foreign y id o Download u k n last few stood =
       download-standing s v copies numbers a given t en o foreign (few refl) stood
 
-  frame-concern : (w : BankState) (a : FrameInput) → Premise (frameArrives w a) s →
-      Turn i (frameArrives w a) s → callNumber (frameArrives w a) ≡ 0 →
-      Concern s v i (frameArrives w a)
-  frame-concern w a q turn z = at (own-or-not (a .frame) (q .1))
+  frame-concern : (w : BankState) (j : Journal) (a : FrameInput) → Premise (frameArrives w j a) s →
+      Turn i (frameArrives w j a) s → callNumber (frameArrives w j a) ≡ 0 →
+      Concern s v i (frameArrives w j a)
+  frame-concern w j a q turn z = at (own-or-not (a .frame) (q .2))
     where
       k : Call
-      k = frameArrives w a
+      k = frameArrives w j a
 
       now : carryOut k s ≡ exec k s
       now = sym (carried k s z)
 
       en : Entered s (v .bank) a (exec k s)
-      en = subst (Entered s (v .bank) a) now (frame-enters s (v .bank) w a (q .0) z)
+      en = subst (Entered s (v .bank) a) now (frame-enters s (v .bank) w j a (q .0) (q .1) z)
 
       issued : exec k s .issued ≡ s .issued
       issued = ap (λ (t : Course). t .issued) (carried k s z)
@@ -179,8 +197,8 @@ module _ (s : Course) (v : Parts s) (copies : Copied s) (numbers : OneExchangeNu
           let x = turn own in
           own-frame en own (x .0) (subst (λ (t : Course). NoIdleHour i (t .bank .bank .clock) s) now (x .1)) issued arrivals
       at (inr foreign) =
-          elsewhere (foreign-same (en .exchanged) (en .request) issued arrivals (frame-runs s w a i) foreign)
-          (foreign-untouched a (q .1) (exec k s) en foreign)
+          elsewhere (foreign-same (en .exchanged) (en .request) issued arrivals (frame-runs s w j a i) foreign)
+          (foreign-untouched a (q .2) (exec k s) en foreign)
 
   -- ---- a file
 
@@ -265,8 +283,38 @@ module _ (s : Course) (v : Parts s) (copies : Copied s) (numbers : OneExchangeNu
           (bank-same s v i (exec (k j) s) (ap (λ (x : Course). x .bank) (sym now) ∙ other d .1))
       at (yes e) = subst (λ (n : ℕ). callNumber (k n) ≡ 0 → Premise (k n) s → Turn i (k n) s → Concern s v i (k n)) e own z q turn
 
+  -- the journal handed to a run: run i stays as it is, unless it is that run and unclear
+  handed-same : (j : ℕ) (c : ClientRun) (row : List Event) → runPast (carryOut (journalHanded j c row) s) i ≡ runPast s i →
+      Same i s (carryOut (journalHanded j c row) s)
+  handed-same j c row past = record {
+    past = past;
+    received = λ e m. m;
+    keeps = λ n e m. m;
+    arrivals = λ a m r. inl m;
+    arrived = λ a m. m;
+    issued = λ x m r. m;
+  }
+
+  journal-concern : (c : ClientRun) (row : List Event) → callNumber (journalHanded i c row) ≡ 0 → Premise (journalHanded i c row) s →
+      Concern s v i (journalHanded i c row)
+  journal-concern c row z q = at (handing c row)
+    where
+      k : Call
+      k = journalHanded i c row
+
+      now : carryOut k s ≡ exec k s
+      now = sym (carried k s z)
+
+      at : Handing c row (journalCall c row .run) → Concern s v i k
+      at (unchanged e) =
+          elsewhere
+          (subst (Same i s) now (handed-same i c row (handed-own s i c row ∙ ap (λ (r : ClientRun). withRunOf r (runPast s i)) (e ∙ q .0))))
+          (bank-same s v i (exec k s) (ap (λ (x : Course). x .bank) (sym now)))
+      at (lodges e f r) = own-journal (ap (λ (x : ClientRun). x .stage) (sym (q .0)) ∙ e)
+      at (ends e f r) = own-journal (ap (λ (x : ClientRun). x .stage) (sym (q .0)) ∙ e)
+
   carried-concern : (k : Call) → callNumber k ≡ 0 → Premise k s → Turn i k s → Concern s v i k
-  carried-concern (frameArrives w a) z q turn = frame-concern w a q turn z
+  carried-concern (frameArrives w j a) z q turn = frame-concern w j a q turn z
   carried-concern (filePut b mailboxes m file) z q turn =
       let k = filePut b mailboxes m file in
       let now = sym (carried k s z) in
@@ -288,6 +336,9 @@ module _ (s : Course) (v : Parts s) (copies : Copied s) (numbers : OneExchangeNu
       (λ d. (reached-same j d reply _ (other-same s i j d (replyCall c reply l) l), refl)) (reply-concern c reply l)
   carried-concern (noReply j c l) z q turn =
       run-concern (λ n. noReply n c l) j z q turn (λ d. (other-same s i j d (noReplyCall c l) l, refl)) (λ y own not. absurd (not refl))
+  carried-concern (journalHanded j c row) z q turn =
+      run-concern (λ n. journalHanded n c row) j z q turn (λ d. (handed-same j c row (handed-other s j c row i d), refl))
+      (λ y own _. journal-concern c row y own)
 
   pub concern : (k : Call) → Allowed k s → InTurn i k s → Concern s v i k
   concern k q turn = at (number-or-none k s)

@@ -4,10 +4,12 @@ use mathlib.Core.Bool.{true}
 use mathlib.Core.List.{List, [], _∷_, List·Memᴰ as In, List·Memᴰ·head as here, List·Memᴰ·tail as there, List·Memᴰ·not-nil as in-none}
 use mathlib.Core.Path.{_≡_, refl, sym, subst}
 use native.Mathlib.Decide.{ℕ-discrete}
+use Rattle.journal.specs.Row.{Journal}
 use Rattle.bank_state.specs.State.{Bank}
 use Rattle.bank_state.specs.State.{BankState}
 use Rattle.client_run.specs.declared.run.ClientRun.{ClientRun}
 use Rattle.client_run.specs.declared.run.RunParameters.{RunParameters}
+use Rattle.client_run.specs.declared.run.Stage.the-variants as stage
 use Rattle.client.specs.Calls.{replyCall}
 use Rattle.client_run.specs.Run.{Lent, answerNumber}
 use Rattle.client_history.specs.History.{Begin, Reply, NoReply}
@@ -21,6 +23,7 @@ use Rattle.exchange.specs.Course.{
   begins,
   replyArrives,
   noReply,
+  journalHanded,
   Exchange,
   Course,
   start,
@@ -34,27 +37,28 @@ use Rattle.exchange.specs.Demand3.{isSubscribers, Left, Premise, Allowed
 use Rattle.exchange.proofs.Bytes.{begin-issues, reply-issues, no-reply-issues}
 use Rattle.exchange.proofs.Calls.{by-number}
 use Rattle.exchange.proofs.Bank.{Later, frame-keeps, file-keeps, bank-start}
-use Rattle.exchange.proofs.Clients.{issuesOf, runPast, run-lifts, RunHolds, Parts, run-fair, run-keeps}
+use Rattle.exchange.proofs.Clients.{issuesOf, runPast, run-lifts, as-left, RunHolds, Parts, run-fair, run-keeps}
 use Rattle.exchange.proofs.Issues.{issued-more, numbers-earlier, numbers-before}
+use Rattle.exchange.proofs.Handed.{journal-keeps}
 use Rattle.exchange.proofs.Outstanding.{given-to, other-stays}
 
 -- ---- both ends
 
 -- a call of the bank leaves the runs
-pub frame-runs : (s : Course) (w : BankState) (a : FrameInput) (i : ℕ) →
-    runPast (exec (frameArrives w a) s) i ≡ runPast s i
-frame-runs s w a i =
-    by-number (frameArrives w a) s (λ (t : Course). runPast t i ≡ runPast s i) refl (λ _. refl)
+pub frame-runs : (s : Course) (w : BankState) (j : Journal) (a : FrameInput) (i : ℕ) →
+    runPast (exec (frameArrives w j a) s) i ≡ runPast s i
+frame-runs s w j a i =
+    by-number (frameArrives w j a) s (λ (t : Course). runPast t i ≡ runPast s i) refl (λ _. refl)
 
 pub file-runs : (s : Course) (b : Bank) (mailboxes : List ℕ) (m : ℕ) (file : List ℕ) (i : ℕ) →
     runPast (exec (filePut b mailboxes m file) s) i ≡ runPast s i
 file-runs s b mailboxes m file i = by-number (filePut b mailboxes m file) s (λ (t : Course). runPast t i ≡ runPast s i) refl (λ _. refl)
 
-bank-called : {s t : Course} (v : Parts s) → Later (v .bank) t → ((i : ℕ) → runPast t i ≡ runPast s i) → Parts t
+bank-called : {s t : Course} (v : Parts s) → Later s (v .bank) t → ((i : ℕ) → runPast t i ≡ runPast s i) → Parts t
 bank-called {s} {t} v n same = record {
-  bank = n .0;
-  runs = λ i. subst (RunHolds (n .0 .past .history)) (sym (same i))
-      (run-lifts (n .1) (v .bank .holds .invariant .sound) (n .0 .holds .invariant .sound) (runPast s i) (v .runs i));
+  bank = n .bank;
+  runs = λ i. subst (RunHolds (n .bank .calls) (n .bank .past .history)) (sym (same i))
+      (run-lifts (n .more) (n .never) (v .bank .holds .invariant .sound) (n .bank .holds .invariant .sound) (runPast s i) (v .runs i));
 }
 
 -- a call of a run
@@ -70,17 +74,17 @@ begin-keeps s v i c params l own =
 reply-holds : (s : Course) (v : Parts s) → OneExchangeNumber s → (i : ℕ) (reply : List ℕ) (l : Lent) →
     answerNumber (replyCall (s .runs i) reply l .answer) ≡ 0 → (l .payload ≡ s .payloads i) × (l .file ≡ s .files i) →
     (e : Exchange) × In e (s .exchanged) × (e .reply ≡ reply) × ((j : ℕ) × IssuedBy j (e .request) s) →
-    RunHolds (v .bank .past .history) (history.after (Reply reply l) (runPast s i))
+    RunHolds (v .bank .calls) (v .bank .past .history) (history.after (Reply reply l) (runPast s i))
 reply-holds s v numbers i reply l done left (e, m, z, (j, copy)) = at (ℕ-discrete j i)
   where
-    at : Dec (j ≡ i) → RunHolds (v .bank .past .history) (history.after (Reply reply l) (runPast s i))
+    at : Dec (j ≡ i) → RunHolds (v .bank .calls) (v .bank .past .history) (history.after (Reply reply l) (runPast s i))
     at (yes same) =
         run-fair s v i (Reply reply l) (λ _. (
           record { payload = left .0; file = left .1 },
           given-to s v i reply (e, m, z, subst (λ (n : ℕ). IssuedBy n (e .request) s) same copy),
         ))
     at (no other) =
-        subst (RunHolds (v .bank .past .history)) (sym (other-stays s v numbers i reply l done left j other (e, m, z, copy))) (v .runs i)
+        subst (RunHolds (v .bank .calls) (v .bank .past .history)) (sym (other-stays s v numbers i reply l done left j other (e, m, z, copy))) (v .runs i)
 
 reply-keeps : (s : Course) (v : Parts s) → OneExchangeNumber s → (i : ℕ) (c : ClientRun) (reply : List ℕ) (l : Lent) →
     Premise (replyArrives i c reply l) s → callNumber (replyArrives i c reply l) ≡ 0 → Parts (carryOut (replyArrives i c reply l) s)
@@ -97,19 +101,23 @@ no-reply-keeps s v i c l q =
     (run-fair s v i (NoReply l) (λ _. record { payload = q .1; file = q .2 })))
 
 carried-keeps : (k : Call) (s : Course) → Parts s → OneExchangeNumber s → Premise k s → callNumber k ≡ 0 → Parts (carryOut k s)
-carried-keeps (frameArrives w a) s v n q z =
-    bank-called v (frame-keeps s (v .bank) w a (q .0) z) (λ i. refl)
+carried-keeps (frameArrives w j a) s v n q z =
+    bank-called v (frame-keeps s (v .bank) w j a (q .0) (q .1) z) (λ i. refl)
 carried-keeps (filePut b mailboxes m file) s v n q z = bank-called v (file-keeps s (v .bank) b mailboxes m file q z) (λ i. refl)
 carried-keeps (begins i c params l) s v n q z = begin-keeps s v i c params l q z
 carried-keeps (replyArrives i c reply l) s v n q z = reply-keeps s v n i c reply l q z
 carried-keeps (noReply i c l) s v n q z = no-reply-keeps s v i c l q z
+carried-keeps (journalHanded i c row) s v n q z = journal-keeps s v i c row q
 
 pub call-keeps : (k : Call) (s : Course) → Parts s → OneExchangeNumber (exec k s) → Allowed k s → Parts (exec k s)
 call-keeps k s v n a = by-number k s Parts v (λ z. carried-keeps k s v (numbers-earlier k s n) (a z) z)
 
 pub parts-start : Parts start
 unfolding start issuesOf
-parts-start = record { bank = bank-start; runs = λ i. not-begun refl refl }
+parts-start = record {
+  bank = bank-start;
+  runs = λ i. record { left = stage.NotBegun; own = not-begun refl refl; word = as-left refl };
+}
 
 pub parts : (ks : List Call) (s : Course) → Parts s → AllAllowed ks s → OneExchangeNumber (after ks s) → Parts (after ks s)
 unfolding after
@@ -132,11 +140,12 @@ pub data Exchanges (k : Call) (s : Course) : List Exchange → Type 0 where
   enters : {e : Exchange} → (isSubscribers (e .request) ≡ true → (i : ℕ) × IssuedBy i (e .request) s) → Exchanges k s (e ∷ s .exchanged)
 
 carried-exchanges : (k : Call) (s : Course) → Premise k s → Exchanges k s (carryOut k s .exchanged)
-carried-exchanges (frameArrives w a) s q = enters (q .1)
+carried-exchanges (frameArrives w j a) s q = enters (q .2)
 carried-exchanges (filePut b mailboxes m file) s q = nothing
 carried-exchanges (begins i c params l) s q = nothing
 carried-exchanges (replyArrives i c reply l) s q = nothing
 carried-exchanges (noReply i c l) s q = nothing
+carried-exchanges (journalHanded i c row) s q = nothing
 
 pub call-exchanges : (k : Call) (s : Course) → Allowed k s → Exchanges k s (exec k s .exchanged)
 call-exchanges k s q = by-number k s (λ (t : Course). Exchanges k s (t .exchanged)) nothing (λ z. carried-exchanges k s (q z))

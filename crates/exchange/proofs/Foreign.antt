@@ -91,7 +91,7 @@ use Rattle.exchange.specs.Terms.{IssuedBy}
 use Rattle.exchange.specs.Demand3.{isSubscribers, OneExchangeNumber}
 use Rattle.exchange.proofs.Events.{Empties, case-empties}
 use Rattle.exchange.proofs.Told.{Opening, opening-action, opening-at, Gave, fileIn, bank-replies}
-use Rattle.exchange.proofs.Clients.{asIssue, issuesOf, runPast, issued-in, OpenedBy, opened-upload, opened-download, Parts}
+use Rattle.exchange.proofs.Clients.{asIssue, issuesOf, issued-in, OpenedBy, opened-upload, opened-download, Parts, ownPast}
 use Rattle.exchange.proofs.Courses.{Copied}
 use Rattle.exchange.proofs.Joint.{one-opener, counts}
 
@@ -222,7 +222,7 @@ module _ (s : Course) (v : Parts s) (copies : Copied s) (numbers : OneExchangeNu
   -- a request under a transaction ID: its run has had that transaction opened
   pub request-opened : {j : ℕ} {x : Issue} → In x (s .issued) → x .run ≡ j → Under (readRequest (x .frame)) →
       (y : Form) × OpenedBy y (v .bank .past .history) (transaction (readRequest (x .frame))) (issuesOf j (s .issued))
-  request-opened {j} {x} m r under = at (v .runs j)
+  request-opened {j} {x} m r under = at (v .runs j .own)
     where
       own : In (asIssue x) (issuesOf j (s .issued))
       own = issued-in j m r
@@ -239,18 +239,18 @@ module _ (s : Course) (v : Parts s) (copies : Copied s) (numbers : OneExchangeNu
       sent (uploadOpens n time nonce q d) = under-not under (inl (ap form q ∙ form-uploadOpening _ _ _ _ _))
       sent (sends n i a b q d) =
           under-own (ap transaction q ∙ id-uploadTransfer _ _ _ _ _)
-          (opened-upload sound (segment-opened (Gave h) (fileIn h) (bank-replies h sound (v .bank .proper)) (runPast s j) (v .runs j)
+          (opened-upload sound (segment-opened (Gave h) (fileIn h) (bank-replies h sound (v .bank .proper)) (ownPast v j) (v .runs j .own)
           (asIssue x) own
           (ap form q ∙ form-uploadTransfer _ _ _ _ _)))
 
       held : 1 ≤ s .runs j .held → (at : Step) → DownloadStep (Gave (v .bank .past .history)) (fileIn (v .bank .past .history)) at
-          (s .runs j) (s .files j) (issuesOf j (s .issued)) →
+          (ownPast v j .run) (s .files j) (issuesOf j (s .issued)) →
           OpenedBy forms.DownloadOpening (v .bank .past .history) (s .runs j .transaction) (issuesOf j (s .issued))
       held l step.Opening k = absurd (let z = k .0 in omega arith)
       held l step.Segment k = opened-download sound k
       held l step.Receipt k = opened-download sound (k .0)
 
-      fetched : DownloadStep (Gave (v .bank .past .history)) (fileIn (v .bank .past .history)) (s .runs j .step) (s .runs j)
+      fetched : DownloadStep (Gave (v .bank .past .history)) (fileIn (v .bank .past .history)) (s .runs j .step) (ownPast v j .run)
           (s .files j) (issuesOf j (s .issued)) →
           DownloadIssue (s .runs j .subscriber) (s .runs j .segments) (s .runs j .transaction) (s .runs j .held) (s .runs j .receipted)
           (fileIn (v .bank .past .history) (s .runs j .transaction)) (asIssue x) → Out
@@ -258,7 +258,7 @@ module _ (s : Course) (v : Parts s) (copies : Copied s) (numbers : OneExchangeNu
       fetched k (asks n i a b c e q d) = under-own (ap transaction q ∙ id-downloadTransfer _ _ _ _) (held e (s .runs j .step) k)
       fetched k (confirms n a b c e q d) = under-own (ap transaction q ∙ id-receipt _ _ _ _) (held b (s .runs j .step) k)
 
-      at : Invariant (Gave (v .bank .past .history)) (fileIn (v .bank .past .history)) (runPast s j) → Out
+      at : Invariant (Gave (v .bank .past .history)) (fileIn (v .bank .past .history)) (ownPast v j) → Out
       at (not-begun e g) = absurd (in-none (subst (In (asIssue x)) g own))
       at (upload b u) = sent (u .each (asIssue x) own)
       at (download b u) = fetched (u .step) (u .each (asIssue x) own)

@@ -10,12 +10,14 @@ use Rattle.frame_table.specs.Table.{isRequestForm}
 use Rattle.frame_reader.specs.Reader.{readRequest}
 use Rattle.octets.proofs.Tests.{never, and-true}
 use Rattle.message.specs.Limits.{subscribers}
+use Rattle.journal.specs.declared.event.Event.{Event}
+use Rattle.journal.specs.Row.{Journal}
 use Rattle.bank_state.specs.State.{BankState}
 use Rattle.client_run.specs.declared.run.ClientRun.{ClientRun}
 use Rattle.client_run.specs.declared.run.RunParameters.{RunParameters}
 use Rattle.client_run.specs.Run.{Lent}
 use Rattle.bank.specs.Call.{FrameInput}
-use Rattle.exchange.specs.Course.{Call, frameArrives, begins, replyArrives, noReply, Course, callNumber}
+use Rattle.exchange.specs.Course.{Call, frameArrives, begins, replyArrives, noReply, journalHanded, Course, callNumber}
 use Rattle.exchange.specs.Terms.{IssuedBy, InTurn}
 use Rattle.exchange.specs.Demand3.{isSubscribers, Allowed}
 
@@ -30,19 +32,19 @@ numbered-in-turn i k s n z = absurd (n z)
 -- ---- a frame that is no request of a subscriber, to the bank as it stands
 
 pub stray-allowed : (s : Course) (a : FrameInput) → isSubscribers (a .frame) ≡ false →
-    Allowed (frameArrives (s .bank) a) s
-stray-allowed s a n _ = (refl, λ e. never (sym n ∙ e))
+    Allowed (frameArrives (s .bank) (s .journal) a) s
+stray-allowed s a n _ = (refl, refl, λ e. never (sym n ∙ e))
 
 -- an unreadable frame
 pub unreadable-allowed : (s : Course) (a : FrameInput) → isRequestForm (form (readRequest (a .frame))) ≡ false →
-    Allowed (frameArrives (s .bank) a) s
+    Allowed (frameArrives (s .bank) (s .journal) a) s
 unfolding isSubscribers
 unreadable-allowed s a n = stray-allowed s a (rw n)
 
 -- a frame under no subscriber's number
 pub unknown-allowed : (s : Course) (a : FrameInput) →
     (1 ≤ subscriber (readRequest (a .frame)) → subscriber (readRequest (a .frame)) ≤ subscribers → ⊥) →
-    Allowed (frameArrives (s .bank) a) s
+    Allowed (frameArrives (s .bank) (s .journal) a) s
 unfolding isSubscribers
 unknown-allowed s a n = stray-allowed s a (at (isSubscribers (a .frame)) refl)
   where
@@ -57,6 +59,11 @@ unknown-allowed s a n = stray-allowed s a (at (isSubscribers (a .frame)) refl)
         let least = and-true readable (leb 1 u) (most .0) in
         absurd (n (leb-true 1 u (least .1)) (leb-true u subscribers (most .1)))
 
+-- ---- the journal as it stands, to any run: not begun, under way or ended, unclear or not
+
+pub journal-allowed : (s : Course) (i : ℕ) → Allowed (journalHanded i (s .runs i) (s .journal .row)) s
+journal-allowed s i _ = (refl, refl)
+
 -- ---- an order in turn, whatever else goes on
 
 -- a call of run j
@@ -64,14 +71,20 @@ pub data OfRun (j : ℕ) : Call → Type 0 where
   begin : {c : ClientRun} {params : RunParameters} {l : Lent} → OfRun j (begins j c params l)
   reply : {c : ClientRun} {bytes : List ℕ} {l : Lent} → OfRun j (replyArrives j c bytes l)
   no-reply : {c : ClientRun} {l : Lent} → OfRun j (noReply j c l)
+  journal : {c : ClientRun} {row : List Event} → OfRun j (journalHanded j c row)
 
 -- a call of another run
 pub other-in-turn : (i j : ℕ) → (j ≡ i → ⊥) → (s : Course) {k : Call} → OfRun j k → InTurn i k s
 other-in-turn i j other s begin _ = tt
 other-in-turn i j other s reply _ = λ same. absurd (other same)
 other-in-turn i j other s no-reply _ = other
+other-in-turn i j other s journal _ = tt
+
+-- the journal handed to any run, the order's own too
+pub journal-in-turn : (i j : ℕ) (c : ClientRun) (row : List Event) (s : Course) → InTurn i (journalHanded j c row) s
+journal-in-turn i j c row s _ = tt
 
 -- a frame that the run did not issue
-pub foreign-in-turn : (i : ℕ) (s : Course) (w : BankState) (a : FrameInput) → (IssuedBy i (a .frame) s → ⊥) →
-    InTurn i (frameArrives w a) s
-foreign-in-turn i s w a foreign _ = λ own. absurd (foreign own)
+pub foreign-in-turn : (i : ℕ) (s : Course) (w : BankState) (j : Journal) (a : FrameInput) → (IssuedBy i (a .frame) s → ⊥) →
+    InTurn i (frameArrives w j a) s
+foreign-in-turn i s w j a foreign _ = λ own. absurd (foreign own)

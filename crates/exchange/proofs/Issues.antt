@@ -15,6 +15,7 @@ use Rattle.exchange.specs.Course.{
   begins,
   replyArrives,
   noReply,
+  journalHanded,
   Issue,
   Course,
   issuedBy,
@@ -45,11 +46,12 @@ run-issues s i k (answer.Closed w) = same
 run-issues s i k (answer.Refused r) = same
 
 carried-issues : (k : Call) (s : Course) → Issues (s .issued) (carryOut k s .issued)
-carried-issues (frameArrives w a) s = same
+carried-issues (frameArrives w j a) s = same
 carried-issues (filePut b mailboxes m file) s = same
 carried-issues (begins i c params l) s = let k = beginCall c params l in run-issues s i k (k .answer)
 carried-issues (replyArrives i c reply l) s = let k = replyCall c reply l in run-issues s i k (k .answer)
 carried-issues (noReply i c l) s = let k = noReplyCall c l in run-issues s i k (k .answer)
+carried-issues (journalHanded i c row) s = same
 
 pub call-issues : (k : Call) (s : Course) → Issues (s .issued) (exec k s .issued)
 call-issues k s = by-number k s (λ (t : Course). Issues (s .issued) (t .issued)) same (λ _. carried-issues k s)

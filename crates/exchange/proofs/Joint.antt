@@ -2,7 +2,6 @@
 use Prim.Native.Nat.{ℕ, _*_, _≤_}
 use mathlib.Core.Bool.{true}
 use mathlib.Core.List.{List, List·Memᴰ as In, List·Memᴰ·not-nil as in-none}
-use mathlib.Core.Logic.{_⊎_, inl, inr}
 use mathlib.Core.Path.{_≡_, refl, sym, ap, _∙_, subst}
 use native.Mathlib.Omega.{arith}
 use lib.ListN.{length, take}
@@ -15,14 +14,12 @@ use Rattle.frame_table.specs.Names.{subscriber, exchange, transaction, segments
 use Rattle.frame_reader.specs.Reader.{readRequest}
 use Rattle.frame_row.specs.Row.{dataOf}
 use Rattle.frame_table.specs.Table.{isRequestForm}
-use Rattle.octets.proofs.Tests.{never, or-left, or-right}
 use Rattle.message.specs.Codes.{codeField}
 use Rattle.message.specs.Limits.{subscribers, segmentBytes}
 use Rattle.message.specs.Requests.{uploadOpening}
 use Rattle.message.specs.Segments.{segmentsOf, segmentOf}
 use Rattle.bank_verdicts.specs.declared.verdict.UploadAction.the-variants as up
 use Rattle.bank_verdicts.specs.declared.verdict.DownloadAction.the-variants as down
-use Rattle.bank_verdicts.specs.declared.verdict.Action.{Action}
 use Rattle.bank_verdicts.specs.declared.verdict.Action.the-variants as action
 use Rattle.bank_verdicts.specs.declared.verdict.Verdict.{Verdict}
 use Rattle.bank_verdicts.specs.declared.verdict.Verdict.the-variants as verdict
@@ -66,7 +63,8 @@ use Rattle.exchange.specs.Terms.{IssuedBy, Books, Booked}
 use Rattle.exchange.specs.Demand3.{isSubscribers, OneExchangeNumber}
 use Rattle.exchange.proofs.Told.{
   Opening,
-  opening-action,
+  upload-kind,
+  download-kind,
   one-numbered,
   opening-at,
   upload-opening,
@@ -81,26 +79,9 @@ use Rattle.exchange.proofs.Told.{
   bank-replies,
 }
 use Rattle.exchange.proofs.Bank.{Entry, found, listed}
-use Rattle.exchange.proofs.Clients.{asIssue, issuesOf, runPast, issued-in, issue-of, OpenedBy, opened-upload, Parts}
+use Rattle.exchange.proofs.Clients.{asIssue, issuesOf, issued-in, issue-of, OpenedBy, opened-upload, Parts, ownPast}
 use Rattle.exchange.proofs.Issues.{numberOf, one-issue}
 use Rattle.exchange.proofs.Courses.{Copied}
-
--- which actions these are
-pub upload-kind : (k : Action) → isUploadOpening k ≡ true → (n : ℕ) × (k ≡ action.Upload (up.Opened n))
-upload-kind k e = at (opening-action k (or-left (isUploadOpening k) (isDownloadOpening k) e))
-  where
-    at : ((n : ℕ) × (k ≡ action.Upload (up.Opened n))) ⊎ ((n : ℕ) × (k ≡ action.Download (down.Opened n))) →
-        (n : ℕ) × (k ≡ action.Upload (up.Opened n))
-    at (inl u) = u
-    at (inr d) = never (sym (ap isUploadOpening (d .1)) ∙ e)
-
-download-kind : (k : Action) → isDownloadOpening k ≡ true → (n : ℕ) × (k ≡ action.Download (down.Opened n))
-download-kind k e = at (opening-action k (or-right (isUploadOpening k) (isDownloadOpening k) e))
-  where
-    at : ((n : ℕ) × (k ≡ action.Upload (up.Opened n))) ⊎ ((n : ℕ) × (k ≡ action.Download (down.Opened n))) →
-        (n : ℕ) × (k ≡ action.Download (down.Opened n))
-    at (inl u) = never (sym (ap isDownloadOpening (u .1)) ∙ e)
-    at (inr d) = d
 
 -- the transaction t was opened in a history, by a subscriber
 pub record OpenedIn (t : Bits128) (h : List bank.Exchange) : Type 0 where
@@ -159,8 +140,8 @@ module _ (s : Course) (v : Parts s) (copies : Copied s) (numbers : OneExchangeNu
   -- the run has a segment of the upload t issued
   pub record Uploads (i : ℕ) (t : Bits128) : Type 0 where
     pub own : s .runs i .transaction ≡ t
-    pub run : UploadRun (Gave (v .bank .past .history)) (s .runs i) (s .payloads i) (issuesOf i (s .issued))
-    pub opened : UploadOpen (Gave (v .bank .past .history)) (s .runs i) (issuesOf i (s .issued))
+    pub run : UploadRun (Gave (v .bank .past .history)) (ownPast v i .run) (s .payloads i) (issuesOf i (s .issued))
+    pub opened : UploadOpen (Gave (v .bank .past .history)) (ownPast v i .run) (issuesOf i (s .issued))
 
   -- two runs with transactions of one number are one run
   pub one-opener : {y z : Form} {i j : ℕ} {t u : Bits128} → OpenedBy y (v .bank .past .history) t (issuesOf i (s .issued)) →
@@ -194,8 +175,8 @@ module _ (s : Course) (v : Parts s) (copies : Copied s) (numbers : OneExchangeNu
     own-form : form (readRequest (c .0 .frame)) ≡ forms.UploadTransfer
     own-form = ap (λ (l : List ℕ). form (readRequest l)) (c .3) ∙ asked
 
-    sent : SegmentSent (runPast s i) (asIssue (c .0))
-    sent = segment-sent (Gave h) (fileIn h) (bank-replies h sound (v .bank .proper)) (runPast s i) (v .runs i) own-issue own-in own-form
+    sent : SegmentSent (ownPast v i) (asIssue (c .0))
+    sent = segment-sent (Gave h) (fileIn h) (bank-replies h sound (v .bank .proper)) (ownPast v i) (v .runs i .own) own-issue own-in own-form
 
     own-request : readRequest frame ≡ own-issue .request
     own-request = ap readRequest (sym (c .3))
@@ -211,13 +192,13 @@ module _ (s : Course) (v : Parts s) (copies : Copied s) (numbers : OneExchangeNu
     pub sender-uploads : Uploads i (transaction (readRequest frame))
     sender-uploads = record {
       own = sym sent-id;
-      run = at (v .runs i);
-      opened = segment-opened (Gave h) (fileIn h) (bank-replies h sound (v .bank .proper)) (runPast s i)
-          (v .runs i) own-issue own-in own-form;
+      run = at (v .runs i .own);
+      opened = segment-opened (Gave h) (fileIn h) (bank-replies h sound (v .bank .proper)) (ownPast v i)
+          (v .runs i .own) own-issue own-in own-form;
     }
       where
-        at : Invariant (Gave (v .bank .past .history)) (fileIn (v .bank .past .history)) (runPast s i) →
-            UploadRun (Gave (v .bank .past .history)) (s .runs i) (s .payloads i) (issuesOf i (s .issued))
+        at : Invariant (Gave (v .bank .past .history)) (fileIn (v .bank .past .history)) (ownPast v i) →
+            UploadRun (Gave (v .bank .past .history)) (ownPast v i .run) (s .payloads i) (issuesOf i (s .issued))
         at (not-begun e g) = absurd (in-none (subst (In (asIssue (c .0))) g own-in))
         at (upload b u) = u
         at (download b u) = not-both (sent .upload-run) (u .direction)
@@ -232,8 +213,8 @@ module _ (s : Course) (v : Parts s) (copies : Copied s) (numbers : OneExchangeNu
     upload-count =
         let o = opened in
         let replies = bank-replies h sound (v .bank .proper) in
-        let begun = issued-begun (Gave h) (fileIn h) replies (runPast s i) (v .runs i) (o .issue) (o .own) in
-        upload-segments (Gave h) (fileIn h) replies (runPast s i) (v .runs i) begun (u .run .direction) .0
+        let begun = issued-begun (Gave h) (fileIn h) replies (ownPast v i) (v .runs i .own) (o .issue) (o .own) in
+        upload-segments (Gave h) (fileIn h) replies (ownPast v i) (v .runs i .own) begun (u .run .direction) .0
 
     pub upload-size : segmentsAt t (v .bank .past .history) ≡ segmentsOf (length (s .payloads i))
     upload-size =
@@ -246,7 +227,7 @@ module _ (s : Course) (v : Parts s) (copies : Copied s) (numbers : OneExchangeNu
         let o = opened in
         opening-at (λ (e : bank.Exchange). subscriber (e .request)) 0 sound (o .stands) (o .opening)
         ∙ ap subscriber (o .asked)
-        ∙ one-subscriber (Gave h) (fileIn h) (bank-replies h sound (v .bank .proper)) (runPast s i) (v .runs i) (o .issue) (o .own)
+        ∙ one-subscriber (Gave h) (fileIn h) (bank-replies h sound (v .bank .proper)) (ownPast v i) (v .runs i .own) (o .issue) (o .own)
 
   -- ---- the requests that the bank took
 

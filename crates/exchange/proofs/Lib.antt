@@ -2,11 +2,13 @@
 pub mod Bytes
 pub mod Events
 pub mod Told
+pub mod Journal
 pub mod Calls
 pub mod Guards
 pub mod Bank
 pub mod Clients
 pub mod Issues
+pub mod Handed
 pub mod Outstanding
 pub mod Courses
 pub mod Joint

@@ -45,6 +45,7 @@ use Rattle.bank_history.specs.History.{
 }
 use Rattle.bank_history.specs.History as bank
 use Rattle.bank_history.specs.Invariant as whole
+use Rattle.bank_history.specs.JournalOrders.{NeverBooked}
 use Rattle.bank_history.specs.Transactions as standing
 use Rattle.bank_history.specs.Sound.{AllSound, isCancelling}
 use Rattle.bank_history.proofs.Positions.{action-sound, booking-last}
@@ -60,7 +61,7 @@ use Rattle.bank_history.proofs.Theorems.{
   stands-ever,
 }
 use Rattle.client_run.specs.declared.run.Stage.the-variants as stage
-use Rattle.client_run.specs.declared.run.Word.the-variants.{Lodged, NotLodged, Fetched}
+use Rattle.client_run.specs.declared.run.Word.the-variants.{Lodged, NotLodged, Unclear, Fetched}
 use Rattle.client_history.specs.History.{Past, BankReplies}
 use Rattle.client_history.specs.History as history
 use Rattle.client_history.specs.Invariant.{
@@ -74,6 +75,8 @@ use Rattle.client_history.specs.Invariant.{
   ReceiptIssued,
   Got,
   Invariant,
+  UploadOpen,
+  LastTaken,
   Cancelled,
   not-begun,
   upload,
@@ -105,12 +108,26 @@ use Rattle.exchange.proofs.Told.{
   bank-replies,
 }
 use Rattle.exchange.proofs.Bank.{Entry, Entries, found, listed}
-use Rattle.exchange.proofs.Clients.{asIssue, issuesOf, runPast, issued-in, issue-of, opened-upload, Parts}
+use Rattle.exchange.proofs.Clients.{
+  asIssue,
+  issuesOf,
+  issued-in,
+  issue-of,
+  opened-upload,
+  Judged,
+  as-left,
+  lodged-by,
+  ended-by,
+  Parts,
+  ownPast,
+}
 use Rattle.exchange.proofs.Issues.{one-issue}
+use Rattle.exchange.proofs.Handed.{unclear-upload}
 use Rattle.exchange.proofs.Courses.{Copied}
 use Rattle.exchange.proofs.Joint.{
   Uploads,
   one-opener,
+  one-run,
   sender-uploads,
   upload-count,
   upload-size,
@@ -179,9 +196,9 @@ module _ (s : Course) (v : Parts s) (copies : Copied s) (numbers : OneExchangeNu
   -- each run's request is of a request form, under a subscriber's number
   pub request-of : (i : ℕ) {y : history.Issue} → In y (issuesOf i (s .issued)) →
       (isRequestForm (form (y .request)) ≡ true) × (1 ≤ subscriber (y .request)) × (subscriber (y .request) ≤ subscribers)
-  request-of i {y} m = at (v .runs i)
+  request-of i {y} m = at (v .runs i .own)
     where
-      at : Invariant (Gave (v .bank .past .history)) (fileIn (v .bank .past .history)) (runPast s i) →
+      at : Invariant (Gave (v .bank .past .history)) (fileIn (v .bank .past .history)) (ownPast v i) →
           (isRequestForm (form (y .request)) ≡ true) × (1 ≤ subscriber (y .request)) × (subscriber (y .request) ≤ subscribers)
       at (not-begun e g) = absurd (in-none (subst (In y) g m))
       at (upload b u) = let z = b .bounded .own y m in (
@@ -222,7 +239,7 @@ module _ (s : Course) (v : Parts s) (copies : Copied s) (numbers : OneExchangeNu
   own-subscriber : (x : Issue) → In x (s .issued) → s .runs (x .run) .subscriber ≡ subscriber (readRequest (x .frame))
   own-subscriber x m =
       let i = x .run in
-      sym (one-subscriber (Gave h) (fileIn h) replies (runPast s i) (v .runs i) (asIssue x) (issued-in i m refl))
+      sym (one-subscriber (Gave h) (fileIn h) replies (ownPast v i) (v .runs i .own) (asIssue x) (issued-in i m refl))
 
   -- the reply that opened the run's transaction was given to a copy of the run's own request
   opened-by : {i : ℕ} {x y : Form} (g : Got (Gave (v .bank .past .history)) (issuesOf i (s .issued)) x y code.Ok) →
@@ -362,18 +379,24 @@ module _ (s : Course) (v : Parts s) (copies : Copied s) (numbers : OneExchangeNu
 
   -- ---- the closing words
 
-  -- "'lodged' names its booked order"
-  pub lodged-booked : (i : ℕ) → s .runs i .stage ≡ stage.Ended Lodged →
-      Booked s i × ((j : ℕ) × (o : Order) × InBook s j o × OrderOf s i o × (o .number ≡ s .runs i .number))
+  -- the order of a booked upload, under the number that its run names
+  booked-names : (i : ℕ) → Booked s i → UploadOpen (Gave (v .bank .past .history)) (ownPast v i .run) (issuesOf i (s .issued)) →
+      (j : ℕ) × (o : Order) × InBook s j o × OrderOf s i o × (o .number ≡ s .runs i .number)
+  booked-names i b o =
+      let w = book-whole i b in
+      let g = o .got .given in
+      let n = opened-number (g .stands) (ap form (g .reply) ∙ o .got .answered) (ap transaction (g .reply) ∙ o .id) in
+      (w .0, w .1, w .2, w .3, number-of (w .3) ∙ sym n ∙ ap orderNumber (g .reply) ∙ o .number)
+
+  -- lodged by its own events: segment N was answered 000000
+  own-booked : (i : ℕ) (l : LastTaken (Gave (v .bank .past .history)) (ownPast v i .run) (issuesOf i (s .issued))) → Booked s i
   unfolding Booked
-  lodged-booked i z =
-      let l = lodged (Gave h) (fileIn h) replies (runPast s i) (v .runs i) z .1 in
+  own-booked i l =
       let c = copied-reply (l .got .own) (l .got .given) in
       let a = l .got .given in
       let q : readRequest (c .exchange .request) ≡ l .got .issue .request = c .same .request ∙ a .request in
       let r : readReply (c .exchange .reply) ≡ l .got .reply = c .same .reply ∙ a .reply in
-      let u = sender-uploads s v copies numbers (c .copy) (ap form q ∙ l .got .asked) in
-      let b : Booked s i = (
+      let u = sender-uploads s v copies numbers (c .copy) (ap form q ∙ l .got .asked) in (
         c .exchange,
         c .given,
         record {
@@ -382,55 +405,74 @@ module _ (s : Course) (v : Parts s) (copies : Copied s) (numbers : OneExchangeNu
           last = ap segment q ∙ l .last ∙ upload-count s v copies numbers u;
           taken = ap returnCode r ∙ l .got .code;
         },
-      ) in
-      let w = book-whole i b in
-      let o = l .opened in
-      let g = o .got .given in
-      let n = opened-number (g .stands) (ap form (g .reply) ∙ o .got .answered) (ap transaction (g .reply) ∙ o .id) in (
-        b,
-        (
-          w .0,
-          w .1,
-          w .2,
-          w .3,
-          number-of (w .3) ∙ sym n ∙ ap orderNumber (g .reply) ∙ o .number,
-        ),
       )
+
+  -- lodged by the journal: its upload was booked, by a copy of its own segment N
+  journal-booked : (i : ℕ) → v .runs i .left ≡ stage.Ended Unclear → ever isBooking (s .runs i .transaction) (v .bank .past .history) ≡ true →
+      Booked s i
+  journal-booked i e z =
+      let o = unclear-upload s v i e in
+      let k = ever-booked s v copies numbers z in
+      subst (Booked s) (one-run s v copies numbers (k .1) (record { own = refl; run = o .0; opened = o .1 })) (k .2)
+
+  -- "'lodged' names its booked order"
+  pub lodged-booked : (i : ℕ) → s .runs i .stage ≡ stage.Ended Lodged →
+      Booked s i × ((j : ℕ) × (o : Order) × InBook s j o × OrderOf s i o × (o .number ≡ s .runs i .number))
+  lodged-booked i z = at (v .runs i .word)
+    where
+      at : Judged (v .bank .calls) (v .bank .past .history) (s .runs i) (v .runs i .left) →
+          Booked s i × ((j : ℕ) × (o : Order) × InBook s j o × OrderOf s i o × (o .number ≡ s .runs i .number))
+      at (as-left y) =
+          let l = lodged (Gave h) (fileIn h) replies (ownPast v i) (v .runs i .own) (y ∙ z) .1 in
+          let b = own-booked i l in
+          (b, booked-names i b (l .opened))
+      at (lodged-by y e k) = let b = journal-booked i y k in (b, booked-names i b (unclear-upload s v i y .1))
+      at (ended-by y e k) = absurd (let x : _≡_ {A = ℕ} 0 1 = cc in omega arith)
+
+  -- not lodged by its own events: segment N was never issued, or its upload was cancelled
+  own-unbooked : (i : ℕ) → (s .runs i .issued < s .runs i .segments)
+      ⊎ Cancelled (Gave (v .bank .past .history)) (ownPast v i .run) (issuesOf i (s .issued)) → Booked s i → ⊥
+  unfolding Booked
+  own-unbooked i (inl l) b =
+      let u = booked-ever s v copies numbers b .0 in
+      let k = b .2 in
+      let c = k .copy in
+      let q : readRequest (c .0 .frame) ≡ readRequest (b .0 .request) = ap readRequest (c .3) in
+      last-not-sent (Gave h) (fileIn h) replies (ownPast v i) (v .runs i .own) (asIssue (c .0)) (issued-in i (c .1) (c .2))
+      (ap form q ∙ k .upload) l
+      (ap segment q ∙ k .last ∙ sym (upload-count s v copies numbers u))
+  own-unbooked i (inr l) b =
+      let a = l .got .given in
+      let t = transaction-cancelled sound (a .stands) (ap form (a .reply) ∙ l .got .answered)
+      (ap isCancelling (ap returnCode (a .reply) ∙ l .got .code) ∙ cancelled-code (l .one)) in
+      let id : transaction (a .exchange .request) ≡ s .runs i .transaction = ap transaction (a .request) ∙ l .id in
+      ended-unbooked (s .runs i .transaction) sound
+      (stands-ever isEnding (s .runs i .transaction) (a .stands)
+      (record { action = t .1; is = t .3 ∙ ap (λ (x : Bits128). verdict.Of x (t .1)) id; kind = cancels-ends (t .2) }))
+      (booked-ever s v copies numbers b .1)
+
+  -- not lodged by the journal: its upload was cancelled or dropped, and is never booked
+  never-booked : (i : ℕ) → NeverBooked (v .bank .calls) (s .runs i .transaction) → Booked s i → ⊥
+  never-booked i n b =
+      never (sym (n .unbooked []) ∙ ap (λ (p : bank.Past). ever isBooking (s .runs i .transaction) (p .history)) (sym (v .bank .since))
+      ∙ booked-ever s v copies numbers b .1)
 
   -- "'not lodged' means never booked"
   pub not-lodged-unbooked : (i : ℕ) → s .runs i .stage ≡ stage.Ended NotLodged → Booked s i → ⊥
-  unfolding Booked
-  not-lodged-unbooked i z b = at (not-lodged (Gave h) (fileIn h) replies (runPast s i) (v .runs i) z .1)
+  not-lodged-unbooked i z = at (v .runs i .word)
     where
-      u : Uploads s v copies numbers i (s .runs i .transaction)
-      u = booked-ever s v copies numbers b .0
-
-      k : Books s i (b .0)
-      k = b .2
-
-      at : (s .runs i .issued < s .runs i .segments) ⊎ Cancelled (Gave (v .bank .past .history)) (s .runs i) (issuesOf i (s .issued)) → ⊥
-      at (inl l) =
-          let c = k .copy in
-          let q : readRequest (c .0 .frame) ≡ readRequest (b .0 .request) = ap readRequest (c .3) in
-          last-not-sent (Gave h) (fileIn h) replies (runPast s i) (v .runs i) (asIssue (c .0)) (issued-in i (c .1) (c .2))
-          (ap form q ∙ k .upload) l
-          (ap segment q ∙ k .last ∙ sym (upload-count s v copies numbers u))
-      at (inr l) =
-          let a = l .got .given in
-          let t = transaction-cancelled sound (a .stands) (ap form (a .reply) ∙ l .got .answered)
-          (ap isCancelling (ap returnCode (a .reply) ∙ l .got .code) ∙ cancelled-code (l .one)) in
-          let id : transaction (a .exchange .request) ≡ s .runs i .transaction = ap transaction (a .request) ∙ l .id in
-          ended-unbooked (s .runs i .transaction) sound
-          (stands-ever isEnding (s .runs i .transaction) (a .stands)
-          (record { action = t .1; is = t .3 ∙ ap (λ (x : Bits128). verdict.Of x (t .1)) id; kind = cancels-ends (t .2) }))
-          (booked-ever s v copies numbers b .1)
+      at : Judged (v .bank .calls) (v .bank .past .history) (s .runs i) (v .runs i .left) → Booked s i → ⊥
+      at (as-left y) = own-unbooked i (not-lodged (Gave h) (fileIn h) replies (ownPast v i) (v .runs i .own) (y ∙ z) .1)
+      at (lodged-by y e k) = absurd (let x : _≡_ {A = ℕ} 0 1 = cc in omega arith)
+      at (ended-by y e k) = never-booked i k
 
   -- "a fetched file is the mailbox's file at its transaction's opening"
   pub fetched-box : (i : ℕ) → s .runs i .stage ≡ stage.Ended Fetched → (e : Exchange) × Opened forms.DownloadOpened s i e
       × (subscriber (readRequest (e .request)) ≡ s .runs i .subscriber) × (heldOf (s .runs i) (s .files i) ≡ e .box)
   unfolding heldOf
-  fetched-box i z =
-      let k = fetched (Gave h) (fileIn h) replies (runPast s i) (v .runs i) z .1 .held in
+  fetched-box i e =
+      let z = fetched-left (v .runs i .word) in
+      let k = fetched (Gave h) (fileIn h) replies (ownPast v i) (v .runs i .own) z .1 .held in
       let a = k .got .given in
       let c = copied-reply (k .got .own) a in
       let d = download-opened sound (a .stands) (ap form (a .reply) ∙ k .got .answered) in
@@ -438,8 +480,8 @@ module _ (s : Course) (v : Parts s) (copies : Copied s) (numbers : OneExchangeNu
         c .exchange,
         opened-by (k .got) (k .id),
         ap subscriber (c .same .request ∙ a .request)
-            ∙ one-subscriber (Gave h) (fileIn h) replies (runPast s i) (v .runs i) (k .got .issue) (k .got .own),
-        fetched-file (Gave h) (fileIn h) replies (runPast s i) (v .runs i) z
+            ∙ one-subscriber (Gave h) (fileIn h) replies (ownPast v i) (v .runs i .own) (k .got .issue) (k .got .own),
+        fetched-file (Gave h) (fileIn h) replies (ownPast v i) (v .runs i .own) z
             ∙ opening-at (λ (x : bank.Exchange). x .file) [] sound (a .stands)
             (record {
               action = _;
@@ -449,6 +491,11 @@ module _ (s : Course) (v : Parts s) (copies : Copied s) (numbers : OneExchangeNu
             })
             ∙ sym (c .same .box),
       )
+    where
+      fetched-left : Judged (v .bank .calls) (v .bank .past .history) (s .runs i) (v .runs i .left) → v .runs i .left ≡ stage.Ended Fetched
+      fetched-left (as-left y) = y ∙ e
+      fetched-left (lodged-by y f k) = absurd (let x : _≡_ {A = ℕ} 0 1 = cc in omega arith)
+      fetched-left (ended-by y f k) = absurd (let x : _≡_ {A = ℕ} 0 1 = cc in omega arith)
 
   -- ---- mailboxes
 
@@ -469,7 +516,7 @@ module _ (s : Course) (v : Parts s) (copies : Copied s) (numbers : OneExchangeNu
       let c = copies e m (counts s v copies numbers (e .request) (ap isRequestForm asked) (let y = o .low in omega arith)
       (let y = o .high in omega arith)) in
       let q : readRequest (c .1 .0 .frame) ≡ readRequest (e .request) = ap readRequest (c .1 .3) in
-      let r = receipt-issued (Gave h) (fileIn h) replies (runPast s (c .0)) (v .runs (c .0)) (asIssue (c .1 .0))
+      let r = receipt-issued (Gave h) (fileIn h) replies (ownPast v (c .0)) (v .runs (c .0) .own) (asIssue (c .1 .0))
       (issued-in (c .0) (c .1 .1) (c .1 .2)) (ap form q ∙ asked) in
       let id : t ≡ s .runs (c .0) .transaction = ap transaction (sym (f .same .request) ∙ sym q) ∙ receipt-id r in (
         asked,

@@ -28,32 +28,32 @@ use Rattle.exchange.specs.Terms.{IssuedBy}
 use Rattle.exchange.specs.Demand3.{OneExchangeNumber}
 use Rattle.exchange.proofs.Told.{Gave, fileIn, bank-replies}
 use Rattle.exchange.proofs.Bank.{found}
-use Rattle.exchange.proofs.Clients.{asIssue, runPast, issued-in, issue-of, Parts}
+use Rattle.exchange.proofs.Clients.{asIssue, runPast, issued-in, issue-of, Parts, ownPast, begun-same}
 use Rattle.exchange.proofs.Issues.{numberOf, one-issue}
 
 -- a copy of the run's request under its exchange number is a copy of the outstanding request
-pub record Asked (s : Course) (i : ℕ) (frame : List ℕ) : Type 0 where
+pub record Asked (s : Course) (v : Parts s) (i : ℕ) (frame : List ℕ) : Type 0 where
   pub time : ℕ
   pub nonce : List ℕ
-  pub request : readRequest frame ≡ outstanding (s .runs i) time nonce
-  pub bytes : dataOf frame ≡ outstandingData (s .runs i) (s .payloads i)
+  pub request : readRequest frame ≡ outstanding (ownPast v i .run) time nonce
+  pub bytes : dataOf frame ≡ outstandingData (ownPast v i .run) (s .payloads i)
 
 -- the issue of the request that a begun run has outstanding
-pub record Pending (s : Course) (i : ℕ) : Type 0 where
+pub record Pending (s : Course) (v : Parts s) (i : ℕ) : Type 0 where
   pub time : ℕ
   pub nonce : List ℕ
   pub issue : Issue
   pub own : In issue (s .issued)
   pub run : issue .run ≡ i
-  pub same : asIssue issue ≡ issueOf (s .runs i) (s .payloads i) (s .files i) time nonce
+  pub same : asIssue issue ≡ issueOf (ownPast v i .run) (s .payloads i) (s .files i) time nonce
   pub number : numberOf issue ≡ s .runs i .exchange
 
-pub outstanding-issue : (s : Course) (v : Parts s) (i : ℕ) → isBegun (s .runs i .stage) ≡ true → Pending s i
+pub outstanding-issue : (s : Course) (v : Parts s) (i : ℕ) → isBegun (s .runs i .stage) ≡ true → Pending s v i
 outstanding-issue s v i begun =
     let h = v .bank .past .history in
-    let n = newest-outstanding (Gave h) (fileIn h) (bank-replies h (v .bank .holds .invariant .sound) (v .bank .proper)) (runPast s i)
-    (v .runs i) begun in
-    let o : history.Issue = issueOf (s .runs i) (s .payloads i) (s .files i) (n .time) (n .nonce) in
+    let n = newest-outstanding (Gave h) (fileIn h) (bank-replies h (v .bank .holds .invariant .sound) (v .bank .proper)) (ownPast v i)
+    (v .runs i .own) (begun-same s v i ∙ begun) in
+    let o : history.Issue = issueOf (ownPast v i .run) (s .payloads i) (s .files i) (n .time) (n .nonce) in
     let y = issue-of i (s .issued) (subst (In o) (sym (n .are)) (here refl)) in
     record {
       time = n .time;
@@ -63,11 +63,11 @@ outstanding-issue s v i begun =
       run = y .run;
       same = y .same;
       number = ap (λ (u : history.Issue). exchange (u .request)) (y .same)
-          ∙ outstanding-exchange (s .runs i) (n .time) (n .nonce) (s .payloads i);
+          ∙ outstanding-exchange (ownPast v i .run) (n .time) (n .nonce) (s .payloads i);
     }
 
 pub own-outstanding : (s : Course) (v : Parts s) → OneExchangeNumber s → (i : ℕ) (frame : List ℕ) → isBegun (s .runs i .stage) ≡ true →
-    IssuedBy i frame s → exchange (readRequest frame) ≡ s .runs i .exchange → Asked s i frame
+    IssuedBy i frame s → exchange (readRequest frame) ≡ s .runs i .exchange → Asked s v i frame
 own-outstanding s v numbers i frame begun (x, m, r, f) number =
     let y = outstanding-issue s v i begun in
     let same : y .issue ≡ x =

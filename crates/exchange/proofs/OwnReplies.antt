@@ -40,6 +40,7 @@ use Rattle.client_history.specs.Invariant.{isOpen, Newest, Steady}
 use Rattle.message.proofs.SegmentNumbers.{some-segment}
 use Rattle.client_history.proofs.Fitting.{download-fits, segment-fits, download-fields, segment-fields}
 use Rattle.client_history.proofs.Requests.{outstanding-exchange}
+use Rattle.client_history.proofs.Stays.{ended-stays}
 use Rattle.client_history.proofs.Theorems.{newest-outstanding, steady, upload-segments, file-held, begin-fresh}
 use Rattle.client_history.proofs.Liveness as clientTurn
 use Rattle.exchange.specs.Course.{Call, begins, replyArrives, Issue, Exchange, Arrival, Course, callNumber, exec}
@@ -47,7 +48,7 @@ use Rattle.exchange.specs.Terms.{IssuedBy, Received}
 use Rattle.exchange.specs.Demand3.{Left, Allowed, OneExchangeNumber}
 use Rattle.exchange.proofs.Told.{Gave, fileIn, bank-replies}
 use Rattle.exchange.proofs.Calls.{carried}
-use Rattle.exchange.proofs.Clients.{asIssue, issuesOf, runPast, Parts}
+use Rattle.exchange.proofs.Clients.{asIssue, issuesOf, runPast, Parts, ownPast, begun-same}
 use Rattle.exchange.proofs.Issues.{Issues, same, one, in-more, call-issues, issued-more, numberOf, one-issue}
 use Rattle.exchange.proofs.Courses.{Copied, call-keeps}
 use Rattle.exchange.proofs.Received.{received-earlier, ToAnother, another-more, or-another}
@@ -69,7 +70,7 @@ use Rattle.exchange.proofs.OrderStates.{
 }
 use Rattle.exchange.proofs.Outstanding.{Pending, outstanding-issue, GivenFor, given-to}
 use Rattle.exchange.proofs.OwnRequests.{issued-begun}
-use Rattle.exchange.proofs.Runs.{begin-past, reply-past, run-ended}
+use Rattle.exchange.proofs.Runs.{begin-past, reply-past}
 use Rattle.exchange.proofs.OpenTransactions.{OpenUnlessIdle}
 
 -- ---- what a run's call leaves
@@ -128,15 +129,15 @@ module _ (k : Call) (s : Course) (v : Parts s) (copies : Copied s) (q : Allowed 
       h : List bank.Exchange
       h = w .bank .past .history
 
-      n : Newest (runPast (exec k s) i)
+      n : Newest (ownPast w i)
       n = newest-outstanding (Gave h) (fileIn h) (bank-replies h (w .bank .holds .invariant .sound) (w .bank .proper))
-          (runPast (exec k s) i) (w .runs i) b
+          (ownPast w i) (w .runs i .own) (begun-same (exec k s) w i ∙ b)
 
-      at : In x (s .issued) ⊎ (asIssue x ≡ issueOf (exec k s .runs i) (exec k s .payloads i) (exec k s .files i) (n .time) (n .nonce)) →
+      at : In x (s .issued) ⊎ (asIssue x ≡ issueOf (ownPast w i .run) (exec k s .payloads i) (exec k s .files i) (n .time) (n .nonce)) →
           In x (s .issued) ⊎ (numberOf x ≡ exec k s .runs i .exchange)
       at (inl y) = inl y
       at (inr e) = inr (ap (λ (u : history.Issue). exchange (u .request)) e
-          ∙ outstanding-exchange (exec k s .runs i) (n .time) (n .nonce) (exec k s .payloads i))
+          ∙ outstanding-exchange (ownPast w i .run) (n .time) (n .nonce) (exec k s .payloads i))
 
 -- ---- THE BEGIN
 
@@ -284,7 +285,7 @@ module _ (s : Course) (v : Parts s) (copies : Copied s) (numbers : OneExchangeNu
       begun : isBegun (exec arrives s .runs i .stage) ≡ true
       begun = ap (λ (x : Past). isBegun (x .run .stage)) past ∙ after .3
 
-      held : Pending s i
+      held : Pending s v i
       held = outstanding-issue s v i (a .begun)
 
       by : (x : Issue) → In x (exec arrives s .issued) → In x (s .issued) ⊎ (numberOf x ≡ exec arrives s .runs i .exchange) →
@@ -412,7 +413,8 @@ module _ (s : Course) (v : Parts s) (copies : Copied s) (numbers : OneExchangeNu
         Behind direction at j s i (s .runs i) (readReply reply) → Next
     told-by Upload step.Opening j turn (id, n, r, o) =
         let z = clientTurn.upload-opens p reply l done-reply j (s .runs i .exchange) n id turn r in
-        let some = upload-segments (Gave h) (fileIn h) (bank-replies h (v .bank .holds .invariant .sound) (v .bank .proper)) p (v .runs i) begun
+        let some = upload-segments (Gave h) (fileIn h) (bank-replies h (v .bank .holds .invariant .sound) (v .bank .proper)) (ownPast v i) (v .runs i .own)
+        (begun-same s v i ∙ begun)
         (turn .direction) .1 in
         next-asks Upload step.Segment 1 (z .0) (0, refl, (let y = z .3 in omega arith), open-then o (sym (z .1)) (sym (z .3)))
     told-by Upload step.Segment j turn (r, within, o) = at (ℕ-discrete j (s .runs i .segments))
@@ -446,7 +448,7 @@ module _ (s : Course) (v : Parts s) (copies : Copied s) (numbers : OneExchangeNu
         let b = bank-replies h (v .bank .holds .invariant .sound) (v .bank .proper) in
         let known = ap isOpen (turn .step) in
         let f = fileIn h (s .runs i .transaction) in
-        let held = file-held (Gave h) (fileIn h) b p (v .runs i) begun (turn .direction) known in
+        let held = file-held (Gave h) (fileIn h) b (ownPast v i) (v .runs i .own) (begun-same s v i ∙ begun) (turn .direction) known in
         let mark = lastMarkOf j (s .runs i .segments) in
         let y = segment-fits (s .runs i .exchange) 0 j mark (s .runs i .transaction) in
         let g = segment-fields (s .runs i .exchange) 0 j mark (s .runs i .transaction) in
@@ -467,8 +469,7 @@ module _ (s : Course) (v : Parts s) (copies : Copied s) (numbers : OneExchangeNu
   reply-moves z = subst (State (exec arrives s) i) (sym past) (at z)
     where
       ended-then : (w : Word) → s .runs i .stage ≡ stage.Ended w → then .run .stage ≡ stage.Ended w
-      ended-then w e =
-          ap (λ (x : Past). x .run .stage) (sym past) ∙ ap (λ (x : ClientRun). x .stage) (run-ended arrives s q i w e) ∙ e
+      ended-then w e = ap (λ (x : Past). x .run .stage) (ended-stays (runPast s i) w e (Reply reply l)) ∙ e
 
       at : State s i (runPast s i) → State (exec arrives s) i then
       at (idle e none) = never (sym (ap isBegun e) ∙ issued-begun s v copies numbers i (source .3))

@@ -81,7 +81,7 @@ use Rattle.exchange.specs.Terms.{IssuedBy, Received, NoIdleHour}
 use Rattle.exchange.specs.Demand3.{OneExchangeNumber}
 use Rattle.exchange.proofs.Told.{opening-action, Gave, fileIn, bank-replies, by-code}
 use Rattle.exchange.proofs.Bank.{Entered}
-use Rattle.exchange.proofs.Clients.{runPast, issued-in, Parts}
+use Rattle.exchange.proofs.Clients.{runPast, issued-in, Parts, ownPast, begun-same}
 use Rattle.exchange.proofs.Issues.{numberOf, one-issue}
 use Rattle.exchange.proofs.Courses.{Copied}
 use Rattle.exchange.proofs.Foreign.{under-not, case-of}
@@ -124,15 +124,16 @@ module _ (s : Course) (v : Parts s) (copies : Copied s) (numbers : OneExchangeNu
   -- a run that issued something has begun
   pub issued-begun : {frame : List ℕ} → IssuedBy i frame s → isBegun (s .runs i .stage) ≡ true
   issued-begun (x, m, r, f) =
-      client.issued-begun (Gave h) (fileIn h) (bank-replies h (v .bank .holds .invariant .sound) (v .bank .proper))
-      (runPast s i) (v .runs i) _ (issued-in i m r)
+      sym (begun-same s v i) ∙ client.issued-begun (Gave h) (fileIn h) (bank-replies h (v .bank .holds .invariant .sound) (v .bank .proper))
+      (ownPast v i) (v .runs i .own) _ (issued-in i m r)
 
   -- its numbers go up to the outstanding one
   pub issued-below : {x : Issue} → In x (s .issued) → x .run ≡ i → numberOf x < s .runs i .exchange + 1
   issued-below {x} m r =
       let b = issued-begun (x, m, r, refl) in
       issues.below (exchange-numbers (Gave h) (fileIn h)
-      (bank-replies h (v .bank .holds .invariant .sound) (v .bank .proper)) (runPast s i) (v .runs i) b .1) (issued-in i m r)
+      (bank-replies h (v .bank .holds .invariant .sound) (v .bank .proper)) (ownPast v i) (v .runs i .own)
+      (begun-same s v i ∙ b) .1) (issued-in i m r)
 
   -- a frame of the run that was not received before
   module _ (a : FrameInput) (t : Course) (en : Entered s (v .bank) a t) (own : IssuedBy i (a .frame) s)
@@ -185,7 +186,7 @@ module _ (s : Course) (v : Parts s) (copies : Copied s) (numbers : OneExchangeNu
               let y = m .all (own .0) (own .1) (own .2) (omega arith) in
               absurd (new (y .0) (y .1) (y .2 ∙ own .3))
 
-      asked : Asked s i (a .frame)
+      asked : Asked s v i (a .frame)
       asked = own-outstanding s v numbers i (a .frame) (issued-begun own) own is-outstanding
 
       now-number : {e : Exchange} → e ≡ en .exchange → exchange (readRequest (e .request)) ≡ s .runs i .exchange
@@ -351,7 +352,7 @@ module _ (s : Course) (v : Parts s) (copies : Copied s) (numbers : OneExchangeNu
         where
           request : readRequest (a .frame)
               ≡ uploadOpening (c .subscriber) (c .exchange) (nonceOf (asked .nonce) (c .exchange)) (asked .time) (c .segments)
-          request = asked .request ∙ is-uploadOpening c (asked .time) (asked .nonce) [] (turn .direction) (turn .step)
+          request = asked .request ∙ is-uploadOpening (ownPast v i .run) (asked .time) (asked .nonce) [] (turn .direction) (turn .step)
 
           asks-form : form (readRequest (a .frame)) ≡ forms.UploadOpening
           asks-form = ap form request ∙ form-uploadOpening _ _ _ _ _
@@ -370,7 +371,7 @@ module _ (s : Course) (v : Parts s) (copies : Copied s) (numbers : OneExchangeNu
                     (ap transaction r ∙ opened-fields (c .exchange) (orderNumberOf m) 0 0 id .0) (alone-now first)
                     (λ _. subst (λ (u : ℕ). UploadAt (answered a (v .bank .past) .bankState) id u 0 (c .segments)
                     (max (v .bank .past .bankState .bank .clock) (a .time)))
-                    (ap subscriber (asked .request) ∙ outstanding-subscriber c (asked .time) (asked .nonce) [])
+                    (ap subscriber (asked .request) ∙ outstanding-subscriber (ownPast v i .run) (asked .time) (asked .nonce) [])
                     (subst (λ (n : ℕ). UploadAt (answered a (v .bank .past) .bankState) id
                     (subscriber (readRequest (a .frame))) 0 n
                     (max (v .bank .past .bankState .bank .clock) (a .time)))
@@ -394,7 +395,7 @@ module _ (s : Course) (v : Parts s) (copies : Copied s) (numbers : OneExchangeNu
         where
           request : readRequest (a .frame) ≡ downloadOpening (c .subscriber) (c .exchange)
               (nonceOf (asked .nonce) (c .exchange)) (asked .time)
-          request = asked .request ∙ is-downloadOpening c (asked .time) (asked .nonce) [] (turn .direction) (turn .step)
+          request = asked .request ∙ is-downloadOpening (ownPast v i .run) (asked .time) (asked .nonce) [] (turn .direction) (turn .step)
 
           asks-form : form (readRequest (a .frame)) ≡ forms.DownloadOpening
           asks-form = ap form request ∙ form-downloadOpening _ _ _ _
@@ -413,7 +414,7 @@ module _ (s : Course) (v : Parts s) (copies : Copied s) (numbers : OneExchangeNu
                     (ap transaction r ∙ download-fields (c .exchange) n 0 (lastMarkOf 1 n) id .0) (alone-now first)
                     (λ _. subst (λ (u : ℕ). DownloadAt (answered a (v .bank .past) .bankState) id u 1
                     (max (v .bank .past .bankState .bank .clock) (a .time)))
-                    (ap subscriber (asked .request) ∙ outstanding-subscriber c (asked .time) (asked .nonce) []) there),
+                    (ap subscriber (asked .request) ∙ outstanding-subscriber (ownPast v i .run) (asked .time) (asked .nonce) []) there),
               )
 
           at : (id : Bits128) × (k : Action) × (x .verdict ≡ verdict.Of id k) × (isOpening k ≡ true) → State t i p
@@ -449,7 +450,7 @@ module _ (s : Course) (v : Parts s) (copies : Copied s) (numbers : OneExchangeNu
         where
           request : readRequest (a .frame)
               ≡ uploadTransfer (c .subscriber) (c .exchange) (c .transaction) (c .segment) (lastMarkOf (c .segment) (c .segments))
-          request = asked .request ∙ is-uploadTransfer c (asked .time) (asked .nonce) [] (turn .direction) (turn .step)
+          request = asked .request ∙ is-uploadTransfer (ownPast v i .run) (asked .time) (asked .nonce) [] (turn .direction) (turn .step)
 
           fields : let q =
               uploadTransfer (c .subscriber) (c .exchange) (c .transaction) (c .segment) (lastMarkOf (c .segment) (c .segments)) in
@@ -477,9 +478,9 @@ module _ (s : Course) (v : Parts s) (copies : Copied s) (numbers : OneExchangeNu
 
           short : length (dataOf (a .frame)) ≤ segmentBytes
           short =
-              let bytes = asked .bytes ∙ data-transfer c 0 [] (s .payloads i) (turn .direction) (turn .step) in
-              let count = upload-segments (Gave h) (fileIn h) (bank-replies h (v .bank .holds .invariant .sound) (v .bank .proper)) p (v .runs i)
-              (issued-begun own) (turn .direction) .0 in
+              let bytes = asked .bytes ∙ data-transfer (ownPast v i .run) 0 [] (s .payloads i) (turn .direction) (turn .step) in
+              let count = upload-segments (Gave h) (fileIn h) (bank-replies h (v .bank .holds .invariant .sound) (v .bank .proper)) (ownPast v i) (v .runs i .own)
+              (begun-same s v i ∙ issued-begun own) (turn .direction) .0 in
               let z = turn .segment in
               let m = segment-most (s .payloads i) (c .segment) (omega arith) (omega arith) in
               let l = ap length bytes in omega arith
@@ -514,7 +515,7 @@ module _ (s : Course) (v : Parts s) (copies : Copied s) (numbers : OneExchangeNu
             (o .standing)
 
         short-download : length (dataOf (a .frame)) ≤ segmentBytes
-        short-download = let l = ap length (asked .bytes ∙ data-download c 0 [] (s .payloads i) turn-direction) in omega arith
+        short-download = let l = ap length (asked .bytes ∙ data-download (ownPast v i .run) 0 [] (s .payloads i) turn-direction) in omega arith
 
         current-download : o .last ≤ max (v .bank .past .bankState .bank .clock) (a .time)
         current-download =
@@ -527,8 +528,8 @@ module _ (s : Course) (v : Parts s) (copies : Copied s) (numbers : OneExchangeNu
         count-now =
             bankTurn.download-segments a (v .bank .past) (v .bank .holds) (c .transaction) (c .subscriber) d (o .last)
             before-download from to short-download (in-hour o)
-            ∙ sym (file-held (Gave h) (fileIn h) (bank-replies h (v .bank .holds .invariant .sound) (v .bank .proper)) p (v .runs i)
-            (issued-begun own) turn-direction known .number)
+            ∙ sym (file-held (Gave h) (fileIn h) (bank-replies h (v .bank .holds .invariant .sound) (v .bank .proper)) (ownPast v i) (v .runs i .own)
+            (begun-same s v i ∙ issued-begun own) turn-direction known .number)
 
       download-segment : (j : ℕ) → InTurn p Download step.Segment j (c .exchange) → Before Download step.Segment j s i c → State t i p
       download-segment j turn (k, next, within, o) =
@@ -548,7 +549,7 @@ module _ (s : Course) (v : Parts s) (copies : Copied s) (numbers : OneExchangeNu
         where
           request : readRequest (a .frame) ≡ downloadTransfer (c .subscriber) (c .exchange) (c .transaction)
               (c .segment)
-          request = asked .request ∙ is-downloadTransfer c (asked .time) (asked .nonce) [] (turn .direction) (turn .step)
+          request = asked .request ∙ is-downloadTransfer (ownPast v i .run) (asked .time) (asked .nonce) [] (turn .direction) (turn .step)
 
           fields : let q = downloadTransfer (c .subscriber) (c .exchange) (c .transaction) (c .segment) in
               (subscriber q ≡ c .subscriber) × (transaction q ≡ c .transaction) × (segment q ≡ c .segment)
@@ -597,7 +598,7 @@ module _ (s : Course) (v : Parts s) (copies : Copied s) (numbers : OneExchangeNu
           told-by Download step.Receipt j turn r
         where
           request : readRequest (a .frame) ≡ receipt (c .subscriber) (c .exchange) (c .transaction) 0
-          request = asked .request ∙ is-receipt c (asked .time) (asked .nonce) [] (turn .direction) (turn .step)
+          request = asked .request ∙ is-receipt (ownPast v i .run) (asked .time) (asked .nonce) [] (turn .direction) (turn .step)
 
           fields : let q = receipt (c .subscriber) (c .exchange) (c .transaction) 0 in
               (subscriber q ≡ c .subscriber) × (transaction q ≡ c .transaction) × (receiptCode q ≡ 0)

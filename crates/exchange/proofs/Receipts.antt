@@ -88,6 +88,7 @@ use Rattle.exchange.specs.Course.{
   begins,
   replyArrives,
   noReply,
+  journalHanded,
   Issue,
   Exchange,
   Course,
@@ -102,13 +103,13 @@ use Rattle.exchange.specs.Course.{
 }
 use Rattle.exchange.specs.Demand3.{Premise, Allowed, AllAllowed, OneExchangeNumber}
 use Rattle.exchange.proofs.Events.{case-empties}
-use Rattle.exchange.proofs.Told.{one-opened, opening-at, upload-opening, done-confirmed, Gave, fileIn, bank-replies}
+use Rattle.exchange.proofs.Told.{one-opened, opening-at, upload-opening, upload-kind, done-confirmed, Gave, fileIn, bank-replies}
 use Rattle.exchange.proofs.Calls.{by-number}
 use Rattle.exchange.proofs.Bank.{BankPart, same-mailbox, Entered, frame-enters}
-use Rattle.exchange.proofs.Clients.{asIssue, issuesOf, runPast, issued-in, OpenedBy, Parts}
+use Rattle.exchange.proofs.Clients.{asIssue, issuesOf, issued-in, OpenedBy, Parts, ownPast}
 use Rattle.exchange.proofs.Issues.{in-more, call-issues, numbers-before}
 use Rattle.exchange.proofs.Courses.{call-keeps, Copied, copied-call}
-use Rattle.exchange.proofs.Joint.{sound, upload-kind}
+use Rattle.exchange.proofs.Joint.{sound}
 use Rattle.exchange.proofs.Outcome.{receipt-id, inv, HeldWhole, AllHeldWhole, emptied-held}
 use Rattle.exchange.proofs.Foreign.{confirming, request-opened}
 use Rattle.exchange.proofs.Concerns.{file-bank}
@@ -137,8 +138,8 @@ module _ (s : Course) (v : Parts s) (copies : Copied s) (numbers : OneExchangeNu
   replies : BankReplies (Gave h) (fileIn h)
   replies = bank-replies h all-sound (v .bank .proper)
 
-  receipt : ReceiptIssued (runPast s (x .run)) (fileIn h (s .runs (x .run) .transaction)) (asIssue x)
-  receipt = receipt-issued (Gave h) (fileIn h) replies (runPast s (x .run)) (v .runs (x .run)) (asIssue x) (issued-in (x .run) m refl) asked
+  receipt : ReceiptIssued (ownPast v (x .run)) (fileIn h (s .runs (x .run) .transaction)) (asIssue x)
+  receipt = receipt-issued (Gave h) (fileIn h) replies (ownPast v (x .run)) (v .runs (x .run) .own) (asIssue x) (issued-in (x .run) m refl) asked
 
   opened : (y : Form) × OpenedBy y h t (issuesOf (x .run) (s .issued))
   opened = request-opened s v copies numbers m refl (confirming asked)
@@ -147,7 +148,7 @@ module _ (s : Course) (v : Parts s) (copies : Copied s) (numbers : OneExchangeNu
   opener =
       let o = opened .1 in
       opening-at (λ (e : bank.Exchange). subscriber (e .request)) 0 all-sound (o .stands) (o .opening) ∙ ap subscriber (o .asked)
-      ∙ one-subscriber (Gave h) (fileIn h) replies (runPast s (x .run)) (v .runs (x .run)) (o .issue) (o .own)
+      ∙ one-subscriber (Gave h) (fileIn h) replies (ownPast v (x .run)) (v .runs (x .run) .own) (o .issue) (o .own)
 
   -- "a download keeps its mailbox's file while it is open"
   while-open : (j : ℕ) → downloadAt (s .bank .bank) j .used ≡ true → downloadAt (s .bank .bank) j .transaction ≡ t → x .file ≡ boxNow s x
@@ -158,7 +159,7 @@ module _ (s : Course) (v : Parts s) (copies : Copied s) (numbers : OneExchangeNu
 
   -- its run opens no upload, so no place has its transaction ID
   not-opening : (y : history.Issue) → In y (issuesOf (x .run) (s .issued)) → form (y .request) ≡ forms.UploadOpening → ⊥
-  not-opening y n e = at (v .runs (x .run))
+  not-opening y n e = at (v .runs (x .run) .own)
     where
       other : {f : Form} → form (y .request) ≡ f → (f ≡ forms.UploadOpening → _≡_ {A = ℕ} 0 1) → ⊥
       other g z = let u = z (sym g ∙ e) in omega arith
@@ -168,7 +169,7 @@ module _ (s : Course) (v : Parts s) (copies : Copied s) (numbers : OneExchangeNu
       each (asks k j a b c f q d) = other (ap form q ∙ form-downloadTransfer _ _ _ _) (λ z. cc)
       each (confirms k a b c f q d) = other (ap form q ∙ form-receipt _ _ _ _) (λ z. cc)
 
-      at : Invariant (Gave h) (fileIn h) (runPast s (x .run)) → ⊥
+      at : Invariant (Gave h) (fileIn h) (ownPast v (x .run)) → ⊥
       at (not-begun a g) = in-none (subst (In y) g n)
       at (upload b u) = not-both (u .direction) (receipt .download-run)
       at (download b u) = each (u .each y n)
@@ -228,11 +229,12 @@ run-box s i k payload (answer.Closed w) x m = inl m
 run-box s i k payload (answer.Refused r) x m = inl m
 
 carried-box : (k : Call) (s : Course) (x : Issue) → In x (carryOut k s .issued) → In x (s .issued) ⊎ (x .box ≡ boxNow (carryOut k s) x)
-carried-box (frameArrives w a) s x m = inl m
+carried-box (frameArrives w j a) s x m = inl m
 carried-box (filePut b mailboxes n file) s x m = inl m
 carried-box (begins i c params l) s x m = let k = beginCall c params l in run-box s i k (l .payload) (k .answer) x m
 carried-box (replyArrives i c reply l) s x m = let k = replyCall c reply l in run-box s i k (l .payload) (k .answer) x m
 carried-box (noReply i c l) s x m = let k = noReplyCall c l in run-box s i k (l .payload) (k .answer) x m
+carried-box (journalHanded i c row) s x m = inl m
 
 call-box : (k : Call) (s : Course) (x : Issue) → In x (exec k s .issued) → In x (s .issued) ⊎ (x .box ≡ boxNow (exec k s) x)
 call-box k s x =
@@ -247,12 +249,12 @@ data BankMove (s : Course) (b : BankPart s) (t : Course) : Type 0 where
   answers : (a : FrameInput) → Entered s b a t → t .issued ≡ s .issued → BankMove s b t
 
 carried-move : (k : Call) (s : Course) (v : Parts s) → Premise k s → callNumber k ≡ 0 → BankMove s (v .bank) (carryOut k s)
-carried-move (frameArrives w a) s v q z =
-    answers a (frame-enters s (v .bank) w a (q .0) z) refl
+carried-move (frameArrives w j a) s v q z = answers a (frame-enters s (v .bank) w j a (q .0) (q .1) z) refl
 carried-move (filePut b mailboxes m file) s v q z = puts m file (file-bank s v b mailboxes m file q z .0) refl
 carried-move (begins i c params l) s v q z = rests refl refl
 carried-move (replyArrives i c reply l) s v q z = rests refl refl
 carried-move (noReply i c l) s v q z = rests refl refl
+carried-move (journalHanded i c row) s v q z = rests refl refl
 
 bank-move : (k : Call) (s : Course) (v : Parts s) → Allowed k s → BankMove s (v .bank) (exec k s)
 bank-move k s v q = by-number k s (BankMove s (v .bank)) (rests refl refl) (λ z. carried-move k s v (q z) z)

@@ -4,12 +4,15 @@ use mathlib.Core.List.{List, [], _∷_}
 use mathlib.Core.Logic.{_⊎_, inl, inr}
 use mathlib.Core.Path.{_≡_, sym, ap, _∙_, subst}
 use native.Mathlib.Decide.{ℕ-discrete}
+use Rattle.journal.specs.declared.event.Event.{Event as JournalEvent}
 use Rattle.client_run.specs.declared.run.Answer.the-variants as answer
 use Rattle.client_run.specs.declared.run.ClientRun.{ClientRun}
 use Rattle.client_run.specs.declared.run.RunParameters.{RunParameters}
 use Rattle.client_run.specs.declared.run.Stage.the-variants as stage
 use Rattle.client_run.specs.declared.run.Word.{Word}
+use Rattle.client_run.specs.declared.run.Word.the-variants as word
 use Rattle.client.specs.Calls.{beginCall, replyCall, noReplyCall}
+use Rattle.client.specs.Journal.{journalCall}
 use Rattle.client_run.specs.Run.{Lent, answerNumber}
 use Rattle.client_history.specs.History.{Event, Begin, Reply, NoReply, Past, callOf, lentTo}
 use Rattle.client_history.specs.History as history
@@ -21,6 +24,7 @@ use Rattle.exchange.specs.Course.{
   begins,
   replyArrives,
   noReply,
+  journalHanded,
   Course,
   callNumber,
   afterRun,
@@ -32,9 +36,10 @@ use Rattle.exchange.specs.Demand3.{Premise, Allowed, AllAllowed}
 use Rattle.exchange.proofs.Calls.{carried, number-or-none}
 use Rattle.exchange.proofs.Bytes.{Issued, begin-issues, reply-issues, no-reply-issues}
 use Rattle.exchange.proofs.Clients.{runPast, own-past, other-past}
+use Rattle.exchange.proofs.Handed.{withRunOf, handed-own, handed-other, not-unclear}
 use Rattle.exchange.proofs.Courses.{frame-runs, file-runs}
 
--- the run stays, or it gets one event further: begin, reply arrived, no reply
+-- the run stays, or it gets one event further: begin, reply arrived, no reply; or it is handed the journal
 pub data RunStep (s : Course) (i : ℕ) : Call → Past → Type 0 where
   rests : {k : Call} {p : Past} → p ≡ runPast s i → RunStep s i k p
   begun : {c : ClientRun} {params : RunParameters} {l : Lent} {p : Past} → c ≡ s .runs i →
@@ -43,6 +48,8 @@ pub data RunStep (s : Course) (i : ℕ) : Call → Past → Type 0 where
       p ≡ history.after (Reply reply l) (runPast s i) → RunStep s i (replyArrives i c reply l) p
   no-reply : {c : ClientRun} {l : Lent} {p : Past} → c ≡ s .runs i → p ≡ history.after (NoReply l) (runPast s i) →
       RunStep s i (noReply i c l) p
+  handed : {c : ClientRun} {row : List JournalEvent} {p : Past} → c ≡ s .runs i → p ≡ withRunOf (journalCall (s .runs i) row .run) (runPast s i) →
+      RunStep s i (journalHanded i c row) p
 
 -- run i after its own event
 own-step : (s : Course) (i : ℕ) (e : Event) → ((n : ℕ) → callOf e (s .runs i) .answer ≡ answer.Request n →
@@ -73,6 +80,10 @@ module _ (s : Course) (i : ℕ) (c : ClientRun) (own : c ≡ s .runs i) where
   no-reply-past : (l : Lent) → callNumber (noReply i c l) ≡ 0 → runPast (exec (noReply i c l) s) i ≡ history.after (NoReply l) (runPast s i)
   no-reply-past l = by-run (λ x. noReply i x l) _ (own-step s i (NoReply l) (no-reply-issues (s .runs i) l))
 
+  handed-past : (row : List JournalEvent) → callNumber (journalHanded i c row) ≡ 0 →
+      runPast (exec (journalHanded i c row) s) i ≡ withRunOf (journalCall (s .runs i) row .run) (runPast s i)
+  handed-past row = by-run (λ x. journalHanded i x row) _ (λ _. handed-own s i (s .runs i) row)
+
 -- a call of run j to the run as it was left: run i stays, or it is that run
 other-or-own : (k : ℕ → Call) (s : Course) (i j : ℕ) → ((i ≡ j → ⊥) → runPast (carryOut (k j) s) i ≡ runPast s i) → Premise (k j) s →
     callNumber (k j) ≡ 0 →
@@ -85,7 +96,7 @@ other-or-own k s i j stays q z own = at (ℕ-discrete i j)
     at (yes e) = subst (λ (n : ℕ). Premise (k n) s → callNumber (k n) ≡ 0 → RunStep s i (k n) (runPast (exec (k n) s) i)) e own q z
 
 carried-step : (k : Call) (s : Course) → Premise k s → (i : ℕ) → callNumber k ≡ 0 → RunStep s i k (runPast (exec k s) i)
-carried-step (frameArrives w a) s q i z = rests (frame-runs s w a i)
+carried-step (frameArrives w j a) s q i z = rests (frame-runs s w j a i)
 carried-step (filePut b mailboxes m file) s q i z = rests (file-runs s b mailboxes m file i)
 carried-step (begins j c params l) s q i z =
     other-or-own (λ n. begins n c params l) s i j (other-past s j (beginCall c params l) l i) q z
@@ -96,6 +107,9 @@ carried-step (replyArrives j c reply l) s q i z =
 carried-step (noReply j c l) s q i z =
     other-or-own (λ n. noReply n c l) s i j (other-past s j (noReplyCall c l) l i) q z
     (λ left y. no-reply (left .0) (no-reply-past s i c (left .0) l y))
+carried-step (journalHanded j c row) s q i z =
+    other-or-own (λ n. journalHanded n c row) s i j (handed-other s j c row i) q z
+    (λ own y. handed (own .0) (handed-past s i c (own .0) row y))
 
 pub run-step : (k : Call) (s : Course) → Allowed k s → (i : ℕ) → RunStep s i k (runPast (exec k s) i)
 run-step k s q i = at (number-or-none k s)
@@ -104,20 +118,22 @@ run-step k s q i = at (number-or-none k s)
     at (inl e) = rests (ap (λ (t : Course). runPast t i) e)
     at (inr (z, _)) = carried-step k s (q z) i z
 
--- "An ended run stays as it is"
-step-ended : (s : Course) (i : ℕ) (k : Call) (p : Past) (w : Word) → s .runs i .stage ≡ stage.Ended w → RunStep s i k p → p ≡ runPast s i
-step-ended s i k p w e (rests z) = z
-step-ended s i k p w e (begun c z) = z ∙ ended-stays (runPast s i) w e _
-step-ended s i k p w e (replied c z) = z ∙ ended-stays (runPast s i) w e _
-step-ended s i k p w e (no-reply c z) = z ∙ ended-stays (runPast s i) w e _
+-- "An ended run stays as it is", but for an unclear one that is handed the journal
+module _ (i : ℕ) (w : Word) (clear : w ≡ word.Unclear → ⊥) where
+  step-ended : (s : Course) (k : Call) (p : Past) → s .runs i .stage ≡ stage.Ended w → RunStep s i k p → p ≡ runPast s i
+  step-ended s k p e (rests z) = z
+  step-ended s k p e (begun c z) = z ∙ ended-stays (runPast s i) w e _
+  step-ended s k p e (replied c z) = z ∙ ended-stays (runPast s i) w e _
+  step-ended s k p e (no-reply c z) = z ∙ ended-stays (runPast s i) w e _
+  step-ended s k p e (handed {row = row} c z) =
+      z ∙ ap (λ (r : ClientRun). withRunOf r (runPast s i)) (not-unclear (s .runs i) row (λ u. clear (cc)))
 
-pub run-ended : (k : Call) (s : Course) → Allowed k s → (i : ℕ) (w : Word) → s .runs i .stage ≡ stage.Ended w →
-    exec k s .runs i ≡ s .runs i
-run-ended k s q i w e = ap (λ (p : Past). p .run) (step-ended s i k (runPast (exec k s) i) w e (run-step k s q i))
+  run-ended : (k : Call) (s : Course) → Allowed k s → s .runs i .stage ≡ stage.Ended w → exec k s .runs i ≡ s .runs i
+  run-ended k s q e = ap (λ (p : Past). p .run) (step-ended s k (runPast (exec k s) i) e (run-step k s q i))
 
-pub stays-ended : (ks : List Call) (s : Course) → AllAllowed ks s → (i : ℕ) (w : Word) → s .runs i .stage ≡ stage.Ended w →
-    after ks s .runs i .stage ≡ stage.Ended w
-unfolding after
-stays-ended [] s q i w e = e
-stays-ended (k ∷ ks) s q i w e =
-    stays-ended ks (exec k s) (q .1) i w (ap (λ (c : ClientRun). c .stage) (run-ended k s (q .0) i w e) ∙ e)
+  pub stays-ended : (ks : List Call) (s : Course) → AllAllowed ks s → s .runs i .stage ≡ stage.Ended w →
+      after ks s .runs i .stage ≡ stage.Ended w
+  unfolding after
+  stays-ended [] s q e = e
+  stays-ended (k ∷ ks) s q e =
+      stays-ended ks (exec k s) (q .1) (ap (λ (c : ClientRun). c .stage) (run-ended k s (q .0) e) ∙ e)

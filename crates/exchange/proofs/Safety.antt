@@ -2,8 +2,9 @@
 use Prim.Native.Nat.{ℕ}
 use mathlib.Core.List.{List, [], _∷_, _++_}
 use mathlib.Core.Path.{_≡_, refl, ap, _∙_, subst}
+use native.Mathlib.Omega.{arith}
 use Rattle.client_run.specs.declared.run.Stage.the-variants as stage
-use Rattle.client_run.specs.declared.run.Word.the-variants.{NotLodged}
+use Rattle.client_run.specs.declared.run.Word.the-variants.{NotLodged, Unclear}
 use Rattle.exchange.specs.Course.{Call, Course, start, exec, after}
 use Rattle.exchange.specs.Terms.{Booked}
 use Rattle.exchange.specs.Demand3.{AllAllowed, OneExchangeNumber, Outcome}
@@ -48,4 +49,7 @@ module _ (ks ls : List Call) (a : AllAllowed (ks ++ ls) start) (n : OneExchangeN
   never-booked i e =
       outcome-of (ks ++ ls) a n .notLodged i
       (ap (λ (s : Course). s .runs i .stage) (after-append ks ls start)
-      ∙ stays-ended ls (after ks start) (allowed-rest ks ls start a) i NotLodged e)
+      ∙ stays-ended i NotLodged (λ z. clear z) ls (after ks start) (allowed-rest ks ls start a) e)
+    where
+      clear : NotLodged ≡ Unclear → ⊥
+      clear z = let y : _≡_ {A = ℕ} 0 1 = cc in omega arith

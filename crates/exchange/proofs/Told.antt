@@ -106,6 +106,23 @@ pub opening-action : (k : Action) → isOpening k ≡ true →
 opening-action (action.Upload a) e = let u = upload-action a e in inl (u .0, ap action.Upload (u .1))
 opening-action (action.Download a) e = let d = download-action a e in inr (d .0, ap action.Download (d .1))
 
+-- which of them open an upload, and a download
+pub upload-kind : (k : Action) → isUploadOpening k ≡ true → (n : ℕ) × (k ≡ action.Upload (up.Opened n))
+upload-kind k e = at (opening-action k (or-left (isUploadOpening k) (isDownloadOpening k) e))
+  where
+    at : ((n : ℕ) × (k ≡ action.Upload (up.Opened n))) ⊎ ((n : ℕ) × (k ≡ action.Download (down.Opened n))) →
+        (n : ℕ) × (k ≡ action.Upload (up.Opened n))
+    at (inl u) = u
+    at (inr d) = never (sym (ap isUploadOpening (d .1)) ∙ e)
+
+pub download-kind : (k : Action) → isDownloadOpening k ≡ true → (n : ℕ) × (k ≡ action.Download (down.Opened n))
+download-kind k e = at (opening-action k (or-right (isUploadOpening k) (isDownloadOpening k) e))
+  where
+    at : ((n : ℕ) × (k ≡ action.Upload (up.Opened n))) ⊎ ((n : ℕ) × (k ≡ action.Download (down.Opened n))) →
+        (n : ℕ) × (k ≡ action.Download (down.Opened n))
+    at (inl u) = never (sym (ap isDownloadOpening (u .1)) ∙ e)
+    at (inr d) = d
+
 -- an exchange that opened t
 pub record Opening (t : Bits128) (f : Exchange) : Type 0 where
   pub action : Action

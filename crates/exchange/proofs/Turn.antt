@@ -4,11 +4,11 @@ use mathlib.Core.List.{List, [], _∷_, List·Memᴰ·not-nil as in-none}
 use mathlib.Core.Logic.{_⊎_, inl, inr}
 use mathlib.Core.Path.{_≡_, refl, sym, ap, _∙_, subst}
 use native.Mathlib.Omega.{arith}
-use Rattle.frame_table.specs.Names.{exchange}
+use Rattle.frame_table.specs.Names.{exchange, returnCode}
 use Rattle.frame_reader.specs.Reader.{readRequest, readReply}
 use Rattle.octets.proofs.Tests.{never}
 use Rattle.client_run.specs.declared.run.Stage.the-variants as stage
-use Rattle.client_run.specs.declared.run.Word.the-variants.{Lodged, Fetched}
+use Rattle.client_run.specs.declared.run.Word.the-variants.{Lodged, Unclear, Fetched}
 use Rattle.client_rules.specs.Rulings.{isBegun}
 use Rattle.client_rules.proofs.Replies.{is-answer}
 use Rattle.exchange.specs.Course.{Call, frameArrives, Arrival, Course, start, exec, after}
@@ -27,7 +27,9 @@ use Rattle.exchange.proofs.Courses.{
 }
 use Rattle.exchange.proofs.Issues.{numbers-before}
 use Rattle.exchange.proofs.Received.{ToAnother}
-use Rattle.exchange.proofs.Concerns.{Concern, elsewhere, own-frame, own-begin, own-reply, concern}
+use Rattle.exchange.proofs.Handed.{unclear-upload, unclear-left}
+use Rattle.exchange.proofs.Outcome.{copied-reply}
+use Rattle.exchange.proofs.Concerns.{Concern, elsewhere, own-frame, own-begin, own-reply, own-journal, concern}
 use Rattle.exchange.proofs.OrderStates.{told-answers, State, idle, asks, told, refused, closed, state-same}
 use Rattle.exchange.proofs.Outstanding.{outstanding-issue, other-no-answer}
 use Rattle.exchange.proofs.OwnRequests.{issued-begun, request-moves}
@@ -36,6 +38,21 @@ use Rattle.exchange.proofs.OwnReplies.{begin-moves, reply-moves}
 -- ---- over one call, and over a list
 
 module _ (i : ℕ) where
+  -- the run of an order in turn is never unclear: its opening was answered 000000, so it was not refused
+  never-unclear : (s : Course) (v : Parts s) → Copied s → OneExchangeNumber s → State s i (runPast s i) →
+      s .runs i .stage ≡ stage.Ended Unclear → ⊥
+  never-unclear s v copies numbers (idle z none) e = let y : _≡_ {A = ℕ} 0 1 = cc in omega arith
+  never-unclear s v copies numbers (asks a) e =
+      let z = a .turn .running in let y : _≡_ {A = ℕ} 0 1 = cc in omega arith
+  never-unclear s v copies numbers (told a) e =
+      let z = a .turn .running in let y : _≡_ {A = ℕ} 0 1 = cc in omega arith
+  never-unclear s v copies numbers (refused a) e =
+      let g = unclear-upload s v i (unclear-left s v i e) .1 .got in
+      let c = copied-reply s v copies numbers (g .own) (g .given) in
+      a .none (c .exchange) (c .given, c .copy) (ap returnCode (c .same .reply ∙ g .given .reply) ∙ g .code)
+  never-unclear s v copies numbers (closed (inl z)) e = let y : _≡_ {A = ℕ} 0 1 = cc in omega arith
+  never-unclear s v copies numbers (closed (inr z)) e = let y : _≡_ {A = ℕ} 0 1 = cc in omega arith
+
   call-moves : (k : Call) (s : Course) (v : Parts s) → Copied s → OneExchangeNumber s → OneExchangeNumber (exec k s) → Allowed k s →
       InTurn i k s → Alone i s → State s i (runPast s i) → State (exec k s) i (runPast (exec k s) i)
   call-moves k s v copies numbers later q turn alone z = at k q later (concern s v copies numbers i k q turn)
@@ -43,14 +60,15 @@ module _ (i : ℕ) where
       at : (k : Call) → Allowed k s → OneExchangeNumber (exec k s) → Concern s v i k → State (exec k s) i (runPast (exec k s) i)
       at k q later (elsewhere same untouched) =
           subst (State (exec k s) i) (sym (same .past)) (state-same same v untouched (runPast s i) alone z)
-      at k q later (own-frame {w = w} {a = a} en own new hour issued arrivals) =
-          subst (State (exec (frameArrives w a) s) i) (sym (frame-runs s w a i))
-          (request-moves s v copies numbers i a (exec (frameArrives w a) s) en own new hour issued
+      at k q later (own-frame {w = w} {j = j} {a = a} en own new hour issued arrivals) =
+          subst (State (exec (frameArrives w j a) s) i) (sym (frame-runs s w j a i))
+          (request-moves s v copies numbers i a (exec (frameArrives w j a) s) en own new hour issued
           arrivals z)
       at k q later (own-begin {c = c} {params = params} {l = l} own done) =
           begin-moves s v copies numbers i c params l q later own done z
       at k q later (own-reply {c = c} {reply = reply} {l = l} done left source fresh) =
           reply-moves s v copies numbers i c reply l q later done left source fresh z
+      at k q later (own-journal e) = absurd (never-unclear s v copies numbers z e)
 
   order-state : (ks : List Call) (s : Course) → Parts s → Copied s → AllAllowed ks s → OneExchangeNumber (after ks s) → AllInTurn i ks s →
       State s i (runPast s i) → State (after ks s) i (runPast (after ks s) i)

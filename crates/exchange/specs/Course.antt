@@ -9,6 +9,9 @@ use Rattle.frame_table.specs.Names.{subscriber, returnCode}
 use Rattle.frame_reader.specs.Reader.{readRequest, readReply}
 use Rattle.message.specs.declared.codes.ReturnCode.the-variants as code
 use Rattle.message.specs.Codes.{codeField}
+use Rattle.journal.specs.declared.event.Event.{Event}
+use Rattle.journal.specs.Events.{recordCount}
+use Rattle.journal.specs.Row.{Journal, emptyRow}
 use Rattle.bank_state.specs.State.{Bank}
 use Rattle.bank_state.specs.Clock.{advanced}
 use Rattle.bank_state.specs.Limits.{storeBytes}
@@ -18,17 +21,20 @@ use Rattle.bank.specs.declared.call.FrameAnswer.{FrameAnswer}
 use Rattle.bank.specs.declared.call.FrameAnswer.the-variants as frameAnswer
 use Rattle.bank.specs.Call.{FrameInput, frameNumber, frameCall}
 use Rattle.bank.specs.Mailbox.{fileNumber, FileCall, fileCall}
+use Rattle.bank.specs.Journal.{journalAfter}
 use Rattle.client_run.specs.declared.run.Answer.{Answer}
 use Rattle.client_run.specs.declared.run.Answer.the-variants as answer
 use Rattle.client_run.specs.declared.run.ClientRun.{ClientRun}
 use Rattle.client_run.specs.declared.run.RunParameters.{RunParameters}
 use Rattle.client.specs.Calls.{beginCall, replyCall, noReplyCall}
+use Rattle.client.specs.Journal.{journalCall}
 use Rattle.client_run.specs.Run.{Lent, ClientCall, notBegun, answerNumber}
 
 -- A call with everything that it brings and is lent; client runs are told apart by a number
 pub data Call : Type 0 where
-  -- a frame to the bank: the bank and its stores; the bank time, the 8 ID bytes, the frame and the reply buffer
-  frameArrives : BankState → FrameInput → Call
+  -- a frame to the bank: the bank and its stores, the journal; the bank time, the 8 ID bytes, the frame and the reply
+  -- buffer
+  frameArrives : BankState → Journal → FrameInput → Call
   -- a file into a mailbox: the bank, the mailboxes' store, the mailbox, the file
   filePut : Bank → List ℕ → ℕ → List ℕ → Call
   -- begin: direction, subscriber, first exchange number
@@ -37,6 +43,8 @@ pub data Call : Type 0 where
   replyArrives : ℕ → ClientRun → List ℕ → Lent → Call
   -- no reply
   noReply : ℕ → ClientRun → Lent → Call
+  -- a run is handed the journal: its row
+  journalHanded : ℕ → ClientRun → List Event → Call
 
 -- a request issued: by which run, its bytes, and as it was issued the run's file and the file that its subscriber's
 -- mailbox held
@@ -59,10 +67,11 @@ pub record Arrival : Type 0 where
   pub run : ℕ
   pub reply : List ℕ
 
--- What a list of calls has left: at the bank's end, at each run's end, the file last put into each mailbox and not
--- emptied by 011000, and all that was issued, exchanged and arrived, the newest first
+-- What a list of calls has left: at the bank's end with its journal, at each run's end, the file last put into each
+-- mailbox and not emptied by 011000, and all that was issued, exchanged and arrived, the newest first
 pub record Course : Type 0 where
   pub bank : BankState
+  pub journal : Journal
   pub runs : ℕ → ClientRun
   pub payloads : ℕ → List ℕ
   pub files : ℕ → List ℕ
@@ -71,10 +80,11 @@ pub record Course : Type 0 where
   pub exchanged : List Exchange
   pub arrived : List Arrival
 
--- a fresh bank with every lent byte 0, and no run begun
+-- a fresh bank with every lent byte 0, no event in its journal, and no run begun
 unfoldable pub start : Course
 start = record {
   bank = bankState fresh (replicate storeBytes 0) (replicate storeBytes 0);
+  journal = record { events = 0; row = emptyRow };
   runs = λ i. notBegun;
   payloads = λ i. [];
   files = λ i. [];
@@ -92,7 +102,34 @@ changed f i a j = cond (eqb j i) a (f j)
 abbrev pub withBank : BankState → Course → Course
 withBank w s = record {
   bank = w;
+  journal = s .journal;
   runs = s .runs;
+  payloads = s .payloads;
+  files = s .files;
+  mailboxes = s .mailboxes;
+  issued = s .issued;
+  exchanged = s .exchanged;
+  arrived = s .arrived;
+}
+
+abbrev pub withJournal : Journal → Course → Course
+withJournal j s = record {
+  bank = s .bank;
+  journal = j;
+  runs = s .runs;
+  payloads = s .payloads;
+  files = s .files;
+  mailboxes = s .mailboxes;
+  issued = s .issued;
+  exchanged = s .exchanged;
+  arrived = s .arrived;
+}
+
+abbrev pub withRuns : (ℕ → ClientRun) → Course → Course
+withRuns runs s = record {
+  bank = s .bank;
+  journal = s .journal;
+  runs = runs;
   payloads = s .payloads;
   files = s .files;
   mailboxes = s .mailboxes;
@@ -105,6 +142,7 @@ withBank w s = record {
 abbrev pub withRun : ℕ → ClientRun → List ℕ → List ℕ → Course → Course
 withRun i c payload file s = record {
   bank = s .bank;
+  journal = s .journal;
   runs = changed (s .runs) i c;
   payloads = changed (s .payloads) i payload;
   files = changed (s .files) i file;
@@ -117,6 +155,7 @@ withRun i c payload file s = record {
 abbrev pub withMailboxes : (ℕ → List ℕ) → Course → Course
 withMailboxes m s = record {
   bank = s .bank;
+  journal = s .journal;
   runs = s .runs;
   payloads = s .payloads;
   files = s .files;
@@ -129,6 +168,7 @@ withMailboxes m s = record {
 abbrev pub withIssued : List Issue → Course → Course
 withIssued l s = record {
   bank = s .bank;
+  journal = s .journal;
   runs = s .runs;
   payloads = s .payloads;
   files = s .files;
@@ -141,6 +181,7 @@ withIssued l s = record {
 abbrev pub withExchanged : List Exchange → Course → Course
 withExchanged l s = record {
   bank = s .bank;
+  journal = s .journal;
   runs = s .runs;
   payloads = s .payloads;
   files = s .files;
@@ -153,6 +194,7 @@ withExchanged l s = record {
 abbrev pub withArrived : List Arrival → Course → Course
 withArrived l s = record {
   bank = s .bank;
+  journal = s .journal;
   runs = s .runs;
   payloads = s .payloads;
   files = s .files;
@@ -180,13 +222,14 @@ emptied request reply mailboxes =
 
 -- ---- ONE CALL
 
--- document 01's number for a call, 0 where it is given none
+-- document 01's number for a call, 0 where it is given none; a frame call lent a row of another length is number 1
 abbrev pub callNumber : Call → ℕ
-callNumber (frameArrives w a) = frameNumber (frameCall w a .answer)
+callNumber (frameArrives w j a) = cond (eqb (length (j .row)) recordCount) (frameNumber (frameCall w a .answer)) 1
 callNumber (filePut b mailboxes m file) = fileNumber (fileCall b m file mailboxes .answer)
 callNumber (begins i c params l) = answerNumber (beginCall c params l .answer)
 callNumber (replyArrives i c reply l) = answerNumber (replyCall c reply l .answer)
 callNumber (noReply i c l) = answerNumber (noReplyCall c l .answer)
+callNumber (journalHanded i c row) = journalCall c row .number
 
 -- the reply in the lent buffer
 abbrev pub replyIn : FrameAnswer → List ℕ → List ℕ
@@ -232,14 +275,16 @@ afterRun i k payload s = withRun i (k .run) payload (k .file) (withIssued (issue
 
 -- what a call given no number leaves
 abbrev pub carryOut : Call → Course → Course
-carryOut (frameArrives w a) s =
+carryOut (frameArrives w j a) s =
     let k = frameCall w a in
-    afterFrame (replyIn (k .answer) (k .buffer)) (k .bankState) (advanced (a .time) w) (a .frame) s
+    withJournal (journalAfter w a j)
+    (afterFrame (replyIn (k .answer) (k .buffer)) (k .bankState) (advanced (a .time) w) (a .frame) s)
 carryOut (filePut b mailboxes m file) s = afterFile (fileCall b m file mailboxes) m file s
 carryOut (begins i c params l) s = afterRun i (beginCall c params l) (l .payload) s
 carryOut (replyArrives i c reply l) s =
     withArrived (record { run = i; reply = reply } ∷ s .arrived) (afterRun i (replyCall c reply l) (l .payload) s)
 carryOut (noReply i c l) s = afterRun i (noReplyCall c l) (l .payload) s
+carryOut (journalHanded i c row) s = withRuns (changed (s .runs) i (journalCall c row .run)) s
 
 -- the course after one call, "a number, nothing changed", and after a list of calls
 unfoldable pub exec : Call → Course → Course

@@ -23,6 +23,7 @@ use Rattle.exchange.specs.Course.{
   begins,
   replyArrives,
   noReply,
+  journalHanded,
   Issue,
   Exchange,
   Course,
@@ -61,14 +62,17 @@ Left i c l s = (c ≡ s .runs i) × (l .payload ≡ s .payloads i) × (l .file �
 
 -- "A request that demand 3 names is a copy of one issued earlier in the list; a reply is a copy of one the bank gave
 -- earlier for such a copy": each frame under a subscriber's number, and each reply that reaches a run. A begin brings
--- its own payload and file buffer
+-- its own payload and file buffer. A run is handed the row "as the bank last left it": as its last call given no number
+-- did
 abbrev pub Premise : Call → Course → Type 0
-Premise (frameArrives w a) s = (w ≡ s .bank) × (isSubscribers (a .frame) ≡ true → (i : ℕ) × IssuedBy i (a .frame) s)
+Premise (frameArrives w j a) s = (w ≡ s .bank) × (j ≡ s .journal)
+    × (isSubscribers (a .frame) ≡ true → (i : ℕ) × IssuedBy i (a .frame) s)
 Premise (filePut b mailboxes m file) s = (b ≡ s .bank .bank) × (mailboxes ≡ s .bank .mailboxes)
 Premise (begins i c params l) s = c ≡ s .runs i
 Premise (replyArrives i c reply l) s = Left i c l s
     × ((e : Exchange) × In e (s .exchanged) × (e .reply ≡ reply) × ((j : ℕ) × IssuedBy j (e .request) s))
 Premise (noReply i c l) s = Left i c l s
+Premise (journalHanded i c row) s = (c ≡ s .runs i) × (row ≡ s .journal .row)
 
 -- "a call given a number may be lent others"
 abbrev pub Allowed : Call → Course → Type 0

@@ -27,6 +27,7 @@ use Rattle.exchange.specs.Course.{
   begins,
   replyArrives,
   noReply,
+  journalHanded,
   Issue,
   Exchange,
   Arrival,
@@ -99,16 +100,17 @@ NoIdleHour i clock s =
 
 -- what "in turn" asks of a call given no number
 abbrev pub Turn : ℕ → Call → Course → Type 0
-Turn i (frameArrives w a) s = IssuedBy i (a .frame) s →
+Turn i (frameArrives w j a) s = IssuedBy i (a .frame) s →
     ((e : Exchange) → In e (s .exchanged) → e .request ≡ a .frame → ⊥)
     × NoIdleHour i (frameCall w a .bankState .bank .clock) s
 Turn i (filePut b mailboxes m file) s = Unit {0}
 Turn i (begins j c params l) s = Unit {0}
 Turn i (replyArrives j c reply l) s = j ≡ i → (a : Arrival) → In a (s .arrived) → a .run ≡ i → a .reply ≡ reply → ⊥
 Turn i (noReply j c l) s = j ≡ i → ⊥
+Turn i (journalHanded j c row) s = Unit {0}
 
 -- "whose messages each arrive once, in turn": "calls given a number left out, the run's only calls are begin and the
--- arrivals of these replies"
+-- arrivals of these replies"; the journal may be handed to it at any time
 abbrev pub InTurn : ℕ → Call → Course → Type 0
 InTurn i k s = callNumber k ≡ 0 → Turn i k s
 

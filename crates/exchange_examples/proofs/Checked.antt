@@ -37,6 +37,7 @@ use Rattle.exchange.specs.Course.{
   begins,
   replyArrives,
   noReply,
+  journalHanded,
   Issue,
   Exchange,
   Arrival,
@@ -49,7 +50,7 @@ use Rattle.exchange.specs.Course.{
 use Rattle.exchange.specs.Terms.{IssuedBy, NoIdleHour, InTurn, Accepted, AllInTurn, Settled}
 use Rattle.exchange.specs.Demand3.{isSubscribers, Allowed, AllAllowed, OneExchangeNumber, Outcome, ClosesInTurn, Demand3}
 use Rattle.exchange.specs.Lists.{NoDup, none, more}
-use Rattle.exchange.proofs.Guards.{numbered-allowed, numbered-in-turn, stray-allowed}
+use Rattle.exchange.proofs.Guards.{numbered-allowed, numbered-in-turn, stray-allowed, journal-allowed}
 use Rattle.exchange.proofs.Theorem.{demand3}
 
 -- ---- tests of lists
@@ -152,6 +153,8 @@ pub data Move : Type 0 where
   reaches : ℕ → ℕ → Move
   -- no reply reaches a run
   silent : ℕ → Move
+  -- a run is handed the journal
+  hands : ℕ → Move
   -- a call given a number
   numbered : Call → Move
 
@@ -169,7 +172,7 @@ abbrev replyAt : ℕ → Course → List ℕ
 replyAt n s = nth noExchange n (s .exchanged) .reply
 
 abbrev frameCalled : List ℕ → ℕ → Course → Call
-frameCalled frame time s = frameArrives (s .bank) (frameInput time (replicate 8 0) frame (replicate replyRoom 0))
+frameCalled frame time s = frameArrives (s .bank) (s .journal) (frameInput time (replicate 8 0) frame (replicate replyRoom 0))
 
 -- the clock as the frame has come
 abbrev frameClock : List ℕ → ℕ → Course → ℕ
@@ -183,6 +186,7 @@ callOf (puts m file) s = filePut (s .bank .bank) (s .bank .mailboxes) m file
 callOf (begin i direction u first payload) s = begins i (s .runs i) (parametersOf direction u first) (lent payload (replicate fileBytes 0))
 callOf (reaches i n) s = replyArrives i (s .runs i) (replyAt n s) (lent (s .payloads i) (s .files i))
 callOf (silent i) s = noReply i (s .runs i) (lent (s .payloads i) (s .files i))
+callOf (hands i) s = journalHanded i (s .runs i) (s .journal .row)
 callOf (numbered k) s = k
 
 abbrev pub next : Move → Course → Course
@@ -219,10 +223,11 @@ isAllowed (puts m file) s = true
 isAllowed (begin i direction u first payload) s = true
 isAllowed (reaches i n) s = some (λ (e : Exchange). sameBytes (e .reply) (replyAt n s) && isIssued (e .request) s) (s .exchanged)
 isAllowed (silent i) s = true
+isAllowed (hands i) s = true
 isAllowed (numbered k) s = not (eqb (callNumber k) 0)
 
 allowed : (m : Move) (s : Course) → isAllowed m s ≡ true → Allowed (callOf m s) s
-allowed (comes n time) s h = λ _. (refl, λ _. issued (requestAt n s) s h)
+allowed (comes n time) s h = λ _. (refl, refl, λ _. issued (requestAt n s) s h)
 allowed (stray frame time) s h =
     stray-allowed s (frameInput time (replicate 8 0) frame (replicate replyRoom 0)) (off (isSubscribers frame) h)
   where
@@ -237,6 +242,7 @@ allowed (reaches i n) s h = λ _.
     let a = and-true (sameBytes (o .0 .reply) (replyAt n s)) (isIssued (o .0 .request) s) (o .2) in
     ((refl, refl, refl), (o .0, o .1, same-bytes (o .0 .reply) (replyAt n s) (a .0), issued (o .0 .request) s (a .1)))
 allowed (silent i) s h = λ _. (refl, refl, refl)
+allowed (hands i) s h = journal-allowed s i
 allowed (numbered k) s h = numbered-allowed k s (λ z. not-both h (eq-eqb (callNumber k) 0 z))
 
 -- no two requests under one exchange number
@@ -333,6 +339,7 @@ module _ (i : ℕ) where
   isInTurn (begin j direction u first payload) s = true
   isInTurn (reaches j n) s = implies (eqb j i) (notArrived (replyAt n s) s)
   isInTurn (silent j) s = not (eqb j i)
+  isInTurn (hands j) s = true
   isInTurn (numbered k) s = not (eqb (callNumber k) 0)
 
   in-turn : (m : Move) (s : Course) → isInTurn m s ≡ true → InTurn i (callOf m s) s
@@ -345,6 +352,7 @@ module _ (i : ℕ) where
       (then (eqb j i) (notArrived (replyAt n s) s) h (eq-eqb j i same)) m)
       (both (eq-eqb (a .run) i r) (bytes-same (a .reply) (replyAt n s) z))
   in-turn (silent j) s h = λ _. λ same. not-both h (eq-eqb j i same)
+  in-turn (hands j) s h = λ _. tt
   in-turn (numbered k) s h = numbered-in-turn i k s (λ z. not-both h (eq-eqb (callNumber k) 0 z))
 
   abbrev isAlone : Course → Bool

@@ -28,6 +28,7 @@ use Rattle.exchange_examples.proofs.Checked.{
   begin,
   reaches,
   silent,
+  hands,
   numbered,
   lent,
   callOf,
@@ -61,7 +62,12 @@ use Rattle.bank_openings.specs.Openings as openings
 use Rattle.bank_uploads.specs.Uploads as uploads
 use Rattle.bank.specs.Call as bankCall
 use Rattle.bank.specs.Mailbox as bankMailbox
+use Rattle.journal.specs.Events as journalEvents
+use Rattle.journal.specs.Row as journalRow
+use Rattle.bank_events.specs.Entries as bankEntries
+use Rattle.bank.specs.Journal as bankJournal
 use Rattle.client.specs.Calls as clientCalls
+use Rattle.client.specs.Journal as clientJournal
 use Rattle.client_run.specs.NextRun as clientNextRun
 use Rattle.client_run.specs.Requests as clientRequests
 use Rattle.client_rules.specs.Decisions as clientDecisions
@@ -140,6 +146,32 @@ cancelled = (begin 0 Upload 1 7 twoSegments ∷ comes 0 1000 ∷ reaches 0 0 ∷
 abbrev unsent : List Move
 unsent = (begin 0 Upload 1 7 (65 ∷ []) ∷ comes 0 1000 ∷ []) ++ replicate 6 (silent 0)
 
+-- ---- the journal
+
+-- the same, which is handed the journal and closes as lodged
+abbrev clearing : List Move
+clearing = losing ++ (hands 0 ∷ [])
+
+-- no copy of its segment comes: unclear, and the journal says that it was opened
+abbrev waiting : List Move
+waiting = (begin 0 Upload 1 7 (65 ∷ []) ∷ comes 0 1000 ∷ reaches 0 0 ∷ []) ++ replicate 6 (silent 0) ++ (hands 0 ∷ [])
+
+-- its segment comes late and is booked; handed the journal again, the run closes as lodged
+abbrev booking : List Move
+booking = waiting ++ (comes 0 1000 ∷ hands 0 ∷ [])
+
+-- an idle hour later its upload is dropped: handed the journal again, it closes as not lodged
+abbrev dropping : List Move
+dropping = waiting ++ (stray (1 ∷ 2 ∷ 3 ∷ []) 4601 ∷ hands 0 ∷ [])
+
+-- a late copy of its segment comes then
+abbrev late : List Move
+late = comes 0 4601 ∷ []
+
+-- an order in turn whose run is handed the journal between
+abbrev asking : List Move
+asking = begin 0 Upload 1 7 (65 ∷ []) ∷ hands 0 ∷ comes 0 1000 ∷ reaches 0 0 ∷ hands 0 ∷ comes 0 1000 ∷ reaches 0 0 ∷ hands 0 ∷ []
+
 -- ---- what they compute to
 
 -- the return code of the newest reply
@@ -181,6 +213,16 @@ record Computed : Type 0 where
   cancelled-ends : let s = endOf cancelled start in (codeNow s ≡ codeField code.TransactionAbort) × Ended NotLodged s
   unsent-met : isMet unsent start ≡ true
   unsent-ends : Ended NotLodged (endOf unsent start)
+  clearing-met : isMet clearing start ≡ true
+  clearing-ends : Ended Lodged (endOf clearing start)
+  waiting-ends : Ended Unclear (endOf waiting start)
+  booking-met : isMet booking start ≡ true
+  booking-ends : let s = endOf booking start in Ended Lodged s × InFirstPlace s
+  dropping-ends : Ended NotLodged (endOf dropping start)
+  late-met : isMet (dropping ++ late) start ≡ true
+  late-ends : let s = endOf (dropping ++ late) start in (codeNow s ≡ codeField code.UnknownTransaction) × Ended NotLodged s
+  asking-in-turn : isInOrder 0 1 asking start ≡ true
+  asking-opens : Opens 1 (endOf asking start)
 
 computed : Computed
 unfolding frameBytes.numberFrom frameBytes.number frameBytes.bytesOf frameBytes.fieldBytes frameBytes.overwrite frameReader.fieldsOf
@@ -220,7 +262,10 @@ unfolding frameBytes.numberFrom frameBytes.number frameBytes.bytesOf frameBytes.
     clientNextRun.goOn clientNextRun.repeated clientNextRun.holding clientNextRun.fileWith clientNextRun.ended clientRequests.nonceOf
     clientRequests.outstanding clientRequests.outstandingData clientRulings.wrongLengths clientRulings.noSubscriber
     clientRulings.beginRuling clientRulings.rulingNotBegun clientRulings.rulingRunning clientRulings.rulingEnded course.start
-    course.mailboxOf course.heldOf course.emptied course.exec isSubscribers
+    course.mailboxOf course.heldOf course.emptied course.exec isSubscribers journalEvents.eventsFrom journalRow.emptyRow
+    journalRow.entered journalRow.enteredAll journalRow.withRecord journalRow.lookup bankEntries.insertByOpening
+    bankEntries.byOpening bankEntries.droppedUploads bankEntries.actionEntries bankEntries.callEntries bankJournal.enteredBy bankJournal.journalAfter
+    clientJournal.answerTo clientJournal.journalCall
 computed = record {
   lodging-in-turn = refl;
   lodging-ends = (inl refl, refl);
@@ -239,6 +284,16 @@ computed = record {
   cancelled-ends = (refl, refl);
   unsent-met = refl;
   unsent-ends = refl;
+  clearing-met = refl;
+  clearing-ends = refl;
+  waiting-ends = refl;
+  booking-met = refl;
+  booking-ends = (refl, refl);
+  dropping-ends = refl;
+  late-met = refl;
+  late-ends = (refl, refl);
+  asking-in-turn = refl;
+  asking-opens = inl refl;
 }
 
 -- ---- the theorem applied
@@ -273,3 +328,20 @@ cancelled-unbooked = outcome cancelled (computed .cancelled-met) .notLodged 0 (c
 
 unsent-unbooked : Booked (endOf unsent start) 0 → ⊥
 unsent-unbooked = outcome unsent (computed .unsent-met) .notLodged 0 (computed .unsent-ends)
+
+-- a run that the journal closed as lodged names its order
+clearing-booked : (j : ℕ) × (o : Order) × InBook (endOf clearing start) j o × OrderOf (endOf clearing start) 0 o
+clearing-booked =
+    let o = outcome clearing (computed .clearing-met) .lodged 0 (computed .clearing-ends) .1 in
+    (o .0, o .1, o .2, o .3)
+
+-- one that it closed as not lodged is not booked, by a late copy of its segment neither
+late-unbooked : Booked (endOf (dropping ++ late) start) 0 → ⊥
+late-unbooked = outcome (dropping ++ late) (computed .late-met) .notLodged 0 (computed .late-ends .1)
+
+-- one that stays unclear may still be booked
+booking-booked : Booked (endOf booking start) 0
+booking-booked = outcome booking (computed .booking-met) .lodged 0 (computed .booking-ends .0) .0
+
+asking-closed : Closed 0 (endOf asking start)
+asking-closed = closed 0 1 asking (computed .asking-in-turn) (computed .asking-opens)

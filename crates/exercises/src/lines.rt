@@ -90,6 +90,7 @@ fn say_message(letter: u8, form: Form, repeated: bool, v: [u64; VALUES]) {
 fn say_answer(answer: Answer, v: [u64; VALUES]) {
     match answer {
         Answer::Ignored => say(b'i', v),
+        Answer::Unchanged => say(b'q', v),
         Answer::Closed(word, number) => {
             say(b'w', v);
             say_closing(word, number);
@@ -133,6 +134,7 @@ pub(crate) fn say_line(m: Move, frame: &[u8], answer: Answer) {
         say_message(m.letter, q.form(), m.repeated, v);
     }
     say(m.fate, v);
+    say(m.hour, v);
     say_answer(answer, v);
     say_end();
 }

@@ -6,6 +6,7 @@ mod say;
 mod script;
 
 use bank_rows::layout::STATE_SIZE;
+use bank_session::layout::SESSION_SIZE;
 use bank_state::limits::REPLY_ROOM;
 use bank_state::limits::STORE_BYTES;
 use libc::STDOUT_FILENO;
@@ -17,9 +18,11 @@ use record::keep;
 use record::message_of;
 use record::put_move;
 use results::say_book;
+use results::say_handed;
 use results::say_results;
 use script::MOVES;
 use script::MOVES_A;
+use script::MOVES_B;
 use script::Move;
 use script::move_at;
 use unit::call::call;
@@ -42,7 +45,7 @@ fn example_text() -> [u8; TEXT_BYTES] {
 }
 
 // Prints the heading before move i.
-fn say_heading(i: usize) {
+fn say_heading(i: u8) {
     if i == 0 {
         io::write_all(
             STDOUT_FILENO,
@@ -88,9 +91,12 @@ fn play_move(
     o.unit
 }
 
-// Plays the script.
+// Plays the moves of the script from one on, up to another.
 fn play(
+    start: UnitState,
     script: &[u8],
+    first: u8,
+    end: u8,
     text: &[u8],
     mail: &mut [u8],
     rows: &mut [u64],
@@ -99,27 +105,41 @@ fn play(
     payloads: &mut [u8],
     files: &mut [u8],
 ) -> UnitState {
-    let mut u = fresh();
-    let mut i = 0;
-    while i < MOVES {
+    let mut u = start;
+    let mut i = first;
+    while i < end {
         say_heading(i);
-        let m = move_at(script, i as u8);
+        let m = move_at(script, i);
         i += 1;
         u = play_move(u, m, text, mail, rows, orders, mailboxes, payloads, files);
     }
     u
 }
 
+// The bank's numbers, of the session's.
+fn bank_numbers(rows: &[u64; SESSION_SIZE]) -> [u64; STATE_SIZE] {
+    let mut numbers = [0u64; STATE_SIZE];
+    let mut i = 0;
+    while i < STATE_SIZE {
+        numbers[i] = rows[i];
+        i += 1;
+    }
+    numbers
+}
+
 // Exercises A, B and C by a script, with orders whose bytes are parts of this text.
 fn exercise(script: &[u8], text: &[u8]) {
     let mut mail = [0u8; MAIL_BYTES];
-    let mut rows = [0u64; STATE_SIZE];
+    let mut rows = [0u64; SESSION_SIZE];
     let mut orders = [0u8; STORE_BYTES];
     let mut mailboxes = [0u8; STORE_BYTES];
     let mut payloads = [0u8; ROOMS_BYTES];
     let mut files = [0u8; ROOMS_BYTES];
     let u = play(
+        fresh(),
         script,
+        0,
+        MOVES_B,
         text,
         &mut mail,
         &mut rows,
@@ -132,8 +152,23 @@ fn exercise(script: &[u8], text: &[u8]) {
         STDOUT_FILENO,
         b"exercise C: each order's closing word beside what the bank has\n",
     );
-    say_results(u, &rows, text, &orders, &files);
-    say_book(&rows);
+    say_results(u, &bank_numbers(&rows), text, &orders, &files);
+    let v = play(
+        u,
+        script,
+        MOVES_B,
+        MOVES,
+        text,
+        &mut mail,
+        &mut rows,
+        &mut orders,
+        &mut mailboxes,
+        &mut payloads,
+        &mut files,
+    );
+    let numbers = bank_numbers(&rows);
+    say_handed(v, &numbers, text, &orders, &files);
+    say_book(&numbers);
 }
 
 // The script begins with a blank move.
@@ -145,7 +180,9 @@ fn main() {
         D2  F2  R2  F2  R2  F2  R2  \
         U3  F3x N3  F3  R3  F3c R3  F3  R3x N3  F3  R3  F3l R3  F3c R3  F3l R3x \
         U4  F4  R4  F4  R4  F4  R4x N4  F4  R4  \
-        M5  D5  F5  R5  F5  R5x N5  F5  R5  F5  R5  F5  R5  ",
+        M5  D5  F5  R5  F5  R5x N5  F5  R5  F5  R5  F5  R5  \
+        U6  F6  R6  F6c R6  F6x N6  F6x N6  F6x N6  F6x N6  F6x N6  F6x N6  F6lHR6x \
+        J4  J6  ",
         &text,
     );
 }

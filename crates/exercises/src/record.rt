@@ -9,8 +9,10 @@ use octets::bytes::front;
 use print::text::put_digits;
 use unit::call::Answer;
 
-// The time of every call.
-const TIME: u64 = 1000;
+// The time of a call, and of one over an hour later.
+const TIME: u32 = 1000;
+
+const LATER: u32 = 4601;
 
 // The bytes of the longest record: an upload's head, and the longest payload.
 pub(crate) const RECORD_BYTES: usize = 26 + 700;
@@ -75,11 +77,11 @@ struct Head {
 
 // The head of a move's record; the bank's ID bytes and the nonce bytes are 0, and a run's first exchange number is its
 // number in hundreds.
-fn head_of(letter: u8, run: u8) -> Head {
+fn head_of(letter: u8, run: u8, time: u32) -> Head {
     let o = order_of(run);
     let subscriber = o.subscriber as u64;
     let first = letter as u64;
-    let named = (first * 256 + run as u64) * 4294967296 + TIME;
+    let named = (first * 256 + run as u64) * 4294967296 + time as u64;
     match letter {
         b'M' => Head {
             number: first * 65536 + subscriber,
@@ -88,10 +90,16 @@ fn head_of(letter: u8, run: u8) -> Head {
             body: 3,
         },
         b'F' => Head {
-            number: first * 4294967296 + TIME,
+            number: first * 4294967296 + time as u64,
             width: 5,
             order: 0,
             body: FRAME_AT,
+        },
+        b'J' => Head {
+            number: first * 256 + run as u64,
+            width: 2,
+            order: 0,
+            body: 2,
         },
         b'U' | b'D' => Head {
             number: named,
@@ -108,12 +116,20 @@ fn head_of(letter: u8, run: u8) -> Head {
     }
 }
 
+// The time of a move.
+fn time_of(hour: u8) -> u32 {
+    if hour == b'H' {
+        return LATER;
+    }
+    TIME
+}
+
 // Writes the record of a move, whose body this is. A lost message makes no call: its record is empty.
 fn put_record(record: &mut [u8], m: Move, body: &[u8]) {
     if m.fate == b'x' {
         return;
     }
-    let h = head_of(m.letter, m.run);
+    let h = head_of(m.letter, m.run, time_of(m.hour));
     put_number(record, 0, h.width, h.number);
     put_number(record, 6, 6, h.order);
     put_body(record, h.body, body);

@@ -217,6 +217,22 @@ pub(crate) fn say_results(
     }
 }
 
+// The rows of the runs that were handed the journal: client runs 4 and 6.
+pub(crate) fn say_handed(
+    u: UnitState,
+    rows: &[u64; STATE_SIZE],
+    text: &[u8],
+    orders: &[u8],
+    files: &[u8],
+) {
+    let fourth = u.runs[3];
+    let sixth = u.runs[5];
+    let c = fourth.client;
+    let d = sixth.client;
+    say_run(c.run, 3, rows, text, orders, files);
+    say_run(d.run, 5, rows, text, orders, files);
+}
+
 // The bank's book.
 pub(crate) fn say_book(rows: &[u64; STATE_SIZE]) {
     let mut output = [0u8; BOOK_ROOM];

@@ -71,9 +71,9 @@ fn say_keyed(table: &[u8], key: u8, v: [u64; VALUES]) {
 
 // Prints the text of a key, or nothing where no text has it. The keys: a record's letter for the line of a move; 1 to
 // 6 for what a request says, a to k for a reply; E for what follows each of them, P a request that repeats one, C the
-// code of a reply, O, S, Y and K the codes' names in Annex 1; x and l for what became of a message; i, w and n for
-// what the call answered; u and d for a run's row in exercise C, o for a run that has not ended, B, Z and X for what
-// the bank has, T and W for whether the closing word is true.
+// code of a reply, O, S, Y and K the codes' names in Annex 1; x and l for what became of a message, H for the hour; i,
+// q, w and n for what the call answered; u and d for a run's row in exercise C, o for a run that has not ended, B, Z and
+// X for what the bank has, T and W for whether the closing word is true.
 pub(crate) fn say(key: u8, v: [u64; VALUES]) {
     say_keyed(
         b"\
@@ -83,6 +83,7 @@ pub(crate) fn say(key: u8, v: [u64; VALUES]) {
             F0 client 1 -> bank: \n\
             R0 bank -> client 1: \n\
             N0 client 1: no reply\n\
+            J0 client 1: the journal\n\
             1upload opening of 5 segments\n\
             2download opening\n\
             3upload segment 49\n\
@@ -106,7 +107,9 @@ pub(crate) fn say(key: u8, v: [u64; VALUES]) {
             KEBICS_TX_UNKNOWN_TXID\n\
             x, lost\n\
             l, late\n\
+            H, over an hour later\n\
             i, ignored\n\
+            q, unchanged\n\
             w, closed: \n\
             n, number 0\n\
             uclient 1, upload: \n\

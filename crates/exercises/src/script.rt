@@ -2,7 +2,7 @@
 use octets::bytes::behind;
 
 // The client runs, numbered from 1.
-pub(crate) const RUN_COUNT: usize = 5;
+pub(crate) const RUN_COUNT: usize = 6;
 
 // An order: its subscriber, and the bytes of its payload or of its statement.
 pub(crate) struct Order {
@@ -29,6 +29,10 @@ pub(crate) fn order_of(run: u8) -> Order {
             subscriber: 2,
             bytes: 600,
         },
+        6 => Order {
+            subscriber: 4,
+            bytes: 300,
+        },
         _ => Order {
             subscriber: 1,
             bytes: 700,
@@ -36,23 +40,27 @@ pub(crate) fn order_of(run: u8) -> Order {
     }
 }
 
-// The moves of exercise A, and of A and B together.
-pub(crate) const MOVES_A: usize = 17;
+// The moves of exercise A, of A and B together, and of all three.
+pub(crate) const MOVES_A: u8 = 17;
 
-pub(crate) const MOVES: usize = 58;
+pub(crate) const MOVES_B: u8 = 77;
+
+pub(crate) const MOVES: u8 = MOVES_B + 2;
 
 // A move has four bytes: the letter of its record (M a file for a mailbox, U or D a run begins, F its request, R the
-// bank's reply, N no reply came), its client run, what becomes of the message (x lost, c a copy is held back, l the
-// copy arrives late), a space.
+// bank's reply, N no reply came, J the journal is handed to it), its client run, what becomes of the message (x lost, c
+// a copy is held back, l the copy arrives late), and H where it comes over an hour later, else a space.
 const MOVE_BYTES: usize = 4;
 
-// A move: its number, from 1 on, its letter, its client run, what becomes of its message, and whether its request
-// repeats one: no reply came just before.
+// A move: its number, from 1 on, its letter, its client run, what becomes of its message, whether it comes over an hour
+// later, and whether its request repeats one: no
+// reply came just before, and it is no late copy.
 pub(crate) struct Move {
     pub number: u64,
     pub letter: u8,
     pub run: u8,
     pub fate: u8,
+    pub hour: u8,
     pub repeated: bool,
 }
 
@@ -67,11 +75,13 @@ pub(crate) fn byte_at(s: &[u8], i: usize) -> u8 {
 // Move i, from 0 on, of a script that begins with a blank move.
 pub(crate) fn move_at(script: &[u8], i: u8) -> Move {
     let s = behind(script, i as usize * MOVE_BYTES);
+    let fate = byte_at(s, MOVE_BYTES + 2);
     Move {
         number: i as u64 + 1,
         letter: byte_at(s, MOVE_BYTES),
         run: byte_at(s, MOVE_BYTES + 1) % 16,
-        fate: byte_at(s, MOVE_BYTES + 2),
-        repeated: byte_at(s, 0) == b'N',
+        fate,
+        hour: byte_at(s, MOVE_BYTES + 3),
+        repeated: fate != b'l' && byte_at(s, 0) == b'N',
     }
 }

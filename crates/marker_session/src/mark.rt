@@ -6,7 +6,7 @@ use crate::record::frame_in;
 use crate::record::is_whole;
 use crate::record::size_of;
 use crate::record::time_of;
-use bank::call::frame_arrives;
+use bank::call::answer_frame;
 use bank_state::limits::ID_BYTES;
 use octets::bytes::behind;
 ghost use mathlib.Core.Path.{_≡_};
@@ -69,7 +69,7 @@ fn mark_call(
     let used = m.used;
     let rest = behind(input, used);
     let ids = [0u8; ID_BYTES];
-    let o = frame_arrives(
+    let step = answer_frame(
         rows,
         time_of(rest),
         &ids,
@@ -78,6 +78,7 @@ fn mark_call(
         mailboxes,
         buffer,
     );
+    let o = step.out;
     let calls = m.calls + 1;
     let answer = o.answer;
     let written = put_line(output, m.written, calls, answer, o.code);

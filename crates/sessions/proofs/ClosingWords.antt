@@ -16,6 +16,7 @@ use Rattle.exchange.specs.Course.{
   begins,
   replyArrives,
   noReply,
+  journalHanded,
   Course,
   start,
   exec,
@@ -54,18 +55,20 @@ use Rattle.sessions.proofs.Theorem.{sessions}
 
 -- demand 3's premise is the two, no more and no less
 pub premise : (k : Call) (s : Course) → Given k s → Copy k s → Premise k s
-premise (frameArrives w a) s g c = (g, c)
+premise (frameArrives w j a) s g c = (g .0, g .1, c)
 premise (filePut b mailboxes m file) s g c = g
 premise (begins i c params l) s g _ = g
 premise (replyArrives i c reply l) s g d = (g, d)
 premise (noReply i c l) s g _ = g
+premise (journalHanded i c row) s g _ = g
 
 pub premise-parts : (k : Call) (s : Course) → Premise k s → Given k s × Copy k s
-premise-parts (frameArrives w a) s p = (p .0, p .1)
+premise-parts (frameArrives w j a) s p = ((p .0, p .1), p .2)
 premise-parts (filePut b mailboxes m file) s p = (p, tt)
 premise-parts (begins i c params l) s p = (p, tt)
 premise-parts (replyArrives i c reply l) s p = (p .0, p .1)
 premise-parts (noReply i c l) s p = (p, tt)
+premise-parts (journalHanded i c row) s p = (p, tt)
 
 allowed : (ks : List Call) (s : Course) → AtEach Given ks s → AtEach Copy ks s → AllAllowed ks s
 allowed [] s g c = tt
@@ -83,6 +86,7 @@ first-appended : (g : Kind) (u : State) (r : List ℕ) (ks ls : List Call) →
 first-appended kind.Frame u r ks ls = refl
 first-appended kind.File u r ks ls = refl
 first-appended (kind.Run e) u r ks ls = refl
+first-appended kind.Journal u r ks ls = refl
 first-appended kind.NoCall u r ks ls = refl
 
 appended : (u : State) (rs ts : List (List ℕ)) → callsOf u (rs ++ ts) ≡ callsOf u rs ++ callsOf (unitAfter u rs) ts

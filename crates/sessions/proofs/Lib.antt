@@ -4,5 +4,6 @@ pub mod ClientCalls
 pub mod Standing
 pub mod BankSteps
 pub mod RunSteps
+pub mod JournalStep
 pub mod Theorem
 pub mod ClosingWords

@@ -62,25 +62,26 @@ module _ (i : ℕ) (c : ClientRun) (r : List ℕ) (l : Lent) where
   -- what a call of run i given no number changes
   record Carried (s t : Course) (o : ClientCall) : Type 0 where
     bank : t .bank ≡ s .bank
+    journal : t .journal ≡ s .journal
     runs : t .runs ≡ changed (s .runs) i (o .run)
     payloads : t .payloads ≡ changed (s .payloads) i (l .payload)
     files : t .files ≡ changed (s .files) i (o .file)
 
   run-carried : (e : Event) (s : Course) → Carried s (carryOut (runCallOf e i c r l) s) (eventCall e c r l)
-  run-carried Upload s = record { bank = refl; runs = refl; payloads = refl; files = refl }
-  run-carried Download s = record { bank = refl; runs = refl; payloads = refl; files = refl }
-  run-carried Reply s = record { bank = refl; runs = refl; payloads = refl; files = refl }
-  run-carried NoReply s = record { bank = refl; runs = refl; payloads = refl; files = refl }
+  run-carried Upload s = record { bank = refl; journal = refl; runs = refl; payloads = refl; files = refl }
+  run-carried Download s = record { bank = refl; journal = refl; runs = refl; payloads = refl; files = refl }
+  run-carried Reply s = record { bank = refl; journal = refl; runs = refl; payloads = refl; files = refl }
+  run-carried NoReply s = record { bank = refl; journal = refl; runs = refl; payloads = refl; files = refl }
 
 module _ {A : Type 0} (f : ℕ → A) (i : ℕ) (a : A) where
-  changed-own : changed f i a i ≡ a
+  pub changed-own : changed f i a i ≡ a
   changed-own = ap (λ (b : Bool). cond b a (f i)) (eq-eqb i i refl)
 
-  changed-other : (j : ℕ) → (j ≡ i → ⊥) → changed f i a j ≡ f j
+  pub changed-other : (j : ℕ) → (j ≡ i → ⊥) → changed f i a j ≡ f j
   changed-other j other = ap (λ (b : Bool). cond b a (f j)) (ne-eqb j i other)
 
 -- the same run by equal parts
-by-parts : {a a′ c c′ : ClientRun} {p p′ f f′ q q′ g g′ : List ℕ} → a ≡ a′ → p ≡ p′ → f ≡ f′ → c ≡ c′ → q ≡ q′ → g ≡ g′ →
+pub by-parts : {a a′ c c′ : ClientRun} {p p′ f f′ q q′ g g′ : List ℕ} → a ≡ a′ → p ≡ p′ → f ≡ f′ → c ≡ c′ → q ≡ q′ → g ≡ g′ →
     SameRun a′ p′ f′ c′ q′ g′ → SameRun a p f c q g
 by-parts ea ep ef ec eq eg h =
     let begun = ap (λ (x : ClientRun). isBegun (x .stage)) (sym ec) in
@@ -89,6 +90,28 @@ by-parts ea ep ef ec eq eg h =
       payload = λ b. ep ∙ h .payload (begun ∙ b) ∙ sym eq;
       file = λ b. ef ∙ h .file (begun ∙ b) ∙ sym eg;
     }
+
+-- ---- what the call gets
+
+module _ {u : State} {s : Course} (v : Standing u s) (r : List ℕ) (inside : indexOf r < runCount) where
+  abbrev j : ℕ
+  j = indexOf r
+
+  begun : isBegun (clientAt u j .stage) ≡ true → isBegun (s .runs j .stage) ≡ true
+  begun b = ap (λ (x : ClientRun). isBegun (x .stage)) (sym (v .runs j inside .client)) ∙ b
+
+  run-given : (e : Event) → callNumber (runOf e u r) ≡ 0 → Given (runOf e u r) s
+  unfolding lentTo
+  run-given Upload z = v .runs j inside .client
+  run-given Download z = v .runs j inside .client
+  run-given Reply z =
+      let b = begun (reply-begun (clientAt u j) (lentTo Reply j u r) _ z) in
+      let h = v .runs j inside in
+      (h .client, h .payload b, h .file b)
+  run-given NoReply z =
+      let b = begun (no-reply-begun (clientAt u j) (lentTo NoReply j u r) z) in
+      let h = v .runs j inside in
+      (h .client, h .payload b, h .file b)
 
 -- ---- what a call keeps of the record
 
@@ -197,13 +220,14 @@ module _ {u : State} {s : Course} (v : Standing u s) (r : List ℕ) (e : Event) 
         room-other (u .memory .files) (v .files) i inside (o .file) (let w = left-whole in omega arith) j other
 
   -- a course with the same bank and these runs
-  stands : (t : Course) → t .bank ≡ s .bank → ((j : ℕ) → j < runCount → SameRunAt next t j) → Standing next t
+  stands : (t : Course) → t .bank ≡ s .bank → t .journal ≡ s .journal → ((j : ℕ) → j < runCount → SameRunAt next t j) → Standing next t
   unfolding runStep runCall roomCall lentTo
-  stands t same runs = record {
+  stands t same events runs = record {
     calls = v .calls;
     bytes = v .bytes;
-    memory = v .memory;
+    session = v .session;
     course = same ∙ v .course;
+    journal = events ∙ v .journal;
     count = length-set (u .unit .runs) i _ ∙ v .count;
     payloads = kept-room (u .memory .payloads) (v .payloads) i inside body kept fits;
     files =
@@ -214,7 +238,7 @@ module _ {u : State} {s : Course} (v : Standing u s) (r : List ℕ) (e : Event) 
   -- given a number: nothing changed
   stays : kept ≡ false → (o .run ≡ run .client .run) × (o .file ≡ l .file) → Standing next s
   unfolding lentTo
-  stays zero same = stands s refl (λ j h. at j h (ℕ-discrete j i))
+  stays zero same = stands s refl refl (λ j h. at j h (ℕ-discrete j i))
     where
       own : SameRunAt next s i
       own =
@@ -230,7 +254,7 @@ module _ {u : State} {s : Course} (v : Standing u s) (r : List ℕ) (e : Event) 
   -- given none: run i is what the call leaves
   moves : kept ≡ unit.begins e → (t : Course) → Carried i (run .client .run) r l s t o → Standing next t
   unfolding lentTo
-  moves is t k = stands t (k .bank) (λ j h. at j h (ℕ-discrete j i))
+  moves is t k = stands t (k .bank) (k .journal) (λ j h. at j h (ℕ-discrete j i))
     where
       own : SameRunAt next t i
       own =
@@ -270,32 +294,10 @@ module _ {u : State} {s : Course} (v : Standing u s) (r : List ℕ) (e : Event) 
           (λ n. refusal-numbered x (sym (number-is i (run .client .run) r l e ∙ ap answerNumber z) ∙ n))))
           (stays (ap (keeps (unit.begins e)) z) (known .refused x z))
 
--- ---- what the call gets
-
-module _ {u : State} {s : Course} (v : Standing u s) (r : List ℕ) (inside : indexOf r < runCount) where
-  abbrev j : ℕ
-  j = indexOf r
-
-  begun : isBegun (clientAt u j .stage) ≡ true → isBegun (s .runs j .stage) ≡ true
-  begun b = ap (λ (x : ClientRun). isBegun (x .stage)) (sym (v .runs j inside .client)) ∙ b
-
-  run-given : (e : Event) → callNumber (runOf e u r) ≡ 0 → Given (runOf e u r) s
-  unfolding lentTo
-  run-given Upload z = v .runs j inside .client
-  run-given Download z = v .runs j inside .client
-  run-given Reply z =
-      let b = begun (reply-begun (clientAt u j) (lentTo Reply j u r) _ z) in
-      let h = v .runs j inside in
-      (h .client, h .payload b, h .file b)
-  run-given NoReply z =
-      let b = begun (no-reply-begun (clientAt u j) (lentTo NoReply j u r) z) in
-      let h = v .runs j inside in
-      (h .client, h .payload b, h .file b)
-
-  pub run-step : (e : Event) → Stepped s (runOf e u r) (runStep e u r)
+  pub run-step : Stepped s (runOf e u r) (runStep e u r)
   unfolding runStep runCall roomCall lentTo
-  run-step e = record {
-    given = run-given e;
-    standing = run-standing v r e inside;
-    answer = told-is j (clientAt u j) r (lentTo e j u r) e;
+  run-step = record {
+    given = run-given v r inside e;
+    standing = run-standing;
+    answer = told-is i (run .client .run) r l e;
   }

@@ -1,5 +1,5 @@
--- The unit and the course that its calls leave: the unit's memory is what a list of the bank's calls leaves, the course's
--- bank is the bank after them, the rooms have their lengths, and each run is the course's.
+-- The unit and the course that its calls leave: the unit's session is what a list of the bank's calls leaves, the course's
+-- bank and journal are those after them, the rooms have their lengths, and each run is the course's.
 use Prim.Native.Nat.{ℕ, _<_}
 use mathlib.Core.Bool.{true}
 use mathlib.Core.List.{List}
@@ -7,22 +7,32 @@ use mathlib.Core.Path.{_≡_, refl, sym, ap, _∙_}
 use lib.ListN.{length, replicate, length-replicate, getD-replicate}
 use borrow.Author.Tests.{eq-eqb}
 use Rattle.octets.proofs.Tests.{never}
+use Rattle.journal.specs.Events.{recordCount}
+use Rattle.journal.specs.Row.{Journal}
+use Rattle.journal.proofs.Laws.{row-of-length}
 use Rattle.bank_sound.specs.Sound.{isSound}
 use Rattle.bank_steps.specs.Lent as bank
+use Rattle.bank_session.specs.Session.{bankRows, bankIn, journalIn, takesFrame}
 use Rattle.bank_history.specs.Answers.{AllBytes, none}
 use Rattle.bank_history.specs.History.{BankCall, pastOf}
 use Rattle.bank_history.specs.History as history
+use Rattle.bank_history.specs.Journal.{journalOf, eventsIn}
 use Rattle.bank_history.specs.OnRows as rows
+use Rattle.bank_history.specs.OnSessions.{lentSessionOf}
+use Rattle.bank_history.proofs.Journal.{journal-told}
 use Rattle.bank_history.proofs.OnRows.{on-rows}
+use Rattle.bank_history.proofs.OnSessions.{on-sessions}
 use Rattle.client_run.specs.Run.{nonceBytes}
 use Rattle.exchange.specs.Course.{Call, Course, start, callNumber, exec}
 use Rattle.unit.specs.declared.record.Kind.{Kind}
 use Rattle.unit.specs.declared.state.Run.{Run}
 use Rattle.unit.specs.Records.{runCount, callOf}
-use Rattle.unit.specs.State.{State, newRun, fresh, roomsBytes}
+use Rattle.unit.specs.State.{State, newRun, fresh, roomsBytes, sessionIn}
 use Rattle.unit.specs.Call.{UnitCall, roomsRight, stepOf, unitCall}
 use Rattle.sessions.specs.Sessions.{
   freshUnit,
+  bankAt,
+  journalAt,
   clientAt,
   payloadAt,
   fileAt,
@@ -39,8 +49,9 @@ SameRunAt u s i = SameRun (clientAt u i) (payloadAt u i) (fileAt u i) (s .runs i
 pub record Standing (u : State) (s : Course) : Type 0 where
   pub calls : List BankCall
   pub bytes : AllBytes calls
-  pub memory : u .memory .bank ≡ rows.lentOf calls
+  pub session : sessionIn u ≡ lentSessionOf calls
   pub course : s .bank ≡ pastOf calls .bankState
+  pub journal : s .journal ≡ journalOf calls
   pub count : length (u .unit .runs) ≡ runCount
   pub payloads : length (u .memory .payloads) ≡ roomsBytes
   pub files : length (u .memory .files) ≡ roomsBytes
@@ -54,17 +65,37 @@ pub record Stepped (s : Course) (k : Call) (o : UnitCall) : Type 0 where
 
 module _ {u : State} {s : Course} (v : Standing u s) where
   -- the bank that the memory is
-  pub past-bank : bank.stateOf (u .memory .bank) ≡ pastOf (v .calls) .bankState
-  past-bank = ap bank.stateOf (v .memory) ∙ on-rows .state (v .bytes)
+  past-lent : bankIn (sessionIn u) ≡ rows.lentOf (v .calls)
+  past-lent = ap bankIn (v .session) ∙ on-sessions .bank (v .bytes)
 
-  pub same-bank : bank.stateOf (u .memory .bank) ≡ s .bank
+  pub past-bank : bankAt u ≡ pastOf (v .calls) .bankState
+  past-bank = ap bank.stateOf past-lent ∙ on-rows .state (v .bytes)
+
+  pub same-bank : bankAt u ≡ s .bank
   same-bank = past-bank ∙ sym (v .course)
 
-  pub rows-sound : isSound (u .memory .bank .rows) ≡ true
-  rows-sound = ap (λ (m : bank.Lent). isSound (m .rows)) (v .memory) ∙ on-rows .sound (v .calls)
+  pub rows-sound : isSound (bankRows (u .memory .bank .rows)) ≡ true
+  rows-sound = ap (λ (m : bank.Lent). isSound (m .rows)) past-lent ∙ on-rows .sound (v .calls)
+
+  -- and the journal
+  pub past-journal : journalAt u ≡ journalOf (v .calls)
+  past-journal = ap journalIn (v .session) ∙ on-sessions .journal (v .bytes)
+
+  pub same-journal : journalAt u ≡ s .journal
+  same-journal = past-journal ∙ sym (v .journal)
+
+  -- "another length than 64 is number 1" does not come
+  pub taken : takesFrame (sessionIn u) ≡ true
+  taken = ap takesFrame (v .session) ∙ on-sessions .taken (v .bytes)
+
+  pub past-row : length (journalOf (v .calls) .row) ≡ recordCount
+  past-row = ap length (journal-told .row (v .calls)) ∙ row-of-length (eventsIn (pastOf (v .calls) .history))
+
+  pub row-long : length (u .unit .journal) ≡ recordCount
+  row-long = ap (λ (j : Journal). length (j .row)) past-journal ∙ past-row
 
   pub same : Same u s
-  same = record { bank = same-bank; runs = v .runs }
+  same = record { bank = same-bank; journal = same-journal; runs = v .runs }
 
   -- "a lent length differs" does not come
   rooms-right : roomsRight (length (u .memory .payloads)) (length (u .memory .files)) ≡ true
@@ -82,12 +113,13 @@ module _ {u : State} {s : Course} (v : Standing u s) where
 -- ---- a fresh unit
 
 pub fresh-standing : Standing freshUnit start
-unfolding freshUnit fresh start rows.lentOf pastOf history.start
+unfolding freshUnit fresh start lentSessionOf journalOf pastOf history.start
 fresh-standing = record {
   calls = _;
   bytes = none;
-  memory = refl;
+  session = refl;
   course = refl;
+  journal = refl;
   count = length-replicate {A = Run} runCount (newRun (replicate nonceBytes 0));
   payloads = length-replicate {A = ℕ} roomsBytes 0;
   files = length-replicate {A = ℕ} roomsBytes 0;

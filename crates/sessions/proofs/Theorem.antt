@@ -34,6 +34,7 @@ use Rattle.sessions.specs.Sessions.{
 use Rattle.sessions.proofs.Standing.{Standing, Stepped, same, made, fresh-standing}
 use Rattle.sessions.proofs.BankSteps.{frame-step, file-step}
 use Rattle.sessions.proofs.RunSteps.{run-step}
+use Rattle.sessions.proofs.JournalStep.{journal-step}
 
 -- ---- a record and those after it
 
@@ -78,7 +79,10 @@ module _ {u : State} {s : Course} (v : Standing u s) (r : List ℕ) (b : Bytes r
   next-call kind.File e h = as-made kind.File e _ (file-step v r b) (λ ks. refl)
   next-call (kind.Run x) e h =
       let inside = run-inside (runOf r) (run-within (runOf r) (callable r (kind.Run x) refl e .run)) in
-      as-made (kind.Run x) e _ (run-step v r inside x) (λ ks. refl)
+      as-made (kind.Run x) e _ (run-step v r x inside) (λ ks. refl)
+  next-call kind.Journal e h =
+      let inside = run-inside (runOf r) (run-within (runOf r) (callable r kind.Journal refl e .run)) in
+      as-made kind.Journal e _ (journal-step v r inside) (λ ks. refl)
   next-call kind.NoCall e h = never h
 
 is-course : {rs : List (List ℕ)} → Records rs → {u : State} {s : Course} → Standing u s → IsCourse u rs s

@@ -4,23 +4,29 @@ use Prim.Native.Nat.{ℕ, _<_}
 use mathlib.Core.Path.{_≡_}
 use mathlib.Core.Bool.{true, cond}
 use mathlib.Core.List.{List, [], _∷_, _++_, map, List·Memᴰ as In}
-use lib.ListN.{take, replicate}
+use lib.Dec.{eqb}
+use lib.ListN.{length, take, replicate}
 use Rattle.octets.specs.Bytes.{Bytes}
 use Rattle.frame_table.specs.Forms as forms
 use Rattle.frame_table.specs.Names.{subscriber}
 use Rattle.frame_reader.specs.Reader.{readRequest}
+use Rattle.journal.specs.Events.{recordCount}
+use Rattle.journal.specs.Row.{Journal}
 use Rattle.bank_state.specs.Limits.{storeBytes, replyRoom}
+use Rattle.bank_state.specs.State.{BankState}
 use Rattle.bank_state.specs.Store.{partAt, fileOf}
-use Rattle.bank_rows.specs.Layout.{stateSize}
+use Rattle.bank.specs.declared.call.FrameAnswer.the-variants.{WrongLength}
 use Rattle.bank.specs.Call.{frameInput, frameCall}
 use Rattle.bank.specs.Mailbox.{fileCall}
 use Rattle.bank_steps.specs.Lent.{lent}
 use Rattle.bank_steps.specs.Lent as bank
+use Rattle.bank_session.specs.Session.{sessionSize, bankIn, journalIn}
 use Rattle.client_run.specs.declared.run.ClientRun.{ClientRun}
 use Rattle.client_run.specs.declared.run.Direction.the-variants as direction
 use Rattle.client_run.specs.declared.run.Stage.the-variants as stage
 use Rattle.client_run.specs.declared.run.Word.the-variants.{Lodged, NotLodged, Fetched}
 use Rattle.client.specs.Calls.{beginCall, replyCall, noReplyCall}
+use Rattle.client.specs.Journal.{journalCall}
 use Rattle.client_run.specs.Run.{Lent, ClientCall, lentOf}
 use Rattle.client_rules.specs.Rulings.{isBegun}
 use Rattle.exchange.specs.Course.{
@@ -30,6 +36,7 @@ use Rattle.exchange.specs.Course.{
   begins,
   replyArrives,
   noReply,
+  journalHanded,
   Exchange,
   Course,
   start,
@@ -41,14 +48,23 @@ use Rattle.exchange.specs.Course.{
 use Rattle.exchange.specs.Demand3.{isSubscribers, Left, OneExchangeNumber, Outcome, ClosesInTurn}
 use Rattle.exchange.specs.Terms.{IssuedBy, Booked, Opened, Order, InBook, OrderOf}
 use Rattle.unit.specs.declared.call.Answer.{Answer}
-use Rattle.unit.specs.declared.call.Answer.the-variants.{Frame, Put, Request, Ignored, Closed, Number, NoCall}
+use Rattle.unit.specs.declared.call.Answer.the-variants.{
+  Frame,
+  Put,
+  Request,
+  Ignored,
+  Closed,
+  Unchanged,
+  Number,
+  NoCall,
+}
 use Rattle.unit.specs.declared.record.Event.{Event}
 use Rattle.unit.specs.declared.record.Event.the-variants.{Upload, Download, Reply, NoReply}
 use Rattle.unit.specs.declared.record.Kind.{Kind}
 use Rattle.unit.specs.declared.record.Kind.the-variants as kind
 use Rattle.unit.specs.Records.{bankTimeOf, idsOf, mailboxOf, timeOf, nonceOf, bodyOf, runCount, callOf, isCall}
-use Rattle.unit.specs.State.{State, fresh, roomsBytes, memory, stateOf, runAt}
-use Rattle.unit.specs.Call.{frameAnswer, fileAnswer, runAnswer, indexOf, paramsOf, unitCall}
+use Rattle.unit.specs.State.{State, fresh, roomsBytes, memory, stateOf, sessionIn, runAt}
+use Rattle.unit.specs.Call.{frameAnswer, fileAnswer, runAnswer, journalAnswer, indexOf, paramsOf, unitCall}
 use Rattle.unit.specs.Call as unit
 
 -- ---- A SESSION OF THE UNIT
@@ -56,10 +72,11 @@ use Rattle.unit.specs.Call as unit
 abbrev zeros : ℕ → List ℕ
 zeros n = replicate n 0
 
--- "one fresh bank (8 places, 8 mailboxes) and 16 client runs": no run begun, and all that is lent to them zeroed
+-- "one fresh bank (8 places, 8 mailboxes) and 16 client runs": no run begun, no event in the journal, and all that is
+-- lent to them zeroed
 unfoldable pub freshUnit : State
 freshUnit =
-    let bank = lent (zeros stateSize) (zeros storeBytes) (zeros storeBytes) in
+    let bank = lent (zeros sessionSize) (zeros storeBytes) (zeros storeBytes) in
     stateOf fresh (memory bank (zeros roomsBytes) (zeros roomsBytes) (zeros replyRoom))
 
 -- the driver's records: bytes, and each is a call; what is no call ends the input
@@ -71,6 +88,14 @@ pub data Records : List (List ℕ) → Type 0 where
 unfoldable pub unitAfter : State → List (List ℕ) → State
 unitAfter u [] = u
 unitAfter u (r ∷ rs) = unitAfter (unitCall u r .state) rs
+
+-- the bank with its stores that the unit's rows are, and the journal: the row, and the number of events behind the
+-- bank's numbers
+abbrev pub bankAt : State → BankState
+bankAt u = bank.stateOf (bankIn (sessionIn u))
+
+abbrev pub journalAt : State → Journal
+journalAt u = journalIn (sessionIn u)
 
 -- run i of the unit, from 0 on: the client, and the payload that it keeps
 abbrev pub clientAt : State → ℕ → ClientRun
@@ -84,16 +109,15 @@ fileAt u i = partAt (u .memory .files) i
 
 -- ---- A RECORD AS A CALL OF DEMAND 3
 
--- `F`: a frame to the bank that the unit's rows are
+-- `F`: a frame to the bank and the journal that the unit's rows and its row are
 unfoldable pub frameOf : State → List ℕ → Call
 frameOf u r =
-    frameArrives (bank.stateOf (u .memory .bank))
+    frameArrives (bankAt u) (journalAt u)
     (frameInput (bankTimeOf r) (idsOf r) (bodyOf kind.Frame r) (u .memory .buffer))
 
 -- `M`: a file into a mailbox
 unfoldable pub putOf : State → List ℕ → Call
-putOf u r =
-    let w = bank.stateOf (u .memory .bank) in filePut (w .bank) (w .mailboxes) (mailboxOf r) (bodyOf kind.File r)
+putOf u r = let w = bankAt u in filePut (w .bank) (w .mailboxes) (mailboxOf r) (bodyOf kind.File r)
 
 -- what the unit lends to run i: to a begin the record's nonce bytes and payload, to a later call those that it keeps
 unfoldable pub lentTo : Event → ℕ → State → List ℕ → Lent
@@ -112,11 +136,16 @@ runCallOf NoReply i c r l = noReply i c l
 abbrev pub runOf : Event → State → List ℕ → Call
 runOf e u r = let i = indexOf r in runCallOf e i (clientAt u i) r (lentTo e i u r)
 
+-- `J`: the journal's row to run i
+unfoldable pub handedOf : State → List ℕ → Call
+handedOf u r = let i = indexOf r in journalHanded i (clientAt u i) (journalAt u .row)
+
 -- the call of a record of this kind, before the calls ks
 abbrev pub callFirst : Kind → State → List ℕ → List Call → List Call
 callFirst kind.Frame u r ks = frameOf u r ∷ ks
 callFirst kind.File u r ks = putOf u r ∷ ks
 callFirst (kind.Run e) u r ks = runOf e u r ∷ ks
+callFirst kind.Journal u r ks = handedOf u r ∷ ks
 callFirst kind.NoCall u r ks = ks
 
 -- the calls of these records
@@ -137,6 +166,7 @@ bytesIn Put buffer = []
 bytesIn (Request n) buffer = take n buffer
 bytesIn Ignored buffer = []
 bytesIn (Closed w n) buffer = []
+bytesIn Unchanged buffer = []
 bytesIn (Number n) buffer = []
 bytesIn NoCall buffer = []
 
@@ -154,32 +184,39 @@ abbrev pub toldByRun : ClientCall → Told
 toldByRun k = told (runAnswer (k .answer) (k .run)) (k .request)
 
 abbrev pub toldBy : Call → Told
-toldBy (frameArrives w a) = let k = frameCall w a in told (frameAnswer (k .answer)) (k .buffer)
+toldBy (frameArrives w j a) =
+    let k = frameCall w a in
+    cond (eqb (length (j .row)) recordCount) (told (frameAnswer (k .answer)) (k .buffer))
+    (told (frameAnswer WrongLength) (a .buffer))
 toldBy (filePut b mailboxes m file) = told (fileAnswer (fileCall b m file mailboxes .answer)) []
 toldBy (begins i c params l) = toldByRun (beginCall c params l)
 toldBy (replyArrives i c reply l) = toldByRun (replyCall c reply l)
 toldBy (noReply i c l) = toldByRun (noReplyCall c l)
+toldBy (journalHanded i c row) = let k = journalCall c row in told (journalAnswer (k .answer) (k .run)) []
 
 -- ---- THE PREMISES OF DEMAND 3, ONE BY ONE
 
 -- "Each call gets state, stores, payload and file buffer as the last call not given a number left them at its end (the
--- bank, or that client run)"; a begin brings its own payload and file buffer
+-- bank, or that client run)"; a begin brings its own payload and file buffer. A run is handed the row "as the bank last
+-- left it"
 abbrev pub Given : Call → Course → Type 0
-Given (frameArrives w a) s = w ≡ s .bank
+Given (frameArrives w j a) s = (w ≡ s .bank) × (j ≡ s .journal)
 Given (filePut b mailboxes m file) s = (b ≡ s .bank .bank) × (mailboxes ≡ s .bank .mailboxes)
 Given (begins i c params l) s = c ≡ s .runs i
 Given (replyArrives i c reply l) s = Left i c l s
 Given (noReply i c l) s = Left i c l s
+Given (journalHanded i c row) s = (c ≡ s .runs i) × (row ≡ s .journal .row)
 
 -- "A request that demand 3 names is a copy of one issued earlier in the list; a reply is a copy of one the bank gave
 -- earlier for such a copy"
 abbrev pub Copy : Call → Course → Type 0
-Copy (frameArrives w a) s = isSubscribers (a .frame) ≡ true → (i : ℕ) × IssuedBy i (a .frame) s
+Copy (frameArrives w j a) s = isSubscribers (a .frame) ≡ true → (i : ℕ) × IssuedBy i (a .frame) s
 Copy (filePut b mailboxes m file) s = Unit {0}
 Copy (begins i c params l) s = Unit {0}
 Copy (replyArrives i c reply l) s =
     (e : Exchange) × In e (s .exchanged) × (e .reply ≡ reply) × ((j : ℕ) × IssuedBy j (e .request) s)
 Copy (noReply i c l) s = Unit {0}
+Copy (journalHanded i c row) s = Unit {0}
 
 -- what holds of each call given no number, in the course that the calls before it leave
 abbrev pub AtEach : (Call → Course → Type 0) → List Call → Course → Type 0
@@ -194,9 +231,11 @@ pub record SameRun (own : ClientRun) (kept buffer : List ℕ) (c : ClientRun) (p
   pub payload : isBegun (c .stage) ≡ true → kept ≡ p
   pub file : isBegun (c .stage) ≡ true → buffer ≡ f
 
--- the unit is what the course has left: the bank with its stores that the unit's memory is, and each of the 16 runs
+-- the unit is what the course has left: the bank with its stores that the unit's memory is, the journal, and each of
+-- the 16 runs
 pub record Same (u : State) (s : Course) : Type 0 where
-  pub bank : bank.stateOf (u .memory .bank) ≡ s .bank
+  pub bank : bankAt u ≡ s .bank
+  pub journal : journalAt u ≡ s .journal
   pub runs : (i : ℕ) → i < runCount →
       SameRun (clientAt u i) (payloadAt u i) (fileAt u i) (s .runs i) (s .payloads i) (s .files i)
 

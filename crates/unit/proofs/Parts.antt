@@ -16,7 +16,7 @@ use Rattle.octets.proofs.Tests.{never, and-true}
 use Rattle.unit.specs.declared.record.Event.{Event}
 use Rattle.unit.specs.declared.record.Event.the-variants.{Upload, Download, Reply, NoReply}
 use Rattle.unit.specs.declared.record.Kind.{Kind}
-use Rattle.unit.specs.declared.record.Kind.the-variants.{Frame, File, Run, NoCall}
+use Rattle.unit.specs.declared.record.Kind.the-variants.{Frame, File, Run, Journal, NoCall}
 use Rattle.unit.specs.Records.{
   kindOf,
   headOf,
@@ -74,6 +74,7 @@ pub head-within : (k : Kind) → (1 ≤ headOf k) × (headOf k ≤ 26)
 head-within Frame = omega arith
 head-within File = omega arith
 head-within (Run e) = run-head-within e
+head-within Journal = omega arith
 head-within NoCall = omega arith
 
 -- a length stands in the last two bytes of a head
@@ -84,6 +85,7 @@ length-head (Run Upload) h = omega arith
 length-head (Run Download) h = omega arith
 length-head (Run Reply) h = omega arith
 length-head (Run NoReply) h = omega arith
+length-head Journal h = omega arith
 length-head NoCall h = never h
 
 pub nothing-whole : (k : Kind) (r : List ℕ) → length r < 1 → isWhole k r ≡ false

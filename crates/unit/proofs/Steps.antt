@@ -1,9 +1,9 @@
 -- The unit after a call, from what each part of the call leaves. Assumes nothing.
 use Prim.Native.Nat.{ℕ, _+_, _-_, _*_, _≤_}
-use mathlib.Core.Bool.{Bool, false, not, cond}
+use mathlib.Core.Bool.{Bool, true, false, not, cond}
 use mathlib.Core.List.{List}
 use mathlib.Core.Path.{_≡_, refl, sym, _∙_}
-use lib.ListN.{length, set}
+use lib.ListN.{length}
 use borrow.Author.Tests.{not-false}
 use borrow.Rule.Slice.PartMut.{putMid, midOf}
 use Rattle.message.specs.Limits.{fileBytes}
@@ -14,6 +14,8 @@ use Rattle.client_run.specs.declared.run.ClientRun.{ClientRun}
 use Rattle.client.specs.declared.calls.Outcome.{Outcome}
 use Rattle.client_run.specs.Run.{lentOf}
 use Rattle.client.specs.Calls as client
+use Rattle.client.specs.declared.journal_call.JournalOutcome.{JournalOutcome}
+use Rattle.client.specs.Journal.{journalCallOf, journalCall}
 use Rattle.unit.specs.declared.record.Event.{Event}
 use Rattle.unit.specs.declared.record.Kind.{Kind}
 use Rattle.unit.specs.declared.record.Kind.the-variants as kind
@@ -21,24 +23,27 @@ use Rattle.unit.specs.declared.call.Answer.{Answer}
 use Rattle.unit.specs.declared.call.RunOut.{RunOut}
 use Rattle.unit.specs.declared.state.Run.{Run}
 use Rattle.unit.specs.declared.state.UnitState.{UnitState}
-use Rattle.unit.specs.Records.{timeOf, nonceOf, bodyOf, callOf}
-use Rattle.unit.specs.State.{Memory, State, memory, stateOf, runAt}
+use Rattle.unit.specs.Records.{runOf, timeOf, nonceOf, bodyOf, isRun, callOf}
+use Rattle.unit.specs.State.{Memory, State, memory, stateOf, runAt, withRun}
 use Rattle.unit.specs.Call.{
   UnitCall,
   Ready,
   roomsRight,
   unitCallOf,
   runAnswer,
+  journalAnswer,
   indexOf,
   begins,
   eventCall,
   roomCall,
   keeps,
+  withClient,
   nextRun,
   keptPayloads,
   runCallOf,
   runCall,
   runStep,
+  journalStep,
   stepOf,
   unitCall,
 }
@@ -80,10 +85,23 @@ ran run i bank payloads files buffer r e begin nonce body held payload out files
 -- the run taken out, called, and put back
 pub put-back : (u u′ : UnitState) (m m′ : Memory) (r : List ℕ) (e : Event) (i : ℕ) (out : RunOut)
     → i ≡ indexOf r → runCallOf out m′ ≡ runCall e i (runAt (u .runs) i) m r
-    → u′ ≡ record { runs = set (u .runs) i (out .run) }
+    → u′ ≡ withRun u i (out .run)
     → unitCallOf (record { unit = u′; answer = out .answer }) m′ ≡ runStep e (stateOf u m) r
 unfolding runStep
 put-back u u′ m m′ r e i out at eo eu = rw (eu, ← at, ← eo)
+
+-- the run taken out, handed the journal, and put back
+pub handed : (u u′ : UnitState) (m : Memory) (r : List ℕ) (i : ℕ) (out : JournalOutcome) (run′ : Run) (answer : Answer)
+    → i ≡ indexOf r → journalCallOf out ≡ journalCall (runAt (u .runs) i .client .run) (u .journal)
+    → run′ ≡ withClient (runAt (u .runs) i) (out .client .run) → u′ ≡ withRun u i run′
+    → answer ≡ journalAnswer (out .answer) (out .client .run)
+    → unitCallOf (record { unit = u′; answer = answer }) m ≡ journalStep (stateOf u m) r
+unfolding journalStep
+handed u u′ m r i out run′ answer at eo er eu ea = rw (ea, eu, er, ← at, ← eo)
+
+-- a record that hands over the journal names one of the runs
+pub handed-run : (r : List ℕ) (k : Kind) → k ≡ callOf r → k ≡ kind.Journal → isRun (runOf r) ≡ true
+handed-run r k ek told = callable r kind.Journal refl (sym ek ∙ told) .run
 
 -- what a call to a run asks, where the rooms are of their lengths
 pub ready : (e : Event) (r payloads files : List ℕ) (right : Bool) (k : Kind)

@@ -4,7 +4,7 @@ use mathlib.Core.Path.{_≡_}
 use mathlib.Core.Bool.{Bool, true, false, cond, _&&_}
 use mathlib.Core.List.{List}
 use lib.Dec.{eqb}
-use lib.ListN.{length, set}
+use lib.ListN.{length}
 use Rattle.bank_state.specs.Store.{partAt, withPart, fileOf}
 use Rattle.bank.specs.declared.call.FrameAnswer.{FrameAnswer}
 use Rattle.bank.specs.declared.call.FrameAnswer.the-variants as frame-answer
@@ -12,8 +12,8 @@ use Rattle.bank.specs.declared.mailbox.FileAnswer.{FileAnswer}
 use Rattle.bank.specs.declared.mailbox.FileAnswer.the-variants as file-answer
 use Rattle.bank.specs.Call.{frameInput, frameNumber}
 use Rattle.bank_steps.specs.Lent.{lent}
-use Rattle.bank.specs.Lent.{lentFrameCall, lentFileCall}
 use Rattle.bank.specs.Mailbox.{fileNumber}
+use Rattle.bank_session.specs.Session.{sessionFrameCall, sessionFileCall}
 use Rattle.client_run.specs.declared.run.Answer as client
 use Rattle.client_run.specs.declared.run.Answer.the-variants as client-answer
 use Rattle.client_run.specs.declared.run.ClientRun.{ClientRun}
@@ -22,12 +22,24 @@ use Rattle.client_run.specs.declared.run.Direction.the-variants as direction
 use Rattle.client_run.specs.declared.run.RunParameters.{RunParameters}
 use Rattle.client_run.specs.Run.{Lent, ClientCall, parametersOf, lentOf, refusalNumber}
 use Rattle.client.specs.Calls.{beginCall, replyCall, noReplyCall}
+use Rattle.client.specs.declared.journal_call.JournalAnswer.{JournalAnswer}
+use Rattle.client.specs.declared.journal_call.JournalAnswer.the-variants as journal-answer
+use Rattle.client.specs.Journal.{journalNumber, journalCall}
 use Rattle.unit.specs.declared.record.Event.{Event}
 use Rattle.unit.specs.declared.record.Event.the-variants.{Upload, Download, Reply, NoReply}
 use Rattle.unit.specs.declared.record.Kind.{Kind}
 use Rattle.unit.specs.declared.record.Kind.the-variants as kind
 use Rattle.unit.specs.declared.call.Answer.{Answer}
-use Rattle.unit.specs.declared.call.Answer.the-variants.{Frame, Put, Request, Ignored, Closed, Number, NoCall}
+use Rattle.unit.specs.declared.call.Answer.the-variants.{
+  Frame,
+  Put,
+  Request,
+  Ignored,
+  Closed,
+  Unchanged,
+  Number,
+  NoCall,
+}
 use Rattle.unit.specs.declared.call.Called.{Called}
 use Rattle.unit.specs.declared.call.RunOut.{RunOut}
 use Rattle.unit.specs.declared.state.Run.{Run}
@@ -46,7 +58,17 @@ use Rattle.unit.specs.Records.{
   isRun,
   callOf,
 }
-use Rattle.unit.specs.State.{Memory, State, roomsBytes, memory, stateOf, runAt}
+use Rattle.unit.specs.State.{
+  Memory,
+  State,
+  roomsBytes,
+  memory,
+  stateOf,
+  sessionIn,
+  runAt,
+  withRun,
+  withJournal,
+}
 
 -- the rooms lent for the runs are of their lengths
 unfoldable pub roomsRight : ℕ → ℕ → Bool
@@ -70,7 +92,8 @@ afterCall u m a = record { state = stateOf u m; answer = a }
 abbrev pub unitCallOf : Called → Memory → UnitCall
 unitCallOf r m = afterCall (r .unit) m (r .answer)
 
--- the answers of the bank's two calls, and of a client's; a run that ends as lodged has its order number
+-- the answers of the bank's two calls, of a client's, and of the journal handed to it; a run that ends as lodged has
+-- its order number
 abbrev pub frameAnswer : FrameAnswer → Answer
 frameAnswer (frame-answer.Reply n) = Frame n
 frameAnswer frame-answer.WrongLength = Number (frameNumber frame-answer.WrongLength)
@@ -88,18 +111,25 @@ runAnswer client-answer.Ignored c = Ignored
 runAnswer (client-answer.Closed w) c = Closed w (c .number)
 runAnswer (client-answer.Refused x) c = Number (refusalNumber x)
 
+abbrev pub journalAnswer : JournalAnswer → ClientRun → Answer
+journalAnswer (journal-answer.Closed w) c = Closed w (c .number)
+journalAnswer journal-answer.Unchanged c = Unchanged
+journalAnswer journal-answer.WrongLength c = Number (journalNumber journal-answer.WrongLength)
+
 -- `F`: a frame to the bank
 unfoldable pub frameStep : State → List ℕ → UnitCall
 frameStep s r =
     let m = s .memory in
-    let o = lentFrameCall (m .bank) (frameInput (bankTimeOf r) (idsOf r) (bodyOf kind.Frame r) (m .buffer)) in
-    afterCall (s .unit) (memory (o .lent) (m .payloads) (m .files) (o .buffer)) (frameAnswer (o .answer))
+    let o = sessionFrameCall (sessionIn s) (frameInput (bankTimeOf r) (idsOf r) (bodyOf kind.Frame r) (m .buffer)) in
+    let bank = lent (o .session .rows) (o .session .orders) (o .session .mailboxes) in
+    afterCall (withJournal (s .unit) (o .session .row)) (memory bank (m .payloads) (m .files) (o .buffer))
+    (frameAnswer (o .answer))
 
 -- `M`: a file into a mailbox
 unfoldable pub fileStep : State → List ℕ → UnitCall
 fileStep s r =
     let m = s .memory in
-    let o = lentFileCall (m .bank .rows) (mailboxOf r) (bodyOf kind.File r) (m .bank .mailboxes) in
+    let o = sessionFileCall (m .bank .rows) (mailboxOf r) (bodyOf kind.File r) (m .bank .mailboxes) in
     let bank = lent (o .rows) (m .bank .orders) (o .mailboxes) in
     afterCall (s .unit) (memory bank (m .payloads) (m .files) (m .buffer)) (fileAnswer (o .answer))
 
@@ -146,9 +176,12 @@ keeps begin client-answer.Ignored = begin
 keeps begin (client-answer.Closed w) = begin
 keeps begin (client-answer.Refused x) = false
 
+abbrev pub withClient : Run → ClientRun → Run
+withClient run next = record { client = record { run = next }; nonce = run .nonce; payload = run .payload }
+
 abbrev pub nextRun : Bool → Run → ClientRun → List ℕ → ℕ → Run
 nextRun true run next nonce n = record { client = record { run = next }; nonce = nonce; payload = n }
-nextRun false run next nonce n = record { client = record { run = next }; nonce = run .nonce; payload = run .payload }
+nextRun false run next nonce n = withClient run next
 
 abbrev pub keptPayloads : Bool → List ℕ → ℕ → List ℕ → List ℕ
 keptPayloads true payloads i payload = withPart payloads i payload
@@ -180,10 +213,17 @@ runCall e i run m r =
 -- `U`, `D`, `R`, `N`: the run is taken out, called, and put back
 unfoldable pub runStep : Event → State → List ℕ → UnitCall
 runStep e s r =
-    let runs = s .unit .runs in
     let i = indexOf r in
-    let o = runCall e i (runAt runs i) (s .memory) r in
-    afterCall (record { runs = set runs i (o .run) }) (o .memory) (o .answer)
+    let o = runCall e i (runAt (s .unit .runs) i) (s .memory) r in
+    afterCall (withRun (s .unit) i (o .run)) (o .memory) (o .answer)
+
+-- `J`: "the journal, as the bank last left it, to a run"
+unfoldable pub journalStep : State → List ℕ → UnitCall
+journalStep s r =
+    let i = indexOf r in
+    let run = runAt (s .unit .runs) i in
+    let o = journalCall (run .client .run) (s .unit .journal) in
+    afterCall (withRun (s .unit) i (withClient run (o .run))) (s .memory) (journalAnswer (o .answer) (o .run))
 
 -- nothing changes
 abbrev pub unchanged : State → Answer → UnitCall
@@ -193,6 +233,7 @@ abbrev pub stepOf : Kind → State → List ℕ → UnitCall
 stepOf kind.Frame s r = frameStep s r
 stepOf kind.File s r = fileStep s r
 stepOf (kind.Run e) s r = runStep e s r
+stepOf kind.Journal s r = journalStep s r
 stepOf kind.NoCall s r = unchanged s NoCall
 
 -- one call of the record r on the unit; rooms of another length get number 1, "a lent length differs"

@@ -8,9 +8,9 @@ use Rattle.octets.specs.Bytes.{number}
 use Rattle.message.specs.Verdicts.{decide}
 use Rattle.unit.specs.declared.record.Event.the-variants.{Upload, Download, Reply, NoReply}
 use Rattle.unit.specs.declared.record.Kind.{Kind}
-use Rattle.unit.specs.declared.record.Kind.the-variants.{Frame, File, Run, NoCall}
+use Rattle.unit.specs.declared.record.Kind.the-variants.{Frame, File, Run, Journal, NoCall}
 
--- the letters F, M, U, D, R and N
+-- the letters F, M, U, D, R, N and J
 unfoldable pub kindOf : ℕ → Kind
 kindOf letter =
     decide
@@ -20,6 +20,7 @@ kindOf letter =
     ∷ (eqb letter 68, Run Download)
     ∷ (eqb letter 82, Run Reply)
     ∷ (eqb letter 78, Run NoReply)
+    ∷ (eqb letter 74, Journal)
     ∷ [])
     NoCall
 
@@ -37,6 +38,8 @@ headOf (Run Download) = 1 + 1 + 4 + 2 + 4 + 12
 headOf (Run Reply) = 1 + 1 + 4 + 2
 -- run 1, time 4
 headOf (Run NoReply) = 1 + 1 + 4
+-- run 1
+headOf Journal = 1 + 1
 headOf NoCall = 1
 
 -- whether a length stands at the end of the head
@@ -47,6 +50,7 @@ hasLength (Run Upload) = true
 hasLength (Run Download) = false
 hasLength (Run Reply) = true
 hasLength (Run NoReply) = false
+hasLength Journal = false
 hasLength NoCall = false
 
 -- n bytes of a record r from a place on, and their number
@@ -69,7 +73,8 @@ idsOf r = bytesAt 5 8 r
 abbrev pub mailboxOf : List ℕ → ℕ
 mailboxOf r = numberAt 1 2 r
 
--- U, D, R and N: the run, "numbered 1 to 16", and the time; U and D: subscriber, first exchange number and nonce bytes
+-- U, D, R, N and J: the run, "numbered 1 to 16"; all but J: the time; U and D: subscriber, first exchange number and
+-- nonce bytes
 abbrev pub runOf : List ℕ → ℕ
 runOf r = numberAt 1 1 r
 
@@ -104,6 +109,7 @@ abbrev pub namesRun : Kind → List ℕ → Bool
 namesRun Frame r = true
 namesRun File r = true
 namesRun (Run e) r = isRun (runOf r)
+namesRun Journal r = isRun (runOf r)
 namesRun NoCall r = false
 
 -- a record of this kind that is not cut short
@@ -121,4 +127,5 @@ abbrev pub isCall : Kind → Bool
 isCall Frame = true
 isCall File = true
 isCall (Run e) = true
+isCall Journal = true
 isCall NoCall = false

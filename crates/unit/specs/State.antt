@@ -1,9 +1,13 @@
--- The unit: 16 client runs with what each keeps between its calls, and the memory lent to them and to one bank.
+-- The unit: 16 client runs with what each keeps between its calls, the journal's row, and the memory lent to them and
+-- to one bank.
 use Prim.Native.Nat.{ℕ, _*_}
 use mathlib.Core.List.{List, []}
-use lib.ListN.{replicate, getD}
+use lib.ListN.{replicate, getD, set}
 use Rattle.message.specs.Limits.{fileBytes}
 use Rattle.bank_steps.specs.Lent.{Lent}
+use Rattle.journal.specs.declared.event.Event.{Event}
+use Rattle.journal.specs.Row.{emptyRow}
+use Rattle.bank_session.specs.Session.{LentSession, session}
 use Rattle.client_run.specs.Run.{nonceBytes}
 use Rattle.client.specs.Calls.{newClient}
 use Rattle.unit.specs.declared.state.Run.{Run}
@@ -18,16 +22,23 @@ roomsBytes = runCount * fileBytes
 abbrev pub newRun : List ℕ → Run
 newRun nonce = record { client = newClient; nonce = nonce; payload = 0 }
 
--- "16 client runs, numbered 1 to 16, none begun"
+-- "16 client runs, numbered 1 to 16, none begun", and no event entered
 unfoldable pub fresh : UnitState
-fresh = record { runs = replicate runCount (newRun (replicate nonceBytes 0)) }
+fresh = record { runs = replicate runCount (newRun (replicate nonceBytes 0)); journal = emptyRow }
 
 -- run i, from 0 on; of 16 runs none is past the last
 abbrev pub runAt : List Run → ℕ → Run
 runAt runs i = getD runs i (newRun [])
 
--- the memory lent to the unit: the bank's rows and stores, the rooms of the runs' payloads, their file buffers, and the
--- buffer that holds a call's reply or request
+-- the unit with this run as run i, and with this row as the journal
+abbrev pub withRun : UnitState → ℕ → Run → UnitState
+withRun u i run = record { runs = set (u .runs) i run; journal = u .journal }
+
+abbrev pub withJournal : UnitState → List Event → UnitState
+withJournal u row = record { runs = u .runs; journal = row }
+
+-- the memory lent to the unit: the session's numbers and stores, the rooms of the runs' payloads, their file buffers,
+-- and the buffer that holds a call's reply or request
 pub record Memory : Type 0 where
   pub bank : Lent
   pub payloads : List ℕ
@@ -44,3 +55,9 @@ pub record State : Type 0 where
 
 abbrev pub stateOf : UnitState → Memory → State
 stateOf u m = record { unit = u; memory = m }
+
+-- the session in them: the journal's row goes by value, all else is lent
+abbrev pub sessionIn : State → LentSession
+sessionIn s =
+    let bank = s .memory .bank in
+    session (bank .rows) (s .unit .journal) (bank .orders) (bank .mailboxes)

@@ -9,15 +9,17 @@ use crate::record::time_at;
 use crate::state::ROOMS_BYTES;
 use crate::state::Run;
 use crate::state::UnitState;
+use crate::state::with_journal;
 use crate::state::with_run;
 use bank::call::FrameAnswer;
-use bank::call::frame_arrives;
 use bank::mailbox::FileAnswer;
-use bank::mailbox::put_file;
+use bank_session::calls::frame_held;
+use bank_session::calls::put_file;
 use bank_state::store::append;
 use bank_state::store::file_of;
 use client::calls::Client;
 use client::calls::Outcome;
+use client::journal_call::JournalAnswer;
 use client_run::run::Answer as ClientAnswer;
 use client_run::run::Direction;
 use client_run::run::NONCE_BYTES;
@@ -37,21 +39,22 @@ ghost use Rattle.client_run.specs.Run.{lentOf};
 ghost use Rattle.client.specs.Calls.{callOf, beginCall};
 ghost use Rattle.unit.specs.Records.{headOf, timeOf, nonceOf, runOf, isRun, runCount};
 ghost use Rattle.unit.specs.declared.state.UnitState.{UnitState};
-ghost use Rattle.unit.specs.State.{roomsBytes, memory, stateOf};
+ghost use Rattle.unit.specs.State.{Memory, roomsBytes, memory, stateOf};
 ghost use Rattle.unit.specs.Call.{Ready, roomsRight, afterCall, unitCallOf, frameAnswer, fileAnswer, runAnswer};
-ghost use Rattle.unit.specs.Call.{frameStep, fileStep, indexOf, begins, paramsOf, eventCall, roomCall, keeps};
-ghost use Rattle.unit.specs.Call.{nextRun};
-ghost use Rattle.unit.specs.Call.{keptPayloads, runCallOf, runCall, runStep, unitCall};
+ghost use Rattle.unit.specs.Call.{journalAnswer, frameStep, fileStep, indexOf, begins, paramsOf, eventCall};
+ghost use Rattle.unit.specs.Call.{roomCall, keeps, withClient, nextRun, keptPayloads, runCallOf, runCall};
+ghost use Rattle.unit.specs.Call.{runStep, journalStep, unitCall};
 
 // What a call answers: the length of the reply in the buffer, the file is in the mailbox, the length of the request,
-// the run stays, its closing word with its order number, or the number that the call was given. A record that is no
-// call has none.
+// the run stays, its closing word with its order number, the journal left the run as it was, or the number that the
+// call was given. A record that is no call has none.
 pub enum Answer {
     Frame(usize),
     Put,
     Request(usize),
     Ignored,
     Closed(Word, u64),
+    Unchanged,
     Number(u64),
     NoCall,
 }
@@ -103,6 +106,17 @@ fn run_answer(answer: ClientAnswer, client: Client) -> Answer
     }
 }
 
+// What a client's answer to the journal says.
+fn journal_answer(answer: JournalAnswer, client: Client) -> Answer
+    ensures { λ r. ⌜ r ≡ journalAnswer answer (client .run) ⌝ }
+{
+    match answer {
+        JournalAnswer::Closed(w) => Answer::Closed(w, client.run.number),
+        JournalAnswer::Unchanged => Answer::Unchanged,
+        JournalAnswer::WrongLength => Answer::Number(1),
+    }
+}
+
 // The nonce bytes of a record.
 fn nonce_of(record: &[u8]) -> [u8; NONCE_BYTES]
     requires { ⌜ headOf (Kind.Run Event.Download) ≤ length (now «record») ⌝ }
@@ -121,23 +135,26 @@ fn index_of(record: &[u8]) -> usize
     (number_at(record, 1, 1) - 1) as usize
 }
 
-// A frame to the bank.
+// A frame to the bank, with the unit's journal.
 fn frame_call(
+    u: UnitState,
     record: &[u8],
     rows: &mut [u64],
     orders: &mut [u8],
     mailboxes: &mut [u8],
     buffer: &mut [u8],
-) -> Answer
-    ensures { λ r. ⌜ ((u : UnitState) (p f : List ℕ)
-        → afterCall u (memory (lent (now (rows .exit)) (now (orders .exit)) (now (mailboxes .exit))) p f
-        (now (buffer .exit))) r
+) -> Called
+    ensures { λ r. ⌜ ((p f : List ℕ)
+        → unitCallOf r (memory (lent (now (rows .exit)) (now (orders .exit)) (now (mailboxes .exit))) p f
+        (now (buffer .exit)))
         ≡ frameStep (stateOf u
         (memory (lent (now (rows .entry)) (now (orders .entry)) (now (mailboxes .entry))) p f (now (buffer .entry))))
         (now («record» .entry))) ⌝ }
 {
-    let o = frame_arrives(
+    let row = u.journal;
+    let o = frame_held(
         rows,
+        row,
         time_at(record, 1),
         bytes_at(record, 5, 8),
         body_of(Kind::Frame, record),
@@ -145,8 +162,13 @@ fn frame_call(
         mailboxes,
         buffer,
     );
-    let answer = o.answer;
-    frame_answer(answer)
+    let next = o.row;
+    let out = o.out;
+    let answer = out.answer;
+    Called {
+        unit: with_journal(u, next),
+        answer: frame_answer(answer),
+    }
 }
 
 // A file into a mailbox.
@@ -311,6 +333,18 @@ fn keeps(begin: bool, answer: ClientAnswer) -> bool
     }
 }
 
+// The run with its client's next record; what it keeps stays.
+fn with_client(run: Run, client: Client) -> Run
+    ensures { λ r. ⌜ r ≡ withClient run (client .run) ⌝ }
+{
+    let nonce = run.nonce;
+    Run {
+        client,
+        nonce,
+        payload: run.payload,
+    }
+}
+
 // The run after a call.
 fn next_run(kept: bool, run: Run, client: Client, nonce: [u8; NONCE_BYTES], payload: u64) -> Run
     ensures { λ r. ⌜ r ≡ nextRun kept run (client .run) nonce payload ⌝ }
@@ -322,12 +356,7 @@ fn next_run(kept: bool, run: Run, client: Client, nonce: [u8; NONCE_BYTES], payl
             payload,
         };
     }
-    let before = run.nonce;
-    Run {
-        client,
-        nonce: before,
-        payload: run.payload,
-    }
+    with_client(run, client)
 }
 
 // Keeps the payload of a begin in the room of run i.
@@ -409,6 +438,25 @@ fn run_call(
     }
 }
 
+// The journal is handed to the run that a record names.
+fn journal_call(u: UnitState, record: &[u8]) -> Called
+    requires { ⌜ isRun (runOf (now «record»)) ≡ true ⌝ }
+    ensures { λ r. ⌜ ((m : Memory) → unitCallOf r m ≡ journalStep (stateOf u m) (now («record» .entry))) ⌝ }
+{
+    let i = index_of(record);
+    let run = u.runs[i];
+    let client = run.client;
+    let row = u.journal;
+    let o = client.journal_held(row);
+    let after = o.client;
+    let answer = o.answer;
+    let next = with_client(run, after);
+    Called {
+        unit: with_run(u, i, next),
+        answer: journal_answer(answer, after),
+    }
+}
+
 // Whether the rooms lent for the runs are of their lengths.
 fn rooms_right(payloads: usize, files: usize) -> bool
     ensures { λ r. ⌜ r ≡ roomsRight payloads files ⌝ }
@@ -446,15 +494,13 @@ pub fn call(
     }
     let kind = call_of(record);
     match kind {
-        Kind::Frame => Called {
-            unit: u,
-            answer: frame_call(record, rows, orders, mailboxes, buffer),
-        },
+        Kind::Frame => frame_call(u, record, rows, orders, mailboxes, buffer),
         Kind::File => Called {
             unit: u,
             answer: file_call(record, rows, mailboxes),
         },
         Kind::Run(event) => run_call(u, event, record, payloads, files, buffer),
+        Kind::Journal => journal_call(u, record),
         Kind::NoCall => Called {
             unit: u,
             answer: Answer::NoCall,

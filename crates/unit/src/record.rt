@@ -21,11 +21,12 @@ pub enum Event {
     NoReply,
 }
 
-// What a record is: a call to the bank, a call to a client run, or no call.
+// What a record is: a call to the bank, a call to a client run, the journal handed to a run, or no call.
 pub enum Kind {
     Frame,
     File,
     Run(Event),
+    Journal,
     NoCall,
 }
 
@@ -40,6 +41,7 @@ pub fn kind_of(letter: u8) -> Kind
         b'D' => Kind::Run(Event::Download),
         b'R' => Kind::Run(Event::Reply),
         b'N' => Kind::Run(Event::NoReply),
+        b'J' => Kind::Journal,
         _ => Kind::NoCall,
     }
 }
@@ -64,6 +66,7 @@ pub fn head_of(kind: Kind) -> usize
         Kind::Frame => 15,
         Kind::File => 5,
         Kind::Run(event) => run_head_of(event),
+        Kind::Journal => 2,
         Kind::NoCall => 1,
     }
 }
@@ -88,6 +91,7 @@ fn has_length(kind: Kind) -> bool
         Kind::Frame => true,
         Kind::File => true,
         Kind::Run(event) => run_has_length(event),
+        Kind::Journal => false,
         Kind::NoCall => false,
     }
 }
@@ -149,6 +153,7 @@ fn names_run(kind: Kind, s: &[u8]) -> bool
         Kind::Frame => true,
         Kind::File => true,
         Kind::Run(_) => is_run(number_at(s, 1, 1)),
+        Kind::Journal => is_run(number_at(s, 1, 1)),
         Kind::NoCall => false,
     }
 }
@@ -189,6 +194,7 @@ pub fn is_call(kind: Kind) -> bool
         Kind::Frame => true,
         Kind::File => true,
         Kind::Run(_) => true,
+        Kind::Journal => true,
         Kind::NoCall => false,
     }
 }

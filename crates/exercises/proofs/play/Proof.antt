@@ -8,7 +8,7 @@ use Rattle.exercises.proofs.play.Statement.{statement}
 use Rattle.exercises.proofs.play.Tie as tie
 
 abbrev Inv-loop : tie.InvT-loop
-Inv-loop script text mail₀ rows₀ orders₀ boxes₀ payloads₀ files₀ u₀ i₀ mail rows orders mailboxes payloads files u i =
+Inv-loop script first last text mail₀ rows₀ orders₀ boxes₀ payloads₀ files₀ u₀ i₀ mail rows orders mailboxes payloads files u i =
     (length mail ≡ length mail₀)
     × (length rows ≡ length rows₀)
     × (length orders ≡ length orders₀)
@@ -17,8 +17,8 @@ Inv-loop script text mail₀ rows₀ orders₀ boxes₀ payloads₀ files₀ u�
     × (length files ≡ length files₀)
 
 abbrev μ-loop : tie.MeasureT-loop
-μ-loop script text mail₀ rows₀ orders₀ boxes₀ payloads₀ files₀ u₀ i₀ mail rows orders mailboxes payloads files u i =
-    58 - i
+μ-loop script first last text mail₀ rows₀ orders₀ boxes₀ payloads₀ files₀ u₀ i₀ mail rows orders mailboxes payloads files u i =
+    last - i
 
 loop-less : tie.Need-loop-less Inv-loop μ-loop
 loop-less c =
@@ -50,10 +50,8 @@ play-spec =
     (tie.spec
     Inv-loop
     μ-loop
-    (λ c κs. tt)
     (λ c. (refl, refl, refl, refl, refl, refl))
     (λ c κs. tt)
-    (λ c. search needs)
     (λ c κs. tt)
     (λ c. search needs)
     (λ c κs. tt)

@@ -61,8 +61,8 @@ put-text-requires-3 c κs = search needs
 put-closing-requires : tie.Need-put-closing-requires
 put-closing-requires c κs = search needs
 
-enum-known-answer-4 : tie.Need-enum-known-answer-4
-enum-known-answer-4 c = search needs
+enum-told-3 : tie.Need-enum-told-3
+enum-told-3 c = search needs
 
 slice-aggregate-put-text-4 : tie.Need-slice-aggregate-put-text-4
 slice-aggregate-put-text-4 c = search needs
@@ -70,11 +70,20 @@ slice-aggregate-put-text-4 c = search needs
 put-text-requires-4 : tie.Need-put-text-requires-4
 put-text-requires-4 c κs = search needs
 
+enum-known-answer-4 : tie.Need-enum-known-answer-4
+enum-known-answer-4 c = search needs
+
+slice-aggregate-put-text-5 : tie.Need-slice-aggregate-put-text-5
+slice-aggregate-put-text-5 c = search needs
+
+put-text-requires-5 : tie.Need-put-text-requires-5
+put-text-requires-5 c κs = search needs
+
 put-decimal-requires : tie.Need-put-decimal-requires
 put-decimal-requires c κs = search needs
 
-enum-told-3 : tie.Need-enum-told-3
-enum-told-3 c = search needs
+enum-told-4 : tie.Need-enum-told-4
+enum-told-4 c = search needs
 
 same-length : tie.Need-same-length
 same-length c = search needs
@@ -118,14 +127,20 @@ same-length-6 : tie.Need-same-length-6
 same-length-6 c = search needs
 
 returns-6 : tie.Need-returns-6
-returns-6 c =
+returns-6 c = rw (c .before .before .before .before .before .enum-told3 .given .1) (c .before .before .put-text4 .ensures)
+
+same-length-7 : tie.Need-same-length-7
+same-length-7 c = search needs
+
+returns-7 : tie.Need-returns-7
+returns-7 c =
     let at-number = c .before .before in
     let at-text = at-number .before .before .before .before in
     let told = at-text .before .before .before .before .answer4 .given .1 in
-    rw told (put-then (at-text .put-text4 .ensures) (at-number .put-decimal .ensures))
+    rw told (put-then (at-text .put-text5 .ensures) (at-number .put-decimal .ensures))
 
-returns-7 : tie.Need-returns-7
-returns-7 c = rw (c .enum-told3 .given .1) (put-nothing _ _ (omega arith))
+returns-8 : tie.Need-returns-8
+returns-8 c = rw (c .enum-told4 .given .1) (put-nothing _ _ (omega arith))
 
 pub put-answer-spec : {M : Type 1} → statement M
 put-answer-spec =
@@ -149,11 +164,14 @@ put-answer-spec =
     slice-aggregate-put-text-3
     put-text-requires-3
     put-closing-requires
-    enum-known-answer-4
+    enum-told-3
     slice-aggregate-put-text-4
     put-text-requires-4
+    enum-known-answer-4
+    slice-aggregate-put-text-5
+    put-text-requires-5
     put-decimal-requires
-    enum-told-3
+    enum-told-4
     same-length
     returns
     same-length-2
@@ -166,4 +184,6 @@ put-answer-spec =
     returns-5
     same-length-6
     returns-6
-    returns-7)
+    same-length-7
+    returns-7
+    returns-8)

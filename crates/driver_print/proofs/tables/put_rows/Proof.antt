@@ -3,7 +3,7 @@ use Prim.Native.Nat.{_-_}
 use Rattle.bank_steps.specs.Lent.{lent}
 use Rattle.print.proofs.Texts.{put-length}
 use Rattle.print.proofs.Rows.{Rows, rows-start, rows-left, rows-next, rows-end}
-use Rattle.driver_print.specs.Tables.{rowAt, rowCount, rowRoom}
+use Rattle.driver_print.specs.Tables.{rowAt, rowCount, roomOf}
 use Rattle.driver_print.proofs.Texts.{row-most}
 use borrow.Author.Needs.{needs}
 use Rattle.driver_print.proofs.tables.put_rows.Statement.{statement}
@@ -11,7 +11,7 @@ use Rattle.driver_print.proofs.tables.put_rows.Tie as tie
 
 abbrev Inv-loop : tie.InvT-loop
 Inv-loop output₀ at t u rows orders mailboxes files n end₀ i₀ output end i =
-    Rows (rowAt t u (lent rows orders mailboxes) files) rowRoom (rowCount t) output₀ at i output end
+    Rows (rowAt t u (lent rows orders mailboxes) files) (roomOf t) (rowCount t) output₀ at i output end
 
 abbrev μ-loop : tie.MeasureT-loop
 μ-loop output₀ at t u rows orders mailboxes files n end₀ i₀ output end i = n - i

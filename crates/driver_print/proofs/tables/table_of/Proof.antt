@@ -2,7 +2,7 @@
 use native.Mathlib.Omega.{arith}
 use Rattle.print.proofs.Texts.{put-length, put-then, printed-put, printed-none}
 use Rattle.driver_print.specs.Tables.{tableOf, tableRoom}
-use Rattle.driver_print.proofs.Texts.{header-most, count-most}
+use Rattle.driver_print.proofs.Texts.{header-most, rows-fit}
 use borrow.Author.Needs.{needs}
 use Rattle.driver_print.proofs.tables.table_of.Statement.{statement}
 use Rattle.driver_print.proofs.tables.table_of.Tie as tie
@@ -18,7 +18,7 @@ put-rows-requires c κs =
     let at-head = c .before .before .before in
     let t = at-head .before .before .before .before .before .before .before .before .args .t in
     let placed = at-head .put-header .ensures in
-    (omega (arith, placed .place, put-length placed, header-most t, count-most t), search needs)
+    (omega (arith, placed .place, put-length placed, header-most t, rows-fit t), search needs)
 
 same-length : tie.Need-same-length
 same-length c = search needs

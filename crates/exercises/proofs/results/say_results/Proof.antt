@@ -9,7 +9,7 @@ abbrev Inv-loop : tie.InvT-loop
 Inv-loop u rows text orders files i₀ i = 0 ≤ i
 
 abbrev μ-loop : tie.MeasureT-loop
-μ-loop u rows text orders files i₀ i = 5 - i
+μ-loop u rows text orders files i₀ i = 6 - i
 
 pub say-results-spec : {M : Type 1} → statement M
 say-results-spec =

@@ -12,10 +12,10 @@ use Rattle.marker_session.proofs.mark.mark_call.Statement.{statement}
 use Rattle.marker_session.proofs.mark.mark_call.Tie as tie
 
 -- the places of the body, from the last back to the first
-abbrev at-frame : tie.After-put-line → tie.After-frame-arrives
-at-frame c = c .before .before .before .before .before .before .before .before .before .before .before
+abbrev at-frame : tie.After-put-line → tie.After-answer-frame
+at-frame c = c .before .before .before .before .before .before .before .before .before .before .before .before
 
-abbrev at-behind : tie.After-frame-arrives → tie.After-behind
+abbrev at-behind : tie.After-answer-frame → tie.After-behind
 at-behind c = c .before .before .before .before .before .before .before .before
 
 abbrev at-start : tie.After-behind → tie.Start
@@ -46,31 +46,31 @@ behind-requires c κs = search needs
 time-of-requires : tie.Need-time-of-requires
 time-of-requires c κs = omega (arith, head-fits (c .before))
 
-slice-aggregate-frame-arrives : tie.Need-slice-aggregate-frame-arrives
-slice-aggregate-frame-arrives c = search needs
+slice-aggregate-answer-frame : tie.Need-slice-aggregate-answer-frame
+slice-aggregate-answer-frame c = search needs
 
 frame-in-requires : tie.Need-frame-in-requires
 frame-in-requires c κs = omega (arith, head-fits (c .before .before .before))
 
-frame-arrives-requires : tie.Need-frame-arrives-requires
-frame-arrives-requires c κs = tt
+answer-frame-requires : tie.Need-answer-frame-requires
+answer-frame-requires c κs = tt
 
 add-calls : tie.Need-add-calls
-add-calls c = omega (arith, ready (at-start (at-behind (c .before .before .before .before .before .before .before .before .before))) .count)
+add-calls c = omega (arith, ready (at-start (at-behind (c .before .before .before .before .before .before .before .before .before .before))) .count)
 
 put-line-requires : tie.Need-put-line-requires
 put-line-requires c κs =
-    let frame = c .before .before .before .before .before .before .before .before .before .before in
+    let frame = c .before .before .before .before .before .before .before .before .before .before .before in
     omega (arith, at-start (at-behind frame) .pre .1)
 
-add-t29 : tie.Need-add-t29
-add-t29 c = omega (arith, end-fits (at-behind (at-frame (c .before .before))))
+add-t30 : tie.Need-add-t30
+add-t30 c = omega (arith, end-fits (at-behind (at-frame (c .before .before))))
 
 size-of-requires : tie.Need-size-of-requires
 size-of-requires c κs = omega (arith, head-fits (at-behind (at-frame (c .before .before))))
 
-add-t31 : tie.Need-add-t31
-add-t31 c = omega (arith, c .size-of .ensures, end-fits (at-behind (at-frame (c .before .before .before))))
+add-t32 : tie.Need-add-t32
+add-t32 c = omega (arith, c .size-of .ensures, end-fits (at-behind (at-frame (c .before .before .before))))
 
 same-length : tie.Need-same-length
 same-length c = search needs
@@ -97,7 +97,7 @@ returns c =
     let a = at-start behind .args in (
       marked-call (a .input .now) (lent (a .rows .now) (a .orders .now) (a .mailboxes .now)) (a .buffer .now) (a .output .now)
           (a .m) _ (behind .behind .ensures) _ (at-time .time-of .ensures) _ (at-read .frame-in .ensures)
-          _ (c .size-of .ensures) _ (frame .frame-arrives .ensures) _ _ (at-line .put-line .ensures),
+          _ (c .size-of .ensures) _ (frame .answer-frame .ensures .0) _ _ (at-line .put-line .ensures),
       omega (arith, c .size-of .ensures, end-within behind),
     )
 
@@ -107,14 +107,14 @@ mark-call-spec =
     (tie.spec
     behind-requires
     time-of-requires
-    slice-aggregate-frame-arrives
+    slice-aggregate-answer-frame
     frame-in-requires
-    frame-arrives-requires
+    answer-frame-requires
     add-calls
     put-line-requires
-    add-t29
+    add-t30
     size-of-requires
-    add-t31
+    add-t32
     same-length
     same-length-2
     same-length-3

@@ -1,4 +1,4 @@
--- The bank's call on the parts of the record, and what its answer says. Assumes nothing.
+-- The bank's call on the parts of the record with the unit's journal, and what its answer says. Assumes nothing.
 use Rattle.unit.specs.Call.{frameStep}
 use borrow.Author.Needs.{needs}
 use Rattle.unit.proofs.call.frame_call.Statement.{statement}
@@ -7,21 +7,24 @@ use Rattle.unit.proofs.call.frame_call.Tie as tie
 returns : tie.Need-returns
 unfolding frameStep
 returns c =
-    λ u p f.
-    let at-frame = c .before .before .before .before .before .before .before .before .before in
+    λ p f.
+    let at-journal = c .before in
+    let at-frame = at-journal .before .before .before .before .before .before .before .before .before .before .before in
     let at-body = at-frame .before .before .before .before in
     rw (
       c .frame-answer .ensures,
+      at-journal .with-journal .ensures,
       ← at-body .before .before .time-at .ensures,
       ← at-body .before .bytes-at .ensures,
       ← at-body .body-of .ensures,
-      ← at-frame .frame-arrives .ensures,
+      ← at-frame .frame-held .ensures,
     )
 
 pub frame-call-spec : {M : Type 1} → statement M
 frame-call-spec =
     tie.close
     (tie.spec
+    (λ c κs. tt)
     (λ c κs. tt)
     (λ c κs. tt)
     (λ c κs. tt)

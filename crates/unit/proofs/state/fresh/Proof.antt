@@ -1,10 +1,11 @@
 -- `fresh` meets its contract. Assumes nothing.
+use Rattle.journal.specs.Row.{emptyRow}
 use Rattle.unit.specs.State.{fresh}
 use Rattle.unit.proofs.state.fresh.Statement.{statement}
 use Rattle.unit.proofs.state.fresh.Tie as tie
 
 returns : tie.Need-returns
-unfolding fresh
+unfolding fresh emptyRow
 returns c = rw (c .new .ensures)
 
 pub fresh-spec : {M : Type 1} → statement M

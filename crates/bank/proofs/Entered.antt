@@ -1,0 +1,53 @@
+-- What a frame call enters into the journal: the drops, then what its request enters. Assumes nothing.
+use Prim.Native.Nat.{ℕ}
+use mathlib.Core.Bool.{true}
+use mathlib.Core.List.{List, [], _++_, map}
+use mathlib.Core.Path.{_≡_}
+use lib.ListN.{length}
+use Rattle.frame_table.specs.declared.fields.Fields.{Fields}
+use Rattle.octets.specs.Bytes.{number}
+use Rattle.frame_reader.specs.Reader.{readRequest}
+use Rattle.frame_row.specs.Row.{dataOf}
+use Rattle.bank_state.specs.Clock.{advanced}
+use Rattle.bank_state.specs.State.{Bank}
+use Rattle.bank_rows.specs.State.{bankOf, StoredWith}
+use Rattle.bank_sound.specs.Sound.{isSound}
+use Rattle.bank_sound.proofs.Test.{sound-laid}
+use Rattle.bank_verdicts.specs.declared.verdict.Verdict.{Verdict}
+use Rattle.bank_verdicts.specs.Judgement.{judge}
+use Rattle.bank_steps.specs.Lent.{Lent, stateOf}
+use Rattle.journal.specs.declared.event.Entry.{Entry}
+use Rattle.journal.specs.declared.event.Batch.{Batch}
+use Rattle.bank_events.specs.Entries.{Holds, dropEntry, droppedUploads, verdictOrder, namedOrder, actionEntries, callEntries}
+use Rattle.bank.specs.declared.call.FrameOut.{FrameOut}
+use Rattle.bank.specs.Call.{respond, FrameInput}
+use Rattle.bank.specs.Journal.{clockBy, requestEntries, enteredBy, ifAnswered}
+use Rattle.bank.specs.Lent.{noReply}
+use Rattle.bank.proofs.Lent.{advanced-back}
+
+-- the order number is read before the step, the verdict is its result
+pub request-entered : (first : ℕ) (b : Bank) (q : Fields) (d : List ℕ) {v : Verdict} {named order : ℕ}
+    → v ≡ judge first b q (length d) → named ≡ namedOrder b q → order ≡ verdictOrder v named
+    → actionEntries v order q ≡ requestEntries first b q d
+request-entered first b q d e f g = rw (g, f, e)
+
+-- number 1 enters nothing
+pub none-entered : {o : FrameOut} {batch : Batch} → o ≡ noReply → Holds batch [] → (es : List Entry)
+    → Holds batch (ifAnswered (o .answer) es)
+none-entered e h es = rw e h
+
+-- the whole call
+pub frame-entered : (m : Lent) (a : FrameInput) → isSound (m .rows) ≡ true → (t p : List ℕ)
+    → StoredWith (advanced (a .time) (stateOf m)) (m .rows) t p
+    → {first : ℕ} {q : Fields} {d : List ℕ} {es : List Entry} → first ≡ number (a .ids) → q ≡ readRequest (a .frame)
+    → d ≡ dataOf (a .frame) → es ≡ map dropEntry (droppedUploads (clockBy (stateOf m) a) (bankOf (m .rows)))
+    → es ++ requestEntries first (bankOf t) q d ≡ enteredBy (stateOf m) a
+unfolding enteredBy callEntries respond
+frame-entered m a sound t p e x y z f =
+    rw (
+      f,
+      x,
+      y,
+      z,
+      advanced-back (m .rows) (m .orders) (m .mailboxes) (sound-laid (m .rows) sound) (a .time) t p e,
+    )

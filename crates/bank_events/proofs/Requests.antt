@@ -1,0 +1,77 @@
+-- The events of requests, by the verdict. Assumes nothing.
+use Prim.Native.Nat.{ℕ, _≤_}
+use mathlib.Core.Bool.{Bool, true, false, cond}
+use mathlib.Core.List.{[], _∷_}
+use mathlib.Core.Path.{_≡_, refl}
+use native.Mathlib.Omega.{arith}
+use lib.ListN.{length}
+use Rattle.frame_table.specs.declared.fields.Bits128.{Bits128}
+use Rattle.frame_table.specs.declared.fields.Fields.{Fields}
+use Rattle.frame_table.specs.Names.{subscriber}
+use Rattle.message.specs.declared.codes.ReturnCode.{ReturnCode}
+use Rattle.bank_verdicts.specs.declared.verdict.UploadAction.the-variants as up
+use Rattle.bank_verdicts.specs.declared.verdict.DownloadAction.{DownloadAction}
+use Rattle.bank_verdicts.specs.declared.verdict.Action.the-variants as action
+use Rattle.bank_verdicts.specs.declared.verdict.Verdict.{Verdict}
+use Rattle.bank_verdicts.specs.declared.verdict.Verdict.the-variants as verdict
+use Rattle.journal.specs.declared.event.Kind.{Kind}
+use Rattle.journal.specs.declared.event.Kind.the-variants as kind
+use Rattle.journal.specs.declared.event.Entry.{Entry}
+use Rattle.bank_events.specs.Entries.{entry, isEvent, verdictKind, actionEntries}
+
+module _ (order : ℕ) (q : Fields) where
+  -- an accepted opening, a booking and a cancellation are entered, under the request's subscriber and the order's number
+  pub opened-entry : (t : Bits128) (n : ℕ)
+      → actionEntries (verdict.Of t (action.Upload (up.Opened n))) order q ≡ entry kind.Opened (subscriber q) order ∷ []
+  unfolding actionEntries
+  opened-entry t n = refl
+
+  pub booked-entry : (t : Bits128)
+      → actionEntries (verdict.Of t (action.Upload up.TookLast)) order q ≡ entry kind.Booked (subscriber q) order ∷ []
+  unfolding actionEntries
+  booked-entry t = refl
+
+  pub cancelled-entry : (t : Bits128) (c : ReturnCode)
+      → actionEntries (verdict.Of t (action.Upload (up.Cancelled c))) order q ≡ entry kind.Cancelled (subscriber q) order ∷ []
+  unfolding actionEntries
+  cancelled-entry t c = refl
+
+  -- nothing else is
+  pub took-none : (t : Bits128) → actionEntries (verdict.Of t (action.Upload up.Took)) order q ≡ []
+  unfolding actionEntries
+  took-none t = refl
+
+  pub point-none : (t : Bits128) (k : ℕ) → actionEntries (verdict.Of t (action.Upload (up.Point k))) order q ≡ []
+  unfolding actionEntries
+  point-none t k = refl
+
+  pub download-none : (t : Bits128) (a : DownloadAction) → actionEntries (verdict.Of t (action.Download a)) order q ≡ []
+  unfolding actionEntries
+  download-none t a = refl
+
+  pub refused-none : (c : ReturnCode) → actionEntries (verdict.Refused c) order q ≡ []
+  unfolding actionEntries
+  refused-none c = refl
+
+  pub unreadable-none : actionEntries verdict.Unreadable order q ≡ []
+  unfolding actionEntries
+  unreadable-none = refl
+
+  -- at most one
+  pub action-few : (v : Verdict) → length (actionEntries v order q) ≤ 1
+  unfolding actionEntries
+  action-few v = at (isEvent (verdictKind v)) (entry (verdictKind v) (subscriber q) order)
+    where
+      at : (t : Bool) (e : Entry) → length (cond t (e ∷ []) []) ≤ 1
+      at true e = omega arith
+      at false e = omega arith
+
+-- the request's event by its kind
+module _ (v : Verdict) (order : ℕ) (q : Fields) (k : Kind) (is : k ≡ verdictKind v) where
+  pub entry-of : (s : ℕ) → s ≡ subscriber q → isEvent k ≡ true → actionEntries v order q ≡ entry k s order ∷ []
+  unfolding actionEntries
+  entry-of s t e = rw (← is, ← t, e)
+
+  pub no-entry : isEvent k ≡ false → actionEntries v order q ≡ []
+  unfolding actionEntries
+  no-entry e = rw (← is, e)

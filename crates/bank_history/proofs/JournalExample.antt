@@ -1,0 +1,144 @@
+-- A computed example: places are used again, so that the drops by place would stand in another order than by opening.
+use Prim.Native.Nat.{ℕ}
+use mathlib.Core.List.{List, [], _∷_, _++_}
+use mathlib.Core.Path.{_≡_, refl}
+use lib.ListN.{replicate}
+use Rattle.frame_table.specs.declared.fields.Bits128.{Bits128}
+use Rattle.frame_writer.specs.Writer.{frameOf}
+use Rattle.message.specs.Requests.{uploadOpening, uploadTransfer}
+use Rattle.bank_state.specs.State.{placeAt}
+use Rattle.journal.specs.declared.event.Kind.{Kind}
+use Rattle.journal.specs.declared.event.Kind.the-variants.{Opened, Cancelled, Dropped}
+use Rattle.journal.specs.declared.event.Event.{Event}
+use Rattle.journal.specs.Events.{noEvent}
+use Rattle.bank.specs.Call.{frameInput}
+use Rattle.bank_history.specs.History.{BankCall, Frame, pastOf}
+use Rattle.bank_history.specs.Journal.{journalOf, eventsIn}
+use Rattle.octets.specs.Bytes as octets
+use Rattle.frame_table.specs.Table as frameTable
+use Rattle.frame_row.specs.Row as frameRow
+use Rattle.frame_reader.specs.Reader as frameReader
+use Rattle.frame_writer.specs.Writer as frameWriter
+use Rattle.message.specs.OrderNumbers as orderNumbers
+use Rattle.message.specs.Replies as replies
+use Rattle.message.specs.Requests as requests
+use Rattle.bank_state.specs.Clock as clocks
+use Rattle.bank_state.specs.Rows as rows
+use Rattle.bank_state.specs.Search as searches
+use Rattle.bank_state.specs.State as state
+use Rattle.bank_state.specs.Store as store
+use Rattle.bank_verdicts.specs.Refusals as refusals
+use Rattle.bank_verdicts.specs.Judgement as judgement
+use Rattle.bank_openings.specs.Openings as openings
+use Rattle.bank_uploads.specs.Uploads as uploads
+use Rattle.journal.specs.Events as events
+use Rattle.journal.specs.Row as row
+use Rattle.bank_events.specs.Entries as entries
+use Rattle.bank.specs.Call as bankCall
+use Rattle.bank.specs.Journal as bankJournal
+use Rattle.bank_history.specs.History as history
+use Rattle.bank_history.specs.ByReplies as byReplies
+use Rattle.bank_history.specs.Journal as journal
+
+-- what the calls compute with
+unfoldable frames : ℕ
+unfolding octets.numberFrom octets.number octets.bytesOf octets.fieldBytes octets.overwrite
+    frameTable.width frameTable.valuesOf frameTable.inRange frameTable.allowed frameTable.rowFits frameTable.findForm frameTable.formOf
+    frameRow.spelled frameRow.listed frameRow.wellFormed frameRow.stands frameRow.fieldSize frameRow.content frameRow.contents frameRow.behind
+    frameRow.dataOf frameRow.presentTags frameRow.highOf frameRow.lowOf frameRow.eachFrom frameRow.piece frameRow.join
+    frameReader.fieldsOf frameReader.parse frameReader.readRequest frameReader.readReply
+    frameWriter.contentOf frameWriter.contentsOf frameWriter.frameOf frameWriter.lengthFrom frameWriter.frameLength
+    frameWriter.dataWhole frameWriter.fieldWritable frameWriter.fieldsWritable frameWriter.writable frameWriter.accepted
+    frameWriter.writeAnswer frameWriter.writeBuffer
+    replies.uploadOpened replies.segmentTaken replies.unreadable replies.refusal
+    requests.uploadOpening requests.uploadTransfer
+    orderNumbers.character orderNumbers.letter orderNumbers.orderNumberOf
+frames = 0
+
+unfoldable bank : ℕ
+unfolding clocks.isIdle clocks.freed clocks.dropUpload clocks.dropUploads clocks.ends clocks.endDownloads clocks.forget
+    clocks.atClock clocks.advanced rows.firstOf rows.countOf rows.keep rows.keepOnly
+    searches.freePlace searches.freeDownload searches.freeNonce searches.isUpload searches.findUpload searches.isDownload
+    searches.findDownload searches.openCount searches.openCountOf searches.isRemembered
+    state.fresh state.fileLength store.partAt store.withPart store.zeroed store.fileOf
+    refusals.noSubscriber refusals.longData refusals.requestRows refusals.unknownType refusals.manySegments refusals.inTime
+    refusals.isReplay refusals.manyOpen refusals.isFull refusals.openingRows refusals.notOpen refusals.transactionRows
+    refusals.uploadAttempt refusals.isUnderrun refusals.isExceeded refusals.segmentRows refusals.uploadRows
+    judgement.judgeOpening judgement.takes judgement.judgeUpload judgement.judgeOpen
+    judgement.judgeTransaction judgement.judge
+    openings.counted openings.openUpload uploads.grown uploads.booked uploads.attempted
+    bankCall.mailboxSegment bankCall.respond bankCall.lentRight bankCall.frameCall
+    history.exchangeOf history.after history.start history.pastOf history.mailboxFile
+bank = 0
+
+unfoldable events-entered : ℕ
+unfolding entries.insertByOpening entries.byOpening entries.droppedUploads entries.actionEntries entries.callEntries
+    events.eventsFrom row.emptyRow row.entered row.enteredAll
+    bankJournal.enteredBy bankJournal.journalAfter journal.journalOver journal.journalOf
+events-entered = 0
+
+unfoldable events-told : ℕ
+unfolding events.eventsFrom byReplies.openedCount byReplies.openedIds byReplies.atOpened byReplies.sentUpTo byReplies.standing
+    journal.uploadDrops journal.entriesOf journal.eventsIn
+events-told = 0
+
+-- ---- the calls
+
+-- the transaction of opening n: the lent ID bytes are 0
+abbrev idOf : ℕ → Bits128
+idOf n = record { high = 0; low = n }
+
+-- a frame at this time
+abbrev call : ℕ → List ℕ → BankCall
+call time frame = Frame (frameInput time (replicate 8 0) frame (replicate 312 0))
+
+-- an opening of an upload of one segment; its nonce is its subscriber's number
+abbrev opens : ℕ → BankCall
+opens s = call 1000 (frameOf (uploadOpening s 1 (idOf s) 1000 1) [])
+
+-- subscribers 1 and 2 open uploads 0 and 1, in places 0 and 1; upload 0 is cancelled by its segment 1 of 1 without the
+-- last mark; subscriber 3 opens upload 2, which takes place 0. The newest call first
+abbrev beforeDrops : List BankCall
+beforeDrops =
+    opens 3
+    ∷ call 1000 (frameOf (uploadTransfer 1 2 (idOf 0) 1 0) (65 ∷ []))
+    ∷ opens 2
+    ∷ opens 1
+    ∷ []
+
+-- a frame more than 3,600 seconds later, which is none
+abbrev withDrops : List BankCall
+withDrops = call 4601 [] ∷ beforeDrops
+
+abbrev event : ℕ → ℕ → ℕ → ℕ → Kind → Event
+event n clock subscriber order k =
+    record { number = n; clock = clock; subscriber = subscriber; order = order; kind = k }
+
+-- upload 1 is dropped before upload 2
+abbrev expected : List Event
+expected =
+    event 1 1000 1 0 Opened
+    ∷ event 2 1000 2 1 Opened
+    ∷ event 3 1000 1 0 Cancelled
+    ∷ event 4 1000 3 2 Opened
+    ∷ event 5 4601 2 1 Dropped
+    ∷ event 6 4601 3 2 Dropped
+    ∷ []
+
+-- ---- what they compute to
+
+-- by place, upload 2 comes first
+pub places-used-again : (placeAt (pastOf beforeDrops .bankState .bank) 0 .number ≡ 2)
+    × (placeAt (pastOf beforeDrops .bankState .bank) 1 .number ≡ 1)
+unfolding frames bank
+places-used-again = (refl, refl)
+
+-- the events that requests, replies and clocks tell
+pub drops-told : eventsIn (pastOf withDrops .history) ≡ expected
+unfolding frames bank events-told
+drops-told = refl
+
+-- the journal of the bank
+pub drops-by-opening : journalOf withDrops .row ≡ expected ++ replicate 58 noEvent
+unfolding frames bank events-entered
+drops-by-opening = refl

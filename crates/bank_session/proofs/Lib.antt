@@ -1,0 +1,5 @@
+-- The laws that several proofs, and the crates above, cite.
+pub mod Rows
+pub mod Session
+pub mod Laws
+pub mod Lent

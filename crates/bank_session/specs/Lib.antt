@@ -1,0 +1,2 @@
+-- The definitions of the host's calls on a session.
+pub mod Session

@@ -1,0 +1,9 @@
+-- The laws that several proofs, and the crates above, cite.
+pub mod Bounds
+pub mod Events
+pub mod Rows
+pub mod Mixed
+pub mod Entering
+pub mod Laws
+pub mod Lookup
+pub mod Plain

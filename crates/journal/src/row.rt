@@ -1,0 +1,69 @@
+// The row of records: the events of one call are entered, and an order is looked up. `enter` and `find` alone have the
+// row; what they call has numbers and single records.
+use crate::event::Batch;
+use crate::event::Event;
+use crate::event::Found;
+use crate::event::Kind;
+use crate::places::event_at;
+use crate::places::places_of;
+use message::order_numbers::order_number_of;
+ghost use mathlib.Core.Path.{_≡_};
+ghost use Rattle.journal.specs.Row.{rowAfter, orEnded, withRecord, lookup};
+
+// The events of one call are entered after so many others, and numbered on from them. The records move up where there
+// is no room left.
+pub fn enter(row: &mut [Event], events: u64, clock: u64, batch: Batch)
+    ensures { λ _. ⌜ now (row .exit) ≡ rowAfter events clock batch (now (row .entry)) ⌝ }
+{
+    let places = places_of(row.len(), events, batch.count);
+    let mut i = places.first;
+    while i < places.start {
+        row[i] = row[i + places.by];
+        i = i + 1;
+    }
+    while i < places.end {
+        row[i] = event_at(events, clock, batch, i - places.start);
+        i = i + 1;
+    }
+}
+
+// What is known of an order that a record says ended.
+fn or_ended(found: Found) -> Found
+    ensures { λ r. ⌜ r ≡ orEnded found ⌝ }
+{
+    match found {
+        Found::Nothing => Found::Ended,
+        Found::Ended => Found::Ended,
+        Found::Booked => Found::Booked,
+    }
+}
+
+// What is known of an order with one record more.
+fn with_record(order: u64, e: Event, found: Found) -> Found
+    ensures { λ r. ⌜ r ≡ withRecord order e found ⌝ }
+{
+    if order_number_of(e.order) != order {
+        return found;
+    }
+    let kind = e.kind;
+    match kind {
+        Kind::Unused => found,
+        Kind::Opened => found,
+        Kind::Booked => Found::Booked,
+        Kind::Cancelled => or_ended(found),
+        Kind::Dropped => or_ended(found),
+    }
+}
+
+// What the row says of an order, from its last record to its first.
+pub fn find(row: &[Event], order: u64) -> Found
+    ensures { λ r. ⌜ r ≡ lookup order (now (row .entry)) ⌝ }
+{
+    let mut i = row.len();
+    let mut found = Found::Nothing;
+    while 0 < i {
+        i = i - 1;
+        found = with_record(order, row[i], found);
+    }
+    found
+}
