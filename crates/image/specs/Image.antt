@@ -1,0 +1,107 @@
+-- Card 2: the image of a session's numbers and stores, and what the two calls answer and leave.
+use Prim.Native.Nat.{ℕ, _+_, _^_}
+use mathlib.Core.List.{List, [], _∷_, _++_}
+use mathlib.Core.Bool.{Bool, true, cond, _&&_}
+use lib.ListN.{length, getD, take, drop, set}
+use lib.Dec.{ltb, leb, eqb}
+use Rattle.octets.specs.Bytes.{number, bytesOf, overwrite}
+use Rattle.image.specs.declared.table.Form.{Form}
+use Rattle.image.specs.declared.codec.Answer.{Answer}
+use Rattle.image.specs.declared.codec.Answer.the-variants.{Done, Lengths, Contents}
+use Rattle.image.specs.Items.{Item, constant, part, store, itemsOf, sizesOf}
+
+-- the bytes of constants, numbers and stores
+unfoldable pub pack : List Item → List ℕ → List (List ℕ) → List ℕ
+pack [] xs ss = []
+pack (constant w v ∷ l) xs ss = bytesOf w v ++ pack l xs ss
+pack (part w ∷ l) xs ss = bytesOf w (getD xs 0 0) ++ pack l (drop 1 xs) ss
+pack (store z ∷ l) xs ss = getD ss 0 [] ++ pack l xs (drop 1 ss)
+
+-- the numbers in such bytes
+unfoldable pub numbersOf : List Item → List ℕ → List ℕ
+numbersOf [] s = []
+numbersOf (constant w v ∷ l) s = numbersOf l (drop w s)
+numbersOf (part w ∷ l) s = number (take w s) ∷ numbersOf l (drop w s)
+numbersOf (store z ∷ l) s = numbersOf l (drop z s)
+
+-- the stores in such bytes
+unfoldable pub storesOf : List Item → List ℕ → List (List ℕ)
+storesOf [] s = []
+storesOf (constant w v ∷ l) s = storesOf l (drop w s)
+storesOf (part w ∷ l) s = storesOf l (drop w s)
+storesOf (store z ∷ l) s = take z s ∷ storesOf l (drop z s)
+
+-- each number has no more bytes than its part
+unfoldable pub fits : List Item → List ℕ → Bool
+fits [] xs = true
+fits (constant w v ∷ l) xs = fits l xs
+fits (part w ∷ l) xs = ltb (getD xs 0 0) (256 ^ w) && fits l (drop 1 xs)
+fits (store z ∷ l) xs = fits l xs
+
+-- each constant stands where the table has it
+unfoldable pub constantsRight : List Item → List ℕ → Bool
+constantsRight [] s = true
+constantsRight (constant w v ∷ l) s = eqb (number (take w s)) v && constantsRight l (drop w s)
+constantsRight (part w ∷ l) s = constantsRight l (drop w s)
+constantsRight (store z ∷ l) s = constantsRight l (drop z s)
+
+-- both stores
+abbrev pub stores : List ℕ → List ℕ → List (List ℕ)
+stores orders mailboxes = orders ∷ mailboxes ∷ []
+
+-- the stores with the n-th one read from a place of an image on
+abbrev pub storeRead : ℕ → List ℕ → ℕ → List (List ℕ) → List (List ℕ)
+storeRead n s at ss = set ss n (take (length (getD ss n [])) (drop at s))
+
+unfoldable pub imageOf : Form → List ℕ → List ℕ → List ℕ → List ℕ
+imageOf form xs orders mailboxes = pack (itemsOf form) xs (stores orders mailboxes)
+
+-- the numbers and both stores have the form's lengths
+unfoldable pub lent : Form → List ℕ → List ℕ → List ℕ → Bool
+lent form xs orders mailboxes =
+    eqb (length xs) (sizesOf form .numbers)
+    && (eqb (length orders) (sizesOf form .store) && eqb (length mailboxes) (sizesOf form .store))
+
+-- "The first field is the form's number"; "tags rising, each once, nothing behind": bytes that are an image of the form
+unfoldable pub isImage : Form → List ℕ → Bool
+isImage form s = eqb (length s) (sizesOf form .image) && constantsRight (itemsOf form) s
+
+-- what a call of the writer answers and leaves
+pub record Wrote : Type 0 where
+  pub answer : Answer
+  pub buffer : List ℕ
+
+abbrev pub wrote : Answer → List ℕ → Wrote
+wrote r d = record { answer = r; buffer = d }
+
+-- "in a lent buffer, bytes behind them untouched"
+unfoldable pub written : Form → List ℕ → List ℕ → List ℕ → List ℕ → Wrote
+written form xs orders mailboxes d =
+    cond (lent form xs orders mailboxes && leb (sizesOf form .image) (length d))
+    (cond (fits (itemsOf form) xs)
+    (wrote Done (overwrite d 0 (imageOf form xs orders mailboxes)))
+    (wrote Contents d))
+    (wrote Lengths d)
+
+-- what a call of the reader answers and leaves
+pub record Took : Type 0 where
+  pub answer : Answer
+  pub numbers : List ℕ
+  pub stores : List (List ℕ)
+
+abbrev pub took : Answer → List ℕ → List (List ℕ) → Took
+took r xs ss = record { answer = r; numbers = xs; stores = ss }
+
+-- "taking up gives back the session written, whatever stood there"; "leaves the session unchanged" otherwise
+unfoldable pub taken : Form → List ℕ → List ℕ → List ℕ → List ℕ → Took
+taken form s xs orders mailboxes =
+    cond (lent form xs orders mailboxes)
+    (cond (isImage form s)
+    (took Done (numbersOf (itemsOf form) s) (storesOf (itemsOf form) s))
+    (took Contents xs (stores orders mailboxes)))
+    (took Lengths xs (stores orders mailboxes))
+
+-- the lengths of stores
+unfoldable pub lengths : List (List ℕ) → List ℕ
+lengths [] = []
+lengths (s ∷ ss) = length s ∷ lengths ss

@@ -1,0 +1,184 @@
+// The table of an image's fields, form by form, and a form's sizes.
+ghost use mathlib.Core.Path.{_≡_};
+ghost use Rattle.image.specs.Table.{rowAt};
+ghost use Rattle.image.specs.Items.{sizesOf};
+
+// A field: its head as a number of so many bytes (tag and length; for the form's number the content too), which is the same
+// in every image of the form; how many records it has, how many parts a record has besides the first, and their lengths as
+// hexadecimal digits, the first part's last; or the size of its store; how many bytes stand behind the head.
+pub struct Row {
+    pub width: usize,
+    pub head: u64,
+    pub records: u64,
+    pub more: u64,
+    pub widths: u64,
+    pub store: usize,
+    pub bytes: usize,
+}
+
+// The forms that are written or taken up, each by the card that made it.
+pub enum Form {
+    Two,
+}
+
+// The fields of form 2, in the order of `form2`.
+const ROWS: [Row; 13] = [
+    Row {
+        width: 4,
+        head: 0x01_0001_02,
+        records: 0,
+        more: 0,
+        widths: 0,
+        store: 0,
+        bytes: 0,
+    },
+    Row {
+        width: 3,
+        head: 0x02_0004,
+        records: 1,
+        more: 0,
+        widths: 0x4,
+        store: 0,
+        bytes: 4,
+    },
+    Row {
+        width: 3,
+        head: 0x03_0008,
+        records: 1,
+        more: 0,
+        widths: 0x8,
+        store: 0,
+        bytes: 8,
+    },
+    Row {
+        width: 3,
+        head: 0x05_0008,
+        records: 1,
+        more: 0,
+        widths: 0x8,
+        store: 0,
+        bytes: 8,
+    },
+    Row {
+        width: 3,
+        head: 0x06_0001,
+        records: 1,
+        more: 0,
+        widths: 0x1,
+        store: 0,
+        bytes: 1,
+    },
+    Row {
+        width: 3,
+        head: 0x07_0500,
+        records: 64,
+        more: 2,
+        widths: 0x488,
+        store: 0,
+        bytes: 1280,
+    },
+    Row {
+        width: 3,
+        head: 0x08_0001,
+        records: 1,
+        more: 0,
+        widths: 0x1,
+        store: 0,
+        bytes: 1,
+    },
+    Row {
+        width: 3,
+        head: 0x09_00c8,
+        records: 8,
+        more: 5,
+        widths: 0x412882,
+        store: 0,
+        bytes: 200,
+    },
+    Row {
+        width: 3,
+        head: 0x0a_00f0,
+        records: 8,
+        more: 8,
+        widths: 0x241228821,
+        store: 0,
+        bytes: 240,
+    },
+    Row {
+        width: 3,
+        head: 0x0b_0010,
+        records: 8,
+        more: 0,
+        widths: 0x2,
+        store: 0,
+        bytes: 16,
+    },
+    Row {
+        width: 3,
+        head: 0x0c_04c0,
+        records: 64,
+        more: 4,
+        widths: 0x14248,
+        store: 0,
+        bytes: 1216,
+    },
+    Row {
+        width: 3,
+        head: 0x0d_7800,
+        records: 0,
+        more: 0,
+        widths: 0,
+        store: 30720,
+        bytes: 30720,
+    },
+    Row {
+        width: 3,
+        head: 0x0e_7800,
+        records: 0,
+        more: 0,
+        widths: 0,
+        store: 30720,
+        bytes: 30720,
+    },
+];
+
+// The field at a row; none behind the last.
+pub fn row_at(i: usize) -> Row
+    ensures { λ r. ⌜ r ≡ rowAt i ⌝ }
+{
+    if i < 13 {
+        return ROWS[i];
+    }
+    Row {
+        width: 0,
+        head: 0,
+        records: 0,
+        more: 0,
+        widths: 0,
+        store: 0,
+        bytes: 0,
+    }
+}
+
+// A form's first row and how many fields it has; how many numbers a session has, the sizes of a store and of the image.
+pub struct Sizes {
+    pub first: usize,
+    pub fields: u64,
+    pub numbers: usize,
+    pub store: usize,
+    pub image: usize,
+}
+
+pub fn sizes_of(form: Form) -> Sizes
+    ensures { λ r. ⌜ r ≡ sizesOf form ⌝ }
+{
+    match form {
+        Form::Two => Sizes {
+            first: 0,
+            fields: 13,
+            numbers: 645,
+            store: 30720,
+            image: 64454,
+        },
+    }
+}

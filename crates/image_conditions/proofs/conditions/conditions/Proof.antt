@@ -1,0 +1,109 @@
+-- `conditions` meets its contract: what each call in it says, put together. Assumes nothing.
+use Rattle.image_conditions.specs.Conditions.{conditions}
+use borrow.Author.Needs.{needs}
+use Rattle.image_conditions.proofs.conditions.conditions.Statement.{statement}
+use Rattle.image_conditions.proofs.conditions.conditions.Tie as tie
+
+every-mailbox-requires : tie.Need-every-mailbox-requires
+every-mailbox-requires c κs = search needs
+
+journal-conditions-requires : tie.Need-journal-conditions-requires
+journal-conditions-requires c κs = search needs
+
+both-requires : tie.Need-both-requires
+both-requires c κs = search needs
+
+both-requires-2 : tie.Need-both-requires-2
+both-requires-2 c κs = search needs
+
+every-place-requires : tie.Need-every-place-requires
+every-place-requires c κs = search needs
+
+open-conditions-requires : tie.Need-open-conditions-requires
+open-conditions-requires c κs = search needs
+
+both-requires-3 : tie.Need-both-requires-3
+both-requires-3 c κs = search needs
+
+both-requires-4 : tie.Need-both-requires-4
+both-requires-4 c κs = search needs
+
+nonce-conditions-requires : tie.Need-nonce-conditions-requires
+nonce-conditions-requires c κs = search needs
+
+download-conditions-requires : tie.Need-download-conditions-requires
+download-conditions-requires c κs = search needs
+
+both-requires-5 : tie.Need-both-requires-5
+both-requires-5 c κs = search needs
+
+both-requires-6 : tie.Need-both-requires-6
+both-requires-6 c κs = search needs
+
+clock-fits-requires : tie.Need-clock-fits-requires
+clock-fits-requires c κs = search needs
+
+openings-fit-requires : tie.Need-openings-fit-requires
+openings-fit-requires c κs = search needs
+
+both-requires-7 : tie.Need-both-requires-7
+both-requires-7 c κs = search needs
+
+both-requires-8 : tie.Need-both-requires-8
+both-requires-8 c κs = search needs
+
+returns : tie.Need-returns
+unfolding conditions
+returns c =
+    let at-clock-fits = c .before .before .before .clock-fits in
+    let at-both6 = c .before .before .before .before .both6 in
+    let at-both5 = c .before .before .before .before .before .both5 in
+    let at-download-conditions = c .before .before .before .before .before .before .download-conditions in
+    let at-nonce-conditions = c .before .before .before .before .before .before .before .nonce-conditions in
+    let at-both4 = c .before .before .before .before .before .before .before .before .both4 in
+    let at-both3 = c .before .before .before .before .before .before .before .before .before .both3 in
+    let at-open-conditions = c .before .before .before .before .before .before .before .before .before .before .open-conditions in
+    let at-every-place = c .before .before .before .before .before .before .before .before .before .before .before .every-place in
+    let at-both2 = c .before .before .before .before .before .before .before .before .before .before .before .before .both2 in
+    let at-both = c .before .before .before .before .before .before .before .before .before .before .before .before .before .both in
+    let at-journal-conditions = c .before .before .before .before .before .before .before .before .before .before .before .before .before .before .journal-conditions in
+    let at-every-mailbox = c .before .before .before .before .before .before .before .before .before .before .before .before .before .before .before .every-mailbox in
+    rw (
+      c .before .both7 .ensures,
+      c .before .before .openings-fit .ensures,
+      at-clock-fits .ensures,
+      at-both6 .ensures,
+      at-both5 .ensures,
+      at-download-conditions .ensures,
+      at-nonce-conditions .ensures,
+      at-both4 .ensures,
+      at-both3 .ensures,
+      at-open-conditions .ensures,
+      at-every-place .ensures,
+      at-both2 .ensures,
+      at-both .ensures,
+      at-journal-conditions .ensures,
+      at-every-mailbox .ensures,
+    ) at (c .both8 .ensures)
+
+pub conditions-spec : {M : Type 1} → statement M
+conditions-spec =
+    tie.close
+    (tie.spec
+    every-mailbox-requires
+    journal-conditions-requires
+    both-requires
+    both-requires-2
+    every-place-requires
+    open-conditions-requires
+    both-requires-3
+    both-requires-4
+    nonce-conditions-requires
+    download-conditions-requires
+    both-requires-5
+    both-requires-6
+    clock-fits-requires
+    openings-fit-requires
+    both-requires-7
+    both-requires-8
+    returns)

@@ -1,0 +1,70 @@
+-- `open_of` meets its contract. The loop's invariant: the count so far. Assumes nothing.
+use Prim.Native.Nat.{_-_, _≤_}
+use mathlib.Core.Path.{_≡_, sym, ap, _∙_}
+use mathlib.Core.Bool.{Bool, cond}
+use native.Mathlib.Omega.{arith}
+use Rattle.image_conditions.specs.Shapes.{count}
+use Rattle.image_conditions.specs.Conditions.{isOpenOf}
+use Rattle.image_conditions.proofs.Shapes.{count-none, count-next}
+use borrow.Author.Needs.{needs}
+use Rattle.image_conditions.proofs.tables.open_of.Statement.{statement}
+use Rattle.image_conditions.proofs.tables.open_of.Tie as tie
+
+abbrev Inv-loop : tie.InvT-loop
+Inv-loop numbers s k₀ i₀ k i = (i ≤ 16) × (k ≡ count (isOpenOf numbers s) i) × (k ≤ i)
+
+abbrev μ-loop : tie.MeasureT-loop
+μ-loop numbers s k₀ i₀ k i = 16 - i
+
+loop-holds : tie.Need-loop-holds Inv-loop μ-loop
+loop-holds c =
+    let at-args = c .before .args in
+    (search needs, sym (count-none (isOpenOf (at-args .numbers .now) (at-args .s))), search needs)
+
+is-open-of-requires : tie.Need-is-open-of-requires Inv-loop μ-loop
+is-open-of-requires c κs = search needs
+
+one-if-requires : tie.Need-one-if-requires Inv-loop μ-loop
+one-if-requires c κs = search needs
+
+add-k : tie.Need-add-k Inv-loop μ-loop
+add-k c = omega (arith, c .one-if .ensures .1)
+
+add-i : tie.Need-add-i Inv-loop μ-loop
+add-i c = search needs
+
+loop-less : tie.Need-loop-less Inv-loop μ-loop
+loop-less c = search needs
+
+loop-again : tie.Need-loop-again Inv-loop μ-loop
+loop-again c =
+    let at-args = c .before .before .before .before .before .args in
+    let l = c .before .before .before .loop in
+    let one = c .one-if .ensures in
+    let e = one .0 ∙ ap (λ (t : Bool). cond t 1 0) (c .before .is-open-of .ensures) in (
+      search needs,
+      omega (arith, l .inv .1, e, count-next (isOpenOf (at-args .numbers .now) (at-args .s)) (l .i)),
+      omega (arith, one .1),
+    )
+
+returns : tie.Need-returns Inv-loop μ-loop
+returns c =
+    let at-args = c .before .before .before .args in
+    let l = c .before .loop in
+    let e : l .i ≡ 16 = omega arith in
+    l .inv .1 ∙ ap (count (isOpenOf (at-args .numbers .now) (at-args .s))) e
+
+pub open-of-spec : {M : Type 1} → statement M
+open-of-spec =
+    tie.close
+    (tie.spec
+    Inv-loop
+    μ-loop
+    loop-holds
+    is-open-of-requires
+    one-if-requires
+    add-k
+    add-i
+    loop-less
+    loop-again
+    returns)

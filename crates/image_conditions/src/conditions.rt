@@ -1,0 +1,139 @@
+// The list: whether numbers and stores are a session that an image may hold.
+use crate::layout::CLOCK;
+use crate::layout::DOWNLOAD_COUNT_AT;
+use crate::layout::NONCE_COUNT_AT;
+use crate::layout::NUMBER_COUNT;
+use crate::layout::OPENINGS;
+use crate::tables::downloads_unused;
+use crate::tables::events_fit;
+use crate::tables::every_download;
+use crate::tables::every_event;
+use crate::tables::every_mailbox;
+use crate::tables::every_nonce;
+use crate::tables::every_place;
+use crate::tables::every_subscriber;
+use crate::tables::journal_unused;
+use crate::tables::nonces_distinct;
+use crate::tables::nonces_unused;
+use crate::tables::numbers_distinct;
+use crate::tables::open_in_all;
+use crate::tests::both;
+ghost use mathlib.Core.Path.{_≡_};
+ghost use lib.ListN.{length};
+ghost use Rattle.bank_state.specs.Limits.{storeBytes};
+ghost use Rattle.image_conditions.specs.Layout.{numberCount};
+ghost use Rattle.image_conditions.specs.Conditions.{clockFits, openingsFit, nonceCountFits, downloadCountFits};
+ghost use Rattle.image_conditions.specs.Conditions.{nonceConditions, downloadConditions, openConditions};
+ghost use Rattle.image_conditions.specs.Conditions.{journalConditions, conditions, admitted};
+
+const STORE_BYTES: usize = 30720;
+
+const LAST_TIME: u64 = 4294967295;
+
+const MAX_OPENINGS: u64 = 1213056;
+
+fn clock_fits(numbers: &[u64]) -> bool
+    requires { ⌜ length (now numbers) ≡ numberCount ⌝ }
+    ensures { λ r. ⌜ r ≡ clockFits (now (numbers .entry)) ⌝ }
+{
+    numbers[CLOCK] <= LAST_TIME
+}
+
+fn openings_fit(numbers: &[u64]) -> bool
+    requires { ⌜ length (now numbers) ≡ numberCount ⌝ }
+    ensures { λ r. ⌜ r ≡ openingsFit (now (numbers .entry)) ⌝ }
+{
+    numbers[OPENINGS] <= MAX_OPENINGS
+}
+
+fn nonce_count_fits(numbers: &[u64]) -> bool
+    requires { ⌜ length (now numbers) ≡ numberCount ⌝ }
+    ensures { λ r. ⌜ r ≡ nonceCountFits (now (numbers .entry)) ⌝ }
+{
+    numbers[NONCE_COUNT_AT] <= 64
+}
+
+fn download_count_fits(numbers: &[u64]) -> bool
+    requires { ⌜ length (now numbers) ≡ numberCount ⌝ }
+    ensures { λ r. ⌜ r ≡ downloadCountFits (now (numbers .entry)) ⌝ }
+{
+    numbers[DOWNLOAD_COUNT_AT] <= 8
+}
+
+fn nonce_conditions(numbers: &[u64]) -> bool
+    requires { ⌜ length (now numbers) ≡ numberCount ⌝ }
+    ensures { λ r. ⌜ r ≡ nonceConditions (now (numbers .entry)) ⌝ }
+{
+    let distinct = both(nonces_distinct(numbers), both(nonces_unused(numbers), true));
+    both(
+        nonce_count_fits(numbers),
+        both(every_nonce(numbers), distinct),
+    )
+}
+
+fn download_conditions(numbers: &[u64]) -> bool
+    requires { ⌜ length (now numbers) ≡ numberCount ⌝ }
+    ensures { λ r. ⌜ r ≡ downloadConditions (now (numbers .entry)) ⌝ }
+{
+    let unused = both(downloads_unused(numbers), true);
+    both(
+        download_count_fits(numbers),
+        both(every_download(numbers), unused),
+    )
+}
+
+fn open_conditions(numbers: &[u64]) -> bool
+    requires { ⌜ length (now numbers) ≡ numberCount ⌝ }
+    ensures { λ r. ⌜ r ≡ openConditions (now (numbers .entry)) ⌝ }
+{
+    both(
+        numbers_distinct(numbers),
+        both(open_in_all(numbers), both(every_subscriber(numbers), true)),
+    )
+}
+
+fn journal_conditions(numbers: &[u64]) -> bool
+    requires { ⌜ length (now numbers) ≡ numberCount ⌝ }
+    ensures { λ r. ⌜ r ≡ journalConditions (now (numbers .entry)) ⌝ }
+{
+    both(
+        events_fit(numbers),
+        both(every_event(numbers), both(journal_unused(numbers), true)),
+    )
+}
+
+fn conditions(numbers: &[u64], orders: &[u8], mailboxes: &[u8]) -> bool
+    requires { ⌜ (length (now numbers) ≡ numberCount) × (length (now orders) ≡ storeBytes)
+        × (length (now mailboxes) ≡ storeBytes) ⌝ }
+    ensures { λ r. ⌜ r ≡ conditions (now (numbers .entry)) (now (orders .entry)) (now (mailboxes .entry)) ⌝ }
+{
+    let journal = both(
+        every_mailbox(numbers, mailboxes),
+        both(journal_conditions(numbers), true),
+    );
+    let places = both(
+        every_place(numbers, orders),
+        both(open_conditions(numbers), journal),
+    );
+    let nonces = both(
+        nonce_conditions(numbers),
+        both(download_conditions(numbers), places),
+    );
+    both(clock_fits(numbers), both(openings_fit(numbers), nonces))
+}
+
+// Whether the session is one of the list; no other lengths are.
+pub fn admitted(numbers: &[u64], orders: &[u8], mailboxes: &[u8]) -> bool
+    ensures { λ r. ⌜ r ≡ admitted (now (numbers .entry)) (now (orders .entry)) (now (mailboxes .entry)) ⌝ }
+{
+    if numbers.len() != NUMBER_COUNT {
+        return false;
+    }
+    if orders.len() != STORE_BYTES {
+        return false;
+    }
+    if mailboxes.len() != STORE_BYTES {
+        return false;
+    }
+    both(conditions(numbers, orders, mailboxes), true)
+}

@@ -1,0 +1,426 @@
+// The conditions of all records of a kind, of places and open downloads together, and of the bytes behind a length.
+use crate::layout::CLOCK;
+use crate::layout::DOWNLOAD_WIDTH;
+use crate::layout::DOWNLOADS;
+use crate::layout::EVENT_WIDTH;
+use crate::layout::EVENTS;
+use crate::layout::JOURNAL;
+use crate::layout::NONCE_WIDTH;
+use crate::layout::NONCES;
+use crate::layout::OPENINGS;
+use crate::layout::SLOT_COUNT;
+use crate::layout::download_at;
+use crate::layout::downloads;
+use crate::layout::event_at;
+use crate::layout::file_at;
+use crate::layout::file_of;
+use crate::layout::nonce_at;
+use crate::layout::nonces;
+use crate::layout::place_at;
+use crate::layout::slot_at;
+use crate::layout::used_events;
+use crate::records::download_holds;
+use crate::records::event_holds;
+use crate::records::nonce_time;
+use crate::records::place_holds;
+use crate::tests::at_most_twice;
+use crate::tests::both;
+use crate::tests::one_if;
+use crate::tests::up_to;
+use crate::tests::zero_bytes;
+use crate::tests::zero_numbers;
+use bank_state::limits::NONCE_COUNT;
+use bank_state::limits::PLACE_COUNT;
+use journal::event::RECORD_COUNT;
+ghost use mathlib.Core.Path.{_≡_};
+ghost use mathlib.Core.Bool.{not};
+ghost use Prim.Native.Nat.{_+_, _-_, _*_, _≤_, _<_};
+ghost use lib.ListN.{length};
+ghost use Rattle.message.specs.Limits.{subscribers};
+ghost use Rattle.bank_state.specs.Limits.{placeCount, storeBytes, nonceCount};
+ghost use Rattle.image_conditions.specs.Shapes.{every, count, allZero};
+ghost use Rattle.image_conditions.specs.Layout.{numberCount, nonces, downloads, usedEvents};
+ghost use Rattle.image_conditions.specs.Conditions.{sameNonce, noncesDistinct, unused, noncesUnused, everyNonce};
+ghost use Rattle.image_conditions.specs.Conditions.{downloadTest, downloadRises, downloadsUnused, everyDownload};
+ghost use Rattle.image_conditions.specs.Conditions.{placeTest, placeBytes, everyPlace, slotCount};
+ghost use Rattle.image_conditions.specs.Conditions.{sameNumber, numbersDistinct, isOpenSlot, isOpenOf, openInAll};
+ghost use Rattle.image_conditions.specs.Conditions.{openOfOne, everySubscriber, eventsFit, bytesBehind};
+ghost use Rattle.image_conditions.specs.Conditions.{mailboxBytes, mailboxTest, everyMailbox};
+ghost use Rattle.image_conditions.specs.Conditions.{eventTest, everyEvent};
+ghost use Rattle.image_conditions.specs.Conditions.{journalUnused, nonceTest};
+
+const FILE_BYTES: usize = 3840;
+
+const FILE_SIZE: u64 = 3840;
+
+// Whether the numbers of records from one on, up to the end of their field, are 0.
+fn unused(numbers: &[u64], at: usize, width: usize, used: usize, all: usize) -> bool
+    requires { ⌜ (used * width ≤ width * all) × (at + width * all ≤ length (now numbers))
+        × (length (now numbers) ≡ numberCount) ⌝ }
+    ensures { λ r. ⌜ r ≡ unused (now (numbers .entry)) at width used all ⌝ }
+{
+    let from = at + used * width;
+    let end = at + width * all;
+    zero_numbers(&numbers[from..end])
+}
+
+// ---- nonces
+
+fn nonce_test(numbers: &[u64], i: usize) -> bool
+    requires { ⌜ (i < nonceCount) × (length (now numbers) ≡ numberCount) ⌝ }
+    ensures { λ r. ⌜ r ≡ nonceTest (now (numbers .entry)) i ⌝ }
+{
+    nonce_time(numbers[CLOCK], nonce_at(numbers, i))
+}
+
+pub fn every_nonce(numbers: &[u64]) -> bool
+    requires { ⌜ length (now numbers) ≡ numberCount ⌝ }
+    ensures { λ r. ⌜ r ≡ everyNonce (now (numbers .entry)) ⌝ }
+{
+    let n = nonces(numbers);
+    let mut ok = true;
+    let mut i = 0;
+    while i < n {
+        ok = both(nonce_test(numbers, i), ok);
+        i += 1;
+    }
+    ok
+}
+
+// Whether two records have different nonces.
+fn other_nonce(numbers: &[u64], i: usize, j: usize) -> bool
+    requires { ⌜ (i < nonceCount) × (j < nonceCount) × (length (now numbers) ≡ numberCount) ⌝ }
+    ensures { λ r. ⌜ r ≡ not (sameNonce (now (numbers .entry)) i j) ⌝ }
+{
+    let a = nonce_at(numbers, i);
+    let b = nonce_at(numbers, j);
+    !both(a.high == b.high, a.low == b.low)
+}
+
+// Whether a nonce differs from all before it.
+fn new_nonce(numbers: &[u64], i: usize) -> bool
+    requires { ⌜ (i < nonceCount) × (length (now numbers) ≡ numberCount) ⌝ }
+    ensures { λ r. ⌜ r ≡ every (λ j. not (sameNonce (now (numbers .entry)) i j)) i ⌝ }
+{
+    let mut ok = true;
+    let mut j = 0;
+    while j < i {
+        ok = both(other_nonce(numbers, i, j), ok);
+        j += 1;
+    }
+    ok
+}
+
+pub fn nonces_distinct(numbers: &[u64]) -> bool
+    requires { ⌜ length (now numbers) ≡ numberCount ⌝ }
+    ensures { λ r. ⌜ r ≡ noncesDistinct (now (numbers .entry)) ⌝ }
+{
+    let n = nonces(numbers);
+    let mut ok = true;
+    let mut i = 0;
+    while i < n {
+        ok = both(new_nonce(numbers, i), ok);
+        i += 1;
+    }
+    ok
+}
+
+pub fn nonces_unused(numbers: &[u64]) -> bool
+    requires { ⌜ length (now numbers) ≡ numberCount ⌝ }
+    ensures { λ r. ⌜ r ≡ noncesUnused (now (numbers .entry)) ⌝ }
+{
+    unused(numbers, NONCES, NONCE_WIDTH, nonces(numbers), NONCE_COUNT)
+}
+
+// ---- open downloads
+
+fn download_rises(numbers: &[u64], i: usize) -> bool
+    requires { ⌜ (i < placeCount) × (length (now numbers) ≡ numberCount) ⌝ }
+    ensures { λ r. ⌜ r ≡ downloadRises (now (numbers .entry)) i ⌝ }
+{
+    if i == 0 {
+        return true;
+    }
+    let a = download_at(numbers, i - 1);
+    let b = download_at(numbers, i);
+    a.low < b.low
+}
+
+fn download_test(numbers: &[u64], i: usize) -> bool
+    requires { ⌜ (i < placeCount) × (length (now numbers) ≡ numberCount) ⌝ }
+    ensures { λ r. ⌜ r ≡ downloadTest (now (numbers .entry)) i ⌝ }
+{
+    let d = download_at(numbers, i);
+    let file = file_of(numbers, d.subscriber);
+    both(
+        download_holds(numbers[CLOCK], numbers[OPENINGS], file, d),
+        download_rises(numbers, i),
+    )
+}
+
+pub fn every_download(numbers: &[u64]) -> bool
+    requires { ⌜ length (now numbers) ≡ numberCount ⌝ }
+    ensures { λ r. ⌜ r ≡ everyDownload (now (numbers .entry)) ⌝ }
+{
+    let n = downloads(numbers);
+    let mut ok = true;
+    let mut i = 0;
+    while i < n {
+        ok = both(download_test(numbers, i), ok);
+        i += 1;
+    }
+    ok
+}
+
+pub fn downloads_unused(numbers: &[u64]) -> bool
+    requires { ⌜ length (now numbers) ≡ numberCount ⌝ }
+    ensures { λ r. ⌜ r ≡ downloadsUnused (now (numbers .entry)) ⌝ }
+{
+    unused(
+        numbers,
+        DOWNLOADS,
+        DOWNLOAD_WIDTH,
+        downloads(numbers),
+        PLACE_COUNT,
+    )
+}
+
+// ---- places and mailboxes
+
+// Whether the bytes of part i of a store behind this length are 0.
+fn zero_behind(store: &[u8], i: usize, n: u64) -> bool
+    requires { ⌜ (i < placeCount) × (length (now store) ≡ storeBytes) ⌝ }
+    ensures { λ r. ⌜ r ≡ allZero (bytesBehind (now (store .entry)) i n) ⌝ }
+{
+    let from = i * FILE_BYTES + up_to(FILE_SIZE, n) as usize;
+    let end = i * FILE_BYTES + FILE_BYTES;
+    zero_bytes(&store[from..end])
+}
+
+fn place_bytes(numbers: &[u64], orders: &[u8], i: usize) -> bool
+    requires { ⌜ (i < placeCount) × (length (now numbers) ≡ numberCount) × (length (now orders) ≡ storeBytes) ⌝ }
+    ensures { λ r. ⌜ r ≡ placeBytes (now (numbers .entry)) (now (orders .entry)) i ⌝ }
+{
+    let p = place_at(numbers, i);
+    zero_behind(orders, i, p.length)
+}
+
+fn place_test(numbers: &[u64], orders: &[u8], i: usize) -> bool
+    requires { ⌜ (i < placeCount) × (length (now numbers) ≡ numberCount) × (length (now orders) ≡ storeBytes) ⌝ }
+    ensures { λ r. ⌜ r ≡ placeTest (now (numbers .entry)) (now (orders .entry)) i ⌝ }
+{
+    let p = place_at(numbers, i);
+    both(
+        place_holds(numbers[CLOCK], numbers[OPENINGS], p),
+        place_bytes(numbers, orders, i),
+    )
+}
+
+pub fn every_place(numbers: &[u64], orders: &[u8]) -> bool
+    requires { ⌜ (length (now numbers) ≡ numberCount) × (length (now orders) ≡ storeBytes) ⌝ }
+    ensures { λ r. ⌜ r ≡ everyPlace (now (numbers .entry)) (now (orders .entry)) ⌝ }
+{
+    let mut ok = true;
+    let mut i = 0;
+    while i < PLACE_COUNT {
+        ok = both(place_test(numbers, orders, i), ok);
+        i += 1;
+    }
+    ok
+}
+
+fn mailbox_bytes(numbers: &[u64], mailboxes: &[u8], i: usize) -> bool
+    requires { ⌜ (i < placeCount) × (length (now numbers) ≡ numberCount) × (length (now mailboxes) ≡ storeBytes) ⌝ }
+    ensures { λ r. ⌜ r ≡ mailboxBytes (now (numbers .entry)) (now (mailboxes .entry)) i ⌝ }
+{
+    zero_behind(mailboxes, i, file_at(numbers, i))
+}
+
+fn mailbox_test(numbers: &[u64], mailboxes: &[u8], i: usize) -> bool
+    requires { ⌜ (i < placeCount) × (length (now numbers) ≡ numberCount) × (length (now mailboxes) ≡ storeBytes) ⌝ }
+    ensures { λ r. ⌜ r ≡ mailboxTest (now (numbers .entry)) (now (mailboxes .entry)) i ⌝ }
+{
+    both(
+        file_at(numbers, i) <= FILE_SIZE,
+        mailbox_bytes(numbers, mailboxes, i),
+    )
+}
+
+pub fn every_mailbox(numbers: &[u64], mailboxes: &[u8]) -> bool
+    requires { ⌜ (length (now numbers) ≡ numberCount) × (length (now mailboxes) ≡ storeBytes) ⌝ }
+    ensures { λ r. ⌜ r ≡ everyMailbox (now (numbers .entry)) (now (mailboxes .entry)) ⌝ }
+{
+    let mut ok = true;
+    let mut i = 0;
+    while i < PLACE_COUNT {
+        ok = both(mailbox_test(numbers, mailboxes, i), ok);
+        i += 1;
+    }
+    ok
+}
+
+// ---- places and open downloads together
+
+// Whether two slots are not both in use with the same running number.
+fn other_number(numbers: &[u64], i: usize, j: usize) -> bool
+    requires { ⌜ (i < slotCount) × (j < slotCount) × (length (now numbers) ≡ numberCount) ⌝ }
+    ensures { λ r. ⌜ r ≡ not (sameNumber (now (numbers .entry)) i j) ⌝ }
+{
+    let a = slot_at(numbers, i);
+    let b = slot_at(numbers, j);
+    !both(0 < a.state, both(0 < b.state, both(a.low == b.low, true)))
+}
+
+// Whether a slot's running number differs from all before it.
+fn new_number(numbers: &[u64], i: usize) -> bool
+    requires { ⌜ (i < slotCount) × (length (now numbers) ≡ numberCount) ⌝ }
+    ensures { λ r. ⌜ r ≡ every (λ j. not (sameNumber (now (numbers .entry)) i j)) i ⌝ }
+{
+    let mut ok = true;
+    let mut j = 0;
+    while j < i {
+        ok = both(other_number(numbers, i, j), ok);
+        j += 1;
+    }
+    ok
+}
+
+pub fn numbers_distinct(numbers: &[u64]) -> bool
+    requires { ⌜ length (now numbers) ≡ numberCount ⌝ }
+    ensures { λ r. ⌜ r ≡ numbersDistinct (now (numbers .entry)) ⌝ }
+{
+    let mut ok = true;
+    let mut i = 0;
+    while i < SLOT_COUNT {
+        ok = both(new_number(numbers, i), ok);
+        i += 1;
+    }
+    ok
+}
+
+fn is_open_slot(numbers: &[u64], i: usize) -> bool
+    requires { ⌜ (i < slotCount) × (length (now numbers) ≡ numberCount) ⌝ }
+    ensures { λ r. ⌜ r ≡ isOpenSlot (now (numbers .entry)) i ⌝ }
+{
+    let a = slot_at(numbers, i);
+    a.state == 1
+}
+
+// How many of the first n slots are open.
+fn open_slots(numbers: &[u64], n: usize) -> u64
+    requires { ⌜ (n ≤ slotCount) × (length (now numbers) ≡ numberCount) ⌝ }
+    ensures { λ r. ⌜ (r ≡ count (isOpenSlot (now (numbers .entry))) n) × (r ≤ n) ⌝ }
+{
+    let mut k: u64 = 0;
+    let mut i = 0;
+    while i < n {
+        k += one_if(is_open_slot(numbers, i));
+        i += 1;
+    }
+    k
+}
+
+pub fn open_in_all(numbers: &[u64]) -> bool
+    requires { ⌜ length (now numbers) ≡ numberCount ⌝ }
+    ensures { λ r. ⌜ r ≡ openInAll (now (numbers .entry)) ⌝ }
+{
+    open_slots(numbers, SLOT_COUNT) <= 8
+}
+
+fn is_open_of(numbers: &[u64], s: u64, i: usize) -> bool
+    requires { ⌜ (i < slotCount) × (length (now numbers) ≡ numberCount) ⌝ }
+    ensures { λ r. ⌜ r ≡ isOpenOf (now (numbers .entry)) s i ⌝ }
+{
+    let a = slot_at(numbers, i);
+    both(a.state == 1, a.subscriber == s)
+}
+
+// How many slots are open transactions of a subscriber.
+fn open_of(numbers: &[u64], s: u64) -> u64
+    requires { ⌜ length (now numbers) ≡ numberCount ⌝ }
+    ensures { λ r. ⌜ r ≡ count (isOpenOf (now (numbers .entry)) s) slotCount ⌝ }
+{
+    let mut k: u64 = 0;
+    let mut i = 0;
+    while i < SLOT_COUNT {
+        k += one_if(is_open_of(numbers, s, i));
+        i += 1;
+    }
+    k
+}
+
+fn open_of_one(numbers: &[u64], i: usize) -> bool
+    requires { ⌜ (i < subscribers) × (length (now numbers) ≡ numberCount) ⌝ }
+    ensures { λ r. ⌜ r ≡ openOfOne (now (numbers .entry)) i ⌝ }
+{
+    open_of(numbers, (i + 1) as u64) <= 4
+}
+
+pub fn every_subscriber(numbers: &[u64]) -> bool
+    requires { ⌜ length (now numbers) ≡ numberCount ⌝ }
+    ensures { λ r. ⌜ r ≡ everySubscriber (now (numbers .entry)) ⌝ }
+{
+    let mut ok = true;
+    let mut i = 0;
+    while i < 8 {
+        ok = both(open_of_one(numbers, i), ok);
+        i += 1;
+    }
+    ok
+}
+
+pub fn events_fit(numbers: &[u64]) -> bool
+    requires { ⌜ length (now numbers) ≡ numberCount ⌝ }
+    ensures { λ r. ⌜ r ≡ eventsFit (now (numbers .entry)) ⌝ }
+{
+    let open = open_slots(numbers, PLACE_COUNT);
+    at_most_twice(numbers[EVENTS], open, numbers[OPENINGS])
+}
+
+// ---- the journal
+
+fn event_test(numbers: &[u64], i: usize) -> bool
+    requires { ⌜ (i < usedEvents (now numbers)) × (length (now numbers) ≡ numberCount) ⌝ }
+    ensures { λ r. ⌜ r ≡ eventTest (now (numbers .entry)) i ⌝ }
+{
+    let e = event_at(numbers, i);
+    if i == 0 {
+        return event_holds(numbers[CLOCK], numbers[OPENINGS], numbers[EVENTS], 0, e, e);
+    }
+    let before = event_at(numbers, i - 1);
+    event_holds(
+        numbers[CLOCK],
+        numbers[OPENINGS],
+        numbers[EVENTS],
+        i as u64,
+        before,
+        e,
+    )
+}
+
+pub fn every_event(numbers: &[u64]) -> bool
+    requires { ⌜ length (now numbers) ≡ numberCount ⌝ }
+    ensures { λ r. ⌜ r ≡ everyEvent (now (numbers .entry)) ⌝ }
+{
+    let n = used_events(numbers);
+    let mut ok = true;
+    let mut i = 0;
+    while i < n {
+        ok = both(event_test(numbers, i), ok);
+        i += 1;
+    }
+    ok
+}
+
+pub fn journal_unused(numbers: &[u64]) -> bool
+    requires { ⌜ length (now numbers) ≡ numberCount ⌝ }
+    ensures { λ r. ⌜ r ≡ journalUnused (now (numbers .entry)) ⌝ }
+{
+    unused(
+        numbers,
+        JOURNAL,
+        EVENT_WIDTH,
+        used_events(numbers),
+        RECORD_COUNT,
+    )
+}
