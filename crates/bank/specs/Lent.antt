@@ -1,5 +1,5 @@
--- The bank's calls on lent memory: the call is document 01's on the bank that the rows are, and every number of the rows
--- after it is said. Rows that fail the one test, `isSound`, get number 1.
+-- The bank's calls on lent memory: the call is document 01's on the bank that the rows are, and every number of the
+-- rows after it is said. Rows that fail the one test, `isSound`, get number 1.
 use Prim.Native.Nat.{ℕ}
 use mathlib.Core.Bool.{cond}
 use mathlib.Core.List.{List}

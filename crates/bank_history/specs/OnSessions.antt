@@ -1,5 +1,5 @@
--- Lists of calls on a lent session, from numbers, records and stores that are all zero, and the statements that they are
--- the calls on the bank's own memory and leave the journal of those calls.
+-- Lists of calls on a lent session, from numbers, records and stores that are all zero, and the statements that they
+-- are the calls on the bank's own memory and leave the journal of those calls.
 use Prim.Native.Nat.{ℕ}
 use mathlib.Core.Bool.{true}
 use mathlib.Core.List.{List, [], _∷_}

@@ -1,4 +1,5 @@
--- The host's calls on a session in lent memory: the bank's call, the journal after it, and every number, record and byte.
+-- The host's calls on a session in lent memory: the bank's call, the journal after it, and every number, record and
+-- byte.
 use Prim.Native.Nat.{ℕ, _+_}
 use mathlib.Core.Bool.{Bool, cond, _&&_}
 use mathlib.Core.List.{List, [], _∷_, _++_}

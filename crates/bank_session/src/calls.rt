@@ -1,5 +1,5 @@
-// The host's calls on a session: a frame arrives, and a file goes into a mailbox. `frame_arrives` and `frame_held` alone
-// have the journal's row; what they call has its length.
+// The host's calls on a session: a frame arrives, and a file goes into a mailbox. `frame_arrives` and `frame_held`
+// alone have the journal's row; what they call has its length.
 use crate::layout::EVENTS_AT;
 use crate::layout::SESSION_SIZE;
 use bank::call::FrameAnswer;
@@ -113,8 +113,8 @@ fn frame_core(
     }
 }
 
-// A frame arrives at a bank time, with the session's numbers, the journal's row, the ID bytes, both stores and the reply
-// buffer lent.
+// A frame arrives at a bank time, with the session's numbers, the journal's row, the ID bytes, both stores and the
+// reply buffer lent.
 pub fn frame_arrives(
     rows: &mut [u64],
     row: &mut [Event],

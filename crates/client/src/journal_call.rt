@@ -1,5 +1,5 @@
-// The journal is handed to a run: document 02's call for runs that closed as unclear. `journal` and `journal_held` alone
-// have the row; what they call has the number of its records and what it says of the run's order.
+// The journal is handed to a run: document 02's call for runs that closed as unclear. `journal` and `journal_held`
+// alone have the row; what they call has the number of its records and what it says of the run's order.
 use crate::calls::Client;
 use client_run::next_run::ended;
 use client_run::run::ClientRun;

@@ -51,10 +51,10 @@ pub enum Step {
     Receipt,
 }
 
-// A client run. `exchange` is the outstanding request's exchange number, `segment` its segment number, `repeats` counts repeats and
-// returns, `transaction` and `number` (the order number) are known once opened, `segments` is N, 0 while unknown.
-// An upload has its payload's `length` and the highest segment `issued`; a download has the bytes held as `length`, the
-// segments `held`, and whether a receipt was issued.
+// A client run. `exchange` is the outstanding request's exchange number, `segment` its segment number, `repeats` counts
+// repeats and returns, `transaction` and `number` (the order number) are known once opened, `segments` is N, 0 while
+// unknown. An upload has its payload's `length` and the highest segment `issued`; a download has the bytes held as
+// `length`, the segments `held`, and whether a receipt was issued.
 pub struct ClientRun {
     pub stage: Stage,
     pub direction: Direction,

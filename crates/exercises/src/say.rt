@@ -69,11 +69,11 @@ fn say_keyed(table: &[u8], key: u8, v: [u64; VALUES]) {
     }
 }
 
-// Prints the text of a key, or nothing where no text has it. The keys: a record's letter for the line of a move; 1 to
-// 6 for what a request says, a to k for a reply; E for what follows each of them, P a request that repeats one, C the
+// Prints the text of a key, or nothing where no text has it. The keys: a record's letter for the line of a move; 1 to 6
+// for what a request says, a to k for a reply; E for what follows each of them, P a request that repeats one, C the
 // code of a reply, O, S, Y and K the codes' names in Annex 1; x and l for what became of a message, H for the hour; i,
-// q, w and n for what the call answered; u and d for a run's row in exercise C, o for a run that has not ended, B, Z and
-// X for what the bank has, T and W for whether the closing word is true.
+// q, w and n for what the call answered; u and d for a run's row in exercise C, o for a run that has not ended, B, Z
+// and X for what the bank has, T and W for whether the closing word is true.
 pub(crate) fn say(key: u8, v: [u64; VALUES]) {
     say_keyed(
         b"\

@@ -53,8 +53,7 @@ pub(crate) const MOVES: u8 = MOVES_B + 2;
 const MOVE_BYTES: usize = 4;
 
 // A move: its number, from 1 on, its letter, its client run, what becomes of its message, whether it comes over an hour
-// later, and whether its request repeats one: no
-// reply came just before, and it is no late copy.
+// later, and whether its request repeats one: no reply came just before, and it is no late copy.
 pub(crate) struct Move {
     pub number: u64,
     pub letter: u8,

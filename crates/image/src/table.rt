@@ -3,9 +3,9 @@ ghost use mathlib.Core.Path.{_≡_};
 ghost use Rattle.image.specs.Table.{rowAt};
 ghost use Rattle.image.specs.Items.{sizesOf};
 
-// A field: its head as a number of so many bytes (tag and length; for the form's number the content too), which is the same
-// in every image of the form; how many records it has, how many parts a record has besides the first, and their lengths as
-// hexadecimal digits, the first part's last; or the size of its store; how many bytes stand behind the head.
+// A field: its head as a number of so many bytes (tag and length; for the form's number the content too), which is the
+// same in every image of the form; how many records it has, how many parts a record has besides the first, and their
+// lengths as hexadecimal digits, the first part's last; or the size of its store; how many bytes stand behind the head.
 pub struct Row {
     pub width: usize,
     pub head: u64,
