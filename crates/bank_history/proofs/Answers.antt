@@ -31,11 +31,11 @@ use Rattle.bank_verdicts.specs.Refusals.{requestRows}
 use Rattle.bank_verdicts.specs.Judgement.{judge}
 use Rattle.bank.specs.Call.{Step, stepBy, respond, lentRight, frameCall, FrameInput}
 use Rattle.bank_history.specs.History.{Past, BankCall, Frame, exchangeOf, after, pastOf, callExchange}
-use Rattle.bank_history.specs.Invariant.{Sizes}
+use Rattle.bank_admitted.specs.State.{Sizes}
 use Rattle.bank_history.specs.Transactions.{answered}
 use Rattle.bank_history.specs.Answers.{FrameAnswered}
-use Rattle.bank_history.proofs.Cases.{happens}
-use Rattle.bank_history.proofs.Clock.{sized}
+use Rattle.bank_admitted.proofs.Cases.{happens}
+use Rattle.bank_admitted.proofs.Clock.{sized}
 use Rattle.bank_history.proofs.InRange.{in-range}
 use Rattle.bank_history.proofs.Uploads.{bare}
 use Rattle.bank_history.proofs.Keeps.{past-holds}

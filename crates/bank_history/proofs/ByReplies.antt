@@ -26,23 +26,7 @@ use Rattle.bank_verdicts.specs.declared.verdict.Action.the-variants as action
 use Rattle.bank_verdicts.specs.declared.verdict.Verdict.{Verdict}
 use Rattle.bank_verdicts.specs.declared.verdict.Verdict.the-variants as verdict
 use Rattle.bank_verdicts.specs.Replies.{replyTo}
-use Rattle.bank_history.specs.History.{
-  Exchange,
-  Stands,
-  newest,
-  older,
-  isOpening,
-  isUploadOpening,
-  isDownloadOpening,
-  isDelivery,
-  did,
-  ever,
-  times,
-  opens,
-  accepted,
-  atOpening,
-  segmentsAt,
-}
+use Rattle.bank_history.specs.History.{Exchange, Stands, newest, older, isOpening, isUploadOpening, isDownloadOpening, isDelivery, did, ever, times, opens, accepted, atOpening, segmentsAt}
 use Rattle.bank_history.specs.Sound.{isCancelling, Sound, SoundVerdict, SoundAction, AllSound}
 use Rattle.bank_history.specs.Sound as sounds
 use Rattle.bank_history.specs.Status.{Status, Open, Cancelled, dropIdle, statusAfter, status, openedIn, openings}

@@ -42,48 +42,23 @@ use Rattle.bank.specs.declared.mailbox.FileAnswer.the-variants as put
 use Rattle.bank_steps.specs.Steps.{onUpload, downloadActs, emptied, carryOut}
 use Rattle.bank.specs.Call.{Step, FrameCall, lentRight, replied, respond, frameCall, FrameInput}
 use Rattle.bank.specs.Mailbox.{fileNumber, carryOutFile, fileCall}
-use Rattle.bank_history.specs.History.{
-  Exchange,
-  Past,
-  BankCall,
-  Frame,
-  File,
-  isOpening,
-  mailboxFile,
-  exchangeOf,
-  entered,
-  placed,
-  after,
-  callExchange,
-}
-use Rattle.bank_history.specs.Invariant.{Sizes, Invariant, Holds}
-use Rattle.bank_history.specs.Transactions.{Emptied, Filled, Gone, filled, answered}
+use Rattle.bank_admitted.specs.State.{mailboxFile}
+use Rattle.bank_history.specs.History.{Exchange, Past, BankCall, Frame, File, isOpening, exchangeOf, entered, placed, after, callExchange}
+use Rattle.bank_admitted.specs.State.{Sizes}
+use Rattle.bank_history.specs.Invariant.{Invariant, Holds}
+use Rattle.bank_admitted.proofs.Files.{filled}
+use Rattle.bank_history.specs.Transactions.{Emptied, Filled, Gone, answered}
 use Rattle.bank_state.proofs.Drops.{each-endDownloads}
-use Rattle.bank_history.proofs.Rows.{each-set-all}
+use Rattle.bank_admitted.proofs.Rows.{each-set-all}
 use Rattle.message.proofs.Verdicts.{by-test}
-use Rattle.bank_history.proofs.Cases.{
-  Happens,
-  unreadable,
-  refused,
-  opensUpload,
-  opensDownload,
-  toUpload,
-  toDownload,
-  upload-acts,
-  download-goes-on,
-  happens,
-}
+use Rattle.bank_admitted.proofs.Cases.{Happens, unreadable, refused, opensUpload, opensDownload, toUpload, toDownload, upload-acts, happens}
+use Rattle.bank_history.proofs.GoesOn.{download-goes-on}
 use Rattle.bank_state.proofs.Found.{upload-found}
 use Rattle.bank_history.proofs.Uploads.{entry}
-use Rattle.bank_history.proofs.DownloadVerdicts.{mailbox-other}
-use Rattle.bank_history.proofs.Clock.{
-  advanced-keeps,
-  advanced-mailbox,
-  each-advanced,
-  each-download,
-  advanced-openings,
-}
-use Rattle.bank_history.proofs.Files.{FileSound, rejected, done, judged-file, filled-same, filled-other}
+use Rattle.bank_admitted.proofs.Downloads.{mailbox-other}
+use Rattle.bank_admitted.proofs.Clock.{advanced-mailbox, each-advanced, each-download, advanced-openings}
+use Rattle.bank_history.proofs.Clock.{advanced-keeps}
+use Rattle.bank_admitted.proofs.Files.{FileSound, rejected, done, judged-file, filled-same, filled-other}
 
 -- ---- what a call leaves
 
@@ -139,8 +114,8 @@ after-file mailbox file p holds = at (judged-file (p .bankState .bank) mailbox f
       refl,
       record {
         was = no-file (p .bankState) mailbox empty;
-        now = filled-same (p .bankState) (p .history) (holds .invariant) mailbox file known most some short empty;
-        others = λ n k d. filled-other (p .bankState) (p .history) (holds .invariant) mailbox file known most some short empty n
+        now = filled-same (p .bankState) (holds .invariant .state) mailbox file known most some short empty;
+        others = λ n k d. filled-other (p .bankState) (holds .invariant .state) mailbox file known most some short empty n
             (λ e. d (omega arith));
       },
     )

@@ -25,22 +25,7 @@ use Rattle.bank_verdicts.specs.declared.verdict.Verdict.{Verdict}
 use Rattle.bank_verdicts.specs.declared.verdict.Verdict.the-variants as verdict
 use Rattle.bank_verdicts.specs.Judgement.{mailboxSegments, uploadAt, downloadOf}
 use Rattle.bank.specs.Call.{FrameInput}
-use Rattle.bank_history.specs.History.{
-  Exchange,
-  BankCall,
-  Frame,
-  Past,
-  newest,
-  isOpening,
-  isBooking,
-  did,
-  ever,
-  accepted,
-  callExchange,
-  start,
-  after,
-  pastOf,
-}
+use Rattle.bank_history.specs.History.{Exchange, BankCall, Frame, Past, newest, isOpening, isBooking, did, ever, accepted, callExchange, start, after, pastOf}
 use Rattle.bank_history.specs.FalseEconomies.{Next}
 use Rattle.bank_history.specs.Transactions.{answered}
 use Rattle.bank_history.specs.Status.{
@@ -61,7 +46,7 @@ use Rattle.bank_history.specs.Status.{
   statusAfter,
   status,
 }
-use Rattle.bank_history.proofs.Cases.{
+use Rattle.bank_admitted.proofs.Cases.{
   Happens,
   unreadable,
   refused,

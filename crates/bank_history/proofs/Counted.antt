@@ -38,49 +38,21 @@ use Rattle.bank_verdicts.specs.Judgement.{transactionOf, uploadAt, downloadOf}
 use Rattle.bank_uploads.specs.Uploads.{grown, booked, attempted, placeAfter}
 use Rattle.bank_steps.specs.Steps.{onUpload, downloadActs, carryOut}
 use Rattle.bank.specs.Call.{respond}
-use Rattle.bank_history.specs.History.{
-  Exchange,
-  Past,
-  BankCall,
-  Stands,
-  newest,
-  older,
-  ActionIn,
-  isAction,
-  isOpening,
-  isTaking,
-  isDelivery,
-  did,
-  ever,
-  times,
-  exchangeOf,
-  start,
-  pastOf,
-}
-use Rattle.bank_history.specs.Invariant.{Sizes, Invariant, Holds}
-use Rattle.bank_history.proofs.Cases.{
-  Happens,
-  unreadable,
-  refused,
-  opensUpload,
-  opensDownload,
-  toUpload,
-  toDownload,
-  ToUpload,
-  ToDownload,
-  upload-acts,
-  upload-goes-on,
-  download-goes-on,
-  happens,
-}
-use Rattle.bank_history.proofs.Clock.{advanced-keeps, each-advanced, each-download}
+use Rattle.bank_history.specs.History.{Exchange, Past, BankCall, Stands, newest, older, ActionIn, isAction, isOpening, isTaking, isDelivery, did, ever, times, exchangeOf, start, pastOf}
+use Rattle.bank_admitted.specs.State.{Sizes}
+use Rattle.bank_history.specs.Invariant.{Invariant, Holds}
+use Rattle.bank_admitted.proofs.Cases.{Happens, unreadable, refused, opensUpload, opensDownload, toUpload, toDownload, ToUpload, ToDownload, upload-acts, happens}
+use Rattle.bank_history.proofs.GoesOn.{upload-goes-on, download-goes-on}
+use Rattle.bank_admitted.proofs.Clock.{each-advanced, each-download}
+use Rattle.bank_history.proofs.Clock.{advanced-keeps}
 use Rattle.bank_history.proofs.Downloads.{download-open, downloads-other, places-other}
 use Rattle.bank_history.proofs.Entries.{and-no, did-none, did-other, times-own, times-unknown}
 use Rattle.bank_history.proofs.Keeps.{past-holds}
 use Rattle.bank_history.proofs.Liveness.{by-call}
-use Rattle.bank_history.proofs.Openings.{free-inside-open}
-use Rattle.bank_history.proofs.Rows.{each-set, getD-free}
-use Rattle.bank_history.proofs.Uploads.{entry, place-counted, place-other, download-other}
+use Rattle.bank_admitted.proofs.Openings.{free-inside-open}
+use Rattle.bank_admitted.proofs.Rows.{each-set, getD-free}
+use Rattle.bank_admitted.proofs.Held.{place-counted}
+use Rattle.bank_history.proofs.Uploads.{entry, place-other, download-other}
 
 -- recovery attempts that are answered
 abbrev pub isAttempt : Action → Bool
@@ -216,7 +188,7 @@ module _ (w : BankState) (h : List Exchange) (v : Invariant w h) (c : Counted w 
     elsewhere u l = ap (did isAction u) own ∙ did-other u t k (λ z. omega arith)
 
     old-place : (j : ℕ) → j < placeCount → PlaceCounts (x ∷ h) (placeAt (w .bank) j)
-    old-place j b z = other x h _ _ _ (elsewhere _ (place-counted w h v j b (open-used (placeAt (w .bank) j .used) z) .0)) (c .places j b z)
+    old-place j b z = other x h _ _ _ (elsewhere _ (place-counted w (v .state) j b (open-used (placeAt (w .bank) j .used) z) .0)) (c .places j b z)
 
     old-download : (j : ℕ) → DownloadCounts (x ∷ h) (downloadAt (w .bank) j)
     old-download j z = other x h _ _ _ (elsewhere _ (download-open w h v j z .0 .counted)) (c .downloads j z)

@@ -44,27 +44,20 @@ use Rattle.bank_verdicts.proofs.Sound.{Readable}
 use Rattle.bank_openings.specs.Openings.{counted, openDownload}
 use Rattle.bank_steps.specs.Steps.{carryOut}
 use Rattle.bank.specs.Call.{respond}
-use Rattle.bank_history.specs.History.{Exchange, mailboxFile, opens}
+use Rattle.bank_admitted.specs.State.{mailboxFile}
+use Rattle.bank_history.specs.History.{Exchange, opens}
 use Rattle.bank_history.specs.Invariant.{Invariant}
 use Rattle.bank_history.proofs.Parts.{OpenDownload}
 use Rattle.bank_history.specs.Transactions.{DownloadAt}
 use Rattle.bank_state.proofs.Rows.{first-passes}
-use Rattle.bank_history.proofs.Rows.{first-at-most}
-use Rattle.bank_history.proofs.Cases.{
-  Happens,
-  unreadable,
-  refused,
-  opensUpload,
-  opensDownload,
-  toUpload,
-  toDownload,
-  requestForm,
-  download-goes-on,
-}
+use Rattle.bank_admitted.proofs.Rows.{first-at-most}
+use Rattle.bank_admitted.proofs.Cases.{Happens, unreadable, refused, opensUpload, opensDownload, toUpload, toDownload, requestForm}
+use Rattle.bank_history.proofs.GoesOn.{download-goes-on}
 use Rattle.bank_history.proofs.Entries.{and-no, same-bits}
 use Rattle.bank_state.proofs.Found.{upload-found, download-found}
-use Rattle.bank_history.proofs.Downloads.{download-open, downloads-apart}
-use Rattle.bank_history.proofs.Openings.{free-inside-open}
+use Rattle.bank_admitted.proofs.Held.{downloads-apart}
+use Rattle.bank_history.proofs.Downloads.{download-open}
+use Rattle.bank_admitted.proofs.Openings.{free-inside-open}
 use Rattle.bank_history.proofs.UploadRequests.{verdict-by-form}
 
 is-download : (s : ℕ) (t : Bits128) (e : Download) → e .used ≡ true → e .subscriber ≡ s → e .transaction ≡ t → isDownload s t e ≡ true
@@ -103,7 +96,7 @@ module _ (w : BankState) (h : List Exchange) (v : Invariant w h) (t : Bits128) (
       let f = download-found s t (downloadAt (w .bank) (findDownload s t (w .bank))) passes in
       let e : downloadAt (w .bank) (findDownload s t (w .bank)) .transaction ≡ downloadAt (w .bank) (u .row) .transaction =
       bits-same _ t (f .2) ∙ sym (u .transaction) in
-      downloads-apart w h v (findDownload s t (w .bank)) (u .row) (f .0) (u .used) (ap (λ (z : Bits128). z .low) e)
+      downloads-apart w (v .state) (findDownload s t (w .bank)) (u .row) (f .0) (u .used) (ap (λ (z : Bits128). z .low) e)
 
 -- "segment d + 1 (up to N) fits"; "A receipt fits when d = N. Code 0 is answered 011000"
 judge-next : (e : Download) (n : ℕ) (q : Fields) → segment q ≡ e .delivered + 1 → segment q ≤ n →

@@ -1,29 +1,22 @@
 -- A request to an open download keeps the invariant, whatever the verdict.
 use Prim.Native.Nat.{ℕ, suc, _+_, _-_, _≤_, _<_}
-use mathlib.Core.Bool.{true, false, not, cond}
+use mathlib.Core.Bool.{true, false, cond}
 use mathlib.Core.List.{List, [], _∷_}
 use mathlib.Core.Path.{_≡_, refl, sym, ap, _∙_, subst}
-use native.Mathlib.Decide.{ℕ-discrete}
 use native.Mathlib.Omega.{arith}
-use lib.ListN.{length, getD, set, length-set}
-use lib.Seq.{getD-set-same, getD-set-other}
-use borrow.Author.Tests.{eq-eqb, eqb-false, not-true}
-use lib.Dec.{eqb}
-use Rattle.octets.proofs.Tests.{never, and-true}
+use lib.ListN.{length, set}
+use borrow.Author.Tests.{eq-eqb}
 use Rattle.frame_table.specs.declared.fields.Fields.{Fields}
 use Rattle.frame_table.specs.Forms as forms
 use Rattle.frame_table.specs.Names.{subscriber, transaction, segment, receiptCode, form}
 use Rattle.frame_table.proofs.Bits.{bits-same}
-use Rattle.message.specs.Limits.{maxAttempts}
 use Rattle.message.specs.Segments.{segmentsOf, segmentOf}
 use Rattle.bank_state.specs.declared.clock.Ended.the-variants as ending
 use Rattle.bank_state.specs.declared.state.Download.{Download}
-use Rattle.bank_state.specs.State.{Nonce}
-use Rattle.bank_state.specs.Clock.{ends, endDownloads}
-use Rattle.bank_state.specs.Limits.{placeCount, storeBytes}
+use Rattle.bank_state.specs.Clock.{ends}
 use Rattle.bank_state.specs.Search.{isDownload}
-use Rattle.bank_state.specs.State.{BankState, noDownload, downloadAt, fileLength}
-use Rattle.bank_state.specs.Store.{partAt, zeroed, fileOf}
+use Rattle.bank_state.specs.State.{BankState, downloadAt, fileLength}
+use Rattle.bank_state.specs.Store.{zeroed}
 use Rattle.bank_verdicts.specs.declared.verdict.TransactionRequest.{TransactionRequest}
 use Rattle.bank_verdicts.specs.declared.verdict.DownloadAction.{DownloadAction}
 use Rattle.bank_verdicts.specs.declared.verdict.DownloadAction.the-variants as down
@@ -34,13 +27,14 @@ use Rattle.bank_downloads.specs.Downloads.{movedTo}
 use Rattle.bank_verdicts.specs.Judgement.{mailboxSegments, downloadOf}
 use Rattle.bank_steps.specs.Steps.{ended, carryOut}
 use Rattle.bank.specs.Call.{mailboxSegment}
-use Rattle.bank_history.specs.History.{Exchange, downloadKind, mailboxFile, isDelivery, times}
+use Rattle.bank_admitted.specs.State.{mailboxFile, StateHolds}
+use Rattle.bank_admitted.proofs.DownloadChange.{besides}
+use Rattle.bank_admitted.proofs.Downloads as admitted
+use Rattle.bank_history.specs.History.{Exchange, downloadKind, isDelivery, times}
 use Rattle.bank_history.specs.Sound.{SoundRequest, SoundDownload, SoundData, SoundReceipt, SoundDownloadAction}
-use Rattle.bank_history.specs.Invariant.{MailboxHolds, Invariant}
+use Rattle.bank_history.specs.Invariant.{Invariant}
 use Rattle.bank_history.proofs.Parts.{OpenDownload}
-use Rattle.bank_state.proofs.Drops.{each-endDownloads}
 use Rattle.bank_state.proofs.Found.{download-found}
-use Rattle.bank_state.proofs.Stores.{length-zeroed, zeroed-same, zeroed-other}
 use Rattle.bank_verdicts.proofs.Sound.{
   Readable,
   DownloadSound,
@@ -51,42 +45,10 @@ use Rattle.bank_verdicts.proofs.Sound.{
   confirmed,
   declined,
 }
-use Rattle.bank_history.proofs.Cases.{requestForm, ToDownload}
+use Rattle.bank_admitted.proofs.Cases.{requestForm, ToDownload}
 use Rattle.bank_history.proofs.Records.{download-moved}
-use Rattle.bank_history.proofs.DownloadChange.{besides}
 use Rattle.bank_history.proofs.Uploads.{entry, bare}
-use Rattle.bank_history.proofs.Downloads.{file-long, download-open, moved-step, ended-step, carried-segment}
-
--- an emptied mailbox
-module _ (w : BankState) (box : ℕ) (long : length (w .mailboxes) ≡ storeBytes) (inside : box < placeCount) where
-  pub mailbox-other : (c o : ℕ) (downs : List Download) (nonces : List Nonce) (s : ℕ) → (s - 1 ≡ box → ⊥) →
-      mailboxFile (besides c o downs nonces (set (w .bank .files) box 0) (zeroed (w .mailboxes) box) w) s ≡ mailboxFile w s
-  unfolding mailboxFile fileLength fileOf
-  mailbox-other c o downs nonces s n =
-      rw (
-        getD-set-other (w .bank .files) box (s - 1) 0 0 n,
-        zeroed-other (w .mailboxes) box long inside (s - 1) n,
-      )
-
-  mailbox-emptied : length (w .bank .files) ≡ placeCount →
-      ((i : ℕ) → i < placeCount → MailboxHolds (getD (w .bank .files) i 0) (partAt (w .mailboxes) i)) →
-      (i : ℕ) → i < placeCount → MailboxHolds (getD (set (w .bank .files) box 0) i 0) (partAt (zeroed (w .mailboxes) box) i)
-  mailbox-emptied filed old i a = at (ℕ-discrete i box)
-    where
-      at : Dec (i ≡ box) → MailboxHolds (getD (set (w .bank .files) box 0) i 0) (partAt (zeroed (w .mailboxes) box) i)
-      at (yes z) =
-          rw z (rw (getD-set-same (w .bank .files) box 0 0 (omega arith), zeroed-same (w .mailboxes) box long inside)
-          (record { room = omega arith; zeros = refl }))
-      at (no n) = rw (getD-set-other (w .bank .files) box i 0 0 n, zeroed-other (w .mailboxes) box long inside i n) (old i a)
-
--- "every download of that mailbox ended": those still open are of other subscribers
-emptied-ends : (w : BankState) (s i : ℕ) → let e = getD (endDownloads (ending.Mailbox s) (w .bank .downloads)) i noDownload in
-    e .used ≡ true → e .subscriber ≡ s → ⊥
-unfolding ends
-emptied-ends w s =
-    each-endDownloads (λ (e : Download). e .used ≡ true → e .subscriber ≡ s → ⊥) (λ u. never u) (ending.Mailbox s) (w .bank .downloads)
-    (λ k _ g _. let e = downloadAt (w .bank) k in
-    eqb-false (e .subscriber) s (not-true _ (and-true (e .used) (not (eqb (e .subscriber) s)) g .1)))
+use Rattle.bank_history.proofs.Downloads.{download-open, moved-step, ended-step, carried-segment}
 
 module _ (w : BankState) (h : List Exchange) (v : Invariant w h) (q : Fields) (d : List ℕ) (readable : Readable q (length d))
     (found : isDownload (subscriber q) (transaction q) (downloadAt (w .bank) (downloadOf (w .bank) q)) ≡ true) where
@@ -111,8 +73,7 @@ module _ (w : BankState) (h : List Exchange) (v : Invariant w h) (q : Fields) (d
 
   -- N is the number of segments of the file
   count-now : n ≡ segmentsOf (length (mailboxFile w (old .subscriber)))
-  count-now = ap segmentsOf (sym (file-long w h v (subscriber q) (readable .known) (readable .most))
-      ∙ ap (λ (s : ℕ). length (mailboxFile w s)) (sym owned))
+  count-now = admitted.count-now w (v .state) q d readable found
 
   -- the verdict of an action, what it leaves, and its exchange
   abbrev by : DownloadAction → Verdict
@@ -154,42 +115,37 @@ module _ (w : BankState) (h : List Exchange) (v : Invariant w h) (q : Fields) (d
   -- it stays open, moved by an action that neither opens nor ends it
   moves : (a : DownloadAction) → downloadKind a .opensUpload ≡ false → downloadKind a .opensDownload ≡ false →
       downloadKind a .books ≡ false → downloadKind a .ends ≡ false → (m attempts last : ℕ) →
-      cond (downloadKind a .delivers) (suc (old .delivered)) (old .delivered) ≡ m → m ≤ n → attempts ≤ maxAttempts →
-      last ≤ w .bank .clock → SoundDownloadAction a (old .transaction) (now a) h →
-      Invariant (besides (w .bank .clock) (w .bank .openings) (set (w .bank .downloads) j (movedTo m attempts last old)) (w .bank .nonces)
-      (w .bank .files) (w .mailboxes) w) (now a ∷ h)
-  moves a up opens books ends m attempts last count within tries current sound =
-      moved-step w h v j is-used (action.Download a) (rw (up, opens) refl) books (now a) refl m attempts last
-      (download-moved (now a) h _ _ _ old (action.Download a) m attempts last refl opens (rw (up, opens) refl) books ends count
-      (let z = count-now in omega arith) tries current isOpen′)
+      let after = besides (w .bank .clock) (w .bank .openings) (set (w .bank .downloads) j (movedTo m attempts last old)) (w .bank .nonces)
+      (w .bank .files) (w .mailboxes) w in StateHolds after →
+      cond (downloadKind a .delivers) (suc (old .delivered)) (old .delivered) ≡ m → SoundDownloadAction a (old .transaction) (now a) h →
+      Invariant after (now a ∷ h)
+  moves a up opens books ends m attempts last state count sound =
+      moved-step w h v j is-used (action.Download a) (rw (up, opens) refl) books (now a) refl m attempts last state
+      (download-moved (now a) h _ old (action.Download a) m attempts last refl opens (rw (up, opens) refl) books ends count (isOpen′ .1))
       (record { reply = refl; verdict = sound })
 
-  delivered-keeps : form q ≡ forms.DownloadTransfer → segment q ≡ old .delivered + 1 → segment q ≤ n →
-      Invariant (left (down.Delivered n)) (now (down.Delivered n) ∷ h)
-  delivered-keeps asked next within =
-      moves (down.Delivered n) refl refl refl refl (old .delivered + 1) (old .attempts) (w .bank .clock) (omega arith) (omega arith)
-      (isOpen′ .0 .tries) (omega arith)
+  delivered-keeps : StateHolds (left (down.Delivered n)) → form q ≡ forms.DownloadTransfer → segment q ≡ old .delivered + 1 →
+      segment q ≤ n → Invariant (left (down.Delivered n)) (now (down.Delivered n) ∷ h)
+  delivered-keeps state asked next within =
+      moves (down.Delivered n) refl refl refl refl (old .delivered + 1) (old .attempts) (w .bank .clock) state (omega arith)
       (record {
         carried = sound-data (down.Delivered n) asked (omega arith) within refl;
         next = let z = isOpen′ .1 .deliveries in omega arith;
       })
 
-  sent-again-keeps : form q ≡ forms.DownloadTransfer → 0 < segment q → segment q ≤ old .delivered → old .attempts < maxAttempts →
-      Invariant (left (down.SentAgain n)) (now (down.SentAgain n) ∷ h)
-  sent-again-keeps asked some again few =
+  sent-again-keeps : StateHolds (left (down.SentAgain n)) → form q ≡ forms.DownloadTransfer → 0 < segment q →
+      segment q ≤ old .delivered → Invariant (left (down.SentAgain n)) (now (down.SentAgain n) ∷ h)
+  sent-again-keeps state asked some again =
       let within : old .delivered ≤ n = (let z = count-now in let y = isOpen′ .0 .within in omega arith) in
-      moves (down.SentAgain n) refl refl refl refl (old .delivered) (old .attempts + 1) (old .last) refl within (omega arith)
-      (isOpen′ .0 .current)
+      moves (down.SentAgain n) refl refl refl refl (old .delivered) (old .attempts + 1) (old .last) state refl
       (record {
         carried = sound-data (down.SentAgain n) asked (omega arith) (omega arith) refl;
         again = let z = isOpen′ .1 .deliveries in omega arith;
       })
 
-  point-keeps : old .attempts < maxAttempts → Invariant (left (down.Point (old .delivered))) (now (down.Point (old .delivered)) ∷ h)
-  point-keeps few =
-      let within : old .delivered ≤ n = (let z = count-now in let y = isOpen′ .0 .within in omega arith) in
-      moves (down.Point (old .delivered)) refl refl refl refl (old .delivered) (old .attempts + 1) (old .last) refl within (omega arith)
-      (isOpen′ .0 .current)
+  point-keeps : let a = down.Point (old .delivered) in StateHolds (left a) → Invariant (left a) (now a ∷ h)
+  point-keeps state =
+      moves (down.Point (old .delivered)) refl refl refl refl (old .delivered) (old .attempts + 1) (old .last) state refl
       (record {
         request = sound-request (down.Point (old .delivered));
         opened = isOpen′ .1 .opened;
@@ -199,13 +155,13 @@ module _ (w : BankState) (h : List Exchange) (v : Invariant w h) (q : Fields) (d
 
   -- this transaction ends
   ends-keeps : (a : DownloadAction) → downloadKind a .opensUpload ≡ false → downloadKind a .opensDownload ≡ false →
-      downloadKind a .books ≡ false → SoundDownloadAction a (old .transaction) (now a) h → Invariant (ended q w) (now a ∷ h)
+      downloadKind a .books ≡ false → StateHolds (ended q w) → SoundDownloadAction a (old .transaction) (now a) h →
+      Invariant (ended q w) (now a ∷ h)
   unfolding mailboxFile fileLength ends
-  ends-keeps a up opens books sound =
+  ends-keeps a up opens books state sound =
       ended-step w h v j is-used (action.Download a) (rw (up, opens) refl) books (now a) refl
       (ending.Transaction (subscriber q) (transaction q)) (w .bank .files) (w .mailboxes)
-      found (λ i a f. refl) (v .state .sizes .files) (v .state .sizes .mailboxes) (v .state .mailboxesHold)
-      (record { reply = refl; verdict = sound })
+      found (λ i a f. refl) state (record { reply = refl; verdict = sound })
 
   sound-receipt : (a : DownloadAction) → form q ≡ forms.Receipt → old .delivered ≡ n → now a .replyData ≡ [] →
       SoundReceipt (old .transaction) (now a) h
@@ -218,58 +174,32 @@ module _ (w : BankState) (h : List Exchange) (v : Invariant w h) (q : Fields) (d
   }
 
   -- the mailbox is emptied and all its downloads end
-  confirmed-keeps : form q ≡ forms.Receipt → old .delivered ≡ n → receiptCode q ≡ 0 →
+  confirmed-keeps : StateHolds (left down.Confirmed) → form q ≡ forms.Receipt → old .delivered ≡ n → receiptCode q ≡ 0 →
       Invariant (left down.Confirmed) (now down.Confirmed ∷ h)
   unfolding ends
-  confirmed-keeps asked whole taken =
+  confirmed-keeps state asked whole taken =
       ended-step w h v j is-used (action.Download down.Confirmed) refl refl (now down.Confirmed) refl (ending.Mailbox (subscriber q))
-      files mailboxes (eq-eqb (old .subscriber) (subscriber q) owned) same
-      (length-set (w .bank .files) box 0 ∙ v .state .sizes .files)
-      (length-zeroed (w .mailboxes) box (v .state .sizes .mailboxes) inside ∙ v .state .sizes .mailboxes)
-      (mailbox-emptied w box (v .state .sizes .mailboxes) inside (v .state .sizes .files) (v .state .mailboxesHold))
+      (set (w .bank .files) (subscriber q - 1) 0) (zeroed (w .mailboxes) (subscriber q - 1))
+      (eq-eqb (old .subscriber) (subscriber q) owned) (admitted.others-kept w (v .state) q d readable found) state
       (record {
         reply = refl;
         verdict = record { receipt = sound-receipt down.Confirmed asked whole (bare w (subscriber q)); taken = taken };
       })
-    where
-      box : ℕ
-      box = subscriber q - 1
-
-      inside : box < placeCount
-      inside = let a = readable .known in let b = readable .most in omega arith
-
-      files : List ℕ
-      files = set (w .bank .files) box 0
-
-      mailboxes : List ℕ
-      mailboxes = zeroed (w .mailboxes) box
-
-      downs : List Download
-      downs = endDownloads (ending.Mailbox (subscriber q)) (w .bank .downloads)
-
-      same : (i : ℕ) → getD downs i noDownload .used ≡ true → 1 ≤ getD downs i noDownload .subscriber →
-          mailboxFile (besides (w .bank .clock) (w .bank .openings) downs (w .bank .nonces) files mailboxes w)
-          (getD downs i noDownload .subscriber)
-          ≡ mailboxFile w (getD downs i noDownload .subscriber)
-      same i a k =
-          let m = readable .known in
-          mailbox-other w box (v .state .sizes .mailboxes) inside (w .bank .clock) (w .bank .openings) downs (w .bank .nonces)
-          (getD downs i noDownload .subscriber)
-          (λ e. emptied-ends w (subscriber q) i a (omega arith))
 
   download-sound-keeps : {r : TransactionRequest} {a : DownloadAction} → form q ≡ requestForm r → DownloadSound r old n q a →
-      Invariant (left a) (now a ∷ h)
-  download-sound-keeps asked (delivered t next within) = delivered-keeps (asked ∙ ap requestForm t) next within
-  download-sound-keeps asked (sentAgain t some again few) = sent-again-keeps (asked ∙ ap requestForm t) some again few
-  download-sound-keeps asked (downloadPoint fits few) = point-keeps few
-  download-sound-keeps asked (cancelled fits many) = ends-keeps down.Cancelled refl refl refl
+      StateHolds (left a) → Invariant (left a) (now a ∷ h)
+  download-sound-keeps asked (delivered t next within) state = delivered-keeps state (asked ∙ ap requestForm t) next within
+  download-sound-keeps asked (sentAgain t some again few) state = sent-again-keeps state (asked ∙ ap requestForm t) some again
+  download-sound-keeps asked (downloadPoint fits few) state = point-keeps state
+  download-sound-keeps asked (cancelled fits many) state = ends-keeps down.Cancelled refl refl refl state
       (record { request = sound-request down.Cancelled; cancelling = refl; bare = bare w (subscriber q) })
-  download-sound-keeps asked (confirmed t whole taken) = confirmed-keeps (asked ∙ ap requestForm t) whole taken
-  download-sound-keeps asked (declined t whole other) = ends-keeps down.Declined refl refl refl
+  download-sound-keeps asked (confirmed t whole taken) state = confirmed-keeps state (asked ∙ ap requestForm t) whole taken
+  download-sound-keeps asked (declined t whole other) state = ends-keeps down.Declined refl refl refl state
       (sound-receipt down.Declined (asked ∙ ap requestForm t) whole (bare w (subscriber q)))
 
 pub download-keeps : (w : BankState) (h : List Exchange) → Invariant w h → (q : Fields) (d : List ℕ) (r : TransactionRequest)
     (a : DownloadAction) → ToDownload w q d r a →
     let v = verdict.Of (downloadAt (w .bank) (downloadOf (w .bank) q) .transaction) (action.Download a) in
     Invariant (carryOut v w q d) (entry v w q d ∷ h)
-download-keeps w h v q d r a t = download-sound-keeps w h v q d (t .readable) (t .found) (t .asked) (t .sound)
+download-keeps w h v q d r a t =
+    download-sound-keeps w h v q d (t .readable) (t .found) (t .asked) (t .sound) (admitted.download-keeps w (v .state) q d r a t)

@@ -43,21 +43,7 @@ use Rattle.bank_verdicts.specs.declared.verdict.Verdict.the-variants as verdict
 use Rattle.journal.specs.declared.event.Kind.the-variants as kind
 use Rattle.journal.specs.declared.event.Entry.{Entry}
 use Rattle.bank_events.specs.Entries.{isIdleUpload, openingOf, insertByOpening, byOpening, droppedUploads, dropEntry}
-use Rattle.bank_history.specs.History.{
-  Exchange,
-  Stands,
-  newest,
-  older,
-  isOpening,
-  isUploadOpening,
-  isDownloadOpening,
-  did,
-  ever,
-  opens,
-  openedBy,
-  numberIn,
-  numberAt,
-}
+use Rattle.bank_history.specs.History.{Exchange, Stands, newest, older, isOpening, isUploadOpening, isDownloadOpening, did, ever, opens, openedBy, numberIn, numberAt}
 use Rattle.bank_history.specs.Invariant.{PlaceTold, UploadTold, Invariant}
 use Rattle.bank_history.specs.Sound.{AllSound, SoundVerdict}
 use Rattle.bank_history.specs.Sound as sounds

@@ -20,15 +20,10 @@ use Rattle.bank_history.specs.History.{Exchange, Past}
 use Rattle.bank_history.specs.Invariant.{Invariant, Holds}
 use Rattle.bank_history.specs.Transactions.{answered, Gone, UploadAt, DownloadAt}
 use Rattle.bank_history.proofs.Changes.{answered-gone}
-use Rattle.bank_history.proofs.Clock.{
-  advanced-not-idle,
-  advanced-clock,
-  advanced-openings,
-  each-advanced,
-  each-download,
-}
-use Rattle.bank_history.proofs.Uploads.{place-counted}
-use Rattle.bank_history.proofs.Downloads.{download-open, downloads-apart}
+use Rattle.bank_admitted.proofs.Clock.{advanced-not-idle, advanced-clock, advanced-openings, each-advanced, each-download}
+use Rattle.bank_admitted.proofs.Held.{place-counted}
+use Rattle.bank_admitted.proofs.Held.{downloads-apart}
+use Rattle.bank_history.proofs.Downloads.{download-open}
 
 module _ (time : ℕ) (w : BankState) (h : List Exchange) (v : Invariant w h) (t : Bits128) where
   -- a place in use then is as it was
@@ -57,7 +52,7 @@ module _ (time : ℕ) (w : BankState) (h : List Exchange) (v : Invariant w h) (t
 
       known : t .low < advanced time w .bank .openings
       known =
-          let a = place-counted w h v (u .place) (u .inside) used .0 in
+          let a = place-counted w (v .state) (u .place) (u .inside) used .0 in
           let b = advanced-openings time w in
           let c = number in
           omega arith
@@ -108,7 +103,7 @@ module _ (time : ℕ) (w : BankState) (h : List Exchange) (v : Invariant w h) (t
           downloadAt (advanced time w .bank) j .last ≡ last
       still = each-download time w (λ (e : Download). e .used ≡ true → e .transaction ≡ t → e .last ≡ last) (λ e. never e)
           (λ j _ e z. ap (λ (m : ℕ). downloadAt (w .bank) m .last)
-          (downloads-apart w h v j (u .row) e (u .used) (ap (λ (b : Bits128). b .low) z ∙ sym number)) ∙ u .fitting)
+          (downloads-apart w (v .state) j (u .row) e (u .used) (ap (λ (b : Bits128). b .low) z ∙ sym number)) ∙ u .fitting)
 
       downloads : (j : ℕ) → downloadAt (advanced time w .bank) j .used ≡ true → downloadAt (advanced time w .bank) j .transaction ≡ t → ⊥
       downloads j e z =

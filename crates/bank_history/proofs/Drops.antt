@@ -32,20 +32,7 @@ use Rattle.bank_verdicts.specs.declared.verdict.Action.{Action}
 use Rattle.bank_verdicts.specs.declared.verdict.Action.the-variants as action
 use Rattle.bank_verdicts.specs.declared.verdict.Verdict.{Verdict}
 use Rattle.bank_verdicts.specs.declared.verdict.Verdict.the-variants as verdict
-use Rattle.bank_history.specs.History.{
-  Exchange,
-  BankCall,
-  Stands,
-  newest,
-  older,
-  ActionIn,
-  isOpening,
-  isUploadOpening,
-  isDownloadOpening,
-  accepted,
-  opens,
-  pastOf,
-}
+use Rattle.bank_history.specs.History.{Exchange, BankCall, Stands, newest, older, ActionIn, isOpening, isUploadOpening, isDownloadOpening, accepted, opens, pastOf}
 use Rattle.bank_history.specs.Invariant.{Invariant}
 use Rattle.bank_history.specs.Sound.{AllSound, SoundVerdict}
 use Rattle.bank_history.specs.Sound as sounds
@@ -91,7 +78,7 @@ use Rattle.bank_history.proofs.Entries.{same-bits}
 use Rattle.bank_history.proofs.Keeps.{past-holds}
 use Rattle.bank_history.proofs.NextCall.{clock-is}
 use Rattle.bank_history.proofs.Positions.{ever-stands, opening-number}
-use Rattle.bank_history.proofs.Clock.{advanced-clock}
+use Rattle.bank_admitted.proofs.Clock.{advanced-clock}
 use Rattle.bank_history.proofs.Statuses.{
   open-shown,
   open-told,

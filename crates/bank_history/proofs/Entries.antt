@@ -15,20 +15,7 @@ use Rattle.bank_verdicts.specs.declared.verdict.Action.{Action}
 use Rattle.bank_verdicts.specs.declared.verdict.Action.the-variants as action
 use Rattle.bank_verdicts.specs.declared.verdict.Verdict.{Verdict}
 use Rattle.bank_verdicts.specs.declared.verdict.Verdict.the-variants as verdict
-use Rattle.bank_history.specs.History.{
-  Exchange,
-  isAction,
-  isTaking,
-  isBooking,
-  isOpening,
-  opens,
-  accepted,
-  did,
-  ever,
-  times,
-  received,
-  atOpening,
-}
+use Rattle.bank_history.specs.History.{Exchange, isAction, isTaking, isBooking, isOpening, opens, accepted, did, ever, times, received, atOpening}
 
 -- ---- transaction IDs
 

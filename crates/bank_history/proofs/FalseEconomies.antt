@@ -42,26 +42,7 @@ use Rattle.bank_verdicts.specs.Refusals.{unknownType, manySegments, isReplay, i
 use Rattle.bank_verdicts.specs.Judgement.{judgeOpening, judge}
 use Rattle.bank_verdicts.specs.Replies.{replyTo, uploadReply, downloadReply, actionReply}
 use Rattle.bank_steps.specs.Steps.{carryOut}
-use Rattle.bank_history.specs.History.{
-  Exchange,
-  BankCall,
-  Frame,
-  Stands,
-  newest,
-  older,
-  ActionIn,
-  pastOf,
-  opens,
-  isOpening,
-  isUploadOpening,
-  isDownloadOpening,
-  isTaking,
-  isBooking,
-  did,
-  ever,
-  atOpening,
-  openedBy,
-}
+use Rattle.bank_history.specs.History.{Exchange, BankCall, Frame, Stands, newest, older, ActionIn, pastOf, opens, isOpening, isUploadOpening, isDownloadOpening, isTaking, isBooking, did, ever, atOpening, openedBy}
 use Rattle.bank_history.specs.Sound.{SoundUploadPoint, SoundDownloadPoint, SoundUploadAction, SoundDownloadAction, SoundAction, SoundVerdict, AllSound, more}
 use Rattle.bank_history.specs.FalseEconomies.{Next, WellMadeOpening, Asks, RefusedWith, Opens, Takes, RecoveryPoint, FalseEconomies}
 use Rattle.bank_history.proofs.Entries.{opening-own, did-same}

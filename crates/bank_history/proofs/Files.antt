@@ -1,160 +1,42 @@
 -- A file that goes into a mailbox keeps the invariant.
-use Prim.Native.Nat.{ℕ, _+_, _-_, _≤_, _<_}
-use mathlib.Core.Bool.{Bool, true, false, not, _||_}
-use mathlib.Core.List.{List, _++_}
-use mathlib.Core.Path.{_≡_, refl, sym, ap, _∙_}
-use native.Mathlib.Decide.{ℕ-discrete}
-use native.Mathlib.Omega.{arith}
-use lib.Dec.{ltb, eqb}
-use lib.ListN.{length, getD, set, take, drop, replicate, length-set}
-use lib.Seq.{getD-set-same, getD-set-other, take-append-seam}
-use borrow.Author.Tests.{ltb-false, eqb-true, eqb-false, not-false}
-use Rattle.octets.proofs.Tests.{or-neither}
+use Prim.Native.Nat.{ℕ, _≤_}
+use mathlib.Core.Bool.{Bool, true, false}
+use mathlib.Core.List.{List}
+use mathlib.Core.Path.{_≡_, refl}
+use lib.ListN.{length}
 use Rattle.message.specs.Limits.{subscribers, fileBytes}
-use Rattle.message.specs.Verdicts.{decide}
-use Rattle.bank_state.specs.State.{Bank}
-use Rattle.bank_state.specs.Limits.{placeCount, storeBytes}
-use Rattle.bank_state.specs.Search.{openCount, openCountOf}
 use Rattle.bank_state.specs.State.{BankState, downloadAt, fileLength}
-use Rattle.bank_state.specs.Store.{partAt, fileOf}
-use Rattle.bank.specs.declared.mailbox.FileAnswer.{FileAnswer}
-use Rattle.bank.specs.declared.mailbox.FileAnswer.the-variants as put
-use Rattle.bank.specs.Mailbox.{fileRefusals, fileNumber}
-use Rattle.bank_history.specs.Transactions.{filled}
-use Rattle.bank_history.specs.History.{Exchange, mailboxFile}
-use Rattle.bank_history.specs.Invariant.{MailboxHolds, Invariant}
-use Rattle.bank_history.proofs.Parts.{DownloadKept, download-kept, place-kept}
-use Rattle.bank_history.proofs.Stores.{length-written, part-written, part-unwritten}
-use Rattle.message.proofs.Verdicts.{by-test}
-use Rattle.bank_history.proofs.Places.{drop-replicate}
-use Rattle.bank_history.proofs.DownloadChange.{download-change}
-use Rattle.bank_history.proofs.Downloads.{file-long}
-
--- what the tests tell of a file that goes in
-pub data FileSound (b : Bank) (mailbox : ℕ) (file mailboxes : List ℕ) : FileAnswer → Type 0 where
-  rejected : {a : FileAnswer} → (0 < fileNumber a) → FileSound b mailbox file mailboxes a
-  done : 1 ≤ mailbox → mailbox ≤ subscribers → 1 ≤ length file → length file ≤ fileBytes → fileLength mailbox (b .files) ≡ 0 →
-      FileSound b mailbox file mailboxes put.Done
-
-pub judged-file : (b : Bank) (mailbox : ℕ) (file mailboxes : List ℕ) →
-    FileSound b mailbox file mailboxes (decide (fileRefusals b mailbox file mailboxes) put.Done)
-unfolding fileRefusals
-judged-file b mailbox file mailboxes =
-    by-test P (not (eqb (length mailboxes) storeBytes)) (λ _. rejected (omega arith))
-    (λ _. by-test P (ltb mailbox 1 || ltb subscribers mailbox) (λ _. rejected (omega arith))
-    (λ from. by-test P (eqb (length file) 0 || ltb fileBytes (length file)) (λ _. rejected (omega arith))
-    (λ size. by-test P (not (eqb (fileLength mailbox (b .files)) 0)) (λ _. rejected (omega arith))
-    (λ empty. accepted (or-neither (ltb mailbox 1) (ltb subscribers mailbox) from)
-    (or-neither (eqb (length file) 0) (ltb fileBytes (length file)) size)
-    (eqb-true (fileLength mailbox (b .files)) 0 (not-false _ empty))))))
-  where
-    P : FileAnswer → Type 0
-    P a = FileSound b mailbox file mailboxes a
-
-    accepted : (ltb mailbox 1 ≡ false) × (ltb subscribers mailbox ≡ false) →
-        (eqb (length file) 0 ≡ false) × (ltb fileBytes (length file) ≡ false) →
-        fileLength mailbox (b .files) ≡ 0 → FileSound b mailbox file mailboxes put.Done
-    accepted m f e = done (ltb-false _ _ (m .0)) (ltb-false _ _ (m .1)) (let z = eqb-false (length file) 0 (f .0) in omega arith)
-        (ltb-false _ _ (f .1)) e
+use Rattle.bank_admitted.specs.State.{mailboxFile}
+use Rattle.bank_admitted.proofs.Files.{filled, downloads-elsewhere}
+use Rattle.bank_admitted.proofs.Files as admitted
+use Rattle.bank_history.specs.History.{Exchange}
+use Rattle.bank_history.specs.Invariant.{DownloadTold, Invariant}
+use Rattle.bank_history.proofs.Uploads.{booked-at}
 
 module _ (w : BankState) (h : List Exchange) (v : Invariant w h) (mailbox : ℕ) (file : List ℕ) (known : 1 ≤ mailbox)
     (most : mailbox ≤ subscribers)
     (some : 1 ≤ length file) (short : length file ≤ fileBytes) (empty : fileLength mailbox (w .bank .files) ≡ 0) where
-  box : ℕ
-  box = mailbox - 1
-
-  inside : mailbox - 1 < placeCount
-  inside = omega arith
-
-  -- the other mailboxes stay
-  pub filled-other : (s : ℕ) → (s - 1 ≡ mailbox - 1 → ⊥) → mailboxFile (filled mailbox file w) s ≡ mailboxFile w s
-  unfolding mailboxFile fileLength fileOf
-  filled-other s n =
-      rw (
-        getD-set-other (w .bank .files) (mailbox - 1) (s - 1) (length file) 0 n,
-        part-unwritten (w .mailboxes) (v .state .sizes .mailboxes) (mailbox - 1) inside file short (s - 1) n,
-      )
-
-  was-zeros : partAt (w .mailboxes) (mailbox - 1) ≡ replicate fileBytes 0
-  unfolding fileLength
-  was-zeros =
-      v .state .mailboxesHold (mailbox - 1) inside .zeros
-      ∙ ap (λ (n : ℕ). take n (partAt (w .mailboxes) (mailbox - 1)) ++ replicate (fileBytes - n) 0) empty
-
-  now-held : partAt (filled mailbox file w .mailboxes) (mailbox - 1) ≡ file ++ replicate (fileBytes - length file) 0
-  now-held =
-      let e : fileBytes ≡ length file + (fileBytes - length file) = omega arith in
-      part-written (w .mailboxes) (v .state .sizes .mailboxes) (mailbox - 1) inside file short
-      ∙ ap (λ (l : List ℕ). file ++ l)
-      (ap (drop (length file)) was-zeros
-      ∙ (ap (λ (n : ℕ). drop (length file) (replicate n 0)) e ∙ drop-replicate (length file) (fileBytes - length file) 0))
-
-  -- the mailbox holds exactly the file
-  pub filled-same : mailboxFile (filled mailbox file w) mailbox ≡ file
-  unfolding mailboxFile fileLength fileOf
-  filled-same =
-      rw (getD-set-same (w .bank .files) (mailbox - 1) (length file) 0 (let z = v .state .sizes .files in omega arith), now-held)
-      (take-append-seam file (replicate (fileBytes - length file) 0))
-
-  mailboxes-hold : (i : ℕ) → i < placeCount →
-      MailboxHolds (getD (filled mailbox file w .bank .files) i 0) (partAt (filled mailbox file w .mailboxes) i)
-  mailboxes-hold i a = at (ℕ-discrete i (mailbox - 1))
-    where
-      at : Dec (i ≡ mailbox - 1) → MailboxHolds (getD (set (w .bank .files) (mailbox - 1) (length file)) i 0)
-          (partAt (filled mailbox file w .mailboxes) i)
-      at (yes z) = rw z (rw (
-        getD-set-same (w .bank .files) (mailbox - 1) (length file) 0 (let y = v .state .sizes .files in omega arith),
-        now-held,
-      ) (record {
-        room = short;
-        zeros = ap (λ (l : List ℕ). l ++ replicate (fileBytes - length file) 0)
-            (sym (take-append-seam file (replicate (fileBytes - length file) 0)));
-      }))
-      at (no n) =
-          rw (
-            getD-set-other (w .bank .files) (mailbox - 1) i (length file) 0 n,
-            part-unwritten (w .mailboxes) (v .state .sizes .mailboxes) (mailbox - 1) inside file short i n,
-          ) (v .state .mailboxesHold i a)
-
-  -- no download of this mailbox is open: it is empty
-  downloads-stay : (j : ℕ) → DownloadKept (downloadAt (w .bank) j .used) (w .bank .clock) (w .bank .openings) h
+  -- the file of an open download is that of another mailbox
+  downloads-stay : (j : ℕ) → DownloadTold (downloadAt (w .bank) j .used) h
       (mailboxFile (filled mailbox file w) (downloadAt (w .bank) j .subscriber)) (downloadAt (w .bank) j)
-  downloads-stay j = at (downloadAt (w .bank) j .used) refl (download-kept v j)
+  downloads-stay j =
+      at (downloadAt (w .bank) j .used) (downloads-elsewhere w (v .state) mailbox file known most some short empty j) (v .downloads j)
     where
-      at : (u : Bool) → downloadAt (w .bank) j .used ≡ u →
-          DownloadKept u (w .bank .clock) (w .bank .openings) h (mailboxFile w (downloadAt (w .bank) j .subscriber))
-          (downloadAt (w .bank) j) →
-          DownloadKept u (w .bank .clock) (w .bank .openings) h
-          (mailboxFile (filled mailbox file w) (downloadAt (w .bank) j .subscriber)) (downloadAt (w .bank) j)
+      at : (u : Bool) → (u ≡ true → mailboxFile (filled mailbox file w) (downloadAt (w .bank) j .subscriber)
+          ≡ mailboxFile w (downloadAt (w .bank) j .subscriber)) →
+          DownloadTold u h (mailboxFile w (downloadAt (w .bank) j .subscriber)) (downloadAt (w .bank) j) →
+          DownloadTold u h (mailboxFile (filled mailbox file w) (downloadAt (w .bank) j .subscriber)) (downloadAt (w .bank) j)
       at false e s = s
-      at true e s =
-          let k = s .0 .known in
-          let l = file-long w h v (downloadAt (w .bank) j .subscriber) (s .0 .known) (s .0 .most) in
-          let f = s .0 .full in
-          let n : downloadAt (w .bank) j .subscriber ≡ mailbox →
-          ⊥ = λ z. (let y = ap (λ (m : ℕ). fileLength m (w .bank .files)) z in omega arith) in
-          rw (filled-other (downloadAt (w .bank) j .subscriber) (λ z. n (omega arith))) s
+      at true e s = rw (e refl) s
 
   pub filled-keeps : Invariant (filled mailbox file w) h
-  unfolding openCount openCountOf
-  filled-keeps =
-      download-change w (w .bank .clock) (w .bank .openings) (w .bank .downloads) (w .bank .nonces) (filled mailbox file w .bank .files)
-      (filled mailbox file w .mailboxes) v (record {
-        listed = v .state .sizes .downloads;
-        remembered = v .state .sizes .nonces;
-        filed = length-set (w .bank .files) (mailbox - 1) (length file) ∙ v .state .sizes .files;
-        stored = length-written (w .mailboxes) (v .state .sizes .mailboxes) (mailbox - 1) inside file short;
-        counted = v .counted;
-        numbers = v .state .numbers;
-        places = place-kept v;
-        downloads = downloads-stay;
-        mailboxesHold = mailboxes-hold;
-        apart = v .state .apart;
-        inOrder = v .state .inOrder;
-        memory = v .memory;
-        openAll = v .state .openAll;
-        openOf = v .state .openOf;
-        known = v .known;
-        booked = v .booked;
-        sound = v .sound;
-      })
+  filled-keeps = record {
+    state = admitted.filled-keeps w (v .state) mailbox file known most some short empty;
+    counted = v .counted;
+    places = v .places;
+    downloads = downloads-stay;
+    memory = v .memory;
+    known = v .known;
+    booked = λ t e. booked-at w (filled mailbox file w) t (v .booked t e) refl;
+    sound = v .sound;
+  }

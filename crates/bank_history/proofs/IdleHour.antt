@@ -18,9 +18,9 @@ use Rattle.bank_verdicts.specs.declared.verdict.Verdict.{Verdict}
 use Rattle.bank_verdicts.specs.declared.verdict.Verdict.the-variants as verdict
 use Rattle.bank_verdicts.specs.Judgement.{uploadAt, downloadOf}
 use Rattle.bank_history.specs.History.{Exchange, BankCall, Stands, newest, pastOf, opens, isOpening}
-use Rattle.bank_history.specs.Invariant.{NoneIdle}
+use Rattle.bank_admitted.specs.State.{NoneIdle}
 use Rattle.bank_history.specs.FalseEconomies.{Next, Asks, RefusedWith, Fits}
-use Rattle.bank_history.proofs.Cases.{
+use Rattle.bank_admitted.proofs.Cases.{
   Happens,
   unreadable,
   refused,
@@ -29,7 +29,7 @@ use Rattle.bank_history.proofs.Cases.{
   toUpload,
   toDownload,
 }
-use Rattle.bank_history.proofs.Clock.{advanced-not-idle}
+use Rattle.bank_admitted.proofs.Clock.{advanced-not-idle}
 use Rattle.bank_history.proofs.Counted.{Fitted, Counted, judged-counted}
 use Rattle.bank_history.proofs.Keeps.{past-holds}
 use Rattle.bank_history.proofs.NextCall.{

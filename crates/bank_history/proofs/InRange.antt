@@ -1,72 +1,10 @@
 -- The bank that lists of calls leave is in range: by the invariant.
-use Prim.Native.Nat.{ℕ, _≤_, _<_}
-use mathlib.Core.Bool.{true}
 use mathlib.Core.List.{List}
-use mathlib.Core.Path.{_≡_, sym, ap, _∙_, subst}
-use native.Mathlib.Decide.{decLt}
-use native.Mathlib.Omega.{arith}
-use lib.ListN.{List·getD-eq-default}
-use Rattle.octets.proofs.Tests.{never}
-use Rattle.message.specs.Limits.{fileBytes}
-use Rattle.message.specs.Segments.{segmentsOf}
-use Rattle.bank_state.specs.declared.state.Place.{Place}
-use Rattle.bank_state.specs.declared.state.Use.{Use}
-use Rattle.bank_state.specs.declared.state.Use.the-variants.{Free, Open, Booked}
-use Rattle.bank_state.specs.Limits.{placeCount}
-use Rattle.bank_state.specs.Search.{isOpen}
-use Rattle.bank_state.specs.State.{BankState, noPlace, placeAt, downloadAt, fileLength}
-use Rattle.bank_state.specs.Store.{partAt}
+use Rattle.bank_state.specs.State.{BankState}
 use Rattle.bank_sound.specs.Sound.{InRange}
+use Rattle.bank_admitted.proofs.InRange.{state-in-range}
 use Rattle.bank_history.specs.History.{Exchange}
-use Rattle.bank_history.specs.Invariant.{OpenPlace, PlaceHolds, Invariant}
-use Rattle.bank_history.proofs.Downloads.{file-long, download-open}
+use Rattle.bank_history.specs.Invariant.{Invariant}
 
-module _ {w : BankState} {h : List Exchange} (v : Invariant w h) where
-  -- what is open is one of the places
-  place-inside : (i : ℕ) → isOpen (placeAt (w .bank) i .used) ≡ true → i < placeCount
-  place-inside i o = at (decLt i placeCount)
-    where
-      at : Dec (i < placeCount) → i < placeCount
-      at (yes l) = l
-      at (no l) = never (sym (ap (λ (p : Place). isOpen (p .used))
-          (List·getD-eq-default (w .bank .places) noPlace {n = i} (let z = v .state .sizes .places in omega arith)))
-          ∙ o)
-
-  open-place : (i : ℕ) → isOpen (placeAt (w .bank) i .used) ≡ true →
-      OpenPlace (w .bank .clock) (w .bank .openings) (placeAt (w .bank) i) (partAt (w .orders) i)
-  open-place i o = at (placeAt (w .bank) i .used) o (v .state .places i (place-inside i o))
-    where
-      at : (u : Use) → isOpen u ≡ true →
-          PlaceHolds u (w .bank .clock) (w .bank .openings) (placeAt (w .bank) i) (partAt (w .orders) i) →
-          OpenPlace (w .bank .clock) (w .bank .openings) (placeAt (w .bank) i) (partAt (w .orders) i)
-      at Free z p = never z
-      at Open z p = p
-      at Booked z p = never z
-
-  place-short : (i : ℕ) → i < placeCount → placeAt (w .bank) i .length ≤ fileBytes
-  place-short i l = at (placeAt (w .bank) i .used) (v .state .places i l)
-    where
-      at : (u : Use) → PlaceHolds u (w .bank .clock) (w .bank .openings) (placeAt (w .bank) i) (partAt (w .orders) i) →
-          placeAt (w .bank) i .length ≤ fileBytes
-      at Free p = let z = ap (λ (r : Place). r .length) (p .empty) in omega arith
-      at Open p = let a = p .below in let b = p .few in let c = p .largest in omega arith
-      at Booked p = p .room
-
-  delivered-within : (j : ℕ) → downloadAt (w .bank) j .used ≡ true →
-      downloadAt (w .bank) j .delivered ≤ segmentsOf (fileLength (downloadAt (w .bank) j .subscriber) (w .bank .files))
-  delivered-within j u =
-      let o = download-open w h v j u .0 in
-      subst (λ (m : ℕ). downloadAt (w .bank) j .delivered ≤ segmentsOf m)
-      (file-long w h v (downloadAt (w .bank) j .subscriber) (o .known) (o .most)) (o .within)
-
-  pub in-range : InRange (w .bank)
-  in-range = record {
-    files = λ i l. v .state .mailboxesHold i l .room;
-    lengths = place-short;
-    few = λ i o. open-place i o .few;
-    below = λ i o. open-place i o .below;
-    largest = λ i o. open-place i o .largest;
-    known = λ j u. download-open w h v j u .0 .known;
-    most = λ j u. download-open w h v j u .0 .most;
-    within = delivered-within;
-  }
+pub in-range : {w : BankState} {h : List Exchange} → Invariant w h → InRange (w .bank)
+in-range {w} v = state-in-range w (v .state)

@@ -46,22 +46,7 @@ use Rattle.bank.specs.declared.call.FrameAnswer.{FrameAnswer}
 use Rattle.bank.specs.declared.call.FrameAnswer.the-variants.{Reply, WrongLength}
 use Rattle.bank.specs.Call.{FrameInput, respond, frameCall}
 use Rattle.bank.specs.Journal.{enteredBy, journalAfter, journalBy}
-use Rattle.bank_history.specs.History.{
-  Exchange,
-  BankCall,
-  Frame,
-  File,
-  Past,
-  isOpening,
-  isDownloadOpening,
-  ever,
-  callExchange,
-  segmentsAt,
-  entered,
-  after,
-  start,
-  pastOf,
-}
+use Rattle.bank_history.specs.History.{Exchange, BankCall, Frame, File, Past, isOpening, isDownloadOpening, ever, callExchange, segmentsAt, entered, after, start, pastOf}
 use Rattle.bank_history.specs.FalseEconomies.{Next}
 use Rattle.bank_history.specs.Invariant.{PlaceTold, UploadTold, Invariant}
 use Rattle.bank_history.specs.Sound.{isCancelling, Sound, SoundRequest, AllSound}
@@ -96,7 +81,8 @@ use Rattle.bank_history.proofs.ByReplies.{
   opened-count,
   at-opened,
 }
-use Rattle.bank_history.proofs.Cases.{
+use Rattle.bank_history.proofs.GoesOn.{upload-goes-on}
+use Rattle.bank_admitted.proofs.Cases.{
   Happens,
   unreadable,
   refused,
@@ -104,10 +90,9 @@ use Rattle.bank_history.proofs.Cases.{
   opensDownload,
   toUpload,
   toDownload,
-  upload-goes-on,
 }
 use Rattle.bank_history.proofs.Entries.{and-no}
-use Rattle.bank_history.proofs.Clock.{advanced-clock}
+use Rattle.bank_admitted.proofs.Clock.{advanced-clock}
 use Rattle.bank_history.proofs.Downloads.{download-open}
 use Rattle.bank_history.proofs.DropOrder.{owner-is, order-is, upload-id, download-id, same-entries}
 use Rattle.bank_history.proofs.Keeps.{past-holds}

@@ -105,7 +105,8 @@ use Rattle.bank_history.specs.Status.{
   one,
 }
 use Rattle.bank_history.proofs.ByReplies.{standing-is, opened-count, opened-ids}
-use Rattle.bank_history.proofs.Cases.{
+use Rattle.bank_history.proofs.GoesOn.{upload-goes-on}
+use Rattle.bank_admitted.proofs.Cases.{
   Happens,
   unreadable,
   refused,
@@ -113,7 +114,6 @@ use Rattle.bank_history.proofs.Cases.{
   opensDownload,
   toUpload,
   toDownload,
-  upload-goes-on,
 }
 use Rattle.bank_history.proofs.Closed.{isClosed, acted-open, closed-next, by-exchange}
 use Rattle.bank_history.proofs.DropOrder.{opened-order, idle-status, drop-told}

@@ -37,6 +37,7 @@ use Rattle.bank_events.specs.Entries as entries
 use Rattle.bank.specs.Call as bankCall
 use Rattle.bank.specs.Journal as bankJournal
 use Rattle.bank_history.specs.History as history
+use Rattle.bank_admitted.specs.State as admitted
 use Rattle.bank_history.specs.ByReplies as byReplies
 use Rattle.bank_history.specs.Journal as journal
 
@@ -68,7 +69,7 @@ unfolding clocks.isIdle clocks.freed clocks.dropUpload clocks.dropUploads clocks
     judgement.judgeTransaction judgement.judge
     openings.counted openings.openUpload uploads.grown uploads.booked uploads.attempted
     bankCall.mailboxSegment bankCall.respond bankCall.lentRight bankCall.frameCall
-    history.exchangeOf history.after history.start history.pastOf history.mailboxFile
+    history.exchangeOf history.after history.start history.pastOf admitted.mailboxFile
 bank = 0
 
 unfoldable events-entered : ℕ

@@ -47,19 +47,7 @@ use Rattle.journal.specs.Row.{newest, rowOf}
 use Rattle.journal.specs.Records.{Recorded}
 use Rattle.journal.specs.Records as records
 use Rattle.bank_events.specs.Entries.{entry, orderIn, actionEntries}
-use Rattle.bank_history.specs.History.{
-  Exchange,
-  older,
-  BankCall,
-  isOpening,
-  isUploadOpening,
-  isBooking,
-  ever,
-  accepted,
-  opens,
-  start,
-  pastOf,
-}
+use Rattle.bank_history.specs.History.{Exchange, older, BankCall, isOpening, isUploadOpening, isBooking, ever, accepted, opens, start, pastOf}
 use Rattle.bank_history.specs.History as stands
 use Rattle.bank_history.specs.FalseEconomies.{Next}
 use Rattle.bank_history.specs.Invariant.{Invariant}
@@ -80,16 +68,8 @@ use Rattle.bank_history.specs.ByReplies.{ofReply, ownerOf, orderOf}
 use Rattle.bank_history.specs.Journal.{journalOf, entryOf, uploadDrops, replyEntries, entriesOf, eventsIn}
 use Rattle.bank_history.specs.JournalOrders.{OpensOrder, NeverBooked}
 use Rattle.bank_history.proofs.ByReplies.{opening-below}
-use Rattle.bank_history.proofs.Cases.{
-  Happens,
-  unreadable,
-  refused,
-  opensUpload,
-  opensDownload,
-  toUpload,
-  toDownload,
-  upload-goes-on,
-}
+use Rattle.bank_admitted.proofs.Cases.{Happens, unreadable, refused, opensUpload, opensDownload, toUpload, toDownload}
+use Rattle.bank_history.proofs.GoesOn.{upload-goes-on}
 use Rattle.bank_history.proofs.Closed.{
   isClosed,
   closed-next,

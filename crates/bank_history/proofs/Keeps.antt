@@ -1,12 +1,11 @@
 -- Every call keeps the invariant: each case of a request, a frame call, a file call, and every list of calls.
 use Prim.{tt}
-use Prim.Native.Nat.{ℕ, zero, suc, _+_, _-_, _*_, _≤_, _<_}
+use Prim.Native.Nat.{ℕ, _≤_, _<_}
 use mathlib.Core.Bool.{false}
 use mathlib.Core.List.{List, [], _∷_}
-use mathlib.Core.Path.{_≡_, refl, sym, ap, _∙_}
-use native.Mathlib.Nat.{suc-add}
+use mathlib.Core.Path.{_≡_, refl, sym, _∙_}
 use native.Mathlib.Omega.{arith}
-use lib.ListN.{length, take, drop, replicate, length-replicate, getD-replicate}
+use lib.ListN.{length}
 use Rattle.frame_table.specs.declared.fields.Bits128.{Bits128}
 use Rattle.frame_table.specs.declared.fields.Fields.{Fields}
 use Rattle.frame_table.specs.Forms as forms
@@ -15,16 +14,11 @@ use Rattle.frame_table.specs.Names.{subscriber, form}
 use Rattle.frame_reader.specs.Reader.{readRequest}
 use Rattle.frame_row.specs.Row.{dataOf}
 use Rattle.octets.proofs.Tests.{never}
-use Rattle.message.specs.Limits.{fileBytes}
+use Rattle.message.proofs.Verdicts.{by-test}
 use Rattle.bank_state.specs.State.{Bank}
-use Rattle.bank_state.specs.declared.state.Download.{Download}
-use Rattle.bank_state.specs.declared.state.Place.{Place}
 use Rattle.bank_state.specs.Clock.{advanced}
-use Rattle.bank_state.specs.Limits.{placeCount, storeBytes, nonceCount}
-use Rattle.bank_state.specs.Rows.{countOf, keep}
-use Rattle.bank_state.specs.Search.{isFree, isOpen, openCount, openCountOf}
-use Rattle.bank_state.specs.State.{BankState, noPlace, noDownload, noNonce, fresh, placeAt, downloadAt}
-use Rattle.bank_state.specs.Store.{partAt}
+use Rattle.bank_state.specs.Rows.{keep}
+use Rattle.bank_state.specs.State.{BankState, fresh, placeAt, downloadAt}
 use Rattle.bank.specs.declared.call.FrameAnswer.{FrameAnswer}
 use Rattle.bank.specs.declared.call.FrameAnswer.the-variants.{Reply, WrongLength}
 use Rattle.bank.specs.declared.mailbox.FileAnswer.{FileAnswer}
@@ -34,33 +28,8 @@ use Rattle.bank.specs.Call.{Step, FrameCall, lentRight, replied, respond, frame
 use Rattle.bank.specs.Mailbox.{fileNumber, carryOutFile, fileCall}
 use Rattle.bank_verdicts.specs.declared.verdict.Verdict.{Verdict}
 use Rattle.bank_verdicts.specs.declared.verdict.Verdict.the-variants as verdict
-use Rattle.bank_history.specs.History.{
-  Exchange,
-  Past,
-  BankCall,
-  Frame,
-  File,
-  did,
-  isAction,
-  isBooking,
-  opens,
-  accepted,
-  exchangeOf,
-  entered,
-  placed,
-  after,
-  start,
-  pastOf,
-  ever,
-  openingNonces,
-  remembered,
-}
-use Rattle.bank_history.specs.Packed.{rest}
-use Rattle.bank_history.specs.Sound.{Sound, none, more}
-use Rattle.bank_history.specs.Invariant.{Invariant, NoneIdle, Holds}
-use Rattle.bank_history.proofs.Parts.{place-kept, download-kept}
-use Rattle.message.proofs.Verdicts.{by-test}
-use Rattle.bank_history.proofs.Cases.{
+use Rattle.bank_admitted.specs.State.{NoneIdle}
+use Rattle.bank_admitted.proofs.Cases.{
   Happens,
   unreadable,
   refused,
@@ -70,47 +39,40 @@ use Rattle.bank_history.proofs.Cases.{
   toDownload,
   happens,
 }
+use Rattle.bank_admitted.proofs.Reading.{transfer-data}
+use Rattle.bank_admitted.proofs.Clock.{advanced-not-idle}
+use Rattle.bank_admitted.proofs.Files.{FileSound, rejected, done, judged-file}
+use Rattle.bank_admitted.proofs.Keeps.{respond-not-idle}
+use Rattle.bank_admitted.proofs.Fresh.{fresh-place, fresh-download, fresh-state, fresh-not-idle}
+use Rattle.bank_history.specs.History.{Exchange, Past, BankCall, Frame, File, did, isAction, isBooking, opens, accepted, exchangeOf, entered, placed, after, start, pastOf, ever, openingNonces, remembered}
+use Rattle.bank_history.specs.Sound.{Sound, none, more}
+use Rattle.bank_history.specs.Invariant.{Invariant, Holds}
 use Rattle.bank_history.proofs.Entries.{ever-other}
-use Rattle.bank_history.proofs.Memory.{memory-unchanged, memory-nonces}
-use Rattle.bank_history.proofs.Places.{drop-replicate, place-unchanged}
-use Rattle.bank_history.proofs.Rows.{getD-free, free-replicate}
+use Rattle.bank_history.proofs.Memory.{memory-unchanged}
+use Rattle.bank_history.proofs.Places.{place-unchanged}
 use Rattle.bank_history.proofs.Records.{download-unchanged}
-use Rattle.bank_history.proofs.DownloadChange.{download-change}
 use Rattle.bank_history.proofs.Uploads.{entry, bare, upload-keeps}
 use Rattle.bank_history.proofs.DownloadVerdicts.{download-keeps}
 use Rattle.bank_history.proofs.Openings.{opens-upload, opens-download}
-use Rattle.bank_history.proofs.NotIdle.{case-not-idle}
-use Rattle.bank_history.proofs.Clock.{advanced-keeps, advanced-not-idle}
-use Rattle.bank_history.proofs.Reading.{transfer-data}
-use Rattle.bank_history.proofs.Files.{FileSound, rejected, done, judged-file, filled-keeps}
+use Rattle.bank_history.proofs.Clock.{advanced-keeps}
+use Rattle.bank_history.proofs.Files.{filled-keeps}
 
 -- a request that does nothing
 nothing-keeps : (w : BankState) (h : List Exchange) (x : Exchange) → ((t : Bits128) → did isAction t (x .verdict) ≡ false) →
     opens (x .verdict) ≡ false → Sound x h →
     Invariant w h → Invariant w (x ∷ h)
 unfolding accepted
-nothing-keeps w h x no-action unopened sound v =
-    download-change w (w .bank .clock) (w .bank .openings) (w .bank .downloads) (w .bank .nonces) (w .bank .files) (w .mailboxes) v (record {
-      listed = v .state .sizes .downloads;
-      remembered = v .state .sizes .nonces;
-      filed = v .state .sizes .files;
-      stored = v .state .sizes .mailboxes;
-      counted = rw unopened (v .counted);
-      numbers = v .state .numbers;
-      places = λ i a. place-unchanged x h _ _ (omega arith) _ _ _ (placeAt (w .bank) i .used)
-          (λ _. no-action (placeAt (w .bank) i .transaction)) (place-kept v i a);
-      downloads = λ j. download-unchanged x h _ _ _ _ (omega arith) _ (downloadAt (w .bank) j .used)
-          (λ _. no-action (downloadAt (w .bank) j .transaction)) (download-kept v j);
-      mailboxesHold = v .state .mailboxesHold;
-      apart = v .state .apart;
-      inOrder = v .state .inOrder;
-      memory = memory-unchanged _ _ x h unopened (v .memory);
-      openAll = v .state .openAll;
-      openOf = v .state .openOf;
-      known = λ t e. v .known t (sym (ever-other t x h (no-action t) isAction) ∙ e);
-      booked = λ t e. v .booked t (sym (ever-other t x h (no-action t) isBooking) ∙ e);
-      sound = more sound (v .sound);
-    })
+nothing-keeps w h x no-action unopened sound v = record {
+  state = v .state;
+  counted = rw unopened (v .counted);
+  places = λ i a. place-unchanged x h _ _ (placeAt (w .bank) i .used) (λ _. no-action (placeAt (w .bank) i .transaction)) (v .places i a);
+  downloads = λ j. download-unchanged x h _ _ (downloadAt (w .bank) j .used) (λ _. no-action (downloadAt (w .bank) j .transaction))
+      (v .downloads j);
+  memory = memory-unchanged _ _ x h unopened (v .memory);
+  known = λ t e. v .known t (sym (ever-other t x h (no-action t) isAction) ∙ e);
+  booked = λ t e. v .booked t (sym (ever-other t x h (no-action t) isBooking) ∙ e);
+  sound = more sound (v .sound);
+}
 
 module _ (first : ℕ) (w : BankState) (h : List Exchange) (v : Invariant w h) (q : Fields) (d : List ℕ)
     (some : form q ≡ forms.UploadTransfer → 1 ≤ length d) where
@@ -127,11 +89,6 @@ module _ (first : ℕ) (w : BankState) (h : List Exchange) (v : Invariant w h) (
   pub respond-keeps : Invariant (respond first w q d .bankState) (exchangeOf first w q d ∷ h)
   unfolding exchangeOf respond
   respond-keeps = case-keeps (happens first w q d (v .state .sizes .places) (v .state .sizes .downloads))
-
-  respond-not-idle : NoneIdle w → NoneIdle (respond first w q d .bankState)
-  unfolding respond
-  respond-not-idle n = case-not-idle w n first q d (v .state .sizes .places)
-      (happens first w q d (v .state .sizes .places) (v .state .sizes .downloads))
 
 -- ---- the calls
 
@@ -165,8 +122,7 @@ frame-holds p a old =
         (transfer-data (a .frame))
 
     notIdle : NoneIdle (s .bankState)
-    notIdle = respond-not-idle (number (a .ids)) w (p .history) v (readRequest (a .frame)) (dataOf (a .frame))
-        (transfer-data (a .frame))
+    notIdle = respond-not-idle (number (a .ids)) w (v .state) (readRequest (a .frame)) (dataOf (a .frame))
         (advanced-not-idle (a .time) (p .bankState) (old .invariant .state .sizes))
 
 file-holds : (p : Past) (mailbox : ℕ) (file : List ℕ) → Holds p → Holds (after (File mailbox file) p)
@@ -203,64 +159,20 @@ after-holds (File mailbox file) p old = file-holds p mailbox file old
 
 -- ---- a fresh bank
 
-take-replicate : {A : Type 0} (n m : ℕ) (a : A) → take n (replicate (n + m) a) ≡ replicate n a
-take-replicate zero m a = refl
-take-replicate {A} (suc n) m a = rw (suc-add n m) (ap (λ (l : List A). a ∷ l) (take-replicate n m a))
-
-part-of-same : {A : Type 0} (a : A) (k n m : ℕ) → m + n ≤ k → take n (drop m (replicate k a)) ≡ replicate n a
-part-of-same a k n m h =
-    let e : k ≡ m + (n + (k - (m + n))) = omega arith in
-    ap (λ (z : ℕ). take n (drop m (replicate z a))) e
-    ∙ (ap (take n) (drop-replicate m (n + (k - (m + n))) a) ∙ take-replicate n (k - (m + n)) a)
-
-zeros-part : (i : ℕ) → i < placeCount → partAt (replicate storeBytes 0) i ≡ replicate fileBytes 0
-unfolding partAt
-zeros-part i a = part-of-same {A = ℕ} 0 storeBytes fileBytes (i * fileBytes) (omega arith)
-
-fresh-place : (i : ℕ) → i < placeCount → placeAt fresh i ≡ noPlace
-unfolding fresh
-fresh-place i a = getD-replicate placeCount i noPlace noPlace a
-
-fresh-download : (j : ℕ) → downloadAt fresh j ≡ noDownload
-unfolding fresh
-fresh-download = getD-free noDownload placeCount
-
 start-holds : Holds start
-unfolding start fresh openCount openCountOf countOf accepted ever remembered openingNonces keep
+unfolding start fresh accepted ever remembered openingNonces keep
 start-holds = record {
   invariant = record {
-    state = record {
-      sizes = record {
-        places = refl;
-        downloads = refl;
-        nonces = refl;
-        files = refl;
-        orders = length-replicate {A = ℕ} storeBytes 0;
-        mailboxes = length-replicate {A = ℕ} storeBytes 0;
-      };
-      numbers = omega arith;
-      places = λ i a. rw (fresh-place i a) (record { empty = refl; zeros = zeros-part i a });
-      downloads = λ j. rw (fresh-download j) refl;
-      mailboxesHold = λ i a. rw (getD-replicate {A = ℕ} placeCount i 0 0 a) (record { room = omega arith; zeros = zeros-part i a });
-      placesApart = λ i j a b f. never (sym f ∙ ap (λ (p : Place). isFree (p .used)) (fresh-place i a));
-      apart = λ i j a f. never (sym f ∙ ap (λ (p : Place). isFree (p .used)) (fresh-place i a));
-      inOrder = rest (free-replicate noDownload placeCount);
-      nonces = memory-nonces 0 (replicate nonceCount noNonce) [] (record { held = refl });
-      openAll = omega arith;
-      openOf = λ s. omega arith;
-    };
+    state = fresh-state;
     counted = refl;
-    places = λ i a. rw (fresh-place i a) tt;
+    places = λ i a. rw (fresh-place i) tt;
     downloads = λ j. rw (fresh-download j) tt;
     memory = record { held = refl };
     known = λ t e. never e;
     booked = λ t e. never e;
     sound = none;
   };
-  current = record {
-    places = λ i a f. never (sym (ap (λ (p : Place). isOpen (p .used)) (fresh-place i a)) ∙ f);
-    downloads = λ j f. never (sym (ap (λ (e : Download). e .used) (fresh-download j)) ∙ f);
-  };
+  current = fresh-not-idle;
 }
 
 -- THE INVARIANT, after every list of calls

@@ -1,22 +1,16 @@
 -- The laws of rows, stores and histories, and the theorems on the bank's invariant.
-pub mod Stores
-pub mod Rows
-pub mod Cases
+pub mod GoesOn
 pub mod Entries
 pub mod Memory
 pub mod Parts
 pub mod Places
 pub mod Records
-pub mod PlaceChange
-pub mod DownloadChange
 pub mod Uploads
 pub mod Downloads
 pub mod DownloadVerdicts
 pub mod Openings
 pub mod Clock
-pub mod Reading
 pub mod Files
-pub mod NotIdle
 pub mod Keeps
 pub mod Replies
 pub mod Positions

@@ -29,29 +29,11 @@ use Rattle.bank_verdicts.specs.Judgement.{mailboxSegments, uploadAt}
 use Rattle.bank_openings.specs.Openings.{counted, openUpload, openDownload}
 use Rattle.bank_steps.specs.Steps.{downloadActs, carryOut}
 use Rattle.bank.specs.Call.{respond, FrameInput}
-use Rattle.bank_history.specs.History.{
-  Exchange,
-  Past,
-  BankCall,
-  Frame,
-  File,
-  isAction,
-  did,
-  exchangeOf,
-  after,
-  fileAtOpening,
-}
+use Rattle.bank_history.specs.History.{Exchange, Past, BankCall, Frame, File, isAction, did, exchangeOf, after, fileAtOpening}
 use Rattle.bank_history.specs.Invariant.{Invariant, Holds}
-use Rattle.bank_history.specs.Transactions.{
-  Filled,
-  UploadAt,
-  DownloadAt,
-  UploadUnlessIdle,
-  DownloadUnlessIdle,
-  filled,
-  answered,
-}
-use Rattle.bank_history.proofs.Cases.{
+use Rattle.bank_admitted.proofs.Files.{filled}
+use Rattle.bank_history.specs.Transactions.{Filled, UploadAt, DownloadAt, UploadUnlessIdle, DownloadUnlessIdle, answered}
+use Rattle.bank_admitted.proofs.Cases.{
   Happens,
   unreadable,
   refused,
@@ -62,8 +44,10 @@ use Rattle.bank_history.proofs.Cases.{
   upload-acts,
   happens,
 }
-use Rattle.bank_history.proofs.Clock.{advanced-keeps, advanced-clock}
-use Rattle.bank_history.proofs.Downloads.{file-long, download-open}
+use Rattle.bank_admitted.proofs.Clock.{advanced-clock}
+use Rattle.bank_history.proofs.Clock.{advanced-keeps}
+use Rattle.bank_admitted.proofs.Held.{file-long}
+use Rattle.bank_history.proofs.Downloads.{download-open}
 use Rattle.bank_history.proofs.Changes.{after-frame, after-file}
 use Rattle.bank_history.proofs.OpenUploads as uploads
 use Rattle.bank_history.proofs.OpenDownloads as downloads
@@ -216,7 +200,7 @@ module _ (a : FrameInput) (p : Past) (holds : Holds p) where
         let own : subscriber (readRequest (a .frame)) ≡ downloadAt (judged .bank) (u .row) .subscriber =
         from ∙ sym (u .subscriber) in
         ap (λ (m : ℕ). segmentsOf (fileLength m (judged .bank .files))) own
-        ∙ ap segmentsOf (sym (file-long judged (p .history) judged-holds _ (o .0 .known) (o .0 .most)))
+        ∙ ap segmentsOf (sym (file-long judged (judged-holds .state) _ (o .0 .known) (o .0 .most)))
         ∙ ap (λ (f : List ℕ). segmentsOf (length f)) (sym (o .1 .unchanged))
         ∙ ap (λ (i : Bits128). segmentsOf (length (fileAtOpening i (p .history)))) (u .transaction)
 

@@ -39,22 +39,12 @@ use Rattle.bank_verdicts.specs.Judgement.{uploadAt, judgeOpen, judgeTransaction
 use Rattle.bank_verdicts.proofs.Sound.{Readable, judged-transaction}
 use Rattle.bank_steps.specs.Steps.{carryOut}
 use Rattle.bank.specs.Call.{respond}
-use Rattle.bank_history.specs.History.{
-  Exchange,
-  BankCall,
-  Frame,
-  Past,
-  exchangeOf,
-  pastOf,
-  after,
-  newest,
-  isOpening,
-}
+use Rattle.bank_history.specs.History.{Exchange, BankCall, Frame, Past, exchangeOf, pastOf, after, newest, isOpening}
 use Rattle.bank_history.specs.Sound.{SoundRequest, SoundAction, SoundUploadAction, SoundDownloadAction, AllSound}
 use Rattle.bank_history.specs.Invariant.{Invariant}
 use Rattle.bank_history.specs.Transactions.{answered}
 use Rattle.bank_history.specs.FalseEconomies.{Next, WellMade, Asks, RefusedWith}
-use Rattle.bank_history.proofs.Cases.{Happens, happens}
+use Rattle.bank_admitted.proofs.Cases.{Happens, happens}
 use Rattle.bank_history.proofs.Changes.{after-frame}
 use Rattle.bank_history.proofs.Clock.{advanced-keeps}
 use Rattle.bank_history.proofs.Keeps.{past-holds}

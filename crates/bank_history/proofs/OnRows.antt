@@ -38,18 +38,8 @@ use Rattle.bank.specs.Lent.{
 use Rattle.bank.proofs.Kept.{frame-sound, frame-state, file-sound, file-state}
 use Rattle.bank.proofs.Lent.{length-refused, rows-refused, lent-frame}
 use Rattle.bank_history.specs.Answers.{AllBytes, none, more, FrameAnswered}
-use Rattle.bank_history.specs.History.{
-  Past,
-  BankCall,
-  Frame,
-  File,
-  callExchange,
-  placed,
-  start,
-  after,
-  pastOf,
-}
-use Rattle.bank_history.specs.Invariant.{Sizes}
+use Rattle.bank_history.specs.History.{Past, BankCall, Frame, File, callExchange, placed, start, after, pastOf}
+use Rattle.bank_admitted.specs.State.{Sizes}
 use Rattle.bank_history.specs.OnRows.{lentAfter, lentOf, AreBytes, RightlyLent, OnRows}
 use Rattle.bank_history.proofs.Answers.{call-lengths, call-answered, same-bank}
 

@@ -71,7 +71,7 @@ use Rattle.bank_history.specs.Status.{
   upload,
   download,
 }
-use Rattle.bank_history.proofs.Clock.{advanced-clock}
+use Rattle.bank_admitted.proofs.Clock.{advanced-clock}
 use Rattle.bank_history.proofs.Counted.{isFitting, isAttempt}
 use Rattle.bank_history.proofs.Entries.{and-no, same-bits, did-same}
 use Rattle.bank_history.proofs.Keeps.{past-holds}

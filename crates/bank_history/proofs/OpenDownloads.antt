@@ -34,19 +34,10 @@ use Rattle.bank_history.specs.Invariant.{Invariant}
 use Rattle.bank_history.specs.Transactions.{DownloadAt, DownloadUnlessIdle}
 use Rattle.bank_state.proofs.Drops.{length-endDownloads, advanced-at-clock}
 use Rattle.bank_state.proofs.Rows.{first-passes, keepOnly-holds}
-use Rattle.bank_history.proofs.Cases.{
-  Happens,
-  unreadable,
-  refused,
-  opensUpload,
-  opensDownload,
-  toUpload,
-  toDownload,
-  upload-acts,
-  download-goes-on,
-}
+use Rattle.bank_admitted.proofs.Cases.{Happens, unreadable, refused, opensUpload, opensDownload, toUpload, toDownload, upload-acts}
+use Rattle.bank_history.proofs.GoesOn.{download-goes-on}
 use Rattle.bank_history.proofs.Entries.{same-bits}
-use Rattle.bank_history.proofs.Clock.{advanced-clock}
+use Rattle.bank_admitted.proofs.Clock.{advanced-clock}
 use Rattle.bank_state.proofs.Found.{download-found}
 
 -- the same record at another place of the row

@@ -23,9 +23,10 @@ use Rattle.bank_verdicts.specs.Judgement.{uploadAt}
 use Rattle.bank_openings.specs.Openings.{counted, openUpload, openDownload}
 use Rattle.bank_steps.specs.Steps.{downloadActs, carryOut}
 use Rattle.bank_history.specs.History.{Exchange, isAction, did}
-use Rattle.bank_history.specs.Invariant.{Sizes, Invariant}
+use Rattle.bank_admitted.specs.State.{Sizes}
+use Rattle.bank_history.specs.Invariant.{Invariant}
 use Rattle.bank_history.specs.Transactions.{UploadAt, UploadUnlessIdle}
-use Rattle.bank_history.proofs.Cases.{
+use Rattle.bank_admitted.proofs.Cases.{
   Happens,
   unreadable,
   refused,
@@ -36,8 +37,8 @@ use Rattle.bank_history.proofs.Cases.{
   upload-acts,
 }
 use Rattle.bank_history.proofs.Entries.{same-bits}
-use Rattle.bank_history.proofs.Clock.{sized, advanced-clock}
-use Rattle.bank_history.proofs.Openings.{free-passes}
+use Rattle.bank_admitted.proofs.Clock.{sized, advanced-clock}
+use Rattle.bank_admitted.proofs.Openings.{free-passes}
 
 -- the same place, as it was
 pub upload-moved : {w w′ : BankState} {t : Bits128} {s k n last : ℕ} → (u : UploadAt w t s k n last) →

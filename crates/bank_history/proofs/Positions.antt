@@ -20,27 +20,7 @@ use Rattle.bank_verdicts.specs.declared.verdict.Action.{Action}
 use Rattle.bank_verdicts.specs.declared.verdict.Action.the-variants as action
 use Rattle.bank_verdicts.specs.declared.verdict.Verdict.{Verdict}
 use Rattle.bank_verdicts.specs.declared.verdict.Verdict.the-variants as verdict
-use Rattle.bank_history.specs.History.{
-  uploadKind,
-  downloadKind,
-  Exchange,
-  Stands,
-  newest,
-  older,
-  isOpening,
-  isTaking,
-  isBooking,
-  isEnding,
-  did,
-  ever,
-  times,
-  received,
-  segmentsAt,
-  accepted,
-  opens,
-  OpensNumber,
-  ActionIn,
-}
+use Rattle.bank_history.specs.History.{uploadKind, downloadKind, Exchange, Stands, newest, older, isOpening, isTaking, isBooking, isEnding, did, ever, times, received, segmentsAt, accepted, opens, OpensNumber, ActionIn}
 use Rattle.bank_history.specs.Sound.{
   SoundUploadAction,
   SoundDownloadAction,

@@ -50,27 +50,14 @@ use Rattle.bank_verdicts.proofs.Sound.{
   confirmed,
   declined,
 }
-use Rattle.bank_history.specs.History.{
-  Exchange,
-  BankCall,
-  Past,
-  newest,
-  older,
-  isAction,
-  isDelivery,
-  did,
-  ever,
-  times,
-  accepted,
-  start,
-  pastOf,
-}
+use Rattle.bank_history.specs.History.{Exchange, BankCall, Past, newest, older, isAction, isDelivery, did, ever, times, accepted, start, pastOf}
 use Rattle.bank_history.specs.Sound.{isCancelling, AllSound}
 use Rattle.bank_history.specs.Sound as sounds
-use Rattle.bank_history.specs.Invariant.{OpenPlace, PlaceHolds, Invariant}
+use Rattle.bank_admitted.specs.State.{OpenPlace, PlaceHolds}
+use Rattle.bank_history.specs.Invariant.{Invariant}
 use Rattle.bank_history.specs.FalseEconomies.{Next, RefusedWith, Sent, Attempt, point, again, Attempts}
 use Rattle.bank_history.specs.FalseEconomies as history
-use Rattle.bank_history.proofs.Cases.{
+use Rattle.bank_admitted.proofs.Cases.{
   Happens,
   unreadable,
   refused,

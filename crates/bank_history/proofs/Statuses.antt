@@ -45,19 +45,10 @@ use Rattle.bank_verdicts.specs.Judgement.{transactionOf, mailboxSegments, uploa
 use Rattle.bank_uploads.specs.Uploads.{grown, booked, attempted, placeAfter}
 use Rattle.bank_steps.specs.Steps.{onUpload, carryOut}
 use Rattle.bank.specs.Call.{respond}
-use Rattle.bank_history.specs.History.{
-  Exchange,
-  Past,
-  BankCall,
-  isAction,
-  isOpening,
-  did,
-  exchangeOf,
-  start,
-  pastOf,
-}
-use Rattle.bank_history.specs.Invariant.{Sizes, Invariant}
-use Rattle.bank_history.specs.Transactions.{filled}
+use Rattle.bank_history.specs.History.{Exchange, Past, BankCall, isAction, isOpening, did, exchangeOf, start, pastOf}
+use Rattle.bank_admitted.specs.State.{Sizes}
+use Rattle.bank_history.specs.Invariant.{Invariant}
+use Rattle.bank_admitted.proofs.Files.{filled}
 use Rattle.bank_history.specs.Status.{
   Status,
   NotOpened,
@@ -81,7 +72,8 @@ use Rattle.bank_history.specs.Status.{
   upload,
   download,
 }
-use Rattle.bank_history.proofs.Cases.{
+use Rattle.bank_history.proofs.GoesOn.{upload-goes-on, download-goes-on}
+use Rattle.bank_admitted.proofs.Cases.{
   Happens,
   unreadable,
   refused,
@@ -90,11 +82,10 @@ use Rattle.bank_history.proofs.Cases.{
   toUpload,
   toDownload,
   upload-acts,
-  upload-goes-on,
-  download-goes-on,
   happens,
 }
-use Rattle.bank_history.proofs.Clock.{advanced-keeps, advanced-clock, each-advanced, each-download}
+use Rattle.bank_admitted.proofs.Clock.{advanced-clock, each-advanced, each-download}
+use Rattle.bank_history.proofs.Clock.{advanced-keeps}
 use Rattle.bank_history.proofs.Counted.{open-used}
 use Rattle.bank_history.proofs.Downloads.{download-open, downloads-other, places-other}
 use Rattle.bank_history.proofs.Entries.{same-bits, other-bits}
@@ -102,11 +93,12 @@ use Rattle.bank_history.proofs.Keeps.{past-holds}
 use Rattle.bank_history.proofs.Liveness.{by-call}
 use Rattle.bank_history.proofs.OpenUploads as uploads
 use Rattle.bank_history.proofs.OpenDownloads as downloads
-use Rattle.bank_history.proofs.Openings.{free-inside-open}
-use Rattle.bank_history.proofs.Rows.{each-set, getD-free}
+use Rattle.bank_admitted.proofs.Openings.{free-inside-open}
+use Rattle.bank_admitted.proofs.Rows.{each-set, getD-free}
 use Rattle.bank_history.proofs.UploadRequests as ownUpload
 use Rattle.bank_history.proofs.DownloadRequests as ownDownload
-use Rattle.bank_history.proofs.Uploads.{entry, place-counted, place-other, download-other}
+use Rattle.bank_admitted.proofs.Held.{place-counted}
+use Rattle.bank_history.proofs.Uploads.{entry, place-other, download-other}
 
 -- what a status says of the bank: an open transaction is there
 abbrev Shown : BankState → Bits128 → Status → Type 0
@@ -270,7 +262,7 @@ module _ (w : BankState) (h : List Exchange) (v : Invariant w h) (σ : Bits128 �
     elsewhere u l = unchanged u (other-bits u t (λ z. omega arith))
 
     old-place : (j : ℕ) → j < placeCount → PlaceTold (then (verdict.Of t k)) (placeAt (w .bank) j)
-    old-place j b z = elsewhere _ (place-counted w h v j b (open-used (placeAt (w .bank) j .used) z) .0)
+    old-place j b z = elsewhere _ (place-counted w (v .state) j b (open-used (placeAt (w .bank) j .used) z) .0)
         ∙ told .places j b z
 
     old-download : (j : ℕ) → DownloadTold (then (verdict.Of t k)) (downloadAt (w .bank) j)

@@ -33,20 +33,8 @@ use Rattle.bank_verdicts.specs.declared.verdict.Action.the-variants as action
 use Rattle.bank_verdicts.specs.declared.verdict.Verdict.{Verdict}
 use Rattle.bank_verdicts.specs.declared.verdict.Verdict.the-variants as verdict
 use Rattle.bank_verdicts.specs.Replies.{replyTo}
-use Rattle.bank_history.specs.History.{
-  CancelsWith,
-  Exchange,
-  Stands,
-  BankCall,
-  pastOf,
-  mailboxFile,
-  isTaking,
-  isBooking,
-  isEnding,
-  ever,
-  received,
-  ActionIn,
-}
+use Rattle.bank_admitted.specs.State.{mailboxFile}
+use Rattle.bank_history.specs.History.{CancelsWith, Exchange, Stands, BankCall, pastOf, isTaking, isBooking, isEnding, ever, received, ActionIn}
 use Rattle.bank_history.specs.History as cancelled
 use Rattle.bank_history.specs.Sound.{
   isCancelling,

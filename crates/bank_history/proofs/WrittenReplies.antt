@@ -61,8 +61,8 @@ use Rattle.bank_verdicts.proofs.Sound.{Readable, Acceptable, UploadSound, Downl
 use Rattle.bank_verdicts.proofs.Sound as sound
 use Rattle.message.specs.OrderNumbers.{orderNumberOf}
 use Rattle.bank.specs.Call.{stepBy, mailboxSegment}
-use Rattle.bank_history.specs.History.{mailboxFile}
-use Rattle.bank_history.proofs.Cases.{
+use Rattle.bank_admitted.specs.State.{mailboxFile}
+use Rattle.bank_admitted.proofs.Cases.{
   Happens,
   ToUpload,
   ToDownload,
@@ -71,9 +71,10 @@ use Rattle.bank_history.proofs.Cases.{
   toUpload,
   toDownload,
 }
-use Rattle.bank_history.proofs.Cases as cases
+use Rattle.bank_admitted.proofs.Cases as cases
 use Rattle.bank_state.proofs.Found.{upload-found, download-found}
-use Rattle.bank_history.proofs.Downloads.{kept-long, carried-segment}
+use Rattle.bank_admitted.proofs.Held.{kept-long}
+use Rattle.bank_history.proofs.Downloads.{carried-segment}
 use Rattle.bank_history.proofs.Answered.{segment-length}
 use Rattle.bank_history.proofs.RequestBounds.{InWidth}
 

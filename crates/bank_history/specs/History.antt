@@ -20,6 +20,7 @@ use Rattle.bank_state.specs.Limits.{storeBytes, window}
 use Rattle.bank_state.specs.Rows.{keep}
 use Rattle.bank_state.specs.State.{BankState, bankState, fresh, fileLength}
 use Rattle.bank_state.specs.Store.{fileOf}
+use Rattle.bank_admitted.specs.State.{mailboxFile}
 use Rattle.bank_verdicts.specs.declared.verdict.UploadAction.{UploadAction}
 use Rattle.bank_verdicts.specs.declared.verdict.UploadAction.the-variants as up
 use Rattle.bank_verdicts.specs.declared.verdict.DownloadAction.{DownloadAction}
@@ -45,10 +46,6 @@ pub record Exchange : Type 0 where
   pub clock : ℕ
   pub file : List ℕ
   pub verdict : Verdict
-
--- "The bank's mailbox holds exactly the file ...": the file in a subscriber's mailbox
-unfoldable pub mailboxFile : BankState → ℕ → List ℕ
-mailboxFile w s = fileOf (w .mailboxes) (s - 1) (fileLength s (w .bank .files))
 
 -- the exchange of a request whose step is s, with the bank w before it
 abbrev pub exchangeBy : Step → BankState → Fields → List ℕ → Exchange

@@ -1,6 +1,5 @@
 -- The definitions of the bank's history, of its invariant, and of what holds after every list of calls.
 pub mod History
-pub mod Packed
 pub mod Sound
 pub mod Invariant
 pub mod Transactions

@@ -24,21 +24,7 @@ use Rattle.bank_verdicts.specs.declared.verdict.Verdict.{Verdict}
 use Rattle.bank_verdicts.specs.declared.verdict.Verdict.the-variants as verdict
 use Rattle.bank_verdicts.specs.Refusals.{cancels}
 use Rattle.bank_verdicts.specs.Replies.{replyTo}
-use Rattle.bank_history.specs.History.{
-  Exchange,
-  isUploadOpening,
-  isDownloadOpening,
-  isBooking,
-  isTaking,
-  isDelivery,
-  isEnding,
-  ever,
-  times,
-  accepted,
-  openedBy,
-  segmentsAt,
-  fileAtOpening,
-}
+use Rattle.bank_history.specs.History.{Exchange, isUploadOpening, isDownloadOpening, isBooking, isTaking, isDelivery, isEnding, ever, times, accepted, openedBy, segmentsAt, fileAtOpening}
 
 -- field 0D is 091102, 011101 or 091104, the codes that cancel
 abbrev pub isCancelling : ℕ → Bool

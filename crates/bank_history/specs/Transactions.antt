@@ -1,11 +1,11 @@
 -- What one call after another leaves: mailboxes, transactions that are gone, transactions that stay open.
-use Prim.Native.Nat.{ℕ, _+_, _-_, _*_, _<_, _≤_}
+use Prim.Native.Nat.{ℕ, _+_, _-_, _<_, _≤_}
 use mathlib.Core.Bool.{true, false}
 use mathlib.Core.List.{List, [], _∷_, _++_}
 use mathlib.Core.Path.{_≡_}
-use lib.ListN.{length, set, replicate}
+use lib.ListN.{length, replicate}
 use Rattle.frame_table.specs.declared.fields.Bits128.{Bits128}
-use Rattle.octets.specs.Bytes.{number, overwrite}
+use Rattle.octets.specs.Bytes.{number}
 use Rattle.frame_table.specs.Names
 use Rattle.frame_reader.specs.Reader.{readRequest}
 use Rattle.frame_row.specs.Row.{dataOf}
@@ -14,27 +14,14 @@ use Rattle.bank_state.specs.Clock.{advanced}
 use Rattle.bank_state.specs.declared.state.Use.the-variants.{Open, Booked}
 use Rattle.bank_state.specs.Limits.{placeCount, idleLimit}
 use Rattle.bank_state.specs.Search.{isFree}
-use Rattle.bank_state.specs.State.{BankState, bankState, placeAt, downloadAt, withFiles}
+use Rattle.bank_state.specs.State.{BankState, placeAt, downloadAt}
 use Rattle.bank_state.specs.Store.{partAt}
 use Rattle.bank.specs.Call.{FrameInput, respond}
 use Rattle.bank_verdicts.specs.declared.verdict.DownloadAction.the-variants as down
 use Rattle.bank_verdicts.specs.declared.verdict.Action.the-variants as action
 use Rattle.bank_verdicts.specs.declared.verdict.Verdict.the-variants as verdict
-use Rattle.bank_history.specs.History.{
-  Exchange,
-  mailboxFile,
-  Past,
-  callExchange,
-  isTaking,
-  isBooking,
-  isUploadOpening,
-  ever,
-  times,
-  received,
-  openedBy,
-  numberAt,
-  segmentsAt,
-}
+use Rattle.bank_admitted.specs.State.{mailboxFile}
+use Rattle.bank_history.specs.History.{Exchange, Past, callExchange, isTaking, isBooking, isUploadOpening, ever, times, received, openedBy, numberAt, segmentsAt}
 
 -- the past of an answered frame
 abbrev pub answered : FrameInput → Past → Past
@@ -44,12 +31,6 @@ answered a p = record {
       (dataOf (a .frame)) .bankState;
   history = callExchange (p .bankState) a ∷ p .history;
 }
-
--- the bank with the file in its mailbox
-abbrev pub filled : ℕ → List ℕ → BankState → BankState
-filled mailbox file w =
-    bankState (withFiles (set (w .bank .files) (mailbox - 1) (length file)) (w .bank)) (w .orders)
-    (overwrite (w .mailboxes) ((mailbox - 1) * fileBytes) file)
 
 -- what a booked place holds: the subscriber and the number of its accepted opening, and exactly the data of segments 1
 -- to N

@@ -117,6 +117,7 @@ judged-request P q n v unreadable refuses readable =
 pub record Acceptable (b : Bank) (q : Fields) : Type 0 where
   pub few : segments q ≤ maxSegments
   pub timely : leb (b .clock) (timestamp q + window) ≡ true
+  pub ahead : timestamp q ≤ b .clock + window
   pub unseen : isRemembered (nonce q) b ≡ false
   pub ofSubscriber : openCountOf (subscriber q) b < maxOpenPerSubscriber
   pub ofAll : openCount b < maxOpen
@@ -142,9 +143,10 @@ module _ (first : ℕ) (b : Bank) (q : Fields) where
   harmless d (Refused c) h = refused d c (not-true (cancels c) h)
   harmless d (Of t a) h = never h
 
-  in-time : inTime (timestamp q) (b .clock) ≡ true → leb (b .clock) (timestamp q + window) ≡ true
+  in-time : inTime (timestamp q) (b .clock) ≡ true →
+      (leb (timestamp q) (b .clock + window) ≡ true) × (leb (b .clock) (timestamp q + window) ≡ true)
   unfolding inTime
-  in-time h = and-true (leb (timestamp q) (b .clock + window)) (leb (b .clock) (timestamp q + window)) h .1
+  in-time h = and-true (leb (timestamp q) (b .clock + window)) (leb (b .clock) (timestamp q + window)) h
 
   place-and-numbers : (d : Direction) → isFull d b ≡ false →
       (leb maxOpen (openCount b) ≡ false) × (noPlaceFree d b ≡ false) ×
@@ -161,10 +163,12 @@ module _ (first : ℕ) (b : Bank) (q : Fields) where
   acceptable d failed =
       let late = not (inTime (timestamp q) (b .clock)) in
       let replay = or-neither late (isRemembered (nonce q) b) (failed code.MessageReplay) in
+      let time = in-time (not-false (inTime (timestamp q) (b .clock)) (replay .0)) in
       let room = place-and-numbers d (failed code.InternalError) in
       record {
         few = ltb-false maxSegments (segments q) (failed code.MaxSegmentsExceeded);
-        timely = in-time (not-false (inTime (timestamp q) (b .clock)) (replay .0));
+        timely = time .1;
+        ahead = leb-true (timestamp q) (b .clock + window) (time .0);
         unseen = replay .1;
         ofSubscriber = leb-false maxOpenPerSubscriber (openCountOf (subscriber q) b) (failed code.MaxTransactionsExceeded);
         ofAll = leb-false maxOpen (openCount b) (room .0);

@@ -1,12 +1,15 @@
--- Laws of the texts of the lines and tables: bytes in hexadecimal, and how long a text is at most. Assumes nothing.
+-- Laws of the texts of the lines and tables: bytes in hexadecimal, digests, and how long a text is at most. Assumes nothing.
 use Prim.Native.Nat.{ℕ, _+_, _*_, _/_, _%_, _≤_, _<_}
 use mathlib.Core.List.{List, [], _∷_, _++_}
-use mathlib.Core.Path.{_≡_, refl, ap}
+use mathlib.Core.Path.{_≡_, refl, sym, ap, _∙_}
+use native.Mathlib.Nat.{div-add-mod, mul-add-mod-self-left}
 use native.Mathlib.Numerals.{add-one}
 use native.Mathlib.Omega.{arith}
 use lib.Dec.{eqb}
 use lib.ListN.{length, getD, take, set, length-append, length-take, length-set}
 use lib.Seq.{take-suc}
+use Rattle.octets.specs.Bytes.{number}
+use Rattle.octets.proofs.Numbers.{number-nil, number-take}
 use Rattle.message.specs.Limits.{fileBytes}
 use Rattle.message.specs.OrderNumbers.{orderNumberOf}
 use Rattle.journal.specs.declared.event.Event.{Event}
@@ -23,7 +26,7 @@ use Rattle.client_run.specs.declared.run.ClientRun.{ClientRun}
 use Rattle.client_run.specs.declared.run.Stage.{Stage}
 use Rattle.client_run.specs.declared.run.Stage.the-variants as stage
 use Rattle.client_rules.specs.Rulings.{isBegun}
-use Rattle.print.specs.Text.{Put, orderNumberText, space, newline, column, columnRoom}
+use Rattle.print.specs.Text.{Put, decimal, orderNumberText, space, newline, column, columnRoom}
 use Rattle.print.specs.Book.{orderColumns}
 use Rattle.print.proofs.Digits.{decimal-most, order-number-most, column-most}
 use Rattle.print.proofs.Texts.{put-then, put-one, cond-most}
@@ -36,7 +39,7 @@ use Rattle.unit.specs.Records.{runCount}
 use Rattle.unit.specs.State.{runAt}
 use Rattle.driver_print.specs.declared.tables.Table.{Table}
 use Rattle.driver_print.specs.declared.tables.Table.the-variants.{Book, Mailboxes, Words, Files, Journal}
-use Rattle.driver_print.specs.Line.{hexDigit, hexOf, answerText, answerRoom}
+use Rattle.driver_print.specs.Line.{hexDigit, hexOf, digest, awayText, answerText, awayRoom, answerRoom}
 use Rattle.driver_print.specs.Tables.{
   headerText,
   contentText,
@@ -81,20 +84,47 @@ put-two old at v w h =
     let p = put-then (put-one old at v (omega arith)) (put-one (set old at v) (at + 1) w (omega arith)) in
     record { place = omega arith; fits = omega arith; bytes = p .bytes }
 
+-- ---- digests
+
+-- "value = (value * 256 + byte) mod 4294967291": a multiple of the prime more does not change the rest
+rest-next : (x b : ℕ) → (x % 4294967291 * 256 + b) % 4294967291 ≡ (x * 256 + b) % 4294967291
+rest-next x b =
+    let e : x * 256 + b ≡ 4294967291 * (x / 4294967291 * 256) + (x % 4294967291 * 256 + b) = omega (arith, div-add-mod x 4294967291) in
+    sym (mul-add-mod-self-left 4294967291 (x / 4294967291 * 256) (x % 4294967291 * 256 + b)) ∙ ap (λ (y : ℕ). y % 4294967291) (sym e)
+
+pub digest-nil : digest [] ≡ 0
+unfolding digest
+digest-nil = rw number-nil
+
+-- the digest of one byte more
+pub digest-next : (l : List ℕ) (i : ℕ) → i < length l
+    → digest (take (i + 1) l) ≡ (digest (take i l) * 256 + getD l i 0) % 4294967291
+unfolding digest
+digest-next l i h =
+    ap (λ (y : ℕ). y % 4294967291) (number-take l i h) ∙ sym (rest-next (number (take i l)) (getD l i 0))
+
 -- ---- how long a text is
 
 hex-front : (n : ℕ) (buffer : List ℕ) → length (hexOf (take n buffer)) ≤ 2 * length buffer
 hex-front n buffer = omega (arith, length-hexOf (take n buffer), length-take n buffer)
 
-pub answer-most : (a : Answer) (buffer : List ℕ) → length (answerText a buffer) ≤ answerRoom (length buffer)
-answer-most (answer.Frame n) buffer = omega (arith, hex-front n buffer)
-answer-most answer.Put buffer = omega arith
-answer-most (answer.Request n) buffer = omega (arith, hex-front n buffer)
-answer-most answer.Ignored buffer = omega arith
-answer-most (answer.Closed w x) buffer = omega (arith, closing-most w x)
-answer-most answer.Unchanged buffer = omega arith
-answer-most (answer.Number n) buffer = omega (arith, decimal-most n)
-answer-most answer.NoCall buffer = omega arith
+pub away-most : (n : ℕ) (room : List ℕ) → length (awayText n room) ≤ awayRoom
+unfolding awayText
+away-most n room =
+    omega (arith, length-append (column n space) (decimal (digest room)), column-most n space, decimal-most (digest room))
+
+pub answer-most : (a : Answer) (buffer room : List ℕ) → length (answerText a buffer room) ≤ answerRoom (length buffer)
+answer-most (answer.Frame n) buffer room = omega (arith, hex-front n buffer)
+answer-most answer.Put buffer room = omega arith
+answer-most (answer.Request n) buffer room = omega (arith, hex-front n buffer)
+answer-most answer.Ignored buffer room = omega arith
+answer-most (answer.Closed w x) buffer room = omega (arith, closing-most w x)
+answer-most answer.Unchanged buffer room = omega arith
+answer-most (answer.Away n) buffer room = omega (arith, away-most n room)
+answer-most answer.TakenUp buffer room = omega arith
+answer-most answer.Room buffer room = omega arith
+answer-most (answer.Number n) buffer room = omega (arith, decimal-most n)
+answer-most answer.NoCall buffer room = omega arith
 
 pub header-most : (t : Table) → length (headerText t) ≤ headerRoom
 header-most Book = omega arith

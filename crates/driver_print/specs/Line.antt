@@ -4,6 +4,7 @@ use mathlib.Core.Bool.{cond}
 use mathlib.Core.List.{List, [], _∷_, _++_}
 use lib.Dec.{ltb}
 use lib.ListN.{take}
+use Rattle.octets.specs.Bytes.{number}
 use Rattle.print.specs.Text.{ascii, maxDigits, decimal, space, newline, column, columnRoom}
 use Rattle.print.specs.Closing.{closingText}
 use Rattle.unit.specs.declared.call.Answer.{Answer}
@@ -14,6 +15,9 @@ use Rattle.unit.specs.declared.call.Answer.the-variants.{
   Ignored,
   Closed,
   Unchanged,
+  Away,
+  TakenUp,
+  Room,
   Number,
   NoCall,
 }
@@ -26,24 +30,40 @@ unfoldable pub hexOf : List ℕ → List ℕ
 hexOf [] = []
 hexOf (b ∷ l) = hexDigit (b / 16) ∷ hexDigit (b % 16) ∷ hexOf l
 
--- what an answer says; the reply or request stands in the buffer. No call says nothing.
-abbrev pub answerText : Answer → List ℕ → List ℕ
-answerText (Frame n) buffer = ascii "frame " ++ hexOf (take n buffer)
-answerText Put buffer = ascii "put"
-answerText (Request n) buffer = ascii "request " ++ hexOf (take n buffer)
-answerText Ignored buffer = ascii "ignored"
-answerText (Closed w x) buffer = ascii "closed " ++ closingText w x
-answerText Unchanged buffer = ascii "unchanged"
-answerText (Number n) buffer = ascii "number " ++ decimal n
-answerText NoCall buffer = []
+-- "The bytes read as one number, high byte first, modulo 4,294,967,291 (the largest prime below 2^32)"
+unfoldable pub digest : List ℕ → ℕ
+digest l = number l % 4294967291
+
+-- "`away LENGTH DIGEST`": "DIGEST is that of all the bytes lent after the call"
+unfoldable pub awayText : ℕ → List ℕ → List ℕ
+awayText n room = ascii "away " ++ (column n space ++ decimal (digest room))
+
+-- what an answer says; the reply or request stands in the buffer, and these bytes of the image room were lent. No call
+-- says nothing.
+abbrev pub answerText : Answer → List ℕ → List ℕ → List ℕ
+answerText (Frame n) buffer room = ascii "frame " ++ hexOf (take n buffer)
+answerText Put buffer room = ascii "put"
+answerText (Request n) buffer room = ascii "request " ++ hexOf (take n buffer)
+answerText Ignored buffer room = ascii "ignored"
+answerText (Closed w x) buffer room = ascii "closed " ++ closingText w x
+answerText Unchanged buffer room = ascii "unchanged"
+answerText (Away n) buffer room = awayText n room
+answerText TakenUp buffer room = ascii "taken up"
+answerText Room buffer room = ascii "room"
+answerText (Number n) buffer room = ascii "number " ++ decimal n
+answerText NoCall buffer room = []
 
 -- the line of call n
-unfoldable pub lineOf : ℕ → Answer → List ℕ → List ℕ
-lineOf n a buffer = column n space ++ (answerText a buffer ++ (newline ∷ []))
+unfoldable pub lineOf : ℕ → Answer → List ℕ → List ℕ → List ℕ
+lineOf n a buffer room = column n space ++ (answerText a buffer room ++ (newline ∷ []))
 
--- the most bytes that an answer takes with a buffer of b bytes ("number " and a number is the longest word), and a line
+-- the most bytes that an image's length and digest take, an answer with a buffer of b bytes ("away " and its two
+-- numbers is the longest word), and a line
+abbrev pub awayRoom : ℕ
+awayRoom = 5 + columnRoom + maxDigits
+
 abbrev pub answerRoom : ℕ → ℕ
-answerRoom b = 7 + maxDigits + 2 * b
+answerRoom b = awayRoom + 2 * b
 
 abbrev pub lineRoom : ℕ → ℕ
 lineRoom b = columnRoom + answerRoom b + 1

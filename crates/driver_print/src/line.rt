@@ -1,4 +1,5 @@
 // Bytes in hexadecimal, and the line of a call, written into a lent output.
+use crate::digest::digest;
 use octets::bytes::front;
 use print::closing::put_closing;
 use print::text::put_byte;
@@ -11,10 +12,11 @@ ghost use mathlib.Core.List.{_++_};
 ghost use Prim.Native.Nat.{_+_, _*_, _≤_, _<_};
 ghost use lib.ListN.{length};
 ghost use Rattle.print.specs.Text.{Put, printed, printedCount};
-ghost use Rattle.driver_print.specs.Line.{hexDigit, hexOf, answerText, lineOf, answerRoom, lineRoom};
+ghost use Rattle.driver_print.specs.Line.{hexDigit, hexOf, awayText, answerText, lineOf};
+ghost use Rattle.driver_print.specs.Line.{awayRoom, answerRoom, lineRoom};
 
 // The most bytes of a line but for those of a reply or request.
-const LINE_BYTES: usize = 21 + 7 + 20 + 1;
+const LINE_BYTES: usize = 21 + 5 + 21 + 20 + 1;
 
 // The character of a hexadecimal digit.
 fn hex_digit(d: u8) -> u8
@@ -54,10 +56,21 @@ fn put_named(output: &mut [u8], at: usize, name: &[u8], bytes: &[u8]) -> usize
     put_hex(output, a, bytes)
 }
 
-// Writes what an answer says.
-fn put_answer(output: &mut [u8], at: usize, answer: Answer, buffer: &[u8]) -> usize
+// Writes the length of an image, and the digest of the bytes lent for it.
+fn put_away(output: &mut [u8], at: usize, n: usize, room: &[u8]) -> usize
+    requires { ⌜ at + awayRoom ≤ length (now output) ⌝ }
+    ensures { λ r. ⌜ Put (now (output .entry)) at (awayText n (now (room .entry))) (now (output .exit)) r ⌝ }
+{
+    let a = put_text(output, at, b"away ");
+    let b = put_column(output, a, n as u64, b' ');
+    put_decimal(output, b, digest(room))
+}
+
+// Writes what an answer says; the bytes of the image room are those lent.
+fn put_answer(output: &mut [u8], at: usize, answer: Answer, buffer: &[u8], room: &[u8]) -> usize
     requires { ⌜ at + answerRoom (length (now buffer)) ≤ length (now output) ⌝ }
-    ensures { λ r. ⌜ Put (now (output .entry)) at (answerText answer (now (buffer .entry))) (now (output .exit)) r ⌝ }
+    ensures { λ r. ⌜ Put (now (output .entry)) at (answerText answer (now (buffer .entry)) (now (room .entry)))
+        (now (output .exit)) r ⌝ }
 {
     match answer {
         Answer::Frame(n) => put_named(output, at, b"frame ", front(buffer, n)),
@@ -69,6 +82,9 @@ fn put_answer(output: &mut [u8], at: usize, answer: Answer, buffer: &[u8]) -> us
             put_closing(output, a, word, number)
         }
         Answer::Unchanged => put_text(output, at, b"unchanged"),
+        Answer::Away(n) => put_away(output, at, n, room),
+        Answer::TakenUp => put_text(output, at, b"taken up"),
+        Answer::Room => put_text(output, at, b"room"),
         Answer::Number(n) => {
             let a = put_text(output, at, b"number ");
             put_decimal(output, a, n)
@@ -78,31 +94,32 @@ fn put_answer(output: &mut [u8], at: usize, answer: Answer, buffer: &[u8]) -> us
 }
 
 // Writes the line of call n.
-fn put_line(output: &mut [u8], n: u64, answer: Answer, buffer: &[u8]) -> usize
+fn put_line(output: &mut [u8], n: u64, answer: Answer, buffer: &[u8], room: &[u8]) -> usize
     requires { ⌜ lineRoom (length (now buffer)) ≤ length (now output) ⌝ }
-    ensures { λ r. ⌜ Put (now (output .entry)) 0 (lineOf n answer (now (buffer .entry))) (now (output .exit)) r ⌝ }
+    ensures { λ r. ⌜ Put (now (output .entry)) 0 (lineOf n answer (now (buffer .entry)) (now (room .entry)))
+        (now (output .exit)) r ⌝ }
 {
     let a = put_column(output, 0, n, b' ');
-    let b = put_answer(output, a, answer, buffer);
+    let b = put_answer(output, a, answer, buffer, room);
     put_byte(output, b, b'\n')
 }
 
-// The line of call n at the front of the output, and its length.
-pub fn line(n: u64, answer: Answer, buffer: &[u8], output: &mut [u8]) -> usize
+// The line of call n at the front of the output, and its length. The bytes of the image room are those lent.
+pub fn line(n: u64, answer: Answer, buffer: &[u8], room: &[u8], output: &mut [u8]) -> usize
     ensures { λ r. ⌜
         (now (output .exit)
-        ≡ printed (lineRoom (length (now (buffer .entry)))) (lineOf n answer (now (buffer .entry)))
-        (now (output .entry)))
-        × (r ≡ printedCount (lineRoom (length (now (buffer .entry)))) (lineOf n answer (now (buffer .entry)))
-        (now (output .entry)))
+        ≡ printed (lineRoom (length (now (buffer .entry))))
+        (lineOf n answer (now (buffer .entry)) (now (room .entry))) (now (output .entry)))
+        × (r ≡ printedCount (lineRoom (length (now (buffer .entry))))
+        (lineOf n answer (now (buffer .entry)) (now (room .entry))) (now (output .entry)))
         ⌝ }
 {
-    let room = output.len();
-    if room < LINE_BYTES {
+    let size = output.len();
+    if size < LINE_BYTES {
         return 0;
     }
-    if (room - LINE_BYTES) / 2 < buffer.len() {
+    if (size - LINE_BYTES) / 2 < buffer.len() {
         return 0;
     }
-    put_line(output, n, answer, buffer)
+    put_line(output, n, answer, buffer, room)
 }

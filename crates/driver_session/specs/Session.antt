@@ -8,7 +8,7 @@ use Rattle.bank_state.specs.Limits.{storeBytes, replyRoom}
 use Rattle.bank_steps.specs.Lent.{lent}
 use Rattle.bank_session.specs.Session.{sessionSize}
 use Rattle.unit.specs.declared.state.UnitState.{UnitState}
-use Rattle.unit.specs.Records.{callOf, isCall}
+use Rattle.unit.specs.Records.{roomBytes, callOf, isCall}
 use Rattle.unit.specs.State.{State, fresh, roomsBytes, memory, stateOf}
 use Rattle.unit.specs.Call.{unitCall}
 
@@ -35,7 +35,7 @@ zeros n = replicate n 0
 unfoldable pub start : State
 start =
     let bank = lent (zeros sessionSize) (zeros storeBytes) (zeros storeBytes) in
-    stateOf fresh (memory bank (zeros roomsBytes) (zeros roomsBytes) (zeros replyRoom))
+    stateOf fresh (memory bank (zeros roomsBytes) (zeros roomsBytes) (zeros replyRoom) (zeros roomBytes))
 
 -- the runs, the journal and the session's numbers that a session leaves
 pub record Session (u : UnitState) (rows : List ℕ) : Type 0 where

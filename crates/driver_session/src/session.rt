@@ -12,10 +12,12 @@ use libc::STDOUT_FILENO;
 use octets::bytes::front;
 use unit::call::call;
 use unit::record::RECORD_BYTES;
+use unit::record::ROOM_BYTES;
 use unit::record::call_of;
 use unit::record::head_of;
 use unit::record::is_call;
 use unit::record::kind_of;
+use unit::record::lent_length;
 use unit::record::size_of;
 use unit::state::ROOMS_BYTES;
 use unit::state::UnitState;
@@ -88,14 +90,15 @@ fn step(
     payloads: &mut [u8],
     files: &mut [u8],
     buffer: &mut [u8],
+    room: &mut [u8],
 ) -> Reading
     ensures { λ r. ⌜ Calls
         (stateOf u
         (memory (lent (now (rows .entry)) (now (orders .entry)) (now (mailboxes .entry)))
-        (now (payloads .entry)) (now (files .entry)) (now (buffer .entry))))
+        (now (payloads .entry)) (now (files .entry)) (now (buffer .entry)) (now (room .entry))))
         (stateOf (r .unit)
         (memory (lent (now (rows .exit)) (now (orders .exit)) (now (mailboxes .exit)))
-        (now (payloads .exit)) (now (files .exit)) (now (buffer .exit)))) ⌝ }
+        (now (payloads .exit)) (now (files .exit)) (now (buffer .exit)) (now (room .exit)))) ⌝ }
 {
     let size = read_record(input);
     if !is_call(call_of(front(input, size))) {
@@ -113,10 +116,11 @@ fn step(
         payloads,
         files,
         buffer,
+        room,
     );
     let unit = o.unit;
     let answer = o.answer;
-    let k = line(n, answer, buffer, output);
+    let k = line(n, answer, buffer, front(room, lent_length(input)), output);
     let more = io::write_all(STDOUT_FILENO, front(output, k));
     Reading { unit, more }
 }
@@ -132,14 +136,15 @@ fn read_all(
     payloads: &mut [u8],
     files: &mut [u8],
     buffer: &mut [u8],
+    room: &mut [u8],
 ) -> UnitState
     ensures { λ r. ⌜ Calls
         (stateOf fresh
         (memory (lent (now (rows .entry)) (now (orders .entry)) (now (mailboxes .entry)))
-        (now (payloads .entry)) (now (files .entry)) (now (buffer .entry))))
+        (now (payloads .entry)) (now (files .entry)) (now (buffer .entry)) (now (room .entry))))
         (stateOf r
         (memory (lent (now (rows .exit)) (now (orders .exit)) (now (mailboxes .exit)))
-        (now (payloads .exit)) (now (files .exit)) (now (buffer .exit)))) ⌝ }
+        (now (payloads .exit)) (now (files .exit)) (now (buffer .exit)) (now (room .exit)))) ⌝ }
 {
     let unit = fresh();
     let mut t = Reading { unit, more: true };
@@ -158,6 +163,7 @@ fn read_all(
             payloads,
             files,
             buffer,
+            room,
         );
     }
     t.unit
@@ -210,6 +216,7 @@ pub fn session() -> SessionEnd
     let mut payloads = [0u8; ROOMS_BYTES];
     let mut files = [0u8; ROOMS_BYTES];
     let mut buffer = [0u8; REPLY_ROOM];
+    let mut room = [0u8; ROOM_BYTES];
     let unit = read_all(
         &mut input,
         &mut output,
@@ -219,6 +226,7 @@ pub fn session() -> SessionEnd
         &mut payloads,
         &mut files,
         &mut buffer,
+        &mut room,
     );
     close(unit, &mut output, &rows, &orders, &mailboxes, &files);
     SessionEnd { unit, rows }

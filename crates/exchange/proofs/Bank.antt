@@ -40,31 +40,20 @@ use Rattle.bank_verdicts.specs.declared.verdict.DownloadAction.the-variants as 
 use Rattle.bank_verdicts.specs.declared.verdict.Action.the-variants as action
 use Rattle.bank_verdicts.specs.declared.verdict.Verdict.{Verdict}
 use Rattle.bank_verdicts.specs.declared.verdict.Verdict.the-variants as verdict
-use Rattle.bank_history.specs.History.{
-  BankCall,
-  pastOf,
-  Past,
-  Frame,
-  File,
-  Stands,
-  newest,
-  older,
-  entered,
-  placed,
-  exchangeOf,
-  mailboxFile,
-  callExchange,
-}
+use Rattle.bank_admitted.specs.State.{mailboxFile}
+use Rattle.bank_history.specs.History.{BankCall, pastOf, Past, Frame, File, Stands, newest, older, entered, placed, exchangeOf, callExchange}
 use Rattle.bank_history.specs.History as history
 use Rattle.bank_history.specs.Invariant.{Invariant, Holds}
 use Rattle.bank_history.specs.Sound.{AllSound}
 use Rattle.bank.specs.Journal.{journalAfter, journalBy}
 use Rattle.bank_history.specs.Journal.{journalOver, journalOf}
 use Rattle.bank_history.specs.JournalOrders.{NeverBooked}
-use Rattle.bank_history.specs.Transactions.{answered, filled, Emptied}
-use Rattle.bank_history.proofs.Clock.{advanced-clock, advanced-keeps}
-use Rattle.bank_history.proofs.Cases.{happens}
-use Rattle.bank_history.proofs.Files.{FileSound, rejected, done, judged-file, filled-same, filled-other}
+use Rattle.bank_admitted.proofs.Files.{filled}
+use Rattle.bank_history.specs.Transactions.{answered, Emptied}
+use Rattle.bank_admitted.proofs.Clock.{advanced-clock}
+use Rattle.bank_history.proofs.Clock.{advanced-keeps}
+use Rattle.bank_admitted.proofs.Cases.{happens}
+use Rattle.bank_admitted.proofs.Files.{FileSound, rejected, done, judged-file, filled-same, filled-other}
 use Rattle.bank_history.proofs.Replies.{verdictCode, reply-form}
 use Rattle.bank_history.proofs.Theorems.{frame-mailbox, after-holds, past-holds, reply-is}
 use Rattle.bank_history.proofs.Liveness.{answered-clock}
@@ -413,9 +402,9 @@ module _ (s : Course) (b : BankPart s) (mailbox : ℕ) (file : List ℕ) where
           mailboxFile (filled mailbox file (b .past .bankState)) m ≡ cond c file (s .mailboxes m)
       at m low high true e =
           ap (mailboxFile (filled mailbox file (b .past .bankState))) (eqb-true m mailbox e)
-          ∙ filled-same (b .past .bankState) (b .past .history) v mailbox file known most some short empty
+          ∙ filled-same (b .past .bankState) (v .state) mailbox file known most some short empty
       at m low high false e =
-          filled-other (b .past .bankState) (b .past .history) v mailbox file known most some short empty m
+          filled-other (b .past .bankState) (v .state) mailbox file known most some short empty m
           (λ z. eqb-false m mailbox e (omega arith))
           ∙ sym (same-mailbox (b .past .bankState) m) ∙ ap (λ (w : BankState). mailboxOf w m) (b .bankState) ∙ b .mailboxes m low high
 

@@ -47,6 +47,7 @@ use Rattle.client_history.proofs.Theorems.{kept}
 use Rattle.exchange.specs.Course.{Issue, Exchange, Course, withRun, withIssued, heldOf, issuedBy, afterRun}
 use Rattle.exchange.proofs.Bytes.{Issued, issued-request, issued-data}
 use Rattle.exchange.proofs.Told.{Opening, opening-at, Gave, fileIn, bank-replies}
+use Rattle.exchange.proofs.Images.{Written}
 use Rattle.exchange.proofs.Bank.{BankPart, Grows, stays, grows}
 
 -- ---- the run's part
@@ -288,10 +289,11 @@ new-other s i j k answer.Ignored h = refl
 new-other s i j k (answer.Closed w) h = refl
 new-other s i j k (answer.Refused r) h = refl
 
--- both ends of a course
+-- both ends of a course, and its images
 pub record Parts (s : Course) : Type 0 where
   pub bank : BankPart s
   pub runs : (i : ℕ) → RunHolds (bank .calls) (bank .past .history) (runPast s i)
+  pub images : Written s
 
 -- the past of the run's own events
 abbrev pub ownPast : {s : Course} → Parts s → ℕ → Past
@@ -368,7 +370,7 @@ module _ (s : Course) (v : Parts s) (i : ℕ) (e : Event) where
       RunHolds (v .bank .calls) (v .bank .past .history) (history.after e (runPast s i)) →
       Parts (afterRun i (callOf e (s .runs i)) (lentTo e .payload) s)
   unfolding history.after
-  run-keeps issues done own = record { bank = v .bank; runs = λ j. at j (ℕ-discrete j i) }
+  run-keeps issues done own = record { bank = v .bank; runs = λ j. at j (ℕ-discrete j i); images = v .images }
     where
       k : ClientCall
       k = callOf e (s .runs i)

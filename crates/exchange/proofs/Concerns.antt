@@ -45,6 +45,8 @@ use Rattle.exchange.specs.Course.{
   replyArrives,
   noReply,
   journalHanded,
+  putsAway,
+  takesUp,
   Issue,
   Exchange,
   Arrival,
@@ -58,6 +60,7 @@ use Rattle.exchange.specs.Course.{
 use Rattle.exchange.specs.Terms.{IssuedBy, NoIdleHour, Turn, InTurn}
 use Rattle.exchange.specs.Demand3.{isSubscribers, Left, Premise, Allowed, OneExchangeNumber}
 use Rattle.exchange.proofs.Calls.{carried, number-or-none, file-done}
+use Rattle.exchange.proofs.Images.{taken-stays}
 use Rattle.exchange.proofs.Bank.{Entered, frame-enters}
 use Rattle.exchange.proofs.Clients.{issuesOf, runPast, issued-in, OpenedBy, Parts}
 use Rattle.exchange.proofs.Issues.{one-issue}
@@ -73,7 +76,7 @@ use Rattle.exchange.proofs.Handed.{
   handed-other,
 }
 use Rattle.exchange.proofs.Courses.{Copied, frame-runs}
-use Rattle.exchange.proofs.Received.{ToAnother, Same, same-refl, other-same, foreign-same, ignored-same}
+use Rattle.exchange.proofs.Received.{ToAnother, Same, same-view, other-same, foreign-same, ignored-same}
 use Rattle.exchange.proofs.Joint.{counts}
 use Rattle.exchange.proofs.Outcome.{request-of}
 use Rattle.exchange.proofs.Runs.{reply-past}
@@ -110,7 +113,7 @@ pub data Concern (s : Course) (v : Parts s) (i : ℕ) : Call → Type 0 where
 -- a call that changes nothing
 nothing-new : (s : Course) (v : Parts s) (i : ℕ) (t : Course) → t ≡ s → Same i s t × Untouched s v i t
 nothing-new s v i t e =
-    (subst (Same i s) (sym e) (same-refl i s), bank-same s v i t (ap (λ (x : Course). x .bank) e))
+    (subst (Same i s) (sym e) (same-view refl refl refl refl), bank-same s v i t (ap (λ (x : Course). x .bank) e))
 
 -- ---- a frame
 
@@ -286,14 +289,7 @@ module _ (s : Course) (v : Parts s) (copies : Copied s) (numbers : OneExchangeNu
   -- the journal handed to a run: run i stays as it is, unless it is that run and unclear
   handed-same : (j : ℕ) (c : ClientRun) (row : List Event) → runPast (carryOut (journalHanded j c row) s) i ≡ runPast s i →
       Same i s (carryOut (journalHanded j c row) s)
-  handed-same j c row past = record {
-    past = past;
-    received = λ e m. m;
-    keeps = λ n e m. m;
-    arrivals = λ a m r. inl m;
-    arrived = λ a m. m;
-    issued = λ x m r. m;
-  }
+  handed-same j c row past = same-view past refl refl refl
 
   journal-concern : (c : ClientRun) (row : List Event) → callNumber (journalHanded i c row) ≡ 0 → Premise (journalHanded i c row) s →
       Concern s v i (journalHanded i c row)
@@ -319,14 +315,7 @@ module _ (s : Course) (v : Parts s) (copies : Copied s) (numbers : OneExchangeNu
       let k = filePut b mailboxes m file in
       let now = sym (carried k s z) in
       elsewhere
-      (subst (Same i s) now (record {
-        past = refl;
-        received = λ e c. c;
-        keeps = λ j e c. c;
-        arrivals = λ a m r. inl m;
-        arrived = λ a m. m;
-        issued = λ x m r. m;
-      }))
+      (subst (Same i s) now (same-view refl refl refl refl))
       (subst (Untouched s v i) now (file-untouched m file (carryOut k s) (file-bank s v b mailboxes m file q z)))
   carried-concern (begins j c params l) z q turn =
       run-concern (λ n. begins n c params l) j z q turn (λ d. (other-same s i j d (beginCall c params l) l, refl))
@@ -339,6 +328,13 @@ module _ (s : Course) (v : Parts s) (copies : Copied s) (numbers : OneExchangeNu
   carried-concern (journalHanded j c row) z q turn =
       run-concern (λ n. journalHanded n c row) j z q turn (λ d. (handed-same j c row (handed-other s j c row i d), refl))
       (λ y own _. journal-concern c row y own)
+  carried-concern (putsAway m buffer) z q turn =
+      let now = sym (carried (putsAway m buffer) s z) in
+      elsewhere (subst (Same i s) now (same-view refl refl refl refl))
+      (bank-same s v i (exec (putsAway m buffer) s) (ap (λ (x : Course). x .bank) (sym now)))
+  carried-concern (takesUp m image) z q turn =
+      let n = nothing-new s v i (exec (takesUp m image) s) (carried (takesUp m image) s z ∙ taken-stays m image s (v .images) q z) in
+      elsewhere (n .0) (n .1)
 
   pub concern : (k : Call) → Allowed k s → InTurn i k s → Concern s v i k
   concern k q turn = at (number-or-none k s)

@@ -24,6 +24,8 @@ use Rattle.exchange.specs.Course.{
   replyArrives,
   noReply,
   journalHanded,
+  putsAway,
+  takesUp,
   Exchange,
   Course,
   start,
@@ -36,6 +38,7 @@ use Rattle.exchange.specs.Terms.{IssuedBy}
 use Rattle.exchange.specs.Demand3.{isSubscribers, Left, Premise, Allowed, AllAllowed, OneExchangeNumber}
 use Rattle.exchange.proofs.Bytes.{begin-issues, reply-issues, no-reply-issues}
 use Rattle.exchange.proofs.Calls.{by-number}
+use Rattle.exchange.proofs.Images.{put-written, taken-stays}
 use Rattle.exchange.proofs.Bank.{Later, frame-keeps, file-keeps, bank-start}
 use Rattle.exchange.proofs.Clients.{issuesOf, runPast, run-lifts, as-left, RunHolds, Parts, run-fair, run-keeps}
 use Rattle.exchange.proofs.Issues.{issued-more, numbers-earlier, numbers-before}
@@ -54,11 +57,13 @@ pub file-runs : (s : Course) (b : Bank) (mailboxes : List ℕ) (m : ℕ) (file :
     runPast (exec (filePut b mailboxes m file) s) i ≡ runPast s i
 file-runs s b mailboxes m file i = by-number (filePut b mailboxes m file) s (λ (t : Course). runPast t i ≡ runPast s i) refl (λ _. refl)
 
-bank-called : {s t : Course} (v : Parts s) → Later s (v .bank) t → ((i : ℕ) → runPast t i ≡ runPast s i) → Parts t
-bank-called {s} {t} v n same = record {
+-- a frame or file call given no number leaves no image
+bank-called : {s t : Course} (v : Parts s) → Later s (v .bank) t → ((i : ℕ) → runPast t i ≡ runPast s i) → t .images ≡ [] → Parts t
+bank-called {s} {t} v n same none = record {
   bank = n .bank;
   runs = λ i. subst (RunHolds (n .bank .calls) (n .bank .past .history)) (sym (same i))
       (run-lifts (n .more) (n .never) (v .bank .holds .invariant .sound) (n .bank .holds .invariant .sound) (runPast s i) (v .runs i));
+  images = λ image m. absurd (in-none (subst (In image) none m));
 }
 
 -- a call of a run
@@ -91,7 +96,7 @@ reply-keeps : (s : Course) (v : Parts s) → OneExchangeNumber s → (i : ℕ) (
 reply-keeps s v numbers i c reply l q =
     subst (λ (x : ClientRun). callNumber (replyArrives i x reply l) ≡ 0 → Parts (carryOut (replyArrives i x reply l) s)) (sym (q .0 .0))
     (λ z. let p = run-keeps s v i (Reply reply l) (reply-issues (s .runs i) l reply) z
-    (reply-holds s v numbers i reply l z (q .0 .1, q .0 .2) (q .1)) in record { bank = p .bank; runs = p .runs })
+    (reply-holds s v numbers i reply l z (q .0 .1, q .0 .2) (q .1)) in record { bank = p .bank; runs = p .runs; images = p .images })
 
 no-reply-keeps : (s : Course) (v : Parts s) (i : ℕ) (c : ClientRun) (l : Lent) → Left i c l s → callNumber (noReply i c l) ≡ 0 →
     Parts (carryOut (noReply i c l) s)
@@ -102,12 +107,15 @@ no-reply-keeps s v i c l q =
 
 carried-keeps : (k : Call) (s : Course) → Parts s → OneExchangeNumber s → Premise k s → callNumber k ≡ 0 → Parts (carryOut k s)
 carried-keeps (frameArrives w j a) s v n q z =
-    bank-called v (frame-keeps s (v .bank) w j a (q .0) (q .1) z) (λ i. refl)
-carried-keeps (filePut b mailboxes m file) s v n q z = bank-called v (file-keeps s (v .bank) b mailboxes m file q z) (λ i. refl)
+    bank-called v (frame-keeps s (v .bank) w j a (q .0) (q .1) z) (λ i. refl) refl
+carried-keeps (filePut b mailboxes m file) s v n q z = bank-called v (file-keeps s (v .bank) b mailboxes m file q z) (λ i. refl) refl
 carried-keeps (begins i c params l) s v n q z = begin-keeps s v i c params l q z
 carried-keeps (replyArrives i c reply l) s v n q z = reply-keeps s v n i c reply l q z
 carried-keeps (noReply i c l) s v n q z = no-reply-keeps s v i c l q z
 carried-keeps (journalHanded i c row) s v n q z = journal-keeps s v i c row q
+carried-keeps (putsAway m buffer) s v n q z =
+    record { bank = v .bank; runs = v .runs; images = put-written m buffer s (v .images) q z }
+carried-keeps (takesUp m image) s v n q z = subst Parts (sym (taken-stays m image s (v .images) q z)) v
 
 pub call-keeps : (k : Call) (s : Course) → Parts s → OneExchangeNumber (exec k s) → Allowed k s → Parts (exec k s)
 call-keeps k s v n a = by-number k s Parts v (λ z. carried-keeps k s v (numbers-earlier k s n) (a z) z)
@@ -117,6 +125,7 @@ unfolding start issuesOf
 parts-start = record {
   bank = bank-start;
   runs = λ i. record { left = stage.NotBegun; own = not-begun refl refl; word = as-left refl };
+  images = λ image m. absurd (in-none m);
 }
 
 pub parts : (ks : List Call) (s : Course) → Parts s → AllAllowed ks s → OneExchangeNumber (after ks s) → Parts (after ks s)
@@ -146,6 +155,8 @@ carried-exchanges (begins i c params l) s q = nothing
 carried-exchanges (replyArrives i c reply l) s q = nothing
 carried-exchanges (noReply i c l) s q = nothing
 carried-exchanges (journalHanded i c row) s q = nothing
+carried-exchanges (putsAway m buffer) s q = nothing
+carried-exchanges (takesUp m image) s q = nothing
 
 pub call-exchanges : (k : Call) (s : Course) → Allowed k s → Exchanges k s (exec k s .exchanged)
 call-exchanges k s q = by-number k s (λ (t : Course). Exchanges k s (t .exchanged)) nothing (λ z. carried-exchanges k s (q z))

@@ -36,20 +36,10 @@ use Rattle.bank_verdicts.specs.declared.verdict.Action.the-variants as action
 use Rattle.bank_verdicts.specs.declared.verdict.Verdict.{Verdict}
 use Rattle.bank_verdicts.specs.declared.verdict.Verdict.the-variants as verdict
 use Rattle.bank_verdicts.specs.Judgement.{judge}
-use Rattle.bank_history.specs.History.{
-  Stands,
-  newest,
-  older,
-  ActionIn,
-  isOpening,
-  isAction,
-  opens,
-  exchangeOf,
-  callExchange,
-}
+use Rattle.bank_history.specs.History.{Stands, newest, older, ActionIn, isOpening, isAction, opens, exchangeOf, callExchange}
 use Rattle.bank_history.specs.History as bank
 use Rattle.bank_history.specs.Sound.{AllSound}
-use Rattle.bank_history.proofs.Cases.{
+use Rattle.bank_admitted.proofs.Cases.{
   requestForm,
   Happens,
   unreadable,
@@ -62,7 +52,8 @@ use Rattle.bank_history.proofs.Cases.{
 }
 use Rattle.bank_history.specs.Invariant as bankInvariant
 use Rattle.bank_history.specs.Transactions.{DownloadAt}
-use Rattle.bank_history.proofs.Clock.{advanced-keeps, each-download}
+use Rattle.bank_admitted.proofs.Clock.{each-download}
+use Rattle.bank_history.proofs.Clock.{advanced-keeps}
 use Rattle.bank_history.proofs.Positions.{action-sound, request-of}
 use Rattle.bank_history.proofs.Theorems.{one-opening}
 use Rattle.client_history.specs.History as history

@@ -1,9 +1,10 @@
 -- What the premises of demand 3 leave free, for all arguments: a premise that grew stronger is refused here. Assumes nothing.
 use Prim.Native.Nat.{ℕ, _≤_}
 use mathlib.Core.Bool.{Bool, true, false, _&&_}
-use mathlib.Core.List.{List}
-use mathlib.Core.Path.{_≡_, refl, sym, _∙_}
+use mathlib.Core.List.{List, [], _∷_, List·Memᴰ as In, List·Memᴰ·head as here, List·Memᴰ·tail as there}
+use mathlib.Core.Path.{_≡_, refl, sym, _∙_, subst}
 use lib.Dec.{leb}
+use lib.ListN.{take}
 use borrow.Author.Tests.{leb-true}
 use Rattle.frame_table.specs.Names.{subscriber, form}
 use Rattle.frame_table.specs.Table.{isRequestForm}
@@ -16,10 +17,28 @@ use Rattle.bank_state.specs.State.{BankState}
 use Rattle.client_run.specs.declared.run.ClientRun.{ClientRun}
 use Rattle.client_run.specs.declared.run.RunParameters.{RunParameters}
 use Rattle.client_run.specs.Run.{Lent}
+use Rattle.bank_steps.specs.Lent.{stateOf}
 use Rattle.bank.specs.Call.{FrameInput}
-use Rattle.exchange.specs.Course.{Call, frameArrives, begins, replyArrives, noReply, journalHanded, Course, callNumber}
+use Rattle.bank_session.specs.Session.{LentSession, bankIn, journalIn}
+use Rattle.image_calls.specs.Calls.{putAway, imageLength}
+use Rattle.exchange.specs.Course.{
+  Call,
+  frameArrives,
+  begins,
+  replyArrives,
+  noReply,
+  journalHanded,
+  putsAway,
+  takesUp,
+  Course,
+  callNumber,
+  carryOut,
+  exec,
+  after,
+}
 use Rattle.exchange.specs.Terms.{IssuedBy, InTurn}
 use Rattle.exchange.specs.Demand3.{isSubscribers, Allowed}
+use Rattle.exchange.proofs.Calls.{carried, by-number}
 
 -- ---- "a call given a number may be lent others"
 
@@ -64,14 +83,59 @@ unknown-allowed s a n = stray-allowed s a (at (isSubscribers (a .frame)) refl)
 pub journal-allowed : (s : Course) (i : ℕ) → Allowed (journalHanded i (s .runs i) (s .journal .row)) s
 journal-allowed s i _ = (refl, refl)
 
--- ---- an order in turn, whatever else goes on
-
 -- a call of run j
 pub data OfRun (j : ℕ) : Call → Type 0 where
   begin : {c : ClientRun} {params : RunParameters} {l : Lent} → OfRun j (begins j c params l)
   reply : {c : ClientRun} {bytes : List ℕ} {l : Lent} → OfRun j (replyArrives j c bytes l)
   no-reply : {c : ClientRun} {l : Lent} → OfRun j (noReply j c l)
   journal : {c : ClientRun} {row : List Event} → OfRun j (journalHanded j c row)
+
+-- ---- the session as it stands is put away into any buffer, and taken up again
+
+pub put-allowed : (s : Course) (m : LentSession) (buffer : List ℕ) → stateOf (bankIn m) ≡ s .bank → journalIn m ≡ s .journal →
+    Allowed (putsAway m buffer) s
+put-allowed s m buffer e f _ = (e, f)
+
+-- "nothing ran between": what may stand there all the same, a taking up of the same image too
+pub data Between : Call → Type 0 where
+  of-run : {j : ℕ} {k : Call} → OfRun j k → Between k
+  writing : {m : LentSession} {buffer : List ℕ} → Between (putsAway m buffer)
+  taking-up : {m : LentSession} {image : List ℕ} → Between (takesUp m image)
+  given-number : {k : Call} → (callNumber k ≡ 0 → ⊥) → Between k
+
+pub data AllBetween : List Call → Type 0 where
+  none : AllBetween []
+  more : {k : Call} {ks : List Call} → Between k → AllBetween ks → AllBetween (k ∷ ks)
+
+module _ (image : List ℕ) where
+  carried-image : {k : Call} (s : Course) → Between k → In image (s .images) → callNumber k ≡ 0 → In image (carryOut k s .images)
+  carried-image s (of-run begin) i z = i
+  carried-image s (of-run reply) i z = i
+  carried-image s (of-run no-reply) i z = i
+  carried-image s (of-run journal) i z = i
+  carried-image s writing i z = there i
+  carried-image s taking-up i z = i
+  carried-image s (given-number n) i z = absurd (n z)
+
+  image-stays : (ks : List Call) (s : Course) → AllBetween ks → In image (s .images) → In image (after ks s .images)
+  unfolding after
+  image-stays [] s b i = i
+  image-stays (k ∷ ks) s (more b bs) i =
+      image-stays ks (exec k s) bs (by-number k s (λ (t : Course). In image (t .images)) i (carried-image s b i))
+
+  -- into any memory
+  pub taken-allowed : (ks : List Call) (s : Course) → AllBetween ks → In image (s .images) → (n : LentSession) →
+      Allowed (takesUp n image) (after ks s)
+  taken-allowed ks s b i n _ = image-stays ks s b i
+
+-- the image of a writing is among them
+pub put-image-in : (s : Course) (m : LentSession) (buffer : List ℕ) → callNumber (putsAway m buffer) ≡ 0 →
+    In (take imageLength (putAway m buffer .buffer)) (exec (putsAway m buffer) s .images)
+put-image-in s m buffer z =
+    subst (λ (t : Course). In (take imageLength (putAway m buffer .buffer)) (t .images))
+    (sym (carried (putsAway m buffer) s z)) (here refl)
+
+-- ---- an order in turn, whatever else goes on
 
 -- a call of another run
 pub other-in-turn : (i j : ℕ) → (j ≡ i → ⊥) → (s : Course) {k : Call} → OfRun j k → InTurn i k s
@@ -83,6 +147,13 @@ other-in-turn i j other s journal _ = tt
 -- the journal handed to any run, the order's own too
 pub journal-in-turn : (i j : ℕ) (c : ClientRun) (row : List Event) (s : Course) → InTurn i (journalHanded j c row) s
 journal-in-turn i j c row s _ = tt
+
+-- the session put away and taken up
+pub put-in-turn : (i : ℕ) (m : LentSession) (buffer : List ℕ) (s : Course) → InTurn i (putsAway m buffer) s
+put-in-turn i m buffer s _ = tt
+
+pub taken-in-turn : (i : ℕ) (m : LentSession) (image : List ℕ) (s : Course) → InTurn i (takesUp m image) s
+taken-in-turn i m image s _ = tt
 
 -- a frame that the run did not issue
 pub foreign-in-turn : (i : ℕ) (s : Course) (w : BankState) (j : Journal) (a : FrameInput) → (IssuedBy i (a .frame) s → ⊥) →

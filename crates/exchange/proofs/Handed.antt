@@ -204,7 +204,7 @@ module _ (s : Course) (i : ℕ) (c : ClientRun) (row : List Event) where
 
 pub journal-keeps : (s : Course) (v : Parts s) (i : ℕ) (c : ClientRun) (row : List Event) → Premise (journalHanded i c row) s →
     Parts (carryOut (journalHanded i c row) s)
-journal-keeps s v i c row q = record { bank = v .bank; runs = λ j. at j (ℕ-discrete j i) }
+journal-keeps s v i c row q = record { bank = v .bank; runs = λ j. at j (ℕ-discrete j i); images = v .images }
   where
     Held : Past → Type 0
     Held p = RunHolds (v .bank .calls) (v .bank .past .history) p

@@ -16,6 +16,8 @@ use Rattle.exchange.specs.Course.{
   replyArrives,
   noReply,
   journalHanded,
+  putsAway,
+  takesUp,
   Issue,
   Course,
   issuedBy,
@@ -52,6 +54,8 @@ carried-issues (begins i c params l) s = let k = beginCall c params l in run-iss
 carried-issues (replyArrives i c reply l) s = let k = replyCall c reply l in run-issues s i k (k .answer)
 carried-issues (noReply i c l) s = let k = noReplyCall c l in run-issues s i k (k .answer)
 carried-issues (journalHanded i c row) s = same
+carried-issues (putsAway m buffer) s = same
+carried-issues (takesUp m image) s = same
 
 pub call-issues : (k : Call) (s : Course) → Issues (s .issued) (exec k s .issued)
 call-issues k s = by-number k s (λ (t : Course). Issues (s .issued) (t .issued)) same (λ _. carried-issues k s)

@@ -23,20 +23,7 @@ use Rattle.bank_verdicts.specs.declared.verdict.DownloadAction.the-variants as 
 use Rattle.bank_verdicts.specs.declared.verdict.Action.the-variants as action
 use Rattle.bank_verdicts.specs.declared.verdict.Verdict.{Verdict}
 use Rattle.bank_verdicts.specs.declared.verdict.Verdict.the-variants as verdict
-use Rattle.bank_history.specs.History.{
-  Stands,
-  ActionIn,
-  isTaking,
-  isBooking,
-  isUploadOpening,
-  isDownloadOpening,
-  ever,
-  times,
-  received,
-  atOpening,
-  openedBy,
-  segmentsAt,
-}
+use Rattle.bank_history.specs.History.{Stands, ActionIn, isTaking, isBooking, isUploadOpening, isDownloadOpening, ever, times, received, atOpening, openedBy, segmentsAt}
 use Rattle.bank_history.specs.History as bank
 use Rattle.bank_history.specs.Sound.{AllSound}
 use Rattle.bank_history.proofs.Positions.{action-sound, booking-last}

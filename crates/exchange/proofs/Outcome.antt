@@ -30,26 +30,14 @@ use Rattle.bank_verdicts.specs.declared.verdict.UploadAction.the-variants as up
 use Rattle.bank_verdicts.specs.declared.verdict.DownloadAction.the-variants as down
 use Rattle.bank_verdicts.specs.declared.verdict.Action.the-variants as action
 use Rattle.bank_verdicts.specs.declared.verdict.Verdict.the-variants as verdict
-use Rattle.bank_history.specs.History.{
-  Stands,
-  newest,
-  older,
-  ActionIn,
-  isBooking,
-  isEnding,
-  did,
-  ever,
-  received,
-  numberIn,
-  numberAt,
-}
+use Rattle.bank_history.specs.History.{Stands, newest, older, ActionIn, isBooking, isEnding, did, ever, received, numberIn, numberAt}
 use Rattle.bank_history.specs.History as bank
 use Rattle.bank_history.specs.Invariant as whole
 use Rattle.bank_history.specs.JournalOrders.{NeverBooked}
 use Rattle.bank_history.specs.Transactions as standing
 use Rattle.bank_history.specs.Sound.{AllSound, isCancelling}
 use Rattle.bank_history.proofs.Positions.{action-sound, booking-last}
-use Rattle.bank_history.proofs.Uploads.{place-counted}
+use Rattle.bank_admitted.proofs.Held.{place-counted}
 use Rattle.bank_history.proofs.Theorems.{
   booked-order,
   in-book,
@@ -309,7 +297,7 @@ module _ (s : Course) (v : Parts s) (copies : Copied s) (numbers : OneExchangeNu
 
   place-number : {j : ℕ} {o : Order} → InBook s j o → placeAt (s .bank .bank) j .number < maxOpenings
   place-number {j} b =
-      let n = place-counted (s .bank) h inv j (b .place) (ap isFree (b .booked)) .1 in
+      let n = place-counted (s .bank) (inv .state) j (b .place) (ap isFree (b .booked)) .1 in
       omega (arith, inv .state .numbers)
 
   pub book-single : (j j′ : ℕ) (o o′ : Order) → InBook s j o → InBook s j′ o′ → o .number ≡ o′ .number → j ≡ j′
@@ -337,7 +325,7 @@ module _ (s : Course) (v : Parts s) (copies : Copied s) (numbers : OneExchangeNu
   booked-number : (i : ℕ) → Booked s i → numberAt (s .runs i .transaction) h < maxOpenings
   booked-number i b =
       let r = order-at b in
-      let n = place-counted (s .bank) h inv (r .0) (r .1 .inside) (ap isFree (r .1 .used)) .1 in
+      let n = place-counted (s .bank) (inv .state) (r .0) (r .1 .inside) (ap isFree (r .1 .used)) .1 in
       omega (arith, r .1 .number, inv .state .numbers)
 
   pub book-apart : (i i′ : ℕ) (o : Order) → Booked s i → Booked s i′ → OrderOf s i o → OrderOf s i′ o → i ≡ i′

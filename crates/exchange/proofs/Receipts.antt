@@ -40,24 +40,15 @@ use Rattle.bank_verdicts.specs.declared.verdict.Action.the-variants as action
 use Rattle.bank_verdicts.specs.declared.verdict.UploadAction.the-variants as up
 use Rattle.bank_verdicts.specs.declared.verdict.Verdict.the-variants as verdict
 use Rattle.bank.specs.Call.{respond, FrameInput}
-use Rattle.bank_history.specs.History.{
-  Past,
-  Frame,
-  File,
-  newest,
-  isAction,
-  isUploadOpening,
-  ever,
-  openedBy,
-  exchangeOf,
-  mailboxFile,
-}
+use Rattle.bank_admitted.specs.State.{mailboxFile}
+use Rattle.bank_history.specs.History.{Past, Frame, File, newest, isAction, isUploadOpening, ever, openedBy, exchangeOf}
 use Rattle.bank_history.specs.History as bank
 use Rattle.bank_history.specs.Invariant as bankInvariant
 use Rattle.bank_history.specs.Sound.{AllSound}
 use Rattle.bank_history.specs.Transactions.{Gone}
-use Rattle.bank_history.proofs.Cases.{happens}
-use Rattle.bank_history.proofs.Clock.{advanced-keeps, each-download}
+use Rattle.bank_admitted.proofs.Cases.{happens}
+use Rattle.bank_admitted.proofs.Clock.{each-download}
+use Rattle.bank_history.proofs.Clock.{advanced-keeps}
 use Rattle.bank_history.proofs.Downloads.{download-open}
 use Rattle.bank_history.proofs.Positions.{action-sound}
 use Rattle.bank_history.proofs.Theorems.{ever-stands, stands-ever, gone-stays}
@@ -89,6 +80,8 @@ use Rattle.exchange.specs.Course.{
   replyArrives,
   noReply,
   journalHanded,
+  putsAway,
+  takesUp,
   Issue,
   Exchange,
   Course,
@@ -105,6 +98,7 @@ use Rattle.exchange.specs.Demand3.{Premise, Allowed, AllAllowed, OneExch
 use Rattle.exchange.proofs.Events.{case-empties}
 use Rattle.exchange.proofs.Told.{one-opened, opening-at, upload-opening, upload-kind, done-confirmed, Gave, fileIn, bank-replies}
 use Rattle.exchange.proofs.Calls.{by-number}
+use Rattle.exchange.proofs.Images.{taken-stays}
 use Rattle.exchange.proofs.Bank.{BankPart, same-mailbox, Entered, frame-enters}
 use Rattle.exchange.proofs.Clients.{asIssue, issuesOf, issued-in, OpenedBy, Parts, ownPast}
 use Rattle.exchange.proofs.Issues.{in-more, call-issues, numbers-before}
@@ -235,6 +229,8 @@ carried-box (begins i c params l) s x m = let k = beginCall c params l in run-bo
 carried-box (replyArrives i c reply l) s x m = let k = replyCall c reply l in run-box s i k (l .payload) (k .answer) x m
 carried-box (noReply i c l) s x m = let k = noReplyCall c l in run-box s i k (l .payload) (k .answer) x m
 carried-box (journalHanded i c row) s x m = inl m
+carried-box (putsAway n buffer) s x m = inl m
+carried-box (takesUp n image) s x m = inl m
 
 call-box : (k : Call) (s : Course) (x : Issue) → In x (exec k s .issued) → In x (s .issued) ⊎ (x .box ≡ boxNow (exec k s) x)
 call-box k s x =
@@ -255,6 +251,8 @@ carried-move (begins i c params l) s v q z = rests refl refl
 carried-move (replyArrives i c reply l) s v q z = rests refl refl
 carried-move (noReply i c l) s v q z = rests refl refl
 carried-move (journalHanded i c row) s v q z = rests refl refl
+carried-move (putsAway m buffer) s v q z = rests refl refl
+carried-move (takesUp m image) s v q z = rests (ap (λ (t : Course). t .bank) (taken-stays m image s (v .images) q z)) refl
 
 bank-move : (k : Call) (s : Course) (v : Parts s) → Allowed k s → BankMove s (v .bank) (exec k s)
 bank-move k s v q = by-number k s (BankMove s (v .bank)) (rests refl refl) (λ z. carried-move k s v (q z) z)

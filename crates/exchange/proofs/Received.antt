@@ -2,7 +2,7 @@
 use Prim.Native.Nat.{ℕ}
 use mathlib.Core.List.{List, _∷_, List·Memᴰ as In, List·Memᴰ·head as here, List·Memᴰ·tail as there}
 use mathlib.Core.Logic.{_⊎_, inl, inr}
-use mathlib.Core.Path.{_≡_, refl, sym, ap, _∙_, subst}
+use mathlib.Core.Path.{_≡_, sym, ap, _∙_, subst}
 use native.Mathlib.Omega.{arith}
 use Rattle.frame_table.specs.declared.fields.Fields.{Fields}
 use Rattle.frame_table.specs.Names.{subscriber, exchange, form}
@@ -60,6 +60,10 @@ pub or-another : {A B : Type 0} {i : ℕ} {s t : Course} {reply : List ℕ} → 
 or-another f keeps (inl a) = inl (f a)
 or-another f keeps (inr o) = inr (another-more keeps o)
 
+-- a request that the bank received, among these requests of the run
+abbrev Copied-in : ℕ → Exchange → List Issue → Type 0
+Copied-in j e l = (y : Issue) × In y l × (y .run ≡ j) × (y .frame ≡ e .request)
+
 -- the run, its requests received, its requests issued and the replies to them that reached it are the same in both courses
 pub record Same (i : ℕ) (s t : Course) : Type 0 where
   pub past : runPast t i ≡ runPast s i
@@ -69,9 +73,17 @@ pub record Same (i : ℕ) (s t : Course) : Type 0 where
   pub arrived : (a : Arrival) → In a (s .arrived) → In a (t .arrived)
   pub issued : (x : Issue) → In x (t .issued) → x .run ≡ i → In x (s .issued)
 
-pub same-refl : (i : ℕ) (s : Course) → Same i s s
-same-refl i s =
-    record { past = refl; received = λ e c. c; keeps = λ j e c. c; arrivals = λ a m r. inl m; arrived = λ a m. m; issued = λ x m r. m }
+-- the call touches no run's view
+pub same-view : {i : ℕ} {s t : Course} → runPast t i ≡ runPast s i → t .exchanged ≡ s .exchanged → t .issued ≡ s .issued →
+    t .arrived ≡ s .arrived → Same i s t
+same-view {i} {s} {t} past exchanges issues arrivals = record {
+  past = past;
+  received = λ e c. (subst (In e) exchanges (c .0), subst (Copied-in i e) issues (c .1));
+  keeps = λ j e c. (subst (In e) (sym exchanges) (c .0), subst (Copied-in j e) (sym issues) (c .1));
+  arrivals = λ a m r. inl (subst (In a) arrivals m);
+  arrived = λ a m. subst (In a) (sym arrivals) m;
+  issued = λ x m r. subst (In x) issues m;
+}
 
 -- the call of another run
 module _ (s : Course) (i j : ℕ) (d : i ≡ j → ⊥) (k : ClientCall) (l : Lent) where
@@ -128,9 +140,6 @@ ignored-same {i} {s} {t} {reply} exchanges issues arrivals past another = record
   issued = λ x m r. subst (In x) issues m;
 }
   where
-    Copied-in : ℕ → Exchange → List Issue → Type 0
-    Copied-in j e l = (y : Issue) × In y l × (y .run ≡ j) × (y .frame ≡ e .request)
-
     keeps : (j : ℕ) (e : Exchange) → Received j e s → Received j e t
     keeps j e c = (subst (In e) (sym exchanges) (c .0), subst (Copied-in j e) (sym issues) (c .1))
 

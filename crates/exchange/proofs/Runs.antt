@@ -25,6 +25,8 @@ use Rattle.exchange.specs.Course.{
   replyArrives,
   noReply,
   journalHanded,
+  putsAway,
+  takesUp,
   Course,
   callNumber,
   afterRun,
@@ -110,6 +112,8 @@ carried-step (noReply j c l) s q i z =
 carried-step (journalHanded j c row) s q i z =
     other-or-own (λ n. journalHanded n c row) s i j (handed-other s j c row i) q z
     (λ own y. handed (own .0) (handed-past s i c (own .0) row y))
+carried-step (putsAway m buffer) s q i z = rests (ap (λ (t : Course). runPast t i) (carried (putsAway m buffer) s z))
+carried-step (takesUp m image) s q i z = rests (ap (λ (t : Course). runPast t i) (carried (takesUp m image) s z))
 
 pub run-step : (k : Call) (s : Course) → Allowed k s → (i : ℕ) → RunStep s i k (runPast (exec k s) i)
 run-step k s q i = at (number-or-none k s)

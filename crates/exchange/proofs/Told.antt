@@ -28,21 +28,7 @@ use Rattle.bank_verdicts.specs.declared.verdict.Action.the-variants as action
 use Rattle.bank_verdicts.specs.declared.verdict.Verdict.{Verdict}
 use Rattle.bank_verdicts.specs.declared.verdict.Verdict.the-variants as verdict
 use Rattle.bank_verdicts.specs.Replies.{replyTo}
-use Rattle.bank_history.specs.History.{
-  Exchange,
-  Stands,
-  newest,
-  older,
-  ActionIn,
-  OpensNumber,
-  isTaking,
-  isOpening,
-  isUploadOpening,
-  isDownloadOpening,
-  did,
-  atOpening,
-  fileAtOpening,
-}
+use Rattle.bank_history.specs.History.{Exchange, Stands, newest, older, ActionIn, OpensNumber, isTaking, isOpening, isUploadOpening, isDownloadOpening, did, atOpening, fileAtOpening}
 use Rattle.bank_history.specs.Sound.{isCancelling, SoundConfirmed, AllSound}
 use Rattle.bank_history.specs.Sound.{more as sounds}
 use Rattle.bank_history.proofs.Entries.{same-bits}

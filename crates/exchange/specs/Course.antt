@@ -17,11 +17,14 @@ use Rattle.bank_state.specs.Clock.{advanced}
 use Rattle.bank_state.specs.Limits.{storeBytes}
 use Rattle.bank_state.specs.State.{BankState, bankState, fresh, fileLength}
 use Rattle.bank_state.specs.Store.{fileOf}
+use Rattle.bank_steps.specs.Lent.{stateOf}
 use Rattle.bank.specs.declared.call.FrameAnswer.{FrameAnswer}
 use Rattle.bank.specs.declared.call.FrameAnswer.the-variants as frameAnswer
 use Rattle.bank.specs.Call.{FrameInput, frameNumber, frameCall}
 use Rattle.bank.specs.Mailbox.{fileNumber, FileCall, fileCall}
 use Rattle.bank.specs.Journal.{journalAfter}
+use Rattle.bank_session.specs.Session.{LentSession, bankIn, journalIn}
+use Rattle.image_calls.specs.Calls.{PutAway, putAway, takeUp, imageLength}
 use Rattle.client_run.specs.declared.run.Answer.{Answer}
 use Rattle.client_run.specs.declared.run.Answer.the-variants as answer
 use Rattle.client_run.specs.declared.run.ClientRun.{ClientRun}
@@ -45,6 +48,10 @@ pub data Call : Type 0 where
   noReply : ℕ → ClientRun → Lent → Call
   -- a run is handed the journal: its row
   journalHanded : ℕ → ClientRun → List Event → Call
+  -- a session is put away: the session, the buffer
+  putsAway : LentSession → List ℕ → Call
+  -- a session is taken up: the session lent, whatever stands there; the image
+  takesUp : LentSession → List ℕ → Call
 
 -- a request issued: by which run, its bytes, and as it was issued the run's file and the file that its subscriber's
 -- mailbox held
@@ -68,7 +75,8 @@ pub record Arrival : Type 0 where
   pub reply : List ℕ
 
 -- What a list of calls has left: at the bank's end with its journal, at each run's end, the file last put into each
--- mailbox and not emptied by 011000, and all that was issued, exchanged and arrived, the newest first
+-- mailbox and not emptied by 011000, and all that was issued, exchanged and arrived, the newest first; and the images
+-- written since the bank's last frame or file call given no number
 pub record Course : Type 0 where
   pub bank : BankState
   pub journal : Journal
@@ -79,8 +87,9 @@ pub record Course : Type 0 where
   pub issued : List Issue
   pub exchanged : List Exchange
   pub arrived : List Arrival
+  pub images : List (List ℕ)
 
--- a fresh bank with every lent byte 0, no event in its journal, and no run begun
+-- a fresh bank with every lent byte 0, no event in its journal, no run begun, and no image written
 unfoldable pub start : Course
 start = record {
   bank = bankState fresh (replicate storeBytes 0) (replicate storeBytes 0);
@@ -92,6 +101,7 @@ start = record {
   issued = [];
   exchanged = [];
   arrived = [];
+  images = [];
 }
 
 abbrev pub changed : {A : Type 0} → (ℕ → A) → ℕ → A → ℕ → A
@@ -110,6 +120,7 @@ withBank w s = record {
   issued = s .issued;
   exchanged = s .exchanged;
   arrived = s .arrived;
+  images = s .images;
 }
 
 abbrev pub withJournal : Journal → Course → Course
@@ -123,6 +134,7 @@ withJournal j s = record {
   issued = s .issued;
   exchanged = s .exchanged;
   arrived = s .arrived;
+  images = s .images;
 }
 
 abbrev pub withRuns : (ℕ → ClientRun) → Course → Course
@@ -136,6 +148,7 @@ withRuns runs s = record {
   issued = s .issued;
   exchanged = s .exchanged;
   arrived = s .arrived;
+  images = s .images;
 }
 
 -- run i, its payload and its file buffer
@@ -150,6 +163,7 @@ withRun i c payload file s = record {
   issued = s .issued;
   exchanged = s .exchanged;
   arrived = s .arrived;
+  images = s .images;
 }
 
 abbrev pub withMailboxes : (ℕ → List ℕ) → Course → Course
@@ -163,6 +177,7 @@ withMailboxes m s = record {
   issued = s .issued;
   exchanged = s .exchanged;
   arrived = s .arrived;
+  images = s .images;
 }
 
 abbrev pub withIssued : List Issue → Course → Course
@@ -176,6 +191,7 @@ withIssued l s = record {
   issued = l;
   exchanged = s .exchanged;
   arrived = s .arrived;
+  images = s .images;
 }
 
 abbrev pub withExchanged : List Exchange → Course → Course
@@ -189,6 +205,7 @@ withExchanged l s = record {
   issued = s .issued;
   exchanged = l;
   arrived = s .arrived;
+  images = s .images;
 }
 
 abbrev pub withArrived : List Arrival → Course → Course
@@ -202,6 +219,21 @@ withArrived l s = record {
   issued = s .issued;
   exchanged = s .exchanged;
   arrived = l;
+  images = s .images;
+}
+
+abbrev pub withImages : List (List ℕ) → Course → Course
+withImages l s = record {
+  bank = s .bank;
+  journal = s .journal;
+  runs = s .runs;
+  payloads = s .payloads;
+  files = s .files;
+  mailboxes = s .mailboxes;
+  issued = s .issued;
+  exchanged = s .exchanged;
+  arrived = s .arrived;
+  images = l;
 }
 
 -- ---- FILES
@@ -230,16 +262,22 @@ callNumber (begins i c params l) = answerNumber (beginCall c params l .answer)
 callNumber (replyArrives i c reply l) = answerNumber (replyCall c reply l .answer)
 callNumber (noReply i c l) = answerNumber (noReplyCall c l .answer)
 callNumber (journalHanded i c row) = journalCall c row .number
+callNumber (putsAway m buffer) = putAway m buffer .number
+callNumber (takesUp m image) = takeUp m image .number
 
 -- the reply in the lent buffer
 abbrev pub replyIn : FrameAnswer → List ℕ → List ℕ
 replyIn (frameAnswer.Reply n) buffer = take n buffer
 replyIn frameAnswer.WrongLength buffer = []
 
+-- the bank moved: an image written before is not of the bank as it stands
+abbrev pub moved : BankState → Course → Course
+moved w s = withBank w (withImages [] s)
+
 -- a frame answered: the reply, the bank after the answer, and after clock and drops before it
 abbrev pub afterFrame : List ℕ → BankState → BankState → List ℕ → Course → Course
 afterFrame reply now before request s =
-    withBank now
+    moved now
     (withMailboxes (emptied request reply (s .mailboxes))
     (withExchanged
     (record {
@@ -253,7 +291,7 @@ afterFrame reply now before request s =
 -- a file put into mailbox m
 abbrev pub afterFile : FileCall → ℕ → List ℕ → Course → Course
 afterFile k m file s =
-    withBank (bankState (k .bank) (s .bank .orders) (k .mailboxes)) (withMailboxes (changed (s .mailboxes) m file) s)
+    moved (bankState (k .bank) (s .bank .orders) (k .mailboxes)) (withMailboxes (changed (s .mailboxes) m file) s)
 
 -- the requests issued, with the one of n bytes that a call of run i issues
 abbrev pub issuedBy : Answer → ℕ → ClientCall → Course → List Issue
@@ -273,6 +311,14 @@ issuedBy (answer.Refused r) i k s = s .issued
 abbrev pub afterRun : ℕ → ClientCall → List ℕ → Course → Course
 afterRun i k payload s = withRun i (k .run) payload (k .file) (withIssued (issuedBy (k .answer) i k s) s)
 
+-- the image in the buffer, the newest
+abbrev pub afterPut : PutAway → Course → Course
+afterPut k s = withImages (take imageLength (k .buffer) ∷ s .images) s
+
+-- the session taken up
+abbrev pub afterTaken : LentSession → Course → Course
+afterTaken m s = withBank (stateOf (bankIn m)) (withJournal (journalIn m) s)
+
 -- what a call given no number leaves
 abbrev pub carryOut : Call → Course → Course
 carryOut (frameArrives w j a) s =
@@ -285,6 +331,8 @@ carryOut (replyArrives i c reply l) s =
     withArrived (record { run = i; reply = reply } ∷ s .arrived) (afterRun i (replyCall c reply l) (l .payload) s)
 carryOut (noReply i c l) s = afterRun i (noReplyCall c l) (l .payload) s
 carryOut (journalHanded i c row) s = withRuns (changed (s .runs) i (journalCall c row .run)) s
+carryOut (putsAway m buffer) s = afterPut (putAway m buffer) s
+carryOut (takesUp m image) s = afterTaken (takeUp m image .session) s
 
 -- the course after one call, "a number, nothing changed", and after a list of calls
 unfoldable pub exec : Call → Course → Course

@@ -12,6 +12,8 @@ use Rattle.frame_table.specs.Table.{isRequestForm}
 use Rattle.message.specs.declared.codes.ReturnCode.the-variants as code
 use Rattle.message.specs.Codes.{codeField}
 use Rattle.message.specs.Limits.{subscribers}
+use Rattle.bank_steps.specs.Lent.{stateOf}
+use Rattle.bank_session.specs.Session.{bankIn, journalIn}
 use Rattle.client_run.specs.declared.run.ClientRun.{ClientRun}
 use Rattle.client_run.specs.declared.run.Stage.the-variants as stage
 use Rattle.client_run.specs.declared.run.Word.the-variants.{Lodged, NotLodged, Fetched}
@@ -24,6 +26,8 @@ use Rattle.exchange.specs.Course.{
   replyArrives,
   noReply,
   journalHanded,
+  putsAway,
+  takesUp,
   Issue,
   Exchange,
   Course,
@@ -63,7 +67,9 @@ Left i c l s = (c ≡ s .runs i) × (l .payload ≡ s .payloads i) × (l .file �
 -- "A request that demand 3 names is a copy of one issued earlier in the list; a reply is a copy of one the bank gave
 -- earlier for such a copy": each frame under a subscriber's number, and each reply that reaches a run. A begin brings
 -- its own payload and file buffer. A run is handed the row "as the bank last left it": as its last call given no number
--- did
+-- did. "Demand 3 covers a resumed session when nothing ran between the writing and the taking up": the image is one
+-- that the list wrote, no frame or file call given no number stands between, and the session lent is free; "no image is
+-- taken up twice" is not asked, as the session taken up is the one that stands
 abbrev pub Premise : Call → Course → Type 0
 Premise (frameArrives w j a) s = (w ≡ s .bank) × (j ≡ s .journal)
     × (isSubscribers (a .frame) ≡ true → (i : ℕ) × IssuedBy i (a .frame) s)
@@ -73,6 +79,8 @@ Premise (replyArrives i c reply l) s = Left i c l s
     × ((e : Exchange) × In e (s .exchanged) × (e .reply ≡ reply) × ((j : ℕ) × IssuedBy j (e .request) s))
 Premise (noReply i c l) s = Left i c l s
 Premise (journalHanded i c row) s = (c ≡ s .runs i) × (row ≡ s .journal .row)
+Premise (putsAway m buffer) s = (stateOf (bankIn m) ≡ s .bank) × (journalIn m ≡ s .journal)
+Premise (takesUp m image) s = In image (s .images)
 
 -- "a call given a number may be lent others"
 abbrev pub Allowed : Call → Course → Type 0

@@ -28,6 +28,8 @@ use Rattle.exchange.specs.Course.{
   replyArrives,
   noReply,
   journalHanded,
+  putsAway,
+  takesUp,
   Issue,
   Exchange,
   Arrival,
@@ -108,9 +110,11 @@ Turn i (begins j c params l) s = Unit {0}
 Turn i (replyArrives j c reply l) s = j ≡ i → (a : Arrival) → In a (s .arrived) → a .run ≡ i → a .reply ≡ reply → ⊥
 Turn i (noReply j c l) s = j ≡ i → ⊥
 Turn i (journalHanded j c row) s = Unit {0}
+Turn i (putsAway m buffer) s = Unit {0}
+Turn i (takesUp m image) s = Unit {0}
 
 -- "whose messages each arrive once, in turn": "calls given a number left out, the run's only calls are begin and the
--- arrivals of these replies"; the journal may be handed to it at any time
+-- arrivals of these replies"; the journal may be handed to it and the session put away and taken up at any time
 abbrev pub InTurn : ℕ → Call → Course → Type 0
 InTurn i k s = callNumber k ≡ 0 → Turn i k s
 

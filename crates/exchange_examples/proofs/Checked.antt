@@ -25,7 +25,13 @@ use Rattle.message.specs.Codes.{codeField}
 use Rattle.message.specs.Limits.{fileBytes}
 use Rattle.bank_state.specs.Limits.{idleLimit, replyRoom}
 use Rattle.bank_state.specs.Search.{openCountOf}
+use Rattle.bank_rows.specs.Layout.{stateSize}
+use Rattle.bank_rows.specs.State.{stored}
+use Rattle.bank_steps.specs.Lent.{stateOf}
+use Rattle.bank_steps.specs.Lent as bankEnd
 use Rattle.bank.specs.Call.{frameCall, frameInput}
+use Rattle.bank_session.specs.Session.{LentSession, sessionOf, bankIn, journalIn}
+use Rattle.image_calls.specs.Calls.{imageLength}
 use Rattle.client_run.specs.declared.run.Direction.{Direction}
 use Rattle.client_run.specs.declared.run.Stage.the-variants as stage
 use Rattle.client_run.specs.declared.run.Word.the-variants.{Lodged, Fetched}
@@ -38,6 +44,8 @@ use Rattle.exchange.specs.Course.{
   replyArrives,
   noReply,
   journalHanded,
+  putsAway,
+  takesUp,
   Issue,
   Exchange,
   Arrival,
@@ -49,8 +57,8 @@ use Rattle.exchange.specs.Course.{
 }
 use Rattle.exchange.specs.Terms.{IssuedBy, NoIdleHour, InTurn, Accepted, AllInTurn, Settled}
 use Rattle.exchange.specs.Demand3.{isSubscribers, Allowed, AllAllowed, OneExchangeNumber, Outcome, ClosesInTurn, Demand3}
-use Rattle.exchange.specs.Lists.{NoDup, none, more}
-use Rattle.exchange.proofs.Guards.{numbered-allowed, numbered-in-turn, stray-allowed, journal-allowed}
+use Rattle.exchange.specs.Lists.{AtMostOne, skip, only, NoDup, none, more}
+use Rattle.exchange.proofs.Guards.{numbered-allowed, numbered-in-turn, stray-allowed, journal-allowed, put-allowed}
 use Rattle.exchange.proofs.Theorem.{demand3}
 
 -- ---- tests of lists
@@ -129,7 +137,7 @@ nth empty n [] = empty
 nth empty zero (x ∷ l) = x
 nth empty (suc n) (x ∷ l) = nth empty n l
 
-abbrev has : {A : Type 0} → ℕ → List A → Bool
+abbrev pub has : {A : Type 0} → ℕ → List A → Bool
 has n [] = false
 has zero (x ∷ l) = true
 has (suc n) (x ∷ l) = has n l
@@ -138,6 +146,14 @@ nth-in : {A : Type 0} (empty : A) (n : ℕ) (l : List A) → has n l ≡ true �
 nth-in empty n [] h = never h
 nth-in empty zero (x ∷ l) h = here refl
 nth-in empty (suc n) (x ∷ l) h = there (nth-in empty n l h)
+
+-- two elements at the front have the property
+pub not-once : {A : Type 0} (empty : A) (P : A → Type 0) (l : List A) → has 1 l ≡ true → P (nth empty 0 l) → P (nth empty 1 l) →
+    AtMostOne P l → ⊥
+not-once empty P [] h p q r = never h
+not-once empty P (x ∷ []) h p q r = never h
+not-once empty P (x ∷ y ∷ l) h p q (skip f r) = f p
+not-once empty P (x ∷ y ∷ l) h p q (only f) = f y (here refl) q
 
 -- numbers count back from the newest, which is 0
 pub data Move : Type 0 where
@@ -155,6 +171,10 @@ pub data Move : Type 0 where
   silent : ℕ → Move
   -- a run is handed the journal
   hands : ℕ → Move
+  -- the session is put away
+  writes : Move
+  -- that image is taken up, into memory of a fresh bank
+  takes : ℕ → Move
   -- a call given a number
   numbered : Call → Move
 
@@ -165,7 +185,7 @@ lent payload file = lentOf 1000 (replicate nonceBytes 0) payload file (replicate
 abbrev requestAt : ℕ → Course → List ℕ
 requestAt n s = nth (record { run = 0; frame = []; file = []; box = [] }) n (s .issued) .frame
 
-abbrev noExchange : Exchange
+abbrev pub noExchange : Exchange
 noExchange = record { request = []; reply = []; clock = 0; box = [] }
 
 abbrev replyAt : ℕ → Course → List ℕ
@@ -179,6 +199,16 @@ abbrev frameClock : List ℕ → ℕ → Course → ℕ
 frameClock frame time s =
     frameCall (s .bank) (frameInput time (replicate 8 0) frame (replicate replyRoom 0)) .bankState .bank .clock
 
+-- the session as it stands, in memory
+abbrev pub standing : Course → LentSession
+standing s =
+    let m = bankEnd.lent (stored (s .bank .bank) (replicate stateSize 0)) (s .bank .orders) (s .bank .mailboxes) in
+    sessionOf m (s .journal)
+
+-- what the session is put away into
+abbrev pub room : List ℕ
+room = replicate imageLength 0
+
 abbrev pub callOf : Move → Course → Call
 callOf (comes n time) s = frameCalled (requestAt n s) time s
 callOf (stray frame time) s = frameCalled frame time s
@@ -187,6 +217,8 @@ callOf (begin i direction u first payload) s = begins i (s .runs i) (parametersO
 callOf (reaches i n) s = replyArrives i (s .runs i) (replyAt n s) (lent (s .payloads i) (s .files i))
 callOf (silent i) s = noReply i (s .runs i) (lent (s .payloads i) (s .files i))
 callOf (hands i) s = journalHanded i (s .runs i) (s .journal .row)
+callOf writes s = putsAway (standing s) room
+callOf (takes n) s = takesUp (standing start) (nth [] n (s .images))
 callOf (numbered k) s = k
 
 abbrev pub next : Move → Course → Course
@@ -224,26 +256,50 @@ isAllowed (begin i direction u first payload) s = true
 isAllowed (reaches i n) s = some (λ (e : Exchange). sameBytes (e .reply) (replyAt n s) && isIssued (e .request) s) (s .exchanged)
 isAllowed (silent i) s = true
 isAllowed (hands i) s = true
+isAllowed writes s = true
+isAllowed (takes n) s = has n (s .images)
 isAllowed (numbered k) s = not (eqb (callNumber k) 0)
 
-allowed : (m : Move) (s : Course) → isAllowed m s ≡ true → Allowed (callOf m s) s
-allowed (comes n time) s h = λ _. (refl, refl, λ _. issued (requestAt n s) s h)
-allowed (stray frame time) s h =
-    stray-allowed s (frameInput time (replicate 8 0) frame (replicate replyRoom 0)) (off (isSubscribers frame) h)
+-- the one premise that is no test: the memory put away is the bank and the journal that stand
+abbrev asked : Move → Course → Type 0 → Type 0
+asked (comes n time) s rest = rest
+asked (stray frame time) s rest = rest
+asked (puts m file) s rest = rest
+asked (begin i direction u first payload) s rest = rest
+asked (reaches i n) s rest = rest
+asked (silent i) s rest = rest
+asked (hands i) s rest = rest
+asked writes s rest = (stateOf (bankIn (standing s)) ≡ s .bank) × (journalIn (standing s) ≡ s .journal) × rest
+asked (takes n) s rest = rest
+asked (numbered k) s rest = rest
+
+-- asked at each writing of a list
+abbrev pub Asked : List Move → Course → Type 0
+Asked [] s = Unit {0}
+Asked (m ∷ ms) s = asked m s (Asked ms (next m s))
+
+pub allowed : (m : Move) (s : Course) (rest : Type 0) → asked m s rest → isAllowed m s ≡ true → Allowed (callOf m s) s × rest
+allowed (comes n time) s rest r h = (λ _. (refl, refl, λ _. issued (requestAt n s) s h), r)
+allowed (stray frame time) s rest r h = (stray-allowed s (frameInput time (replicate 8 0) frame (replicate replyRoom 0)) (off (isSubscribers frame) h), r)
   where
     off : (b : Bool) → not b ≡ true → b ≡ false
     off true e = sym e
     off false e = refl
-allowed (puts m file) s h = λ _. (refl, refl)
-allowed (begin i direction u first payload) s h = λ _. refl
-allowed (reaches i n) s h = λ _.
-    let f : Exchange → Bool = λ e. sameBytes (e .reply) (replyAt n s) && isIssued (e .request) s in
-    let o = some-in f (s .exchanged) h in
-    let a = and-true (sameBytes (o .0 .reply) (replyAt n s)) (isIssued (o .0 .request) s) (o .2) in
-    ((refl, refl, refl), (o .0, o .1, same-bytes (o .0 .reply) (replyAt n s) (a .0), issued (o .0 .request) s (a .1)))
-allowed (silent i) s h = λ _. (refl, refl, refl)
-allowed (hands i) s h = journal-allowed s i
-allowed (numbered k) s h = numbered-allowed k s (λ z. not-both h (eq-eqb (callNumber k) 0 z))
+allowed (puts m file) s rest r h = (λ _. (refl, refl), r)
+allowed (begin i direction u first payload) s rest r h = (λ _. refl, r)
+allowed (reaches i n) s rest r h = (
+  λ _.
+      let f : Exchange → Bool = λ e. sameBytes (e .reply) (replyAt n s) && isIssued (e .request) s in
+      let o = some-in f (s .exchanged) h in
+      let a = and-true (sameBytes (o .0 .reply) (replyAt n s)) (isIssued (o .0 .request) s) (o .2) in
+      ((refl, refl, refl), (o .0, o .1, same-bytes (o .0 .reply) (replyAt n s) (a .0), issued (o .0 .request) s (a .1))),
+  r,
+)
+allowed (silent i) s rest r h = (λ _. (refl, refl, refl), r)
+allowed (hands i) s rest r h = (journal-allowed s i, r)
+allowed writes s rest r h = (put-allowed s (standing s) room (r .0) (r .1), r .2)
+allowed (takes n) s rest r h = (λ _. nth-in [] n (s .images) h, r)
+allowed (numbered k) s rest r h = (numbered-allowed k s (λ z. not-both h (eq-eqb (callNumber k) 0 z)), r)
 
 -- no two requests under one exchange number
 abbrev isNumbered : Course → Bool
@@ -254,11 +310,12 @@ abbrev pub isMet : List Move → Course → Bool
 isMet [] s = isNumbered s
 isMet (m ∷ ms) s = isAllowed m s && isMet ms (next m s)
 
-all-allowed : (ms : List Move) (s : Course) → isMet ms s ≡ true → AllAllowed (callsOf ms s) s
-all-allowed [] s h = tt
-all-allowed (m ∷ ms) s h =
+pub all-allowed : (ms : List Move) (s : Course) → Asked ms s → isMet ms s ≡ true → AllAllowed (callsOf ms s) s
+all-allowed [] s r h = tt
+all-allowed (m ∷ ms) s r h =
     let a = and-true (isAllowed m s) (isMet ms (next m s)) h in
-    (allowed m s (a .0), all-allowed ms (next m s) (a .1))
+    let b = allowed m s (Asked ms (next m s)) r (a .0) in
+    (b .0, all-allowed ms (next m s) (b .1) (a .1))
 
 numbers : (ms : List Move) (s : Course) → isMet ms s ≡ true → OneExchangeNumber (endOf ms s)
 unfolding OneExchangeNumber
@@ -275,7 +332,7 @@ module _ (i : ℕ) where
   abbrev pub isOwn : List ℕ → Course → Bool
   isOwn frame s = some (λ (x : Issue). eqb (x .run) i && sameBytes (x .frame) frame) (s .issued)
 
-  own : (frame : List ℕ) (s : Course) → isOwn frame s ≡ true → IssuedBy i frame s
+  pub own : (frame : List ℕ) (s : Course) → isOwn frame s ≡ true → IssuedBy i frame s
   own frame s h =
       let o = some-in (λ (x : Issue). eqb (x .run) i && sameBytes (x .frame) frame) (s .issued) h in
       let a = and-true (eqb (o .0 .run) i) (sameBytes (o .0 .frame) frame) (o .2) in
@@ -340,6 +397,8 @@ module _ (i : ℕ) where
   isInTurn (reaches j n) s = implies (eqb j i) (notArrived (replyAt n s) s)
   isInTurn (silent j) s = not (eqb j i)
   isInTurn (hands j) s = true
+  isInTurn writes s = true
+  isInTurn (takes n) s = true
   isInTurn (numbered k) s = not (eqb (callNumber k) 0)
 
   in-turn : (m : Move) (s : Course) → isInTurn m s ≡ true → InTurn i (callOf m s) s
@@ -353,6 +412,8 @@ module _ (i : ℕ) where
       (both (eq-eqb (a .run) i r) (bytes-same (a .reply) (replyAt n s) z))
   in-turn (silent j) s h = λ _. λ same. not-both h (eq-eqb j i same)
   in-turn (hands j) s h = λ _. tt
+  in-turn writes s h = λ _. tt
+  in-turn (takes n) s h = λ _. tt
   in-turn (numbered k) s h = numbered-in-turn i k s (λ z. not-both h (eq-eqb (callNumber k) 0 z))
 
   abbrev isAlone : Course → Bool
@@ -445,12 +506,12 @@ module _ (i : ℕ) where
 abbrev pub Closed : ℕ → Course → Type 0
 Closed i s = (s .runs i .stage ≡ stage.Ended Lodged) ⊎ (s .runs i .stage ≡ stage.Ended Fetched)
 
-module _ (ms : List Move) (met : isMet ms start ≡ true) where
+module _ (ms : List Move) (held : Asked ms start) (met : isMet ms start ≡ true) where
   applied : Outcome (after (callsOf ms start) start) × ClosesInTurn (callsOf ms start)
   unfolding Demand3
   applied =
       let ks = callsOf ms start in
-      let all = subst (λ (l : List Call). AllAllowed l start) (sym (append-nil ks)) (all-allowed ms start met) in
+      let all = subst (λ (l : List Call). AllAllowed l start) (sym (append-nil ks)) (all-allowed ms start held met) in
       let d = demand3 ks [] all (subst (λ (l : List Call). OneExchangeNumber (after l start)) (sym (append-nil ks))
       (subst OneExchangeNumber (sym (ends ms start)) (numbers ms start met))) in
       (d .0, d .1)
@@ -459,11 +520,12 @@ module _ (ms : List Move) (met : isMet ms start ≡ true) where
   outcome = subst Outcome (ends ms start) (applied .0)
 
 -- "an order in turn closes as lodged or fetched"
-pub closed : (i n : ℕ) (ms : List Move) → isInOrder i n ms start ≡ true → Opens n (endOf ms start) → Closed i (endOf ms start)
-closed i n ms h kind =
+pub closed : (i n : ℕ) (ms : List Move) → Asked ms start → isInOrder i n ms start ≡ true → Opens n (endOf ms start) →
+    Closed i (endOf ms start)
+closed i n ms held h kind =
     let end = endOf ms start in
     let met = order-met i n ms start h in
     let a = and-true (isAlone i end) (isSettled i end && isTaken i n end) (all-done i n ms start h) in
     let b = and-true (isSettled i end) (isTaken i n end) (a .1) in
     subst (λ (s : Course). Accepted i s → Settled s i → Closed i s) (ends ms start)
-    (applied ms met .1 i (all-in-turn i n ms start h)) (accepted i n end (b .1) kind) (settled i end (b .0))
+    (applied ms held met .1 i (all-in-turn i n ms start h)) (accepted i n end (b .1) kind) (settled i end (b .0))

@@ -1,26 +1,53 @@
 -- Computed examples of demand 3: lists that meet its premises, what they come to, and the theorem applied to them.
 use Prim.Native.Nat.{ℕ}
 use mathlib.Core.Bool.{true}
-use mathlib.Core.List.{List, [], _∷_, _++_}
+use mathlib.Core.List.{List, [], _∷_, _++_, List·Memᴰ as In, List·Memᴰ·not-nil as in-none}
 use mathlib.Core.Logic.{inl, inr}
-use mathlib.Core.Path.{_≡_, refl, sym, _∙_}
-use lib.ListN.{replicate}
+use mathlib.Core.Path.{_≡_, refl, sym, ap, _∙_, subst}
+use lib.ListN.{length, take, replicate}
 use Rattle.frame_table.specs.Forms as forms
-use Rattle.frame_table.specs.Names.{returnCode}
-use Rattle.frame_reader.specs.Reader.{readReply}
+use Rattle.frame_table.specs.Names.{segment, returnCode, form}
+use Rattle.frame_reader.specs.Reader.{readRequest, readReply}
 use Rattle.message.specs.declared.codes.ReturnCode.the-variants as code
 use Rattle.message.specs.Codes.{codeField}
+use Rattle.message.specs.Segments.{segmentsOf}
 use Rattle.bank_state.specs.declared.state.Use.the-variants as uses
 use Rattle.bank_state.specs.State.{placeAt}
+use Rattle.bank_steps.specs.Lent.{stateOf}
+use Rattle.bank_session.specs.Session.{LentSession, bankIn, journalIn}
+use Rattle.image_calls.specs.declared.calls.TakenUp.the-variants as taken
+use Rattle.image_calls.specs.Calls.{imageLength, lengthsRight, putAway, TakeUp, takeUpOf, takeUp}
 use Rattle.client_run.specs.declared.run.Direction.the-variants.{Upload, Download}
 use Rattle.client_run.specs.declared.run.Stage.the-variants as stage
 use Rattle.client_run.specs.declared.run.Word.{Word}
 use Rattle.client_run.specs.declared.run.Word.the-variants.{Lodged, NotLodged, Unclear, Fetched}
 use Rattle.client_run.specs.Run.{notBegun}
-use Rattle.exchange.specs.Course.{noReply, Exchange, Course, start, callNumber, mailboxOf, heldOf}
-use Rattle.exchange.specs.Terms.{Opened, Booked, Order, InBook, OrderOf, AllInTurn}
-use Rattle.exchange.specs.Demand3.{isSubscribers}
+use Rattle.exchange.specs.Course.{
+  Call,
+  noReply,
+  takesUp,
+  Exchange,
+  Course,
+  start,
+  withBank,
+  withJournal,
+  callNumber,
+  mailboxOf,
+  heldOf,
+  carryOut,
+  exec,
+}
+use Rattle.exchange.specs.Lists.{AtMostOne}
+use Rattle.exchange.specs.Terms.{Opened, Books, Booked, Order, InBook, OrderOf, AllInTurn}
+use Rattle.exchange.specs.Demand3.{Allowed, AllAllowed}
+use Rattle.exchange.proofs.Calls.{carried}
+use Rattle.exchange.proofs.Guards.{put-allowed}
+use Rattle.exchange.proofs.Images.{put-taken}
+use Rattle.exchange_examples.proofs.Unfolded.{bothEnds, images}
 use Rattle.exchange_examples.proofs.Checked.{
+  nth,
+  has,
+  not-once,
   Move,
   comes,
   stray,
@@ -29,50 +56,31 @@ use Rattle.exchange_examples.proofs.Checked.{
   reaches,
   silent,
   hands,
+  writes,
+  takes,
   numbered,
   lent,
+  noExchange,
+  standing,
+  room,
   callOf,
+  next,
   callsOf,
   endOf,
+  isAllowed,
+  Asked,
+  allowed,
+  all-allowed,
   isMet,
   Opens,
+  isOwn,
+  own,
   isInOrder,
   order-met,
   outcome,
   Closed,
   closed,
 }
-use Rattle.octets.specs.Bytes as frameBytes
-use Rattle.frame_reader.specs.Reader as frameReader
-use Rattle.frame_row.specs.Row as frameRow
-use Rattle.frame_table.specs.Table as frameTable
-use Rattle.frame_writer.specs.Writer as frameWriter
-use Rattle.message.specs.OrderNumbers as messageOrderNumbers
-use Rattle.message.specs.Replies as messageReplies
-use Rattle.message.specs.Requests as messageRequests
-use Rattle.message.specs.Segments as messageSegments
-use Rattle.bank_state.specs.Clock as bankstateClock
-use Rattle.bank_state.specs.Rows as bankstateRows
-use Rattle.bank_state.specs.Search as bankstateSearch
-use Rattle.bank_state.specs.State as bankstateState
-use Rattle.bank_state.specs.Store as bankstateStore
-use Rattle.bank_verdicts.specs.Refusals as refusals
-use Rattle.bank_verdicts.specs.Judgement as judgement
-use Rattle.bank_openings.specs.Openings as openings
-use Rattle.bank_uploads.specs.Uploads as uploads
-use Rattle.bank.specs.Call as bankCall
-use Rattle.bank.specs.Mailbox as bankMailbox
-use Rattle.journal.specs.Events as journalEvents
-use Rattle.journal.specs.Row as journalRow
-use Rattle.bank_events.specs.Entries as bankEntries
-use Rattle.bank.specs.Journal as bankJournal
-use Rattle.client.specs.Calls as clientCalls
-use Rattle.client.specs.Journal as clientJournal
-use Rattle.client_run.specs.NextRun as clientNextRun
-use Rattle.client_run.specs.Requests as clientRequests
-use Rattle.client_rules.specs.Decisions as clientDecisions
-use Rattle.client_rules.specs.Rulings as clientRulings
-use Rattle.exchange.specs.Course as course
 
 -- ---- the lists
 
@@ -172,6 +180,38 @@ late = comes 0 4601 ∷ []
 abbrev asking : List Move
 asking = begin 0 Upload 1 7 (65 ∷ []) ∷ hands 0 ∷ comes 0 1000 ∷ reaches 0 0 ∷ hands 0 ∷ comes 0 1000 ∷ reaches 0 0 ∷ hands 0 ∷ []
 
+-- ---- a session put away
+
+-- an order in turn whose session is put away and taken up
+abbrev resuming : List Move
+resuming = begin 0 Upload 1 7 (65 ∷ []) ∷ comes 0 1000 ∷ writes ∷ takes 0 ∷ reaches 0 0 ∷ comes 0 1000 ∷ reaches 0 0 ∷ []
+
+-- Seven calls, one of them a taking up without its premise: begin, the opening, its reply
+abbrev opening : List Move
+opening = begin 0 Upload 1 7 (65 ∷ []) ∷ comes 0 1000 ∷ reaches 0 0 ∷ []
+
+abbrev opened : Course
+opened = endOf opening start
+
+-- the session is put away
+abbrev away : Call
+away = callOf writes opened
+
+-- the segment comes
+abbrev sent : Course → Course
+sent s = next (comes 0 1000) s
+
+-- the session put away is taken up, after which the segment comes again
+abbrev up : Call
+up = takesUp (standing start) (take imageLength (putAway (standing opened) room .buffer))
+
+abbrev sentTwice : Course
+sentTwice = sent (exec up (sent (exec away opened)))
+
+-- the same, by what both calls leave: the image is written, and the bank and the journal are those of before the segment
+abbrev onceMore : Course
+onceMore = withBank (opened .bank) (withJournal (opened .journal) (sent (carryOut away opened)))
+
 -- ---- what they compute to
 
 -- the return code of the newest reply
@@ -193,6 +233,18 @@ InFirstPlace s = placeAt (s .bank .bank) 0 .used ≡ uses.Booked
 -- run 0 holds this file
 abbrev Holds : List ℕ → Course → Type 0
 Holds file s = heldOf (s .runs 0) (s .files 0) ≡ file
+
+-- exchange n books the order of run 0
+abbrev BooksAt : ℕ → Course → Type 0
+BooksAt n s =
+    let e = nth noExchange n (s .exchanged) in
+    (isOwn 0 (e .request) s ≡ true) × (form (readRequest (e .request)) ≡ forms.UploadTransfer)
+    × (segment (readRequest (e .request)) ≡ segmentsOf (length (s .payloads 0)))
+    × (returnCode (readReply (e .reply)) ≡ codeField code.Ok)
+
+books-at : (n : ℕ) (s : Course) → BooksAt n s → Books s 0 (nth noExchange n (s .exchanged))
+books-at n s (copy, upload, last, ok) =
+    record { copy = own 0 (nth noExchange n (s .exchanged) .request) s copy; upload = upload; last = last; taken = ok }
 
 record Computed : Type 0 where
   lodging-in-turn : isInOrder 0 1 lodging start ≡ true
@@ -223,49 +275,14 @@ record Computed : Type 0 where
   late-ends : let s = endOf (dropping ++ late) start in (codeNow s ≡ codeField code.UnknownTransaction) × Ended NotLodged s
   asking-in-turn : isInOrder 0 1 asking start ≡ true
   asking-opens : Opens 1 (endOf asking start)
+  opening-met : isMet opening start ≡ true
+  sent-met : isAllowed (comes 0 1000) (carryOut away opened) ≡ true
+  sent-images : sent (carryOut away opened) .images ≡ []
+  again-sent-met : isAllowed (comes 0 1000) onceMore ≡ true
+  once-more-booked : let s = sent onceMore in (has 1 (s .exchanged) ≡ true) × BooksAt 0 s × BooksAt 1 s
 
 computed : Computed
-unfolding frameBytes.numberFrom frameBytes.number frameBytes.bytesOf frameBytes.fieldBytes frameBytes.overwrite frameReader.fieldsOf
-    frameReader.parse frameReader.readRequest frameReader.readReply frameRow.spelled frameRow.listed
-    frameRow.wellFormed frameRow.stands frameRow.fieldSize frameRow.content frameRow.contents frameRow.behind
-    frameRow.dataOf frameRow.presentTags frameRow.highOf frameRow.lowOf frameRow.eachFrom frameRow.piece frameRow.join
-    frameTable.width frameTable.valuesOf frameTable.inRange frameTable.allowed frameTable.rowFits frameTable.findForm
-    frameTable.formOf frameWriter.contentOf frameWriter.contentsOf frameWriter.frameOf frameWriter.lengthFrom
-    frameWriter.frameLength frameWriter.dataWhole frameWriter.fieldWritable frameWriter.fieldsWritable
-    frameWriter.writable frameWriter.accepted frameWriter.writeAnswer frameWriter.writeBuffer
-    messageReplies.uploadOpened
-    messageReplies.downloadOpened messageReplies.segmentTaken messageReplies.recoveryPoint messageReplies.downloadSegment
-    messageReplies.receiptAnswered messageReplies.unreadable messageReplies.refusal messageRequests.uploadOpening
-    messageRequests.downloadOpening messageRequests.uploadTransfer messageRequests.downloadTransfer messageRequests.receipt
-    messageSegments.segmentsOf messageSegments.segmentOf bankstateClock.isIdle bankstateClock.freed bankstateClock.dropUpload
-    bankstateClock.dropUploads bankstateClock.ends bankstateClock.endDownloads bankstateClock.forget bankstateClock.atClock
-    bankstateClock.advanced bankstateRows.firstOf bankstateRows.countOf bankstateRows.keep bankstateRows.keepOnly
-    bankstateSearch.freePlace bankstateSearch.freeDownload bankstateSearch.freeNonce bankstateSearch.isUpload bankstateSearch.findUpload
-    bankstateSearch.isDownload bankstateSearch.findDownload bankstateSearch.openCount bankstateSearch.openCountOf
-    bankstateSearch.isRemembered bankstateState.fresh bankstateStore.partAt bankstateStore.withPart bankstateStore.zeroed
-    bankstateStore.fileOf bankstateState.fileLength refusals.noSubscriber refusals.longData refusals.requestRows
-    refusals.unknownType refusals.manySegments refusals.inTime refusals.isReplay refusals.manyOpen refusals.isFull refusals.openingRows
-    refusals.notOpen refusals.transactionRows refusals.uploadAttempt refusals.isUnderrun refusals.isExceeded
-    refusals.segmentRows refusals.uploadRows refusals.downloadAttempt refusals.receiptRows refusals.downloadRows judgement.judgeOpening
-    judgement.takes judgement.judgeUpload judgement.judgeDownload judgement.judgeOpen judgement.judgeTransaction judgement.judge
-    openings.counted openings.openUpload openings.openDownload messageOrderNumbers.character
-    messageOrderNumbers.letter messageOrderNumbers.orderNumberOf uploads.grown uploads.booked uploads.attempted
-    bankCall.mailboxSegment bankCall.respond bankCall.lentRight bankCall.frameCall
-    bankMailbox.fileRefusals bankMailbox.fileCall clientCalls.isWritten
-    clientCalls.requestWith clientCalls.issued clientCalls.taken clientCalls.beginCall clientCalls.replyCall clientCalls.noReplyCall
-    clientDecisions.says clientDecisions.isOwn clientDecisions.restWord clientDecisions.mayRepeat clientDecisions.endsUpload
-    clientDecisions.answersSegment clientDecisions.fitsData clientDecisions.fitsSegment clientDecisions.isPoint
-    clientDecisions.goesBack clientDecisions.uploadReturns clientDecisions.downloadReturns clientDecisions.opensDownload
-    clientDecisions.lodges
-    clientDecisions.takesSegment clientDecisions.bringsSegment clientDecisions.confirms clientDecisions.onUpload
-    clientDecisions.onDownload clientDecisions.isAnswer clientDecisions.onReply clientDecisions.onNoReply clientNextRun.begun
-    clientNextRun.goOn clientNextRun.repeated clientNextRun.holding clientNextRun.fileWith clientNextRun.ended clientRequests.nonceOf
-    clientRequests.outstanding clientRequests.outstandingData clientRulings.wrongLengths clientRulings.noSubscriber
-    clientRulings.beginRuling clientRulings.rulingNotBegun clientRulings.rulingRunning clientRulings.rulingEnded course.start
-    course.mailboxOf course.heldOf course.emptied course.exec isSubscribers journalEvents.eventsFrom journalRow.emptyRow
-    journalRow.entered journalRow.enteredAll journalRow.withRecord journalRow.lookup bankEntries.insertByOpening
-    bankEntries.byOpening bankEntries.droppedUploads bankEntries.actionEntries bankEntries.callEntries bankJournal.enteredBy bankJournal.journalAfter
-    clientJournal.answerTo clientJournal.journalCall
+unfolding bothEnds
 computed = record {
   lodging-in-turn = refl;
   lodging-ends = (inl refl, refl);
@@ -294,54 +311,141 @@ computed = record {
   late-ends = (refl, refl);
   asking-in-turn = refl;
   asking-opens = inl refl;
+  opening-met = refl;
+  sent-met = refl;
+  sent-images = refl;
+  again-sent-met = refl;
+  once-more-booked = (refl, (refl, refl, refl, refl), (refl, refl, refl, refl));
 }
+
+-- ---- with the image's bytes
+
+resuming-asked : Asked resuming start
+unfolding bothEnds images
+resuming-asked = (refl, refl, tt)
+
+resuming-in-turn : isInOrder 0 1 resuming start ≡ true
+unfolding bothEnds images
+resuming-in-turn = refl
+
+resuming-opens : Opens 1 (endOf resuming start)
+unfolding bothEnds images
+resuming-opens = inl refl
+
+-- the session is put away, and the memory of a fresh bank has the lengths to take it up
+away-done : (callNumber away ≡ 0) × (lengthsRight (standing start) ≡ true)
+unfolding bothEnds images
+away-done = (refl, refl)
+
+-- its memory is the bank that stands
+away-standing : (stateOf (bankIn (standing opened)) ≡ opened .bank) × (journalIn (standing opened) ≡ opened .journal)
+unfolding bothEnds images
+away-standing = (refl, refl)
 
 -- ---- the theorem applied
 
 lodging-closed : Closed 0 (endOf lodging start)
-lodging-closed = closed 0 1 lodging (computed .lodging-in-turn) (computed .lodging-ends .0)
+lodging-closed = closed 0 1 lodging tt (computed .lodging-in-turn) (computed .lodging-ends .0)
 
 -- a call of "no reply" that is given no number is not in turn
 losing-not-in-turn : AllInTurn 0 (callsOf losing start) start → ⊥
 losing-not-in-turn h = h .2 .2 .2 .2 .1 (computed .no-reply-taken) refl
 
 fetching-closed : Closed 0 (endOf fetching start)
-fetching-closed = closed 0 1 fetching (computed .fetching-in-turn) (computed .fetching-ends .0)
+fetching-closed = closed 0 1 fetching tt (computed .fetching-in-turn) (computed .fetching-ends .0)
 
 crossing-closed : Closed 0 (endOf crossing start)
-crossing-closed = closed 0 4 crossing (computed .crossing-in-turn) (computed .crossing-ends .0)
+crossing-closed = closed 0 4 crossing tt (computed .crossing-in-turn) (computed .crossing-ends .0)
 
 -- and its order is in the book, with its bytes, under the number that the run names
 crossing-booked : (j : ℕ) × (o : Order) × InBook (endOf crossing start) j o × OrderOf (endOf crossing start) 0 o
 crossing-booked =
-    let o = outcome crossing (order-met 0 4 crossing start (computed .crossing-in-turn)) .lodged 0 (computed .crossing-ends .1) .1 in
+    let o = outcome crossing tt (order-met 0 4 crossing start (computed .crossing-in-turn)) .lodged 0 (computed .crossing-ends .1) .1 in
     (o .0, o .1, o .2, o .3)
 
 -- the whole file is the mailbox's at the opening, of which the run holds every byte
 again-fetched : (e : Exchange) × Opened forms.DownloadOpened (endOf again start) 0 e × (twoSegments ≡ e .box)
 again-fetched =
-    let o = outcome again (computed .again-met) .fetched 0 (computed .again-ends .0) in
+    let o = outcome again tt (computed .again-met) .fetched 0 (computed .again-ends .0) in
     (o .0, o .1, sym (computed .again-ends .1) ∙ o .3)
 
 cancelled-unbooked : Booked (endOf cancelled start) 0 → ⊥
-cancelled-unbooked = outcome cancelled (computed .cancelled-met) .notLodged 0 (computed .cancelled-ends .1)
+cancelled-unbooked = outcome cancelled tt (computed .cancelled-met) .notLodged 0 (computed .cancelled-ends .1)
 
 unsent-unbooked : Booked (endOf unsent start) 0 → ⊥
-unsent-unbooked = outcome unsent (computed .unsent-met) .notLodged 0 (computed .unsent-ends)
+unsent-unbooked = outcome unsent tt (computed .unsent-met) .notLodged 0 (computed .unsent-ends)
 
 -- a run that the journal closed as lodged names its order
 clearing-booked : (j : ℕ) × (o : Order) × InBook (endOf clearing start) j o × OrderOf (endOf clearing start) 0 o
 clearing-booked =
-    let o = outcome clearing (computed .clearing-met) .lodged 0 (computed .clearing-ends) .1 in
+    let o = outcome clearing tt (computed .clearing-met) .lodged 0 (computed .clearing-ends) .1 in
     (o .0, o .1, o .2, o .3)
 
 -- one that it closed as not lodged is not booked, by a late copy of its segment neither
 late-unbooked : Booked (endOf (dropping ++ late) start) 0 → ⊥
-late-unbooked = outcome (dropping ++ late) (computed .late-met) .notLodged 0 (computed .late-ends .1)
+late-unbooked = outcome (dropping ++ late) tt (computed .late-met) .notLodged 0 (computed .late-ends .1)
 
 -- one that stays unclear may still be booked
 booking-booked : Booked (endOf booking start) 0
-booking-booked = outcome booking (computed .booking-met) .lodged 0 (computed .booking-ends .0) .0
+booking-booked = outcome booking tt (computed .booking-met) .lodged 0 (computed .booking-ends .0) .0
 
 asking-closed : Closed 0 (endOf asking start)
-asking-closed = closed 0 1 asking (computed .asking-in-turn) (computed .asking-opens)
+asking-closed = closed 0 1 asking tt (computed .asking-in-turn) (computed .asking-opens)
+
+-- with sessions put away and taken up between
+resuming-closed : Closed 0 (endOf resuming start)
+resuming-closed = closed 0 1 resuming resuming-asked resuming-in-turn resuming-opens
+
+-- ---- without the premise of a taking up
+
+away-is : exec away opened ≡ carryOut away opened
+away-is = carried away opened (away-done .0)
+
+-- it is taken up
+up-is : takeUp (standing start) (take imageLength (putAway (standing opened) room .buffer)) ≡ takeUpOf taken.Done (standing opened)
+up-is = put-taken (standing opened) room (away-done .0) (standing start) (away-done .1)
+
+up-done : callNumber up ≡ 0
+up-done = ap (λ (k : TakeUp). k .number) up-is
+
+once-more : exec up (sent (exec away opened)) ≡ onceMore
+once-more =
+    let e = ap (λ (k : TakeUp). k .session) up-is in
+    let bank = ap (λ (m : LentSession). stateOf (bankIn m)) e ∙ away-standing .0 in
+    let journal = ap journalIn e ∙ away-standing .1 in
+    carried up (sent (exec away opened)) up-done
+    ∙ (λ x. withBank (bank x) (withJournal (journal x) (sent (away-is x))))
+
+-- an upload is booked twice
+sent-twice-booked : AtMostOne (Books sentTwice 0) (sentTwice .exchanged) → ⊥
+sent-twice-booked =
+    subst (λ (t : Course). AtMostOne (Books (sent t) 0) (sent t .exchanged) → ⊥) (sym once-more)
+    (let o = computed .once-more-booked in
+    not-once noExchange (Books (sent onceMore) 0) (sent onceMore .exchanged) (o .0) (books-at 0 (sent onceMore) (o .1))
+    (books-at 1 (sent onceMore) (o .2)))
+
+-- every other call has its premise
+opening-allowed : AllAllowed (callsOf opening start) start
+opening-allowed = all-allowed opening start tt (computed .opening-met)
+
+away-allowed : Allowed away opened
+away-allowed = put-allowed opened (standing opened) room (away-standing .0) (away-standing .1)
+
+comes-allowed : (s : Course) → isAllowed (comes 0 1000) s ≡ true → Allowed (callOf (comes 0 1000) s) s
+comes-allowed s h = allowed (comes 0 1000) s (Unit {0}) tt h .0
+
+sent-allowed : let s = exec away opened in Allowed (callOf (comes 0 1000) s) s
+sent-allowed =
+    subst (λ (s : Course). Allowed (callOf (comes 0 1000) s) s) (sym away-is)
+    (comes-allowed (carryOut away opened) (computed .sent-met))
+
+again-allowed : let s = exec up (sent (exec away opened)) in Allowed (callOf (comes 0 1000) s) s
+again-allowed =
+    subst (λ (s : Course). Allowed (callOf (comes 0 1000) s) s) (sym once-more)
+    (comes-allowed onceMore (computed .again-sent-met))
+
+-- the taking up has not: its image is of a session that no longer stands
+up-refused : Allowed up (sent (exec away opened)) → ⊥
+up-refused a =
+    in-none (subst (In (take imageLength (putAway (standing opened) room .buffer)))
+    (ap (λ (s : Course). sent s .images) away-is ∙ computed .sent-images) (a up-done))

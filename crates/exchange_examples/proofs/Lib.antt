@@ -1,3 +1,4 @@
 -- Lists whose premises are tests, and the computed examples of demand 3.
 pub mod Checked
+pub mod Unfolded
 pub mod Examples

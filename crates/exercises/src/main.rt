@@ -23,15 +23,22 @@ use results::say_results;
 use script::MOVES;
 use script::MOVES_A;
 use script::MOVES_B;
+use script::MOVES_HALF;
 use script::Move;
 use script::move_at;
 use unit::call::call;
+use unit::record::ROOM_BYTES;
 use unit::state::ROOMS_BYTES;
 use unit::state::UnitState;
 use unit::state::fresh;
 
 // The text of which the orders' bytes are parts.
 const TEXT_BYTES: usize = 1024;
+
+// The records that put a session away into 64,454 bytes, and take it up from them.
+const AWAY: [u8; 5] = [b'P', 0, 0, 0xfb, 0xc6];
+
+const TAKE_UP: [u8; 5] = [b'T', 0, 0, 0xfb, 0xc6];
 
 // Bytes that differ from their neighbours, so that a misplaced part shows.
 fn example_text() -> [u8; TEXT_BYTES] {
@@ -73,6 +80,7 @@ fn play_move(
 ) -> UnitState {
     let mut record = [0u8; RECORD_BYTES];
     let mut buffer = [0u8; REPLY_ROOM];
+    let mut room = [0u8; ROOM_BYTES];
     put_move(&mut record, m, text, mail);
     let o = call(
         u,
@@ -83,6 +91,7 @@ fn play_move(
         payloads,
         files,
         &mut buffer,
+        &mut room,
     );
     let answer = o.answer;
     say_line(m, message_of(mail, m), answer);
@@ -116,59 +125,195 @@ fn play(
     u
 }
 
+// Number i of the session's; 0 after the last.
+fn number_at(rows: &[u64], i: usize) -> u64 {
+    if i < rows.len() {
+        return rows[i];
+    }
+    0
+}
+
 // The bank's numbers, of the session's.
-fn bank_numbers(rows: &[u64; SESSION_SIZE]) -> [u64; STATE_SIZE] {
+fn bank_numbers(rows: &[u64]) -> [u64; STATE_SIZE] {
     let mut numbers = [0u64; STATE_SIZE];
     let mut i = 0;
     while i < STATE_SIZE {
-        numbers[i] = rows[i];
+        numbers[i] = number_at(rows, i);
         i += 1;
     }
     numbers
 }
 
-// Exercises A, B and C by a script, with orders whose bytes are parts of this text.
-fn exercise(script: &[u8], text: &[u8]) {
-    let mut mail = [0u8; MAIL_BYTES];
+// Puts the session away into the image room or takes it up from there, as the record says, and prints nothing.
+fn move_session(
+    u: UnitState,
+    record: &[u8],
+    rows: &mut [u64],
+    orders: &mut [u8],
+    mailboxes: &mut [u8],
+    payloads: &mut [u8],
+    files: &mut [u8],
+    room: &mut [u8],
+) -> UnitState {
+    let mut buffer = [0u8; REPLY_ROOM];
+    let o = call(
+        u,
+        record,
+        rows,
+        orders,
+        mailboxes,
+        payloads,
+        files,
+        &mut buffer,
+        room,
+    );
+    o.unit
+}
+
+// Exercise A and the first half of B; then the session is put away.
+fn first_half(
+    script: &[u8],
+    text: &[u8],
+    mail: &mut [u8],
+    payloads: &mut [u8],
+    files: &mut [u8],
+    room: &mut [u8],
+) -> UnitState {
     let mut rows = [0u64; SESSION_SIZE];
     let mut orders = [0u8; STORE_BYTES];
     let mut mailboxes = [0u8; STORE_BYTES];
-    let mut payloads = [0u8; ROOMS_BYTES];
-    let mut files = [0u8; ROOMS_BYTES];
     let u = play(
         fresh(),
         script,
         0,
-        MOVES_B,
+        MOVES_HALF,
         text,
-        &mut mail,
+        mail,
         &mut rows,
         &mut orders,
         &mut mailboxes,
-        &mut payloads,
-        &mut files,
+        payloads,
+        files,
     );
+    move_session(
+        u,
+        &AWAY,
+        &mut rows,
+        &mut orders,
+        &mut mailboxes,
+        payloads,
+        files,
+        room,
+    )
+}
+
+// Exercise C, on what A and B left.
+fn exercise_c(
+    start: UnitState,
+    script: &[u8],
+    text: &[u8],
+    mail: &mut [u8],
+    rows: &mut [u64],
+    orders: &mut [u8],
+    mailboxes: &mut [u8],
+    payloads: &mut [u8],
+    files: &mut [u8],
+) {
     io::write_all(
         STDOUT_FILENO,
         b"exercise C: each order's closing word beside what the bank has\n",
     );
-    say_results(u, &bank_numbers(&rows), text, &orders, &files);
-    let v = play(
-        u,
+    say_results(start, &bank_numbers(rows), text, orders, files);
+    let u = play(
+        start,
         script,
         MOVES_B,
         MOVES,
         text,
-        &mut mail,
+        mail,
+        rows,
+        orders,
+        mailboxes,
+        payloads,
+        files,
+    );
+    let numbers = bank_numbers(rows);
+    say_handed(u, &numbers, text, orders, files);
+    say_book(&numbers);
+}
+
+// The session is taken up in other memory; then the second half of exercise B, and C.
+fn second_half(
+    start: UnitState,
+    script: &[u8],
+    text: &[u8],
+    mail: &mut [u8],
+    payloads: &mut [u8],
+    files: &mut [u8],
+    room: &mut [u8],
+) {
+    let mut rows = [0u64; SESSION_SIZE];
+    let mut orders = [0u8; STORE_BYTES];
+    let mut mailboxes = [0u8; STORE_BYTES];
+    let taken = move_session(
+        start,
+        &TAKE_UP,
         &mut rows,
         &mut orders,
         &mut mailboxes,
+        payloads,
+        files,
+        room,
+    );
+    let u = play(
+        taken,
+        script,
+        MOVES_HALF,
+        MOVES_B,
+        text,
+        mail,
+        &mut rows,
+        &mut orders,
+        &mut mailboxes,
+        payloads,
+        files,
+    );
+    exercise_c(
+        u,
+        script,
+        text,
+        mail,
+        &mut rows,
+        &mut orders,
+        &mut mailboxes,
+        payloads,
+        files,
+    );
+}
+
+// Exercises A, B and C by a script, with orders whose bytes are parts of this text.
+fn exercise(script: &[u8], text: &[u8]) {
+    let mut mail = [0u8; MAIL_BYTES];
+    let mut payloads = [0u8; ROOMS_BYTES];
+    let mut files = [0u8; ROOMS_BYTES];
+    let mut room = [0u8; ROOM_BYTES];
+    let u = first_half(
+        script,
+        text,
+        &mut mail,
         &mut payloads,
         &mut files,
+        &mut room,
     );
-    let numbers = bank_numbers(&rows);
-    say_handed(v, &numbers, text, &orders, &files);
-    say_book(&numbers);
+    second_half(
+        u,
+        script,
+        text,
+        &mut mail,
+        &mut payloads,
+        &mut files,
+        &mut room,
+    );
 }
 
 // The script begins with a blank move.

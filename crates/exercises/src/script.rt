@@ -40,8 +40,11 @@ pub(crate) fn order_of(run: u8) -> Order {
     }
 }
 
-// The moves of exercise A, of A and B together, and of all three.
+// The moves of exercise A, of A and half of B (a download is open, and a reply was lost), of A and B together, and of
+// all three.
 pub(crate) const MOVES_A: u8 = 17;
+
+pub(crate) const MOVES_HALF: u8 = 51;
 
 pub(crate) const MOVES_B: u8 = 77;
 

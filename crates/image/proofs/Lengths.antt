@@ -4,11 +4,11 @@ use mathlib.Core.List.{List, [], _∷_}
 use mathlib.Core.Path.{_≡_, refl, sym, ap, _∙_}
 use native.Mathlib.Nat.{add-zero}
 use native.Mathlib.Omega.{arith}
-use lib.ListN.{length, getD, take, drop, set, length-append, length-drop, length-take}
+use lib.ListN.{length, getD, take, drop, length-append, length-drop, length-take}
 use lib.Seq.{drop-drop, getD-drop}
 use Rattle.octets.specs.Bytes.{overwrite}
 use Rattle.octets.proofs.Numbers.{length-bytesOf, overwrite-all}
-use Rattle.image.specs.Items.{Item, constant, part, store, bytesIn, partsIn, storesIn}
+use Rattle.image.specs.Items.{Item, constant, part, store, bytesIn, partsIn, storesIn, storeAt}
 use Rattle.image.specs.Image.{pack, numbersOf, storesOf, stores, lengths}
 
 -- ---- sizes
@@ -23,13 +23,6 @@ unfolding lengths
 lengths-at [] n = refl
 lengths-at (s ∷ ss) zero = refl
 lengths-at (s ∷ ss) (suc n) = lengths-at ss n
-
--- a store of the same size
-pub lengths-set : (ss : List (List ℕ)) (n : ℕ) (s : List ℕ) → length s ≡ length (getD ss n []) → lengths (set ss n s) ≡ lengths ss
-unfolding lengths
-lengths-set [] n s e = refl
-lengths-set (a ∷ ss) zero s e = ap (λ (k : ℕ). k ∷ lengths ss) e
-lengths-set (a ∷ ss) (suc n) s e = ap (λ (l : List ℕ). length a ∷ l) (lengths-set ss n s e)
 
 pub no-lengths : (ss : List (List ℕ)) → [] ≡ lengths ss → ss ≡ []
 unfolding lengths
@@ -86,10 +79,38 @@ lengths-storesOf (store z ∷ l) s h =
     let e : length (take z s) ≡ z = simp length-take (omega arith) in
     rw (e, lengths-storesOf l (drop z s) (simp length-drop (omega arith)))
 
--- both stores keep their sizes where the list does
-pub both-lengths : (o m p q : List ℕ) → lengths (stores o m) ≡ lengths (stores p q) → (length o ≡ length p) × (length m ≡ length q)
-unfolding lengths
-both-lengths o m p q e = (ap (λ (l : List ℕ). getD l 0 0) e, ap (λ (l : List ℕ). getD l 1 0) e)
+-- ---- the stores as parts of the bytes
+
+pub length-storesOf : (l : List Item) (s : List ℕ) → length (storesOf l s) ≡ length (storesIn l)
+unfolding storesOf storesIn
+length-storesOf [] s = refl
+length-storesOf (constant w v ∷ l) s = length-storesOf l (drop w s)
+length-storesOf (part w ∷ l) s = length-storesOf l (drop w s)
+length-storesOf (store z ∷ l) s = ap suc (length-storesOf l (drop z s))
+
+pub store-part : (l : List Item) (s : List ℕ) (n : ℕ) → n < length (storesIn l)
+    → getD (storesOf l s) n [] ≡ take (getD (storesIn l) n 0) (drop (storeAt l n) s)
+unfolding storesOf storesIn storeAt
+store-part [] s n h = absurd (omega arith)
+store-part (constant w v ∷ l) s n h = store-part l (drop w s) n h ∙ rw (drop-drop (storeAt l n) w s)
+store-part (part w ∷ l) s n h = store-part l (drop w s) n h ∙ rw (drop-drop (storeAt l n) w s)
+store-part (store z ∷ l) s zero h = refl
+store-part (store z ∷ l) s (suc n) h = store-part l (drop z s) n (omega arith) ∙ rw (drop-drop (storeAt l n) z s)
+
+pub store-within : (l : List Item) (n : ℕ) → n < length (storesIn l) → storeAt l n + getD (storesIn l) n 0 ≤ bytesIn l
+unfolding storesIn storeAt bytesIn
+store-within [] n h = absurd (omega arith)
+store-within (constant w v ∷ l) n h = omega (arith, store-within l n h)
+store-within (part w ∷ l) n h = omega (arith, store-within l n h)
+store-within (store z ∷ l) zero h = omega arith
+store-within (store z ∷ l) (suc n) h = omega (arith, store-within l n (omega arith))
+
+-- a list of two is its two elements
+pub two-lists : (ss : List (List ℕ)) → length ss ≡ 2 → ss ≡ stores (getD ss 0 []) (getD ss 1 [])
+two-lists [] e = absurd (omega arith)
+two-lists (a ∷ []) e = absurd (omega arith)
+two-lists (a ∷ b ∷ []) e = refl
+two-lists (a ∷ b ∷ c ∷ ss) e = absurd (omega arith)
 
 -- a whole store read from a place on
 pub whole-read : (d s : List ℕ) (at : ℕ) (t : List ℕ) → at + length d ≤ length s

@@ -7,3 +7,4 @@ pub mod Reading
 pub mod RoundTrip
 pub mod Calls
 pub mod Theorems
+pub mod Form2

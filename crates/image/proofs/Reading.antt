@@ -1,13 +1,12 @@
 -- What the loops of reading and of testing heads keep, and what the table's rows say of themselves. Assumes nothing.
 use Prim.Native.Nat.{ℕ, zero, suc, _+_, _-_, _/_, _%_, _^_, _≤_, _<_}
-use mathlib.Core.List.{List, [], _∷_, _++_, append-assoc, append-nil}
+use mathlib.Core.List.{List, [], _∷_, _++_, append-assoc}
 use mathlib.Core.Bool.{Bool, true, false, _&&_}
 use mathlib.Core.Path.{_≡_, refl, sym, ap, _∙_}
 use native.Mathlib.Nat.{add-zero}
-use native.Mathlib.Numerals.{add-one}
 use native.Mathlib.Omega.{arith}
-use lib.ListN.{length, getD, take, drop, set, length-set, length-take, length-drop, List·getD-eq-default}
-use lib.Seq.{drop-drop, take-all, take-suc-set}
+use lib.ListN.{length, getD, take, drop, set, length-set, List·getD-eq-default}
+use lib.Seq.{drop-drop}
 use lib.Dec.{ltb, leb, eqb}
 use borrow.Author.Tests.{eqb-true, ltb-true, ltb-false, leb-true}
 use Rattle.octets.specs.Bytes.{number, overwrite}
@@ -27,93 +26,51 @@ use Rattle.image.specs.Items.{
   fieldItems,
   bytesIn,
   partsIn,
-  storesIn,
 }
-use Rattle.image.specs.Image.{numbersOf, storesOf, constantsRight, lengths}
-use Rattle.image.proofs.Walking.{bytes-constant, bytes-part, bytes-store, parts-part, stores-store}
-use Rattle.image.proofs.Lengths.{length-lengths, lengths-set, size-below, size-is, sizes-behind}
+use Rattle.image.specs.Image.{numbersOf, constantsRight}
+use Rattle.image.proofs.Walking.{bytes-constant, bytes-part, bytes-store, parts-part}
 
 -- ---- reading
 
-pub record Taking (r : List Item) (s out : List ℕ) (ss : List (List ℕ)) (at k n size : ℕ) (zs goal : List ℕ)
-    (goals : List (List ℕ)) : Type 0 where
+pub record Taking (r : List Item) (s out : List ℕ) (at k size : ℕ) (goal : List ℕ) : Type 0 where
   pub room : at + bytesIn r ≤ length s
   pub space : k + partsIn r ≤ length out
   pub long : length out ≡ size
   pub numbers : goal ≡ overwrite out k (numbersOf r (drop at s))
-  pub sizes : storesIn r ≡ drop n (lengths ss)
-  pub kept : lengths ss ≡ zs
-  pub stores : goals ≡ take n ss ++ storesOf r (drop at s)
 
-module _ {r : List Item} {s out : List ℕ} {ss : List (List ℕ)} {at k n size : ℕ} {zs goal : List ℕ}
-    {goals : List (List ℕ)} (p : Taking r s out ss at k n size zs goal goals) where
-  pub taking-constant : {w v : ℕ} {l : List Item} → constant w v ∷ l ≡ r
-      → Taking l s out ss (at + w) k n size zs goal goals
-  unfolding numbersOf storesOf partsIn storesIn
+module _ {r : List Item} {s out : List ℕ} {at k size : ℕ} {goal : List ℕ} (p : Taking r s out at k size goal) where
+  pub taking-constant : {w v : ℕ} {l : List Item} → constant w v ∷ l ≡ r → Taking l s out (at + w) k size goal
+  unfolding numbersOf partsIn
   taking-constant {w} {v} {l} e = record {
     room = omega (arith, p .room, bytes-constant e);
     space = rw (← e) at (p .space);
     long = p .long;
     numbers = p .numbers ∙ rw (← e, drop-drop w at s);
-    sizes = rw (← e) at (p .sizes);
-    kept = p .kept;
-    stores = p .stores ∙ rw (← e, drop-drop w at s);
   }
 
   pub taking-part : {w : ℕ} {l : List Item} → part w ∷ l ≡ r → (x : ℕ) → x ≡ number (take w (drop at s))
-      → Taking l s (set out k x) ss (at + w) (k + 1) n size zs goal goals
-  unfolding numbersOf storesOf storesIn
+      → Taking l s (set out k x) (at + w) (k + 1) size goal
+  unfolding numbersOf
   taking-part {w} {l} e x q = record {
     room = omega (arith, p .room, bytes-part e);
     space = simp length-set (omega (arith, p .space, parts-part e));
     long = length-set out k x ∙ p .long;
     numbers = p .numbers ∙ rw (← e, drop-drop w at s, ← q)
         (sym (overwrite-set out k x (numbersOf l (drop (at + w) s)) (omega (arith, p .space, parts-part e))));
-    sizes = rw (← e) at (p .sizes);
-    kept = p .kept;
-    stores = p .stores ∙ rw (← e, drop-drop w at s);
   }
 
-  module _ {z : ℕ} {l : List Item} (e : store z ∷ l ≡ r) where
-    next-sizes : z ∷ storesIn l ≡ drop n (lengths ss)
-    next-sizes = sym (stores-store e) ∙ p .sizes
+  pub taking-store : {z : ℕ} {l : List Item} → store z ∷ l ≡ r → Taking l s out (at + z) k size goal
+  unfolding numbersOf partsIn
+  taking-store {z} {l} e = record {
+    room = omega (arith, p .room, bytes-store e);
+    space = rw (← e) at (p .space);
+    long = p .long;
+    numbers = p .numbers ∙ rw (← e, drop-drop z at s);
+  }
 
-    pub taking-below : n < length ss
-    taking-below = size-below ss n z (storesIn l) next-sizes
-
-    pub taking-size : z ≡ length (getD ss n [])
-    taking-size = size-is ss n z (storesIn l) next-sizes
-
-    read-size : length (take (length (getD ss n [])) (drop at s)) ≡ length (getD ss n [])
-    read-size = simp (length-take, length-drop) (omega (arith, p .room, bytes-store e, taking-size))
-
-    pub taking-store : (tt' : List (List ℕ)) → tt' ≡ set ss n (take (length (getD ss n [])) (drop at s))
-        → Taking l s out tt' (at + z) k (n + 1) size zs goal goals
-    unfolding numbersOf storesOf partsIn
-    taking-store tt' q =
-        let b : List ℕ = take (length (getD ss n [])) (drop at s) in
-        let f : lengths tt' ≡ lengths ss = ap lengths q ∙ lengths-set ss n b read-size in
-        let t : take (n + 1) tt' ≡ take n ss ++ (b ∷ []) = rw (add-one n, q) (take-suc-set ss n b taking-below) in
-        record {
-          room = omega (arith, p .room, bytes-store e);
-          space = rw (← e) at (p .space);
-          long = p .long;
-          numbers = p .numbers ∙ rw (← e, drop-drop z at s);
-          sizes = sizes-behind ss n z (storesIn l) next-sizes ∙ ap (drop (n + 1)) (sym f);
-          kept = f ∙ p .kept;
-          stores = p .stores ∙ rw (← e, drop-drop z at s, t)
-              (ap (λ (m : ℕ). take n ss ++ (take m (drop at s) ∷ storesOf l (drop (at + z) s))) taking-size
-              ∙ sym (append-assoc (take n ss) (b ∷ []) (storesOf l (drop (at + z) s))));
-        }
-
-  pub taking-end : [] ≡ r → (out ≡ goal) × (ss ≡ goals)
-  unfolding numbersOf storesOf storesIn
-  taking-end e =
-      let z : length (drop n (lengths ss)) ≡ 0 = ap length (sym (p .sizes) ∙ ap storesIn (sym e)) in
-      let m : length ss ≤ n = omega (arith, simp length-drop at z, length-lengths ss) in (
-        sym (p .numbers ∙ rw (← e) (overwrite-nil out k)),
-        sym (p .stores ∙ rw (← e) (append-nil (take n ss) ∙ take-all n ss m)),
-      )
+  pub taking-end : [] ≡ r → out ≡ goal
+  unfolding numbersOf
+  taking-end e = sym (p .numbers ∙ rw (← e) (overwrite-nil out k))
 
 -- ---- testing heads
 

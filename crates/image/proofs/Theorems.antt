@@ -86,27 +86,35 @@ module _ (form : Form) where
     unfolding written
     session-written d k = rw (h .0, le-leb (sizesOf form .image) (length d) k, h .1)
 
-    -- reading it gives the numbers and the stores back, whatever stood there
-    pub read-back : (ys c d : List ℕ) → lent form ys c d ≡ true
-        → taken form (imageOf form xs a b) ys c d ≡ took Done xs (stores a b)
-    unfolding imageOf
-    read-back ys c d k =
-        let l = itemsOf form in
-        let ss = stores a b in
-        let s : List ℕ = pack l xs ss in
-        let e = append-nil s in
-        let n : length xs ≡ partsIn l = sizes .0 ∙ numbers-size form (sizesOf form) refl in
-        sym (taken-done form (sizesOf form) refl ys c d s k image-length
-        (rw e at (constants-packed l xs ss [] sized small-items)) xs ss
-        (sym ((rw e at (numbers-packed l xs ss [] sized (h .1) (omega arith))) ∙ take-all (partsIn l) xs (omega arith)))
-        (sym (rw e at (stores-packed l xs ss [] sized))))
-
     -- the image of a session is accepted
     pub image-accepted : isImage form (imageOf form xs a b) ≡ true
     unfolding isImage imageOf
     image-accepted =
         rw (eq-eqb _ _ image-length)
         (rw (append-nil (pack (itemsOf form) xs (stores a b))) at (constants-packed (itemsOf form) xs (stores a b) [] sized small-items))
+
+    -- so it gives the numbers and the stores back
+    pub numbers-back : numbersOf (itemsOf form) (imageOf form xs a b) ≡ xs
+    unfolding imageOf
+    numbers-back =
+        let l = itemsOf form in
+        let ss = stores a b in
+        let n : length xs ≡ partsIn l = sizes .0 ∙ numbers-size form (sizesOf form) refl in
+        (rw (append-nil (pack l xs ss)) at (numbers-packed l xs ss [] sized (h .1) (omega arith))) ∙ take-all (partsIn l) xs (omega arith)
+
+    pub stores-back : storesOf (itemsOf form) (imageOf form xs a b) ≡ stores a b
+    unfolding imageOf
+    stores-back =
+        let l = itemsOf form in
+        let ss = stores a b in
+        rw (append-nil (pack l xs ss)) at (stores-packed l xs ss [] sized)
+
+    -- whatever stood there
+    pub read-back : (ys c d : List ℕ) → lent form ys c d ≡ true
+        → taken form (imageOf form xs a b) ys c d ≡ took Done xs (stores a b)
+    read-back ys c d k =
+        sym (taken-done form (sizesOf form) refl ys c d (imageOf form xs a b) k image-accepted xs (stores a b)
+        (sym numbers-back) (sym stores-back))
 
   -- different sessions have different images
   pub same-image : (xs a b ys c d : List ℕ) → Session xs a b → Session ys c d → imageOf form xs a b ≡ imageOf form ys c d

@@ -2,7 +2,7 @@
 use Prim.Native.Nat.{ℕ, _+_, _^_}
 use mathlib.Core.List.{List, [], _∷_, _++_}
 use mathlib.Core.Bool.{Bool, true, cond, _&&_}
-use lib.ListN.{length, getD, take, drop, set}
+use lib.ListN.{length, getD, take, drop}
 use lib.Dec.{ltb, leb, eqb}
 use Rattle.octets.specs.Bytes.{number, bytesOf, overwrite}
 use Rattle.image.specs.declared.table.Form.{Form}
@@ -49,9 +49,11 @@ constantsRight (store z ∷ l) s = constantsRight l (drop z s)
 abbrev pub stores : List ℕ → List ℕ → List (List ℕ)
 stores orders mailboxes = orders ∷ mailboxes ∷ []
 
--- the stores with the n-th one read from a place of an image on
-abbrev pub storeRead : ℕ → List ℕ → ℕ → List (List ℕ) → List (List ℕ)
-storeRead n s at ss = set ss n (take (length (getD ss n [])) (drop at s))
+-- both stores as parts of an image, by the form's places of them
+abbrev pub partsOf : Form → List ℕ → List (List ℕ)
+partsOf form s =
+    stores (take (sizesOf form .store) (drop (sizesOf form .orders) s))
+    (take (sizesOf form .store) (drop (sizesOf form .mailboxes) s))
 
 unfoldable pub imageOf : Form → List ℕ → List ℕ → List ℕ → List ℕ
 imageOf form xs orders mailboxes = pack (itemsOf form) xs (stores orders mailboxes)
@@ -100,6 +102,20 @@ taken form s xs orders mailboxes =
     (took Done (numbersOf (itemsOf form) s) (storesOf (itemsOf form) s))
     (took Contents xs (stores orders mailboxes)))
     (took Lengths xs (stores orders mailboxes))
+
+-- what a call that reads the numbers alone answers and leaves
+pub record TookNumbers : Type 0 where
+  pub answer : Answer
+  pub numbers : List ℕ
+
+abbrev pub tookNumbers : Answer → List ℕ → TookNumbers
+tookNumbers r xs = record { answer = r; numbers = xs }
+
+unfoldable pub numbersTaken : Form → List ℕ → List ℕ → TookNumbers
+numbersTaken form s xs =
+    cond (eqb (length xs) (sizesOf form .numbers))
+    (cond (isImage form s) (tookNumbers Done (numbersOf (itemsOf form) s)) (tookNumbers Contents xs))
+    (tookNumbers Lengths xs)
 
 -- the lengths of stores
 unfoldable pub lengths : List (List ℕ) → List ℕ

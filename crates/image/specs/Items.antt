@@ -61,6 +61,14 @@ storesIn (constant w v ∷ l) = storesIn l
 storesIn (part w ∷ l) = storesIn l
 storesIn (store z ∷ l) = z ∷ storesIn l
 
+-- where the n-th store begins
+unfoldable pub storeAt : List Item → ℕ → ℕ
+storeAt [] n = 0
+storeAt (constant w v ∷ l) n = w + storeAt l n
+storeAt (part w ∷ l) n = w + storeAt l n
+storeAt (store z ∷ l) zero = 0
+storeAt (store z ∷ l) (suc n) = z + storeAt l n
+
 -- the size of both stores
 abbrev pub storeSize : Form → ℕ
 storeSize Two = storeBytes
@@ -73,4 +81,6 @@ sizesOf form =
       numbers = partsIn (itemsOf form);
       store = storeSize form;
       image = bytesIn (itemsOf form);
+      orders = storeAt (itemsOf form) 0;
+      mailboxes = storeAt (itemsOf form) 1;
     }

@@ -13,12 +13,12 @@ use octets::bytes::copy;
 ghost use mathlib.Core.Path.{_≡_};
 ghost use mathlib.Core.List.{[]};
 ghost use Prim.Native.Nat.{_+_, _≤_, _<_};
-ghost use lib.ListN.{length, getD};
+ghost use lib.ListN.{length, getD, take, drop};
 ghost use Rattle.octets.specs.Bytes.{overwrite};
-ghost use Rattle.image.specs.Items.{fieldItems, bytesIn, partsIn, storesIn};
+ghost use Rattle.image.specs.Items.{itemsOf, sizesOf, fieldItems, bytesIn, partsIn, storesIn};
 ghost use Rattle.image.specs.Walk.{rest};
 ghost use Rattle.image.specs.Image.{pack, numbersOf, storesOf, fits, constantsRight, stores, lengths};
-ghost use Rattle.image.specs.Image.{storeRead, wrote, written, took, taken};
+ghost use Rattle.image.specs.Image.{isImage, wrote, written, took, taken, tookNumbers, numbersTaken};
 
 // What a call answers: done; "number 1", a lent length is wrong; "number 9", out of form.
 pub enum Answer {
@@ -129,38 +129,25 @@ fn heads_right(field: usize, fields: u64, image: &[u8]) -> bool
     true
 }
 
-// Reads the n-th of both stores from a place of the image on.
-fn take_store(n: usize, image: &[u8], at: usize, orders: &mut [u8], mailboxes: &mut [u8])
-    requires { ⌜ (n < 2) × (at + length (getD (stores (now orders) (now mailboxes)) n []) ≤ length (now image)) ⌝ }
-    ensures { λ _. ⌜ stores (now (orders .exit)) (now (mailboxes .exit))
-        ≡ storeRead n (now (image .entry)) at (stores (now (orders .entry)) (now (mailboxes .entry))) ⌝ }
+// Whether the bytes are an image of the form.
+pub fn is_image(form: Form, image: &[u8]) -> bool
+    ensures { λ r. ⌜ r ≡ isImage form (now (image .entry)) ⌝ }
 {
-    if n == 0 {
-        let end = at + orders.len();
-        copy(orders, 0, &image[at..end]);
-        return;
+    let f = sizes_of(form);
+    if image.len() != f.image {
+        return false;
     }
-    let end = at + mailboxes.len();
-    copy(mailboxes, 0, &image[at..end]);
+    heads_right(f.first, f.fields, image)
 }
 
-// Reads the numbers and the stores of an image.
-fn take_all(
-    from: Cursor,
-    image: &[u8],
-    numbers: &mut [u64],
-    orders: &mut [u8],
-    mailboxes: &mut [u8],
-)
-    requires { ⌜ (bytesIn (rest from) ≤ length (now image)) × (partsIn (rest from) ≡ length (now numbers))
-        × (storesIn (rest from) ≡ lengths (stores (now orders) (now mailboxes))) ⌝ }
-    ensures { λ _. ⌜ (now (numbers .exit) ≡ numbersOf (rest from) (now (image .entry)))
-        × (stores (now (orders .exit)) (now (mailboxes .exit)) ≡ storesOf (rest from) (now (image .entry))) ⌝ }
+// Reads the numbers of an image.
+fn take_numbers(from: Cursor, image: &[u8], numbers: &mut [u64])
+    requires { ⌜ (bytesIn (rest from) ≤ length (now image)) × (partsIn (rest from) ≡ length (now numbers)) ⌝ }
+    ensures { λ _. ⌜ now (numbers .exit) ≡ numbersOf (rest from) (now (image .entry)) ⌝ }
 {
     let mut c = from;
     let mut at = 0;
     let mut k = 0;
-    let mut n = 0;
     loop {
         let s = next(c);
         match s {
@@ -175,9 +162,7 @@ fn take_all(
                 c = d;
             }
             Step::Store(z, d) => {
-                take_store(n, image, at, orders, mailboxes);
                 at += z;
-                n += 1;
                 c = d;
             }
             Step::Done => {
@@ -185,6 +170,27 @@ fn take_all(
             }
         }
     }
+}
+
+// Reads a store from a place of the image on.
+fn take_store(image: &[u8], at: usize, store: &mut [u8])
+    requires { ⌜ at + length (now store) ≤ length (now image) ⌝ }
+    ensures { λ _. ⌜ now (store .exit) ≡ take (length (now (store .entry))) (drop at (now (image .entry))) ⌝ }
+{
+    let end = at + store.len();
+    copy(store, 0, &image[at..end]);
+}
+
+// Reads both stores of an image.
+pub fn take_stores(form: Form, image: &[u8], orders: &mut [u8], mailboxes: &mut [u8])
+    requires { ⌜ (length (now image) ≡ sizesOf form .image)
+        × (length (now orders) ≡ sizesOf form .store) × (length (now mailboxes) ≡ sizesOf form .store) ⌝ }
+    ensures { λ _. ⌜ stores (now (orders .exit)) (now (mailboxes .exit))
+        ≡ storesOf (itemsOf form) (now (image .entry)) ⌝ }
+{
+    let f = sizes_of(form);
+    take_store(image, f.orders, orders);
+    take_store(image, f.mailboxes, mailboxes);
 }
 
 // Writes the image of the numbers and the stores over the front of the buffer.
@@ -240,12 +246,26 @@ pub fn read(
     if mailboxes.len() != f.store {
         return Answer::Lengths;
     }
-    if image.len() != f.image {
+    if !is_image(form, image) {
         return Answer::Contents;
     }
-    if !heads_right(f.first, f.fields, image) {
+    take_numbers(start(f.first, f.fields), image, numbers);
+    take_stores(form, image, orders, mailboxes);
+    Answer::Done
+}
+
+// Reads the numbers of an image, which is all the bytes handed in, and not its stores.
+pub fn read_numbers(form: Form, image: &[u8], numbers: &mut [u64]) -> Answer
+    ensures { λ r. ⌜ tookNumbers r (now (numbers .exit))
+        ≡ numbersTaken form (now (image .entry)) (now (numbers .entry)) ⌝ }
+{
+    let f = sizes_of(form);
+    if numbers.len() != f.numbers {
+        return Answer::Lengths;
+    }
+    if !is_image(form, image) {
         return Answer::Contents;
     }
-    take_all(start(f.first, f.fields), image, numbers, orders, mailboxes);
+    take_numbers(start(f.first, f.fields), image, numbers);
     Answer::Done
 }

@@ -160,13 +160,16 @@ pub fn row_at(i: usize) -> Row
     }
 }
 
-// A form's first row and how many fields it has; how many numbers a session has, the sizes of a store and of the image.
+// A form's first row and how many fields it has; how many numbers a session has, the sizes of a store and of the image;
+// where the places' store and the mailboxes' begin in the image.
 pub struct Sizes {
     pub first: usize,
     pub fields: u64,
     pub numbers: usize,
     pub store: usize,
     pub image: usize,
+    pub orders: usize,
+    pub mailboxes: usize,
 }
 
 pub fn sizes_of(form: Form) -> Sizes
@@ -179,6 +182,8 @@ pub fn sizes_of(form: Form) -> Sizes
             numbers: 645,
             store: 30720,
             image: 64454,
+            orders: 3011,
+            mailboxes: 33734,
         },
     }
 }

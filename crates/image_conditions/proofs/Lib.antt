@@ -1,2 +1,5 @@
--- The laws of the tests' shapes, and how a change of the session keeps a condition.
+-- The laws of the tests' shapes and of the list, and how a change of the session keeps a condition.
 pub mod Shapes
+pub mod General
+pub mod Listed
+pub mod Laws

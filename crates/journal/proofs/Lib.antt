@@ -6,4 +6,7 @@ pub mod Mixed
 pub mod Entering
 pub mod Laws
 pub mod Lookup
+pub mod Copying
 pub mod Plain
+pub mod Rounds
+pub mod Apart

@@ -70,3 +70,17 @@ withRecord order e f = cond (eqb (orderNumberOf (e .order)) order) (withKind (e 
 unfoldable pub lookup : ℕ → List Event → Found
 lookup order [] = found.Nothing
 lookup order (e ∷ es) = withRecord order e (lookup order es)
+
+-- ---- the row by value
+
+-- how many records go between a row of so many and one of 64: all of them, or none
+unfoldable pub copiedCount : Bool → ℕ → ℕ
+copiedCount taken records = cond (taken && eqb records recordCount) recordCount 0
+
+-- the row by value: itself where it has 64 records, else a row with none in use
+unfoldable pub heldRow : List Event → List Event
+heldRow row = cond (eqb (length row) recordCount) row emptyRow
+
+-- the row after 64 records are put in its place, where they are taken and it has as many
+unfoldable pub replaced : Bool → List Event → List Event → List Event
+replaced taken held row = cond (taken && eqb (length row) recordCount) held row

@@ -1,14 +1,16 @@
-// The row of records: the events of one call are entered, and an order is looked up. `enter` and `find` alone have the
-// row; what they call has numbers and single records.
+// The row of records: the events of one call are entered, an order is looked up, and the whole row is held by value or
+// replaced. The public functions alone have the row; what they call has numbers and single records.
 use crate::event::Batch;
 use crate::event::Event;
 use crate::event::Found;
 use crate::event::Kind;
+use crate::event::RECORD_COUNT;
 use crate::places::event_at;
 use crate::places::places_of;
 use message::order_numbers::order_number_of;
 ghost use mathlib.Core.Path.{_≡_};
 ghost use Rattle.journal.specs.Row.{rowAfter, orEnded, withRecord, lookup};
+ghost use Rattle.journal.specs.Row.{emptyRow, copiedCount, heldRow, replaced};
 
 // The events of one call are entered after so many others, and numbered on from them. The records move up where there
 // is no room left.
@@ -66,4 +68,59 @@ pub fn find(row: &[Event], order: u64) -> Found
         found = with_record(order, row[i], found);
     }
     found
+}
+
+// A row with no record in use.
+fn empty_row() -> [Event; RECORD_COUNT]
+    ensures { λ r. ⌜ r ≡ emptyRow ⌝ }
+{
+    let kind = Kind::Unused;
+    let event = Event {
+        number: 0,
+        clock: 0,
+        subscriber: 0,
+        order: 0,
+        kind,
+    };
+    [event; RECORD_COUNT]
+}
+
+// How many records go between a row of so many and an array of RECORD_COUNT: all of them, or none.
+fn copied_count(taken: bool, records: usize) -> usize
+    ensures { λ r. ⌜ r ≡ copiedCount taken records ⌝ }
+{
+    if !taken {
+        return 0;
+    }
+    if records == RECORD_COUNT {
+        RECORD_COUNT
+    } else {
+        0
+    }
+}
+
+// The row by value, where it has RECORD_COUNT records; else a row with none in use.
+pub fn held_row(row: &[Event]) -> [Event; RECORD_COUNT]
+    ensures { λ r. ⌜ r ≡ heldRow (now (row .entry)) ⌝ }
+{
+    let end = copied_count(true, row.len());
+    let mut held = empty_row();
+    let mut i = 0;
+    while i < end {
+        held[i] = row[i];
+        i = i + 1;
+    }
+    held
+}
+
+// The records of an array become the row's, where they are taken and the row has RECORD_COUNT.
+pub fn replace_row(row: &mut [Event], held: [Event; RECORD_COUNT], taken: bool)
+    ensures { λ _. ⌜ now (row .exit) ≡ replaced taken held (now (row .entry)) ⌝ }
+{
+    let end = copied_count(taken, row.len());
+    let mut i = 0;
+    while i < end {
+        row[i] = held[i];
+        i = i + 1;
+    }
 }

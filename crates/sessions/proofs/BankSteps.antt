@@ -1,32 +1,37 @@
 -- `F` and `M`: the session keeps what the call on the bank leaves, and the course's bank and journal are the same; no run
 -- changes.
-use Prim.Native.Nat.{ℕ}
+use Prim.Native.Nat.{ℕ, _≤_, _<_}
 use mathlib.Core.Bool.{cond}
 use mathlib.Core.List.{List, []}
-use mathlib.Core.Path.{_≡_, refl, ap, _∙_}
+use mathlib.Core.Path.{_≡_, refl, sym, ap, _∙_, subst}
+use native.Mathlib.Omega.{arith}
 use lib.Dec.{eqb}
-use lib.ListN.{length, drop}
+use lib.ListN.{length, take, drop, length-take, length-drop}
 use borrow.Author.Tests.{eq-eqb}
 use Rattle.octets.specs.Bytes.{Bytes}
-use Rattle.octets.proofs.Numbers.{bytes-take, bytes-drop}
+use Rattle.octets.proofs.Numbers.{bytes-take, bytes-drop, number-small}
+use Rattle.message.proofs.Verdicts.{by-test}
+use Rattle.message.specs.Verdicts.{decide}
 use Rattle.journal.specs.Events.{recordCount}
-use Rattle.journal.specs.Row.{Journal}
-use Rattle.bank_state.specs.State.{BankState, bankState}
-use Rattle.bank_rows.specs.State.{bankOf}
+use Rattle.bank_state.specs.State.{Bank, BankState, bankState}
+use Rattle.bank_admitted.specs.Session.{Brought, lastTime}
 use Rattle.bank.specs.declared.call.FrameAnswer.{FrameAnswer}
 use Rattle.bank.specs.declared.call.FrameAnswer.the-variants as frame
 use Rattle.bank.specs.declared.mailbox.FileAnswer.{FileAnswer}
 use Rattle.bank.specs.declared.mailbox.FileAnswer.the-variants as put
-use Rattle.bank.specs.Call.{FrameInput, frameInput, frameNumber, frameCall}
-use Rattle.bank.specs.Mailbox.{FileCall, fileNumber, fileCall}
-use Rattle.bank.specs.Journal.{journalAfter, journalBy}
-use Rattle.bank.specs.Lent.{LentFileCall, keptFrame, keptFile, lentFileCall}
+use Rattle.bank.specs.Call.{FrameInput, FrameCall, frameInput, frameNumber, lentRight, frameCall}
+use Rattle.bank.specs.Mailbox.{FileCall, fileNumber, fileRefusals, carryOutFile, fileCall}
+use Rattle.bank.specs.Lent.{LentFrameCall, LentFileCall, keptFrame, keptFile, lentFrameCall, lentFileCall}
+use Rattle.bank.proofs.Kept.{frame-state, file-state}
 use Rattle.bank.proofs.Lent.{lent-frame}
+use Rattle.bank_steps.specs.Lent as bank
 use Rattle.bank_session.specs.Session.{
-  LentSession,
+  sessionSize,
   bankRows,
   eventCount,
   bankIn,
+  journalIn,
+  journalNext,
   SessionFrameCall,
   withJournal,
   sessionFrameCall,
@@ -34,207 +39,228 @@ use Rattle.bank_session.specs.Session.{
   sessionFileCall,
 }
 use Rattle.bank_session.proofs.Session.{takes-length, frame-taken}
-use Rattle.bank_session.proofs.Laws.{file-taken}
-use Rattle.bank_history.specs.Answers.{more}
-use Rattle.bank_history.specs.History.{Past, Frame, File, entered, placed, callExchange, pastOf}
-use Rattle.bank_history.specs.History as history
-use Rattle.bank_history.specs.Journal.{journalOver, journalOf}
-use Rattle.bank_history.specs.OnSessions.{sessionAfter, lentSessionOf}
-use Rattle.exchange.specs.Course.{Course, frameArrives, filePut, carryOut, exec}
-use Rattle.exchange.proofs.Calls.{by-number}
+use Rattle.bank_session.proofs.Laws.{frame-bank, frame-journal, file-taken, file-bank, file-events}
+use Rattle.bank_history.proofs.OnRows.{on-rows}
+use Rattle.image_admitted.proofs.Theorems.{frame-admitted, file-admitted}
+use Rattle.exchange.specs.Course.{Call, Course, frameArrives, filePut, callNumber, afterFile, exec}
+use Rattle.exchange.proofs.Calls.{numbered-stays, carried, by-number}
 use Rattle.unit.specs.declared.record.Kind.{Kind}
 use Rattle.unit.specs.declared.record.Kind.the-variants as kind
-use Rattle.unit.specs.Records.{bankTimeOf, idsOf, mailboxOf, headOf, sizeOf, bodyOf}
+use Rattle.unit.specs.Records.{numberAt, bankTimeOf, idsOf, mailboxOf, headOf, sizeOf, bodyOf}
 use Rattle.unit.specs.State.{State, sessionIn}
 use Rattle.unit.specs.Call.{frameAnswer, fileAnswer, frameStep, fileStep}
-use Rattle.sessions.specs.Sessions.{bankAt, journalAt, frameOf, putOf, told, Given}
-use Rattle.sessions.proofs.Standing.{
-  SameRunAt,
-  Standing,
-  Stepped,
-  past-bank,
-  same-bank,
-  rows-sound,
-  past-journal,
-  same-journal,
-  taken,
-  past-row,
-  row-long,
-}
+use Rattle.sessions.specs.Sessions.{bankAt, journalAt, frameOf, putOf, told}
+use Rattle.sessions.proofs.MemoryBytes.{StoresHold, frame-holds, file-holds}
+use Rattle.sessions.proofs.Standing.{SameRunAt, Standing, Stepped, rows-sound, taken, row-long}
 
-body-bytes : (k : Kind) (r : List ℕ) → Bytes r → Bytes (bodyOf k r)
+pub body-bytes : (k : Kind) (r : List ℕ) → Bytes r → Bytes (bodyOf k r)
 unfolding bodyOf
 body-bytes k r b = bytes-take (sizeOf k r) (drop (headOf k) r) (bytes-drop (headOf k) r b)
 
--- ---- the course's bank and journal after the call
+-- a frame's answer has its bytes in the buffer
+frame-told : (x : FrameAnswer) (buffer room : List ℕ) → told (frameAnswer x) buffer room ≡ told (frameAnswer x) buffer []
+frame-told (frame.Reply n) buffer room = refl
+frame-told frame.WrongLength buffer room = refl
 
-module _ (s : Course) (p : Past) (own : s .bank ≡ p .bankState) where
-  -- a frame call that is lent a row of its length
-  module _ (j : Journal) (events : s .journal ≡ j) (long : length (j .row) ≡ recordCount) (a : FrameInput) where
-    abbrev w : BankState
-    w = frameCall (p .bankState) a .bankState
+-- a file's answer has none
+file-told : (x : FileAnswer) (buffer room : List ℕ) → told (fileAnswer x) buffer room ≡ told (fileAnswer x) [] []
+file-told put.Done buffer room = refl
+file-told put.WrongLength buffer room = refl
+file-told put.NoMailbox buffer room = refl
+file-told put.WrongFile buffer room = refl
+file-told put.MailboxFull buffer room = refl
 
-    abbrev next : Course
-    next = carryOut (frameArrives (p .bankState) j a) s
+-- a bank time is of four bytes
+time-short : (r : List ℕ) → Bytes r → headOf kind.Frame ≤ length r → bankTimeOf r ≤ lastTime
+unfolding numberAt
+time-short r b h =
+    let small : bankTimeOf r < 4294967296 =
+    number-small 4 (take 4 (drop 1 r)) (bytes-take 4 (drop 1 r) (bytes-drop 1 r b)) (simp (length-take, length-drop) (omega arith)) in
+    omega arith
 
-    frame-exec : exec (frameArrives (p .bankState) j a) s
-        ≡ cond (eqb (frameNumber (frameCall (p .bankState) a .answer)) 0) next s
-    unfolding exec
-    frame-exec = rw (eq-eqb (length (j .row)) recordCount long)
+-- a frame call's number is its answer's
+numbered-by : (w : BankState) (a : FrameInput) → frameCall w a .number ≡ frameNumber (frameCall w a .answer)
+unfolding frameCall
+numbered-by w a =
+    by-test (λ (c : FrameCall). c .number ≡ frameNumber (c .answer)) (lentRight w (a .ids) (a .buffer)) (λ _. refl) (λ _. refl)
 
-    frame-bank : exec (frameArrives (p .bankState) j a) s .bank ≡ history.after (Frame a) p .bankState
-    unfolding history.after
-    frame-bank =
-        ap (λ (t : Course). t .bank) frame-exec ∙ at (frameCall (p .bankState) a .answer) next refl
-      where
-        at : (x : FrameAnswer) (t : Course) → t .bank ≡ w →
-            cond (eqb (frameNumber x) 0) t s .bank ≡ entered x w (callExchange (p .bankState) a) p .bankState
-        at (frame.Reply n) t e = e
-        at frame.WrongLength t e = own
+-- ---- a frame
 
-    frame-journal : exec (frameArrives (p .bankState) j a) s .journal ≡ journalOver (Frame a) p j
-    unfolding journalOver
-    frame-journal =
-        ap (λ (t : Course). t .journal) frame-exec ∙ at (frameCall (p .bankState) a .answer) next refl
-      where
-        at : (x : FrameAnswer) (t : Course) → t .journal ≡ journalAfter (p .bankState) a j →
-            cond (eqb (frameNumber x) 0) t s .journal ≡ journalBy x (journalAfter (p .bankState) a j) j
-        at (frame.Reply n) t e = e
-        at frame.WrongLength t e = events
-
-  file-bank : (mailbox : ℕ) (file : List ℕ) →
-      exec (filePut (p .bankState .bank) (p .bankState .mailboxes) mailbox file) s .bank
-      ≡ history.after (File mailbox file) p .bankState
-  unfolding exec history.after
-  file-bank mailbox file =
-      at (c .answer) (carryOut (filePut (p .bankState .bank) (p .bankState .mailboxes) mailbox file) s)
-      (ap (λ (w : BankState). bankState (c .bank) (w .orders) (c .mailboxes)) own)
-    where
-      c : FileCall
-      c = fileCall (p .bankState .bank) mailbox file (p .bankState .mailboxes)
-
-      at : (x : FileAnswer) (t : Course) → t .bank ≡ bankState (c .bank) (p .bankState .orders) (c .mailboxes) →
-          cond (eqb (fileNumber x) 0) t s .bank ≡ placed x (c .bank) (c .mailboxes) p .bankState
-      at put.Done t e = e
-      at put.WrongLength t e = own
-      at put.NoMailbox t e = own
-      at put.WrongFile t e = own
-      at put.MailboxFull t e = own
-
--- ---- the steps
-
-module _ {u : State} {s : Course} (v : Standing u s) (r : List ℕ) (b : Bytes r) where
+module _ {u : State} {s : Course} (v : Standing u s) (r : List ℕ) (b : Bytes r) (whole : headOf kind.Frame ≤ length r) where
   abbrev input : FrameInput
   input = frameInput (bankTimeOf r) (idsOf r) (bodyOf kind.Frame r) (u .memory .buffer)
 
-  -- what the call gets
-  frame-given : Given (frameOf u r) s
-  unfolding frameOf
-  frame-given = (same-bank v, same-journal v)
+  abbrev k : Call
+  k = frameArrives (bankAt u) (journalAt u) input
 
-  -- the same call on the bank and the journal that the bank's calls leave
-  as-past : exec (frameArrives (bankAt u) (journalAt u) input) s
-      ≡ exec (frameArrives (pastOf (v .calls) .bankState) (journalOf (v .calls)) input) s
-  as-past =
-      ap (λ (w : BankState). exec (frameArrives w (journalAt u) input) s) (past-bank v)
-      ∙ ap (λ (j : Journal). exec (frameArrives (pastOf (v .calls) .bankState) j input) s) (past-journal v)
+  brought : Brought input
+  brought = record {
+    time = time-short r b whole;
+    ids = bytes-take 8 (drop 5 r) (bytes-drop 5 r b);
+    frame = body-bytes kind.Frame r b;
+  }
+
+  inner : lentFrameCall (bankIn (sessionIn u)) input ≡ keptFrame (bankIn (sessionIn u)) (frameCall (bankAt u) input)
+  inner = lent-frame (bankIn (sessionIn u)) input (rows-sound v)
+
+  -- the bank and the journal that the session keeps
+  bank-next : bank.stateOf (bankIn (sessionFrameCall (sessionIn u) input .session)) ≡ frameCall (bankAt u) input .bankState
+  bank-next =
+      ap bank.stateOf (frame-bank (sessionIn u) input (taken v)) ∙ frame-state (bankIn (sessionIn u)) input (rows-sound v)
+
+  journal-next : (x : FrameAnswer) → frameCall (bankAt u) input .answer ≡ x →
+      journalIn (sessionFrameCall (sessionIn u) input .session) ≡ journalNext (sessionIn u) input x
+  journal-next x e =
+      frame-journal (sessionIn u) input (taken v)
+      ∙ ap (journalNext (sessionIn u) input) (ap (λ (c : LentFrameCall). c .answer) inner ∙ e)
+
+  number-is : (x : FrameAnswer) → frameCall (bankAt u) input .answer ≡ x → callNumber k ≡ frameNumber x
+  number-is x e =
+      ap (λ t. cond t (frameNumber (frameCall (bankAt u) input .answer)) 1) (eq-eqb (length (u .unit .journal)) recordCount (row-long v))
+      ∙ ap frameNumber e
+
+  -- a call given number 1 leaves the bank
+  refused-stays : frameCall (bankAt u) input .answer ≡ frame.WrongLength → frameCall (bankAt u) input .bankState ≡ bankAt u
+  refused-stays e =
+      sym (frame-state (bankIn (sessionIn u)) input (rows-sound v))
+      ∙ ap (λ (c : LentFrameCall). bank.stateOf (c .lent))
+      (on-rows .unchanged (record { ids = brought .ids; frame = brought .frame })
+      (ap (λ (c : LentFrameCall). c .number) inner ∙ (numbered-by (bankAt u) input ∙ ap frameNumber e)))
+
+  -- and they are the course's
+  left-by : (x : FrameAnswer) → frameCall (bankAt u) input .answer ≡ x →
+      (bankAt (frameStep u r .state) ≡ exec k s .bank) × (journalAt (frameStep u r .state) ≡ exec k s .journal)
+  unfolding frameStep
+  left-by (frame.Reply n) e =
+      let now = carried k s (number-is (frame.Reply n) e) in
+      (bank-next ∙ sym (ap (λ (t : Course). t .bank) now), journal-next (frame.Reply n) e ∙ sym (ap (λ (t : Course). t .journal) now))
+  left-by frame.WrongLength e =
+      let now = numbered-stays k s (λ z. let n = number-is frame.WrongLength e in omega arith) in (
+        bank-next ∙ (refused-stays e ∙ (v .bank ∙ sym (ap (λ (t : Course). t .bank) now))),
+        journal-next frame.WrongLength e ∙ (v .journal ∙ sym (ap (λ (t : Course). t .journal) now)),
+      )
 
   frame-standing : Standing (frameStep u r .state) (exec (frameOf u r) s)
-  unfolding frameStep frameOf lentSessionOf sessionAfter pastOf journalOf
+  unfolding frameStep frameOf
   frame-standing =
-      let p = pastOf (v .calls) in
-      let j = journalOf (v .calls) in
+      let left = left-by (frameCall (bankAt u) input .answer) refl in
       record {
-        calls = _;
-        bytes =
-            more {c = Frame input} (bytes-take 8 (drop 5 r) (bytes-drop 5 r b), body-bytes kind.Frame r b) (v .bytes);
-        session = ap (λ (m : LentSession). sessionFrameCall m input .session) (v .session);
-        course =
-            ap (λ (t : Course). t .bank) as-past ∙ frame-bank s p (v .course) j (v .journal) (past-row v) input;
-        journal =
-            ap (λ (t : Course). t .journal) as-past ∙ frame-journal s p (v .course) j (v .journal) (past-row v) input;
+        listed = frame-admitted (sessionIn u) (v .listed .0) (v .listed .1) input brought;
+        stores = subst StoresHold (sym bank-next) (frame-holds (bankAt u) input (body-bytes kind.Frame r b) (v .stores));
+        bank = left .0;
+        journal = left .1;
         count = v .count;
         payloads = v .payloads;
         files = v .files;
-        runs = λ i h. by-number (frameArrives (bankAt u) (journalAt u) input) s (λ (t : Course). SameRunAt u t i)
-            (v .runs i h) (λ _. v .runs i h);
+        room = v .room;
+        image = v .image;
+        runs = λ i h. by-number k s (λ (t : Course). SameRunAt u t i) (v .runs i h) (λ _. v .runs i h);
       }
 
   -- the session's call is the bank's
   frame-kept : sessionFrameCall (sessionIn u) input
       ≡ withJournal (sessionIn u) input (keptFrame (bankIn (sessionIn u)) (frameCall (bankAt u) input))
-  frame-kept =
-      frame-taken (sessionIn u) input (taken v)
-      ∙ ap (withJournal (sessionIn u) input) (lent-frame (bankIn (sessionIn u)) input (rows-sound v))
+  frame-kept = frame-taken (sessionIn u) input (taken v) ∙ ap (withJournal (sessionIn u) input) inner
 
   pub frame-step : Stepped s (frameOf u r) (frameStep u r)
   unfolding frameStep frameOf
   frame-step = record {
-    given = λ _. frame-given;
+    given = λ _. (v .bank, v .journal);
     standing = frame-standing;
     answer =
-        ap (λ (o : SessionFrameCall). told (frameAnswer (o .answer)) (o .buffer)) frame-kept
-        ∙ rw (eq-eqb (length (u .unit .journal)) recordCount (row-long v));
+        ap (λ (o : SessionFrameCall). told (frameAnswer (o .answer)) (o .buffer) (u .memory .room)) frame-kept
+        ∙ (frame-told (frameCall (bankAt u) input .answer) (frameCall (bankAt u) input .buffer) (u .memory .room)
+        ∙ rw (eq-eqb (length (u .unit .journal)) recordCount (row-long v)));
   }
 
+-- ---- a file
+
+-- the course's bank after the call
+file-exec : (s : Course) (w : BankState) → s .bank ≡ w → (mailbox : ℕ) (file : List ℕ) →
+    let c = fileCall (w .bank) mailbox file (w .mailboxes) in
+    exec (filePut (w .bank) (w .mailboxes) mailbox file) s .bank ≡ bankState (c .bank) (w .orders) (c .mailboxes)
+unfolding exec fileCall
+file-exec s w own mailbox file = at (decide (fileRefusals (w .bank) mailbox file (w .mailboxes)) put.Done)
+  where
+    c : FileAnswer → FileCall
+    c x = carryOutFile x (w .bank) mailbox file (w .mailboxes)
+
+    at : (x : FileAnswer) →
+        cond (eqb (fileNumber (c x .answer)) 0) (afterFile (c x) mailbox file s) s .bank
+        ≡ bankState (c x .bank) (w .orders) (c x .mailboxes)
+    at put.Done = ap (λ (y : BankState). bankState (c put.Done .bank) (y .orders) (c put.Done .mailboxes)) own
+    at put.WrongLength = own
+    at put.NoMailbox = own
+    at put.WrongFile = own
+    at put.MailboxFull = own
+
+module _ {u : State} {s : Course} (v : Standing u s) (r : List ℕ) (b : Bytes r) where
   abbrev mailbox : ℕ
   mailbox = mailboxOf r
 
   abbrev file : List ℕ
   file = bodyOf kind.File r
 
-  -- what the call gets
-  file-given : Given (putOf u r) s
-  unfolding putOf
-  file-given =
-      (ap (λ (x : BankState). x .bank) (same-bank v), ap (λ (x : BankState). x .mailboxes) (same-bank v))
-
-  file-standing : Standing (fileStep u r .state) (exec (putOf u r) s)
-  unfolding fileStep putOf lentSessionOf sessionAfter pastOf journalOf journalOver
-  file-standing =
-      let w = bankAt u in
-      record {
-        calls = _;
-        bytes = more {c = File mailbox file} (body-bytes kind.File r b) (v .bytes);
-        session = ap (sessionAfter (File mailbox file)) (v .session);
-        course =
-            ap (λ (x : BankState). exec (filePut (x .bank) (x .mailboxes) mailbox file) s .bank) (past-bank v)
-            ∙ file-bank s (pastOf (v .calls)) (v .course) mailbox file;
-        journal = by-number (filePut (w .bank) (w .mailboxes) mailbox file) s
-            (λ (t : Course). t .journal ≡ journalOf (v .calls)) (v .journal) (λ _. v .journal);
-        count = v .count;
-        payloads = v .payloads;
-        files = v .files;
-        runs = λ i h. by-number (filePut (w .bank) (w .mailboxes) mailbox file) s (λ (t : Course). SameRunAt u t i)
-            (v .runs i h) (λ _. v .runs i h);
-      }
-
-  -- a file's answer has no bytes
-  no-bytes : (x : FileAnswer) (buffer : List ℕ) → told (fileAnswer x) buffer ≡ told (fileAnswer x) []
-  no-bytes put.Done buffer = refl
-  no-bytes put.WrongLength buffer = refl
-  no-bytes put.NoMailbox buffer = refl
-  no-bytes put.WrongFile buffer = refl
-  no-bytes put.MailboxFull buffer = refl
-
   abbrev rows : List ℕ
   rows = u .memory .bank .rows
 
-  file-kept : sessionFileCall (u .memory .bank .rows) mailbox file (u .memory .bank .mailboxes)
-      ≡ withEvents (eventCount rows)
-      (keptFile (bankRows rows) (fileCall (bankOf (bankRows rows)) mailbox file (u .memory .bank .mailboxes)))
+  abbrev boxes : List ℕ
+  boxes = u .memory .bank .mailboxes
+
+  abbrev w : BankState
+  w = bankAt u
+
+  abbrev c : FileCall
+  c = fileCall (w .bank) mailbox file (w .mailboxes)
+
+  long : length rows ≡ sessionSize
+  long = takes-length (sessionIn u) (taken v)
+
+  file-inner : lentFileCall (bankRows rows) mailbox file boxes ≡ keptFile (bankRows rows) c
   unfolding lentFileCall
-  file-kept =
-      file-taken rows mailbox file (u .memory .bank .mailboxes) (takes-length (sessionIn u) (taken v))
-      ∙ rw (rows-sound v)
+  file-inner = rw (rows-sound v)
+
+  file-next : bankAt (fileStep u r .state) ≡ bankState (c .bank) (w .orders) (c .mailboxes)
+  unfolding fileStep
+  file-next =
+      ap bank.stateOf (file-bank rows mailbox file boxes long (u .memory .bank .orders))
+      ∙ (ap (λ (x : Bank). bankState x (w .orders) (lentFileCall (bankRows rows) mailbox file boxes .mailboxes))
+      (file-state (bankRows rows) mailbox file boxes (rows-sound v))
+      ∙ ap (λ (x : LentFileCall). bankState (c .bank) (w .orders) (x .mailboxes)) file-inner)
+
+  file-journal : journalAt (fileStep u r .state) ≡ journalAt u
+  unfolding fileStep
+  file-journal = ap (λ (n : ℕ). record { events = n; row = u .unit .journal }) (file-events rows mailbox file boxes long)
+
+  file-standing : Standing (fileStep u r .state) (exec (putOf u r) s)
+  unfolding fileStep putOf
+  file-standing =
+      let k = filePut (w .bank) (w .mailboxes) mailbox file in
+      record {
+        listed = file-admitted (sessionIn u) (v .listed .0) (v .listed .1) mailbox file;
+        stores = subst StoresHold (sym file-next) (record {
+          orders = v .stores .orders;
+          mailboxes = file-holds (w .bank) mailbox file boxes (body-bytes kind.File r b) (v .stores .mailboxes);
+        });
+        bank = file-next ∙ sym (file-exec s w (sym (v .bank)) mailbox file);
+        journal = file-journal ∙ by-number k s (λ (t : Course). journalAt u ≡ t .journal) (v .journal) (λ _. v .journal);
+        count = v .count;
+        payloads = v .payloads;
+        files = v .files;
+        room = v .room;
+        image = v .image;
+        runs = λ i h. by-number k s (λ (t : Course). SameRunAt u t i) (v .runs i h) (λ _. v .runs i h);
+      }
+
+  file-kept : sessionFileCall rows mailbox file boxes ≡ withEvents (eventCount rows) (keptFile (bankRows rows) c)
+  file-kept = file-taken rows mailbox file boxes long ∙ ap (withEvents (eventCount rows)) file-inner
 
   pub file-step : Stepped s (putOf u r) (fileStep u r)
   unfolding fileStep putOf
   file-step = record {
-    given = λ _. file-given;
+    given = λ _. (ap (λ (x : BankState). x .bank) (v .bank), ap (λ (x : BankState). x .mailboxes) (v .bank));
     standing = file-standing;
     answer =
-        no-bytes (sessionFileCall (u .memory .bank .rows) mailbox file (u .memory .bank .mailboxes) .answer)
-        (u .memory .buffer)
-        ∙ ap (λ (o : LentFileCall). told (fileAnswer (o .answer)) []) file-kept;
+        file-told (sessionFileCall rows mailbox file boxes .answer) (u .memory .buffer) (u .memory .room)
+        ∙ ap (λ (o : LentFileCall). told (fileAnswer (o .answer)) [] []) file-kept;
   }

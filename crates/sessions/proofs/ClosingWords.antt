@@ -17,6 +17,8 @@ use Rattle.exchange.specs.Course.{
   replyArrives,
   noReply,
   journalHanded,
+  putsAway,
+  takesUp,
   Course,
   start,
   exec,
@@ -61,6 +63,8 @@ premise (begins i c params l) s g _ = g
 premise (replyArrives i c reply l) s g d = (g, d)
 premise (noReply i c l) s g _ = g
 premise (journalHanded i c row) s g _ = g
+premise (putsAway m buffer) s g _ = g
+premise (takesUp m image) s _ c = c
 
 pub premise-parts : (k : Call) (s : Course) → Premise k s → Given k s × Copy k s
 premise-parts (frameArrives w j a) s p = ((p .0, p .1), p .2)
@@ -69,6 +73,8 @@ premise-parts (begins i c params l) s p = (p, tt)
 premise-parts (replyArrives i c reply l) s p = (p .0, p .1)
 premise-parts (noReply i c l) s p = (p, tt)
 premise-parts (journalHanded i c row) s p = (p, tt)
+premise-parts (putsAway m buffer) s p = (p, tt)
+premise-parts (takesUp m image) s p = (tt, p)
 
 allowed : (ks : List Call) (s : Course) → AtEach Given ks s → AtEach Copy ks s → AllAllowed ks s
 allowed [] s g c = tt
@@ -87,6 +93,9 @@ first-appended kind.Frame u r ks ls = refl
 first-appended kind.File u r ks ls = refl
 first-appended (kind.Run e) u r ks ls = refl
 first-appended kind.Journal u r ks ls = refl
+first-appended kind.Away u r ks ls = refl
+first-appended kind.TakeUp u r ks ls = refl
+first-appended kind.Image u r ks ls = refl
 first-appended kind.NoCall u r ks ls = refl
 
 appended : (u : State) (rs ts : List (List ℕ)) → callsOf u (rs ++ ts) ≡ callsOf u rs ++ callsOf (unitAfter u rs) ts

@@ -26,7 +26,7 @@ use Rattle.unit.specs.Records.{runCount}
 use Rattle.unit.specs.State.{State, runAt}
 use Rattle.unit.specs.Call.{indexOf, journalAnswer, journalStep}
 use Rattle.sessions.specs.Sessions.{handedOf, told, Given}
-use Rattle.sessions.proofs.Standing.{SameRunAt, Standing, Stepped, same-journal, row-long}
+use Rattle.sessions.proofs.Standing.{SameRunAt, Standing, Stepped, row-long}
 use Rattle.sessions.proofs.RunSteps.{changed-own, changed-other, by-parts}
 
 -- ---- what the journal makes of a run
@@ -55,10 +55,11 @@ module _ (c : ClientRun) (row : List Event) where
       at (cause.ended-so u l e) b = ap (λ (x : Stage). isBegun x) u
 
 -- its answer has no bytes
-no-bytes : (a : JournalAnswer) (c : ClientRun) (buffer : List ℕ) → told (journalAnswer a c) buffer ≡ told (journalAnswer a c) []
-no-bytes (answer.Closed w) c buffer = refl
-no-bytes answer.Unchanged c buffer = refl
-no-bytes answer.WrongLength c buffer = refl
+no-bytes : (a : JournalAnswer) (c : ClientRun) (buffer room : List ℕ) →
+    told (journalAnswer a c) buffer room ≡ told (journalAnswer a c) [] []
+no-bytes (answer.Closed w) c buffer room = refl
+no-bytes answer.Unchanged c buffer room = refl
+no-bytes answer.WrongLength c buffer room = refl
 
 -- ---- the step
 
@@ -84,7 +85,7 @@ module _ {u : State} {s : Course} (v : Standing u s) (r : List ℕ) (inside : in
   -- what the call gets
   journal-given : Given (handedOf u r) s
   unfolding handedOf
-  journal-given = (v .runs i inside .client, ap (λ (j : Journal). j .row) (same-journal v))
+  journal-given = (v .runs i inside .client, ap (λ (j : Journal). j .row) (v .journal))
 
   run-set : runAt (next .unit .runs) i ≡ record { client = record { run = o .run }; nonce = run .nonce; payload = run .payload }
   unfolding journalStep
@@ -121,14 +122,15 @@ module _ {u : State} {s : Course} (v : Standing u s) (r : List ℕ) (inside : in
       subst (Standing next)
       (sym (carried (journalHanded i (run .client .run) row) s (no-number (run .client .run) row (row-long v))))
       (record {
-        calls = v .calls;
-        bytes = v .bytes;
-        session = v .session;
-        course = v .course;
+        listed = v .listed;
+        stores = v .stores;
+        bank = v .bank;
         journal = v .journal;
         count = length-set (u .unit .runs) i _ ∙ v .count;
         payloads = v .payloads;
         files = v .files;
+        room = v .room;
+        image = v .image;
         runs = λ j h. at j h (ℕ-discrete j i);
       })
     where
@@ -141,5 +143,5 @@ module _ {u : State} {s : Course} (v : Standing u s) (r : List ℕ) (inside : in
   journal-step = record {
     given = λ _. journal-given;
     standing = journal-standing;
-    answer = no-bytes (o .answer) (o .run) (u .memory .buffer);
+    answer = no-bytes (o .answer) (o .run) (u .memory .buffer) (u .memory .room);
   }

@@ -2,7 +2,7 @@
 -- a number leaves both as they were; the other runs and the bank stay.
 use Prim.Native.Nat.{ℕ, _≤_, _<_}
 use mathlib.Core.Bool.{Bool, true, false, cond}
-use mathlib.Core.List.{List}
+use mathlib.Core.List.{List, []}
 use mathlib.Core.Path.{_≡_, refl, sym, ap, _∙_, subst}
 use native.Mathlib.Decide.{ℕ-discrete}
 use native.Mathlib.Omega.{arith}
@@ -24,7 +24,7 @@ use Rattle.unit.specs.declared.record.Kind.the-variants as kind
 use Rattle.unit.specs.declared.state.Run.{Run}
 use Rattle.unit.specs.Records.{timeOf, nonceOf, bodyOf, runCount}
 use Rattle.unit.specs.State.{State, roomsBytes, runAt}
-use Rattle.unit.specs.Call.{indexOf, eventCall, roomCall, keeps, nextRun, keptPayloads, runCall, runStep}
+use Rattle.unit.specs.Call.{runAnswer, indexOf, eventCall, roomCall, keeps, nextRun, keptPayloads, runCall, runStep}
 use Rattle.unit.specs.Call as unit
 use Rattle.unit.proofs.Begins.{kept-fits}
 use Rattle.sessions.specs.Sessions.{
@@ -34,6 +34,7 @@ use Rattle.sessions.specs.Sessions.{
   lentTo,
   runCallOf,
   runOf,
+  told,
   toldByRun,
   toldBy,
   Given,
@@ -72,6 +73,13 @@ module _ (i : ℕ) (c : ClientRun) (r : List ℕ) (l : Lent) where
   run-carried Download s = record { bank = refl; journal = refl; runs = refl; payloads = refl; files = refl }
   run-carried Reply s = record { bank = refl; journal = refl; runs = refl; payloads = refl; files = refl }
   run-carried NoReply s = record { bank = refl; journal = refl; runs = refl; payloads = refl; files = refl }
+
+-- its answer has its bytes in the buffer
+run-told : (a : client.Answer) (c : ClientRun) (buffer room : List ℕ) → told (runAnswer a c) buffer room ≡ told (runAnswer a c) buffer []
+run-told (answer.Request n) c buffer room = refl
+run-told answer.Ignored c buffer room = refl
+run-told (answer.Closed w) c buffer room = refl
+run-told (answer.Refused x) c buffer room = refl
 
 module _ {A : Type 0} (f : ℕ → A) (i : ℕ) (a : A) where
   pub changed-own : changed f i a i ≡ a
@@ -223,15 +231,16 @@ module _ {u : State} {s : Course} (v : Standing u s) (r : List ℕ) (e : Event) 
   stands : (t : Course) → t .bank ≡ s .bank → t .journal ≡ s .journal → ((j : ℕ) → j < runCount → SameRunAt next t j) → Standing next t
   unfolding runStep runCall roomCall lentTo
   stands t same events runs = record {
-    calls = v .calls;
-    bytes = v .bytes;
-    session = v .session;
-    course = same ∙ v .course;
-    journal = events ∙ v .journal;
+    listed = v .listed;
+    stores = v .stores;
+    bank = v .bank ∙ sym same;
+    journal = v .journal ∙ sym events;
     count = length-set (u .unit .runs) i _ ∙ v .count;
     payloads = kept-room (u .memory .payloads) (v .payloads) i inside body kept fits;
     files =
         length-room (u .memory .files) (v .files) i inside (o .file) (let w = left-whole in omega arith);
+    room = v .room;
+    image = v .image;
     runs = runs;
   }
 
@@ -299,5 +308,5 @@ module _ {u : State} {s : Course} (v : Standing u s) (r : List ℕ) (e : Event) 
   run-step = record {
     given = run-given v r inside e;
     standing = run-standing;
-    answer = told-is i (run .client .run) r l e;
+    answer = run-told (o .answer) (o .run) (o .request) (u .memory .room) ∙ told-is i (run .client .run) r l e;
   }

@@ -7,22 +7,23 @@ use mathlib.Core.Path.{_≡_, refl, sym, ap, _∙_, subst}
 use native.Mathlib.Omega.{arith}
 use Rattle.octets.specs.Bytes.{Bytes}
 use Rattle.octets.proofs.Tests.{never}
-use Rattle.exchange.specs.Course.{Call, Course, start, exec, after}
+use Rattle.exchange.specs.Course.{Call, Course, exec, after}
 use Rattle.unit.specs.declared.record.Kind.{Kind}
 use Rattle.unit.specs.declared.record.Kind.the-variants as kind
 use Rattle.unit.specs.Records.{runOf, runCount, callOf, isCall}
 use Rattle.unit.specs.State.{State}
-use Rattle.unit.specs.Call.{stepOf, unitCall}
-use Rattle.unit.proofs.Parts.{callable, run-within}
+use Rattle.unit.specs.Call.{UnitCall, stepOf, unitCall}
+use Rattle.unit.proofs.Parts.{callable, run-within, whole-head}
 use Rattle.sessions.specs.Sessions.{
-  freshUnit,
   Records,
   none,
   more,
   unitAfter,
   callFirst,
+  answerFirst,
   callsOf,
   Told,
+  toldOf,
   answersOf,
   toldBy,
   Given,
@@ -35,6 +36,7 @@ use Rattle.sessions.proofs.Standing.{Standing, Stepped, same, made, fre
 use Rattle.sessions.proofs.BankSteps.{frame-step, file-step}
 use Rattle.sessions.proofs.RunSteps.{run-step}
 use Rattle.sessions.proofs.JournalStep.{journal-step}
+use Rattle.sessions.proofs.ImageSteps.{away-step, taken-step, image-standing}
 
 -- ---- a record and those after it
 
@@ -43,6 +45,7 @@ run-inside n h = omega arith
 
 module _ (u : State) {s : Course} (r : List ℕ) (rs : List (List ℕ)) (k : Call) (step : Stepped s k (unitCall u r))
     (first : (ks : List Call) → callFirst (callOf r) u r ks ≡ k ∷ ks)
+    (told : (t : Told) (ts : List Told) → answerFirst (callOf r) t ts ≡ t ∷ ts)
     (rest : IsCourse (unitCall u r .state) rs (exec k s)) where
   abbrev ks : List Call
   ks = callsOf (unitCall u r .state) rs
@@ -54,43 +57,64 @@ module _ (u : State) {s : Course} (r : List ℕ) (rs : List (List ℕ)) (k : Cal
     same =
         subst (λ (l : List Call). Same (unitAfter (unitCall u r .state) rs) (after l s)) (sym (first ks)) (rest .same);
     answers =
-        ap (λ (x : Told). x ∷ answersOf (unitCall u r .state) rs) (step .answer)
+        told (toldOf (unitCall u r)) (answersOf (unitCall u r .state) rs)
+        ∙ ap (λ (x : Told). x ∷ answersOf (unitCall u r .state) rs) (step .answer)
         ∙ ap (λ (l : List Told). toldBy k ∷ l) (rest .answers)
         ∙ ap (map toldBy) (sym (first ks));
   }
 
+-- a record that is no call
+beside : (u : State) (s : Course) (r : List ℕ) (rs : List (List ℕ)) → callOf r ≡ kind.Image →
+    IsCourse (unitCall u r .state) rs s → IsCourse u (r ∷ rs) s
+unfolding callsOf unitAfter answersOf
+beside u s r rs e rest =
+    let ks = callsOf (unitCall u r .state) rs in
+    let first : callFirst (callOf r) u r ks ≡ ks = ap (λ (g : Kind). callFirst g u r ks) e in
+    record {
+      given = subst (λ (l : List Call). AtEach Given l s) (sym first) (rest .given);
+      same = subst (λ (l : List Call). Same (unitAfter (unitCall u r .state) rs) (after l s)) (sym first) (rest .same);
+      answers =
+          ap (λ (g : Kind). answerFirst g (toldOf (unitCall u r)) (answersOf (unitCall u r .state) rs)) e
+          ∙ rest .answers ∙ ap (map toldBy) (sym first);
+    }
+
 module _ {u : State} {s : Course} (v : Standing u s) (r : List ℕ) (b : Bytes r) where
-  -- the call of the record, and the course after it
-  record Next : Type 0 where
-    call : Call
-    step : Stepped s call (unitCall u r)
-    first : (ks : List Call) → callFirst (callOf r) u r ks ≡ call ∷ ks
+  -- the call of the record, and the course after it; or the image room's bytes alone
+  data Next : Type 0 where
+    called : (k : Call) → Stepped s k (unitCall u r) → ((ks : List Call) → callFirst (callOf r) u r ks ≡ k ∷ ks) →
+        ((t : Told) (ts : List Told) → answerFirst (callOf r) t ts ≡ t ∷ ts) → Next
+    moved : callOf r ≡ kind.Image → Standing (unitCall u r .state) s → Next
 
   as-made : (g : Kind) → callOf r ≡ g → (k : Call) → Stepped s k (stepOf g u r) →
-      ((ks : List Call) → callFirst g u r ks ≡ k ∷ ks) → Next
-  as-made g e k step first = record {
-    call = k;
-    step = subst (Stepped s k) (sym (made v r g e)) step;
-    first = λ ks. ap (λ (x : Kind). callFirst x u r ks) e ∙ first ks;
-  }
+      ((ks : List Call) → callFirst g u r ks ≡ k ∷ ks) → ((t : Told) (ts : List Told) → answerFirst g t ts ≡ t ∷ ts) → Next
+  as-made g e k step first told =
+      called k (subst (Stepped s k) (sym (made v r g e)) step)
+      (λ ks. ap (λ (x : Kind). callFirst x u r ks) e ∙ first ks) (λ t ts. ap (λ (x : Kind). answerFirst x t ts) e ∙ told t ts)
 
   next-call : (g : Kind) → callOf r ≡ g → isCall g ≡ true → Next
-  next-call kind.Frame e h = as-made kind.Frame e _ (frame-step v r b) (λ ks. refl)
-  next-call kind.File e h = as-made kind.File e _ (file-step v r b) (λ ks. refl)
+  next-call kind.Frame e h = as-made kind.Frame e _ (frame-step v r b (whole-head kind.Frame r (callable r kind.Frame refl e .whole))) (λ ks. refl) (λ t ts. refl)
+  next-call kind.File e h = as-made kind.File e _ (file-step v r b) (λ ks. refl) (λ t ts. refl)
   next-call (kind.Run x) e h =
-      let inside = run-inside (runOf r) (run-within (runOf r) (callable r (kind.Run x) refl e .run)) in
-      as-made (kind.Run x) e _ (run-step v r x inside) (λ ks. refl)
+      let inside = run-inside (runOf r) (run-within (runOf r) (callable r (kind.Run x) refl e .within)) in
+      as-made (kind.Run x) e _ (run-step v r x inside) (λ ks. refl) (λ t ts. refl)
   next-call kind.Journal e h =
-      let inside = run-inside (runOf r) (run-within (runOf r) (callable r kind.Journal refl e .run)) in
-      as-made kind.Journal e _ (journal-step v r inside) (λ ks. refl)
+      let inside = run-inside (runOf r) (run-within (runOf r) (callable r kind.Journal refl e .within)) in
+      as-made kind.Journal e _ (journal-step v r inside) (λ ks. refl) (λ t ts. refl)
+  next-call kind.Away e h = as-made kind.Away e _ (away-step v r) (λ ks. refl) (λ t ts. refl)
+  next-call kind.TakeUp e h = as-made kind.TakeUp e _ (taken-step v r) (λ ks. refl) (λ t ts. refl)
+  next-call kind.Image e h =
+      moved e (subst (λ (o : UnitCall). Standing (o .state) s) (sym (made v r kind.Image e)) (image-standing v r b e))
   next-call kind.NoCall e h = never h
 
 is-course : {rs : List (List ℕ)} → Records rs → {u : State} {s : Course} → Standing u s → IsCourse u rs s
 unfolding callsOf unitAfter answersOf after
 is-course none v = record { given = tt; same = same v; answers = refl }
 is-course (more {r = r} {rs = rs} b h more-records) {u} {s} v =
-    let n = next-call v r b (callOf r) refl h in
-    joined u r rs (n .call) (n .step) (n .first) (is-course more-records (n .step .standing))
+    at (λ n t stands. is-course more-records stands) (next-call v r b (callOf r) refl h)
+  where
+    at : ((n : State) (t : Course) → Standing n t → IsCourse n rs t) → Next v r b → IsCourse u (r ∷ rs) s
+    at rest (called k step first told) = joined u r rs k step first told (rest _ _ (step .standing))
+    at rest (moved e stands) = beside u s r rs e (rest _ _ stands)
 
 pub sessions : Sessions
 unfolding Sessions

@@ -21,6 +21,7 @@ use Rattle.bank.specs.Mailbox.{fileCall}
 use Rattle.bank_steps.specs.Lent.{lent}
 use Rattle.bank_steps.specs.Lent as bank
 use Rattle.bank_session.specs.Session.{sessionSize, bankIn, journalIn}
+use Rattle.image_calls.specs.Calls.{putAway, takeUp}
 use Rattle.client_run.specs.declared.run.ClientRun.{ClientRun}
 use Rattle.client_run.specs.declared.run.Direction.the-variants as direction
 use Rattle.client_run.specs.declared.run.Stage.the-variants as stage
@@ -37,6 +38,8 @@ use Rattle.exchange.specs.Course.{
   replyArrives,
   noReply,
   journalHanded,
+  putsAway,
+  takesUp,
   Exchange,
   Course,
   start,
@@ -55,6 +58,9 @@ use Rattle.unit.specs.declared.call.Answer.the-variants.{
   Ignored,
   Closed,
   Unchanged,
+  Away,
+  TakenUp,
+  Room,
   Number,
   NoCall,
 }
@@ -62,9 +68,32 @@ use Rattle.unit.specs.declared.record.Event.{Event}
 use Rattle.unit.specs.declared.record.Event.the-variants.{Upload, Download, Reply, NoReply}
 use Rattle.unit.specs.declared.record.Kind.{Kind}
 use Rattle.unit.specs.declared.record.Kind.the-variants as kind
-use Rattle.unit.specs.Records.{bankTimeOf, idsOf, mailboxOf, timeOf, nonceOf, bodyOf, runCount, callOf, isCall}
+use Rattle.unit.specs.Records.{
+  bankTimeOf,
+  idsOf,
+  mailboxOf,
+  timeOf,
+  nonceOf,
+  lentLengthOf,
+  bodyOf,
+  runCount,
+  roomBytes,
+  callOf,
+  isCall,
+}
 use Rattle.unit.specs.State.{State, fresh, roomsBytes, memory, stateOf, sessionIn, runAt}
-use Rattle.unit.specs.Call.{frameAnswer, fileAnswer, runAnswer, journalAnswer, indexOf, paramsOf, unitCall}
+use Rattle.unit.specs.Call.{
+  frameAnswer,
+  fileAnswer,
+  runAnswer,
+  journalAnswer,
+  awayAnswer,
+  takenUpAnswer,
+  indexOf,
+  paramsOf,
+  UnitCall,
+  unitCall,
+}
 use Rattle.unit.specs.Call as unit
 
 -- ---- A SESSION OF THE UNIT
@@ -77,7 +106,7 @@ zeros n = replicate n 0
 unfoldable pub freshUnit : State
 freshUnit =
     let bank = lent (zeros sessionSize) (zeros storeBytes) (zeros storeBytes) in
-    stateOf fresh (memory bank (zeros roomsBytes) (zeros roomsBytes) (zeros replyRoom))
+    stateOf fresh (memory bank (zeros roomsBytes) (zeros roomsBytes) (zeros replyRoom) (zeros roomBytes))
 
 -- the driver's records: bytes, and each is a call; what is no call ends the input
 pub data Records : List (List ℕ) → Type 0 where
@@ -140,12 +169,27 @@ runOf e u r = let i = indexOf r in runCallOf e i (clientAt u i) r (lentTo e i u 
 unfoldable pub handedOf : State → List ℕ → Call
 handedOf u r = let i = indexOf r in journalHanded i (clientAt u i) (journalAt u .row)
 
--- the call of a record of this kind, before the calls ks
+-- the first bytes of the image room, as many as the record says
+abbrev pub frontOf : State → List ℕ → List ℕ
+frontOf u r = take (lentLengthOf r) (u .memory .room)
+
+-- `P`: the session into them
+unfoldable pub awayOf : State → List ℕ → Call
+awayOf u r = putsAway (sessionIn u) (frontOf u r)
+
+-- `T`: a session from them
+unfoldable pub takenOf : State → List ℕ → Call
+takenOf u r = takesUp (sessionIn u) (frontOf u r)
+
+-- the call of a record of this kind, before the calls ks; `I` is "the host's own doing, no call of the unit"
 abbrev pub callFirst : Kind → State → List ℕ → List Call → List Call
 callFirst kind.Frame u r ks = frameOf u r ∷ ks
 callFirst kind.File u r ks = putOf u r ∷ ks
 callFirst (kind.Run e) u r ks = runOf e u r ∷ ks
 callFirst kind.Journal u r ks = handedOf u r ∷ ks
+callFirst kind.Away u r ks = awayOf u r ∷ ks
+callFirst kind.TakeUp u r ks = takenOf u r ∷ ks
+callFirst kind.Image u r ks = ks
 callFirst kind.NoCall u r ks = ks
 
 -- the calls of these records
@@ -155,44 +199,63 @@ callsOf u (r ∷ rs) = callFirst (callOf r) u r (callsOf (unitCall u r .state) r
 
 -- ---- WHAT IS ANSWERED
 
--- an answer with the bytes of its reply or request
+-- an answer with the bytes of its reply, request or image
 pub record Told : Type 0 where
   pub answer : Answer
   pub bytes : List ℕ
 
-abbrev pub bytesIn : Answer → List ℕ → List ℕ
-bytesIn (Frame n) buffer = take n buffer
-bytesIn Put buffer = []
-bytesIn (Request n) buffer = take n buffer
-bytesIn Ignored buffer = []
-bytesIn (Closed w n) buffer = []
-bytesIn Unchanged buffer = []
-bytesIn (Number n) buffer = []
-bytesIn NoCall buffer = []
+abbrev pub bytesIn : Answer → List ℕ → List ℕ → List ℕ
+bytesIn (Frame n) buffer room = take n buffer
+bytesIn Put buffer room = []
+bytesIn (Request n) buffer room = take n buffer
+bytesIn Ignored buffer room = []
+bytesIn (Closed w n) buffer room = []
+bytesIn Unchanged buffer room = []
+bytesIn (Away n) buffer room = take n room
+bytesIn TakenUp buffer room = []
+bytesIn Room buffer room = []
+bytesIn (Number n) buffer room = []
+bytesIn NoCall buffer room = []
 
-abbrev pub told : Answer → List ℕ → Told
-told a buffer = record { answer = a; bytes = bytesIn a buffer }
+-- with the buffer and the image room
+abbrev pub told : Answer → List ℕ → List ℕ → Told
+told a buffer room = record { answer = a; bytes = bytesIn a buffer room }
 
--- by the unit, record by record
+abbrev pub toldOf : UnitCall → Told
+toldOf o = told (o .answer) (o .state .memory .buffer) (o .state .memory .room)
+
+-- the answer to a record of this kind, before the answers ts
+abbrev pub answerFirst : Kind → Told → List Told → List Told
+answerFirst kind.Frame t ts = t ∷ ts
+answerFirst kind.File t ts = t ∷ ts
+answerFirst (kind.Run e) t ts = t ∷ ts
+answerFirst kind.Journal t ts = t ∷ ts
+answerFirst kind.Away t ts = t ∷ ts
+answerFirst kind.TakeUp t ts = t ∷ ts
+answerFirst kind.Image t ts = ts
+answerFirst kind.NoCall t ts = t ∷ ts
+
+-- by the unit, call by call
 unfoldable pub answersOf : State → List (List ℕ) → List Told
 answersOf u [] = []
-answersOf u (r ∷ rs) =
-    let o = unitCall u r in told (o .answer) (o .state .memory .buffer) ∷ answersOf (o .state) rs
+answersOf u (r ∷ rs) = let o = unitCall u r in answerFirst (callOf r) (toldOf o) (answersOf (o .state) rs)
 
 -- by a call of demand 3: its reply, its request, its closing word, or the number that it is given
 abbrev pub toldByRun : ClientCall → Told
-toldByRun k = told (runAnswer (k .answer) (k .run)) (k .request)
+toldByRun k = told (runAnswer (k .answer) (k .run)) (k .request) []
 
 abbrev pub toldBy : Call → Told
 toldBy (frameArrives w j a) =
     let k = frameCall w a in
-    cond (eqb (length (j .row)) recordCount) (told (frameAnswer (k .answer)) (k .buffer))
-    (told (frameAnswer WrongLength) (a .buffer))
-toldBy (filePut b mailboxes m file) = told (fileAnswer (fileCall b m file mailboxes .answer)) []
+    cond (eqb (length (j .row)) recordCount) (told (frameAnswer (k .answer)) (k .buffer) [])
+    (told (frameAnswer WrongLength) (a .buffer) [])
+toldBy (filePut b mailboxes m file) = told (fileAnswer (fileCall b m file mailboxes .answer)) [] []
 toldBy (begins i c params l) = toldByRun (beginCall c params l)
 toldBy (replyArrives i c reply l) = toldByRun (replyCall c reply l)
 toldBy (noReply i c l) = toldByRun (noReplyCall c l)
-toldBy (journalHanded i c row) = let k = journalCall c row in told (journalAnswer (k .answer) (k .run)) []
+toldBy (journalHanded i c row) = let k = journalCall c row in told (journalAnswer (k .answer) (k .run)) [] []
+toldBy (putsAway m buffer) = let k = putAway m buffer in told (awayAnswer (k .answer)) [] (k .buffer)
+toldBy (takesUp m image) = told (takenUpAnswer (takeUp m image .answer)) [] []
 
 -- ---- THE PREMISES OF DEMAND 3, ONE BY ONE
 
@@ -206,9 +269,12 @@ Given (begins i c params l) s = c ≡ s .runs i
 Given (replyArrives i c reply l) s = Left i c l s
 Given (noReply i c l) s = Left i c l s
 Given (journalHanded i c row) s = (c ≡ s .runs i) × (row ≡ s .journal .row)
+Given (putsAway m buffer) s = (bank.stateOf (bankIn m) ≡ s .bank) × (journalIn m ≡ s .journal)
+Given (takesUp m image) s = Unit {0}
 
 -- "A request that demand 3 names is a copy of one issued earlier in the list; a reply is a copy of one the bank gave
--- earlier for such a copy"
+-- earlier for such a copy". "Demand 3 covers a resumed session when nothing ran between the writing and the taking up":
+-- an image taken up is a copy of one written since the bank's last frame or file call given no number
 abbrev pub Copy : Call → Course → Type 0
 Copy (frameArrives w j a) s = isSubscribers (a .frame) ≡ true → (i : ℕ) × IssuedBy i (a .frame) s
 Copy (filePut b mailboxes m file) s = Unit {0}
@@ -217,6 +283,8 @@ Copy (replyArrives i c reply l) s =
     (e : Exchange) × In e (s .exchanged) × (e .reply ≡ reply) × ((j : ℕ) × IssuedBy j (e .request) s)
 Copy (noReply i c l) s = Unit {0}
 Copy (journalHanded i c row) s = Unit {0}
+Copy (putsAway m buffer) s = Unit {0}
+Copy (takesUp m image) s = In image (s .images)
 
 -- what holds of each call given no number, in the course that the calls before it leave
 abbrev pub AtEach : (Call → Course → Type 0) → List Call → Course → Type 0
@@ -268,8 +336,8 @@ pub record Closes (u : State) (s : Course) : Type 0 where
       × (subscriber (readRequest (e .request)) ≡ clientAt u i .subscriber)
       × (heldOf (clientAt u i) (fileAt u i) ≡ e .box)
 
--- "demand 3 speaks of its closing words whenever its records copy requests and replies"; and "not lodged" in every
--- continuation of the session
+-- "demand 3 speaks of its closing words whenever its records copy requests and replies", and images taken up; and "not
+-- lodged" in every continuation of the session
 unfoldable pub SessionsClose : Type 0
 SessionsClose = (rs ts : List (List ℕ)) → Records (rs ++ ts) → AtEach Copy (callsOf freshUnit (rs ++ ts)) start →
     OneExchangeNumber (courseOf (rs ++ ts)) →

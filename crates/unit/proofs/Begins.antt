@@ -23,7 +23,7 @@ use Rattle.client_rules.proofs.Accepted.{Serves}
 use Rattle.unit.specs.declared.record.Event.{Event}
 use Rattle.unit.specs.declared.record.Event.the-variants.{Upload, Download, Reply, NoReply}
 use Rattle.unit.specs.declared.record.Kind.the-variants.{Run}
-use Rattle.unit.specs.Records.{headOf, sizeOf, bodyOf}
+use Rattle.unit.specs.Records.{headOf, sizeOf, bodyOf, roomBytes}
 use Rattle.unit.specs.State.{roomsBytes}
 use Rattle.unit.specs.Call.{begins, roomCall, keeps, roomsRight}
 
@@ -67,8 +67,18 @@ begin-head Reply h = never h
 begin-head NoReply h = never h
 
 -- rooms of their lengths
-pub rooms-lengths : (payloads files : ℕ) → roomsRight payloads files ≡ true → (payloads ≡ roomsBytes) × (files ≡ roomsBytes)
+pub record RoomsLengths (payloads files room : ℕ) : Type 0 where
+  pub payload-rooms : payloads ≡ roomsBytes
+  pub file-rooms : files ≡ roomsBytes
+  pub image-room : room ≡ roomBytes
+
+pub rooms-lengths : (payloads files room : ℕ) → roomsRight payloads files room ≡ true → RoomsLengths payloads files room
 unfolding roomsRight
-rooms-lengths payloads files h =
-    let a = and-true (eqb payloads roomsBytes) (eqb files roomsBytes) h in
-    (eqb-true payloads roomsBytes (a .0), eqb-true files roomsBytes (a .1))
+rooms-lengths payloads files room h =
+    let a = and-true (eqb payloads roomsBytes) _ h in
+    let b = and-true (eqb files roomsBytes) (eqb room roomBytes) (a .1) in
+    record {
+      payload-rooms = eqb-true payloads roomsBytes (a .0);
+      file-rooms = eqb-true files roomsBytes (b .0);
+      image-room = eqb-true room roomBytes (b .1);
+    }

@@ -2,3 +2,4 @@
 pub mod Parts
 pub mod Begins
 pub mod Steps
+pub mod ImageRoom

@@ -16,7 +16,7 @@ use Rattle.octets.proofs.Tests.{never, and-true}
 use Rattle.unit.specs.declared.record.Event.{Event}
 use Rattle.unit.specs.declared.record.Event.the-variants.{Upload, Download, Reply, NoReply}
 use Rattle.unit.specs.declared.record.Kind.{Kind}
-use Rattle.unit.specs.declared.record.Kind.the-variants.{Frame, File, Run, Journal, NoCall}
+use Rattle.unit.specs.declared.record.Kind.the-variants.{Frame, File, Run, Journal, Away, TakeUp, Image, NoCall}
 use Rattle.unit.specs.Records.{
   kindOf,
   headOf,
@@ -26,7 +26,7 @@ use Rattle.unit.specs.Records.{
   sizeOf,
   runCount,
   isRun,
-  namesRun,
+  isWithin,
   isWhole,
   callOf,
   isCall,
@@ -75,6 +75,9 @@ head-within Frame = omega arith
 head-within File = omega arith
 head-within (Run e) = run-head-within e
 head-within Journal = omega arith
+head-within Away = omega arith
+head-within TakeUp = omega arith
+head-within Image = omega arith
 head-within NoCall = omega arith
 
 -- a length stands in the last two bytes of a head
@@ -86,6 +89,9 @@ length-head (Run Download) h = omega arith
 length-head (Run Reply) h = omega arith
 length-head (Run NoReply) h = omega arith
 length-head Journal h = omega arith
+length-head Away h = omega arith
+length-head TakeUp h = omega arith
+length-head Image h = omega arith
 length-head NoCall h = never h
 
 pub nothing-whole : (k : Kind) (r : List ℕ) → length r < 1 → isWhole k r ≡ false
@@ -101,16 +107,16 @@ run-within n h =
     let a = and-true (leb 1 n) (leb n runCount) h in
     (leb-true 1 n (a .0), leb-true n runCount (a .1))
 
--- a call's record is whole, and its run is one of the runs
+-- a call's record is whole, and what it names is there
 pub record Callable (k : Kind) (r : List ℕ) : Type 0 where
   pub whole : isWhole k r ≡ true
-  pub run : namesRun k r ≡ true
+  pub within : isWithin k r ≡ true
 
 module _ (r : List ℕ) (k : Kind) (h : isCall k ≡ true) where
-  callable-at : (g : Kind) (t : Bool) → isWhole g r && namesRun g r ≡ t → cond t g NoCall ≡ k → Callable k r
+  callable-at : (g : Kind) (t : Bool) → isWhole g r && isWithin g r ≡ t → cond t g NoCall ≡ k → Callable k r
   callable-at g true e q =
-      let a = and-true (isWhole g r) (namesRun g r) e in
-      record { whole = rw q at (a .0); run = rw q at (a .1) }
+      let a = and-true (isWhole g r) (isWithin g r) e in
+      record { whole = rw q at (a .0); within = rw q at (a .1) }
   callable-at g false e q = never (ap isCall q ∙ h)
 
   pub callable : callOf r ≡ k → Callable k r

@@ -24,7 +24,7 @@ use Rattle.unit.specs.declared.call.RunOut.{RunOut}
 use Rattle.unit.specs.declared.state.Run.{Run}
 use Rattle.unit.specs.declared.state.UnitState.{UnitState}
 use Rattle.unit.specs.Records.{runOf, timeOf, nonceOf, bodyOf, isRun, callOf}
-use Rattle.unit.specs.State.{Memory, State, memory, stateOf, runAt, withRun}
+use Rattle.unit.specs.State.{Memory, State, roomsBytes, memory, stateOf, runAt, withRun}
 use Rattle.unit.specs.Call.{
   UnitCall,
   Ready,
@@ -47,7 +47,6 @@ use Rattle.unit.specs.Call.{
   stepOf,
   unitCall,
 }
-use Rattle.unit.proofs.Begins.{rooms-lengths}
 use Rattle.unit.proofs.Parts.{callable, whole-head}
 
 -- the part of a run, lent and come back as x
@@ -67,7 +66,7 @@ unfolding roomCall
 roomed e c i r time nonce payload files buffer out file file′ files′ buffer′ lent back o = rw (back, ← lent, ← o)
 
 -- a call to run i
-pub ran : (run : Run) (i : ℕ) (bank : Lent) (payloads files buffer r : List ℕ) (e : Event)
+pub ran : (run : Run) (i : ℕ) (bank : Lent) (payloads files buffer room r : List ℕ) (e : Event)
     (begin : Bool) (nonce body held payload : List ℕ) (out : Outcome) (files′ buffer′ : List ℕ)
     (kept : Bool) (payloads′ : List ℕ) (run′ : Run) (answer : Answer)
     → begin ≡ begins e → nonce ≡ cond begin (nonceOf r) (run .nonce) → body ≡ bodyOf (kind.Run e) r
@@ -75,10 +74,10 @@ pub ran : (run : Run) (i : ℕ) (bank : Lent) (payloads files buffer r : List �
     → client.callOf out files′ buffer′ ≡ roomCall e (run .client .run) i r (lentOf (timeOf r) nonce payload files buffer)
     → kept ≡ keeps begin (out .answer) → payloads′ ≡ keptPayloads kept payloads i body
     → run′ ≡ nextRun kept run (out .client .run) nonce (length body) → answer ≡ runAnswer (out .answer) (out .client .run)
-    → runCallOf (record { run = run′; answer = answer }) (memory bank payloads′ files′ buffer′)
-    ≡ runCall e i run (memory bank payloads files buffer) r
+    → runCallOf (record { run = run′; answer = answer }) (memory bank payloads′ files′ buffer′ room)
+    ≡ runCall e i run (memory bank payloads files buffer room) r
 unfolding runCall
-ran run i bank payloads files buffer r e begin nonce body held payload out files′ buffer′ kept payloads′ run′ answer
+ran run i bank payloads files buffer room r e begin nonce body held payload out files′ buffer′ kept payloads′ run′ answer
     eb en ey eh ep ec ek es er ea =
     rw (ea, er, es, ek, ← eb, ← en, ← ey, ← eh, ← ep, ← ec)
 
@@ -101,19 +100,18 @@ handed u u′ m r i out run′ answer at eo er eu ea = rw (ea, eu, er, ← at, �
 
 -- a record that hands over the journal names one of the runs
 pub handed-run : (r : List ℕ) (k : Kind) → k ≡ callOf r → k ≡ kind.Journal → isRun (runOf r) ≡ true
-handed-run r k ek told = callable r kind.Journal refl (sym ek ∙ told) .run
+handed-run r k ek told = callable r kind.Journal refl (sym ek ∙ told) .within
 
 -- what a call to a run asks, where the rooms are of their lengths
-pub ready : (e : Event) (r payloads files : List ℕ) (right : Bool) (k : Kind)
-    → right ≡ roomsRight (length payloads) (length files) → not right ≡ false → k ≡ callOf r → k ≡ kind.Run e → Ready e r payloads files
-ready e r payloads files right k rooms h ek told =
+pub ready : (e : Event) (r payloads files : List ℕ) (k : Kind) → length payloads ≡ roomsBytes → length files ≡ roomsBytes
+    → k ≡ callOf r → k ≡ kind.Run e → Ready e r payloads files
+ready e r payloads files k ep ef ek told =
     let known = callable r (kind.Run e) refl (sym ek ∙ told) in
-    let lengths = rooms-lengths _ _ (sym rooms ∙ not-false right h) in
-    record { run = known .run; head = whole-head _ r (known .whole); payload-rooms = lengths .0; file-rooms = lengths .1 }
+    record { run = known .within; head = whole-head _ r (known .whole); payload-rooms = ep; file-rooms = ef }
 
 -- the call of a record, where the rooms are of their lengths
 pub called : (s : State) (r : List ℕ) (right : Bool) (k g : Kind) (o : UnitCall)
-    → right ≡ roomsRight (length (s .memory .payloads)) (length (s .memory .files)) → not right ≡ false
-    → k ≡ callOf r → k ≡ g → o ≡ stepOf g s r → o ≡ unitCall s r
+    → right ≡ roomsRight (length (s .memory .payloads)) (length (s .memory .files)) (length (s .memory .room))
+    → not right ≡ false → k ≡ callOf r → k ≡ g → o ≡ stepOf g s r → o ≡ unitCall s r
 unfolding unitCall
 called s r right k g o rooms h ek told step = rw (← rooms, not-false right h, ← ek, told) step

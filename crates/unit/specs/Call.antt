@@ -4,7 +4,8 @@ use mathlib.Core.Path.{_≡_}
 use mathlib.Core.Bool.{Bool, true, false, cond, _&&_}
 use mathlib.Core.List.{List}
 use lib.Dec.{eqb}
-use lib.ListN.{length}
+use lib.ListN.{length, take}
+use Rattle.octets.specs.Bytes.{overwrite}
 use Rattle.bank_state.specs.Store.{partAt, withPart, fileOf}
 use Rattle.bank.specs.declared.call.FrameAnswer.{FrameAnswer}
 use Rattle.bank.specs.declared.call.FrameAnswer.the-variants as frame-answer
@@ -14,6 +15,11 @@ use Rattle.bank.specs.Call.{frameInput, frameNumber}
 use Rattle.bank_steps.specs.Lent.{lent}
 use Rattle.bank.specs.Mailbox.{fileNumber}
 use Rattle.bank_session.specs.Session.{sessionFrameCall, sessionFileCall}
+use Rattle.image_calls.specs.declared.calls.Away as put-away
+use Rattle.image_calls.specs.declared.calls.Away.the-variants as away
+use Rattle.image_calls.specs.declared.calls.TakenUp as taken-up
+use Rattle.image_calls.specs.declared.calls.TakenUp.the-variants as up
+use Rattle.image_calls.specs.Calls.{awayNumber, putAway, takenUpNumber, takeUp}
 use Rattle.client_run.specs.declared.run.Answer as client
 use Rattle.client_run.specs.declared.run.Answer.the-variants as client-answer
 use Rattle.client_run.specs.declared.run.ClientRun.{ClientRun}
@@ -37,6 +43,9 @@ use Rattle.unit.specs.declared.call.Answer.the-variants.{
   Ignored,
   Closed,
   Unchanged,
+  Away,
+  TakenUp,
+  Room,
   Number,
   NoCall,
 }
@@ -54,8 +63,11 @@ use Rattle.unit.specs.Records.{
   subscriberOf,
   firstOf,
   nonceOf,
+  lentLengthOf,
+  offsetOf,
   bodyOf,
   isRun,
+  roomBytes,
   callOf,
 }
 use Rattle.unit.specs.State.{
@@ -70,9 +82,9 @@ use Rattle.unit.specs.State.{
   withJournal,
 }
 
--- the rooms lent for the runs are of their lengths
-unfoldable pub roomsRight : ℕ → ℕ → Bool
-roomsRight payloads files = eqb payloads roomsBytes && eqb files roomsBytes
+-- the rooms lent for the runs and for images are of their lengths
+unfoldable pub roomsRight : ℕ → ℕ → ℕ → Bool
+roomsRight payloads files room = eqb payloads roomsBytes && (eqb files roomsBytes && eqb room roomBytes)
 
 -- what a call to a run asks: a record that names one of the runs and has its head, and rooms of their lengths
 pub record Ready (e : Event) (r payloads files : List ℕ) : Type 0 where
@@ -116,13 +128,24 @@ journalAnswer (journal-answer.Closed w) c = Closed w (c .number)
 journalAnswer journal-answer.Unchanged c = Unchanged
 journalAnswer journal-answer.WrongLength c = Number (journalNumber journal-answer.WrongLength)
 
+-- the answers of putting away, with the image's length, and of taking up
+abbrev pub awayAnswer : put-away.Away → Answer
+awayAnswer (away.Length n) = Away n
+awayAnswer away.WrongLength = Number (awayNumber away.WrongLength)
+awayAnswer away.NotAdmitted = Number (awayNumber away.NotAdmitted)
+
+abbrev pub takenUpAnswer : taken-up.TakenUp → Answer
+takenUpAnswer up.Done = TakenUp
+takenUpAnswer up.WrongLength = Number (takenUpNumber up.WrongLength)
+takenUpAnswer up.NotAdmitted = Number (takenUpNumber up.NotAdmitted)
+
 -- `F`: a frame to the bank
 unfoldable pub frameStep : State → List ℕ → UnitCall
 frameStep s r =
     let m = s .memory in
     let o = sessionFrameCall (sessionIn s) (frameInput (bankTimeOf r) (idsOf r) (bodyOf kind.Frame r) (m .buffer)) in
     let bank = lent (o .session .rows) (o .session .orders) (o .session .mailboxes) in
-    afterCall (withJournal (s .unit) (o .session .row)) (memory bank (m .payloads) (m .files) (o .buffer))
+    afterCall (withJournal (s .unit) (o .session .row)) (memory bank (m .payloads) (m .files) (o .buffer) (m .room))
     (frameAnswer (o .answer))
 
 -- `M`: a file into a mailbox
@@ -131,7 +154,7 @@ fileStep s r =
     let m = s .memory in
     let o = sessionFileCall (m .bank .rows) (mailboxOf r) (bodyOf kind.File r) (m .bank .mailboxes) in
     let bank = lent (o .rows) (m .bank .orders) (o .mailboxes) in
-    afterCall (s .unit) (memory bank (m .payloads) (m .files) (m .buffer)) (fileAnswer (o .answer))
+    afterCall (s .unit) (memory bank (m .payloads) (m .files) (m .buffer) (m .room)) (fileAnswer (o .answer))
 
 -- the run that a record names, from 0 on
 abbrev pub indexOf : List ℕ → ℕ
@@ -206,7 +229,7 @@ runCall e i run m r =
     let kept = keeps (begins e) (o .answer) in
     record {
       run = nextRun kept run (o .run) nonce (length body);
-      memory = memory (m .bank) (keptPayloads kept (m .payloads) i body) (o .file) (o .request);
+      memory = memory (m .bank) (keptPayloads kept (m .payloads) i body) (o .file) (o .request) (m .room);
       answer = runAnswer (o .answer) (o .run);
     }
 
@@ -225,6 +248,32 @@ journalStep s r =
     let o = journalCall (run .client .run) (s .unit .journal) in
     afterCall (withRun (s .unit) i (withClient run (o .run))) (s .memory) (journalAnswer (o .answer) (o .run))
 
+-- the memory with this image room
+abbrev pub withRoom : Memory → List ℕ → Memory
+withRoom m room = memory (m .bank) (m .payloads) (m .files) (m .buffer) room
+
+-- `P`: "the session is put away into the first that many bytes of the image room"
+unfoldable pub awayStep : State → List ℕ → UnitCall
+awayStep s r =
+    let m = s .memory in
+    let o = putAway (sessionIn s) (take (lentLengthOf r) (m .room)) in
+    afterCall (s .unit) (withRoom m (overwrite (m .room) 0 (o .buffer))) (awayAnswer (o .answer))
+
+-- `T`: "the first that many bytes of the image room are taken up"
+unfoldable pub takeUpStep : State → List ℕ → UnitCall
+takeUpStep s r =
+    let m = s .memory in
+    let o = takeUp (sessionIn s) (take (lentLengthOf r) (m .room)) in
+    let bank = lent (o .session .rows) (o .session .orders) (o .session .mailboxes) in
+    afterCall (withJournal (s .unit) (o .session .row)) (memory bank (m .payloads) (m .files) (m .buffer) (m .room))
+    (takenUpAnswer (o .answer))
+
+-- `I`: "these bytes into the image room at that offset (the host's own doing, no call of the unit)"
+unfoldable pub imageStep : State → List ℕ → UnitCall
+imageStep s r =
+    let m = s .memory in
+    afterCall (s .unit) (withRoom m (overwrite (m .room) (offsetOf r) (bodyOf kind.Image r))) Room
+
 -- nothing changes
 abbrev pub unchanged : State → Answer → UnitCall
 unchanged s a = record { state = s; answer = a }
@@ -234,10 +283,14 @@ stepOf kind.Frame s r = frameStep s r
 stepOf kind.File s r = fileStep s r
 stepOf (kind.Run e) s r = runStep e s r
 stepOf kind.Journal s r = journalStep s r
+stepOf kind.Away s r = awayStep s r
+stepOf kind.TakeUp s r = takeUpStep s r
+stepOf kind.Image s r = imageStep s r
 stepOf kind.NoCall s r = unchanged s NoCall
 
 -- one call of the record r on the unit; rooms of another length get number 1, "a lent length differs"
 unfoldable pub unitCall : State → List ℕ → UnitCall
 unitCall s r =
-    cond (roomsRight (length (s .memory .payloads)) (length (s .memory .files))) (stepOf (callOf r) s r)
+    let m = s .memory in
+    cond (roomsRight (length (m .payloads)) (length (m .files)) (length (m .room))) (stepOf (callOf r) s r)
     (unchanged s (Number (frameNumber frame-answer.WrongLength)))

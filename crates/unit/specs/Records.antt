@@ -8,9 +8,9 @@ use Rattle.octets.specs.Bytes.{number}
 use Rattle.message.specs.Verdicts.{decide}
 use Rattle.unit.specs.declared.record.Event.the-variants.{Upload, Download, Reply, NoReply}
 use Rattle.unit.specs.declared.record.Kind.{Kind}
-use Rattle.unit.specs.declared.record.Kind.the-variants.{Frame, File, Run, Journal, NoCall}
+use Rattle.unit.specs.declared.record.Kind.the-variants.{Frame, File, Run, Journal, Away, TakeUp, Image, NoCall}
 
--- the letters F, M, U, D, R, N and J
+-- the letters F, M, U, D, R, N, J, P, T and I
 unfoldable pub kindOf : ℕ → Kind
 kindOf letter =
     decide
@@ -21,6 +21,9 @@ kindOf letter =
     ∷ (eqb letter 82, Run Reply)
     ∷ (eqb letter 78, Run NoReply)
     ∷ (eqb letter 74, Journal)
+    ∷ (eqb letter 80, Away)
+    ∷ (eqb letter 84, TakeUp)
+    ∷ (eqb letter 73, Image)
     ∷ [])
     NoCall
 
@@ -40,6 +43,11 @@ headOf (Run Reply) = 1 + 1 + 4 + 2
 headOf (Run NoReply) = 1 + 1 + 4
 -- run 1
 headOf Journal = 1 + 1
+-- length 4
+headOf Away = 1 + 4
+headOf TakeUp = 1 + 4
+-- offset 4, length 2
+headOf Image = 1 + 4 + 2
 headOf NoCall = 1
 
 -- whether a length stands at the end of the head
@@ -51,6 +59,9 @@ hasLength (Run Download) = false
 hasLength (Run Reply) = true
 hasLength (Run NoReply) = false
 hasLength Journal = false
+hasLength Away = false
+hasLength TakeUp = false
+hasLength Image = true
 hasLength NoCall = false
 
 -- n bytes of a record r from a place on, and their number
@@ -90,7 +101,14 @@ firstOf r = numberAt 8 4 r
 abbrev pub nonceOf : List ℕ → List ℕ
 nonceOf r = bytesAt 12 12 r
 
--- what the length says, and the frame, file, payload or reply that it counts
+-- P and T: how many bytes of the image room, "the first that many"; I: where its bytes go
+abbrev pub lentLengthOf : List ℕ → ℕ
+lentLengthOf r = numberAt 1 4 r
+
+abbrev pub offsetOf : List ℕ → ℕ
+offsetOf r = numberAt 1 4 r
+
+-- what the length says, and the frame, file, payload, reply or bytes that it counts
 unfoldable pub sizeOf : Kind → List ℕ → ℕ
 sizeOf k r = cond (hasLength k) (numberAt (headOf k - 2) 2 r) 0
 
@@ -104,23 +122,36 @@ runCount = 16
 abbrev pub isRun : ℕ → Bool
 isRun n = leb 1 n && leb n runCount
 
--- a run is one of the 16, where the record names one; another letter is no call
-abbrev pub namesRun : Kind → List ℕ → Bool
-namesRun Frame r = true
-namesRun File r = true
-namesRun (Run e) r = isRun (runOf r)
-namesRun Journal r = isRun (runOf r)
-namesRun NoCall r = false
+-- "The image room is 140,000 bytes of the driver"
+abbrev pub roomBytes : ℕ
+roomBytes = 140000
+
+-- n bytes from a place on are within it
+abbrev pub inRoom : ℕ → ℕ → Bool
+inRoom from n = leb (from + n) roomBytes
+
+-- a run is one of the 16, where the record names one, and its bytes of the image room are within it; another letter is
+-- no call
+abbrev pub isWithin : Kind → List ℕ → Bool
+isWithin Frame r = true
+isWithin File r = true
+isWithin (Run e) r = isRun (runOf r)
+isWithin Journal r = isRun (runOf r)
+isWithin Away r = inRoom 0 (lentLengthOf r)
+isWithin TakeUp r = inRoom 0 (lentLengthOf r)
+isWithin Image r = inRoom (offsetOf r) (sizeOf Image r)
+isWithin NoCall r = false
 
 -- a record of this kind that is not cut short
 unfoldable pub isWhole : Kind → List ℕ → Bool
 isWhole k r = leb (headOf k) (length r) && leb (headOf k + sizeOf k r) (length r)
 
--- "A record that is cut short, another letter, and a run outside 1 to 16 end the input": they are no call
+-- "A record that is cut short, another letter, and a run outside 1 to 16 end the input", as do "a `P` or `T` with a
+-- length over 140,000, and an `I` whose offset plus length is over 140,000": they are no call
 unfoldable pub callOf : List ℕ → Kind
 callOf r =
     let k = kindOf (letterOf r) in
-    cond (isWhole k r && namesRun k r) k NoCall
+    cond (isWhole k r && isWithin k r) k NoCall
 
 -- what ends the input
 abbrev pub isCall : Kind → Bool
@@ -128,4 +159,7 @@ isCall Frame = true
 isCall File = true
 isCall (Run e) = true
 isCall Journal = true
+isCall Away = true
+isCall TakeUp = true
+isCall Image = true
 isCall NoCall = false

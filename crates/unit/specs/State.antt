@@ -38,15 +38,17 @@ abbrev pub withJournal : UnitState → List Event → UnitState
 withJournal u row = record { runs = u .runs; journal = row }
 
 -- the memory lent to the unit: the session's numbers and stores, the rooms of the runs' payloads, their file buffers,
--- and the buffer that holds a call's reply or request
+-- the buffer that holds a call's reply or request, and the image room
 pub record Memory : Type 0 where
   pub bank : Lent
   pub payloads : List ℕ
   pub files : List ℕ
   pub buffer : List ℕ
+  pub room : List ℕ
 
-abbrev pub memory : Lent → List ℕ → List ℕ → List ℕ → Memory
-memory bank payloads files buffer = record { bank = bank; payloads = payloads; files = files; buffer = buffer }
+abbrev pub memory : Lent → List ℕ → List ℕ → List ℕ → List ℕ → Memory
+memory bank payloads files buffer room =
+    record { bank = bank; payloads = payloads; files = files; buffer = buffer; room = room }
 
 -- the unit and its memory
 pub record State : Type 0 where

@@ -1,6 +1,10 @@
 // One call of a record on the unit.
+use crate::images::away_call;
+use crate::images::image_call;
+use crate::images::take_up_call;
 use crate::record::Event;
 use crate::record::Kind;
+use crate::record::ROOM_BYTES;
 use crate::record::body_of;
 use crate::record::bytes_at;
 use crate::record::call_of;
@@ -46,8 +50,9 @@ ghost use Rattle.unit.specs.Call.{roomCall, keeps, withClient, nextRun, 
 ghost use Rattle.unit.specs.Call.{runStep, journalStep, unitCall};
 
 // What a call answers: the length of the reply in the buffer, the file is in the mailbox, the length of the request,
-// the run stays, its closing word with its order number, the journal left the run as it was, or the number that the
-// call was given. A record that is no call has none.
+// the run stays, its closing word with its order number, the journal left the run as it was, the length of the image,
+// the session is taken up, the bytes are in the image room, or the number that the call was given. A record that is no
+// call has none.
 pub enum Answer {
     Frame(usize),
     Put,
@@ -55,6 +60,9 @@ pub enum Answer {
     Ignored,
     Closed(Word, u64),
     Unchanged,
+    Away(usize),
+    TakenUp,
+    Room,
     Number(u64),
     NoCall,
 }
@@ -144,12 +152,11 @@ fn frame_call(
     mailboxes: &mut [u8],
     buffer: &mut [u8],
 ) -> Called
-    ensures { λ r. ⌜ ((p f : List ℕ)
+    ensures { λ r. ⌜ ((p f room : List ℕ)
         → unitCallOf r (memory (lent (now (rows .exit)) (now (orders .exit)) (now (mailboxes .exit))) p f
-        (now (buffer .exit)))
-        ≡ frameStep (stateOf u
-        (memory (lent (now (rows .entry)) (now (orders .entry)) (now (mailboxes .entry))) p f (now (buffer .entry))))
-        (now («record» .entry))) ⌝ }
+        (now (buffer .exit)) room)
+        ≡ frameStep (stateOf u (memory (lent (now (rows .entry)) (now (orders .entry)) (now (mailboxes .entry))) p f
+        (now (buffer .entry)) room)) (now («record» .entry))) ⌝ }
 {
     let row = u.journal;
     let o = frame_held(
@@ -173,9 +180,9 @@ fn frame_call(
 
 // A file into a mailbox.
 fn file_call(record: &[u8], rows: &mut [u64], mailboxes: &mut [u8]) -> Answer
-    ensures { λ r. ⌜ ((u : UnitState) (o p f b : List ℕ)
-        → afterCall u (memory (lent (now (rows .exit)) o (now (mailboxes .exit))) p f b) r
-        ≡ fileStep (stateOf u (memory (lent (now (rows .entry)) o (now (mailboxes .entry))) p f b))
+    ensures { λ r. ⌜ ((u : UnitState) (o p f b room : List ℕ)
+        → afterCall u (memory (lent (now (rows .exit)) o (now (mailboxes .exit))) p f b room) r
+        ≡ fileStep (stateOf u (memory (lent (now (rows .entry)) o (now (mailboxes .entry))) p f b room))
         (now («record» .entry))) ⌝ }
 {
     let answer = put_file(
@@ -381,9 +388,9 @@ fn run_event(
     buffer: &mut [u8],
 ) -> RunOut
     requires { ⌜ (i < runCount) × Ready event (now «record») (now payloads) (now files) ⌝ }
-    ensures { λ r. ⌜ ((bank : Lent)
-        → runCallOf r (memory bank (now (payloads .exit)) (now (files .exit)) (now (buffer .exit)))
-        ≡ runCall event i run (memory bank (now (payloads .entry)) (now (files .entry)) (now (buffer .entry)))
+    ensures { λ r. ⌜ ((bank : Lent) (room : List ℕ)
+        → runCallOf r (memory bank (now (payloads .exit)) (now (files .exit)) (now (buffer .exit)) room)
+        ≡ runCall event i run (memory bank (now (payloads .entry)) (now (files .entry)) (now (buffer .entry)) room)
         (now («record» .entry))) ⌝ }
 {
     let client = run.client;
@@ -422,9 +429,10 @@ fn run_call(
     buffer: &mut [u8],
 ) -> Called
     requires { ⌜ Ready event (now «record») (now payloads) (now files) ⌝ }
-    ensures { λ r. ⌜ ((bank : Lent)
-        → unitCallOf r (memory bank (now (payloads .exit)) (now (files .exit)) (now (buffer .exit)))
-        ≡ runStep event (stateOf u (memory bank (now (payloads .entry)) (now (files .entry)) (now (buffer .entry))))
+    ensures { λ r. ⌜ ((bank : Lent) (room : List ℕ)
+        → unitCallOf r (memory bank (now (payloads .exit)) (now (files .exit)) (now (buffer .exit)) room)
+        ≡ runStep event (stateOf u
+        (memory bank (now (payloads .entry)) (now (files .entry)) (now (buffer .entry)) room))
         (now («record» .entry))) ⌝ }
 {
     let i = index_of(record);
@@ -457,14 +465,17 @@ fn journal_call(u: UnitState, record: &[u8]) -> Called
     }
 }
 
-// Whether the rooms lent for the runs are of their lengths.
-fn rooms_right(payloads: usize, files: usize) -> bool
-    ensures { λ r. ⌜ r ≡ roomsRight payloads files ⌝ }
+// Whether the rooms lent for the runs and for images are of their lengths.
+fn rooms_right(payloads: usize, files: usize, room: usize) -> bool
+    ensures { λ r. ⌜ r ≡ roomsRight payloads files room ⌝ }
 {
     if payloads != ROOMS_BYTES {
         return false;
     }
-    files == ROOMS_BYTES
+    if files != ROOMS_BYTES {
+        return false;
+    }
+    room == ROOM_BYTES
 }
 
 // One call of a record on the unit. Rooms of another length get number 1.
@@ -477,16 +488,17 @@ pub fn call(
     payloads: &mut [u8],
     files: &mut [u8],
     buffer: &mut [u8],
+    room: &mut [u8],
 ) -> Called
     ensures { λ r. ⌜ unitCallOf r
         (memory (lent (now (rows .exit)) (now (orders .exit)) (now (mailboxes .exit)))
-        (now (payloads .exit)) (now (files .exit)) (now (buffer .exit)))
+        (now (payloads .exit)) (now (files .exit)) (now (buffer .exit)) (now (room .exit)))
         ≡ unitCall (stateOf u
         (memory (lent (now (rows .entry)) (now (orders .entry)) (now (mailboxes .entry)))
-        (now (payloads .entry)) (now (files .entry)) (now (buffer .entry))))
+        (now (payloads .entry)) (now (files .entry)) (now (buffer .entry)) (now (room .entry))))
         (now («record» .entry)) ⌝ }
 {
-    if !rooms_right(payloads.len(), files.len()) {
+    if !rooms_right(payloads.len(), files.len(), room.len()) {
         return Called {
             unit: u,
             answer: Answer::Number(1),
@@ -501,6 +513,15 @@ pub fn call(
         },
         Kind::Run(event) => run_call(u, event, record, payloads, files, buffer),
         Kind::Journal => journal_call(u, record),
+        Kind::Away => Called {
+            unit: u,
+            answer: away_call(u, record, rows, orders, mailboxes, room),
+        },
+        Kind::TakeUp => take_up_call(u, record, rows, orders, mailboxes, room),
+        Kind::Image => Called {
+            unit: u,
+            answer: image_call(record, room),
+        },
         Kind::NoCall => Called {
             unit: u,
             answer: Answer::NoCall,

@@ -5,10 +5,14 @@ use octets::bytes::number;
 ghost use mathlib.Core.Path.{_≡_};
 ghost use Prim.Native.Nat.{_≤_};
 ghost use Rattle.unit.specs.Records.{kindOf, headOf, hasLength, bytesAt, numberAt, sizeOf, bodyOf};
-ghost use Rattle.unit.specs.Records.{isRun, namesRun, isWhole, callOf, isCall};
+ghost use Rattle.unit.specs.Records.{isRun, inRoom, isWithin, isWhole, callOf, isCall};
+ghost use Rattle.unit.specs.Records.{lentLengthOf, offsetOf};
 
 // The client runs, numbered from 1.
 pub const RUN_COUNT: usize = 16;
+
+// The bytes of the image room.
+pub const ROOM_BYTES: usize = 140000;
 
 // The bytes of the longest record: an upload's head and a payload of 65,535.
 pub const RECORD_BYTES: usize = 26 + 65535;
@@ -21,12 +25,16 @@ pub enum Event {
     NoReply,
 }
 
-// What a record is: a call to the bank, a call to a client run, the journal handed to a run, or no call.
+// What a record is: a call to the bank, a call to a client run, the journal handed to a run, the session put away or
+// taken up, bytes for the image room, or no call.
 pub enum Kind {
     Frame,
     File,
     Run(Event),
     Journal,
+    Away,
+    TakeUp,
+    Image,
     NoCall,
 }
 
@@ -42,6 +50,9 @@ pub fn kind_of(letter: u8) -> Kind
         b'R' => Kind::Run(Event::Reply),
         b'N' => Kind::Run(Event::NoReply),
         b'J' => Kind::Journal,
+        b'P' => Kind::Away,
+        b'T' => Kind::TakeUp,
+        b'I' => Kind::Image,
         _ => Kind::NoCall,
     }
 }
@@ -67,6 +78,9 @@ pub fn head_of(kind: Kind) -> usize
         Kind::File => 5,
         Kind::Run(event) => run_head_of(event),
         Kind::Journal => 2,
+        Kind::Away => 5,
+        Kind::TakeUp => 5,
+        Kind::Image => 7,
         Kind::NoCall => 1,
     }
 }
@@ -92,6 +106,9 @@ fn has_length(kind: Kind) -> bool
         Kind::File => true,
         Kind::Run(event) => run_has_length(event),
         Kind::Journal => false,
+        Kind::Away => false,
+        Kind::TakeUp => false,
+        Kind::Image => true,
         Kind::NoCall => false,
     }
 }
@@ -128,7 +145,21 @@ pub fn size_of(kind: Kind, s: &[u8]) -> usize
     number_at(s, head_of(kind) - 2, 2) as usize
 }
 
-// The frame, file, payload or reply of a record.
+// How many bytes of the image room a session is put away into, or taken up from.
+pub fn lent_length(s: &[u8]) -> usize
+    ensures { λ r. ⌜ r ≡ lentLengthOf (now (s .entry)) ⌝ }
+{
+    number_at(s, 1, 4) as usize
+}
+
+// Where a record's bytes go in the image room.
+pub(crate) fn offset_of(s: &[u8]) -> usize
+    ensures { λ r. ⌜ r ≡ offsetOf (now (s .entry)) ⌝ }
+{
+    number_at(s, 1, 4) as usize
+}
+
+// The frame, file, payload, reply or bytes of a record.
 pub(crate) fn body_of(kind: Kind, s: &[u8]) -> &[u8]
     ensures { λ r. ⌜ now r ≡ bodyOf kind (now (s .entry)) ⌝ }
 {
@@ -145,15 +176,28 @@ fn is_run(n: u64) -> bool
     n <= RUN_COUNT as u64
 }
 
-// Whether the record names a run that there is, where it names one.
-fn names_run(kind: Kind, s: &[u8]) -> bool
-    ensures { λ r. ⌜ r ≡ namesRun kind (now (s .entry)) ⌝ }
+// Whether bytes from a place on are within the image room.
+fn in_room(from: usize, n: usize) -> bool
+    ensures { λ r. ⌜ r ≡ inRoom from n ⌝ }
+{
+    if ROOM_BYTES < from {
+        return false;
+    }
+    n <= ROOM_BYTES - from
+}
+
+// Whether there is what the record names: its run, and its bytes of the image room.
+fn is_within(kind: Kind, s: &[u8]) -> bool
+    ensures { λ r. ⌜ r ≡ isWithin kind (now (s .entry)) ⌝ }
 {
     match kind {
         Kind::Frame => true,
         Kind::File => true,
         Kind::Run(_) => is_run(number_at(s, 1, 1)),
         Kind::Journal => is_run(number_at(s, 1, 1)),
+        Kind::Away => in_room(0, lent_length(s)),
+        Kind::TakeUp => in_room(0, lent_length(s)),
+        Kind::Image => in_room(offset_of(s), size_of(kind, s)),
         Kind::NoCall => false,
     }
 }
@@ -180,7 +224,7 @@ pub fn call_of(s: &[u8]) -> Kind
     if !is_whole(kind, s) {
         return Kind::NoCall;
     }
-    if !names_run(kind, s) {
+    if !is_within(kind, s) {
         return Kind::NoCall;
     }
     kind
@@ -195,6 +239,9 @@ pub fn is_call(kind: Kind) -> bool
         Kind::File => true,
         Kind::Run(_) => true,
         Kind::Journal => true,
+        Kind::Away => true,
+        Kind::TakeUp => true,
+        Kind::Image => true,
         Kind::NoCall => false,
     }
 }

@@ -23,8 +23,7 @@ bank-numbers-spec =
     Inv-loop
     μ-loop
     (λ c. length-replicate {A = ℕ} stateSize 0)
-    (λ c. search needs)
-    (λ c. search needs)
+    (λ c κs. tt)
     (λ c. search needs)
     (λ c. search needs)
     (λ c. search needs)

@@ -23,7 +23,7 @@ returns-3 : tie.Need-returns-3
 returns-3 c =
     let at-line = c .before .before in
     let at-if = at-line .before .before in
-    let a = at-if .before .before .before .before .args in
+    let a = at-if .before .before .before .before .before .args in
     let room = lineRoom (length (a .buffer .now)) in
     printed-put room (omega (arith, at-if .if2 .left, at-if .before .if1 .left)) (at-line .put-line .ensures)
 

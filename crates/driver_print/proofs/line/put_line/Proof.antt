@@ -13,7 +13,7 @@ use Rattle.driver_print.proofs.line.put_line.Tie as tie
 
 -- the room of an answer
 abbrev room : tie.After-put-column → ℕ
-room c = answerRoom (length (c .before .before .before .before .args .buffer .now))
+room c = answerRoom (length (c .before .before .before .before .before .args .buffer .now))
 
 -- what is left of the line's room behind the call's number
 left : (c : tie.After-put-column) → c .put-column .result + (room c + 1) ≤ length (c .put-column .last .0)
@@ -29,8 +29,8 @@ put-byte-requires : tie.Need-put-byte-requires
 put-byte-requires c κs =
     let at-answer = c .before .before .before in
     let at-column = at-answer .before .before .before .before in
-    let a = at-column .before .before .before .before .args in
-    omega (arith, put-left (room at-column) 1 (at-answer .put-answer .ensures) (answer-most (a .answer) (a .buffer .now)) (left at-column))
+    let a = at-column .before .before .before .before .before .args in
+    omega (arith, put-left (room at-column) 1 (at-answer .put-answer .ensures) (answer-most (a .answer) (a .buffer .now) (a .room .now)) (left at-column))
 
 same-length : tie.Need-same-length
 same-length c = search needs

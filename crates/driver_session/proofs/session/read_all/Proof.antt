@@ -11,22 +11,22 @@ use Rattle.driver_session.proofs.session.read_all.Statement.{statement}
 use Rattle.driver_session.proofs.session.read_all.Tie as tie
 
 abbrev Inv-loop : tie.InvT-loop
-Inv-loop input₀ output₀ rows₀ orders₀ boxes₀ payloads₀ files₀ buffer₀ t₀ calls₀ input output rows orders mailboxes payloads files buffer t calls =
+Inv-loop input₀ output₀ rows₀ orders₀ boxes₀ payloads₀ files₀ buffer₀ room₀ t₀ calls₀ input output rows orders mailboxes payloads files buffer room t calls =
     (length input ≡ length input₀) × (length output ≡ length output₀) × (length rows ≡ length rows₀)
     × (length orders ≡ length orders₀) × (length mailboxes ≡ length boxes₀) × (length payloads ≡ length payloads₀)
-    × (length files ≡ length files₀) × (length buffer ≡ length buffer₀)
-    × Calls (stateOf fresh (memory (lent rows₀ orders₀ boxes₀) payloads₀ files₀ buffer₀))
-    (stateOf (t .unit) (memory (lent rows orders mailboxes) payloads files buffer))
+    × (length files ≡ length files₀) × (length buffer ≡ length buffer₀) × (length room ≡ length room₀)
+    × Calls (stateOf fresh (memory (lent rows₀ orders₀ boxes₀) payloads₀ files₀ buffer₀ room₀))
+    (stateOf (t .unit) (memory (lent rows orders mailboxes) payloads files buffer room))
 
 abbrev μ-loop : tie.MeasureT-loop
-μ-loop input₀ output₀ rows₀ orders₀ boxes₀ payloads₀ files₀ buffer₀ t₀ calls₀ input output rows orders mailboxes payloads files buffer t calls =
+μ-loop input₀ output₀ rows₀ orders₀ boxes₀ payloads₀ files₀ buffer₀ room₀ t₀ calls₀ input output rows orders mailboxes payloads files buffer room t calls =
     18446744073709551615 - calls
 
 fresh-requires : tie.Need-fresh-requires Inv-loop μ-loop
 fresh-requires c κs = tt
 
 loop-holds : tie.Need-loop-holds Inv-loop μ-loop
-loop-holds c = (refl, refl, refl, refl, refl, refl, refl, refl, start-calls _ _ _ (c .fresh .ensures))
+loop-holds c = (refl, refl, refl, refl, refl, refl, refl, refl, refl, start-calls _ _ _ (c .fresh .ensures))
 
 add-calls : tie.Need-add-calls Inv-loop μ-loop
 add-calls c = omega (arith, c .before .loop-test .taken)
@@ -36,13 +36,14 @@ step-requires c κs = tt
 
 loop-less : tie.Need-loop-less Inv-loop μ-loop
 loop-less c =
-    let at-step = c .before .before .before .before .before .before .before .before .before .before .before .before .before .before .before .before in
-    let in-loop = at-step .before .before .before .before .before .before .before .before .before .before .before in
+    let at-step = c .before .before .before .before .before .before .before .before .before .before .before .before .before .before .before .before .before .before in
+    let in-loop = at-step .before .before .before .before .before .before .before .before .before .before .before .before in
     omega (arith, in-loop .loop-test .taken)
 
 loop-again : tie.Need-loop-again Inv-loop μ-loop
 loop-again c =
-    let buffer-back = c .before in
+    let room-back = c .before in
+    let buffer-back = room-back .before .before in
     let files-back = buffer-back .before .before in
     let payloads-back = files-back .before .before in
     let mailboxes-back = payloads-back .before .before in
@@ -51,7 +52,7 @@ loop-again c =
     let output-back = rows-back .before .before in
     let input-back = output-back .before .before in
     let at-step = input-back .before in
-    let inv = at-step .before .before .before .before .before .before .before .before .before .before .before .before .loop .inv in (
+    let inv = at-step .before .before .before .before .before .before .before .before .before .before .before .before .before .loop .inv in (
       input-back .input .given ∙ inv .0,
       output-back .output .given ∙ inv .1,
       rows-back .rows .given ∙ inv .2,
@@ -60,7 +61,8 @@ loop-again c =
       payloads-back .payloads .given ∙ inv .5,
       files-back .files .given ∙ inv .6,
       buffer-back .buffer .given ∙ inv .7,
-      calls-on _ _ _ (inv .8) (at-step .step .ensures),
+      room-back .room .given ∙ inv .8,
+      calls-on _ _ _ (inv .9) (at-step .step .ensures),
     )
 
 same-length : tie.Need-same-length Inv-loop μ-loop
@@ -87,8 +89,11 @@ same-length-7 c = c .before .before .loop .inv .6
 same-length-8 : tie.Need-same-length-8 Inv-loop μ-loop
 same-length-8 c = c .before .before .loop .inv .7
 
+same-length-9 : tie.Need-same-length-9 Inv-loop μ-loop
+same-length-9 c = c .before .before .loop .inv .8
+
 returns : tie.Need-returns Inv-loop μ-loop
-returns c = c .before .before .loop .inv .8
+returns c = c .before .before .loop .inv .9
 
 pub read-all-spec : {M : Type 1} → statement M
 read-all-spec =
@@ -110,4 +115,5 @@ read-all-spec =
     same-length-6
     same-length-7
     same-length-8
+    same-length-9
     returns)

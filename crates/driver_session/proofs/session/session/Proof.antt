@@ -9,13 +9,14 @@ returns : tie.Need-returns
 unfolding start
 returns c =
     let at-files = c .before .before in
-    let at-read-all = at-files .before .before .before .before .before .before .before .before .before .before .before .before .before in
+    let at-read-all = at-files .before .before .before .before .before .before .before .before .before .before .before .before .before .before in
     session-of _ _ (at-read-all .read-all .ensures)
 
 pub session-spec : {M : Type 1} → statement M
 session-spec =
     tie.close
     (tie.spec
+    (λ c. search needs)
     (λ c. search needs)
     (λ c. search needs)
     (λ c. search needs)

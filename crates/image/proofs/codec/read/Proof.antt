@@ -1,20 +1,18 @@
 -- `read` meets its contract: lengths first, then the heads; only then is anything changed. Assumes nothing.
 use mathlib.Core.Path.{sym, _∙_}
-use native.Mathlib.Omega.{arith}
 use borrow.Author.Tests.{not-true, not-false}
 use Rattle.image.proofs.Calls.{
   rest-items,
-  fields-items,
   numbers-size,
-  image-size,
+  image-long,
+  image-bytes,
+  store-size,
   lent-numbers,
   lent-orders,
   lent-mailboxes,
   lent-all,
-  lent-stores,
   taken-lengths,
   taken-other,
-  taken-wrong,
   taken-done,
 }
 use borrow.Author.Needs.{needs}
@@ -44,69 +42,48 @@ returns-2 c =
 
 returns-3 : tie.Need-returns-3
 returns-3 c =
-    let at-if1 = c .before .before .before .before .if1 in
     let a = c .before .before .before .before .before .before .before .before .before .before .before .args in
     let f = c .before .before .before .before .before .before .sizes-of in
     let xs = a .numbers .now in
     let orders = a .orders .now in
     let boxes = a .mailboxes .now in
-    taken-lengths (a .form) (f .result) (f .ensures) xs orders boxes (a .image .now) (lent-mailboxes (a .form) (f .result) (f .ensures) xs orders boxes (at-if1 .left) (c .before .before .if2 .left) (c .if3 .taken))
+    taken-lengths (a .form) (f .result) (f .ensures) xs orders boxes (a .image .now) (lent-mailboxes (a .form) (f .result) (f .ensures) xs orders boxes (c .before .before .before .before .if1 .left) (c .before .before .if2 .left) (c .if3 .taken))
+
+is-image-requires : tie.Need-is-image-requires
+is-image-requires c κs = search needs
 
 returns-4 : tie.Need-returns-4
 returns-4 c =
-    let at-if1 = c .before .before .before .before .before .before .if1 in
-    let at-if2 = c .before .before .before .before .if2 in
     let a = c .before .before .before .before .before .before .before .before .before .before .before .before .before .args in
     let f = c .before .before .before .before .before .before .before .before .sizes-of in
     let xs = a .numbers .now in
     let orders = a .orders .now in
     let boxes = a .mailboxes .now in
-    let lent = lent-all (a .form) (f .result) (f .ensures) xs orders boxes (at-if1 .left) (at-if2 .left) (c .before .before .if3 .left) in
-    taken-other (a .form) (f .result) (f .ensures) xs orders boxes (a .image .now) lent (c .if4 .taken)
-
-heads-right-requires : tie.Need-heads-right-requires
-heads-right-requires c κs =
-    let a = c .before .before .before .before .before .before .before .before .before .before .before .before .before .args in
-    let f = c .before .before .before .before .before .before .before .before .sizes-of in
-    let fields = fields-items (a .form) (f .result) (f .ensures) in
-    rw fields (omega (arith, c .if4 .left, image-size (a .form) (f .result) (f .ensures)))
-
-returns-5 : tie.Need-returns-5
-returns-5 c =
-    let at-if1 = c .before .before .before .before .before .before .before .before .if1 in
-    let at-if2 = c .before .before .before .before .before .before .if2 in
-    let at-if3 = c .before .before .before .before .if3 in
-    let a = c .before .before .before .before .before .before .before .before .before .before .before .before .before .before .before .args in
-    let f = c .before .before .before .before .before .before .before .before .before .before .sizes-of in
-    let xs = a .numbers .now in
-    let orders = a .orders .now in
-    let boxes = a .mailboxes .now in
-    let lent = lent-all (a .form) (f .result) (f .ensures) xs orders boxes (at-if1 .left) (at-if2 .left) (at-if3 .left) in
-    let fields = fields-items (a .form) (f .result) (f .ensures) in
-    taken-wrong (a .form) (f .result) (f .ensures) xs orders boxes (a .image .now) lent (c .before .before .if4 .left)
-    (sym (rw fields at (c .before .heads-right .ensures)) ∙ not-true _ (c .if5 .taken))
+    let lent = lent-all (a .form) (f .result) (f .ensures) xs orders boxes (c .before .before .before .before .before .before .if1 .left) (c .before .before .before .before .if2 .left) (c .before .before .if3 .left) in
+    taken-other (a .form) (f .result) (f .ensures) xs orders boxes (a .image .now) lent
+    (sym (c .before .is-image .ensures) ∙ not-true _ (c .if4 .taken))
 
 start-requires : tie.Need-start-requires
 start-requires c κs = search needs
 
-take-all-requires : tie.Need-take-all-requires
-take-all-requires c κs =
-    let at-start = c .before .before .before .start in
-    let at-if4 = c .before .before .before .before .before .before .if4 in
-    let at-if1 = c .before .before .before .before .before .before .before .before .before .before .before .before .if1 in
-    let at-if2 = c .before .before .before .before .before .before .before .before .before .before .if2 in
-    let at-if3 = c .before .before .before .before .before .before .before .before .if3 in
-    let a = c .before .before .before .before .before .before .before .before .before .before .before .before .before .before .before .before .before .before .before .args in
-    let f = c .before .before .before .before .before .before .before .before .before .before .before .before .before .before .sizes-of in
-    let xs = a .numbers .now in
-    let orders = a .orders .now in
-    let boxes = a .mailboxes .now in
-    let items = rest-items (a .form) (f .result) (f .ensures) (at-start .result) (at-start .ensures) in
-    rw items (
-      omega (arith, at-if4 .left, image-size (a .form) (f .result) (f .ensures)),
-      sym (at-if1 .left ∙ numbers-size (a .form) (f .result) (f .ensures)),
-      lent-stores (a .form) (f .result) (f .ensures) xs orders boxes (at-if2 .left) (at-if3 .left),
+take-numbers-requires : tie.Need-take-numbers-requires
+take-numbers-requires c κs =
+    let a = c .before .before .before .before .before .before .before .before .before .before .before .before .before .before .before .args in
+    let f = c .before .before .before .before .before .before .before .before .before .before .sizes-of in
+    let from = c .before .start in
+    let image = sym (c .before .before .before .is-image .ensures) ∙ not-false _ (c .before .before .if4 .left) in
+    rw (rest-items (a .form) (f .result) (f .ensures) (from .result) (from .ensures)) (
+      image-bytes (a .form) (f .result) (f .ensures) (a .image .now) image,
+      sym (c .before .before .before .before .before .before .before .before .if1 .left ∙ numbers-size (a .form) (f .result) (f .ensures)),
     )
+
+take-stores-requires : tie.Need-take-stores-requires
+take-stores-requires c κs =
+    let a = c .before .before .before .before .before .before .before .before .before .before .before .before .before .before .before .before .before .before .before .before .args in
+    let f = c .before .before .before .before .before .before .before .before .before .before .before .before .before .before .before .sizes-of in
+    let size = store-size (a .form) (f .result) (f .ensures) in
+    let image = sym (c .before .before .before .before .before .before .before .before .is-image .ensures) ∙ not-false _ (c .before .before .before .before .before .before .before .if4 .left) in
+    (image-long (a .form) (f .result) (f .ensures) (a .image .now) image, c .before .before .before .before .before .before .before .before .before .before .before .if2 .left ∙ size, c .before .before .before .before .before .before .before .before .before .if3 .left ∙ size)
 
 same-length : tie.Need-same-length
 same-length c = search needs
@@ -117,27 +94,19 @@ same-length-2 c = search needs
 same-length-3 : tie.Need-same-length-3
 same-length-3 c = search needs
 
-returns-6 : tie.Need-returns-6
-returns-6 c =
-    let at-if1 = c .before .before .before .before .before .before .before .before .before .before .before .before .before .before .before .before .before .before .before .if1 in
-    let at-if2 = c .before .before .before .before .before .before .before .before .before .before .before .before .before .before .before .before .before .if2 in
-    let at-if3 = c .before .before .before .before .before .before .before .before .before .before .before .before .before .before .before .if3 in
-    let at-start = c .before .before .before .before .before .before .before .before .before .before .start in
-    let at-take-all = c .before .before .before .before .before .before .take-all in
-    let at-if4 = c .before .before .before .before .before .before .before .before .before .before .before .before .before .if4 in
-    let at-heads-right = c .before .before .before .before .before .before .before .before .before .before .before .before .heads-right in
-    let at-if5 = c .before .before .before .before .before .before .before .before .before .before .before .if5 in
-    let a = c .before .before .before .before .before .before .before .before .before .before .before .before .before .before .before .before .before .before .before .before .before .before .before .before .before .before .args in
-    let f = c .before .before .before .before .before .before .before .before .before .before .before .before .before .before .before .before .before .before .before .before .before .sizes-of in
+returns-5 : tie.Need-returns-5
+returns-5 c =
+    let a = c .before .before .before .before .before .before .before .before .before .before .before .before .before .before .before .before .before .before .before .before .before .before .before .before .before .args in
+    let f = c .before .before .before .before .before .before .before .before .before .before .before .before .before .before .before .before .before .before .before .before .sizes-of in
+    let from = c .before .before .before .before .before .before .before .before .before .before .before .start in
     let xs = a .numbers .now in
     let orders = a .orders .now in
     let boxes = a .mailboxes .now in
-    let lent = lent-all (a .form) (f .result) (f .ensures) xs orders boxes (at-if1 .left) (at-if2 .left) (at-if3 .left) in
-    let fields = fields-items (a .form) (f .result) (f .ensures) in
-    let items = rest-items (a .form) (f .result) (f .ensures) (at-start .result) (at-start .ensures) in
-    let read = rw items at (at-take-all .ensures) in
-    taken-done (a .form) (f .result) (f .ensures) xs orders boxes (a .image .now) lent (at-if4 .left)
-    (sym (rw fields at (at-heads-right .ensures)) ∙ not-false _ (at-if5 .left)) _ _ (read .0) (read .1)
+    let lent = lent-all (a .form) (f .result) (f .ensures) xs orders boxes (c .before .before .before .before .before .before .before .before .before .before .before .before .before .before .before .before .before .before .if1 .left) (c .before .before .before .before .before .before .before .before .before .before .before .before .before .before .before .before .if2 .left) (c .before .before .before .before .before .before .before .before .before .before .before .before .before .before .if3 .left) in
+    taken-done (a .form) (f .result) (f .ensures) xs orders boxes (a .image .now) lent
+    (sym (c .before .before .before .before .before .before .before .before .before .before .before .before .before .is-image .ensures) ∙ not-false _ (c .before .before .before .before .before .before .before .before .before .before .before .before .if4 .left)) _ _
+    (rw (rest-items (a .form) (f .result) (f .ensures) (from .result) (from .ensures)) at (c .before .before .before .before .before .before .before .before .before .take-numbers .ensures))
+    (c .before .before .before .before .take-stores .ensures)
 
 pub read-spec : {M : Type 1} → statement M
 read-spec =
@@ -147,12 +116,12 @@ read-spec =
     returns
     returns-2
     returns-3
+    is-image-requires
     returns-4
-    heads-right-requires
-    returns-5
     start-requires
-    take-all-requires
+    take-numbers-requires
+    take-stores-requires
     same-length
     same-length-2
     same-length-3
-    returns-6)
+    returns-5)

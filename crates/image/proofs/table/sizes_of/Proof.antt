@@ -13,13 +13,14 @@ use Rattle.image.specs.Items.{
   storeItems,
   bytesIn,
   partsIn,
+  storeAt,
 }
 use Rattle.image.proofs.table.sizes_of.Statement.{statement}
 use Rattle.image.proofs.table.sizes_of.Tie as tie
 
 form-2 : (form : Form)
-    → record { first = 0; fields = 13; numbers = 645; store = 30720; image = 64454 } ≡ sizesOf form
-unfolding sizesOf itemsOf fieldItems contentItems recordItems partItems storeItems bytesIn partsIn rowAt
+    → record { first = 0; fields = 13; numbers = 645; store = 30720; image = 64454; orders = 3011; mailboxes = 33734 } ≡ sizesOf form
+unfolding sizesOf itemsOf fieldItems contentItems recordItems partItems storeItems bytesIn partsIn storeAt rowAt
 form-2 Two = refl
 
 returns : tie.Need-returns

@@ -5,7 +5,7 @@ use mathlib.Core.Path.{_≡_, refl, sym, _∙_, ap}
 use Prim.Native.Nat.{ℕ, zero, suc, _-_, _*_, _<_, _≤_, _^_}
 use native.Mathlib.Nat.{lt-irrefl}
 use native.Mathlib.Omega.{arith}
-use mathlib.Core.Bool.{Bool, true, false}
+use mathlib.Core.Bool.{Bool}
 use mathlib.Core.List.{List, [], _∷_}
 use lib.Dec.{T as Holds, ltb, lt→ltb, ltb→lt}
 use lib.ListN.{length, getD, drop, drop-of-length-le}
@@ -59,6 +59,7 @@ use Rattle.journal.proofs.event.Event.Laws as T′
 use Rattle.journal.proofs.event.Found as F
 use Rattle.journal.proofs.event.Found.Laws as F′
 use Rattle.journal.proofs.Plain.{calls-plain-last}
+use Rattle.journal.proofs.Rounds.{holds, fails}
 use Rattle.journal.proofs.row.with_record as with-record
 use Rattle.journal.proofs.row.with_record.Symbol as with-record-def
 use Rattle.journal.proofs.row.with_record.Symbol.{name as #journal·row·with-record}
@@ -81,14 +82,6 @@ word = tyInt w64
 -- the slice, behind whose reference the record's type is its bare name
 abbrev slice : Ty
 slice = sliceTy (tyRef (named 0) imm (pointee (R .written)))
-
-holds : (t : Bool) → Holds t → t ≡ true
-holds true _ = refl
-holds false a = absurd a
-
-fails : (t : Bool) → (Holds t → ⊥) → t ≡ false
-fails true f = absurd (f tt)
-fails false _ = refl
 
 -- the machine value of what is found, and that it is that
 abbrev fv : Found → Val

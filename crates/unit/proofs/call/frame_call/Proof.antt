@@ -7,7 +7,7 @@ use Rattle.unit.proofs.call.frame_call.Tie as tie
 returns : tie.Need-returns
 unfolding frameStep
 returns c =
-    λ p f.
+    λ p f room.
     let at-journal = c .before in
     let at-frame = at-journal .before .before .before .before .before .before .before .before .before .before .before in
     let at-body = at-frame .before .before .before .before in

@@ -12,9 +12,14 @@ returns-2 : tie.Need-returns-2
 unfolding roomsRight
 returns-2 c = search tests
 
+returns-3 : tie.Need-returns-3
+unfolding roomsRight
+returns-3 c = search tests
+
 pub rooms-right-spec : {M : Type 1} → statement M
 rooms-right-spec =
     tie.close
     (tie.spec
     returns
-    returns-2)
+    returns-2
+    returns-3)

@@ -7,12 +7,12 @@ use Rattle.unit.proofs.call.run_call.Tie as tie
 
 returns : tie.Need-returns
 returns c =
-    λ bank.
+    λ bank room.
     let at-event = c .before .before .before .before .before .before .before .before in
     let at-index = at-event .before .before .before .before .before in
     let a = at-index .before .before .before .before .before .args in
-    put-back _ _ (memory bank (a .payloads .now) (a .files .now) (a .buffer .now)) _ (a .«record» .now) (a .event) _ _
-    (at-index .index-of .ensures .0) (at-event .run-event .ensures bank) (c .with-run .ensures)
+    put-back _ _ (memory bank (a .payloads .now) (a .files .now) (a .buffer .now) room) _ (a .«record» .now) (a .event) _ _
+    (at-index .index-of .ensures .0) (at-event .run-event .ensures bank room) (c .with-run .ensures)
 
 pub run-call-spec : {M : Type 1} → statement M
 run-call-spec =

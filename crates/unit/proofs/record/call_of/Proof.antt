@@ -21,29 +21,29 @@ returns-2 c =
 returns-3 : tie.Need-returns-3
 unfolding callOf
 returns-3 c =
-    let at-names = c .before in
-    let at-if2 = at-names .before in
+    let at-within = c .before in
+    let at-if2 = at-within .before in
     let at-whole = at-if2 .before in
     rw (
       ← at-whole .before .kind-of .ensures,
       ← at-whole .is-whole .ensures,
       not-false (at-whole .is-whole .result) (at-if2 .if2 .left),
-      ← at-names .names-run .ensures,
-      not-true (at-names .names-run .result) (c .if3 .taken),
+      ← at-within .is-within .ensures,
+      not-true (at-within .is-within .result) (c .if3 .taken),
     )
 
 returns-4 : tie.Need-returns-4
 unfolding callOf
 returns-4 c =
-    let at-names = c .before in
-    let at-if2 = at-names .before in
+    let at-within = c .before in
+    let at-if2 = at-within .before in
     let at-whole = at-if2 .before in
     rw (
       ← at-whole .before .kind-of .ensures,
       ← at-whole .is-whole .ensures,
       not-false (at-whole .is-whole .result) (at-if2 .if2 .left),
-      ← at-names .names-run .ensures,
-      not-false (at-names .names-run .result) (c .if3 .left),
+      ← at-within .is-within .ensures,
+      not-false (at-within .is-within .result) (c .if3 .left),
     )
 
 pub call-of-spec : {M : Type 1} → statement M

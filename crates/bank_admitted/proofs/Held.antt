@@ -1,0 +1,71 @@
+-- What a state that may be held tells of one place, one record of downloads and one mailbox.
+use Prim.Native.Nat.{ℕ, suc, _-_, _≤_, _<_}
+use mathlib.Core.Bool.{Bool, true, false}
+use mathlib.Core.Path.{_≡_, refl, sym, subst}
+use native.Mathlib.Decide.{decLt}
+use native.Mathlib.Omega.{arith}
+use lib.ListN.{length, getD, length-take}
+use Rattle.octets.proofs.Tests.{never}
+use Rattle.message.specs.Limits.{subscribers, fileBytes}
+use Rattle.bank_state.specs.declared.state.Download.{Download}
+use Rattle.bank_state.specs.declared.state.Place.{Place}
+use Rattle.bank_state.specs.declared.state.Use.{Use}
+use Rattle.bank_state.specs.declared.state.Use.the-variants.{Free, Open, Booked}
+use Rattle.bank_state.specs.Limits.{placeCount, storeBytes}
+use Rattle.bank_state.specs.Search.{isFree}
+use Rattle.bank_state.specs.State.{BankState, noDownload, placeAt, downloadAt, fileLength}
+use Rattle.bank_state.specs.Store.{partAt, fileOf}
+use Rattle.bank_admitted.specs.State.{mailboxFile, PlaceHolds, OpenRecord, DownloadHolds, StateHolds}
+use Rattle.bank_admitted.proofs.Rows.{packed-rises}
+use Rattle.bank_admitted.proofs.Stores.{length-part}
+
+-- the file of a mailbox has the length that is kept for it
+pub kept-long : (w : BankState) → length (w .mailboxes) ≡ storeBytes →
+    ((i : ℕ) → i < placeCount → getD (w .bank .files) i 0 ≤ fileBytes) → (s : ℕ) → 1 ≤ s → s ≤ subscribers →
+    length (mailboxFile w s) ≡ fileLength s (w .bank .files)
+unfolding mailboxFile fileLength fileOf
+kept-long w long room s a b =
+    let inside : s - 1 < placeCount = omega arith in
+    let l = length-part (w .mailboxes) long (s - 1) inside in
+    let m = room (s - 1) inside in
+    simp length-take (omega arith)
+
+module _ (w : BankState) (v : StateHolds w) where
+  -- a place in use has a transaction and an order number of an accepted opening
+  pub place-counted : (i : ℕ) → i < placeCount → isFree (placeAt (w .bank) i .used) ≡ false →
+      (placeAt (w .bank) i .transaction .low < w .bank .openings) × (placeAt (w .bank) i .number < w .bank .openings)
+  place-counted i a = at (placeAt (w .bank) i .used) (v .places i a)
+    where
+      Is : Place → Type 0
+      Is p = (p .transaction .low < w .bank .openings) × (p .number < w .bank .openings)
+
+      at : (u : Use) → PlaceHolds u (w .bank .clock) (w .bank .openings) (placeAt (w .bank) i) (partAt (w .orders) i) →
+          isFree u ≡ false → Is (placeAt (w .bank) i)
+      at Free s e = never (sym e)
+      at Open s e = (s .place .counted, s .place .numbered)
+      at Booked s e = (s .place .counted, s .place .numbered)
+
+  pub file-long : (s : ℕ) → 1 ≤ s → s ≤ subscribers → length (mailboxFile w s) ≡ fileLength s (w .bank .files)
+  file-long = kept-long w (v .sizes .mailboxes) (λ i l. v .mailboxesHold i l .room)
+
+  pub download-open : (j : ℕ) → downloadAt (w .bank) j .used ≡ true →
+      OpenRecord (w .bank .clock) (w .bank .openings) (mailboxFile w (downloadAt (w .bank) j .subscriber)) (downloadAt (w .bank) j)
+  download-open j e =
+      subst (λ (u : Bool). DownloadHolds u (w .bank .clock) (w .bank .openings) (mailboxFile w (downloadAt (w .bank) j .subscriber))
+      (downloadAt (w .bank) j)) e (v .downloads j)
+
+  -- two open downloads have two numbers
+  pub downloads-apart : (i j : ℕ) → downloadAt (w .bank) i .used ≡ true → downloadAt (w .bank) j .used ≡ true →
+      downloadAt (w .bank) i .transaction .low ≡ downloadAt (w .bank) j .transaction .low → i ≡ j
+  downloads-apart i j a b e = at (decLt i j) (decLt j i)
+    where
+      rises : (k l : ℕ) → k < l → downloadAt (w .bank) l .used ≡ true →
+          downloadAt (w .bank) k .transaction .low < downloadAt (w .bank) l .transaction .low
+      rises k l g u = packed-rises (λ (r : Download). r .used) noDownload (λ (r : Download). r .transaction .low)
+          (λ (r : Download). suc (r .transaction .low))
+          refl (λ r. omega arith) (v .inOrder) k l g u
+
+      at : Dec (i < j) → Dec (j < i) → i ≡ j
+      at (yes g) d = absurd (let z = rises i j g b in omega arith)
+      at (no g) (yes l) = absurd (let z = rises j i l a in omega arith)
+      at (no g) (no l) = omega arith

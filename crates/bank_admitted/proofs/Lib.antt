@@ -1,0 +1,25 @@
+-- What a session may hold is kept by every call.
+pub mod Stores
+pub mod Rows
+pub mod Cases
+pub mod Reading
+pub mod Parts
+pub mod Nonces
+pub mod Held
+pub mod PlaceChange
+pub mod DownloadChange
+pub mod Uploads
+pub mod Downloads
+pub mod Openings
+pub mod Clock
+pub mod Files
+pub mod InRange
+pub mod NotIdle
+pub mod Keeps
+pub mod JournalKept
+pub mod NoncesKept
+pub mod OpeningRead
+pub mod DropsKept
+pub mod RequestKept
+pub mod SessionKept
+pub mod Fresh

@@ -1,0 +1,4 @@
+-- What a session may hold.
+pub mod Packed
+pub mod State
+pub mod Session

@@ -1,0 +1,24 @@
+-- Form 2 against the page that lays it down: its tags, and where each field's content begins, computed from the table.
+use Prim.Native.Nat.{ℕ, _+_, _-_, _/_, _^_}
+use mathlib.Core.List.{List, [], _∷_, map}
+use mathlib.Core.Path.{_≡_, refl}
+use Rattle.image.specs.declared.table.Row.{Row}
+use Rattle.image.specs.Table.{form2}
+
+-- a field begins with its tag: the first byte of a head of three bytes, or of four where the form's number stands in it
+abbrev tagOf : Row → ℕ
+tagOf r = r .head / 256 ^ (r .width - 1)
+
+-- "a one-byte tag, a two-byte length": the content stands three bytes after the field's beginning
+abbrev contentsFrom : ℕ → List Row → List ℕ
+contentsFrom at [] = []
+contentsFrom at (r ∷ rs) = (at + 3) ∷ contentsFrom (at + r .width + r .bytes) rs
+
+-- "tags rising, each once"
+pub tags-rise : map tagOf form2 ≡ 0x01 ∷ 0x02 ∷ 0x03 ∷ 0x05 ∷ 0x06 ∷ 0x07 ∷ 0x08 ∷ 0x09 ∷ 0x0A ∷ 0x0B ∷ 0x0C ∷ 0x0D ∷ 0x0E ∷ []
+tags-rise = refl
+
+-- "Contents begin at"
+pub contents-begin : contentsFrom 0 form2
+    ≡ 3 ∷ 7 ∷ 14 ∷ 25 ∷ 36 ∷ 40 ∷ 1323 ∷ 1327 ∷ 1530 ∷ 1773 ∷ 1792 ∷ 3011 ∷ 33734 ∷ []
+contents-begin = refl

@@ -1,0 +1,2 @@
+-- The definitions of putting a session away and taking it up.
+pub mod Calls

@@ -1,0 +1,214 @@
+-- A session's numbers are its rows and its journal again, and an image's numbers are themselves again. Assumes nothing.
+use Prim.Native.Nat.{ℕ, _+_, _-_, _*_, _≤_, _<_}
+use mathlib.Core.Bool.{Bool, true, false}
+use mathlib.Core.List.{List, [], _∷_, _++_, append-nil}
+use mathlib.Core.Path.{_≡_, refl, sym, ap, _∙_}
+use native.Mathlib.Omega.{arith}
+use lib.Dec.{eqb, ltb}
+use lib.ListN.{length, getD, take, drop, length-append, length-take, length-drop, take-append-drop}
+use lib.Seq.{ext-getD, getD-take, getD-drop, drop-at, take-all}
+use borrow.Author.Tests.{eqb-true, eqb-false, ltb-true, eq-eqb}
+use Rattle.octets.proofs.Tests.{and-true, or-true}
+use Rattle.journal.specs.declared.event.Kind.{Kind}
+use Rattle.journal.specs.declared.event.Kind.the-variants.{Unused, Opened, Booked, Cancelled, Dropped}
+use Rattle.journal.specs.declared.event.Event.{Event}
+use Rattle.journal.specs.Events.{recordCount}
+use Rattle.bank_state.specs.Limits.{placeCount}
+use Rattle.bank_state.specs.Rows.{keep}
+use Rattle.bank_rows.specs.Rows.{numbersOf}
+use Rattle.bank_rows.proofs.General.{length-numbers, length-rows, numbers-rows, rows-numbers, take-listed}
+use Rattle.bank_rows.proofs.Tests.{all-holds, all-from}
+use Rattle.bank_session.specs.Session.{sessionSize}
+use Rattle.image_conditions.specs.Layout.{journalAt, eventWidth, numberCount, eventAt}
+use Rattle.image_numbers.specs.Table.{sessionPlaces, imagePlaces}
+use Rattle.image_numbers.specs.Numbers.{
+  numbersAt,
+  numberOfKind,
+  kindOf,
+  eventNumbers,
+  eventOf,
+  numbersIn,
+  rowsFrom,
+  rowFrom,
+  isNumbered,
+  ordersNumbered,
+}
+use Rattle.image_numbers.proofs.Places.{
+  length-at,
+  number-at,
+  number-before,
+  at-places,
+  length-session,
+  length-image,
+  session-within,
+  image-within,
+  image-there,
+  again,
+  orderAt,
+  runningAt,
+  placeWith,
+  isOrder,
+  session-back,
+  order-running,
+}
+
+-- ---- lengths
+
+pub event-wide : (e : Event) → length (eventNumbers e) ≡ eventWidth
+event-wide e = refl
+
+pub length-numbersIn : (s : List ℕ) (row : List Event) → length row ≡ recordCount → length (numbersIn s row) ≡ numberCount
+unfolding numbersIn
+length-numbersIn s row h =
+    length-append (numbersAt sessionPlaces s) (numbersOf eventNumbers row)
+    ∙ omega (arith, length-at sessionPlaces s, length-session, length-numbers eventNumbers eventWidth event-wide row)
+
+pub length-rowsFrom : (xs : List ℕ) → length (rowsFrom xs) ≡ sessionSize
+unfolding rowsFrom
+length-rowsFrom xs = length-at imagePlaces xs ∙ length-image
+
+pub length-rowFrom : (xs : List ℕ) → length (rowFrom xs) ≡ recordCount
+unfolding rowFrom
+length-rowFrom xs = length-rows eventWidth eventOf recordCount (drop journalAt xs)
+
+-- ---- one number of a session's
+
+pub session-number : (s : List ℕ) (row : List Event) (p : ℕ) → p < journalAt
+    → getD (numbersIn s row) p 0 ≡ getD s (getD sessionPlaces p 0) 0
+unfolding numbersIn
+session-number s row p h =
+    number-before sessionPlaces s (numbersOf eventNumbers row) p (rw length-session h)
+
+pub image-number : (xs : List ℕ) (p : ℕ) → p < sessionSize → getD (rowsFrom xs) p 0 ≡ getD xs (getD imagePlaces p 0) 0
+unfolding rowsFrom
+image-number xs p h = number-at imagePlaces xs p (rw length-image h)
+
+-- ---- the rows again
+
+module _ (s : List ℕ) (numbered : ordersNumbered s ≡ true) where
+  order-is : (k : ℕ) → k < placeCount → getD s (orderAt k) 0 ≡ getD s (runningAt k) 0
+  unfolding ordersNumbered
+  order-is k h = eqb-true _ _ (all-holds (isNumbered s) placeCount numbered k h)
+
+  same-order : (i k : ℕ) → isOrder i k ≡ true → getD s (again i) 0 ≡ getD s i 0
+  same-order i k h =
+      let a = and-true (ltb k placeCount) _ h in
+      let b = and-true (eqb i (orderAt k)) _ (a .1) in
+      ap (λ (p : ℕ). getD s p 0) (eqb-true _ _ (b .1)) ∙ sym (order-is k (ltb-true _ _ (a .0)))
+      ∙ ap (λ (p : ℕ). getD s p 0) (sym (eqb-true _ _ (b .0)))
+
+  same-at : (i : ℕ) (t : Bool) → eqb (again i) i ≡ t → i < sessionSize → getD s (again i) 0 ≡ getD s i 0
+  same-at i true e h = ap (λ (p : ℕ). getD s p 0) (eqb-true _ _ e)
+  same-at i false e h =
+      same-order i (placeWith i) (or-true (eqb (again i) i) (isOrder i (placeWith i)) e (session-back i h))
+
+  again-same : length s ≡ sessionSize → numbersAt (numbersAt imagePlaces sessionPlaces) s ≡ s
+  unfolding again
+  again-same h =
+      let n : length (numbersAt imagePlaces sessionPlaces) ≡ sessionSize =
+      length-at imagePlaces sessionPlaces ∙ length-image in
+      let m = length-at (numbersAt imagePlaces sessionPlaces) s in
+      ext-getD 0 _ s (m ∙ n ∙ sym h)
+      (λ i k. number-at (numbersAt imagePlaces sessionPlaces) s i (omega arith) ∙ same-at i (eqb (again i) i) refl (omega arith))
+
+pub rows-back : (s : List ℕ) (row : List Event) → length s ≡ sessionSize → ordersNumbered s ≡ true
+    → rowsFrom (numbersIn s row) ≡ s
+unfolding rowsFrom
+rows-back s row h numbered =
+    at-places sessionPlaces s (numbersIn s row) (λ p k. session-number s row p (rw length-session at k)) imagePlaces
+    (rw length-session image-within)
+    ∙ again-same s numbered h
+
+-- ---- the journal again
+
+kind-back : (k : Kind) → kindOf (numberOfKind k) ≡ k
+kind-back Unused = refl
+kind-back Opened = refl
+kind-back Booked = refl
+kind-back Cancelled = refl
+kind-back Dropped = refl
+
+event-back : (e : Event) → true ≡ true → (r : List ℕ) → eventOf (eventNumbers e ++ r) ≡ e
+event-back e t r = rw (kind-back (e .kind))
+
+keep-every : (l : List Event) → keep (λ (e : Event). true) l ≡ l
+unfolding keep
+keep-every [] = refl
+keep-every (e ∷ l) = rw (keep-every l)
+
+pub row-back : (s : List ℕ) (row : List Event) → length row ≡ recordCount → rowFrom (numbersIn s row) ≡ row
+unfolding rowFrom numbersIn
+row-back s row h =
+    let at-journal = drop-at (numbersAt sessionPlaces s) (numbersOf eventNumbers row) journalAt
+    (length-at sessionPlaces s ∙ length-session) in
+    let back = rows-numbers eventWidth eventOf eventNumbers (λ (e : Event). true) event-wide event-back row [] in
+    rw (at-journal, ← h, ← append-nil (numbersOf eventNumbers row)) (rw (keep-every row) at back)
+
+-- ---- an image's numbers again
+
+kind-at : (n : ℕ) (a b c d : Bool) → eqb n 0 ≡ a → eqb n 1 ≡ b → eqb n 2 ≡ c → eqb n 3 ≡ d → n ≤ 4
+    → numberOfKind (kindOf n) ≡ n
+kind-at n true b c d e f g i h = rw (eqb-true n 0 e)
+kind-at n false true c d e f g i h = rw (eqb-true n 1 f)
+kind-at n false false true d e f g i h = rw (eqb-true n 2 g)
+kind-at n false false false true e f g i h = rw (eqb-true n 3 i)
+kind-at n false false false false e f g i h =
+    let w = eqb-false n 0 e in
+    let x = eqb-false n 1 f in
+    let y = eqb-false n 2 g in
+    let z = eqb-false n 3 i in
+    let m : n ≡ 4 = omega arith in
+    rw m
+
+kind-number : (n : ℕ) → n ≤ 4 → numberOfKind (kindOf n) ≡ n
+kind-number n h = kind-at n (eqb n 0) (eqb n 1) (eqb n 2) (eqb n 3) refl refl refl refl h
+
+event-numbers : (s : List ℕ) → eventWidth ≤ length s → getD s 4 0 ≤ 4 → eventNumbers (eventOf s) ≡ take eventWidth s
+event-numbers s h k = rw (kind-number (getD s 4 0) k) (sym (take-listed eventWidth s h))
+
+module _ (xs : List ℕ) (long : length xs ≡ numberCount) where
+  front-again : numbersAt (numbersAt sessionPlaces imagePlaces) xs ≡ take journalAt xs
+  front-again =
+      let n : length (numbersAt sessionPlaces imagePlaces) ≡ journalAt =
+      length-at sessionPlaces imagePlaces ∙ length-session in
+      let m = length-at (numbersAt sessionPlaces imagePlaces) xs in
+      ext-getD 0 _ (take journalAt xs) (m ∙ n ∙ sym (length-take journalAt xs ∙ omega arith))
+      (λ i k. number-at (numbersAt sessionPlaces imagePlaces) xs i (omega arith)
+      ∙ ap (λ (p : ℕ). getD xs p 0) (image-there i (omega arith))
+      ∙ sym (getD-take journalAt xs i 0 (omega arith)))
+
+  rows-again : numbersAt sessionPlaces (rowsFrom xs) ≡ take journalAt xs
+  rows-again =
+      at-places imagePlaces xs (rowsFrom xs) (λ p k. image-number xs p (rw length-image at k)) sessionPlaces
+      (rw length-image session-within)
+      ∙ front-again
+
+  module _ (kinds : (i : ℕ) → i < recordCount → eventAt xs i .kind ≤ 4) where
+    journal-record : (i : ℕ) → i < recordCount
+        → eventNumbers (eventOf (drop (eventWidth * i) (drop journalAt xs)))
+        ≡ take eventWidth (drop (eventWidth * i) (drop journalAt xs))
+    unfolding eventAt
+    journal-record i h =
+        let e : journalAt + (eventWidth * i + 4) ≡ journalAt + i * eventWidth + 4 = omega arith in
+        event-numbers (drop (eventWidth * i) (drop journalAt xs)) (simp length-drop (omega arith))
+        (rw (getD-drop (eventWidth * i) (drop journalAt xs) 4 0, getD-drop journalAt xs (eventWidth * i + 4) 0, e)
+        (kinds i h))
+
+    journal-again : numbersOf eventNumbers (rowFrom xs) ≡ drop journalAt xs
+    unfolding rowFrom
+    journal-again =
+        numbers-rows eventWidth eventOf eventNumbers recordCount (drop journalAt xs) journal-record
+        ∙ take-all (eventWidth * recordCount) (drop journalAt xs) (simp length-drop (omega arith))
+
+    pub numbers-back : numbersIn (rowsFrom xs) (rowFrom xs) ≡ xs
+    unfolding numbersIn
+    numbers-back = rw (rows-again, journal-again) (take-append-drop journalAt xs)
+
+-- ---- order numbers
+
+pub numbered-back : (xs : List ℕ) → ordersNumbered (rowsFrom xs) ≡ true
+unfolding ordersNumbered
+numbered-back xs =
+    all-from (isNumbered (rowsFrom xs)) placeCount
+    (λ k h. eq-eqb _ _ (image-number xs (orderAt k) (omega arith)
+    ∙ ap (λ (p : ℕ). getD xs p 0) (order-running k h) ∙ sym (image-number xs (runningAt k) (omega arith))))

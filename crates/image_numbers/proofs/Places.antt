@@ -1,0 +1,133 @@
+-- Laws of the numbers at some places, and what the tables' places are, by computation. Assumes nothing.
+use Prim.Native.Nat.{ℕ, zero, suc, _+_, _-_, _*_, _/_, _<_}
+use mathlib.Core.Bool.{Bool, true, _&&_, _||_}
+use mathlib.Core.List.{List, [], _∷_, _++_}
+use mathlib.Core.Path.{_≡_, refl, _∙_}
+use native.Mathlib.Omega.{arith}
+use lib.Dec.{eqb, ltb}
+use lib.ListN.{length, getD, length-map, List·getD-append}
+use borrow.Author.Tests.{eqb-true, ltb-true}
+use Rattle.octets.proofs.Tests.{and-true}
+use Rattle.bank_state.specs.Limits.{placeCount}
+use Rattle.bank_rows.specs.Layout as rows
+use Rattle.bank_rows.specs.Rows.{allBelow}
+use Rattle.bank_rows.proofs.Tests.{all-holds}
+use Rattle.bank_session.specs.Session.{sessionSize}
+use Rattle.image_conditions.specs.Layout.{journalAt, numberCount}
+use Rattle.image_numbers.specs.Table.{
+  groupAt,
+  partPlaces,
+  recordPlaces,
+  groupPlaces,
+  recordsFrom,
+  groupsFrom,
+  sessionPlaces,
+  imagePlaces,
+  areWithin,
+}
+use Rattle.image_numbers.specs.Numbers.{numbersAt}
+
+-- ---- the numbers at some places
+
+pub length-at : (ps xs : List ℕ) → length (numbersAt ps xs) ≡ length ps
+unfolding numbersAt
+length-at ps xs = length-map ps (λ (k : ℕ). getD xs k 0)
+
+pub number-at : (ps xs : List ℕ) (i : ℕ) → i < length ps → getD (numbersAt ps xs) i 0 ≡ getD xs (getD ps i 0) 0
+unfolding numbersAt
+number-at [] xs i h = absurd (omega arith)
+number-at (p ∷ ps) xs zero h = refl
+number-at (p ∷ ps) xs (suc i) h = number-at ps xs i (omega arith)
+
+pub number-before : (ps xs r : List ℕ) (i : ℕ) → i < length ps
+    → getD (numbersAt ps xs ++ r) i 0 ≡ getD xs (getD ps i 0) 0
+number-before ps xs r i h =
+    List·getD-append (numbersAt ps xs) r 0 i (rw (length-at ps xs) h) ∙ number-at ps xs i h
+
+-- numbers at places among numbers at places
+module _ (qs xs ys : List ℕ) (same : (p : ℕ) → p < length qs → getD ys p 0 ≡ getD xs (getD qs p 0) 0) where
+  pub at-places : (ps : List ℕ) → areWithin (length qs) ps ≡ true
+      → numbersAt ps ys ≡ numbersAt (numbersAt ps qs) xs
+  unfolding numbersAt areWithin
+  at-places [] h = refl
+  at-places (p ∷ ps) h =
+      let a = and-true (ltb p (length qs)) _ h in
+      rw (same p (ltb-true p (length qs) (a .0)), at-places ps (a .1))
+
+-- ---- the places of the tables
+
+pub length-session : length sessionPlaces ≡ journalAt
+unfolding sessionPlaces groupsFrom groupPlaces recordsFrom recordPlaces partPlaces groupAt
+length-session = refl
+
+pub length-image : length imagePlaces ≡ sessionSize
+unfolding imagePlaces groupsFrom groupPlaces recordsFrom recordPlaces partPlaces groupAt
+length-image = refl
+
+pub session-within : areWithin sessionSize sessionPlaces ≡ true
+unfolding sessionPlaces groupsFrom groupPlaces recordsFrom recordPlaces partPlaces groupAt areWithin
+session-within = refl
+
+pub image-within : areWithin journalAt imagePlaces ≡ true
+unfolding imagePlaces groupsFrom groupPlaces recordsFrom recordPlaces partPlaces groupAt areWithin
+image-within = refl
+
+pub image-inside : areWithin numberCount imagePlaces ≡ true
+unfolding imagePlaces groupsFrom groupPlaces recordsFrom recordPlaces partPlaces groupAt areWithin
+image-inside = refl
+
+-- the session's place of an image's number is that number's again
+there : ℕ → Bool
+there i = eqb (getD (numbersAt sessionPlaces imagePlaces) i 0) i
+
+all-there : allBelow there journalAt ≡ true
+unfolding
+    there allBelow numbersAt sessionPlaces imagePlaces groupsFrom groupPlaces recordsFrom recordPlaces partPlaces groupAt
+all-there = refl
+
+pub image-there : (i : ℕ) → i < journalAt → getD (numbersAt sessionPlaces imagePlaces) i 0 ≡ i
+unfolding there
+image-there i h = eqb-true _ _ (all-holds there journalAt all-there i h)
+
+-- the place where a session's number stands again
+unfoldable pub again : ℕ → ℕ
+again i = getD (numbersAt imagePlaces sessionPlaces) i 0
+
+-- the order number of a place, and its running number
+abbrev pub orderAt : ℕ → ℕ
+orderAt k = rows.placesAt + (rows.placeWidth * k + rows.placeNumber)
+
+abbrev pub runningAt : ℕ → ℕ
+runningAt k = rows.placesAt + (rows.placeWidth * k + rows.placeLow)
+
+-- the record of places that a number stands in
+abbrev pub placeWith : ℕ → ℕ
+placeWith i = (i - rows.placesAt) / rows.placeWidth
+
+-- a number that is an order number and stands at the running number
+abbrev pub isOrder : ℕ → ℕ → Bool
+isOrder i k = ltb k placeCount && (eqb i (orderAt k) && eqb (again i) (runningAt k))
+
+back : ℕ → Bool
+back i = eqb (again i) i || isOrder i (placeWith i)
+
+all-back : allBelow back sessionSize ≡ true
+unfolding
+    back again allBelow numbersAt sessionPlaces imagePlaces groupsFrom groupPlaces recordsFrom recordPlaces partPlaces groupAt
+all-back = refl
+
+pub session-back : (i : ℕ) → i < sessionSize → eqb (again i) i || isOrder i (placeWith i) ≡ true
+unfolding back
+session-back i h = all-holds back sessionSize all-back i h
+
+-- order number and running number of a place are one number of the image
+one : ℕ → Bool
+one k = eqb (getD imagePlaces (orderAt k) 0) (getD imagePlaces (runningAt k) 0)
+
+all-one : allBelow one placeCount ≡ true
+unfolding one allBelow imagePlaces groupsFrom groupPlaces recordsFrom recordPlaces partPlaces groupAt
+all-one = refl
+
+pub order-running : (k : ℕ) → k < placeCount → getD imagePlaces (orderAt k) 0 ≡ getD imagePlaces (runningAt k) 0
+unfolding one
+order-running k h = eqb-true _ _ (all-holds one placeCount all-one k h)

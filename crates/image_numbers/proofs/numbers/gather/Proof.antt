@@ -1,0 +1,25 @@
+-- `gather` meets its contract: the numbers of the rows, and behind them the journal's, are all. Assumes nothing.
+use native.Mathlib.Omega.{arith}
+use Rattle.image_numbers.specs.Table.{sessionPlaces}
+use Rattle.image_numbers.proofs.Places.{length-session, session-within}
+use Rattle.image_numbers.proofs.Journal.{gathered}
+use borrow.Author.Needs.{needs}
+use Rattle.image_numbers.proofs.numbers.gather.Statement.{statement}
+use Rattle.image_numbers.proofs.numbers.gather.Tie as tie
+
+move-groups-requires : tie.Need-move-groups-requires
+unfolding sessionPlaces
+move-groups-requires c κs =
+    let start = c .before .before .before in
+    (rw (start .pre .0) session-within, omega (arith, length-session))
+
+returns : tie.Need-returns
+unfolding sessionPlaces
+returns c =
+    let start = c .before .before .before .before .before .before .before .before .before .before in
+    let a = start .args in
+    gathered (a .rows .now) (a .row) (a .numbers .now) _ _ (start .good .1 .0 .1 .0 .1)
+    (start .pre .1) (c .before .before .before .before .before .before .move-groups .ensures) (c .before .before .put-events .ensures)
+
+pub gather-spec : {M : Type 1} → statement M
+gather-spec = tie.close (tie.spec move-groups-requires (λ c κs. search needs) (λ c. search needs) returns)

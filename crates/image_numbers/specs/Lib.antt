@@ -1,0 +1,3 @@
+-- A session's numbers in the order of its image.
+pub mod Table
+pub mod Numbers

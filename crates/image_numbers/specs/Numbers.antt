@@ -1,0 +1,67 @@
+-- The numbers of a session in the order of the image of form 2, and the session of such numbers.
+use Prim.Native.Nat.{ℕ, _+_, _*_}
+use mathlib.Core.Bool.{Bool, cond}
+use mathlib.Core.List.{List, [], _∷_, _++_, map}
+use lib.Dec.{eqb}
+use lib.ListN.{getD, drop}
+use Rattle.journal.specs.declared.event.Kind.{Kind}
+use Rattle.journal.specs.declared.event.Kind.the-variants.{Unused, Opened, Booked, Cancelled, Dropped}
+use Rattle.journal.specs.declared.event.Event.{Event}
+use Rattle.journal.specs.Events.{recordCount}
+use Rattle.bank_state.specs.Limits.{placeCount}
+use Rattle.bank_rows.specs.Layout as rows
+use Rattle.bank_rows.specs.Rows.{rowsOf, numbersOf, allBelow}
+use Rattle.image_conditions.specs.Layout as image
+use Rattle.image_numbers.specs.Table.{sessionPlaces, imagePlaces}
+
+-- the numbers at some places
+unfoldable pub numbersAt : List ℕ → List ℕ → List ℕ
+numbersAt places xs = map (λ (k : ℕ). getD xs k 0) places
+
+-- ---- the journal
+
+-- "1 opened, 2 booked, 3 cancelled, 4 dropped"; a record not in use "is 0 in every part"
+abbrev pub numberOfKind : Kind → ℕ
+numberOfKind Unused = 0
+numberOfKind Opened = 1
+numberOfKind Booked = 2
+numberOfKind Cancelled = 3
+numberOfKind Dropped = 4
+
+abbrev pub kindOf : ℕ → Kind
+kindOf n =
+    cond (eqb n 0) Unused (cond (eqb n 1) Opened (cond (eqb n 2) Booked (cond (eqb n 3) Cancelled Dropped)))
+
+-- an event's parts, and the event of them
+abbrev pub eventNumbers : Event → List ℕ
+eventNumbers e = e .number ∷ e .clock ∷ e .subscriber ∷ e .order ∷ numberOfKind (e .kind) ∷ []
+
+abbrev pub eventOf : List ℕ → Event
+eventOf s =
+    record {
+      number = getD s 0 0;
+      clock = getD s 1 0;
+      subscriber = getD s 2 0;
+      order = getD s 3 0;
+      kind = kindOf (getD s 4 0);
+    }
+
+-- ---- a session's numbers, and the session of an image's
+
+unfoldable pub numbersIn : List ℕ → List Event → List ℕ
+numbersIn s row = numbersAt sessionPlaces s ++ numbersOf eventNumbers row
+
+unfoldable pub rowsFrom : List ℕ → List ℕ
+rowsFrom xs = numbersAt imagePlaces xs
+
+unfoldable pub rowFrom : List ℕ → List Event
+rowFrom xs = rowsOf image.eventWidth eventOf recordCount (drop image.journalAt xs)
+
+-- each place's order number is its running number
+abbrev pub isNumbered : List ℕ → ℕ → Bool
+isNumbered s i =
+    eqb (getD s (rows.placesAt + (rows.placeWidth * i + rows.placeNumber)) 0)
+    (getD s (rows.placesAt + (rows.placeWidth * i + rows.placeLow)) 0)
+
+unfoldable pub ordersNumbered : List ℕ → Bool
+ordersNumbered s = allBelow (isNumbered s) placeCount

@@ -1,0 +1,106 @@
+// The calls on images: the session is put away into the image room and taken up from it, and bytes go into the room.
+use crate::call::Answer;
+use crate::call::Called;
+use crate::record::Kind;
+use crate::record::body_of;
+use crate::record::lent_length;
+use crate::record::offset_of;
+use crate::state::UnitState;
+use crate::state::with_journal;
+use image_calls::calls::Away;
+use image_calls::calls::TakenUp;
+use image_calls::held::put_away_held;
+use image_calls::held::take_up_held;
+use octets::bytes::copy;
+use octets::bytes::front;
+ghost use mathlib.Core.Path.{_≡_};
+ghost use mathlib.Core.List.{List};
+ghost use Prim.Native.Nat.{ℕ, _+_, _≤_};
+ghost use lib.ListN.{length};
+ghost use Rattle.bank_steps.specs.Lent.{Lent, lent};
+ghost use Rattle.unit.specs.Records.{lentLengthOf, offsetOf, sizeOf};
+ghost use Rattle.unit.specs.declared.state.UnitState.{UnitState};
+ghost use Rattle.unit.specs.State.{memory, stateOf};
+ghost use Rattle.unit.specs.Call.{afterCall, unitCallOf, awayAnswer, takenUpAnswer};
+ghost use Rattle.unit.specs.Call.{awayStep, takeUpStep, imageStep};
+
+// What the answer of putting away says.
+fn away_answer(answer: Away) -> Answer
+    ensures { λ r. ⌜ r ≡ awayAnswer answer ⌝ }
+{
+    match answer {
+        Away::Length(n) => Answer::Away(n),
+        Away::WrongLength => Answer::Number(1),
+        Away::NotAdmitted => Answer::Number(9),
+    }
+}
+
+// What the answer of taking up says.
+fn taken_up_answer(answer: TakenUp) -> Answer
+    ensures { λ r. ⌜ r ≡ takenUpAnswer answer ⌝ }
+{
+    match answer {
+        TakenUp::Done => Answer::TakenUp,
+        TakenUp::WrongLength => Answer::Number(1),
+        TakenUp::NotAdmitted => Answer::Number(9),
+    }
+}
+
+// The session is put away into the front of the image room.
+pub(crate) fn away_call(
+    u: UnitState,
+    record: &[u8],
+    rows: &[u64],
+    orders: &[u8],
+    mailboxes: &[u8],
+    room: &mut [u8],
+) -> Answer
+    requires { ⌜ lentLengthOf (now «record») ≤ length (now room) ⌝ }
+    ensures { λ r. ⌜ ((p f b : List ℕ)
+        → afterCall u (memory (lent (now (rows .entry)) (now (orders .entry)) (now (mailboxes .entry))) p f b
+        (now (room .exit))) r
+        ≡ awayStep (stateOf u (memory (lent (now (rows .entry)) (now (orders .entry)) (now (mailboxes .entry))) p f b
+        (now (room .entry)))) (now («record» .entry))) ⌝ }
+{
+    let n = lent_length(record);
+    let row = u.journal;
+    let answer = put_away_held(rows, row, orders, mailboxes, &mut room[..n]);
+    away_answer(answer)
+}
+
+// The session is taken up from the front of the image room.
+pub(crate) fn take_up_call(
+    u: UnitState,
+    record: &[u8],
+    rows: &mut [u64],
+    orders: &mut [u8],
+    mailboxes: &mut [u8],
+    room: &[u8],
+) -> Called
+    ensures { λ r. ⌜ ((p f b : List ℕ)
+        → unitCallOf r (memory (lent (now (rows .exit)) (now (orders .exit)) (now (mailboxes .exit))) p f b
+        (now (room .entry)))
+        ≡ takeUpStep (stateOf u (memory (lent (now (rows .entry)) (now (orders .entry)) (now (mailboxes .entry))) p f b
+        (now (room .entry)))) (now («record» .entry))) ⌝ }
+{
+    let n = lent_length(record);
+    let row = u.journal;
+    let o = take_up_held(rows, row, orders, mailboxes, front(room, n));
+    let next = o.row;
+    let answer = o.answer;
+    Called {
+        unit: with_journal(u, next),
+        answer: taken_up_answer(answer),
+    }
+}
+
+// The record's bytes go into the image room.
+pub(crate) fn image_call(record: &[u8], room: &mut [u8]) -> Answer
+    requires { ⌜ offsetOf (now «record») + sizeOf Kind.Image (now «record») ≤ length (now room) ⌝ }
+    ensures { λ r. ⌜ ((u : UnitState) (bank : Lent) (p f b : List ℕ)
+        → afterCall u (memory bank p f b (now (room .exit))) r
+        ≡ imageStep (stateOf u (memory bank p f b (now (room .entry)))) (now («record» .entry))) ⌝ }
+{
+    copy(room, offset_of(record), body_of(Kind::Image, record));
+    Answer::Room
+}
