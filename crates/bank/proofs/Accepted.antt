@@ -1,16 +1,16 @@
--- What a file and lent lengths that are not refused tell. Assumes nothing.
+-- What a file that is not refused tells. Assumes nothing.
 use Prim.Native.Nat.{ℕ, _≤_, _<_}
-use mathlib.Core.Bool.{Bool, true, false, _&&_}
+use mathlib.Core.Bool.{Bool, true, false}
 use mathlib.Core.List.{List}
 use mathlib.Core.Path.{_≡_, refl, ap}
-use lib.Dec.{eqb, leb, ltb}
+use lib.Dec.{eqb, ltb}
 use lib.ListN.{length}
 use borrow.Author.Tests.{eqb-true, ltb-false, not-false}
-use Rattle.octets.proofs.Tests.{and-true, or-neither}
+use Rattle.octets.proofs.Tests.{or-neither}
 use Rattle.message.specs.Limits.{subscribers, fileBytes}
 use Rattle.message.specs.Verdicts.{decide}
 use Rattle.bank_state.specs.State.{Bank}
-use Rattle.bank_state.specs.Limits.{storeBytes, idBytes, replyRoom}
+use Rattle.bank_state.specs.Limits.{storeBytes}
 use Rattle.bank_state.specs.State.{fileLength}
 use Rattle.message.proofs.Verdicts.{all-failed}
 use Rattle.bank_steps.proofs.Accepted.{numbered}
@@ -38,13 +38,3 @@ file-fits b m file mailboxes h =
     let lent = eqb-true (length mailboxes) storeBytes (not-false _ (failed 0)) in
     let free = eqb-true (fileLength m (b .files)) 0 (not-false _ (failed 3)) in
     (n .0, n .1, ltb-false fileBytes (length file) (size .1), lent, free)
-
--- the lent lengths
-pub lengths-right : (orders mailboxes ids buffer : ℕ)
-    → eqb orders storeBytes && eqb mailboxes storeBytes && eqb ids idBytes && leb replyRoom buffer ≡ true
-    → (orders ≡ storeBytes) × (mailboxes ≡ storeBytes) × (ids ≡ idBytes)
-lengths-right orders mailboxes ids buffer h =
-    let a = and-true (eqb orders storeBytes && eqb mailboxes storeBytes && eqb ids idBytes) (leb replyRoom buffer) h in
-    let b = and-true (eqb orders storeBytes && eqb mailboxes storeBytes) (eqb ids idBytes) (a .0) in
-    let stores = and-true (eqb orders storeBytes) (eqb mailboxes storeBytes) (b .0) in
-    (eqb-true orders storeBytes (stores .0), eqb-true mailboxes storeBytes (stores .1), eqb-true ids idBytes (b .1))

@@ -45,7 +45,7 @@ module _ (m : Lent) (a : FrameInput) (sound : isSound (m .rows) ≡ true) where
   unfolding frameCall respond
   frame-held =
       let v = advanced (a .time) (stateOf m) in
-      by-test (λ (c : FrameCall). Held (c .bankState .bank)) (lentRight (stateOf m) (a .ids) (a .buffer))
+      by-test (λ (c : FrameCall). Held (c .bankState .bank)) (lentRight (stateOf m) a)
       (λ _. held-judged (v .bank) held (readRequest (a .frame)) (v .orders) (v .mailboxes) (dataOf (a .frame))
       (number (a .ids)))
       (λ _. held-rows (m .rows) laid)
@@ -55,7 +55,7 @@ module _ (m : Lent) (a : FrameInput) (sound : isSound (m .rows) ≡ true) where
   frame-range =
       let v = advanced (a .time) (stateOf m) in
       let r = advanced-range (a .time) (stateOf m) (sound-range (m .rows) sound) in
-      by-test (λ (c : FrameCall). InRange (c .bankState .bank)) (lentRight (stateOf m) (a .ids) (a .buffer))
+      by-test (λ (c : FrameCall). InRange (c .bankState .bank)) (lentRight (stateOf m) a)
       (λ _. range-judged (v .bank) held r (readRequest (a .frame)) (v .orders) (v .mailboxes) (dataOf (a .frame))
       (number (a .ids)))
       (λ _. sound-range (m .rows) sound)

@@ -129,10 +129,10 @@ module _ (m : Lent) (a : FrameInput) where
       (sym (unchanged (m .rows) (sound-laid (m .rows) e) (m .orders) (m .mailboxes)))
   refused-by false e = refl
 
-  -- a wrong length, whatever the rows are
-  pub length-refused : lentRight (stateOf m) (a .ids) (a .buffer) ≡ false → lentFrameCall m a ≡ frameTurnedAway m a
+  -- a wrong length or a late time, whatever the rows are
+  pub lent-refused : lentRight (stateOf m) a ≡ false → lentFrameCall m a ≡ frameTurnedAway m a
   unfolding lentFrameCall frameCall
-  length-refused h = rw h (refused-by (isSound (m .rows)) refl)
+  lent-refused h = rw h (refused-by (isSound (m .rows)) refl)
 
   -- rows that no call leaves
   pub rows-refused : isSound (m .rows) ≡ false → lentFrameCall m a ≡ frameTurnedAway m a
@@ -145,7 +145,7 @@ module _ (m : Lent) (a : FrameInput) where
   lent-frame h = rw h
 
   -- the clock, the reading and the step
-  pub frame-carried : isSound (m .rows) ≡ true → lentRight (stateOf m) (a .ids) (a .buffer) ≡ true
+  pub frame-carried : isSound (m .rows) ≡ true → lentRight (stateOf m) a ≡ true
       → (t p : List ℕ) → StoredWith (advanced (a .time) (stateOf m)) (m .rows) t p
       → {first : ℕ} {q : Fields} {d : List ℕ} {x : LentFrameCall} → first ≡ number (a .ids) → q ≡ readRequest (a .frame)
       → d ≡ dataOf (a .frame) → x ≡ lentRespond first (lent t p (m .mailboxes)) q d (a .buffer) → x ≡ lentFrameCall m a

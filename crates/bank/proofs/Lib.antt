@@ -3,5 +3,6 @@ pub mod Accepted
 pub mod Safety
 pub mod Codes
 pub mod Lent
+pub mod Right
 pub mod Kept
 pub mod Entered

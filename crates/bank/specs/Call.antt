@@ -1,5 +1,5 @@
 -- A frame arrives: the lent lengths, the clock and the drops, the reading, the verdict carried out, and the reply.
-use Prim.Native.Nat.{ℕ, _-_}
+use Prim.Native.Nat.{ℕ, _-_, _≤_}
 use mathlib.Core.Path.{_≡_}
 use mathlib.Core.Bool.{Bool, cond, _&&_}
 use mathlib.Core.List.{List, []}
@@ -12,7 +12,7 @@ use Rattle.octets.specs.Bytes.{number}
 use Rattle.frame_table.specs.Names.{subscriber, returnCode, form}
 use Rattle.frame_reader.specs.Reader.{readRequest, readReply}
 use Rattle.frame_row.specs.Row.{dataOf}
-use Rattle.frame_table.specs.Table.{isReplyForm}
+use Rattle.frame_table.specs.Table.{isReplyForm, lastTime}
 use Rattle.frame_writer.specs.Writer.{writeAnswer, writeBuffer}
 use Rattle.message.specs.Segments.{segmentOf}
 use Rattle.bank_state.specs.Clock.{advanced}
@@ -110,11 +110,21 @@ pub record FrameInput : Type 0 where
 abbrev pub frameInput : ℕ → List ℕ → List ℕ → List ℕ → FrameInput
 frameInput time ids frame buffer = record { time = time; ids = ids; frame = frame; buffer = buffer }
 
--- number 1: "a lent length differs from the above or is too short for what is to be written"
-unfoldable pub lentRight : BankState → List ℕ → List ℕ → Bool
-lentRight w ids buffer =
-    eqb (length (w .orders)) storeBytes && eqb (length (w .mailboxes)) storeBytes && eqb (length ids) idBytes
-    && leb replyRoom (length buffer)
+-- number 1 but for this: "a lent length differs from the above or is too short for what is to be written"
+abbrev pub lentLong : BankState → FrameInput → Bool
+lentLong w a =
+    eqb (length (w .orders)) storeBytes && eqb (length (w .mailboxes)) storeBytes && eqb (length (a .ids)) idBytes
+    && leb replyRoom (length (a .buffer))
+
+-- and but for this, of card 3: values over the last time get "as bank or client time number 1"
+unfoldable pub lentRight : BankState → FrameInput → Bool
+lentRight w a = lentLong w a && leb (a .time) lastTime
+
+-- what a call brings and is lent besides the bank where none of it gets number 1
+pub record RightInput (a : FrameInput) : Type 0 where
+  pub ids : length (a .ids) ≡ idBytes
+  pub room : replyRoom ≤ length (a .buffer)
+  pub inTime : a .time ≤ lastTime
 
 -- number 1, nothing changed
 abbrev pub frameRefused : BankState → FrameInput → FrameCall
@@ -124,7 +134,7 @@ frameRefused w a =
 -- a frame arrives
 unfoldable pub frameCall : BankState → FrameInput → FrameCall
 frameCall w a =
-    cond (lentRight w (a .ids) (a .buffer))
+    cond (lentRight w a)
     (replied (respond (number (a .ids)) (advanced (a .time) w) (readRequest (a .frame)) (dataOf (a .frame)))
     (a .buffer))
     (frameRefused w a)

@@ -19,6 +19,7 @@ use bank_verdicts::verdict::Verdict;
 use frame_reader::reader::data_at;
 use frame_reader::reader::read_whole_request;
 use frame_table::fields::Fields;
+use frame_table::table::LAST_TIME;
 use frame_table::table::is_reply_form;
 use frame_writer::writer::Written;
 use frame_writer::writer::write;
@@ -31,6 +32,7 @@ ghost use mathlib.Core.List.{List, [], _++_};
 ghost use Prim.Native.Nat.{_≤_};
 ghost use lib.Dec.{eqb, leb};
 ghost use Rattle.frame_table.specs.Names.{subscriber};
+ghost use Rattle.frame_table.specs.Table.{lastTime};
 ghost use Rattle.bank_state.specs.Limits.{placeCount, storeBytes, idBytes, replyRoom};
 ghost use Rattle.bank_rows.specs.State.{bankOf};
 ghost use Rattle.bank_verdicts.specs.Replies.{replyTo, segmentIn};
@@ -160,10 +162,10 @@ fn turned_away() -> FrameStep
     FrameStep { out, batch }
 }
 
-// Whether the lent lengths are right.
-fn lent_right(orders: usize, mailboxes: usize, ids: usize, buffer: usize) -> bool
-    ensures { λ r. ⌜ r
-        ≡ (eqb orders storeBytes && eqb mailboxes storeBytes && eqb ids idBytes && leb replyRoom buffer) ⌝ }
+// Whether the lent lengths are right, and the time is not over the last one.
+fn lent_right(orders: usize, mailboxes: usize, ids: usize, buffer: usize, time: u64) -> bool
+    ensures { λ r. ⌜ r ≡ (eqb orders storeBytes && eqb mailboxes storeBytes && eqb ids idBytes
+        && leb replyRoom buffer && leb time lastTime) ⌝ }
 {
     if orders != STORE_BYTES {
         return false;
@@ -174,13 +176,16 @@ fn lent_right(orders: usize, mailboxes: usize, ids: usize, buffer: usize) -> boo
     if ids != ID_BYTES {
         return false;
     }
-    REPLY_ROOM <= buffer
+    if buffer < REPLY_ROOM {
+        return false;
+    }
+    time <= LAST_TIME
 }
 
 // A frame arrives at a bank time, with the bank's rows, the ID bytes, both stores and the reply buffer lent.
 pub fn answer_frame(
     rows: &mut [u64],
-    time: u32,
+    time: u64,
     ids: &[u8],
     frame: &[u8],
     orders: &mut [u8],
@@ -195,14 +200,14 @@ pub fn answer_frame(
         (enteredBy (stateOf (lent (now (rows .entry)) (now (orders .entry)) (now (mailboxes .entry))))
         (frameInput time (now (ids .entry)) (now (frame .entry)) (now (buffer .entry))))) ⌝ }
 {
-    if !lent_right(orders.len(), mailboxes.len(), ids.len(), buffer.len()) {
+    if !lent_right(orders.len(), mailboxes.len(), ids.len(), buffer.len(), time) {
         return turned_away();
     }
     if !is_sound(rows) {
         return turned_away();
     }
-    let dropped = drops(rows, time as u64);
-    advance(rows, time as u64, orders);
+    let dropped = drops(rows, time);
+    advance(rows, time, orders);
     let p = read_whole_request(frame);
     let q = p.fields;
     respond(

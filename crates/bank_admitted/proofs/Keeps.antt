@@ -75,7 +75,7 @@ module _ (w : BankState) (v : StateHolds w) where
   pub frame-keeps-state : (a : FrameInput) → StateHolds (frameCall w a .bankState)
   unfolding frameCall
   frame-keeps-state a =
-      by-test (λ (c : FrameCall). StateHolds (c .bankState)) (lentRight w (a .ids) (a .buffer))
+      by-test (λ (c : FrameCall). StateHolds (c .bankState)) (lentRight w a)
       (λ _. respond-keeps (number (a .ids)) (advanced (a .time) w) (advanced-keeps (a .time) w v) (readRequest (a .frame))
       (dataOf (a .frame)) (transfer-data (a .frame)))
       (λ _. v)
@@ -83,7 +83,7 @@ module _ (w : BankState) (v : StateHolds w) where
   pub frame-not-idle : NoneIdle w → (a : FrameInput) → NoneIdle (frameCall w a .bankState)
   unfolding frameCall
   frame-not-idle n a =
-      by-test (λ (c : FrameCall). NoneIdle (c .bankState)) (lentRight w (a .ids) (a .buffer))
+      by-test (λ (c : FrameCall). NoneIdle (c .bankState)) (lentRight w a)
       (λ _. respond-not-idle (number (a .ids)) (advanced (a .time) w) (advanced-keeps (a .time) w v) (readRequest (a .frame))
       (dataOf (a .frame)) (advanced-not-idle (a .time) w (v .sizes)))
       (λ _. n)

@@ -1,4 +1,4 @@
--- The numbers of an opening that was read from a frame of bytes: its nonce and its timestamp in their widths.
+-- The numbers of an opening read from a frame of bytes: its nonce in its width, its timestamp at most the last time.
 use Prim.Native.Nat.{ℕ, _≤_}
 use mathlib.Core.Bool.{true}
 use mathlib.Core.List.{List}
@@ -8,10 +8,10 @@ use Rattle.frame_table.specs.declared.fields.Fields.{Fields}
 use Rattle.octets.specs.Bytes.{Bytes}
 use Rattle.frame_table.specs.Names.{phase, nonce, timestamp, form}
 use Rattle.frame_reader.specs.Reader.{readRequest}
-use Rattle.frame_table.specs.Table.{nonceTag, timestampTag, width, has, isRequestForm, tagsOf}
+use Rattle.frame_table.specs.Table.{lastTime, nonceTag, timestampTag, has, isRequestForm, tagsOf}
 use Rattle.frame_table.proofs.Forms.{form-tags, request-form}
-use Rattle.frame.proofs.Theorems.{request-halves, request-number}
-use Rattle.bank_admitted.specs.Session.{lastTime, Words}
+use Rattle.frame.proofs.Theorems.{request-halves, request-time}
+use Rattle.bank_admitted.specs.Session.{Words}
 
 module _ (s : List ℕ) (bytes : Bytes s) where
   abbrev q : Fields
@@ -20,11 +20,7 @@ module _ (s : List ℕ) (bytes : Bytes s) where
   pub nonce-read : Words (nonce q)
   nonce-read = let h = request-halves s bytes nonceTag (omega arith) in record { high = h .0; low = h .1 }
 
-  -- "06 timestamp, 4"
   pub timestamp-read : isRequestForm (form q) ≡ true → has (tagsOf (form q)) timestampTag ≡ true → timestamp q ≤ lastTime
-  unfolding width
   timestamp-read readable h =
       let tags = form-tags (q .tags) (phase q) (request-form (form q) readable) in
-      let n = request-number s bytes readable timestampTag (omega arith) (λ z. omega arith)
-      (ap (λ (k : ℕ). has k timestampTag) tags ∙ h) .fits in
-      omega arith
+      request-time s bytes readable (ap (λ (k : ℕ). has k timestampTag) tags ∙ h)

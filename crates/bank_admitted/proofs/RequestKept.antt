@@ -16,7 +16,7 @@ use Rattle.frame_table.specs.declared.fields.Bits128.{Bits128}
 use Rattle.frame_table.specs.declared.fields.Fields.{Fields}
 use Rattle.frame_table.specs.declared.table.Form.{Form}
 use Rattle.frame_table.specs.Names.{subscriber, nonce, timestamp, transaction, form}
-use Rattle.frame_table.specs.Table.{timestampTag, has, isRequestForm, tagsOf}
+use Rattle.frame_table.specs.Table.{lastTime, timestampTag, has, isRequestForm, tagsOf}
 use Rattle.bank_state.specs.declared.clock.Ended.{Ended}
 use Rattle.bank_state.specs.declared.state.Download.{Download}
 use Rattle.bank_state.specs.declared.state.Place.{Place}
@@ -58,7 +58,7 @@ use Rattle.journal.specs.declared.event.Kind.{Kind}
 use Rattle.journal.specs.declared.event.Kind.the-variants as kind
 use Rattle.bank_events.specs.Entries.{entry, isEvent, orderIn, actionEntries}
 use Rattle.bank_steps.specs.Steps.{uploadActs, downloadActs, carryOut}
-use Rattle.bank_admitted.specs.Session.{lastTime, Words, NoncesApart, openUploads}
+use Rattle.bank_admitted.specs.Session.{Words, NoncesApart, openUploads}
 use Rattle.bank_admitted.proofs.Cases.{
   ToUpload,
   ToDownload,

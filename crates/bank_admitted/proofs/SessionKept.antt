@@ -1,18 +1,17 @@
 -- Every call keeps what a session may hold; what it holds of the state and of idle transactions is taken as given.
 use Prim.Native.Nat.{ℕ, _+_, _*_, _^_, _≤_, _<_, max}
-use mathlib.Core.Bool.{Bool, true, _&&_}
+use mathlib.Core.Bool.{true}
 use mathlib.Core.List.{List, _++_, map, List·Memᴰ as In, List·Memᴰ·append-cases as in-append}
 use mathlib.Core.Logic.{_⊎_, inl, inr}
 use mathlib.Core.Path.{_≡_, sym, _∙_, subst}
 use native.Mathlib.Decide.{decLt}
 use native.Mathlib.Omega.{arith}
-use lib.Dec.{eqb, leb}
 use lib.ListN.{length, getD, length-append, List·getD-eq-default, length-map}
-use borrow.Author.Tests.{eqb-true}
 use Rattle.octets.specs.Bytes.{number}
 use Rattle.octets.proofs.Numbers.{number-small}
-use Rattle.octets.proofs.Tests.{never, and-true}
+use Rattle.octets.proofs.Tests.{never}
 use Rattle.frame_table.specs.declared.fields.Fields.{Fields}
+use Rattle.frame_table.specs.Table.{lastTime}
 use Rattle.frame_reader.specs.Reader.{readRequest}
 use Rattle.frame_row.specs.Row.{dataOf}
 use Rattle.message.specs.Verdicts.{decide}
@@ -21,7 +20,7 @@ use Rattle.bank_state.specs.declared.clock.Ended.the-variants.{Idle}
 use Rattle.bank_state.specs.declared.state.Download.{Download}
 use Rattle.bank_state.specs.declared.state.Place.{Place}
 use Rattle.bank_state.specs.Clock.{advanced}
-use Rattle.bank_state.specs.Limits.{placeCount, idBytes, storeBytes, replyRoom}
+use Rattle.bank_state.specs.Limits.{placeCount, idBytes}
 use Rattle.bank_state.specs.Search.{isOpen}
 use Rattle.bank_state.specs.State.{BankState, bankState, noPlace, noDownload, placeAt, downloadAt, withFiles}
 use Rattle.bank_state.proofs.Drops.{isIdlePlace, AtClock, advanced-at-clock, Sized, advanced-sized, each-endDownloads}
@@ -36,11 +35,12 @@ use Rattle.bank.specs.declared.call.FrameAnswer.{FrameAnswer}
 use Rattle.bank.specs.declared.call.FrameAnswer.the-variants.{Reply, WrongLength}
 use Rattle.bank.specs.declared.mailbox.FileAnswer.{FileAnswer}
 use Rattle.bank.specs.declared.mailbox.FileAnswer.the-variants as answers
-use Rattle.bank.specs.Call.{lentRight, respond, replied, FrameInput, FrameCall, frameCall}
+use Rattle.bank.specs.Call.{RightInput, lentRight, respond, replied, FrameInput, FrameCall, frameCall}
 use Rattle.bank.specs.Journal.{enteredBy, journalAfter, journalBy, withEntries}
 use Rattle.bank.specs.Mailbox.{fileRefusals, carryOutFile, fileCall}
+use Rattle.bank.proofs.Right.{right-told}
 use Rattle.bank_admitted.specs.State.{StateHolds, NoneIdle}
-use Rattle.bank_admitted.specs.Session.{lastTime, NoncesApart, JournalHolds, openUploads, SessionHolds, Brought}
+use Rattle.bank_admitted.specs.Session.{NoncesApart, JournalHolds, openUploads, SessionHolds, Brought}
 use Rattle.bank_admitted.proofs.Cases.{happens}
 use Rattle.bank_admitted.proofs.Clock.{sized}
 use Rattle.bank_admitted.proofs.DropsKept.{advanced-place, drops-counted, open-used, drops-entered}
@@ -54,14 +54,6 @@ pub events-fit : {w : BankState} {j : Journal} → SessionHolds w j → j .event
 events-fit {w} {j} h = let a = h .events in let b = h .state .numbers in omega arith
 
 -- ---- a frame call that is answered
-
--- "a lent length differs from the above"
-ids-right : (w : BankState) (ids buffer : List ℕ) → lentRight w ids buffer ≡ true → length ids ≡ idBytes
-unfolding lentRight
-ids-right w ids buffer h =
-    let stores : Bool = eqb (length (w .orders)) storeBytes && eqb (length (w .mailboxes)) storeBytes in
-    let a = and-true (stores && eqb (length ids) idBytes) (leb replyRoom (length buffer)) h in
-    eqb-true (length ids) idBytes (and-true stores (eqb (length ids) idBytes) (a .0) .1)
 
 module _ {w : BankState} {j : Journal} (h : SessionHolds w j) (a : FrameInput) (brought : Brought a) where
   abbrev c : ℕ
@@ -132,7 +124,10 @@ module _ {w : BankState} {j : Journal} (h : SessionHolds w j) (a : FrameInput) (
         named = found-named;
       }
 
-  module _ (lent : lentRight w (a .ids) (a .buffer) ≡ true) where
+  module _ (lent : lentRight w a ≡ true) where
+    right : RightInput a
+    right = right-told w a lent .2
+
     abbrev v : Verdict
     v = judge (number (a .ids)) (b .bank) q (length d)
 
@@ -150,7 +145,7 @@ module _ {w : BankState} {j : Journal} (h : SessionHolds w j) (a : FrameInput) (
     left =
         let n = advanced-sized (a .time) w s in
         request-left (number (a .ids))
-        (number-small idBytes (a .ids) (brought .ids) (ids-right w (a .ids) (a .buffer) lent)) b found q d
+        (number-small idBytes (a .ids) (brought .ids) (right .ids)) b found q d
         (record {
           nonce = nonce-read (a .frame) (brought .frame);
           timestamp = timestamp-read (a .frame) (brought .frame);
@@ -164,7 +159,7 @@ module _ {w : BankState} {j : Journal} (h : SessionHolds w j) (a : FrameInput) (
     more = let x = left .more in let y = at .openings in omega arith
 
     in-time : after .bank .clock ≤ lastTime
-    in-time = let x = h .clock in let y = brought .time in let z = now in omega arith
+    in-time = let x = h .clock in let y = right .inTime in let z = now in omega arith
 
     -- the journal before, at the call's clock and after its opening
     journal-waits : JournalHolds c (after .bank .openings) j
@@ -229,7 +224,7 @@ module _ {w : BankState} {j : Journal} (h : SessionHolds w j) where
       by-test
       (λ (x : FrameCall). StateHolds (x .bankState) → NoneIdle (x .bankState) →
       SessionHolds (x .bankState) (journalBy (x .answer) (journalAfter w a j) j))
-      (lentRight w (a .ids) (a .buffer)) (λ lent. answered-keeps h a brought lent (replied step (a .buffer) .answer))
+      (lentRight w a) (λ lent. answered-keeps h a brought lent (replied step (a .buffer) .answer))
       (λ _ _ _. h)
 
   -- a file put into a mailbox: "brings no time and moves no clock", and enters nothing

@@ -6,6 +6,7 @@ use mathlib.Core.Path.{_≡_}
 use lib.ListN.{length, getD}
 use Rattle.octets.specs.Bytes.{Bytes}
 use Rattle.frame_table.specs.declared.fields.Bits128.{Bits128}
+use Rattle.frame_table.specs.Table.{lastTime}
 use Rattle.message.specs.Limits.{subscribers}
 use Rattle.journal.specs.declared.event.Event.{Event}
 use Rattle.journal.specs.Events.{recordCount, noEvent}
@@ -19,10 +20,6 @@ use Rattle.bank_state.specs.State.{Bank, BankState, Nonce, noNonce, placeAt, do
 use Rattle.bank_events.specs.Entries.{isEvent}
 use Rattle.bank.specs.Call.{FrameInput}
 use Rattle.bank_admitted.specs.State.{StateHolds, NoneIdle}
-
--- the last time that a field of four bytes can say
-abbrev pub lastTime : ℕ
-lastTime = 4294967295
 
 -- both halves are numbers of eight bytes
 pub record Words (t : Bits128) : Type 0 where
@@ -78,8 +75,7 @@ pub record SessionHolds (w : BankState) (j : Journal) : Type 0 where
   -- "05 plus the number of open uploads is at most 2 × openings"
   pub events : j .events + openUploads (w .bank) ≤ 2 * w .bank .openings
 
--- what a frame call brings is of the machine: bytes, and a time of four bytes
+-- what a frame call brings is of the machine: bytes
 pub record Brought (a : FrameInput) : Type 0 where
-  pub time : a .time ≤ lastTime
   pub ids : Bytes (a .ids)
   pub frame : Bytes (a .frame)

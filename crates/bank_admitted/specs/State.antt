@@ -114,7 +114,7 @@ pub record MailboxHolds (n : ℕ) (bytes : List ℕ) : Type 0 where
   pub room : n ≤ fileBytes
   pub zeros : bytes ≡ take n bytes ++ replicate (fileBytes - n) 0
 
--- each nonce of a list is used, "while its timestamp is at most 300 behind the clock"
+-- each nonce of a list is used, "while its timestamp is at most" the window "behind the clock"
 pub data AllRemembered (clock : ℕ) : List Nonce → Type 0 where
   end : AllRemembered clock []
   next : {e : Nonce} {l : List Nonce} → e .used ≡ true → leb clock (e .timestamp + window) ≡ true →
@@ -162,7 +162,7 @@ pub record StateHolds (w : BankState) : Type 0 where
   pub openAll : openCount (w .bank) ≤ maxOpen
   pub openOf : (s : ℕ) → openCountOf s (w .bank) ≤ maxOpenPerSubscriber
 
--- no open transaction is idle: "open at 3,600, gone at 3,601"
+-- no open transaction is idle: open at the idle limit, gone after it
 pub record NoneIdle (w : BankState) : Type 0 where
   pub places : (i : ℕ) → i < placeCount → isOpen (placeAt (w .bank) i .used) ≡ true →
       w .bank .clock ≤ placeAt (w .bank) i .last + idleLimit

@@ -1,11 +1,10 @@
--- A frame call with right lent lengths is answered where its reply can be written, and a reply's data is short.
+-- A frame call with right lent lengths and time is answered where its reply can be written; a reply's data is short.
 use Prim.Native.Nat.{ℕ, _≤_}
 use mathlib.Core.Bool.{true}
 use mathlib.Core.List.{List, []}
 use mathlib.Core.Path.{_≡_, refl, ap}
 use native.Mathlib.Omega.{arith}
 use lib.ListN.{length, length-take, length-drop}
-use borrow.Author.Tests.{eq-eqb, le-leb}
 use Rattle.frame_table.specs.declared.fields.Bits128.{Bits128}
 use Rattle.octets.specs.Bytes.{number}
 use Rattle.frame_table.specs.Names.{segment}
@@ -16,9 +15,9 @@ use Rattle.frame_writer.proofs.Written.{written-in-front}
 use Rattle.message.specs.Limits.{segmentBytes}
 use Rattle.message.specs.Segments.{segmentsOf, segmentOf}
 use Rattle.bank_state.specs.Clock.{advanced}
-use Rattle.bank_state.specs.State.{BankState}
-use Rattle.bank_state.specs.Limits.{storeBytes, idBytes, replyRoom}
-use Rattle.bank.specs.Call.{Step, respond, lentRight, frameCall, FrameInput}
+use Rattle.bank_state.specs.Limits.{replyRoom}
+use Rattle.bank.specs.Call.{Step, respond, lentRight, frameCall, FrameInput, RightInput}
+use Rattle.bank.proofs.Right.{right-tested}
 use Rattle.bank_verdicts.specs.declared.verdict.UploadAction.{UploadAction}
 use Rattle.bank_verdicts.specs.declared.verdict.UploadAction.the-variants as up
 use Rattle.bank_verdicts.specs.declared.verdict.DownloadAction.{DownloadAction}
@@ -41,40 +40,25 @@ use Rattle.bank_history.specs.Transactions.{answered}
 use Rattle.message.proofs.SegmentNumbers.{some-segment}
 use Rattle.bank_history.proofs.Positions.{sound-at}
 
--- stores of the lengths that a frame call asks for
-pub stores-right : (w : BankState) (ids buffer : List ℕ) → length (w .orders) ≡ storeBytes →
-    length (w .mailboxes) ≡ storeBytes → length ids ≡ idBytes → replyRoom ≤ length buffer →
-    lentRight w ids buffer ≡ true
-unfolding lentRight
-stores-right w ids buffer orders mailboxes right room =
-    rw (
-      eq-eqb (length (w .orders)) storeBytes orders,
-      eq-eqb (length (w .mailboxes)) storeBytes mailboxes,
-      eq-eqb (length ids) idBytes right,
-      le-leb replyRoom (length buffer) room,
-    )
-
--- the stores that the calls left have them
-pub lent-right : (p : Past) (ids buffer : List ℕ) → Holds p → length ids ≡ idBytes → replyRoom ≤ length buffer →
-    lentRight (p .bankState) ids buffer ≡ true
-lent-right p ids buffer holds =
-    let s = holds .invariant .state .sizes in
-    stores-right (p .bankState) ids buffer (s .orders) (s .mailboxes)
+-- the stores that the calls left have the lengths that a frame call asks for
+pub lent-right : (p : Past) (a : FrameInput) → Holds p → RightInput a → lentRight (p .bankState) a ≡ true
+lent-right p a holds =
+    let s = holds .invariant .state .sizes in right-tested (p .bankState) a (s .orders) (s .mailboxes)
 
 -- such a call is answered, where its reply can be written in at most 312 bytes
-pub frame-answered : (a : FrameInput) (p : Past) → Holds p → length (a .ids) ≡ idBytes →
-    replyRoom ≤ length (a .buffer) →
+pub frame-answered : (a : FrameInput) (p : Past) → Holds p → RightInput a →
     (let s = respond (number (a .ids)) (advanced (a .time) (p .bankState)) (readRequest (a .frame))
     (dataOf (a .frame)) in
     (writable (s .reply) (s .replyData) ≡ true) × (length (frameOf (s .reply) (s .replyData)) ≤ replyRoom)) →
     after (Frame a) p ≡ answered a p
 unfolding after frameCall
-frame-answered a p holds right room can =
+frame-answered a p holds right can =
     let s : Step =
     respond (number (a .ids)) (advanced (a .time) (p .bankState)) (readRequest (a .frame)) (dataOf (a .frame)) in
     let short = can .1 in
-    let front = written-in-front (s .reply) (s .replyData) (a .buffer) _ (can .0) refl (omega arith) .0 in
-    rw (lent-right p (a .ids) (a .buffer) holds right room, front)
+    let fits : length (frameOf (s .reply) (s .replyData)) ≤ length (a .buffer) = omega (arith, right .room) in
+    let front = written-in-front (s .reply) (s .replyData) (a .buffer) _ (can .0) refl fits .0 in
+    rw (lent-right p a holds right, front)
 
 -- ---- a reply's data
 

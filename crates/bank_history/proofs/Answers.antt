@@ -1,12 +1,10 @@
 -- Every frame gets its reply: a frame that its buffer has room for, which reads as the reply's fields and its data.
 use Prim.Native.Nat.{ℕ, _^_, _≤_, _<_}
-use mathlib.Core.Bool.{Bool, true, false, _&&_}
+use mathlib.Core.Bool.{Bool, true, false}
 use mathlib.Core.List.{List}
 use mathlib.Core.Path.{_≡_, refl, sym, ap, _∙_, subst}
 use native.Mathlib.Omega.{arith}
-use lib.Dec.{leb, eqb}
 use lib.ListN.{length}
-use borrow.Author.Tests.{eqb-true, leb-true}
 use Rattle.frame_table.specs.declared.fields.Fields.{Fields}
 use Rattle.octets.specs.Bytes.{Bytes, number}
 use Rattle.frame_table.specs.Names.{subscriber, form}
@@ -14,14 +12,13 @@ use Rattle.frame_reader.specs.Reader.{readRequest}
 use Rattle.frame_row.specs.Row.{dataOf}
 use Rattle.frame_table.specs.Table.{isRequestForm}
 use Rattle.frame_writer.specs.Writer.{frameOf}
-use Rattle.octets.proofs.Tests.{and-true}
 use Rattle.octets.proofs.Numbers.{number-small}
 use Rattle.frame_writer.proofs.Written.{written-in-front, written-behind}
 use Rattle.frame.proofs.Theorems.{data-read, reply-read}
 use Rattle.message.specs.Replies.{unreadable}
 use Rattle.message.proofs.Writable.{unreadable-written}
 use Rattle.bank_state.specs.Clock.{advanced}
-use Rattle.bank_state.specs.Limits.{storeBytes, idBytes, replyRoom}
+use Rattle.bank_state.specs.Limits.{idBytes}
 use Rattle.bank_state.specs.State.{BankState}
 use Rattle.bank_state.proofs.Drops.{Sized, advanced-sized}
 use Rattle.bank_sound.specs.Sound.{InRange}
@@ -29,7 +26,8 @@ use Rattle.bank_sound.proofs.Range.{advanced-range}
 use Rattle.bank_verdicts.specs.declared.verdict.Verdict.the-variants as verdict
 use Rattle.bank_verdicts.specs.Refusals.{requestRows}
 use Rattle.bank_verdicts.specs.Judgement.{judge}
-use Rattle.bank.specs.Call.{Step, stepBy, respond, lentRight, frameCall, FrameInput}
+use Rattle.bank.specs.Call.{Step, stepBy, respond, lentRight, frameCall, FrameInput, RightInput}
+use Rattle.bank.proofs.Right.{right-told, right-tested}
 use Rattle.bank_history.specs.History.{Past, BankCall, Frame, exchangeOf, after, pastOf, callExchange}
 use Rattle.bank_admitted.specs.State.{Sizes}
 use Rattle.bank_history.specs.Transactions.{answered}
@@ -39,7 +37,7 @@ use Rattle.bank_admitted.proofs.Clock.{sized}
 use Rattle.bank_history.proofs.InRange.{in-range}
 use Rattle.bank_history.proofs.Uploads.{bare}
 use Rattle.bank_history.proofs.Keeps.{past-holds}
-use Rattle.bank_history.proofs.Answered.{stores-right, frame-answered}
+use Rattle.bank_history.proofs.Answered.{frame-answered}
 use Rattle.bank_history.proofs.RequestBounds.{request-in-width}
 use Rattle.bank_history.proofs.WrittenReplies.{WrittenReply, sent, case-written}
 
@@ -48,16 +46,6 @@ use Rattle.bank_history.proofs.WrittenReplies.{WrittenReply, sent, case
 -- the lent ID bytes are a number of 64 bits
 ids-lt : (ids : List ℕ) → Bytes ids → length ids ≡ idBytes → number ids < 2 ^ 64
 ids-lt ids b long = number-small idBytes ids b long
-
--- what right lent lengths tell of those of a call
-pub call-lengths : (w : BankState) (ids buffer : List ℕ) → lentRight w ids buffer ≡ true →
-    (length ids ≡ idBytes) × (replyRoom ≤ length buffer)
-unfolding lentRight
-call-lengths w ids buffer h =
-    let stores : Bool = eqb (length (w .orders)) storeBytes && eqb (length (w .mailboxes)) storeBytes in
-    let others : Bool = stores && eqb (length ids) idBytes in
-    let a = and-true others (leb replyRoom (length buffer)) h in
-    (eqb-true (length ids) idBytes (and-true stores (eqb (length ids) idBytes) (a .0) .1), leb-true _ _ (a .1))
 
 -- ---- every reply
 
@@ -72,10 +60,10 @@ unread-is first w q d e = rw e
 
 -- a bank in range, with stores of their lengths, and a call that brings bytes
 module _ (w : BankState) (range : InRange (w .bank)) (sizes : Sizes w) (a : FrameInput)
-    (idsBytes : Bytes (a .ids)) (frameBytes : Bytes (a .frame)) (right : length (a .ids) ≡ idBytes) where
-  pub reply-written : WrittenReply (stepOf w a .reply) (stepOf w a .replyData)
+    (idsBytes : Bytes (a .ids)) (frameBytes : Bytes (a .frame)) where
+  pub reply-written : length (a .ids) ≡ idBytes → WrittenReply (stepOf w a .reply) (stepOf w a .replyData)
   unfolding respond
-  reply-written = at (isRequestForm (form q)) refl
+  reply-written right = at (isRequestForm (form q)) refl
     where
       v : BankState
       v = advanced (a .time) w
@@ -97,15 +85,16 @@ module _ (w : BankState) (range : InRange (w .bank)) (sizes : Sizes w) (a : Fram
           (subst (WrittenReply unreadable) (sym (bare v (subscriber q))) (sent refl (omega arith) unreadable-written))
 
   -- its answer is the reply, in front of the buffer
-  pub call-answered : replyRoom ≤ length (a .buffer) → FrameAnswered (frameCall w a) (a .buffer) (callExchange w a)
+  pub call-answered : RightInput a → FrameAnswered (frameCall w a) (a .buffer) (callExchange w a)
   unfolding frameCall exchangeOf
-  call-answered room =
-      let r = reply-written in
+  call-answered right =
+      let r = reply-written (right .ids) in
       let t = r .written in
       let s : Step = stepOf w a in
       let n : ℕ = length (frameOf (s .reply) (s .replyData)) in
-      let ready = stores-right w (a .ids) (a .buffer) (sizes .orders) (sizes .mailboxes) right room in
-      let front = written-in-front (s .reply) (s .replyData) (a .buffer) n (t .accepted) refl (omega (arith, r .most)) .0 in
+      let ready = right-tested w a (sizes .orders) (sizes .mailboxes) right in
+      let fits : n ≤ length (a .buffer) = omega (arith, right .room, r .most) in
+      let front = written-in-front (s .reply) (s .replyData) (a .buffer) n (t .accepted) refl fits .0 in
       record {
         size = n;
         answer = rw (ready, front);
@@ -122,30 +111,27 @@ module _ (calls : List BankCall) (a : FrameInput) (idsBytes : Bytes (a .ids)) (f
   abbrev past : Past
   past = pastOf calls
 
-  -- "a number, nothing changed" comes of a wrong lent length alone; every other frame gets its reply
-  pub frame-gets-reply : length (a .ids) ≡ idBytes → replyRoom ≤ length (a .buffer) →
+  -- "a number, nothing changed" comes of a wrong lent length or a late time alone; every other frame gets its reply
+  pub frame-gets-reply : RightInput a →
       FrameAnswered (frameCall (past .bankState) a) (a .buffer) (callExchange (past .bankState) a)
-  frame-gets-reply right =
+  frame-gets-reply =
       let v = past-holds calls .invariant in
-      call-answered (past .bankState) (in-range v) (v .state .sizes) a idsBytes frameBytes right
+      call-answered (past .bankState) (in-range v) (v .state .sizes) a idsBytes frameBytes
 
   -- and its exchange enters the history
-  pub frame-entered : length (a .ids) ≡ idBytes → replyRoom ≤ length (a .buffer) →
-      after (Frame a) past ≡ answered a past
-  frame-entered right room =
+  pub frame-entered : RightInput a → after (Frame a) past ≡ answered a past
+  frame-entered right =
       let holds = past-holds calls in
       let v = holds .invariant in
-      let r = reply-written (past .bankState) (in-range v) (v .state .sizes) a idsBytes frameBytes right in
-      frame-answered a past holds right room (r .written .accepted, r .most)
+      let r = reply-written (past .bankState) (in-range v) (v .state .sizes) a idsBytes frameBytes (right .ids) in
+      frame-answered a past holds right (r .written .accepted, r .most)
 
   -- the history's bank is the bank that the call leaves
   pub same-bank : after (Frame a) past .bankState ≡ frameCall (past .bankState) a .bankState
   unfolding after frameCall
-  same-bank = at (lentRight (past .bankState) (a .ids) (a .buffer)) refl
+  same-bank = at (lentRight (past .bankState) a) refl
     where
-      at : (b : Bool) → lentRight (past .bankState) (a .ids) (a .buffer) ≡ b →
+      at : (b : Bool) → lentRight (past .bankState) a ≡ b →
           after (Frame a) past .bankState ≡ frameCall (past .bankState) a .bankState
-      at true e =
-          let l = call-lengths (past .bankState) (a .ids) (a .buffer) e in
-          ap (λ (r : Past). r .bankState) (frame-entered (l .0) (l .1)) ∙ rw e
+      at true e = ap (λ (r : Past). r .bankState) (frame-entered (right-told (past .bankState) a e .2)) ∙ rw e
       at false e = rw e

@@ -12,6 +12,7 @@ use Rattle.frame_table.specs.declared.fields.Bits128.{Bits128}
 use Rattle.frame_table.specs.declared.fields.Fields.{Fields}
 use Rattle.octets.specs.Bytes.{number}
 use Rattle.frame_table.specs.Names.{subscriber, transaction}
+use Rattle.frame_table.specs.Table.{lastTime}
 use Rattle.frame_reader.specs.Reader.{readRequest}
 use Rattle.frame_row.specs.Row.{dataOf}
 use Rattle.octets.proofs.Tests.{never}
@@ -42,6 +43,7 @@ use Rattle.bank.specs.declared.mailbox.FileAnswer.the-variants as put
 use Rattle.bank_steps.specs.Steps.{onUpload, downloadActs, emptied, carryOut}
 use Rattle.bank.specs.Call.{Step, FrameCall, lentRight, replied, respond, frameCall, FrameInput}
 use Rattle.bank.specs.Mailbox.{fileNumber, carryOutFile, fileCall}
+use Rattle.bank.proofs.Right.{right-told}
 use Rattle.bank_admitted.specs.State.{mailboxFile}
 use Rattle.bank_history.specs.History.{Exchange, Past, BankCall, Frame, File, isOpening, exchangeOf, entered, placed, after, callExchange}
 use Rattle.bank_admitted.specs.State.{Sizes}
@@ -69,7 +71,7 @@ unfolding after frameCall
 after-frame a p =
     by-test (λ (c : FrameCall). (entered (c .answer) (c .bankState) x p ≡ p) ⊎
     (entered (c .answer) (c .bankState) x p ≡ answered a p))
-    (lentRight (p .bankState) (a .ids) (a .buffer)) (λ _. at (replied s (a .buffer) .answer)) (λ _. inl refl)
+    (lentRight (p .bankState) a) (λ _. at (replied s (a .buffer) .answer)) (λ _. inl refl)
   where
     s : Step
     s = respond (number (a .ids)) (advanced (a .time) (p .bankState)) (readRequest (a .frame)) (dataOf (a .frame))
@@ -80,6 +82,14 @@ after-frame a p =
     at : (r : FrameAnswer) → (entered r (s .bankState) x p ≡ p) ⊎ (entered r (s .bankState) x p ≡ answered a p)
     at (Reply n) = inr refl
     at WrongLength = inl refl
+
+-- a call at a time over the last one leaves all as it was
+pub late-frame : (a : FrameInput) (p : Past) → lastTime < a .time → after (Frame a) p ≡ p
+unfolding after frameCall
+late-frame a p late =
+    by-test (λ (c : FrameCall). entered (c .answer) (c .bankState) (callExchange (p .bankState) a) p ≡ p)
+    (lentRight (p .bankState) a)
+    (λ right. absurd (let t = right-told (p .bankState) a right .2 .inTime in omega arith)) (λ _. refl)
 
 -- an empty mailbox has no file
 pub no-file : (w : BankState) (m : ℕ) → fileLength m (w .bank .files) ≡ 0 → mailboxFile w m ≡ []

@@ -1,4 +1,4 @@
--- "open at 3,600, gone at 3,601": a transaction that is idle when a call comes is gone then.
+-- Open at the idle limit, gone after it: a transaction that is idle when a call comes is gone then.
 use Prim.Native.Nat.{ℕ, _+_, _<_, max}
 use mathlib.Core.Bool.{true, false}
 use mathlib.Core.List.{List}

@@ -1,4 +1,4 @@
--- A recovery attempt does not put off the drop: an open transaction has a fitting request at most 3,600 old.
+-- A recovery attempt does not put off the drop: an open transaction has a fitting request within the idle limit.
 use Prim.Native.Nat.{ℕ, _+_, _≤_, _<_}
 use mathlib.Core.Bool.{true, false}
 use mathlib.Core.List.{List}
@@ -57,7 +57,7 @@ isOf verdict.Unreadable = 0
 isOf (verdict.Refused c) = 0
 isOf (verdict.Of t k) = 1
 
--- a fitting request of u at most 3,600 before the clock of w
+-- a fitting request of u at most the idle limit before the clock of w
 record Recent (u : Bits128) (w : BankState) (h : List Exchange) : Type 0 where
   last : ℕ
   fitted : Fitted u last h

@@ -1,11 +1,12 @@
 -- A computed example: places are used again, so that the drops by place would stand in another order than by opening.
-use Prim.Native.Nat.{ℕ}
+use Prim.Native.Nat.{ℕ, _+_}
 use mathlib.Core.List.{List, [], _∷_, _++_}
 use mathlib.Core.Path.{_≡_, refl}
 use lib.ListN.{replicate}
 use Rattle.frame_table.specs.declared.fields.Bits128.{Bits128}
 use Rattle.frame_writer.specs.Writer.{frameOf}
 use Rattle.message.specs.Requests.{uploadOpening, uploadTransfer}
+use Rattle.bank_state.specs.Limits.{idBytes, replyRoom, idleLimit}
 use Rattle.bank_state.specs.State.{placeAt}
 use Rattle.journal.specs.declared.event.Kind.{Kind}
 use Rattle.journal.specs.declared.event.Kind.the-variants.{Opened, Cancelled, Dropped}
@@ -91,25 +92,32 @@ idOf n = record { high = 0; low = n }
 
 -- a frame at this time
 abbrev call : ℕ → List ℕ → BankCall
-call time frame = Frame (frameInput time (replicate 8 0) frame (replicate 312 0))
+call time frame = Frame (frameInput time (replicate idBytes 0) frame (replicate replyRoom 0))
+
+-- the time of the openings, and the first one after their idle limit
+abbrev early : ℕ
+early = 1000
+
+abbrev late : ℕ
+late = early + idleLimit + 1
 
 -- an opening of an upload of one segment; its nonce is its subscriber's number
 abbrev opens : ℕ → BankCall
-opens s = call 1000 (frameOf (uploadOpening s 1 (idOf s) 1000 1) [])
+opens s = call early (frameOf (uploadOpening s 1 (idOf s) early 1) [])
 
 -- subscribers 1 and 2 open uploads 0 and 1, in places 0 and 1; upload 0 is cancelled by its segment 1 of 1 without the
 -- last mark; subscriber 3 opens upload 2, which takes place 0. The newest call first
 abbrev beforeDrops : List BankCall
 beforeDrops =
     opens 3
-    ∷ call 1000 (frameOf (uploadTransfer 1 2 (idOf 0) 1 0) (65 ∷ []))
+    ∷ call early (frameOf (uploadTransfer 1 2 (idOf 0) 1 0) (65 ∷ []))
     ∷ opens 2
     ∷ opens 1
     ∷ []
 
--- a frame more than 3,600 seconds later, which is none
+-- a frame after the idle limit, which is none
 abbrev withDrops : List BankCall
-withDrops = call 4601 [] ∷ beforeDrops
+withDrops = call late [] ∷ beforeDrops
 
 abbrev event : ℕ → ℕ → ℕ → ℕ → Kind → Event
 event n clock subscriber order k =
@@ -118,12 +126,12 @@ event n clock subscriber order k =
 -- upload 1 is dropped before upload 2
 abbrev expected : List Event
 expected =
-    event 1 1000 1 0 Opened
-    ∷ event 2 1000 2 1 Opened
-    ∷ event 3 1000 1 0 Cancelled
-    ∷ event 4 1000 3 2 Opened
-    ∷ event 5 4601 2 1 Dropped
-    ∷ event 6 4601 3 2 Dropped
+    event 1 early 1 0 Opened
+    ∷ event 2 early 2 1 Opened
+    ∷ event 3 early 1 0 Cancelled
+    ∷ event 4 early 3 2 Opened
+    ∷ event 5 late 2 1 Dropped
+    ∷ event 6 late 3 2 Dropped
     ∷ []
 
 -- ---- what they compute to

@@ -102,7 +102,7 @@ frame-holds : (p : Past) (a : FrameInput) → Holds p → Holds (after (Frame a)
 unfolding after frameCall
 frame-holds p a old =
     by-test (λ (c : FrameCall). Holds (entered (c .answer) (c .bankState) x p))
-    (lentRight (p .bankState) (a .ids) (a .buffer))
+    (lentRight (p .bankState) a)
     (λ _. entered-holds p (replied s (a .buffer) .answer) (s .bankState) x old kept notIdle) (λ _. old)
   where
     w : BankState

@@ -1,20 +1,16 @@
 -- The calls on lent memory are the calls on the bank that the rows are: what a call leaves is stored and read back,
--- since the
--- invariant's bank is one that rows can hold and in range. A bank in range writes every reply.
+-- since the invariant's bank is one that rows can hold and in range. A bank in range writes every reply.
 use Prim.Native.Nat.{ℕ}
-use mathlib.Core.Bool.{Bool, true, false, _&&_}
+use mathlib.Core.Bool.{Bool, true, false}
 use mathlib.Core.List.{List, [], _∷_}
 use mathlib.Core.Path.{_≡_, refl, sym, ap, _∙_}
 use native.Mathlib.Omega.{arith}
-use lib.Dec.{leb, eqb}
 use lib.ListN.{length, replicate}
-use borrow.Author.Tests.{eqb-true}
 use Rattle.octets.specs.Bytes.{Bytes}
-use Rattle.octets.proofs.Tests.{and-true}
 use Rattle.message.specs.Verdicts.{decide}
 use Rattle.message.proofs.Verdicts.{by-test}
 use Rattle.bank_state.specs.State.{Bank}
-use Rattle.bank_state.specs.Limits.{storeBytes, idBytes, replyRoom}
+use Rattle.bank_state.specs.Limits.{storeBytes}
 use Rattle.bank_state.specs.State.{BankState, bankState}
 use Rattle.bank_sound.specs.Sound.{isSound}
 use Rattle.bank_rows.specs.State.{bankOf}
@@ -36,12 +32,14 @@ use Rattle.bank.specs.Lent.{
   lentFileCall,
 }
 use Rattle.bank.proofs.Kept.{frame-sound, frame-state, file-sound, file-state}
-use Rattle.bank.proofs.Lent.{length-refused, rows-refused, lent-frame}
+use Rattle.bank.proofs.Lent.{lent-refused, rows-refused, lent-frame}
+use Rattle.bank.proofs.Right.{right-told}
 use Rattle.bank_history.specs.Answers.{AllBytes, none, more, FrameAnswered}
 use Rattle.bank_history.specs.History.{Past, BankCall, Frame, File, callExchange, placed, start, after, pastOf}
 use Rattle.bank_admitted.specs.State.{Sizes}
-use Rattle.bank_history.specs.OnRows.{lentAfter, lentOf, AreBytes, RightlyLent, OnRows}
-use Rattle.bank_history.proofs.Answers.{call-lengths, call-answered, same-bank}
+use Rattle.bank_admitted.specs.Session.{Brought}
+use Rattle.bank_history.specs.OnRows.{lentAfter, lentOf, RightlyLent, OnRows}
+use Rattle.bank_history.proofs.Answers.{call-answered, same-bank}
 
 -- ---- after every list of calls
 
@@ -121,43 +119,30 @@ sizes-of m sound orders mailboxes =
 number-of : (w : BankState) (a : FrameInput) → frameCall w a .number ≡ frameNumber (frameCall w a .answer)
 unfolding frameCall
 number-of w a =
-    by-test (λ (c : FrameCall). c .number ≡ frameNumber (c .answer)) (lentRight w (a .ids) (a .buffer)) (λ _. refl)
+    by-test (λ (c : FrameCall). c .number ≡ frameNumber (c .answer)) (lentRight w a) (λ _. refl)
     (λ _. refl)
 
-module _ {m : Lent} {a : FrameInput} (b : AreBytes a) where
+module _ {m : Lent} {a : FrameInput} (b : Brought a) where
   frame-given : RightlyLent m a → FrameAnswered (frameCall (stateOf m) a) (a .buffer) (callExchange (stateOf m) a)
   frame-given r =
       call-answered (stateOf m) (sound-range (m .rows) (r .rows)) (sizes-of m (r .rows) (r .orders) (r .mailboxes)) a
-      (b .ids) (b .frame) (r .ids) (r .room)
+      (b .ids) (b .frame) (r .input)
 
-  -- the lengths that the call tests
-  lengths : isSound (m .rows) ≡ true → lentRight (stateOf m) (a .ids) (a .buffer) ≡ true → RightlyLent m a
-  unfolding lentRight
-  lengths sound h =
-      let l = call-lengths (stateOf m) (a .ids) (a .buffer) h in
-      let stores = and-true (eqb (length (m .orders)) storeBytes) (eqb (length (m .mailboxes)) storeBytes)
-      (and-true (eqb (length (m .orders)) storeBytes && eqb (length (m .mailboxes)) storeBytes)
-      (eqb (length (a .ids)) idBytes)
-      (and-true (eqb (length (m .orders)) storeBytes && eqb (length (m .mailboxes)) storeBytes && eqb
-      (length (a .ids)) idBytes)
-      (leb replyRoom (length (a .buffer))) h .0) .0) in
-      record {
-        rows = sound;
-        orders = eqb-true _ storeBytes (stores .0);
-        mailboxes = eqb-true _ storeBytes (stores .1);
-        ids = l .0;
-        room = l .1;
-      }
+  -- what the call tests
+  tested : isSound (m .rows) ≡ true → lentRight (stateOf m) a ≡ true → RightlyLent m a
+  tested sound h =
+      let r = right-told (stateOf m) a h in
+      record { rows = sound; orders = r .0; mailboxes = r .1; input = r .2 }
 
   number-changes-nothing : lentFrameCall m a .number ≡ 1 → lentFrameCall m a ≡ frameTurnedAway m a
-  number-changes-nothing z = at (isSound (m .rows)) refl (lentRight (stateOf m) (a .ids) (a .buffer)) refl
+  number-changes-nothing z = at (isSound (m .rows)) refl (lentRight (stateOf m) a) refl
     where
-      at : (t : Bool) → isSound (m .rows) ≡ t → (u : Bool) → lentRight (stateOf m) (a .ids) (a .buffer) ≡ u →
+      at : (t : Bool) → isSound (m .rows) ≡ t → (u : Bool) → lentRight (stateOf m) a ≡ u →
           lentFrameCall m a ≡ frameTurnedAway m a
       at false e u f = rows-refused m a e
-      at true e false f = length-refused m a f
+      at true e false f = lent-refused m a f
       at true e true f =
-          let r = frame-given (lengths e f) in
+          let r = frame-given (tested e f) in
           let n : lentFrameCall m a .number ≡ 0 =
           ap (λ (c : LentFrameCall). c .number) (lent-frame m a e)
           ∙ (number-of (stateOf m) a ∙ ap frameNumber (r .answer)) in

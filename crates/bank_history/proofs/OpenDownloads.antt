@@ -73,7 +73,7 @@ module _ (t : Bits128) (s d last : ℕ) where
       let n = length-endDownloads which l in
       record-moved u (k .0) (omega arith) (ap (λ (l : List Download). getD l (k .0) noDownload) same ∙ k .1 .1)
 
-  -- "open at 3,600, gone at 3,601"
+  -- open at the idle limit, gone after it
   pub advanced-open : (time : ℕ) (w : BankState) → length (w .bank .downloads) ≡ placeCount → DownloadUnlessIdle w t s d last →
       DownloadUnlessIdle (advanced time w) t s d last
   unfolding isIdle ends

@@ -55,7 +55,7 @@ upload-moved u e = record {
 }
 
 module _ (t : Bits128) (s k n last : ℕ) where
-  -- "open at 3,600, gone at 3,601"
+  -- open at the idle limit, gone after it
   pub advanced-open : (time : ℕ) (w : BankState) → Sizes w → UploadUnlessIdle w t s k n last → UploadUnlessIdle (advanced time w) t s k n last
   unfolding isIdle
   advanced-open time w sizes before h =

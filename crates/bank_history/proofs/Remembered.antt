@@ -1,4 +1,4 @@
--- The nonce of an accepted opening is found while its timestamp is at most 300 behind the clock.
+-- The nonce of an accepted opening is found while its timestamp is at most the window behind the clock.
 use Prim.Native.Nat.{ℕ, suc, _+_, _-_, _≤_, _<_}
 use mathlib.Core.Bool.{Bool, true, false, cond, _&&_}
 use mathlib.Core.List.{List, [], _∷_, _++_}

@@ -81,13 +81,13 @@ pub use Rattle.bank_history.proofs.Positions.{
   received-payload,
 }
 -- what one call leaves, which calls change a mailbox, and that nothing gone or dropped comes back
-pub use Rattle.bank_history.proofs.Changes.{after-frame, after-file, frame-mailbox, gone-stays}
+pub use Rattle.bank_history.proofs.Changes.{after-frame, late-frame, after-file, frame-mailbox, gone-stays}
 pub use Rattle.bank_history.proofs.Dropped.{upload-dropped, download-dropped, dropped-stays}
 pub use Rattle.bank_history.proofs.Keeps.{after-holds, past-holds}
 -- demand 1: every frame gets its reply, which reads as its fields and its data; its exchange enters the history, whose bank is that of
 -- the call
 pub use Rattle.bank_history.proofs.Answers.{frame-gets-reply, frame-entered, same-bank}
--- right lent lengths, an answer wherever the reply can be written, and short data
+-- right lent lengths and time, an answer wherever the reply can be written, and short data
 pub use Rattle.bank_history.proofs.Answered.{lent-right, frame-answered, data-short}
 
 -- ---- after every list of calls

@@ -131,8 +131,8 @@ pub data Ends (t : Bits128) (f : Form) (s : ℕ) (e : Exchange) : Type 0 where
   emptied : f ≡ forms.DownloadOpened → form (e .reply) ≡ forms.ReceiptAnswered →
       returnCode (e .reply) ≡ codeField code.DownloadPostprocessDone → subscriber (e .request) ≡ s → Ends t f s e
 
--- it is open after a history, its last fitting request at the clock last: no call came over 3,600 after that, segment N
--- is not taken, and nothing has ended it
+-- it is open after a history, its last fitting request at the clock last: no call came over the idle limit after that,
+-- segment N is not taken, and nothing has ended it
 pub data StillOpen (t : Bits128) (f : Form) (s : ℕ) : ℕ → List Exchange → Type 0 where
   opened : {e : Exchange} {g : List Exchange} → Opens t e → form (e .reply) ≡ f → subscriber (e .request) ≡ s →
       StillOpen t f s (e .clock) (e ∷ g)
@@ -147,8 +147,8 @@ pub data StillOpen (t : Bits128) (f : Form) (s : ℕ) : ℕ → List Exchange �
 -- ---- the statements
 
 pub record FalseEconomies : Type 0 where
-  -- "An accepted opening's nonce is remembered, against all subscribers, while its timestamp is at most 300 behind the
-  -- clock"
+  -- "An accepted opening's nonce is remembered, against all subscribers, while its timestamp is at most" the window
+  -- "behind the clock"
   pub replay : {calls : List BankCall} {e f : Exchange} {g : List Exchange} {t : Bits128} →
       Next calls e → WellMadeOpening e → Stands f g (pastOf calls .history) → Opens t f →
       nonce (e .request) ≡ nonce (f .request) → e .clock ≤ timestamp (f .request) + window →
@@ -163,9 +163,8 @@ pub record FalseEconomies : Type 0 where
   -- "Answering a repeated last segment 000000 (the order is closed: 091101)"
   pub closed : {calls : List BankCall} {e f : Exchange} {g : List Exchange} {t : Bits128} → Next calls e → Asks t e →
       Stands f g (pastOf calls .history) → Takes t f → lastMark (f .request) ≡ 1 → RefusedWith code.UnknownTransaction e
-  -- "Letting a recovery attempt refresh the idle hour": where each fitting request of t is more than 3,600 old, t is
-  -- gone,
-  -- whatever attempts came since
+  -- "Letting a recovery attempt refresh the idle hour": where each fitting request of t is older than the idle limit,
+  -- t is gone, whatever attempts came since
   pub idle : {calls : List BankCall} {e : Exchange} {t : Bits128} → Next calls e → Asks t e →
       ((f : Exchange) (g : List Exchange) → Stands f g (pastOf calls .history) → Fits t g f →
       f .clock + idleLimit < e .clock) →

@@ -272,6 +272,6 @@ unfoldable pub openingNonces : List Exchange → List Nonce
 openingNonces [] = []
 openingNonces (e ∷ h) = cond (opens (e .verdict)) (openingNonces h ++ (nonceOf e ∷ [])) (openingNonces h)
 
--- "remembered, against all subscribers, while its timestamp is at most 300 behind the clock"
+-- "remembered, against all subscribers, while its timestamp is at most" the window "behind the clock"
 unfoldable pub remembered : ℕ → List Exchange → List Nonce
 remembered clock h = keep (λ (e : Nonce). leb clock (e .timestamp + window)) (openingNonces h)

@@ -1,18 +1,18 @@
 -- Lists of calls on lent memory, from rows and stores that are all zero, and the statements that they are the calls of
 -- document 01 on the bank that the rows are.
-use Prim.Native.Nat.{ℕ, _≤_}
+use Prim.Native.Nat.{ℕ}
 use mathlib.Core.Bool.{true}
 use mathlib.Core.List.{List, [], _∷_}
 use mathlib.Core.Path.{_≡_}
 use lib.ListN.{length, replicate}
-use Rattle.octets.specs.Bytes.{Bytes}
-use Rattle.bank_state.specs.Limits.{storeBytes, idBytes, replyRoom}
+use Rattle.bank_state.specs.Limits.{storeBytes}
 use Rattle.bank_rows.specs.Layout.{stateSize}
 use Rattle.bank_sound.specs.Sound.{isSound}
-use Rattle.bank.specs.Call.{FrameInput, frameCall}
+use Rattle.bank.specs.Call.{FrameInput, RightInput, frameCall}
 use Rattle.bank.specs.Mailbox.{fileCall}
 use Rattle.bank_steps.specs.Lent.{Lent, lent, stateOf}
 use Rattle.bank.specs.Lent.{keptFrame, frameTurnedAway, lentFrameCall, keptFile, lentFileCall}
+use Rattle.bank_admitted.specs.Session.{Brought}
 use Rattle.bank_history.specs.Answers.{AllBytes, FrameAnswered}
 use Rattle.bank_history.specs.History.{BankCall, Frame, File, callExchange, pastOf}
 
@@ -27,18 +27,12 @@ unfoldable pub lentOf : List BankCall → Lent
 lentOf [] = lent (replicate stateSize 0) (replicate storeBytes 0) (replicate storeBytes 0)
 lentOf (c ∷ calls) = lentAfter c (lentOf calls)
 
--- the ID bytes and the frame are bytes
-pub record AreBytes (a : FrameInput) : Type 0 where
-  pub ids : Bytes (a .ids)
-  pub frame : Bytes (a .frame)
-
--- every lent length is right, and the rows are sound
+-- every lent length is right, the time is not over the last one, and the rows are sound
 pub record RightlyLent (m : Lent) (a : FrameInput) : Type 0 where
   pub rows : isSound (m .rows) ≡ true
   pub orders : length (m .orders) ≡ storeBytes
   pub mailboxes : length (m .mailboxes) ≡ storeBytes
-  pub ids : length (a .ids) ≡ idBytes
-  pub room : replyRoom ≤ length (a .buffer)
+  pub input : RightInput a
 
 pub record OnRows : Type 0 where
   -- after every list of calls the rows are sound, and the memory is the bank with its stores
@@ -52,9 +46,9 @@ pub record OnRows : Type 0 where
       ≡ keptFile (lentOf calls .rows)
       (fileCall (pastOf calls .bankState .bank) mailbox file (pastOf calls .bankState .mailboxes))
   -- in every sound state, whether calls leave it or not, a frame call is answered by a frame
-  pub answered : {m : Lent} {a : FrameInput} → RightlyLent m a → AreBytes a →
+  pub answered : {m : Lent} {a : FrameInput} → RightlyLent m a → Brought a →
       (lentFrameCall m a ≡ keptFrame m (frameCall (stateOf m) a))
       × FrameAnswered (frameCall (stateOf m) a) (a .buffer) (callExchange (stateOf m) a)
   -- so in every state number 1 comes with nothing changed
-  pub unchanged : {m : Lent} {a : FrameInput} → AreBytes a → lentFrameCall m a .number ≡ 1 →
+  pub unchanged : {m : Lent} {a : FrameInput} → Brought a → lentFrameCall m a .number ≡ 1 →
       lentFrameCall m a ≡ frameTurnedAway m a

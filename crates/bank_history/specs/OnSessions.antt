@@ -21,10 +21,11 @@ use Rattle.bank_session.specs.Session.{
   sessionFrameCall,
   sessionFileCall,
 }
+use Rattle.bank_admitted.specs.Session.{Brought}
 use Rattle.bank_history.specs.Answers.{AllBytes}
 use Rattle.bank_history.specs.History.{BankCall, Frame, File, pastOf}
 use Rattle.bank_history.specs.Journal.{journalOf}
-use Rattle.bank_history.specs.OnRows.{lentOf, AreBytes}
+use Rattle.bank_history.specs.OnRows.{lentOf}
 
 -- the session after a call
 unfoldable pub sessionAfter : BankCall → LentSession → LentSession
@@ -49,5 +50,5 @@ pub record OnSessions : Type 0 where
       sessionFrameCall (lentSessionOf calls) a
       ≡ withJournal (lentSessionOf calls) a (keptFrame (lentOf calls) (frameCall (pastOf calls .bankState) a))
   -- in every session, whether calls leave it or not, number 1 comes with nothing changed
-  pub unchanged : {m : LentSession} {a : FrameInput} → AreBytes a → sessionFrameCall m a .number ≡ 1 →
+  pub unchanged : {m : LentSession} {a : FrameInput} → Brought a → sessionFrameCall m a .number ≡ 1 →
       sessionFrameCall m a ≡ sessionTurnedAway m a

@@ -48,7 +48,7 @@ ifOpen f EndedByReceipt = EndedByReceipt
 ifOpen f Cancelled = Cancelled
 ifOpen f Dropped = Dropped
 
--- "Then it drops every transaction whose last fitting request (its opening included) is more than 3,600 seconds old"
+-- "Then it drops every transaction whose last fitting request (its opening included) is more than" the idle limit "old"
 abbrev pub dropIdle : ℕ → Status → Status
 dropIdle clock x = ifOpen (λ (d : Direction) (s last : ℕ). cond (isIdle clock last) Dropped (Open d s last)) x
 

@@ -88,7 +88,7 @@ pub record DownloadAt (w : BankState) (t : Bits128) (s d last : ℕ) : Type 0 wh
   pub delivered : downloadAt (w .bank) row .delivered ≡ d
   pub fitting : downloadAt (w .bank) row .last ≡ last
 
--- it is so unless an idle hour has passed: "open at 3,600, gone at 3,601"
+-- it is so unless an idle hour has passed: open at the idle limit, gone after it
 abbrev pub UploadUnlessIdle : BankState → Bits128 → ℕ → ℕ → ℕ → ℕ → Type 0
 UploadUnlessIdle w t s k n last = w .bank .clock ≤ last + idleLimit → UploadAt w t s k n last
 

@@ -69,7 +69,7 @@ fn many_segments(q: Fields) -> bool
     MAX_SEGMENTS < q.segments()
 }
 
-// Whether a timestamp differs from the clock by at most WINDOW seconds.
+// Whether a timestamp differs from the clock by at most WINDOW milliseconds.
 fn in_time(time: u64, clock: u64) -> bool
     ensures { λ r. ⌜ r ≡ inTime time clock ⌝ }
 {

@@ -1,10 +1,11 @@
 -- What a session's calls leave: the bank's memory after its call, and the journal after it. Assumes nothing.
-use Prim.Native.Nat.{ℕ}
+use Prim.Native.Nat.{ℕ, _<_}
 use mathlib.Core.Bool.{Bool, true, false}
 use mathlib.Core.List.{List}
 use mathlib.Core.Path.{_≡_, refl, sym, ap, _∙_}
 use lib.ListN.{length}
 use borrow.Author.Tests.{eq-eqb}
+use Rattle.frame_table.specs.Table.{lastTime}
 use Rattle.bank_rows.specs.Layout.{stateSize}
 use Rattle.bank_sound.specs.Sound.{isSound}
 use Rattle.bank_sound.proofs.Test.{sound-laid}
@@ -15,6 +16,7 @@ use Rattle.bank.specs.Call.{FrameInput}
 use Rattle.bank.specs.Lent.{LentFrameCall, frameTurnedAway, lentFrameCall, LentFileCall, lentFileCall}
 use Rattle.bank.proofs.Kept.{frame-sound, file-sound}
 use Rattle.bank.proofs.Lent.{rows-refused}
+use Rattle.bank.proofs.Right.{late-refused}
 use Rattle.bank_session.specs.Session.{
   LentSession,
   session,
@@ -73,6 +75,14 @@ module _ (m : LentSession) (a : FrameInput) (taken : takesFrame m ≡ true) wher
       ap (λ (c : SessionFrameCall). length (c .session .rows)) (frame-taken m a taken)
       ∙ both-long (inner .lent .rows) long (journalNext m a (inner .answer) .events)
 
+-- where the bank's own call leaves all as it was, so does the session's
+unchanged-with : (m : LentSession) (a : FrameInput) → lentFrameCall (bankIn m) a ≡ frameTurnedAway (bankIn m) a
+    → takesFrame m ≡ true → sessionFrameCall m a ≡ sessionTurnedAway m a
+unchanged-with m a away e =
+    frame-taken m a e ∙ (ap (withJournal m a) away
+    ∙ ap (λ (rows : List ℕ). sessionTurnedAway (session rows (m .row) (m .orders) (m .mailboxes)) a)
+    (parts (m .rows) (takes-length m e)))
+
 -- a call given number 1 leaves all as it was, where the bank's own call does
 pub frame-unchanged : (m : LentSession) (a : FrameInput)
     → (lentFrameCall (bankIn m) a .number ≡ 1 → lentFrameCall (bankIn m) a ≡ frameTurnedAway (bankIn m) a)
@@ -82,11 +92,17 @@ frame-unchanged m a inner one = at (takesFrame m) refl
     at : (t : Bool) → takesFrame m ≡ t → sessionFrameCall m a ≡ sessionTurnedAway m a
     at false e = frame-refused m a e
     at true e =
-        let taken = frame-taken m a e in
-        let away = inner (sym (ap (λ (c : SessionFrameCall). c .number) taken) ∙ one) in
-        taken ∙ (ap (withJournal m a) away
-        ∙ ap (λ (rows : List ℕ). sessionTurnedAway (session rows (m .row) (m .orders) (m .mailboxes)) a)
-        (parts (m .rows) (takes-length m e)))
+        let away = inner (sym (ap (λ (c : SessionFrameCall). c .number) (frame-taken m a e)) ∙ one) in
+        unchanged-with m a away e
+
+-- a bank time over the last one gets number 1, and nothing changes, in every session
+pub late-unchanged : (m : LentSession) (a : FrameInput) → lastTime < a .time
+    → sessionFrameCall m a ≡ sessionTurnedAway m a
+late-unchanged m a late = at (takesFrame m) refl
+  where
+    at : (t : Bool) → takesFrame m ≡ t → sessionFrameCall m a ≡ sessionTurnedAway m a
+    at false e = frame-refused m a e
+    at true e = unchanged-with m a (late-refused (bankIn m) a late) e
 
 -- ---- a file goes into a mailbox
 

@@ -3,3 +3,4 @@ pub mod Rows
 pub mod Session
 pub mod Laws
 pub mod Lent
+pub mod Time

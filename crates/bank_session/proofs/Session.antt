@@ -21,6 +21,7 @@ use Rattle.bank.specs.declared.call.FrameOut.{FrameOut}
 use Rattle.bank.specs.Call.{FrameInput}
 use Rattle.bank.specs.Journal.{clockBy, enteredBy, ifAnswered, withEntries, journalAfter}
 use Rattle.bank.specs.Lent.{noReply, lentFrameCallOf, lentFrameCall}
+use Rattle.bank.proofs.Right.{and-last}
 use Rattle.bank_session.specs.Session.{
   LentSession,
   session,
@@ -78,10 +79,6 @@ some-row b n clock row e = rw e
 
 -- ---- whether a frame call is taken
 
-and-false : (a b : Bool) → b ≡ false → a && b ≡ false
-and-false true b e = e
-and-false false b e = refl
-
 and-both : (a b : Bool) → a ≡ true → b ≡ true → a && b ≡ true
 and-both a b e f = rw (e, f)
 
@@ -99,7 +96,7 @@ module _ (m : LentSession) where
   takes-events h = and-true (eqb (length (m .rows)) sessionSize) events h .1
 
   pub not-taken : events ≡ false → takesFrame m ≡ false
-  not-taken e = and-false (eqb (length (m .rows)) sessionSize) events e
+  not-taken e = and-last (eqb (length (m .rows)) sessionSize) events e
 
 pub takes-in : (records n : ℕ) → records ≡ recordCount → n + maxEntries < 2 ^ 64 → takesEvents records n ≡ true
 takes-in records n e h =

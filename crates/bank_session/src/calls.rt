@@ -72,7 +72,7 @@ fn turned_away() -> FrameCore
 fn frame_core(
     rows: &mut [u64],
     records: usize,
-    time: u32,
+    time: u64,
     ids: &[u8],
     frame: &[u8],
     orders: &mut [u8],
@@ -92,7 +92,7 @@ fn frame_core(
     if !takes_events(records, before) {
         return turned_away();
     }
-    let clock = larger(rows[CLOCK_AT], time as u64);
+    let clock = larger(rows[CLOCK_AT], time);
     let step = answer_frame(
         &mut rows[..STATE_SIZE],
         time,
@@ -118,7 +118,7 @@ fn frame_core(
 pub fn frame_arrives(
     rows: &mut [u64],
     row: &mut [Event],
-    time: u32,
+    time: u64,
     ids: &[u8],
     frame: &[u8],
     orders: &mut [u8],
@@ -140,7 +140,7 @@ pub fn frame_arrives(
 pub fn frame_held(
     rows: &mut [u64],
     row: [Event; RECORD_COUNT],
-    time: u32,
+    time: u64,
     ids: &[u8],
     frame: &[u8],
     orders: &mut [u8],

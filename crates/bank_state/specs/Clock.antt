@@ -15,11 +15,11 @@ use Rattle.bank_state.specs.State.{BankState, bankState, noPlace, noDown
 use Rattle.bank_state.specs.State.{withDownloads, withNonces, placeAt}
 use Rattle.bank_state.specs.Store.{zeroed}
 
--- a time that is more than this many seconds behind the clock
+-- a time that is more than this many milliseconds behind the clock
 abbrev pub isBehind : ℕ → ℕ → ℕ → Bool
-isBehind clock time seconds = ltb (time + seconds) clock
+isBehind clock time limit = ltb (time + limit) clock
 
--- "whose last fitting request (its opening included) is more than 3,600 seconds old"
+-- "whose last fitting request (its opening included) is more than the idle limit old"
 unfoldable pub isIdle : ℕ → ℕ → Bool
 isIdle clock last = isBehind clock last idleLimit
 
@@ -47,7 +47,7 @@ ends (Transaction subscriber id) e = isDownload subscriber id e
 unfoldable pub endDownloads : Ended → List Download → List Download
 endDownloads which l = keepOnly (λ (e : Download). e .used && not (ends which e)) noDownload l
 
--- "remembered ... while its timestamp is at most 300 behind the clock"
+-- "remembered ... while its timestamp is at most the window behind the clock"
 unfoldable pub forget : ℕ → List Nonce → List Nonce
 forget clock l = keepOnly (λ (e : Nonce). e .used && leb clock (e .timestamp + window)) noNonce l
 

@@ -14,13 +14,13 @@ storeBytes = 30720
 abbrev pub idBytes : ℕ
 idBytes = 8
 
--- "open at 3,600, gone at 3,601"
+-- "open at 3,600,000, gone at 3,600,001" milliseconds
 abbrev pub idleLimit : ℕ
-idleLimit = 3600
+idleLimit = 3600000
 
--- "differs from the clock by at most 300"
+-- "differs from the clock by at most 300,000" milliseconds
 abbrev pub window : ℕ
-window = 300
+window = 300000
 
 -- "8 transactions open"; "the subscriber has 4 open transactions"
 abbrev pub maxOpen : ℕ

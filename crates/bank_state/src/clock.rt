@@ -10,12 +10,12 @@ pub enum Ended {
     Transaction(u64, Bits128),
 }
 
-// Whether a time is more than this many seconds behind the clock.
-pub fn is_behind(clock: u64, time: u64, seconds: u64) -> bool
-    ensures { λ r. ⌜ r ≡ isBehind clock time seconds ⌝ }
+// Whether a time is more than this many milliseconds behind the clock.
+pub fn is_behind(clock: u64, time: u64, limit: u64) -> bool
+    ensures { λ r. ⌜ r ≡ isBehind clock time limit ⌝ }
 {
-    if clock < seconds {
+    if clock < limit {
         return false;
     }
-    time < clock - seconds
+    time < clock - limit
 }

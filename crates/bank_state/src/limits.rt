@@ -11,11 +11,11 @@ pub const ID_BYTES: usize = 8;
 
 pub const REPLY_ROOM: usize = 312;
 
-// Seconds that a transaction stays open behind its last fitting request.
-pub const IDLE_LIMIT: u64 = 3600;
+// Milliseconds that a transaction stays open behind its last fitting request.
+pub const IDLE_LIMIT: u64 = 3600000;
 
-// Seconds that a timestamp in time differs from the clock at most.
-pub const WINDOW: u64 = 300;
+// Milliseconds that a timestamp in time differs from the clock at most.
+pub const WINDOW: u64 = 300000;
 
 // Open transactions in all, and of one subscriber.
 pub const MAX_OPEN: usize = 8;

@@ -111,7 +111,7 @@ otherDirection direction.Download q = eqb (orderType q) ful
 unfoldable pub manySegments : Fields → Bool
 manySegments q = ltb maxSegments (segments q)
 
--- 091103: timestamp not in time, or nonce remembered; "in time when it differs from the clock by at most 300"
+-- 091103: timestamp not in time, or nonce remembered; "in time when it differs from the clock by at most" the window
 unfoldable pub inTime : ℕ → ℕ → Bool
 inTime time clock = leb time (clock + window) && leb clock (time + window)
 

@@ -7,6 +7,7 @@ use Rattle.cases.specs.Table.{
   requestLengths,
   replyLengths,
   timestampCases,
+  idleCases,
   orderNumberCases,
   lengthCases,
   repeatCases,
@@ -24,6 +25,10 @@ use Rattle.cases.proofs.Computing.{frames, messages, calls}
 timestamps-hold : Holds timestampCases
 unfolding timestampCases calls
 timestamps-hold = row refl (row refl (row refl (row refl none)))
+
+idle-hold : Holds idleCases
+unfolding idleCases calls
+idle-hold = row refl (row refl none)
 
 order-numbers-hold : Holds orderNumberCases
 unfolding orderNumberCases calls
@@ -62,6 +67,7 @@ pub cases-hold : Holds cases
 unfolding cases
 cases-hold =
     both timestamps-hold
+    (both idle-hold
     (both order-numbers-hold
     (both lengths-hold
-    (both repeats-hold (both last-marks-hold (both booked-hold (both files-hold receipts-hold))))))
+    (both repeats-hold (both last-marks-hold (both booked-hold (both files-hold receipts-hold)))))))

@@ -1,6 +1,6 @@
 -- Document 01, "Cases; starred ones are proved": each row is what comes of its calls, and what must come. The calls are
 -- `frameCall` and `fileCall`, from a fresh bank with its whole stores.
-use Prim.Native.Nat.{ℕ, max}
+use Prim.Native.Nat.{ℕ, _+_, max}
 use mathlib.Core.Path.{_≡_}
 use mathlib.Core.List.{List, [], _∷_, _++_, map}
 use lib.ListN.{length, replicate, take}
@@ -36,31 +36,34 @@ infixl 4 _gives_
 abbrev pub _gives_ : List ℕ → List ℕ → Case
 come gives due = record { come = come; due = due }
 
--- ---- what is called: subscriber 1 at bank time 1000, exchange number 1, lent ID bytes 0
+-- ---- what is called: subscriber 1 at bank time 1,000,000 or later, exchange number 1, lent ID bytes 0
 
 abbrev pub clock : ℕ
-clock = 1000
+clock = 1000000
 
 -- the number of an accepted opening is the low half of its transaction ID
 abbrev pub idOf : ℕ → Bits128
 idOf n = record { high = 0; low = n }
 
--- a call: a file of so many bytes goes into mailbox 1, or the frame of a request with its data arrives
+-- a call: a file of so many bytes goes into mailbox 1, or at a time the frame of a request with its data arrives
 pub data HostCall : Type 0 where
   put : ℕ → HostCall
-  request : Fields → List ℕ → HostCall
+  request : ℕ → Fields → List ℕ → HostCall
 
 abbrev pub upload : ℕ → ℕ → HostCall
-upload timestamp n = request (uploadOpening 1 1 (idOf 0) timestamp n) []
+upload timestamp n = request clock (uploadOpening 1 1 (idOf 0) timestamp n) []
+
+abbrev pub sentAt : ℕ → ℕ → ℕ → HostCall
+sentAt time s lastMark = request time (uploadTransfer 1 1 (idOf 0) s lastMark) (7 ∷ [])
 
 abbrev pub sent : ℕ → ℕ → HostCall
-sent s lastMark = request (uploadTransfer 1 1 (idOf 0) s lastMark) (7 ∷ [])
+sent = sentAt clock
 
 abbrev pub download : HostCall
-download = request (downloadOpening 1 1 (idOf 0) clock) []
+download = request clock (downloadOpening 1 1 (idOf 0) clock) []
 
 abbrev pub receipt0 : HostCall
-receipt0 = request (receipt 1 1 (idOf 0) 0) []
+receipt0 = request clock (receipt 1 1 (idOf 0) 0) []
 
 -- a fresh bank, "and every lent byte kept between calls 0"
 abbrev pub start : BankState
@@ -82,8 +85,8 @@ unfoldable pub called : HostCall → Played → Played
 called (put n) p =
     let c = fileCall (p .bank .bank) 1 (replicate n 7) (p .bank .mailboxes) in
     record { bank = bankState (c .bank) (p .bank .orders) (c .mailboxes); replies = p .replies }
-called (request q d) p =
-    let c = frameCall (p .bank) (frameInput clock (replicate idBytes 0) (frameOf q d) (replicate replyRoom 0)) in
+called (request time q d) p =
+    let c = frameCall (p .bank) (frameInput time (replicate idBytes 0) (frameOf q d) (replicate replyRoom 0)) in
     record { bank = c .bankState; replies = p .replies ++ (replyIn (c .answer) (c .buffer) ∷ []) }
 
 unfoldable pub played : List HostCall → Played → Played
@@ -141,13 +144,20 @@ six n = asciiDigits 6 n
 
 -- ---- the table, by document 01's lines
 
--- "Clock 1000: timestamps 700 and 1300 pass, 699 and 1301 get 091103."
+-- in milliseconds: "Clock 1000: timestamps 700 and 1300 pass, 699 and 1301 get 091103."
 unfoldable pub timestampCases : List Case
 timestampCases =
-    (codes (upload 700 1 ∷ []) gives (six 0 ∷ []))
-    ∷ (codes (upload 1300 1 ∷ []) gives (six 0 ∷ []))
-    ∷ (codes (upload 699 1 ∷ []) gives (six 91103 ∷ []))
-    ∷ (codes (upload 1301 1 ∷ []) gives (six 91103 ∷ []))
+    (codes (upload 700000 1 ∷ []) gives (six 0 ∷ []))
+    ∷ (codes (upload 1300000 1 ∷ []) gives (six 0 ∷ []))
+    ∷ (codes (upload 699999 1 ∷ []) gives (six 91103 ∷ []))
+    ∷ (codes (upload 1300001 1 ∷ []) gives (six 91103 ∷ []))
+    ∷ []
+
+-- in milliseconds: "open at 3,600, gone at 3,601"
+unfoldable pub idleCases : List Case
+idleCases =
+    (codes (upload clock 2 ∷ sentAt (clock + 3600000) 1 0 ∷ []) gives (six 0 ∷ six 0 ∷ []))
+    ∷ (codes (upload clock 2 ∷ sentAt (clock + 3600001) 1 0 ∷ []) gives (six 0 ∷ six 91101 ∷ []))
     ∷ []
 
 -- "Order numbers 0, 35 (A00Z), 46,655 (AZZZ), 1,213,055": A is 65, Z 90, 0 is 48
@@ -161,10 +171,10 @@ orderNumberCases =
     ∷ (each orderNumber (upload clock 1 ∷ []) gives (orderNumberOf 0 ∷ []))
     ∷ []
 
--- "Frame lengths: upload opening 53, largest request 303, largest reply 312."
+-- with a timestamp of 8 bytes: "Frame lengths: upload opening" 57, "largest request 303, largest reply 312."
 unfoldable pub lengthCases : List Case
 lengthCases =
-    ((length (frameOf (uploadOpening 1 1 (idOf 0) clock 1) []) ∷ []) gives (53 ∷ []))
+    ((length (frameOf (uploadOpening 1 1 (idOf 0) clock 1) []) ∷ []) gives (57 ∷ []))
     ∷ ((largest requestLengths ∷ []) gives (303 ∷ []))
     ∷ ((largest replyLengths ∷ []) gives (312 ∷ []))
     ∷ []
@@ -204,8 +214,9 @@ receiptCases = (codes (put 257 ∷ download ∷ receipt0 ∷ []) gives (six 0 �
 unfoldable pub cases : List Case
 cases =
     timestampCases
+    ++ (idleCases
     ++ (orderNumberCases
-    ++ (lengthCases ++ (repeatCases ++ (lastMarkCases ++ (bookedCases ++ (fileCases ++ receiptCases))))))
+    ++ (lengthCases ++ (repeatCases ++ (lastMarkCases ++ (bookedCases ++ (fileCases ++ receiptCases)))))))
 
 -- every row holds
 pub data Holds : List Case → Type 0 where

@@ -18,7 +18,7 @@ use octets::bytes::front;
 use print::text::code_digits;
 
 // The bank time of every call, and every timestamp.
-const CLOCK: u32 = 1000;
+const CLOCK: u64 = 1000000;
 
 // A frame arrives: the return code of its reply, 0 where the call was given a number.
 fn send(frame: &[u8], rows: &mut [u64], orders: &mut [u8], mailboxes: &mut [u8]) -> u64 {
@@ -41,7 +41,7 @@ fn ask(q: Fields, bytes: &[u8], rows: &mut [u64], orders: &mut [u8], mailboxes: 
 
 // An upload opening of n segments by subscriber 1; the nonce is the number of segments.
 fn opening(n: u64) -> Fields {
-    upload_opening(1, 1, Bits128 { high: 0, low: n }, CLOCK as u64, n)
+    upload_opening(1, 1, Bits128 { high: 0, low: n }, CLOCK, n)
 }
 
 // A segment of the upload that was opened first.

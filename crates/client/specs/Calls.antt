@@ -90,7 +90,7 @@ carryOut (Return s) c r d l = issued c (goOn s (c .repeats + 1) c) (l .file) l
 carryOut Repeat c r d l = issued c (repeated c) (l .file) l
 carryOut (Close w) c r d l = unchanged (outcome (ended w c) (answer.Closed w)) l
 
--- numbers 5 to 8 first: a call that is given one changes nothing, an admitted one is carried out
+-- numbers 1 and 5 to 8 first: a call that is given one changes nothing, an admitted one is carried out
 abbrev pub ifAdmitted : Ruling → ClientRun → Lent → ClientCall → ClientCall
 ifAdmitted (Refuse x) c l done = refused x c l
 ifAdmitted Accept c l done = done
@@ -102,7 +102,7 @@ admittedBegin c params l =
 
 unfoldable pub beginCall : ClientRun → RunParameters → Lent → ClientCall
 beginCall c params l =
-    ifAdmitted (beginRuling c params (lengthsOf l)) c l (admittedBegin c params l)
+    ifAdmitted (beginRuling c params (l .time) (lengthsOf l)) c l (admittedBegin c params l)
 
 -- reply arrived: only an admitted call reads it
 abbrev pub admittedReply : ClientRun → List ℕ → Lent → ClientCall
@@ -110,11 +110,11 @@ admittedReply c frame l =
     carryOut (onReply c (readReply frame) (length (dataOf frame))) c (readReply frame) (dataOf frame) l
 
 unfoldable pub replyCall : ClientRun → List ℕ → Lent → ClientCall
-replyCall c frame l = ifAdmitted (runRuling (c .stage) c (lengthsOf l)) c l (admittedReply c frame l)
+replyCall c frame l = ifAdmitted (runRuling c (l .time) (lengthsOf l)) c l (admittedReply c frame l)
 
 -- no reply
 abbrev pub admittedNoReply : ClientRun → Lent → ClientCall
 admittedNoReply c l = carryOut (onNoReply c) c noFields [] l
 
 unfoldable pub noReplyCall : ClientRun → Lent → ClientCall
-noReplyCall c l = ifAdmitted (runRuling (c .stage) c (lengthsOf l)) c l (admittedNoReply c l)
+noReplyCall c l = ifAdmitted (runRuling c (l .time) (lengthsOf l)) c l (admittedNoReply c l)

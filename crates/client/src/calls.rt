@@ -80,7 +80,7 @@ fn hold(c: ClientRun, d: &[u8], file: &mut [u8])
 // Writes the request that the run has outstanding.
 fn write_request(
     c: ClientRun,
-    time: u32,
+    time: u64,
     nonce: [u8; NONCE_BYTES],
     payload: &[u8],
     request: &mut [u8],
@@ -91,7 +91,7 @@ fn write_request(
         ≡ writeBuffer (outstanding c time nonce) (outstandingData c (now (payload .entry))) (now (request .entry)))
         ⌝ }
 {
-    let fields = request_of(c, time as u64, nonce);
+    let fields = request_of(c, time, nonce);
     write(fields, data_of(c, payload), request)
 }
 
@@ -127,7 +127,7 @@ fn hold_if_written(w: Written, c: ClientRun, d: &[u8], file: &mut [u8])
 fn issue(
     c: ClientRun,
     next: ClientRun,
-    time: u32,
+    time: u64,
     nonce: [u8; NONCE_BYTES],
     payload: &[u8],
     request: &mut [u8],
@@ -144,7 +144,7 @@ fn take_segment(
     c: ClientRun,
     k: ClientRun,
     d: &[u8],
-    time: u32,
+    time: u64,
     nonce: [u8; NONCE_BYTES],
     payload: &[u8],
     file: &mut [u8],
@@ -188,7 +188,7 @@ fn carry_out(
     c: ClientRun,
     r: Fields,
     d: &[u8],
-    time: u32,
+    time: u64,
     nonce: [u8; NONCE_BYTES],
     payload: &[u8],
     file: &mut [u8],
@@ -216,7 +216,7 @@ fn carry_out(
 fn take_reply(
     c: ClientRun,
     frame: &[u8],
-    time: u32,
+    time: u64,
     nonce: [u8; NONCE_BYTES],
     payload: &[u8],
     file: &mut [u8],
@@ -246,7 +246,7 @@ impl Client {
     pub fn begin(
         self,
         params: RunParameters,
-        time: u32,
+        time: u64,
         nonce: [u8; NONCE_BYTES],
         payload: &[u8],
         file: &mut [u8],
@@ -261,7 +261,7 @@ impl Client {
             file: file.len(),
             request: request.len(),
         };
-        let ruling = begin_ruling(c, params, l);
+        let ruling = begin_ruling(c, params, time, l);
         match ruling {
             Ruling::Refuse(x) => refused(x, c),
             Ruling::Accept => {
@@ -276,7 +276,7 @@ impl Client {
     pub fn reply(
         self,
         frame: &[u8],
-        time: u32,
+        time: u64,
         nonce: [u8; NONCE_BYTES],
         payload: &[u8],
         file: &mut [u8],
@@ -291,7 +291,7 @@ impl Client {
             file: file.len(),
             request: request.len(),
         };
-        let ruling = run_ruling(c, l);
+        let ruling = run_ruling(c, time, l);
         match ruling {
             Ruling::Refuse(x) => refused(x, c),
             Ruling::Accept => take_reply(c, frame, time, nonce, payload, file, request),
@@ -301,7 +301,7 @@ impl Client {
     // No reply came.
     pub fn no_reply(
         self,
-        time: u32,
+        time: u64,
         nonce: [u8; NONCE_BYTES],
         payload: &[u8],
         file: &mut [u8],
@@ -316,7 +316,7 @@ impl Client {
             file: file.len(),
             request: request.len(),
         };
-        let ruling = run_ruling(c, l);
+        let ruling = run_ruling(c, time, l);
         match ruling {
             Ruling::Refuse(x) => refused(x, c),
             Ruling::Accept => {

@@ -46,13 +46,13 @@ begunBy params l = begun params (beginLength (params .direction) (lengthsOf l))
 -- Read r: the fields r are those of the event's reply, or of none
 pub data AnyChange (Read : Fields → Type 0) (p : Past) : ClientRun → List Issue → Type 0 where
   nothing : AnyChange Read p (p .run) (p .issues)
-  begins-with : (params : RunParameters) (l : Lent) (file : List ℕ) → Begins (p .run) params (lengthsOf l)
+  begins-with : (params : RunParameters) (l : Lent) (file : List ℕ) → Begins (p .run) params l
       → AnyChange Read p (begunBy params l) (withRequest (begunBy params l) l file (p .issues))
-  goes : (decision : Decision) (r : Fields) (d : List ℕ) (l : Lent) (file : List ℕ) → Accepted (p .run) (lengthsOf l)
+  goes : (decision : Decision) (r : Fields) (d : List ℕ) (l : Lent) (file : List ℕ) → Accepted (p .run) l
       → Issuing decision → Cause (p .run) r (length d) decision → Read r
       → AnyChange Read p (nextOf decision (p .run) r (length d))
       (withRequest (nextOf decision (p .run) r (length d)) l file (p .issues))
-  closes : (w : Word) (l : Lent) → Accepted (p .run) (lengthsOf l) → AnyChange Read p (ended w (p .run)) (p .issues)
+  closes : (w : Word) (l : Lent) → Accepted (p .run) l → AnyChange Read p (ended w (p .run)) (p .issues)
 
 -- the fields of an event's reply
 abbrev pub Reads : (Fields → Type 0) → Event → Type 0
@@ -64,7 +64,7 @@ module _ (Read : Fields → Type 0) (p : Past) where
   abbrev Changed : Past → Type 0
   Changed q = AnyChange Read p (q .run) (q .issues)
 
-  module _ (l : Lent) (r : Fields) (d : List ℕ) (a : Accepted (p .run) (lengthsOf l)) (read : Read r) where
+  module _ (l : Lent) (r : Fields) (d : List ℕ) (a : Accepted (p .run) l) (read : Read r) where
     abbrev Leads : ClientCall → Type 0
     Leads k = Changed (left (k .answer) k l p)
 
@@ -93,16 +93,16 @@ module _ (Read : Fields → Type 0) (p : Past) where
   pub any-change : (e : Event) → Reads Read e → Changed (after e p)
   unfolding after beginCall replyCall noReplyCall
   any-change (Begin params l) read =
-      ruled l (admittedBegin (p .run) params l) (beginRuling (p .run) params (lengthsOf l)) λ e.
+      ruled l (admittedBegin (p .run) params l) (beginRuling (p .run) params (l .time) (lengthsOf l)) λ e.
       by-issue Changed (p .run) (begunBy params l) (l .file) l p nothing
-      (begins-with params l (l .file) (begins (p .run) params (lengthsOf l) e))
+      (begins-with params l (l .file) (begins (p .run) params l e))
   any-change (Reply frame l) read =
       let r = readReply frame in
       let d = dataOf frame in
-      ruled l (admittedReply (p .run) frame l) (runRuling (p .run .stage) (p .run) (lengthsOf l)) λ e.
-      carried l r d (accepted (p .run) (lengthsOf l) e) read (onReply (p .run) r (length d))
+      ruled l (admittedReply (p .run) frame l) (runRuling (p .run) (l .time) (lengthsOf l)) λ e.
+      carried l r d (accepted (p .run) l e) read (onReply (p .run) r (length d))
       (by-reply (p .run) r (length d))
   any-change (NoReply l) read =
-      ruled l (admittedNoReply (p .run) l) (runRuling (p .run .stage) (p .run) (lengthsOf l)) λ e.
-      carried l noFields [] (accepted (p .run) (lengthsOf l) e) read (onNoReply (p .run))
+      ruled l (admittedNoReply (p .run) l) (runRuling (p .run) (l .time) (lengthsOf l)) λ e.
+      carried l noFields [] (accepted (p .run) l e) read (onNoReply (p .run))
       (by-no-reply (p .run) noFields 0)

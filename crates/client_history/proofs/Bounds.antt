@@ -67,7 +67,7 @@ begun-course : (direction : Direction) (subscriber first : ℕ) (l : Lengths) �
 begun-course Upload subscriber first l s = up-start subscriber first (l .payload) (s .0) (s .1)
 begun-course Download subscriber first l s = opening-start subscriber first
 
-pub bounded-begun : (c : ClientRun) (params : RunParameters) (l : Lent) (file : List ℕ) → Begins c params (lengthsOf l)
+pub bounded-begun : (c : ClientRun) (params : RunParameters) (l : Lent) (file : List ℕ) → Begins c params l
     → Bounded (begunBy params l) (withRequest (begunBy params l) l file [])
 unfolding begun
 bounded-begun c params l file b =

@@ -143,12 +143,12 @@ module _ (Given : Fields → List ℕ → Fields → List ℕ → Type 0) where
 
   pub data Change (p : Past) : Past → Type 0 where
     nothing : Change p p
-    begins-with : (params : RunParameters) (l : Lent) → Begins (p .run) params (lengthsOf l)
+    begins-with : (params : RunParameters) (l : Lent) → Begins (p .run) params l
         → Change p (issuing (begun params (beginLength (params .direction) (lengthsOf l))) (l .payload) (l .file)
         (l .time) (l .nonce) (p .issues))
-    goes : {next : ClientRun} {file : List ℕ} (l : Lent) → Accepted (p .run) (lengthsOf l) → Kept l p → Move p next file
+    goes : {next : ClientRun} {file : List ℕ} (l : Lent) → Accepted (p .run) l → Kept l p → Move p next file
         → Change p (issuing next (p .payload) file (l .time) (l .nonce) (p .issues))
-    closes : {w : Word} (l : Lent) → Accepted (p .run) (lengthsOf l) → Kept l p → Ends p w → Change p (ending w p)
+    closes : {w : Word} (l : Lent) → Accepted (p .run) l → Kept l p → Ends p w → Change p (ending w p)
 
   -- ---- the calls
 
@@ -157,7 +157,7 @@ module _ (Given : Fields → List ℕ → Fields → List ℕ → Type 0) where
   by-kept P {l} {p} k h =
       subst (P (l .payload)) (sym (k .file)) (subst (λ (y : List ℕ). P y (p .file)) (sym (k .payload)) h)
 
-  module _ (p : Past) (l : Lent) (k : Kept l p) (a : Accepted (p .run) (lengthsOf l)) where
+  module _ (p : Past) (l : Lent) (k : Kept l p) (a : Accepted (p .run) l) where
     abbrev Leads : ClientCall → Type 0
     Leads x = Change p (left (x .answer) x l p)
 
@@ -231,26 +231,26 @@ module _ (Given : Fields → List ℕ → Fields → List ℕ → Type 0) where
   module _ (p : Past) (l : Lent) (r : Fields) (d : List ℕ) (decision : Decision)
       (z : Cause (p .run) r (length d) decision) where
     -- where the ruling gives no number, the decision is carried out
-    ruled : (u : Ruling) → runRuling (p .run .stage) (p .run) (lengthsOf l) ≡ u
+    ruled : (u : Ruling) → runRuling (p .run) (l .time) (lengthsOf l) ≡ u
         → let k = ifAdmitted u (p .run) l (carryOut decision (p .run) r d l) in
         (answerNumber (k .answer) ≡ 0 → Kept l p × (isAnswer (p .run) r ≡ true → Answering p r d))
         → Change p (left (k .answer) k l p)
     ruled (Refuse x) e f = nothing
     ruled Accept e f =
         let k = carryOut decision (p .run) r d l in
-        by-number p l k (k .answer) (λ n. carried p l (f n .0) (accepted (p .run) (lengthsOf l) e) (f n .1) z)
+        by-number p l k (k .answer) (λ n. carried p l (f n .0) (accepted (p .run) l e) (f n .1) z)
 
   begins-change : (p : Past) (params : RunParameters) (l : Lent) (u : Ruling)
-      → beginRuling (p .run) params (lengthsOf l) ≡ u
+      → beginRuling (p .run) params (l .time) (lengthsOf l) ≡ u
       → let k = ifAdmitted u (p .run) l (admittedBegin (p .run) params l) in Change p (left (k .answer) k l p)
   begins-change p params l (Refuse x) e = nothing
   begins-change p params l Accept e =
       by-issue (Change p) (p .run) _ (l .file) l p nothing
-      (begins-with params l (begins (p .run) params (lengthsOf l) e))
+      (begins-with params l (begins (p .run) params l e))
 
   pub changes : (p : Past) (e : Event) → Fair Given e p → Change p (after e p)
   unfolding after beginCall replyCall noReplyCall
-  changes p (Begin params l) f = begins-change p params l (beginRuling (p .run) params (lengthsOf l)) refl
+  changes p (Begin params l) f = begins-change p params l (beginRuling (p .run) params (l .time) (lengthsOf l)) refl
   changes p (Reply frame l) f =
       let r = readReply frame in
       let d = dataOf frame in

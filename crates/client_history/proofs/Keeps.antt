@@ -54,7 +54,7 @@ module _ (Given : Fields → List ℕ → Fields → List ℕ → Type 0) (fileA
   abbrev Inv : Past → Type 0
   Inv = Invariant Given fileAt
 
-  module _ (p : Past) (l : Lent) (a : Accepted (p .run) (lengthsOf l)) (k : Kept l p) (b : Begun p) where
+  module _ (p : Past) (l : Lent) (a : Accepted (p .run) l) (k : Kept l p) (b : Begun p) where
     abbrev c : ClientRun
     c = p .run
 
@@ -154,7 +154,7 @@ module _ (Given : Fields → List ℕ → Fields → List ℕ → Type 0) (fileA
   unfolding ended
   now-ended w p b s = record { bounded = bounded refl s; newest = newest-ended w p (b .newest) }
 
-  idle : {A : Type 0} (p : Past) (l : Lent) → p .run ≡ notBegun → Accepted (p .run) (lengthsOf l) → A
+  idle : {A : Type 0} (p : Past) (l : Lent) → p .run ≡ notBegun → Accepted (p .run) l → A
   idle p l e a = not-new-running (ap (λ (k : ClientRun). k .stage) e) (a .running)
 
   kept-by : {p q : Past} → Change Given p q → Bounds (q .run) (q .issues) → Inv p → Inv q

@@ -8,6 +8,7 @@ pub mod AnyEvent
 pub mod Bounds
 pub mod Transactions
 pub mod Writable
+pub mod OpeningTime
 pub mod Issues
 pub mod Files
 pub mod Uploads

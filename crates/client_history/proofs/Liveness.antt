@@ -25,7 +25,13 @@ use Rattle.client_run.specs.declared.run.Decision.the-variants.{Ignore, Opened,
 use Rattle.client_run.specs.declared.run.Direction.{Direction}
 use Rattle.client_run.specs.declared.run.Direction.the-variants.{Upload, Download}
 use Rattle.client_run.specs.declared.run.Refusal.{Refusal}
-use Rattle.client_run.specs.declared.run.Refusal.the-variants.{WrongBuffer, ExchangeTooHigh, NoSubscriber, WrongStage}
+use Rattle.client_run.specs.declared.run.Refusal.the-variants.{
+  TimeTooHigh,
+  WrongBuffer,
+  ExchangeTooHigh,
+  NoSubscriber,
+  WrongStage,
+}
 use Rattle.client_run.specs.declared.run.Ruling.{Ruling}
 use Rattle.client_run.specs.declared.run.Ruling.the-variants.{Refuse, Accept}
 use Rattle.client_run.specs.declared.run.RunParameters.{RunParameters}
@@ -108,6 +114,7 @@ use Rattle.client_history.proofs.Fitting.{
 -- ---- a call given no number
 
 pub numbered : {A : Type 0} (x : Refusal) → refusalNumber x ≡ 0 → A
+numbered TimeTooHigh h = absurd (omega arith)
 numbered WrongBuffer h = absurd (omega arith)
 numbered ExchangeTooHigh h = absurd (omega arith)
 numbered NoSubscriber h = absurd (omega arith)
@@ -133,7 +140,7 @@ by-decision : (P : Past → Type 0) (p : Past) (frame : List ℕ) (l : Lent) (de
     answerNumber (k .answer) ≡ 0 → P (left (k .answer) k l p))
     → answerNumber (replyCall (p .run) frame l .answer) ≡ 0 → P (after (Reply frame l) p)
 unfolding after replyCall
-by-decision P p frame l decision e f = go (runRuling (p .run .stage) (p .run) (lengthsOf l))
+by-decision P p frame l decision e f = go (runRuling (p .run) (l .time) (lengthsOf l))
   where
     Goal : ClientCall → Type 0
     Goal k = answerNumber (k .answer) ≡ 0 → P (left (k .answer) k l p)
@@ -401,7 +408,7 @@ pub begins : (p : Past) (params : RunParameters) (l : Lent) → answerNumber (be
     InTurn q (params .direction) step.Opening 0 (params .first) × (q .run .subscriber ≡ params .subscriber)
     × (q .payload ≡ l .payload)
 unfolding after beginCall begun
-begins p params l = go (beginRuling (p .run) params (lengthsOf l))
+begins p params l = go (beginRuling (p .run) params (l .time) (lengthsOf l))
   where
     Goal : Past → Type 0
     Goal q =
@@ -429,10 +436,10 @@ begins p params l = go (beginRuling (p .run) params (lengthsOf l))
 pub begin-fresh : (c : ClientRun) (params : RunParameters) (l : Lent) → answerNumber (beginCall c params l .answer) ≡ 0
     → isBegun (c .stage) ≡ false
 unfolding beginCall
-begin-fresh c params l = go (beginRuling c params (lengthsOf l)) refl
+begin-fresh c params l = go (beginRuling c params (l .time) (lengthsOf l)) refl
   where
-    go : (u : Ruling) → beginRuling c params (lengthsOf l) ≡ u
+    go : (u : Ruling) → beginRuling c params (l .time) (lengthsOf l) ≡ u
         → answerNumber (ifAdmitted u c l (admittedBegin c params l) .answer) ≡ 0
         → isBegun (c .stage) ≡ false
     go (Refuse x) e h = numbered x h
-    go Accept e h = rulings.begins c params (lengthsOf l) e .fresh
+    go Accept e h = rulings.begins c params l e .fresh

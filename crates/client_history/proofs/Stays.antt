@@ -141,26 +141,26 @@ module _ (p : Past) where
   not-admitted l k Accept h = absurd (h refl)
 
   module _ (idle : p .run .stage ≡ stage.Running → ⊥) where
-    run-idle : (l : Lent) → runRuling (p .run .stage) (p .run) (lengthsOf l) ≡ Accept → ⊥
-    run-idle l h = idle (accepted (p .run) (lengthsOf l) h .running)
+    run-idle : (l : Lent) → runRuling (p .run) (l .time) (lengthsOf l) ≡ Accept → ⊥
+    run-idle l h = idle (accepted (p .run) l h .running)
 
     -- 8, "the run has ended" or "another call to one not begun": a reply and no reply leave it as it is
     pub reply-idle : (frame : List ℕ) (l : Lent) → after (Reply frame l) p ≡ p
     unfolding after replyCall
     reply-idle frame l =
-        not-admitted l (admittedReply (p .run) frame l) (runRuling (p .run .stage) (p .run) (lengthsOf l)) (run-idle l)
+        not-admitted l (admittedReply (p .run) frame l) (runRuling (p .run) (l .time) (lengthsOf l)) (run-idle l)
 
     pub no-reply-idle : (l : Lent) → after (NoReply l) p ≡ p
     unfolding after noReplyCall
     no-reply-idle l =
-        not-admitted l (admittedNoReply (p .run) l) (runRuling (p .run .stage) (p .run) (lengthsOf l)) (run-idle l)
+        not-admitted l (admittedNoReply (p .run) l) (runRuling (p .run) (l .time) (lengthsOf l)) (run-idle l)
 
   -- "begin comes to one already begun"
   pub begin-again : isBegun (p .run .stage) ≡ true → (params : RunParameters) (l : Lent) → after (Begin params l) p ≡ p
   unfolding after beginCall
   begin-again b params l =
-      not-admitted l (admittedBegin (p .run) params l) (beginRuling (p .run) params (lengthsOf l))
-      (λ h. never (sym (begins (p .run) params (lengthsOf l) h .fresh) ∙ b))
+      not-admitted l (admittedBegin (p .run) params l) (beginRuling (p .run) params (l .time) (lengthsOf l))
+      (λ h. never (sym (begins (p .run) params l h .fresh) ∙ b))
 
 pub ended-stays : (p : Past) (w : Word) → p .run .stage ≡ stage.Ended w → (v : Event) → after v p ≡ p
 ended-stays p w e (Begin params l) = begin-again p (ap isBegun e) params l

@@ -1,6 +1,5 @@
 -- From a begin, each request that a run issues is written, in at most 303 bytes: a call that its ruling admits is given
--- no
--- number. Over every list of events whose arguments are of their types. Assumes nothing.
+-- no number. Over every list of events whose arguments are of their types, at any times. Assumes nothing.
 use Prim.Native.Nat.{ℕ, _+_, _-_, _*_, _^_, _≤_, _<_}
 use mathlib.Core.Bool.{true}
 use mathlib.Core.List.{List, []}
@@ -14,7 +13,7 @@ use Rattle.frame_table.specs.declared.fields.Fields.{Fields}
 use Rattle.frame_table.specs.declared.table.Form.{Form}
 use Rattle.frame_table.specs.Forms as forms
 use Rattle.frame_table.specs.Names.{noFields, transaction}
-use Rattle.frame_table.specs.Table.{isRequestForm}
+use Rattle.frame_table.specs.Table.{isRequestForm, lastTime}
 use Rattle.frame_writer.specs.declared.writer.Written.the-variants.{Length}
 use Rattle.frame_reader.specs.Reader.{readReply}
 use Rattle.frame_row.specs.Row.{dataOf}
@@ -105,7 +104,7 @@ pub record Sent (c : ClientRun) (l : Lent) : Type 0 where
   pub written : isWritten c l ≡ Length size
 
 module _ (c : ClientRun) (issues : List Issue) (b : Bounded c issues) (v : Wide (c .transaction)) (l : Lent)
-    (t : TypedLent l)
+    (t : TypedLent l) (timely : l .time ≤ lastTime)
     (same : c .direction ≡ Upload → c .length ≡ length (l .payload)) (room : requestRoom ≤ length (l .request)) where
   abbrev q : ℕ
   q = length issues
@@ -129,7 +128,7 @@ module _ (c : ClientRun) (issues : List Issue) (b : Bounded c issues) (v : Wide 
   unfolding outstanding outstandingData
   up-opening-sent u s =
       let w = upload-opening-written (c .subscriber) (c .exchange) sender (nonceOf (l .nonce) (c .exchange)) (l .time)
-      (nonce-wide (l .nonce) (c .exchange) (t .twelve) (t .nonce)) (t .time) (c .segments)
+      (nonce-wide (l .nonce) (c .exchange) (t .twelve) (t .nonce)) timely (c .segments)
       (omega (arith, up-segments c q u .1)) in
       sent w refl (omega arith) (rw (u .direction, s)) (rw (u .direction, s))
 
@@ -149,7 +148,7 @@ module _ (c : ClientRun) (issues : List Issue) (b : Bounded c issues) (v : Wide 
   unfolding outstanding outstandingData
   down-opening-sent o =
       let w = download-opening-written (c .subscriber) (c .exchange) sender (nonceOf (l .nonce) (c .exchange)) (l .time)
-      (nonce-wide (l .nonce) (c .exchange) (t .twelve) (t .nonce)) (t .time) in
+      (nonce-wide (l .nonce) (c .exchange) (t .twelve) (t .nonce)) timely in
       sent w refl (omega arith) (rw (o .direction, o .at)) (rw (o .direction))
 
   down-segment-sent : DownloadCourse c q → c .step ≡ step.Segment → c .segment ≤ c .segments → Sent c l
@@ -199,7 +198,7 @@ payload-same Download c l s e = not-both e refl
 
 module _ (c : ClientRun) (issues : List Issue) (b : Bounded c issues) (v : Wide (c .transaction)) (l : Lent)
     (t : TypedLent l)
-    (a : Accepted c (lengthsOf l)) (r : Fields) (d : List ℕ) (w : Wide (transaction r)) where
+    (a : Accepted c l) (r : Fields) (d : List ℕ) (w : Wide (transaction r)) where
   next-sent : (decision : Decision) → Issuing decision → Cause c r (length d) decision
       → Sent (nextOf decision c r (length d)) l
   next-sent decision i k =
@@ -210,7 +209,8 @@ module _ (c : ClientRun) (issues : List Issue) (b : Bounded c issues) (v : Wide 
       next-length decision i c r (length d) u ∙ payload-same (c .direction) c (lengthsOf l) (a .length) u in
       outstanding-sent next (withRequest next l (l .file) issues)
       (bounded-next c issues b decision i r (length d) k l (l .file))
-      (next-wide decision i c r (length d) w v) l t same (room-served (c .direction) (lengthsOf l) (a .buffers))
+      (next-wide decision i c r (length d) w v) l t (a .time) same
+      (room-served (c .direction) (lengthsOf l) (a .buffers))
 
   carried-unrefused : (decision : Decision) → Cause c r (length d) decision
       → Unrefused (carryOut decision c r d l .answer)
@@ -231,22 +231,22 @@ begin-same : (direction : Direction) (l : Lengths) → direction ≡ Upload → 
 begin-same Upload l e = refl
 begin-same Download l e = not-both e refl
 
-begin-sent : (c : ClientRun) (params : RunParameters) (l : Lent) → TypedLent l → Begins c params (lengthsOf l)
+begin-sent : (c : ClientRun) (params : RunParameters) (l : Lent) → TypedLent l → Begins c params l
     → Sent (begunBy params l) l
 unfolding begun
 begin-sent c params l t b =
     outstanding-sent (begunBy params l) (withRequest (begunBy params l) l (l .file) [])
-    (bounded-begun c params l (l .file) b) (omega arith, omega arith) l t
+    (bounded-begun c params l (l .file) b) (omega arith, omega arith) l t (b .time)
     (begin-same (params .direction) (lengthsOf l)) (room-served (params .direction) (lengthsOf l) (b .buffers))
 
 module _ (c : ClientRun) (issues : List Issue) (v : Wide (c .transaction)) (s : Bounds c issues) where
   run-unrefused : (decision : Decision) (r : Fields) (d : List ℕ) (l : Lent) → TypedLent l → Wide (transaction r)
-      → Cause c r (length d) decision → runRuling (c .stage) c (lengthsOf l) ≡ Accept
-      → Unrefused (ifAdmitted (runRuling (c .stage) c (lengthsOf l)) c l (carryOut decision c r d l) .answer)
+      → Cause c r (length d) decision → runRuling c (l .time) (lengthsOf l) ≡ Accept
+      → Unrefused (ifAdmitted (runRuling c (l .time) (lengthsOf l)) c l (carryOut decision c r d l) .answer)
   run-unrefused decision r d l t w k e = rw e (at s)
     where
-      a : Accepted c (lengthsOf l)
-      a = accepted c (lengthsOf l) e
+      a : Accepted c l
+      a = accepted c l e
 
       at : Bounds c issues → Unrefused (carryOut decision c r d l .answer)
       at (fresh n z) = not-new-running (ap (λ (x : ClientRun). x .stage) n) (a .running)
@@ -257,7 +257,7 @@ module _ (c : ClientRun) (issues : List Issue) (v : Wide (c .transaction)) (s : 
   call-unrefused (Begin params l) (typed-begin t) e =
       rw e
       (issued-unrefused c (begunBy params l) (l .file) l
-      (begin-sent c params l t (begins c params (lengthsOf l) e)))
+      (begin-sent c params l t (begins c params l e)))
   call-unrefused (Reply frame l) (typed-reply b t) e =
       let r = readReply frame in
       let d = dataOf frame in

@@ -1,5 +1,5 @@
 -- What any events leave of a run, fair or not: how many requests it issues, under which numbers, and how far it is.
-use Prim.Native.Nat.{ℕ, _+_, _*_, _^_, _<_, _≤_}
+use Prim.Native.Nat.{ℕ, _+_, _*_, _≤_}
 use mathlib.Core.Bool.{true}
 use mathlib.Core.List.{List, [], _∷_, List·Memᴰ as In}
 use mathlib.Core.Logic.{_⊎_}
@@ -102,9 +102,8 @@ pub data Bounds (c : ClientRun) (issues : List Issue) : Type 0 where
 
 -- ---- WHAT AN EVENT BRINGS, AND HOW IT IS RULED
 
--- what is lent is of the types of its parameters: a time of 32 bits, 12 nonce bytes, and slices of bytes
+-- what is lent is of the types of its parameters: 12 nonce bytes and slices of bytes
 pub record TypedLent (l : Lent) : Type 0 where
-  pub time : l .time < 2 ^ 32
   pub twelve : length (l .nonce) ≡ nonceBytes
   pub nonce : Bytes (l .nonce)
   pub payload : Bytes (l .payload)
@@ -119,9 +118,9 @@ pub data AllTyped : List Event → Type 0 where
   typed-more : {e : Event} {es : List Event} → Typed e → AllTyped es → AllTyped (e ∷ es)
 
 abbrev pub rulingOf : Event → ClientRun → Ruling
-rulingOf (Begin params l) c = beginRuling c params (lengthsOf l)
-rulingOf (Reply frame l) c = runRuling (c .stage) c (lengthsOf l)
-rulingOf (NoReply l) c = runRuling (c .stage) c (lengthsOf l)
+rulingOf (Begin params l) c = beginRuling c params (l .time) (lengthsOf l)
+rulingOf (Reply frame l) c = runRuling c (l .time) (lengthsOf l)
+rulingOf (NoReply l) c = runRuling c (l .time) (lengthsOf l)
 
 -- no number, and a request of at most 303 bytes
 abbrev pub Unrefused : Answer → Type 0

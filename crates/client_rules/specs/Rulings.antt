@@ -1,21 +1,32 @@
--- "The client's owner": which call is given which number, in the order 5, 6, 7, 8.
+-- "The client's owner": which call is given which number, in the order 5, 6, 7, 8; since card 3 number 1 comes first.
 use Prim.Native.Nat.{ℕ}
 use mathlib.Core.Bool.{Bool, true, false, not, _||_}
 use mathlib.Core.List.{List, [], _∷_}
 use lib.Dec.{ltb, eqb}
+use Rattle.frame_table.specs.Table.{lastTime}
 use Rattle.message.specs.Limits.{fileBytes, subscribers}
 use Rattle.message.specs.Verdicts.{decide}
 use Rattle.client_run.specs.declared.run.ClientRun.{ClientRun}
 use Rattle.client_run.specs.declared.run.Direction.{Direction}
 use Rattle.client_run.specs.declared.run.Direction.the-variants.{Upload, Download}
 use Rattle.client_run.specs.declared.run.Lengths.{Lengths}
-use Rattle.client_run.specs.declared.run.Refusal.the-variants.{WrongBuffer, ExchangeTooHigh, NoSubscriber, WrongStage}
+use Rattle.client_run.specs.declared.run.Refusal.the-variants.{
+  TimeTooHigh,
+  WrongBuffer,
+  ExchangeTooHigh,
+  NoSubscriber,
+  WrongStage,
+}
 use Rattle.client_run.specs.declared.run.Ruling.{Ruling}
 use Rattle.client_run.specs.declared.run.Ruling.the-variants.{Refuse, Accept}
 use Rattle.client_run.specs.declared.run.RunParameters.{RunParameters}
 use Rattle.client_run.specs.declared.run.Stage.{Stage}
 use Rattle.client_run.specs.declared.run.Stage.the-variants as stage
 use Rattle.client_run.specs.Run.{requestRoom, maxFirstExchange, maxExchange}
+
+-- 1, before all others: "Values over 253,402,300,799,999 ... as bank or client time number 1"
+unfoldable pub timeFirst : ℕ → Ruling → Ruling
+timeFirst time others = decide ((ltb lastTime time, Refuse TimeTooHigh) ∷ []) others
 
 -- 5: "an upload's payload of 0 or over 3,840 bytes ..., a download's file buffer not 3,840, request buffer under 303
 -- (upload runs ignore the file buffer, download runs the payload)"
@@ -42,7 +53,7 @@ isBegun stage.NotBegun = false
 isBegun stage.Running = true
 isBegun (stage.Ended w) = true
 
--- begin's refusals, from top to bottom
+-- begin's refusals 5 to 8, from top to bottom
 abbrev pub beginRefusals : ClientRun → RunParameters → Lengths → List (Bool × Ruling)
 beginRefusals c params l =
     (wrongBuffers (params .direction) l, Refuse WrongBuffer)
@@ -51,8 +62,11 @@ beginRefusals c params l =
     ∷ (isBegun (c .stage), Refuse WrongStage)
     ∷ []
 
-unfoldable pub beginRuling : ClientRun → RunParameters → Lengths → Ruling
-beginRuling c params l = decide (beginRefusals c params l) Accept
+unfoldable pub rulingAtBegin : ClientRun → RunParameters → Lengths → Ruling
+rulingAtBegin c params l = decide (beginRefusals c params l) Accept
+
+unfoldable pub beginRuling : ClientRun → RunParameters → ℕ → Lengths → Ruling
+beginRuling c params time l = timeFirst time (rulingAtBegin c params l)
 
 -- 8: "another call to one not begun"
 unfoldable pub rulingNotBegun : Lengths → Ruling
@@ -71,7 +85,11 @@ rulingRunning c l =
 unfoldable pub rulingEnded : ClientRun → Lengths → Ruling
 rulingEnded c l = decide ((wrongLengths c l, Refuse WrongBuffer) ∷ []) (Refuse WrongStage)
 
-abbrev pub runRuling : Stage → ClientRun → Lengths → Ruling
-runRuling stage.NotBegun c l = rulingNotBegun l
-runRuling stage.Running c l = rulingRunning c l
-runRuling (stage.Ended w) c l = rulingEnded c l
+-- 5 to 8 at a call with a reply, or with none
+abbrev pub rulingAtStage : Stage → ClientRun → Lengths → Ruling
+rulingAtStage stage.NotBegun c l = rulingNotBegun l
+rulingAtStage stage.Running c l = rulingRunning c l
+rulingAtStage (stage.Ended w) c l = rulingEnded c l
+
+unfoldable pub runRuling : ClientRun → ℕ → Lengths → Ruling
+runRuling c time l = timeFirst time (rulingAtStage (c .stage) c l)

@@ -9,11 +9,23 @@ use client_run::run::Refusal;
 use client_run::run::Ruling;
 use client_run::run::RunParameters;
 use client_run::run::Stage;
+use frame_table::table::LAST_TIME;
 use message::limits::FILE_BYTES;
 use message::limits::SUBSCRIBERS;
 ghost use mathlib.Core.Path.{_≡_};
-ghost use Rattle.client_rules.specs.Rulings.{wrongBuffers, changedLength, wrongLengths, noSubscriber, isBegun};
-ghost use Rattle.client_rules.specs.Rulings.{beginRuling, rulingNotBegun, rulingRunning, rulingEnded, runRuling};
+ghost use Rattle.client_rules.specs.Rulings.{timeFirst, wrongBuffers, changedLength, wrongLengths, noSubscriber};
+ghost use Rattle.client_rules.specs.Rulings.{isBegun, rulingAtBegin, beginRuling, rulingNotBegun, rulingRunning};
+ghost use Rattle.client_rules.specs.Rulings.{rulingEnded, rulingAtStage, runRuling};
+
+// Number 1 before the other numbers: the time is over the last one.
+fn time_first(time: u64, others: Ruling) -> Ruling
+    ensures { λ r. ⌜ r ≡ timeFirst time others ⌝ }
+{
+    if LAST_TIME < time {
+        return Ruling::Refuse(Refusal::TimeTooHigh);
+    }
+    others
+}
 
 // Whether a length does not serve an upload.
 fn wrong_for_upload(l: Lengths) -> bool
@@ -91,9 +103,9 @@ pub fn is_begun(stage: Stage) -> bool
     }
 }
 
-// Whether begin is given a number.
-pub fn begin_ruling(c: ClientRun, params: RunParameters, l: Lengths) -> Ruling
-    ensures { λ r. ⌜ r ≡ beginRuling c params l ⌝ }
+// Whether begin is given one of the numbers 5 to 8.
+fn ruling_at_begin(c: ClientRun, params: RunParameters, l: Lengths) -> Ruling
+    ensures { λ r. ⌜ r ≡ rulingAtBegin c params l ⌝ }
 {
     let direction = params.direction;
     if wrong_buffers(direction, l) {
@@ -110,6 +122,13 @@ pub fn begin_ruling(c: ClientRun, params: RunParameters, l: Lengths) -> Ruling
         return Ruling::Refuse(Refusal::WrongStage);
     }
     Ruling::Accept
+}
+
+// Whether begin is given a number.
+pub fn begin_ruling(c: ClientRun, params: RunParameters, time: u64, l: Lengths) -> Ruling
+    ensures { λ r. ⌜ r ≡ beginRuling c params time l ⌝ }
+{
+    time_first(time, ruling_at_begin(c, params, l))
 }
 
 // The number that a call to a run not begun is given.
@@ -145,9 +164,9 @@ fn ruling_ended(c: ClientRun, l: Lengths) -> Ruling
     Ruling::Refuse(Refusal::WrongStage)
 }
 
-// Whether a call with a reply, or with none, is given a number.
-pub fn run_ruling(c: ClientRun, l: Lengths) -> Ruling
-    ensures { λ r. ⌜ r ≡ runRuling (c .stage) c l ⌝ }
+// Whether a call with a reply, or with none, is given one of the numbers 5 to 8.
+fn ruling_at_stage(c: ClientRun, l: Lengths) -> Ruling
+    ensures { λ r. ⌜ r ≡ rulingAtStage (c .stage) c l ⌝ }
 {
     let stage = c.stage;
     match stage {
@@ -155,4 +174,11 @@ pub fn run_ruling(c: ClientRun, l: Lengths) -> Ruling
         Stage::Running => ruling_running(c, l),
         Stage::Ended(_) => ruling_ended(c, l),
     }
+}
+
+// Whether a call with a reply, or with none, is given a number.
+pub fn run_ruling(c: ClientRun, time: u64, l: Lengths) -> Ruling
+    ensures { λ r. ⌜ r ≡ runRuling c time l ⌝ }
+{
+    time_first(time, ruling_at_stage(c, l))
 }

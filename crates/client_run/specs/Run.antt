@@ -14,7 +14,13 @@ use Rattle.client_run.specs.declared.run.Step.the-variants as step
 use Rattle.client_run.specs.declared.run.Word.{Word}
 use Rattle.client_run.specs.declared.run.Word.the-variants as word
 use Rattle.client_run.specs.declared.run.Refusal.{Refusal}
-use Rattle.client_run.specs.declared.run.Refusal.the-variants.{WrongBuffer, ExchangeTooHigh, NoSubscriber, WrongStage}
+use Rattle.client_run.specs.declared.run.Refusal.the-variants.{
+  TimeTooHigh,
+  WrongBuffer,
+  ExchangeTooHigh,
+  NoSubscriber,
+  WrongStage,
+}
 use Rattle.client_run.specs.declared.run.Answer.{Answer}
 use Rattle.client_run.specs.declared.run.Answer.the-variants as answer
 use Rattle.client_run.specs.declared.run.Lengths.{Lengths}
@@ -27,8 +33,9 @@ maxFirstExchange = 4294967200
 abbrev pub maxExchange : ℕ
 maxExchange = 4294967295
 
--- document 01's numbers for the client's owner
+-- document 01's numbers for the client's owner; card 3: "as bank or client time number 1"
 abbrev pub refusalNumber : Refusal → ℕ
+refusalNumber TimeTooHigh = 1
 refusalNumber WrongBuffer = 5
 refusalNumber ExchangeTooHigh = 6
 refusalNumber NoSubscriber = 7

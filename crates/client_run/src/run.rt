@@ -72,19 +72,21 @@ pub struct ClientRun {
     pub receipted: bool,
 }
 
-// Why a call is given a number: a buffer, the first exchange number, the subscriber, or the run's stage.
+// Why a call is given a number: the time, a buffer, the first exchange number, the subscriber, or the run's stage.
 pub enum Refusal {
+    TimeTooHigh,
     WrongBuffer,
     ExchangeTooHigh,
     NoSubscriber,
     WrongStage,
 }
 
-// Document 01's number for the client's owner.
+// Document 01's number for the client's owner, card 3's for the time.
 pub fn refusal_number(refusal: Refusal) -> u64
     ensures { λ r. ⌜ r ≡ refusalNumber refusal ⌝ }
 {
     match refusal {
+        Refusal::TimeTooHigh => 1,
         Refusal::WrongBuffer => 5,
         Refusal::ExchangeTooHigh => 6,
         Refusal::NoSubscriber => 7,

@@ -168,7 +168,7 @@ replied-by : (w : BankState) (a : FrameInput) (n : ℕ) →
     frameCall w a .answer ≡ frameAnswer.Reply n →
     Replied (frameCall w a) (stepOf w a) (a .buffer) n
 unfolding frameCall
-replied-by w a n = go (lentRight w (a .ids) (a .buffer))
+replied-by w a n = go (lentRight w a)
   where
     s : Step
     s = stepOf w a

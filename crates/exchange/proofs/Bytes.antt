@@ -106,7 +106,7 @@ module _ (c : ClientRun) (r : Fields) (d : List ℕ) (l : Lent) where
 module _ (c : ClientRun) (l : Lent) where
   pub begin-issues : (params : RunParameters) → Issues (beginCall c params l) l
   unfolding beginCall
-  begin-issues params = go (beginRuling c params (lengthsOf l))
+  begin-issues params = go (beginRuling c params (l .time) (lengthsOf l))
     where
       go : (u : Ruling) → Issues (ifAdmitted u c l (admittedBegin c params l)) l
       go (Refuse x) n h = absurd (let z : _≡_ {A = ℕ} 0 1 = cc in omega arith)
@@ -115,12 +115,12 @@ module _ (c : ClientRun) (l : Lent) where
   pub reply-issues : (frame : List ℕ) → Issues (replyCall c frame l) l
   unfolding replyCall
   reply-issues frame =
-      ruled-issues c (readReply frame) (dataOf frame) l (runRuling (c .stage) c (lengthsOf l))
+      ruled-issues c (readReply frame) (dataOf frame) l (runRuling c (l .time) (lengthsOf l))
       (onReply c (readReply frame) (length (dataOf frame)))
 
   pub no-reply-issues : Issues (noReplyCall c l) l
   unfolding noReplyCall
-  no-reply-issues = ruled-issues c _ [] l (runRuling (c .stage) c (lengthsOf l)) (onNoReply c)
+  no-reply-issues = ruled-issues c _ [] l (runRuling c (l .time) (lengthsOf l)) (onNoReply c)
 
 -- its bytes read as its fields and its data
 module _ {k : ClientCall} {l : Lent} {n : ℕ} (i : Issued k l n) where

@@ -5,6 +5,7 @@ pub mod Told
 pub mod Journal
 pub mod Calls
 pub mod Guards
+pub mod Late
 pub mod Images
 pub mod Bank
 pub mod Clients

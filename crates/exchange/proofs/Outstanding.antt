@@ -108,19 +108,19 @@ given-to s v i reply (e, m, z, (x, n, r, c)) =
 -- a call of a reply that is given no number comes to a run that goes on
 reply-running : (c : ClientRun) (reply : List ℕ) (l : Lent) → answerNumber (replyCall c reply l .answer) ≡ 0 → c .stage ≡ stage.Running
 unfolding replyCall
-reply-running c reply l = go (runRuling (c .stage) c (lengthsOf l)) refl
+reply-running c reply l = go (runRuling c (l .time) (lengthsOf l)) refl
   where
-    go : (u : Ruling) → runRuling (c .stage) c (lengthsOf l) ≡ u →
+    go : (u : Ruling) → runRuling c (l .time) (lengthsOf l) ≡ u →
         answerNumber (ifAdmitted u c l (admittedReply c reply l) .answer) ≡ 0 →
         c .stage ≡ stage.Running
     go (Refuse x) e h = numbered x h
-    go Accept e h = accepted c (lengthsOf l) e .running
+    go Accept e h = accepted c l e .running
 
 -- and its answer is Ignored if the reply does not answer the outstanding request
 reply-ignored : (c : ClientRun) (reply : List ℕ) (l : Lent) → answerNumber (replyCall c reply l .answer) ≡ 0 →
     isAnswer c (readReply reply) ≡ false → replyCall c reply l .answer ≡ answer.Ignored
 unfolding replyCall onReply
-reply-ignored c reply l done other = go (runRuling (c .stage) c (lengthsOf l)) done
+reply-ignored c reply l done other = go (runRuling c (l .time) (lengthsOf l)) done
   where
     go : (u : Ruling) →
         answerNumber (ifAdmitted u c l (admittedReply c reply l) .answer) ≡ 0 →

@@ -95,7 +95,8 @@ pub record OrderOf (s : Course) (i : ℕ) (o : Order) : Type 0 where
 
 -- ---- AN ORDER IN TURN
 
--- "An idle hour is over 3,600 on the clock from the arrival of one of the order's requests to that of the next"
+-- "An idle hour is over" the idle limit "on the clock from the arrival of one of the order's requests to that of the
+-- next"
 abbrev pub NoIdleHour : ℕ → ℕ → Course → Type 0
 NoIdleHour i clock s =
     ((e : Exchange) × Received i e s × (clock ≤ e .clock + idleLimit)) ⊎ ((e : Exchange) → Received i e s → ⊥)

@@ -23,13 +23,13 @@ use Rattle.octets.proofs.Tests.{never, and-true, or-true}
 use Rattle.message.specs.declared.codes.ReturnCode.the-variants as code
 use Rattle.message.specs.Codes.{codeField}
 use Rattle.message.specs.Limits.{fileBytes}
-use Rattle.bank_state.specs.Limits.{idleLimit, replyRoom}
+use Rattle.bank_state.specs.Limits.{idBytes, idleLimit, replyRoom}
 use Rattle.bank_state.specs.Search.{openCountOf}
 use Rattle.bank_rows.specs.Layout.{stateSize}
 use Rattle.bank_rows.specs.State.{stored}
 use Rattle.bank_steps.specs.Lent.{stateOf}
 use Rattle.bank_steps.specs.Lent as bankEnd
-use Rattle.bank.specs.Call.{frameCall, frameInput}
+use Rattle.bank.specs.Call.{FrameInput, frameCall, frameInput}
 use Rattle.bank_session.specs.Session.{LentSession, sessionOf, bankIn, journalIn}
 use Rattle.image_calls.specs.Calls.{imageLength}
 use Rattle.client_run.specs.declared.run.Direction.{Direction}
@@ -178,9 +178,12 @@ pub data Move : Type 0 where
   -- a call given a number
   numbered : Call → Move
 
--- what a run is lent
+-- what a run is lent at a time, and at the time of all calls but the late ones
+abbrev pub lentAt : ℕ → List ℕ → List ℕ → Lent
+lentAt time payload file = lentOf time (replicate nonceBytes 0) payload file (replicate requestRoom 0)
+
 abbrev pub lent : List ℕ → List ℕ → Lent
-lent payload file = lentOf 1000 (replicate nonceBytes 0) payload file (replicate requestRoom 0)
+lent = lentAt 1000
 
 abbrev requestAt : ℕ → Course → List ℕ
 requestAt n s = nth (record { run = 0; frame = []; file = []; box = [] }) n (s .issued) .frame
@@ -191,13 +194,16 @@ noExchange = record { request = []; reply = []; clock = 0; box = [] }
 abbrev replyAt : ℕ → Course → List ℕ
 replyAt n s = nth noExchange n (s .exchanged) .reply
 
-abbrev frameCalled : List ℕ → ℕ → Course → Call
-frameCalled frame time s = frameArrives (s .bank) (s .journal) (frameInput time (replicate 8 0) frame (replicate replyRoom 0))
+-- what a frame call is lent besides the bank
+abbrev inputAt : ℕ → List ℕ → FrameInput
+inputAt time frame = frameInput time (replicate idBytes 0) frame (replicate replyRoom 0)
+
+abbrev pub frameCalled : List ℕ → ℕ → Course → Call
+frameCalled frame time s = frameArrives (s .bank) (s .journal) (inputAt time frame)
 
 -- the clock as the frame has come
 abbrev frameClock : List ℕ → ℕ → Course → ℕ
-frameClock frame time s =
-    frameCall (s .bank) (frameInput time (replicate 8 0) frame (replicate replyRoom 0)) .bankState .bank .clock
+frameClock frame time s = frameCall (s .bank) (inputAt time frame) .bankState .bank .clock
 
 -- the session as it stands, in memory
 abbrev pub standing : Course → LentSession
@@ -280,7 +286,7 @@ Asked (m ∷ ms) s = asked m s (Asked ms (next m s))
 
 pub allowed : (m : Move) (s : Course) (rest : Type 0) → asked m s rest → isAllowed m s ≡ true → Allowed (callOf m s) s × rest
 allowed (comes n time) s rest r h = (λ _. (refl, refl, λ _. issued (requestAt n s) s h), r)
-allowed (stray frame time) s rest r h = (stray-allowed s (frameInput time (replicate 8 0) frame (replicate replyRoom 0)) (off (isSubscribers frame) h), r)
+allowed (stray frame time) s rest r h = (stray-allowed s (inputAt time frame) (off (isSubscribers frame) h), r)
   where
     off : (b : Bool) → not b ≡ true → b ≡ false
     off true e = sym e

@@ -1,5 +1,5 @@
 -- Computed examples of demand 3: lists that meet its premises, what they come to, and the theorem applied to them.
-use Prim.Native.Nat.{ℕ}
+use Prim.Native.Nat.{ℕ, _+_}
 use mathlib.Core.Bool.{true}
 use mathlib.Core.List.{List, [], _∷_, _++_, List·Memᴰ as In, List·Memᴰ·not-nil as in-none}
 use mathlib.Core.Logic.{inl, inr}
@@ -7,11 +7,13 @@ use mathlib.Core.Path.{_≡_, refl, sym, ap, _∙_, subst}
 use lib.ListN.{length, take, replicate}
 use Rattle.frame_table.specs.Forms as forms
 use Rattle.frame_table.specs.Names.{segment, returnCode, form}
+use Rattle.frame_table.specs.Table.{lastTime}
 use Rattle.frame_reader.specs.Reader.{readRequest, readReply}
 use Rattle.message.specs.declared.codes.ReturnCode.the-variants as code
 use Rattle.message.specs.Codes.{codeField}
 use Rattle.message.specs.Segments.{segmentsOf}
 use Rattle.bank_state.specs.declared.state.Use.the-variants as uses
+use Rattle.bank_state.specs.Limits.{idleLimit}
 use Rattle.bank_state.specs.State.{placeAt}
 use Rattle.bank_steps.specs.Lent.{stateOf}
 use Rattle.bank_session.specs.Session.{LentSession, bankIn, journalIn}
@@ -59,7 +61,9 @@ use Rattle.exchange_examples.proofs.Checked.{
   writes,
   takes,
   numbered,
+  lentAt,
   lent,
+  frameCalled,
   noExchange,
   standing,
   room,
@@ -83,6 +87,13 @@ use Rattle.exchange_examples.proofs.Checked.{
 }
 
 -- ---- the lists
+
+-- the last time at which what was fitting at 1000 is open, and the first at which it is gone
+abbrev lastOpen : ℕ
+lastOpen = 1000 + idleLimit
+
+abbrev firstGone : ℕ
+firstGone = lastOpen + 1
 
 -- an upload of one byte, up to its segment, and lodged
 abbrev segmentSent : List Move
@@ -122,12 +133,15 @@ crossing =
     ∷ comes 0 1000
     -- a call given number 8, lent a run not begun
     ∷ numbered (noReply 0 notBegun (lent [] []))
+    -- a frame and a run's call over the last time, given number 1
+    ∷ numbered (frameCalled [] (lastTime + 1) start)
+    ∷ numbered (noReply 0 notBegun (lentAt (lastTime + 1) [] []))
     ∷ reaches 1 2
     -- a late copy of it is ignored
     ∷ reaches 1 2
     ∷ reaches 0 0
-    -- exactly 3,600 after the segment before
-    ∷ comes 0 4600
+    -- exactly the idle limit after the segment before
+    ∷ comes 0 lastOpen
     ∷ reaches 0 0
     ∷ []
 
@@ -170,11 +184,11 @@ booking = waiting ++ (comes 0 1000 ∷ hands 0 ∷ [])
 
 -- an idle hour later its upload is dropped: handed the journal again, it closes as not lodged
 abbrev dropping : List Move
-dropping = waiting ++ (stray (1 ∷ 2 ∷ 3 ∷ []) 4601 ∷ hands 0 ∷ [])
+dropping = waiting ++ (stray (1 ∷ 2 ∷ 3 ∷ []) firstGone ∷ hands 0 ∷ [])
 
 -- a late copy of its segment comes then
 abbrev late : List Move
-late = comes 0 4601 ∷ []
+late = comes 0 firstGone ∷ []
 
 -- an order in turn whose run is handed the journal between
 abbrev asking : List Move

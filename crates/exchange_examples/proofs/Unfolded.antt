@@ -81,8 +81,9 @@ unfolding frameBytes.numberFrom frameBytes.number frameBytes.bytesOf frameBytes.
     clientDecisions.onDownload clientDecisions.isAnswer clientDecisions.onReply clientDecisions.onNoReply
     clientNextRun.begun clientNextRun.goOn clientNextRun.repeated clientNextRun.holding clientNextRun.fileWith
     clientNextRun.ended clientRequests.nonceOf clientRequests.outstanding clientRequests.outstandingData
-    clientRulings.wrongLengths clientRulings.noSubscriber clientRulings.beginRuling clientRulings.rulingNotBegun
-    clientRulings.rulingRunning clientRulings.rulingEnded course.start course.mailboxOf course.heldOf course.emptied
+    clientRulings.wrongLengths clientRulings.noSubscriber clientRulings.timeFirst clientRulings.rulingAtBegin
+    clientRulings.beginRuling clientRulings.rulingNotBegun clientRulings.rulingRunning clientRulings.rulingEnded
+    clientRulings.runRuling course.start course.mailboxOf course.heldOf course.emptied
     course.exec isSubscribers journalEvents.eventsFrom journalRow.emptyRow journalRow.entered journalRow.enteredAll
     journalRow.withRecord journalRow.lookup bankEntries.insertByOpening bankEntries.byOpening
     bankEntries.droppedUploads bankEntries.actionEntries bankEntries.callEntries bankJournal.enteredBy

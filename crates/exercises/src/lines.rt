@@ -82,7 +82,7 @@ fn say_message(letter: u8, form: Form, repeated: bool, v: [u64; VALUES]) {
     }
     say(b'E', v);
     if repeated {
-        say(b'P', v);
+        say(b'A', v);
     }
 }
 

@@ -2,32 +2,70 @@
 use crate::script::Move;
 use crate::script::byte_at;
 use crate::script::order_of;
+use bank_state::limits::ID_BYTES;
+use bank_state::limits::IDLE_LIMIT;
 use bank_state::limits::REPLY_ROOM;
+use client_run::run::NONCE_BYTES;
 use octets::bytes::behind;
 use octets::bytes::copy;
 use octets::bytes::front;
 use print::text::put_digits;
 use unit::call::Answer;
+use unit::record::EXTENT_BYTES;
+use unit::record::FIRST_BYTES;
+use unit::record::IDS_AT;
+use unit::record::LETTER_BYTES;
+use unit::record::MAILBOX_BYTES;
+use unit::record::NONCE_AT;
+use unit::record::ROOM_BYTES;
+use unit::record::RUN_BYTES;
+use unit::record::SUBSCRIBER_AT;
+use unit::record::SUBSCRIBER_BYTES;
+use unit::record::TIME_BYTES;
+use unit::record::UPLOAD_HEAD;
+use unit::record::lent_length;
 
-// The time of a call, and of one over an hour later.
-const TIME: u32 = 1000;
+// The time of a call, and of one so much later that an idle transaction is gone.
+const TIME: u64 = 1000000;
 
-const LATER: u32 = 4601;
+const LATER: u64 = TIME + IDLE_LIMIT + 1;
+
+// The text of which the orders' bytes are parts.
+const TEXT_BYTES: usize = 1024;
 
 // The bytes of the longest record: an upload's head, and the longest payload.
-pub(crate) const RECORD_BYTES: usize = 26 + 700;
+pub(crate) const RECORD_BYTES: usize = UPLOAD_HEAD + 700;
 
-// The place of the frame's length in the record of a frame to the bank.
-const FRAME_AT: usize = 13;
+// The places of a record's body, before which its length stands: of a frame to the bank, of a begin, and of a call to a
+// run.
+const FRAME_AT: usize = IDS_AT + ID_BYTES;
 
-// The places of the messages: each is its length in two bytes, and its bytes.
+const BEGIN_AT: usize = NONCE_AT + NONCE_BYTES;
+
+const CALL_AT: usize = SUBSCRIBER_AT;
+
+// The places of the messages: each is its length in two bytes, and its bytes. After them the record that takes up the
+// image, but for its letter.
 const REQUEST_AT: usize = 0;
 
 const REPLY_AT: usize = REQUEST_AT + 2 + REPLY_ROOM;
 
 const COPY_AT: usize = REPLY_AT + 2 + REPLY_ROOM;
 
-pub(crate) const MAIL_BYTES: usize = COPY_AT + 2 + REPLY_ROOM;
+const IMAGE_AT: usize = COPY_AT + 2 + REPLY_ROOM;
+
+pub(crate) const MAIL_BYTES: usize = IMAGE_AT + LETTER_BYTES + EXTENT_BYTES;
+
+// Bytes that differ from their neighbours, so that a misplaced part shows.
+pub(crate) fn example_text() -> [u8; TEXT_BYTES] {
+    let mut text = [0u8; TEXT_BYTES];
+    let mut i = 0;
+    while i < TEXT_BYTES {
+        text[i] = (i % 251) as u8;
+        i += 1;
+    }
+    text
+}
 
 // The bytes of a run's order, its payload or its statement, as a part of the text.
 pub(crate) fn content_of(text: &[u8], run: u8) -> &[u8] {
@@ -67,8 +105,11 @@ fn body_at(s: &[u8], at: usize) -> &[u8] {
     front(behind(b, 2), size)
 }
 
-// What stands before the body of a record: a number of so many bytes, and, from byte 6 on, a begin's order.
+// What stands before the body of a record: the letter with the run or the mailbox, in so many bytes, after them the time
+// or a length in the image room, in so many bytes, and a begin's order.
 struct Head {
+    pub name: u64,
+    pub named: usize,
     pub number: u64,
     pub width: usize,
     pub order: u64,
@@ -76,62 +117,86 @@ struct Head {
 }
 
 // The head of a move's record; the bank's ID bytes and the nonce bytes are 0, and a run's first exchange number is its
-// number in hundreds.
-fn head_of(letter: u8, run: u8, time: u32) -> Head {
+// number in hundreds. The session is put away into the whole image room, and taken up from this many bytes of it.
+fn head_of(letter: u8, run: u8, time: u64, image: u64) -> Head {
     let o = order_of(run);
     let subscriber = o.subscriber as u64;
     let first = letter as u64;
-    let named = (first * 256 + run as u64) * 4294967296 + time as u64;
+    let called = first * 256 + run as u64;
     match letter {
         b'M' => Head {
-            number: first * 65536 + subscriber,
-            width: 3,
+            name: first * 65536 + subscriber,
+            named: LETTER_BYTES + MAILBOX_BYTES,
+            number: 0,
+            width: 0,
             order: 0,
-            body: 3,
+            body: LETTER_BYTES + MAILBOX_BYTES,
         },
         b'F' => Head {
-            number: first * 4294967296 + time as u64,
-            width: 5,
+            name: first,
+            named: LETTER_BYTES,
+            number: time,
+            width: TIME_BYTES,
             order: 0,
             body: FRAME_AT,
         },
-        b'J' => Head {
-            number: first * 256 + run as u64,
-            width: 2,
+        b'P' | b'T' => Head {
+            name: first,
+            named: LETTER_BYTES,
+            number: image,
+            width: EXTENT_BYTES,
             order: 0,
-            body: 2,
+            body: LETTER_BYTES + EXTENT_BYTES,
         },
         b'U' | b'D' => Head {
-            number: named,
-            width: 6,
+            name: called,
+            named: LETTER_BYTES + RUN_BYTES,
+            number: time,
+            width: TIME_BYTES,
             order: subscriber * 4294967296 + run as u64 * 100,
-            body: 24,
+            body: BEGIN_AT,
         },
         _ => Head {
-            number: named,
-            width: 6,
+            name: called,
+            named: LETTER_BYTES + RUN_BYTES,
+            number: time,
+            width: TIME_BYTES,
             order: 0,
-            body: 6,
+            body: CALL_AT,
         },
     }
 }
 
 // The time of a move.
-fn time_of(hour: u8) -> u32 {
+fn time_of(hour: u8) -> u64 {
     if hour == b'H' {
         return LATER;
     }
     TIME
 }
 
+// The bytes of the image room that a move lends.
+fn image_of(mail: &[u8], letter: u8) -> u64 {
+    if letter == b'T' {
+        return lent_length(behind(mail, IMAGE_AT)) as u64;
+    }
+    ROOM_BYTES as u64
+}
+
 // Writes the record of a move, whose body this is. A lost message makes no call: its record is empty.
-fn put_record(record: &mut [u8], m: Move, body: &[u8]) {
+fn put_record(record: &mut [u8], m: Move, image: u64, body: &[u8]) {
     if m.fate == b'x' {
         return;
     }
-    let h = head_of(m.letter, m.run, time_of(m.hour));
-    put_number(record, 0, h.width, h.number);
-    put_number(record, 6, 6, h.order);
+    let h = head_of(m.letter, m.run, time_of(m.hour), image);
+    put_number(record, 0, h.named, h.name);
+    put_number(record, h.named, h.width, h.number);
+    put_number(
+        record,
+        SUBSCRIBER_AT,
+        SUBSCRIBER_BYTES + FIRST_BYTES,
+        h.order,
+    );
     put_body(record, h.body, body);
 }
 
@@ -153,19 +218,22 @@ pub(crate) fn message_of(mail: &[u8], m: Move) -> &[u8] {
 
 // Writes the record of a move: its body is the content of an order, or a message. What follows a record without one is
 // not read.
-pub(crate) fn put_move(record: &mut [u8], m: Move, text: &[u8], mail: &[u8]) {
+pub(crate) fn put_move(record: &mut [u8], m: Move, mail: &[u8]) {
     let letter = m.letter;
+    let image = image_of(mail, letter);
+    let text = example_text();
     match letter {
-        b'F' | b'R' => put_record(record, m, message_of(mail, m)),
-        _ => put_record(record, m, content_of(text, m.run)),
+        b'F' | b'R' => put_record(record, m, image, message_of(mail, m)),
+        _ => put_record(record, m, image, content_of(&text, m.run)),
     }
 }
 
-// Keeps the reply or the request that a call wrote into the buffer.
+// Keeps the reply or the request that a call wrote into the buffer, or the length of an image.
 pub(crate) fn keep(mail: &mut [u8], answer: Answer, buffer: &[u8]) {
     match answer {
         Answer::Frame(n) => put_body(mail, REPLY_AT, front(buffer, n)),
         Answer::Request(n) => put_body(mail, REQUEST_AT, front(buffer, n)),
+        Answer::Away(n) => put_number(mail, IMAGE_AT + LETTER_BYTES, EXTENT_BYTES, n as u64),
         _ => (),
     }
 }

@@ -1,5 +1,6 @@
 // Exercise C: a run's closing word beside what the bank has, whether the word is true of it, and the bank's book.
 use crate::record::content_of;
+use crate::record::example_text;
 use crate::say::VALUES;
 use crate::say::say;
 use crate::say::say_closing;
@@ -145,7 +146,7 @@ fn say_row(stage: Stage, direction: Direction, h: Holding, v: [u64; VALUES]) {
     let holds = say_word(stage, v[7], h, v);
     say(h.key, v);
     if holds {
-        say(b'T', v);
+        say(b'V', v);
     } else {
         say(b'W', v);
     }
@@ -174,19 +175,13 @@ fn bank_has(
 }
 
 // The row of client run i, from 0 on.
-fn say_run(
-    c: ClientRun,
-    i: usize,
-    rows: &[u64; STATE_SIZE],
-    text: &[u8],
-    orders: &[u8],
-    files: &[u8],
-) {
+fn say_run(c: ClientRun, i: usize, rows: &[u64; STATE_SIZE], orders: &[u8], files: &[u8]) {
+    let text = example_text();
     let h = bank_has(
         c,
         i,
         rows,
-        content_of(text, (i % 16) as u8 + 1),
+        content_of(&text, (i % 16) as u8 + 1),
         orders,
         files,
     );
@@ -201,36 +196,24 @@ fn say_run(
 }
 
 // The rows of all client runs.
-pub(crate) fn say_results(
-    u: UnitState,
-    rows: &[u64; STATE_SIZE],
-    text: &[u8],
-    orders: &[u8],
-    files: &[u8],
-) {
+pub(crate) fn say_results(u: UnitState, rows: &[u64; STATE_SIZE], orders: &[u8], files: &[u8]) {
     let mut i = 0;
     while i < RUN_COUNT {
         let r = u.runs[i];
         let c = r.client.run;
-        say_run(c, i, rows, text, orders, files);
+        say_run(c, i, rows, orders, files);
         i += 1;
     }
 }
 
 // The rows of the runs that were handed the journal: client runs 4 and 6.
-pub(crate) fn say_handed(
-    u: UnitState,
-    rows: &[u64; STATE_SIZE],
-    text: &[u8],
-    orders: &[u8],
-    files: &[u8],
-) {
+pub(crate) fn say_handed(u: UnitState, rows: &[u64; STATE_SIZE], orders: &[u8], files: &[u8]) {
     let fourth = u.runs[3];
     let sixth = u.runs[5];
     let c = fourth.client;
     let d = sixth.client;
-    say_run(c.run, 3, rows, text, orders, files);
-    say_run(d.run, 5, rows, text, orders, files);
+    say_run(c.run, 3, rows, orders, files);
+    say_run(d.run, 5, rows, orders, files);
 }
 
 // The bank's book.

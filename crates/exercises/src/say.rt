@@ -70,10 +70,10 @@ fn say_keyed(table: &[u8], key: u8, v: [u64; VALUES]) {
 }
 
 // Prints the text of a key, or nothing where no text has it. The keys: a record's letter for the line of a move; 1 to 6
-// for what a request says, a to k for a reply; E for what follows each of them, P a request that repeats one, C the
+// for what a request says, a to k for a reply; E for what follows each of them, A a request that repeats one, C the
 // code of a reply, O, S, Y and K the codes' names in Annex 1; x and l for what became of a message, H for the hour; i,
 // q, w and n for what the call answered; u and d for a run's row in exercise C, o for a run that has not ended, B, Z
-// and X for what the bank has, T and W for whether the closing word is true.
+// and X for what the bank has, V and W for whether the closing word is true.
 pub(crate) fn say(key: u8, v: [u64; VALUES]) {
     say_keyed(
         b"\
@@ -84,6 +84,8 @@ pub(crate) fn say(key: u8, v: [u64; VALUES]) {
             R0 bank -> client 1: \n\
             N0 client 1: no reply\n\
             J0 client 1: the journal\n\
+            P0 host: the session put away\n\
+            T0 host: the session taken up\n\
             1upload opening of 5 segments\n\
             2download opening\n\
             3upload segment 49\n\
@@ -99,7 +101,7 @@ pub(crate) fn say(key: u8, v: [u64; VALUES]) {
             junreadable request\n\
             krefusal\n\
             E, exchange 6\n\
-            P, repeated\n\
+            A, repeated\n\
             C, 8 \n\
             OEBICS_OK\n\
             SEBICS_DOWNLOAD_POSTPROCESS_DONE\n\
@@ -118,7 +120,7 @@ pub(crate) fn say(key: u8, v: [u64; VALUES]) {
             B; book 7, 3 bytes\n\
             Z; book nothing\n\
             X; mailbox 2, 3 bytes\n\
-            T; true\n\
+            V; true\n\
             W; false\n\
             ",
         key,

@@ -40,19 +40,20 @@ pub(crate) fn order_of(run: u8) -> Order {
     }
 }
 
-// The moves of exercise A, of A and half of B (a download is open, and a reply was lost), of A and B together, and of
-// all three.
+// The moves of exercise A, of the first day (A and half of B: a download is open, and a reply was lost), of A and B
+// together, and of all three.
 pub(crate) const MOVES_A: u8 = 17;
 
-pub(crate) const MOVES_HALF: u8 = 51;
+pub(crate) const MOVES_DAY: u8 = 52;
 
-pub(crate) const MOVES_B: u8 = 77;
+pub(crate) const MOVES_B: u8 = 79;
 
 pub(crate) const MOVES: u8 = MOVES_B + 2;
 
 // A move has four bytes: the letter of its record (M a file for a mailbox, U or D a run begins, F its request, R the
-// bank's reply, N no reply came, J the journal is handed to it), its client run, what becomes of the message (x lost, c
-// a copy is held back, l the copy arrives late), and H where it comes over an hour later, else a space.
+// bank's reply, N no reply came, J the journal is handed to it, P the session is put away, T it is taken up), its
+// client run, what becomes of the message (x lost, c a copy is held back, l the copy arrives late), and H where it
+// comes over an hour later, else a space.
 const MOVE_BYTES: usize = 4;
 
 // A move: its number, from 1 on, its letter, its client run, what becomes of its message, whether it comes over an hour
@@ -75,7 +76,7 @@ pub(crate) fn byte_at(s: &[u8], i: usize) -> u8 {
 }
 
 // Move i, from 0 on, of a script that begins with a blank move.
-pub(crate) fn move_at(script: &[u8], i: u8) -> Move {
+fn move_in(script: &[u8], i: u8) -> Move {
     let s = behind(script, i as usize * MOVE_BYTES);
     let fate = byte_at(s, MOVE_BYTES + 2);
     Move {
@@ -86,4 +87,20 @@ pub(crate) fn move_at(script: &[u8], i: u8) -> Move {
         hour: byte_at(s, MOVE_BYTES + 3),
         repeated: fate != b'l' && byte_at(s, 0) == b'N',
     }
+}
+
+// Move i of the exercises, from 0 on.
+pub(crate) fn move_at(i: u8) -> Move {
+    move_in(
+        b"    \
+        M2  U1  F1  R1  F1  R1  F1  R1  F1  R1  \
+        D2  F2  R2  F2  R2  F2  R2  \
+        U3  F3x N3  F3  R3  F3c R3  F3  R3x N3  F3  R3  F3l R3  F3c R3  F3l R3x \
+        U4  F4  R4  F4  R4  F4  R4x N4  F4  R4  \
+        M5  D5  F5  R5  F5  R5x P0  \
+        T0  N5  F5  R5  F5  R5  F5  R5  \
+        U6  F6  R6  F6c R6  F6x N6  F6x N6  F6x N6  F6x N6  F6x N6  F6x N6  F6lHR6x \
+        J4  J6  ",
+        i,
+    )
 }

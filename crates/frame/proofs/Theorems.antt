@@ -17,6 +17,8 @@ use Rattle.frame_table.specs.Table.{
   phaseTag,
   subscriberTag,
   exchangeTag,
+  timestampTag,
+  lastTime,
   segmentsTag,
   transactionTag,
   segmentTag,
@@ -35,7 +37,7 @@ use Rattle.frame_table.specs.Table.{
   isReplyForm,
   isForm,
 }
-use Rattle.frame_table.specs.Names.{form, with}
+use Rattle.frame_table.specs.Names.{form, with, timestamp}
 use Rattle.frame_row.specs.Row.{spelled, listed, wellFormed, dataOf, highOf, lowOf, piece, join}
 use Rattle.frame_reader.specs.Reader.{parse, readAs, readRequest, readReply}
 use Rattle.frame_table.specs.Names.{noFields}
@@ -194,6 +196,13 @@ module _ (s : List ℕ) where
       unfolding readRequest
       request-number = as-number isRequestForm refl request-form s b h
 
+      -- card 3, "Values over 253,402,300,799,999 in a frame get 091010": a timestamp that is read is not over it
+      pub request-time : has (readRequest s .tags) timestampTag ≡ true → timestamp (readRequest s) ≤ lastTime
+      unfolding width valuesOf
+      request-time e =
+          let n = request-number timestampTag (omega arith) (λ z. omega arith) e .within 0 lastTime refl .1 in
+          omega arith
+
     module _ (h : isReplyForm (form (readReply s)) ≡ true) where
       pub reply-written : frameOf (readReply s) (dataOf s) ≡ s
       unfolding readReply
@@ -215,6 +224,14 @@ written-number f d h t m n e =
     let w = rw zero-add at (writable-at f d tagCount 0 t (writable-parts f d h .1) m .0) in
     field-in-row t f d (field-writable t f d w) e n
 
+-- and so no timestamp over the last time
+pub written-time : (f : Fields) (d : List ℕ) → writable f d ≡ true → has (f .tags) timestampTag ≡ true
+    → timestamp f ≤ lastTime
+unfolding width valuesOf
+written-time f d h e =
+    let n = written-number f d h timestampTag (omega arith) (λ z. omega arith) e .within 0 lastTime refl .1 in
+    omega arith
+
 -- ---- request forms and reply forms cannot be taken for each other
 
 pub request-form-excludes : (x : Form) → isRequestForm x ≡ true → isReplyForm x ≡ false
@@ -228,7 +245,7 @@ pub reply-excludes-request : (s : List ℕ) → isReplyForm (form (readReply s))
 unfolding readRequest
 reply-excludes-request s h = rw (reply-not-request (form (parse s)) (reply-parsed s h .1))
 
--- ---- "Frame lengths: upload opening 53, largest request 303, largest reply 312"
+-- ---- "Frame lengths: upload opening" 57, "largest request 303, largest reply 312"
 
 module _ (f : Fields) (d : List ℕ) (h : writable f d ≡ true) where
   -- a frame is as long as the tables say of its form

@@ -45,7 +45,7 @@ orderType f = getD (f .low) orderTypeTag 0
 abbrev pub nonce : Fields → Bits128
 nonce f = record { high = getD (f .high) nonceTag 0; low = getD (f .low) nonceTag 0 }
 
--- "06 timestamp, seconds since 1970 UTC"
+-- "06 timestamp", milliseconds since 1970 UTC
 abbrev pub timestamp : Fields → ℕ
 timestamp f = getD (f .low) timestampTag 0
 

@@ -29,6 +29,10 @@ use Rattle.frame_table.specs.declared.table.Form.the-variants.{NoForm, R
 abbrev pub frameLimit : ℕ
 frameLimit = 1024
 
+-- "253,402,300,799,999": the last millisecond of the year 9999, the highest time of a frame or of a call
+abbrev pub lastTime : ℕ
+lastTime = 253402300799999
+
 -- how many tags there are, from 0 on
 abbrev pub tagCount : ℕ
 tagCount = 15
@@ -98,7 +102,7 @@ fieldTable =
     ∷ (4, Any)  -- "exchange number, 4"
     ∷ (3, Text CapitalsOrDigits)  -- "order type, 3 capitals or digits"
     ∷ (16, Any)  -- "nonce, 16"
-    ∷ (4, Any)  -- "timestamp, 4"
+    ∷ (8, Range 0 lastTime)  -- "timestamp": 8 bytes since card 3, at most the last time
     ∷ (2, Any)  -- "number of segments, 2"
     ∷ (16, Any)  -- "transaction ID, 16"
     ∷ (2, Any)  -- "segment number, 2"

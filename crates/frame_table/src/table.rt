@@ -15,6 +15,9 @@ pub const TAG_COUNT: usize = 15;
 // How many bytes a frame has at most.
 pub const FRAME_LIMIT: usize = 1024;
 
+// The highest time of a frame or of a call: the last millisecond of the year 9999.
+pub const LAST_TIME: u64 = 253402300799999;
+
 pub const PHASE: usize = 1;
 
 pub const SUBSCRIBER: usize = 2;
@@ -168,7 +171,7 @@ fn field_row(tag: usize) -> Field
         EXCHANGE => Field(4, Values::Any), // 03
         ORDER_TYPE => Field(3, Values::Text(Characters::CapitalsOrDigits)), // 04
         NONCE => Field(16, Values::Any), // 05
-        TIMESTAMP => Field(4, Values::Any), // 06
+        TIMESTAMP => Field(8, Values::Range(0, LAST_TIME)), // 06
         SEGMENTS => Field(2, Values::Any), // 07
         TRANSACTION => Field(16, Values::Any), // 08
         SEGMENT => Field(2, Values::Any), // 09

@@ -92,9 +92,9 @@ abbrev pub writtenNumber : Written → ℕ
 writtenNumber (Length n) = 0
 writtenNumber Refused = 1
 
--- "Frame lengths: upload opening 53"
+-- "Frame lengths: upload opening" 57
 abbrev pub uploadOpeningLength : ℕ
-uploadOpeningLength = 53
+uploadOpeningLength = 57
 
 -- "largest request 303", with the 256 data bytes of a whole segment; "request buffer under 303"
 abbrev pub requestRoom : ℕ

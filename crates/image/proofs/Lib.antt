@@ -7,4 +7,5 @@ pub mod Reading
 pub mod RoundTrip
 pub mod Calls
 pub mod Theorems
-pub mod Form2
+pub mod FormNumber
+pub mod Form3

@@ -4,7 +4,7 @@ use mathlib.Core.List.{List, [], _∷_, _++_}
 use Rattle.bank_state.specs.Limits.{storeBytes}
 use Rattle.image.specs.declared.table.Row.{Row}
 use Rattle.image.specs.declared.table.Form.{Form}
-use Rattle.image.specs.declared.table.Form.the-variants.{Two}
+use Rattle.image.specs.declared.table.Form.the-variants.{Three}
 use Rattle.image.specs.declared.table.Sizes.{Sizes}
 use Rattle.image.specs.Table.{rowAt, firstRow, fieldCount}
 
@@ -71,7 +71,7 @@ storeAt (store z ∷ l) (suc n) = z + storeAt l n
 
 -- the size of both stores
 abbrev pub storeSize : Form → ℕ
-storeSize Two = storeBytes
+storeSize Three = storeBytes
 
 unfoldable pub sizesOf : Form → Sizes
 sizesOf form =

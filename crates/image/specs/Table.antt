@@ -6,11 +6,15 @@ use Rattle.bank_state.specs.Limits.{placeCount, nonceCount, storeBytes}
 use Rattle.journal.specs.Events.{recordCount}
 use Rattle.image.specs.declared.table.Row.{Row}
 use Rattle.image.specs.declared.table.Form.{Form}
-use Rattle.image.specs.declared.table.Form.the-variants.{Two}
+use Rattle.image.specs.declared.table.Form.the-variants.{Three}
+
+-- "the form's number: the number of the card that made the form"
+abbrev pub formNumber : Form → ℕ
+formNumber Three = 3
 
 -- the length of a time
 abbrev pub timeBytes : ℕ
-timeBytes = 4
+timeBytes = 8
 
 abbrev pub sum : List ℕ → ℕ
 sum [] = 0
@@ -26,9 +30,9 @@ abbrev pub headOf : ℕ → ℕ → ℕ
 headOf tag size = tag * 65536 + size
 
 -- the form's number: every image of the form has the same content
-abbrev pub formField : ℕ → ℕ → Row
-formField tag value =
-    record { width = 4; head = headOf tag 1 * 256 + value; records = 0; more = 0; widths = 0; store = 0; bytes = 0 }
+abbrev pub formField : ℕ → Form → Row
+formField tag form =
+    record { width = 4; head = headOf tag 1 * 256 + formNumber form; records = 0; more = 0; widths = 0; store = 0; bytes = 0 }
 
 -- a field of numbers: its tag, how many records, the lengths of a record's parts
 abbrev pub numberField : ℕ → ℕ → List ℕ → Row
@@ -51,10 +55,10 @@ storeField tag size =
 abbrev pub noRow : Row
 noRow = record { width = 0; head = 0; records = 0; more = 0; widths = 0; store = 0; bytes = 0 }
 
--- the fields of form 2
-abbrev pub form2 : List Row
-form2 =
-    formField 0x01 2  -- "the form's number"
+-- the fields of form 3
+abbrev pub form3 : List Row
+form3 =
+    formField 0x01 Three  -- "the form's number"
     ∷ numberField 0x02 1 (timeBytes ∷ [])  -- "clock"
     ∷ numberField 0x03 1 (8 ∷ [])  -- "openings accepted"
     ∷ numberField 0x05 1 (8 ∷ [])  -- "events entered so far"
@@ -74,14 +78,14 @@ form2 =
 
 -- the fields of all forms, one form behind the other
 abbrev pub allRows : List Row
-allRows = form2
+allRows = form3
 
 unfoldable pub rowAt : ℕ → Row
 rowAt i = getD allRows i noRow
 
 -- a form's fields stand from this row on
 abbrev pub firstRow : Form → ℕ
-firstRow Two = 0
+firstRow Three = 0
 
 abbrev pub fieldCount : Form → ℕ
-fieldCount Two = length form2
+fieldCount Three = length form3

@@ -18,14 +18,14 @@ pub struct Row {
 
 // The forms that are written or taken up, each by the card that made it.
 pub enum Form {
-    Two,
+    Three,
 }
 
-// The fields of form 2, in the order of `form2`.
+// The fields of form 3, in the order of `form3`.
 const ROWS: [Row; 13] = [
     Row {
         width: 4,
-        head: 0x01_0001_02,
+        head: 0x01_0001_03,
         records: 0,
         more: 0,
         widths: 0,
@@ -34,12 +34,12 @@ const ROWS: [Row; 13] = [
     },
     Row {
         width: 3,
-        head: 0x02_0004,
+        head: 0x02_0008,
         records: 1,
         more: 0,
-        widths: 0x4,
+        widths: 0x8,
         store: 0,
-        bytes: 4,
+        bytes: 8,
     },
     Row {
         width: 3,
@@ -70,12 +70,12 @@ const ROWS: [Row; 13] = [
     },
     Row {
         width: 3,
-        head: 0x07_0500,
+        head: 0x07_0600,
         records: 64,
         more: 2,
-        widths: 0x488,
+        widths: 0x888,
         store: 0,
-        bytes: 1280,
+        bytes: 1536,
     },
     Row {
         width: 3,
@@ -88,21 +88,21 @@ const ROWS: [Row; 13] = [
     },
     Row {
         width: 3,
-        head: 0x09_00c8,
+        head: 0x09_00e8,
         records: 8,
         more: 5,
-        widths: 0x412882,
+        widths: 0x812882,
         store: 0,
-        bytes: 200,
+        bytes: 232,
     },
     Row {
         width: 3,
-        head: 0x0a_00f0,
+        head: 0x0a_0110,
         records: 8,
         more: 8,
-        widths: 0x241228821,
+        widths: 0x281228821,
         store: 0,
-        bytes: 240,
+        bytes: 272,
     },
     Row {
         width: 3,
@@ -115,12 +115,12 @@ const ROWS: [Row; 13] = [
     },
     Row {
         width: 3,
-        head: 0x0c_04c0,
+        head: 0x0c_05c0,
         records: 64,
         more: 4,
-        widths: 0x14248,
+        widths: 0x14288,
         store: 0,
-        bytes: 1216,
+        bytes: 1472,
     },
     Row {
         width: 3,
@@ -176,14 +176,14 @@ pub fn sizes_of(form: Form) -> Sizes
     ensures { λ r. ⌜ r ≡ sizesOf form ⌝ }
 {
     match form {
-        Form::Two => Sizes {
+        Form::Three => Sizes {
             first: 0,
             fields: 13,
             numbers: 645,
             store: 30720,
-            image: 64454,
-            orders: 3011,
-            mailboxes: 33734,
+            image: 65034,
+            orders: 3591,
+            mailboxes: 34314,
         },
     }
 }

@@ -5,6 +5,7 @@ use mathlib.Core.Path.{_≡_, refl}
 use native.Mathlib.Omega.{arith}
 use lib.ListN.{length, getD}
 use borrow.Author.Tests.{eq-eqb, le-leb}
+use Rattle.frame_table.specs.Table.{lastTime}
 use Rattle.message.specs.Limits.{fileBytes}
 use Rattle.journal.specs.Events.{recordCount}
 use Rattle.bank_state.specs.declared.state.Download.{Download}
@@ -13,7 +14,7 @@ use Rattle.bank_state.specs.State.{BankState, noDownload, downloadAt}
 use Rattle.bank_rows.specs.State.{downloadCountOf, nonceCountOf, Laid}
 use Rattle.bank_steps.specs.Lent.{stateOf}
 use Rattle.bank_session.specs.Session.{LentSession, sessionSize, bankRows, bankIn, journalIn}
-use Rattle.bank_admitted.specs.Session.{lastTime, SessionHolds}
+use Rattle.bank_admitted.specs.Session.{SessionHolds}
 use Rattle.bank_admitted.proofs.Rows.{packed-rises}
 use Rattle.image_conditions.specs.Layout as image
 use Rattle.image_numbers.proofs.Laws.{length-numbersIn}

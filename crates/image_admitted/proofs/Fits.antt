@@ -13,7 +13,7 @@ use borrow.Author.Tests.{eqb-true, ltb-true, ltb-false, lt-ltb}
 use Rattle.octets.proofs.Tests.{and-true}
 use Rattle.bank_state.specs.Limits.{placeCount, nonceCount}
 use Rattle.journal.specs.Events.{recordCount}
-use Rattle.image.specs.Table.{rowAt}
+use Rattle.image.specs.Table.{rowAt, timeBytes}
 use Rattle.image.specs.Items.{
   Item,
   constant,
@@ -82,19 +82,19 @@ stands at ws records =
     every (λ i. every (λ k. eqb (getD partWidths (at + (i * length ws + k)) 0) (getD ws k 0)) (length ws)) records
 
 abbrev pub headWidths : List ℕ
-headWidths = 4 ∷ 8 ∷ 8 ∷ 1 ∷ []
+headWidths = timeBytes ∷ 8 ∷ 8 ∷ 1 ∷ []
 
 abbrev pub nonceWidths : List ℕ
-nonceWidths = 8 ∷ 8 ∷ 4 ∷ []
+nonceWidths = 8 ∷ 8 ∷ timeBytes ∷ []
 
 abbrev pub downloadWidths : List ℕ
-downloadWidths = 2 ∷ 8 ∷ 8 ∷ 2 ∷ 1 ∷ 4 ∷ []
+downloadWidths = 2 ∷ 8 ∷ 8 ∷ 2 ∷ 1 ∷ timeBytes ∷ []
 
 abbrev pub placeWidths : List ℕ
-placeWidths = 1 ∷ 2 ∷ 8 ∷ 8 ∷ 2 ∷ 2 ∷ 1 ∷ 4 ∷ 2 ∷ []
+placeWidths = 1 ∷ 2 ∷ 8 ∷ 8 ∷ 2 ∷ 2 ∷ 1 ∷ timeBytes ∷ 2 ∷ []
 
 abbrev pub eventWidths : List ℕ
-eventWidths = 8 ∷ 4 ∷ 2 ∷ 4 ∷ 1 ∷ []
+eventWidths = 8 ∷ timeBytes ∷ 2 ∷ 4 ∷ 1 ∷ []
 
 all-parts : length partWidths ≡ image.numberCount
 unfolding partWidths widths itemsOf fieldItems contentItems recordItems partItems storeItems rowAt
@@ -186,7 +186,7 @@ module _ (xs : List ℕ) where
 
   module _ (i : ℕ) where
     pub nonce-group : (r : NonceRecord) → image.nonceAt xs i ≡ r
-        → r .high < 256 ^ 8 → r .low < 256 ^ 8 → r .timestamp < 256 ^ 4
+        → r .high < 256 ^ 8 → r .low < 256 ^ 8 → r .timestamp < 256 ^ timeBytes
         → Group xs image.noncesAt nonceWidths i
     unfolding image.nonceAt
     nonce-group r e high low timestamp =
@@ -203,7 +203,7 @@ module _ (xs : List ℕ) where
 
     pub download-group : (r : DownloadRecord) → image.downloadAt xs i ≡ r
         → r .subscriber < 256 ^ 2 → r .high < 256 ^ 8 → r .low < 256 ^ 8 → r .delivered < 256 ^ 2
-        → r .attempts < 256 ^ 1 → r .last < 256 ^ 4
+        → r .attempts < 256 ^ 1 → r .last < 256 ^ timeBytes
         → Group xs image.downloadsAt downloadWidths i
     unfolding image.downloadAt
     download-group r e subscriber high low delivered attempts last =
@@ -229,7 +229,7 @@ module _ (xs : List ℕ) where
 
     pub place-group : (r : PlaceRecord) → image.placeAt xs i ≡ r
         → r .state < 256 ^ 1 → r .subscriber < 256 ^ 2 → r .high < 256 ^ 8 → r .low < 256 ^ 8
-        → r .segments < 256 ^ 2 → r .taken < 256 ^ 2 → r .attempts < 256 ^ 1 → r .last < 256 ^ 4
+        → r .segments < 256 ^ 2 → r .taken < 256 ^ 2 → r .attempts < 256 ^ 1 → r .last < 256 ^ timeBytes
         → r .length < 256 ^ 2
         → Group xs image.placesAt placeWidths i
     unfolding image.placeAt
@@ -264,7 +264,7 @@ module _ (xs : List ℕ) where
         )
 
     pub event-group : (r : EventRecord) → image.eventAt xs i ≡ r
-        → r .number < 256 ^ 8 → r .clock < 256 ^ 4 → r .subscriber < 256 ^ 2 → r .order < 256 ^ 4
+        → r .number < 256 ^ 8 → r .clock < 256 ^ timeBytes → r .subscriber < 256 ^ 2 → r .order < 256 ^ 4
         → r .kind < 256 ^ 1
         → Group xs image.journalAt eventWidths i
     unfolding image.eventAt

@@ -8,6 +8,7 @@ use lib.Dec.{eqb, ltb}
 use lib.ListN.{length, getD}
 use borrow.Author.Tests.{eqb-true, leb-true, ltb-true, ltb-false}
 use Rattle.octets.proofs.Tests.{never, and-true}
+use Rattle.frame_table.specs.Table.{lastTime}
 use Rattle.message.specs.Limits.{subscribers, fileBytes}
 use Rattle.journal.specs.Events.{recordCount}
 use Rattle.bank_state.specs.declared.state.Download.{Download}
@@ -22,7 +23,7 @@ use Rattle.bank_rows.specs.State.{downloadCountOf, nonceCountOf, bankOf, nonceA
 use Rattle.bank_steps.specs.Lent.{stateOf}
 use Rattle.bank_session.specs.Session.{LentSession, sessionSize, bankRows, bankIn, journalIn}
 use Rattle.bank_admitted.specs.State.{mailboxFile, PlaceHolds, DownloadHolds, StateHolds, NoneIdle}
-use Rattle.bank_admitted.specs.Session.{lastTime, Words, SessionHolds}
+use Rattle.bank_admitted.specs.Session.{Words, SessionHolds}
 use Rattle.image.specs.Items.{itemsOf}
 use Rattle.image.specs.Image.{fits}
 use Rattle.image_conditions.specs.Layout as image

@@ -11,11 +11,12 @@ use lib.Seq.{getD-take, getD-drop, getD-append-add, length-take-le, ext-getD}
 use borrow.Author.Tests.{leb-true, le-leb, eqb-true, eq-eqb, ltb-true, ltb-false}
 use Rattle.octets.proofs.Tests.{never, and-true}
 use Rattle.frame_table.specs.declared.fields.Bits128.{Bits128}
+use Rattle.frame_table.specs.Table.{lastTime}
 use Rattle.journal.specs.Row.{Journal}
 use Rattle.bank_state.specs.Limits.{nonceCount, window}
 use Rattle.bank_state.specs.State.{Bank, Nonce, noNonce}
 use Rattle.bank_rows.specs.State.{nonceAt}
-use Rattle.bank_admitted.specs.Session.{lastTime, Words, NoncesApart}
+use Rattle.bank_admitted.specs.Session.{Words, NoncesApart}
 use Rattle.bank_admitted.specs.State.{AllRemembered, end, next, NoncesHold}
 use Rattle.bank_admitted.proofs.Rows.{getD-free}
 use Rattle.image_conditions.specs.declared.layout.NonceRecord.{NonceRecord}

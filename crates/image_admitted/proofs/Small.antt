@@ -7,6 +7,7 @@ use native.Mathlib.Omega.{arith}
 use lib.Dec.{ltb}
 use lib.ListN.{length, length-take}
 use borrow.Author.Tests.{ltb-true, ltb-false}
+use Rattle.frame_table.specs.Table.{lastTime}
 use Rattle.message.specs.Limits.{maxSegments}
 use Rattle.message.specs.Segments.{segmentsOf}
 use Rattle.journal.specs.declared.event.Kind.{Kind}
@@ -24,10 +25,11 @@ use Rattle.bank_state.specs.Store.{partAt, fileOf}
 use Rattle.bank_rows.specs.Records.{numberOfUse}
 use Rattle.bank_rows.specs.State.{nonceAt}
 use Rattle.bank_admitted.specs.State.{mailboxFile, PlaceHolds, DownloadHolds}
-use Rattle.bank_admitted.specs.Session.{lastTime, recordAt, SessionHolds}
+use Rattle.bank_admitted.specs.Session.{recordAt, SessionHolds}
 use Rattle.image_conditions.specs.Layout as image
 use Rattle.image_numbers.specs.Numbers.{numberOfKind}
 use Rattle.image_numbers.proofs.Records.{eventIn}
+use Rattle.image.specs.Table.{timeBytes}
 use Rattle.image.specs.Items.{itemsOf}
 use Rattle.image.specs.Image.{fits}
 use Rattle.image_calls.specs.Calls.{written}
@@ -64,7 +66,7 @@ kind-small Dropped = omega arith
 abbrev SmallPlace : Place → Type 0
 SmallPlace p =
     (p .subscriber < 256 ^ 2) × (p .segments < 256 ^ 2) × (p .taken < 256 ^ 2) × (p .attempts < 256 ^ 1)
-    × (p .last < 256 ^ 4) × (p .length < 256 ^ 2)
+    × (p .last < 256 ^ timeBytes) × (p .length < 256 ^ 2)
 
 small-place : (u : Use) (clock openings : ℕ) (p : Place) (bytes : List ℕ) → clock ≤ lastTime
     → PlaceHolds u clock openings p bytes → SmallPlace p
@@ -75,7 +77,7 @@ small-place use-of.Booked clock openings p bytes k h = omega (arith, h)
 -- the columns of a download but its transaction
 abbrev SmallDownload : Download → Type 0
 SmallDownload e =
-    (e .subscriber < 256 ^ 2) × (e .delivered < 256 ^ 2) × (e .attempts < 256 ^ 1) × (e .last < 256 ^ 4)
+    (e .subscriber < 256 ^ 2) × (e .delivered < 256 ^ 2) × (e .attempts < 256 ^ 1) × (e .last < 256 ^ timeBytes)
 
 small-download : (u : Bool) (clock openings : ℕ) (file : List ℕ) (e : Download) → clock ≤ lastTime
     → segmentsOf (length file) ≤ maxSegments → DownloadHolds u clock openings file e → SmallDownload e
@@ -83,11 +85,11 @@ small-download true clock openings file e k s h = omega (arith, h)
 small-download false clock openings file e k s h = subst SmallDownload (sym h) (omega arith)
 
 abbrev SmallNonce : Nonce → Type 0
-SmallNonce e = (e .value .high < 256 ^ 8) × (e .value .low < 256 ^ 8) × (e .timestamp < 256 ^ 4)
+SmallNonce e = (e .value .high < 256 ^ 8) × (e .value .low < 256 ^ 8) × (e .timestamp < 256 ^ timeBytes)
 
 -- the parts of an event but its kind
 abbrev SmallEvent : Event → Type 0
-SmallEvent e = (e .number < 256 ^ 8) × (e .clock < 256 ^ 4) × (e .subscriber < 256 ^ 2) × (e .order < 256 ^ 4)
+SmallEvent e = (e .number < 256 ^ 8) × (e .clock < 256 ^ timeBytes) × (e .subscriber < 256 ^ 2) × (e .order < 256 ^ 4)
 
 module _ (w : BankState) {xs : List ℕ} {j : Journal} {d n : ℕ} (v : Shown xs (w .bank) j d n) (o : SessionHolds w j) where
   small-nonce : (i : ℕ) (t : Bool) → ltb i n ≡ t → SmallNonce (nonceAt (w .bank) i)

@@ -1,5 +1,5 @@
 -- What the tests of lengths and of the list say. Assumes nothing.
-use Prim.Native.Nat.{ℕ, zero, suc, _+_, _-_, _*_, _≤_, _<_}
+use Prim.Native.Nat.{ℕ, zero, suc, _+_, _-_, _*_, _^_, _≤_, _<_}
 use mathlib.Core.Bool.{Bool, true, false, _&&_}
 use mathlib.Core.List.{List, [], _∷_}
 use mathlib.Core.Path.{_≡_, refl, sym, ap, _∙_}
@@ -34,12 +34,12 @@ use Rattle.image_calls.specs.Calls.{written, imageLength, sizesRight, le
 
 -- ---- lengths
 
--- "64,454"
-pub image-size : imageLength ≡ 64454
-image-size = image.form-2 .0
+-- an image is so short that its places are numbers of 64 bits
+pub image-short : imageLength < 2 ^ 32
+image-short = omega (arith, image.form-3 .0)
 
 numbers-size : sizesOf written .numbers ≡ numberCount
-numbers-size = image.form-2 .1
+numbers-size = image.form-3 .1
 
 pub store-size : sizesOf written .store ≡ storeBytes
 unfolding sizesOf

@@ -15,9 +15,11 @@ use Rattle.octets.proofs.Tests.{and-true}
 use Rattle.bank_state.specs.Limits.{storeBytes}
 use Rattle.bank_session.specs.Session.{LentSession}
 use Rattle.image.specs.declared.codec.Answer.the-variants.{Done}
+use Rattle.image.specs.Table.{formNumber}
 use Rattle.image.specs.Items.{itemsOf, sizesOf}
 use Rattle.image.specs.Image as codec
 use Rattle.image.proofs.Calls.{taken-done}
+use Rattle.image.proofs.FormNumber.{form-number}
 use Rattle.image.proofs.Theorems as image
 use Rattle.image_conditions.specs.Layout.{numberCount}
 use Rattle.image_conditions.specs.Conditions as list
@@ -43,13 +45,13 @@ use Rattle.image_calls.specs.Calls.{
   isAdmittedImage,
   sessionFrom,
 }
-use Rattle.image_calls.proofs.Tests.{image-size, lengths-right, right-lengths, listed-sizes, listed-lent, listed-kinds}
+use Rattle.image_calls.proofs.Tests.{lengths-right, right-lengths, listed-sizes, listed-lent, listed-kinds}
 use Rattle.image_calls.proofs.Putting.{away-done}
-use Rattle.image_calls.proofs.Taking.{both-stores, up-done}
+use Rattle.image_calls.proofs.Taking.{both-stores, up-not, up-done}
 
--- "64,454"
-pub image-of-64454-bytes : imageLength ≡ 64454
-image-of-64454-bytes = image-size
+-- "65,034"
+pub image-of-65034-bytes : imageLength ≡ 65034
+image-of-65034-bytes = image.form-3 .0
 
 over-front : (d xs : List ℕ) (n : ℕ) → length xs ≡ n → overwrite d 0 xs ≡ xs ++ drop n d
 unfolding overwrite
@@ -230,6 +232,23 @@ module _ (m : LentSession) (s : List ℕ) where
   pub refused-up : (takeUp m s .number ≡ 0 → ⊥) → takeUp m s .session ≡ m
   unfolding takeUp
   refused-up h = stays-by (lengthsRight m) (isAdmittedImage s) h
+
+  not-image : (t : Bool) → codec.isImage written s ≡ t → (t ≡ true → ⊥) → isAdmittedImage s ≡ false
+  unfolding isAdmittedImage
+  not-image true e n = absurd (n refl)
+  not-image false e n = rw e
+
+  -- "Any other form's number is number 9"
+  pub other-form : Bytes s → lengthsRight m ≡ true → (getD s 3 0 ≡ formNumber written → ⊥)
+      → takeUp m s ≡ takeUpOf up.NotAdmitted m
+  other-form bytes right n =
+      let other : isAdmittedImage s ≡ false =
+      not-image (codec.isImage written s) refl (λ e. n (form-number written s bytes e)) in
+      sym (up-not m s right other)
+
+  -- "Older images get 9": those of form 2
+  pub form-2-refused : Bytes s → lengthsRight m ≡ true → getD s 3 0 ≡ 2 → takeUp m s ≡ takeUpOf up.NotAdmitted m
+  form-2-refused bytes right e = other-form bytes right (λ k. omega arith)
 
   taken-by : (t u : Bool) → UpBy t u .answer ≡ up.Done → (t ≡ true) × (u ≡ true) × (UpBy t u .session ≡ sessionFrom s)
   taken-by true true e = (refl, refl, refl)

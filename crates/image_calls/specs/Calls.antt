@@ -9,7 +9,7 @@ use Rattle.journal.specs.Events.{recordCount}
 use Rattle.bank_state.specs.Limits.{storeBytes}
 use Rattle.bank_session.specs.Session.{LentSession, session, sessionSize}
 use Rattle.image.specs.declared.table.Form.{Form}
-use Rattle.image.specs.declared.table.Form.the-variants.{Two}
+use Rattle.image.specs.declared.table.Form.the-variants.{Three}
 use Rattle.image.specs.declared.codec.Answer.{Answer}
 use Rattle.image.specs.declared.codec.Answer.the-variants as codec-answer
 use Rattle.image.specs.Items.{itemsOf, sizesOf}
@@ -23,7 +23,7 @@ use Rattle.image_calls.specs.declared.calls.TakenUp.the-variants as up
 
 -- the form that is written, and the length of its images
 abbrev pub written : Form
-written = Two
+written = Three
 
 abbrev pub imageLength : ℕ
 imageLength = sizesOf written .image

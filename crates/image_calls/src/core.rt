@@ -61,7 +61,7 @@ fn away_of(answer: Answer) -> Away
     ensures { λ r. ⌜ r ≡ awayOf answer ⌝ }
 {
     match answer {
-        Answer::Done => Away::Length(sizes_of(Form::Two).image),
+        Answer::Done => Away::Length(sizes_of(Form::Three).image),
         Answer::Lengths => Away::WrongLength,
         Answer::Contents => Away::NotAdmitted,
     }
@@ -84,7 +84,7 @@ pub fn put_away_core(
     if !sizes_right(rows.len(), records, orders.len(), mailboxes.len()) {
         return Away::WrongLength;
     }
-    if buffer.len() < sizes_of(Form::Two).image {
+    if buffer.len() < sizes_of(Form::Three).image {
         return Away::WrongLength;
     }
     if !orders_numbered(rows) {
@@ -95,7 +95,7 @@ pub fn put_away_core(
     if !admitted(&numbers, orders, mailboxes) {
         return Away::NotAdmitted;
     }
-    away_of(write(Form::Two, &numbers, orders, mailboxes, buffer))
+    away_of(write(Form::Three, &numbers, orders, mailboxes, buffer))
 }
 
 // ---- taking up
@@ -106,7 +106,7 @@ fn holds_list(image: &[u8], numbers: &[u64]) -> bool
     ensures { λ r. ⌜ r ≡ list.admitted (now (numbers .entry))
         (storeFrom 0 (now (image .entry))) (storeFrom 1 (now (image .entry))) ⌝ }
 {
-    let f = sizes_of(Form::Two);
+    let f = sizes_of(Form::Three);
     let orders = f.orders;
     let orders_end = orders + f.store;
     let mailboxes = f.mailboxes;
@@ -124,7 +124,7 @@ fn read_admitted(image: &[u8], numbers: &mut [u64]) -> bool
     ensures { λ r. ⌜ (r ≡ isAdmittedImage (now (image .entry)))
         × (r ≡ true → now (numbers .exit) ≡ numbersFrom (now (image .entry))) ⌝ }
 {
-    let answer = read_numbers(Form::Two, image, numbers);
+    let answer = read_numbers(Form::Three, image, numbers);
     match answer {
         Answer::Done => holds_list(image, numbers),
         Answer::Lengths => false,
@@ -174,7 +174,7 @@ pub fn take_up_core(
         return refused(TakenUp::NotAdmitted);
     }
     scatter(&numbers, rows);
-    take_stores(Form::Two, image, orders, mailboxes);
+    take_stores(Form::Three, image, orders, mailboxes);
     let row = row_from(&numbers);
     TakeUpCore {
         answer: TakenUp::Done,

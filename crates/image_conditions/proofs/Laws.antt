@@ -10,7 +10,7 @@ use lib.Seq.{getD-take, getD-drop}
 use borrow.Author.Tests.{leb-true, le-leb}
 use Rattle.octets.proofs.Tests.{and-true}
 use Rattle.message.specs.Limits.{fileBytes}
-use Rattle.bank_state.specs.Limits.{placeCount}
+use Rattle.bank_state.specs.Limits.{placeCount, window}
 use Rattle.image_conditions.specs.Shapes.{upTo, count, allZero}
 use Rattle.image_conditions.specs.Layout.{clock, openings, events, nonceAt, placeAt, fileAt}
 use Rattle.image_conditions.specs.Conditions.{
@@ -23,13 +23,13 @@ use Rattle.image_conditions.specs.Conditions.{
 }
 use Rattle.image_conditions.proofs.General.{zeros-at}
 
--- "each timestamp .. at most clock + window": 300
-pub nonce-ahead : (xs : List ℕ) (i : ℕ) → nonceTest xs i ≡ true → nonceAt xs i .timestamp ≤ clock xs + 300
+-- "each timestamp .. at most clock + window"
+pub nonce-ahead : (xs : List ℕ) (i : ℕ) → nonceTest xs i ≡ true → nonceAt xs i .timestamp ≤ clock xs + window
 unfolding nonceTest
 nonce-ahead xs i e =
     let t = nonceAt xs i .timestamp in
-    leb-true t (clock xs + 300)
-    (and-true (leb t (clock xs + 300)) _ (and-true (leb (clock xs) (t + 300)) _ e .1) .0)
+    leb-true t (clock xs + window)
+    (and-true (leb t (clock xs + window)) _ (and-true (leb (clock xs) (t + window)) _ e .1) .0)
 
 -- the bytes of a part of a store behind its length
 byte-behind : (store : List ℕ) (i n k : ℕ) → allZero (bytesBehind store i n) ≡ true → n ≤ k → k < fileBytes →

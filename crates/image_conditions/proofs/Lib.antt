@@ -3,3 +3,4 @@ pub mod Shapes
 pub mod General
 pub mod Listed
 pub mod Laws
+pub mod Times

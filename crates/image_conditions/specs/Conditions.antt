@@ -1,9 +1,10 @@
--- Card 2, "the full list stands under docs/": the conditions of an admitted image of form 2, each under its label.
+-- Card 2, "the full list stands under docs/": the conditions of an admitted image of form 3, each under its label.
 use Prim.Native.Nat.{ℕ, _+_, _-_, _*_}
 use mathlib.Core.Bool.{Bool, cond, _&&_}
 use mathlib.Core.List.{List, [], _∷_}
 use lib.ListN.{length, take, drop}
 use lib.Dec.{leb, ltb, eqb}
+use Rattle.frame_table.specs.Table.{lastTime}
 use Rattle.message.specs.Limits.{subscribers, segmentBytes, maxSegments, fileBytes, maxAttempts}
 use Rattle.message.specs.Segments.{segmentsOf}
 use Rattle.bank_state.specs.Limits.{
@@ -47,10 +48,6 @@ use Rattle.image_conditions.specs.Layout.{
   fileOf,
 }
 use lib.ListN.{getD}
-
--- the last time that a field of four bytes can say
-abbrev pub lastTime : ℕ
-lastTime = 4294967295
 
 -- the states of a place
 abbrev pub openState : ℕ

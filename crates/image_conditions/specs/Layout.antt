@@ -1,4 +1,4 @@
--- Where the numbers of a session stand, in the order of the image of form 2, and its records.
+-- Where the numbers of a session stand, in the order of the image of form 3, and its records.
 use Prim.Native.Nat.{ℕ, _+_, _-_, _*_}
 use mathlib.Core.Bool.{cond}
 use mathlib.Core.List.{List}

@@ -18,6 +18,7 @@ use crate::tables::nonces_unused;
 use crate::tables::numbers_distinct;
 use crate::tables::open_in_all;
 use crate::tests::both;
+use frame_table::table::LAST_TIME;
 ghost use mathlib.Core.Path.{_≡_};
 ghost use lib.ListN.{length};
 ghost use Rattle.bank_state.specs.Limits.{storeBytes};
@@ -27,8 +28,6 @@ ghost use Rattle.image_conditions.specs.Conditions.{nonceConditions, dow
 ghost use Rattle.image_conditions.specs.Conditions.{journalConditions, conditions, admitted};
 
 const STORE_BYTES: usize = 30720;
-
-const LAST_TIME: u64 = 4294967295;
 
 const MAX_OPENINGS: u64 = 1213056;
 

@@ -1,4 +1,4 @@
-// Where the numbers of a session stand, in the order of the image of form 2, and its records.
+// Where the numbers of a session stand, in the order of the image of form 3, and its records.
 use crate::tests::up_to;
 use bank_state::limits::NONCE_COUNT;
 use bank_state::limits::PLACE_COUNT;

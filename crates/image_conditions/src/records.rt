@@ -9,6 +9,9 @@ use crate::tests::both;
 use crate::tests::implies;
 use crate::tests::up_to;
 use crate::tests::within;
+use bank_state::limits::IDLE_LIMIT;
+use bank_state::limits::WINDOW;
+use frame_table::table::LAST_TIME;
 use message::segments::segments_of;
 ghost use mathlib.Core.Path.{_≡_};
 ghost use Prim.Native.Nat.{_<_};
@@ -22,12 +25,6 @@ ghost use Rattle.image_conditions.specs.Conditions.{uploadSegments, uplo
 ghost use Rattle.image_conditions.specs.Conditions.{uploadLength, bookedLength, bookedRest, placeHolds};
 ghost use Rattle.image_conditions.specs.Conditions.{eventNumber, eventClock, eventSubscriber, eventOrder};
 ghost use Rattle.image_conditions.specs.Conditions.{eventKind, eventHolds};
-
-const LAST_TIME: u64 = 4294967295;
-
-const WINDOW: u64 = 300;
-
-const IDLE_LIMIT: u64 = 3600;
 
 const SUBSCRIBERS: u64 = 8;
 

@@ -1,4 +1,4 @@
--- The numbers of a session in the order of the image of form 2, and the session of such numbers.
+-- The numbers of a session in the order of the image of form 3, and the session of such numbers.
 use Prim.Native.Nat.{ℕ, _+_, _*_}
 use mathlib.Core.Bool.{Bool, cond}
 use mathlib.Core.List.{List, [], _∷_, _++_, map}

@@ -1,4 +1,4 @@
--- Which number stands where: a session's numbers in the order of the image of form 2, and back, as groups of records.
+-- Which number stands where: a session's numbers in the order of the image of form 3, and back, as groups of records.
 use Prim.Native.Nat.{ℕ, zero, suc, _+_, _*_, _/_, _%_}
 use mathlib.Core.Bool.{Bool, true, _&&_}
 use mathlib.Core.List.{List, [], _∷_, _++_}

@@ -1,4 +1,6 @@
 -- The laws that several proofs cite.
+pub mod Offsets
+pub mod Clock
 pub mod Texts
 pub mod Kept
 pub mod Calls

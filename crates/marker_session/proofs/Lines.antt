@@ -12,19 +12,22 @@ use borrow.Author.Tests.{lt-ltb}
 use Rattle.print.specs.Text.{Put}
 use Rattle.print.proofs.Texts.{put-length, put-then}
 use Rattle.bank_state.specs.Limits.{idBytes}
+use Rattle.bank_rows.specs.State.{bankOf}
+use Rattle.bank.specs.declared.call.FrameAnswer.the-variants.{Reply}
 use Rattle.bank.specs.Call.{frameInput}
 use Rattle.bank_steps.specs.Lent.{Lent}
 use Rattle.bank.specs.Lent.{LentFrameCall, lentFrameCall}
 use Rattle.marker_session.specs.declared.mark.Marked.{Marked}
 use Rattle.marker_session.specs.Lines.{lineRoom, headBytes, timeOf, sizeOf, frameIn, lineOf, codedLine}
 use Rattle.marker_session.specs.Marking.{MarkerState, markerState, isReady, callOf, called, calledLine, callsTo, linesTo, linesIn}
-use Rattle.marker_session.specs.Marking.{stateOf, Print, printOf, markedNext, markedAll}
+use Rattle.marker_session.specs.Marking.{stateOf, Print, printOf, markedNext, markedAll, offsetClock, Clocked}
+use Rattle.marker_session.proofs.Clock.{offset-clock, left-clocked}
 use Rattle.marker_session.proofs.Calls.{calls-turn, lines-turn, calls-none, lines-none}
 use Rattle.marker_session.proofs.Texts.{line-most, coded-line, call-code}
 
 line-fits : (s : MarkerState) → length (calledLine s) ≤ lineRoom
 unfolding calledLine
-line-fits s = line-most _ _ _
+line-fits s = line-most _ _ _ _ _
 
 -- one call and its line: what its parts say, put together
 module _ (input : List ℕ) (memory : Lent) (buffer output : List ℕ) (m : Marked) where
@@ -34,21 +37,28 @@ module _ (input : List ℕ) (memory : Lent) (buffer output : List ℕ) (m : Mark
   pub marked-call : (rest : List ℕ) → rest ≡ drop (m .used) input → (time : ℕ) → time ≡ timeOf rest
       → (frame : List ℕ) → frame ≡ frameIn rest → (size : ℕ) → size ≡ sizeOf rest
       → (k : LentFrameCall) → k ≡ lentFrameCall memory (frameInput time (replicate idBytes 0) frame buffer)
+      → Clocked (memory .rows) → (clock : ℕ) → clock ≡ bankOf (k .lent .rows) .clock
       → (output′ : List ℕ) (written : ℕ)
-      → Put output (m .written) (codedLine (m .calls + 1) (k .answer) (k .code)) output′ written
+      → Put output (m .written) (codedLine (m .calls + 1) (k .answer) (k .code) frame clock) output′ written
       → _≡_ {A = Print} (record {
         state = markerState (m .calls + 1) (drop (m .used + headBytes + size) input) (k .lent) (k .buffer);
         output = output′;
         written = written;
-      }) (markedNext (m .written) here output)
+      }) (markedNext (m .written) here output) × Clocked (k .lent .rows)
   unfolding called calledLine callOf
-  marked-call rest er time et frame ef size es k e output′ written put =
+  marked-call rest er time et frame ef size es k e timed clock ec output′ written put =
       let is : k ≡ callOf here = e ∙ rw (et, ef, er) in
-      let line : codedLine (m .calls + 1) (k .answer) (k .code) ≡ calledLine here
-      = coded-line (m .calls + 1) (k .answer) (k .buffer) (k .code) (call-code memory _ k e)
-      ∙ ap (λ (x : LentFrameCall). lineOf (m .calls + 1) (x .answer) (x .buffer)) is in
+      let brought : frame ≡ frameIn (drop (m .used) input) = ef ∙ ap frameIn er in
+      let kept : (n : ℕ) → k .answer ≡ Reply n → clock ≡ offsetClock here =
+      λ n h. ec ∙ ap (λ (x : LentFrameCall). bankOf (x .lent .rows) .clock) is
+      ∙ sym (offset-clock here timed n (ap (λ (x : LentFrameCall). x .answer) (sym is) ∙ h)) in
+      let line : codedLine (m .calls + 1) (k .answer) (k .code) frame clock ≡ calledLine here
+      = coded-line (m .calls + 1) (k .answer) (k .buffer) (k .code) frame (call-code memory _ k e) kept
+      ∙ ap (λ (x : LentFrameCall). lineOf (m .calls + 1) (x .answer) (x .buffer) frame (offsetClock here)) is
+      ∙ ap (λ (l : List ℕ). lineOf (m .calls + 1) (callOf here .answer) (callOf here .buffer) l (offsetClock here))
+      brought in
       let said : size ≡ sizeOf (drop (m .used) input) = es ∙ ap sizeOf er in
-      rw (put .bytes, put .place, line, is, said, drop-drop, add-assoc)
+      (rw (put .bytes, put .place, line, is, said, drop-drop, add-assoc), left-clocked memory _ timed k e)
 
 -- marking from s into the output old: so many lines are left, and the text is written
 pub record Marking (s : MarkerState) (input old : List ℕ) (left : ℕ) (m : Marked) (memory : Lent) (buffer output : List ℕ) : Type 0 where

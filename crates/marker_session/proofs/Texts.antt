@@ -19,6 +19,8 @@ use Rattle.bank_sound.specs.Sound.{isSound}
 use Rattle.bank.specs.Call.{Step, FrameInput, respond, replied, replyCode, lentRight, frameRefused, frameCall}
 use Rattle.bank_steps.specs.Lent.{Lent, stateOf}
 use Rattle.bank.specs.Lent.{LentFrameCall, keptFrame, frameTurnedAway, lentFrameCall}
+use Rattle.marker_session.specs.Offset.{offsetText}
+use Rattle.marker_session.proofs.Offsets.{offset-same, offset-most}
 use Rattle.marker_session.specs.Lines.{codeOf, answerText, lineOf, codedText, codedLine, lineRoom}
 
 pub answer-most : (a : FrameAnswer) (buffer : List ℕ) → length (answerText a buffer) ≤ codeDigits
@@ -31,11 +33,13 @@ unfolding decimal digitCount digitCountTo
 coded-most (Reply n) code = omega (arith, length-digitsIn 256 0 codeDigits code)
 coded-most WrongLength code = omega (arith, length-digitsIn 10 48 1 1)
 
--- the line goes by the return code of the reply in the buffer
-pub coded-line : (n : ℕ) (a : FrameAnswer) (buffer : List ℕ) (code : ℕ) → code ≡ replyCode a buffer → codedLine n a code ≡ lineOf n a buffer
+-- the line goes by the return code of the reply in the buffer, and where there is a reply by the clock
+pub coded-line : (n : ℕ) (a : FrameAnswer) (buffer : List ℕ) (code : ℕ) (frame : List ℕ) {clock c : ℕ}
+    → code ≡ replyCode a buffer → ((k : ℕ) → a ≡ Reply k → clock ≡ c)
+    → codedLine n a code frame clock ≡ lineOf n a buffer frame c
 unfolding codedLine lineOf codeOf
-coded-line n (Reply k) buffer code e = rw e
-coded-line n WrongLength buffer code e = refl
+coded-line n (Reply k) buffer code frame e f = rw (e, f k refl)
+coded-line n WrongLength buffer code frame e f = rw (offset-same WrongLength frame f)
 
 -- a call's code is that of the reply that it leaves in the buffer
 module _ (m : Lent) (a : FrameInput) where
@@ -51,16 +55,19 @@ module _ (m : Lent) (a : FrameInput) where
   unfolding frameCall
   by-rows true =
       by-lengths (respond (number (a .ids)) (advanced (a .time) (stateOf m)) (readRequest (a .frame)) (dataOf (a .frame)))
-      (stateOf m) (lentRight (stateOf m) (a .ids) (a .buffer))
+      (stateOf m) (lentRight (stateOf m) a)
   by-rows false = refl
 
   pub call-code : (r : LentFrameCall) → r ≡ lentFrameCall m a → coded r
   unfolding lentFrameCall
   call-code r e = rw e (by-rows (isSound (m .rows)))
 
-pub line-most : (n : ℕ) (a : FrameAnswer) (buffer : List ℕ) → length (lineOf n a buffer) ≤ lineRoom
+pub line-most : (n : ℕ) (a : FrameAnswer) (buffer frame : List ℕ) (clock : ℕ)
+    → length (lineOf n a buffer frame clock) ≤ lineRoom
 unfolding lineOf
-line-most n a buffer =
-    let e = length-append (column n space) (answerText a buffer ++ (newline ∷ [])) in
-    let f = length-append (answerText a buffer) (newline ∷ []) in
-    omega (arith, column-most n space, answer-most a buffer)
+line-most n a buffer frame clock =
+    let last = offsetText a frame clock ++ (newline ∷ []) in
+    let e = length-append (column n space) (answerText a buffer ++ (space ∷ last)) in
+    let f = length-append (answerText a buffer) (space ∷ last) in
+    let g = length-append (offsetText a frame clock) (newline ∷ []) in
+    omega (arith, column-most n space, answer-most a buffer, offset-most a frame clock)

@@ -1,4 +1,5 @@
--- The definitions of the marker: lines, calls, the session.
+-- The definitions of the marker: offsets, lines, calls, the session.
+pub mod Offset
 pub mod Lines
 pub mod Marking
 pub mod Session

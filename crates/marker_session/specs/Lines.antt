@@ -5,25 +5,31 @@ use mathlib.Core.List.{List, [], _∷_, _++_}
 use lib.Dec.{leb}
 use lib.ListN.{length, take, drop}
 use Rattle.octets.specs.Bytes.{number}
+use Rattle.frame_table.specs.Table.{timestampTag, width}
 use Rattle.frame_table.specs.Names.{returnCode}
 use Rattle.frame_reader.specs.Reader.{readReply}
 use Rattle.print.specs.Text.{ascii, maxDigits, codeDigits, codeText, decimal, space, newline, column}
 use Rattle.bank.specs.declared.call.FrameAnswer.{FrameAnswer}
 use Rattle.bank.specs.declared.call.FrameAnswer.the-variants.{Reply, WrongLength}
 use Rattle.bank.specs.Call.{frameNumber}
+use Rattle.marker_session.specs.Offset.{offsetText, offsetRoom}
 
--- "records from standard input: time (4 bytes), frame length (2), frame"; s is the input from the record on
+-- "records from standard input: time .., frame length (2), frame"; the time has the bytes of a timestamp (card 3: "8
+-- bytes of milliseconds, as .. the marker's input"); s is the input from the record on
 abbrev pub timeBytes : ℕ
-timeBytes = 4
+timeBytes = width timestampTag
+
+abbrev pub sizeBytes : ℕ
+sizeBytes = 2
 
 abbrev pub headBytes : ℕ
-headBytes = 6
+headBytes = timeBytes + sizeBytes
 
 unfoldable pub timeOf : List ℕ → ℕ
 timeOf s = number (take timeBytes s)
 
 unfoldable pub sizeOf : List ℕ → ℕ
-sizeOf s = number (take 2 (drop timeBytes s))
+sizeOf s = number (take sizeBytes (drop timeBytes s))
 
 unfoldable pub frameIn : List ℕ → List ℕ
 frameIn s = take (sizeOf s) (drop headBytes s)
@@ -41,24 +47,27 @@ abbrev pub answerText : FrameAnswer → List ℕ → List ℕ
 answerText (Reply n) buffer = codeOf buffer n
 answerText WrongLength buffer = decimal (frameNumber WrongLength)
 
--- "Calls count from 1": the line of call n
-unfoldable pub lineOf : ℕ → FrameAnswer → List ℕ → List ℕ
-lineOf n a buffer = column n space ++ (answerText a buffer ++ (newline ∷ []))
+-- "Calls count from 1": the line of call n, which brought this frame and set this clock; the offset stands "in a third
+-- column "offset" behind the code"
+unfoldable pub lineOf : ℕ → FrameAnswer → List ℕ → List ℕ → ℕ → List ℕ
+lineOf n a buffer frame clock =
+    column n space ++ (answerText a buffer ++ (space ∷ offsetText a frame clock ++ (newline ∷ [])))
 
 -- the same text and line, from the return code of the reply
 abbrev pub codedText : FrameAnswer → ℕ → List ℕ
 codedText (Reply n) code = codeText code
 codedText WrongLength code = decimal (frameNumber WrongLength)
 
-unfoldable pub codedLine : ℕ → FrameAnswer → ℕ → List ℕ
-codedLine n a code = column n space ++ (codedText a code ++ (newline ∷ []))
+unfoldable pub codedLine : ℕ → FrameAnswer → ℕ → List ℕ → ℕ → List ℕ
+codedLine n a code frame clock =
+    column n space ++ (codedText a code ++ (space ∷ offsetText a frame clock ++ (newline ∷ [])))
 
--- the most bytes that a line takes: a number, a space, a return code, a newline
+-- the most bytes that a line takes: a number, a space, a return code, a space, an offset, a newline
 abbrev pub lineRoom : ℕ
-lineRoom = maxDigits + 1 + codeDigits + 1
+lineRoom = maxDigits + 1 + codeDigits + 1 + offsetRoom + 1
 
 abbrev pub callHeader : List ℕ
-callHeader = ascii "call code\n"
+callHeader = ascii "call code offset\n"
 
 abbrev pub headerRoom : ℕ
-headerRoom = 10
+headerRoom = 17

@@ -1,14 +1,20 @@
 -- "The marker's print": the calls of the records of an input, one after the other, and their lines. "the lent ID
 -- bytes are 0"
-use Prim.Native.Nat.{ℕ, zero, suc, _+_, _/_}
-use mathlib.Core.Bool.{Bool, cond, _&&_}
+use Prim.Native.Nat.{ℕ, zero, suc, _+_, _/_, _≤_}
+use mathlib.Core.Bool.{Bool, true, cond, _&&_}
 use mathlib.Core.List.{List, [], _++_}
+use mathlib.Core.Path.{_≡_}
 use lib.Dec.{ltb}
 use lib.ListN.{length, drop, replicate}
 use Rattle.octets.specs.Bytes.{overwrite}
+use Rattle.frame_table.specs.Table.{lastTime}
 use Rattle.bank_state.specs.Limits.{idBytes}
-use Rattle.bank.specs.Call.{frameInput}
+use Rattle.bank_rows.specs.State.{bankOf}
+use Rattle.bank_sound.specs.Sound.{isSound}
+use Rattle.bank_steps.specs.Lent as memory
 use Rattle.bank_steps.specs.Lent.{Lent}
+use Rattle.bank.specs.Call.{FrameInput, frameInput}
+use Rattle.bank.specs.Journal.{clockBy}
 use Rattle.bank.specs.Lent.{LentFrameCall, lentFrameCall}
 use Rattle.marker_session.specs.declared.mark.Marked.{Marked}
 use Rattle.marker_session.specs.Lines.{headBytes, timeOf, sizeOf, frameIn, isWhole, lineOf, lineRoom}
@@ -31,9 +37,13 @@ maxCalls = 18446744073709551615
 unfoldable pub isReady : ℕ → List ℕ → Bool
 isReady calls rest = ltb calls maxCalls && isWhole rest
 
--- the call of the record that comes
+-- what the record that comes brings to its call
+abbrev pub inputOf : MarkerState → FrameInput
+inputOf s = frameInput (timeOf (s .rest)) (replicate idBytes 0) (frameIn (s .rest)) (s .buffer)
+
+-- the call
 unfoldable pub callOf : MarkerState → LentFrameCall
-callOf s = lentFrameCall (s .lent) (frameInput (timeOf (s .rest)) (replicate idBytes 0) (frameIn (s .rest)) (s .buffer))
+callOf s = lentFrameCall (s .lent) (inputOf s)
 
 -- what it leaves
 unfoldable pub called : MarkerState → MarkerState
@@ -44,9 +54,18 @@ called s = record {
   rest = drop (headBytes + sizeOf (s .rest)) (s .rest);
 }
 
+-- the clock of its offset, as the call sets it: "the larger of its old value and the time given"
+abbrev pub offsetClock : MarkerState → ℕ
+offsetClock s = clockBy (memory.stateOf (s .lent)) (inputOf s)
+
 -- and its line
 unfoldable pub calledLine : MarkerState → List ℕ
-calledLine s = lineOf (s .calls + 1) (callOf s .answer) (callOf s .buffer)
+calledLine s = lineOf (s .calls + 1) (callOf s .answer) (callOf s .buffer) (frameIn (s .rest)) (offsetClock s)
+
+-- what the calls find, from a fresh bank on: a bank's rows, and a clock that is at most the last time
+pub record Clocked (rows : List ℕ) : Type 0 where
+  pub sound : isSound rows ≡ true
+  pub inTime : bankOf rows .clock ≤ lastTime
 
 -- at most n calls, while one is ready
 unfoldable pub callsTo : ℕ → MarkerState → MarkerState

@@ -1,4 +1,6 @@
 // The line of a call, and the header of the calls, written into a lent output.
+use crate::offset::OFFSET_ROOM;
+use crate::offset::put_offset;
 use bank::call::FrameAnswer;
 use print::text::put_byte;
 use print::text::put_code;
@@ -7,14 +9,15 @@ use print::text::put_text;
 ghost use mathlib.Core.Path.{_≡_};
 ghost use Prim.Native.Nat.{_+_, _≤_};
 ghost use lib.ListN.{length};
+ghost use Rattle.frame_table.specs.Table.{lastTime};
 ghost use Rattle.print.specs.Text.{Put, codeDigits, printed, printedCount};
 ghost use Rattle.marker_session.specs.Lines.{codedText, codedLine, lineRoom, callHeader, headerRoom};
 
-// The most bytes of a line: a number, a space, a return code, a newline.
-pub const LINE_ROOM: usize = 20 + 1 + 6 + 1;
+// The most bytes of a line: a number, a space, a return code, a space, an offset, a newline.
+pub const LINE_ROOM: usize = 20 + 1 + 6 + 1 + OFFSET_ROOM + 1;
 
 // The bytes of the calls' header.
-pub const HEADER_ROOM: usize = 10;
+pub const HEADER_ROOM: usize = 17;
 
 // Writes a call's code, or the number that it was given.
 fn put_answer(output: &mut [u8], at: usize, answer: FrameAnswer, code: u64) -> usize
@@ -27,20 +30,25 @@ fn put_answer(output: &mut [u8], at: usize, answer: FrameAnswer, code: u64) -> u
     }
 }
 
-// Writes the line of call n, whose reply has this return code.
+// Writes the line of call n, which brought this frame, set this clock, and whose reply has this return code.
 pub(crate) fn put_line(
     output: &mut [u8],
     at: usize,
     n: u64,
     answer: FrameAnswer,
     code: u64,
+    frame: &[u8],
+    clock: u64,
 ) -> usize
-    requires { ⌜ at + lineRoom ≤ length (now output) ⌝ }
-    ensures { λ r. ⌜ Put (now (output .entry)) at (codedLine n answer code) (now (output .exit)) r ⌝ }
+    requires { ⌜ (at + lineRoom ≤ length (now output)) × (clock ≤ lastTime) ⌝ }
+    ensures { λ r. ⌜ Put (now (output .entry)) at (codedLine n answer code (now (frame .entry)) clock)
+        (now (output .exit)) r ⌝ }
 {
     let a = put_column(output, at, n, b' ');
     let b = put_answer(output, a, answer, code);
-    put_byte(output, b, b'\n')
+    let c = put_byte(output, b, b' ');
+    let d = put_offset(output, c, answer, frame, clock);
+    put_byte(output, d, b'\n')
 }
 
 // The calls' header at the front of the output, and its length.
@@ -53,5 +61,5 @@ pub fn header(output: &mut [u8]) -> usize
     if output.len() < HEADER_ROOM {
         return 0;
     }
-    put_text(output, 0, b"call code\n")
+    put_text(output, 0, b"call code offset\n")
 }

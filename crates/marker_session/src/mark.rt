@@ -7,6 +7,7 @@ use crate::record::is_whole;
 use crate::record::size_of;
 use crate::record::time_of;
 use bank::call::answer_frame;
+use bank_rows::numbers::clock;
 use bank_state::limits::ID_BYTES;
 use octets::bytes::behind;
 ghost use mathlib.Core.Path.{_≡_};
@@ -17,6 +18,7 @@ ghost use lib.ListN.{length, drop};
 ghost use Rattle.marker_session.specs.Lines.{lineRoom};
 ghost use Rattle.bank_steps.specs.Lent.{lent};
 ghost use Rattle.marker_session.specs.Marking.{isReady, markerState, stateOf, printOf, markedNext, markedAll};
+ghost use Rattle.marker_session.specs.Marking.{Clocked};
 
 // The calls that can be counted.
 const MAX_CALLS: u64 = u64::MAX;
@@ -53,6 +55,7 @@ fn mark_call(
 ) -> Marked
     requires { ⌜
         (isReady (m .calls) (drop (m .used) (now input)) ≡ true) × (m .written + lineRoom ≤ length (now output))
+        × Clocked (now rows)
         ⌝ }
     ensures { λ r. ⌜
         (printOf r (now (input .entry))
@@ -64,24 +67,18 @@ fn mark_call(
         (now (buffer .entry)))
         (now (output .entry)))
         × (r .used ≤ length (now (input .entry)))
+        × Clocked (now (rows .exit))
         ⌝ }
 {
     let used = m.used;
     let rest = behind(input, used);
+    let frame = frame_in(rest);
     let ids = [0u8; ID_BYTES];
-    let step = answer_frame(
-        rows,
-        time_of(rest),
-        &ids,
-        frame_in(rest),
-        orders,
-        mailboxes,
-        buffer,
-    );
+    let step = answer_frame(rows, time_of(rest), &ids, frame, orders, mailboxes, buffer);
     let o = step.out;
     let calls = m.calls + 1;
     let answer = o.answer;
-    let written = put_line(output, m.written, calls, answer, o.code);
+    let written = put_line(output, m.written, calls, answer, o.code, frame, clock(rows));
     Marked {
         calls,
         used: used + HEAD_BYTES + size_of(rest),
@@ -91,7 +88,7 @@ fn mark_call(
 
 // The calls of the whole records of the input, as many as the output has room for lines; no more than the input is
 // used.
-pub fn mark(
+pub(crate) fn mark(
     calls: u64,
     input: &[u8],
     output: &mut [u8],
@@ -100,6 +97,7 @@ pub fn mark(
     mailboxes: &mut [u8],
     buffer: &mut [u8],
 ) -> Marked
+    requires { ⌜ Clocked (now rows) ⌝ }
     ensures { λ r. ⌜
         (printOf r (now (input .entry))
         (lent (now (rows .exit)) (now (orders .exit)) (now (mailboxes .exit)))
@@ -110,6 +108,7 @@ pub fn mark(
         (now (buffer .entry)))
         (now (output .entry)))
         × (r .used ≤ length (now (input .entry)))
+        × Clocked (now (rows .exit))
         ⌝ }
 {
     let mut m = Marked {

@@ -6,18 +6,18 @@ ghost use Prim.Native.Nat.{_≤_};
 ghost use lib.ListN.{length};
 ghost use Rattle.marker_session.specs.Lines.{headBytes, timeOf, sizeOf, frameIn, isWhole};
 
-// The bytes of a record's time.
-const TIME_BYTES: usize = 4;
+// The bytes of a record's time, as many as a timestamp has.
+const TIME_BYTES: usize = 8;
 
 // The bytes of a record before its frame.
-pub const HEAD_BYTES: usize = 6;
+pub const HEAD_BYTES: usize = TIME_BYTES + 2;
 
 // The time of the record at the front.
-pub(crate) fn time_of(s: &[u8]) -> u32
+pub(crate) fn time_of(s: &[u8]) -> u64
     requires { ⌜ headBytes ≤ length (now s) ⌝ }
     ensures { λ r. ⌜ r ≡ timeOf (now (s .entry)) ⌝ }
 {
-    number(&s[..TIME_BYTES]) as u32
+    number(&s[..TIME_BYTES])
 }
 
 // The frame length of the record at the front.

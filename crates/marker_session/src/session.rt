@@ -16,6 +16,7 @@ ghost use lib.ListN.{length, take, drop};
 ghost use Rattle.octets.specs.Bytes.{overwrite};
 ghost use Rattle.bank_rows.specs.Layout.{stateSize};
 ghost use Rattle.bank_steps.specs.Lent.{lent};
+ghost use Rattle.marker_session.specs.Marking.{Clocked};
 ghost use Rattle.marker_session.specs.Session.{readingOf, HasRoom, ReadFrom, startedWith, SessionOf};
 
 // The input held: a record of the longest frame.
@@ -92,9 +93,12 @@ fn read_on(
     mailboxes: &mut [u8],
     buffer: &mut [u8],
 ) -> Reading
-    requires { ⌜ (0 < t .reads) × (t .held ≤ length (now input)) × HasRoom (now input) (now output) ⌝ }
+    requires { ⌜
+        (0 < t .reads) × (t .held ≤ length (now input)) × HasRoom (now input) (now output) × Clocked (now rows)
+        ⌝ }
     ensures { λ r. ⌜
         (r .reads < t .reads)
+        × Clocked (now (rows .exit))
         × ReadFrom
         (readingOf t (now (input .entry))
         (lent (now (rows .entry)) (now (orders .entry)) (now (mailboxes .entry)))
@@ -135,7 +139,7 @@ fn read_all(
     mailboxes: &mut [u8],
     buffer: &mut [u8],
 ) -> Reading
-    requires { ⌜ HasRoom (now input) (now output) ⌝ }
+    requires { ⌜ HasRoom (now input) (now output) × Clocked (now rows) ⌝ }
     ensures { λ r. ⌜
         ReadFrom
         (startedWith
@@ -180,7 +184,7 @@ fn print_all(
     mailboxes: &mut [u8],
     buffer: &mut [u8],
 ) -> Reading
-    requires { ⌜ HasRoom (now input) (now output) × (length (now rows) ≡ stateSize) ⌝ }
+    requires { ⌜ HasRoom (now input) (now output) × Clocked (now rows) ⌝ }
     ensures { λ r. ⌜
         ReadFrom
         (startedWith

@@ -19,6 +19,7 @@ use Rattle.frame_table.specs.Table.{
   orderTypeTag,
   nonceTag,
   timestampTag,
+  lastTime,
   segmentsTag,
   transactionTag,
   segmentTag,
@@ -109,6 +110,11 @@ module _ (f : Fields) (d : List ℕ) (a : Fine f d) where
   with-last-mark mark h = fine-range f d a lastMarkTag 1 mark 0 1 (refl, refl, refl) (omega arith) (omega arith)
       (omega arith) h
 
+  with-timestamp : (time : ℕ) → time ≤ lastTime → Fine (with timestampTag time f) d
+  unfolding width valuesOf
+  with-timestamp time h = fine-range f d a timestampTag 8 time 0 lastTime (refl, refl, refl) (omega arith)
+      (omega arith) (omega arith) h
+
   with-receipt-code : (code : ℕ) → code ≤ 1 → Fine (with receiptCodeTag code f) d
   unfolding width valuesOf
   with-receipt-code code h = fine-range f d a receiptCodeTag 1 code 0 1 (refl, refl, refl) (omega arith)
@@ -172,14 +178,13 @@ module _ (subscriber exchange : ℕ) (s : Sender subscriber exchange) where
       with-long _ d (with-short _ d p subscriberTag subscriber (refl, refl, refl) (s .0)) exchangeTag exchange
       (refl, refl, refl) (s .1)
 
-  module _ (nonce : Bits128) (timestamp : ℕ) (v : Wide nonce) (t : timestamp < 2 ^ 32) where
+  module _ (nonce : Bits128) (timestamp : ℕ) (v : Wide nonce) (t : timestamp ≤ lastTime) where
     opening-fine : (orderType : ℕ) → orderType < 2 ^ 24 → listed orderTypeTag (bytesOf 3 orderType) ≡ true
         → Fine (openingOf subscriber exchange orderType nonce timestamp) []
     unfolding width valuesOf
     opening-fine orderType h l =
         let a = with-type _ [] (request-fine [] initialisationPhase (omega arith) (omega arith)) orderType h l in
-        with-long _ [] (with-wide _ [] a nonceTag nonce (refl, refl, refl) v) timestampTag timestamp
-        (refl, refl, refl) t
+        with-timestamp _ [] (with-wide _ [] a nonceTag nonce (refl, refl, refl) v) timestamp t
 
     pub upload-opening-written : (segments : ℕ) → segments < 2 ^ 16
         → WrittenAs (uploadOpening subscriber exchange nonce timestamp segments) [] forms.UploadOpening

@@ -4,6 +4,7 @@ use mathlib.Core.Path.{_≡_}
 use mathlib.Core.Bool.{cond}
 use mathlib.Core.List.{List, [], _∷_, _++_}
 use lib.Dec.{ltb, leb}
+use lib.IntN.{ℤ, pos, negsuc, natAbs}
 use lib.ListN.{length}
 use Rattle.octets.specs.Bytes.{overwrite}
 pub use Rattle.octets.specs.Texts.{ascii}
@@ -28,6 +29,21 @@ digitCount x = digitCountTo 19 x
 -- a number in decimal
 unfoldable pub decimal : ℕ → List ℕ
 decimal x = digitsIn 10 48 (digitCount x) x
+
+-- "a signed number": a hyphen before a negative one, no plus, and the magnitude in decimal
+abbrev pub hyphen : ℕ
+hyphen = 45
+
+abbrev pub signOf : ℤ → List ℕ
+signOf (pos n) = []
+signOf (negsuc n) = hyphen ∷ []
+
+unfoldable pub signedDecimal : ℤ → List ℕ
+signedDecimal x = signOf x ++ decimal (natAbs x)
+
+-- the most bytes that it takes
+abbrev pub signedRoom : ℕ
+signedRoom = 1 + maxDigits
 
 -- "0D return code, 6 ASCII digits"; "0E order number, 4"
 abbrev pub codeDigits : ℕ

@@ -3,8 +3,10 @@ use octets::bytes::copy;
 ghost use mathlib.Core.Path.{_≡_};
 ghost use mathlib.Core.List.{[], _∷_};
 ghost use Prim.Native.Nat.{_+_, _≤_, _<_};
+ghost use lib.IntN.{natAbs};
 ghost use lib.ListN.{length};
 ghost use Rattle.print.specs.Text.{Put, digitsIn, maxDigits, digitCount, decimal};
+ghost use Rattle.print.specs.Text.{signOf, signedDecimal, signedRoom};
 ghost use Rattle.print.specs.Text.{codeDigits, orderCharacters, codeText, orderNumberText};
 ghost use Rattle.print.specs.Text.{column, columnRoom};
 
@@ -50,6 +52,36 @@ pub fn put_decimal(output: &mut [u8], at: usize, x: u64) -> usize
     ensures { λ r. ⌜ Put (now (output .entry)) at (decimal x) (now (output .exit)) r ⌝ }
 {
     put_digits(output, at, 10, 48, digit_count(x), x)
+}
+
+// The magnitude of a signed number, of the least one too.
+fn magnitude(x: i64) -> u64
+    ensures { λ r. ⌜ r ≡ natAbs x ⌝ }
+{
+    if x < 0 {
+        return (-1 - x) as u64 + 1;
+    }
+    x as u64
+}
+
+// Writes a hyphen before a negative number, and nothing before another.
+fn put_sign(output: &mut [u8], at: usize, x: i64) -> usize
+    requires { ⌜ at < length (now output) ⌝ }
+    ensures { λ r. ⌜ Put (now (output .entry)) at (signOf x) (now (output .exit)) r ⌝ }
+{
+    if x < 0 {
+        return put_byte(output, at, b'-');
+    }
+    at
+}
+
+// Writes a signed number in decimal.
+pub fn put_signed(output: &mut [u8], at: usize, x: i64) -> usize
+    requires { ⌜ at + signedRoom ≤ length (now output) ⌝ }
+    ensures { λ r. ⌜ Put (now (output .entry)) at (signedDecimal x) (now (output .exit)) r ⌝ }
+{
+    let a = put_sign(output, at, x);
+    put_decimal(output, a, magnitude(x))
 }
 
 // Writes the digits of a return code, given as the number of field 0D.

@@ -1,20 +1,21 @@
 -- `F` and `M`: the session keeps what the call on the bank leaves, and the course's bank and journal are the same; no run
 -- changes.
-use Prim.Native.Nat.{ℕ, _≤_, _<_}
+use Prim.Native.Nat.{ℕ}
 use mathlib.Core.Bool.{cond}
 use mathlib.Core.List.{List, []}
 use mathlib.Core.Path.{_≡_, refl, sym, ap, _∙_, subst}
 use native.Mathlib.Omega.{arith}
 use lib.Dec.{eqb}
-use lib.ListN.{length, take, drop, length-take, length-drop}
+use lib.ListN.{length, drop}
 use borrow.Author.Tests.{eq-eqb}
 use Rattle.octets.specs.Bytes.{Bytes}
-use Rattle.octets.proofs.Numbers.{bytes-take, bytes-drop, number-small}
+use Rattle.octets.proofs.Numbers.{bytes-take, bytes-drop}
 use Rattle.message.proofs.Verdicts.{by-test}
 use Rattle.message.specs.Verdicts.{decide}
 use Rattle.journal.specs.Events.{recordCount}
+use Rattle.bank_state.specs.Limits.{idBytes}
 use Rattle.bank_state.specs.State.{Bank, BankState, bankState}
-use Rattle.bank_admitted.specs.Session.{Brought, lastTime}
+use Rattle.bank_admitted.specs.Session.{Brought}
 use Rattle.bank.specs.declared.call.FrameAnswer.{FrameAnswer}
 use Rattle.bank.specs.declared.call.FrameAnswer.the-variants as frame
 use Rattle.bank.specs.declared.mailbox.FileAnswer.{FileAnswer}
@@ -46,7 +47,7 @@ use Rattle.exchange.specs.Course.{Call, Course, frameArrives, filePut, callNumb
 use Rattle.exchange.proofs.Calls.{numbered-stays, carried, by-number}
 use Rattle.unit.specs.declared.record.Kind.{Kind}
 use Rattle.unit.specs.declared.record.Kind.the-variants as kind
-use Rattle.unit.specs.Records.{numberAt, bankTimeOf, idsOf, mailboxOf, headOf, sizeOf, bodyOf}
+use Rattle.unit.specs.Records.{idsAt, headOf, bankTimeOf, idsOf, mailboxOf, sizeOf, bodyOf}
 use Rattle.unit.specs.State.{State, sessionIn}
 use Rattle.unit.specs.Call.{frameAnswer, fileAnswer, frameStep, fileStep}
 use Rattle.sessions.specs.Sessions.{bankAt, journalAt, frameOf, putOf, told}
@@ -70,23 +71,15 @@ file-told put.NoMailbox buffer room = refl
 file-told put.WrongFile buffer room = refl
 file-told put.MailboxFull buffer room = refl
 
--- a bank time is of four bytes
-time-short : (r : List ℕ) → Bytes r → headOf kind.Frame ≤ length r → bankTimeOf r ≤ lastTime
-unfolding numberAt
-time-short r b h =
-    let small : bankTimeOf r < 4294967296 =
-    number-small 4 (take 4 (drop 1 r)) (bytes-take 4 (drop 1 r) (bytes-drop 1 r b)) (simp (length-take, length-drop) (omega arith)) in
-    omega arith
-
 -- a frame call's number is its answer's
 numbered-by : (w : BankState) (a : FrameInput) → frameCall w a .number ≡ frameNumber (frameCall w a .answer)
 unfolding frameCall
 numbered-by w a =
-    by-test (λ (c : FrameCall). c .number ≡ frameNumber (c .answer)) (lentRight w (a .ids) (a .buffer)) (λ _. refl) (λ _. refl)
+    by-test (λ (c : FrameCall). c .number ≡ frameNumber (c .answer)) (lentRight w a) (λ _. refl) (λ _. refl)
 
 -- ---- a frame
 
-module _ {u : State} {s : Course} (v : Standing u s) (r : List ℕ) (b : Bytes r) (whole : headOf kind.Frame ≤ length r) where
+module _ {u : State} {s : Course} (v : Standing u s) (r : List ℕ) (b : Bytes r) where
   abbrev input : FrameInput
   input = frameInput (bankTimeOf r) (idsOf r) (bodyOf kind.Frame r) (u .memory .buffer)
 
@@ -95,8 +88,7 @@ module _ {u : State} {s : Course} (v : Standing u s) (r : List ℕ) (b : Bytes r
 
   brought : Brought input
   brought = record {
-    time = time-short r b whole;
-    ids = bytes-take 8 (drop 5 r) (bytes-drop 5 r b);
+    ids = bytes-take idBytes (drop idsAt r) (bytes-drop idsAt r b);
     frame = body-bytes kind.Frame r b;
   }
 

@@ -21,7 +21,13 @@ use Rattle.client_run.specs.declared.run.ClientRun.{ClientRun}
 use Rattle.client_run.specs.declared.run.Decision.{Decision}
 use Rattle.client_run.specs.declared.run.Decision.the-variants.{Ignore, Opened, Advance, Return, Repeat, Close}
 use Rattle.client_run.specs.declared.run.Refusal.{Refusal}
-use Rattle.client_run.specs.declared.run.Refusal.the-variants.{WrongBuffer, ExchangeTooHigh, NoSubscriber, WrongStage}
+use Rattle.client_run.specs.declared.run.Refusal.the-variants.{
+  TimeTooHigh,
+  WrongBuffer,
+  ExchangeTooHigh,
+  NoSubscriber,
+  WrongStage,
+}
 use Rattle.client_run.specs.declared.run.Ruling.{Ruling}
 use Rattle.client_run.specs.declared.run.Ruling.the-variants.{Refuse, Accept}
 use Rattle.client_run.specs.declared.run.RunParameters.{RunParameters}
@@ -121,23 +127,23 @@ admitted-keeps Accept c l done f = f refl
 begin-keeps : (c : ClientRun) (params : RunParameters) (l : Lent) → Keeps c l (beginCall c params l)
 unfolding beginCall
 begin-keeps c params l =
-    admitted-keeps (beginRuling c params (lengthsOf l)) c l (admittedBegin c params l)
+    admitted-keeps (beginRuling c params (l .time) (lengthsOf l)) c l (admittedBegin c params l)
     (λ _. issued-keeps c _ (l .file) l refl)
 
 module _ (c : ClientRun) (l : Lent) (whole : length (l .file) ≡ fileBytes) where
   reply-keeps : (frame : List ℕ) → Keeps c l (replyCall c frame l)
   unfolding replyCall
   reply-keeps frame =
-      admitted-keeps (runRuling (c .stage) c (lengthsOf l)) c l (admittedReply c frame l)
-      (λ a. carried-keeps c l whole (accepted c (lengthsOf l) a .exchange)
+      admitted-keeps (runRuling c (l .time) (lengthsOf l)) c l (admittedReply c frame l)
+      (λ a. carried-keeps c l whole (accepted c l a .exchange)
       (onReply c (readReply frame) (length (dataOf frame))) (readReply frame) (dataOf frame)
       (by-reply c (readReply frame) (length (dataOf frame))))
 
   no-reply-keeps : Keeps c l (noReplyCall c l)
   unfolding noReplyCall
   no-reply-keeps =
-      admitted-keeps (runRuling (c .stage) c (lengthsOf l)) c l (admittedNoReply c l)
-      (λ a. carried-keeps c l whole (accepted c (lengthsOf l) a .exchange) (onNoReply c) noFields []
+      admitted-keeps (runRuling c (l .time) (lengthsOf l)) c l (admittedNoReply c l)
+      (λ a. carried-keeps c l whole (accepted c l a .exchange) (onNoReply c) noFields []
       (by-no-reply c noFields 0))
 
   pub event-keeps : (e : Event) (r : List ℕ) → Keeps c l (eventCall e c r l)
@@ -149,6 +155,7 @@ module _ (c : ClientRun) (l : Lent) (whole : length (l .file) ≡ fileBytes) whe
 -- ---- no number
 
 pub refusal-numbered : (x : Refusal) → refusalNumber x ≡ 0 → ⊥
+refusal-numbered TimeTooHigh z = omega arith
 refusal-numbered WrongBuffer z = omega arith
 refusal-numbered ExchangeTooHigh z = omega arith
 refusal-numbered NoSubscriber z = omega arith
@@ -161,10 +168,10 @@ is-admitted Accept c l done z = refl
 
 module _ (c : ClientRun) (l : Lent) where
   begun-by : (done : ClientCall) →
-      answerNumber (ifAdmitted (runRuling (c .stage) c (lengthsOf l)) c l done .answer) ≡ 0 → isBegun (c .stage) ≡ true
+      answerNumber (ifAdmitted (runRuling c (l .time) (lengthsOf l)) c l done .answer) ≡ 0 → isBegun (c .stage) ≡ true
   begun-by done z =
-      let a = is-admitted (runRuling (c .stage) c (lengthsOf l)) c l done z in
-      ap (λ (x : Stage). isBegun x) (accepted c (lengthsOf l) a .running)
+      let a = is-admitted (runRuling c (l .time) (lengthsOf l)) c l done z in
+      ap (λ (x : Stage). isBegun x) (accepted c l a .running)
 
   pub reply-begun : (frame : List ℕ) → answerNumber (replyCall c frame l .answer) ≡ 0 → isBegun (c .stage) ≡ true
   unfolding replyCall

@@ -148,7 +148,7 @@ carried-holds (verdict.Of t (action.Download a)) w q d b h = at a
 pub frame-holds : (w : BankState) (a : FrameInput) → Bytes (a .frame) → StoresHold w → StoresHold (frameCall w a .bankState)
 unfolding frameCall respond
 frame-holds w a b h =
-    by-test (λ (c : FrameCall). StoresHold (c .bankState)) (lentRight w (a .ids) (a .buffer))
+    by-test (λ (c : FrameCall). StoresHold (c .bankState)) (lentRight w a)
     (λ _. carried-holds (judge (number (a .ids)) (advanced (a .time) w .bank) (readRequest (a .frame)) (length (dataOf (a .frame))))
     (advanced (a .time) w) (readRequest (a .frame)) (dataOf (a .frame)) (bytes-data (a .frame) b) (advanced-holds (a .time) w h))
     (λ _. h)

@@ -13,7 +13,7 @@ use Rattle.unit.specs.declared.record.Kind.the-variants as kind
 use Rattle.unit.specs.Records.{runOf, runCount, callOf, isCall}
 use Rattle.unit.specs.State.{State}
 use Rattle.unit.specs.Call.{UnitCall, stepOf, unitCall}
-use Rattle.unit.proofs.Parts.{callable, run-within, whole-head}
+use Rattle.unit.proofs.Parts.{callable, run-within}
 use Rattle.sessions.specs.Sessions.{
   Records,
   none,
@@ -92,7 +92,7 @@ module _ {u : State} {s : Course} (v : Standing u s) (r : List ℕ) (b : Bytes r
       (λ ks. ap (λ (x : Kind). callFirst x u r ks) e ∙ first ks) (λ t ts. ap (λ (x : Kind). answerFirst x t ts) e ∙ told t ts)
 
   next-call : (g : Kind) → callOf r ≡ g → isCall g ≡ true → Next
-  next-call kind.Frame e h = as-made kind.Frame e _ (frame-step v r b (whole-head kind.Frame r (callable r kind.Frame refl e .whole))) (λ ks. refl) (λ t ts. refl)
+  next-call kind.Frame e h = as-made kind.Frame e _ (frame-step v r b) (λ ks. refl) (λ t ts. refl)
   next-call kind.File e h = as-made kind.File e _ (file-step v r b) (λ ks. refl) (λ t ts. refl)
   next-call (kind.Run x) e h =
       let inside = run-inside (runOf r) (run-within (runOf r) (callable r (kind.Run x) refl e .within)) in

@@ -28,14 +28,14 @@ use Rattle.unit.specs.State.{roomsBytes}
 use Rattle.unit.specs.Call.{begins, roomCall, keeps, roomsRight}
 
 module _ (c : ClientRun) (params : RunParameters) (l : Lent) where
-  serves-at : (u : Ruling) → beginRuling c params (lengthsOf l) ≡ u
+  serves-at : (u : Ruling) → beginRuling c params (l .time) (lengthsOf l) ≡ u
       → keeps true (ifAdmitted u c l (admittedBegin c params l) .answer) ≡ true → Serves (params .direction) (lengthsOf l)
   serves-at (Refuse x) e h = never h
-  serves-at Accept e h = accepted.begins c params (lengthsOf l) e .buffers
+  serves-at Accept e h = accepted.begins c params l e .buffers
 
   kept-serves : keeps true (beginCall c params l .answer) ≡ true → Serves (params .direction) (lengthsOf l)
   unfolding beginCall
-  kept-serves h = serves-at (beginRuling c params (lengthsOf l)) refl h
+  kept-serves h = serves-at (beginRuling c params (l .time) (lengthsOf l)) refl h
 
 only-begin : (begin : Bool) (a : Answer) → keeps begin a ≡ true → begin ≡ true
 only-begin begin (answer.Request n) h = h

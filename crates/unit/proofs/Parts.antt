@@ -19,6 +19,7 @@ use Rattle.unit.specs.declared.record.Kind.{Kind}
 use Rattle.unit.specs.declared.record.Kind.the-variants.{Frame, File, Run, Journal, Away, TakeUp, Image, NoCall}
 use Rattle.unit.specs.Records.{
   kindOf,
+  sizeBytes,
   headOf,
   hasLength,
   letterOf,
@@ -52,25 +53,25 @@ pub numberAt-most : (s : List ℕ) → ((i : ℕ) → getD s i 0 < 256) → (fro
 unfolding numberAt
 numberAt-most s bytes from n = number-most (drop from s) (λ i. rw (getD-drop from s i 0) (bytes (from + i))) n
 
--- a length of two bytes
+-- what a length says
 cond-least : (t : Bool) (a n : ℕ) → a < n → cond t a 0 < n
 cond-least true a n h = h
 cond-least false a n h = omega arith
 
-pub sizeOf-most : (k : Kind) (s : List ℕ) → ((i : ℕ) → getD s i 0 < 256) → sizeOf k s < 65536
+pub sizeOf-most : (k : Kind) (s : List ℕ) → ((i : ℕ) → getD s i 0 < 256) → sizeOf k s < 2 ^ (8 * sizeBytes)
 unfolding sizeOf
-sizeOf-most k s bytes = cond-least (hasLength k) (numberAt (headOf k - 2) 2 s) 65536 (numberAt-most s bytes (headOf k - 2) 2)
+sizeOf-most k s bytes = cond-least (hasLength k) (numberAt (headOf k - sizeBytes) sizeBytes s) (2 ^ (8 * sizeBytes)) (numberAt-most s bytes (headOf k - sizeBytes) sizeBytes)
 
 -- ---- the call that a record is
 
--- a head has 1 to 26 bytes
-run-head-within : (e : Event) → (1 ≤ headOf (Run e)) × (headOf (Run e) ≤ 26)
+-- no head is longer than an upload's
+run-head-within : (e : Event) → (1 ≤ headOf (Run e)) × (headOf (Run e) ≤ headOf (Run Upload))
 run-head-within Upload = omega arith
 run-head-within Download = omega arith
 run-head-within Reply = omega arith
 run-head-within NoReply = omega arith
 
-pub head-within : (k : Kind) → (1 ≤ headOf k) × (headOf k ≤ 26)
+pub head-within : (k : Kind) → (1 ≤ headOf k) × (headOf k ≤ headOf (Run Upload))
 head-within Frame = omega arith
 head-within File = omega arith
 head-within (Run e) = run-head-within e
@@ -80,8 +81,8 @@ head-within TakeUp = omega arith
 head-within Image = omega arith
 head-within NoCall = omega arith
 
--- a length stands in the last two bytes of a head
-pub length-head : (k : Kind) → hasLength k ≡ true → 2 ≤ headOf k
+-- a length stands in the last bytes of a head
+pub length-head : (k : Kind) → hasLength k ≡ true → sizeBytes ≤ headOf k
 length-head Frame h = omega arith
 length-head File h = omega arith
 length-head (Run Upload) h = omega arith

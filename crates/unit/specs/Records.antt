@@ -6,6 +6,8 @@ use lib.Dec.{leb, eqb}
 use lib.ListN.{length, getD, take, drop}
 use Rattle.octets.specs.Bytes.{number}
 use Rattle.message.specs.Verdicts.{decide}
+use Rattle.bank_state.specs.Limits.{idBytes}
+use Rattle.client_run.specs.Run.{nonceBytes}
 use Rattle.unit.specs.declared.record.Event.the-variants.{Upload, Download, Reply, NoReply}
 use Rattle.unit.specs.declared.record.Kind.{Kind}
 use Rattle.unit.specs.declared.record.Kind.the-variants.{Frame, File, Run, Journal, Away, TakeUp, Image, NoCall}
@@ -27,28 +29,92 @@ kindOf letter =
     ∷ [])
     NoCall
 
+-- ---- the parts of a record: how many bytes each has, and where it begins; ID and nonce bytes are as many as are lent
+
+abbrev pub letterBytes : ℕ
+letterBytes = 1
+
+-- "run 1"
+abbrev pub runBytes : ℕ
+runBytes = 1
+
+-- "the time in `F`, `U`, `D`, `R` and `N` has 8 bytes (milliseconds)"
+abbrev pub timeBytes : ℕ
+timeBytes = 8
+
+-- "mailbox 2"
+abbrev pub mailboxBytes : ℕ
+mailboxBytes = 2
+
+-- "subscriber 2"
+abbrev pub subscriberBytes : ℕ
+subscriberBytes = 2
+
+-- "first exchange number 4"
+abbrev pub firstBytes : ℕ
+firstBytes = 4
+
+-- "length 2": of what stands behind the head
+abbrev pub sizeBytes : ℕ
+sizeBytes = 2
+
+-- "length 4", "offset 4": in the image room
+abbrev pub extentBytes : ℕ
+extentBytes = 4
+
+-- F: bank time and ID bytes, the first part behind the letter, each other behind the one before it
+abbrev pub bankTimeAt : ℕ
+bankTimeAt = letterBytes
+
+abbrev pub idsAt : ℕ
+idsAt = bankTimeAt + timeBytes
+
+-- M: the mailbox
+abbrev pub mailboxAt : ℕ
+mailboxAt = letterBytes
+
+-- U, D, R, N and J: the run; all but J: the time; U and D: subscriber, first exchange number and nonce bytes
+abbrev pub runNumberAt : ℕ
+runNumberAt = letterBytes
+
+abbrev pub timeAt : ℕ
+timeAt = runNumberAt + runBytes
+
+abbrev pub subscriberAt : ℕ
+subscriberAt = timeAt + timeBytes
+
+abbrev pub firstAt : ℕ
+firstAt = subscriberAt + subscriberBytes
+
+abbrev pub nonceAt : ℕ
+nonceAt = firstAt + firstBytes
+
+-- P and T: the length; I: the offset
+abbrev pub extentAt : ℕ
+extentAt = letterBytes
+
 -- the bytes of a record before those that its length counts: the letter, then the parts in their order
 abbrev pub headOf : Kind → ℕ
--- bank time 4, ID bytes 8, length 2
-headOf Frame = 1 + 4 + 8 + 2
--- mailbox 2, length 2
-headOf File = 1 + 2 + 2
--- run 1, time 4, subscriber 2, first exchange number 4, nonce bytes 12, length 2
-headOf (Run Upload) = 1 + 1 + 4 + 2 + 4 + 12 + 2
--- run 1, time 4, subscriber 2, first exchange number 4, nonce bytes 12
-headOf (Run Download) = 1 + 1 + 4 + 2 + 4 + 12
--- run 1, time 4, length 2
-headOf (Run Reply) = 1 + 1 + 4 + 2
--- run 1, time 4
-headOf (Run NoReply) = 1 + 1 + 4
--- run 1
-headOf Journal = 1 + 1
--- length 4
-headOf Away = 1 + 4
-headOf TakeUp = 1 + 4
--- offset 4, length 2
-headOf Image = 1 + 4 + 2
-headOf NoCall = 1
+-- "bank time 8, ID bytes 8, length 2"
+headOf Frame = idsAt + idBytes + sizeBytes
+-- "mailbox 2, length 2"
+headOf File = mailboxAt + mailboxBytes + sizeBytes
+-- "run 1, time 8, subscriber 2, first exchange number 4, nonce bytes 12, length 2"
+headOf (Run Upload) = nonceAt + nonceBytes + sizeBytes
+-- "run 1, time 8, subscriber 2, first exchange number 4, nonce bytes 12"
+headOf (Run Download) = nonceAt + nonceBytes
+-- "run 1, time 8, length 2"
+headOf (Run Reply) = timeAt + timeBytes + sizeBytes
+-- "run 1, time 8"
+headOf (Run NoReply) = timeAt + timeBytes
+-- "run 1"
+headOf Journal = runNumberAt + runBytes
+-- "length 4"
+headOf Away = extentAt + extentBytes
+headOf TakeUp = extentAt + extentBytes
+-- "offset 4, length 2"
+headOf Image = extentAt + extentBytes + sizeBytes
+headOf NoCall = letterBytes
 
 -- whether a length stands at the end of the head
 abbrev pub hasLength : Kind → Bool
@@ -76,41 +142,41 @@ letterOf r = getD r 0 0
 
 -- F: bank time and ID bytes; M: the mailbox
 abbrev pub bankTimeOf : List ℕ → ℕ
-bankTimeOf r = numberAt 1 4 r
+bankTimeOf r = numberAt bankTimeAt timeBytes r
 
 abbrev pub idsOf : List ℕ → List ℕ
-idsOf r = bytesAt 5 8 r
+idsOf r = bytesAt idsAt idBytes r
 
 abbrev pub mailboxOf : List ℕ → ℕ
-mailboxOf r = numberAt 1 2 r
+mailboxOf r = numberAt mailboxAt mailboxBytes r
 
 -- U, D, R, N and J: the run, "numbered 1 to 16"; all but J: the time; U and D: subscriber, first exchange number and
 -- nonce bytes
 abbrev pub runOf : List ℕ → ℕ
-runOf r = numberAt 1 1 r
+runOf r = numberAt runNumberAt runBytes r
 
 abbrev pub timeOf : List ℕ → ℕ
-timeOf r = numberAt 2 4 r
+timeOf r = numberAt timeAt timeBytes r
 
 abbrev pub subscriberOf : List ℕ → ℕ
-subscriberOf r = numberAt 6 2 r
+subscriberOf r = numberAt subscriberAt subscriberBytes r
 
 abbrev pub firstOf : List ℕ → ℕ
-firstOf r = numberAt 8 4 r
+firstOf r = numberAt firstAt firstBytes r
 
 abbrev pub nonceOf : List ℕ → List ℕ
-nonceOf r = bytesAt 12 12 r
+nonceOf r = bytesAt nonceAt nonceBytes r
 
 -- P and T: how many bytes of the image room, "the first that many"; I: where its bytes go
 abbrev pub lentLengthOf : List ℕ → ℕ
-lentLengthOf r = numberAt 1 4 r
+lentLengthOf r = numberAt extentAt extentBytes r
 
 abbrev pub offsetOf : List ℕ → ℕ
-offsetOf r = numberAt 1 4 r
+offsetOf r = numberAt extentAt extentBytes r
 
 -- what the length says, and the frame, file, payload, reply or bytes that it counts
 unfoldable pub sizeOf : Kind → List ℕ → ℕ
-sizeOf k r = cond (hasLength k) (numberAt (headOf k - 2) 2 r) 0
+sizeOf k r = cond (hasLength k) (numberAt (headOf k - sizeBytes) sizeBytes r) 0
 
 unfoldable pub bodyOf : Kind → List ℕ → List ℕ
 bodyOf k r = take (sizeOf k r) (drop (headOf k) r)

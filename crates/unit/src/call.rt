@@ -2,14 +2,26 @@
 use crate::images::away_call;
 use crate::images::image_call;
 use crate::images::take_up_call;
+use crate::record::BANK_TIME_AT;
 use crate::record::Event;
+use crate::record::FIRST_AT;
+use crate::record::FIRST_BYTES;
+use crate::record::IDS_AT;
 use crate::record::Kind;
+use crate::record::MAILBOX_AT;
+use crate::record::MAILBOX_BYTES;
+use crate::record::NONCE_AT;
 use crate::record::ROOM_BYTES;
+use crate::record::RUN_BYTES;
+use crate::record::RUN_NUMBER_AT;
+use crate::record::SUBSCRIBER_AT;
+use crate::record::SUBSCRIBER_BYTES;
+use crate::record::TIME_AT;
+use crate::record::TIME_BYTES;
 use crate::record::body_of;
 use crate::record::bytes_at;
 use crate::record::call_of;
 use crate::record::number_at;
-use crate::record::time_at;
 use crate::state::ROOMS_BYTES;
 use crate::state::Run;
 use crate::state::UnitState;
@@ -19,6 +31,7 @@ use bank::call::FrameAnswer;
 use bank::mailbox::FileAnswer;
 use bank_session::calls::frame_held;
 use bank_session::calls::put_file;
+use bank_state::limits::ID_BYTES;
 use bank_state::store::append;
 use bank_state::store::file_of;
 use client::calls::Client;
@@ -131,7 +144,7 @@ fn nonce_of(record: &[u8]) -> [u8; NONCE_BYTES]
     ensures { λ r. ⌜ r ≡ nonceOf (now («record» .entry)) ⌝ }
 {
     let mut nonce = [0u8; NONCE_BYTES];
-    copy(&mut nonce, 0, bytes_at(record, 12, NONCE_BYTES));
+    copy(&mut nonce, 0, bytes_at(record, NONCE_AT, NONCE_BYTES));
     nonce
 }
 
@@ -140,7 +153,7 @@ fn index_of(record: &[u8]) -> usize
     requires { ⌜ isRun (runOf (now «record»)) ≡ true ⌝ }
     ensures { λ r. ⌜ (r ≡ indexOf (now («record» .entry))) × (r < runCount) ⌝ }
 {
-    (number_at(record, 1, 1) - 1) as usize
+    (number_at(record, RUN_NUMBER_AT, RUN_BYTES) - 1) as usize
 }
 
 // A frame to the bank, with the unit's journal.
@@ -162,8 +175,8 @@ fn frame_call(
     let o = frame_held(
         rows,
         row,
-        time_at(record, 1),
-        bytes_at(record, 5, 8),
+        number_at(record, BANK_TIME_AT, TIME_BYTES),
+        bytes_at(record, IDS_AT, ID_BYTES),
         body_of(Kind::Frame, record),
         orders,
         mailboxes,
@@ -187,7 +200,7 @@ fn file_call(record: &[u8], rows: &mut [u64], mailboxes: &mut [u8]) -> Answer
 {
     let answer = put_file(
         rows,
-        number_at(record, 1, 2),
+        number_at(record, MAILBOX_AT, MAILBOX_BYTES),
         body_of(Kind::File, record),
         mailboxes,
     );
@@ -233,8 +246,8 @@ fn params_of(direction: Direction, record: &[u8]) -> RunParameters
 {
     RunParameters {
         direction,
-        subscriber: number_at(record, 6, 2),
-        first: number_at(record, 8, 4),
+        subscriber: number_at(record, SUBSCRIBER_AT, SUBSCRIBER_BYTES),
+        first: number_at(record, FIRST_AT, FIRST_BYTES),
     }
 }
 
@@ -254,7 +267,8 @@ fn begin(
         (now (buffer .entry))) ⌝ }
 {
     let params = params_of(direction, record);
-    client.begin(params, time_at(record, 2), nonce, payload, file, buffer)
+    let time = number_at(record, TIME_AT, TIME_BYTES);
+    client.begin(params, time, nonce, payload, file, buffer)
 }
 
 // A client's call by the event of a record.
@@ -272,7 +286,7 @@ fn event_call(
         (lentOf (timeOf (now («record» .entry))) nonce (now (payload .entry)) (now (file .entry))
         (now (buffer .entry))) ⌝ }
 {
-    let time = time_at(record, 2);
+    let time = number_at(record, TIME_AT, TIME_BYTES);
     let body = body_of(Kind::Run(event), record);
     match event {
         Event::Upload => begin(

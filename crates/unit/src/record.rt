@@ -1,4 +1,6 @@
 // A record of the input: its letter, its parts, and the call that it is.
+use bank_state::limits::ID_BYTES;
+use client_run::run::NONCE_BYTES;
 use octets::bytes::behind;
 use octets::bytes::front;
 use octets::bytes::number;
@@ -14,8 +16,49 @@ pub const RUN_COUNT: usize = 16;
 // The bytes of the image room.
 pub const ROOM_BYTES: usize = 140000;
 
+// How many bytes the parts of a record have: its letter, a run, a time, a mailbox, a subscriber, a first exchange
+// number, the length of what stands behind the head, and a length or an offset in the image room.
+pub const LETTER_BYTES: usize = 1;
+
+pub const RUN_BYTES: usize = 1;
+
+pub const TIME_BYTES: usize = 8;
+
+pub const MAILBOX_BYTES: usize = 2;
+
+pub const SUBSCRIBER_BYTES: usize = 2;
+
+pub const FIRST_BYTES: usize = 4;
+
+pub const SIZE_BYTES: usize = 2;
+
+pub const EXTENT_BYTES: usize = 4;
+
+// Where the parts begin, each behind the one before it: those of a frame to the bank, of a file, of a call to a run,
+// and of one on the image room.
+pub const BANK_TIME_AT: usize = LETTER_BYTES;
+
+pub const IDS_AT: usize = BANK_TIME_AT + TIME_BYTES;
+
+pub const MAILBOX_AT: usize = LETTER_BYTES;
+
+pub const RUN_NUMBER_AT: usize = LETTER_BYTES;
+
+pub const TIME_AT: usize = RUN_NUMBER_AT + RUN_BYTES;
+
+pub const SUBSCRIBER_AT: usize = TIME_AT + TIME_BYTES;
+
+pub const FIRST_AT: usize = SUBSCRIBER_AT + SUBSCRIBER_BYTES;
+
+pub const NONCE_AT: usize = FIRST_AT + FIRST_BYTES;
+
+pub const EXTENT_AT: usize = LETTER_BYTES;
+
+// The bytes of an upload's head, the longest one.
+pub const UPLOAD_HEAD: usize = NONCE_AT + NONCE_BYTES + SIZE_BYTES;
+
 // The bytes of the longest record: an upload's head and a payload of 65,535.
-pub const RECORD_BYTES: usize = 26 + 65535;
+pub const RECORD_BYTES: usize = UPLOAD_HEAD + 65535;
 
 // What happens to a client run: it begins an upload or a download, a reply arrived, or no reply came.
 pub enum Event {
@@ -62,10 +105,10 @@ fn run_head_of(event: Event) -> usize
     ensures { λ r. ⌜ r ≡ headOf (Kind.Run event) ⌝ }
 {
     match event {
-        Event::Upload => 26,
-        Event::Download => 24,
-        Event::Reply => 8,
-        Event::NoReply => 6,
+        Event::Upload => UPLOAD_HEAD,
+        Event::Download => NONCE_AT + NONCE_BYTES,
+        Event::Reply => TIME_AT + TIME_BYTES + SIZE_BYTES,
+        Event::NoReply => TIME_AT + TIME_BYTES,
     }
 }
 
@@ -74,14 +117,14 @@ pub fn head_of(kind: Kind) -> usize
     ensures { λ r. ⌜ r ≡ headOf kind ⌝ }
 {
     match kind {
-        Kind::Frame => 15,
-        Kind::File => 5,
+        Kind::Frame => IDS_AT + ID_BYTES + SIZE_BYTES,
+        Kind::File => MAILBOX_AT + MAILBOX_BYTES + SIZE_BYTES,
         Kind::Run(event) => run_head_of(event),
-        Kind::Journal => 2,
-        Kind::Away => 5,
-        Kind::TakeUp => 5,
-        Kind::Image => 7,
-        Kind::NoCall => 1,
+        Kind::Journal => RUN_NUMBER_AT + RUN_BYTES,
+        Kind::Away => EXTENT_AT + EXTENT_BYTES,
+        Kind::TakeUp => EXTENT_AT + EXTENT_BYTES,
+        Kind::Image => EXTENT_AT + EXTENT_BYTES + SIZE_BYTES,
+        Kind::NoCall => LETTER_BYTES,
     }
 }
 
@@ -128,13 +171,6 @@ pub(crate) fn number_at(s: &[u8], from: usize, n: usize) -> u64
     number(bytes_at(s, from, n))
 }
 
-// The number of the 4 bytes from a place on.
-pub(crate) fn time_at(s: &[u8], from: usize) -> u32
-    ensures { λ r. ⌜ r ≡ numberAt from 4 (now (s .entry)) ⌝ }
-{
-    number_at(s, from, 4) as u32
-}
-
 // What the length of a record says, 0 where it has none.
 pub fn size_of(kind: Kind, s: &[u8]) -> usize
     ensures { λ r. ⌜ r ≡ sizeOf kind (now (s .entry)) ⌝ }
@@ -142,21 +178,21 @@ pub fn size_of(kind: Kind, s: &[u8]) -> usize
     if !has_length(kind) {
         return 0;
     }
-    number_at(s, head_of(kind) - 2, 2) as usize
+    number_at(s, head_of(kind) - SIZE_BYTES, SIZE_BYTES) as usize
 }
 
 // How many bytes of the image room a session is put away into, or taken up from.
 pub fn lent_length(s: &[u8]) -> usize
     ensures { λ r. ⌜ r ≡ lentLengthOf (now (s .entry)) ⌝ }
 {
-    number_at(s, 1, 4) as usize
+    number_at(s, EXTENT_AT, EXTENT_BYTES) as usize
 }
 
 // Where a record's bytes go in the image room.
 pub(crate) fn offset_of(s: &[u8]) -> usize
     ensures { λ r. ⌜ r ≡ offsetOf (now (s .entry)) ⌝ }
 {
-    number_at(s, 1, 4) as usize
+    number_at(s, EXTENT_AT, EXTENT_BYTES) as usize
 }
 
 // The frame, file, payload, reply or bytes of a record.
@@ -193,8 +229,8 @@ fn is_within(kind: Kind, s: &[u8]) -> bool
     match kind {
         Kind::Frame => true,
         Kind::File => true,
-        Kind::Run(_) => is_run(number_at(s, 1, 1)),
-        Kind::Journal => is_run(number_at(s, 1, 1)),
+        Kind::Run(_) => is_run(number_at(s, RUN_NUMBER_AT, RUN_BYTES)),
+        Kind::Journal => is_run(number_at(s, RUN_NUMBER_AT, RUN_BYTES)),
         Kind::Away => in_room(0, lent_length(s)),
         Kind::TakeUp => in_room(0, lent_length(s)),
         Kind::Image => in_room(offset_of(s), size_of(kind, s)),

@@ -8,40 +8,46 @@ use Rattle.exercises.proofs.play.Statement.{statement}
 use Rattle.exercises.proofs.play.Tie as tie
 
 abbrev Inv-loop : tie.InvT-loop
-Inv-loop script first last text mail₀ rows₀ orders₀ boxes₀ payloads₀ files₀ u₀ i₀ mail rows orders mailboxes payloads files u i =
+Inv-loop first last mail₀ rows₀ orders₀ boxes₀ payloads₀ files₀ room₀ u₀ i₀ mail rows orders mailboxes payloads files room u i =
     (length mail ≡ length mail₀)
     × (length rows ≡ length rows₀)
     × (length orders ≡ length orders₀)
     × (length mailboxes ≡ length boxes₀)
     × (length payloads ≡ length payloads₀)
     × (length files ≡ length files₀)
+    × (length room ≡ length room₀)
 
 abbrev μ-loop : tie.MeasureT-loop
-μ-loop script first last text mail₀ rows₀ orders₀ boxes₀ payloads₀ files₀ u₀ i₀ mail rows orders mailboxes payloads files u i =
+μ-loop first last mail₀ rows₀ orders₀ boxes₀ payloads₀ files₀ room₀ u₀ i₀ mail rows orders mailboxes payloads files room u i =
     last - i
 
+-- where a move has given back the mail, and where it began
+abbrev moved : tie.After-slice-known14 Inv-loop μ-loop → tie.After-mail Inv-loop μ-loop
+moved c = c .before .before .before .before .before .before .before .before .before .before .before .before .before
+
+abbrev began : tie.After-mail Inv-loop μ-loop → tie.In-loop Inv-loop μ-loop
+began c = c .before .before .before .before .before .before .before .before .before .before .before .before .before .before
+
 loop-less : tie.Need-loop-less Inv-loop μ-loop
-loop-less c =
-    let at-mail = c .before .before .before .before .before .before .before .before .before .before .before in
-    let at-move = at-mail .before .before .before .before .before .before .before .before in
-    omega (arith, at-move .before .before .loop-test .taken)
+loop-less c = omega (arith, began (moved c) .loop-test .taken)
 
 loop-again : tie.Need-loop-again Inv-loop μ-loop
 loop-again c =
-    let at-files = c .before in
+    let at-room = c .before in
+    let at-files = at-room .before .before in
     let at-payloads = at-files .before .before in
     let at-boxes = at-payloads .before .before in
     let at-orders = at-boxes .before .before in
     let at-rows = at-orders .before .before in
     let at-mail = at-rows .before .before in
-    let at-move = at-mail .before .before .before .before .before .before .before .before in
-    let inv = at-move .before .before .before .loop .inv in (
+    let inv = began at-mail .before .loop .inv in (
       at-mail .mail .given ∙ inv .0,
       at-rows .rows .given ∙ inv .1,
       at-orders .orders .given ∙ inv .2,
       at-boxes .mailboxes .given ∙ inv .3,
       at-payloads .payloads .given ∙ inv .4,
       at-files .files .given ∙ inv .5,
+      at-room .room .given ∙ inv .6,
     )
 
 pub play-spec : {M : Type 1} → statement M
@@ -50,7 +56,7 @@ play-spec =
     (tie.spec
     Inv-loop
     μ-loop
-    (λ c. (refl, refl, refl, refl, refl, refl))
+    (λ c. (refl, refl, refl, refl, refl, refl, refl))
     (λ c κs. tt)
     (λ c κs. tt)
     (λ c. search needs)
@@ -63,4 +69,5 @@ play-spec =
     (λ c. c .before .loop .inv .3)
     (λ c. c .before .loop .inv .4)
     (λ c. c .before .loop .inv .5)
+    (λ c. c .before .loop .inv .6)
     (λ c. tt))

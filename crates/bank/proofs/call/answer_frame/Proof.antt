@@ -1,23 +1,24 @@
--- Number 1 where a lent length is wrong or the rows are no bank's; else clock, reading and step, as in the definition.
+-- Number 1 where a lent length or the time is wrong or the rows are no bank's; else clock, reading and step, as in the
+-- definition.
 use mathlib.Core.Bool.{true}
 use mathlib.Core.List.{List}
 use mathlib.Core.Path.{_≡_, sym, ap, _∙_, subst}
 use native.Mathlib.Omega.{arith}
 use lib.ListN.{length}
 use borrow.Author.Tests.{not-true, not-false}
-use Rattle.bank_state.specs.Limits.{storeBytes, idBytes}
+use Rattle.bank_state.specs.Limits.{storeBytes}
 use Rattle.bank_sound.specs.Sound.{isSound}
 use Rattle.bank_sound.proofs.Test.{sound-laid, sound-range}
 use Rattle.journal.specs.declared.event.Entry.{Entry}
 use Rattle.bank_events.specs.Entries.{Holds}
 use Rattle.bank.specs.declared.call.FrameOut.{FrameOut}
-use Rattle.bank.specs.Call.{lentRight, frameInput}
+use Rattle.bank.specs.Call.{RightInput, lentRight, frameInput}
 use Rattle.bank.specs.Journal.{ifAnswered}
 use Rattle.bank.specs.Lent.{lentFrameCallOf}
-use Rattle.bank_steps.specs.Lent.{lent}
-use Rattle.bank.proofs.Accepted.{lengths-right}
+use Rattle.bank_steps.specs.Lent.{lent, stateOf}
 use Rattle.bank.proofs.Entered.{none-entered, frame-entered}
-use Rattle.bank.proofs.Lent.{advanced-prepared, length-refused, rows-refused, frame-carried}
+use Rattle.bank.proofs.Lent.{advanced-prepared, lent-refused, rows-refused, frame-carried}
+use Rattle.bank.proofs.Right.{right-told}
 use borrow.Author.Needs.{needs}
 use Rattle.bank.proofs.call.answer_frame.Statement.{statement}
 use Rattle.bank.proofs.call.answer_frame.Tie as tie
@@ -26,11 +27,13 @@ use Rattle.bank.proofs.call.answer_frame.Tie as tie
 right : (c : tie.Else1)
     → let a = c .before .before .before .before .before .before .before .before .args in
     (length (a .orders .now) ≡ storeBytes) × (length (a .mailboxes .now) ≡ storeBytes)
-    × (length (a .ids .now) ≡ idBytes)
+    × RightInput (frameInput (a .time) (a .ids .now) (a .frame .now) (a .buffer .now))
+unfolding lentRight
 right c =
-    let buffer = c .before .before .before .before .before .before .before .before .args .buffer .now in
+    let a = c .before .before .before .before .before .before .before .before .args in
     let right = not-false (c .before .lent-right .result) (c .if1 .left) in
-    lengths-right _ _ _ (length buffer) (sym (c .before .lent-right .ensures) ∙ right)
+    right-told (stateOf (lent (a .rows .now) (a .orders .now) (a .mailboxes .now))) _
+    (sym (c .before .lent-right .ensures) ∙ right)
 
 -- the rows are a bank's
 sound : (c : tie.Else2)
@@ -46,7 +49,7 @@ returns c =
     let wrong = not-true (at-lent-right .lent-right .result) (c .before .if1 .taken) in
     let away = c .turned-away .ensures in (
       ap (λ (o : FrameOut). lentFrameCallOf o (lent (a .rows .now) (a .orders .now) (a .mailboxes .now)) (a .buffer .now))
-          (away .0) ∙ sym (length-refused _ _ (sym (at-lent-right .lent-right .ensures) ∙ wrong)),
+          (away .0) ∙ sym (lent-refused _ _ (sym (at-lent-right .lent-right .ensures) ∙ wrong)),
       none-entered (away .0) (away .1) _,
     )
 
@@ -72,7 +75,7 @@ advance-requires c κs =
 number-requires : tie.Need-number-requires
 number-requires c κs =
     let at-if2 = c .before .before .before .before .before .before .before .before .before .before .before .before in
-    omega (arith, right (at-if2 .before .before .before) .2)
+    omega (arith, right (at-if2 .before .before .before) .2 .ids)
 
 respond-requires : tie.Need-respond-requires
 respond-requires c κs =

@@ -1,45 +1,17 @@
 -- `run_ruling` meets its contract. Assumes nothing.
-use borrow.Author.Needs.{needs}
+use Rattle.client_rules.specs.Rulings.{runRuling}
 use Rattle.client_rules.proofs.rulings.run_ruling.Statement.{statement}
 use Rattle.client_rules.proofs.rulings.run_ruling.Tie as tie
 
-enum-told : tie.Need-enum-told
-enum-told c = search needs
+ruling-at-stage-requires : tie.Need-ruling-at-stage-requires
+ruling-at-stage-requires c κs = tt
 
-ruling-not-begun-requires : tie.Need-ruling-not-begun-requires
-ruling-not-begun-requires c κs = tt
-
-enum-told-2 : tie.Need-enum-told-2
-enum-told-2 c = search needs
-
-ruling-running-requires : tie.Need-ruling-running-requires
-ruling-running-requires c κs = tt
-
-enum-told-3 : tie.Need-enum-told-3
-enum-told-3 c = search needs
-
-ruling-ended-requires : tie.Need-ruling-ended-requires
-ruling-ended-requires c κs = tt
+time-first-requires : tie.Need-time-first-requires
+time-first-requires c κs = tt
 
 returns : tie.Need-returns
-returns c = simp (c .before .enum-told .given .1, ← c .ruling-not-begun .ensures)
-
-returns-2 : tie.Need-returns-2
-returns-2 c = simp (c .before .enum-told2 .given .1, ← c .ruling-running .ensures)
-
-returns-3 : tie.Need-returns-3
-returns-3 c = simp (c .before .enum-told3 .given .1, ← c .ruling-ended .ensures)
+unfolding runRuling
+returns c = rw (← c .before .ruling-at-stage .ensures) (c .time-first .ensures)
 
 pub run-ruling-spec : {M : Type 1} → statement M
-run-ruling-spec =
-    tie.close
-    (tie.spec
-    enum-told
-    ruling-not-begun-requires
-    enum-told-2
-    ruling-running-requires
-    enum-told-3
-    ruling-ended-requires
-    returns
-    returns-2
-    returns-3)
+run-ruling-spec = tie.close (tie.spec ruling-at-stage-requires time-first-requires returns)

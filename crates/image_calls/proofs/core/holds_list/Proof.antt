@@ -1,7 +1,7 @@
 -- The parts of the image at the stores' places are the stores in it. Assumes nothing.
 use mathlib.Core.List.{[]}
 use native.Mathlib.Omega.{arith}
-use Rattle.image_calls.proofs.Tests.{image-size}
+use Rattle.image_calls.proofs.Tests.{image-short}
 use Rattle.image_calls.proofs.Taking.{places-within, parts-listed}
 use borrow.Author.Needs.{needs}
 use Rattle.image_calls.proofs.core.holds_list.Statement.{statement}
@@ -10,12 +10,12 @@ use Rattle.image_calls.proofs.core.holds_list.Tie as tie
 add-orders-end : tie.Need-add-orders-end
 add-orders-end c =
     let f = c .before .sizes-of in
-    omega (arith, image-size, places-within [] (f .result) (f .ensures) .0)
+    omega (arith, image-short, places-within [] (f .result) (f .ensures) .0)
 
 add-mailboxes-end : tie.Need-add-mailboxes-end
 add-mailboxes-end c =
     let f = c .before .before .sizes-of in
-    omega (arith, image-size, places-within [] (f .result) (f .ensures) .1)
+    omega (arith, image-short, places-within [] (f .result) (f .ensures) .1)
 
 part-admitted-end : tie.Need-part-admitted-end
 part-admitted-end c =

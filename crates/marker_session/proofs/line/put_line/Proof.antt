@@ -1,19 +1,50 @@
--- `put_line` meets its contract: its three parts stand one behind the other. Assumes nothing.
+-- Its five parts stand one after the other, and each has the room that is left. Assumes nothing.
 use Prim.Native.Nat.{_+_, _≤_}
 use lib.ListN.{length}
 use native.Mathlib.Omega.{arith}
 use Rattle.print.specs.Text.{codeDigits, columnRoom}
+use Rattle.marker_session.specs.Offset.{offsetRoom}
 use Rattle.marker_session.specs.Lines.{codedLine}
 use Rattle.print.proofs.Digits.{column-most}
 use Rattle.print.proofs.Texts.{put-then, put-left}
+use Rattle.marker_session.proofs.Offsets.{offset-most}
 use Rattle.marker_session.proofs.Texts.{coded-most}
 use borrow.Author.Needs.{needs}
 use Rattle.marker_session.proofs.line.put_line.Statement.{statement}
 use Rattle.marker_session.proofs.line.put_line.Tie as tie
 
--- what is left of the line's room behind the call's number
-left : (c : tie.After-put-column) → c .put-column .result + 7 ≤ length (c .put-column .last .0)
-left c = put-left columnRoom 7 (c .put-column .ensures) (column-most _ _) (omega arith)
+-- the places of the body, from the last back to the first
+abbrev at-space : tie.After-put-offset → tie.After-put-byte
+at-space c = c .before .before .before .before
+
+abbrev at-answer : tie.After-put-byte → tie.After-put-answer
+at-answer c = c .before .before .before .before
+
+abbrev at-column : tie.After-put-answer → tie.After-put-column
+at-column c = c .before .before .before .before
+
+abbrev at-start : tie.After-put-column → tie.Start
+at-start c = c .before .before .before .before
+
+-- what is left of the line's room after the call's number, after the code, after the space, and after the offset
+left : (c : tie.After-put-column)
+    → c .put-column .result + (codeDigits + 1 + offsetRoom + 1) ≤ length (c .put-column .last .0)
+left c = put-left columnRoom (codeDigits + 1 + offsetRoom + 1) (c .put-column .ensures) (column-most _ _) (omega arith)
+
+left-2 : (c : tie.After-put-answer) → c .put-answer .result + (1 + offsetRoom + 1) ≤ length (c .put-answer .last .0)
+left-2 c =
+    let a = at-start (at-column c) .args in
+    put-left codeDigits (1 + offsetRoom + 1) (c .put-answer .ensures) (coded-most (a .answer) (a .code))
+    (left (at-column c))
+
+left-3 : (c : tie.After-put-byte) → c .put-byte .result + (offsetRoom + 1) ≤ length (c .put-byte .last .0)
+left-3 c = put-left 1 (offsetRoom + 1) (c .put-byte .ensures) (omega arith) (left-2 (at-answer c))
+
+left-4 : (c : tie.After-put-offset) → c .put-offset .result + 1 ≤ length (c .put-offset .last .0)
+left-4 c =
+    let a = at-start (at-column (at-answer (at-space c))) .args in
+    put-left offsetRoom 1 (c .put-offset .ensures) (offset-most (a .answer) (a .frame .now) (a .clock))
+    (left-3 (at-space c))
 
 put-column-requires : tie.Need-put-column-requires
 put-column-requires c κs = search needs
@@ -22,11 +53,15 @@ put-answer-requires : tie.Need-put-answer-requires
 put-answer-requires c κs = omega (arith, left (c .before .before .before))
 
 put-byte-requires : tie.Need-put-byte-requires
-put-byte-requires c κs =
-    let at-answer = c .before .before .before in
-    let at-column = at-answer .before .before .before .before in
-    let a = at-column .before .before .before .args in
-    omega (arith, put-left codeDigits 1 (at-answer .put-answer .ensures) (coded-most (a .answer) (a .code)) (left at-column))
+put-byte-requires c κs = omega (arith, left-2 (c .before .before .before))
+
+put-offset-requires : tie.Need-put-offset-requires
+put-offset-requires c κs =
+    let at-byte = c .before .before .before in
+    (omega (arith, left-3 at-byte), at-start (at-column (at-answer at-byte)) .pre .1)
+
+put-byte-requires-2 : tie.Need-put-byte-requires-2
+put-byte-requires-2 c κs = omega (arith, left-4 (c .before .before .before))
 
 same-length : tie.Need-same-length
 same-length c = search needs
@@ -34,10 +69,12 @@ same-length c = search needs
 returns : tie.Need-returns
 unfolding codedLine
 returns c =
-    let at-byte = c .before .before in
-    let at-answer = at-byte .before .before .before .before in
-    put-then (at-answer .before .before .before .before .put-column .ensures)
-    (put-then (at-answer .put-answer .ensures) (at-byte .put-byte .ensures))
+    let at-end = c .before .before in
+    let at-offset = at-end .before .before .before .before in
+    let at-byte = at-space at-offset in
+    put-then (at-column (at-answer at-byte) .put-column .ensures)
+    (put-then (at-answer at-byte .put-answer .ensures)
+    (put-then (at-byte .put-byte .ensures) (put-then (at-offset .put-offset .ensures) (at-end .put-byte2 .ensures))))
 
 pub put-line-spec : {M : Type 1} → statement M
 put-line-spec =
@@ -46,5 +83,7 @@ put-line-spec =
     put-column-requires
     put-answer-requires
     put-byte-requires
+    put-offset-requires
+    put-byte-requires-2
     same-length
     returns)

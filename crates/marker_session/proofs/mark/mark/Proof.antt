@@ -9,7 +9,7 @@ use lib.Dec.{ltb}
 use lib.ListN.{length, drop}
 use borrow.Author.Tests.{ltb-true}
 use Rattle.octets.proofs.Tests.{and-true}
-use Rattle.marker_session.specs.Marking.{isReady, markerState}
+use Rattle.marker_session.specs.Marking.{isReady, markerState, Clocked}
 use Rattle.bank_steps.specs.Lent.{lent}
 use Rattle.print.proofs.Texts.{put-length, put-nothing}
 use Rattle.marker_session.proofs.Lines.{Marking, marking-next, marking-end}
@@ -22,7 +22,7 @@ Inv-loop calls input output₀ rows₀ orders₀ mailboxes₀ buffer₀ m₀ lef
     × (length buffer ≡ length buffer₀)
     × Marking (markerState calls input (lent rows₀ orders₀ mailboxes₀) buffer₀) input output₀ left m
     (lent rows orders mailboxes) buffer output
-    × (m .used ≤ length input)
+    × (m .used ≤ length input) × Clocked rows
 
 abbrev μ-loop : tie.MeasureT-loop
 μ-loop calls input output₀ rows₀ orders₀ mailboxes₀ buffer₀ m₀ left₀ output rows orders mailboxes buffer m left = left
@@ -35,6 +35,7 @@ loop-holds c = (
   refl,
   record { text = []; calls = refl; lines = refl; put = put-nothing _ _ (omega arith); room = omega arith },
   omega arith,
+  c .before .before .before .before .before .before .pre,
 )
 
 -- a turn: the place where a call is ready
@@ -58,8 +59,8 @@ is-ready-requires c κs = tt
 mark-call-requires : tie.Need-mark-call-requires Inv-loop μ-loop
 mark-call-requires c κs =
     let at-if = c .before .before .before .before .before in
-    let k = at-if .before .before .loop .inv .4 in
-    (ready at-if .1, omega (arith, put-length (k .put), k .room, ready at-if .0))
+    let inv = at-if .before .before .loop .inv in
+    (ready at-if .1, omega (arith, put-length (inv .4 .put), inv .4 .room, ready at-if .0), inv .6)
 
 sub-left : tie.Need-sub-left Inv-loop μ-loop
 sub-left c = omega (arith, ready (at-if (c .before .before .before .before .before .before .before .before .before .before)) .0)
@@ -78,6 +79,7 @@ loop-again c =
       c .before .buffer .given ∙ inv .3,
       marking-next _ _ _ _ _ _ _ _ (inv .4) (turn .0) (turn .1) _ _ _ _ (at-call .mark-call .ensures .0),
       at-call .mark-call .ensures .1,
+      at-call .mark-call .ensures .2,
     )
 
 same-length : tie.Need-same-length Inv-loop μ-loop
@@ -98,7 +100,7 @@ same-length-5 c = c .before .before .loop .inv .3
 returns : tie.Need-returns Inv-loop μ-loop
 returns c =
     let inv = c .before .before .loop .inv in
-    (marking-end _ _ _ _ _ _ _ _ (inv .4) (sym (c .before .is-ready .ensures) ∙ c .if1 .left), inv .5)
+    (marking-end _ _ _ _ _ _ _ _ (inv .4) (sym (c .before .is-ready .ensures) ∙ c .if1 .left), inv .5, inv .6)
 
 pub mark-spec : {M : Type 1} → statement M
 mark-spec =

@@ -1,7 +1,8 @@
 -- `frame_in` meets its contract. Assumes nothing.
 use Rattle.octets.proofs.Numbers.{take-rest}
-use Rattle.marker_session.specs.Lines.{frameIn}
+use Rattle.marker_session.specs.Lines.{headBytes, frameIn}
 use borrow.Author.Needs.{needs}
+use Rattle.frame_table.specs.Table.{width}
 use Rattle.marker_session.proofs.record.frame_in.Statement.{statement}
 use Rattle.marker_session.proofs.record.frame_in.Tie as tie
 
@@ -9,9 +10,11 @@ size-of-requires : tie.Need-size-of-requires
 size-of-requires c κs = search needs
 
 sub-front : tie.Need-sub-front
+unfolding width
 sub-front c = search needs
 
 part-front-start : tie.Need-part-front-start
+unfolding width
 part-front-start c = search needs
 
 part-front-end : tie.Need-part-front-end
@@ -21,10 +24,10 @@ front-requires : tie.Need-front-requires
 front-requires c κs = tt
 
 returns : tie.Need-returns
-unfolding frameIn
+unfolding frameIn width
 returns c =
     let s = c .before .before .before .before .args .s .now in
-    rw (← c .before .before .size-of .ensures, ← take-rest s 6) (c .front .ensures)
+    rw (← c .before .before .size-of .ensures, ← take-rest s headBytes) (c .front .ensures)
 
 pub frame-in-spec : {M : Type 1} → statement M
 frame-in-spec =

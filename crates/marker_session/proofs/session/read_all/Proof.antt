@@ -2,7 +2,9 @@
 use mathlib.Core.Path.{_≡_, refl, _∙_}
 use native.Mathlib.Omega.{arith}
 use lib.ListN.{length}
+use Rattle.frame_table.specs.Table.{width}
 use Rattle.bank_steps.specs.Lent.{lent}
+use Rattle.marker_session.specs.Marking.{Clocked}
 use Rattle.marker_session.specs.Session.{ReadFrom, startedWith}
 use Rattle.marker_session.proofs.Parts.{reads-begin, reads-next}
 use Rattle.marker_session.proofs.session.read_all.Statement.{statement}
@@ -13,20 +15,24 @@ Inv-loop input₀ output₀ rows₀ orders₀ mailboxes₀ buffer₀ t₀ input 
     (length input ≡ length input₀) × (length output ≡ length output₀) × (length rows ≡ length rows₀)
     × (length orders ≡ length orders₀) × (length mailboxes ≡ length mailboxes₀) × (length buffer ≡ length buffer₀)
     × ReadFrom (startedWith (lent rows₀ orders₀ mailboxes₀) buffer₀) t input (lent rows orders mailboxes) buffer
+    × Clocked rows
 
 abbrev μ-loop : tie.MeasureT-loop
 μ-loop input₀ output₀ rows₀ orders₀ mailboxes₀ buffer₀ t₀ input output rows orders mailboxes buffer t = t .reads
 
 loop-holds : tie.Need-loop-holds Inv-loop μ-loop
-loop-holds c = (refl, refl, refl, refl, refl, refl, reads-begin _ _ _ _ refl refl)
+loop-holds c =
+    let start = c .before .before .before .before .before .before in
+    (refl, refl, refl, refl, refl, refl, reads-begin _ _ _ _ refl refl, start .pre .1)
 
 read-on-requires : tie.Need-read-on-requires Inv-loop μ-loop
+unfolding width
 read-on-requires c κs =
     let turn = c .before .before .before .before .before .before in
     let loop = turn .before .before in
     let inv = loop .loop .inv in
     let start = loop .before .before .before .before .before .before .before in
-    (turn .if1 .taken, inv .6 .held, omega (arith, inv .0, inv .1, start .pre))
+    (turn .if1 .taken, inv .6 .held, omega (arith, inv .0, inv .1, start .pre .0), inv .7)
 
 loop-less : tie.Need-loop-less Inv-loop μ-loop
 loop-less c = c .before .before .before .before .before .before .before .before .before .before .before .before .read-on .ensures .0
@@ -47,7 +53,8 @@ loop-again c =
       orders-back .orders .given ∙ inv .3,
       mailboxes-back .mailboxes .given ∙ inv .4,
       buffer-back .buffer .given ∙ inv .5,
-      reads-next _ _ _ _ _ _ _ _ _ (inv .6) (at-call .read-on .ensures .1),
+      reads-next _ _ _ _ _ _ _ _ _ (inv .6) (at-call .read-on .ensures .2),
+      at-call .read-on .ensures .1,
     )
 
 same-length : tie.Need-same-length Inv-loop μ-loop

@@ -36,7 +36,7 @@ slice-aggregate-mark : tie.Need-slice-aggregate-mark
 slice-aggregate-mark c = sym (length-take-le _ _ (end-fits (c .before .before)))
 
 mark-requires : tie.Need-mark-requires
-mark-requires c κs = tt
+mark-requires c κs = at-start (c .before .before .before .before .before .before .before) .pre .3
 
 write-lines-requires : tie.Need-write-lines-requires
 write-lines-requires c κs = at-start (at-input (at-mark c)) .pre .0
@@ -71,6 +71,7 @@ returns c =
     let read = input .before .read-in in
     let a = start .args in (
       keep .before .before .write-lines .ensures,
+      mark .mark .ensures .2,
       read-part (a .t) (a .input .now) (lent (a .rows .now) (a .orders .now) (a .mailboxes .now)) (a .buffer .now)
           (a .output .now) (read .last .0) (read .result)
           (input .input .given) (start .pre .1) (start .pre .2) (read .ensures .0) (read .ensures .1)

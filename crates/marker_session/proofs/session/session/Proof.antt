@@ -5,9 +5,11 @@ use native.Mathlib.Omega.{arith}
 use lib.ListN.{length, replicate, length-replicate}
 use Rattle.bank_state.specs.Limits.{storeBytes, replyRoom}
 use Rattle.bank_rows.specs.Layout.{stateSize}
+use Rattle.frame_table.specs.Table.{width}
 use Rattle.marker_session.specs.Lines.{headBytes}
 use Rattle.marker_session.specs.Marking.{linesIn}
 use Rattle.marker_session.specs.Session.{HasRoom, inputBytes, outputBytes}
+use Rattle.marker_session.proofs.Clock.{clocked-fresh}
 use Rattle.marker_session.proofs.Parts.{session-of}
 use Rattle.marker_session.proofs.session.session.Statement.{statement}
 use Rattle.marker_session.proofs.session.session.Tie as tie
@@ -16,12 +18,15 @@ zeros : (n : ℕ) → n ≡ length {A = ℕ} (replicate n 0)
 zeros n = sym (length-replicate {A = ℕ} n 0)
 
 has-room : (n m : ℕ) → n < headBytes * (linesIn m + 1) → HasRoom (replicate n 0) (replicate m 0)
+unfolding width
 has-room n m h = omega (arith, zeros n, zeros m)
 
 slice-aggregate-print-all : tie.Need-slice-aggregate-print-all
+unfolding width
 slice-aggregate-print-all c = zeros inputBytes
 
 slice-aggregate-print-all-2 : tie.Need-slice-aggregate-print-all-2
+unfolding width
 slice-aggregate-print-all-2 c = zeros outputBytes
 
 slice-aggregate-print-all-3 : tie.Need-slice-aggregate-print-all-3
@@ -37,7 +42,8 @@ slice-aggregate-print-all-6 : tie.Need-slice-aggregate-print-all-6
 slice-aggregate-print-all-6 c = zeros replyRoom
 
 print-all-requires : tie.Need-print-all-requires
-print-all-requires c κs = (has-room inputBytes outputBytes (omega arith), sym (zeros stateSize))
+unfolding width
+print-all-requires c κs = (has-room inputBytes outputBytes (omega arith), clocked-fresh)
 
 returns : tie.Need-returns
 returns c = session-of _ _ _ _ (c .before .before .before .before .before .before .print-all .ensures)

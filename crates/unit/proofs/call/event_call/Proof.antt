@@ -19,19 +19,19 @@ returns-3 c =
     let at-told = at-reply .before .before .before in
     let at-body = at-told .before .before in
     let told = at-told .enum-told3 .given .1 in
-    rw (told, ← rw told at (at-body .body-of .ensures), ← at-body .before .time-at .ensures) (at-reply .reply .ensures)
+    rw (told, ← rw told at (at-body .body-of .ensures), ← at-body .before .number-at .ensures) (at-reply .reply .ensures)
 
 returns-4 : tie.Need-returns-4
 returns-4 c =
     let at-no-reply = c .before .before .before .before in
     let at-told = at-no-reply .before .before .before in
-    rw (at-told .enum-told4 .given .1, ← at-told .before .before .before .time-at .ensures) (at-no-reply .no-reply .ensures)
+    rw (at-told .enum-told4 .given .1, ← at-told .before .before .before .number-at .ensures) (at-no-reply .no-reply .ensures)
 
 pub event-call-spec : {M : Type 1} → statement M
 event-call-spec =
     tie.close
     (tie.spec
-    (λ c κs. tt)
+    (λ c κs. search needs)
     (λ c κs. tt)
     (λ c. search needs)
     (λ c κs. tt)

@@ -14,7 +14,7 @@ returns c =
     rw (
       c .frame-answer .ensures,
       at-journal .with-journal .ensures,
-      ← at-body .before .before .time-at .ensures,
+      ← at-body .before .before .number-at .ensures,
       ← at-body .before .bytes-at .ensures,
       ← at-body .body-of .ensures,
       ← at-frame .frame-held .ensures,
@@ -24,7 +24,7 @@ pub frame-call-spec : {M : Type 1} → statement M
 frame-call-spec =
     tie.close
     (tie.spec
-    (λ c κs. tt)
+    (λ c κs. search needs)
     (λ c κs. tt)
     (λ c κs. tt)
     (λ c κs. tt)

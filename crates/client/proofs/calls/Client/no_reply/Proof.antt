@@ -1,10 +1,9 @@
 -- The ruling comes first: a call that is given a number returns at once, and an admitted one finds the buffers right.
 -- Assumes nothing.
-use mathlib.Core.List.{[]}
 use mathlib.Core.Logic.{inr}
 use mathlib.Core.Path.{sym, _∙_}
 use Rattle.client.specs.Calls.{noReplyCall}
-use Rattle.client_run.specs.Run.{lentOf, lengthsOf}
+use Rattle.client_run.specs.Run.{lentOf}
 use Rattle.client_rules.proofs.Accepted.{admitted}
 use borrow.Author.Needs.{needs}
 use Rattle.client.proofs.calls.Client.no_reply.Statement.{statement}
@@ -37,7 +36,7 @@ carry-out-requires c κs =
     let t = decided .before in
     let ruled = t .before .before in
     let a = ruled .before .before .before .before .before .args in
-    let known = admitted (a .self .run) (lengthsOf (lentOf 0 [] (a .payload .now) (a .file .now) (a .request .now)))
+    let known = admitted (a .self .run) (lentOf (a .time) (a .nonce) (a .payload .now) (a .file .now) (a .request .now))
     (sym (ruled .run-ruling .ensures) ∙ t .enum-told .given .1) in
     (inr (decided .on-no-reply .ensures), known .0, known .1)
 

@@ -1,9 +1,8 @@
 -- The ruling comes first: a call that is given a number returns at once, and an admitted one finds the buffers right.
 -- Assumes nothing.
-use mathlib.Core.List.{[]}
 use mathlib.Core.Path.{sym, _∙_}
 use Rattle.client.specs.Calls.{replyCall}
-use Rattle.client_run.specs.Run.{lentOf, lengthsOf}
+use Rattle.client_run.specs.Run.{lentOf}
 use Rattle.client_rules.proofs.Accepted.{admitted}
 use borrow.Author.Needs.{needs}
 use Rattle.client.proofs.calls.Client.reply.Statement.{statement}
@@ -26,7 +25,7 @@ take-reply-requires c κs =
     let t = c .before .before in
     let ruled = t .before .before in
     let a = ruled .before .before .before .before .before .before .args in
-    admitted (a .self .run) (lengthsOf (lentOf 0 [] (a .payload .now) (a .file .now) (a .request .now)))
+    admitted (a .self .run) (lentOf (a .time) (a .nonce) (a .payload .now) (a .file .now) (a .request .now))
     (sym (ruled .run-ruling .ensures) ∙ t .enum-told .given .1)
 
 returns : tie.Need-returns

@@ -3,8 +3,8 @@ use Prim.Native.Nat.{ℕ, _-_, _%_}
 use mathlib.Core.Path.{_≡_, _∙_}
 use lib.ListN.{length, length-set, length-replicate}
 use borrow.Author.Needs.{needs}
-use Rattle.exercises.proofs.example_text.Statement.{statement}
-use Rattle.exercises.proofs.example_text.Tie as tie
+use Rattle.exercises.proofs.record.example_text.Statement.{statement}
+use Rattle.exercises.proofs.record.example_text.Tie as tie
 
 abbrev Inv-loop : tie.InvT-loop
 Inv-loop text₀ i₀ text i = length text ≡ 1024

@@ -1,0 +1,47 @@
+-- The third column (document 02, card 3): "the offset of each readable opening answered by a frame, timestamp minus
+-- clock, as a signed number of milliseconds"; "others a hyphen".
+use Prim.Native.Nat.{ℕ}
+use mathlib.Core.Bool.{Bool, true, false, cond}
+use mathlib.Core.List.{List, [], _∷_}
+use lib.IntN.{ℤ, pos, _-ℤ_}
+use Rattle.frame_table.specs.declared.table.Form.{Form}
+use Rattle.frame_table.specs.declared.table.Form.the-variants as form
+use Rattle.frame_table.specs.declared.table.RequestForm.{RequestForm}
+use Rattle.frame_table.specs.declared.table.RequestForm.the-variants as request
+use Rattle.frame_table.specs.Names as names
+use Rattle.frame_reader.specs.Reader.{readRequest}
+use Rattle.bank.specs.declared.call.FrameAnswer.{FrameAnswer}
+use Rattle.bank.specs.declared.call.FrameAnswer.the-variants.{Reply, WrongLength}
+use Rattle.print.specs.Text.{hyphen, signedDecimal, signedRoom}
+
+-- "timestamp minus clock": a difference of integers, exact on both sides of zero
+abbrev pub offsetOf : ℕ → ℕ → ℤ
+offsetOf timestamp clock = pos timestamp -ℤ pos clock
+
+-- the two opening forms
+abbrev pub opens : RequestForm → Bool
+opens request.UploadOpening = true
+opens request.DownloadOpening = true
+opens request.UploadTransfer = false
+opens request.DownloadTransfer = false
+opens request.Receipt = false
+
+abbrev pub isOpening : Form → Bool
+isOpening form.NoForm = false
+isOpening (form.Request x) = opens x
+isOpening (form.Reply x) = false
+
+-- "each readable opening answered by a frame", whatever the code
+abbrev pub showsOffset : FrameAnswer → Form → Bool
+showsOffset (Reply n) x = isOpening x
+showsOffset WrongLength x = false
+
+-- the column of a call that brought this frame and set this clock
+unfoldable pub offsetText : FrameAnswer → List ℕ → ℕ → List ℕ
+offsetText a frame clock =
+    let q = readRequest frame in
+    cond (showsOffset a (names.form q)) (signedDecimal (offsetOf (names.timestamp q) clock)) (hyphen ∷ [])
+
+-- the most bytes that it takes
+abbrev pub offsetRoom : ℕ
+offsetRoom = signedRoom

@@ -1,0 +1,77 @@
+// The offset of an opening: its timestamp less the clock, as a signed number.
+use bank::call::FrameAnswer;
+use frame_reader::reader::read_request;
+use frame_table::table::Form;
+use frame_table::table::RequestForm;
+use print::text::put_byte;
+use print::text::put_signed;
+ghost use mathlib.Core.Path.{_≡_};
+ghost use Prim.Native.Nat.{_+_, _≤_};
+ghost use lib.ListN.{length};
+ghost use Rattle.frame_table.specs.Table.{lastTime};
+ghost use Rattle.print.specs.Text.{Put};
+ghost use Rattle.marker_session.specs.Offset.{offsetOf, opens, isOpening, showsOffset, offsetText, offsetRoom};
+
+// The most bytes of an offset: a hyphen, and the digits of a number.
+pub const OFFSET_ROOM: usize = 1 + 20;
+
+// The timestamp minus the clock. Both are at most the last time, so that no difference wraps.
+fn offset(timestamp: u64, clock: u64) -> i64
+    requires { ⌜ (timestamp ≤ lastTime) × (clock ≤ lastTime) ⌝ }
+    ensures { λ r. ⌜ r ≡ offsetOf timestamp clock ⌝ }
+{
+    timestamp as i64 - clock as i64
+}
+
+// Whether the request form is one of an opening.
+fn opens(form: RequestForm) -> bool
+    ensures { λ r. ⌜ r ≡ opens form ⌝ }
+{
+    match form {
+        RequestForm::UploadOpening => true,
+        RequestForm::DownloadOpening => true,
+        RequestForm::UploadTransfer => false,
+        RequestForm::DownloadTransfer => false,
+        RequestForm::Receipt => false,
+    }
+}
+
+// Whether the form is one of an opening.
+fn is_opening(form: Form) -> bool
+    ensures { λ r. ⌜ r ≡ isOpening form ⌝ }
+{
+    match form {
+        Form::NoForm => false,
+        Form::Request(x) => opens(x),
+        Form::Reply(_) => false,
+    }
+}
+
+// Whether a call with this answer to a frame of this form shows an offset.
+fn shows_offset(answer: FrameAnswer, form: Form) -> bool
+    ensures { λ r. ⌜ r ≡ showsOffset answer form ⌝ }
+{
+    match answer {
+        FrameAnswer::Reply(_) => is_opening(form),
+        FrameAnswer::WrongLength => false,
+    }
+}
+
+// Writes the offset of the frame at this clock, or a hyphen where the call shows none.
+pub(crate) fn put_offset(
+    output: &mut [u8],
+    at: usize,
+    answer: FrameAnswer,
+    frame: &[u8],
+    clock: u64,
+) -> usize
+    requires { ⌜ (at + offsetRoom ≤ length (now output)) × (clock ≤ lastTime) ⌝ }
+    ensures { λ r. ⌜ Put (now (output .entry)) at (offsetText answer (now (frame .entry)) clock)
+        (now (output .exit)) r ⌝ }
+{
+    let q = read_request(frame);
+    if !shows_offset(answer, q.form()) {
+        return put_byte(output, at, b'-');
+    }
+    put_signed(output, at, offset(q.timestamp(), clock))
+}
