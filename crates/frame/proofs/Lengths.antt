@@ -39,6 +39,7 @@ use Rattle.frame_writer.specs.Writer.{
   fieldsWritable,
   writable,
   uploadOpeningLength,
+  downloadOpeningLength,
   requestRoom,
   replyRoom,
   smallestReply,
@@ -159,6 +160,10 @@ opening-tags : (n : ℕ) → formLength forms.UploadOpening n ≡ uploadOpeningL
 unfolding frameLength lengthFrom width
 opening-tags n = refl
 
+download-tags : (n : ℕ) → formLength forms.DownloadOpening n ≡ downloadOpeningLength
+unfolding frameLength lengthFrom width
+download-tags n = refl
+
 module _ (f : Fields) (d : List ℕ) (h : writable f d ≡ true) where
   -- a frame of a form is as long as the tables say of that form
   pub form-length : length (frameOf f d) ≡ formLength (form f) (length d)
@@ -174,3 +179,6 @@ module _ (f : Fields) (d : List ℕ) (h : writable f d ≡ true) where
 
   pub opening-length : form f ≡ forms.UploadOpening → length (frameOf f d) ≡ uploadOpeningLength
   opening-length e = form-length ∙ ap (λ (x : Form). formLength x (length d)) e ∙ opening-tags (length d)
+
+  pub download-length : form f ≡ forms.DownloadOpening → length (frameOf f d) ≡ downloadOpeningLength
+  download-length e = form-length ∙ ap (λ (x : Form). formLength x (length d)) e ∙ download-tags (length d)

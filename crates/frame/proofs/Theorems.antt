@@ -53,6 +53,7 @@ use Rattle.frame_writer.specs.Writer.{
   writeAnswer,
   writeBuffer,
   uploadOpeningLength,
+  downloadOpeningLength,
   requestRoom,
   replyRoom,
   smallestReply,
@@ -62,7 +63,7 @@ use Rattle.octets.proofs.Tests.{never}
 use Rattle.frame_table.proofs.Forms.{request-not-reply, reply-not-request, request-form, reply-form}
 use Rattle.frame_writer.proofs.Loops.{field-writable}
 use Rattle.frame.proofs.RoundTrip.{Sized, parse-frameOf, dataOf-frameOf, frameOf-parse, writable-parse, writable-at}
-use Rattle.frame.proofs.Lengths.{writable-parts, form-length, length-limit, length-least, opening-length}
+use Rattle.frame.proofs.Lengths.{writable-parts, form-length, length-limit, length-least, opening-length, download-length}
 use Rattle.frame_writer.proofs.Written.{written-front}
 use Rattle.frame.proofs.Parsed.{numberOf, Halves, InRow, field-in-row, read-halves, in-row, read-data}
 
@@ -254,6 +255,9 @@ module _ (f : Fields) (d : List ℕ) (h : writable f d ≡ true) where
 
   pub upload-opening-length : form f ≡ forms.UploadOpening → length (frameOf f d) ≡ uploadOpeningLength
   upload-opening-length = opening-length f d h
+
+  pub download-opening-length : form f ≡ forms.DownloadOpening → length (frameOf f d) ≡ downloadOpeningLength
+  download-opening-length = download-length f d h
 
   pub request-length : isRequestForm (form f) ≡ true → length d ≤ segmentBytes → length (frameOf f d) ≤ requestRoom
   request-length k n = rw k at (length-limit f d h n)

@@ -96,6 +96,10 @@ writtenNumber Refused = 1
 abbrev pub uploadOpeningLength : ℕ
 uploadOpeningLength = 57
 
+-- and, of card 3, download opening 52
+abbrev pub downloadOpeningLength : ℕ
+downloadOpeningLength = 52
+
 -- "largest request 303", with the 256 data bytes of a whole segment; "request buffer under 303"
 abbrev pub requestRoom : ℕ
 requestRoom = 303

@@ -1,8 +1,8 @@
 -- The offset is exact on both sides of zero, and of two times up to the last one none wraps. Assumes nothing.
-use Prim.Native.Nat.{ℕ, zero, suc, _+_, _≤_}
+use Prim.Native.Nat.{ℕ, zero, suc, _+_, _≤_, _<_}
 use mathlib.Core.Bool.{Bool, true, false}
 use mathlib.Core.List.{List, [], _∷_}
-use mathlib.Core.Path.{_≡_, refl, sym, ap, _∙_}
+use mathlib.Core.Path.{_≡_, refl, sym, ap, _∙_, subst}
 use native.Mathlib.Omega.{arith}
 use lib.Dec.{ltb}
 use lib.IntN.{pos, negsuc}
@@ -16,11 +16,13 @@ use Rattle.frame_table.specs.declared.fields.Fields.{Fields}
 use Rattle.frame_table.specs.declared.table.Form.{Form}
 use Rattle.frame_table.specs.declared.table.Form.the-variants as form
 use Rattle.frame_table.specs.declared.table.RequestForm.the-variants as request
-use Rattle.frame_table.specs.Table.{timestampTag, lastTime, has, tagsOf, isRequestForm}
+use Rattle.frame_table.specs.Table.{timestampTag, lastTime, width, has, tagsOf, isRequestForm}
 use Rattle.frame_table.proofs.Forms.{form-tags, request-form}
 use Rattle.frame_table.specs.Names as names
 use Rattle.frame_reader.specs.Reader.{readRequest}
-use Rattle.frame.proofs.Theorems.{request-time}
+use Rattle.frame_row.specs.Row.{dataOf}
+use Rattle.frame_writer.specs.Writer.{formLength, frameLength, lengthFrom, uploadOpeningLength}
+use Rattle.frame.proofs.Theorems.{request-time, request-written, request-writable, frame-length}
 use Rattle.print.specs.Text.{ascii, digitsIn, digitCountTo, digitCount, decimal, hyphen, signedDecimal}
 use Rattle.print.proofs.Signed.{signed-most}
 use Rattle.print.proofs.Texts.{cond-most}
@@ -95,6 +97,37 @@ module _ (a : FrameAnswer) (frame : List ℕ) (clock : ℕ) {q : Fields} {x : Fo
       let k = opening-timed (names.form r) (shown-opening a (names.form r) (sym at-form ∙ h)) in
       let tags = form-tags (r .tags) (names.phase r) (request-form (names.form r) (k .0)) in
       rw read (request-time frame b (k .0) (ap (λ (n : ℕ). has n timestampTag) tags ∙ k .1))
+
+-- ---- no opening is longer than an upload's
+
+opening-most : (x : Form) (n : ℕ) → isOpening x ≡ true → formLength x n ≤ uploadOpeningLength
+unfolding frameLength lengthFrom width
+opening-most form.NoForm n h = never h
+opening-most (form.Request request.UploadOpening) n h = omega arith
+opening-most (form.Request request.DownloadOpening) n h = omega arith
+opening-most (form.Request request.UploadTransfer) n h = never h
+opening-most (form.Request request.DownloadTransfer) n h = never h
+opening-most (form.Request request.Receipt) n h = never h
+opening-most (form.Reply x) n h = never h
+
+opening-short : (s : List ℕ) → Bytes s → isOpening (names.form (readRequest s)) ≡ true → length s ≤ uploadOpeningLength
+opening-short s b h =
+    let q = readRequest s in
+    let k = opening-timed (names.form q) h .0 in
+    let long = frame-length q (dataOf s) (request-writable s b k) in
+    let most = opening-most (names.form q) (length (dataOf s)) h in
+    subst (λ (l : List ℕ). length l ≤ uploadOpeningLength) (request-written s b k) (omega arith)
+
+long-by : (a : FrameAnswer) (s : List ℕ) (clock : ℕ) (shown : Bool) → showsOffset a (names.form (readRequest s)) ≡ shown
+    → Bytes s → uploadOpeningLength < length s → hyphen ∷ [] ≡ offsetText a s clock
+unfolding offsetText
+long-by a s clock false e b h = rw e
+long-by a s clock true e b h =
+    let short = opening-short s b (shown-opening a (names.form (readRequest s)) e) in absurd (omega arith)
+
+pub offset-long : (a : FrameAnswer) (s : List ℕ) (clock : ℕ) → Bytes s → uploadOpeningLength < length s
+    → hyphen ∷ [] ≡ offsetText a s clock
+offset-long a s clock = long-by a s clock (showsOffset a (names.form (readRequest s))) refl
 
 -- the same at two clocks that are one where the call is answered
 pub offset-same : (a : FrameAnswer) (frame : List ℕ) {c d : ℕ} → ((n : ℕ) → a ≡ Reply n → c ≡ d)

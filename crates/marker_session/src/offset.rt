@@ -12,6 +12,9 @@ ghost use Rattle.frame_table.specs.Table.{lastTime};
 ghost use Rattle.print.specs.Text.{Put};
 ghost use Rattle.marker_session.specs.Offset.{offsetOf, opens, isOpening, showsOffset, offsetText, offsetRoom};
 
+// The bytes of the longest opening.
+const LONGEST_OPENING: usize = 57;
+
 // The most bytes of an offset: a hyphen, and the digits of a number.
 pub const OFFSET_ROOM: usize = 1 + 20;
 
@@ -57,8 +60,8 @@ fn shows_offset(answer: FrameAnswer, form: Form) -> bool
     }
 }
 
-// Writes the offset of the frame at this clock, or a hyphen where the call shows none.
-pub(crate) fn put_offset(
+// Writes the offset of the frame at this clock, or a hyphen where the call shows none: the frame is read.
+fn put_read_offset(
     output: &mut [u8],
     at: usize,
     answer: FrameAnswer,
@@ -74,4 +77,22 @@ pub(crate) fn put_offset(
         return put_byte(output, at, b'-');
     }
     put_signed(output, at, offset(q.timestamp(), clock))
+}
+
+// The same; a frame longer than any opening is not read again.
+pub(crate) fn put_offset(
+    output: &mut [u8],
+    at: usize,
+    answer: FrameAnswer,
+    frame: &[u8],
+    clock: u64,
+) -> usize
+    requires { ⌜ (at + offsetRoom ≤ length (now output)) × (clock ≤ lastTime) ⌝ }
+    ensures { λ r. ⌜ Put (now (output .entry)) at (offsetText answer (now (frame .entry)) clock)
+        (now (output .exit)) r ⌝ }
+{
+    if LONGEST_OPENING < frame.len() {
+        return put_byte(output, at, b'-');
+    }
+    put_read_offset(output, at, answer, frame, clock)
 }
