@@ -3,15 +3,13 @@ ghost use mathlib.Core.Path.{_≡_};
 ghost use Prim.Native.Nat.{_<_};
 ghost use Rattle.message.specs.OrderNumbers.{character, letter, orderNumberOf};
 
-// The character of a base-36 digit.
+// The character of a base-36 digit, by arithmetic alone: the quotient is 0 for the ten digits and 1 for the letters,
+// which stand 7 further on.
 fn character(digit: u64) -> u64
     requires { ⌜ digit < 36 ⌝ }
     ensures { λ r. ⌜ r ≡ character digit ⌝ }
 {
-    if digit < 10 {
-        return 48 + digit;
-    }
-    55 + digit
+    48 + digit + 7 * ((digit + 26) / 36)
 }
 
 // The letter that counts A to Z.
