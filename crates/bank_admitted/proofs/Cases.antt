@@ -1,5 +1,5 @@
--- What a request comes to: its verdict, case by case, each with the tests that led there; its step is `stepBy` of the verdict. The other
--- proofs take these cases only.
+-- What a request comes to: its verdict, case by case, each with the tests that led there; its step is `stepBy` of the
+-- verdict. The other proofs take these cases only.
 use Prim.Native.Nat.{ℕ, _<_}
 use mathlib.Core.Bool.{true, false}
 use mathlib.Core.List.{List}
@@ -20,10 +20,9 @@ use Rattle.message.specs.declared.codes.ReturnCode.{ReturnCode}
 use Rattle.message.specs.declared.codes.ReturnCode.the-variants as code
 use Rattle.message.proofs.Verdicts.{by-test, and-false}
 use Rattle.bank_state.specs.declared.state.Download.{Download}
-use Rattle.bank_state.specs.declared.state.Place.{Place}
-use Rattle.bank_state.specs.Limits.{placeCount}
+use Rattle.bank_state.specs.Limits.{placeCount, seriesLimit}
 use Rattle.bank_state.specs.Search.{freePlace, isUpload, findUpload, isDownload, findDownload}
-use Rattle.bank_state.specs.State.{BankState, placeAt, downloadAt, fileLength}
+use Rattle.bank_state.specs.State.{BankState, placeAt, downloadAt, fileLength, seriesOf}
 use Rattle.bank_state.proofs.Rows.{first-passes}
 use Rattle.bank_verdicts.specs.declared.verdict.Direction.the-variants as direction
 use Rattle.bank_verdicts.specs.declared.verdict.TransactionRequest.{TransactionRequest}
@@ -59,12 +58,6 @@ use Rattle.bank_verdicts.proofs.Sound.{
   underrun,
   exceeded,
   DownloadSound,
-  delivered,
-  sentAgain,
-  downloadPoint,
-  cancelled,
-  confirmed,
-  declined,
   OpeningSound,
   judged-request,
   judged-opening,
@@ -114,8 +107,9 @@ pub data Happens (first : ℕ) (w : BankState) (q : Fields) (d : List ℕ) : Ver
   unreadable : Happens first w q d verdict.Unreadable
   refused : (c : ReturnCode) → cancels c ≡ false → Happens first w q d (verdict.Refused c)
   opensUpload : form q ≡ forms.UploadOpening → Readable q (length d) → Acceptable (w .bank) q → (segments q ≡ 0 → ⊥) →
-      freePlace (w .bank) < placeCount →
-      Happens first w q d (verdict.Of (transactionOf first (w .bank)) (action.Upload (up.Opened (w .bank .openings))))
+      freePlace (w .bank) < placeCount → seriesOf (subscriber q) (w .bank .series) < seriesLimit →
+      Happens first w q d
+      (verdict.Of (transactionOf first (w .bank)) (action.Upload (up.Opened (seriesOf (subscriber q) (w .bank .series)))))
   opensDownload : form q ≡ forms.DownloadOpening → Readable q (length d) → Acceptable (w .bank) q →
       (fileLength (subscriber q) (w .bank .files) ≡ 0 → ⊥) →
       Happens first w q d
@@ -175,7 +169,7 @@ module _ (first : ℕ) (w : BankState) (q : Fields) (d : List ℕ) (rowed : leng
   upload-happens : {v : Verdict} → form q ≡ forms.UploadOpening → Readable q (length d) →
       OpeningSound first (w .bank) q direction.Upload v → Comes v
   upload-happens f a (opening.refused d c e) = refused c e
-  upload-happens f a (opening.upload g n p) = opensUpload f a g n p
+  upload-happens f a (opening.upload g n p below) = opensUpload f a g n p below
 
   download-happens : {v : Verdict} → form q ≡ forms.DownloadOpening → Readable q (length d) →
       OpeningSound first (w .bank) q direction.Download v → Comes v

@@ -31,6 +31,7 @@ use Rattle.bank_state.proofs.Drops.{
 }
 use Rattle.bank_admitted.specs.State.{mailboxFile, Sizes, StateHolds, NoneIdle}
 use Rattle.bank_admitted.proofs.Rows.{count-set-le}
+use Rattle.bank_admitted.proofs.Series.{further-same}
 use Rattle.bank_admitted.proofs.Nonces.{nonces-later}
 use Rattle.bank_admitted.proofs.PlaceChange.{place-change}
 use Rattle.bank_admitted.proofs.Downloads.{ended-step}
@@ -51,7 +52,7 @@ at-clock c w l v =
 pub freed-keeps : (i : ℕ) (w : BankState) → i < placeCount → StateHolds w → StateHolds (freed i w)
 unfolding freed openCount openCountOf
 freed-keeps i w inside v =
-    place-change w i noPlace (w .bank .openings) (w .bank .nonces) (zeroed (w .orders) i) v (record {
+    place-change w i noPlace (w .bank .openings) (w .bank .series) (w .bank .nonces) (zeroed (w .orders) i) v (record {
       bytes = replicate fileBytes 0;
       inside = inside;
       stored = length-zeroed (w .orders) i (v .sizes .orders) inside ∙ v .sizes .orders;
@@ -61,7 +62,11 @@ freed-keeps i w inside v =
       memory = v .nonces;
       grow = omega arith;
       numbers = v .numbers;
+      counters = v .sizes .series;
+      further = further-same (w .bank .series);
+      seriesHold = v .series;
       new = record { empty = refl; zeros = refl };
+      order = λ f. never (sym f);
       apartPlace = λ j a n f. never (sym f);
       apartDownload = λ j f. never (sym f);
       openAll = let m = count-set-le (λ (r : Place). isOpen (r .used)) (w .bank .places) i noPlace noPlace (λ z. never z) in omega
@@ -94,6 +99,7 @@ sized s = record {
   downloads = s .downloads;
   nonces = s .nonces;
   files = s .files;
+  series = s .series;
   orders = s .orders;
   mailboxes = s .mailboxes;
 }

@@ -3,6 +3,7 @@ use Prim.Native.Nat.{ℕ, suc, _≤_, _<_}
 use mathlib.Core.Bool.{true, false}
 use mathlib.Core.List.{List}
 use mathlib.Core.Path.{_≡_}
+use native.Mathlib.Omega.{arith}
 use lib.ListN.{length, getD}
 use Rattle.bank_state.specs.declared.state.Download.{Download}
 use Rattle.bank_state.specs.Limits.{placeCount, storeBytes, nonceCount, maxOpen, maxOpenPerSubscriber, maxOpenings}
@@ -17,7 +18,15 @@ use Rattle.bank_admitted.proofs.Parts.{place-later}
 abbrev pub besides : ℕ → ℕ → List Download → List Nonce → List ℕ → List ℕ → BankState → BankState
 besides clock openings downloads nonces files mailboxes w =
     bankState
-    (record { clock = clock; openings = openings; places = w .bank .places; downloads = downloads; nonces = nonces; files = files })
+    (record {
+      clock = clock;
+      openings = openings;
+      series = w .bank .series;
+      places = w .bank .places;
+      downloads = downloads;
+      nonces = nonces;
+      files = files;
+    })
     (w .orders)
     mailboxes
 
@@ -53,10 +62,13 @@ module _ (w : BankState) (c o : ℕ) (downs : List Download) (nonces : List Nonc
       downloads = k .listed;
       nonces = k .remembered;
       files = k .filed;
+      series = v .sizes .series;
       orders = v .sizes .orders;
       mailboxes = k .stored;
     };
     numbers = k .numbers;
+    series = record { limited = v .series .limited; counted = omega (arith, v .series .counted, k .grow) };
+    orders = v .orders;
     places = λ i a. place-later (w .bank .clock) c (w .bank .openings) o (k .later) (k .grow) (placeAt (w .bank) i) (partAt (w .orders) i)
         (placeAt (w .bank) i .used) (v .places i a);
     downloads = k .downloads;

@@ -5,22 +5,19 @@ use mathlib.Core.List.{List, [], _∷_, map, Memᴰ·of-map as of-map, List·Mem
 use mathlib.Core.Path.{_≡_, refl, ap, _∙_, subst}
 use native.Mathlib.Omega.{arith}
 use lib.ListN.{length, getD}
-use Rattle.octets.proofs.Tests.{never}
 use Rattle.bank_state.specs.declared.state.Place.{Place}
-use Rattle.bank_state.specs.declared.state.Use.{Use}
-use Rattle.bank_state.specs.declared.state.Use.the-variants.{Free, Open, Booked}
 use Rattle.bank_state.specs.Clock.{isIdle, advanced}
 use Rattle.bank_state.specs.Limits.{placeCount}
 use Rattle.bank_state.specs.Rows.{countOf, keep}
 use Rattle.bank_state.specs.Search.{isOpen}
 use Rattle.bank_state.specs.State.{BankState, noPlace, placeAt}
-use Rattle.bank_state.specs.Store.{partAt}
 use Rattle.bank_state.proofs.Drops.{isIdlePlace, Sized, advanced-sized, Spot, freeSpot, spotAt, advanced-spot}
 use Rattle.journal.specs.declared.event.Entry.{Entry}
 use Rattle.bank_events.specs.Entries.{isIdleUpload, droppedUploads, dropEntry}
 use Rattle.bank_events.proofs.Dropped.{length-by, in-dropped, dropped-place}
-use Rattle.bank_admitted.specs.State.{Sizes, UsedAs, PlaceHolds, StateHolds}
+use Rattle.bank_admitted.specs.State.{StateHolds}
 use Rattle.bank_admitted.specs.Session.{openUploads}
+use Rattle.bank_admitted.proofs.Held.{open-in-use, place-used}
 use Rattle.bank_admitted.proofs.JournalKept.{EntryHolds}
 
 -- a place after the clock is free, or as it was and not idle
@@ -95,28 +92,17 @@ drops-counted time w s =
 -- ---- what is entered of them
 
 module _ (w : BankState) (v : StateHolds w) where
-  -- an open upload has a subscriber, and the number of an accepted opening
-  pub open-used : (i : ℕ) → i < placeCount → isOpen (placeAt (w .bank) i .used) ≡ true →
-      UsedAs (w .bank .openings) (placeAt (w .bank) i) (partAt (w .orders) i)
-  open-used i h = at (placeAt (w .bank) i .used) (v .places i h)
-    where
-      at : (u : Use) →
-          PlaceHolds u (w .bank .clock) (w .bank .openings) (placeAt (w .bank) i) (partAt (w .orders) i) →
-          isOpen u ≡ true →
-          UsedAs (w .bank .openings) (placeAt (w .bank) i) (partAt (w .orders) i)
-      at Free x e = never e
-      at Open x e = x .place
-      at Booked x e = never e
-
   pub drops-entered : (clock : ℕ) (e : Entry) → In e (map dropEntry (droppedUploads clock (w .bank))) →
-      EntryHolds (w .bank .openings) e
+      EntryHolds (w .bank .series) e
   drops-entered clock e m =
       let x = of-map dropEntry (droppedUploads clock (w .bank)) m in
       let k = dropped-place clock (w .bank) (x .1) in
       let o = in-dropped clock (w .bank) (x .1) .1 in
       let same : placeAt (w .bank) (k .0) ≡ x .0 = k .1 .1 in
       let long = v .sizes .places in
-      let u = open-used (k .0) (let l = k .1 .0 in omega arith) (ap (λ (p : Place). isOpen (p .used)) same ∙ o) in
-      subst (EntryHolds (w .bank .openings)) (x .2)
-      (subst (λ (p : Place). EntryHolds (w .bank .openings) (dropEntry p)) same
-      (record { known = u .known; most = u .most; counted = u .numbered; happened = refl }))
+      let inside : k .0 < placeCount = (let l = k .1 .0 in omega arith) in
+      let used = open-in-use (placeAt (w .bank) (k .0) .used) (ap (λ (p : Place). isOpen (p .used)) same ∙ o) in
+      let u = place-used w v (k .0) inside used in
+      subst (EntryHolds (w .bank .series)) (x .2)
+      (subst (λ (p : Place). EntryHolds (w .bank .series) (dropEntry p)) same
+      (record { known = u .known; most = u .most; typed = refl; counted = v .orders (k .0) inside used; happened = refl }))

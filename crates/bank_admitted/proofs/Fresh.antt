@@ -20,7 +20,7 @@ use Rattle.bank_state.specs.Search.{isFree, isOpen, openCount, openCountOf}
 use Rattle.bank_state.specs.State.{BankState, Nonce, bankState, noPlace, noDownload, noNonce, fresh, placeAt, downloadAt}
 use Rattle.bank_state.specs.Store.{partAt}
 use Rattle.bank_admitted.specs.Packed.{rest}
-use Rattle.bank_admitted.specs.State.{end, StateHolds, NoneIdle}
+use Rattle.bank_admitted.specs.State.{end, total, StateHolds, NoneIdle}
 use Rattle.bank_admitted.specs.Session.{SessionHolds}
 use Rattle.bank_admitted.proofs.Rows.{getD-free, free-replicate}
 
@@ -60,17 +60,20 @@ unfolding fresh
 fresh-nonce = getD-free noNonce nonceCount
 
 pub fresh-state : StateHolds freshState
-unfolding fresh openCount openCountOf countOf
+unfolding fresh total openCount openCountOf countOf
 fresh-state = record {
   sizes = record {
     places = refl;
     downloads = refl;
     nonces = refl;
     files = refl;
+    series = refl;
     orders = length-replicate {A = ℕ} storeBytes 0;
     mailboxes = length-replicate {A = ℕ} storeBytes 0;
   };
   numbers = omega arith;
+  series = record { limited = λ i _. rw (getD-free {A = ℕ} 0 placeCount i) (omega arith); counted = omega arith };
+  orders = λ i a f. never (sym f ∙ ap (λ (p : Place). isFree (p .used)) (fresh-place i));
   places = λ i a. rw (fresh-place i) (record { empty = refl; zeros = zeros-part i a });
   downloads = λ j. rw (fresh-download j) refl;
   mailboxesHold = λ i a. rw (getD-replicate {A = ℕ} placeCount i 0 0 a) (record { room = omega arith; zeros = zeros-part i a });
@@ -104,7 +107,6 @@ fresh-holds = record {
     each = λ i u. absurd (nonce-unused i u);
     apart = λ i j u. absurd (nonce-unused i u);
   };
-  numbered = λ i _. rw (fresh-place i) refl;
   places = λ i _. rw (fresh-place i) (record { high = omega arith; low = omega arith });
   downloads = λ i. rw (fresh-download i) (record { high = omega arith; low = omega arith });
   journal = record {

@@ -8,15 +8,15 @@ use lib.ListN.{length, getD, length-take}
 use Rattle.octets.proofs.Tests.{never}
 use Rattle.message.specs.Limits.{subscribers, fileBytes}
 use Rattle.bank_state.specs.declared.state.Download.{Download}
-use Rattle.bank_state.specs.declared.state.Place.{Place}
 use Rattle.bank_state.specs.declared.state.Use.{Use}
 use Rattle.bank_state.specs.declared.state.Use.the-variants.{Free, Open, Booked}
-use Rattle.bank_state.specs.Limits.{placeCount, storeBytes}
-use Rattle.bank_state.specs.Search.{isFree}
+use Rattle.bank_state.specs.Limits.{placeCount, storeBytes, seriesLimit}
+use Rattle.bank_state.specs.Search.{isFree, isOpen}
 use Rattle.bank_state.specs.State.{BankState, noDownload, placeAt, downloadAt, fileLength}
 use Rattle.bank_state.specs.Store.{partAt, fileOf}
-use Rattle.bank_admitted.specs.State.{mailboxFile, PlaceHolds, OpenRecord, DownloadHolds, StateHolds}
+use Rattle.bank_admitted.specs.State.{mailboxFile, UsedAs, PlaceHolds, OpenRecord, DownloadHolds, StateHolds}
 use Rattle.bank_admitted.proofs.Rows.{packed-rises}
+use Rattle.bank_admitted.proofs.Series.{series-counted, series-limited}
 use Rattle.bank_admitted.proofs.Stores.{length-part}
 
 -- the file of a mailbox has the length that is kept for it
@@ -30,20 +30,39 @@ kept-long w long room s a b =
     let m = room (s - 1) inside in
     simp length-take (omega arith)
 
+-- an open upload is a place in use
+pub open-in-use : (u : Use) → isOpen u ≡ true → isFree u ≡ false
+open-in-use Free e = never e
+open-in-use Open e = refl
+open-in-use Booked e = never e
+
 module _ (w : BankState) (v : StateHolds w) where
-  -- a place in use has a transaction and an order number of an accepted opening
+  pub place-used : (i : ℕ) → i < placeCount → isFree (placeAt (w .bank) i .used) ≡ false →
+      UsedAs (w .bank .openings) (placeAt (w .bank) i) (partAt (w .orders) i)
+  place-used i a = at (placeAt (w .bank) i .used) (v .places i a)
+    where
+      at : (u : Use) → PlaceHolds u (w .bank .clock) (w .bank .openings) (placeAt (w .bank) i) (partAt (w .orders) i) →
+          isFree u ≡ false → UsedAs (w .bank .openings) (placeAt (w .bank) i) (partAt (w .orders) i)
+      at Free s e = never (sym e)
+      at Open s e = s .place
+      at Booked s e = s .place
+
+  -- a place in use has a running number and an order number below the number of openings
   pub place-counted : (i : ℕ) → i < placeCount → isFree (placeAt (w .bank) i .used) ≡ false →
       (placeAt (w .bank) i .transaction .low < w .bank .openings) × (placeAt (w .bank) i .number < w .bank .openings)
-  place-counted i a = at (placeAt (w .bank) i .used) (v .places i a)
-    where
-      Is : Place → Type 0
-      Is p = (p .transaction .low < w .bank .openings) × (p .number < w .bank .openings)
+  place-counted i a f =
+      let m = series-counted (v .series) (placeAt (w .bank) i .subscriber) in
+      let n = v .orders i a f in
+      (place-used i a f .counted, omega arith)
 
-      at : (u : Use) → PlaceHolds u (w .bank .clock) (w .bank .openings) (placeAt (w .bank) i) (partAt (w .orders) i) →
-          isFree u ≡ false → Is (placeAt (w .bank) i)
-      at Free s e = never (sym e)
-      at Open s e = (s .place .counted, s .place .numbered)
-      at Booked s e = (s .place .counted, s .place .numbered)
+  -- "The limit of 1,213,056 ... holds per series"
+  pub order-limited : (i : ℕ) → i < placeCount → isFree (placeAt (w .bank) i .used) ≡ false →
+      placeAt (w .bank) i .number < seriesLimit
+  order-limited i a f =
+      let u = place-used i a f in
+      let m = series-limited (v .series) (placeAt (w .bank) i .subscriber) (u .known) (u .most) in
+      let n = v .orders i a f in
+      omega arith
 
   pub file-long : (s : ℕ) → 1 ≤ s → s ≤ subscribers → length (mailboxFile w s) ≡ fileLength s (w .bank .files)
   file-long = kept-long w (v .sizes .mailboxes) (λ i l. v .mailboxesHold i l .room)

@@ -1,4 +1,4 @@
--- The journal stays one that a session may hold: at a later clock after more openings, and with a call's events entered.
+-- The journal stays one that a session may hold: at a later clock and further series, and with a call's events entered.
 use Prim.Native.Nat.{ℕ, suc, _+_, _-_, _≤_, _<_}
 use mathlib.Core.Bool.{true}
 use mathlib.Core.List.{List, List·Memᴰ as In}
@@ -7,7 +7,8 @@ use mathlib.Core.Path.{_≡_, sym, ap, _∙_, subst}
 use native.Mathlib.Decide.{decLt}
 use native.Mathlib.Omega.{arith}
 use lib.ListN.{length, getD, List·getD-eq-default}
-use Rattle.message.specs.Limits.{subscribers}
+use Rattle.message.specs.Limits.{subscribers, ful}
+use Rattle.bank_state.specs.State.{seriesOf}
 use Rattle.journal.specs.declared.event.Entry.{Entry}
 use Rattle.journal.specs.declared.event.Event.{Event}
 use Rattle.journal.specs.Events.{recordCount, noEvent, noEntry, eventOf, eventsFrom}
@@ -20,30 +21,42 @@ use Rattle.bank_events.specs.Entries.{isEvent}
 use Rattle.bank_events.proofs.Rising.{in-at}
 use Rattle.bank.specs.Journal.{withEntries}
 use Rattle.bank_admitted.specs.Session.{EventHolds, JournalHolds, recordAt}
+use Rattle.bank_admitted.proofs.Series.{Further}
 
--- what a call enters, after so many openings
-pub record EntryHolds (openings : ℕ) (e : Entry) : Type 0 where
+-- what a call enters, with the series come so far
+pub record EntryHolds (series : List ℕ) (e : Entry) : Type 0 where
   pub known : 1 ≤ e .subscriber
   pub most : e .subscriber ≤ subscribers
-  pub counted : e .order < openings
+  pub typed : e .«order_type» ≡ ful
+  pub counted : e .order < seriesOf (e .subscriber) series
   pub happened : isEvent (e .kind) ≡ true
 
-pub journal-later : {c c′ n n′ : ℕ} {j : Journal} → c ≤ c′ → n ≤ n′ → JournalHolds c n j → JournalHolds c′ n′ j
-journal-later {c} {c′} {n} {n′} {j} h k v = record {
+pub entry-later : {l l′ : List ℕ} {e : Entry} → Further l l′ → EntryHolds l e → EntryHolds l′ e
+entry-later {e = e} k h = record {
+  known = h .known;
+  most = h .most;
+  typed = h .typed;
+  counted = omega (arith, h .counted, k (e .subscriber));
+  happened = h .happened;
+}
+
+pub journal-later : {c c′ : ℕ} {l l′ : List ℕ} {j : Journal} → c ≤ c′ → Further l l′ → JournalHolds c l j → JournalHolds c′ l′ j
+journal-later {c} {c′} {l} {l′} {j} h k v = record {
   long = v .long;
-  each = λ i l. later (v .each i l);
+  each = λ i m. later (v .each i m);
   numbered = v .numbered;
   rising = v .rising;
   unused = v .unused;
 }
   where
-    later : {e : Event} → EventHolds c n e → EventHolds c′ n′ e
-    later e = record {
-      current = omega (arith, e .current);
-      known = e .known;
-      most = e .most;
-      counted = omega (arith, e .counted);
-      happened = e .happened;
+    later : {e : Event} → EventHolds c l e → EventHolds c′ l′ e
+    later {e} x = record {
+      current = omega (arith, x .current);
+      known = x .known;
+      most = x .most;
+      typed = x .typed;
+      counted = omega (arith, x .counted, k (e .subscriber));
+      happened = x .happened;
     }
 
 -- as many records are in use as there were events, or all
@@ -57,8 +70,8 @@ used-is n = at (decLt n recordCount)
     at (yes h) = inl (omega arith, used-below n (omega arith))
     at (no h) = inr (omega arith, used-above n (omega arith))
 
-module _ (clock openings : ℕ) (es : List Entry) (j : Journal) (v : JournalHolds clock openings j)
-    (new : (e : Entry) → In e es → EntryHolds openings e) where
+module _ (clock : ℕ) (series : List ℕ) (es : List Entry) (j : Journal) (v : JournalHolds clock series j)
+    (new : (e : Entry) → In e es → EntryHolds series e) where
   abbrev n : ℕ
   n = j .events
 
@@ -114,12 +127,13 @@ module _ (clock openings : ℕ) (es : List Entry) (j : Journal) (v : JournalHold
           ∙ new-at n events (j .row) (v .long) s moved i k e (omega (arith, events-length n clock es)))
           (fresh k e m)
 
-  entered-each : (i : ℕ) → i < usedAfter (n + c) → EventHolds clock openings (recordAt after i)
-  entered-each i h = in-use (EventHolds clock openings) i h (v .each (i + s))
+  entered-each : (i : ℕ) → i < usedAfter (n + c) → EventHolds clock series (recordAt after i)
+  entered-each i h = in-use (EventHolds clock series) i h (v .each (i + s))
       (λ k e l. let x = new (getD es k noEntry) (in-at es noEntry k l) in record {
         current = omega arith;
         known = x .known;
         most = x .most;
+        typed = x .typed;
         counted = x .counted;
         happened = x .happened;
       })
@@ -150,7 +164,7 @@ module _ (clock openings : ℕ) (es : List Entry) (j : Journal) (v : JournalHold
           List·getD-eq-default (after .row) noEvent {n = i} (omega (arith, entered-all-length n events (j .row) (v .long)))
 
   -- with the events of a call entered
-  pub journal-entered : JournalHolds clock openings (withEntries clock es j)
+  pub journal-entered : JournalHolds clock series (withEntries clock es j)
   journal-entered = record {
     long = entered-all-length n events (j .row) (v .long);
     each = entered-each;

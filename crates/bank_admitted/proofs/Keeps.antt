@@ -1,36 +1,25 @@
 -- Every call keeps what the state may hold: each case of a request, a frame call and a file call.
-use Prim.Native.Nat.{ℕ, zero, suc, _+_, _-_, _*_, _≤_, _<_}
-use mathlib.Core.List.{List, [], _∷_}
-use mathlib.Core.Path.{_≡_, refl, sym, ap, _∙_}
-use native.Mathlib.Nat.{suc-add}
+use Prim.Native.Nat.{ℕ, _≤_, _<_}
+use mathlib.Core.List.{List}
+use mathlib.Core.Path.{_≡_}
 use native.Mathlib.Omega.{arith}
-use lib.ListN.{length, take, drop, replicate, length-replicate, getD-replicate}
+use lib.ListN.{length}
 use Rattle.frame_table.specs.declared.fields.Fields.{Fields}
 use Rattle.frame_table.specs.Forms as forms
 use Rattle.frame_table.specs.Names.{form}
 use Rattle.frame_reader.specs.Reader.{readRequest}
 use Rattle.frame_row.specs.Row.{dataOf}
 use Rattle.octets.specs.Bytes.{number}
-use Rattle.octets.proofs.Tests.{never}
-use Rattle.message.specs.Limits.{fileBytes}
 use Rattle.message.proofs.Verdicts.{by-test}
-use Rattle.bank_state.specs.declared.state.Download.{Download}
-use Rattle.bank_state.specs.declared.state.Place.{Place}
 use Rattle.bank_state.specs.Clock.{advanced}
-use Rattle.bank_state.specs.Limits.{placeCount, storeBytes}
-use Rattle.bank_state.specs.Rows.{countOf}
-use Rattle.bank_state.specs.Search.{isFree, isOpen, openCount, openCountOf}
-use Rattle.bank_state.specs.State.{BankState, bankState, noPlace, noDownload, fresh, placeAt, downloadAt}
-use Rattle.bank_state.specs.Store.{partAt}
+use Rattle.bank_state.specs.State.{BankState, bankState}
 use Rattle.bank_verdicts.specs.declared.verdict.Verdict.{Verdict}
 use Rattle.bank_steps.specs.Steps.{carryOut}
 use Rattle.bank.specs.declared.mailbox.FileAnswer.{FileAnswer}
 use Rattle.bank.specs.declared.mailbox.FileAnswer.the-variants as put
 use Rattle.bank.specs.Call.{FrameCall, FrameInput, lentRight, respond, frameCall}
 use Rattle.bank.specs.Mailbox.{FileCall, fileNumber, carryOutFile, fileCall}
-use Rattle.bank_admitted.specs.Packed.{rest}
-use Rattle.bank_admitted.specs.State.{StateHolds, NoneIdle, end}
-use Rattle.bank_admitted.proofs.Rows.{getD-free, free-replicate}
+use Rattle.bank_admitted.specs.State.{StateHolds, NoneIdle}
 use Rattle.bank_admitted.proofs.Cases.{
   Happens,
   unreadable,
@@ -42,7 +31,6 @@ use Rattle.bank_admitted.proofs.Cases.{
   happens,
 }
 use Rattle.bank_admitted.proofs.Reading.{transfer-data}
-use Rattle.bank_admitted.proofs.Parts.{drop-replicate}
 use Rattle.bank_admitted.proofs.Uploads.{upload-keeps}
 use Rattle.bank_admitted.proofs.Downloads.{download-keeps}
 use Rattle.bank_admitted.proofs.Openings.{opens-upload, opens-download}
@@ -56,7 +44,7 @@ module _ (first : ℕ) (w : BankState) (v : StateHolds w) (q : Fields) (d : List
   pub case-keeps : (form q ≡ forms.UploadTransfer → 1 ≤ length d) → {u : Verdict} → Happens first w q d u → StateHolds (carryOut u w q d)
   case-keeps some unreadable = v
   case-keeps some (refused c e) = v
-  case-keeps some (opensUpload asked a g n p) = opens-upload first w v q (length d) a g n p
+  case-keeps some (opensUpload asked a g n p below) = opens-upload first w v q (length d) a g n p below
   case-keeps some (opensDownload asked a g n) = opens-download first w v q (length d) a g n
   case-keeps some (toUpload r a t) = upload-keeps w v q d r a some t
   case-keeps some (toDownload r a t) = download-keeps w v q d r a t

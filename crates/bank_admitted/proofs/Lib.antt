@@ -1,6 +1,7 @@
 -- What a session may hold is kept by every call.
 pub mod Stores
 pub mod Rows
+pub mod Series
 pub mod Cases
 pub mod Reading
 pub mod Parts

@@ -18,7 +18,7 @@ use Rattle.bank_state.specs.Limits.{placeCount, idleLimit}
 use Rattle.bank_state.specs.Search.{isOpen, freePlace, freeDownload}
 use Rattle.bank_state.specs.State.{BankState, noPlace, noDownload, placeAt}
 use Rattle.bank_state.proofs.Drops.{each-endDownloads}
-use Rattle.bank_openings.specs.Openings.{counted, openUpload, openDownload}
+use Rattle.bank_openings.specs.Openings.{counted, countedUpload, openUpload, openDownload}
 use Rattle.bank_verdicts.specs.declared.verdict.TransactionRequest.{TransactionRequest}
 use Rattle.bank_verdicts.specs.declared.verdict.UploadAction.{UploadAction}
 use Rattle.bank_verdicts.specs.declared.verdict.UploadAction.the-variants as up
@@ -106,10 +106,10 @@ module _ (w : BankState) (notIdle : NoneIdle w) where
 
   pub case-not-idle : (first : ℕ) (q : Fields) (d : List ℕ) {v : Verdict} → length (w .bank .places) ≡ placeCount →
       Happens first w q d v → NoneIdle (carryOut v w q d)
-  unfolding openUpload openDownload counted
+  unfolding openUpload openDownload countedUpload counted
   case-not-idle first q d long unreadable = notIdle
   case-not-idle first q d long (refused c e) = notIdle
-  case-not-idle first q d long (opensUpload asked a g n inside) =
+  case-not-idle first q d long (opensUpload asked a g n inside below) =
       record { places = place-set long (freePlace (w .bank)) _ inside (λ _. omega arith); downloads = notIdle .downloads }
   case-not-idle first q d long (opensDownload asked a g n) =
       record { places = notIdle .places; downloads = download-set (freeDownload (w .bank)) _ (λ _. omega arith) }

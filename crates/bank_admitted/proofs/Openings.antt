@@ -1,9 +1,9 @@
 -- An accepted opening keeps what the state may hold.
-use Prim.Native.Nat.{ℕ, suc, _+_, _≤_, _<_}
+use Prim.Native.Nat.{ℕ, suc, _+_, _-_, _≤_, _<_}
 use mathlib.Core.Bool.{Bool, true, false, not, _&&_, Bool·not-not}
 use mathlib.Core.List.{List}
 use mathlib.Core.Logic.{inl, inr}
-use mathlib.Core.Path.{_≡_, refl, sym, _∙_, subst}
+use mathlib.Core.Path.{_≡_, refl, sym, ap, _∙_, subst}
 use native.Mathlib.Omega.{arith}
 use lib.Dec.{eqb}
 use lib.ListN.{length, set, replicate, length-set}
@@ -18,17 +18,18 @@ use Rattle.bank_state.specs.declared.state.Download.{Download}
 use Rattle.bank_state.specs.declared.state.Place.{Place}
 use Rattle.bank_state.specs.declared.state.Use.{Use}
 use Rattle.bank_state.specs.declared.state.Use.the-variants.{Free, Open, Booked}
-use Rattle.bank_state.specs.Limits.{placeCount, maxOpen, maxOpenPerSubscriber}
+use Rattle.bank_state.specs.Limits.{placeCount, maxOpen, maxOpenPerSubscriber, seriesLimit}
 use Rattle.bank_state.specs.Rows.{countOf}
 use Rattle.bank_state.specs.Search.{isFree, isOpen, freePlace, freeDownload, freeNonce, openCount, openCountOf}
-use Rattle.bank_state.specs.State.{Bank, Nonce, BankState, bankState, noPlace, noDownload, placeAt, downloadAt, fileLength}
+use Rattle.bank_state.specs.State.{Bank, Nonce, BankState, bankState, noPlace, noDownload, placeAt, downloadAt, fileLength, seriesOf}
 use Rattle.bank_state.specs.Store.{partAt}
 use Rattle.bank_state.proofs.Rows.{first-passes}
 use Rattle.bank_verdicts.specs.Judgement.{transactionOf}
 use Rattle.bank_verdicts.proofs.Sound.{Acceptable, Readable}
-use Rattle.bank_openings.specs.Openings.{counted, newPlace, openUpload, newDownload, openDownload}
+use Rattle.bank_openings.specs.Openings.{counted, moved, countedUpload, newPlace, openUpload, newDownload, openDownload}
 use Rattle.bank_admitted.specs.State.{mailboxFile, Alike, PlaceHolds, FreePlace, DownloadHolds, NoncesHold, StateHolds}
 use Rattle.bank_admitted.proofs.Rows.{each-set, first-if-few, count-set-le, count-set-suc, packed-add}
+use Rattle.bank_admitted.proofs.Series.{moved-further, moved-own, moved-holds}
 use Rattle.bank_admitted.proofs.Nonces.{nonces-added}
 use Rattle.bank_admitted.proofs.Parts.{place-opened, download-later, download-opened}
 use Rattle.bank_admitted.proofs.Held.{place-counted, file-long, download-open}
@@ -92,11 +93,15 @@ module _ (first : ℕ) (w : BankState) (v : StateHolds w) (q : Fields) (n : ℕ)
   unfolding freeNonce
   nonces-hold = nonces-added (w .bank .clock) (w .bank .nonces) (v .nonces) _ refl (acceptable .timely) (acceptable .memory)
 
+  -- how far its subscriber's series has come
+  abbrev order : ℕ
+  order = seriesOf (subscriber q) (w .bank .series)
+
   -- an upload opened
-  pub opens-upload : (segments q ≡ 0 → ⊥) → freePlace (w .bank) < placeCount →
-      StateHolds (bankState (openUpload t o q (w .bank)) (w .orders) (w .mailboxes))
-  unfolding openUpload counted openCount openCountOf
-  opens-upload some inside = place-change w i new (o + 1) nonces (w .orders) v (record {
+  pub opens-upload : (segments q ≡ 0 → ⊥) → freePlace (w .bank) < placeCount → seriesOf (subscriber q) (w .bank .series) < seriesLimit →
+      StateHolds (bankState (openUpload t order q (w .bank)) (w .orders) (w .mailboxes))
+  unfolding openUpload countedUpload counted openCount openCountOf
+  opens-upload some inside below = place-change w i new (o + 1) (moved (subscriber q) (w .bank .series)) nonces (w .orders) v (record {
     bytes = replicate fileBytes 0;
     inside = inside;
     stored = v .sizes .orders;
@@ -106,9 +111,13 @@ module _ (first : ℕ) (w : BankState) (v : StateHolds w) (q : Fields) (n : ℕ)
     memory = nonces-hold;
     grow = omega arith;
     numbers = let z = acceptable .numbers in omega arith;
-    new = place-opened (o + 1) (w .bank .clock) o t q (omega arith) (omega arith) (readable .known) (readable .most)
+    counters = length-set (w .bank .series) (subscriber q - 1) _ ∙ v .sizes .series;
+    further = moved-further (subscriber q) (w .bank .series);
+    seriesHold = moved-holds (subscriber q) (w .bank .series) (v .sizes .series) (readable .known) (readable .most) o (v .series) below;
+    new = place-opened (o + 1) (w .bank .clock) order t q (omega arith) (readable .known) (readable .most)
         (omega arith) (acceptable .few);
-    apartPlace = λ j a n f g. not-alike (placeAt (w .bank) j) (place-counted w v j a g);
+    order = λ _. let z = moved-own (subscriber q) (w .bank .series) (v .sizes .series) (readable .known) (readable .most) in omega arith;
+    apartPlace = λ j a n f g. not-alike (placeAt (w .bank) j) (place-counted w v j a g .0) (v .orders j a g);
     apartDownload = λ j f g e. let z = download-open w v j g .counted in omega arith;
     openAll = let m = count-set-suc (λ (r : Place). isOpen (r .used)) (w .bank .places) i new in let a = acceptable .ofAll in omega arith;
     openOf = λ s. openOf s (eqb (subscriber q) s) refl;
@@ -118,12 +127,13 @@ module _ (first : ℕ) (w : BankState) (v : StateHolds w) (q : Fields) (n : ℕ)
       i = freePlace (w .bank)
 
       new : Place
-      new = newPlace t o (w .bank .clock) q
+      new = newPlace t order (w .bank .clock) q
 
-      -- a new transaction and a new order number
-      not-alike : (r : Place) → (r .transaction .low < o) × (r .number < o) → Alike new r → ⊥
-      not-alike r (l, n) (inl e) = omega arith
-      not-alike r (l, n) (inr e) = omega arith
+      -- a new transaction, and a new order number of its subscriber
+      not-alike : (r : Place) → r .transaction .low < o → r .number < seriesOf (r .subscriber) (w .bank .series) → Alike new r → ⊥
+      not-alike r l n (inl e) = omega arith
+      not-alike r l n (inr (s, e)) =
+          let z = ap (λ (u : ℕ). seriesOf u (w .bank .series)) s in omega arith
 
       openOf : (s : ℕ) (b : Bool) → eqb (subscriber q) s ≡ b →
           countOf (λ (p : Place). isOpen (p .used) && eqb (p .subscriber) s) (set (w .bank .places) i new)

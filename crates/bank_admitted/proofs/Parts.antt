@@ -25,10 +25,9 @@ use Rattle.bank_admitted.specs.State.{UsedPlace, OpenPlace, BookedPlace,
 -- ---- a later clock and more openings
 
 module _ (c c′ o o′ : ℕ) (later : c ≤ c′) (grow : o ≤ o′) where
-  used-later : {t : Bits128} {s m n : ℕ} {bytes : List ℕ} → UsedPlace o t s m n bytes → UsedPlace o′ t s m n bytes
+  used-later : {t : Bits128} {s n : ℕ} {bytes : List ℕ} → UsedPlace o t s n bytes → UsedPlace o′ t s n bytes
   used-later u = record {
     counted = let k = u .counted in omega arith;
-    numbered = let k = u .numbered in omega arith;
     known = u .known;
     most = u .most;
     zeros = u .zeros;
@@ -101,7 +100,6 @@ module _ (o : ℕ) (p : Place) (bytes : List ℕ) (c : ℕ) (u : OpenPlace c o p
   place-attempted few = record {
     place = record {
       counted = u .place .counted;
-      numbered = u .place .numbered;
       known = u .place .known;
       most = u .place .most;
       zeros = u .place .zeros;
@@ -120,10 +118,9 @@ module _ (o : ℕ) (p : Place) (bytes : List ℕ) (c : ℕ) (u : OpenPlace c o p
     abbrev written : List ℕ
     written = overwrite bytes (p .length) d
 
-    used-grown : UsedPlace o (p .transaction) (p .subscriber) (p .number) (p .length + length d) written
+    used-grown : UsedPlace o (p .transaction) (p .subscriber) (p .length + length d) written
     used-grown = record {
       counted = u .place .counted;
-      numbered = u .place .numbered;
       known = u .place .known;
       most = u .place .most;
       zeros = zeros-written bytes d (p .length) fileBytes full room (u .place .zeros);
@@ -154,11 +151,11 @@ module _ (o : ℕ) (p : Place) (bytes : List ℕ) (c : ℕ) (u : OpenPlace c o p
     }
 
 -- an upload just opened, with its transaction ID and its order's number
-pub place-opened : (o c number : ℕ) (t : Bits128) (q : Fields) → t .low < o → number < o →
+pub place-opened : (o c number : ℕ) (t : Bits128) (q : Fields) → t .low < o →
     1 ≤ subscriber q → subscriber q ≤ subscribers → 1 ≤ segments q → segments q ≤ maxSegments →
     OpenPlace c o (newPlace t number c q) (replicate fileBytes 0)
-place-opened o c number t q low counted known most some few = record {
-  place = record { counted = low; numbered = counted; known = known; most = most; zeros = refl };
+place-opened o c number t q low known most some few = record {
+  place = record { counted = low; known = known; most = most; zeros = refl };
   some = some;
   few = few;
   below = some;

@@ -23,7 +23,7 @@ use Rattle.bank_state.specs.declared.state.Place.{Place}
 use Rattle.bank_state.specs.Clock.{endDownloads}
 use Rattle.bank_state.specs.Limits.{placeCount, nonceCount}
 use Rattle.bank_state.specs.Search.{isOpen, freePlace, freeDownload}
-use Rattle.bank_state.specs.State.{BankState, bankState, noPlace, noDownload, placeAt, downloadAt, withPlace, withDownloads, withFiles}
+use Rattle.bank_state.specs.State.{BankState, bankState, noPlace, noDownload, placeAt, downloadAt, seriesOf, withPlace, withDownloads, withFiles}
 use Rattle.bank_state.proofs.Drops.{each-endDownloads}
 use Rattle.bank_state.proofs.Found.{upload-found}
 use Rattle.bank_verdicts.specs.declared.verdict.TransactionRequest.{TransactionRequest}
@@ -51,7 +51,7 @@ use Rattle.bank_verdicts.proofs.Sound.{
   confirmed,
   declined,
 }
-use Rattle.bank_openings.specs.Openings.{counted, newPlace, openUpload, newDownload, openDownload}
+use Rattle.bank_openings.specs.Openings.{counted, moved, countedUpload, newPlace, openUpload, newDownload, openDownload}
 use Rattle.bank_uploads.specs.Uploads.{grown, booked, attempted}
 use Rattle.journal.specs.declared.event.Entry.{Entry}
 use Rattle.journal.specs.declared.event.Kind.{Kind}
@@ -70,20 +70,20 @@ use Rattle.bank_admitted.proofs.Cases.{
   toUpload,
   toDownload,
 }
+use Rattle.bank_admitted.proofs.Series.{Further, further-same, moved-further, moved-own}
 use Rattle.bank_admitted.proofs.JournalKept.{EntryHolds}
 use Rattle.bank_admitted.proofs.NoncesKept.{nonces-counted}
 use Rattle.bank_admitted.proofs.Rows.{count-set, count-set-suc, each-set-all}
 
--- "Up to form 3 an upload's order number is its running number"
-pub record PlaceNumbered (p : Place) : Type 0 where
-  pub running : p .number ≡ p .transaction .low
-  pub words : Words (p .transaction)
+-- the halves of a transaction ID are numbers of eight bytes
+abbrev pub PlaceNumbered : Place → Type 0
+PlaceNumbered p = Words (p .transaction)
 
 abbrev pub DownloadNumbered : Download → Type 0
 DownloadNumbered e = Words (e .transaction)
 
 pub free-numbered : PlaceNumbered noPlace
-free-numbered = record { running = refl; words = record { high = omega arith; low = omega arith } }
+free-numbered = record { high = omega arith; low = omega arith }
 
 -- what a request finds, the clock and the drops done
 pub record Found (w : BankState) : Type 0 where
@@ -93,16 +93,18 @@ pub record Found (w : BankState) : Type 0 where
   pub places : (i : ℕ) → PlaceNumbered (placeAt (w .bank) i)
   pub downloads : (i : ℕ) → DownloadNumbered (downloadAt (w .bank) i)
   pub named : (i : ℕ) → i < placeCount → isOpen (placeAt (w .bank) i .used) ≡ true →
-      placeAt (w .bank) i .number < w .bank .openings
+      placeAt (w .bank) i .number < seriesOf (placeAt (w .bank) i .subscriber) (w .bank .series)
+  pub counters : length (w .bank .series) ≡ placeCount
 
 -- what it leaves with these entries
 pub record Left (w v : BankState) (es : List Entry) : Type 0 where
   pub clock : v .bank .clock ≡ w .bank .clock
   pub more : w .bank .openings ≤ v .bank .openings
+  pub further : Further (w .bank .series) (v .bank .series)
   pub nonces : NoncesApart (v .bank .clock) (v .bank .nonces)
   pub places : (i : ℕ) → PlaceNumbered (placeAt (v .bank) i)
   pub downloads : (i : ℕ) → DownloadNumbered (downloadAt (v .bank) i)
-  pub entries : (e : Entry) → In e es → EntryHolds (v .bank .openings) e
+  pub entries : (e : Entry) → In e es → EntryHolds (v .bank .series) e
   -- an opening has room for two events, of which an open upload has had one
   pub events : length es + openUploads (v .bank) + 2 * w .bank .openings ≤ openUploads (w .bank) + 2 * v .bank .openings
 
@@ -118,6 +120,7 @@ module _ (first : ℕ) (small : first < 2 ^ 64) (w : BankState) (f : Found w) (q
   unchanged = record {
     clock = refl;
     more = omega arith;
+    further = further-same (w .bank .series);
     nonces = f .nonces;
     places = f .places;
     downloads = f .downloads;
@@ -125,10 +128,11 @@ module _ (first : ℕ) (small : first < 2 ^ 64) (w : BankState) (f : Found w) (q
     events = omega arith;
   }
 
-  one-entry : (k : Kind) (order n : ℕ) → Readable q (length d) → order < n → isEvent k ≡ true → (e : Entry) →
-      In e (entry k (subscriber q) order ∷ []) → EntryHolds n e
-  one-entry k order n a l h e i =
-      subst (EntryHolds n) (sym (in-one i)) (record { known = a .known; most = a .most; counted = l; happened = h })
+  one-entry : (k : Kind) (order : ℕ) (series : List ℕ) → Readable q (length d) → order < seriesOf (subscriber q) series →
+      isEvent k ≡ true → (e : Entry) → In e (entry k (subscriber q) order ∷ []) → EntryHolds series e
+  one-entry k order series a l h e i =
+      subst (EntryHolds series) (sym (in-one i))
+      (record { known = a .known; most = a .most; typed = refl; counted = l; happened = h })
 
   -- ---- an accepted opening
 
@@ -144,20 +148,25 @@ module _ (first : ℕ) (small : first < 2 ^ 64) (w : BankState) (f : Found w) (q
         nonces-counted (w .bank) q (f .remembered) (g .unseen) (g .memory)
         (record { words = brought .nonce; ahead = g .ahead; last = brought .timestamp (a .request) timed }) (f .nonces)
 
-    upload-opened : Left w (bankState (openUpload t (w .bank .openings) q (w .bank)) (w .orders) (w .mailboxes))
-        (entry kind.Opened (subscriber q) (w .bank .openings) ∷ [])
-    unfolding openUpload counted
+    -- how far its subscriber's series has come
+    abbrev order : ℕ
+    order = seriesOf (subscriber q) (w .bank .series)
+
+    upload-opened : Left w (bankState (openUpload t order q (w .bank)) (w .orders) (w .mailboxes))
+        (entry kind.Opened (subscriber q) order ∷ [])
+    unfolding openUpload countedUpload counted
     upload-opened =
-        let p = newPlace t (w .bank .openings) (w .bank .clock) q in
+        let p = newPlace t order (w .bank .clock) q in
+        let o = moved-own (subscriber q) (w .bank .series) (f .counters) (a .known) (a .most) in
         let m = count-set-suc (λ (r : Place). isOpen (r .used)) (w .bank .places) (freePlace (w .bank)) p in
         record {
           clock = refl;
           more = omega arith;
+          further = moved-further (subscriber q) (w .bank .series);
           nonces = new-nonces;
-          places = each-set-all PlaceNumbered (w .bank .places) (freePlace (w .bank)) p noPlace
-              (record { running = refl; words = new-words }) (f .places);
+          places = each-set-all PlaceNumbered (w .bank .places) (freePlace (w .bank)) p noPlace new-words (f .places);
           downloads = f .downloads;
-          entries = one-entry kind.Opened (w .bank .openings) (w .bank .openings + 1) a (omega arith) refl;
+          entries = one-entry kind.Opened order (moved (subscriber q) (w .bank .series)) a (omega arith) refl;
           events = omega arith;
         }
 
@@ -166,6 +175,7 @@ module _ (first : ℕ) (small : first < 2 ^ 64) (w : BankState) (f : Found w) (q
     download-opened = record {
       clock = refl;
       more = omega arith;
+      further = further-same (w .bank .series);
       nonces = new-nonces;
       places = f .places;
       downloads = each-set-all DownloadNumbered (w .bank .downloads) (freeDownload (w .bank))
@@ -179,7 +189,7 @@ module _ (first : ℕ) (small : first < 2 ^ 64) (w : BankState) (f : Found w) (q
   -- the place changed, with at most one event where it is not open any more
   place-left : (i : ℕ) → i < placeCount → isOpen (placeAt (w .bank) i .used) ≡ true → (p : Place) (orders : List ℕ)
       (es : List Entry) → PlaceNumbered p → length es + cond (isOpen (p .used)) 1 0 ≤ 1 →
-      ((e : Entry) → In e es → EntryHolds (w .bank .openings) e) →
+      ((e : Entry) → In e es → EntryHolds (w .bank .series) e) →
       Left w (bankState (withPlace i p (w .bank)) orders (w .mailboxes)) es
   place-left i inside used p orders es new few entered =
       let h = f .rowed in
@@ -188,6 +198,7 @@ module _ (first : ℕ) (small : first < 2 ^ 64) (w : BankState) (f : Found w) (q
       record {
         clock = refl;
         more = omega arith;
+        further = further-same (w .bank .series);
         nonces = f .nonces;
         places = each-set-all PlaceNumbered (w .bank .places) i p noPlace new (f .places);
         downloads = f .downloads;
@@ -205,11 +216,11 @@ module _ (first : ℕ) (small : first < 2 ^ 64) (w : BankState) (f : Found w) (q
     used : isOpen (p .used) ≡ true
     used = ap isOpen (upload-found (subscriber q) (transaction q) p (c .found) .0)
 
-    kept : (p′ : Place) → p′ .number ≡ p .number → p′ .transaction ≡ p .transaction → PlaceNumbered p′
-    kept p′ n t = let h = f .places i in record {
-      running = n ∙ (h .running ∙ ap (λ (u : Bits128). u .low) (sym t));
-      words = subst Words (sym t) (h .words);
-    }
+    -- the upload is the request's subscriber's
+    named : p .number < seriesOf (subscriber q) (w .bank .series)
+    named =
+        subst (λ (s : ℕ). p .number < seriesOf s (w .bank .series))
+        (upload-found (subscriber q) (transaction q) p (c .found) .1) (f .named i (c .inside) used)
 
     still-few : (b : Bool) → length {A = Entry} [] + cond b 1 0 ≤ 1
     still-few true = omega arith
@@ -225,15 +236,15 @@ module _ (first : ℕ) (small : first < 2 ^ 64) (w : BankState) (f : Found w) (q
     ends k h p′ orders z new =
         place-left i (c .inside) used p′ orders (entry k (subscriber q) (p .number) ∷ []) new
         (let y = ap (λ (b : Bool). cond {A = ℕ} b 1 0) z in omega arith)
-        (one-entry k (p .number) (w .bank .openings) (c .readable) (f .named i (c .inside) used) h)
+        (one-entry k (p .number) (w .bank .series) (c .readable) named h)
 
     upload-left : {b : UploadAction} (u : Bits128) → UploadSound r p q b →
         Left w (uploadActs b u w q d)
         (actionEntries (verdict.Of u (action.Upload b)) (orderIn (verdict.Of u (action.Upload b)) (w .bank) q) q)
     unfolding actionEntries grown booked attempted
-    upload-left u (took y below early) = stays (grown (w .bank .clock) (length d) p) _ (kept _ refl refl)
-    upload-left u (tookLast y last mark) = ends kind.Booked refl (booked (length d) p) _ refl (kept _ refl refl)
-    upload-left u (uploadPoint fits few) = stays (attempted p) _ (kept _ refl refl)
+    upload-left u (took y below early) = stays (grown (w .bank .clock) (length d) p) _ (f .places i)
+    upload-left u (tookLast y last mark) = ends kind.Booked refl (booked (length d) p) _ refl (f .places i)
+    upload-left u (uploadPoint fits few) = stays (attempted p) _ (f .places i)
     upload-left u (abort fits many) = ends kind.Cancelled refl noPlace _ refl free-numbered
     upload-left u (underrun y below mark) = ends kind.Cancelled refl noPlace _ refl free-numbered
     upload-left u (exceeded y last mark) = ends kind.Cancelled refl noPlace _ refl free-numbered
@@ -246,6 +257,7 @@ module _ (first : ℕ) (small : first < 2 ^ 64) (w : BankState) (f : Found w) (q
   downloads-left l files mailboxes new = record {
     clock = refl;
     more = omega arith;
+    further = further-same (w .bank .series);
     nonces = f .nonces;
     places = f .places;
     downloads = new;
@@ -287,7 +299,7 @@ module _ (first : ℕ) (small : first < 2 ^ 64) (w : BankState) (f : Found w) (q
   unfolding actionEntries
   request-left unreadable = unchanged
   request-left (refused c z) = unchanged
-  request-left (opensUpload e a g n inside) = upload-opened a g (timed-by e refl)
+  request-left (opensUpload e a g n inside below) = upload-opened a g (timed-by e refl)
   request-left (opensDownload e a g n) = download-opened a g (timed-by e refl)
   request-left (toUpload r a c) = upload-left r a c _ (c .sound)
   request-left (toDownload r a c) = download-left r a c _ (c .sound)

@@ -22,7 +22,7 @@ use Rattle.bank_state.specs.declared.state.Place.{Place}
 use Rattle.bank_state.specs.Clock.{advanced}
 use Rattle.bank_state.specs.Limits.{placeCount, idBytes}
 use Rattle.bank_state.specs.Search.{isOpen}
-use Rattle.bank_state.specs.State.{BankState, bankState, noPlace, noDownload, placeAt, downloadAt, withFiles}
+use Rattle.bank_state.specs.State.{BankState, bankState, noPlace, noDownload, placeAt, downloadAt, seriesOf, withFiles}
 use Rattle.bank_state.proofs.Drops.{isIdlePlace, AtClock, advanced-at-clock, Sized, advanced-sized, each-endDownloads}
 use Rattle.bank_verdicts.specs.declared.verdict.Verdict.{Verdict}
 use Rattle.bank_verdicts.specs.Judgement.{judge}
@@ -43,8 +43,10 @@ use Rattle.bank_admitted.specs.State.{StateHolds, NoneIdle}
 use Rattle.bank_admitted.specs.Session.{NoncesApart, JournalHolds, openUploads, SessionHolds, Brought}
 use Rattle.bank_admitted.proofs.Cases.{happens}
 use Rattle.bank_admitted.proofs.Clock.{sized}
-use Rattle.bank_admitted.proofs.DropsKept.{advanced-place, drops-counted, open-used, drops-entered}
-use Rattle.bank_admitted.proofs.JournalKept.{EntryHolds, journal-later, journal-entered}
+use Rattle.bank_admitted.proofs.Series.{Further}
+use Rattle.bank_admitted.proofs.Held.{open-in-use}
+use Rattle.bank_admitted.proofs.DropsKept.{advanced-place, drops-counted, drops-entered}
+use Rattle.bank_admitted.proofs.JournalKept.{EntryHolds, entry-later, journal-later, journal-entered}
 use Rattle.bank_admitted.proofs.NoncesKept.{nonces-later}
 use Rattle.bank_admitted.proofs.OpeningRead.{nonce-read, timestamp-read}
 use Rattle.bank_admitted.proofs.RequestKept.{PlaceNumbered, DownloadNumbered, free-numbered, Found, Left, request-left}
@@ -80,7 +82,7 @@ module _ {w : BankState} {j : Journal} (h : SessionHolds w j) (a : FrameInput) (
   found-place i l =
       subst PlaceNumbered (sym (advanced-place (a .time) w s i l))
       (by-test PlaceNumbered (isIdlePlace c (placeAt (w .bank) i)) (λ _. free-numbered)
-      (λ _. record { running = h .numbered i l; words = h .places i l }))
+      (λ _. h .places i l))
 
   found-places : (i : ℕ) → PlaceNumbered (placeAt (b .bank) i)
   found-places i = by (decLt i placeCount)
@@ -92,13 +94,16 @@ module _ {w : BankState} {j : Journal} (h : SessionHolds w j) (a : FrameInput) (
           subst PlaceNumbered (sym (List·getD-eq-default (b .bank .places) noPlace {n = i} (omega arith))) free-numbered
 
   found-named : (i : ℕ) → i < placeCount → isOpen (placeAt (b .bank) i .used) ≡ true →
-      placeAt (b .bank) i .number < b .bank .openings
+      placeAt (b .bank) i .number < seriesOf (placeAt (b .bank) i .subscriber) (b .bank .series)
   found-named i l =
-      subst (λ (p : Place). isOpen (p .used) ≡ true → p .number < b .bank .openings)
-      (sym (advanced-place (a .time) w s i l))
-      (by-test (λ (p : Place). isOpen (p .used) ≡ true → p .number < b .bank .openings)
-      (isIdlePlace c (placeAt (w .bank) i)) (λ _ e. never e)
-      (λ _ e. let n = open-used w (h .state) i l e .numbered in let z = at .openings in omega arith))
+      subst (λ (series : List ℕ). isOpen (placeAt (b .bank) i .used) ≡ true →
+      placeAt (b .bank) i .number < seriesOf (placeAt (b .bank) i .subscriber) series) (sym (at .series))
+      (subst Named (sym (advanced-place (a .time) w s i l))
+      (by-test Named (isIdlePlace c (placeAt (w .bank) i)) (λ _ e. never e)
+      (λ _ e. h .state .orders i l (open-in-use (placeAt (w .bank) i .used) e))))
+    where
+      Named : Place → Type 0
+      Named p = isOpen (p .used) ≡ true → p .number < seriesOf (p .subscriber) (w .bank .series)
 
   found-nonces : NoncesApart (b .bank .clock) (b .bank .nonces)
   found-nonces =
@@ -122,6 +127,7 @@ module _ {w : BankState} {j : Journal} (h : SessionHolds w j) (a : FrameInput) (
         places = found-places;
         downloads = found-downloads;
         named = found-named;
+        counters = n .series;
       }
 
   module _ (lent : lentRight w a ≡ true) where
@@ -155,40 +161,34 @@ module _ {w : BankState} {j : Journal} (h : SessionHolds w j) (a : FrameInput) (
     now : after .bank .clock ≡ c
     now = left .clock ∙ at .clock
 
-    more : w .bank .openings ≤ after .bank .openings
-    more = let x = left .more in let y = at .openings in omega arith
+    further : Further (w .bank .series) (after .bank .series)
+    further = subst (λ (l : List ℕ). Further l (after .bank .series)) (at .series) (left .further)
 
     in-time : after .bank .clock ≤ lastTime
     in-time = let x = h .clock in let y = right .inTime in let z = now in omega arith
 
     -- the journal before, at the call's clock and after its opening
-    journal-waits : JournalHolds c (after .bank .openings) j
-    journal-waits = journal-later (omega arith) more (h .journal)
+    journal-waits : JournalHolds c (after .bank .series) j
+    journal-waits = journal-later (omega arith) further (h .journal)
 
-    entries-hold : (e : Entry) → In e (drops ++ acted) → EntryHolds (after .bank .openings) e
+    entries-hold : (e : Entry) → In e (drops ++ acted) → EntryHolds (after .bank .series) e
     entries-hold e m = by (in-append drops m)
       where
-        by : In e drops ⊎ In e acted → EntryHolds (after .bank .openings) e
-        by (inl k) = let x = drops-entered w (h .state) c e k in record {
-          known = x .known;
-          most = x .most;
-          counted = let y = more in let z = x .counted in omega arith;
-          happened = x .happened;
-        }
+        by : In e drops ⊎ In e acted → EntryHolds (after .bank .series) e
+        by (inl k) = entry-later further (drops-entered w (h .state) c e k)
         by (inr k) = left .entries e k
 
     -- all but the journal
-    with-journal : (k : Journal) → StateHolds after → NoneIdle after → JournalHolds c (after .bank .openings) k →
+    with-journal : (k : Journal) → StateHolds after → NoneIdle after → JournalHolds c (after .bank .series) k →
         k .events + openUploads (after .bank) ≤ 2 * after .bank .openings → SessionHolds after k
     with-journal k state idle journal events = record {
       state = state;
       idle = idle;
       clock = in-time;
       nonces = left .nonces;
-      numbered = λ i _. left .places i .running;
-      places = λ i _. left .places i .words;
+      places = λ i _. left .places i;
       downloads = left .downloads;
-      journal = subst (λ (n : ℕ). JournalHolds n (after .bank .openings) k) (sym now) journal;
+      journal = subst (λ (n : ℕ). JournalHolds n (after .bank .series) k) (sym now) journal;
       events = events;
     }
 
@@ -207,7 +207,7 @@ module _ {w : BankState} {j : Journal} (h : SessionHolds w j) (a : FrameInput) (
         SessionHolds after (journalBy r (withEntries c (drops ++ acted) j) j)
     answered-keeps (Reply n) state idle =
         with-journal (withEntries c (drops ++ acted) j) state idle
-        (journal-entered c (after .bank .openings) (drops ++ acted) j journal-waits entries-hold) few
+        (journal-entered c (after .bank .series) (drops ++ acted) j journal-waits entries-hold) few
     answered-keeps WrongLength state idle =
         with-journal j state idle journal-waits (let x = few in omega arith)
 
@@ -236,7 +236,6 @@ module _ {w : BankState} {j : Journal} (h : SessionHolds w j) where
     idle = idle;
     clock = h .clock;
     nonces = h .nonces;
-    numbered = h .numbered;
     places = h .places;
     downloads = h .downloads;
     journal = h .journal;

@@ -21,7 +21,7 @@ use Rattle.bank_state.specs.declared.state.Use.{Use}
 use Rattle.bank_state.specs.declared.state.Use.the-variants.{Open}
 use Rattle.bank_state.specs.Limits.{placeCount}
 use Rattle.bank_state.specs.Search.{isFree, isOpen, isUpload, openCount, openCountOf}
-use Rattle.bank_state.specs.State.{BankState, noPlace, placeAt}
+use Rattle.bank_state.specs.State.{BankState, noPlace, placeAt, seriesOf}
 use Rattle.bank_state.specs.Store.{partAt, withPart}
 use Rattle.bank_state.proofs.Found.{upload-found}
 use Rattle.bank_state.proofs.Stores.{length-withPart, part-same, part-other}
@@ -49,6 +49,8 @@ use Rattle.bank_admitted.proofs.Stores.{length-part}
 use Rattle.bank_admitted.proofs.Rows.{count-set-le}
 use Rattle.bank_admitted.proofs.Cases.{requestForm, ToUpload}
 use Rattle.bank_admitted.proofs.Parts.{place-attempted, place-grown, place-booked}
+use Rattle.bank_admitted.proofs.Series.{further-same}
+use Rattle.bank_admitted.proofs.Held.{open-in-use}
 use Rattle.bank_admitted.proofs.PlaceChange.{changedAt, place-change}
 
 -- the upload in place i changes to p with these bytes
@@ -57,20 +59,20 @@ module _ (w : BankState) (v : StateHolds w) (i : ℕ) (inside : i < placeCount) 
   abbrev before : Place
   before = placeAt (w .bank) i
 
-  -- a place in use stays that of its transaction and its order
+  -- a place in use stays that of its transaction, its subscriber and its order
   abbrev Same : Type 0
-  Same = isFree (p .used) ≡ false → (p .transaction .low ≡ before .transaction .low) × (p .number ≡ before .number)
+  Same = isFree (p .used) ≡ false → (p .transaction .low ≡ before .transaction .low) × (p .subscriber ≡ before .subscriber) ×
+      (p .number ≡ before .number)
 
   alike : Same → isFree (p .used) ≡ false → (r : Place) → Alike p r → Alike r before
   alike same f r (inl e) = inl (sym e ∙ same f .0)
-  alike same f r (inr e) = inr (sym e ∙ same f .1)
+  alike same f r (inr (s, n)) = inr (sym s ∙ same f .1, sym n ∙ same f .2)
 
   upload-step : PlaceHolds (p .used) (w .bank .clock) (w .bank .openings) p bytes → Same →
-      (isOpen (p .used) ≡ true → p .subscriber ≡ before .subscriber) →
-      StateHolds (changedAt i p (w .bank .openings) (w .bank .nonces) (withPart (w .orders) i bytes) w)
+      StateHolds (changedAt i p (w .bank .openings) (w .bank .series) (w .bank .nonces) (withPart (w .orders) i bytes) w)
   unfolding openCount openCountOf
-  upload-step new same owner =
-      place-change w i p (w .bank .openings) (w .bank .nonces) (withPart (w .orders) i bytes) v (record {
+  upload-step new same =
+      place-change w i p (w .bank .openings) (w .bank .series) (w .bank .nonces) (withPart (w .orders) i bytes) v (record {
         bytes = bytes;
         inside = inside;
         stored = length-withPart (w .orders) i bytes (v .sizes .orders) full inside ∙ v .sizes .orders;
@@ -80,7 +82,11 @@ module _ (w : BankState) (v : StateHolds w) (i : ℕ) (inside : i < placeCount) 
         memory = v .nonces;
         grow = omega arith;
         numbers = v .numbers;
+        counters = v .sizes .series;
+        further = further-same (w .bank .series);
+        seriesHold = v .series;
         new = new;
+        order = λ f. ordered (same f .1) (same f .2);
         apartPlace = λ j a n f g e. n (v .placesApart j i a inside g used (alike same f (placeAt (w .bank) j) e));
         apartDownload = λ j f g e. v .apart i j inside used g (sym (same f .0) ∙ e);
         openAll = let m = count-set-le (λ (r : Place). isOpen (r .used)) (w .bank .places) i p noPlace (λ _. ap isOpen opened) in omega
@@ -93,10 +99,14 @@ module _ (w : BankState) (v : StateHolds w) (i : ℕ) (inside : i < placeCount) 
       used : isFree (before .used) ≡ false
       used = ap isFree opened
 
+      ordered : p .subscriber ≡ before .subscriber → p .number ≡ before .number →
+          p .number < seriesOf (p .subscriber) (w .bank .series)
+      ordered s n = rw (s, n) (v .orders i inside used)
+
       of : (s : ℕ) → isOpen (p .used) && eqb (p .subscriber) s ≡ true → isOpen (before .used) && eqb (before .subscriber) s ≡ true
       of s e =
           let a = and-true (isOpen (p .used)) (eqb (p .subscriber) s) e in
-          rw (opened, sym (owner (a .0))) (a .1)
+          rw (opened, sym (same (open-in-use (p .used) (a .0)) .1)) (a .1)
 
 module _ (w : BankState) (v : StateHolds w) (q : Fields) (d : List ℕ) (readable : Readable q (length d))
     (inside : uploadAt (w .bank) q < placeCount)
@@ -147,14 +157,14 @@ module _ (w : BankState) (v : StateHolds w) (q : Fields) (d : List ℕ) (readabl
         (overwrite (partAt (w .orders) i) (old .length) d)) (sym used-open)
         (place-grown (w .bank .openings) old (partAt (w .orders) i) (w .bank .clock) upload-open d some (readable .short) room part-long
         (λ e. below (next ∙ e))))
-        (λ _. (refl, refl)) (λ _. refl)
+        (λ _. (refl, refl, refl))
 
     took-last-keeps : StateHolds (left up.TookLast)
     unfolding booked
     took-last-keeps =
         upload-step w v i inside used-open _ _ full
         (place-booked (w .bank .openings) old (partAt (w .orders) i) (w .bank .clock) upload-open d some (readable .short) room part-long)
-        (λ _. (refl, refl)) (λ e. never e)
+        (λ _. (refl, refl, refl))
 
   -- a recovery attempt
   point-keeps : old .attempts < maxAttempts → StateHolds (left (up.Point (old .taken)))
@@ -163,14 +173,14 @@ module _ (w : BankState) (v : StateHolds w) (q : Fields) (d : List ℕ) (readabl
       upload-step w v i inside used-open _ _ part-long
       (subst (λ (u : Use). PlaceHolds u (w .bank .clock) (w .bank .openings) (attempted old) (partAt (w .orders) i)) (sym used-open)
       (place-attempted (w .bank .openings) old (partAt (w .orders) i) (w .bank .clock) upload-open few))
-      (λ _. (refl, refl)) (λ _. refl)
+      (λ _. (refl, refl, refl))
 
   -- the transaction cancelled: "place zeroed and freed"
   cancel-keeps : (c : ReturnCode) → StateHolds (left (up.Cancelled c))
   cancel-keeps c =
       upload-step w v i inside used-open _ _ (length-replicate (length (partAt (w .orders) i)) 0 ∙ part-long)
       (record { empty = refl; zeros = ap (λ (n : ℕ). replicate n 0) part-long })
-      (λ e. never (sym e)) (λ e. never e)
+      (λ e. never (sym e))
 
   -- only an upload transfer has a segment taken
   pub upload-asked : {r : TransactionRequest} → form q ≡ requestForm r → UploadFits r old q → form q ≡ forms.UploadTransfer

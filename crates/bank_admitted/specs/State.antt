@@ -22,10 +22,11 @@ use Rattle.bank_state.specs.Limits.{
   maxOpen,
   maxOpenPerSubscriber,
   maxOpenings,
+  seriesLimit,
   window,
 }
 use Rattle.bank_state.specs.Search.{isFree, isOpen, openCount, openCountOf}
-use Rattle.bank_state.specs.State.{BankState, noPlace, noDownload, noNonce, placeAt, downloadAt, fileLength}
+use Rattle.bank_state.specs.State.{BankState, noPlace, noDownload, noNonce, placeAt, downloadAt, fileLength, seriesOf}
 use Rattle.bank_state.specs.Store.{partAt, fileOf}
 use Rattle.bank_admitted.specs.Packed.{Packed}
 
@@ -39,6 +40,7 @@ pub record Sizes (w : BankState) : Type 0 where
   pub downloads : length (w .bank .downloads) ≡ placeCount
   pub nonces : length (w .bank .nonces) ≡ nonceCount
   pub files : length (w .bank .files) ≡ placeCount
+  pub series : length (w .bank .series) ≡ placeCount
   pub orders : length (w .orders) ≡ storeBytes
   pub mailboxes : length (w .mailboxes) ≡ storeBytes
 
@@ -55,18 +57,17 @@ pub record NoSteps (p : Place) : Type 0 where
   pub last : p .last ≡ 0
 
 -- a place in use, with the number of openings and the place's bytes: the columns that a booked order keeps, transaction
--- ID, subscriber, number of its order and length
-pub record UsedPlace (openings : ℕ) (t : Bits128) (subscriber number size : ℕ) (bytes : List ℕ) : Type 0 where
-  -- "The transaction ID is the 8 lent bytes, then the number", that of an accepted opening; so is the order's number
+-- ID, subscriber and length
+pub record UsedPlace (openings : ℕ) (t : Bits128) (subscriber size : ℕ) (bytes : List ℕ) : Type 0 where
+  -- "The transaction ID is the 8 lent bytes, then the number", that of an accepted opening
   pub counted : t .low < openings
-  pub numbered : number < openings
   -- "Subscribers are 1 to 8"
   pub known : 1 ≤ subscriber
   pub most : subscriber ≤ subscribers
   pub zeros : bytes ≡ take size bytes ++ replicate (fileBytes - size) 0
 
 abbrev pub UsedAs : ℕ → Place → List ℕ → Type 0
-UsedAs openings p bytes = UsedPlace openings (p .transaction) (p .subscriber) (p .number) (p .length) bytes
+UsedAs openings p bytes = UsedPlace openings (p .transaction) (p .subscriber) (p .length) bytes
 
 -- the place of an open upload: N is 1 to 15, k < N, at most five attempts, each of the k segments has 1 to 256 bytes
 pub record OpenPlace (clock openings : ℕ) (p : Place) (bytes : List ℕ) : Type 0 where
@@ -127,27 +128,45 @@ pub record NoncesHold (clock : ℕ) (nonces : List Nonce) : Type 0 where
   pub used : AllRemembered clock first
   pub rows : nonces ≡ first ++ replicate (nonceCount - length first) noNonce
 
--- two places have one running number in their transaction IDs, or one order number
+-- the numbers of a list, all together
+unfoldable pub total : List ℕ → ℕ
+total [] = 0
+total (n ∷ l) = n + total l
+
+-- how far the numbering of each subscriber's uploads has come, after so many openings
+pub record SeriesHold (openings : ℕ) (series : List ℕ) : Type 0 where
+  -- "The limit of 1,213,056 ... holds per series"
+  pub limited : (i : ℕ) → i < placeCount → getD series i 0 ≤ seriesLimit
+  -- "the eight counts add up to at most openings"
+  pub counted : total series ≤ openings
+
+-- two places have one running number in their transaction IDs, or one subscriber and one order number
 abbrev pub Alike : Place → Place → Type 0
-Alike p r = (p .transaction .low ≡ r .transaction .low) ⊎ (p .number ≡ r .number)
+Alike p r =
+    (p .transaction .low ≡ r .transaction .low) ⊎ ((p .subscriber ≡ r .subscriber) × (p .number ≡ r .number))
 
 -- What an image may hold: the state and the stores alone, without the history
 pub record StateHolds (w : BankState) : Type 0 where
   -- rows and stores have their lengths
   pub sizes : Sizes w
-  -- at most 1,213,056 openings
+  -- at most 4,294,967,296 openings
   pub numbers : w .bank .openings ≤ maxOpenings
+  pub series : SeriesHold (w .bank .openings) (w .bank .series)
   -- each place is free and zero, or in use with its columns in their ranges and zeros behind its bytes
   pub places : (i : ℕ) → i < placeCount →
       PlaceHolds (placeAt (w .bank) i .used) (w .bank .clock) (w .bank .openings) (placeAt (w .bank) i)
       (partAt (w .orders) i)
+  -- an order's number is one that its subscriber's series has given
+  pub orders : (i : ℕ) → i < placeCount → isFree (placeAt (w .bank) i .used) ≡ false →
+      placeAt (w .bank) i .number < seriesOf (placeAt (w .bank) i .subscriber) (w .bank .series)
   -- each record of downloads is zero, or an open download with its columns in their ranges
   pub downloads : (j : ℕ) →
       DownloadHolds (downloadAt (w .bank) j .used) (w .bank .clock) (w .bank .openings)
       (mailboxFile w (downloadAt (w .bank) j .subscriber)) (downloadAt (w .bank) j)
   -- each mailbox holds at most 3,840 bytes, zeros behind
   pub mailboxesHold : (i : ℕ) → i < placeCount → MailboxHolds (getD (w .bank .files) i 0) (partAt (w .mailboxes) i)
-  -- no two places in use have one transaction or one order number, and no place has the transaction of an open download
+  -- no two places in use have one running number, or one order number of one subscriber, and no place has the running
+  -- number of an open download
   pub placesApart : (i j : ℕ) → i < placeCount → j < placeCount → isFree (placeAt (w .bank) i .used) ≡ false →
       isFree (placeAt (w .bank) j .used) ≡ false → Alike (placeAt (w .bank) i) (placeAt (w .bank) j) → i ≡ j
   pub apart : (i j : ℕ) → i < placeCount → isFree (placeAt (w .bank) i .used) ≡ false →

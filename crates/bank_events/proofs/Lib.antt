@@ -5,3 +5,4 @@ pub mod Rising
 pub mod Dropped
 pub mod Requests
 pub mod Examples
+pub mod Typed

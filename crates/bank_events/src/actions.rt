@@ -11,6 +11,7 @@ use journal::event::Batch;
 use journal::event::Entry;
 use journal::event::Kind;
 use journal::event::MAX_ENTRIES;
+use message::limits::FUL;
 ghost use mathlib.Core.Path.{_≡_};
 ghost use mathlib.Core.List.{[], _∷_, _++_};
 ghost use Prim.Native.Nat.{_≤_};
@@ -142,6 +143,7 @@ pub fn with_action(batch: Batch, verdict: Verdict, order: u64, q: Fields) -> Bat
             batch,
             Entry {
                 subscriber,
+                order_type: FUL,
                 order,
                 kind,
             },

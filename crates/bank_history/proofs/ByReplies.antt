@@ -26,7 +26,7 @@ use Rattle.bank_verdicts.specs.declared.verdict.Action.the-variants as action
 use Rattle.bank_verdicts.specs.declared.verdict.Verdict.{Verdict}
 use Rattle.bank_verdicts.specs.declared.verdict.Verdict.the-variants as verdict
 use Rattle.bank_verdicts.specs.Replies.{replyTo}
-use Rattle.bank_history.specs.History.{Exchange, Stands, newest, older, isOpening, isUploadOpening, isDownloadOpening, isDelivery, did, ever, times, opens, accepted, atOpening, segmentsAt}
+use Rattle.bank_history.specs.History.{Exchange, Stands, newest, older, isOpening, isUploadOpening, isDownloadOpening, isDelivery, did, ever, times, opens, acceptsUpload, accepted, uploadsAccepted, atOpening, segmentsAt}
 use Rattle.bank_history.specs.Sound.{isCancelling, Sound, SoundVerdict, SoundAction, AllSound}
 use Rattle.bank_history.specs.Sound as sounds
 use Rattle.bank_history.specs.Status.{Status, Open, Cancelled, dropIdle, statusAfter, status, openedIn, openings}
@@ -38,6 +38,7 @@ use Rattle.bank_history.specs.ByReplies.{
   isOpened,
   isUploadOpened,
   openedCount,
+  uploadsOpened,
   openedIds,
   atOpened,
   segmentCountOf,
@@ -120,6 +121,11 @@ upload-form (action.Download down.Cancelled) = refl
 upload-form (action.Download down.Confirmed) = refl
 upload-form (action.Download down.Declined) = refl
 
+upload-verdict : (v : Verdict) → ofReply false isUploadForm (verdictForm v) ≡ acceptsUpload v
+upload-verdict verdict.Unreadable = refl
+upload-verdict (verdict.Refused c) = refl
+upload-verdict (verdict.Of t k) = upload-form k
+
 module _ {e : Exchange} {h : List Exchange} (s : Sound e h) where
   pub formed : form (e .reply) ≡ verdictForm (e .verdict)
   formed = ap form (s .reply) ∙ verdict-form (e .verdict) (e .request)
@@ -129,6 +135,9 @@ module _ {e : Exchange} {h : List Exchange} (s : Sound e h) where
 
   pub is-opened : isOpened e ≡ opens (e .verdict)
   is-opened = ap (ofReply false isOpenedForm) formed ∙ opened-form (e .verdict)
+
+  pub is-upload : isUploadOpened e ≡ acceptsUpload (e .verdict)
+  is-upload = ap (ofReply false isUploadForm) formed ∙ upload-verdict (e .verdict)
 
   module _ {u : Bits128} {k : Action} (own : e .verdict ≡ verdict.Of u k) where
     pub formed-as : form (e .reply) ≡ actionForm k
@@ -189,6 +198,12 @@ pub opened-count : {h : List Exchange} → AllSound h → openedCount h ≡ acce
 unfolding openedCount accepted
 opened-count sounds.none = refl
 opened-count (sounds.more {e = e} {h = h} s r) = rw (is-opened s, opened-count r)
+
+-- how many uploads of a subscriber: downloads and refused openings are none
+pub uploads-told : (s : ℕ) {h : List Exchange} → AllSound h → uploadsOpened s h ≡ uploadsAccepted s h
+unfolding uploadsOpened uploadsAccepted
+uploads-told s sounds.none = refl
+uploads-told s (sounds.more {e = e} {h = h} x r) = rw (is-upload x, uploads-told s r)
 
 pub opened-ids : {h : List Exchange} → AllSound h → openedIds h ≡ openings h
 unfolding openedIds openings

@@ -26,7 +26,7 @@ use Rattle.bank_state.specs.Clock.{advanced, endDownloads}
 use Rattle.bank_state.specs.Search.{isFree}
 use Rattle.bank_state.specs.State.{BankState, bankState, noPlace, noDownload, placeAt, fileLength, withDownload}
 use Rattle.bank_state.specs.Store.{partAt, fileOf}
-use Rattle.bank_openings.specs.Openings.{counted, openUpload, openDownload}
+use Rattle.bank_openings.specs.Openings.{counted, countedUpload, openUpload, openDownload}
 use Rattle.bank_verdicts.specs.declared.verdict.UploadAction.{UploadAction}
 use Rattle.bank_verdicts.specs.declared.verdict.UploadAction.the-variants as up
 use Rattle.bank_verdicts.specs.declared.verdict.DownloadAction.{DownloadAction}
@@ -169,10 +169,10 @@ module _ (first : ℕ) (w : BankState) (h : List Exchange) (v : Invariant w h) (
 
   -- a request empties the mailbox of its subscriber by 011000, or leaves it; it leaves the others
   case-mailbox : {u : Verdict} → Happens first w q d u → Mailbox u
-  unfolding mailboxFile fileLength openUpload openDownload counted
+  unfolding mailboxFile fileLength openUpload countedUpload openDownload counted
   case-mailbox unreadable = inl refl
   case-mailbox (refused c e) = inl refl
-  case-mailbox (opensUpload asked a g n inside) = inl refl
+  case-mailbox (opensUpload asked a g n inside below) = inl refl
   case-mailbox (opensDownload asked a g n) = inl refl
   case-mailbox (toUpload r a t) =
       inl (ap (λ (z : BankState). mailboxFile z m) (upload-acts (placeAt (w .bank) (uploadAt (w .bank) q) .transaction) t))
@@ -260,10 +260,10 @@ module _ (t : Bits128) where
     fresh-number u n e = let k = g .known in let z = ap (λ (b : Bits128). b .low) e in omega arith
 
     pub case-gone : (first : ℕ) (q : Fields) (d : List ℕ) {v : Verdict} → Happens first w q d v → Gone (carryOut v w q d) t
-    unfolding openUpload openDownload counted
+    unfolding openUpload countedUpload openDownload counted
     case-gone first q d unreadable = g
     case-gone first q d (refused c e) = g
-    case-gone first q d (opensUpload asked a f n inside) =
+    case-gone first q d (opensUpload asked a f n inside below) =
         record { known = let k = g .known in omega arith; places = place-gone _ _ (λ _. fresh-number _ refl); downloads = g .downloads }
     case-gone first q d (opensDownload asked a f n) =
         record { known = let k = g .known in omega arith; places = g .places; downloads = download-gone _ _ (λ _. fresh-number _ refl) }

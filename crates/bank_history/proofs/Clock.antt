@@ -34,6 +34,7 @@ unfolding atClock mailboxFile fileLength
 at-clock c w h l v = record {
   state = admitted.at-clock c w l (v .state);
   counted = v .counted;
+  series = v .series;
   places = v .places;
   downloads = each-endDownloads (λ (r : Download). DownloadTold (r .used) h (mailboxFile w (r .subscriber)) r) tt (ended.Idle c)
       (w .bank .downloads) (λ j _ g. v .downloads j);
@@ -49,6 +50,7 @@ unfolding freed mailboxFile fileLength
 freed-keeps i w h inside opened v = record {
   state = admitted.freed-keeps i w inside (v .state);
   counted = v .counted;
+  series = v .series;
   places = places-told h w i noPlace (zeroed (w .orders) i) (replicate fileBytes 0) (v .state .sizes .places) inside
       (zeroed-same (w .orders) i (v .state .sizes .orders) inside) (zeroed-other (w .orders) i (v .state .sizes .orders) inside) tt
       (λ j a n. v .places j a);

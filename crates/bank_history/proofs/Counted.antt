@@ -21,10 +21,10 @@ use Rattle.bank_state.specs.declared.state.Use.the-variants.{Free, Open, Booked
 use Rattle.bank_state.specs.Clock.{advanced, endDownloads}
 use Rattle.bank_state.specs.Limits.{placeCount}
 use Rattle.bank_state.specs.Search.{isFree, isOpen, freePlace, freeDownload}
-use Rattle.bank_state.specs.State.{BankState, noPlace, noDownload, fresh, placeAt, downloadAt}
+use Rattle.bank_state.specs.State.{BankState, noPlace, noDownload, fresh, placeAt, downloadAt, seriesOf}
 use Rattle.bank_state.proofs.Drops.{each-endDownloads}
 use Rattle.bank_state.proofs.Found.{upload-found, download-found}
-use Rattle.bank_openings.specs.Openings.{counted, newPlace, newDownload, openUpload, openDownload}
+use Rattle.bank_openings.specs.Openings.{counted, countedUpload, newPlace, newDownload, openUpload, openDownload}
 use Rattle.bank_verdicts.specs.declared.verdict.TransactionRequest.{TransactionRequest}
 use Rattle.bank_verdicts.specs.declared.verdict.UploadAction.{UploadAction}
 use Rattle.bank_verdicts.specs.declared.verdict.UploadAction.the-variants as up
@@ -275,12 +275,12 @@ module _ (w : BankState) (h : List Exchange) (v : Invariant w h) (c : Counted w 
     download-counted down.Declined o = record { places = places-stay down.Declined; downloads = ended-stay down.Declined refl _ }
 
   case-counted : (first : ℕ) {u : Verdict} → Happens first w q d u → Counted (carryOut u w q d) (entry u w q d ∷ h)
-  unfolding openUpload openDownload counted
+  unfolding openUpload countedUpload openDownload counted
   case-counted first unreadable = nothing (entry verdict.Unreadable w q d) (λ t. refl)
   case-counted first (refused r z) = nothing (entry (verdict.Refused r) w q d) (λ t. refl)
-  case-counted first (opensUpload asked a g n inside) =
+  case-counted first (opensUpload asked a g n inside below) =
       let t = transactionOf first (w .bank) in
-      let k = action.Upload (up.Opened (w .bank .openings)) in
+      let k = action.Upload (up.Opened (seriesOf (subscriber q) (w .bank .series))) in
       let x = entry (verdict.Of t k) w q d in
       record {
         places = place-set (x ∷ h) (freePlace (w .bank)) _ inside (λ _. opened x h t 0 0 k refl refl refl (new-id t k refl x refl))

@@ -203,7 +203,7 @@ pub opened-open : (first : ℕ) (w : BankState) (h : List Exchange) → Invarian
 unfolding openDownload counted
 opened-open first w h v q b t n unreadable z = absurd (let y : _≡_ {A = ℕ} 0 1 = cc in omega arith)
 opened-open first w h v q b t n (refused c e) z = absurd (let y : _≡_ {A = ℕ} 0 1 = cc in omega arith)
-opened-open first w h v q b t n (opensUpload asked a g m inside) z = absurd (let y : _≡_ {A = ℕ} 0 1 = cc in omega arith)
+opened-open first w h v q b t n (opensUpload asked a g m inside below) z = absurd (let y : _≡_ {A = ℕ} 0 1 = cc in omega arith)
 opened-open first w h v q b t n (opensDownload asked a g m) z =
     let inside : freeDownload (w .bank) < length (w .bank .downloads) =
     free-inside-open (w .bank) (v .state .sizes .downloads) (g .ofAll) in

@@ -30,7 +30,7 @@ use Rattle.bank_history.specs.History.{Exchange, isBooking, isOpening, o
 use Rattle.bank_history.specs.Sound.{Sound, more}
 use Rattle.bank_history.specs.Invariant.{PlaceTold, OpenTold, DownloadTold, Invariant}
 use Rattle.bank_history.proofs.Parts.{OpenDownload, DownloadKept, download-kept}
-use Rattle.bank_history.proofs.Entries.{did-other, known-more, booked-more, accepted-own}
+use Rattle.bank_history.proofs.Entries.{did-other, known-more, booked-more, accepted-own, series-unmoved}
 use Rattle.bank_history.proofs.Memory.{memory-unchanged}
 use Rattle.bank_history.proofs.Places.{place-unchanged}
 use Rattle.bank_history.proofs.Records.{download-unchanged}
@@ -84,6 +84,7 @@ module _ (w : BankState) (h : List Exchange) (v : Invariant w h) (j : ℕ) (used
   download-step downs files mailboxes state downloads sound = record {
     state = state;
     counted = v .counted ∙ sym (accepted-own (e .transaction) k x h own ∙ rw noOpening refl);
+    series = λ s a b. v .series s a b ∙ sym (series-unmoved s x h (ap opens own ∙ noOpening));
     places = places-stay;
     downloads = downloads;
     memory = memory-unchanged _ _ x h (ap opens own ∙ noOpening) (v .memory);

@@ -67,7 +67,7 @@ use Rattle.bank_history.specs.Status.{
   next,
 }
 use Rattle.bank_history.specs.ByReplies.{
-  openedCount,
+  uploadsOpened,
   openedIds,
   isUploadOpened,
   atOpened,
@@ -76,12 +76,11 @@ use Rattle.bank_history.specs.ByReplies.{
   isUploadId,
   standing,
 }
-use Rattle.bank_history.specs.JournalOrders.{OpensOrder}
 use Rattle.bank_history.specs.Journal.{entryOf, isIdleUploadAt, uploadDrops}
 use Rattle.bank_history.proofs.ByReplies.{
   opened-own,
   upload-opened,
-  opened-count,
+  uploads-told,
   opened-ids,
   at-opened,
   opening-below,
@@ -272,7 +271,19 @@ upload-opening (action.Download down.Declined) z = never z
 pub owner-is : (t : Bits128) {h : List Exchange} → AllSound h → ownerOf t h ≡ openedBy t h
 owner-is t r = at-opened (λ (e : Exchange). subscriber (e .request)) 0 t r
 
--- the order number of an upload is that of its opening's verdict
+-- the exchange e, with g before it, opened the upload t of the subscriber s with the number n of its series
+pub record OpensAs (s n : ℕ) (t : Bits128) (h : List Exchange) : Type 0 where
+  pub exchange : Exchange
+  pub before : List Exchange
+  pub stands : Stands exchange before h
+  pub is : exchange .verdict ≡ verdict.Of t (action.Upload (up.Opened n))
+  pub owner : subscriber (exchange .request) ≡ s
+
+abbrev pub order-older : {s n : ℕ} {t : Bits128} {h : List Exchange} (e : Exchange) → OpensAs s n t h → OpensAs s n t (e ∷ h)
+order-older e o =
+    record { exchange = o .exchange; before = o .before; stands = older (o .stands); is = o .is; owner = o .owner }
+
+-- the order number of an upload, that of its series, is that of its opening's verdict
 pub order-is : (t : Bits128) {h : List Exchange} → AllSound h → ever isUploadOpening t h ≡ true → orderOf t h ≡ numberAt t h
 order-is t {h} r z =
     let p = ever-stands isUploadOpening t h z in
@@ -281,8 +292,9 @@ order-is t {h} r z =
     let a = p .3 in
     let n = upload-opening (a .action) (a .kind) in
     let own : e .verdict ≡ verdict.Of t (action.Upload (up.Opened (n .0))) = a .is ∙ ap (verdict.Of t) (n .1) in
-    opening-at (λ (x : Exchange) (y : List Exchange). openedCount y) 0 t (action.Upload (up.Opened (n .0))) r (p .2) own refl
-    ∙ (opened-count (sound-before r (p .2))
+    opening-at (λ (x : Exchange) (y : List Exchange). uploadsOpened (subscriber (x .request)) y) 0 t
+    (action.Upload (up.Opened (n .0))) r (p .2) own refl
+    ∙ (uploads-told (subscriber (e .request)) (sound-before r (p .2))
     ∙ (sym (action-sound r (p .2) own .number)
     ∙ (sym (ap numberIn own)
     ∙ (sym (opening-at (λ (x : Exchange) (y : List Exchange). numberIn (x .verdict)) 0 t (action.Upload (up.Opened (n .0))) r
@@ -291,7 +303,7 @@ order-is t {h} r z =
 
 -- the exchange that opened an upload
 pub opened-order : (t : Bits128) {h : List Exchange} → AllSound h → ever isUploadOpening t h ≡ true →
-    (o : OpensOrder (orderOf t h) t h) × (ownerOf t h ≡ subscriber (o .exchange .request))
+    OpensAs (ownerOf t h) (orderOf t h) t h
 opened-order t {h} r z =
     let p = ever-stands isUploadOpening t h z in
     let a = p .3 in
@@ -299,15 +311,24 @@ opened-order t {h} r z =
     let own : p .0 .verdict ≡ verdict.Of t (action.Upload (up.Opened (n .0))) = a .is ∙ ap (verdict.Of t) (n .1) in
     let order : orderOf t h ≡ n .0 = order-is t r z ∙ (sym (at-opened (λ (x : Exchange). numberIn (x .verdict)) 0 t r)
     ∙ (opening-at (λ (x : Exchange) (y : List Exchange). numberIn (x .verdict)) 0 t (action.Upload (up.Opened (n .0))) r
-    (p .2) own refl ∙ ap numberIn own)) in (
-      record {
-        exchange = p .0;
-        before = p .1;
-        stands = p .2;
-        is = own ∙ ap (λ (m : ℕ). verdict.Of t (action.Upload (up.Opened m))) (sym order);
-      },
-      opening-at (λ (x : Exchange) (y : List Exchange). subscriber (x .request)) 0 t (action.Upload (up.Opened (n .0))) r
-          (p .2) own refl,
+    (p .2) own refl ∙ ap numberIn own)) in
+    record {
+      exchange = p .0;
+      before = p .1;
+      stands = p .2;
+      is = own ∙ ap (λ (m : ℕ). verdict.Of t (action.Upload (up.Opened m))) (sym order);
+      owner = sym (opening-at (λ (x : Exchange) (y : List Exchange). subscriber (x .request)) 0 t
+          (action.Upload (up.Opened (n .0))) r (p .2) own refl);
+    }
+
+-- it is the one that the replies tell
+pub opened-as : {s n : ℕ} {t : Bits128} {h : List Exchange} → AllSound h → OpensAs s n t h → (ownerOf t h ≡ s) × (orderOf t h ≡ n)
+opened-as {s} {n} {t} r o =
+    let k = action.Upload (up.Opened n) in (
+      opening-at (λ (x : Exchange) (y : List Exchange). subscriber (x .request)) 0 t k r (o .stands) (o .is) refl ∙ o .owner,
+      opening-at (λ (x : Exchange) (y : List Exchange). uploadsOpened (subscriber (x .request)) y) 0 t k r (o .stands) (o .is) refl
+          ∙ (uploads-told (subscriber (o .exchange .request)) (sound-before r (o .stands))
+          ∙ sym (action-sound r (o .stands) (o .is) .number)),
     )
 
 -- whether it is an upload

@@ -8,14 +8,14 @@ use lib.Dec.{eqb}
 use borrow.Author.Tests.{eq-eqb, ne-eqb}
 use Rattle.frame_table.specs.declared.fields.Bits128.{Bits128}
 use Rattle.frame_table.specs.Names.{sameBits}
-use Rattle.octets.proofs.Tests.{never, and-true}
+use Rattle.octets.proofs.Tests.{never, and-true, or-neither}
 use Rattle.frame_table.proofs.Bits.{bits-same}
 use Rattle.bank_verdicts.specs.declared.verdict.UploadAction.the-variants as up
 use Rattle.bank_verdicts.specs.declared.verdict.Action.{Action}
 use Rattle.bank_verdicts.specs.declared.verdict.Action.the-variants as action
 use Rattle.bank_verdicts.specs.declared.verdict.Verdict.{Verdict}
 use Rattle.bank_verdicts.specs.declared.verdict.Verdict.the-variants as verdict
-use Rattle.bank_history.specs.History.{Exchange, isAction, isTaking, isBooking, isOpening, opens, accepted, did, ever, times, received, atOpening}
+use Rattle.bank_history.specs.History.{Exchange, isAction, isTaking, isBooking, isOpening, isUploadOpening, isDownloadOpening, opens, acceptsUpload, accepted, uploadsAccepted, did, ever, times, received, atOpening}
 
 -- ---- transaction IDs
 
@@ -156,6 +156,18 @@ module _ (u : Bits128) (k : Action) (x : Exchange) (h : List Exchange) (own : x 
   pub accepted-own : accepted (x ∷ h) ≡ cond (isOpening k) (suc (accepted h)) (accepted h)
   unfolding accepted
   accepted-own = ap (λ (v : Verdict). cond (opens v) (suc (accepted h)) (accepted h)) own
+
+-- ---- the series: what opens nothing is in none
+
+opens-no-upload : (v : Verdict) → opens v ≡ false → acceptsUpload v ≡ false
+opens-no-upload verdict.Unreadable z = refl
+opens-no-upload (verdict.Refused c) z = refl
+opens-no-upload (verdict.Of t k) z = or-neither (isUploadOpening k) (isDownloadOpening k) z .0
+
+pub series-unmoved : (s : ℕ) (x : Exchange) (h : List Exchange) → opens (x .verdict) ≡ false →
+    uploadsAccepted s (x ∷ h) ≡ uploadsAccepted s h
+unfolding uploadsAccepted
+series-unmoved s x h z = rw (opens-no-upload (x .verdict) z)
 
 -- behind the exchange that took segment N of u
 pub booked-last : (u : Bits128) (x : Exchange) (h : List Exchange) →

@@ -33,6 +33,7 @@ module _ (w : BankState) (h : List Exchange) (v : Invariant w h) (mailbox : ℕ)
   filled-keeps = record {
     state = admitted.filled-keeps w (v .state) mailbox file known most some short empty;
     counted = v .counted;
+    series = v .series;
     places = v .places;
     downloads = downloads-stay;
     memory = v .memory;

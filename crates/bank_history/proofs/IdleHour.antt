@@ -69,7 +69,7 @@ module _ (w : BankState) (h : List Exchange) (c : Counted w h) (current : NoneId
   unfolding idOf isOf
   acted-recent unreadable z = absurd (let y = ap isOf z in omega arith)
   acted-recent (refused r e) z = absurd (let y = ap isOf z in omega arith)
-  acted-recent (opensUpload asked a g n inside) z = never (sym noOpening ∙ sym (ap opens z))
+  acted-recent (opensUpload asked a g n inside below) z = never (sym noOpening ∙ sym (ap opens z))
   acted-recent (opensDownload asked a g n) z = never (sym noOpening ∙ sym (ap opens z))
   acted-recent (toUpload r a s) z =
       let i = uploadAt (w .bank) q in

@@ -53,7 +53,7 @@ use Rattle.bank_history.specs.Sound.{isCancelling, Sound, SoundRequest, 
 use Rattle.bank_history.specs.Sound as sounds
 use Rattle.bank_history.specs.ByReplies.{
   ofReply,
-  openedCount,
+  uploadsOpened,
   ownerOf,
   orderOf,
   segmentCountOf,
@@ -78,7 +78,7 @@ use Rattle.bank_history.proofs.ByReplies.{
   coded-as,
   carries,
   sound-as,
-  opened-count,
+  uploads-told,
   at-opened,
 }
 use Rattle.bank_history.proofs.GoesOn.{upload-goes-on}
@@ -234,9 +234,10 @@ module _ {e : Exchange} {h : List Exchange} (s : Sound e h) (r : AllSound h) (w 
       ∙ ap (λ (b : Bool). cond (b && isUploadId (transaction (e .request)) h)
       (entryOf kind.Cancelled (transaction (e .request)) h ∷ []) [])
       (ap isCancelling (coded s ∙ ap (λ (x : Verdict). codeField (verdictCode x)) own) ∙ (cancelling-code c ∙ z)))
-  case-enters own (opensUpload asked a g n inside) =
-      by-form _ own (ap (λ (m : ℕ). entry kind.Opened (subscriber q) m ∷ []) (v .counted ∙ sym (opened-count r))
-      ∙ ap (λ (f : Fields). entry kind.Opened (subscriber f) (openedCount h) ∷ []) (sym same))
+  case-enters own (opensUpload asked a g n inside below) =
+      by-form _ own (ap (λ (m : ℕ). entry kind.Opened (subscriber q) m ∷ [])
+      (v .series (subscriber q) (a .known) (a .most) ∙ sym (uploads-told (subscriber q) r))
+      ∙ ap (λ (f : Fields). entry kind.Opened (subscriber f) (uploadsOpened (subscriber f) h) ∷ []) (sym same))
   case-enters own (opensDownload asked a g n) = by-form [] own refl
   case-enters own (toUpload y a z) =
       let i = uploadAt (w .bank) q in

@@ -8,15 +8,12 @@ use mathlib.Core.List.{
   _++_,
   map,
   List·Memᴰ as In,
-  List·Memᴰ·head as here,
-  List·Memᴰ·tail as there,
-  List·Memᴰ·not-nil as in-none,
 }
 use mathlib.Core.Path.{_≡_, refl, sym, ap, _∙_, subst}
 use native.Mathlib.Omega.{arith}
 use lib.Dec.{eqb}
 use lib.ListN.{length, length-append}
-use borrow.Author.Tests.{eqb-true, ne-eqb}
+use borrow.Author.Tests.{eqb-true}
 use Rattle.frame_table.specs.declared.fields.Bits128.{Bits128}
 use Rattle.frame_table.specs.declared.fields.Fields.{Fields}
 use Rattle.frame_table.specs.declared.table.Form.{Form}
@@ -26,7 +23,9 @@ use Rattle.frame_table.specs.declared.table.ReplyForm.the-variants as replies
 use Rattle.frame_table.specs.Names.{subscriber, transaction, segment, returnCode, form, sameBits}
 use Rattle.message.specs.declared.codes.ReturnCode.the-variants as code
 use Rattle.message.specs.Codes.{codeField}
-use Rattle.octets.proofs.Tests.{never}
+use Rattle.message.specs.Limits.{ful}
+use Rattle.message.specs.OrderNumbers.{orderNumberOf}
+use Rattle.octets.proofs.Tests.{never, and-true}
 use Rattle.message.proofs.Verdicts.{by-test}
 use Rattle.bank_state.specs.declared.state.Place.{Place}
 use Rattle.bank_state.specs.declared.state.Use.the-variants as uses
@@ -34,14 +33,16 @@ use Rattle.bank_state.specs.Clock.{isIdle}
 use Rattle.bank_state.specs.State.{BankState, placeAt}
 use Rattle.bank_state.proofs.Found.{upload-found}
 use Rattle.bank_verdicts.specs.Judgement.{uploadAt}
-use Rattle.bank_state.specs.Limits.{maxOpenings}
-use Rattle.bank_state.specs.Rows.{countOf, keep}
+use Rattle.bank_state.specs.Limits.{maxOpenings, seriesLimit}
+use Rattle.bank_state.specs.Rows.{countOf}
 use Rattle.bank_state.proofs.Rows.{count-le}
 use Rattle.journal.specs.declared.event.Kind.{Kind}
 use Rattle.journal.specs.declared.event.Kind.the-variants as kind
 use Rattle.journal.specs.declared.event.Entry.{Entry}
 use Rattle.journal.specs.declared.event.Event.{Event}
+use Rattle.journal.specs.declared.event.OrderName.{OrderName}
 use Rattle.journal.specs.Events.{eventsFrom}
+use Rattle.journal.specs.Row.{isOf}
 use Rattle.journal.proofs.Events.{events-length}
 use Rattle.bank_events.specs.Entries.{orderIn, actionEntries}
 use Rattle.bank_verdicts.specs.declared.verdict.Direction.{Direction}
@@ -53,8 +54,7 @@ use Rattle.bank_verdicts.specs.declared.verdict.Action.{Action}
 use Rattle.bank_verdicts.specs.declared.verdict.Action.the-variants as action
 use Rattle.bank_verdicts.specs.declared.verdict.Verdict.{Verdict}
 use Rattle.bank_verdicts.specs.declared.verdict.Verdict.the-variants as verdict
-use Rattle.bank_history.specs.History.{Exchange, BankCall, isOpening, did, accepted, start, pastOf}
-use Rattle.bank_history.specs.History.{newest}
+use Rattle.bank_history.specs.History.{Exchange, BankCall, Stands, newest, ActionIn, isOpening, isDownloadOpening, did, accepted, start, pastOf}
 use Rattle.bank_history.specs.ByReplies.{
   ofReply,
   isOpenedForm,
@@ -65,6 +65,7 @@ use Rattle.bank_history.specs.ByReplies.{
   segmentCountOf,
   standing,
   openedIds,
+  ownerOf,
   orderOf,
 }
 use Rattle.bank_history.specs.FalseEconomies.{Next}
@@ -80,7 +81,7 @@ use Rattle.bank_history.specs.Journal.{
   entriesOf,
   eventsIn,
 }
-use Rattle.bank_history.specs.JournalOrders.{OpensOrder, isEnd}
+use Rattle.bank_history.specs.JournalOrders.{isEnd}
 use Rattle.bank_history.specs.Status.{
   Status,
   NotOpened,
@@ -99,12 +100,17 @@ use Rattle.bank_history.specs.Status.{
   statusAfter,
   status,
   openedIn,
-  openings,
-  Numbered,
-  none,
-  one,
 }
 use Rattle.bank_history.proofs.ByReplies.{standing-is, opened-count, opened-ids}
+use Rattle.bank_history.proofs.Counts.{
+  unit,
+  count-append,
+  count-map,
+  count-keep,
+  count-less,
+  count-two,
+  count-two-less,
+}
 use Rattle.bank_history.proofs.GoesOn.{upload-goes-on}
 use Rattle.bank_admitted.proofs.Cases.{
   Happens,
@@ -116,117 +122,46 @@ use Rattle.bank_admitted.proofs.Cases.{
   toDownload,
 }
 use Rattle.bank_history.proofs.Closed.{isClosed, acted-open, closed-next, by-exchange}
-use Rattle.bank_history.proofs.DropOrder.{opened-order, idle-status, drop-told}
-use Rattle.bank_history.proofs.Drops.{opened-numbered, listed}
+use Rattle.bank_history.proofs.DropOrder.{
+  OpensAs,
+  owner-is,
+  opened-as,
+  opened-order,
+  upload-id,
+  download-id,
+  idle-status,
+  drop-told,
+}
+use Rattle.bank_history.proofs.Drops.{in-keep, listed}
 use Rattle.bank_history.proofs.Journal.{journal-told, request-told, p-told, number-is}
 use Rattle.bank_history.proofs.JournalUploads.{order-low, own-status}
 use Rattle.bank_history.proofs.Keeps.{past-holds}
+use Rattle.bank_history.proofs.NamedUploads.{
+  Upload,
+  uploadBy,
+  uploadsIn,
+  upload-opens,
+  listed-upload,
+  named-once,
+  few-uploads,
+  count-uploads,
+}
+use Rattle.bank_history.proofs.OrderNumbers.{one-order-number}
 use Rattle.bank_history.proofs.NextCall.{judgedBank, asked, all-sound, request-is, judged-holds, case-is}
-use Rattle.bank_history.proofs.Positions.{action-sound, opening-number}
+use Rattle.bank_history.proofs.Positions.{action-sound, opening-number, stands-ever}
 use Rattle.bank_history.proofs.SentSegments.{action-in}
 use Rattle.bank_history.proofs.Statuses.{past-told}
 
--- ---- counts
-
-abbrev unit : Bool → ℕ
-unit b = cond b 1 0
-
-count-append : {A : Type 0} (p : A → Bool) (l m : List A) → countOf p (l ++ m) ≡ countOf p l + countOf p m
-unfolding countOf
-count-append p [] m = omega arith
-count-append p (x ∷ l) m = let z = count-append p l m in omega arith
-
-count-map : {A B : Type 0} (p : B → Bool) (f : A → B) (l : List A) → countOf p (map f l) ≡ countOf (λ (x : A). p (f x)) l
-unfolding countOf
-count-map p f [] = refl
-count-map p f (x ∷ l) = ap (λ (n : ℕ). unit (p (f x)) + n) (count-map p f l)
-
-count-keep : {A : Type 0} (p q : A → Bool) (l : List A) → countOf p (keep q l) ≡ countOf (λ (x : A). q x && p x) l
-unfolding countOf keep
-count-keep p q [] = refl
-count-keep {A} p q (x ∷ l) = at (q x) (count-keep p q l)
-  where
-    at : (b : Bool) → countOf p (keep q l) ≡ countOf (λ (y : A). q y && p y) l →
-        countOf p (cond b (x ∷ keep q l) (keep q l)) ≡ unit (b && p x) + countOf (λ (y : A). q y && p y) l
-    at true z = ap (λ (n : ℕ). unit (p x) + n) z
-    at false z = let y = z in omega arith
-
-count-same : {A : Type 0} (p q : A → Bool) (l : List A) → ((x : A) → In x l → p x ≡ q x) → countOf p l ≡ countOf q l
-unfolding countOf
-count-same p q [] f = refl
-count-same p q (x ∷ l) f =
-    ap (λ (b : Bool). unit b + countOf p l) (f x (here refl))
-    ∙ ap (λ (n : ℕ). unit (q x) + n) (count-same p q l (λ y i. f y (there i)))
-
-count-less : {A : Type 0} (p q : A → Bool) (l : List A) → ((x : A) → In x l → unit (p x) ≤ unit (q x)) →
-    countOf p l ≤ countOf q l
-unfolding countOf
-count-less p q [] f = omega arith
-count-less p q (x ∷ l) f =
-    let a = f x (here refl) in let b = count-less p q l (λ y i. f y (there i)) in omega arith
-
--- two tests that never pass together, and only where a third does
-module _ {A : Type 0} (p q r : A → Bool) where
-  count-two : (l : List A) → ((x : A) → In x l → unit (p x) + unit (q x) ≤ unit (r x)) →
-      countOf p l + countOf q l ≤ countOf r l
-  unfolding countOf
-  count-two [] f = omega arith
-  count-two (x ∷ l) f =
-      let a = f x (here refl) in let b = count-two l (λ y i. f y (there i)) in omega arith
-
-  -- and neither where the third does once
-  count-two-less : (l : List A) → ((x : A) → In x l → unit (p x) + unit (q x) ≤ unit (r x)) → {y : A} → In y l →
-      unit (p y) + unit (q y) + 1 ≤ unit (r y) →
-      countOf p l + countOf q l + 1 ≤ countOf r l
-  unfolding countOf
-  count-two-less [] f i z = absurd (in-none i)
-  count-two-less (x ∷ l) f {y} (here k) z =
-      let a : unit (p x) + unit (q x) + 1 ≤ unit (r x) = subst (λ (m : A). unit (p m) + unit (q m) + 1 ≤ unit (r m)) k z in
-      let b = count-two l (λ y i. f y (there i)) in
-      omega arith
-  count-two-less (x ∷ l) f {y} (there k) z =
-      let a = f x (here refl) in
-      let b = count-two-less l (λ m i. f m (there i)) k z in
-      omega arith
-
--- the transactions of a list numbered from m on
-numbered-below : {m : ℕ} {l : List Bits128} {t : Bits128} → Numbered m l → In t l → t .low < m + length l
-numbered-below none i = absurd (in-none i)
-numbered-below (one z r) (here k) = let y = ap (λ (t : Bits128). t .low) k in omega arith
-numbered-below (one z r) (there i) = let y = numbered-below r i in omega arith
-
-numbered-from : {m : ℕ} {l : List Bits128} {t : Bits128} → Numbered m l → In t l → m ≤ t .low
-numbered-from none i = absurd (in-none i)
-numbered-from (one z r) (here k) = let y = ap (λ (t : Bits128). t .low) k in omega arith
-numbered-from (one z r) (there i) = let y = numbered-from r i in omega arith
-
--- one number stands there once
-numbered-once : (n : ℕ) {m : ℕ} {l : List Bits128} → Numbered m l → countOf (λ (t : Bits128). eqb (t .low) n) l ≤ 1
-unfolding countOf
-numbered-once n none = omega arith
-numbered-once n (one {m = m} {t = t} {l = l} z r) = at (eqb (t .low) n) refl (numbered-once n r)
-  where
-    none-later : t .low ≡ n → (k : List Bits128) → ((u : Bits128) → In u k → suc m ≤ u .low) →
-        countOf (λ (u : Bits128). eqb (u .low) n) k ≡ 0
-    none-later y [] f = refl
-    none-later y (u ∷ k) f =
-        let a : eqb (u .low) n ≡ false = ne-eqb (u .low) n (let b = f u (here refl) in omega arith) in
-        let b = none-later y k (λ x i. f x (there i)) in
-        rw a (omega arith)
-
-    at : (b : Bool) → eqb (t .low) n ≡ b → countOf (λ (u : Bits128). eqb (u .low) n) l ≤ 1 →
-        unit b + countOf (λ (u : Bits128). eqb (u .low) n) l ≤ 1
-    at true y later =
-        let a = none-later (eqb-true (t .low) n y) l (λ u i. numbered-from r i) in omega arith
-    at false y later = omega arith
+-- ---- entries
 
 -- the entries numbered on
-count-from : (p : Kind → ℕ → Bool) (n clock : ℕ) (es : List Entry) →
-    countOf (λ (v : Event). p (v .kind) (v .order)) (eventsFrom n clock es)
-    ≡ countOf (λ (y : Entry). p (y .kind) (y .order)) es
+count-from : (p : Kind → ℕ → ℕ → ℕ → Bool) (n clock : ℕ) (es : List Entry) →
+    countOf (λ (v : Event). p (v .kind) (v .subscriber) (v .«order_type») (v .order)) (eventsFrom n clock es)
+    ≡ countOf (λ (y : Entry). p (y .kind) (y .subscriber) (y .«order_type») (y .order)) es
 unfolding countOf eventsFrom
 count-from p n clock [] = refl
-count-from p n clock (e ∷ es) = ap (λ (m : ℕ). unit (p (e .kind) (e .order)) + m) (count-from p (suc n) clock es)
+count-from p n clock (e ∷ es) =
+    ap (λ (m : ℕ). unit (p (e .kind) (e .subscriber) (e .«order_type») (e .order)) + m) (count-from p (suc n) clock es)
 
 -- ---- how a transaction stands: an open upload
 
@@ -325,30 +260,27 @@ kept-open c Dropped z = absurd (let y : _≡_ {A = ℕ} 0 1 = cc in omega arith)
 
 -- ---- one exchange more
 
-opening-low : {h : List Exchange} → AllSound h → {t : Bits128} → In t (openings h) → t .low < accepted h
-opening-low r i =
-    let z = opened-numbered r in let a = numbered-below (z .0) i in let b = z .1 in omega arith
-
-module _ (which : ℕ → Bool) where
-  -- an event that ends an upload with such a number
-  abbrev ends : Kind → ℕ → Bool
-  ends k o = isEnd k && which o
+-- a test of subscriber, type and number
+module _ (which : ℕ → ℕ → ℕ → Bool) where
+  -- an event that ends an upload with such a name
+  abbrev ends : Kind → ℕ → ℕ → ℕ → Bool
+  ends k s t o = isEnd k && which s t o
 
   abbrev endsIn : List Entry → ℕ
-  endsIn es = countOf (λ (y : Entry). ends (y .kind) (y .order)) es
+  endsIn es = countOf (λ (y : Entry). ends (y .kind) (y .subscriber) (y .«order_type») (y .order)) es
 
   abbrev endsOf : List Exchange → ℕ
-  endsOf h = countOf (λ (x : Event). ends (x .kind) (x .order)) (eventsIn h)
+  endsOf h = countOf (λ (x : Event). ends (x .kind) (x .subscriber) (x .«order_type») (x .order)) (eventsIn h)
 
-  -- the uploads with such a number, and those of them that are open
-  abbrev all : Bits128 → Bool
-  all t = which (t .low)
+  -- the uploads with such a name, and those of them that are open
+  abbrev all : Upload → Bool
+  all u = which (u .owner) ful (u .order)
 
-  abbrev openAfter : List Exchange → Bits128 → Bool
-  openAfter h t = isOpenUpload (status t h) && which (t .low)
+  abbrev openAfter : List Exchange → Upload → Bool
+  openAfter h u = isOpenUpload (status (u .id) h) && which (u .owner) ful (u .order)
 
   abbrev Ended : List Exchange → Type 0
-  Ended h = endsOf h + countOf (openAfter h) (openings h) ≤ countOf all (openings h)
+  Ended h = endsOf h + countOf (openAfter h) (uploadsIn h) ≤ countOf all (uploadsIn h)
 
   module _ {calls : List BankCall} {e : Exchange} (n : Next calls e) where
     abbrev h : List Exchange
@@ -357,8 +289,8 @@ module _ (which : ℕ → Bool) where
     abbrev v : Invariant (pastOf calls .bankState) h
     v = past-holds calls .invariant
 
-    abbrev idle : Bits128 → Bool
-    idle t = isIdleUploadAt (e .clock) (standing t h) && which (t .low)
+    abbrev idle : Upload → Bool
+    idle u = isIdleUploadAt (e .clock) (standing (u .id) h) && which (u .owner) ful (u .order)
 
     -- its own opening is new
     no-opening : (t : Bits128) → t .low < accepted h → did isOpening t (e .verdict) ≡ false
@@ -378,11 +310,14 @@ module _ (which : ℕ → Bool) where
         (after-open t (e .verdict) e (dropIdle (e .clock) (status t h)) (no-opening t l) z)
 
     -- what is idle is dropped; what is open was open
-    each : (t : Bits128) → In t (openings h) → unit (idle t) + unit (openAfter (e ∷ h) t) ≤ unit (openAfter h t)
-    each t i = at (isIdleUploadAt (e .clock) (standing t h)) refl
+    each : (u : Upload) → In u (uploadsIn h) → unit (idle u) + unit (openAfter (e ∷ h) u) ≤ unit (openAfter h u)
+    each u i = at (isIdleUploadAt (e .clock) (standing t h)) refl
       where
+        t : Bits128
+        t = u .id
+
         l : t .low < accepted h
-        l = opening-low (v .sound) i
+        l = order-low (v .sound) (upload-opens h i)
 
         by : (a b w : Bool) → (a ≡ true → b ≡ true) → 0 + unit (a && w) ≤ unit (b && w)
         by true true w f = omega arith
@@ -390,7 +325,7 @@ module _ (which : ℕ → Bool) where
         by false b w f = omega arith
 
         at : (b : Bool) → isIdleUploadAt (e .clock) (standing t h) ≡ b →
-            unit (b && which (t .low)) + unit (openAfter (e ∷ h) t) ≤ unit (openAfter h t)
+            unit (b && which (u .owner) ful (u .order)) + unit (openAfter (e ∷ h) u) ≤ unit (openAfter h u)
         at true z =
             let o = idle-status (e .clock) (standing t h) z in
             let now : status t h ≡ Open direction.Upload (o .0) (o .1) = sym (standing-is t (v .sound)) ∙ o .2 in
@@ -399,49 +334,96 @@ module _ (which : ℕ → Bool) where
             let gone : status t (e ∷ h) ≡ Dropped = closed-next n t l (ap isClosed y) ∙ y in
             rw (now, gone) (omega arith)
         at false z =
-            by (isOpenUpload (status t (e ∷ h))) (isOpenUpload (status t h)) (which (t .low)) (open-before t l)
+            by (isOpenUpload (status t (e ∷ h))) (isOpenUpload (status t h)) (which (u .owner) ful (u .order)) (open-before t l)
+
+    -- no download is an idle upload
+    not-idle : {x : Exchange} {g : List Exchange} (t : Bits128) (m : ℕ) → Stands x g h →
+        x .verdict ≡ verdict.Of t (action.Download (down.Opened m)) → isIdleUploadAt (e .clock) (standing t h) ≡ false
+    unfolding uploadDrops
+    not-idle {x} t m s own = at (isIdleUploadAt (e .clock) (standing t h)) refl
+      where
+        opened : ActionIn isDownloadOpening t x
+        opened = record { action = action.Download (down.Opened m); is = own; kind = refl }
+
+        dropped : isIdleUploadAt (e .clock) (standing t h) ≡ true → In t (uploadDrops (e .clock) h)
+        dropped z =
+            in-keep (λ (i : Bits128). isIdleUploadAt (e .clock) (standing i h)) (openedIds h)
+            (subst (λ (l : List Bits128). In t l) (sym (opened-ids (v .sound)))
+            (listed s (record { action = opened .action; is = own; kind = refl }))) z
+
+        at : (b : Bool) → isIdleUploadAt (e .clock) (standing t h) ≡ b → b ≡ false
+        at true z =
+            never (sym (download-id t (v .sound) (stands-ever isDownloadOpening t s opened))
+            ∙ upload-id t (v .sound)
+            (drop-told (pastOf calls .bankState) h v (past-told calls) (e .clock) t (dropped z) .0))
+        at false z = refl
+
+    -- an opening that is an idle upload with such a name, by the replies
+    abbrev idleBy : Bits128 → Bool
+    idleBy t = isIdleUploadAt (e .clock) (standing t h) && which (ownerOf t h) ful (orderOf t h)
+
+    one-idle : (x : Exchange) (g : List Exchange) → Stands x g h →
+        countOf idleBy (openedIn (x .verdict)) ≡ countOf idle (uploadBy (x .verdict) (x .request))
+    unfolding countOf
+    one-idle x g s = at (x .verdict) refl
+      where
+        at : (u : Verdict) → x .verdict ≡ u → countOf idleBy (openedIn u) ≡ countOf idle (uploadBy u (x .request))
+        at verdict.Unreadable own = refl
+        at (verdict.Refused c) own = refl
+        at (verdict.Of t (action.Upload (up.Opened m))) own =
+            let z = opened-as (v .sound) (record { exchange = x; before = g; stands = s; is = own; owner = refl }) in
+            rw (z .0, z .1)
+        at (verdict.Of t (action.Upload up.Took)) own = refl
+        at (verdict.Of t (action.Upload up.TookLast)) own = refl
+        at (verdict.Of t (action.Upload (up.Point k))) own = refl
+        at (verdict.Of t (action.Upload (up.Cancelled c))) own = refl
+        at (verdict.Of t (action.Download (down.Opened m))) own = rw (not-idle t m s own)
+        at (verdict.Of t (action.Download (down.Delivered m))) own = refl
+        at (verdict.Of t (action.Download (down.SentAgain m))) own = refl
+        at (verdict.Of t (action.Download (down.Point m))) own = refl
+        at (verdict.Of t (action.Download down.Cancelled)) own = refl
+        at (verdict.Of t (action.Download down.Confirmed)) own = refl
+        at (verdict.Of t (action.Download down.Declined)) own = refl
 
     -- the drops are the idle uploads
-    drop-ends : endsIn (map (λ (t : Bits128). entryOf kind.Dropped t h) (uploadDrops (e .clock) h)) ≡ countOf idle (openings h)
+    drop-ends : endsIn (map (λ (t : Bits128). entryOf kind.Dropped t h) (uploadDrops (e .clock) h)) ≡ countOf idle (uploadsIn h)
     unfolding uploadDrops
     drop-ends =
-        count-map (λ (y : Entry). ends (y .kind) (y .order)) (λ (t : Bits128). entryOf kind.Dropped t h) (uploadDrops (e .clock) h)
-        ∙ (count-same (λ (t : Bits128). which (orderOf t h)) all (uploadDrops (e .clock) h)
-        (λ t i. ap which (sym (order-low (v .sound) (opened-order t (v .sound)
-        (drop-told (pastOf calls .bankState) h v (past-told calls) (e .clock) t i .0) .0) .0)))
-        ∙ (count-keep all (λ (t : Bits128). isIdleUploadAt (e .clock) (standing t h)) (openedIds h)
-        ∙ ap (countOf idle) (opened-ids (v .sound))))
+        count-map (λ (y : Entry). ends (y .kind) (y .subscriber) (y .«order_type») (y .order))
+        (λ (t : Bits128). entryOf kind.Dropped t h) (uploadDrops (e .clock) h)
+        ∙ (count-keep (λ (t : Bits128). which (ownerOf t h) ful (orderOf t h))
+        (λ (t : Bits128). isIdleUploadAt (e .clock) (standing t h)) (openedIds h)
+        ∙ (ap (countOf idleBy) (opened-ids (v .sound)) ∙ count-uploads idleBy idle h one-idle))
 
     -- a request that ends an upload
     abbrev Fewer : ℕ → Type 0
-    Fewer m = countOf idle (openings h) + countOf (openAfter (e ∷ h)) (openings h) + m ≤ countOf (openAfter h) (openings h)
+    Fewer m = countOf idle (uploadsIn h) + countOf (openAfter (e ∷ h)) (uploadsIn h) + m ≤ countOf (openAfter h) (uploadsIn h)
 
     none-fewer : Fewer 0
-    none-fewer = let a = count-two idle (openAfter (e ∷ h)) (openAfter h) (openings h) each in omega arith
+    none-fewer = let a = count-two idle (openAfter (e ∷ h)) (openAfter h) (uploadsIn h) each in omega arith
 
     one-fewer : (t : Bits128) (a : UploadAction) → e .verdict ≡ verdict.Of t (action.Upload a) →
-        isOpening (action.Upload a) ≡ false → OpensOrder (orderOf t h) t h → isOpenUpload (status t (e ∷ h)) ≡ false →
-        Fewer (unit (which (orderOf t h)))
-    one-fewer t a own o s z = at (which (orderOf t h)) refl
+        isOpening (action.Upload a) ≡ false → OpensAs (ownerOf t h) (orderOf t h) t h →
+        isOpenUpload (status t (e ∷ h)) ≡ false →
+        Fewer (unit (which (ownerOf t h) ful (orderOf t h)))
+    one-fewer t a own o s z = at (which (ownerOf t h) ful (orderOf t h)) refl
       where
-        at : (b : Bool) → which (orderOf t h) ≡ b → Fewer (unit b)
+        at : (b : Bool) → which (ownerOf t h) ful (orderOf t h) ≡ b → Fewer (unit b)
         at false y = none-fewer
         at true y =
             let d = acted-open n t (action.Upload a) own o in
             let k = kept-open (e .clock) (status t h) (d .2) in
-            let w : which (t .low) ≡ true = ap which (order-low (v .sound) s .0) ∙ y in
             let i : isIdleUploadAt (e .clock) (standing t h) ≡ false =
             ap (isIdleUploadAt (e .clock)) (standing-is t (v .sound)) ∙ k .1 in
-            count-two-less idle (openAfter (e ∷ h)) (openAfter h) (openings h) each
-            (listed (s .stands) (record { action = action.Upload (up.Opened (orderOf t h)); is = s .is; kind = refl }))
-            (rw (i, z, k .0, w) (omega arith))
+            count-two-less idle (openAfter (e ∷ h)) (openAfter h) (uploadsIn h) each (listed-upload s)
+            (rw (i, z, k .0, y) (omega arith))
 
     request-fewer : {u : Verdict} {first : ℕ} {d : List ℕ} → e .verdict ≡ u → Happens first (judgedBank n) (asked n) d u →
         Fewer (endsIn (actionEntries u (orderIn u (judgedBank n .bank) (asked n)) (asked n)))
     unfolding actionEntries countOf
     request-fewer own unreadable = none-fewer
     request-fewer own (refused c z) = none-fewer
-    request-fewer own (opensUpload f a g m inside) = none-fewer
+    request-fewer own (opensUpload f a g m inside below) = none-fewer
     request-fewer own (opensDownload f a g m) = none-fewer
     request-fewer own (toUpload r a s) = at a (upload-goes-on (s .sound)) own
       where
@@ -459,14 +441,18 @@ module _ (which : ℕ → Bool) where
 
         told : AllSound (e ∷ h) → (k : UploadAction) → e .verdict ≡ verdict.Of (p .transaction) (action.Upload k) →
             isOpening (action.Upload k) ≡ false → isOpenUpload (status (p .transaction) (e ∷ h)) ≡ false →
-            Fewer (unit (which (p .number)) + 0)
+            Fewer (unit (which (subscriber q) ful (p .number)) + 0)
         told (sounds.more x r′) k y o z =
             let i = uploadAt (b .bank) q in
             let same = number-is x r′ b (judged-holds n) q (request-is n) i (s .inside) used in
-            let opened = p-told x r′ b (judged-holds n) q (request-is n) i (s .inside) used .place .opened in
-            let m : Fewer (unit (which (p .number))) =
-            subst (λ (j : ℕ). Fewer (unit (which j))) same
-            (one-fewer (p .transaction) k y o (opened-order (p .transaction) (v .sound) opened .0) z) in
+            let place = p-told x r′ b (judged-holds n) q (request-is n) i (s .inside) used .place in
+            let owner : ownerOf (p .transaction) h ≡ subscriber q =
+            owner-is (p .transaction) (v .sound)
+            ∙ (place .owner ∙ upload-found (subscriber q) (transaction q) p (s .found) .1) in
+            let m : Fewer (unit (which (subscriber q) ful (p .number))) =
+            subst (λ (j : ℕ). Fewer (unit (which (subscriber q) ful j))) same
+            (subst (λ (j : ℕ). Fewer (unit (which j ful (orderOf (p .transaction) h)))) owner
+            (one-fewer (p .transaction) k y o (opened-order (p .transaction) (v .sound) (place .opened)) z)) in
             omega arith
 
         at : (k : UploadAction) → isOpening (action.Upload k) ≡ false →
@@ -485,20 +471,21 @@ module _ (which : ℕ → Bool) where
     request-fewer own (toDownload r a s) = none-fewer
 
     ended-next : Ended h → Ended (e ∷ h)
-    unfolding eventsIn entriesOf openings
+    unfolding eventsIn entriesOf uploadsIn
     ended-next old =
         let drops = map (λ (t : Bits128). entryOf kind.Dropped t h) (uploadDrops (e .clock) h) in
         let rest = ofReply [] (replyEntries e h) (form (e .reply)) in
-        let a = count-append (λ (x : Event). ends (x .kind) (x .order)) (eventsIn h)
+        let a = count-append (λ (x : Event). ends (x .kind) (x .subscriber) (x .«order_type») (x .order)) (eventsIn h)
         (eventsFrom (length (eventsIn h)) (e .clock) (drops ++ rest)) in
         let b = count-from ends (length (eventsIn h)) (e .clock) (drops ++ rest) in
-        let c = count-append (λ (y : Entry). ends (y .kind) (y .order)) drops rest in
+        let c = count-append (λ (y : Entry). ends (y .kind) (y .subscriber) (y .«order_type») (y .order)) drops rest in
         let d = drop-ends in
         let f : Fewer (endsIn rest) = subst (λ (l : List Entry). Fewer (endsIn l)) (request-told n) (request-fewer refl (case-is n)) in
-        let g = count-append (openAfter (e ∷ h)) (openings h) (openedIn (e .verdict)) in
-        let i = count-append all (openings h) (openedIn (e .verdict)) in
-        let j = count-less (openAfter (e ∷ h)) all (openedIn (e .verdict))
-        (λ t _. and-less (isOpenUpload (status t (e ∷ h))) (which (t .low))) in
+        let new = uploadBy (e .verdict) (e .request) in
+        let g = count-append (openAfter (e ∷ h)) (uploadsIn h) new in
+        let i = count-append all (uploadsIn h) new in
+        let j = count-less (openAfter (e ∷ h)) all new
+        (λ u _. and-less (isOpenUpload (status (u .id) (e ∷ h))) (which (u .owner) ful (u .order))) in
         omega arith
       where
         and-less : (b w : Bool) → unit (b && w) ≤ unit w
@@ -507,23 +494,48 @@ module _ (which : ℕ → Bool) where
         and-less false false = omega arith
 
   pub all-ended : (calls : List BankCall) → Ended (pastOf calls .history)
-  unfolding pastOf start eventsIn openings countOf
+  unfolding pastOf start eventsIn uploadsIn countOf
   all-ended [] = omega arith
   all-ended (c ∷ calls) = by-exchange Ended calls c (all-ended calls) (λ e n. ended-next n (all-ended calls))
 
 -- ---- at most one end
 
-pub one-end : (calls : List BankCall) (n : ℕ) →
-    countOf (λ (x : Event). isEnd (x .kind) && eqb (x .order) n) (eventsIn (pastOf calls .history)) ≤ 1
-one-end calls n =
-    let a = all-ended (λ (o : ℕ). eqb o n) calls in
-    let b = numbered-once n (opened-numbered (past-holds calls .invariant .sound) .0) in
+abbrev isNamed : OrderName → ℕ → ℕ → ℕ → Bool
+isNamed o s t n = eqb s (o .subscriber) && eqb t (o .«order_type») && eqb (orderNumberOf n) (o .number)
+
+-- a name is of one subscriber and one number
+one-name : (o : OrderName) (s s′ m n : ℕ) → m < seriesLimit → n < seriesLimit → isNamed o s ful m ≡ true → isNamed o s′ ful n ≡ true →
+    (s ≡ s′) × (m ≡ n)
+one-name o s s′ m n a b x y = (
+  owner s m x ∙ sym (owner s′ n y),
+  one-order-number m n a b (order s m x ∙ sym (order s′ n y)),
+)
+  where
+    owner : (i j : ℕ) → isNamed o i ful j ≡ true → i ≡ o .subscriber
+    owner i j z =
+        let c = and-true (eqb i (o .subscriber) && eqb ful (o .«order_type»)) (eqb (orderNumberOf j) (o .number)) z in
+        eqb-true i (o .subscriber) (and-true (eqb i (o .subscriber)) (eqb ful (o .«order_type»)) (c .0) .0)
+
+    order : (i j : ℕ) → isNamed o i ful j ≡ true → orderNumberOf j ≡ o .number
+    order i j z =
+        eqb-true (orderNumberOf j) (o .number)
+        (and-true (eqb i (o .subscriber) && eqb ful (o .«order_type»)) (eqb (orderNumberOf j) (o .number)) z .1)
+
+pub one-end : (calls : List BankCall) (o : OrderName) →
+    countOf (λ (x : Event). isEnd (x .kind) && isOf o x) (eventsIn (pastOf calls .history)) ≤ 1
+unfolding isOf
+one-end calls o =
+    let a = all-ended (isNamed o) calls in
+    let b = named-once (λ (s n : ℕ). isNamed o s ful n) (one-name o) (past-holds calls .invariant .sound) in
     omega arith
 
 -- ---- at most two events
 
-abbrev any : ℕ → Bool
-any o = true
+abbrev any : ℕ → ℕ → ℕ → Bool
+any s t o = true
+
+abbrev anyEnd : Event → Bool
+anyEnd x = ends any (x .kind) (x .subscriber) (x .«order_type») (x .order)
 
 drops-all : (h : List Exchange) (l : List Bits128) →
     length (map (λ (t : Bits128). entryOf kind.Dropped t h) l) ≤ endsIn any (map (λ (t : Bits128). entryOf kind.Dropped t h) l)
@@ -569,7 +581,7 @@ module _ (e : Exchange) (h : List Exchange) where
       let a = drops-all h (uploadDrops (e .clock) h) in
       let b = reply-told (form (e .reply)) in
       let c = length-append drops rest in
-      let d = count-append (λ (y : Entry). ends any (y .kind) (y .order)) drops rest in
+      let d = count-append (λ (y : Entry). ends any (y .kind) (y .subscriber) (y .«order_type») (y .order)) drops rest in
       omega arith
 
 events-told : (h : List Exchange) → length (eventsIn h) ≤ endsOf any h + openedCount h
@@ -581,14 +593,14 @@ events-told (e ∷ h) = at (isOpened e) (entries-told e h) (events-told h)
     new = eventsFrom (length (eventsIn h)) (e .clock) (entriesOf e h)
 
     at : (b : Bool) → length (entriesOf e h) ≤ endsIn any (entriesOf e h) + unit b → length (eventsIn h) ≤ endsOf any h + openedCount h →
-        length (eventsIn h ++ new) ≤ countOf (λ (x : Event). ends any (x .kind) (x .order)) (eventsIn h ++ new)
+        length (eventsIn h ++ new) ≤ countOf anyEnd (eventsIn h ++ new)
         + cond b (suc (openedCount h)) (openedCount h)
     at b y old =
         let a = length-append (eventsIn h) new in
         let c = events-length (length (eventsIn h)) (e .clock) (entriesOf e h) in
-        let d = count-append (λ (x : Event). ends any (x .kind) (x .order)) (eventsIn h) new in
+        let d = count-append anyEnd (eventsIn h) new in
         let f = count-from (ends any) (length (eventsIn h)) (e .clock) (entriesOf e h) in
-        by-test (λ (m : ℕ). length (eventsIn h ++ new) ≤ countOf (λ (x : Event). ends any (x .kind) (x .order)) (eventsIn h ++ new) + m)
+        by-test (λ (m : ℕ). length (eventsIn h ++ new) ≤ countOf anyEnd (eventsIn h ++ new) + m)
         b (λ z. let g : unit b ≡ 1 = ap unit z in omega arith) (λ z. let g : unit b ≡ 0 = ap unit z in omega arith)
 
 pub few-events : (calls : List BankCall) → journalOf calls .events ≤ 2 * maxOpenings
@@ -597,8 +609,8 @@ few-events calls =
     let v = past-holds calls .invariant in
     let a = events-told h in
     let b = all-ended any calls in
-    let c = count-le (all any) (openings h) in
-    let d = opened-numbered (v .sound) .1 in
+    let c = count-le (all any) (uploadsIn h) in
+    let d = few-uploads h in
     let f = opened-count (v .sound) in
     let g = v .counted in
     let i = v .state .numbers in

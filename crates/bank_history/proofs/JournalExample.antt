@@ -1,10 +1,12 @@
--- A computed example: places are used again, so that the drops by place would stand in another order than by opening.
+-- A computed example: places are used again, so that the drops by place, and by order number, would stand in another order
+-- than by opening.
 use Prim.Native.Nat.{ℕ, _+_}
 use mathlib.Core.List.{List, [], _∷_, _++_}
 use mathlib.Core.Path.{_≡_, refl}
 use lib.ListN.{replicate}
 use Rattle.frame_table.specs.declared.fields.Bits128.{Bits128}
 use Rattle.frame_writer.specs.Writer.{frameOf}
+use Rattle.message.specs.Limits.{ful}
 use Rattle.message.specs.Requests.{uploadOpening, uploadTransfer}
 use Rattle.bank_state.specs.Limits.{idBytes, replyRoom, idleLimit}
 use Rattle.bank_state.specs.State.{placeAt}
@@ -14,6 +16,7 @@ use Rattle.journal.specs.declared.event.Event.{Event}
 use Rattle.journal.specs.Events.{noEvent}
 use Rattle.bank.specs.Call.{frameInput}
 use Rattle.bank_history.specs.History.{BankCall, Frame, pastOf}
+use Rattle.bank_history.specs.ByReplies.{uploadsOpened}
 use Rattle.bank_history.specs.Journal.{journalOf, eventsIn}
 use Rattle.octets.specs.Bytes as octets
 use Rattle.frame_table.specs.Table as frameTable
@@ -62,13 +65,13 @@ unfolding clocks.isIdle clocks.freed clocks.dropUpload clocks.dropUploads clocks
     clocks.atClock clocks.advanced rows.firstOf rows.countOf rows.keep rows.keepOnly
     searches.freePlace searches.freeDownload searches.freeNonce searches.isUpload searches.findUpload searches.isDownload
     searches.findDownload searches.openCount searches.openCountOf searches.isRemembered
-    state.fresh state.fileLength store.partAt store.withPart store.zeroed store.fileOf
+    state.fresh state.fileLength state.seriesOf store.partAt store.withPart store.zeroed store.fileOf
     refusals.noSubscriber refusals.longData refusals.requestRows refusals.unknownType refusals.manySegments refusals.inTime
     refusals.isReplay refusals.manyOpen refusals.isFull refusals.openingRows refusals.notOpen refusals.transactionRows
     refusals.uploadAttempt refusals.isUnderrun refusals.isExceeded refusals.segmentRows refusals.uploadRows
     judgement.judgeOpening judgement.takes judgement.judgeUpload judgement.judgeOpen
     judgement.judgeTransaction judgement.judge
-    openings.counted openings.openUpload uploads.grown uploads.booked uploads.attempted
+    openings.counted openings.countedUpload openings.openUpload uploads.grown uploads.booked uploads.attempted
     bankCall.mailboxSegment bankCall.respond bankCall.lentRight bankCall.frameCall
     history.exchangeOf history.after history.start history.pastOf admitted.mailboxFile
 bank = 0
@@ -80,7 +83,7 @@ unfolding entries.insertByOpening entries.byOpening entries.droppedUploads entri
 events-entered = 0
 
 unfoldable events-told : ℕ
-unfolding events.eventsFrom byReplies.openedCount byReplies.openedIds byReplies.atOpened byReplies.sentUpTo byReplies.standing
+unfolding events.eventsFrom byReplies.uploadsOpened byReplies.openedIds byReplies.atOpened byReplies.sentUpTo byReplies.standing
     journal.uploadDrops journal.entriesOf journal.eventsIn
 events-told = 0
 
@@ -101,18 +104,18 @@ early = 1000
 abbrev late : ℕ
 late = early + idleLimit + 1
 
--- an opening of an upload of one segment; its nonce is its subscriber's number
-abbrev opens : ℕ → BankCall
-opens s = call early (frameOf (uploadOpening s 1 (idOf s) early 1) [])
+-- an opening of an upload of one segment by a subscriber, with its nonce
+abbrev opens : ℕ → ℕ → BankCall
+opens s nonce = call early (frameOf (uploadOpening s 1 (idOf nonce) early 1) [])
 
--- subscribers 1 and 2 open uploads 0 and 1, in places 0 and 1; upload 0 is cancelled by its segment 1 of 1 without the
--- last mark; subscriber 3 opens upload 2, which takes place 0. The newest call first
+-- subscriber 1 opens uploads 0 and 1, its A000 and A001, in places 0 and 1; upload 0 is cancelled by its segment 1 of 1
+-- without the last mark; subscriber 2 opens upload 2, its own A000, which takes place 0. The newest call first
 abbrev beforeDrops : List BankCall
 beforeDrops =
-    opens 3
+    opens 2 3
     ∷ call early (frameOf (uploadTransfer 1 2 (idOf 0) 1 0) (65 ∷ []))
-    ∷ opens 2
-    ∷ opens 1
+    ∷ opens 1 2
+    ∷ opens 1 1
     ∷ []
 
 -- a frame after the idle limit, which is none
@@ -121,26 +124,32 @@ withDrops = call late [] ∷ beforeDrops
 
 abbrev event : ℕ → ℕ → ℕ → ℕ → Kind → Event
 event n clock subscriber order k =
-    record { number = n; clock = clock; subscriber = subscriber; order = order; kind = k }
+    record { number = n; clock = clock; subscriber = subscriber; «order_type» = ful; order = order; kind = k }
 
 -- upload 1 is dropped before upload 2
 abbrev expected : List Event
 expected =
     event 1 early 1 0 Opened
-    ∷ event 2 early 2 1 Opened
+    ∷ event 2 early 1 1 Opened
     ∷ event 3 early 1 0 Cancelled
-    ∷ event 4 early 3 2 Opened
-    ∷ event 5 late 2 1 Dropped
-    ∷ event 6 late 3 2 Dropped
+    ∷ event 4 early 2 0 Opened
+    ∷ event 5 late 1 1 Dropped
+    ∷ event 6 late 2 0 Dropped
     ∷ []
 
 -- ---- what they compute to
 
--- by place, upload 2 comes first
-pub places-used-again : (placeAt (pastOf beforeDrops .bankState .bank) 0 .number ≡ 2)
-    × (placeAt (pastOf beforeDrops .bankState .bank) 1 .number ≡ 1)
+-- by place, and by order number, upload 2 comes first
+pub places-used-again : let b = pastOf beforeDrops .bankState .bank in
+    (placeAt b 0 .transaction .low ≡ 2) × (placeAt b 0 .number ≡ 0)
+    × (placeAt b 1 .transaction .low ≡ 1) × (placeAt b 1 .number ≡ 1)
 unfolding frames bank
-places-used-again = (refl, refl)
+places-used-again = (refl, refl, refl, refl)
+
+-- subscriber 1 has opened two uploads, subscriber 2 one
+pub series-of-each : (uploadsOpened 1 (pastOf beforeDrops .history) ≡ 2) × (uploadsOpened 2 (pastOf beforeDrops .history) ≡ 1)
+unfolding frames bank events-told
+series-of-each = (refl, refl)
 
 -- the events that requests, replies and clocks tell
 pub drops-told : eventsIn (pastOf withDrops .history) ≡ expected

@@ -4,7 +4,8 @@ use Rattle.bank_history.proofs.JournalCounts.{one-end, few-events}
 use Rattle.bank_history.proofs.JournalUploads.{
   in-row,
   recorded-event,
-  order-small,
+  event-typed,
+  one-named,
   event-opened,
   event-booked,
   event-ended,
@@ -14,7 +15,8 @@ pub journal-orders : JournalOrders
 journal-orders = record {
   inRow = in-row;
   recorded = recorded-event;
-  small = order-small;
+  typed = event-typed;
+  one = one-named;
   opened = event-opened;
   booked = event-booked;
   ended = λ calls x t i z o. event-ended calls x t i o z;

@@ -22,12 +22,13 @@ use native.Mathlib.Omega.{arith}
 use lib.ListN.{length, drop, replicate}
 use Rattle.frame_table.specs.declared.fields.Bits128.{Bits128}
 use Rattle.frame_table.specs.declared.fields.Fields.{Fields}
-use Rattle.frame_table.specs.Names.{subscriber, transaction, form}
+use Rattle.frame_table.specs.Forms as forms
+use Rattle.frame_table.specs.Names.{subscriber, transaction, orderNumber, form}
 use Rattle.octets.proofs.Tests.{never}
+use Rattle.message.specs.Limits.{ful}
 use Rattle.message.specs.OrderNumbers.{orderNumberOf}
 use Rattle.bank_state.specs.declared.state.Place.{Place}
 use Rattle.bank_state.specs.declared.state.Use.the-variants as uses
-use Rattle.bank_state.specs.Limits.{maxOpenings}
 use Rattle.bank_state.specs.State.{BankState, placeAt}
 use Rattle.bank_state.proofs.Found.{upload-found}
 use Rattle.bank_verdicts.specs.declared.verdict.Direction.{Direction}
@@ -44,10 +45,16 @@ use Rattle.journal.specs.declared.event.Entry.{Entry}
 use Rattle.journal.specs.declared.event.Event.{Event}
 use Rattle.journal.specs.Events.{recordCount, noEvent, eventsFrom}
 use Rattle.journal.specs.Row.{newest, rowOf}
-use Rattle.journal.specs.Records.{Recorded}
+use Rattle.journal.specs.declared.event.OrderName.{OrderName}
+use Rattle.journal.specs.Records.{nameOf, Recorded}
+use Rattle.journal.proofs.Lookup.{same-name}
 use Rattle.journal.specs.Records as records
 use Rattle.bank_events.specs.Entries.{entry, orderIn, actionEntries}
-use Rattle.bank_history.specs.History.{Exchange, older, BankCall, isOpening, isUploadOpening, isBooking, ever, accepted, opens, start, pastOf}
+use Rattle.bank_events.proofs.Typed.{call-typed}
+use Rattle.bank.specs.Journal.{enteredBy}
+use Rattle.bank_verdicts.specs.Replies.{replyTo}
+use Rattle.message.specs.Replies.{uploadOpened}
+use Rattle.bank_history.specs.History.{Exchange, BankCall, isOpening, isUploadOpening, isBooking, ever, accepted, opens, start, pastOf}
 use Rattle.bank_history.specs.History as stands
 use Rattle.bank_history.specs.FalseEconomies.{Next}
 use Rattle.bank_history.specs.Invariant.{Invariant}
@@ -67,6 +74,7 @@ use Rattle.bank_history.specs.Status.{
 use Rattle.bank_history.specs.ByReplies.{ofReply, ownerOf, orderOf}
 use Rattle.bank_history.specs.Journal.{journalOf, entryOf, uploadDrops, replyEntries, entriesOf, eventsIn}
 use Rattle.bank_history.specs.JournalOrders.{OpensOrder, NeverBooked}
+use Rattle.bank_history.specs.Series.{InSeries}
 use Rattle.bank_history.proofs.ByReplies.{opening-below}
 use Rattle.bank_admitted.proofs.Cases.{Happens, unreadable, refused, opensUpload, opensDownload, toUpload, toDownload}
 use Rattle.bank_history.proofs.GoesOn.{upload-goes-on}
@@ -80,20 +88,23 @@ use Rattle.bank_history.proofs.Closed.{
   booked-status,
   status-booked,
 }
-use Rattle.bank_history.proofs.DropOrder.{opened-order, drop-told}
+use Rattle.bank_history.proofs.DropOrder.{OpensAs, order-older, opened-order, drop-told}
 use Rattle.bank_history.proofs.Drops.{call-drops, in-either}
 use Rattle.bank_history.proofs.Entries.{same-bits}
-use Rattle.bank_history.proofs.Journal.{journal-told, request-told, p-told, number-is, owned}
+use Rattle.bank_history.proofs.Journal.{journal-told, request-told, enters, p-told, number-is, owned}
 use Rattle.bank_history.proofs.Keeps.{past-holds}
 use Rattle.bank_history.proofs.NextCall.{judgedBank, asked, all-sound, request-is, judged-holds, case-is}
-use Rattle.bank_history.proofs.Positions.{action-sound, one-opening}
+use Rattle.bank_history.proofs.Positions.{action-sound}
+use Rattle.bank_history.proofs.Series.{series-apart, series-typed}
+use Rattle.bank_history.proofs.Replies.{verdictForm, verdict-form}
 use Rattle.bank_history.proofs.Statuses.{past-told}
-use Rattle.bank_history.proofs.Theorems.{history-sound}
+use Rattle.bank_history.proofs.Theorems.{history-sound, reply-is}
 
 -- ---- lists
 
 from-in : (n clock : ℕ) (es : List Entry) {v : Event} → In v (eventsFrom n clock es) →
     (y : Entry) × In y es × (v .subscriber ≡ y .subscriber) × (v .order ≡ y .order) × (v .kind ≡ y .kind)
+    × (v .«order_type» ≡ y .«order_type»)
 unfolding eventsFrom
 from-in n clock [] i = absurd (in-none i)
 from-in n clock (e ∷ es) (here z) = (
@@ -102,8 +113,9 @@ from-in n clock (e ∷ es) (here z) = (
   ap (λ (v : Event). v .subscriber) z,
   ap (λ (v : Event). v .order) z,
   ap (λ (v : Event). v .kind) z,
+  ap (λ (v : Event). v .«order_type») z,
 )
-from-in n clock (e ∷ es) (there i) = let r = from-in (suc n) clock es i in (r .0, there (r .1), r .2, r .3, r .4)
+from-in n clock (e ∷ es) (there i) = let r = from-in (suc n) clock es i in (r .0, there (r .1), r .2, r .3, r .4, r .5)
 
 in-drop : {A : Type 0} (k : ℕ) (l : List A) {x : A} → In x (drop k l) → In x l
 in-drop zero l i = i
@@ -136,25 +148,20 @@ Says kind.Dropped t h = status t h ≡ Dropped
 
 record Of (s o : ℕ) (k : Kind) (h : List Exchange) : Type 0 where
   id : Bits128
-  opening : OpensOrder o id h
-  owner : s ≡ subscriber (opening .exchange .request)
+  opening : OpensAs s o id h
   says : Says k id h
 
 of-same : {s s′ o o′ : ℕ} {k k′ : Kind} {h : List Exchange} → s′ ≡ s → o′ ≡ o → k′ ≡ k → Of s o k h → Of s′ o′ k′ h
 of-same {s} {s′} {o} {o′} {k} {k′} {h} a b c x =
     subst (λ (m : ℕ). Of m o′ k′ h) (sym a) (subst (λ (m : ℕ). Of s m k′ h) (sym b) (subst (λ (m : Kind). Of s o m h) (sym c) x))
 
-abbrev order-older : {n : ℕ} {t : Bits128} {h : List Exchange} (e : Exchange) → OpensOrder n t h → OpensOrder n t (e ∷ h)
-order-older e o = record { exchange = o .exchange; before = o .before; stands = older (o .stands); is = o .is }
-
--- the number of its transaction
-pub order-low : {n : ℕ} {t : Bits128} {h : List Exchange} → AllSound h → OpensOrder n t h → (t .low ≡ n) × (t .low < accepted h)
-order-low {n} {t} r o =
-    let s = action-sound r (o .stands) (o .is) in
+-- its transaction has the running number of an accepted opening
+pub order-low : {s n : ℕ} {t : Bits128} {h : List Exchange} → AllSound h → OpensAs s n t h → t .low < accepted h
+order-low {t = t} r o =
+    let x = action-sound r (o .stands) (o .is) in
     let a = opening-below (o .stands) (ap opens (o .is)) in
-    let m = s .number in
-    let l = s .opening .numbered in
-    (l ∙ sym m, (omega arith))
+    let l = x .opening .numbered in
+    omega arith
 
 -- ---- one exchange more
 
@@ -188,16 +195,14 @@ module _ {calls : List BankCall} {e : Exchange} (n : Next calls e) where
   of-older {s} {o} {k} x = record {
     id = x .id;
     opening = order-older e (x .opening);
-    owner = x .owner;
-    says = says-older k (x .id) (order-low (v .sound) (x .opening) .1) (x .says);
+    says = says-older k (x .id) (order-low (v .sound) (x .opening)) (x .says);
   }
 
   -- an upload of the history, by the opening that it has there
   of-upload : (k : Kind) (t : Bits128) → ever isUploadOpening t h ≡ true → Says k t (e ∷ h) →
       Of (ownerOf t h) (orderOf t h) k (e ∷ h)
   of-upload k t z y =
-      let o = opened-order t (v .sound) z in
-      record { id = t; opening = order-older e (o .0); owner = o .1; says = y }
+      record { id = t; opening = order-older e (opened-order t (v .sound) z); says = y }
 
   of-drop : (t : Bits128) → In t (uploadDrops (e .clock) h) → Of (ownerOf t h) (orderOf t h) kind.Dropped (e ∷ h)
   of-drop t i =
@@ -206,7 +211,7 @@ module _ {calls : List BankCall} {e : Exchange} (n : Next calls e) where
       let y : dropIdle (e .clock) (status t h) ≡ Dropped =
       ap (dropIdle (e .clock)) (d .3) ∙ ap (λ (b : Bool). cond b Dropped (Open direction.Upload (d .1) (d .2))) (d .4) in
       of-upload kind.Dropped t (d .0)
-      (closed-next n t (order-low (v .sound) (o .0) .1) (ap isClosed y) ∙ y)
+      (closed-next n t (order-low (v .sound) o) (ap isClosed y) ∙ y)
 
   -- the status that its own action leaves
   pub own-status : (t : Bits128) (a : UploadAction) → e .verdict ≡ verdict.Of t (action.Upload a) → (x : Status) →
@@ -221,13 +226,18 @@ module _ {calls : List BankCall} {e : Exchange} (n : Next calls e) where
   unfolding actionEntries
   of-request own unreadable i = absurd (in-none i)
   of-request own (refused c z) i = absurd (in-none i)
-  of-request {first = first} own (opensUpload f a g m inside) i =
+  of-request {first = first} own (opensUpload f a g m inside below) i =
       let z = in-one i in
       of-same (ap (λ (x : Entry). x .subscriber) z) (ap (λ (x : Entry). x .order) z) (ap (λ (x : Entry). x .kind) z)
       (record {
         id = transactionOf first (w .bank);
-        opening = record { exchange = e; before = h; stands = stands.newest; is = own };
-        owner = ap subscriber (sym (request-is n));
+        opening = record {
+          exchange = e;
+          before = h;
+          stands = stands.newest;
+          is = own;
+          owner = ap subscriber (request-is n);
+        };
         says = tt;
       })
   of-request own (opensDownload f a g m) i = absurd (in-none i)
@@ -302,38 +312,108 @@ events-of (c ∷ calls) =
     by-exchange (λ (g : List Exchange). (x : Event) → In x (eventsIn g) → Of (x .subscriber) (x .order) (x .kind) g)
     calls c (events-of calls) (λ e n. of-next n (events-of calls))
 
--- one order number, one upload
-same-upload : {m : ℕ} {t u : Bits128} {h : List Exchange} → AllSound h → OpensOrder m t h → OpensOrder m u h → t ≡ u
-same-upload {m} {t} {u} r a b =
-    let x = one-opening m r (a .stands) (b .stands)
-    (record { id = t; action = action.Upload (up.Opened m); is = a .is; opening = refl; numbered = order-low r a .0 })
-    (record { id = u; action = action.Upload (up.Opened m); is = b .is; opening = refl; numbered = order-low r b .0 }) in
-    let same : verdict.Of t (action.Upload (up.Opened m)) ≡ verdict.Of u (action.Upload (up.Opened m)) =
-    sym (a .is) ∙ (ap (λ (e : Exchange). e .verdict) (x .0) ∙ b .is) in
-    cc
+-- ---- names
+
+-- one name, one upload: both are of one subscriber's series, and no number of it repeats
+pub one-named : (calls : List BankCall) {o : OrderName} {t u : Bits128} → OpensOrder o t (pastOf calls .history) →
+    OpensOrder o u (pastOf calls .history) → t ≡ u
+one-named calls {o} a b =
+    let x = series-apart calls (series a) (series b) (number a ∙ sym (number b)) in
+    sym (a .id) ∙ (ap (λ (e : Exchange). transaction (e .reply)) (x .0) ∙ b .id)
+  where
+    series : {v : Bits128} (x : OpensOrder o v (pastOf calls .history)) →
+        InSeries (o .subscriber) (x .exchange) (x .before) (pastOf calls .history)
+    series x = record { stands = x .stands; opened = x .opened; owner = ap (λ (n : OrderName). n .subscriber) (x .named) }
+
+    number : {v : Bits128} (x : OpensOrder o v (pastOf calls .history)) → orderNumber (x .exchange .reply) ≡ o .number
+    number x = ap (λ (n : OrderName). n .number) (x .named)
+
+-- the upload with a number of a series has that name
+module _ (calls : List BankCall) {s n : ℕ} {t : Bits128} (o : OpensAs s n t (pastOf calls .history)) where
+  abbrev e : Exchange
+  e = o .exchange
+
+  says-reply : e .reply ≡ replyTo (verdict.Of t (action.Upload (up.Opened n))) (e .request)
+  says-reply =
+      reply-is (history-sound calls) (o .stands) ∙ ap (λ (v : Verdict). replyTo v (e .request)) (o .is)
+
+  order-named : OpensOrder (record { subscriber = s; «order_type» = ful; number = orderNumberOf n }) t (pastOf calls .history)
+  unfolding uploadOpened
+  order-named =
+      let opened : form (e .reply) ≡ forms.UploadOpened =
+      ap form (reply-is (history-sound calls) (o .stands)) ∙ (verdict-form (e .verdict) (e .request) ∙ ap verdictForm (o .is)) in
+      record {
+        exchange = e;
+        before = o .before;
+        stands = o .stands;
+        opened = opened;
+        id = ap transaction says-reply;
+        named = same-name (o .owner)
+            (series-typed calls (record { stands = o .stands; opened = opened; owner = o .owner }))
+            (ap orderNumber says-reply);
+      }
+
+-- ---- the journal's type
+
+entries-typed : {calls : List BankCall} {e : Exchange} (n : Next calls e) {y : Entry} →
+    In y (entriesOf e (pastOf calls .history)) → y .«order_type» ≡ ful
+unfolding enteredBy
+entries-typed {calls} {e} n {y} i =
+    call-typed _ _ _ _ _ (subst (λ (l : List Entry). In y l) (sym (enters n)) i)
+
+pub event-typed : (calls : List BankCall) (x : Event) → In x (eventsIn (pastOf calls .history)) → x .«order_type» ≡ ful
+unfolding pastOf start eventsIn
+event-typed [] = λ x i. absurd (in-none i)
+event-typed (c ∷ calls) =
+    by-exchange (λ (g : List Exchange). (x : Event) → In x (eventsIn g) → x .«order_type» ≡ ful) calls c (event-typed calls)
+    (λ e n x i. at e n x (in-either (eventsIn (pastOf calls .history)) _ i) (event-typed calls x))
+  where
+    at : (e : Exchange) (n : Next calls e) (x : Event) → let h = pastOf calls .history in
+        In x (eventsIn h) ⊎ In x (eventsFrom (length (eventsIn h)) (e .clock) (entriesOf e h)) →
+        (In x (eventsIn h) → x .«order_type» ≡ ful) → x .«order_type» ≡ ful
+    at e n x (inl j) old = old j
+    at e n x (inr j) old =
+        let y = from-in (length (eventsIn (pastOf calls .history))) (e .clock) (entriesOf e (pastOf calls .history)) j in
+        y .5 ∙ entries-typed n (y .1)
+
+-- an event's name is that of its upload
+event-named : (calls : List BankCall) (x : Event) → In x (eventsIn (pastOf calls .history)) →
+    (f : Of (x .subscriber) (x .order) (x .kind) (pastOf calls .history)) × OpensOrder (nameOf x) (f .id) (pastOf calls .history)
+event-named calls x i =
+    let f = events-of calls x i in (
+      f,
+      subst (λ (o : OrderName). OpensOrder o (f .id) (pastOf calls .history))
+          (same-name refl (sym (event-typed calls x i)) refl) (order-named calls (f .opening)),
+    )
 
 module _ (calls : List BankCall) (x : Event) (t : Bits128) (i : In x (eventsIn (pastOf calls .history)))
-    (o : OpensOrder (x .order) t (pastOf calls .history)) where
+    (o : OpensOrder (nameOf x) t (pastOf calls .history)) where
   abbrev past : List Exchange
   past = pastOf calls .history
 
   says-own : {k : Kind} → x .kind ≡ k → Says k t past
   says-own {k} z =
-      let f = events-of calls x i in
+      let f = event-named calls x i in
       subst (λ (m : Kind). Says m t past) z
-      (subst (λ (u : Bits128). Says (x .kind) u past) (same-upload (history-sound calls) (f .opening) o) (f .says))
+      (subst (λ (u : Bits128). Says (x .kind) u past) (one-named calls (f .1) o) (f .0 .says))
 
   ended-by : (y : Status) → isClosed y ≡ true → (Booked ≡ y → ⊥) → ((d : Direction) (s last : ℕ) → Open d s last ≡ y → ⊥) →
       status t past ≡ y → NeverBooked calls t
   ended-by y z unbooked shut now =
       let k : (more : List BankCall) → Closed t y (pastOf (more ++ calls) .history) =
-      λ more. closed-calls t y z calls more (order-low (history-sound calls) o .1, now) in
+      λ more. closed-calls t y z calls more (known, now) in
       record {
         closed = λ more p. shut (p .0) (p .1) (p .2)
             (sym (call-drops .told (more ++ calls) t (p .0) (p .1) (p .2) (p .3)) ∙ k more .1);
         unbooked = λ more. never-true _ (λ b. unbooked (sym (booked-status t (more ++ calls) b) ∙ k more .1));
       }
     where
+      known : t .low < accepted past
+      known =
+          let f = event-named calls x i in
+          subst (λ (u : Bits128). u .low < accepted past) (one-named calls (f .1) o)
+          (order-low (history-sound calls) (f .0 .opening))
+
       never-true : (b : Bool) → (b ≡ true → ⊥) → b ≡ false
       never-true true f = absurd (f refl)
       never-true false f = refl
@@ -346,21 +426,11 @@ module _ (calls : List BankCall) (x : Event) (t : Bits128) (i : In x (eventsIn (
       ended-by Dropped refl (λ y. let c : _≡_ {A = ℕ} 0 1 = cc in omega arith)
       (λ d s last y. let c : _≡_ {A = ℕ} 0 1 = cc in omega arith) (says-own z)
 
--- a record under an order number of field 0E
-recorded-in : {k : Kind} {order : ℕ} {l : List Event} → Recorded k order l →
-    (x : Event) × In x l × (orderNumberOf (x .order) ≡ order) × (x .kind ≡ k)
+-- a record under a name
+recorded-in : {k : Kind} {o : OrderName} {l : List Event} → Recorded k o l →
+    (x : Event) × In x l × (nameOf x ≡ o) × (x .kind ≡ k)
 recorded-in (records.here {e = e} a b) = (e, here refl, a, b)
 recorded-in (records.there r) = let y = recorded-in r in (y .0, there (y .1), y .2, y .3)
-
-pub order-small : (calls : List BankCall) {m : ℕ} {t : Bits128} → OpensOrder m t (pastOf calls .history) → m < maxOpenings
-order-small calls o =
-    let v = past-holds calls .invariant in
-    let a = order-low (v .sound) o in
-    let l = a .0 in
-    let b = a .1 in
-    let c = v .counted in
-    let d = v .state .numbers in
-    omega arith
 
 module _ (calls : List BankCall) (x : Event) where
   pub in-row : In x (journalOf calls .row) → (x .kind ≡ kind.Unused → ⊥) → In x (eventsIn (pastOf calls .history))
@@ -368,18 +438,17 @@ module _ (calls : List BankCall) (x : Event) where
       row-events (eventsIn (pastOf calls .history)) (subst (λ (l : List Event). In x l) (journal-told .row calls) i) used
 
   pub event-opened : In x (eventsIn (pastOf calls .history)) →
-      (t : Bits128) × (o : OpensOrder (x .order) t (pastOf calls .history)) ×
-      (x .subscriber ≡ subscriber (o .exchange .request))
-  event-opened i = let f = events-of calls x i in (f .id, f .opening, f .owner)
+      (t : Bits128) × OpensOrder (nameOf x) t (pastOf calls .history)
+  event-opened i = let f = event-named calls x i in (f .0 .id, f .1)
 
   pub event-booked : (t : Bits128) → In x (eventsIn (pastOf calls .history)) → x .kind ≡ kind.Booked →
-      OpensOrder (x .order) t (pastOf calls .history) →
+      OpensOrder (nameOf x) t (pastOf calls .history) →
       ever isBooking t (pastOf calls .history) ≡ true
   event-booked t i z o = status-booked t (pastOf calls .history) (says-own calls x t i o z)
 
-pub recorded-event : (calls : List BankCall) {k : Kind} {order : ℕ} → Recorded k order (journalOf calls .row) →
+pub recorded-event : (calls : List BankCall) {k : Kind} {o : OrderName} → Recorded k o (journalOf calls .row) →
     (k ≡ kind.Unused → ⊥) →
-    (x : Event) × In x (eventsIn (pastOf calls .history)) × (orderNumberOf (x .order) ≡ order) × (x .kind ≡ k)
+    (x : Event) × In x (eventsIn (pastOf calls .history)) × (nameOf x ≡ o) × (x .kind ≡ k)
 recorded-event calls {k} r used =
     let y = recorded-in r in
     (y .0, in-row calls (y .0) (y .1) (λ z. used (sym (y .3) ∙ z)), y .2, y .3)

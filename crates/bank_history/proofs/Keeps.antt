@@ -1,6 +1,6 @@
 -- Every call keeps the invariant: each case of a request, a frame call, a file call, and every list of calls.
 use Prim.{tt}
-use Prim.Native.Nat.{ℕ, _≤_, _<_}
+use Prim.Native.Nat.{ℕ, _-_, _≤_, _<_}
 use mathlib.Core.Bool.{false}
 use mathlib.Core.List.{List, [], _∷_}
 use mathlib.Core.Path.{_≡_, refl, sym, _∙_}
@@ -18,7 +18,8 @@ use Rattle.message.proofs.Verdicts.{by-test}
 use Rattle.bank_state.specs.State.{Bank}
 use Rattle.bank_state.specs.Clock.{advanced}
 use Rattle.bank_state.specs.Rows.{keep}
-use Rattle.bank_state.specs.State.{BankState, fresh, placeAt, downloadAt}
+use Rattle.bank_state.specs.Limits.{placeCount}
+use Rattle.bank_state.specs.State.{BankState, fresh, placeAt, downloadAt, seriesOf}
 use Rattle.bank.specs.declared.call.FrameAnswer.{FrameAnswer}
 use Rattle.bank.specs.declared.call.FrameAnswer.the-variants.{Reply, WrongLength}
 use Rattle.bank.specs.declared.mailbox.FileAnswer.{FileAnswer}
@@ -43,11 +44,12 @@ use Rattle.bank_admitted.proofs.Reading.{transfer-data}
 use Rattle.bank_admitted.proofs.Clock.{advanced-not-idle}
 use Rattle.bank_admitted.proofs.Files.{FileSound, rejected, done, judged-file}
 use Rattle.bank_admitted.proofs.Keeps.{respond-not-idle}
+use Rattle.bank_admitted.proofs.Rows.{getD-free}
 use Rattle.bank_admitted.proofs.Fresh.{fresh-place, fresh-download, fresh-state, fresh-not-idle}
-use Rattle.bank_history.specs.History.{Exchange, Past, BankCall, Frame, File, did, isAction, isBooking, opens, accepted, exchangeOf, entered, placed, after, start, pastOf, ever, openingNonces, remembered}
+use Rattle.bank_history.specs.History.{Exchange, Past, BankCall, Frame, File, did, isAction, isBooking, opens, accepted, uploadsAccepted, exchangeOf, entered, placed, after, start, pastOf, ever, openingNonces, remembered}
 use Rattle.bank_history.specs.Sound.{Sound, none, more}
 use Rattle.bank_history.specs.Invariant.{Invariant, Holds}
-use Rattle.bank_history.proofs.Entries.{ever-other}
+use Rattle.bank_history.proofs.Entries.{ever-other, series-unmoved}
 use Rattle.bank_history.proofs.Memory.{memory-unchanged}
 use Rattle.bank_history.proofs.Places.{place-unchanged}
 use Rattle.bank_history.proofs.Records.{download-unchanged}
@@ -65,6 +67,7 @@ unfolding accepted
 nothing-keeps w h x no-action unopened sound v = record {
   state = v .state;
   counted = rw unopened (v .counted);
+  series = λ s a b. v .series s a b ∙ sym (series-unmoved s x h unopened);
   places = λ i a. place-unchanged x h _ _ (placeAt (w .bank) i .used) (λ _. no-action (placeAt (w .bank) i .transaction)) (v .places i a);
   downloads = λ j. download-unchanged x h _ _ (downloadAt (w .bank) j .used) (λ _. no-action (downloadAt (w .bank) j .transaction))
       (v .downloads j);
@@ -81,7 +84,7 @@ module _ (first : ℕ) (w : BankState) (h : List Exchange) (v : Invariant w h) (
       nothing-keeps w h (entry verdict.Unreadable w q d) (λ t. refl) refl (record { reply = refl; verdict = bare w (subscriber q) }) v
   case-keeps (refused c e) = nothing-keeps w h (entry (verdict.Refused c) w q d) (λ t. refl) refl
       (record { reply = refl; verdict = record { harmless = e; bare = bare w (subscriber q) } }) v
-  case-keeps (opensUpload asked a g n p) = opens-upload first w h v q d a g asked n p
+  case-keeps (opensUpload asked a g n p l) = opens-upload first w h v q d a g asked n p l
   case-keeps (opensDownload asked a g n) = opens-download first w h v q d a g asked n
   case-keeps (toUpload r a t) = upload-keeps w h v q d r a some t
   case-keeps (toDownload r a t) = download-keeps w h v q d r a t
@@ -160,11 +163,12 @@ after-holds (File mailbox file) p old = file-holds p mailbox file old
 -- ---- a fresh bank
 
 start-holds : Holds start
-unfolding start fresh accepted ever remembered openingNonces keep
+unfolding start fresh seriesOf accepted uploadsAccepted ever remembered openingNonces keep
 start-holds = record {
   invariant = record {
     state = fresh-state;
     counted = refl;
+    series = λ s a b. getD-free 0 placeCount (s - 1);
     places = λ i a. rw (fresh-place i) tt;
     downloads = λ j. rw (fresh-download j) tt;
     memory = record { held = refl };

@@ -38,10 +38,14 @@ pub mod FalseEconomies
 pub mod Statuses
 pub mod Drops
 pub mod ByReplies
+pub mod OrderNumbers
+pub mod Series
 pub mod DropOrder
 pub mod Plain
 pub mod Journal
 pub mod Closed
+pub mod Counts
+pub mod NamedUploads
 pub mod JournalUploads
 pub mod JournalCounts
 pub mod JournalOrders

@@ -26,7 +26,7 @@ use Rattle.bank_verdicts.specs.declared.verdict.Action.the-variants as action
 use Rattle.bank_verdicts.specs.declared.verdict.Verdict.{Verdict}
 use Rattle.bank_verdicts.specs.declared.verdict.Verdict.the-variants as verdict
 use Rattle.bank_verdicts.specs.Judgement.{mailboxSegments, uploadAt}
-use Rattle.bank_openings.specs.Openings.{counted, openUpload, openDownload}
+use Rattle.bank_openings.specs.Openings.{counted, countedUpload, openUpload, openDownload}
 use Rattle.bank_steps.specs.Steps.{downloadActs, carryOut}
 use Rattle.bank.specs.Call.{respond, FrameInput}
 use Rattle.bank_history.specs.History.{Exchange, Past, BankCall, Frame, File, isAction, did, exchangeOf, after, fileAtOpening}
@@ -67,10 +67,10 @@ download-clock w q t down.Declined = refl
 
 case-clock : {first : ℕ} {w : BankState} {q : Fields} {d : List ℕ} {x : Verdict} → Happens first w q d x →
     carryOut x w q d .bank .clock ≡ w .bank .clock
-unfolding openUpload openDownload counted
+unfolding openUpload countedUpload openDownload counted
 case-clock unreadable = refl
 case-clock (refused c e) = refl
-case-clock (opensUpload asked a g n inside) = refl
+case-clock (opensUpload asked a g n inside below) = refl
 case-clock (opensDownload asked a g n) = refl
 case-clock {w = w} {q = q} (toUpload r a c) =
     ap (λ (z : BankState). z .bank .clock) (upload-acts (placeAt (w .bank) (uploadAt (w .bank) q) .transaction) c)

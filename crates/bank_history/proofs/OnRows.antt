@@ -112,6 +112,7 @@ sizes-of m sound orders mailboxes =
       downloads = k .downloads;
       nonces = k .nonces;
       files = k .files;
+      series = k .series;
       orders = orders;
       mailboxes = mailboxes;
     }

@@ -20,7 +20,7 @@ use Rattle.bank_verdicts.specs.declared.verdict.DownloadAction.{DownloadAction}
 use Rattle.bank_verdicts.specs.declared.verdict.DownloadAction.the-variants as down
 use Rattle.bank_verdicts.specs.declared.verdict.Verdict.{Verdict}
 use Rattle.bank_verdicts.specs.Judgement.{uploadAt}
-use Rattle.bank_openings.specs.Openings.{counted, openUpload, openDownload}
+use Rattle.bank_openings.specs.Openings.{counted, countedUpload, openUpload, openDownload}
 use Rattle.bank_steps.specs.Steps.{downloadActs, carryOut}
 use Rattle.bank_history.specs.History.{Exchange, isAction, did}
 use Rattle.bank_admitted.specs.State.{Sizes}
@@ -91,10 +91,10 @@ module _ (t : Bits128) (s k n last : ℕ) where
 
     pub case-open : (first : ℕ) (q : Fields) (d : List ℕ) {x : Verdict} → Happens first w q d x → did isAction t x ≡ false →
         UploadAt (carryOut x w q d) t s k n last
-    unfolding openUpload openDownload counted
+    unfolding openUpload countedUpload openDownload counted
     case-open first q d unreadable f = u
     case-open first q d (refused c e) f = u
-    case-open first q d (opensUpload asked a g m inside) f =
+    case-open first q d (opensUpload asked a g m inside below) f =
         upload-moved u (getD-set-other (w .bank .places) (freePlace (w .bank)) (u .place) _ noPlace (λ z. taken-free z))
       where
         taken-free : u .place ≡ freePlace (w .bank) → ⊥

@@ -201,5 +201,5 @@ pub places-told : (g : List Exchange) (w : BankState) (i : ℕ) (p : Place) (ord
     (j : ℕ) → j < placeCount →
     let r = getD (set (w .bank .places) i p) j noPlace in PlaceTold (r .used) g r (partAt orders j)
 places-told g w i p orders bytes long inside here elsewhere new others =
-    each-place w i p (w .bank .openings) (w .bank .nonces) orders long inside
+    each-place w i p (w .bank .openings) (w .bank .series) (w .bank .nonces) orders long inside
     (λ (j : ℕ) (r : Place). PlaceTold (r .used) g r (partAt orders j)) (rw here new) (λ j a n. rw (elsewhere j n) (others j a n))

@@ -3,6 +3,7 @@ use Prim.Native.Nat.{ℕ, suc, max}
 use mathlib.Core.Bool.{Bool, false, cond, _&&_}
 use mathlib.Core.List.{List, [], _∷_, _++_, map}
 use mathlib.Core.Path.{_≡_, refl, ap, _∙_}
+use lib.Dec.{eqb}
 use lib.ListN.{length}
 use Rattle.frame_table.specs.declared.fields.Bits128.{Bits128}
 use Rattle.frame_table.specs.declared.table.Form.{Form}
@@ -23,7 +24,7 @@ use Rattle.bank_history.specs.ByReplies.{
   isSendingForm,
   isOpened,
   isUploadOpened,
-  openedCount,
+  uploadsOpened,
   openedIds,
   atOpened,
   ownerOf,
@@ -47,10 +48,11 @@ use Rattle.bank_history.specs.Journal.{
 abbrev plains : List Exchange → List Exchange
 plains h = map plain h
 
-count-plain : (h : List Exchange) → openedCount (plains h) ≡ openedCount h
-unfolding openedCount
-count-plain [] = refl
-count-plain (e ∷ h) = ap (λ (n : ℕ). cond (isOpened e) (suc n) n) (count-plain h)
+count-plain : (s : ℕ) (h : List Exchange) → uploadsOpened s (plains h) ≡ uploadsOpened s h
+unfolding uploadsOpened
+count-plain s [] = refl
+count-plain s (e ∷ h) =
+    ap (λ (n : ℕ). cond (isUploadOpened e && eqb (subscriber (e .request)) s) (suc n) n) (count-plain s h)
 
 ids-plain : (h : List Exchange) → openedIds (plains h) ≡ openedIds h
 unfolding openedIds
@@ -73,7 +75,9 @@ module _ (t : Bits128) (h : List Exchange) where
   owner-plain = at-plain (λ (e : Exchange) (g : List Exchange). subscriber (e .request)) 0 t (λ e g. refl) h
 
   order-plain : orderOf t (plains h) ≡ orderOf t h
-  order-plain = at-plain (λ (e : Exchange) (g : List Exchange). openedCount g) 0 t (λ e g. count-plain g) h
+  order-plain =
+      at-plain (λ (e : Exchange) (g : List Exchange). uploadsOpened (subscriber (e .request)) g) 0 t
+      (λ e g. count-plain (subscriber (e .request)) g) h
 
   segments-plain : segmentCountOf t (plains h) ≡ segmentCountOf t h
   segments-plain = at-plain (λ (e : Exchange) (g : List Exchange). segments (e .request)) 0 t (λ e g. refl) h
@@ -133,7 +137,7 @@ map-same f g k [] = refl
 map-same f g k (t ∷ l) = ap (λ (x : Entry). x ∷ map f l) (k t) ∙ ap (λ (x : List Entry). g t ∷ x) (map-same f g k l)
 
 reply-plain : (e : Exchange) (h : List Exchange) (f : ReplyForm) → replyEntries (plain e) (plains h) f ≡ replyEntries e h f
-reply-plain e h replies.UploadOpened = rw (count-plain h)
+reply-plain e h replies.UploadOpened = rw (count-plain (subscriber (e .request)) h)
 reply-plain e h replies.DownloadOpened = refl
 reply-plain e h replies.SegmentTaken =
     rw (segments-plain (transaction (e .reply)) h, entry-plain (transaction (e .reply)) h kind.Booked)

@@ -1,13 +1,16 @@
--- Exchanges of a sound history: each opening has its own number, each segment is taken once, what is ended was not booked.
+-- Exchanges of a sound history: each opening has its own number, each upload one in its series, each segment is taken
+-- once, what is ended was not booked.
 use Prim.Native.Nat.{ℕ, suc, _+_, _-_, _*_, _≤_, _<_}
-use mathlib.Core.Bool.{Bool, true, false, cond}
+use mathlib.Core.Bool.{Bool, true, false, cond, _&&_}
 use mathlib.Core.List.{List, [], _∷_, _++_}
 use mathlib.Core.Path.{_≡_, refl, sym, ap, _∙_, subst}
 use native.Mathlib.Omega.{arith}
+use lib.Dec.{eqb}
 use lib.ListN.{take, drop}
 use lib.Seq.{take-add}
+use borrow.Author.Tests.{eq-eqb}
 use Rattle.frame_table.specs.declared.fields.Bits128.{Bits128}
-use Rattle.frame_table.specs.Names.{segment, sameBits}
+use Rattle.frame_table.specs.Names.{subscriber, segment, sameBits}
 use Rattle.octets.proofs.Tests.{never, and-true}
 use Rattle.frame_table.proofs.Bits.{bits-same}
 use Rattle.message.specs.Limits.{segmentBytes}
@@ -20,7 +23,7 @@ use Rattle.bank_verdicts.specs.declared.verdict.Action.{Action}
 use Rattle.bank_verdicts.specs.declared.verdict.Action.the-variants as action
 use Rattle.bank_verdicts.specs.declared.verdict.Verdict.{Verdict}
 use Rattle.bank_verdicts.specs.declared.verdict.Verdict.the-variants as verdict
-use Rattle.bank_history.specs.History.{uploadKind, downloadKind, Exchange, Stands, newest, older, isOpening, isTaking, isBooking, isEnding, did, ever, times, received, segmentsAt, accepted, opens, OpensNumber, ActionIn}
+use Rattle.bank_history.specs.History.{uploadKind, downloadKind, Exchange, Stands, newest, older, isOpening, isTaking, isBooking, isEnding, did, ever, times, received, segmentsAt, accepted, uploadsAccepted, opens, acceptsUpload, OpensNumber, OpensInSeries, ActionIn}
 use Rattle.bank_history.specs.Sound.{
   SoundUploadAction,
   SoundDownloadAction,
@@ -104,6 +107,34 @@ one-opening n r a b p q = one-place (OpensNumber n) (λ _. n) accepted known rai
 
     grows : (e : Exchange) (g : List Exchange) → accepted g ≤ accepted (e ∷ g)
     grows e g = by-test (λ (m : ℕ). accepted g ≤ m) (opens (e .verdict)) (λ _. omega arith) (λ _. omega arith)
+
+-- each upload is one more of its series
+series-raises : (s n : ℕ) (e : Exchange) (g : List Exchange) → OpensInSeries s n e → uploadsAccepted s g < uploadsAccepted s (e ∷ g)
+unfolding uploadsAccepted
+series-raises s n e g p = rw (p .is, eq-eqb (subscriber (e .request)) s (p .owner)) (omega arith)
+
+series-grows : (s : ℕ) (e : Exchange) (g : List Exchange) → uploadsAccepted s g ≤ uploadsAccepted s (e ∷ g)
+unfolding uploadsAccepted
+series-grows s e g =
+    by-test (λ (m : ℕ). uploadsAccepted s g ≤ m) (acceptsUpload (e .verdict) && eqb (subscriber (e .request)) s)
+    (λ _. omega arith) (λ _. omega arith)
+
+pub upload-below : {s n : ℕ} {e : Exchange} {g h : List Exchange} → Stands e g h → OpensInSeries s n e →
+    uploadsAccepted s g < uploadsAccepted s h
+upload-below {s} {n} {e} {g} newest p = series-raises s n e g p
+upload-below {s} (older {x = x} {h = h} a) p =
+    let b = upload-below a p in let c = series-grows s x h in omega arith
+
+-- "Uploads of a subscriber ... count from A000 on their own": each has its own number in its series
+pub one-upload : (s n : ℕ) {e f : Exchange} {g k h : List Exchange} → AllSound h → Stands e g h → Stands f k h →
+    OpensInSeries s n e → OpensInSeries s n f → (e ≡ f) × (g ≡ k)
+one-upload s n r a b p q =
+    one-place (OpensInSeries s n) (λ _. n) (uploadsAccepted s) known (series-raises s n) (series-grows s) r a b p q refl
+  where
+    known : (e : Exchange) (g : List Exchange) → Sound e g → OpensInSeries s n e → n ≡ uploadsAccepted s g
+    known e g x p =
+        subst (λ (v : Verdict). SoundVerdict v e g) (p .is) (x .verdict) .number
+        ∙ ap (λ (m : ℕ). uploadsAccepted m g) (p .owner)
 
 -- ---- one kind of actions of one transaction
 

@@ -297,7 +297,7 @@ module _ (w : BankState) (h : List Exchange) (v : Invariant w h) (c : Counted w 
   acted-attempts : {x : Verdict} → Happens first w q d x → ByHistory h x
   acted-attempts unreadable = tt
   acted-attempts (refused r e) = tt
-  acted-attempts (opensUpload asked a g n inside) = ((λ z. never z), (λ z. absurd (omega arith)))
+  acted-attempts (opensUpload asked a g n inside below) = ((λ z. never z), (λ z. absurd (omega arith)))
   acted-attempts (opensDownload asked a g n) = ((λ z. never z), (λ z. absurd (omega arith)))
   acted-attempts (toUpload r a s) =
       let i = uploadAt (w .bank) q in

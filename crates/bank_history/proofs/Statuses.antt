@@ -27,10 +27,10 @@ use Rattle.bank_state.specs.declared.state.Use.the-variants as uses
 use Rattle.bank_state.specs.Clock.{isIdle, ends, endDownloads, advanced}
 use Rattle.bank_state.specs.Limits.{placeCount, idleLimit}
 use Rattle.bank_state.specs.Search.{isFree, isOpen, isDownload, freePlace, freeDownload}
-use Rattle.bank_state.specs.State.{BankState, noPlace, noDownload, fresh, placeAt, downloadAt}
+use Rattle.bank_state.specs.State.{BankState, noPlace, noDownload, fresh, placeAt, downloadAt, seriesOf}
 use Rattle.bank_state.proofs.Drops.{each-endDownloads}
 use Rattle.bank_state.proofs.Found.{upload-found, download-found}
-use Rattle.bank_openings.specs.Openings.{counted, openUpload, openDownload}
+use Rattle.bank_openings.specs.Openings.{counted, countedUpload, openUpload, openDownload}
 use Rattle.bank_verdicts.specs.declared.verdict.Direction.{Direction}
 use Rattle.bank_verdicts.specs.declared.verdict.Direction.the-variants as direction
 use Rattle.bank_verdicts.specs.declared.verdict.UploadAction.{UploadAction}
@@ -527,12 +527,12 @@ module _ (w : BankState) (h : List Exchange) (v : Invariant w h) (σ : Bits128 �
 
   -- every case of a request
   case-told : {first : ℕ} {u : Verdict} → Happens first w q d u → Told (carryOut u w q d) (then u)
-  unfolding openUpload openDownload counted
+  unfolding openUpload countedUpload openDownload counted
   case-told unreadable = told
   case-told (refused r z) = told
-  case-told {first} (opensUpload asked a g n inside) =
+  case-told {first} (opensUpload asked a g n inside below) =
       let t = transactionOf first (w .bank) in
-      let k = action.Upload (up.Opened (w .bank .openings)) in
+      let k = action.Upload (up.Opened (seriesOf (subscriber q) (w .bank .series))) in
       let w′ = carryOut (verdict.Of t k) w q d in
       let own : then (verdict.Of t k) t ≡ Open direction.Upload (subscriber q) (w .bank .clock) = rw (same-bits t) in
       record {
@@ -541,10 +541,10 @@ module _ (w : BankState) (h : List Exchange) (v : Invariant w h) (σ : Bits128 �
         downloads = old-download t k refl (λ u z. rw z);
         shown = shown-by t k w′
             (subst (Shown w′ t) (sym own)
-            (upload (ownUpload.opened-open first w h v q d t (w .bank .openings)
-            (opensUpload asked a g n inside) refl)))
+            (upload (ownUpload.opened-open first w h v q d t (seriesOf (subscriber q) (w .bank .series))
+            (opensUpload asked a g n inside below) refl)))
             (λ u z. rw z (still-shown w w′ u (σ u) (told .shown u)
-            (λ f s last. open-other u (opensUpload asked a g n inside) (no-action u t k z) f s last
+            (λ f s last. open-other u (opensUpload asked a g n inside below) (no-action u t k z) f s last
             (λ id y. absurd (let x : _≡_ {A = ℕ} 0 1 = cc in omega arith)))));
       }
   case-told {first} (opensDownload asked a g n) =

@@ -194,7 +194,7 @@ module _ {e : Exchange} {g h : List Exchange} (sound : AllSound h) (stands : Sta
   carries : {t : Bits128} {k : Action} → e .verdict ≡ verdict.Of t k → (actionForm k ≡ forms.Refusal → ⊥) → transaction (e .reply) ≡ t
   carries {t} {k} own n = ap transaction (says own) ∙ action-transaction t (e .request) k n
 
-  -- "upload opened": the reply's transaction ID was opened by this request, and the order number is that of the opening's number
+  -- "upload opened": the reply's transaction ID was opened by this request, and the order number is that of its number in the series
   pub upload-opened : form (e .reply) ≡ forms.UploadOpened →
       (n : ℕ) × (e .verdict ≡ verdict.Of (transaction (e .reply)) (action.Upload (up.Opened n)))
       × SoundUploadOpening n (transaction (e .reply)) e g × (orderNumber (e .reply) ≡ orderNumberOf n)

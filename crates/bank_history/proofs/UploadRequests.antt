@@ -46,7 +46,7 @@ use Rattle.bank_verdicts.specs.Refusals.{
 }
 use Rattle.bank_verdicts.specs.Judgement.{uploadAt, takes, judgeUpload, judgeOpen, judgeTransaction, judgeForm, judge}
 use Rattle.bank_verdicts.proofs.Sound.{Readable}
-use Rattle.bank_openings.specs.Openings.{counted, openUpload}
+use Rattle.bank_openings.specs.Openings.{counted, countedUpload, openUpload}
 use Rattle.bank_uploads.specs.Uploads.{grown}
 use Rattle.bank_steps.specs.Steps.{carryOut}
 use Rattle.bank.specs.Call.{respond}
@@ -216,10 +216,10 @@ module _ (first : ℕ) (w : BankState) (h : List Exchange) (v : Invariant w h) (
 pub opened-open : (first : ℕ) (w : BankState) (h : List Exchange) → Invariant w h →
     (q : Fields) (d : List ℕ) (t : Bits128) (m : ℕ) {x : Verdict} → Happens first w q d x →
     x ≡ verdict.Of t (action.Upload (up.Opened m)) → UploadAt (carryOut x w q d) t (subscriber q) 0 (segments q) (w .bank .clock)
-unfolding openUpload counted
+unfolding openUpload countedUpload counted
 opened-open first w h v q d t m unreadable z = absurd (let y : _≡_ {A = ℕ} 0 1 = cc in omega arith)
 opened-open first w h v q d t m (refused c e) z = absurd (let y : _≡_ {A = ℕ} 0 1 = cc in omega arith)
-opened-open first w h v q d t m (opensUpload asked a g n inside) z =
+opened-open first w h v q d t m (opensUpload asked a g n inside below) z =
     let is = getD-set-same (w .bank .places) (freePlace (w .bank)) _ noPlace (let b = v .state .sizes .places in omega arith) in
     record {
       place = freePlace (w .bank);

@@ -58,7 +58,7 @@ use Rattle.bank_admitted.proofs.Cases.{requestForm, ToUpload}
 use Rattle.bank_admitted.proofs.Held.{place-counted}
 use Rattle.bank_admitted.proofs.PlaceChange.{changedAt}
 use Rattle.bank_admitted.proofs.Uploads as admitted
-use Rattle.bank_history.proofs.Entries.{did-other, known-more, booked-more, booked-last, accepted-own}
+use Rattle.bank_history.proofs.Entries.{did-other, known-more, booked-more, booked-last, accepted-own, series-unmoved}
 use Rattle.bank_history.proofs.Memory.{memory-unchanged}
 use Rattle.bank_history.proofs.Places.{place-unchanged, place-attempted, place-grown, place-booked, places-told}
 use Rattle.bank_history.proofs.Records.{download-unchanged}
@@ -112,7 +112,7 @@ module _ (w : BankState) (h : List Exchange) (v : Invariant w h) (i : ℕ) (insi
   before = placeAt (w .bank) i
 
   abbrev changed : BankState
-  changed = changedAt i p (w .bank .openings) (w .bank .nonces) (withPart (w .orders) i bytes) w
+  changed = changedAt i p (w .bank .openings) (w .bank .series) (w .bank .nonces) (withPart (w .orders) i bytes) w
 
   upload-step : StateHolds changed → PlaceTold (p .used) (x ∷ h) p bytes →
       ((t : Bits128) → ever isBooking t (x ∷ h) ≡ true → BookedIn changed t) → Sound x h → Invariant changed (x ∷ h)
@@ -120,6 +120,7 @@ module _ (w : BankState) (h : List Exchange) (v : Invariant w h) (i : ℕ) (insi
   upload-step state new booked sound = record {
     state = state;
     counted = v .counted ∙ sym (accepted-own _ k x h own ∙ rw noOpening refl);
+    series = λ s a b. v .series s a b ∙ sym (series-unmoved s x h (ap opens own ∙ noOpening));
     places = places-told (x ∷ h) w i p (withPart (w .orders) i bytes) bytes (v .state .sizes .places) inside
         (part-same (w .orders) i bytes (v .state .sizes .orders) full inside)
         (part-other (w .orders) i bytes (v .state .sizes .orders) full inside) new

@@ -41,7 +41,7 @@ use Rattle.bank_state.specs.declared.state.Place.{Place}
 use Rattle.bank_state.specs.declared.state.Use.the-variants.{Open}
 use Rattle.bank_state.specs.Limits.{storeBytes}
 use Rattle.bank_state.specs.Search.{isOpen}
-use Rattle.bank_state.specs.State.{BankState, placeAt, downloadAt, fileLength}
+use Rattle.bank_state.specs.State.{BankState, placeAt, downloadAt, fileLength, seriesOf}
 use Rattle.bank_sound.specs.Sound.{InRange}
 use Rattle.bank_state.specs.Store.{partAt, fileOf}
 use Rattle.bank_verdicts.specs.declared.verdict.TransactionRequest.{TransactionRequest}
@@ -250,11 +250,14 @@ module _ (w : BankState) (range : InRange (w .bank)) (long : length (w .mailboxe
     opening-wide : Wide t
     opening-wide = (small, let n = g .numbers in omega arith)
 
-    upload-opening-written : WrittenReply (uploadOpened (exchange q) t (orderNumberOf (w .bank .openings))) []
+    abbrev m : ℕ
+    m = seriesOf (subscriber q) (w .bank .series)
+
+    upload-opening-written : WrittenReply (uploadOpened (exchange q) t (orderNumberOf m)) []
     upload-opening-written =
         sent refl (omega arith)
         (upload-opened-written (exchange q) (r .numbered) t opening-wide
-        (orderNumberOf (w .bank .openings)) (order-number-lt (w .bank .openings)))
+        (orderNumberOf m) (order-number-lt m))
 
     download-opening-written : (fileLength (subscriber q) (w .bank .files) ≡ 0 → ⊥) →
         let n = mailboxSegments (subscriber q) (w .bank) in
@@ -275,7 +278,7 @@ module _ (w : BankState) (range : InRange (w .bank)) (long : length (w .mailboxe
   unfolding mailboxSegment
   case-written small cases.unreadable = sent refl (omega arith) unreadable-written
   case-written small (cases.refused c e) = refused-written c
-  case-written {first = first} {d = d} small (opensUpload asked a g n p) = upload-opening-written d first small a g
+  case-written {first = first} {d = d} small (opensUpload asked a g n p below) = upload-opening-written d first small a g
   case-written {first = first} {d = d} small (opensDownload asked a g n) = download-opening-written d first small a g n
   case-written {d = d} small (toUpload k u c) = upload-written d k u c
   case-written {d = d} small (toDownload k u c) = download-written d k u c

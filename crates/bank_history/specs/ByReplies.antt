@@ -65,6 +65,12 @@ unfoldable pub openedCount : List Exchange → ℕ
 openedCount [] = 0
 openedCount (e ∷ h) = cond (isOpened e) (suc (openedCount h)) (openedCount h)
 
+-- how many uploads of a subscriber were opened
+unfoldable pub uploadsOpened : ℕ → List Exchange → ℕ
+uploadsOpened s [] = 0
+uploadsOpened s (e ∷ h) =
+    cond (isUploadOpened e && eqb (subscriber (e .request)) s) (suc (uploadsOpened s h)) (uploadsOpened s h)
+
 -- the transactions that they opened, the oldest first
 unfoldable pub openedIds : List Exchange → List Bits128
 openedIds [] = []
@@ -76,12 +82,13 @@ atOpened f none t [] = none
 atOpened f none t (e ∷ h) =
     cond (isOpened e && sameBits t (transaction (e .reply))) (f e h) (atOpened f none t h)
 
--- its subscriber; its order number, "The accepted openings are numbered from 0"; its N; whether it is an upload
+-- its subscriber; its order number, "Uploads of a subscriber ... count from A000 on their own"; its N; whether it is an
+-- upload
 abbrev pub ownerOf : Bits128 → List Exchange → ℕ
 ownerOf t h = atOpened (λ (e : Exchange) (g : List Exchange). subscriber (e .request)) 0 t h
 
 abbrev pub orderOf : Bits128 → List Exchange → ℕ
-orderOf t h = atOpened (λ (e : Exchange) (g : List Exchange). openedCount g) 0 t h
+orderOf t h = atOpened (λ (e : Exchange) (g : List Exchange). uploadsOpened (subscriber (e .request)) g) 0 t h
 
 abbrev pub segmentCountOf : Bits128 → List Exchange → ℕ
 segmentCountOf t h = atOpened (λ (e : Exchange) (g : List Exchange). segments (e .request)) 0 t h

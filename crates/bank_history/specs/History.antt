@@ -3,7 +3,7 @@ use Prim.Native.Nat.{ℕ, suc, _+_, _-_}
 use mathlib.Core.Bool.{Bool, true, false, cond, _&&_, _||_}
 use mathlib.Core.List.{List, [], _∷_, _++_}
 use mathlib.Core.Path.{_≡_}
-use lib.Dec.{leb}
+use lib.Dec.{eqb, leb}
 use lib.ListN.{replicate}
 use Rattle.frame_table.specs.declared.fields.Bits128.{Bits128}
 use Rattle.frame_table.specs.declared.fields.Fields.{Fields}
@@ -202,6 +202,12 @@ pub record OpensNumber (n : ℕ) (e : Exchange) : Type 0 where
   pub opening : isOpening action ≡ true
   pub numbered : id .low ≡ n
 
+-- the exchange opens an upload of this subscriber with this number of its series
+pub record OpensInSeries (s n : ℕ) (e : Exchange) : Type 0 where
+  pub id : Bits128
+  pub is : e .verdict ≡ verdict.Of id (action.Upload (up.Opened n))
+  pub owner : subscriber (e .request) ≡ s
+
 -- there was such an action under t
 unfoldable pub ever : (Action → Bool) → Bits128 → List Exchange → Bool
 ever f t [] = false
@@ -262,6 +268,17 @@ opens (verdict.Of t k) = isOpening k
 unfoldable pub accepted : List Exchange → ℕ
 accepted [] = 0
 accepted (e ∷ h) = cond (opens (e .verdict)) (suc (accepted h)) (accepted h)
+
+-- the accepted uploads of a subscriber
+abbrev pub acceptsUpload : Verdict → Bool
+acceptsUpload verdict.Unreadable = false
+acceptsUpload (verdict.Refused c) = false
+acceptsUpload (verdict.Of t k) = isUploadOpening k
+
+unfoldable pub uploadsAccepted : ℕ → List Exchange → ℕ
+uploadsAccepted s [] = 0
+uploadsAccepted s (e ∷ h) =
+    cond (acceptsUpload (e .verdict) && eqb (subscriber (e .request)) s) (suc (uploadsAccepted s h)) (uploadsAccepted s h)
 
 -- "An accepted opening's nonce": with its timestamp
 abbrev pub nonceOf : Exchange → Nonce

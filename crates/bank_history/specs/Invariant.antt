@@ -26,10 +26,10 @@ use Rattle.bank_state.specs.Limits.{
   window,
 }
 use Rattle.bank_state.specs.Search.{isFree, isOpen, openCount, openCountOf}
-use Rattle.bank_state.specs.State.{BankState, noPlace, noDownload, noNonce, placeAt, downloadAt}
+use Rattle.bank_state.specs.State.{BankState, noPlace, noDownload, noNonce, placeAt, downloadAt, seriesOf}
 use Rattle.bank_state.specs.Store.{partAt}
 use Rattle.bank_admitted.specs.State.{mailboxFile}
-use Rattle.bank_history.specs.History.{Exchange, Past, isUploadOpening, isDownloadOpening, isBooking, isTaking, isDelivery, isEnding, isAction, ever, times, received, accepted, openedBy, numberAt, segmentsAt, fileAtOpening, remembered}
+use Rattle.bank_history.specs.History.{Exchange, Past, isUploadOpening, isDownloadOpening, isBooking, isTaking, isDelivery, isEnding, isAction, ever, times, received, accepted, uploadsAccepted, openedBy, numberAt, segmentsAt, fileAtOpening, remembered}
 use Rattle.bank_admitted.specs.State.{Sizes, FreePlace, NoSteps, UsedPlace, UsedAs, OpenPlace, BookedPlace, PlaceHolds, OpenRecord, DownloadHolds, MailboxHolds, AllRemembered, NoncesHold, Alike, StateHolds, NoneIdle}
 use Rattle.bank_history.specs.Sound.{AllSound}
 
@@ -106,6 +106,8 @@ pub record Invariant (w : BankState) (h : List Exchange) : Type 0 where
   pub state : StateHolds w
   -- the openings are counted
   pub counted : w .bank .openings ≡ accepted h
+  -- so are the uploads of each subscriber
+  pub series : (s : ℕ) → 1 ≤ s → s ≤ subscribers → seriesOf s (w .bank .series) ≡ uploadsAccepted s h
   -- each place in use holds exactly what was taken for it
   pub places : (i : ℕ) → i < placeCount →
       PlaceTold (placeAt (w .bank) i .used) h (placeAt (w .bank) i) (partAt (w .orders) i)

@@ -47,7 +47,7 @@ use Rattle.bank_history.specs.Status.{
 }
 use Rattle.bank_history.specs.ByReplies.{
   ofReply,
-  openedCount,
+  uploadsOpened,
   openedIds,
   ownerOf,
   orderOf,
@@ -96,7 +96,8 @@ uploadDrops clock h = keep (λ (t : Bits128). isIdleUploadAt clock (standing t h
 -- what a reply says beside the drops: an upload opened; an upload's segment N taken; an upload cancelled by 091102,
 -- 011101 or 091104
 abbrev pub replyEntries : Exchange → List Exchange → ReplyForm → List Entry
-replyEntries e h replies.UploadOpened = entry kind.Opened (subscriber (e .request)) (openedCount h) ∷ []
+replyEntries e h replies.UploadOpened =
+    let s = subscriber (e .request) in entry kind.Opened s (uploadsOpened s h) ∷ []
 replyEntries e h replies.DownloadOpened = []
 replyEntries e h replies.SegmentTaken =
     let t = transaction (e .reply) in

@@ -7,6 +7,7 @@ pub mod Answers
 pub mod FalseEconomies
 pub mod Status
 pub mod ByReplies
+pub mod Series
 pub mod Journal
 pub mod JournalOrders
 pub mod OnRows

@@ -14,6 +14,7 @@ use Rattle.message.specs.declared.codes.ReturnCode.the-variants as code
 use Rattle.message.specs.Codes.{codeField}
 use Rattle.message.specs.Limits.{subscribers, segmentBytes, maxSegments}
 use Rattle.message.specs.Segments.{segmentsOf, segmentOf}
+use Rattle.bank_state.specs.Limits.{seriesLimit}
 use Rattle.bank_verdicts.specs.declared.verdict.UploadAction.{UploadAction}
 use Rattle.bank_verdicts.specs.declared.verdict.UploadAction.the-variants as up
 use Rattle.bank_verdicts.specs.declared.verdict.DownloadAction.{DownloadAction}
@@ -24,7 +25,7 @@ use Rattle.bank_verdicts.specs.declared.verdict.Verdict.{Verdict}
 use Rattle.bank_verdicts.specs.declared.verdict.Verdict.the-variants as verdict
 use Rattle.bank_verdicts.specs.Refusals.{cancels}
 use Rattle.bank_verdicts.specs.Replies.{replyTo}
-use Rattle.bank_history.specs.History.{Exchange, isUploadOpening, isDownloadOpening, isBooking, isTaking, isDelivery, isEnding, ever, times, accepted, openedBy, segmentsAt, fileAtOpening}
+use Rattle.bank_history.specs.History.{Exchange, isUploadOpening, isDownloadOpening, isBooking, isTaking, isDelivery, isEnding, ever, times, accepted, uploadsAccepted, openedBy, segmentsAt, fileAtOpening}
 
 -- field 0D is 091102, 011101 or 091104, the codes that cancel
 abbrev pub isCancelling : ℕ → Bool
@@ -39,10 +40,12 @@ pub record SoundOpening (f : Form) (t : Bits128) (e : Exchange) (h : List Exchan
   pub known : 1 ≤ subscriber (e .request)
   pub most : subscriber (e .request) ≤ subscribers
 
--- an upload opened: "An upload's order number is that number"; "0 segments" and "over 15 segments" are refused
+-- an upload opened: "Uploads of a subscriber and type now count from A000 on their own", "The limit of 1,213,056 ...
+-- holds per series"; "0 segments" and "over 15 segments" are refused
 pub record SoundUploadOpening (n : ℕ) (t : Bits128) (e : Exchange) (h : List Exchange) : Type 0 where
   pub opening : SoundOpening forms.UploadOpening t e h
-  pub number : n ≡ accepted h
+  pub number : n ≡ uploadsAccepted (subscriber (e .request)) h
+  pub limited : n < seriesLimit
   pub some : 1 ≤ segments (e .request)
   pub few : segments (e .request) ≤ maxSegments
   pub bare : e .replyData ≡ []

@@ -1,18 +1,19 @@
 -- An accepted opening finds room for it, and the bank that it leaves is one that rows can hold. Assumes nothing.
-use Prim.Native.Nat.{ℕ, _+_, _<_}
+use Prim.Native.Nat.{ℕ, _+_, _-_, _<_}
 use mathlib.Core.List.{List}
 use mathlib.Core.Path.{_≡_, refl, sym, ap, _∙_}
 use native.Mathlib.Omega.{arith}
 use lib.ListN.{set}
+use borrow.Author.Tests.{lt-leb, leb-false}
 use Rattle.frame_table.specs.declared.fields.Bits128.{Bits128}
 use Rattle.frame_table.specs.declared.fields.Fields.{Fields}
-use Rattle.frame_table.specs.Names.{nonce, timestamp}
+use Rattle.frame_table.specs.Names.{subscriber, nonce, timestamp}
 use Rattle.bank_state.specs.State.{Bank}
 use Rattle.bank_state.specs.declared.state.Download.{Download}
 use Rattle.bank_state.specs.declared.state.Place.{Place}
-use Rattle.bank_state.specs.Limits.{placeCount, nonceCount, maxOpen}
+use Rattle.bank_state.specs.Limits.{placeCount, nonceCount, maxOpen, seriesLimit}
 use Rattle.bank_state.specs.Search.{freePlace, freeDownload, freeNonce, openCount}
-use Rattle.bank_state.specs.State.{withOpenings, withPlace, withDownload, withNonces}
+use Rattle.bank_state.specs.State.{seriesOf, withOpenings, withSeries, withPlace, withDownload, withNonces}
 use Rattle.bank_rows.specs.Records.{bits, nonceRecord}
 use Rattle.bank_rows.specs.State.{downloadCountOf, bankOf, stored, Laid, Held}
 use Rattle.bank_rows.proofs.Calls.{
@@ -22,6 +23,7 @@ use Rattle.bank_rows.proofs.Calls.{
   held-free-nonce,
   held-open-downloads,
   held-openings,
+  held-series,
   held-place,
   held-download-added,
   held-nonce-added,
@@ -41,6 +43,7 @@ use Rattle.bank_openings.specs.Openings.{
   UploadRoom,
   DownloadRoom,
   counted,
+  countedUpload,
   newPlace,
   openUpload,
   newDownload,
@@ -56,14 +59,19 @@ module _ (first : ℕ) (b : Bank) (q : Fields) (k : Held b) where
   few-open h = omega (arith, held-open-downloads b k)
 
   room-by : {t : Bits128} {a : Action} (d : Direction) (v : Verdict) → OpeningSound first b q d v → v ≡ verdict.Of t a
-      → Room d b
+      → Room d b q
   room-by d v (sound.refused e c h) x = absurd (let z : _≡_ {A = ℕ} 0 1 = cc in omega arith)
-  room-by d v (sound.upload acc some free) x = record { place = free; memory = acc .memory; numbers = acc .numbers }
+  room-by d v (sound.upload acc some free below) x = record {
+    place = free;
+    memory = acc .memory;
+    series = lt-leb seriesLimit (seriesOf (subscriber q) (b .series)) below;
+    numbers = acc .numbers;
+  }
   room-by d v (sound.download acc full) x =
-      record { place = few-open (acc .ofAll); memory = acc .memory; numbers = acc .numbers }
+      record { place = few-open (acc .ofAll); memory = acc .memory; series = refl; numbers = acc .numbers }
 
   -- the verdict on an opening that acts on a transaction is given only where there is room
-  pub accepted-room : {t : Bits128} {a : Action} (d : Direction) → judgeOpening d first b q ≡ verdict.Of t a → Room d b
+  pub accepted-room : {t : Bits128} {a : Action} (d : Direction) → judgeOpening d first b q ≡ verdict.Of t a → Room d b q
   accepted-room d e = room-by d (judgeOpening d first b q) (judged-opening first b q d) e
 
 -- ---- the bank that it leaves
@@ -83,11 +91,15 @@ module _ (q : Fields) (b : Bank) (k : Held b) where
     unfolding counted
     held-counted = held-openings (b .openings + 1) held-noted
 
-  pub held-upload : UploadRoom b → (t : Bits128) (number : ℕ) → Held (openUpload t number q b)
-  unfolding openUpload
-  held-upload r t number = held-place (freePlace b) (newPlace t number (b .clock) q) (held-counted (r .memory))
+    pub held-counted-upload : Held (countedUpload q b)
+    unfolding countedUpload counted
+    held-counted-upload = held-series (subscriber q - 1) (seriesOf (subscriber q) (b .series) + 1) held-counted
 
-  pub held-download : DownloadRoom b → (t : Bits128) → Held (openDownload t q b)
+  pub held-upload : UploadRoom b q → (t : Bits128) (number : ℕ) → Held (openUpload t number q b)
+  unfolding openUpload
+  held-upload r t number = held-place (freePlace b) (newPlace t number (b .clock) q) (held-counted-upload (r .memory))
+
+  pub held-download : DownloadRoom b q → (t : Bits128) → Held (openDownload t q b)
   unfolding openDownload counted
   held-download r t =
       let e = held-free-download b k in
@@ -121,35 +133,58 @@ module _ (s : List ℕ) (l : Laid s) (q : Fields) where
         (withOpenings (b .openings + 1)) (held-counted q b held memory) (omega arith) (omega arith) t u noted-stored
         (f ∙ ap (λ (m : ℕ). stored (withOpenings (m + 1) (bankOf t)) t) z)
 
-  -- then the place or the download
-  module _ (d : Direction) (r : Room d b) (t : List ℕ) (e : t ≡ stored (counted q b) s) where
+  module _ (d : Direction) (r : Room d b q) (t : List ℕ) (e : t ≡ stored (counted q b) s) where
     held-count : Held (counted q b)
     held-count = held-counted q b held (r .memory)
 
     pub counted-laid : Laid t
     counted-laid = rw e (stored-laid (counted q b) held-count s l)
 
+  -- then the series of an upload, and its place
+  module _ (r : UploadRoom b q) where
+    -- its number, which the code reads, is below the limit
+    pub room-in-series : (i n : ℕ) → i ≡ subscriber q → n ≡ seriesOf i (b .series) → n < seriesLimit
+    room-in-series i n x y =
+        let e : n ≡ seriesOf (subscriber q) (b .series) = y ∙ ap (λ (j : ℕ). seriesOf j (b .series)) x in
+        omega (arith, leb-false seriesLimit (seriesOf (subscriber q) (b .series)) (r .series))
+
+    pub upload-counted : (t : List ℕ) → t ≡ stored (counted q b) s → (u : List ℕ) (i n : ℕ) → i ≡ subscriber q
+        → n ≡ seriesOf i (b .series) → u ≡ stored (withSeries (set (bankOf t .series) (i - 1) (n + 1)) (bankOf t)) t
+        → u ≡ stored (countedUpload q b) s
+    unfolding countedUpload counted
+    upload-counted t e u i n x y f =
+        stored-change s l (counted q b) (held-counted q b held (r .memory))
+        (λ (c : Bank). withSeries (set (c .series) (subscriber q - 1) (seriesOf (subscriber q) (b .series) + 1)) c)
+        (held-counted-upload q b held (r .memory)) (omega arith) (omega arith) t u e
+        (f ∙ ap (λ (m : ℕ). stored (withSeries (set (bankOf t .series) (i - 1) (m + 1)) (bankOf t)) t) y
+        ∙ ap (λ (j : ℕ). stored (withSeries (set (bankOf t .series) (j - 1) (seriesOf j (b .series) + 1)) (bankOf t)) t) x)
+
+    module _ (t : List ℕ) (e : t ≡ stored (countedUpload q b) s) where
+      pub upload-laid : Laid t
+      upload-laid = rw e (stored-laid (countedUpload q b) (held-counted-upload q b held (r .memory)) s l)
+
+      pub upload-stored : (u : List ℕ) (i number : ℕ) (transaction : Bits128) (p : Place)
+          → u ≡ stored (withPlace i p (bankOf t)) t → i ≡ freePlace b → p ≡ newPlace transaction number (b .clock) q
+          → u ≡ stored (openUpload transaction number q b) s
+      unfolding openUpload countedUpload counted
+      upload-stored u i number transaction p f x y =
+          stored-change s l (countedUpload q b) (held-counted-upload q b held (r .memory))
+          (withPlace (freePlace b) (newPlace transaction number (b .clock) q)) (held-upload q b held r transaction number)
+          (omega arith) (omega arith) t u e
+          (f ∙ ap (λ (j : ℕ). stored (withPlace j p (bankOf t)) t) x
+          ∙ ap (λ (c : Place). stored (withPlace (freePlace b) c (bankOf t)) t) y)
+
+  -- or the download
+  module _ (r : DownloadRoom b q) (t : List ℕ) (e : t ≡ stored (counted q b) s) where
     counted-download : freeDownload (bankOf t) ≡ freeDownload b
     unfolding counted freeDownload
     counted-download =
-        ap (λ (r : List ℕ). freeDownload (bankOf r)) e ∙ ap freeDownload (stored-back (counted q b) held-count s l)
+        ap (λ (r : List ℕ). freeDownload (bankOf r)) e
+        ∙ ap freeDownload (stored-back (counted q b) (held-counted q b held (r .memory)) s l)
 
     pub counted-downloads : downloadCountOf t ≡ freeDownload b
     counted-downloads = sym (free-download t) ∙ counted-download
 
-  module _ (r : UploadRoom b) (t : List ℕ) (e : t ≡ stored (counted q b) s) where
-    pub upload-stored : (u : List ℕ) (i number : ℕ) (transaction : Bits128) (p : Place)
-        → u ≡ stored (withPlace i p (bankOf t)) t → i ≡ freePlace b → p ≡ newPlace transaction number (b .clock) q
-        → u ≡ stored (openUpload transaction number q b) s
-    unfolding openUpload counted
-    upload-stored u i number transaction p f x y =
-        stored-change s l (counted q b) (held-counted q b held (r .memory))
-        (withPlace (freePlace b) (newPlace transaction number (b .clock) q)) (held-upload q b held r transaction number)
-        (omega arith) (omega arith) t u e
-        (f ∙ ap (λ (j : ℕ). stored (withPlace j p (bankOf t)) t) x
-        ∙ ap (λ (c : Place). stored (withPlace (freePlace b) c (bankOf t)) t) y)
-
-  module _ (r : DownloadRoom b) (t : List ℕ) (e : t ≡ stored (counted q b) s) where
     pub download-stored : (u : List ℕ) (transaction : Bits128) (x : Download)
         → u ≡ stored (withDownload (freeDownload (bankOf t)) x (bankOf t)) t → x ≡ newDownload transaction (b .clock) q
         → u ≡ stored (openDownload transaction q b) s
@@ -159,5 +194,5 @@ module _ (s : List ℕ) (l : Laid s) (q : Fields) where
         stored-change s l (counted q b) (held-counted q b held (r .memory))
         (withDownload (freeDownload b) (newDownload transaction (b .clock) q)) (held-download q b held r transaction)
         (omega arith) (omega arith) t u e
-        (f ∙ ap (λ (j : ℕ). stored (withDownload j x (bankOf t)) t) (counted-download direction.Download r t e)
+        (f ∙ ap (λ (j : ℕ). stored (withDownload j x (bankOf t)) t) counted-download
         ∙ ap (λ (c : Download). stored (withDownload (freeDownload b) c (bankOf t)) t) y)

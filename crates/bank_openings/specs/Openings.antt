@@ -1,6 +1,8 @@
 -- "Opening.": what an accepted opening leaves.
-use Prim.Native.Nat.{ℕ, _+_, _<_}
-use mathlib.Core.Bool.{true}
+use Prim.Native.Nat.{ℕ, _+_, _-_, _<_}
+use mathlib.Core.Bool.{true, false}
+use mathlib.Core.List.{List}
+use mathlib.Core.Path.{_≡_}
 use lib.ListN.{set}
 use Rattle.frame_table.specs.declared.fields.Bits128.{Bits128}
 use Rattle.frame_table.specs.declared.fields.Fields.{Fields}
@@ -11,33 +13,43 @@ use Rattle.bank_state.specs.declared.state.Place.{Place}
 use Rattle.bank_state.specs.declared.state.Use.the-variants.{Open}
 use Rattle.bank_state.specs.Limits.{placeCount, nonceCount, maxOpenings}
 use Rattle.bank_state.specs.Search.{freePlace, freeDownload, freeNonce}
-use Rattle.bank_state.specs.State.{withOpenings, withPlace, withDownload, withNonces}
+use Rattle.bank_state.specs.State.{seriesOf, withOpenings, withSeries, withPlace, withDownload, withNonces}
 use Rattle.bank_verdicts.specs.declared.verdict.Direction.{Direction}
 use Rattle.bank_verdicts.specs.declared.verdict.Direction.the-variants as direction
+use Rattle.bank_verdicts.specs.Refusals.{seriesEnded}
 
 -- the record that an opening of this direction takes
 abbrev pub freeFor : Direction → Bank → ℕ
 freeFor direction.Upload b = freePlace b
 freeFor direction.Download b = freeDownload b
 
--- room for one opening more of this direction: a record free, and neither 64 nonces remembered nor 1,213,056 openings
--- accepted
-pub record Room (d : Direction) (b : Bank) : Type 0 where
+-- room for one opening more of this direction: a record free, not 64 nonces remembered, and neither the upload's series
+-- nor the running number at its end
+pub record Room (d : Direction) (b : Bank) (q : Fields) : Type 0 where
   pub place : freeFor d b < placeCount
   pub memory : freeNonce b < nonceCount
+  pub series : seriesEnded d b q ≡ false
   pub numbers : b .openings < maxOpenings
 
-abbrev pub UploadRoom : Bank → Type 0
-UploadRoom b = Room direction.Upload b
+abbrev pub UploadRoom : Bank → Fields → Type 0
+UploadRoom b q = Room direction.Upload b q
 
-abbrev pub DownloadRoom : Bank → Type 0
-DownloadRoom b = Room direction.Download b
+abbrev pub DownloadRoom : Bank → Fields → Type 0
+DownloadRoom b q = Room direction.Download b q
 
--- "The accepted openings are numbered from 0"; "An accepted opening's nonce is remembered"
+-- "The accepted openings are numbered from 0", uploads and downloads together; "An accepted opening's nonce is remembered"
 unfoldable pub counted : Fields → Bank → Bank
 counted q b =
     withOpenings (b .openings + 1)
     (withNonces (set (b .nonces) (freeNonce b) (record { used = true; value = nonce q; timestamp = timestamp q })) b)
+
+-- a subscriber's series one number further
+abbrev pub moved : ℕ → List ℕ → List ℕ
+moved s series = set series (s - 1) (seriesOf s series + 1)
+
+-- "Uploads of a subscriber and type now count from A000 on their own": an upload is also one more of its series
+unfoldable pub countedUpload : Fields → Bank → Bank
+countedUpload q b = withSeries (moved (subscriber q) (b .series)) (counted q b)
 
 -- the place of an upload just opened, with its transaction ID and its order's number
 abbrev pub newPlace : Bits128 → ℕ → ℕ → Fields → Place
@@ -55,7 +67,7 @@ newPlace t number clock q = record {
 
 -- "An upload takes the first place not in use"
 unfoldable pub openUpload : Bits128 → ℕ → Fields → Bank → Bank
-openUpload t number q b = withPlace (freePlace b) (newPlace t number (b .clock) q) (counted q b)
+openUpload t number q b = withPlace (freePlace b) (newPlace t number (b .clock) q) (countedUpload q b)
 
 -- a download just opened: "its opening delivered segment 1"
 abbrev pub newDownload : Bits128 → ℕ → Fields → Download

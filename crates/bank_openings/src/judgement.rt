@@ -6,12 +6,14 @@ use bank_lists::nonces::nonce_count;
 use bank_rows::numbers::clock;
 use bank_rows::numbers::file_length_of;
 use bank_rows::numbers::openings;
+use bank_rows::numbers::series_of;
 use bank_rows::places::free_place;
 use bank_state::limits::MAX_OPEN;
 use bank_state::limits::MAX_OPEN_PER_SUBSCRIBER;
 use bank_state::limits::MAX_OPENINGS;
 use bank_state::limits::NONCE_COUNT;
 use bank_state::limits::PLACE_COUNT;
+use bank_state::limits::SERIES_LIMIT;
 use bank_state::limits::WINDOW;
 use bank_verdicts::verdict::Action;
 use bank_verdicts::verdict::Direction;
@@ -29,7 +31,7 @@ ghost use mathlib.Core.Path.{_≡_};
 ghost use Rattle.bank_rows.specs.State.{bankOf, Laid};
 ghost use Rattle.bank_verdicts.specs.Judgement.{accepted, judgeOpening, mailboxSegments};
 ghost use Rattle.bank_verdicts.specs.Refusals.{unknownType, otherDirection, manySegments, inTime, isReplay};
-ghost use Rattle.bank_verdicts.specs.Refusals.{emptyMailbox, manyOpen, noPlaceFree, isFull};
+ghost use Rattle.bank_verdicts.specs.Refusals.{emptyMailbox, manyOpen, noPlaceFree, seriesEnded, isFull};
 
 // 091005: order type neither FUL nor FDL.
 fn unknown_type(q: Fields) -> bool
@@ -121,10 +123,22 @@ fn no_place_free(rows: &[u64], d: Direction) -> bool
     }
 }
 
-// 061099: 8 transactions open, an upload with 8 places in use, 64 nonces remembered, or 1,213,056 openings accepted.
-fn is_full(rows: &[u64], d: Direction) -> bool
+// An upload with 1,213,056 uploads accepted in its subscriber's series.
+fn series_ended(rows: &[u64], d: Direction, q: Fields) -> bool
     requires { ⌜ Laid (now rows) ⌝ }
-    ensures { λ r. ⌜ r ≡ isFull d (bankOf (now (rows .entry))) ⌝ }
+    ensures { λ r. ⌜ r ≡ seriesEnded d (bankOf (now (rows .entry))) q ⌝ }
+{
+    match d {
+        Direction::Upload => SERIES_LIMIT <= series_of(rows, q.subscriber()),
+        Direction::Download => false,
+    }
+}
+
+// 061099: 8 transactions open, an upload with 8 places in use, 64 nonces remembered, 1,213,056 uploads accepted in the
+// upload's series, or 4,294,967,296 openings accepted.
+fn is_full(rows: &[u64], d: Direction, q: Fields) -> bool
+    requires { ⌜ Laid (now rows) ⌝ }
+    ensures { λ r. ⌜ r ≡ isFull d (bankOf (now (rows .entry))) q ⌝ }
 {
     if MAX_OPEN <= open_count(rows) {
         return true;
@@ -133,6 +147,9 @@ fn is_full(rows: &[u64], d: Direction) -> bool
         return true;
     }
     if NONCE_COUNT <= nonce_count(rows) {
+        return true;
+    }
+    if series_ended(rows, d, q) {
         return true;
     }
     MAX_OPENINGS <= openings(rows)
@@ -146,7 +163,8 @@ pub fn mailbox_segments(rows: &[u64], subscriber: u64) -> u64
     segments_of(file_length_of(rows, subscriber))
 }
 
-// An accepted opening: its transaction ID is the lent bytes and its number; an upload's order number is that number.
+// An accepted opening: its transaction ID is the lent bytes and its running number; an upload has the number that its
+// subscriber's series has come to.
 fn accepted(rows: &[u64], d: Direction, first: u64, q: Fields) -> Verdict
     requires { ⌜ Laid (now rows) ⌝ }
     ensures { λ r. ⌜ r ≡ accepted d first (bankOf (now (rows .entry))) q ⌝ }
@@ -157,7 +175,10 @@ fn accepted(rows: &[u64], d: Direction, first: u64, q: Fields) -> Verdict
         low: number,
     };
     match d {
-        Direction::Upload => Verdict::Of(transaction, Action::Upload(UploadAction::Opened(number))),
+        Direction::Upload => {
+            let n = series_of(rows, q.subscriber());
+            Verdict::Of(transaction, Action::Upload(UploadAction::Opened(n)))
+        }
         Direction::Download => {
             let n = mailbox_segments(rows, q.subscriber());
             Verdict::Of(transaction, Action::Download(DownloadAction::Opened(n)))
@@ -188,7 +209,7 @@ pub fn judge_opening(rows: &[u64], d: Direction, first: u64, q: Fields) -> Verdi
     if many_open(rows, q) {
         return Verdict::Refused(ReturnCode::MaxTransactionsExceeded);
     }
-    if is_full(rows, d) {
+    if is_full(rows, d, q) {
         return Verdict::Refused(ReturnCode::InternalError);
     }
     accepted(rows, d, first, q)

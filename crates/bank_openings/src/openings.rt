@@ -3,7 +3,9 @@ use bank_lists::downloads::add_download;
 use bank_lists::nonces::add_nonce;
 use bank_rows::numbers::clock;
 use bank_rows::numbers::openings;
+use bank_rows::numbers::series_of;
 use bank_rows::numbers::set_openings;
+use bank_rows::numbers::set_series_of;
 use bank_rows::places::free_place;
 use bank_rows::places::set_place;
 use bank_state::state::Download;
@@ -16,7 +18,8 @@ ghost use Prim.Native.Nat.{_<_};
 ghost use Rattle.bank_state.specs.Limits.{nonceCount, maxOpenings};
 ghost use Rattle.bank_state.specs.Search.{freeNonce};
 ghost use Rattle.bank_rows.specs.State.{bankOf, stored, Laid};
-ghost use Rattle.bank_openings.specs.Openings.{UploadRoom, DownloadRoom, counted, openUpload, openDownload};
+ghost use Rattle.bank_openings.specs.Openings.{UploadRoom, DownloadRoom, counted, countedUpload};
+ghost use Rattle.bank_openings.specs.Openings.{openUpload, openDownload};
 
 // One opening more is accepted, and its nonce is remembered.
 fn count_opening(rows: &mut [u64], q: Fields)
@@ -30,9 +33,20 @@ fn count_opening(rows: &mut [u64], q: Fields)
     set_openings(rows, n + 1);
 }
 
+// An accepted upload is one opening more, and one upload more of its subscriber's series.
+fn count_upload(rows: &mut [u64], q: Fields)
+    requires { ⌜ Laid (now rows) × UploadRoom (bankOf (now rows)) q ⌝ }
+    ensures { λ _. ⌜ now (rows .exit) ≡ stored (countedUpload q (bankOf (now (rows .entry)))) (now (rows .entry)) ⌝ }
+{
+    let subscriber = q.subscriber();
+    let n = series_of(rows, subscriber);
+    count_opening(rows, q);
+    set_series_of(rows, subscriber, n + 1);
+}
+
 // An accepted upload takes the first free place, with its transaction ID and its order's number.
 pub fn open_upload(rows: &mut [u64], transaction: Bits128, number: u64, q: Fields)
-    requires { ⌜ Laid (now rows) × UploadRoom (bankOf (now rows)) ⌝ }
+    requires { ⌜ Laid (now rows) × UploadRoom (bankOf (now rows)) q ⌝ }
     ensures { λ _. ⌜ now (rows .exit)
         ≡ stored (openUpload transaction number q (bankOf (now (rows .entry)))) (now (rows .entry)) ⌝ }
 {
@@ -48,13 +62,13 @@ pub fn open_upload(rows: &mut [u64], transaction: Bits128, number: u64, q: Field
         last: clock(rows),
         length: 0,
     };
-    count_opening(rows, q);
+    count_upload(rows, q);
     set_place(rows, i, place);
 }
 
 // An accepted download has segment 1 of its mailbox delivered.
 pub fn open_download(rows: &mut [u64], transaction: Bits128, q: Fields)
-    requires { ⌜ Laid (now rows) × DownloadRoom (bankOf (now rows)) ⌝ }
+    requires { ⌜ Laid (now rows) × DownloadRoom (bankOf (now rows)) q ⌝ }
     ensures { λ _. ⌜ now (rows .exit)
         ≡ stored (openDownload transaction q (bankOf (now (rows .entry)))) (now (rows .entry)) ⌝ }
 {

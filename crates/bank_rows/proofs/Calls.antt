@@ -15,7 +15,7 @@ use Rattle.bank_state.specs.Limits.{placeCount, nonceCount}
 use Rattle.bank_state.specs.Rows.{countOf, keep}
 use Rattle.bank_state.specs.Clock.{isIdle, freed, dropUpload, dropUploads, endDownloads, forget, atClock}
 use Rattle.bank_state.specs.Search.{isOpen, freeDownload, freeNonce}
-use Rattle.bank_state.specs.State.{BankState, bankState, noPlace, noDownload, noNonce, withClock, withOpenings, withFiles, withDownload, withDownloads, withNonces, withPlace, placeAt}
+use Rattle.bank_state.specs.State.{BankState, bankState, noPlace, noDownload, noNonce, withClock, withOpenings, withFiles, withSeries, withDownload, withDownloads, withNonces, withPlace, placeAt}
 use Rattle.bank_state.proofs.Rows.{length-keepOnly}
 use Rattle.bank_rows.specs.Layout.{
   downloadCountAt,
@@ -141,6 +141,7 @@ held-clock c k = record {
   downloads = k .downloads;
   nonces = k .nonces;
   files = k .files;
+  series = k .series;
   downloadsFirst = k .downloadsFirst;
   noncesFirst = k .noncesFirst;
 }
@@ -151,6 +152,7 @@ held-place i p {b} k = record {
   downloads = k .downloads;
   nonces = k .nonces;
   files = k .files;
+  series = k .series;
   downloadsFirst = k .downloadsFirst;
   noncesFirst = k .noncesFirst;
 }
@@ -163,6 +165,7 @@ held-openings n k = record {
   downloads = k .downloads;
   nonces = k .nonces;
   files = k .files;
+  series = k .series;
   downloadsFirst = k .downloadsFirst;
   noncesFirst = k .noncesFirst;
 }
@@ -173,6 +176,18 @@ held-file i n {b} k = record {
   downloads = k .downloads;
   nonces = k .nonces;
   files = length-set (b .files) i n ∙ k .files;
+  series = k .series;
+  downloadsFirst = k .downloadsFirst;
+  noncesFirst = k .noncesFirst;
+}
+
+pub held-series : (i n : ℕ) {b : Bank} → Held b → Held (withSeries (set (b .series) i n) b)
+held-series i n {b} k = record {
+  places = k .places;
+  downloads = k .downloads;
+  nonces = k .nonces;
+  files = k .files;
+  series = length-set (b .series) i n ∙ k .series;
   downloadsFirst = k .downloadsFirst;
   noncesFirst = k .noncesFirst;
 }
@@ -183,6 +198,7 @@ held-download i e {b} k u h = record {
   downloads = length-set (b .downloads) i e ∙ k .downloads;
   nonces = k .nonces;
   files = k .files;
+  series = k .series;
   downloadsFirst = changed-first (λ (x : Download). x .used) noDownload refl e u (b .downloads) (k .downloadsFirst) i h;
   noncesFirst = k .noncesFirst;
 }
@@ -194,6 +210,7 @@ held-download-added e {b} k u h = record {
   downloads = length-set (b .downloads) (length (openDownloads b)) e ∙ k .downloads;
   nonces = k .nonces;
   files = k .files;
+  series = k .series;
   downloadsFirst =
       added-first (λ (x : Download). x .used) noDownload refl e u (b .downloads) (k .downloadsFirst) (omega (arith, k .downloads));
   noncesFirst = k .noncesFirst;
@@ -206,6 +223,7 @@ held-nonce-added e {b} k u h = record {
   downloads = k .downloads;
   nonces = length-set (b .nonces) (length (rememberedNonces b)) e ∙ k .nonces;
   files = k .files;
+  series = k .series;
   downloadsFirst = k .downloadsFirst;
   noncesFirst = added-first (λ (x : Nonce). x .used) noNonce refl e u (b .nonces) (k .noncesFirst) (omega (arith, k .nonces));
 }
@@ -229,6 +247,7 @@ held-ended which {b} k = record {
   downloads = length-keepOnly (staysOpen which) noDownload (b .downloads) ∙ k .downloads;
   nonces = k .nonces;
   files = k .files;
+  series = k .series;
   downloadsFirst = keepOnly-first (λ (e : Download). e .used) (staysOpen which) (stays-open which) noDownload refl (b .downloads);
   noncesFirst = k .noncesFirst;
 }
@@ -240,6 +259,7 @@ held-forgotten clock {b} k = record {
   downloads = k .downloads;
   nonces = length-keepOnly (staysRemembered clock) noNonce (b .nonces) ∙ k .nonces;
   files = k .files;
+  series = k .series;
   downloadsFirst = k .downloadsFirst;
   noncesFirst = keepOnly-first (λ (e : Nonce). e .used) (staysRemembered clock) (stays-kept clock) noNonce refl (b .nonces);
 }

@@ -31,6 +31,12 @@ use Rattle.bank_rows.specs.Rows.{rowsOf, numbersOf, written}
 
 -- ---- numbers written over others
 
+pub set-after : (a b : List ℕ) (i x : ℕ) → set (a ++ b) (length a + i) x ≡ a ++ set b i x
+set-after [] b i x = rw (zero-add i)
+set-after (y ∷ a) b i x =
+    let e : length (y ∷ a) + i ≡ suc (length a + i) = omega arith in
+    ap (λ (k : ℕ). set (y ∷ (a ++ b)) k x) e ∙ ap (λ (r : List ℕ). y ∷ r) (set-after a b i x)
+
 pub overwrite-after : (a b : List ℕ) (n k : ℕ) (xs : List ℕ) → length a ≡ n → overwrite (a ++ b) (n + k) xs ≡ a ++ overwrite b k xs
 unfolding overwrite
 overwrite-after a b n k xs e =

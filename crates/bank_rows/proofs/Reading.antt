@@ -23,6 +23,7 @@ use Rattle.bank_state.proofs.Loops.{Searched, Counted}
 use Rattle.bank_state.proofs.Rows.{first-passes}
 use Rattle.bank_rows.specs.Layout.{
   filesAt,
+  seriesAt,
   placesAt,
   placeUse,
   placeHigh,
@@ -99,6 +100,10 @@ module _ (s : List ℕ) where
   pub file-read : (i : ℕ) → i < placeCount → getD s (filesAt + i) 0 ≡ getD (bankOf s .files) i 0
   unfolding bankOf
   file-read i h = sym (part-at filesAt placeCount s i h)
+
+  pub series-read : (i : ℕ) → i < placeCount → getD s (seriesAt + i) 0 ≡ getD (bankOf s .series) i 0
+  unfolding bankOf
+  series-read i h = sym (part-at seriesAt placeCount s i h)
 
   module _ (i : ℕ) (h : i < placeCount) where
     abbrev at : ℕ

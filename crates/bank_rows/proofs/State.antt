@@ -21,6 +21,7 @@ use Rattle.bank_rows.specs.Layout.{
   clockAt,
   openingsAt,
   filesAt,
+  seriesAt,
   downloadCountAt,
   nonceCountAt,
   placesAt,
@@ -52,7 +53,7 @@ use Rattle.bank_rows.specs.State.{
   Laid,
   Held,
 }
-use Rattle.bank_rows.proofs.General.{overwrite-after, overwrite-within, listed-take, take-listed, length-numbers, length-rows, numbers-rows, rows-numbers, written-own, length-written}
+use Rattle.bank_rows.proofs.General.{set-after, overwrite-after, overwrite-within, listed-take, take-listed, length-numbers, length-rows, numbers-rows, rows-numbers, written-own, length-written}
 use Rattle.bank_rows.proofs.InUse.{keep-in-use, in-use-first, length-in-use, keep-true, in-use-back, rows-twice}
 use Rattle.bank_rows.proofs.Records.{
   place-wide,
@@ -138,40 +139,64 @@ module _ (H P D N : List ℕ) (h : length H ≡ placesAt) where
 
 -- ---- the numbers before the places
 
-module _ (c o : ℕ) (F : List ℕ) (d n : ℕ) (h : length F ≡ placeCount) where
+module _ (c o : ℕ) (F S : List ℕ) (d n : ℕ) (h : length F ≡ placeCount) (k : length S ≡ placeCount) where
   abbrev pub head : List ℕ
-  head = c ∷ o ∷ (F ++ (d ∷ n ∷ []))
+  head = c ∷ o ∷ (F ++ (S ++ (d ∷ n ∷ [])))
 
   pub length-head : length head ≡ placesAt
   length-head = simp length-append (omega arith)
 
+  -- what stands after the files' lengths
+  after-files : (i : ℕ) → getD head (seriesAt + i) 0 ≡ getD (S ++ (d ∷ n ∷ [])) i 0
+  after-files i =
+      let e : seriesAt + i ≡ suc (suc (length F + i)) = omega arith in
+      ap (λ (j : ℕ). getD head j 0) e ∙ getD-append-add F (S ++ (d ∷ n ∷ [])) i 0
+
+  set-after-files : (i x : ℕ) → set head (seriesAt + i) x ≡ c ∷ o ∷ (F ++ set (S ++ (d ∷ n ∷ [])) i x)
+  set-after-files i x =
+      let e : seriesAt + i ≡ suc (suc (length F + i)) = omega arith in
+      ap (λ (j : ℕ). set head j x) e ∙ ap (λ (r : List ℕ). c ∷ o ∷ r) (set-after F (S ++ (d ∷ n ∷ [])) i x)
+
   pub download-count-of : getD head downloadCountAt 0 ≡ d
-  download-count-of = getD-at F d (n ∷ []) 0 placeCount h
+  download-count-of = after-files placeCount ∙ getD-at S d (n ∷ []) 0 placeCount k
 
   pub nonce-count-of : getD head nonceCountAt 0 ≡ n
   nonce-count-of =
-      let e : placeCount + 1 ≡ length F + 1 = omega arith in
-      ap (λ (k : ℕ). getD (F ++ (d ∷ n ∷ [])) k 0) e ∙ getD-append-add F (d ∷ n ∷ []) 1 0
+      let e : placeCount + 1 ≡ length S + 1 = omega arith in
+      after-files (placeCount + 1)
+      ∙ ap (λ (i : ℕ). getD (S ++ (d ∷ n ∷ [])) i 0) e ∙ getD-append-add S (d ∷ n ∷ []) 1 0
 
   pub files-of : (r : List ℕ) → take placeCount (drop filesAt (head ++ r)) ≡ F
   files-of r =
-      ap (take placeCount) (append-assoc F (d ∷ n ∷ []) r) ∙ take-at F (d ∷ n ∷ r) placeCount h
+      ap (take placeCount) (append-assoc F (S ++ (d ∷ n ∷ [])) r) ∙ take-at F ((S ++ (d ∷ n ∷ [])) ++ r) placeCount h
 
-  pub set-download-count : (x : ℕ) → set head downloadCountAt x ≡ c ∷ o ∷ (F ++ (x ∷ n ∷ []))
-  set-download-count x = ap (λ (r : List ℕ). c ∷ o ∷ r) (set-at F d (n ∷ []) x placeCount h)
+  pub series-of : (r : List ℕ) → take placeCount (drop seriesAt (head ++ r)) ≡ S
+  series-of r =
+      ap (λ (l : List ℕ). take placeCount (drop placeCount l)) (append-assoc F (S ++ (d ∷ n ∷ [])) r)
+      ∙ ap (take placeCount) (drop-at F ((S ++ (d ∷ n ∷ [])) ++ r) placeCount h ∙ append-assoc S (d ∷ n ∷ []) r)
+      ∙ take-at S (d ∷ n ∷ r) placeCount k
 
-  pub set-nonce-count : (x : ℕ) → set head nonceCountAt x ≡ c ∷ o ∷ (F ++ (d ∷ x ∷ []))
+  pub set-download-count : (x : ℕ) → set head downloadCountAt x ≡ c ∷ o ∷ (F ++ (S ++ (x ∷ n ∷ [])))
+  set-download-count x =
+      set-after-files placeCount x ∙ ap (λ (r : List ℕ). c ∷ o ∷ (F ++ r)) (set-at S d (n ∷ []) x placeCount k)
+
+  pub set-nonce-count : (x : ℕ) → set head nonceCountAt x ≡ c ∷ o ∷ (F ++ (S ++ (d ∷ x ∷ [])))
   set-nonce-count x =
-      let e : length (F ++ (d ∷ [])) ≡ placeCount + 1 = simp length-append (omega arith) in
-      ap (λ (r : List ℕ). c ∷ o ∷ r)
-      (ap (λ (r : List ℕ). set r (placeCount + 1) x) (sym (append-assoc F (d ∷ []) (n ∷ [])))
-      ∙ set-at (F ++ (d ∷ [])) n [] x (placeCount + 1) e ∙ append-assoc F (d ∷ []) (x ∷ []))
+      let e : length (S ++ (d ∷ [])) ≡ placeCount + 1 = simp length-append (omega arith) in
+      set-after-files (placeCount + 1) x
+      ∙ ap (λ (r : List ℕ). c ∷ o ∷ (F ++ r))
+      (ap (λ (r : List ℕ). set r (placeCount + 1) x) (sym (append-assoc S (d ∷ []) (n ∷ [])))
+      ∙ set-at (S ++ (d ∷ [])) n [] x (placeCount + 1) e ∙ append-assoc S (d ∷ []) (x ∷ []))
 
-  pub set-file : (i x : ℕ) → i < placeCount → set head (filesAt + i) x ≡ c ∷ o ∷ (set F i x ++ (d ∷ n ∷ []))
+  pub set-file : (i x : ℕ) → i < placeCount → set head (filesAt + i) x ≡ c ∷ o ∷ (set F i x ++ (S ++ (d ∷ n ∷ [])))
   set-file i x l =
       let e : filesAt + i ≡ suc (suc i) = omega arith in
-      ap (λ (k : ℕ). set head k x) e
-      ∙ ap (λ (r : List ℕ). c ∷ o ∷ r) (set-append-left F (d ∷ n ∷ []) i x (omega arith))
+      ap (λ (j : ℕ). set head j x) e
+      ∙ ap (λ (r : List ℕ). c ∷ o ∷ r) (set-append-left F (S ++ (d ∷ n ∷ [])) i x (omega arith))
+
+  pub set-series : (i x : ℕ) → i < placeCount → set head (seriesAt + i) x ≡ c ∷ o ∷ (F ++ (set S i x ++ (d ∷ n ∷ [])))
+  set-series i x l =
+      set-after-files i x ∙ ap (λ (r : List ℕ). c ∷ o ∷ (F ++ r)) (set-append-left S (d ∷ n ∷ []) i x (omega arith))
 
 -- ---- the rows themselves
 
@@ -243,7 +268,13 @@ module _ (s : List ℕ) (l : Laid s) where
       ap length open-are ∙ length-rows downloadWidth downloadOf (downloadCountOf s) (downloadsPart s) in
       let n : length (rememberedNonces (bankOf s)) ≡ nonceCountOf s =
       ap length remembered-are ∙ length-rows nonceWidth nonceOf (nonceCountOf s) (noncesPart s) in
-      rw (d, n, listed-take placeCount filesAt s (omega (arith, l .long))) (sym (take-listed placesAt s (omega (arith, l .long))))
+      rw (
+        d,
+        n,
+        listed-take placeCount filesAt s (omega (arith, l .long)),
+        listed-take placeCount seriesAt s (omega (arith, l .long)),
+      )
+      (sym (take-listed placesAt s (omega (arith, l .long))))
 
   pub places-own : numbersOf placeRow (bankOf s .places) ≡ placesPart s
   unfolding bankOf
@@ -290,6 +321,7 @@ module _ (s : List ℕ) (l : Laid s) where
     downloads = length-in-use downloadWidth downloadOf noDownload placeCount (downloadCountOf s) (downloadsPart s) (l .downloads);
     nonces = length-in-use nonceWidth nonceOf noNonce nonceCount (nonceCountOf s) (noncesPart s) (l .nonces);
     files = simp (length-take, length-drop) (omega (arith, l .long));
+    series = simp (length-take, length-drop) (omega (arith, l .long));
     downloadsFirst =
         in-use-first downloadWidth downloadOf noDownload (λ (e : Download). e .used) (λ r. refl) refl placeCount (downloadCountOf s) (downloadsPart s)
         (l .downloads);
@@ -304,12 +336,12 @@ fresh-rows = refl
 
 -- ---- a bank stored
 
-abbrev bank : ℕ → ℕ → List Place → List Download → List Nonce → List ℕ → Bank
-bank c o p d n f = record { clock = c; openings = o; places = p; downloads = d; nonces = n; files = f }
+abbrev bank : ℕ → ℕ → List ℕ → List Place → List Download → List Nonce → List ℕ → Bank
+bank c o r p d n f = record { clock = c; openings = o; series = r; places = p; downloads = d; nonces = n; files = f }
 
-bank-same : {c c1 o o1 : ℕ} {p p1 : List Place} {d d1 : List Download} {n n1 : List Nonce} {f f1 : List ℕ}
-    → c ≡ c1 → o ≡ o1 → p ≡ p1 → d ≡ d1 → n ≡ n1 → f ≡ f1 → bank c o p d n f ≡ bank c1 o1 p1 d1 n1 f1
-bank-same a b c d e f = rw (a, b, c, d, e, f)
+bank-same : {c c1 o o1 : ℕ} {r r1 : List ℕ} {p p1 : List Place} {d d1 : List Download} {n n1 : List Nonce} {f f1 : List ℕ}
+    → c ≡ c1 → o ≡ o1 → r ≡ r1 → p ≡ p1 → d ≡ d1 → n ≡ n1 → f ≡ f1 → bank c o r p d n f ≡ bank c1 o1 r1 p1 d1 n1 f1
+bank-same a b r c d e f = rw (a, b, r, c, d, e, f)
 
 module _ (b : Bank) (k : Held b) where
   pub few-downloads : length (openDownloads b) ≤ placeCount
@@ -319,7 +351,7 @@ module _ (b : Bank) (k : Held b) where
   few-nonces = omega (arith, k .nonces, length-keep (λ (e : Nonce). e .used) (b .nonces))
 
   pub head-long : length (headOf b) ≡ placesAt
-  head-long = length-head (b .clock) (b .openings) (b .files) (length (openDownloads b)) (length (rememberedNonces b)) (k .files)
+  head-long = length-head (b .clock) (b .openings) (b .files) (b .series) (length (openDownloads b)) (length (rememberedNonces b)) (k .files) (k .series)
 
   pub places-long : length (numbersOf placeRow (b .places)) ≡ placesSize
   places-long = length-numbers placeRow placeWidth place-wide (b .places) ∙ ap (λ (n : ℕ). placeWidth * n) (k .places)
@@ -365,18 +397,24 @@ module _ (b : Bank) (k : Held b) where
     stored-files : take placeCount (drop filesAt (stored b old)) ≡ b .files
     unfolding stored joined
     stored-files =
-        files-of (b .clock) (b .openings) (b .files) (length (openDownloads b)) (length (rememberedNonces b)) (k .files)
+        files-of (b .clock) (b .openings) (b .files) (b .series) (length (openDownloads b)) (length (rememberedNonces b)) (k .files) (k .series)
+        (numbersOf placeRow (b .places) ++ (downloads ++ nonces))
+
+    stored-series : take placeCount (drop seriesAt (stored b old)) ≡ b .series
+    unfolding stored joined
+    stored-series =
+        series-of (b .clock) (b .openings) (b .files) (b .series) (length (openDownloads b)) (length (rememberedNonces b)) (k .files) (k .series)
         (numbersOf placeRow (b .places) ++ (downloads ++ nonces))
 
     pub stored-download-count : downloadCountOf (stored b old) ≡ length (openDownloads b)
     stored-download-count =
         stored-head downloadCountAt (omega arith)
-        ∙ download-count-of (b .clock) (b .openings) (b .files) (length (openDownloads b)) (length (rememberedNonces b)) (k .files)
+        ∙ download-count-of (b .clock) (b .openings) (b .files) (b .series) (length (openDownloads b)) (length (rememberedNonces b)) (k .files) (k .series)
 
     pub stored-nonce-count : nonceCountOf (stored b old) ≡ length (rememberedNonces b)
     stored-nonce-count =
         stored-head nonceCountAt (omega arith)
-        ∙ nonce-count-of (b .clock) (b .openings) (b .files) (length (openDownloads b)) (length (rememberedNonces b)) (k .files)
+        ∙ nonce-count-of (b .clock) (b .openings) (b .files) (b .series) (length (openDownloads b)) (length (rememberedNonces b)) (k .files) (k .series)
 
     places-back : rowsOf placeWidth placeOf placeCount (placesPart (stored b old)) ≡ b .places
     places-back =
@@ -404,7 +442,7 @@ module _ (b : Bank) (k : Held b) where
     pub stored-back : bankOf (stored b old) ≡ b
     unfolding bankOf
     stored-back =
-        bank-same (stored-head clockAt (omega arith)) (stored-head openingsAt (omega arith)) places-back downloads-back nonces-back stored-files
+        bank-same (stored-head clockAt (omega arith)) (stored-head openingsAt (omega arith)) stored-series places-back downloads-back nonces-back stored-files
 
     stored-long : length (stored b old) ≡ stateSize
     unfolding stored

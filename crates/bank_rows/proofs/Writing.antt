@@ -5,7 +5,7 @@ use mathlib.Core.List.{List, [], _∷_, _++_}
 use mathlib.Core.Path.{_≡_, refl, sym, ap, _∙_}
 use native.Mathlib.Omega.{arith}
 use lib.ListN.{length, take, drop, set, length-append, length-set, take-append-drop}
-use lib.Seq.{length-take-le}
+use lib.Seq.{length-take-le, set-out}
 use borrow.Rule.Slice.PartMut.{putMid, midOf}
 use Rattle.octets.specs.Bytes.{overwrite}
 use Rattle.octets.proofs.Numbers.{length-overwrite, overwrite-all}
@@ -25,10 +25,11 @@ use Rattle.bank_state.specs.State.{
   withDownloads,
   withNonces,
   withFiles,
+  withSeries,
   withPlace,
   withDownload,
 }
-use Rattle.bank_rows.specs.Layout.{clockAt, openingsAt, filesAt, downloadCountAt, nonceCountAt, placesAt, placeWidth, downloadsAt, downloadWidth, downloadsSize, noncesAt, nonceWidth, noncesSize}
+use Rattle.bank_rows.specs.Layout.{clockAt, openingsAt, filesAt, seriesAt, downloadCountAt, nonceCountAt, placesAt, placeWidth, downloadsAt, downloadWidth, downloadsSize, noncesAt, nonceWidth, noncesSize}
 use Rattle.bank_rows.specs.Rows.{rowsOf, rowsInUse, numbersOf, written, KeptRows}
 use Rattle.bank_rows.specs.Records.{placeRow, downloadOf, downloadRow, nonceOf, nonceRow}
 use Rattle.bank_rows.specs.State.{
@@ -57,6 +58,7 @@ use Rattle.bank_rows.proofs.State.{
   set-download-count,
   set-nonce-count,
   set-file,
+  set-series,
   length-downloads,
   length-nonces,
   open-are,
@@ -138,7 +140,20 @@ module _ (s : List ℕ) (l : Laid s) where
   file-write i n h =
       ap (λ (r : List ℕ). set r (filesAt + i) n) parts ∙ set-head (headOf b) P D N (head-long b held) (filesAt + i) n (omega arith)
       ∙ joined-same
-      (set-file (b .clock) (b .openings) (b .files) (length (openDownloads b)) (length (rememberedNonces b)) (held .files) i n h) refl refl refl
+      (set-file (b .clock) (b .openings) (b .files) (b .series) (length (openDownloads b)) (length (rememberedNonces b)) (held .files) (held .series) i n h) refl refl refl
+
+  pub series-write : (i n : ℕ) → i < placeCount → set s (seriesAt + i) n ≡ stored (withSeries (set (b .series) i n) b) s
+  unfolding stored
+  series-write i n h =
+      ap (λ (r : List ℕ). set r (seriesAt + i) n) parts ∙ set-head (headOf b) P D N (head-long b held) (seriesAt + i) n (omega arith)
+      ∙ joined-same
+      (set-series (b .clock) (b .openings) (b .files) (b .series) (length (openDownloads b)) (length (rememberedNonces b)) (held .files)
+      (held .series) i n h) refl refl refl
+
+  -- after the eight there is no series
+  pub series-none : (i n : ℕ) → placeCount ≤ i → s ≡ stored (withSeries (set (b .series) i n) b) s
+  series-none i n h =
+      sym (stored-own s l) ∙ ap (λ (r : List ℕ). stored (withSeries r b) s) (sym (set-out (b .series) i n (omega (arith, held .series))))
 
   pub place-write : (i : ℕ) (p : Place) → i < placeCount → overwrite s (placesAt + placeWidth * i) (placeRow p) ≡ stored (withPlace i p b) s
   unfolding stored
@@ -173,7 +188,7 @@ module _ (s : List ℕ) (l : Laid s) where
       ap (λ (r : List ℕ). set r downloadCountAt n) (over-open k xs h)
       ∙ set-head (headOf b) P (overwrite (downloadsPart s) k xs) N (head-long b held) downloadCountAt n (omega arith)
       ∙ joined-same
-      (set-download-count (b .clock) (b .openings) (b .files) (length (openDownloads b)) (length (rememberedNonces b)) (held .files) n ∙ rw c)
+      (set-download-count (b .clock) (b .openings) (b .files) (b .series) (length (openDownloads b)) (length (rememberedNonces b)) (held .files) (held .series) n ∙ rw c)
       refl e refl
 
   nonces-write : (k n : ℕ) (xs : List ℕ) (d : List Nonce) → k + length xs ≤ noncesSize
@@ -186,7 +201,7 @@ module _ (s : List ℕ) (l : Laid s) where
       ap (λ (r : List ℕ). set r nonceCountAt n) (over-remembered k xs h)
       ∙ set-head (headOf b) P D (overwrite (noncesPart s) k xs) (head-long b held) nonceCountAt n (omega arith)
       ∙ joined-same
-      (set-nonce-count (b .clock) (b .openings) (b .files) (length (openDownloads b)) (length (rememberedNonces b)) (held .files) n ∙ rw c)
+      (set-nonce-count (b .clock) (b .openings) (b .files) (b .series) (length (openDownloads b)) (length (rememberedNonces b)) (held .files) (held .series) n ∙ rw c)
       refl refl e
 
   module _ (e : Download) (u : e .used ≡ true) where
@@ -231,7 +246,7 @@ module _ (s : List ℕ) (l : Laid s) where
         ap length (open-are s l) ∙ sym (length-set rows i e) ∙ ap length (sym (changed-open i h)) in
         over-open (downloadWidth * i) (downloadRow e) (omega arith)
         ∙ joined-same
-        (ap (λ (k : ℕ). b .clock ∷ b .openings ∷ (b .files ++ (k ∷ length (rememberedNonces b) ∷ []))) count)
+        (ap (λ (k : ℕ). b .clock ∷ b .openings ∷ (b .files ++ (b .series ++ (k ∷ length (rememberedNonces b) ∷ [])))) count)
         refl
         (sym (ap (λ (d : List Download). written (downloadWidth * n) (numbersOf downloadRow d) (downloadsPart s)) (changed-open i h)
         ∙ area-changed downloadWidth downloadRow download-wide rows e i n (downloadsPart s)

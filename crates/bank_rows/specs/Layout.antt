@@ -13,9 +13,13 @@ openingsAt = clockAt + 1
 abbrev pub filesAt : ℕ
 filesAt = openingsAt + 1
 
+-- how far the numbering of each subscriber's uploads has come
+abbrev pub seriesAt : ℕ
+seriesAt = filesAt + placeCount
+
 -- how many downloads are open, and how many nonces are remembered
 abbrev pub downloadCountAt : ℕ
-downloadCountAt = filesAt + placeCount
+downloadCountAt = seriesAt + placeCount
 
 abbrev pub nonceCountAt : ℕ
 nonceCountAt = downloadCountAt + 1

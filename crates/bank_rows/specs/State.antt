@@ -13,6 +13,7 @@ use Rattle.bank_rows.specs.Layout.{
   clockAt,
   openingsAt,
   filesAt,
+  seriesAt,
   downloadCountAt,
   nonceCountAt,
   placesAt,
@@ -51,6 +52,7 @@ unfoldable pub bankOf : List ℕ → Bank
 bankOf s = record {
   clock = getD s clockAt 0;
   openings = getD s openingsAt 0;
+  series = take placeCount (drop seriesAt s);
   places = rowsOf placeWidth placeOf placeCount (placesPart s);
   downloads = rowsInUse downloadWidth downloadOf noDownload placeCount (downloadCountOf s) (downloadsPart s);
   nonces = rowsInUse nonceWidth nonceOf noNonce nonceCount (nonceCountOf s) (noncesPart s);
@@ -69,7 +71,8 @@ rememberedNonces b = keep (λ (e : Nonce). e .used) (b .nonces)
 
 -- the numbers before the places
 abbrev pub headOf : Bank → List ℕ
-headOf b = b .clock ∷ b .openings ∷ (b .files ++ (length (openDownloads b) ∷ length (rememberedNonces b) ∷ []))
+headOf b =
+    b .clock ∷ b .openings ∷ (b .files ++ (b .series ++ (length (openDownloads b) ∷ length (rememberedNonces b) ∷ [])))
 
 -- the four parts of the rows, one after another
 unfoldable pub joined : List ℕ → List ℕ → List ℕ → List ℕ → List ℕ
@@ -102,5 +105,6 @@ pub record Held (b : Bank) : Type 0 where
   pub downloads : length (b .downloads) ≡ placeCount
   pub nonces : length (b .nonces) ≡ nonceCount
   pub files : length (b .files) ≡ placeCount
+  pub series : length (b .series) ≡ placeCount
   pub downloadsFirst : keepOnly (λ (e : Download). e .used) noDownload (b .downloads) ≡ b .downloads
   pub noncesFirst : keepOnly (λ (e : Nonce). e .used) noNonce (b .nonces) ≡ b .nonces

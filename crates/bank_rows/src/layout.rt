@@ -10,8 +10,11 @@ pub const OPENINGS_AT: usize = CLOCK_AT + 1;
 // The lengths of the files in the mailboxes.
 pub const FILES_AT: usize = OPENINGS_AT + 1;
 
+// How far the numbering of each subscriber's uploads has come.
+pub const SERIES_AT: usize = FILES_AT + PLACE_COUNT;
+
 // How many downloads are open, and how many nonces are remembered.
-pub const DOWNLOAD_COUNT_AT: usize = FILES_AT + PLACE_COUNT;
+pub const DOWNLOAD_COUNT_AT: usize = SERIES_AT + PLACE_COUNT;
 
 pub const NONCE_COUNT_AT: usize = DOWNLOAD_COUNT_AT + 1;
 

@@ -66,6 +66,7 @@ clocked clock w = bankState (atClock clock (w .bank)) (w .orders) (w .mailboxes)
 pub record AtClock (t : ℕ) (w v : BankState) : Type 0 where
   pub clock : v .bank .clock ≡ t
   pub openings : v .bank .openings ≡ w .bank .openings
+  pub series : v .bank .series ≡ w .bank .series
   pub downloads : v .bank .downloads ≡ endDownloads (Idle t) (w .bank .downloads)
   pub nonces : v .bank .nonces ≡ forget t (w .bank .nonces)
   pub files : v .bank .files ≡ w .bank .files
@@ -78,13 +79,14 @@ drops-at-clock clock n w h =
     (λ i v l k. record {
       clock = k .clock;
       openings = k .openings;
+      series = k .series;
       downloads = k .downloads;
       nonces = k .nonces;
       files = k .files;
       mailboxes = k .mailboxes;
     })
     n (clocked clock w) h
-    (record { clock = refl; openings = refl; downloads = refl; nonces = refl; files = refl; mailboxes = refl })
+    (record { clock = refl; openings = refl; series = refl; downloads = refl; nonces = refl; files = refl; mailboxes = refl })
 
 pub advanced-at-clock : (time : ℕ) (w : BankState) → AtClock (max (w .bank .clock) time) w (advanced time w)
 unfolding advanced
@@ -98,6 +100,7 @@ pub record Sized (w : BankState) : Type 0 where
   pub downloads : length (w .bank .downloads) ≡ placeCount
   pub nonces : length (w .bank .nonces) ≡ nonceCount
   pub files : length (w .bank .files) ≡ placeCount
+  pub series : length (w .bank .series) ≡ placeCount
   pub orders : length (w .orders) ≡ storeBytes
   pub mailboxes : length (w .mailboxes) ≡ storeBytes
 
@@ -108,6 +111,7 @@ freed-sized i w h s = record {
   downloads = s .downloads;
   nonces = s .nonces;
   files = s .files;
+  series = s .series;
   orders = length-zeroed (w .orders) i (s .orders) h ∙ s .orders;
   mailboxes = s .mailboxes;
 }
@@ -119,6 +123,7 @@ clocked-sized clock w s = record {
   downloads = length-endDownloads (Idle clock) (w .bank .downloads) ∙ s .downloads;
   nonces = length-forget clock (w .bank .nonces) ∙ s .nonces;
   files = s .files;
+  series = s .series;
   orders = s .orders;
   mailboxes = s .mailboxes;
 }

@@ -33,6 +33,10 @@ maxOpenPerSubscriber = 4
 abbrev pub nonceCount : ℕ
 nonceCount = 64
 
--- "1,213,056 openings accepted"
+-- running numbers are "allowed up to 4,294,967,295": so many openings are accepted
 abbrev pub maxOpenings : ℕ
-maxOpenings = 1213056
+maxOpenings = 4294967296
+
+-- "The limit of 1,213,056 ... holds per series"
+abbrev pub seriesLimit : ℕ
+seriesLimit = 1213056

@@ -15,11 +15,12 @@ pub record Nonce : Type 0 where
   pub value : Bits128
   pub timestamp : ℕ
 
--- The bank's state. Open downloads and nonces stand in the order of their openings, without gaps; `files` has the
--- length of each mailbox's file, 0 where it is empty
+-- The bank's state. `series` has how far the numbering of each subscriber's uploads has come. Open downloads and nonces
+-- stand in the order of their openings, without gaps; `files` has the length of each mailbox's file, 0 where it is empty
 pub record Bank : Type 0 where
   pub clock : ℕ
   pub openings : ℕ
+  pub series : List ℕ
   pub places : List Place
   pub downloads : List Download
   pub nonces : List Nonce
@@ -57,11 +58,12 @@ noDownload = record { used = false; transaction = noBits; subscriber = 0; delive
 abbrev pub noNonce : Nonce
 noNonce = record { used = false; value = noBits; timestamp = 0 }
 
--- "Fresh means clock 0, no opening accepted, nothing open, booked or remembered"
+-- "Fresh means clock 0, no opening accepted, nothing open, booked or remembered"; each series counts "from A000 on"
 unfoldable pub fresh : Bank
 fresh = record {
   clock = 0;
   openings = 0;
+  series = replicate placeCount 0;
   places = replicate placeCount noPlace;
   downloads = replicate placeCount noDownload;
   nonces = replicate nonceCount noNonce;
@@ -74,6 +76,7 @@ abbrev pub withClock : ℕ → Bank → Bank
 withClock t b = record {
   clock = t;
   openings = b .openings;
+  series = b .series;
   places = b .places;
   downloads = b .downloads;
   nonces = b .nonces;
@@ -84,6 +87,18 @@ abbrev pub withOpenings : ℕ → Bank → Bank
 withOpenings n b = record {
   clock = b .clock;
   openings = n;
+  series = b .series;
+  places = b .places;
+  downloads = b .downloads;
+  nonces = b .nonces;
+  files = b .files;
+}
+
+abbrev pub withSeries : List ℕ → Bank → Bank
+withSeries l b = record {
+  clock = b .clock;
+  openings = b .openings;
+  series = l;
   places = b .places;
   downloads = b .downloads;
   nonces = b .nonces;
@@ -94,6 +109,7 @@ abbrev pub withPlaces : List Place → Bank → Bank
 withPlaces l b = record {
   clock = b .clock;
   openings = b .openings;
+  series = b .series;
   places = l;
   downloads = b .downloads;
   nonces = b .nonces;
@@ -104,6 +120,7 @@ abbrev pub withDownloads : List Download → Bank → Bank
 withDownloads l b = record {
   clock = b .clock;
   openings = b .openings;
+  series = b .series;
   places = b .places;
   downloads = l;
   nonces = b .nonces;
@@ -114,6 +131,7 @@ abbrev pub withNonces : List Nonce → Bank → Bank
 withNonces l b = record {
   clock = b .clock;
   openings = b .openings;
+  series = b .series;
   places = b .places;
   downloads = b .downloads;
   nonces = l;
@@ -124,6 +142,7 @@ abbrev pub withFiles : List ℕ → Bank → Bank
 withFiles l b = record {
   clock = b .clock;
   openings = b .openings;
+  series = b .series;
   places = b .places;
   downloads = b .downloads;
   nonces = b .nonces;
@@ -139,6 +158,10 @@ downloadAt b i = getD (b .downloads) i noDownload
 -- the length of the file in a subscriber's mailbox, 0 where it is empty
 unfoldable pub fileLength : ℕ → List ℕ → ℕ
 fileLength s files = getD files (s - 1) 0
+
+-- "Uploads of a subscriber ... now count from A000 on their own": how many of a subscriber were accepted
+unfoldable pub seriesOf : ℕ → List ℕ → ℕ
+seriesOf s series = getD series (s - 1) 0
 
 abbrev pub withPlace : ℕ → Place → Bank → Bank
 withPlace i p b = withPlaces (set (b .places) i p) b

@@ -25,5 +25,8 @@ pub const MAX_OPEN_PER_SUBSCRIBER: usize = 4;
 // Remembered nonces.
 pub const NONCE_COUNT: usize = 64;
 
-// Accepted openings: the order numbers A000 to ZZZZ.
-pub const MAX_OPENINGS: u64 = 1213056;
+// Accepted openings: the running numbers 0 to 4,294,967,295.
+pub const MAX_OPENINGS: u64 = 4294967296;
+
+// Accepted uploads of one series: the order numbers A000 to ZZZZ.
+pub const SERIES_LIMIT: u64 = 1213056;

@@ -11,7 +11,7 @@ pub enum Use {
     Booked,
 }
 
-// An order place: an open upload or a booked order. `number` is the number of its opening, `taken` counts its
+// An order place: an open upload or a booked order. `number` is its order number in its series, `taken` counts its
 // segments taken, `last` is the clock at its last fitting request, `length` counts its bytes.
 pub struct Place {
     pub used: Use,

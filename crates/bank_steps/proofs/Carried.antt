@@ -15,7 +15,7 @@ use Rattle.bank_state.specs.State.{Bank}
 use Rattle.bank_state.specs.declared.state.Download.{Download}
 use Rattle.bank_state.specs.declared.state.Place.{Place}
 use Rattle.bank_state.specs.Limits.{placeCount}
-use Rattle.bank_state.specs.State.{BankState, bankState, placeAt, downloadAt, withPlace}
+use Rattle.bank_state.specs.State.{BankState, bankState, placeAt, downloadAt, seriesOf, withPlace}
 use Rattle.bank_state.specs.Store.{partAt, withPart}
 use Rattle.bank_verdicts.specs.declared.verdict.Action.{Action}
 use Rattle.bank_verdicts.specs.declared.verdict.Action.the-variants as action
@@ -57,7 +57,7 @@ module _ (first : ℕ) (b : Bank) (q : Fields) {t : Bits128} {a : Action} where
   opens-by : (dir : Direction) (v : Verdict) → OpeningSound first b q dir v → v ≡ verdict.Of t a
       → v ≡ accepted dir first b q
   opens-by dir v (sound.refused d c h) e = absurd (let z : _≡_ {A = ℕ} 0 1 = cc in omega arith)
-  opens-by dir v (sound.upload acc some free) e = refl
+  opens-by dir v (sound.upload acc some free below) e = refl
   opens-by dir v (sound.download acc full) e = refl
 
   -- one that acts on a transaction is accepted
@@ -67,12 +67,12 @@ module _ (first : ℕ) (b : Bank) (q : Fields) {t : Bits128} {a : Action} where
 
   module _ (o m d : List ℕ) where
     pub upload-opened : judgeOpening direction.Upload first b q ≡ verdict.Of t a
-        → bankState (openUpload t (b .openings) q b) o m
+        → bankState (openUpload t (seriesOf (subscriber q) (b .series)) q b) o m
         ≡ carryOut (judgeOpening direction.Upload first b q) (bankState b o m) q d
     upload-opened e =
         let known = opens direction.Upload e in
         let same : t ≡ transactionOf first b = cc in
-        ap (λ (id : Bits128). bankState (openUpload id (b .openings) q b) o m) same
+        ap (λ (id : Bits128). bankState (openUpload id (seriesOf (subscriber q) (b .series)) q b) o m) same
         ∙ sym (ap (λ (v : Verdict). carryOut v (bankState b o m) q d) known)
 
     pub download-opened : judgeOpening direction.Download first b q ≡ verdict.Of t a

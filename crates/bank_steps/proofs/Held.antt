@@ -99,7 +99,7 @@ module _ (b : Bank) (k : Held b) (q : Fields) where
     opening-held : (first : ℕ) (dir : Direction) (v : Verdict) → OpeningSound first b q dir v
         → judgeOpening dir first b q ≡ v → P v
     opening-held first dir v (sound.refused e c h) told = k
-    opening-held first dir v (sound.upload acc some free) told =
+    opening-held first dir v (sound.upload acc some free below) told =
         held-upload q b k (accepted-room first b q k direction.Upload told) _ _
     opening-held first dir v (sound.download acc full) told =
         held-download q b k (accepted-room first b q k direction.Download told) _

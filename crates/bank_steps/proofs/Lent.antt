@@ -7,11 +7,12 @@ use types.Run.{OneOf}
 use denote.Enum.Declared.{tagOf}
 use Rattle.frame_table.specs.declared.fields.Bits128.{Bits128}
 use Rattle.frame_table.specs.declared.fields.Fields.{Fields}
+use Rattle.frame_table.specs.Names.{subscriber}
 use Rattle.bank_state.specs.declared.clock.Ended.{Ended}
 use Rattle.bank_state.specs.State.{Bank}
 use Rattle.bank_state.specs.declared.state.Place.{Place}
 use Rattle.bank_state.specs.Clock.{endDownloads}
-use Rattle.bank_state.specs.State.{bankState, placeAt, withPlace, withDownloads, withFiles}
+use Rattle.bank_state.specs.State.{bankState, placeAt, seriesOf, withPlace, withDownloads, withFiles}
 use Rattle.bank_state.specs.Store.{partAt, withPart}
 use Rattle.bank_rows.specs.State.{bankOf, stored, Laid}
 use Rattle.bank_rows.proofs.Calls.{Within, within-own, within-ended, stored-next, laid-next, held-file}
@@ -49,14 +50,16 @@ none-carried v s o m q d l k = record {
 -- ---- an opening
 
 module _ (s o m : List ℕ) (first : ℕ) (q : Fields) (d : List ℕ) {t : Bits128} {a : Action} {u : List ℕ} where
-  pub upload-opening-carried : {n : ℕ} → judgeOpening direction.Upload first (bankOf s) q ≡ verdict.Of t a
-      → n ≡ bankOf s .openings
+  pub upload-opening-carried : {i n : ℕ} → judgeOpening direction.Upload first (bankOf s) q ≡ verdict.Of t a
+      → i ≡ subscriber q → n ≡ seriesOf i (bankOf s .series)
       → u ≡ stored (openUpload t n q (bankOf s)) s
       → CarriedOut (judgeOpening direction.Upload first (bankOf s) q) (lent s o m) q d (verdict.Of t a) (lent u o m)
-  upload-opening-carried told e f = record {
+  upload-opening-carried told x e f = record {
     judged = sym told;
     done =
-        lent-same (f ∙ ap (λ (k : ℕ). stored (openUpload t k q (bankOf s)) s) e) refl refl
+        lent-same
+        (f ∙ ap (λ (k : ℕ). stored (openUpload t k q (bankOf s)) s) (e ∙ ap (λ (j : ℕ). seriesOf j (bankOf s .series)) x))
+        refl refl
         ∙ ap (keptIn (lent s o m)) (upload-opened first (bankOf s) q o m d told);
   }
 

@@ -36,7 +36,7 @@ use Rattle.bank_verdicts.specs.Judgement.{mailboxSegments, judgeDownload, uploa
 use Rattle.bank_verdicts.proofs.Sound.{Readable, OpeningSound, UploadSound, DownloadSound}
 use Rattle.bank_verdicts.proofs.Sound.{judged-upload, judged-download}
 use Rattle.bank_verdicts.proofs.Sound as sound
-use Rattle.bank_openings.specs.Openings.{counted, newPlace, openUpload, newDownload, openDownload}
+use Rattle.bank_openings.specs.Openings.{counted, countedUpload, newPlace, openUpload, newDownload, openDownload}
 use Rattle.bank_downloads.specs.Downloads.{downloadAfter}
 use Rattle.bank_uploads.specs.Uploads.{grown, booked, attempted, placeAfter}
 use Rattle.bank_steps.specs.Steps.{emptied, onDownload, carryOut, uploadVerdict, downloadVerdict}
@@ -114,6 +114,19 @@ module _ {b : Bank} (r : InRange b) where
   counted-range : (q : Fields) → InRange (counted q b)
   unfolding counted
   counted-range q = record {
+    files = r .files;
+    lengths = r .lengths;
+    few = r .few;
+    below = r .below;
+    largest = r .largest;
+    known = r .known;
+    most = r .most;
+    within = r .within;
+  }
+
+  counted-upload-range : (q : Fields) → InRange (countedUpload q b)
+  unfolding countedUpload counted
+  counted-upload-range q = record {
     files = r .files;
     lengths = r .lengths;
     few = r .few;
@@ -223,10 +236,10 @@ module _ (b : Bank) (k : Held b) (r : InRange b) (q : Fields) (o m d : List ℕ)
 
   opening-range : Readable q (length d) → (first : ℕ) (dir : Direction) (v : Verdict)
       → OpeningSound first b q dir v → P v
-  unfolding openUpload openDownload counted
+  unfolding openUpload openDownload countedUpload counted
   opening-range s first dir v (sound.refused e c h) = r
-  opening-range s first dir v (sound.upload acc some free) =
-      place-range (counted-range r q) (freePlace b) _ (record {
+  opening-range s first dir v (sound.upload acc some free below) =
+      place-range (counted-upload-range r q) (freePlace b) _ (record {
         size = omega arith;
         few = λ _. acc .few;
         below = λ _. omega (arith, some);

@@ -12,7 +12,7 @@ use bank_openings::judgement::mailbox_segments;
 use bank_openings::openings::open_download;
 use bank_openings::openings::open_upload;
 use bank_rows::numbers::clock;
-use bank_rows::numbers::openings;
+use bank_rows::numbers::series_of;
 use bank_rows::numbers::set_file_length;
 use bank_rows::places::find_upload;
 use bank_rows::places::place_at;
@@ -59,7 +59,7 @@ fn upload_opening(rows: &mut [u64], first: u64, q: Fields) -> Verdict
     let verdict = judge_opening(rows, Direction::Upload, first, q);
     match verdict {
         Verdict::Of(transaction, _) => {
-            let number = openings(rows);
+            let number = series_of(rows, q.subscriber());
             open_upload(rows, transaction, number, q);
             verdict
         }

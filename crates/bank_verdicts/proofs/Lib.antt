@@ -1,3 +1,4 @@
 -- The laws that several proofs, and the crates above, cite.
 pub mod Lines
 pub mod Sound
+pub mod Series

@@ -37,9 +37,10 @@ use Rattle.message.proofs.Verdicts.{by-test, and-false}
 use Rattle.bank_state.specs.State.{Bank}
 use Rattle.bank_state.specs.declared.state.Download.{Download}
 use Rattle.bank_state.specs.declared.state.Place.{Place}
-use Rattle.bank_state.specs.Limits.{placeCount, nonceCount, window, maxOpen, maxOpenPerSubscriber, maxOpenings}
+use Rattle.bank_state.specs.Limits.{placeCount, nonceCount, window, maxOpen, maxOpenPerSubscriber}
+use Rattle.bank_state.specs.Limits.{maxOpenings, seriesLimit}
 use Rattle.bank_state.specs.Search.{freePlace, freeNonce, openCount, openCountOf, isRemembered}
-use Rattle.bank_state.specs.State.{fileLength}
+use Rattle.bank_state.specs.State.{fileLength, seriesOf}
 use Rattle.bank_verdicts.specs.declared.verdict.Direction.{Direction}
 use Rattle.bank_verdicts.specs.declared.verdict.Direction.the-variants as direction
 use Rattle.bank_verdicts.specs.declared.verdict.TransactionRequest.{TransactionRequest}
@@ -64,6 +65,7 @@ use Rattle.bank_verdicts.specs.Refusals.{
   emptyMailbox,
   manyOpen,
   noPlaceFree,
+  seriesEnded,
   isFull,
   openingRows,
   notOpen,
@@ -127,6 +129,7 @@ pub record Acceptable (b : Bank) (q : Fields) : Type 0 where
 pub data OpeningSound (first : ℕ) (b : Bank) (q : Fields) : Direction → Verdict → Type 0 where
   refused : (d : Direction) (c : ReturnCode) → cancels c ≡ false → OpeningSound first b q d (Refused c)
   upload : Acceptable b q → (segments q ≡ 0 → ⊥) → freePlace b < placeCount →
+      seriesOf (subscriber q) (b .series) < seriesLimit →
       OpeningSound first b q direction.Upload (accepted direction.Upload first b q)
   download : Acceptable b q → (fileLength (subscriber q) (b .files) ≡ 0 → ⊥) →
       OpeningSound first b q direction.Download (accepted direction.Download first b q)
@@ -148,15 +151,16 @@ module _ (first : ℕ) (b : Bank) (q : Fields) where
   unfolding inTime
   in-time h = and-true (leb (timestamp q) (b .clock + window)) (leb (b .clock) (timestamp q + window)) h
 
-  place-and-numbers : (d : Direction) → isFull d b ≡ false →
-      (leb maxOpen (openCount b) ≡ false) × (noPlaceFree d b ≡ false) ×
-      (leb nonceCount (freeNonce b) ≡ false) × (leb maxOpenings (b .openings) ≡ false)
+  place-and-numbers : (d : Direction) → isFull d b q ≡ false →
+      (leb maxOpen (openCount b) ≡ false) × (noPlaceFree d b ≡ false) × (leb nonceCount (freeNonce b) ≡ false) ×
+      (seriesEnded d b q ≡ false) × (leb maxOpenings (b .openings) ≡ false)
   unfolding isFull
   place-and-numbers d h =
       let a = or-neither (leb maxOpen (openCount b)) _ h in
       let p = or-neither (noPlaceFree d b) _ (a .1) in
-      let m = or-neither (leb nonceCount (freeNonce b)) (leb maxOpenings (b .openings)) (p .1) in
-      (a .0, p .0, m .0, m .1)
+      let m = or-neither (leb nonceCount (freeNonce b)) _ (p .1) in
+      let n = or-neither (seriesEnded d b q) (leb maxOpenings (b .openings)) (m .1) in
+      (a .0, p .0, m .0, n .0, n .1)
 
   acceptable : (d : Direction) → Fail (openingRows d b q) → Acceptable b q
   unfolding openingRows manySegments isReplay manyOpen
@@ -173,15 +177,17 @@ module _ (first : ℕ) (b : Bank) (q : Fields) where
         ofSubscriber = leb-false maxOpenPerSubscriber (openCountOf (subscriber q) b) (failed code.MaxTransactionsExceeded);
         ofAll = leb-false maxOpen (openCount b) (room .0);
         memory = leb-false nonceCount (freeNonce b) (room .2);
-        numbers = leb-false maxOpenings (b .openings) (room .3);
+        numbers = leb-false maxOpenings (b .openings) (room .4);
       }
 
   accepting : (d : Direction) → Fail (openingRows d b q) → OpeningSound first b q d (accepted d first b q)
   unfolding openingRows
   accepting direction.Upload failed =
       let kind = or-neither (eqb (orderType q) fdl) (eqb (segments q) 0) (failed code.InvalidRequest) in
+      let room = place-and-numbers direction.Upload (failed code.InternalError) in
       upload (acceptable direction.Upload failed) (eqb-false (segments q) 0 (kind .1))
-      (leb-false placeCount (freePlace b) (place-and-numbers direction.Upload (failed code.InternalError) .1))
+      (leb-false placeCount (freePlace b) (room .1))
+      (leb-false seriesLimit (seriesOf (subscriber q) (b .series)) (room .3))
   accepting direction.Download failed =
       download (acceptable direction.Download failed)
       (eqb-false (fileLength (subscriber q) (b .files)) 0 (failed code.NoDownloadDataAvailable))

@@ -18,7 +18,7 @@ use Rattle.bank_state.specs.declared.state.Download.{Download}
 use Rattle.bank_state.specs.declared.state.Place.{Place}
 use Rattle.bank_state.specs.Limits.{placeCount}
 use Rattle.bank_state.specs.Search.{findUpload, findDownload}
-use Rattle.bank_state.specs.State.{placeAt, downloadAt, fileLength}
+use Rattle.bank_state.specs.State.{placeAt, downloadAt, fileLength, seriesOf}
 use Rattle.bank_verdicts.specs.declared.verdict.Direction.{Direction}
 use Rattle.bank_verdicts.specs.declared.verdict.Direction.the-variants as direction
 use Rattle.bank_verdicts.specs.declared.verdict.TransactionRequest.{TransactionRequest}
@@ -42,7 +42,8 @@ abbrev pub testOf : {A : Type 0} → ReturnCode → List (Row A) → Bool
 testOf c [] = false
 testOf c (row ∷ rows) = cond (eqb (codeValue c) (codeValue (row .0))) (row .1) (testOf c rows)
 
--- "The transaction ID is the 8 lent bytes, then the number in 8 bytes"; the lent bytes as a number
+-- "The transaction ID is the 8 lent bytes, then the number in 8 bytes", "the common running number" of all openings; the
+-- lent bytes as a number
 abbrev pub transactionOf : ℕ → Bank → Bits128
 transactionOf first b = record { high = first; low = b .openings }
 
@@ -50,9 +51,10 @@ transactionOf first b = record { high = first; low = b .openings }
 abbrev pub mailboxSegments : ℕ → Bank → ℕ
 mailboxSegments s b = segmentsOf (fileLength s (b .files))
 
--- an accepted opening; "An upload's order number is that number", the number of the opening
+-- an accepted opening; an upload has the number that its subscriber's series has come to, "from A000 on"
 abbrev pub accepted : Direction → ℕ → Bank → Fields → Verdict
-accepted direction.Upload first b q = Of (transactionOf first b) (action.Upload (up.Opened (b .openings)))
+accepted direction.Upload first b q =
+    Of (transactionOf first b) (action.Upload (up.Opened (seriesOf (subscriber q) (b .series))))
 accepted direction.Download first b q =
     Of (transactionOf first b) (action.Download (down.Opened (mailboxSegments (subscriber q) b)))
 

@@ -24,7 +24,8 @@ use Rattle.message.specs.Limits.{ful, fdl, subscribers, segmentBytes, maxSegmen
 use Rattle.bank_state.specs.State.{Bank}
 use Rattle.bank_state.specs.declared.state.Download.{Download}
 use Rattle.bank_state.specs.declared.state.Place.{Place}
-use Rattle.bank_state.specs.Limits.{placeCount, nonceCount, window, maxOpen, maxOpenPerSubscriber, maxOpenings}
+use Rattle.bank_state.specs.Limits.{placeCount, nonceCount, window, maxOpen, maxOpenPerSubscriber}
+use Rattle.bank_state.specs.Limits.{maxOpenings, seriesLimit}
 use Rattle.bank_state.specs.Search.{
   freePlace,
   freeNonce,
@@ -34,7 +35,7 @@ use Rattle.bank_state.specs.Search.{
   findUpload,
   findDownload,
 }
-use Rattle.bank_state.specs.State.{fileLength}
+use Rattle.bank_state.specs.State.{fileLength, seriesOf}
 use Rattle.bank_verdicts.specs.declared.verdict.Direction.{Direction}
 use Rattle.bank_verdicts.specs.declared.verdict.Direction.the-variants as direction
 use Rattle.bank_verdicts.specs.declared.verdict.TransactionRequest.{TransactionRequest}
@@ -136,12 +137,17 @@ abbrev pub noPlaceFree : Direction → Bank → Bool
 noPlaceFree direction.Upload b = leb placeCount (freePlace b)
 noPlaceFree direction.Download b = false
 
--- 061099, after 091119: 8 transactions open, an upload with 8 places in use, 64 nonces remembered, or 1,213,056
--- openings accepted
-unfoldable pub isFull : Direction → Bank → Bool
-isFull d b =
+-- "The limit of 1,213,056 in 061099 holds per series": an upload of a subscriber whose series has come to it
+abbrev pub seriesEnded : Direction → Bank → Fields → Bool
+seriesEnded direction.Upload b q = leb seriesLimit (seriesOf (subscriber q) (b .series))
+seriesEnded direction.Download b q = false
+
+-- 061099, after 091119: 8 transactions open, an upload with 8 places in use, 64 nonces remembered, 1,213,056 uploads
+-- accepted in the upload's series, or "the running number's end": 4,294,967,296 openings accepted
+unfoldable pub isFull : Direction → Bank → Fields → Bool
+isFull d b q =
     leb maxOpen (openCount b)
-    || (noPlaceFree d b || (leb nonceCount (freeNonce b) || leb maxOpenings (b .openings)))
+    || (noPlaceFree d b || (leb nonceCount (freeNonce b) || (seriesEnded d b q || leb maxOpenings (b .openings))))
 
 unfoldable pub openingRows : Direction → Bank → Fields → List (Row Verdict)
 openingRows d b q =
@@ -151,7 +157,7 @@ openingRows d b q =
     ∷ refusing code.MessageReplay (isReplay b q)
     ∷ refusing code.NoDownloadDataAvailable (emptyMailbox d b q)
     ∷ refusing code.MaxTransactionsExceeded (manyOpen b q)
-    ∷ refusing code.InternalError (isFull d b)
+    ∷ refusing code.InternalError (isFull d b q)
     ∷ []
 
 -- ---- THE SUBSCRIBER, BY THE COURSE OF THE ORDER: a request to a transaction

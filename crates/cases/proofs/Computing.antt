@@ -45,17 +45,17 @@ unfolding clocks.isIdle clocks.freed clocks.dropUpload clocks.dropUploads clocks
     clocks.atClock clocks.advanced rows.firstOf rows.countOf rows.keep rows.keepOnly
     searches.freePlace searches.freeDownload searches.freeNonce searches.isUpload searches.findUpload searches.isDownload
     searches.findDownload searches.openCount searches.openCountOf searches.isRemembered
-    state.fresh state.fileLength store.partAt store.withPart store.zeroed store.fileOf
+    state.fresh state.fileLength state.seriesOf store.partAt store.withPart store.zeroed store.fileOf
     refusals.noSubscriber refusals.longData refusals.requestRows refusals.unknownType refusals.manySegments refusals.inTime
     refusals.isReplay refusals.manyOpen refusals.isFull refusals.openingRows refusals.notOpen refusals.transactionRows
     refusals.uploadAttempt refusals.isUnderrun refusals.isExceeded refusals.segmentRows refusals.uploadRows
     refusals.downloadAttempt refusals.receiptRows refusals.downloadRows
     judgement.judgeOpening judgement.takes judgement.judgeUpload judgement.judgeDownload judgement.judgeOpen
     judgement.judgeTransaction judgement.judge
-    openings.counted openings.openUpload openings.openDownload uploads.grown uploads.booked uploads.attempted
+    openings.counted openings.countedUpload openings.openUpload openings.openDownload uploads.grown uploads.booked uploads.attempted
     bankCall.mailboxSegment bankCall.respond bankCall.lentRight bankCall.frameCall bankMailbox.fileRefusals bankMailbox.fileCall
 bank = 0
 
 unfoldable pub calls : ℕ
-unfolding frames messages bank table.called table.played table.each table.bookedAfter
+unfolding frames messages bank table.called table.played table.eachFrom table.bookedAfter
 calls = 0

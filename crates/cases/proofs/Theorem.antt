@@ -1,4 +1,5 @@
--- Every row of the table of cases holds, by computation: each line of document 01 by itself. Assumes nothing.
+-- Every row of the table of cases holds, by computation: each line of document 01 and of card 5 by itself. Assumes
+-- nothing.
 use mathlib.Core.List.{List, [], _∷_, _++_}
 use mathlib.Core.Path.{refl}
 use Rattle.cases.specs.Table.{
@@ -9,6 +10,7 @@ use Rattle.cases.specs.Table.{
   timestampCases,
   idleCases,
   orderNumberCases,
+  seriesCases,
   lengthCases,
   repeatCases,
   lastMarkCases,
@@ -33,6 +35,10 @@ idle-hold = row refl (row refl none)
 order-numbers-hold : Holds orderNumberCases
 unfolding orderNumberCases calls
 order-numbers-hold = row refl (row refl (row refl (row refl (row refl none))))
+
+series-hold : Holds seriesCases
+unfolding seriesCases calls
+series-hold = row refl (row refl (row refl (row refl (row refl (row refl none)))))
 
 lengths-hold : Holds lengthCases
 unfolding lengthCases largest requestLengths replyLengths frames messages
@@ -69,5 +75,6 @@ cases-hold =
     both timestamps-hold
     (both idle-hold
     (both order-numbers-hold
+    (both series-hold
     (both lengths-hold
-    (both repeats-hold (both last-marks-hold (both booked-hold (both files-hold receipts-hold)))))))
+    (both repeats-hold (both last-marks-hold (both booked-hold (both files-hold receipts-hold))))))))

@@ -1,13 +1,14 @@
--- Document 01, "Cases; starred ones are proved": each row is what comes of its calls, and what must come. The calls are
--- `frameCall` and `fileCall`, from a fresh bank with its whole stores.
+-- Document 01, "Cases; starred ones are proved", and card 5's numbers: each row is what comes of its calls, and what
+-- must come. The calls are `frameCall` and `fileCall`, on a bank with its whole stores: a fresh one where nothing else
+-- is said.
 use Prim.Native.Nat.{ℕ, _+_, max}
 use mathlib.Core.Path.{_≡_}
 use mathlib.Core.List.{List, [], _∷_, _++_, map}
-use lib.ListN.{length, replicate, take}
+use lib.ListN.{length, replicate, set, take}
 use Rattle.frame_table.specs.declared.fields.Bits128.{Bits128}
 use Rattle.frame_table.specs.declared.fields.Fields.{Fields}
 use Rattle.octets.specs.Bytes.{number}
-use Rattle.frame_table.specs.Names.{segment, segments, returnCode, orderNumber, noFields}
+use Rattle.frame_table.specs.Names.{segment, segments, transaction, returnCode, orderNumber, noFields}
 use Rattle.frame_reader.specs.Reader.{readReply}
 use Rattle.frame_writer.specs.Writer.{frameOf, replyRoom}
 use Rattle.message.specs.declared.codes.ReturnCode.the-variants as code
@@ -21,7 +22,7 @@ use Rattle.bank_state.specs.declared.state.Place.{Place}
 use Rattle.bank_state.specs.Limits.{storeBytes, idBytes}
 use Rattle.bank_state.specs.Search.{isBooked}
 use Rattle.bank_state.specs.Rows.{countOf}
-use Rattle.bank_state.specs.State.{BankState, bankState, fresh}
+use Rattle.bank_state.specs.State.{Bank, BankState, bankState, fresh, withOpenings, withSeries}
 use Rattle.bank.specs.declared.call.FrameAnswer.{FrameAnswer}
 use Rattle.bank.specs.declared.call.FrameAnswer.the-variants.{Reply, WrongLength}
 use Rattle.bank.specs.Call.{frameInput, frameCall}
@@ -53,6 +54,10 @@ pub data HostCall : Type 0 where
 abbrev pub upload : ℕ → ℕ → HostCall
 upload timestamp n = request clock (uploadOpening 1 1 (idOf 0) timestamp n) []
 
+-- an upload of one segment by a subscriber, with a nonce of its own
+abbrev pub uploadBy : ℕ → ℕ → HostCall
+uploadBy s nonce = request clock (uploadOpening s 1 (idOf nonce) clock 1) []
+
 abbrev pub sentAt : ℕ → ℕ → ℕ → HostCall
 sentAt time s lastMark = request time (uploadTransfer 1 1 (idOf 0) s lastMark) (7 ∷ [])
 
@@ -66,8 +71,15 @@ abbrev pub receipt0 : HostCall
 receipt0 = request clock (receipt 1 1 (idOf 0) 0) []
 
 -- a fresh bank, "and every lent byte kept between calls 0"
+abbrev pub startOf : Bank → BankState
+startOf b = bankState b (replicate storeBytes 0) (replicate storeBytes 0)
+
 abbrev pub start : BankState
-start = bankState fresh (replicate storeBytes 0) (replicate storeBytes 0)
+start = startOf fresh
+
+-- one that has accepted so many openings, so many of them uploads of subscriber 1, and has nothing of them left
+abbrev pub counting : ℕ → ℕ → BankState
+counting openings uploads = startOf (withOpenings openings (withSeries (set (fresh .series) 0 uploads) fresh))
 
 -- ---- what comes of calls one after the other
 
@@ -93,16 +105,29 @@ unfoldable pub played : List HostCall → Played → Played
 played [] p = p
 played (c ∷ l) p = played l (called c p)
 
+abbrev pub afterFrom : BankState → List HostCall → Played
+afterFrom b l = played l (record { bank = b; replies = [] })
+
 abbrev pub after : List HostCall → Played
-after l = played l (record { bank = start; replies = [] })
+after = afterFrom start
 
 -- of each reply a number
-unfoldable pub each : (Fields → ℕ) → List HostCall → List ℕ
-each g l = map g (after l .replies)
+unfoldable pub eachFrom : BankState → (Fields → ℕ) → List HostCall → List ℕ
+eachFrom b g l = map g (afterFrom b l .replies)
+
+abbrev pub each : (Fields → ℕ) → List HostCall → List ℕ
+each = eachFrom start
+
+-- the number of an accepted opening: the low half of its transaction ID
+abbrev pub runningNumber : Fields → ℕ
+runningNumber r = transaction r .low
 
 -- the return codes
+abbrev pub codesFrom : BankState → List HostCall → List ℕ
+codesFrom b = eachFrom b returnCode
+
 abbrev pub codes : List HostCall → List ℕ
-codes = each returnCode
+codes = codesFrom start
 
 -- how many orders are booked after the calls
 unfoldable pub bookedAfter : List HostCall → ℕ
@@ -171,6 +196,23 @@ orderNumberCases =
     ∷ (each orderNumber (upload clock 1 ∷ []) gives (orderNumberOf 0 ∷ []))
     ∷ []
 
+-- "Uploads of a subscriber and type now count from A000 on their own. Transaction IDs keep the common running number",
+-- "allowed up to 4,294,967,295. The limit of 1,213,056 in 061099 holds per series, the running number's end joins it."
+unfoldable pub seriesCases : List Case
+seriesCases =
+    (each orderNumber (uploadBy 1 1 ∷ uploadBy 2 2 ∷ uploadBy 1 3 ∷ [])
+    gives (orderNumberOf 0 ∷ orderNumberOf 0 ∷ orderNumberOf 1 ∷ []))
+    ∷ (each runningNumber (uploadBy 1 1 ∷ uploadBy 2 2 ∷ uploadBy 1 3 ∷ []) gives (0 ∷ 1 ∷ 2 ∷ []))
+    -- the last number of subscriber 1; then its uploads are refused, those of subscriber 2 and its downloads are not
+    ∷ (eachFrom (counting 1213055 1213055) orderNumber (uploadBy 1 1 ∷ []) gives (orderNumberOf 1213055 ∷ []))
+    ∷ (codesFrom (counting 1213055 1213055) (put 1 ∷ uploadBy 1 1 ∷ uploadBy 1 2 ∷ uploadBy 2 3 ∷ download ∷ [])
+    gives (six 0 ∷ six 61099 ∷ six 0 ∷ six 0 ∷ []))
+    -- the last running number; then every opening is refused
+    ∷ (eachFrom (counting 4294967295 0) runningNumber (uploadBy 1 1 ∷ []) gives (4294967295 ∷ []))
+    ∷ (codesFrom (counting 4294967295 0) (put 1 ∷ uploadBy 1 1 ∷ uploadBy 1 2 ∷ download ∷ [])
+    gives (six 0 ∷ six 61099 ∷ six 61099 ∷ []))
+    ∷ []
+
 -- with a timestamp of 8 bytes: "Frame lengths: upload opening" 57, "largest request 303, largest reply 312."
 unfoldable pub lengthCases : List Case
 lengthCases =
@@ -216,7 +258,8 @@ cases =
     timestampCases
     ++ (idleCases
     ++ (orderNumberCases
-    ++ (lengthCases ++ (repeatCases ++ (lastMarkCases ++ (bookedCases ++ (fileCases ++ receiptCases)))))))
+    ++ (seriesCases
+    ++ (lengthCases ++ (repeatCases ++ (lastMarkCases ++ (bookedCases ++ (fileCases ++ receiptCases))))))))
 
 -- every row holds
 pub data Holds : List Case → Type 0 where

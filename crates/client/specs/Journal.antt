@@ -15,6 +15,7 @@ use Rattle.client_run.specs.declared.run.Stage.the-variants as stage
 use Rattle.client_run.specs.declared.run.Word.{Word}
 use Rattle.client_run.specs.declared.run.Word.the-variants as word
 use Rattle.client_run.specs.NextRun.{ended}
+use Rattle.client_run.specs.Run.{orderName}
 use Rattle.client.specs.declared.journal_call.JournalAnswer.{JournalAnswer}
 use Rattle.client.specs.declared.journal_call.JournalAnswer.the-variants as answer
 use Rattle.client.specs.declared.journal_call.JournalOutcome.{JournalOutcome}
@@ -79,6 +80,6 @@ answered a c = journalLeft (runAfter a c) a
 abbrev pub heard : ClientRun → ℕ → Found → JournalCall
 heard c records f = answered (answerTo (c .stage) records f) c
 
--- the journal is handed to the run
+-- the journal is handed to the run: "an unclear client goes by all three", subscriber, type and number
 unfoldable pub journalCall : ClientRun → List Event → JournalCall
-journalCall c row = heard c (length row) (lookup (c .number) row)
+journalCall c row = heard c (length row) (lookup (orderName c) row)

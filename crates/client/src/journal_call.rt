@@ -5,6 +5,7 @@ use client_run::next_run::ended;
 use client_run::run::ClientRun;
 use client_run::run::Stage;
 use client_run::run::Word;
+use client_run::run::order_name;
 use journal::event::Event;
 use journal::event::Found;
 use journal::event::RECORD_COUNT;
@@ -105,7 +106,7 @@ impl Client {
         ensures { λ o. ⌜ journalCallOf o ≡ journalCall (self .run) (now (row .entry)) ⌝ }
     {
         let run = self.run;
-        let found = find(row, run.number);
+        let found = find(row, order_name(run));
         heard(run, row.len(), found)
     }
 

@@ -4,8 +4,9 @@ use mathlib.Core.List.{List, []}
 use mathlib.Core.Path.{_≡_, refl, ap, _∙_}
 use Rattle.frame_table.specs.declared.fields.Bits128.{Bits128}
 use Rattle.frame_table.specs.Forms as forms
-use Rattle.frame_table.specs.Names.{subscriber, exchange, transaction, segment, form}
+use Rattle.frame_table.specs.Names.{subscriber, exchange, orderType, transaction, segment, form}
 use Rattle.frame_table.specs.Table.{rowFits, findForm, formOf}
+use Rattle.message.specs.Limits.{ful}
 use Rattle.message.specs.Requests.{uploadOpening, downloadOpening, uploadTransfer, downloadTransfer, receipt}
 use Rattle.message.specs.Segments.{segmentOf, lastMarkOf}
 use Rattle.client_run.specs.declared.run.ClientRun.{ClientRun}
@@ -30,6 +31,16 @@ pub form-uploadOpening : (s x : ℕ) (nonce : Bits128) (time n : ℕ)
     → form (uploadOpening s x nonce time n) ≡ forms.UploadOpening
 unfolding uploadOpening formOf findForm rowFits
 form-uploadOpening s x nonce time n = refl
+
+pub subscriber-uploadOpening : (s x : ℕ) (nonce : Bits128) (time n : ℕ)
+    → subscriber (uploadOpening s x nonce time n) ≡ s
+unfolding uploadOpening
+subscriber-uploadOpening s x nonce time n = refl
+
+pub type-uploadOpening : (s x : ℕ) (nonce : Bits128) (time n : ℕ)
+    → orderType (uploadOpening s x nonce time n) ≡ ful
+unfolding uploadOpening
+type-uploadOpening s x nonce time n = refl
 
 pub form-downloadOpening : (s x : ℕ) (nonce : Bits128) (time : ℕ)
     → form (downloadOpening s x nonce time) ≡ forms.DownloadOpening

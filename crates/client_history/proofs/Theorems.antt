@@ -10,12 +10,13 @@ use Rattle.frame_table.specs.declared.fields.Bits128.{Bits128}
 use Rattle.frame_table.specs.declared.fields.Fields.{Fields}
 use Rattle.frame_table.specs.declared.table.Form.{Form}
 use Rattle.frame_table.specs.Forms as forms
-use Rattle.frame_table.specs.Names.{subscriber, exchange, transaction, segment, form}
+use Rattle.frame_table.specs.Names.{subscriber, exchange, orderType, transaction, segment, form}
 use Rattle.frame_reader.specs.Reader.{readReply}
 use Rattle.frame_row.specs.Row.{dataOf}
 use Rattle.octets.proofs.Tests.{never}
 use Rattle.message.specs.Limits.{maxSegments}
 use Rattle.message.specs.Segments.{segmentsOf}
+use Rattle.journal.proofs.Lookup.{same-name}
 use Rattle.client_run.specs.declared.run.ClientRun.{ClientRun}
 use Rattle.client_run.specs.declared.run.Direction.the-variants.{Upload, Download}
 use Rattle.client_run.specs.declared.run.Stage.{Stage}
@@ -25,7 +26,7 @@ use Rattle.client_run.specs.declared.run.Step.the-variants as step
 use Rattle.client_run.specs.declared.run.Word.{Word}
 use Rattle.client_run.specs.declared.run.Word.the-variants as word
 use Rattle.client_run.proofs.Apart.{not-both}
-use Rattle.client_run.specs.Run.{notBegun}
+use Rattle.client_run.specs.Run.{notBegun, orderTypeOf, orderName}
 use Rattle.client_rules.specs.Decisions.{isAnswer}
 use Rattle.client_rules.specs.Rulings.{isBegun}
 use Rattle.client_history.specs.History.{
@@ -56,6 +57,7 @@ use Rattle.client_history.specs.Invariant.{
   SegmentSent,
   SegmentAsked,
   ReceiptIssued,
+  openedName,
   Answered,
   UploadOpen,
   UploadStep,
@@ -106,6 +108,8 @@ pub use Rattle.client_history.proofs.Liveness.{
 }
 use Rattle.client_history.proofs.Requests.{
   form-uploadOpening,
+  subscriber-uploadOpening,
+  type-uploadOpening,
   form-downloadOpening,
   form-uploadTransfer,
   form-downloadTransfer,
@@ -296,6 +300,27 @@ module _ (Given : Fields → List ℕ → Fields → List ℕ → Type 0) (fileA
           go (not-begun f g) = absurd (in-none (subst (In x) g m))
           go (upload g u) = opened (p .run .step) (u .step)
           go (download g u) = not-both (s .upload-run) (u .direction)
+
+    -- "'Lodged' names subscriber, type and number together": those of the run's opening and of the answer to it
+    pub opened-name : (o : UploadOpen Given (p .run) (p .issues))
+        → orderName (p .run) ≡ openedName (o .got .issue .request) (o .got .reply)
+    opened-name o = go i
+      where
+        named : p .run .direction ≡ Upload
+            → UploadIssue (p .run .subscriber) (p .run .segments) (p .run .transaction) (p .run .issued) (p .payload)
+            (o .got .issue)
+            → orderName (p .run) ≡ openedName (o .got .issue .request) (o .got .reply)
+        named w (uploadOpens number time nonce q d) =
+            same-name (sym (ap subscriber q ∙ subscriber-uploadOpening _ _ _ _ _))
+            (ap orderTypeOf w ∙ sym (ap orderType q ∙ type-uploadOpening _ _ _ _ _)) (sym (o .number))
+        named w (sends number j a c q d) =
+            other-form (o .got .asked) (ap form q ∙ form-uploadTransfer _ _ _ _ _) (λ z. cc)
+
+        go : Invariant Given fileAt p → orderName (p .run) ≡ openedName (o .got .issue .request) (o .got .reply)
+        go (not-begun f g) = absurd (in-none (subst (In (o .got .issue)) g (o .got .own)))
+        go (upload g u) = named (u .direction) (u .each (o .got .issue) (o .got .own))
+        go (download g u) =
+            not-download (download-form (u .each (o .got .issue) (o .got .own))) (o .got .asked) (λ z. cc) (λ z. cc) (λ z. cc)
 
     -- ---- 3. AN UPLOAD'S END
 

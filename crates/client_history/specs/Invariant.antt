@@ -9,13 +9,14 @@ use Rattle.frame_table.specs.declared.fields.Bits128.{Bits128}
 use Rattle.frame_table.specs.declared.fields.Fields.{Fields}
 use Rattle.frame_table.specs.declared.table.Form.{Form}
 use Rattle.frame_table.specs.Forms as forms
-use Rattle.frame_table.specs.Names.{phase, transaction, segment, returnCode, orderNumber, form}
+use Rattle.frame_table.specs.Names.{phase, subscriber, orderType, transaction, segment, returnCode, orderNumber, form}
 use Rattle.message.specs.declared.codes.ReturnCode.{ReturnCode}
 use Rattle.message.specs.declared.codes.ReturnCode.the-variants as code
 use Rattle.message.specs.Codes.{codeField}
 use Rattle.message.specs.Limits.{segmentBytes, fileBytes, transferPhase}
 use Rattle.message.specs.Requests.{uploadOpening, downloadOpening, uploadTransfer, downloadTransfer, receipt}
 use Rattle.message.specs.Segments.{segmentsOf, segmentOf, lastMarkOf}
+use Rattle.journal.specs.declared.event.OrderName.{OrderName}
 use Rattle.client_run.specs.declared.run.ClientRun.{ClientRun}
 use Rattle.client_run.specs.declared.run.Direction.the-variants.{Upload, Download}
 use Rattle.client_run.specs.declared.run.Stage.{Stage}
@@ -115,6 +116,10 @@ pub record ReceiptIssued (p : Past) (f : List ℕ) (x : Issue) : Type 0 where
   pub receipted : p .run .receipted ≡ true
   pub file : x .file ≡ f
   pub request : x .request ≡ receipt (p .run .subscriber) number (p .run .transaction) 0
+
+-- what names the upload that a request opened, by the answer to it: "subscriber, type and number together"
+abbrev pub openedName : Fields → Fields → OrderName
+openedName q r = record { subscriber = subscriber q; «order_type» = orderType q; number = orderNumber r }
 
 -- a receipt was issued
 abbrev pub Receipts : List Issue → Type 0

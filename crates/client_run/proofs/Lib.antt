@@ -1,3 +1,4 @@
 -- The laws of a client run that the rules, the calls and the history rest on.
 pub mod Apart
 pub mod NextRuns
+pub mod Names

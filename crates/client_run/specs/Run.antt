@@ -5,6 +5,8 @@ use mathlib.Core.List.{List}
 use lib.ListN.{length}
 pub use Rattle.frame_writer.specs.Writer.{requestRoom}
 use Rattle.octets.specs.Texts.{ascii}
+use Rattle.message.specs.Limits.{ful, fdl}
+use Rattle.journal.specs.declared.event.OrderName.{OrderName}
 use Rattle.client_run.specs.declared.run.ClientRun.{ClientRun}
 use Rattle.client_run.specs.declared.run.Direction.{Direction}
 use Rattle.client_run.specs.declared.run.Direction.the-variants as direction
@@ -56,6 +58,16 @@ wordText word.Unclear = ascii "unclear"
 wordText word.Fetched = ascii "fetched"
 wordText word.HeldUnconfirmed = ascii "held, unconfirmed"
 wordText word.NotFetched = ascii "not fetched"
+
+-- the type of a run's order: "FUL is an upload, FDL a download"
+abbrev pub orderTypeOf : Direction → ℕ
+orderTypeOf direction.Upload = ful
+orderTypeOf direction.Download = fdl
+
+-- the order that "lodged" names: "subscriber, type and number together"
+abbrev pub orderName : ClientRun → OrderName
+orderName c =
+    record { subscriber = c .subscriber; «order_type» = orderTypeOf (c .direction); number = c .number }
 
 -- a run not begun
 abbrev pub notBegun : ClientRun

@@ -1,7 +1,10 @@
 // A client run, its closing words, and the answers of its calls.
 use frame_table::fields::Bits128;
+use journal::event::OrderName;
+use message::limits::FDL;
+use message::limits::FUL;
 ghost use mathlib.Core.Path.{_≡_};
-ghost use Rattle.client_run.specs.Run.{notBegun, refusalNumber};
+ghost use Rattle.client_run.specs.Run.{notBegun, refusalNumber, orderTypeOf, orderName};
 
 // The bytes lent for a nonce: the exchange number follows them.
 pub const NONCE_BYTES: usize = 12;
@@ -21,7 +24,7 @@ pub enum Direction {
     Download,
 }
 
-// The closing words of document 01.
+// The closing words of document 01. "Lodged" names the order of the run, by `order_name`.
 pub enum Word {
     Lodged,
     NotLodged,
@@ -147,5 +150,27 @@ impl ClientRun {
             held: 0,
             receipted: false,
         }
+    }
+}
+
+// The type of a run's order, as field 04 has it.
+fn order_type_of(direction: Direction) -> u64
+    ensures { λ r. ⌜ r ≡ orderTypeOf direction ⌝ }
+{
+    match direction {
+        Direction::Upload => FUL,
+        Direction::Download => FDL,
+    }
+}
+
+// What names the run's order: document 02's "subscriber, type and number together".
+pub fn order_name(c: ClientRun) -> OrderName
+    ensures { λ r. ⌜ r ≡ orderName c ⌝ }
+{
+    let direction = c.direction;
+    OrderName {
+        subscriber: c.subscriber,
+        order_type: order_type_of(direction),
+        number: c.number,
     }
 }

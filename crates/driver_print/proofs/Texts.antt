@@ -11,11 +11,12 @@ use lib.Seq.{take-suc}
 use Rattle.octets.specs.Bytes.{number}
 use Rattle.octets.proofs.Numbers.{number-nil, number-take}
 use Rattle.message.specs.Limits.{fileBytes}
-use Rattle.message.specs.OrderNumbers.{orderNumberOf}
 use Rattle.journal.specs.declared.event.Event.{Event}
 use Rattle.journal.specs.declared.event.Kind.{Kind}
 use Rattle.journal.specs.declared.event.Kind.the-variants as kind
+use Rattle.journal.specs.declared.event.OrderName.{OrderName}
 use Rattle.journal.specs.Events.{recordCount, noEvent}
+use Rattle.journal.specs.Records.{nameOf}
 use Rattle.bank_state.specs.declared.state.Place.{Place}
 use Rattle.bank_state.specs.Search.{isBooked}
 use Rattle.bank_state.specs.State.{placeAt}
@@ -25,13 +26,15 @@ use Rattle.bank_steps.specs.Lent.{Lent}
 use Rattle.client_run.specs.declared.run.ClientRun.{ClientRun}
 use Rattle.client_run.specs.declared.run.Stage.{Stage}
 use Rattle.client_run.specs.declared.run.Stage.the-variants as stage
+use Rattle.client_run.specs.Run.{orderName}
 use Rattle.client_rules.specs.Rulings.{isBegun}
-use Rattle.print.specs.Text.{Put, decimal, orderNumberText, space, newline, column, columnRoom}
+use Rattle.print.specs.Text.{Put, decimal, space, newline, column, columnRoom}
+use Rattle.print.specs.Name.{orderNameText}
 use Rattle.print.specs.Book.{orderColumns}
-use Rattle.print.proofs.Digits.{decimal-most, order-number-most, column-most}
+use Rattle.print.proofs.Digits.{decimal-most, column-most}
 use Rattle.print.proofs.Texts.{put-then, put-one, cond-most}
 use Rattle.print.specs.Closing.{closingRoom}
-use Rattle.print.proofs.Lengths.{closing-most, columns-most}
+use Rattle.print.proofs.Lengths.{order-name-most, closing-most, columns-most}
 use Rattle.unit.specs.declared.call.Answer.{Answer}
 use Rattle.unit.specs.declared.call.Answer.the-variants as answer
 use Rattle.unit.specs.declared.state.UnitState.{UnitState}
@@ -118,7 +121,7 @@ answer-most (answer.Frame n) buffer room = omega (arith, hex-front n buffer)
 answer-most answer.Put buffer room = omega arith
 answer-most (answer.Request n) buffer room = omega (arith, hex-front n buffer)
 answer-most answer.Ignored buffer room = omega arith
-answer-most (answer.Closed w x) buffer room = omega (arith, closing-most w x)
+answer-most (answer.Closed w o) buffer room = omega (arith, closing-most w o)
 answer-most answer.Unchanged buffer room = omega arith
 answer-most (answer.Away n) buffer room = omega (arith, away-most n room)
 answer-most answer.TakenUp buffer room = omega arith
@@ -174,17 +177,17 @@ file-most n content h =
     cond-most (eqb (length content) 0) [] (column n space ++ columns) rowRoom (omega arith)
     (omega (arith, length-numbered n columns, length-numbered (length content) (contentText content), content-most content h))
 
-pub stage-most : (s : Stage) (x : ℕ) → length (stageText s x) ≤ closingRoom
-stage-most stage.NotBegun x = omega arith
-stage-most stage.Running x = omega arith
-stage-most (stage.Ended w) x = closing-most w x
+pub stage-most : (s : Stage) (o : OrderName) → length (stageText s o) ≤ closingRoom
+stage-most stage.NotBegun o = omega arith
+stage-most stage.Running o = omega arith
+stage-most (stage.Ended w) o = closing-most w o
 
 word-most : (n : ℕ) (c : ClientRun) → length (wordRow n c) ≤ rowRoom
 unfolding wordRow
 word-most n c =
-    let text = stageText (c .stage) (c .number) in
+    let text = stageText (c .stage) (orderName c) in
     cond-most (isBegun (c .stage)) (column n space ++ (text ++ (newline ∷ []))) [] rowRoom
-    (omega (arith, length-numbered n (text ++ (newline ∷ [])), length-ended text, stage-most (c .stage) (c .number))) (omega arith)
+    (omega (arith, length-numbered n (text ++ (newline ∷ [])), length-ended text, stage-most (c .stage) (orderName c))) (omega arith)
 
 pub kind-most : (k : Kind) → length (kindText k) ≤ kindRoom
 kind-most kind.Unused = omega arith
@@ -197,18 +200,16 @@ event-most : (e : Event) → length (eventRow e) ≤ eventRoom
 unfolding eventRow
 event-most e =
     let last = space ∷ kindText (e .kind) in
-    let number = orderNumberText (orderNumberOf (e .order)) in
-    let order = number ++ last in
-    let named = column (e .subscriber) space ++ order in
+    let name = orderNameText (nameOf e) in
+    let named = name ++ last in
     let timed = column (e .clock) space ++ named in
     cond-most (isUsed (e .kind)) (column (e .number) space ++ timed) [] eventRoom
     (omega (
       arith,
       length-numbered (e .number) timed,
       length-numbered (e .clock) named,
-      length-numbered (e .subscriber) order,
-      length-append number last,
-      order-number-most (orderNumberOf (e .order)),
+      length-append name last,
+      order-name-most (nameOf e),
       kind-most (e .kind),
     )) (omega arith)
 

@@ -5,11 +5,12 @@ use mathlib.Core.List.{List, [], _∷_, _++_}
 use lib.Dec.{eqb}
 use lib.ListN.{length, getD}
 use Rattle.message.specs.Limits.{fileBytes}
-use Rattle.message.specs.OrderNumbers.{orderNumberOf}
 use Rattle.journal.specs.declared.event.Event.{Event}
 use Rattle.journal.specs.declared.event.Kind.{Kind}
 use Rattle.journal.specs.declared.event.Kind.the-variants as kind
+use Rattle.journal.specs.declared.event.OrderName.{OrderName}
 use Rattle.journal.specs.Events.{recordCount, noEvent}
+use Rattle.journal.specs.Records.{nameOf}
 use Rattle.bank_state.specs.declared.state.Place.{Place}
 use Rattle.bank_state.specs.Limits.{placeCount}
 use Rattle.bank_state.specs.Search.{isBooked}
@@ -22,8 +23,10 @@ use Rattle.client_run.specs.declared.run.Direction.{Direction}
 use Rattle.client_run.specs.declared.run.Direction.the-variants.{Upload, Download}
 use Rattle.client_run.specs.declared.run.Stage.{Stage}
 use Rattle.client_run.specs.declared.run.Stage.the-variants as stage
+use Rattle.client_run.specs.Run.{orderName}
 use Rattle.client_rules.specs.Rulings.{isBegun}
-use Rattle.print.specs.Text.{ascii, orderCharacters, orderNumberText, space, newline, column, columnRoom, rowsTo}
+use Rattle.print.specs.Text.{ascii, space, newline, column, columnRoom, rowsTo}
+use Rattle.print.specs.Name.{orderNameText, orderNameRoom}
 use Rattle.print.specs.Book.{bookHeader, orderColumns, orderColumnsRoom}
 use Rattle.print.specs.Closing.{closingText}
 use Rattle.unit.specs.declared.state.UnitState.{UnitState}
@@ -38,7 +41,7 @@ headerText Book = bookHeader space ++ ascii "content\n"
 headerText Mailboxes = ascii "mailbox bytes content\n"
 headerText Words = ascii "run word\n"
 headerText Files = ascii "run bytes content\n"
-headerText Journal = ascii "event clock subscriber order kind\n"
+headerText Journal = ascii "event clock subscriber type order kind\n"
 
 -- the column "content", the last of its row
 unfoldable pub contentText : List ℕ → List ℕ
@@ -53,14 +56,14 @@ unfoldable pub fileRow : ℕ → List ℕ → List ℕ
 fileRow n content =
     cond (eqb (length content) 0) [] (column n space ++ (column (length content) space ++ contentText content))
 
--- "the runs that have begun, with their closing word or `open`"; x is the order number
-abbrev pub stageText : Stage → ℕ → List ℕ
-stageText stage.NotBegun x = []
-stageText stage.Running x = ascii "open"
-stageText (stage.Ended w) x = closingText w x
+-- "the runs that have begun, with their closing word or `open`"
+abbrev pub stageText : Stage → OrderName → List ℕ
+stageText stage.NotBegun o = []
+stageText stage.Running o = ascii "open"
+stageText (stage.Ended w) o = closingText w o
 
 unfoldable pub wordRow : ℕ → ClientRun → List ℕ
-wordRow n c = cond (isBegun (c .stage)) (column n space ++ (stageText (c .stage) (c .number) ++ (newline ∷ []))) []
+wordRow n c = cond (isBegun (c .stage)) (column n space ++ (stageText (c .stage) (orderName c) ++ (newline ∷ []))) []
 
 -- "its file buffer up to the end of the last segment held"; an upload holds none
 abbrev pub heldBy : Direction → ClientRun → ℕ
@@ -82,12 +85,12 @@ isUsed kind.Booked = true
 isUsed kind.Cancelled = true
 isUsed kind.Dropped = true
 
--- a record of the journal: event, clock, subscriber, order, kind; one that is not in use has no row
+-- a record of the journal: event, clock, subscriber, type, order, kind; one that is not in use has no row
 unfoldable pub eventRow : Event → List ℕ
 eventRow e =
     cond (isUsed (e .kind))
-    (column (e .number) space ++ (column (e .clock) space ++ (column (e .subscriber) space
-    ++ (orderNumberText (orderNumberOf (e .order)) ++ (space ∷ kindText (e .kind))))))
+    (column (e .number) space ++ (column (e .clock) space
+    ++ (orderNameText (nameOf e) ++ (space ∷ kindText (e .kind)))))
     []
 
 -- row i of a table: "The book in place order; the mailboxes that hold a file; the runs that have begun ...; and each
@@ -118,7 +121,7 @@ tableOf t u m files = headerText t ++ rowsTo (rowAt t u m files) (rowCount t)
 -- the most bytes that a header takes, the column "content" with a file of 3,840 bytes, a row with it, the column
 -- "kind", and a row of the journal
 abbrev pub headerRoom : ℕ
-headerRoom = 34
+headerRoom = 39
 
 abbrev pub contentRoom : ℕ
 contentRoom = 2 * fileBytes + 1
@@ -130,7 +133,7 @@ abbrev pub kindRoom : ℕ
 kindRoom = 10
 
 abbrev pub eventRoom : ℕ
-eventRoom = columnRoom + columnRoom + columnRoom + orderCharacters + 1 + kindRoom
+eventRoom = columnRoom + columnRoom + orderNameRoom + 1 + kindRoom
 
 -- the same of a row of each table, and of a table: 16 rows of files are longer than 64 of the journal
 abbrev pub roomOf : Table → ℕ

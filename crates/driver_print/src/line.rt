@@ -77,9 +77,9 @@ fn put_answer(output: &mut [u8], at: usize, answer: Answer, buffer: &[u8], room:
         Answer::Put => put_text(output, at, b"put"),
         Answer::Request(n) => put_named(output, at, b"request ", front(buffer, n)),
         Answer::Ignored => put_text(output, at, b"ignored"),
-        Answer::Closed(word, number) => {
+        Answer::Closed(word, order) => {
             let a = put_text(output, at, b"closed ");
-            put_closing(output, a, word, number)
+            put_closing(output, a, word, order)
         }
         Answer::Unchanged => put_text(output, at, b"unchanged"),
         Answer::Away(n) => put_away(output, at, n, room),

@@ -11,8 +11,10 @@ use client_rules::rulings::is_begun;
 use client_run::run::ClientRun;
 use client_run::run::Direction;
 use client_run::run::Stage;
+use client_run::run::order_name;
 use journal::event::Event;
 use journal::event::Kind;
+use journal::event::OrderName;
 use journal::event::RECORD_COUNT;
 use message::limits::FILE_BYTES;
 use message::order_numbers::order_number_of;
@@ -20,9 +22,9 @@ use print::book::ORDER_COLUMNS_ROOM;
 use print::book::put_book_header;
 use print::book::put_order_columns;
 use print::closing::put_closing;
+use print::name::put_order_name;
 use print::text::put_byte;
 use print::text::put_column;
-use print::text::put_order_number;
 use print::text::put_text;
 use unit::record::RUN_COUNT;
 use unit::state::UnitState;
@@ -30,6 +32,7 @@ ghost use mathlib.Core.Path.{_≡_};
 ghost use Prim.Native.Nat.{_+_, _*_, _≤_, _<_};
 ghost use lib.ListN.{length};
 ghost use Rattle.message.specs.Limits.{fileBytes};
+ghost use Rattle.journal.specs.Records.{nameOf};
 ghost use Rattle.bank_rows.specs.Layout.{stateSize};
 ghost use Rattle.bank_steps.specs.Lent.{lent};
 ghost use Rattle.print.specs.Text.{Put, rowsTo, printed, printedCount};
@@ -40,7 +43,7 @@ ghost use Rattle.driver_print.specs.Tables.{headerRoom, contentRoom, row
 ghost use Rattle.driver_print.specs.Tables.{tableRoom};
 
 // The most bytes of a table: the journal's header and 16 of the book's rows.
-pub const TABLE_ROOM: usize = 34 + RUN_COUNT * (ORDER_COLUMNS_ROOM + 2 * FILE_BYTES + 1);
+pub const TABLE_ROOM: usize = 39 + RUN_COUNT * (ORDER_COLUMNS_ROOM + 2 * FILE_BYTES + 1);
 
 // The closing tables.
 pub enum Table {
@@ -64,7 +67,7 @@ fn put_header(output: &mut [u8], t: Table) -> usize
         Table::Mailboxes => put_text(output, 0, b"mailbox bytes content\n"),
         Table::Words => put_text(output, 0, b"run word\n"),
         Table::Files => put_text(output, 0, b"run bytes content\n"),
-        Table::Journal => put_text(output, 0, b"event clock subscriber order kind\n"),
+        Table::Journal => put_text(output, 0, b"event clock subscriber type order kind\n"),
     }
 }
 
@@ -104,14 +107,14 @@ fn put_file(output: &mut [u8], at: usize, n: u64, content: &[u8]) -> usize
 }
 
 // Writes what a run that has begun came to.
-fn put_stage(output: &mut [u8], at: usize, stage: Stage, number: u64) -> usize
+fn put_stage(output: &mut [u8], at: usize, stage: Stage, order: OrderName) -> usize
     requires { ⌜ at + closingRoom ≤ length (now output) ⌝ }
-    ensures { λ r. ⌜ Put (now (output .entry)) at (stageText stage number) (now (output .exit)) r ⌝ }
+    ensures { λ r. ⌜ Put (now (output .entry)) at (stageText stage order) (now (output .exit)) r ⌝ }
 {
     match stage {
         Stage::NotBegun => at,
         Stage::Running => put_text(output, at, b"open"),
-        Stage::Ended(word) => put_closing(output, at, word, number),
+        Stage::Ended(word) => put_closing(output, at, word, order),
     }
 }
 
@@ -125,7 +128,7 @@ fn put_word(output: &mut [u8], at: usize, n: u64, c: ClientRun) -> usize
         return at;
     }
     let a = put_column(output, at, n, b' ');
-    let b = put_stage(output, a, stage, c.number);
+    let b = put_stage(output, a, stage, order_name(c));
     put_byte(output, b, b'\n')
 }
 
@@ -167,6 +170,17 @@ fn is_used(kind: Kind) -> bool
     }
 }
 
+// What names the order of an event.
+fn name_of(e: Event) -> OrderName
+    ensures { λ r. ⌜ r ≡ nameOf e ⌝ }
+{
+    OrderName {
+        subscriber: e.subscriber,
+        order_type: e.order_type,
+        number: order_number_of(e.order),
+    }
+}
+
 // Writes the row of a record that is in use.
 fn put_event(output: &mut [u8], at: usize, e: Event) -> usize
     requires { ⌜ at + eventRoom ≤ length (now output) ⌝ }
@@ -178,10 +192,9 @@ fn put_event(output: &mut [u8], at: usize, e: Event) -> usize
     }
     let a = put_column(output, at, e.number, b' ');
     let b = put_column(output, a, e.clock, b' ');
-    let c = put_column(output, b, e.subscriber, b' ');
-    let d = put_order_number(output, c, order_number_of(e.order));
-    let f = put_byte(output, d, b' ');
-    put_kind(output, f, kind)
+    let c = put_order_name(output, b, name_of(e));
+    let d = put_byte(output, c, b' ');
+    put_kind(output, d, kind)
 }
 
 // Writes row i of a table.

@@ -164,7 +164,7 @@ pub case-empties : {first : ℕ} {w : BankState} {q : Fields} {d : List ℕ} {x 
 unfolding fileLength
 case-empties unreadable z own = absurd (let y : _≡_ {A = ℕ} 0 1 = cc in omega arith)
 case-empties (refused c e) z own = absurd (let y : _≡_ {A = ℕ} 0 1 = cc in omega arith)
-case-empties (opensUpload asked a g n inside) z own = absurd (let y : _≡_ {A = ℕ} 0 1 = cc in omega arith)
+case-empties (opensUpload asked a g n inside below) z own = absurd (let y : _≡_ {A = ℕ} 0 1 = cc in omega arith)
 case-empties (opensDownload asked a g n) z own = absurd (let y : _≡_ {A = ℕ} 0 1 = cc in omega arith)
 case-empties (toUpload r a c) z own = absurd (let y : _≡_ {A = ℕ} 0 1 = cc in omega arith)
 case-empties {w = w} {q = q} (toDownload r a c) z {t} own = at a own

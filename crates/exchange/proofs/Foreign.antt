@@ -117,7 +117,7 @@ case-under : {first : ℕ} {w : BankState} {q : Fields} {d : List ℕ} {x : Verd
     {t : Bits128} {k : Action} → x ≡ verdict.Of t k → isOpening k ≡ false → Under q
 case-under unreadable z o = absurd (let y : _≡_ {A = ℕ} 0 1 = cc in omega arith)
 case-under (refused c e) z o = absurd (let y : _≡_ {A = ℕ} 0 1 = cc in omega arith)
-case-under (opensUpload asked a g n inside) z o = never (sym o ∙ ap opens (sym z))
+case-under (opensUpload asked a g n inside below) z o = never (sym o ∙ ap opens (sym z))
 case-under (opensDownload asked a g n) z o = never (sym o ∙ ap opens (sym z))
 case-under (toUpload r a c) z o = asked-under r (c .asked)
 case-under (toDownload r a c) z o = asked-under r (c .asked)

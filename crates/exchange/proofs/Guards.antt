@@ -1,4 +1,5 @@
--- What the premises of demand 3 leave free, for all arguments: a premise that grew stronger is refused here. Assumes nothing.
+-- What the premises of demand 3 leave free, for all arguments: a premise that grew stronger is refused here. And what
+-- "lodged" names: a clause that grew weaker is too. Assumes nothing.
 use Prim.Native.Nat.{ℕ, _≤_}
 use mathlib.Core.Bool.{Bool, true, false, _&&_}
 use mathlib.Core.List.{List, [], _∷_, List·Memᴰ as In, List·Memᴰ·head as here, List·Memᴰ·tail as there}
@@ -16,7 +17,9 @@ use Rattle.journal.specs.Row.{Journal}
 use Rattle.bank_state.specs.State.{BankState}
 use Rattle.client_run.specs.declared.run.ClientRun.{ClientRun}
 use Rattle.client_run.specs.declared.run.RunParameters.{RunParameters}
-use Rattle.client_run.specs.Run.{Lent}
+use Rattle.client_run.specs.declared.run.Stage.the-variants as stage
+use Rattle.client_run.specs.declared.run.Word.the-variants.{Lodged}
+use Rattle.client_run.specs.Run.{Lent, orderName}
 use Rattle.bank_steps.specs.Lent.{stateOf}
 use Rattle.bank.specs.Call.{FrameInput}
 use Rattle.bank_session.specs.Session.{LentSession, bankIn, journalIn}
@@ -36,8 +39,8 @@ use Rattle.exchange.specs.Course.{
   exec,
   after,
 }
-use Rattle.exchange.specs.Terms.{IssuedBy, InTurn}
-use Rattle.exchange.specs.Demand3.{isSubscribers, Allowed}
+use Rattle.exchange.specs.Terms.{IssuedBy, InTurn, Order, nameOf, InBook}
+use Rattle.exchange.specs.Demand3.{isSubscribers, Allowed, Outcome}
 use Rattle.exchange.proofs.Calls.{carried, by-number}
 
 -- ---- "a call given a number may be lent others"
@@ -159,3 +162,10 @@ taken-in-turn i m image s _ = tt
 pub foreign-in-turn : (i : ℕ) (s : Course) (w : BankState) (j : Journal) (a : FrameInput) → (IssuedBy i (a .frame) s → ⊥) →
     InTurn i (frameArrives w j a) s
 foreign-in-turn i s w j a foreign _ = λ own. absurd (foreign own)
+
+-- ---- "'Lodged' names subscriber, type and number together"
+
+-- they are those of an order in the book
+pub lodged-named : {s : Course} → Outcome s → (i : ℕ) → s .runs i .stage ≡ stage.Ended Lodged →
+    (j : ℕ) × (o : Order) × InBook s j o × (nameOf o ≡ orderName (s .runs i))
+lodged-named k i e = let o = k .lodged i e .1 in (o .0, o .1, o .2, o .4)

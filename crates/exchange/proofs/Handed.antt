@@ -8,23 +8,18 @@ use native.Mathlib.Omega.{arith}
 use lib.Dec.{eqb}
 use lib.ListN.{length}
 use borrow.Author.Tests.{eq-eqb, ne-eqb}
-use Rattle.frame_table.specs.declared.fields.Bits128.{Bits128}
-use Rattle.frame_table.specs.Names.{transaction, orderNumber, form}
+use Rattle.frame_table.specs.Names.{subscriber, orderType, transaction, orderNumber, form}
 use Rattle.octets.proofs.Tests.{never}
-use Rattle.message.specs.OrderNumbers.{orderNumberOf}
 use Rattle.journal.specs.declared.event.Event.{Event}
 use Rattle.journal.specs.declared.event.Found.{Found}
 use Rattle.journal.specs.declared.event.Found.the-variants as found
 use Rattle.journal.specs.Events.{recordCount}
 use Rattle.journal.specs.Row.{Journal, lookup}
-use Rattle.bank_verdicts.specs.declared.verdict.UploadAction.the-variants as up
-use Rattle.bank_verdicts.specs.declared.verdict.Action.the-variants as action
-use Rattle.bank_verdicts.specs.declared.verdict.Verdict.the-variants as verdict
+use Rattle.journal.proofs.Lookup.{same-name}
 use Rattle.bank_history.specs.History.{Exchange, BankCall, isBooking, ever, pastOf}
 use Rattle.bank_history.specs.History as bank
 use Rattle.bank_history.specs.Journal.{journalOf}
 use Rattle.bank_history.specs.JournalOrders.{OpensOrder, NeverBooked}
-use Rattle.bank_history.proofs.Theorems.{upload-opened}
 use Rattle.client_run.specs.declared.run.ClientRun.{ClientRun}
 use Rattle.client_run.specs.declared.run.Stage.{Stage}
 use Rattle.client_run.specs.declared.run.Stage.the-variants as stage
@@ -36,10 +31,11 @@ use Rattle.client.specs.Journal.{JournalCall, journalCall}
 use Rattle.client.proofs.Journal.{JournalCause, journal-cause}
 use Rattle.client.proofs.Journal as cause
 use Rattle.client_run.specs.NextRun.{ended}
+use Rattle.client_run.specs.Run.{orderName}
 use Rattle.client_rules.specs.Rulings.{isBegun}
 use Rattle.client_history.specs.History.{Past}
 use Rattle.client_history.specs.Invariant.{UploadOpen, UploadStep, UploadStage, UploadRun, DownloadStage, Invariant, not-begun, upload, download}
-use Rattle.client_history.proofs.Theorems.{upload-segments}
+use Rattle.client_history.proofs.Theorems.{upload-segments, opened-name}
 use Rattle.exchange.specs.Course.{journalHanded, Course, carryOut}
 use Rattle.exchange.specs.Demand3.{Premise}
 use Rattle.exchange.proofs.Told.{Opening, Gave, fileIn, bank-replies}
@@ -62,8 +58,8 @@ use Rattle.exchange.proofs.Clients.{
 -- "otherwise it stays unclear; other runs come back unchanged"
 pub data Handing (c : ClientRun) (row : List Event) (r : ClientRun) : Type 0 where
   unchanged : r ≡ c → Handing c row r
-  lodges : c .stage ≡ stage.Ended word.Unclear → lookup (c .number) row ≡ found.Booked → r ≡ ended word.Lodged c → Handing c row r
-  ends : c .stage ≡ stage.Ended word.Unclear → lookup (c .number) row ≡ found.Ended → r ≡ ended word.NotLodged c → Handing c row r
+  lodges : c .stage ≡ stage.Ended word.Unclear → lookup (orderName c) row ≡ found.Booked → r ≡ ended word.Lodged c → Handing c row r
+  ends : c .stage ≡ stage.Ended word.Unclear → lookup (orderName c) row ≡ found.Ended → r ≡ ended word.NotLodged c → Handing c row r
 
 by-cause : {c : ClientRun} {row : List Event} {j : JournalCall} → JournalCause c row j → Handing c row (j .run)
 by-cause (cause.wrong-length l) = unchanged refl
@@ -84,7 +80,7 @@ not-unclear c row n = at (handing c row)
     at (lodges e f z) = absurd (n e)
     at (ends e f z) = absurd (n e)
 
--- ---- "An unclear run has issued segment N", so it knows its transaction and its order number
+-- ---- "An unclear run has issued segment N", so it knows its transaction and its order's name
 
 module _ (s : Course) (v : Parts s) (i : ℕ) where
   abbrev h : List Exchange
@@ -122,22 +118,23 @@ module _ (s : Course) (v : Parts s) (i : ℕ) where
       go (download b u) =
           absurd (subst (λ (x : Stage). DownloadStage (Gave h) (fileIn h) x (ownPast v i .run) (s .files i) (issuesOf i (s .issued))) e (u .stage))
 
-  -- its upload, under the order number that the run names
+  -- its upload, under the subscriber, type and number that the run names
   named : v .runs i .left ≡ stage.Ended word.Unclear →
-      (n : ℕ) × OpensOrder n (s .runs i .transaction) (pastOf (v .bank .calls) .history) × (orderNumberOf n ≡ s .runs i .number)
+      OpensOrder (orderName (s .runs i)) (s .runs i .transaction) (pastOf (v .bank .calls) .history)
   named e =
       let o = unclear-upload e .1 in
       let a = o .got .given in
-      let u = upload-opened (v .bank .holds .invariant .sound) (a .stands) (ap form (a .reply) ∙ o .got .answered) in (
-        u .0,
-        subst (λ (p : bank.Past). OpensOrder (u .0) (s .runs i .transaction) (p .history)) (v .bank .since) (record {
-          exchange = a .exchange;
-          before = a .before;
-          stands = a .stands;
-          is = u .1 ∙ ap (λ (t : Bits128). verdict.Of t (action.Upload (up.Opened (u .0)))) (ap transaction (a .reply) ∙ o .id);
-        }),
-        sym (u .3) ∙ ap orderNumber (a .reply) ∙ o .number,
-      )
+      subst (λ (p : bank.Past). OpensOrder (orderName (s .runs i)) (s .runs i .transaction) (p .history)) (v .bank .since)
+      (record {
+        exchange = a .exchange;
+        before = a .before;
+        stands = a .stands;
+        opened = ap form (a .reply) ∙ o .got .answered;
+        id = ap transaction (a .reply) ∙ o .id;
+        named = same-name (ap subscriber (a .request)) (ap orderType (a .request)) (ap orderNumber (a .reply))
+            ∙ sym (opened-name (Gave h) (fileIn h)
+            (bank-replies h (v .bank .holds .invariant .sound) (v .bank .proper)) (ownPast v i) (v .runs i .own) o);
+      })
 
   pub unclear-left : s .runs i .stage ≡ stage.Ended word.Unclear → v .runs i .left ≡ stage.Ended word.Unclear
   unclear-left e = at (v .runs i .word)
@@ -147,25 +144,21 @@ module _ (s : Course) (v : Parts s) (i : ℕ) where
       at (lodged-by z f b) = z
       at (ended-by z f b) = z
 
-  -- what the row says of its order number it says of its upload
-  row-found : {f : Found} (n : ℕ) → orderNumberOf n ≡ s .runs i .number → lookup (s .runs i .number) (s .journal .row) ≡ f →
-      lookup (orderNumberOf n) (journalOf (v .bank .calls) .row) ≡ f
-  row-found n e z =
-      ap (λ (m : ℕ). lookup m (journalOf (v .bank .calls) .row)) e
-      ∙ ap (λ (j : Journal). lookup (s .runs i .number) (j .row)) (v .bank .entered-events) ∙ z
+  -- the row is that of the bank's calls
+  row-found : {f : Found} → lookup (orderName (s .runs i)) (s .journal .row) ≡ f →
+      lookup (orderName (s .runs i)) (journalOf (v .bank .calls) .row) ≡ f
+  row-found z = ap (λ (j : Journal). lookup (orderName (s .runs i)) (j .row)) (v .bank .entered-events) ∙ z
 
-  row-lodges : s .runs i .stage ≡ stage.Ended word.Unclear → lookup (s .runs i .number) (s .journal .row) ≡ found.Booked →
+  row-lodges : s .runs i .stage ≡ stage.Ended word.Unclear → lookup (orderName (s .runs i)) (s .journal .row) ≡ found.Booked →
       ever isBooking (s .runs i .transaction) (v .bank .past .history) ≡ true
   row-lodges e z =
-      let (n, o, k) = named (unclear-left e) in
       ap (λ (p : bank.Past). ever isBooking (s .runs i .transaction) (p .history)) (v .bank .since)
-      ∙ row-booked (v .bank .calls) n (s .runs i .transaction) o (row-found n k z)
+      ∙ row-booked (v .bank .calls) (orderName (s .runs i)) (s .runs i .transaction) (named (unclear-left e)) (row-found z)
 
-  row-ends : s .runs i .stage ≡ stage.Ended word.Unclear → lookup (s .runs i .number) (s .journal .row) ≡ found.Ended →
+  row-ends : s .runs i .stage ≡ stage.Ended word.Unclear → lookup (orderName (s .runs i)) (s .journal .row) ≡ found.Ended →
       NeverBooked (v .bank .calls) (s .runs i .transaction)
   row-ends e z =
-      let (n, o, k) = named (unclear-left e) in
-      row-ended (v .bank .calls) n (s .runs i .transaction) o (row-found n k z)
+      row-ended (v .bank .calls) (orderName (s .runs i)) (s .runs i .transaction) (named (unclear-left e)) (row-found z)
 
 -- ---- the call's course
 

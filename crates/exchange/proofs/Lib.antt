@@ -14,7 +14,6 @@ pub mod Handed
 pub mod Outstanding
 pub mod Courses
 pub mod Joint
-pub mod Numbers
 pub mod Outcome
 pub mod Runs
 pub mod Foreign

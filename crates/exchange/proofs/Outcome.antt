@@ -12,16 +12,18 @@ use Rattle.frame_table.specs.declared.fields.Bits128.{Bits128}
 use Rattle.frame_table.specs.declared.fields.Fields.{Fields}
 use Rattle.frame_table.specs.declared.table.Form.{Form}
 use Rattle.frame_table.specs.Forms as forms
-use Rattle.frame_table.specs.Names.{subscriber, exchange, transaction, segments, segment, returnCode, orderNumber, form}
+use Rattle.frame_table.specs.Names.{subscriber, orderType, exchange, transaction, segments, segment, returnCode, orderNumber, form}
 use Rattle.frame_reader.specs.Reader.{readRequest, readReply}
 use Rattle.frame_table.specs.Table.{isRequestForm}
 use Rattle.octets.proofs.Tests.{never}
 use Rattle.message.specs.declared.codes.ReturnCode.{ReturnCode}
 use Rattle.message.specs.declared.codes.ReturnCode.the-variants as code
 use Rattle.message.specs.Codes.{codeField}
-use Rattle.message.specs.Limits.{subscribers, segmentBytes}
+use Rattle.message.specs.Limits.{ful, subscribers, segmentBytes}
 use Rattle.message.specs.Segments.{segmentsOf}
-use Rattle.bank_state.specs.Limits.{maxOpenings}
+use Rattle.journal.specs.declared.event.OrderName.{OrderName}
+use Rattle.journal.proofs.Lookup.{same-name}
+use Rattle.bank_state.specs.Limits.{seriesLimit}
 use Rattle.bank_state.specs.Search.{isFree}
 use Rattle.bank_state.specs.State.{BankState, placeAt}
 use Rattle.bank_state.specs.Store.{partAt}
@@ -36,8 +38,10 @@ use Rattle.bank_history.specs.Invariant as whole
 use Rattle.bank_history.specs.JournalOrders.{NeverBooked}
 use Rattle.bank_history.specs.Transactions as standing
 use Rattle.bank_history.specs.Sound.{AllSound, isCancelling}
+use Rattle.bank_history.proofs.OrderNumbers.{one-order-number}
 use Rattle.bank_history.proofs.Positions.{action-sound, booking-last}
-use Rattle.bank_admitted.proofs.Held.{place-counted}
+use Rattle.bank_history.proofs.Series.{series}
+use Rattle.bank_admitted.proofs.Held.{order-limited}
 use Rattle.bank_history.proofs.Theorems.{
   booked-order,
   in-book,
@@ -49,6 +53,7 @@ use Rattle.bank_history.proofs.Theorems.{
   stands-ever,
 }
 use Rattle.client_run.specs.declared.run.Stage.the-variants as stage
+use Rattle.client_run.specs.Run.{orderName}
 use Rattle.client_run.specs.declared.run.Word.the-variants.{Lodged, NotLodged, Unclear, Fetched}
 use Rattle.client_history.specs.History.{Past, BankReplies}
 use Rattle.client_history.specs.History as history
@@ -79,9 +84,9 @@ use Rattle.client_history.proofs.Requests.{
   form-receipt,
   id-receipt,
 }
-use Rattle.client_history.proofs.Theorems.{lodged, not-lodged, last-not-sent, fetched, fetched-file, receipt-issued, one-subscriber}
+use Rattle.client_history.proofs.Theorems.{lodged, not-lodged, last-not-sent, fetched, fetched-file, receipt-issued, one-subscriber, opened-name}
 use Rattle.exchange.specs.Course.{Issue, Exchange, Course, heldOf}
-use Rattle.exchange.specs.Terms.{IssuedBy, Opened, Books, Booked, Order, InBook, OrderOf}
+use Rattle.exchange.specs.Terms.{IssuedBy, Opened, Books, Booked, Order, nameOf, InBook, OrderOf}
 use Rattle.exchange.specs.Demand3.{OneExchangeNumber, Outcome}
 use Rattle.exchange.specs.Lists.{AtMostOne}
 use Rattle.exchange.proofs.Told.{
@@ -128,7 +133,6 @@ use Rattle.exchange.proofs.Joint.{
   at-before,
   download-in,
 }
-use Rattle.exchange.proofs.Numbers.{one-order-number}
 
 -- ---- forms and codes
 
@@ -254,6 +258,16 @@ module _ (s : Course) (v : Parts s) (copies : Copied s) (numbers : OneExchangeNu
       u .3 ∙ ap orderNumberOf (sym (opening-at (λ (x : bank.Exchange). numberIn (x .verdict)) 0 sound stands
       (record { action = action.Upload (up.Opened (u .0)); is = own; opening = refl }) ∙ ap numberIn own))
 
+  -- an accepted upload is of type FUL
+  upload-typed : {e : bank.Exchange} {g : List bank.Exchange} → Stands e g h → form (e .reply) ≡ forms.UploadOpened →
+      orderType (e .request) ≡ ful
+  upload-typed {e} {g} stands z =
+      series .typed (v .bank .calls) (record {
+        stands = subst (λ (p : bank.Past). Stands e g (p .history)) (v .bank .since) stands;
+        opened = z;
+        owner = refl;
+      })
+
   -- the place of a run's booked upload holds its order
   order-of : {i j : ℕ} {t : Bits128} → Uploads s v copies numbers i t → standing.Order (s .bank) (v .bank .past .history) t j →
       (o : Order) → InBook s j o → OrderOf s i o
@@ -270,6 +284,9 @@ module _ (s : Course) (v : Parts s) (copies : Copied s) (numbers : OneExchangeNu
             ∙ all-held (s .payloads i) (segmentsOf (length (s .payloads i))) refl;
         exchange = c .exchange;
         opened = opened-by (u .opened .got) (u .opened .id);
+        typed = ap orderType (c .same .request)
+            ∙ upload-typed (a .stands) (ap form (a .reply) ∙ u .opened .got .answered)
+            ∙ ap (λ (x : Order). x .orderType) (sym (b .is));
         number = ap orderNumber (c .same .reply)
             ∙ opened-number (a .stands) (ap form (a .reply) ∙ u .opened .got .answered) (ap transaction (a .reply) ∙ u .opened .id ∙ u .own)
             ∙ ap orderNumberOf (sym (r .number)) ∙ ap (λ (x : Order). x .number) (sym (b .is));
@@ -288,6 +305,7 @@ module _ (s : Course) (v : Parts s) (copies : Copied s) (numbers : OneExchangeNu
       let p = placeAt (s .bank .bank) (r .0) in
       let o : Order = record {
         subscriber = p .subscriber;
+        orderType = ful;
         number = orderNumberOf (p .number);
         bytes =
             take (p .length) (partAt (s .bank .orders) (r .0));
@@ -295,16 +313,19 @@ module _ (s : Course) (v : Parts s) (copies : Copied s) (numbers : OneExchangeNu
       let n : InBook s (r .0) o = record { place = r .1 .inside; booked = r .1 .used; is = refl } in
       (r .0, o, n, order-of (k .0) (r .1) o n)
 
-  place-number : {j : ℕ} {o : Order} → InBook s j o → placeAt (s .bank .bank) j .number < maxOpenings
-  place-number {j} b =
-      let n = place-counted (s .bank) (inv .state) j (b .place) (ap isFree (b .booked)) .1 in
-      omega (arith, inv .state .numbers)
+  place-number : {j : ℕ} {o : Order} → InBook s j o → placeAt (s .bank .bank) j .number < seriesLimit
+  place-number {j} b = order-limited (s .bank) (inv .state) j (b .place) (ap isFree (b .booked))
 
-  pub book-single : (j j′ : ℕ) (o o′ : Order) → InBook s j o → InBook s j′ o′ → o .number ≡ o′ .number → j ≡ j′
+  pub book-single : (j j′ : ℕ) (o o′ : Order) → InBook s j o → InBook s j′ o′ → nameOf o ≡ nameOf o′ → j ≡ j′
   book-single j j′ o o′ a b e =
       inv .state .placesApart j j′ (a .place) (b .place) (ap isFree (a .booked)) (ap isFree (b .booked))
-      (inr (one-order-number _ _ (place-number a) (place-number b)
-      (ap (λ (x : Order). x .number) (sym (a .is)) ∙ e ∙ ap (λ (x : Order). x .number) (b .is))))
+      (inr (
+        ap (λ (x : Order). x .subscriber) (sym (a .is)) ∙ ap (λ (n : OrderName). n .subscriber) e
+            ∙ ap (λ (x : Order). x .subscriber) (b .is),
+        one-order-number _ _ (place-number a) (place-number b)
+            (ap (λ (x : Order). x .number) (sym (a .is)) ∙ ap (λ (n : OrderName). n .number) e
+            ∙ ap (λ (x : Order). x .number) (b .is)),
+      ))
 
   -- the number of an order is that of its transaction's opening
   number-of : {i : ℕ} {o : Order} → OrderOf s i o → o .number ≡ orderNumberOf (numberAt (s .runs i .transaction) h)
@@ -316,17 +337,24 @@ module _ (s : Course) (v : Parts s) (copies : Copied s) (numbers : OneExchangeNu
 
   -- one upload explains one place of the book
   pub book-place : (i j j′ : ℕ) (o o′ : Order) → InBook s j o → InBook s j′ o′ → OrderOf s i o → OrderOf s i o′ → j ≡ j′
-  book-place i j j′ o o′ a b c d = book-single j j′ o o′ a b (number-of c ∙ sym (number-of d))
+  book-place i j j′ o o′ a b c d =
+      book-single j j′ o o′ a b
+      (same-name (c .subscriber ∙ sym (d .subscriber))
+      (ap (λ (x : Order). x .orderType) (a .is) ∙ ap (λ (x : Order). x .orderType) (sym (b .is)))
+      (number-of c ∙ sym (number-of d)))
 
   -- the order of a booked upload
   order-at : {i : ℕ} → Booked s i → (j : ℕ) × standing.Order (s .bank) h (s .runs i .transaction) j
   order-at {i} b = in-book inv (s .runs i .transaction) (booked-ever s v copies numbers b .1)
 
-  booked-number : (i : ℕ) → Booked s i → numberAt (s .runs i .transaction) h < maxOpenings
+  booked-number : (i : ℕ) → Booked s i → numberAt (s .runs i .transaction) h < seriesLimit
   booked-number i b =
       let r = order-at b in
-      let n = place-counted (s .bank) (inv .state) (r .0) (r .1 .inside) (ap isFree (r .1 .used)) .1 in
-      omega (arith, r .1 .number, inv .state .numbers)
+      let n = order-limited (s .bank) (inv .state) (r .0) (r .1 .inside) (ap isFree (r .1 .used)) in
+      omega (arith, r .1 .number)
+
+  booked-owner : (i : ℕ) (b : Booked s i) → placeAt (s .bank .bank) (order-at b .0) .subscriber ≡ s .runs i .subscriber
+  booked-owner i b = order-at b .1 .owner ∙ upload-owner s v copies numbers (booked-ever s v copies numbers b .0)
 
   pub book-apart : (i i′ : ℕ) (o : Order) → Booked s i → Booked s i′ → OrderOf s i o → OrderOf s i′ o → i ≡ i′
   book-apart i i′ o a b c d =
@@ -334,7 +362,10 @@ module _ (s : Course) (v : Parts s) (copies : Copied s) (numbers : OneExchangeNu
       let y = order-at b in
       let same = one-order-number _ _ (booked-number i a) (booked-number i′ b) (sym (number-of c) ∙ number-of d) in
       let place : x .0 ≡ y .0 = inv .state .placesApart (x .0) (y .0) (x .1 .inside) (y .1 .inside) (ap isFree (x .1 .used))
-      (ap isFree (y .1 .used)) (inr (x .1 .number ∙ same ∙ sym (y .1 .number))) in
+      (ap isFree (y .1 .used)) (inr (
+        booked-owner i a ∙ sym (c .subscriber) ∙ d .subscriber ∙ sym (booked-owner i′ b),
+        x .1 .number ∙ same ∙ sym (y .1 .number),
+      )) in
       one-opener s v copies numbers (opened-upload sound (booked-ever s v copies numbers a .0 .opened))
       (opened-upload sound (booked-ever s v copies numbers b .0 .opened))
       (ap (λ (u : Bits128). u .low)
@@ -367,14 +398,24 @@ module _ (s : Course) (v : Parts s) (copies : Copied s) (numbers : OneExchangeNu
 
   -- ---- the closing words
 
-  -- the order of a booked upload, under the number that its run names
+  -- the order of a booked upload, under the subscriber, type and number that its run names
   booked-names : (i : ℕ) → Booked s i → UploadOpen (Gave (v .bank .past .history)) (ownPast v i .run) (issuesOf i (s .issued)) →
-      (j : ℕ) × (o : Order) × InBook s j o × OrderOf s i o × (o .number ≡ s .runs i .number)
+      (j : ℕ) × (o : Order) × InBook s j o × OrderOf s i o × (nameOf o ≡ orderName (s .runs i))
   booked-names i b o =
       let w = book-whole i b in
       let g = o .got .given in
-      let n = opened-number (g .stands) (ap form (g .reply) ∙ o .got .answered) (ap transaction (g .reply) ∙ o .id) in
-      (w .0, w .1, w .2, w .3, number-of (w .3) ∙ sym n ∙ ap orderNumber (g .reply) ∙ o .number)
+      let z : form (g .exchange .reply) ≡ forms.UploadOpened = ap form (g .reply) ∙ o .got .answered in
+      let n = opened-number (g .stands) z (ap transaction (g .reply) ∙ o .id) in
+      let name = opened-name (Gave h) (fileIn h) replies (ownPast v i) (v .runs i .own) o in (
+        w .0,
+        w .1,
+        w .2,
+        w .3,
+        same-name (w .3 .subscriber)
+            (ap (λ (x : Order). x .orderType) (w .2 .is) ∙ sym (upload-typed (g .stands) z) ∙ ap orderType (g .request)
+            ∙ sym (ap (λ (x : OrderName). x .«order_type») name))
+            (number-of (w .3) ∙ sym n ∙ ap orderNumber (g .reply) ∙ o .number),
+      )
 
   -- lodged by its own events: segment N was answered 000000
   own-booked : (i : ℕ) (l : LastTaken (Gave (v .bank .past .history)) (ownPast v i .run) (issuesOf i (s .issued))) → Booked s i
@@ -405,11 +446,11 @@ module _ (s : Course) (v : Parts s) (copies : Copied s) (numbers : OneExchangeNu
 
   -- "'lodged' names its booked order"
   pub lodged-booked : (i : ℕ) → s .runs i .stage ≡ stage.Ended Lodged →
-      Booked s i × ((j : ℕ) × (o : Order) × InBook s j o × OrderOf s i o × (o .number ≡ s .runs i .number))
+      Booked s i × ((j : ℕ) × (o : Order) × InBook s j o × OrderOf s i o × (nameOf o ≡ orderName (s .runs i)))
   lodged-booked i z = at (v .runs i .word)
     where
       at : Judged (v .bank .calls) (v .bank .past .history) (s .runs i) (v .runs i .left) →
-          Booked s i × ((j : ℕ) × (o : Order) × InBook s j o × OrderOf s i o × (o .number ≡ s .runs i .number))
+          Booked s i × ((j : ℕ) × (o : Order) × InBook s j o × OrderOf s i o × (nameOf o ≡ orderName (s .runs i)))
       at (as-left y) =
           let l = lodged (Gave h) (fileIn h) replies (ownPast v i) (v .runs i .own) (y ∙ z) .1 in
           let b = own-booked i l in

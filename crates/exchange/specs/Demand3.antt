@@ -17,7 +17,7 @@ use Rattle.bank_session.specs.Session.{bankIn, journalIn}
 use Rattle.client_run.specs.declared.run.ClientRun.{ClientRun}
 use Rattle.client_run.specs.declared.run.Stage.the-variants as stage
 use Rattle.client_run.specs.declared.run.Word.the-variants.{Lodged, NotLodged, Fetched}
-use Rattle.client_run.specs.Run.{Lent}
+use Rattle.client_run.specs.Run.{Lent, orderName}
 use Rattle.exchange.specs.Course.{
   Call,
   frameArrives,
@@ -45,6 +45,7 @@ use Rattle.exchange.specs.Terms.{
   Booked,
   Opened,
   Order,
+  nameOf,
   InBook,
   OrderOf,
   Accepted,
@@ -102,13 +103,14 @@ pub record Outcome (s : Course) : Type 0 where
   -- "and the book is exactly the orders of those booked, each with exactly its bytes"
   pub sound : (j : ℕ) (o : Order) → InBook s j o → (i : ℕ) × Booked s i × OrderOf s i o
   pub whole : (i : ℕ) → Booked s i → (j : ℕ) × (o : Order) × InBook s j o × OrderOf s i o
-  pub single : (j j′ : ℕ) (o o′ : Order) → InBook s j o → InBook s j′ o′ → o .number ≡ o′ .number → j ≡ j′
+  -- no two of its orders have one subscriber, type and number
+  pub single : (j j′ : ℕ) (o o′ : Order) → InBook s j o → InBook s j′ o′ → nameOf o ≡ nameOf o′ → j ≡ j′
   -- no upload explains two places of the book, no two uploads one
   pub place : (i j j′ : ℕ) (o o′ : Order) → InBook s j o → InBook s j′ o′ → OrderOf s i o → OrderOf s i o′ → j ≡ j′
   pub apart : (i i′ : ℕ) (o : Order) → Booked s i → Booked s i′ → OrderOf s i o → OrderOf s i′ o → i ≡ i′
-  -- "'lodged' names its booked order"
+  -- "'lodged' names its booked order": "subscriber, type and number together"
   pub lodged : (i : ℕ) → s .runs i .stage ≡ stage.Ended Lodged →
-      Booked s i × ((j : ℕ) × (o : Order) × InBook s j o × OrderOf s i o × (o .number ≡ s .runs i .number))
+      Booked s i × ((j : ℕ) × (o : Order) × InBook s j o × OrderOf s i o × (nameOf o ≡ orderName (s .runs i)))
   -- "'not lodged' means never booked"
   pub notLodged : (i : ℕ) → s .runs i .stage ≡ stage.Ended NotLodged → Booked s i → ⊥
   -- "a fetched file is the mailbox's file at its transaction's opening"

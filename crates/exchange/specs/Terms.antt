@@ -7,11 +7,13 @@ use mathlib.Core.List.{List, [], _∷_, List·Memᴰ as In}
 use lib.ListN.{length, take}
 use Rattle.frame_table.specs.declared.table.Form.{Form}
 use Rattle.frame_table.specs.Forms as forms
-use Rattle.frame_table.specs.Names.{subscriber, segment, transaction, returnCode, orderNumber, form}
+use Rattle.frame_table.specs.Names.{subscriber, orderType, segment, transaction, returnCode, orderNumber, form}
 use Rattle.frame_reader.specs.Reader.{readRequest, readReply}
 use Rattle.message.specs.declared.codes.ReturnCode.the-variants as code
 use Rattle.message.specs.Codes.{codeField}
+use Rattle.message.specs.Limits.{ful}
 use Rattle.message.specs.Segments.{segmentsOf}
+use Rattle.journal.specs.declared.event.OrderName.{OrderName}
 use Rattle.bank_state.specs.declared.state.Use.the-variants as uses
 use Rattle.bank_state.specs.Limits.{placeCount, idleLimit}
 use Rattle.bank_state.specs.Search.{openCountOf}
@@ -68,29 +70,37 @@ pub record Books (s : Course) (i : ℕ) (e : Exchange) : Type 0 where
 unfoldable pub Booked : Course → ℕ → Type 0
 Booked s i = (e : Exchange) × In e (s .exchanged) × Books s i e
 
--- an order: its subscriber, its order number, its bytes
+-- an order: its subscriber, its type, its order number, its bytes
 pub record Order : Type 0 where
   pub subscriber : ℕ
+  pub orderType : ℕ
   pub number : ℕ
   pub bytes : List ℕ
 
--- the book: the order in place j
+-- what names it: "subscriber, type and number together"
+abbrev pub nameOf : Order → OrderName
+nameOf o = record { subscriber = o .subscriber; «order_type» = o .orderType; number = o .number }
+
+-- the book: the order in place j; FUL is the only upload type
 pub record InBook (s : Course) (j : ℕ) (o : Order) : Type 0 where
   pub place : j < placeCount
   pub booked : placeAt (s .bank .bank) j .used ≡ uses.Booked
   pub is :
       o ≡ record {
         subscriber = placeAt (s .bank .bank) j .subscriber;
+        orderType = ful;
         number = orderNumberOf (placeAt (s .bank .bank) j .number);
         bytes = take (placeAt (s .bank .bank) j .length) (partAt (s .bank .orders) j);
       }
 
--- "its order is its subscriber, its payload and the order number opened with its transaction ID"
+-- "its order is its subscriber, its payload and the order number opened with its transaction ID"; its type is the
+-- opening's
 pub record OrderOf (s : Course) (i : ℕ) (o : Order) : Type 0 where
   pub subscriber : o .subscriber ≡ s .runs i .subscriber
   pub bytes : o .bytes ≡ s .payloads i
   pub exchange : Exchange
   pub opened : Opened forms.UploadOpened s i exchange
+  pub typed : orderType (readRequest (exchange .request)) ≡ o .orderType
   pub number : orderNumber (readReply (exchange .reply)) ≡ o .number
 
 -- ---- AN ORDER IN TURN

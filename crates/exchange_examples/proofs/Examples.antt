@@ -4,6 +4,7 @@ use mathlib.Core.Bool.{true}
 use mathlib.Core.List.{List, [], _∷_, _++_, List·Memᴰ as In, List·Memᴰ·not-nil as in-none}
 use mathlib.Core.Logic.{inl, inr}
 use mathlib.Core.Path.{_≡_, refl, sym, ap, _∙_, subst}
+use native.Mathlib.Omega.{arith}
 use lib.ListN.{length, take, replicate}
 use Rattle.frame_table.specs.Forms as forms
 use Rattle.frame_table.specs.Names.{segment, returnCode, form}
@@ -12,6 +13,7 @@ use Rattle.frame_reader.specs.Reader.{readRequest, readReply}
 use Rattle.message.specs.declared.codes.ReturnCode.the-variants as code
 use Rattle.message.specs.Codes.{codeField}
 use Rattle.message.specs.Segments.{segmentsOf}
+use Rattle.journal.specs.declared.event.OrderName.{OrderName}
 use Rattle.bank_state.specs.declared.state.Use.the-variants as uses
 use Rattle.bank_state.specs.Limits.{idleLimit}
 use Rattle.bank_state.specs.State.{placeAt}
@@ -23,7 +25,7 @@ use Rattle.client_run.specs.declared.run.Direction.the-variants.{Upload, Downlo
 use Rattle.client_run.specs.declared.run.Stage.the-variants as stage
 use Rattle.client_run.specs.declared.run.Word.{Word}
 use Rattle.client_run.specs.declared.run.Word.the-variants.{Lodged, NotLodged, Unclear, Fetched}
-use Rattle.client_run.specs.Run.{notBegun}
+use Rattle.client_run.specs.Run.{notBegun, orderName}
 use Rattle.exchange.specs.Course.{
   Call,
   noReply,
@@ -40,7 +42,7 @@ use Rattle.exchange.specs.Course.{
   exec,
 }
 use Rattle.exchange.specs.Lists.{AtMostOne}
-use Rattle.exchange.specs.Terms.{Opened, Books, Booked, Order, InBook, OrderOf, AllInTurn}
+use Rattle.exchange.specs.Terms.{Opened, Books, Booked, Order, nameOf, InBook, OrderOf, AllInTurn}
 use Rattle.exchange.specs.Demand3.{Allowed, AllAllowed}
 use Rattle.exchange.proofs.Calls.{carried}
 use Rattle.exchange.proofs.Guards.{put-allowed}
@@ -194,6 +196,24 @@ late = comes 0 firstGone ∷ []
 abbrev asking : List Move
 asking = begin 0 Upload 1 7 (65 ∷ []) ∷ hands 0 ∷ comes 0 1000 ∷ reaches 0 0 ∷ hands 0 ∷ comes 0 1000 ∷ reaches 0 0 ∷ hands 0 ∷ []
 
+-- ---- two series
+
+-- subscriber 1's A000 is lodged, then subscriber 2's own A000
+abbrev eachFirst : List Move
+eachFirst =
+    lodging ++ (begin 1 Upload 2 100 (66 ∷ []) ∷ comes 0 1000 ∷ reaches 1 0 ∷ comes 0 1000 ∷ reaches 1 0 ∷ [])
+
+-- Subscriber 1's A000 is opened, no copy of its segment comes: unclear. Subscriber 2's own A000 is booked and lodged.
+-- Run 0 is handed the journal: it stays unclear, the booking is not its order's
+abbrev bothFirst : List Move
+bothFirst =
+    (begin 0 Upload 1 7 (65 ∷ []) ∷ comes 0 1000 ∷ reaches 0 0 ∷ []) ++ replicate 6 (silent 0)
+    ++ (begin 1 Upload 2 100 (66 ∷ []) ∷ comes 0 1000 ∷ reaches 1 0 ∷ comes 0 1000 ∷ reaches 1 0 ∷ hands 0 ∷ [])
+
+-- an idle hour later subscriber 1's is dropped: handed the journal again, run 0 closes as not lodged
+abbrev ownSeries : List Move
+ownSeries = bothFirst ++ (stray (1 ∷ 2 ∷ 3 ∷ []) firstGone ∷ hands 0 ∷ [])
+
 -- ---- a session put away
 
 -- an order in turn whose session is put away and taken up
@@ -243,6 +263,10 @@ Ended w s = s .runs 0 .stage ≡ stage.Ended w
 -- the first place of the book
 abbrev InFirstPlace : Course → Type 0
 InFirstPlace s = placeAt (s .bank .bank) 0 .used ≡ uses.Booked
+
+-- two runs name one order number, of two subscribers
+abbrev OneNumber : Course → Type 0
+OneNumber s = (s .runs 0 .number ≡ s .runs 1 .number) × (s .runs 0 .subscriber ≡ 1) × (s .runs 1 .subscriber ≡ 2)
 
 -- run 0 holds this file
 abbrev Holds : List ℕ → Course → Type 0
@@ -332,6 +356,26 @@ computed = record {
   once-more-booked = (refl, (refl, refl, refl, refl), (refl, refl, refl, refl));
 }
 
+record ComputedSeries : Type 0 where
+  each-first-met : isMet eachFirst start ≡ true
+  each-first-ends : let s = endOf eachFirst start in
+      Ended Lodged s × (s .runs 1 .stage ≡ stage.Ended Lodged) × OneNumber s
+  both-first-ends : let s = endOf bothFirst start in
+      Ended Unclear s × (s .runs 1 .stage ≡ stage.Ended Lodged) × OneNumber s
+  own-series-met : isMet ownSeries start ≡ true
+  own-series-ends : let s = endOf ownSeries start in
+      Ended NotLodged s × (s .runs 1 .stage ≡ stage.Ended Lodged) × OneNumber s
+
+computed-series : ComputedSeries
+unfolding bothEnds
+computed-series = record {
+  each-first-met = refl;
+  each-first-ends = (refl, refl, (refl, refl, refl));
+  both-first-ends = (refl, refl, (refl, refl, refl));
+  own-series-met = refl;
+  own-series-ends = (refl, refl, (refl, refl, refl));
+}
+
 -- ---- with the image's bytes
 
 resuming-asked : Asked resuming start
@@ -371,11 +415,11 @@ fetching-closed = closed 0 1 fetching tt (computed .fetching-in-turn) (computed 
 crossing-closed : Closed 0 (endOf crossing start)
 crossing-closed = closed 0 4 crossing tt (computed .crossing-in-turn) (computed .crossing-ends .0)
 
--- and its order is in the book, with its bytes, under the number that the run names
-crossing-booked : (j : ℕ) × (o : Order) × InBook (endOf crossing start) j o × OrderOf (endOf crossing start) 0 o
+-- and its order is in the book, with its bytes, under the subscriber, type and number that the run names
+crossing-booked : let s = endOf crossing start in
+    (j : ℕ) × (o : Order) × InBook s j o × OrderOf s 0 o × (nameOf o ≡ orderName (s .runs 0))
 crossing-booked =
-    let o = outcome crossing tt (order-met 0 4 crossing start (computed .crossing-in-turn)) .lodged 0 (computed .crossing-ends .1) .1 in
-    (o .0, o .1, o .2, o .3)
+    outcome crossing tt (order-met 0 4 crossing start (computed .crossing-in-turn)) .lodged 0 (computed .crossing-ends .1) .1
 
 -- the whole file is the mailbox's at the opening, of which the run holds every byte
 again-fetched : (e : Exchange) × Opened forms.DownloadOpened (endOf again start) 0 e × (twoSegments ≡ e .box)
@@ -402,6 +446,40 @@ late-unbooked = outcome (dropping ++ late) tt (computed .late-met) .notLodged 0 
 -- one that stays unclear may still be booked
 booking-booked : Booked (endOf booking start) 0
 booking-booked = outcome booking tt (computed .booking-met) .lodged 0 (computed .booking-ends .0) .0
+
+-- both are in the book, under one number, in two places
+each-first-booked : let s = endOf eachFirst start in
+    (j : ℕ) × (j′ : ℕ) × (o : Order) × (o′ : Order) × InBook s j o × InBook s j′ o′ × (o .number ≡ o′ .number) × (j ≡ j′ → ⊥)
+each-first-booked =
+    let s = endOf eachFirst start in
+    let k = outcome eachFirst tt (computed-series .each-first-met) in
+    let (same, first, second) = computed-series .each-first-ends .2 in
+    let (j, o, a, c, n) = k .lodged 0 (computed-series .each-first-ends .0) .1 in
+    let (j′, o′, b, d, m) = k .lodged 1 (computed-series .each-first-ends .1) .1 in (
+      j,
+      j′,
+      o,
+      o′,
+      a,
+      b,
+      ap (λ (x : OrderName). x .number) n ∙ same ∙ sym (ap (λ (x : OrderName). x .number) m),
+      λ e.
+          let one : o .subscriber ≡ 1 = c .subscriber ∙ first in
+          let two : o′ .subscriber ≡ 2 = d .subscriber ∙ second in
+          let both : o .subscriber ≡ o′ .subscriber =
+          ap (λ (x : Order). x .subscriber) (a .is) ∙ ap (λ (i : ℕ). placeAt (s .bank .bank) i .subscriber) e
+          ∙ sym (ap (λ (x : Order). x .subscriber) (b .is)) in
+          omega arith,
+    )
+
+-- subscriber 2's booked A000 does not make subscriber 1's dropped A000 lodged
+own-series-unbooked : Booked (endOf ownSeries start) 0 → ⊥
+own-series-unbooked = outcome ownSeries tt (computed-series .own-series-met) .notLodged 0 (computed-series .own-series-ends .0)
+
+-- it is subscriber 2's own order
+other-booked : let s = endOf ownSeries start in
+    (j : ℕ) × (o : Order) × InBook s j o × OrderOf s 1 o × (nameOf o ≡ orderName (s .runs 1))
+other-booked = outcome ownSeries tt (computed-series .own-series-met) .lodged 1 (computed-series .own-series-ends .1) .1
 
 asking-closed : Closed 0 (endOf asking start)
 asking-closed = closed 0 1 asking tt (computed .asking-in-turn) (computed .asking-opens)

@@ -64,12 +64,12 @@ unfolding frameBytes.numberFrom frameBytes.number frameBytes.bytesOf frameBytes.
     bankstateSearch.isUpload bankstateSearch.findUpload bankstateSearch.isDownload bankstateSearch.findDownload
     bankstateSearch.openCount bankstateSearch.openCountOf bankstateSearch.isRemembered bankstateState.fresh
     bankstateStore.partAt bankstateStore.withPart bankstateStore.zeroed bankstateStore.fileOf bankstateState.fileLength
-    refusals.noSubscriber refusals.longData refusals.requestRows refusals.unknownType refusals.manySegments
+    bankstateState.seriesOf refusals.noSubscriber refusals.longData refusals.requestRows refusals.unknownType refusals.manySegments
     refusals.inTime refusals.isReplay refusals.manyOpen refusals.isFull refusals.openingRows refusals.notOpen
     refusals.transactionRows refusals.uploadAttempt refusals.isUnderrun refusals.isExceeded refusals.segmentRows
     refusals.uploadRows refusals.downloadAttempt refusals.receiptRows refusals.downloadRows judgement.judgeOpening
     judgement.takes judgement.judgeUpload judgement.judgeDownload judgement.judgeOpen judgement.judgeTransaction
-    judgement.judge openings.counted openings.openUpload openings.openDownload messageOrderNumbers.character
+    judgement.judge openings.counted openings.countedUpload openings.openUpload openings.openDownload messageOrderNumbers.character
     messageOrderNumbers.letter messageOrderNumbers.orderNumberOf uploads.grown uploads.booked uploads.attempted
     bankCall.mailboxSegment bankCall.respond bankCall.lentRight bankCall.frameCall bankMailbox.fileRefusals
     bankMailbox.fileCall clientCalls.isWritten clientCalls.requestWith clientCalls.issued clientCalls.taken
@@ -85,7 +85,7 @@ unfolding frameBytes.numberFrom frameBytes.number frameBytes.bytesOf frameBytes.
     clientRulings.beginRuling clientRulings.rulingNotBegun clientRulings.rulingRunning clientRulings.rulingEnded
     clientRulings.runRuling course.start course.mailboxOf course.heldOf course.emptied
     course.exec isSubscribers journalEvents.eventsFrom journalRow.emptyRow journalRow.entered journalRow.enteredAll
-    journalRow.withRecord journalRow.lookup bankEntries.insertByOpening bankEntries.byOpening
+    journalRow.isOf journalRow.withRecord journalRow.lookup bankEntries.insertByOpening bankEntries.byOpening
     bankEntries.droppedUploads bankEntries.actionEntries bankEntries.callEntries bankJournal.enteredBy
     bankJournal.journalAfter clientJournal.answerTo clientJournal.journalCall
 bothEnds = tt
@@ -96,20 +96,22 @@ unfolding bankrowsState.bankOf bankrowsState.joined bankrowsState.stored bankrow
     bankrowsRows.numbersOf bankrowsRows.written bankrowsRows.allBelow image.pack image.numbersOf image.storesOf
     image.fits image.constantsRight image.imageOf image.isImage imageItems.partItems imageItems.recordItems
     imageItems.storeItems imageItems.contentItems imageItems.fieldItems imageItems.itemsOf imageItems.bytesIn
-    imageItems.sizesOf imageTable.rowAt conditions.sameNonce conditions.noncesDistinct conditions.unused
-    conditions.noncesUnused conditions.downloadRises conditions.downloadsUnused conditions.slotAt conditions.sameNumber
+    imageItems.sizesOf imageTable.rowAt conditions.seriesFits conditions.seriesSum conditions.sameNonce
+    conditions.noncesDistinct conditions.unused conditions.noncesUnused conditions.downloadRises
+    conditions.downloadsUnused conditions.sameOrder conditions.ordersDistinct conditions.slotAt conditions.sameNumber
     conditions.numbersDistinct conditions.isOpenSlot conditions.isOpenOf conditions.openInAll conditions.openOfOne
     conditions.eventsFit conditions.bytesBehind conditions.placeBytes conditions.mailboxBytes conditions.journalUnused
     conditions.nonceTest conditions.downloadTest conditions.placeTest conditions.mailboxTest conditions.eventTest
-    conditions.everyNonce conditions.everyDownload conditions.everyPlace conditions.everyMailbox
-    conditions.everySubscriber conditions.everyEvent conditions.nonceConditions conditions.downloadConditions
-    conditions.openConditions conditions.journalConditions conditions.conditions conditions.admitted
-    conditionsLayout.nonceAt conditionsLayout.downloadAt conditionsLayout.placeAt conditionsLayout.eventAt
-    conditionsLayout.fileAt conditionsLayout.fileOf conditionsShapes.every conditionsShapes.count
+    conditions.everySeries conditions.everyNonce conditions.everyDownload conditions.everyPlace conditions.everyMailbox
+    conditions.everySubscriber conditions.everyEvent conditions.seriesConditions conditions.nonceConditions
+    conditions.downloadConditions conditions.openConditions conditions.journalConditions conditions.conditions
+    conditions.admitted conditionsLayout.nonceAt conditionsLayout.downloadAt conditionsLayout.placeAt
+    conditionsLayout.eventAt conditionsLayout.counterAt conditionsLayout.counterOf conditionsLayout.fileAt
+    conditionsLayout.fileOf conditionsShapes.every conditionsShapes.count conditionsShapes.total
     conditionsShapes.distinct conditionsShapes.allZero numbersTable.groupAt numbersTable.partPlaces
     numbersTable.recordPlaces numbersTable.recordsFrom numbersTable.groupPlaces numbersTable.groupsFrom
     numbersTable.sessionPlaces numbersTable.imagePlaces imageNumbers.numbersAt imageNumbers.numbersIn
-    imageNumbers.rowsFrom imageNumbers.rowFrom imageNumbers.ordersNumbered imageCalls.imageIn imageCalls.lengthsRight
-    imageCalls.isAdmitted imageCalls.putAway imageCalls.numbersFrom imageCalls.storeFrom imageCalls.isAdmittedImage
-    imageCalls.sessionFrom imageCalls.takeUp
+    imageNumbers.rowsFrom imageNumbers.rowFrom imageCalls.imageIn imageCalls.lengthsRight imageCalls.isAdmitted
+    imageCalls.putAway imageCalls.numbersFrom imageCalls.storeFrom imageCalls.isAdmittedImage imageCalls.sessionFrom
+    imageCalls.takeUp
 images = tt

@@ -91,9 +91,9 @@ fn say_answer(answer: Answer, v: [u64; VALUES]) {
     match answer {
         Answer::Ignored => say(b'i', v),
         Answer::Unchanged => say(b'q', v),
-        Answer::Closed(word, number) => {
+        Answer::Closed(word, order) => {
             say(b'w', v);
-            say_closing(word, number);
+            say_closing(word, order);
         }
         Answer::Number(n) => say(b'n', [n; VALUES]),
         _ => (),

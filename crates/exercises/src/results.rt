@@ -17,6 +17,8 @@ use client_run::run::ClientRun;
 use client_run::run::Direction;
 use client_run::run::Stage;
 use client_run::run::Word;
+use client_run::run::order_name;
+use journal::event::OrderName;
 use libc::STDOUT_FILENO;
 use message::order_numbers::order_number_of;
 use octets::bytes::front;
@@ -124,10 +126,10 @@ fn is_true(w: Word, h: Holding) -> bool {
 }
 
 // The closing word, and whether it is true; a run that has not ended has none.
-fn say_word(stage: Stage, number: u64, h: Holding, v: [u64; VALUES]) -> bool {
+fn say_word(stage: Stage, order: OrderName, h: Holding, v: [u64; VALUES]) -> bool {
     match stage {
         Stage::Ended(w) => {
-            say_closing(w, number);
+            say_closing(w, order);
             is_true(w, h)
         }
         _ => {
@@ -138,12 +140,14 @@ fn say_word(stage: Stage, number: u64, h: Holding, v: [u64; VALUES]) -> bool {
 }
 
 // The row of a run from what the bank has.
-fn say_row(stage: Stage, direction: Direction, h: Holding, v: [u64; VALUES]) {
+fn say_row(c: ClientRun, h: Holding, v: [u64; VALUES]) {
+    let direction = c.direction;
     match direction {
         Direction::Upload => say(b'u', v),
         Direction::Download => say(b'd', v),
     }
-    let holds = say_word(stage, v[7], h, v);
+    let stage = c.stage;
+    let holds = say_word(stage, order_name(c), h, v);
     say(h.key, v);
     if holds {
         say(b'V', v);
@@ -190,9 +194,7 @@ fn say_run(c: ClientRun, i: usize, rows: &[u64; STATE_SIZE], orders: &[u8], file
     v[2] = c.subscriber;
     v[3] = h.length;
     v[7] = c.number;
-    let stage = c.stage;
-    let direction = c.direction;
-    say_row(stage, direction, h, v);
+    say_row(c, h, v);
 }
 
 // The rows of all client runs.

@@ -1,7 +1,9 @@
 // Texts on standard output, in which a digit stands for a value.
 use client_run::run::Word;
+use journal::event::OrderName;
 use libc::STDOUT_FILENO;
 use octets::bytes::front;
+use print::closing::CLOSING_ROOM;
 use print::closing::put_closing;
 use print::text::ORDER_CHARACTERS;
 use print::text::code_digits;
@@ -10,9 +12,6 @@ use print::text::put_order_number;
 // What the digits stand for: 0 the call, 1 the client run, 2 the subscriber, 3 bytes, 4 a segment, 5 segments, 6 the
 // exchange number, 7 an order number, 8 a return code, 9 " (last)" where the last mark is 1.
 pub(crate) const VALUES: usize = 10;
-
-// The bytes of the longest closing word.
-const CLOSING_BYTES: usize = 17;
 
 // Prints an order number, given as the number of field 0E.
 fn say_order_number(x: u64) {
@@ -117,7 +116,7 @@ pub(crate) fn say(key: u8, v: [u64; VALUES]) {
             uclient 1, upload: \n\
             dclient 1, download: \n\
             oopen\n\
-            B; book 7, 3 bytes\n\
+            B; book 2 FUL 7, 3 bytes\n\
             Z; book nothing\n\
             X; mailbox 2, 3 bytes\n\
             V; true\n\
@@ -128,10 +127,10 @@ pub(crate) fn say(key: u8, v: [u64; VALUES]) {
     );
 }
 
-// Prints a closing word, with its order number where the order is lodged.
-pub(crate) fn say_closing(word: Word, number: u64) {
-    let mut text = [0u8; CLOSING_BYTES];
-    let n = put_closing(&mut text, 0, word, number);
+// Prints a closing word, with what names the order where it is lodged.
+pub(crate) fn say_closing(word: Word, order: OrderName) {
+    let mut text = [0u8; CLOSING_ROOM];
+    let n = put_closing(&mut text, 0, word, order);
     io::write_all(STDOUT_FILENO, front(&text, n));
 }
 

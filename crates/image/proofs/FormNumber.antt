@@ -11,7 +11,7 @@ use Rattle.octets.specs.Bytes.{Bytes, number}
 use Rattle.octets.proofs.Numbers.{number-take}
 use Rattle.octets.proofs.Tests.{and-true}
 use Rattle.image.specs.declared.table.Form.{Form}
-use Rattle.image.specs.declared.table.Form.the-variants.{Three}
+use Rattle.image.specs.declared.table.Form.the-variants.{Five}
 use Rattle.image.specs.Table.{rowAt, formField, formNumber}
 use Rattle.image.specs.Items.{Item, constant, itemsOf, sizesOf, fieldItems, bytesIn}
 use Rattle.image.specs.Image.{constantsRight, isImage}
@@ -21,10 +21,10 @@ use Rattle.image.proofs.Calls.{image-size}
 first-item : (form : Form)
     → itemsOf form ≡ constant (formField 0x01 form .width) (formField 0x01 form .head) ∷ drop 1 (itemsOf form)
 unfolding itemsOf fieldItems rowAt
-first-item Three = refl
+first-item Five = refl
 
 one-byte : (form : Form) → formNumber form < 256
-one-byte Three = omega arith
+one-byte Five = omega arith
 
 -- "The first field is the form's number": the byte behind its head of three
 pub form-number : (form : Form) (s : List ℕ) → Bytes s → isImage form s ≡ true → getD s 3 0 ≡ formNumber form

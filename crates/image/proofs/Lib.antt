@@ -8,4 +8,4 @@ pub mod RoundTrip
 pub mod Calls
 pub mod Theorems
 pub mod FormNumber
-pub mod Form3
+pub mod Form5

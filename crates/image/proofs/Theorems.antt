@@ -12,7 +12,7 @@ use Rattle.octets.specs.Bytes.{Bytes, overwrite}
 use Rattle.octets.proofs.Tests.{and-true}
 use Rattle.image.specs.declared.codec.Answer.the-variants.{Done, Lengths, Contents}
 use Rattle.image.specs.declared.table.Form.{Form}
-use Rattle.image.specs.declared.table.Form.the-variants.{Three}
+use Rattle.image.specs.declared.table.Form.the-variants.{Five}
 use Rattle.image.specs.Table.{rowAt, firstRow, fieldCount}
 use Rattle.image.specs.Items.{
   itemsOf,
@@ -184,7 +184,7 @@ module _ (form : Form) where
           (read-packed (itemsOf form) s bytes (omega (arith, long)) (both .1)
           ∙ take-all (bytesIn (itemsOf form)) s (omega (arith, long)))
 
--- "65,034"; form 3 has 645 numbers
-pub form-3 : (sizesOf Three .image ≡ 65034) × (sizesOf Three .numbers ≡ 645)
+-- "65,293"; form 5 has 725 numbers
+pub form-5 : (sizesOf Five .image ≡ 65293) × (sizesOf Five .numbers ≡ 725)
 unfolding sizesOf itemsOf fieldItems contentItems recordItems partItems storeItems bytesIn partsIn rowAt
-form-3 = (refl, refl)
+form-5 = (refl, refl)

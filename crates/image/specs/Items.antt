@@ -1,12 +1,10 @@
 -- What a table of fields stands for: the constants, the numbers and the stores of an image, one behind the other.
 use Prim.Native.Nat.{ℕ, zero, suc, _+_, _/_, _%_}
 use mathlib.Core.List.{List, [], _∷_, _++_}
-use Rattle.bank_state.specs.Limits.{storeBytes}
 use Rattle.image.specs.declared.table.Row.{Row}
 use Rattle.image.specs.declared.table.Form.{Form}
-use Rattle.image.specs.declared.table.Form.the-variants.{Three}
 use Rattle.image.specs.declared.table.Sizes.{Sizes}
-use Rattle.image.specs.Table.{rowAt, firstRow, fieldCount}
+use Rattle.image.specs.Table.{storeSize, rowAt, firstRow, fieldCount}
 
 pub data Item : Type 0 where
   -- so many bytes that are this number in every image of the form
@@ -68,10 +66,6 @@ storeAt (constant w v ∷ l) n = w + storeAt l n
 storeAt (part w ∷ l) n = w + storeAt l n
 storeAt (store z ∷ l) zero = 0
 storeAt (store z ∷ l) (suc n) = z + storeAt l n
-
--- the size of both stores
-abbrev pub storeSize : Form → ℕ
-storeSize Three = storeBytes
 
 unfoldable pub sizesOf : Form → Sizes
 sizesOf form =

@@ -6,11 +6,15 @@ use Rattle.bank_state.specs.Limits.{placeCount, nonceCount, storeBytes}
 use Rattle.journal.specs.Events.{recordCount}
 use Rattle.image.specs.declared.table.Row.{Row}
 use Rattle.image.specs.declared.table.Form.{Form}
-use Rattle.image.specs.declared.table.Form.the-variants.{Three}
+use Rattle.image.specs.declared.table.Form.the-variants.{Five}
 
 -- "the form's number: the number of the card that made the form"
 abbrev pub formNumber : Form → ℕ
-formNumber Three = 3
+formNumber Five = 5
+
+-- the size of both stores
+abbrev pub storeSize : Form → ℕ
+storeSize Five = storeBytes
 
 -- the length of a time
 abbrev pub timeBytes : ℕ
@@ -32,7 +36,15 @@ headOf tag size = tag * 65536 + size
 -- the form's number: every image of the form has the same content
 abbrev pub formField : ℕ → Form → Row
 formField tag form =
-    record { width = 4; head = headOf tag 1 * 256 + formNumber form; records = 0; more = 0; widths = 0; store = 0; bytes = 0 }
+    record {
+      width = 4;
+      head = headOf tag 1 * 256 + formNumber form;
+      records = 0;
+      more = 0;
+      widths = 0;
+      store = 0;
+      bytes = 0;
+    }
 
 -- a field of numbers: its tag, how many records, the lengths of a record's parts
 abbrev pub numberField : ℕ → ℕ → List ℕ → Row
@@ -55,37 +67,39 @@ storeField tag size =
 abbrev pub noRow : Row
 noRow = record { width = 0; head = 0; records = 0; more = 0; widths = 0; store = 0; bytes = 0 }
 
--- the fields of form 3
-abbrev pub form3 : List Row
-form3 =
-    formField 0x01 Three  -- "the form's number"
+-- the fields of a form
+abbrev pub fieldsOf : Form → List Row
+fieldsOf form =
+    formField 0x01 form  -- "the form's number"
     ∷ numberField 0x02 1 (timeBytes ∷ [])  -- "clock"
     ∷ numberField 0x03 1 (8 ∷ [])  -- "openings accepted"
+    -- "series: for subscribers 1 to 8, how far the bank's own numbering of uploads has come"
+    ∷ numberField 0x04 placeCount (4 ∷ [])
     ∷ numberField 0x05 1 (8 ∷ [])  -- "events entered so far"
     ∷ numberField 0x06 1 (1 ∷ [])  -- "number of nonces remembered"
     ∷ numberField 0x07 nonceCount (8 ∷ 8 ∷ timeBytes ∷ [])  -- nonces: the nonce's halves, timestamp
     ∷ numberField 0x08 1 (1 ∷ [])  -- "number of open downloads"
     -- open downloads: subscriber, lent and running half of the transaction ID, delivered, attempts, last fit
     ∷ numberField 0x09 placeCount (2 ∷ 8 ∷ 8 ∷ 2 ∷ 1 ∷ timeBytes ∷ [])
-    -- places: state, subscriber, lent and running half, segments, taken, attempts, last fit, length
-    ∷ numberField 0x0A placeCount (1 ∷ 2 ∷ 8 ∷ 8 ∷ 2 ∷ 2 ∷ 1 ∷ timeBytes ∷ 2 ∷ [])
+    -- places: state, subscriber, lent and running half, order, segments, taken, attempts, last fit, length
+    ∷ numberField 0x0A placeCount (1 ∷ 2 ∷ 8 ∷ 8 ∷ 4 ∷ 2 ∷ 2 ∷ 1 ∷ timeBytes ∷ 2 ∷ [])
     ∷ numberField 0x0B placeCount (2 ∷ [])  -- "file lengths of mailboxes 1 to 8"
-    -- journal: number, clock, subscriber, order number, kind
-    ∷ numberField 0x0C recordCount (8 ∷ timeBytes ∷ 2 ∷ 4 ∷ 1 ∷ [])
-    ∷ storeField 0x0D storeBytes  -- "the place store"
-    ∷ storeField 0x0E storeBytes  -- "the mailbox store"
+    -- journal: number, clock, subscriber, type, order, kind
+    ∷ numberField 0x0C recordCount (8 ∷ timeBytes ∷ 2 ∷ 3 ∷ 4 ∷ 1 ∷ [])
+    ∷ storeField 0x0D (storeSize form)  -- "the place store"
+    ∷ storeField 0x0E (storeSize form)  -- "the mailbox store"
     ∷ []
 
 -- the fields of all forms, one form behind the other
 abbrev pub allRows : List Row
-allRows = form3
+allRows = fieldsOf Five
 
 unfoldable pub rowAt : ℕ → Row
 rowAt i = getD allRows i noRow
 
 -- a form's fields stand from this row on
 abbrev pub firstRow : Form → ℕ
-firstRow Three = 0
+firstRow Five = 0
 
 abbrev pub fieldCount : Form → ℕ
-fieldCount Three = length form3
+fieldCount form = length (fieldsOf form)

@@ -1,4 +1,5 @@
 // The table of an image's fields, form by form, and a form's sizes.
+use bank_state::limits::STORE_BYTES;
 ghost use mathlib.Core.Path.{_≡_};
 ghost use Rattle.image.specs.Table.{rowAt};
 ghost use Rattle.image.specs.Items.{sizesOf};
@@ -18,14 +19,17 @@ pub struct Row {
 
 // The forms that are written or taken up, each by the card that made it.
 pub enum Form {
-    Three,
+    Five,
 }
 
-// The fields of form 3, in the order of `form3`.
-const ROWS: [Row; 13] = [
+// The rows of all forms.
+const ROW_COUNT: usize = 14;
+
+// The fields of form 5, in the order of `fieldsOf`.
+const ROWS: [Row; ROW_COUNT] = [
     Row {
         width: 4,
-        head: 0x01_0001_03,
+        head: 0x01_0001_05,
         records: 0,
         more: 0,
         widths: 0,
@@ -49,6 +53,15 @@ const ROWS: [Row; 13] = [
         widths: 0x8,
         store: 0,
         bytes: 8,
+    },
+    Row {
+        width: 3,
+        head: 0x04_0020,
+        records: 8,
+        more: 0,
+        widths: 0x4,
+        store: 0,
+        bytes: 32,
     },
     Row {
         width: 3,
@@ -97,12 +110,12 @@ const ROWS: [Row; 13] = [
     },
     Row {
         width: 3,
-        head: 0x0a_0110,
+        head: 0x0a_0130,
         records: 8,
-        more: 8,
-        widths: 0x281228821,
+        more: 9,
+        widths: 0x2812248821,
         store: 0,
-        bytes: 272,
+        bytes: 304,
     },
     Row {
         width: 3,
@@ -115,12 +128,12 @@ const ROWS: [Row; 13] = [
     },
     Row {
         width: 3,
-        head: 0x0c_05c0,
+        head: 0x0c_0680,
         records: 64,
-        more: 4,
-        widths: 0x14288,
+        more: 5,
+        widths: 0x143288,
         store: 0,
-        bytes: 1472,
+        bytes: 1664,
     },
     Row {
         width: 3,
@@ -128,8 +141,8 @@ const ROWS: [Row; 13] = [
         records: 0,
         more: 0,
         widths: 0,
-        store: 30720,
-        bytes: 30720,
+        store: STORE_BYTES,
+        bytes: STORE_BYTES,
     },
     Row {
         width: 3,
@@ -137,8 +150,8 @@ const ROWS: [Row; 13] = [
         records: 0,
         more: 0,
         widths: 0,
-        store: 30720,
-        bytes: 30720,
+        store: STORE_BYTES,
+        bytes: STORE_BYTES,
     },
 ];
 
@@ -146,7 +159,7 @@ const ROWS: [Row; 13] = [
 pub fn row_at(i: usize) -> Row
     ensures { λ r. ⌜ r ≡ rowAt i ⌝ }
 {
-    if i < 13 {
+    if i < ROW_COUNT {
         return ROWS[i];
     }
     Row {
@@ -176,14 +189,14 @@ pub fn sizes_of(form: Form) -> Sizes
     ensures { λ r. ⌜ r ≡ sizesOf form ⌝ }
 {
     match form {
-        Form::Three => Sizes {
+        Form::Five => Sizes {
             first: 0,
-            fields: 13,
-            numbers: 645,
-            store: 30720,
-            image: 65034,
-            orders: 3591,
-            mailboxes: 34314,
+            fields: 14,
+            numbers: 725,
+            store: STORE_BYTES,
+            image: 65293,
+            orders: 3850,
+            mailboxes: 34573,
         },
     }
 }

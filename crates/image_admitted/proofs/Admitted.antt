@@ -22,11 +22,12 @@ use Rattle.image_calls.specs.Calls.{numbersOf, lengthsRight, isAdmitted}
 use Rattle.image_admitted.specs.Unused.{Wiped}
 use Rattle.image_conditions.proofs.General.{and-both}
 use Rattle.image_admitted.proofs.Shown.{Shown}
+use Rattle.image_admitted.proofs.Series.{every-series, series-sum}
 use Rattle.image_admitted.proofs.Nonces.{every-nonce, nonces-distinct}
 use Rattle.image_admitted.proofs.Mailboxes.{every-mailbox}
 use Rattle.image_admitted.proofs.Places.{every-place}
 use Rattle.image_admitted.proofs.Downloads.{every-download}
-use Rattle.image_admitted.proofs.Slots.{numbers-distinct, open-in-all, events-fit, every-subscriber}
+use Rattle.image_admitted.proofs.Slots.{orders-distinct, numbers-distinct, open-in-all, events-fit, every-subscriber}
 use Rattle.image_admitted.proofs.Journal.{every-event, journal-unused}
 use Rattle.image_admitted.proofs.Rows.{
   counts-fit,
@@ -35,7 +36,6 @@ use Rattle.image_admitted.proofs.Rows.{
   downloads-unused,
   nonce-all,
   download-all,
-  orders-numbered,
 }
 use Rattle.image_conditions.proofs.Listed.{Listed, listing}
 use Rattle.image_admitted.proofs.Holds.{Long, lengths-told}
@@ -75,6 +75,8 @@ module _ (m : LentSession) (right : lengthsRight m ≡ true) (o : SessionHolds (
   list = record {
     clock = le-leb (image.clock (numbersOf m)) lastTime (omega (arith, v .clock, o .clock));
     openings = le-leb (image.openings (numbersOf m)) maxOpenings (omega (arith, v .openings, o .state .numbers));
+    series = every-series v (o .state .series);
+    seriesAll = series-sum v (o .state .series);
     nonceCount = counts-fit (m .rows) (m .row) (long .rows) (long .row) l .0;
     nonces = every-nonce v (o .nonces) (o .state .nonces);
     noncesApart = nonces-distinct v (o .nonces) (o .state .nonces);
@@ -82,7 +84,8 @@ module _ (m : LentSession) (right : lengthsRight m ≡ true) (o : SessionHolds (
     downloadCount = counts-fit (m .rows) (m .row) (long .rows) (long .row) l .1;
     downloads = every-download w v (long .mailboxes) rooms (o .state .downloads) (o .idle .downloads) (o .state .inOrder);
     downloadsOver = downloads-unused (m .rows) (m .row) (long .rows) (long .row) l z;
-    places = every-place v (m .orders) (long .orders) (o .state .places) (o .idle .places);
+    places = every-place v (m .orders) (long .orders) (o .state .places) (o .idle .places) (o .state .orders);
+    ordersApart = orders-distinct v (o .state .placesApart) (o .state .apart) rises;
     numbers = numbers-distinct v (o .state .placesApart) (o .state .apart) rises;
     openAll = open-in-all v (o .state .openAll);
     openOf = every-subscriber v (o .state .openOf);
@@ -95,9 +98,8 @@ module _ (m : LentSession) (right : lengthsRight m ≡ true) (o : SessionHolds (
   pub holds-admitted : isAdmitted m ≡ true
   unfolding isAdmitted
   holds-admitted =
-      and-both (orders-numbered (m .rows) (m .row) (long .rows) (long .row) (o .numbered))
-      (and-both
+      and-both
       (listing (numbersOf m) (m .orders) (m .mailboxes) (length-numbersIn (m .rows) (m .row) (long .row)) (long .orders)
       (long .mailboxes) list)
       (numbers-fit w v o (nonce-all (m .rows) (m .row) (long .rows) (long .row) l z)
-      (download-all (m .rows) (m .row) (long .rows) (long .row) l z)))
+      (download-all (m .rows) (m .row) (long .rows) (long .row) l z))

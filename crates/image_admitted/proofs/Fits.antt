@@ -82,7 +82,14 @@ stands at ws records =
     every (λ i. every (λ k. eqb (getD partWidths (at + (i * length ws + k)) 0) (getD ws k 0)) (length ws)) records
 
 abbrev pub headWidths : List ℕ
-headWidths = timeBytes ∷ 8 ∷ 8 ∷ 1 ∷ []
+headWidths = timeBytes ∷ 8 ∷ []
+
+abbrev pub seriesWidths : List ℕ
+seriesWidths = 4 ∷ []
+
+-- the events entered and the nonces remembered
+abbrev pub countWidths : List ℕ
+countWidths = 8 ∷ 1 ∷ []
 
 abbrev pub nonceWidths : List ℕ
 nonceWidths = 8 ∷ 8 ∷ timeBytes ∷ []
@@ -91,10 +98,10 @@ abbrev pub downloadWidths : List ℕ
 downloadWidths = 2 ∷ 8 ∷ 8 ∷ 2 ∷ 1 ∷ timeBytes ∷ []
 
 abbrev pub placeWidths : List ℕ
-placeWidths = 1 ∷ 2 ∷ 8 ∷ 8 ∷ 2 ∷ 2 ∷ 1 ∷ timeBytes ∷ 2 ∷ []
+placeWidths = 1 ∷ 2 ∷ 8 ∷ 8 ∷ 4 ∷ 2 ∷ 2 ∷ 1 ∷ timeBytes ∷ 2 ∷ []
 
 abbrev pub eventWidths : List ℕ
-eventWidths = 8 ∷ timeBytes ∷ 2 ∷ 4 ∷ 1 ∷ []
+eventWidths = 8 ∷ timeBytes ∷ 2 ∷ 3 ∷ 4 ∷ 1 ∷ []
 
 all-parts : length partWidths ≡ image.numberCount
 unfolding partWidths widths itemsOf fieldItems contentItems recordItems partItems storeItems rowAt
@@ -103,6 +110,14 @@ all-parts = refl
 head-stands : stands image.clockAt headWidths 1 ≡ true
 unfolding stands every partWidths widths itemsOf fieldItems contentItems recordItems partItems storeItems rowAt
 head-stands = refl
+
+series-stand : stands image.seriesAt seriesWidths placeCount ≡ true
+unfolding stands every partWidths widths itemsOf fieldItems contentItems recordItems partItems storeItems rowAt
+series-stand = refl
+
+counts-stand : stands image.eventsAt countWidths 1 ≡ true
+unfolding stands every partWidths widths itemsOf fieldItems contentItems recordItems partItems storeItems rowAt
+counts-stand = refl
 
 nonces-stand : stands image.noncesAt nonceWidths nonceCount ≡ true
 unfolding stands every partWidths widths itemsOf fieldItems contentItems recordItems partItems storeItems rowAt
@@ -229,11 +244,11 @@ module _ (xs : List ℕ) where
 
     pub place-group : (r : PlaceRecord) → image.placeAt xs i ≡ r
         → r .state < 256 ^ 1 → r .subscriber < 256 ^ 2 → r .high < 256 ^ 8 → r .low < 256 ^ 8
-        → r .segments < 256 ^ 2 → r .taken < 256 ^ 2 → r .attempts < 256 ^ 1 → r .last < 256 ^ timeBytes
-        → r .length < 256 ^ 2
+        → r .order < 256 ^ 4 → r .segments < 256 ^ 2 → r .taken < 256 ^ 2 → r .attempts < 256 ^ 1
+        → r .last < 256 ^ timeBytes → r .length < 256 ^ 2
         → Group xs image.placesAt placeWidths i
     unfolding image.placeAt
-    place-group r e state subscriber high low segments taken attempts last size =
+    place-group r e state subscriber high low order segments taken attempts last size =
         let at = image.placesAt + i * image.placeWidth in (
           (
             (
@@ -243,47 +258,53 @@ module _ (xs : List ℕ) where
                     (
                       (
                         (
-                          tt,
-                          part-of at _ _ (omega arith) (ap (λ (x : PlaceRecord). x .state) e) state,
+                          (
+                            tt,
+                            part-of at _ _ (omega arith) (ap (λ (x : PlaceRecord). x .state) e) state,
+                          ),
+                          part-of (at + 1) _ _ (omega arith) (ap (λ (x : PlaceRecord). x .subscriber) e) subscriber,
                         ),
-                        part-of (at + 1) _ _ (omega arith) (ap (λ (x : PlaceRecord). x .subscriber) e) subscriber,
+                        part-of (at + 2) _ _ (omega arith) (ap (λ (x : PlaceRecord). x .high) e) high,
                       ),
-                      part-of (at + 2) _ _ (omega arith) (ap (λ (x : PlaceRecord). x .high) e) high,
+                      part-of (at + 3) _ _ (omega arith) (ap (λ (x : PlaceRecord). x .low) e) low,
                     ),
-                    part-of (at + 3) _ _ (omega arith) (ap (λ (x : PlaceRecord). x .low) e) low,
+                    part-of (at + 4) _ _ (omega arith) (ap (λ (x : PlaceRecord). x .order) e) order,
                   ),
-                  part-of (at + 4) _ _ (omega arith) (ap (λ (x : PlaceRecord). x .segments) e) segments,
+                  part-of (at + 5) _ _ (omega arith) (ap (λ (x : PlaceRecord). x .segments) e) segments,
                 ),
-                part-of (at + 5) _ _ (omega arith) (ap (λ (x : PlaceRecord). x .taken) e) taken,
+                part-of (at + 6) _ _ (omega arith) (ap (λ (x : PlaceRecord). x .taken) e) taken,
               ),
-              part-of (at + 6) _ _ (omega arith) (ap (λ (x : PlaceRecord). x .attempts) e) attempts,
+              part-of (at + 7) _ _ (omega arith) (ap (λ (x : PlaceRecord). x .attempts) e) attempts,
             ),
-            part-of (at + 7) _ _ (omega arith) (ap (λ (x : PlaceRecord). x .last) e) last,
+            part-of (at + 8) _ _ (omega arith) (ap (λ (x : PlaceRecord). x .last) e) last,
           ),
-          part-of (at + 8) _ _ (omega arith) (ap (λ (x : PlaceRecord). x .length) e) size,
+          part-of (at + 9) _ _ (omega arith) (ap (λ (x : PlaceRecord). x .length) e) size,
         )
 
     pub event-group : (r : EventRecord) → image.eventAt xs i ≡ r
-        → r .number < 256 ^ 8 → r .clock < 256 ^ timeBytes → r .subscriber < 256 ^ 2 → r .order < 256 ^ 4
-        → r .kind < 256 ^ 1
+        → r .number < 256 ^ 8 → r .clock < 256 ^ timeBytes → r .subscriber < 256 ^ 2 → r .«order_type» < 256 ^ 3
+        → r .order < 256 ^ 4 → r .kind < 256 ^ 1
         → Group xs image.journalAt eventWidths i
     unfolding image.eventAt
-    event-group r e number clock subscriber order kind =
+    event-group r e number clock subscriber type order kind =
         let at = image.journalAt + i * image.eventWidth in (
           (
             (
               (
                 (
-                  tt,
-                  part-of at _ _ (omega arith) (ap (λ (x : EventRecord). x .number) e) number,
+                  (
+                    tt,
+                    part-of at _ _ (omega arith) (ap (λ (x : EventRecord). x .number) e) number,
+                  ),
+                  part-of (at + 1) _ _ (omega arith) (ap (λ (x : EventRecord). x .clock) e) clock,
                 ),
-                part-of (at + 1) _ _ (omega arith) (ap (λ (x : EventRecord). x .clock) e) clock,
+                part-of (at + 2) _ _ (omega arith) (ap (λ (x : EventRecord). x .subscriber) e) subscriber,
               ),
-              part-of (at + 2) _ _ (omega arith) (ap (λ (x : EventRecord). x .subscriber) e) subscriber,
+              part-of (at + 3) _ _ (omega arith) (ap (λ (x : EventRecord). x .«order_type») e) type,
             ),
-            part-of (at + 3) _ _ (omega arith) (ap (λ (x : EventRecord). x .order) e) order,
+            part-of (at + 4) _ _ (omega arith) (ap (λ (x : EventRecord). x .order) e) order,
           ),
-          part-of (at + 4) _ _ (omega arith) (ap (λ (x : EventRecord). x .kind) e) kind,
+          part-of (at + 5) _ _ (omega arith) (ap (λ (x : EventRecord). x .kind) e) kind,
         )
 
   -- ---- all numbers
@@ -295,14 +316,16 @@ module _ (xs : List ℕ) where
       at true e = f p (ltb-true p a e)
       at false e = g p (ltb-false p a e) h
 
-  pub groups-fit : Group xs image.clockAt headWidths 0 → ((i : ℕ) → i < nonceCount → Group xs image.noncesAt nonceWidths i)
+  pub groups-fit : Group xs image.clockAt headWidths 0 → ((i : ℕ) → i < placeCount → image.counterAt xs i < 256 ^ 4)
+      → Group xs image.eventsAt countWidths 0
+      → ((i : ℕ) → i < nonceCount → Group xs image.noncesAt nonceWidths i)
       → getD xs image.downloadCountAt 0 < 256 ^ 1
       → ((i : ℕ) → i < placeCount → Group xs image.downloadsAt downloadWidths i)
       → ((i : ℕ) → i < placeCount → Group xs image.placesAt placeWidths i)
       → ((i : ℕ) → i < placeCount → image.fileAt xs i < 256 ^ 2)
       → ((i : ℕ) → i < recordCount → Group xs image.journalAt eventWidths i) → fits (itemsOf written) xs ≡ true
-  unfolding partWidths image.fileAt
-  groups-fit head nonces count downloads places files journal =
+  unfolding partWidths image.counterAt image.fileAt
+  groups-fit head series counts nonces count downloads places files journal =
       let Fit : ℕ → Type 0 = λ p. getD xs p 0 < 256 ^ getD partWidths p 0 in
       let one : (i : ℕ) → i < 1 → i ≡ 0 = λ i h. omega arith in
       fits-from (itemsOf written) xs
@@ -313,7 +336,12 @@ module _ (xs : List ℕ) where
       (join Fit image.downloadsAt image.placesAt
       (join Fit image.downloadCountAt image.downloadsAt
       (join Fit image.noncesAt image.downloadCountAt
+      (join Fit image.eventsAt image.noncesAt
+      (join Fit image.seriesAt image.eventsAt
       (λ p h. group-fits image.clockAt headWidths 1 head-stands (omega arith) (omega arith) xs (λ i k. rw (one i k) head) p (omega arith) h)
+      (group-fits image.seriesAt seriesWidths placeCount series-stand (omega arith) (omega arith) xs
+      (λ i k. (tt, part-of (image.seriesAt + i) _ _ (omega arith) refl (series i k)))))
+      (group-fits image.eventsAt countWidths 1 counts-stand (omega arith) (omega arith) xs (λ i k. rw (one i k) counts)))
       (group-fits image.noncesAt nonceWidths nonceCount nonces-stand (omega arith) (omega arith) xs nonces))
       (group-fits image.downloadCountAt (1 ∷ []) 1 count-stands (omega arith) (omega arith) xs (λ i k. rw (one i k) (tt, count))))
       (group-fits image.downloadsAt downloadWidths placeCount downloads-stand (omega arith) (omega arith) xs downloads))

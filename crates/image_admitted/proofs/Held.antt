@@ -65,6 +65,7 @@ held-state w v =
       downloads = v .sizes .downloads;
       nonces = v .sizes .nonces;
       files = v .sizes .files;
+      series = v .sizes .series;
       downloadsFirst = packed-first (λ (e : Download). e .used) noDownload refl (v .inOrder);
       noncesFirst =
           ap (keepOnly (λ (e : Nonce). e .used) noNonce) (n .rows)

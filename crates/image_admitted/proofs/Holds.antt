@@ -1,7 +1,6 @@
 -- A session of the list holds what a session may hold. Assumes nothing.
 use Prim.Native.Nat.{ℕ, _≤_, _<_}
 use mathlib.Core.Bool.{Bool, true, false}
-use mathlib.Core.List.{List}
 use mathlib.Core.Path.{_≡_, refl, sym, subst}
 use native.Mathlib.Omega.{arith}
 use lib.Dec.{eqb, ltb}
@@ -12,11 +11,10 @@ use Rattle.frame_table.specs.Table.{lastTime}
 use Rattle.message.specs.Limits.{subscribers, fileBytes}
 use Rattle.journal.specs.Events.{recordCount}
 use Rattle.bank_state.specs.declared.state.Download.{Download}
-use Rattle.bank_state.specs.declared.state.Place.{Place}
 use Rattle.bank_state.specs.declared.state.Use.{Use}
 use Rattle.bank_state.specs.declared.state.Use.the-variants.{Free, Open, Booked}
 use Rattle.bank_state.specs.Limits.{placeCount, nonceCount, storeBytes, maxOpenings}
-use Rattle.bank_state.specs.Search.{isOpen}
+use Rattle.bank_state.specs.Search.{isFree, isOpen}
 use Rattle.bank_state.specs.State.{Bank, BankState, placeAt, downloadAt}
 use Rattle.bank_state.specs.Store.{partAt}
 use Rattle.bank_rows.specs.State.{downloadCountOf, nonceCountOf, bankOf, nonceAt, Laid}
@@ -28,17 +26,17 @@ use Rattle.image.specs.Items.{itemsOf}
 use Rattle.image.specs.Image.{fits}
 use Rattle.image_conditions.specs.Layout as image
 use Rattle.image_conditions.specs.Conditions.{admitted}
-use Rattle.image_numbers.specs.Numbers.{ordersNumbered}
 use Rattle.image_calls.specs.Calls.{written, numbersOf, lengthsRight, isAdmitted}
 use Rattle.image_admitted.specs.Unused.{Wiped}
 use Rattle.image_admitted.proofs.Shown.{Shown, download-used}
+use Rattle.image_admitted.proofs.Series.{series-hold}
 use Rattle.image_admitted.proofs.Nonces.{nonces-hold, nonces-apart}
 use Rattle.image_admitted.proofs.Mailboxes.{mailboxes-hold}
-use Rattle.image_admitted.proofs.Places.{place-holds, place-not-idle}
+use Rattle.image_admitted.proofs.Places.{place-known, place-holds, place-not-idle, place-ordered}
 use Rattle.image_admitted.proofs.Downloads.{downloads-hold, download-not-idle, downloads-rise}
 use Rattle.image_admitted.proofs.Slots.{places-apart, downloads-apart, open-all, open-of, events-bound}
 use Rattle.image_admitted.proofs.Journal.{journal-holds}
-use Rattle.image_admitted.proofs.Rows.{tested-laid, shown, tested-wiped, numbered-told}
+use Rattle.image_admitted.proofs.Rows.{tested-laid, shown, tested-wiped}
 use Rattle.image_admitted.proofs.Fits.{nonce-words, download-words, place-words}
 use Rattle.image_conditions.proofs.Listed.{Listed, listed}
 
@@ -62,12 +60,11 @@ lengths-told m h =
       mailboxes = eqb-true _ _ (c .1);
     }
 
--- a place in use has a subscriber
-place-known : (u : Use) (clock openings : ℕ) (p : Place) (bytes : List ℕ) → PlaceHolds u clock openings p bytes
-    → isOpen u ≡ true → (1 ≤ p .subscriber) × (p .subscriber ≤ subscribers)
-place-known Free clock openings p bytes h e = never e
-place-known Open clock openings p bytes h e = (h .place .known, h .place .most)
-place-known Booked clock openings p bytes h e = never e
+-- what is open is in use
+open-used : (u : Use) → isOpen u ≡ true → isFree u ≡ false
+open-used Free e = never e
+open-used Open e = refl
+open-used Booked e = refl
 
 module _ (m : LentSession) (right : lengthsRight m ≡ true) (h : isAdmitted m ≡ true) where
   abbrev w : BankState
@@ -79,22 +76,15 @@ module _ (m : LentSession) (right : lengthsRight m ≡ true) (h : isAdmitted m �
   long : Long m
   long = lengths-told m right
 
-  numbered-orders : ordersNumbered (m .rows) ≡ true
-  unfolding isAdmitted
-  numbered-orders = and-true (ordersNumbered (m .rows)) _ h .0
-
   list : Listed (numbersOf m) (m .orders) (m .mailboxes)
   unfolding isAdmitted
   list =
-      let a = and-true (ordersNumbered (m .rows)) _ h in
       listed (numbersOf m) (m .orders) (m .mailboxes)
-      (and-true (admitted (numbersOf m) (m .orders) (m .mailboxes)) _ (a .1) .0)
+      (and-true (admitted (numbersOf m) (m .orders) (m .mailboxes)) _ h .0)
 
   fit : fits (itemsOf written) (numbersOf m) ≡ true
   unfolding isAdmitted
-  fit =
-      let a = and-true (ordersNumbered (m .rows)) _ h in
-      and-true (admitted (numbersOf m) (m .orders) (m .mailboxes)) _ (a .1) .1
+  fit = and-true (admitted (numbersOf m) (m .orders) (m .mailboxes)) _ h .1
 
   -- the rows are a bank's, wiped behind their counts
   pub admitted-laid : Laid (bankRows (m .rows))
@@ -107,9 +97,6 @@ module _ (m : LentSession) (right : lengthsRight m ≡ true) (h : isAdmitted m �
 
   v : Shown (numbersOf m) b (journalIn m) (downloadCountOf (bankRows (m .rows))) (nonceCountOf (bankRows (m .rows)))
   v = shown (m .rows) (m .row) (long .rows) (long .row) admitted-laid
-
-  numbered : (i : ℕ) → i < placeCount → placeAt b i .number ≡ placeAt b i .transaction .low
-  numbered = numbered-told (m .rows) (m .row) (long .rows) (long .row) numbered-orders
 
   -- ---- numbers of eight bytes
 
@@ -141,7 +128,7 @@ module _ (m : LentSession) (right : lengthsRight m ≡ true) (h : isAdmitted m �
   rooms i k = mailboxes-hold v (m .mailboxes) (long .mailboxes) (list .files) i k .room
 
   places : (i : ℕ) → i < placeCount → PlaceHolds (placeAt b i .used) (b .clock) (b .openings) (placeAt b i) (partAt (m .orders) i)
-  places i k = place-holds v (m .orders) (long .orders) (list .places) i k (numbered i k)
+  places = place-holds v (m .orders) (long .orders) (list .places)
 
   downloads : (i : ℕ) → DownloadHolds (downloadAt b i .used) (b .clock) (b .openings)
       (mailboxFile w (downloadAt b i .subscriber)) (downloadAt b i)
@@ -161,19 +148,26 @@ module _ (m : LentSession) (right : lengthsRight m ≡ true) (h : isAdmitted m �
       downloads = v .longDownloads;
       nonces = v .longNonces;
       files = v .longFiles;
+      series = v .longSeries;
       orders = long .orders;
       mailboxes = long .mailboxes;
     };
     numbers = omega (arith, leb-true (image.openings (numbersOf m)) maxOpenings (list .openings), v .openings);
+    series = series-hold v (list .series) (list .seriesAll);
     places = places;
+    orders = place-ordered v (m .orders) (long .orders) (list .places);
     downloads = downloads;
     mailboxesHold = mailboxes-hold v (m .mailboxes) (long .mailboxes) (list .files);
-    placesApart = places-apart v (list .numbers) numbered;
+    placesApart = places-apart v (list .numbers) (list .ordersApart);
     apart = λ i k p f u. downloads-apart v (list .numbers) i k p f (download-used v k u);
     inOrder = downloads-rise w v (long .mailboxes) rooms (list .downloads);
     nonces = nonces-hold v (list .nonces);
     openAll = open-all v (list .openAll);
-    openOf = open-of v (λ i k. place-known (placeAt b i .used) (b .clock) (b .openings) (placeAt b i) (partAt (m .orders) i) (places i k)) download-known (list .openOf);
+    openOf = open-of v
+        (λ i k e.
+        place-known (placeAt b i .used) (b .clock) (b .openings) (placeAt b i) (partAt (m .orders) i) (places i k)
+        (open-used (placeAt b i .used) e))
+        download-known (list .openOf);
   }
 
   none-idle : NoneIdle w
@@ -189,7 +183,6 @@ module _ (m : LentSession) (right : lengthsRight m ≡ true) (h : isAdmitted m �
     idle = none-idle;
     clock = omega (arith, leb-true (image.clock (numbersOf m)) lastTime (list .clock), v .clock);
     nonces = nonces-apart v (list .nonces) (list .noncesApart) nonce-fits;
-    numbered = numbered;
     places = place-fits;
     downloads = download-fits;
     journal = journal-holds v (list .journal) (list .journalOver);

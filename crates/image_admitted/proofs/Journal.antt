@@ -9,7 +9,7 @@ use lib.Dec.{eqb, leb, ltb}
 use lib.ListN.{getD, List·getD-eq-default}
 use borrow.Author.Tests.{eqb-true, eq-eqb, leb-true, le-leb, ltb-true, ltb-false, lt-ltb}
 use Rattle.octets.proofs.Tests.{never, and-true}
-use Rattle.message.specs.Limits.{subscribers}
+use Rattle.message.specs.Limits.{subscribers, ful}
 use Rattle.journal.specs.declared.event.Kind.{Kind}
 use Rattle.journal.specs.declared.event.Kind.the-variants.{Unused, Opened, Booked, Cancelled, Dropped}
 use Rattle.journal.specs.Events.{recordCount, noEvent}
@@ -26,6 +26,7 @@ use Rattle.image_conditions.proofs.Shapes.{every-at, every-from, up-to-le}
 use Rattle.image_numbers.specs.Numbers.{numberOfKind}
 use Rattle.image_numbers.proofs.Records.{eventIn}
 use Rattle.image_conditions.proofs.General.{unused-part, unused-parts}
+use Rattle.image_admitted.proofs.Series.{counter-of}
 use Rattle.image_admitted.proofs.Shown.{Shown, up-to-few}
 
 -- ---- an event's kind
@@ -70,18 +71,20 @@ used-few n = omega (arith, up-to-le recordCount n .0, used-events n)
 
 -- ---- the test of one event
 
-module _ (now openings entered i : ℕ) (before e : EventRecord) where
+module _ (now counter entered i : ℕ) (before e : EventRecord) where
   abbrev Facts : Type 0
   Facts =
       (e .number ≡ entered - upTo recordCount entered + 1 + i) × (e .clock ≤ now) × (before .clock ≤ e .clock)
-      × (1 ≤ e .subscriber) × (e .subscriber ≤ subscribers) × (e .order < openings) × (1 ≤ e .kind) × (e .kind ≤ lastKind)
+      × (1 ≤ e .subscriber) × (e .subscriber ≤ subscribers) × (e .«order_type» ≡ ful) × (e .order < counter)
+      × (1 ≤ e .kind) × (e .kind ≤ lastKind)
 
-  told : eventHolds now openings entered i before e ≡ true → Facts
+  told : eventHolds now counter entered i before e ≡ true → Facts
   told h =
       let a = and-true (eqb (e .number) (entered - upTo recordCount entered + 1 + i)) _ h in
       let b = and-true (leb (e .clock) now && leb (before .clock) (e .clock)) _ (a .1) in
       let c = and-true (leb 1 (e .subscriber) && leb (e .subscriber) subscribers) _ (b .1) in
-      let d = and-true (ltb (e .order) openings) _ (c .1) in
+      let type = and-true (eqb (e .«order_type») ful) _ (c .1) in
+      let d = and-true (ltb (e .order) counter) _ (type .1) in
       let f = and-true (leb 1 (e .kind) && leb (e .kind) lastKind) _ (d .1) in
       let time = and-true (leb (e .clock) now) _ (b .0) in
       let known = and-true (leb 1 (e .subscriber)) _ (c .0) in
@@ -91,12 +94,13 @@ module _ (now openings entered i : ℕ) (before e : EventRecord) where
         leb-true _ _ (time .1),
         leb-true _ _ (known .0),
         leb-true _ _ (known .1),
+        eqb-true _ _ (type .0),
         ltb-true _ _ (d .0),
         leb-true _ _ (kind .0),
         leb-true _ _ (kind .1),
       )
 
-  tested : Facts → eventHolds now openings entered i before e ≡ true
+  tested : Facts → eventHolds now counter entered i before e ≡ true
   tested f =
       rw (
         eq-eqb _ _ (f .0),
@@ -104,9 +108,10 @@ module _ (now openings entered i : ℕ) (before e : EventRecord) where
         le-leb _ _ (f .2),
         le-leb _ _ (f .3),
         le-leb _ _ (f .4),
-        lt-ltb _ _ (f .5),
-        le-leb _ _ (f .6),
+        eq-eqb _ _ (f .5),
+        lt-ltb _ _ (f .6),
         le-leb _ _ (f .7),
+        le-leb _ _ (f .8),
       )
 
 module _ {xs : List ℕ} {b : Bank} {j : Journal} {d n : ℕ} (v : Shown xs b j d n) where
@@ -117,13 +122,14 @@ module _ {xs : List ℕ} {b : Bank} {j : Journal} {d n : ℕ} (v : Shown xs b j 
 
   module _ (h : everyEvent xs ≡ true) where
     facts : (i : ℕ) → i < usedAfter (j .events)
-        → Facts (b .clock) (b .openings) (j .events) i (eventIn (recordAt j (i - 1))) (eventIn (recordAt j i))
+        → Facts (b .clock) (image.counterOf xs (recordAt j i .subscriber)) (j .events) i (eventIn (recordAt j (i - 1)))
+        (eventIn (recordAt j i))
     unfolding everyEvent eventTest
     facts i k =
         let few = used-few (j .events) in
         let t = every-at (eventTest xs) (image.usedEvents xs) i h (rw used-are k) in
-        told (b .clock) (b .openings) (j .events) i (eventIn (recordAt j (i - 1))) (eventIn (recordAt j i))
-        (rw (v .clock, v .openings, v .events, v .event (i - 1) (omega arith), v .event i (omega arith)) at t)
+        told (b .clock) (image.counterOf xs (recordAt j i .subscriber)) (j .events) i (eventIn (recordAt j (i - 1)))
+        (eventIn (recordAt j i)) (rw (v .clock, v .events, v .event (i - 1) (omega arith), v .event i (omega arith)) at t)
 
     module _ (zero : journalUnused xs ≡ true) where
       part-zero : (i p q : ℕ) → usedAfter (j .events) ≤ i → i < recordCount → p < image.eventWidth
@@ -141,14 +147,22 @@ module _ {xs : List ℕ} {b : Bank} {j : Journal} {d n : ℕ} (v : Shown xs b j 
           let number = sym (ap (λ (x : EventRecord). x .number) r) ∙ part-zero i 0 _ k l (omega arith) (omega arith) in
           let clock = sym (ap (λ (x : EventRecord). x .clock) r) ∙ part-zero i 1 _ k l (omega arith) (omega arith) in
           let subscriber = sym (ap (λ (x : EventRecord). x .subscriber) r) ∙ part-zero i 2 _ k l (omega arith) (omega arith) in
-          let order = sym (ap (λ (x : EventRecord). x .order) r) ∙ part-zero i 3 _ k l (omega arith) (omega arith) in
+          let type = sym (ap (λ (x : EventRecord). x .«order_type») r) ∙ part-zero i 3 _ k l (omega arith) (omega arith) in
+          let order = sym (ap (λ (x : EventRecord). x .order) r) ∙ part-zero i 4 _ k l (omega arith) (omega arith) in
           let kind = kind-unused (recordAt j i .kind)
-          (sym (ap (λ (x : EventRecord). x .kind) r) ∙ part-zero i 4 _ k l (omega arith) (omega arith)) in
-          λ z. record { number = number z; clock = clock z; subscriber = subscriber z; order = order z; kind = kind z }
+          (sym (ap (λ (x : EventRecord). x .kind) r) ∙ part-zero i 5 _ k l (omega arith) (omega arith)) in
+          λ z. record {
+            number = number z;
+            clock = clock z;
+            subscriber = subscriber z;
+            «order_type» = type z;
+            order = order z;
+            kind = kind z;
+          }
       not-used i false e k =
           List·getD-eq-default (j .row) noEvent (omega (arith, ltb-false i recordCount e, v .longRow))
 
-      pub journal-holds : JournalHolds (b .clock) (b .openings) j
+      pub journal-holds : JournalHolds (b .clock) (b .series) j
       journal-holds = record {
         long = v .longRow;
         each = λ i k.
@@ -157,8 +171,9 @@ module _ {xs : List ℕ} {b : Bank} {j : Journal} {d n : ℕ} (v : Shown xs b j 
               current = f .1;
               known = f .3;
               most = f .4;
-              counted = f .5;
-              happened = kind-told (recordAt j i .kind) (f .6);
+              typed = f .5;
+              counted = rw (counter-of v (recordAt j i .subscriber) (f .3) (f .4)) at (f .6);
+              happened = kind-told (recordAt j i .kind) (f .7);
             };
         numbered = λ i k. rw (← used-events (j .events)) (facts i k .0);
         rising = λ i k.
@@ -169,7 +184,7 @@ module _ {xs : List ℕ} {b : Bank} {j : Journal} {d n : ℕ} (v : Shown xs b j 
 
   -- ---- and to them
 
-  module _ (o : JournalHolds (b .clock) (b .openings) j) where
+  module _ (o : JournalHolds (b .clock) (b .series) j) where
     before-rises : (i : ℕ) → i < usedAfter (j .events) → recordAt j (i - 1) .clock ≤ recordAt j i .clock
     before-rises i k = at (ltb 0 i) refl
       where
@@ -192,14 +207,16 @@ module _ {xs : List ℕ} {b : Bank} {j : Journal} {d n : ℕ} (v : Shown xs b j 
         let few = used-few (j .events) in
         let e = o .each i k in
         let kind = kind-number (recordAt j i .kind) (e .happened) in
-        rw (v .clock, v .openings, v .events, v .event (i - 1) (omega arith), v .event i (omega arith))
-        (tested (b .clock) (b .openings) (j .events) i (eventIn (recordAt j (i - 1))) (eventIn (recordAt j i)) (
+        rw (v .clock, v .events, v .event (i - 1) (omega arith), v .event i (omega arith))
+        (tested (b .clock) (image.counterOf xs (recordAt j i .subscriber)) (j .events) i (eventIn (recordAt j (i - 1)))
+        (eventIn (recordAt j i)) (
           rw (used-events (j .events)) (o .numbered i k),
           e .current,
           before-rises i k,
           e .known,
           e .most,
-          e .counted,
+          e .typed,
+          rw (counter-of v (recordAt j i .subscriber) (e .known) (e .most)) (e .counted),
           kind .0,
           kind .1,
         )))
@@ -217,12 +234,15 @@ module _ {xs : List ℕ} {b : Bank} {j : Journal} {d n : ℕ} (v : Shown xs b j 
           (
             (
               (
-                (tt, at 0 _ (omega arith) (ap (λ (x : EventRecord). x .number) r)),
-                at 1 _ (omega arith) (ap (λ (x : EventRecord). x .clock) r),
+                (
+                  (tt, at 0 _ (omega arith) (ap (λ (x : EventRecord). x .number) r)),
+                  at 1 _ (omega arith) (ap (λ (x : EventRecord). x .clock) r),
+                ),
+                at 2 _ (omega arith) (ap (λ (x : EventRecord). x .subscriber) r),
               ),
-              at 2 _ (omega arith) (ap (λ (x : EventRecord). x .subscriber) r),
+              at 3 _ (omega arith) (ap (λ (x : EventRecord). x .«order_type») r),
             ),
-            at 3 _ (omega arith) (ap (λ (x : EventRecord). x .order) r),
+            at 4 _ (omega arith) (ap (λ (x : EventRecord). x .order) r),
           ),
-          at 4 _ (omega arith) (ap (λ (x : EventRecord). x .kind) r),
+          at 5 _ (omega arith) (ap (λ (x : EventRecord). x .kind) r),
         )))

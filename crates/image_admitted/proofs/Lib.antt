@@ -1,6 +1,7 @@
 -- The list of conditions is what a session may hold.
 pub mod Unused
 pub mod Shown
+pub mod Series
 pub mod Nonces
 pub mod Stores
 pub mod Mailboxes

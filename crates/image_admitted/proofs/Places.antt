@@ -1,6 +1,6 @@
 -- Places: the conditions on each place and its bytes are what a session's places may hold. Assumes nothing.
 use Prim.Native.Nat.{ℕ, _+_, _-_, _*_, _≤_, _<_}
-use mathlib.Core.Bool.{true, _&&_}
+use mathlib.Core.Bool.{true, false, _&&_}
 use mathlib.Core.List.{List, _++_}
 use mathlib.Core.Path.{_≡_, refl, sym, ap, _∙_, subst}
 use native.Mathlib.Omega.{arith}
@@ -14,15 +14,17 @@ use Rattle.bank_state.specs.declared.state.Place.{Place}
 use Rattle.bank_state.specs.declared.state.Use.{Use}
 use Rattle.bank_state.specs.declared.state.Use.the-variants.{Free, Open, Booked}
 use Rattle.bank_state.specs.Limits.{placeCount, storeBytes, idleLimit}
-use Rattle.bank_state.specs.Search.{isOpen}
-use Rattle.bank_state.specs.State.{Bank, placeAt}
+use Rattle.bank_state.specs.Search.{isFree, isOpen}
+use Rattle.bank_state.specs.State.{Bank, placeAt, seriesOf}
 use Rattle.bank_state.specs.Store.{partAt}
 use Rattle.bank_admitted.specs.State.{UsedAs, FreePlace, OpenPlace, BookedPlace, PlaceHolds}
 use Rattle.image_conditions.specs.Shapes.{allZero}
+use Rattle.image_conditions.specs.Layout as image
 use Rattle.image_conditions.specs.Conditions.{placeHolds, bytesBehind, placeBytes, placeTest, everyPlace}
 use Rattle.image_conditions.proofs.Shapes.{every-at, every-from}
 use Rattle.image_conditions.proofs.General.{and-both}
 use Rattle.image_admitted.proofs.Shown.{placeParts, Shown}
+use Rattle.image_admitted.proofs.Series.{counter-of}
 use Rattle.image_admitted.proofs.Stores.{zeros-told, zeros-tested}
 
 -- zeros in a place's bytes behind its length
@@ -33,22 +35,33 @@ Zeros n bytes = bytes ≡ take n bytes ++ replicate (fileBytes - n) 0
 abbrev NotIdle : Use → ℕ → Place → Type 0
 NotIdle u clock p = isOpen u ≡ true → clock ≤ p .last + idleLimit
 
+-- a place in use has a number below its counter
+abbrev Ordered : Use → ℕ → Place → Type 0
+Ordered u counter p = isFree u ≡ false → p .number < counter
+
+-- a place in use has a subscriber
+pub place-known : (u : Use) (clock openings : ℕ) (p : Place) (bytes : List ℕ) → PlaceHolds u clock openings p bytes
+    → isFree u ≡ false → (1 ≤ p .subscriber) × (p .subscriber ≤ subscribers)
+place-known Free clock openings p bytes h e = never (sym e)
+place-known Open clock openings p bytes h e = (h .place .known, h .place .most)
+place-known Booked clock openings p bytes h e = (h .place .known, h .place .most)
+
 -- ---- what the test of a place tells, by its use
 
-module _ (clock openings : ℕ) (p : Place) (bytes : List ℕ) where
-  -- its length, what it may hold, and that it is not idle
+module _ (clock openings counter : ℕ) (p : Place) (bytes : List ℕ) where
+  -- its length, what it may hold, that it is not idle, and its number
   abbrev Told : Use → Type 0
   Told u =
-      (p .length ≤ fileBytes)
-      × (p .used ≡ u → p .number ≡ p .transaction .low → Zeros (p .length) bytes → PlaceHolds u clock openings p bytes)
-      × NotIdle u clock p
+      (p .length ≤ fileBytes) × (p .used ≡ u → Zeros (p .length) bytes → PlaceHolds u clock openings p bytes)
+      × NotIdle u clock p × Ordered u counter p
 
-  told-free : placeHolds clock openings (placeParts Free p) ≡ true → Told Free
+  told-free : placeHolds clock openings counter (placeParts Free p) ≡ true → Told Free
   told-free h =
       let a = and-true (eqb (p .subscriber) 0) _ (and-true _ true h .0) in
       let b = and-true (eqb (p .transaction .high) 0) _ (a .1) in
       let c = and-true (eqb (p .transaction .low) 0) _ (b .1) in
-      let d = and-true (eqb (p .segments) 0) _ (c .1) in
+      let order = and-true (eqb (p .number) 0) _ (c .1) in
+      let d = and-true (eqb (p .segments) 0) _ (order .1) in
       let e = and-true (eqb (p .taken) 0) _ (d .1) in
       let f = and-true (eqb (p .attempts) 0) _ (e .1) in
       let g = and-true (eqb (p .last) 0) _ (f .1) in
@@ -56,18 +69,19 @@ module _ (clock openings : ℕ) (p : Place) (bytes : List ℕ) where
       let subscriber = eqb-true (p .subscriber) 0 (a .0) in
       let high = eqb-true (p .transaction .high) 0 (b .0) in
       let low = eqb-true (p .transaction .low) 0 (c .0) in
+      let number = eqb-true (p .number) 0 (order .0) in
       let segments = eqb-true (p .segments) 0 (d .0) in
       let taken = eqb-true (p .taken) 0 (e .0) in
       let attempts = eqb-true (p .attempts) 0 (f .0) in
       let last = eqb-true (p .last) 0 (g .0) in
       let size = eqb-true (p .length) 0 (k .0) in (
         omega arith,
-        λ used numbered zeros. record {
+        λ used zeros. record {
           empty = λ z. record {
             used = used z;
             transaction = record { high = high z; low = low z };
             subscriber = subscriber z;
-            number = (numbered ∙ low) z;
+            number = number z;
             segments = segments z;
             taken = taken z;
             attempts = attempts z;
@@ -77,24 +91,20 @@ module _ (clock openings : ℕ) (p : Place) (bytes : List ℕ) where
           zeros = zeros ∙ ap (λ (m : ℕ). take m bytes ++ replicate (fileBytes - m) 0) size;
         },
         never,
+        λ e. never (sym e),
       )
 
   -- the columns that a place in use keeps
-  used-as : 1 ≤ p .subscriber → p .subscriber ≤ subscribers → p .transaction .low < openings
-      → p .number ≡ p .transaction .low → Zeros (p .length) bytes → UsedAs openings p bytes
-  used-as first most counted numbered zeros = record {
-    counted = counted;
-    numbered = omega arith;
-    known = first;
-    most = most;
-    zeros = zeros;
-  }
+  used-as : 1 ≤ p .subscriber → p .subscriber ≤ subscribers → p .transaction .low < openings → Zeros (p .length) bytes
+      → UsedAs openings p bytes
+  used-as first most counted zeros = record { counted = counted; known = first; most = most; zeros = zeros }
 
-  told-open : placeHolds clock openings (placeParts Open p) ≡ true → Told Open
+  told-open : placeHolds clock openings counter (placeParts Open p) ≡ true → Told Open
   told-open h =
       let a = and-true (leb 1 (p .subscriber) && leb (p .subscriber) subscribers) _ h in
       let b = and-true (ltb (p .transaction .low) openings) _ (a .1) in
-      let c = and-true (leb 1 (p .segments) && leb (p .segments) maxSegments) _ (b .1) in
+      let order = and-true (ltb (p .number) counter) _ (b .1) in
+      let c = and-true (leb 1 (p .segments) && leb (p .segments) maxSegments) _ (order .1) in
       let d = and-true (ltb (p .taken) (p .segments)) _ (c .1) in
       let e = and-true (leb (p .attempts) maxAttempts) _ (d .1) in
       let f = and-true (leb (p .last) clock && leb clock (p .last + idleLimit)) _ (e .1) in
@@ -110,8 +120,8 @@ module _ (clock openings : ℕ) (p : Place) (bytes : List ℕ) where
       let size = and-true (leb (p .taken) (p .length)) _ (g .0) in
       let largest : p .length ≤ segmentBytes * p .taken = leb-true _ _ (size .1) in (
         omega arith,
-        λ used numbered zeros. record {
-          place = used-as first most counted numbered zeros;
+        λ used zeros. record {
+          place = used-as first most counted zeros;
           some = leb-true _ _ (segments .0);
           few = few;
           below = below;
@@ -121,13 +131,15 @@ module _ (clock openings : ℕ) (p : Place) (bytes : List ℕ) where
           largest = omega arith;
         },
         λ _. leb-true _ _ (time .1),
+        λ _. ltb-true _ _ (order .0),
       )
 
-  told-booked : placeHolds clock openings (placeParts Booked p) ≡ true → Told Booked
+  told-booked : placeHolds clock openings counter (placeParts Booked p) ≡ true → Told Booked
   told-booked h =
       let a = and-true (leb 1 (p .subscriber) && leb (p .subscriber) subscribers) _ h in
       let b = and-true (ltb (p .transaction .low) openings) _ (a .1) in
-      let c = and-true (leb 1 (p .length) && leb (p .length) fileBytes) _ (b .1) in
+      let order = and-true (ltb (p .number) counter) _ (b .1) in
+      let c = and-true (leb 1 (p .length) && leb (p .length) fileBytes) _ (order .1) in
       let d = and-true (eqb (p .segments) 0) _ (and-true _ true (c .1) .0) in
       let e = and-true (eqb (p .taken) 0) _ (d .1) in
       let f = and-true (eqb (p .attempts) 0) _ (e .1) in
@@ -139,8 +151,8 @@ module _ (clock openings : ℕ) (p : Place) (bytes : List ℕ) where
       let size = and-true (leb 1 (p .length)) _ (c .0) in
       let room : p .length ≤ fileBytes = leb-true _ _ (size .1) in (
         room,
-        λ used numbered zeros. record {
-          place = used-as first most counted numbered zeros;
+        λ used zeros. record {
+          place = used-as first most counted zeros;
           over = record {
             segments = eqb-true _ _ (d .0);
             taken = eqb-true _ _ (e .0);
@@ -151,9 +163,10 @@ module _ (clock openings : ℕ) (p : Place) (bytes : List ℕ) where
           room = room;
         },
         never,
+        λ _. ltb-true _ _ (order .0),
       )
 
-  told : (u : Use) → placeHolds clock openings (placeParts u p) ≡ true → Told u
+  told : (u : Use) → placeHolds clock openings counter (placeParts u p) ≡ true → Told u
   told Free = told-free
   told Open = told-open
   told Booked = told-booked
@@ -161,21 +174,22 @@ module _ (clock openings : ℕ) (p : Place) (bytes : List ℕ) where
   -- ---- and what passes it
 
   abbrev Tested : Use → Type 0
-  Tested u = (placeHolds clock openings (placeParts u p) ≡ true) × (p .length ≤ fileBytes) × Zeros (p .length) bytes
+  Tested u = (placeHolds clock openings counter (placeParts u p) ≡ true) × (p .length ≤ fileBytes) × Zeros (p .length) bytes
 
   tested-free : FreePlace p bytes → Tested Free
   tested-free f =
       let e = f .empty in
-      subst (λ (q : Place). (placeHolds clock openings (placeParts Free q) ≡ true) × (q .length ≤ fileBytes) × Zeros (q .length) bytes) (sym e)
+      subst (λ (q : Place). (placeHolds clock openings counter (placeParts Free q) ≡ true) × (q .length ≤ fileBytes) × Zeros (q .length) bytes) (sym e)
       (refl, omega arith, f .zeros)
 
-  tested-open : OpenPlace clock openings p bytes → NotIdle Open clock p → Tested Open
-  tested-open o idle =
+  tested-open : OpenPlace clock openings p bytes → NotIdle Open clock p → Ordered Open counter p → Tested Open
+  tested-open o idle ordered =
       let u = o .place in (
         rw (
           le-leb 1 (p .subscriber) (u .known),
           le-leb (p .subscriber) subscribers (u .most),
           lt-ltb (p .transaction .low) openings (u .counted),
+          lt-ltb (p .number) counter (ordered refl),
           le-leb 1 (p .segments) (o .some),
           le-leb (p .segments) maxSegments (o .few),
           lt-ltb (p .taken) (p .segments) (o .below),
@@ -189,13 +203,14 @@ module _ (clock openings : ℕ) (p : Place) (bytes : List ℕ) where
         u .zeros,
       )
 
-  tested-booked : BookedPlace openings p bytes → Tested Booked
-  tested-booked o =
+  tested-booked : BookedPlace openings p bytes → Ordered Booked counter p → Tested Booked
+  tested-booked o ordered =
       let u = o .place in (
         rw (
           le-leb 1 (p .subscriber) (u .known),
           le-leb (p .subscriber) subscribers (u .most),
           lt-ltb (p .transaction .low) openings (u .counted),
+          lt-ltb (p .number) counter (ordered refl),
           le-leb 1 (p .length) (o .some),
           le-leb (p .length) fileBytes (o .room),
           eq-eqb (p .segments) 0 (o .over .segments),
@@ -207,10 +222,10 @@ module _ (clock openings : ℕ) (p : Place) (bytes : List ℕ) where
         u .zeros,
       )
 
-  tested : (u : Use) → PlaceHolds u clock openings p bytes → NotIdle u clock p → Tested u
-  tested Free f idle = tested-free f
-  tested Open o idle = tested-open o idle
-  tested Booked o idle = tested-booked o
+  tested : (u : Use) → PlaceHolds u clock openings p bytes → NotIdle u clock p → Ordered u counter p → Tested u
+  tested Free f idle ordered = tested-free f
+  tested Open o idle ordered = tested-open o idle ordered
+  tested Booked o idle ordered = tested-booked o ordered
 
 -- ---- every place
 
@@ -220,33 +235,46 @@ module _ {xs : List ℕ} {b : Bank} {j : Journal} {d n : ℕ} (v : Shown xs b j 
     abbrev p : Place
     p = placeAt b i
 
-    place-tests : (placeHolds (b .clock) (b .openings) (placeParts (p .used) p) ≡ true)
+    abbrev counter : ℕ
+    counter = image.counterOf xs (p .subscriber)
+
+    place-tests : (placeHolds (b .clock) (b .openings) counter (placeParts (p .used) p) ≡ true)
         × (allZero (bytesBehind orders i (p .length)) ≡ true)
     unfolding everyPlace placeTest placeBytes
     place-tests =
         let t = rw (v .clock, v .openings, v .place i k) at (every-at (placeTest xs orders) placeCount i h k) in
-        and-true (placeHolds (b .clock) (b .openings) (placeParts (p .used) p)) _ t
+        and-true (placeHolds (b .clock) (b .openings) counter (placeParts (p .used) p)) _ t
 
-    all-told : Told (b .clock) (b .openings) p (partAt orders i) (p .used)
-    all-told = told (b .clock) (b .openings) p (partAt orders i) (p .used) (place-tests .0)
+    all-told : Told (b .clock) (b .openings) counter p (partAt orders i) (p .used)
+    all-told = told (b .clock) (b .openings) counter p (partAt orders i) (p .used) (place-tests .0)
 
-    pub place-holds : p .number ≡ p .transaction .low
-        → PlaceHolds (p .used) (b .clock) (b .openings) p (partAt orders i)
-    place-holds numbered =
-        all-told .1 refl numbered (zeros-told orders whole i k (p .length) (all-told .0) (place-tests .1))
+    pub place-holds : PlaceHolds (p .used) (b .clock) (b .openings) p (partAt orders i)
+    place-holds = all-told .1 refl (zeros-told orders whole i k (p .length) (all-told .0) (place-tests .1))
 
     pub place-not-idle : isOpen (p .used) ≡ true → b .clock ≤ p .last + idleLimit
     place-not-idle = all-told .2
 
+    -- "the order number is below the orders of the record"
+    pub place-ordered : isFree (p .used) ≡ false → p .number < seriesOf (p .subscriber) (b .series)
+    place-ordered f =
+        let known = place-known (p .used) (b .clock) (b .openings) p (partAt orders i) place-holds f in
+        rw (counter-of v (p .subscriber) (known .0) (known .1)) at (all-told .3 f)
+
   pub every-place : ((i : ℕ) → i < placeCount
       → PlaceHolds (placeAt b i .used) (b .clock) (b .openings) (placeAt b i) (partAt orders i))
       → ((i : ℕ) → i < placeCount → isOpen (placeAt b i .used) ≡ true → b .clock ≤ placeAt b i .last + idleLimit)
+      → ((i : ℕ) → i < placeCount → isFree (placeAt b i .used) ≡ false
+      → placeAt b i .number < seriesOf (placeAt b i .subscriber) (b .series))
       → everyPlace xs orders ≡ true
   unfolding everyPlace placeTest placeBytes
-  every-place f idle =
+  every-place f idle counted =
       every-from (placeTest xs orders) placeCount
       (λ i k.
       let p = placeAt b i in
-      let t = tested (b .clock) (b .openings) p (partAt orders i) (p .used) (f i k) (idle i k) in
+      let ordered : Ordered (p .used) (image.counterOf xs (p .subscriber)) p =
+      λ e.
+      let known = place-known (p .used) (b .clock) (b .openings) p (partAt orders i) (f i k) e in
+      rw (counter-of v (p .subscriber) (known .0) (known .1)) (counted i k e) in
+      let t = tested (b .clock) (b .openings) (image.counterOf xs (p .subscriber)) p (partAt orders i) (p .used) (f i k) (idle i k) ordered in
       rw (v .clock, v .openings, v .place i k)
       (and-both (t .0) (zeros-tested orders whole i k (p .length) (t .1) (t .2))))

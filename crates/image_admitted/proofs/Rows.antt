@@ -8,7 +8,7 @@ use native.Mathlib.Omega.{arith}
 use lib.Dec.{leb, ltb}
 use lib.ListN.{length, getD}
 use lib.Seq.{getD-take, length-take-le}
-use borrow.Author.Tests.{eqb-true, eq-eqb, leb-true, le-leb, ltb-true, ltb-false}
+use borrow.Author.Tests.{leb-true, le-leb, ltb-true, ltb-false}
 use Rattle.octets.proofs.Tests.{and-true}
 use Rattle.journal.specs.declared.event.Event.{Event}
 use Rattle.journal.specs.Events.{recordCount}
@@ -25,6 +25,7 @@ use Rattle.bank_rows.proofs.Reading.{
   downloadFrom,
   nonceFrom,
   file-read,
+  series-read,
   place-read,
   download-read,
   nonce-read,
@@ -32,7 +33,6 @@ use Rattle.bank_rows.proofs.Reading.{
 }
 use Rattle.bank_rows.proofs.Records.{use-number}
 use Rattle.bank_rows.proofs.State.{held-rows}
-use Rattle.bank_rows.proofs.Tests.{all-holds, all-from}
 use Rattle.bank_session.specs.Session.{sessionSize, bankRows, eventCount}
 use Rattle.image_conditions.specs.declared.layout.NonceRecord.{NonceRecord}
 use Rattle.image_conditions.specs.declared.layout.DownloadRecord.{DownloadRecord}
@@ -47,7 +47,7 @@ use Rattle.image_conditions.specs.Conditions.{
   everyPlace,
 }
 use Rattle.image_conditions.proofs.Shapes.{every-at}
-use Rattle.image_numbers.specs.Numbers.{numbersIn, isNumbered, ordersNumbered}
+use Rattle.image_numbers.specs.Numbers.{numbersIn}
 use Rattle.image_numbers.proofs.Records.{
   clock-in,
   openings-in,
@@ -60,6 +60,7 @@ use Rattle.image_numbers.proofs.Records.{
   nonce-in,
   download-in,
   place-in,
+  counter-in,
   file-in,
   event-in,
 }
@@ -90,27 +91,6 @@ module _ (s : List ℕ) (row : List Event) (long : length s ≡ sessionSize) (fu
 
   nonces-counted : getD xs image.nonceCountAt 0 ≡ nonceCountOf t
   nonces-counted = nonce-count-in s row ∙ at-row rows.nonceCountAt rows.nonceCountAt refl (omega arith)
-
-  -- ---- each place's order number is its running number
-
-  module _ (i : ℕ) (h : i < placeCount) where
-    order-read : getD s (rows.placesAt + (rows.placeWidth * i + rows.placeNumber)) 0 ≡ placeAt (bankOf t) i .number
-    order-read = at-row _ _ (omega arith) (omega arith) ∙ sym (ap (λ (p : Place). p .number) (place-read t i h))
-
-    running-read : getD s (rows.placesAt + (rows.placeWidth * i + rows.placeLow)) 0 ≡ placeAt (bankOf t) i .transaction .low
-    running-read = at-row _ _ (omega arith) (omega arith) ∙ sym (ap (λ (p : Place). p .transaction .low) (place-read t i h))
-
-  pub numbered-told : ordersNumbered s ≡ true → (i : ℕ) → i < placeCount
-      → placeAt (bankOf t) i .number ≡ placeAt (bankOf t) i .transaction .low
-  unfolding ordersNumbered
-  numbered-told e i h =
-      sym (order-read i h) ∙ eqb-true _ _ (all-holds (isNumbered s) placeCount e i h) ∙ running-read i h
-
-  pub orders-numbered : ((i : ℕ) → i < placeCount → placeAt (bankOf t) i .number ≡ placeAt (bankOf t) i .transaction .low)
-      → ordersNumbered s ≡ true
-  unfolding ordersNumbered
-  orders-numbered f =
-      all-from (isNumbered s) placeCount (λ i h. eq-eqb _ _ (order-read i h ∙ f i h ∙ sym (running-read i h)))
 
   -- ---- rows that pass the tests are a bank's
 
@@ -188,6 +168,7 @@ module _ (s : List ℕ) (row : List Event) (long : length s ≡ sessionSize) (fu
           subscriber = col rows.placeSubscriber (omega arith) z;
           high = col rows.placeHigh (omega arith) z;
           low = col rows.placeLow (omega arith) z;
+          order = col rows.placeNumber (omega arith) z;
           segments = col rows.placeSegments (omega arith) z;
           taken = col rows.placeTaken (omega arith) z;
           attempts = col rows.placeAttempts (omega arith) z;
@@ -203,6 +184,8 @@ module _ (s : List ℕ) (row : List Event) (long : length s ≡ sessionSize) (fu
         record {
           clock = clock-in s row ∙ at-row rows.clockAt rows.clockAt refl (omega arith);
           openings = openings-in s row ∙ at-row rows.openingsAt rows.openingsAt refl (omega arith);
+          longSeries = held .series;
+          counter = λ i h. counter-in s row i h ∙ at-row (rows.seriesAt + i) (rows.seriesAt + i) refl (omega arith) ∙ series-read t i h;
           events = events-in s row;
           nonceTotal = nonces-counted;
           fewNonces = l .nonces;

@@ -43,6 +43,7 @@ placeParts u p = record {
   subscriber = p .subscriber;
   high = p .transaction .high;
   low = p .transaction .low;
+  order = p .number;
   segments = p .segments;
   taken = p .taken;
   attempts = p .attempts;
@@ -54,6 +55,8 @@ placeParts u p = record {
 pub record Shown (xs : List ℕ) (b : Bank) (j : Journal) (d n : ℕ) : Type 0 where
   pub clock : image.clock xs ≡ b .clock
   pub openings : image.openings xs ≡ b .openings
+  pub longSeries : length (b .series) ≡ placeCount
+  pub counter : (i : ℕ) → i < placeCount → image.counterAt xs i ≡ getD (b .series) i 0
   pub events : image.events xs ≡ j .events
   pub nonceTotal : getD xs image.nonceCountAt 0 ≡ n
   pub fewNonces : n ≤ nonceCount

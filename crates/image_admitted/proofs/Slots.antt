@@ -1,5 +1,5 @@
--- Places and open downloads together: the conditions "numbers distinct", "open in all", "open of one" and "events" are
--- what a session may hold. Assumes nothing.
+-- Places and open downloads together: the conditions "orders distinct", "numbers distinct", "open in all", "open of one"
+-- and "events" are what a session may hold. Assumes nothing.
 use Prim.Native.Nat.{ℕ, _+_, _-_, _*_, _≤_, _<_}
 use mathlib.Core.Bool.{Bool, true, false, cond, _&&_}
 use mathlib.Core.List.{List}
@@ -31,6 +31,8 @@ use Rattle.image_conditions.specs.Conditions.{
   openState,
   slotCount,
   slotAt,
+  sameOrder,
+  ordersDistinct,
   sameNumber,
   numbersDistinct,
   isOpenSlot,
@@ -42,6 +44,7 @@ use Rattle.image_conditions.specs.Conditions.{
 }
 use Rattle.image_conditions.proofs.Shapes.{every-at, every-from, count-same}
 use Rattle.image_conditions.proofs.General.{count-two, count-zero, count-row, distinct-at, distinct-from}
+use Rattle.image_conditions.proofs.Laws.{orders-apart}
 use Rattle.image_admitted.proofs.Shown.{Shown, downloads-are}
 
 abbrev slot : ℕ → ℕ → ℕ → Slot
@@ -112,19 +115,33 @@ module _ {xs : List ℕ} {b : Bank} {j : Journal} {d n : ℕ} (v : Shown xs b j 
         apart-slots h i k (omega arith) less _ _ (place-slot i below) (place-slot k (omega arith))
         (used-number (placeAt b i .used) p) (used-number (placeAt b k .used) q)
 
-    pub places-apart : ((i : ℕ) → i < placeCount → placeAt b i .number ≡ placeAt b i .transaction .low) → (i k : ℕ)
-        → i < placeCount → k < placeCount → isFree (placeAt b i .used) ≡ false → isFree (placeAt b k .used) ≡ false
-        → Alike (placeAt b i) (placeAt b k) → i ≡ k
-    places-apart numbered i k p q f g alike = order (decLt i k) (decLt k i)
-      where
-        same : Alike (placeAt b i) (placeAt b k) → placeAt b i .transaction .low ≡ placeAt b k .transaction .low
-        same (inl e) = e
-        same (inr e) = sym (numbered i p) ∙ e ∙ numbered k q
+    module _ (o : ordersDistinct xs ≡ true) where
+      two-orders : (i k : ℕ) → i < placeCount → k < i → isFree (placeAt b i .used) ≡ false
+          → isFree (placeAt b k .used) ≡ false → placeAt b i .subscriber ≡ placeAt b k .subscriber
+          → placeAt b i .number ≡ placeAt b k .number → ⊥
+      two-orders i k below less p q s e =
+          let r = v .place i below in
+          let t = v .place k (omega arith) in
+          orders-apart xs o i k below less (rw r (used-number (placeAt b i .used) p)) (rw t (used-number (placeAt b k .used) q))
+          (rw (r, t) s) (rw (r, t) e)
 
-        order : Dec (i < k) → Dec (k < i) → i ≡ k
-        order (yes less) r = absurd (two-places k i q less g f (sym (same alike)))
-        order (no r) (yes less) = absurd (two-places i k p less f g (same alike))
-        order (no r) (no t) = omega arith
+      two-alike : (i k : ℕ) → i < placeCount → k < i → isFree (placeAt b i .used) ≡ false
+          → isFree (placeAt b k .used) ≡ false → Alike (placeAt b i) (placeAt b k) → ⊥
+      two-alike i k below less p q (inl e) = two-places i k below less p q e
+      two-alike i k below less p q (inr e) = two-orders i k below less p q (e .0) (e .1)
+
+      turned : (p r : Place) → Alike p r → Alike r p
+      turned p r (inl e) = inl (sym e)
+      turned p r (inr e) = inr (sym (e .0), sym (e .1))
+
+      pub places-apart : (i k : ℕ) → i < placeCount → k < placeCount → isFree (placeAt b i .used) ≡ false
+          → isFree (placeAt b k .used) ≡ false → Alike (placeAt b i) (placeAt b k) → i ≡ k
+      places-apart i k p q f g alike = order (decLt i k) (decLt k i)
+        where
+          order : Dec (i < k) → Dec (k < i) → i ≡ k
+          order (yes less) r = absurd (two-alike k i q less g f (turned (placeAt b i) (placeAt b k) alike))
+          order (no r) (yes less) = absurd (two-alike i k p less f g alike)
+          order (no r) (no t) = omega arith
 
     pub downloads-apart : (i k : ℕ) → i < placeCount → isFree (placeAt b i .used) ≡ false → k < d
         → placeAt b i .transaction .low ≡ downloadAt b k .transaction .low → ⊥
@@ -177,6 +194,23 @@ module _ {xs : List ℕ} {b : Bank} {j : Journal} {d n : ℕ} (v : Shown xs b j 
         let e : i ≡ placeCount + (i - placeCount) = omega arith in
         let f : k ≡ placeCount + (k - placeCount) = omega arith in
         rw (e, f) (alone-downloads (i - placeCount) (k - placeCount) (omega arith))
+
+    -- two places of one subscriber
+    pub orders-distinct : ordersDistinct xs ≡ true
+    unfolding ordersDistinct sameOrder
+    orders-distinct =
+        distinct-from (sameOrder xs) placeCount
+        (λ i k below less.
+        not-so (sameOrder xs i k)
+        (λ h.
+        let t = rw (v .place i below, v .place k (omega arith)) at h in
+        let p = and-true (ltb 0 (numberOfUse (placeAt b i .used))) _ t in
+        let q = and-true (ltb 0 (numberOfUse (placeAt b k .used))) _ (p .1) in
+        let s = and-true (eqb (placeAt b i .subscriber) (placeAt b k .subscriber)) _ (q .1) in
+        let r = and-true (eqb (placeAt b i .number) (placeAt b k .number)) true (s .1) in
+        let e = places i k below (omega arith) (number-used (placeAt b i .used) (ltb-true _ _ (p .0)))
+        (number-used (placeAt b k .used) (ltb-true _ _ (q .0))) (inr (eqb-true _ _ (s .0), eqb-true _ _ (r .0))) in
+        omega arith))
 
     pub numbers-distinct : numbersDistinct xs ≡ true
     unfolding numbersDistinct sameNumber Alone

@@ -20,12 +20,14 @@ use Rattle.bank_state.specs.declared.state.Place.{Place}
 use Rattle.bank_state.specs.declared.state.Use.{Use}
 use Rattle.bank_state.specs.declared.state.Use.the-variants as use-of
 use Rattle.bank_state.specs.Limits.{placeCount, nonceCount}
+use Rattle.bank_state.specs.Search.{isFree}
 use Rattle.bank_state.specs.State.{BankState, Nonce, placeAt, downloadAt}
 use Rattle.bank_state.specs.Store.{partAt, fileOf}
 use Rattle.bank_rows.specs.Records.{numberOfUse}
 use Rattle.bank_rows.specs.State.{nonceAt}
 use Rattle.bank_admitted.specs.State.{mailboxFile, PlaceHolds, DownloadHolds}
 use Rattle.bank_admitted.specs.Session.{recordAt, SessionHolds}
+use Rattle.bank_admitted.proofs.Series.{series-counted}
 use Rattle.image_conditions.specs.Layout as image
 use Rattle.image_numbers.specs.Numbers.{numberOfKind}
 use Rattle.image_numbers.proofs.Records.{eventIn}
@@ -36,6 +38,7 @@ use Rattle.image_calls.specs.Calls.{written}
 use Rattle.image_admitted.proofs.Fits.{
   Group,
   headWidths,
+  countWidths,
   nonce-group,
   download-group,
   place-group,
@@ -65,14 +68,14 @@ kind-small Dropped = omega arith
 -- the columns of a place but its transaction
 abbrev SmallPlace : Place → Type 0
 SmallPlace p =
-    (p .subscriber < 256 ^ 2) × (p .segments < 256 ^ 2) × (p .taken < 256 ^ 2) × (p .attempts < 256 ^ 1)
-    × (p .last < 256 ^ timeBytes) × (p .length < 256 ^ 2)
+    (p .subscriber < 256 ^ 2) × (p .number < 256 ^ 4) × (p .segments < 256 ^ 2) × (p .taken < 256 ^ 2)
+    × (p .attempts < 256 ^ 1) × (p .last < 256 ^ timeBytes) × (p .length < 256 ^ 2)
 
 small-place : (u : Use) (clock openings : ℕ) (p : Place) (bytes : List ℕ) → clock ≤ lastTime
-    → PlaceHolds u clock openings p bytes → SmallPlace p
-small-place use-of.Free clock openings p bytes k h = subst SmallPlace (sym (h .empty)) (omega arith)
-small-place use-of.Open clock openings p bytes k h = omega (arith, h)
-small-place use-of.Booked clock openings p bytes k h = omega (arith, h)
+    → PlaceHolds u clock openings p bytes → (isFree u ≡ false → p .number < 256 ^ 4) → SmallPlace p
+small-place use-of.Free clock openings p bytes k h f = subst SmallPlace (sym (h .empty)) (omega arith)
+small-place use-of.Open clock openings p bytes k h f = omega (arith, h, f refl)
+small-place use-of.Booked clock openings p bytes k h f = omega (arith, h, f refl)
 
 -- the columns of a download but its transaction
 abbrev SmallDownload : Download → Type 0
@@ -89,7 +92,9 @@ SmallNonce e = (e .value .high < 256 ^ 8) × (e .value .low < 256 ^ 8) × (e .ti
 
 -- the parts of an event but its kind
 abbrev SmallEvent : Event → Type 0
-SmallEvent e = (e .number < 256 ^ 8) × (e .clock < 256 ^ timeBytes) × (e .subscriber < 256 ^ 2) × (e .order < 256 ^ 4)
+SmallEvent e =
+    (e .number < 256 ^ 8) × (e .clock < 256 ^ timeBytes) × (e .subscriber < 256 ^ 2) × (e .«order_type» < 256 ^ 3)
+    × (e .order < 256 ^ 4)
 
 module _ (w : BankState) {xs : List ℕ} {j : Journal} {d n : ℕ} (v : Shown xs (w .bank) j d n) (o : SessionHolds w j) where
   small-nonce : (i : ℕ) (t : Bool) → ltb i n ≡ t → SmallNonce (nonceAt (w .bank) i)
@@ -107,7 +112,8 @@ module _ (w : BankState) {xs : List ℕ} {j : Journal} {d n : ℕ} (v : Shown xs
         omega (arith, o .events, o .state .numbers),
         omega (arith, h .current, o .clock),
         omega (arith, h .most),
-        omega (arith, h .counted, o .state .numbers),
+        omega (arith, h .typed),
+        omega (arith, h .counted, series-counted (o .state .series) (recordAt j i .subscriber), o .state .numbers),
       )
   small-event i false e =
       subst SmallEvent (sym (o .journal .unused i (ltb-false i (usedAfter (j .events)) e))) (omega arith)
@@ -115,17 +121,24 @@ module _ (w : BankState) {xs : List ℕ} {j : Journal} {d n : ℕ} (v : Shown xs
   module _ (nonces : (i : ℕ) → i < nonceCount → image.nonceAt xs i ≡ nonceParts (nonceAt (w .bank) i))
       (downloads : (i : ℕ) → i < placeCount → image.downloadAt xs i ≡ downloadParts (downloadAt (w .bank) i)) where
     head-group : Group xs image.clockAt headWidths 0
-    head-group = (
-      (
-        ((tt, omega (arith, v .clock, o .clock)), omega (arith, v .openings, o .state .numbers)),
-        omega (arith, v .events, o .events, o .state .numbers),
-      ),
+    head-group = ((tt, omega (arith, v .clock, o .clock)), omega (arith, v .openings, o .state .numbers))
+
+    counts-group : Group xs image.eventsAt countWidths 0
+    counts-group = (
+      (tt, omega (arith, v .events, o .events, o .state .numbers)),
       omega (arith, v .nonceTotal, v .fewNonces),
     )
+
+    -- an order's number is one that its series has given
+    order-small : (i : ℕ) → i < placeCount → isFree (placeAt (w .bank) i .used) ≡ false → placeAt (w .bank) i .number < 256 ^ 4
+    order-small i k f =
+        omega (arith, o .state .orders i k f, series-counted (o .state .series) (placeAt (w .bank) i .subscriber), o .state .numbers)
 
     pub numbers-fit : fits (itemsOf written) xs ≡ true
     numbers-fit =
         groups-fit xs head-group
+        (λ i k. omega (arith, v .counter i k, o .state .series .limited i k))
+        counts-group
         (λ i k.
         let f = small-nonce i (ltb i n) refl in
         nonce-group xs i (nonceParts (nonceAt (w .bank) i)) (nonces i k) (f .0) (f .1) (f .2))
@@ -139,12 +152,12 @@ module _ (w : BankState) {xs : List ℕ} {j : Journal} {d n : ℕ} (v : Shown xs
         (λ i k.
         let p = placeAt (w .bank) i in
         let f = small-place (p .used) (w .bank .clock) (w .bank .openings) p (partAt (w .orders) i) (o .clock)
-        (o .state .places i k) in
+        (o .state .places i k) (order-small i k) in
         let words = o .places i k in
         place-group xs i (placeParts (p .used) p) (v .place i k) (use-small (p .used)) (f .0) (words .high) (words .low)
-        (f .1) (f .2) (f .3) (f .4) (f .5))
+        (f .1) (f .2) (f .3) (f .4) (f .5) (f .6))
         (λ i k. omega (arith, v .file i k, o .state .mailboxesHold i k .room))
         (λ i k.
         let e = recordAt j i in
         let f = small-event i (ltb i (usedAfter (j .events))) refl in
-        event-group xs i (eventIn e) (v .event i k) (f .0) (f .1) (f .2) (f .3) (kind-small (e .kind)))
+        event-group xs i (eventIn e) (v .event i k) (f .0) (f .1) (f .2) (f .3) (f .4) (kind-small (e .kind)))

@@ -13,7 +13,7 @@ use Rattle.image.specs.declared.codec.Answer.the-variants.{Done, Contents}
 use Rattle.image.specs.Items.{itemsOf}
 use Rattle.image.specs.Image as codec
 use Rattle.image_conditions.specs.Conditions as list
-use Rattle.image_numbers.specs.Numbers.{numbersIn, ordersNumbered}
+use Rattle.image_numbers.specs.Numbers.{numbersIn}
 use Rattle.image_calls.specs.declared.calls.Away.{Away}
 use Rattle.image_calls.specs.declared.calls.Away.the-variants as away
 use Rattle.image_calls.specs.Calls.{
@@ -30,14 +30,9 @@ use Rattle.image_calls.specs.Calls.{
 use Rattle.image_calls.proofs.Tests.{listed-lent}
 
 module _ (m : LentSession) where
-  pub not-numbered : ordersNumbered (m .rows) ≡ false → isAdmitted m ≡ false
+  pub not-listed : list.admitted (numbersOf m) (m .orders) (m .mailboxes) ≡ false → isAdmitted m ≡ false
   unfolding isAdmitted
-  not-numbered h = rw h
-
-  pub not-listed : ordersNumbered (m .rows) ≡ true → list.admitted (numbersOf m) (m .orders) (m .mailboxes) ≡ false
-      → isAdmitted m ≡ false
-  unfolding isAdmitted
-  not-listed h k = rw (h, k)
+  not-listed h = rw h
 
 module _ (m : LentSession) (buffer : List ℕ) where
   pub away-lengths : lengthsRight m ≡ false → putAwayOf away.WrongLength buffer ≡ putAway m buffer
@@ -59,11 +54,10 @@ module _ (m : LentSession) (buffer : List ℕ) where
       unfolding putAway
       away-done h = rw (right, le-leb imageLength (length buffer) room, h)
 
-      module _ (numbered : ordersNumbered (m .rows) ≡ true)
-          (listed : list.admitted (numbersOf m) (m .orders) (m .mailboxes) ≡ true) where
+      module _ (listed : list.admitted (numbersOf m) (m .orders) (m .mailboxes) ≡ true) where
         by-fits : (t : Bool) → codec.fits (itemsOf written) (numbersOf m) ≡ t → isAdmitted m ≡ t
         unfolding isAdmitted
-        by-fits t h = rw (numbered, listed) h
+        by-fits t h = rw listed h
 
         codec-written : (t : Bool) → codec.fits (itemsOf written) (numbersOf m) ≡ t
             → codec.written written (numbersOf m) (m .orders) (m .mailboxes) buffer

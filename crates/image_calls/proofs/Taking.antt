@@ -77,7 +77,7 @@ module _ (s xs ys : List ℕ) (a : Answer) (long : length xs ≡ numberCount)
   by-image : (t : Bool) → codec.isImage written s ≡ t
       → codec.tookNumbers a ys ≡ cond t (codec.tookNumbers Done (numbersFrom s)) (codec.tookNumbers Contents xs)
   unfolding codec.numbersTaken numbersFrom
-  by-image t h = q ∙ rw (eq-eqb (length xs) (sizesOf written .numbers) (long ∙ sym (image.form-3 .1)), h)
+  by-image t h = q ∙ rw (eq-eqb (length xs) (sizesOf written .numbers) (long ∙ sym (image.form-5 .1)), h)
 
   done-at : a ≡ Done → (t : Bool) → codec.isImage written s ≡ t
       → codec.tookNumbers a ys ≡ cond t (codec.tookNumbers Done (numbersFrom s)) (codec.tookNumbers Contents xs)

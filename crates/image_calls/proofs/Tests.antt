@@ -23,10 +23,10 @@ use Rattle.image_conditions.specs.Layout.{
   journalAt,
   eventWidth,
   clock,
-  openings,
   events,
   usedEvents,
   eventAt,
+  counterOf,
 }
 use Rattle.image_conditions.specs.Conditions as list
 use Rattle.image_conditions.proofs.Shapes.{every-at}
@@ -36,10 +36,10 @@ use Rattle.image_calls.specs.Calls.{written, imageLength, sizesRight, le
 
 -- an image is so short that its places are numbers of 64 bits
 pub image-short : imageLength < 2 ^ 32
-image-short = omega (arith, image.form-3 .0)
+image-short = omega (arith, image.form-5 .0)
 
 numbers-size : sizesOf written .numbers ≡ numberCount
-numbers-size = image.form-3 .1
+numbers-size = image.form-5 .1
 
 pub store-size : sizesOf written .store ≡ storeBytes
 unfolding sizesOf
@@ -113,7 +113,7 @@ zero-at (x ∷ l) h (suc i) = zero-at l (and-true (eqb x 0) (allZero l) h .1) i
 
 module _ (xs : List ℕ) where
   abbrev kindAt : ℕ → ℕ
-  kindAt i = getD xs (journalAt + i * eventWidth + 4) 0
+  kindAt i = getD xs (journalAt + i * eventWidth + 5) 0
 
   used-kind : (i : ℕ) → list.eventTest xs i ≡ true → kindAt i ≤ 4
   unfolding list.eventTest eventAt
@@ -122,7 +122,7 @@ module _ (xs : List ℕ) where
       let b = eventAt xs (i - 1) in
       let n = events xs in
       let holds = all-of (list.eventNumber n i e ∷ list.eventClock (clock xs) b e ∷ list.eventSubscriber e
-      ∷ list.eventOrder (openings xs) e ∷ list.eventKind e ∷ []) h 4 in
+      ∷ list.eventType e ∷ list.eventOrder (counterOf xs (e .subscriber)) e ∷ list.eventKind e ∷ []) h 5 in
       leb-true (kindAt i) 4 (and-true (leb 1 (kindAt i)) (leb (kindAt i) 4) holds .1)
 
   unused-kind : (u i : ℕ) → u ≤ i → i < recordCount → list.unused xs journalAt eventWidth u recordCount ≡ true → kindAt i ≡ 0
@@ -130,8 +130,8 @@ module _ (xs : List ℕ) where
   unused-kind u i h k e =
       let n : ℕ = eventWidth * recordCount - u * eventWidth in
       let p : ℕ = journalAt + u * eventWidth in
-      let j : ℕ = i * eventWidth + 4 - u * eventWidth in
-      let q : journalAt + i * eventWidth + 4 ≡ p + j = omega arith in
+      let j : ℕ = i * eventWidth + 5 - u * eventWidth in
+      let q : journalAt + i * eventWidth + 5 ≡ p + j = omega arith in
       ap (λ (a : ℕ). getD xs a 0) q ∙ sym (getD-drop p xs j 0) ∙ sym (getD-take n (drop p xs) j 0 (omega arith))
       ∙ zero-at (take n (drop p xs)) e j
 
@@ -153,7 +153,7 @@ pub listed-kinds : (xs orders mailboxes : List ℕ) → list.admitted xs orders 
     → (i : ℕ) → i < recordCount → eventAt xs i .kind ≤ 4
 unfolding list.conditions
 listed-kinds xs orders mailboxes h i k =
-    let journal = all-of (list.clockFits xs ∷ list.openingsFit xs ∷ list.nonceConditions xs
+    let journal = all-of (list.clockFits xs ∷ list.openingsFit xs ∷ list.seriesConditions xs ∷ list.nonceConditions xs
     ∷ list.downloadConditions xs ∷ list.everyPlace xs orders ∷ list.openConditions xs
-    ∷ list.everyMailbox xs mailboxes ∷ list.journalConditions xs ∷ []) (listed xs orders mailboxes h .3) 7 in
+    ∷ list.everyMailbox xs mailboxes ∷ list.journalConditions xs ∷ []) (listed xs orders mailboxes h .3) 8 in
     kind-by xs journal i k (ltb i (usedEvents xs)) refl

@@ -23,7 +23,6 @@ use Rattle.image.proofs.FormNumber.{form-number}
 use Rattle.image.proofs.Theorems as image
 use Rattle.image_conditions.specs.Layout.{numberCount}
 use Rattle.image_conditions.specs.Conditions as list
-use Rattle.image_numbers.specs.Numbers.{rowsFrom, rowFrom, ordersNumbered}
 use Rattle.image_numbers.proofs.Laws as numbers
 use Rattle.image_calls.specs.declared.calls.Away.the-variants as away
 use Rattle.image_calls.specs.declared.calls.TakenUp.the-variants as up
@@ -49,9 +48,9 @@ use Rattle.image_calls.proofs.Tests.{lengths-right, right-lengths, list
 use Rattle.image_calls.proofs.Putting.{away-done}
 use Rattle.image_calls.proofs.Taking.{both-stores, up-not, up-done}
 
--- "65,034"
-pub image-of-65034-bytes : imageLength ≡ 65034
-image-of-65034-bytes = image.form-3 .0
+-- "65,293"
+pub image-of-65293-bytes : imageLength ≡ 65293
+image-of-65293-bytes = image.form-5 .0
 
 over-front : (d xs : List ℕ) (n : ℕ) → length xs ≡ n → overwrite d 0 xs ≡ xs ++ drop n d
 unfolding overwrite
@@ -60,18 +59,13 @@ over-front d xs n e = ap (λ (k : ℕ). xs ++ drop k d) (zero-add (length xs) �
 -- ---- a session of the list
 
 module _ (m : LentSession) (right : lengthsRight m ≡ true) (holds : isAdmitted m ≡ true) where
-  tests : (ordersNumbered (m .rows) ≡ true) × (list.admitted (numbersOf m) (m .orders) (m .mailboxes) ≡ true)
-      × (codec.fits (itemsOf written) (numbersOf m) ≡ true)
+  tests : (list.admitted (numbersOf m) (m .orders) (m .mailboxes) ≡ true) × (codec.fits (itemsOf written) (numbersOf m) ≡ true)
   unfolding isAdmitted
   tests =
-      let listed = list.admitted (numbersOf m) (m .orders) (m .mailboxes) in
-      let fits = codec.fits (itemsOf written) (numbersOf m) in
-      let p = and-true (ordersNumbered (m .rows)) (listed && fits) holds in
-      let q = and-true listed fits (p .1) in
-      (p .0, q .0, q .1)
+      and-true (list.admitted (numbersOf m) (m .orders) (m .mailboxes)) (codec.fits (itemsOf written) (numbersOf m)) holds
 
   as-numbers : image.Session written (numbersOf m) (m .orders) (m .mailboxes)
-  as-numbers = (listed-lent (numbersOf m) (m .orders) (m .mailboxes) (tests .1), tests .2)
+  as-numbers = (listed-lent (numbersOf m) (m .orders) (m .mailboxes) (tests .0), tests .1)
 
   numbers-again : numbersFrom (imageIn m) ≡ numbersOf m
   unfolding numbersFrom imageIn
@@ -94,7 +88,7 @@ module _ (m : LentSession) (right : lengthsRight m ≡ true) (holds : isAdmitted
   -- "the full list [...] admits every image written"
   pub image-admitted : isAdmittedImage (imageIn m) ≡ true
   unfolding isAdmittedImage
-  image-admitted = rw (is-image, numbers-again, stores-again .0, stores-again .1) (tests .1)
+  image-admitted = rw (is-image, numbers-again, stores-again .0, stores-again .1) (tests .0)
 
   pub session-again : sessionFrom (imageIn m) ≡ m
   unfolding sessionFrom
@@ -104,7 +98,7 @@ module _ (m : LentSession) (right : lengthsRight m ≡ true) (holds : isAdmitted
         numbers-again,
         stores-again .0,
         stores-again .1,
-        numbers.rows-back (m .rows) (m .row) (sizes .0) (tests .0),
+        numbers.rows-back (m .rows) (m .row) (sizes .0),
         numbers.row-back (m .rows) (m .row) (sizes .1),
       )
 
@@ -204,11 +198,8 @@ module _ (s : List ℕ) (holds : isAdmittedImage s ≡ true) where
     pub session-listed : isAdmitted (sessionFrom s) ≡ true
     unfolding isAdmitted sessionFrom
     session-listed =
-        rw (
-          numbers.numbered-back xs,
-          session-numbers,
-          image-tests .1,
-        ) (image.session-read written s xs (storeFrom 0 s) (storeFrom 1 s) xs (storeFrom 0 s) (storeFrom 1 s) read bytes .1)
+        rw (session-numbers, image-tests .1)
+        (image.session-read written s xs (storeFrom 0 s) (storeFrom 1 s) xs (storeFrom 0 s) (storeFrom 1 s) read bytes .1)
 
     session-image : imageIn (sessionFrom s) ≡ s
     unfolding imageIn sessionFrom
@@ -246,9 +237,12 @@ module _ (m : LentSession) (s : List ℕ) where
       not-image (codec.isImage written s) refl (λ e. n (form-number written s bytes e)) in
       sym (up-not m s right other)
 
-  -- "Older images get 9": those of form 2
+  -- "older images get number 9": those of forms 2 and 3
   pub form-2-refused : Bytes s → lengthsRight m ≡ true → getD s 3 0 ≡ 2 → takeUp m s ≡ takeUpOf up.NotAdmitted m
   form-2-refused bytes right e = other-form bytes right (λ k. omega arith)
+
+  pub form-3-refused : Bytes s → lengthsRight m ≡ true → getD s 3 0 ≡ 3 → takeUp m s ≡ takeUpOf up.NotAdmitted m
+  form-3-refused bytes right e = other-form bytes right (λ k. omega arith)
 
   taken-by : (t u : Bool) → UpBy t u .answer ≡ up.Done → (t ≡ true) × (u ≡ true) × (UpBy t u .session ≡ sessionFrom s)
   taken-by true true e = (refl, refl, refl)

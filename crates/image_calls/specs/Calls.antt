@@ -9,13 +9,13 @@ use Rattle.journal.specs.Events.{recordCount}
 use Rattle.bank_state.specs.Limits.{storeBytes}
 use Rattle.bank_session.specs.Session.{LentSession, session, sessionSize}
 use Rattle.image.specs.declared.table.Form.{Form}
-use Rattle.image.specs.declared.table.Form.the-variants.{Three}
+use Rattle.image.specs.declared.table.Form.the-variants.{Five}
 use Rattle.image.specs.declared.codec.Answer.{Answer}
 use Rattle.image.specs.declared.codec.Answer.the-variants as codec-answer
 use Rattle.image.specs.Items.{itemsOf, sizesOf}
 use Rattle.image.specs.Image as codec
 use Rattle.image_conditions.specs.Conditions as list
-use Rattle.image_numbers.specs.Numbers.{numbersIn, rowsFrom, rowFrom, ordersNumbered}
+use Rattle.image_numbers.specs.Numbers.{numbersIn, rowsFrom, rowFrom}
 use Rattle.image_calls.specs.declared.calls.Away.{Away}
 use Rattle.image_calls.specs.declared.calls.Away.the-variants as away
 use Rattle.image_calls.specs.declared.calls.TakenUp.{TakenUp}
@@ -23,7 +23,7 @@ use Rattle.image_calls.specs.declared.calls.TakenUp.the-variants as up
 
 -- the form that is written, and the length of its images
 abbrev pub written : Form
-written = Three
+written = Five
 
 abbrev pub imageLength : ℕ
 imageLength = sizesOf written .image
@@ -43,12 +43,10 @@ sizesRight rows records orders mailboxes =
 unfoldable pub lengthsRight : LentSession → Bool
 lengthsRight m = sizesRight (length (m .rows)) (length (m .row)) (length (m .orders)) (length (m .mailboxes))
 
--- the session is one of the list: its numbers have their parts' lengths and hold the conditions, and each place's order
--- number is its running number, as the image has no part for it
+-- the session is one of the list: its numbers hold the conditions and have their parts' lengths
 unfoldable pub isAdmitted : LentSession → Bool
 isAdmitted m =
-    ordersNumbered (m .rows)
-    && (list.admitted (numbersOf m) (m .orders) (m .mailboxes) && codec.fits (itemsOf written) (numbersOf m))
+    list.admitted (numbersOf m) (m .orders) (m .mailboxes) && codec.fits (itemsOf written) (numbersOf m)
 
 -- ---- putting away
 

@@ -13,7 +13,6 @@ use image_conditions::conditions::admitted;
 use image_conditions::layout::NUMBER_COUNT;
 use image_numbers::events::row_from;
 use image_numbers::numbers::gather;
-use image_numbers::numbers::orders_numbered;
 use image_numbers::numbers::scatter;
 use journal::event::Event;
 use journal::event::Kind;
@@ -30,6 +29,9 @@ ghost use Rattle.image_conditions.specs.Layout.{numberCount};
 ghost use Rattle.image_conditions.specs.Conditions as list;
 ghost use Rattle.image_calls.specs.Calls.{imageLength, sizesRight, awayOf, putAwayOf, putAway, takeUpOf, takeUp};
 ghost use Rattle.image_calls.specs.Calls.{numbersFrom, storeFrom, isAdmittedImage};
+
+// The form that is written.
+const WRITTEN: Form = Form::Five;
 
 // What taking up comes to, but for the row: its answer, whether another row is taken, and that row.
 pub struct TakeUpCore {
@@ -61,7 +63,7 @@ fn away_of(answer: Answer) -> Away
     ensures { λ r. ⌜ r ≡ awayOf answer ⌝ }
 {
     match answer {
-        Answer::Done => Away::Length(sizes_of(Form::Three).image),
+        Answer::Done => Away::Length(sizes_of(WRITTEN).image),
         Answer::Lengths => Away::WrongLength,
         Answer::Contents => Away::NotAdmitted,
     }
@@ -84,18 +86,15 @@ pub fn put_away_core(
     if !sizes_right(rows.len(), records, orders.len(), mailboxes.len()) {
         return Away::WrongLength;
     }
-    if buffer.len() < sizes_of(Form::Three).image {
+    if buffer.len() < sizes_of(WRITTEN).image {
         return Away::WrongLength;
-    }
-    if !orders_numbered(rows) {
-        return Away::NotAdmitted;
     }
     let mut numbers = [0u64; NUMBER_COUNT];
     gather(rows, row, &mut numbers);
     if !admitted(&numbers, orders, mailboxes) {
         return Away::NotAdmitted;
     }
-    away_of(write(Form::Three, &numbers, orders, mailboxes, buffer))
+    away_of(write(WRITTEN, &numbers, orders, mailboxes, buffer))
 }
 
 // ---- taking up
@@ -106,7 +105,7 @@ fn holds_list(image: &[u8], numbers: &[u64]) -> bool
     ensures { λ r. ⌜ r ≡ list.admitted (now (numbers .entry))
         (storeFrom 0 (now (image .entry))) (storeFrom 1 (now (image .entry))) ⌝ }
 {
-    let f = sizes_of(Form::Three);
+    let f = sizes_of(WRITTEN);
     let orders = f.orders;
     let orders_end = orders + f.store;
     let mailboxes = f.mailboxes;
@@ -124,7 +123,7 @@ fn read_admitted(image: &[u8], numbers: &mut [u64]) -> bool
     ensures { λ r. ⌜ (r ≡ isAdmittedImage (now (image .entry)))
         × (r ≡ true → now (numbers .exit) ≡ numbersFrom (now (image .entry))) ⌝ }
 {
-    let answer = read_numbers(Form::Three, image, numbers);
+    let answer = read_numbers(WRITTEN, image, numbers);
     match answer {
         Answer::Done => holds_list(image, numbers),
         Answer::Lengths => false,
@@ -141,6 +140,7 @@ fn refused(answer: TakenUp) -> TakeUpCore
         number: 0,
         clock: 0,
         subscriber: 0,
+        order_type: 0,
         order: 0,
         kind,
     };
@@ -174,7 +174,7 @@ pub fn take_up_core(
         return refused(TakenUp::NotAdmitted);
     }
     scatter(&numbers, rows);
-    take_stores(Form::Three, image, orders, mailboxes);
+    take_stores(WRITTEN, image, orders, mailboxes);
     let row = row_from(&numbers);
     TakeUpCore {
         answer: TakenUp::Done,

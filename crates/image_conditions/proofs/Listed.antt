@@ -12,21 +12,25 @@ use Rattle.image_conditions.specs.Layout.{numberCount}
 use Rattle.image_conditions.specs.Conditions.{
   clockFits,
   openingsFit,
+  seriesSum,
   nonceCountFits,
   downloadCountFits,
   noncesDistinct,
   noncesUnused,
   downloadsUnused,
+  ordersDistinct,
   numbersDistinct,
   openInAll,
   eventsFit,
   journalUnused,
+  everySeries,
   everyNonce,
   everyDownload,
   everyPlace,
   everyMailbox,
   everySubscriber,
   everyEvent,
+  seriesConditions,
   nonceConditions,
   downloadConditions,
   openConditions,
@@ -38,6 +42,8 @@ use Rattle.image_conditions.specs.Conditions.{
 pub record Listed (xs orders mailboxes : List ℕ) : Type 0 where
   pub clock : clockFits xs ≡ true
   pub openings : openingsFit xs ≡ true
+  pub series : everySeries xs ≡ true
+  pub seriesAll : seriesSum xs ≡ true
   pub nonceCount : nonceCountFits xs ≡ true
   pub nonces : everyNonce xs ≡ true
   pub noncesApart : noncesDistinct xs ≡ true
@@ -46,6 +52,7 @@ pub record Listed (xs orders mailboxes : List ℕ) : Type 0 where
   pub downloads : everyDownload xs ≡ true
   pub downloadsOver : downloadsUnused xs ≡ true
   pub places : everyPlace xs orders ≡ true
+  pub ordersApart : ordersDistinct xs ≡ true
   pub numbers : numbersDistinct xs ≡ true
   pub openAll : openInAll xs ≡ true
   pub openOf : everySubscriber xs ≡ true
@@ -56,7 +63,7 @@ pub record Listed (xs orders mailboxes : List ℕ) : Type 0 where
 
 module _ (xs orders mailboxes : List ℕ) where
   pub listed : admitted xs orders mailboxes ≡ true → Listed xs orders mailboxes
-  unfolding admitted conditions nonceConditions downloadConditions openConditions journalConditions
+  unfolding admitted conditions seriesConditions nonceConditions downloadConditions openConditions journalConditions
   listed h =
       let a = and-true (eqb (length xs) numberCount) _ h in
       let b = and-true (eqb (length orders) storeBytes) _ (a .1) in
@@ -64,12 +71,15 @@ module _ (xs orders mailboxes : List ℕ) where
       let l = and-true (conditions xs orders mailboxes) true (c .1) .0 in
       let clock = and-true (clockFits xs) _ l in
       let openings = and-true (openingsFit xs) _ (clock .1) in
-      let nonces = and-true (nonceConditions xs) _ (openings .1) in
+      let series = and-true (seriesConditions xs) _ (openings .1) in
+      let nonces = and-true (nonceConditions xs) _ (series .1) in
       let downloads = and-true (downloadConditions xs) _ (nonces .1) in
       let places = and-true (everyPlace xs orders) _ (downloads .1) in
       let opens = and-true (openConditions xs) _ (places .1) in
       let files = and-true (everyMailbox xs mailboxes) _ (opens .1) in
       let journal = and-true (journalConditions xs) true (files .1) in
+      let counter = and-true (everySeries xs) _ (series .0) in
+      let sum = and-true (seriesSum xs) true (counter .1) in
       let nonce = and-true (nonceCountFits xs) _ (nonces .0) in
       let each = and-true (everyNonce xs) _ (nonce .1) in
       let apart = and-true (noncesDistinct xs) _ (each .1) in
@@ -77,7 +87,8 @@ module _ (xs orders mailboxes : List ℕ) where
       let download = and-true (downloadCountFits xs) _ (downloads .0) in
       let all = and-true (everyDownload xs) _ (download .1) in
       let rest = and-true (downloadsUnused xs) true (all .1) in
-      let number = and-true (numbersDistinct xs) _ (opens .0) in
+      let order = and-true (ordersDistinct xs) _ (opens .0) in
+      let number = and-true (numbersDistinct xs) _ (order .1) in
       let together = and-true (openInAll xs) _ (number .1) in
       let of = and-true (everySubscriber xs) true (together .1) in
       let events = and-true (eventsFit xs) _ (journal .0) in
@@ -86,6 +97,8 @@ module _ (xs orders mailboxes : List ℕ) where
       record {
         clock = clock .0;
         openings = openings .0;
+        series = counter .0;
+        seriesAll = sum .0;
         nonceCount = nonce .0;
         nonces = each .0;
         noncesApart = apart .0;
@@ -94,6 +107,7 @@ module _ (xs orders mailboxes : List ℕ) where
         downloads = all .0;
         downloadsOver = rest .0;
         places = places .0;
+        ordersApart = order .0;
         numbers = number .0;
         openAll = together .0;
         openOf = of .0;
@@ -105,7 +119,7 @@ module _ (xs orders mailboxes : List ℕ) where
 
   pub listing : length xs ≡ numberCount → length orders ≡ storeBytes → length mailboxes ≡ storeBytes
       → Listed xs orders mailboxes → admitted xs orders mailboxes ≡ true
-  unfolding admitted conditions nonceConditions downloadConditions openConditions journalConditions
+  unfolding admitted conditions seriesConditions nonceConditions downloadConditions openConditions journalConditions
   listing n o f l =
       rw (
         eq-eqb (length xs) numberCount n,
@@ -113,6 +127,8 @@ module _ (xs orders mailboxes : List ℕ) where
         eq-eqb (length mailboxes) storeBytes f,
         l .clock,
         l .openings,
+        l .series,
+        l .seriesAll,
         l .nonceCount,
         l .nonces,
         l .noncesApart,
@@ -121,6 +137,7 @@ module _ (xs orders mailboxes : List ℕ) where
         l .downloads,
         l .downloadsOver,
         l .places,
+        l .ordersApart,
         l .numbers,
         l .openAll,
         l .openOf,

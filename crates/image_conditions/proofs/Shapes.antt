@@ -1,8 +1,9 @@
--- Laws of the tests' shapes: every number below one, how many, no two the same, zeros. Assumes nothing.
+-- Laws of the tests' shapes: every number below one, how many, a sum, no two the same, zeros. Assumes nothing.
 use Prim.Native.Nat.{ℕ, zero, suc, _+_, _-_, _≤_, _<_}
 use mathlib.Core.List.{List, [], _∷_, _++_}
 use mathlib.Core.Bool.{Bool, true, false, cond, _&&_}
 use mathlib.Core.Path.{_≡_, refl, sym, ap, _∙_}
+use native.Mathlib.Nat.{add-zero, add-suc}
 use native.Mathlib.Numerals.{add-one}
 use native.Mathlib.Omega.{arith}
 use lib.ListN.{length, getD, take}
@@ -10,7 +11,7 @@ use lib.Seq.{take-suc}
 use lib.Dec.{leb, eqb}
 use borrow.Author.Tests.{eqb-true, eqb-false, leb-true, leb-false, eq-eqb, ne-eqb}
 use Rattle.octets.proofs.Tests.{and-true, and-true-right}
-use Rattle.image_conditions.specs.Shapes.{upTo, every, count, allZero}
+use Rattle.image_conditions.specs.Shapes.{upTo, every, count, total, allZero}
 
 -- ---- every number below one, and how many
 
@@ -49,6 +50,33 @@ module _ (p : ℕ → Bool) where
   unfolding every
   every-from zero f = refl
   every-from (suc n) f = rw (f n (omega arith)) (every-from n (λ j k. f j (omega arith)))
+
+-- ---- sums
+
+module _ (f : ℕ → ℕ) where
+  pub total-none : total f 0 ≡ 0
+  unfolding total
+  total-none = refl
+
+  pub total-next : (n : ℕ) → total f (n + 1) ≡ f n + total f n
+  unfolding total
+  total-next n = rw (add-one n)
+
+  pub total-first : (n : ℕ) → total f (suc n) ≡ f 0 + total (λ i. f (suc i)) n
+  unfolding total
+  total-first zero = refl
+  total-first (suc n) = let e = total-first n in omega arith
+
+  -- a sum is at most one with more in it
+  pub total-more : (n k : ℕ) → total f n ≤ total f (n + k)
+  unfolding total
+  total-more n zero = rw (add-zero n) (omega arith)
+  total-more n (suc k) = let h = total-more n k in rw (add-suc n k) (omega arith)
+
+pub total-same : (f g : ℕ → ℕ) (n : ℕ) → ((i : ℕ) → i < n → f i ≡ g i) → total f n ≡ total g n
+unfolding total
+total-same f g zero h = refl
+total-same f g (suc n) h = rw (h n (omega arith), total-same f g n (λ i k. h i (omega arith)))
 
 -- tests that agree below n
 module _ (p q : ℕ → Bool) where

@@ -38,7 +38,7 @@ download-time now opened file d h =
     let c = and-true (list.downloadAttempts d) _ (b .1) in
     fit-time now (d .last) (and-true (list.downloadTime now d) _ (c .1) .0)
 
-module _ (now opened : ℕ) (p : PlaceRecord) (h : list.placeHolds now opened p ≡ true) where
+module _ (now opened counter : ℕ) (p : PlaceRecord) (h : list.placeHolds now opened counter p ≡ true) where
   -- the tests that say something of the last fitting request
   place-tests : (p .state ≤ list.bookedState) × (list.placeFree p ≡ true) × (list.uploadTime now p ≡ true) × (list.bookedRest p ≡ true)
   place-tests =
@@ -46,7 +46,8 @@ module _ (now opened : ℕ) (p : PlaceRecord) (h : list.placeHolds now opened p 
       let b = and-true (list.placeFree p) _ (a .1) in
       let c = and-true (list.placeSubscriber p) _ (b .1) in
       let d = and-true (list.placeNumber opened p) _ (c .1) in
-      let e = and-true (list.uploadSegments p) _ (d .1) in
+      let order = and-true (list.placeOrder counter p) _ (d .1) in
+      let e = and-true (list.uploadSegments p) _ (order .1) in
       let f = and-true (list.uploadTaken p) _ (e .1) in
       let g = and-true (list.uploadAttempts p) _ (f .1) in
       let time = and-true (list.uploadTime now p) _ (g .1) in
@@ -59,7 +60,8 @@ module _ (now opened : ℕ) (p : PlaceRecord) (h : list.placeHolds now opened p 
       let a = and-true (eqb (p .subscriber) 0) _ (implied (place-tests .1) (eq-eqb (p .state) 0 e)) in
       let b = and-true (eqb (p .high) 0) _ (a .1) in
       let c = and-true (eqb (p .low) 0) _ (b .1) in
-      let d = and-true (eqb (p .segments) 0) _ (c .1) in
+      let order = and-true (eqb (p .order) 0) _ (c .1) in
+      let d = and-true (eqb (p .segments) 0) _ (order .1) in
       let f = and-true (eqb (p .taken) 0) _ (d .1) in
       let g = and-true (eqb (p .attempts) 0) _ (f .1) in
       eqb-true (p .last) 0 (and-true (eqb (p .last) 0) _ (g .1) .0)
@@ -120,7 +122,8 @@ times-bounded xs orders mailboxes h =
       places = λ i k.
           let p = image.placeAt xs i in
           let t = every-at (list.placeTest xs orders) placeCount i (l .places) k in
-          let n = place-time now opened p (and-true (list.placeHolds now opened p) _ t .0) in omega arith;
+          let counter = image.counterOf xs (p .subscriber) in
+          let n = place-time now opened counter p (and-true (list.placeHolds now opened counter p) _ t .0) in omega arith;
       events = λ i k.
           let n = event-time xs i (every-at (list.eventTest xs) (image.usedEvents xs) i (l .journal) k) in omega arith;
     }

@@ -1,11 +1,11 @@
--- Card 2, "the full list stands under docs/": the conditions of an admitted image of form 3, each under its label.
+-- Card 2, "the full list stands under docs/": the conditions of an admitted image of form 5, each under its label.
 use Prim.Native.Nat.{ℕ, _+_, _-_, _*_}
 use mathlib.Core.Bool.{Bool, cond, _&&_}
 use mathlib.Core.List.{List, [], _∷_}
 use lib.ListN.{length, take, drop}
 use lib.Dec.{leb, ltb, eqb}
 use Rattle.frame_table.specs.Table.{lastTime}
-use Rattle.message.specs.Limits.{subscribers, segmentBytes, maxSegments, fileBytes, maxAttempts}
+use Rattle.message.specs.Limits.{subscribers, segmentBytes, maxSegments, fileBytes, maxAttempts, ful}
 use Rattle.message.specs.Segments.{segmentsOf}
 use Rattle.bank_state.specs.Limits.{
   placeCount,
@@ -15,6 +15,7 @@ use Rattle.bank_state.specs.Limits.{
   maxOpen,
   maxOpenPerSubscriber,
   maxOpenings,
+  seriesLimit,
   window,
 }
 use Rattle.journal.specs.Events.{recordCount}
@@ -23,7 +24,7 @@ use Rattle.image_conditions.specs.declared.layout.DownloadRecord.{Downlo
 use Rattle.image_conditions.specs.declared.layout.PlaceRecord.{PlaceRecord}
 use Rattle.image_conditions.specs.declared.layout.EventRecord.{EventRecord}
 use Rattle.image_conditions.specs.declared.layout.Slot.{Slot}
-use Rattle.image_conditions.specs.Shapes.{allOf, implies, within, upTo, every, count, distinct, allZero}
+use Rattle.image_conditions.specs.Shapes.{allOf, implies, within, upTo, every, count, total, distinct, allZero}
 use Rattle.image_conditions.specs.Layout.{
   noncesAt,
   nonceWidth,
@@ -44,6 +45,8 @@ use Rattle.image_conditions.specs.Layout.{
   downloadAt,
   placeAt,
   eventAt,
+  counterAt,
+  counterOf,
   fileAt,
   fileOf,
 }
@@ -70,9 +73,17 @@ fitTime clock last = leb last clock && leb clock (last + idleLimit)
 abbrev pub clockFits : List ℕ → Bool
 clockFits xs = leb (clock xs) lastTime
 
--- openings: "at most 1,213,056"
+-- openings: "form 5 on at most 4,294,967,296"
 abbrev pub openingsFit : List ℕ → Bool
 openingsFit xs = leb (openings xs) maxOpenings
+
+-- series: "each count at most 1,213,056", here that of subscriber i + 1
+unfoldable pub seriesFits : List ℕ → ℕ → Bool
+seriesFits xs i = leb (counterAt xs i) seriesLimit
+
+-- series sum: "the eight counts add up to at most openings"
+unfoldable pub seriesSum : List ℕ → Bool
+seriesSum xs = leb (total (counterAt xs) placeCount) (openings xs)
 
 -- nonce count: "06 is at most 64"
 abbrev pub nonceCountFits : List ℕ → Bool
@@ -158,17 +169,20 @@ placeState p = leb (p .state) bookedState
 abbrev pub placeFree : PlaceRecord → Bool
 placeFree p =
     implies (eqb (p .state) 0)
-    (allOf (eqb (p .subscriber) 0 ∷ eqb (p .high) 0 ∷ eqb (p .low) 0 ∷ eqb (p .segments) 0 ∷ eqb (p .taken) 0
-    ∷ eqb (p .attempts) 0 ∷ eqb (p .last) 0 ∷ eqb (p .length) 0 ∷ []))
+    (allOf (eqb (p .subscriber) 0 ∷ eqb (p .high) 0 ∷ eqb (p .low) 0 ∷ eqb (p .order) 0 ∷ eqb (p .segments) 0
+    ∷ eqb (p .taken) 0 ∷ eqb (p .attempts) 0 ∷ eqb (p .last) 0 ∷ eqb (p .length) 0 ∷ []))
 
 -- place subscriber: "state 1 or 2: 1 to 8"
 abbrev pub placeSubscriber : PlaceRecord → Bool
 placeSubscriber p = implies (inUse p) (within 1 subscribers (p .subscriber))
 
--- place number: "state 1 or 2: running is below openings"; place order is the same, as the order number is the running
--- number
+-- place number: "state 1 or 2: running is below openings"
 abbrev pub placeNumber : ℕ → PlaceRecord → Bool
 placeNumber opened p = implies (inUse p) (ltb (p .low) opened)
+
+-- place order: "state 1 or 2: the order number is below the orders of the record", its subscriber's counter
+abbrev pub placeOrder : ℕ → PlaceRecord → Bool
+placeOrder counter p = implies (inUse p) (ltb (p .order) counter)
 
 -- upload segments: "state 1: 1 to 15"
 abbrev pub uploadSegments : PlaceRecord → Bool
@@ -200,10 +214,21 @@ bookedRest p =
     implies (isBooked p)
     (allOf (eqb (p .segments) 0 ∷ eqb (p .taken) 0 ∷ eqb (p .attempts) 0 ∷ eqb (p .last) 0 ∷ []))
 
-abbrev pub placeHolds : ℕ → ℕ → PlaceRecord → Bool
-placeHolds now opened p =
-    allOf (placeState p ∷ placeFree p ∷ placeSubscriber p ∷ placeNumber opened p ∷ uploadSegments p ∷ uploadTaken p
-    ∷ uploadAttempts p ∷ uploadTime now p ∷ uploadLength p ∷ bookedLength p ∷ bookedRest p ∷ [])
+-- a place, with the counter of its subscriber's series
+abbrev pub placeHolds : ℕ → ℕ → ℕ → PlaceRecord → Bool
+placeHolds now opened counter p =
+    allOf (placeState p ∷ placeFree p ∷ placeSubscriber p ∷ placeNumber opened p ∷ placeOrder counter p
+    ∷ uploadSegments p ∷ uploadTaken p ∷ uploadAttempts p ∷ uploadTime now p ∷ uploadLength p ∷ bookedLength p
+    ∷ bookedRest p ∷ [])
+
+-- orders distinct: "no two places in use have the same subscriber and order number"
+unfoldable pub sameOrder : List ℕ → ℕ → ℕ → Bool
+sameOrder xs i j =
+    allOf (inUse (placeAt xs i) ∷ inUse (placeAt xs j) ∷ eqb (placeAt xs i .subscriber) (placeAt xs j .subscriber)
+    ∷ eqb (placeAt xs i .order) (placeAt xs j .order) ∷ [])
+
+unfoldable pub ordersDistinct : List ℕ → Bool
+ordersDistinct xs = distinct (sameOrder xs) placeCount
 
 -- ---- places and open downloads together
 
@@ -280,17 +305,22 @@ eventClock now before e = leb (e .clock) now && leb (before .clock) (e .clock)
 abbrev pub eventSubscriber : EventRecord → Bool
 eventSubscriber e = within 1 subscribers (e .subscriber)
 
--- event order: "below the orders of the record", here the openings
+-- event type: "FUL"
+abbrev pub eventType : EventRecord → Bool
+eventType e = eqb (e .«order_type») ful
+
+-- event order: "below the orders of the record", its subscriber's counter
 abbrev pub eventOrder : ℕ → EventRecord → Bool
-eventOrder opened e = ltb (e .order) opened
+eventOrder counter e = ltb (e .order) counter
 
 -- event kind: "1 to 4"
 abbrev pub eventKind : EventRecord → Bool
 eventKind e = within 1 lastKind (e .kind)
 
+-- an event, with the counter of its subscriber's series
 abbrev pub eventHolds : ℕ → ℕ → ℕ → ℕ → EventRecord → EventRecord → Bool
-eventHolds now opened entered i before e =
-    allOf (eventNumber entered i e ∷ eventClock now before e ∷ eventSubscriber e ∷ eventOrder opened e
+eventHolds now counter entered i before e =
+    allOf (eventNumber entered i e ∷ eventClock now before e ∷ eventSubscriber e ∷ eventType e ∷ eventOrder counter e
     ∷ eventKind e ∷ [])
 
 -- journal unused: "the records behind the used ones are 0"
@@ -309,13 +339,19 @@ downloadTest xs i =
     && downloadRises xs i
 
 unfoldable pub placeTest : List ℕ → List ℕ → ℕ → Bool
-placeTest xs orders i = placeHolds (clock xs) (openings xs) (placeAt xs i) && placeBytes xs orders i
+placeTest xs orders i =
+    placeHolds (clock xs) (openings xs) (counterOf xs (placeAt xs i .subscriber)) (placeAt xs i)
+    && placeBytes xs orders i
 
 unfoldable pub mailboxTest : List ℕ → List ℕ → ℕ → Bool
 mailboxTest xs mailboxes i = mailboxLength xs i && mailboxBytes xs mailboxes i
 
 unfoldable pub eventTest : List ℕ → ℕ → Bool
-eventTest xs i = eventHolds (clock xs) (openings xs) (events xs) i (eventAt xs (i - 1)) (eventAt xs i)
+eventTest xs i =
+    eventHolds (clock xs) (counterOf xs (eventAt xs i .subscriber)) (events xs) i (eventAt xs (i - 1)) (eventAt xs i)
+
+unfoldable pub everySeries : List ℕ → Bool
+everySeries xs = every (seriesFits xs) placeCount
 
 unfoldable pub everyNonce : List ℕ → Bool
 everyNonce xs = every (nonceTest xs) (nonces xs)
@@ -335,6 +371,9 @@ everySubscriber xs = every (openOfOne xs) subscribers
 unfoldable pub everyEvent : List ℕ → Bool
 everyEvent xs = every (eventTest xs) (usedEvents xs)
 
+unfoldable pub seriesConditions : List ℕ → Bool
+seriesConditions xs = allOf (everySeries xs ∷ seriesSum xs ∷ [])
+
 unfoldable pub nonceConditions : List ℕ → Bool
 nonceConditions xs = allOf (nonceCountFits xs ∷ everyNonce xs ∷ noncesDistinct xs ∷ noncesUnused xs ∷ [])
 
@@ -342,7 +381,7 @@ unfoldable pub downloadConditions : List ℕ → Bool
 downloadConditions xs = allOf (downloadCountFits xs ∷ everyDownload xs ∷ downloadsUnused xs ∷ [])
 
 unfoldable pub openConditions : List ℕ → Bool
-openConditions xs = allOf (numbersDistinct xs ∷ openInAll xs ∷ everySubscriber xs ∷ [])
+openConditions xs = allOf (ordersDistinct xs ∷ numbersDistinct xs ∷ openInAll xs ∷ everySubscriber xs ∷ [])
 
 unfoldable pub journalConditions : List ℕ → Bool
 journalConditions xs = allOf (eventsFit xs ∷ everyEvent xs ∷ journalUnused xs ∷ [])
@@ -350,8 +389,8 @@ journalConditions xs = allOf (eventsFit xs ∷ everyEvent xs ∷ journalUnused x
 -- the conditions, over numbers and stores of their lengths
 unfoldable pub conditions : List ℕ → List ℕ → List ℕ → Bool
 conditions xs orders mailboxes =
-    allOf (clockFits xs ∷ openingsFit xs ∷ nonceConditions xs ∷ downloadConditions xs ∷ everyPlace xs orders
-    ∷ openConditions xs ∷ everyMailbox xs mailboxes ∷ journalConditions xs ∷ [])
+    allOf (clockFits xs ∷ openingsFit xs ∷ seriesConditions xs ∷ nonceConditions xs ∷ downloadConditions xs
+    ∷ everyPlace xs orders ∷ openConditions xs ∷ everyMailbox xs mailboxes ∷ journalConditions xs ∷ [])
 
 -- "What a session may hold is bounded": the session is one of the list
 unfoldable pub admitted : List ℕ → List ℕ → List ℕ → Bool

@@ -1,4 +1,4 @@
--- Where the numbers of a session stand, in the order of the image of form 3, and its records.
+-- Where the numbers of a session stand, in the order of the image, and its records.
 use Prim.Native.Nat.{ℕ, _+_, _-_, _*_}
 use mathlib.Core.Bool.{cond}
 use mathlib.Core.List.{List}
@@ -18,8 +18,12 @@ clockAt = 0
 abbrev pub openingsAt : ℕ
 openingsAt = clockAt + 1
 
+-- "series: for subscribers 1 to 8, how far the bank's own numbering of uploads has come"
+abbrev pub seriesAt : ℕ
+seriesAt = openingsAt + 1
+
 abbrev pub eventsAt : ℕ
-eventsAt = openingsAt + 1
+eventsAt = seriesAt + placeCount
 
 abbrev pub nonceCountAt : ℕ
 nonceCountAt = eventsAt + 1
@@ -41,23 +45,23 @@ downloadsAt = downloadCountAt + 1
 abbrev pub downloadWidth : ℕ
 downloadWidth = 6
 
--- a place has nine
+-- a place has ten
 abbrev pub placesAt : ℕ
 placesAt = downloadsAt + downloadWidth * placeCount
 
 abbrev pub placeWidth : ℕ
-placeWidth = 9
+placeWidth = 10
 
 -- the lengths of the files in the mailboxes
 abbrev pub filesAt : ℕ
 filesAt = placesAt + placeWidth * placeCount
 
--- an event has five
+-- an event has six
 abbrev pub journalAt : ℕ
 journalAt = filesAt + placeCount
 
 abbrev pub eventWidth : ℕ
-eventWidth = 5
+eventWidth = 6
 
 abbrev pub numberCount : ℕ
 numberCount = journalAt + eventWidth * recordCount
@@ -108,11 +112,12 @@ placeAt xs i =
       subscriber = getD xs (placesAt + i * placeWidth + 1) 0;
       high = getD xs (placesAt + i * placeWidth + 2) 0;
       low = getD xs (placesAt + i * placeWidth + 3) 0;
-      segments = getD xs (placesAt + i * placeWidth + 4) 0;
-      taken = getD xs (placesAt + i * placeWidth + 5) 0;
-      attempts = getD xs (placesAt + i * placeWidth + 6) 0;
-      last = getD xs (placesAt + i * placeWidth + 7) 0;
-      length = getD xs (placesAt + i * placeWidth + 8) 0;
+      order = getD xs (placesAt + i * placeWidth + 4) 0;
+      segments = getD xs (placesAt + i * placeWidth + 5) 0;
+      taken = getD xs (placesAt + i * placeWidth + 6) 0;
+      attempts = getD xs (placesAt + i * placeWidth + 7) 0;
+      last = getD xs (placesAt + i * placeWidth + 8) 0;
+      length = getD xs (placesAt + i * placeWidth + 9) 0;
     }
 
 unfoldable pub eventAt : List ℕ → ℕ → EventRecord
@@ -121,9 +126,18 @@ eventAt xs i =
       number = getD xs (journalAt + i * eventWidth) 0;
       clock = getD xs (journalAt + i * eventWidth + 1) 0;
       subscriber = getD xs (journalAt + i * eventWidth + 2) 0;
-      order = getD xs (journalAt + i * eventWidth + 3) 0;
-      kind = getD xs (journalAt + i * eventWidth + 4) 0;
+      «order_type» = getD xs (journalAt + i * eventWidth + 3) 0;
+      order = getD xs (journalAt + i * eventWidth + 4) 0;
+      kind = getD xs (journalAt + i * eventWidth + 5) 0;
     }
+
+-- the counter of series i, from 0 on
+unfoldable pub counterAt : List ℕ → ℕ → ℕ
+counterAt xs i = getD xs (seriesAt + i) 0
+
+-- the counter of a subscriber's series; 0 where there is no such subscriber
+unfoldable pub counterOf : List ℕ → ℕ → ℕ
+counterOf xs s = cond (within 1 subscribers s) (counterAt xs (s - 1)) 0
 
 -- the length of the file in mailbox i, from 0 on
 unfoldable pub fileAt : List ℕ → ℕ → ℕ

@@ -1,4 +1,4 @@
--- The shapes of tests: all of some, every number below one, how many, no two the same, zeros.
+-- The shapes of tests: all of some, every number below one, how many, a sum, no two the same, zeros.
 use Prim.Native.Nat.{ℕ, zero, suc, _+_}
 use mathlib.Core.List.{List, [], _∷_}
 use mathlib.Core.Bool.{Bool, true, cond, not, _&&_}
@@ -28,6 +28,11 @@ every p (suc n) = p n && every p n
 unfoldable pub count : (ℕ → Bool) → ℕ → ℕ
 count p zero = 0
 count p (suc n) = cond (p n) 1 0 + count p n
+
+-- the sum of the numbers that f gives below n
+unfoldable pub total : (ℕ → ℕ) → ℕ → ℕ
+total f zero = 0
+total f (suc n) = f n + total f n
 
 -- no two below n are the same
 unfoldable pub distinct : (ℕ → ℕ → Bool) → ℕ → Bool

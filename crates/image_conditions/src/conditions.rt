@@ -11,25 +11,26 @@ use crate::tables::every_event;
 use crate::tables::every_mailbox;
 use crate::tables::every_nonce;
 use crate::tables::every_place;
+use crate::tables::every_series;
 use crate::tables::every_subscriber;
 use crate::tables::journal_unused;
 use crate::tables::nonces_distinct;
 use crate::tables::nonces_unused;
 use crate::tables::numbers_distinct;
 use crate::tables::open_in_all;
+use crate::tables::orders_distinct;
+use crate::tables::series_sum;
 use crate::tests::both;
+use bank_state::limits::MAX_OPENINGS;
+use bank_state::limits::STORE_BYTES;
 use frame_table::table::LAST_TIME;
 ghost use mathlib.Core.Path.{_≡_};
 ghost use lib.ListN.{length};
 ghost use Rattle.bank_state.specs.Limits.{storeBytes};
 ghost use Rattle.image_conditions.specs.Layout.{numberCount};
 ghost use Rattle.image_conditions.specs.Conditions.{clockFits, openingsFit, nonceCountFits, downloadCountFits};
-ghost use Rattle.image_conditions.specs.Conditions.{nonceConditions, downloadConditions, openConditions};
-ghost use Rattle.image_conditions.specs.Conditions.{journalConditions, conditions, admitted};
-
-const STORE_BYTES: usize = 30720;
-
-const MAX_OPENINGS: u64 = 1213056;
+ghost use Rattle.image_conditions.specs.Conditions.{seriesConditions, nonceConditions, downloadConditions};
+ghost use Rattle.image_conditions.specs.Conditions.{openConditions, journalConditions, conditions, admitted};
 
 fn clock_fits(numbers: &[u64]) -> bool
     requires { ⌜ length (now numbers) ≡ numberCount ⌝ }
@@ -43,6 +44,13 @@ fn openings_fit(numbers: &[u64]) -> bool
     ensures { λ r. ⌜ r ≡ openingsFit (now (numbers .entry)) ⌝ }
 {
     numbers[OPENINGS] <= MAX_OPENINGS
+}
+
+fn series_conditions(numbers: &[u64]) -> bool
+    requires { ⌜ length (now numbers) ≡ numberCount ⌝ }
+    ensures { λ r. ⌜ r ≡ seriesConditions (now (numbers .entry)) ⌝ }
+{
+    both(every_series(numbers), both(series_sum(numbers), true))
 }
 
 fn nonce_count_fits(numbers: &[u64]) -> bool
@@ -85,9 +93,10 @@ fn open_conditions(numbers: &[u64]) -> bool
     requires { ⌜ length (now numbers) ≡ numberCount ⌝ }
     ensures { λ r. ⌜ r ≡ openConditions (now (numbers .entry)) ⌝ }
 {
+    let open = both(open_in_all(numbers), both(every_subscriber(numbers), true));
     both(
-        numbers_distinct(numbers),
-        both(open_in_all(numbers), both(every_subscriber(numbers), true)),
+        orders_distinct(numbers),
+        both(numbers_distinct(numbers), open),
     )
 }
 
@@ -118,7 +127,8 @@ fn conditions(numbers: &[u64], orders: &[u8], mailboxes: &[u8]) -> bool
         nonce_conditions(numbers),
         both(download_conditions(numbers), places),
     );
-    both(clock_fits(numbers), both(openings_fit(numbers), nonces))
+    let series = both(series_conditions(numbers), nonces);
+    both(clock_fits(numbers), both(openings_fit(numbers), series))
 }
 
 // Whether the session is one of the list; no other lengths are.

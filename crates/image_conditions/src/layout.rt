@@ -1,15 +1,17 @@
-// Where the numbers of a session stand, in the order of the image of form 3, and its records.
+// Where the numbers of a session stand, in the order of the image, and its records.
 use crate::tests::up_to;
 use bank_state::limits::NONCE_COUNT;
 use bank_state::limits::PLACE_COUNT;
 use journal::event::RECORD_COUNT;
+use message::limits::SUBSCRIBERS;
 ghost use mathlib.Core.Path.{_≡_};
 ghost use Prim.Native.Nat.{_<_};
 ghost use lib.ListN.{length};
 ghost use Rattle.bank_state.specs.Limits.{placeCount, nonceCount};
 ghost use Rattle.journal.specs.Events.{recordCount};
 ghost use Rattle.image_conditions.specs.Layout.{numberCount, nonces, downloads, usedEvents};
-ghost use Rattle.image_conditions.specs.Layout.{nonceAt, downloadAt, placeAt, eventAt, fileAt, fileOf};
+ghost use Rattle.image_conditions.specs.Layout.{nonceAt, downloadAt, placeAt, eventAt};
+ghost use Rattle.image_conditions.specs.Layout.{counterAt, counterOf, fileAt, fileOf};
 ghost use Rattle.image_conditions.specs.Conditions.{slotCount, slotAt};
 
 pub const SLOT_COUNT: usize = PLACE_COUNT + PLACE_COUNT;
@@ -18,7 +20,9 @@ pub const CLOCK: usize = 0;
 
 pub const OPENINGS: usize = CLOCK + 1;
 
-pub const EVENTS: usize = OPENINGS + 1;
+pub const SERIES: usize = OPENINGS + 1;
+
+pub const EVENTS: usize = SERIES + PLACE_COUNT;
 
 pub const NONCE_COUNT_AT: usize = EVENTS + 1;
 
@@ -34,13 +38,13 @@ pub const DOWNLOAD_WIDTH: usize = 6;
 
 pub const PLACES: usize = DOWNLOADS + DOWNLOAD_WIDTH * PLACE_COUNT;
 
-pub const PLACE_WIDTH: usize = 9;
+pub const PLACE_WIDTH: usize = 10;
 
 pub const FILES: usize = PLACES + PLACE_WIDTH * PLACE_COUNT;
 
 pub const JOURNAL: usize = FILES + PLACE_COUNT;
 
-pub const EVENT_WIDTH: usize = 5;
+pub const EVENT_WIDTH: usize = 6;
 
 pub const NUMBER_COUNT: usize = JOURNAL + EVENT_WIDTH * RECORD_COUNT;
 
@@ -61,12 +65,14 @@ pub struct DownloadRecord {
     pub last: u64,
 }
 
-// A place: free (0), an open upload (1) or a booked order (2); low is the running number of its opening.
+// A place: free (0), an open upload (1) or a booked order (2); low is the running number of its opening, order counts
+// in its subscriber's series.
 pub struct PlaceRecord {
     pub state: u64,
     pub subscriber: u64,
     pub high: u64,
     pub low: u64,
+    pub order: u64,
     pub segments: u64,
     pub taken: u64,
     pub attempts: u64,
@@ -79,6 +85,7 @@ pub struct EventRecord {
     pub number: u64,
     pub clock: u64,
     pub subscriber: u64,
+    pub order_type: u64,
     pub order: u64,
     pub kind: u64,
 }
@@ -149,11 +156,12 @@ pub fn place_at(numbers: &[u64], i: usize) -> PlaceRecord
         subscriber: numbers[at + 1],
         high: numbers[at + 2],
         low: numbers[at + 3],
-        segments: numbers[at + 4],
-        taken: numbers[at + 5],
-        attempts: numbers[at + 6],
-        last: numbers[at + 7],
-        length: numbers[at + 8],
+        order: numbers[at + 4],
+        segments: numbers[at + 5],
+        taken: numbers[at + 6],
+        attempts: numbers[at + 7],
+        last: numbers[at + 8],
+        length: numbers[at + 9],
     }
 }
 
@@ -166,9 +174,32 @@ pub fn event_at(numbers: &[u64], i: usize) -> EventRecord
         number: numbers[at],
         clock: numbers[at + 1],
         subscriber: numbers[at + 2],
-        order: numbers[at + 3],
-        kind: numbers[at + 4],
+        order_type: numbers[at + 3],
+        order: numbers[at + 4],
+        kind: numbers[at + 5],
     }
+}
+
+// The counter of series i, from 0 on.
+pub fn counter_at(numbers: &[u64], i: usize) -> u64
+    requires { ⌜ (i < placeCount) × (length (now numbers) ≡ numberCount) ⌝ }
+    ensures { λ r. ⌜ r ≡ counterAt (now (numbers .entry)) i ⌝ }
+{
+    numbers[SERIES + i]
+}
+
+// The counter of a subscriber's series; 0 where there is no such subscriber.
+pub fn counter_of(numbers: &[u64], subscriber: u64) -> u64
+    requires { ⌜ length (now numbers) ≡ numberCount ⌝ }
+    ensures { λ r. ⌜ r ≡ counterOf (now (numbers .entry)) subscriber ⌝ }
+{
+    if subscriber < 1 {
+        return 0;
+    }
+    if SUBSCRIBERS < subscriber {
+        return 0;
+    }
+    counter_at(numbers, (subscriber - 1) as usize)
 }
 
 // The length of the file in mailbox i, from 0 on.
@@ -187,7 +218,7 @@ pub fn file_of(numbers: &[u64], subscriber: u64) -> u64
     if subscriber < 1 {
         return 0;
     }
-    if 8 < subscriber {
+    if SUBSCRIBERS < subscriber {
         return 0;
     }
     file_at(numbers, (subscriber - 1) as usize)

@@ -12,6 +12,11 @@ use crate::tests::within;
 use bank_state::limits::IDLE_LIMIT;
 use bank_state::limits::WINDOW;
 use frame_table::table::LAST_TIME;
+use message::limits::FILE_BYTES;
+use message::limits::FUL;
+use message::limits::MAX_ATTEMPTS;
+use message::limits::MAX_SEGMENTS;
+use message::limits::SUBSCRIBERS;
 use message::segments::segments_of;
 ghost use mathlib.Core.Path.{_≡_};
 ghost use Prim.Native.Nat.{_<_};
@@ -21,18 +26,14 @@ ghost use Rattle.image_conditions.specs.Conditions.{fitTime, nonceTime};
 ghost use Rattle.image_conditions.specs.Conditions.{downloadSubscriber, downloadDelivered, downloadAttempts};
 ghost use Rattle.image_conditions.specs.Conditions.{downloadTime, downloadNumber, downloadHolds};
 ghost use Rattle.image_conditions.specs.Conditions.{placeState, placeFree, placeSubscriber, placeNumber};
-ghost use Rattle.image_conditions.specs.Conditions.{uploadSegments, uploadTaken, uploadAttempts, uploadTime};
-ghost use Rattle.image_conditions.specs.Conditions.{uploadLength, bookedLength, bookedRest, placeHolds};
-ghost use Rattle.image_conditions.specs.Conditions.{eventNumber, eventClock, eventSubscriber, eventOrder};
-ghost use Rattle.image_conditions.specs.Conditions.{eventKind, eventHolds};
+ghost use Rattle.image_conditions.specs.Conditions.{placeOrder, uploadSegments, uploadTaken, uploadAttempts};
+ghost use Rattle.image_conditions.specs.Conditions.{uploadTime, uploadLength, bookedLength, bookedRest};
+ghost use Rattle.image_conditions.specs.Conditions.{placeHolds};
+ghost use Rattle.image_conditions.specs.Conditions.{eventNumber, eventClock, eventSubscriber, eventType};
+ghost use Rattle.image_conditions.specs.Conditions.{eventOrder, eventKind, eventHolds};
 
-const SUBSCRIBERS: u64 = 8;
-
-const MAX_ATTEMPTS: u64 = 5;
-
-const MAX_SEGMENTS: u64 = 15;
-
-const FILE_SIZE: u64 = 3840;
+// The bytes of a place as a count of a file's bytes: fileBytes too.
+pub const FILE_SIZE: u64 = FILE_BYTES as u64;
 
 const OPEN: u64 = 1;
 
@@ -111,12 +112,10 @@ fn place_free(p: PlaceRecord) -> bool
         both(p.last == 0, both(p.length == 0, true)),
     );
     let steps = both(p.segments == 0, both(p.taken == 0, counts));
+    let numbers = both(p.low == 0, both(p.order == 0, steps));
     implies(
         p.state == 0,
-        both(
-            p.subscriber == 0,
-            both(p.high == 0, both(p.low == 0, steps)),
-        ),
+        both(p.subscriber == 0, both(p.high == 0, numbers)),
     )
 }
 
@@ -130,6 +129,12 @@ fn place_number(openings: u64, p: PlaceRecord) -> bool
     ensures { λ r. ⌜ r ≡ placeNumber openings p ⌝ }
 {
     implies(0 < p.state, p.low < openings)
+}
+
+fn place_order(counter: u64, p: PlaceRecord) -> bool
+    ensures { λ r. ⌜ r ≡ placeOrder counter p ⌝ }
+{
+    implies(0 < p.state, p.order < counter)
 }
 
 fn upload_segments(p: PlaceRecord) -> bool
@@ -181,8 +186,9 @@ fn booked_rest(p: PlaceRecord) -> bool
     )
 }
 
-pub fn place_holds(clock: u64, openings: u64, p: PlaceRecord) -> bool
-    ensures { λ r. ⌜ r ≡ placeHolds clock openings p ⌝ }
+// A place, with the counter of its subscriber's series.
+pub fn place_holds(clock: u64, openings: u64, counter: u64, p: PlaceRecord) -> bool
+    ensures { λ r. ⌜ r ≡ placeHolds clock openings counter p ⌝ }
 {
     let booked = both(booked_length(p), both(booked_rest(p), true));
     let times = both(upload_time(clock, p), both(upload_length(p), booked));
@@ -190,7 +196,11 @@ pub fn place_holds(clock: u64, openings: u64, p: PlaceRecord) -> bool
         upload_segments(p),
         both(upload_taken(p), both(upload_attempts(p), times)),
     );
-    let used = both(place_subscriber(p), both(place_number(openings, p), upload));
+    let numbers = both(
+        place_number(openings, p),
+        both(place_order(counter, p), upload),
+    );
+    let used = both(place_subscriber(p), numbers);
     both(place_state(p), both(place_free(p), used))
 }
 
@@ -214,10 +224,16 @@ fn event_subscriber(e: EventRecord) -> bool
     within(1, SUBSCRIBERS, e.subscriber)
 }
 
-fn event_order(openings: u64, e: EventRecord) -> bool
-    ensures { λ r. ⌜ r ≡ eventOrder openings e ⌝ }
+fn event_type(e: EventRecord) -> bool
+    ensures { λ r. ⌜ r ≡ eventType e ⌝ }
 {
-    e.order < openings
+    e.order_type == FUL
+}
+
+fn event_order(counter: u64, e: EventRecord) -> bool
+    ensures { λ r. ⌜ r ≡ eventOrder counter e ⌝ }
+{
+    e.order < counter
 }
 
 fn event_kind(e: EventRecord) -> bool
@@ -226,22 +242,23 @@ fn event_kind(e: EventRecord) -> bool
     within(1, LAST_KIND, e.kind)
 }
 
-// A used event and the one before it.
+// A used event and the one before it, with the counter of its subscriber's series.
 pub fn event_holds(
     clock: u64,
-    openings: u64,
+    counter: u64,
     events: u64,
     i: u64,
     before: EventRecord,
     e: EventRecord,
 ) -> bool
     requires { ⌜ i < upTo recordCount events ⌝ }
-    ensures { λ r. ⌜ r ≡ eventHolds clock openings events i before e ⌝ }
+    ensures { λ r. ⌜ r ≡ eventHolds clock counter events i before e ⌝ }
 {
-    let kind = both(event_order(openings, e), both(event_kind(e), true));
+    let kind = both(event_order(counter, e), both(event_kind(e), true));
+    let order = both(event_type(e), kind);
     let who = both(
         event_clock(clock, before, e),
-        both(event_subscriber(e), kind),
+        both(event_subscriber(e), order),
     );
     both(event_number(events, i, e), who)
 }

@@ -9,6 +9,8 @@ use crate::layout::NONCE_WIDTH;
 use crate::layout::NONCES;
 use crate::layout::OPENINGS;
 use crate::layout::SLOT_COUNT;
+use crate::layout::counter_at;
+use crate::layout::counter_of;
 use crate::layout::download_at;
 use crate::layout::downloads;
 use crate::layout::event_at;
@@ -19,6 +21,7 @@ use crate::layout::nonces;
 use crate::layout::place_at;
 use crate::layout::slot_at;
 use crate::layout::used_events;
+use crate::records::FILE_SIZE;
 use crate::records::download_holds;
 use crate::records::event_holds;
 use crate::records::nonce_time;
@@ -31,7 +34,9 @@ use crate::tests::zero_bytes;
 use crate::tests::zero_numbers;
 use bank_state::limits::NONCE_COUNT;
 use bank_state::limits::PLACE_COUNT;
+use bank_state::limits::SERIES_LIMIT;
 use journal::event::RECORD_COUNT;
+use message::limits::FILE_BYTES;
 ghost use mathlib.Core.Path.{_≡_};
 ghost use mathlib.Core.Bool.{not};
 ghost use Prim.Native.Nat.{_+_, _-_, _*_, _≤_, _<_};
@@ -40,18 +45,16 @@ ghost use Rattle.message.specs.Limits.{subscribers};
 ghost use Rattle.bank_state.specs.Limits.{placeCount, storeBytes, nonceCount};
 ghost use Rattle.image_conditions.specs.Shapes.{every, count, allZero};
 ghost use Rattle.image_conditions.specs.Layout.{numberCount, nonces, downloads, usedEvents};
+ghost use Rattle.image_conditions.specs.Conditions.{seriesFits, everySeries, seriesSum};
 ghost use Rattle.image_conditions.specs.Conditions.{sameNonce, noncesDistinct, unused, noncesUnused, everyNonce};
 ghost use Rattle.image_conditions.specs.Conditions.{downloadTest, downloadRises, downloadsUnused, everyDownload};
 ghost use Rattle.image_conditions.specs.Conditions.{placeTest, placeBytes, everyPlace, slotCount};
+ghost use Rattle.image_conditions.specs.Conditions.{sameOrder, ordersDistinct};
 ghost use Rattle.image_conditions.specs.Conditions.{sameNumber, numbersDistinct, isOpenSlot, isOpenOf, openInAll};
 ghost use Rattle.image_conditions.specs.Conditions.{openOfOne, everySubscriber, eventsFit, bytesBehind};
 ghost use Rattle.image_conditions.specs.Conditions.{mailboxBytes, mailboxTest, everyMailbox};
 ghost use Rattle.image_conditions.specs.Conditions.{eventTest, everyEvent};
 ghost use Rattle.image_conditions.specs.Conditions.{journalUnused, nonceTest};
-
-const FILE_BYTES: usize = 3840;
-
-const FILE_SIZE: u64 = 3840;
 
 // Whether the numbers of records from one on, up to the end of their field, are 0.
 fn unused(numbers: &[u64], at: usize, width: usize, used: usize, all: usize) -> bool
@@ -62,6 +65,47 @@ fn unused(numbers: &[u64], at: usize, width: usize, used: usize, all: usize) -> 
     let from = at + used * width;
     let end = at + width * all;
     zero_numbers(&numbers[from..end])
+}
+
+// ---- series
+
+fn series_fits(numbers: &[u64], i: usize) -> bool
+    requires { ⌜ (i < placeCount) × (length (now numbers) ≡ numberCount) ⌝ }
+    ensures { λ r. ⌜ r ≡ seriesFits (now (numbers .entry)) i ⌝ }
+{
+    counter_at(numbers, i) <= SERIES_LIMIT
+}
+
+pub fn every_series(numbers: &[u64]) -> bool
+    requires { ⌜ length (now numbers) ≡ numberCount ⌝ }
+    ensures { λ r. ⌜ r ≡ everySeries (now (numbers .entry)) ⌝ }
+{
+    let mut ok = true;
+    let mut i = 0;
+    while i < PLACE_COUNT {
+        ok = both(series_fits(numbers, i), ok);
+        i += 1;
+    }
+    ok
+}
+
+// Whether the counters add up to at most the openings: each is taken from what the ones before leave of these, so that
+// no sum is too large.
+pub fn series_sum(numbers: &[u64]) -> bool
+    requires { ⌜ length (now numbers) ≡ numberCount ⌝ }
+    ensures { λ r. ⌜ r ≡ seriesSum (now (numbers .entry)) ⌝ }
+{
+    let mut left = numbers[OPENINGS];
+    let mut i = 0;
+    while i < PLACE_COUNT {
+        let n = counter_at(numbers, i);
+        if left < n {
+            return false;
+        }
+        left -= n;
+        i += 1;
+    }
+    true
 }
 
 // ---- nonces
@@ -210,8 +254,9 @@ fn place_test(numbers: &[u64], orders: &[u8], i: usize) -> bool
     ensures { λ r. ⌜ r ≡ placeTest (now (numbers .entry)) (now (orders .entry)) i ⌝ }
 {
     let p = place_at(numbers, i);
+    let counter = counter_of(numbers, p.subscriber);
     both(
-        place_holds(numbers[CLOCK], numbers[OPENINGS], p),
+        place_holds(numbers[CLOCK], numbers[OPENINGS], counter, p),
         place_bytes(numbers, orders, i),
     )
 }
@@ -224,6 +269,44 @@ pub fn every_place(numbers: &[u64], orders: &[u8]) -> bool
     let mut i = 0;
     while i < PLACE_COUNT {
         ok = both(place_test(numbers, orders, i), ok);
+        i += 1;
+    }
+    ok
+}
+
+// Whether two places are not both in use with the same subscriber and order number.
+fn other_order(numbers: &[u64], i: usize, j: usize) -> bool
+    requires { ⌜ (i < placeCount) × (j < placeCount) × (length (now numbers) ≡ numberCount) ⌝ }
+    ensures { λ r. ⌜ r ≡ not (sameOrder (now (numbers .entry)) i j) ⌝ }
+{
+    let a = place_at(numbers, i);
+    let b = place_at(numbers, j);
+    let same = both(a.subscriber == b.subscriber, both(a.order == b.order, true));
+    !both(0 < a.state, both(0 < b.state, same))
+}
+
+// Whether a place's subscriber and order number differ from all before it.
+fn new_order(numbers: &[u64], i: usize) -> bool
+    requires { ⌜ (i < placeCount) × (length (now numbers) ≡ numberCount) ⌝ }
+    ensures { λ r. ⌜ r ≡ every (λ j. not (sameOrder (now (numbers .entry)) i j)) i ⌝ }
+{
+    let mut ok = true;
+    let mut j = 0;
+    while j < i {
+        ok = both(other_order(numbers, i, j), ok);
+        j += 1;
+    }
+    ok
+}
+
+pub fn orders_distinct(numbers: &[u64]) -> bool
+    requires { ⌜ length (now numbers) ≡ numberCount ⌝ }
+    ensures { λ r. ⌜ r ≡ ordersDistinct (now (numbers .entry)) ⌝ }
+{
+    let mut ok = true;
+    let mut i = 0;
+    while i < PLACE_COUNT {
+        ok = both(new_order(numbers, i), ok);
         i += 1;
     }
     ok
@@ -384,13 +467,14 @@ fn event_test(numbers: &[u64], i: usize) -> bool
     ensures { λ r. ⌜ r ≡ eventTest (now (numbers .entry)) i ⌝ }
 {
     let e = event_at(numbers, i);
+    let counter = counter_of(numbers, e.subscriber);
     if i == 0 {
-        return event_holds(numbers[CLOCK], numbers[OPENINGS], numbers[EVENTS], 0, e, e);
+        return event_holds(numbers[CLOCK], counter, numbers[EVENTS], 0, e, e);
     }
     let before = event_at(numbers, i - 1);
     event_holds(
         numbers[CLOCK],
-        numbers[OPENINGS],
+        counter,
         numbers[EVENTS],
         i as u64,
         before,

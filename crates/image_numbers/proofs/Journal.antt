@@ -38,8 +38,9 @@ event-there : (xs : List ℕ) (at w i p : ℕ) → p ≡ at + w * i
       number = getD xs p 0;
       clock = getD xs (p + 1) 0;
       subscriber = getD xs (p + 2) 0;
-      order = getD xs (p + 3) 0;
-      kind = kindOf (getD xs (p + 4) 0);
+      «order_type» = getD xs (p + 3) 0;
+      order = getD xs (p + 4) 0;
+      kind = kindOf (getD xs (p + 5) 0);
     }
 event-there xs at w i p e =
     rw (
@@ -48,11 +49,19 @@ event-there xs at w i p e =
       number-there xs at w i 2 (p + 2) (omega arith),
       number-there xs at w i 3 (p + 3) (omega arith),
       number-there xs at w i 4 (p + 4) (omega arith),
+      number-there xs at w i 5 (p + 5) (omega arith),
     )
 
 -- the event of a record
 pub event-read : (xs : List ℕ) (i : ℕ) (e : EventRecord) → e ≡ eventAt xs i → (k : Kind) → k ≡ kindOf (e .kind)
-    → record { number = e .number; clock = e .clock; subscriber = e .subscriber; order = e .order; kind = k }
+    → record {
+      number = e .number;
+      clock = e .clock;
+      subscriber = e .subscriber;
+      «order_type» = e .«order_type»;
+      order = e .order;
+      kind = k;
+    }
     ≡ eventOf (drop (eventWidth * i) (drop journalAt xs))
 unfolding eventAt
 event-read xs i e is k f =

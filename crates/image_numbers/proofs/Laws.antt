@@ -4,20 +4,17 @@ use mathlib.Core.Bool.{Bool, true, false}
 use mathlib.Core.List.{List, [], _∷_, _++_, append-nil}
 use mathlib.Core.Path.{_≡_, refl, sym, ap, _∙_}
 use native.Mathlib.Omega.{arith}
-use lib.Dec.{eqb, ltb}
+use lib.Dec.{eqb}
 use lib.ListN.{length, getD, take, drop, length-append, length-take, length-drop, take-append-drop}
 use lib.Seq.{ext-getD, getD-take, getD-drop, drop-at, take-all}
-use borrow.Author.Tests.{eqb-true, eqb-false, ltb-true, eq-eqb}
-use Rattle.octets.proofs.Tests.{and-true, or-true}
+use borrow.Author.Tests.{eqb-true, eqb-false}
 use Rattle.journal.specs.declared.event.Kind.{Kind}
 use Rattle.journal.specs.declared.event.Kind.the-variants.{Unused, Opened, Booked, Cancelled, Dropped}
 use Rattle.journal.specs.declared.event.Event.{Event}
 use Rattle.journal.specs.Events.{recordCount}
-use Rattle.bank_state.specs.Limits.{placeCount}
 use Rattle.bank_state.specs.Rows.{keep}
 use Rattle.bank_rows.specs.Rows.{numbersOf}
 use Rattle.bank_rows.proofs.General.{length-numbers, length-rows, numbers-rows, rows-numbers, take-listed}
-use Rattle.bank_rows.proofs.Tests.{all-holds, all-from}
 use Rattle.bank_session.specs.Session.{sessionSize}
 use Rattle.image_conditions.specs.Layout.{journalAt, eventWidth, numberCount, eventAt}
 use Rattle.image_numbers.specs.Table.{sessionPlaces, imagePlaces}
@@ -30,8 +27,6 @@ use Rattle.image_numbers.specs.Numbers.{
   numbersIn,
   rowsFrom,
   rowFrom,
-  isNumbered,
-  ordersNumbered,
 }
 use Rattle.image_numbers.proofs.Places.{
   length-at,
@@ -44,12 +39,7 @@ use Rattle.image_numbers.proofs.Places.{
   image-within,
   image-there,
   again,
-  orderAt,
-  runningAt,
-  placeWith,
-  isOrder,
   session-back,
-  order-running,
 }
 
 -- ---- lengths
@@ -85,39 +75,22 @@ image-number xs p h = number-at imagePlaces xs p (rw length-image h)
 
 -- ---- the rows again
 
-module _ (s : List ℕ) (numbered : ordersNumbered s ≡ true) where
-  order-is : (k : ℕ) → k < placeCount → getD s (orderAt k) 0 ≡ getD s (runningAt k) 0
-  unfolding ordersNumbered
-  order-is k h = eqb-true _ _ (all-holds (isNumbered s) placeCount numbered k h)
+again-same : (s : List ℕ) → length s ≡ sessionSize → numbersAt (numbersAt imagePlaces sessionPlaces) s ≡ s
+unfolding again
+again-same s h =
+    let n : length (numbersAt imagePlaces sessionPlaces) ≡ sessionSize =
+    length-at imagePlaces sessionPlaces ∙ length-image in
+    let m = length-at (numbersAt imagePlaces sessionPlaces) s in
+    ext-getD 0 _ s (m ∙ n ∙ sym h)
+    (λ i k. number-at (numbersAt imagePlaces sessionPlaces) s i (omega arith)
+    ∙ ap (λ (p : ℕ). getD s p 0) (session-back i (omega arith)))
 
-  same-order : (i k : ℕ) → isOrder i k ≡ true → getD s (again i) 0 ≡ getD s i 0
-  same-order i k h =
-      let a = and-true (ltb k placeCount) _ h in
-      let b = and-true (eqb i (orderAt k)) _ (a .1) in
-      ap (λ (p : ℕ). getD s p 0) (eqb-true _ _ (b .1)) ∙ sym (order-is k (ltb-true _ _ (a .0)))
-      ∙ ap (λ (p : ℕ). getD s p 0) (sym (eqb-true _ _ (b .0)))
-
-  same-at : (i : ℕ) (t : Bool) → eqb (again i) i ≡ t → i < sessionSize → getD s (again i) 0 ≡ getD s i 0
-  same-at i true e h = ap (λ (p : ℕ). getD s p 0) (eqb-true _ _ e)
-  same-at i false e h =
-      same-order i (placeWith i) (or-true (eqb (again i) i) (isOrder i (placeWith i)) e (session-back i h))
-
-  again-same : length s ≡ sessionSize → numbersAt (numbersAt imagePlaces sessionPlaces) s ≡ s
-  unfolding again
-  again-same h =
-      let n : length (numbersAt imagePlaces sessionPlaces) ≡ sessionSize =
-      length-at imagePlaces sessionPlaces ∙ length-image in
-      let m = length-at (numbersAt imagePlaces sessionPlaces) s in
-      ext-getD 0 _ s (m ∙ n ∙ sym h)
-      (λ i k. number-at (numbersAt imagePlaces sessionPlaces) s i (omega arith) ∙ same-at i (eqb (again i) i) refl (omega arith))
-
-pub rows-back : (s : List ℕ) (row : List Event) → length s ≡ sessionSize → ordersNumbered s ≡ true
-    → rowsFrom (numbersIn s row) ≡ s
+pub rows-back : (s : List ℕ) (row : List Event) → length s ≡ sessionSize → rowsFrom (numbersIn s row) ≡ s
 unfolding rowsFrom
-rows-back s row h numbered =
+rows-back s row h =
     at-places sessionPlaces s (numbersIn s row) (λ p k. session-number s row p (rw length-session at k)) imagePlaces
     (rw length-session image-within)
-    ∙ again-same s numbered h
+    ∙ again-same s h
 
 -- ---- the journal again
 
@@ -163,8 +136,8 @@ kind-at n false false false false e f g i h =
 kind-number : (n : ℕ) → n ≤ 4 → numberOfKind (kindOf n) ≡ n
 kind-number n h = kind-at n (eqb n 0) (eqb n 1) (eqb n 2) (eqb n 3) refl refl refl refl h
 
-event-numbers : (s : List ℕ) → eventWidth ≤ length s → getD s 4 0 ≤ 4 → eventNumbers (eventOf s) ≡ take eventWidth s
-event-numbers s h k = rw (kind-number (getD s 4 0) k) (sym (take-listed eventWidth s h))
+event-numbers : (s : List ℕ) → eventWidth ≤ length s → getD s 5 0 ≤ 4 → eventNumbers (eventOf s) ≡ take eventWidth s
+event-numbers s h k = rw (kind-number (getD s 5 0) k) (sym (take-listed eventWidth s h))
 
 module _ (xs : List ℕ) (long : length xs ≡ numberCount) where
   front-again : numbersAt (numbersAt sessionPlaces imagePlaces) xs ≡ take journalAt xs
@@ -189,9 +162,9 @@ module _ (xs : List ℕ) (long : length xs ≡ numberCount) where
         ≡ take eventWidth (drop (eventWidth * i) (drop journalAt xs))
     unfolding eventAt
     journal-record i h =
-        let e : journalAt + (eventWidth * i + 4) ≡ journalAt + i * eventWidth + 4 = omega arith in
+        let e : journalAt + (eventWidth * i + 5) ≡ journalAt + i * eventWidth + 5 = omega arith in
         event-numbers (drop (eventWidth * i) (drop journalAt xs)) (simp length-drop (omega arith))
-        (rw (getD-drop (eventWidth * i) (drop journalAt xs) 4 0, getD-drop journalAt xs (eventWidth * i + 4) 0, e)
+        (rw (getD-drop (eventWidth * i) (drop journalAt xs) 5 0, getD-drop journalAt xs (eventWidth * i + 5) 0, e)
         (kinds i h))
 
     journal-again : numbersOf eventNumbers (rowFrom xs) ≡ drop journalAt xs
@@ -203,12 +176,3 @@ module _ (xs : List ℕ) (long : length xs ≡ numberCount) where
     pub numbers-back : numbersIn (rowsFrom xs) (rowFrom xs) ≡ xs
     unfolding numbersIn
     numbers-back = rw (rows-again, journal-again) (take-append-drop journalAt xs)
-
--- ---- order numbers
-
-pub numbered-back : (xs : List ℕ) → ordersNumbered (rowsFrom xs) ≡ true
-unfolding ordersNumbered
-numbered-back xs =
-    all-from (isNumbered (rowsFrom xs)) placeCount
-    (λ k h. eq-eqb _ _ (image-number xs (orderAt k) (omega arith)
-    ∙ ap (λ (p : ℕ). getD xs p 0) (order-running k h) ∙ sym (image-number xs (runningAt k) (omega arith))))

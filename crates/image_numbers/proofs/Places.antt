@@ -1,6 +1,6 @@
 -- Laws of the numbers at some places, and what the tables' places are, by computation. Assumes nothing.
-use Prim.Native.Nat.{ℕ, zero, suc, _+_, _-_, _*_, _/_, _<_}
-use mathlib.Core.Bool.{Bool, true, _&&_, _||_}
+use Prim.Native.Nat.{ℕ, zero, suc, _<_}
+use mathlib.Core.Bool.{Bool, true}
 use mathlib.Core.List.{List, [], _∷_, _++_}
 use mathlib.Core.Path.{_≡_, refl, _∙_}
 use native.Mathlib.Omega.{arith}
@@ -8,8 +8,6 @@ use lib.Dec.{eqb, ltb}
 use lib.ListN.{length, getD, length-map, List·getD-append}
 use borrow.Author.Tests.{eqb-true, ltb-true}
 use Rattle.octets.proofs.Tests.{and-true}
-use Rattle.bank_state.specs.Limits.{placeCount}
-use Rattle.bank_rows.specs.Layout as rows
 use Rattle.bank_rows.specs.Rows.{allBelow}
 use Rattle.bank_rows.proofs.Tests.{all-holds}
 use Rattle.bank_session.specs.Session.{sessionSize}
@@ -93,41 +91,14 @@ image-there i h = eqb-true _ _ (all-holds there journalAt all-there i h)
 unfoldable pub again : ℕ → ℕ
 again i = getD (numbersAt imagePlaces sessionPlaces) i 0
 
--- the order number of a place, and its running number
-abbrev pub orderAt : ℕ → ℕ
-orderAt k = rows.placesAt + (rows.placeWidth * k + rows.placeNumber)
-
-abbrev pub runningAt : ℕ → ℕ
-runningAt k = rows.placesAt + (rows.placeWidth * k + rows.placeLow)
-
--- the record of places that a number stands in
-abbrev pub placeWith : ℕ → ℕ
-placeWith i = (i - rows.placesAt) / rows.placeWidth
-
--- a number that is an order number and stands at the running number
-abbrev pub isOrder : ℕ → ℕ → Bool
-isOrder i k = ltb k placeCount && (eqb i (orderAt k) && eqb (again i) (runningAt k))
-
 back : ℕ → Bool
-back i = eqb (again i) i || isOrder i (placeWith i)
+back i = eqb (again i) i
 
 all-back : allBelow back sessionSize ≡ true
 unfolding
     back again allBelow numbersAt sessionPlaces imagePlaces groupsFrom groupPlaces recordsFrom recordPlaces partPlaces groupAt
 all-back = refl
 
-pub session-back : (i : ℕ) → i < sessionSize → eqb (again i) i || isOrder i (placeWith i) ≡ true
+pub session-back : (i : ℕ) → i < sessionSize → again i ≡ i
 unfolding back
-session-back i h = all-holds back sessionSize all-back i h
-
--- order number and running number of a place are one number of the image
-one : ℕ → Bool
-one k = eqb (getD imagePlaces (orderAt k) 0) (getD imagePlaces (runningAt k) 0)
-
-all-one : allBelow one placeCount ≡ true
-unfolding one allBelow imagePlaces groupsFrom groupPlaces recordsFrom recordPlaces partPlaces groupAt
-all-one = refl
-
-pub order-running : (k : ℕ) → k < placeCount → getD imagePlaces (orderAt k) 0 ≡ getD imagePlaces (runningAt k) 0
-unfolding one
-order-running k h = eqb-true _ _ (all-holds one placeCount all-one k h)
+session-back i h = eqb-true _ _ (all-holds back sessionSize all-back i h)

@@ -23,7 +23,7 @@ use Rattle.image_conditions.specs.declared.layout.DownloadRecord.{DownloadRecor
 use Rattle.image_conditions.specs.declared.layout.PlaceRecord.{PlaceRecord}
 use Rattle.image_conditions.specs.declared.layout.EventRecord.{EventRecord}
 use Rattle.image_conditions.specs.Layout as image
-use Rattle.image_conditions.specs.Layout.{nonceAt, downloadAt, placeAt, eventAt, fileAt}
+use Rattle.image_conditions.specs.Layout.{nonceAt, downloadAt, placeAt, eventAt, counterAt, fileAt}
 use Rattle.image_numbers.specs.Table.{
   nonceParts,
   downloadParts,
@@ -103,6 +103,10 @@ places-stand : allBelow (recordStands image.placesAt image.placeWidth rows.place
 unfolding partStands recordStands allBelow sessionPlaces groupsFrom groupPlaces recordsFrom recordPlaces partPlaces groupAt
 places-stand = refl
 
+series-stand : allBelow (recordStands image.seriesAt 1 rows.seriesAt 1 (0 ∷ [])) placeCount ≡ true
+unfolding partStands recordStands allBelow sessionPlaces groupsFrom groupPlaces recordsFrom recordPlaces partPlaces groupAt
+series-stand = refl
+
 files-stand : allBelow (recordStands image.filesAt 1 rows.filesAt 1 (0 ∷ [])) placeCount ≡ true
 unfolding partStands recordStands allBelow sessionPlaces groupsFrom groupPlaces recordsFrom recordPlaces partPlaces groupAt
 files-stand = refl
@@ -135,6 +139,7 @@ placeIn s i =
       subscriber = getD s (rows.placesAt + (rows.placeWidth * i + rows.placeSubscriber)) 0;
       high = getD s (rows.placesAt + (rows.placeWidth * i + rows.placeHigh)) 0;
       low = getD s (rows.placesAt + (rows.placeWidth * i + rows.placeLow)) 0;
+      order = getD s (rows.placesAt + (rows.placeWidth * i + rows.placeNumber)) 0;
       segments = getD s (rows.placesAt + (rows.placeWidth * i + rows.placeSegments)) 0;
       taken = getD s (rows.placesAt + (rows.placeWidth * i + rows.placeTaken)) 0;
       attempts = getD s (rows.placesAt + (rows.placeWidth * i + rows.placeAttempts)) 0;
@@ -179,7 +184,17 @@ module _ (s : List ℕ) (row : List Event) (i : ℕ) where
         at 6 (omega arith),
         at 7 (omega arith),
         at 8 (omega arith),
+        at 9 (omega arith),
       )
+
+  pub counter-in : i < placeCount → counterAt (numbersIn s row) i ≡ getD s (rows.seriesAt + i) 0
+  unfolding counterAt
+  counter-in h =
+      let e : image.seriesAt + i ≡ image.seriesAt + i * 1 = omega arith in
+      let f : rows.seriesAt + (1 * i + 0) ≡ rows.seriesAt + i = omega arith in
+      ap (λ (p : ℕ). getD (numbersIn s row) p 0) e
+      ∙ first-in image.seriesAt 1 rows.seriesAt 1 (0 ∷ []) placeCount series-stand s row i h (omega arith)
+      ∙ ap (λ (p : ℕ). getD s p 0) f
 
   pub file-in : i < placeCount → fileAt (numbersIn s row) i ≡ getD s (rows.filesAt + i) 0
   unfolding fileAt
@@ -198,6 +213,7 @@ eventIn e =
       number = e .number;
       clock = e .clock;
       subscriber = e .subscriber;
+      «order_type» = e .«order_type»;
       order = e .order;
       kind = numberOfKind (e .kind);
     }
@@ -238,4 +254,5 @@ module _ (s : List ℕ) (row : List Event) (long : length row ≡ recordCount) (
         event-number 2 (at + 2) (omega arith) (omega arith),
         event-number 3 (at + 3) (omega arith) (omega arith),
         event-number 4 (at + 4) (omega arith) (omega arith),
+        event-number 5 (at + 5) (omega arith) (omega arith),
       )

@@ -1,6 +1,6 @@
--- The numbers of a session in the order of the image of form 3, and the session of such numbers.
-use Prim.Native.Nat.{ℕ, _+_, _*_}
-use mathlib.Core.Bool.{Bool, cond}
+-- The numbers of a session in the order of the image, and the session of such numbers.
+use Prim.Native.Nat.{ℕ}
+use mathlib.Core.Bool.{cond}
 use mathlib.Core.List.{List, [], _∷_, _++_, map}
 use lib.Dec.{eqb}
 use lib.ListN.{getD, drop}
@@ -8,9 +8,7 @@ use Rattle.journal.specs.declared.event.Kind.{Kind}
 use Rattle.journal.specs.declared.event.Kind.the-variants.{Unused, Opened, Booked, Cancelled, Dropped}
 use Rattle.journal.specs.declared.event.Event.{Event}
 use Rattle.journal.specs.Events.{recordCount}
-use Rattle.bank_state.specs.Limits.{placeCount}
-use Rattle.bank_rows.specs.Layout as rows
-use Rattle.bank_rows.specs.Rows.{rowsOf, numbersOf, allBelow}
+use Rattle.bank_rows.specs.Rows.{rowsOf, numbersOf}
 use Rattle.image_conditions.specs.Layout as image
 use Rattle.image_numbers.specs.Table.{sessionPlaces, imagePlaces}
 
@@ -34,7 +32,8 @@ kindOf n =
 
 -- an event's parts, and the event of them
 abbrev pub eventNumbers : Event → List ℕ
-eventNumbers e = e .number ∷ e .clock ∷ e .subscriber ∷ e .order ∷ numberOfKind (e .kind) ∷ []
+eventNumbers e =
+    e .number ∷ e .clock ∷ e .subscriber ∷ e .«order_type» ∷ e .order ∷ numberOfKind (e .kind) ∷ []
 
 abbrev pub eventOf : List ℕ → Event
 eventOf s =
@@ -42,8 +41,9 @@ eventOf s =
       number = getD s 0 0;
       clock = getD s 1 0;
       subscriber = getD s 2 0;
-      order = getD s 3 0;
-      kind = kindOf (getD s 4 0);
+      «order_type» = getD s 3 0;
+      order = getD s 4 0;
+      kind = kindOf (getD s 5 0);
     }
 
 -- ---- a session's numbers, and the session of an image's
@@ -56,12 +56,3 @@ rowsFrom xs = numbersAt imagePlaces xs
 
 unfoldable pub rowFrom : List ℕ → List Event
 rowFrom xs = rowsOf image.eventWidth eventOf recordCount (drop image.journalAt xs)
-
--- each place's order number is its running number
-abbrev pub isNumbered : List ℕ → ℕ → Bool
-isNumbered s i =
-    eqb (getD s (rows.placesAt + (rows.placeWidth * i + rows.placeNumber)) 0)
-    (getD s (rows.placesAt + (rows.placeWidth * i + rows.placeLow)) 0)
-
-unfoldable pub ordersNumbered : List ℕ → Bool
-ordersNumbered s = allBelow (isNumbered s) placeCount

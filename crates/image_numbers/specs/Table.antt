@@ -1,4 +1,4 @@
--- Which number stands where: a session's numbers in the order of the image of form 3, and back, as groups of records.
+-- Which number stands where: a session's numbers in the order of the image, and back, as groups of records.
 use Prim.Native.Nat.{ℕ, zero, suc, _+_, _*_, _/_, _%_}
 use mathlib.Core.Bool.{Bool, true, _&&_}
 use mathlib.Core.List.{List, [], _∷_, _++_}
@@ -35,14 +35,15 @@ downloadParts =
 
 abbrev pub placeParts : List ℕ
 placeParts =
-    rows.placeUse ∷ rows.placeSubscriber ∷ rows.placeHigh ∷ rows.placeLow ∷ rows.placeSegments ∷ rows.placeTaken
-    ∷ rows.placeAttempts ∷ rows.placeLast ∷ rows.placeLength ∷ []
+    rows.placeUse ∷ rows.placeSubscriber ∷ rows.placeHigh ∷ rows.placeLow ∷ rows.placeNumber ∷ rows.placeSegments
+    ∷ rows.placeTaken ∷ rows.placeAttempts ∷ rows.placeLast ∷ rows.placeLength ∷ []
 
 -- the image's numbers in their order, by their places among the session's
 abbrev pub sessionGroups : List Group
 sessionGroups =
     single rows.clockAt  -- "clock" (02)
     ∷ single rows.openingsAt  -- "openings accepted" (03)
+    ∷ group rows.seriesAt 1 (0 ∷ []) placeCount  -- "series" (04)
     ∷ single eventsAt  -- "events entered so far" (05)
     ∷ single rows.nonceCountAt  -- "number of nonces remembered" (06)
     ∷ group rows.noncesAt rows.nonceWidth nonceParts nonceCount  -- "nonces" (07)
@@ -59,9 +60,9 @@ nonceNumbers = 0 ∷ 1 ∷ 2 ∷ []
 abbrev pub downloadNumbers : List ℕ
 downloadNumbers = 1 ∷ 2 ∷ 0 ∷ 3 ∷ 4 ∷ 5 ∷ []
 
--- "Up to form 3 an upload's order number is its running number, so a place has no part for it": part 3 stands twice
+-- "order (form 5 on)": the order number has a part of its own
 abbrev pub placeNumbers : List ℕ
-placeNumbers = 0 ∷ 2 ∷ 3 ∷ 1 ∷ 3 ∷ 4 ∷ 5 ∷ 6 ∷ 7 ∷ 8 ∷ []
+placeNumbers = 0 ∷ 2 ∷ 3 ∷ 1 ∷ 4 ∷ 5 ∷ 6 ∷ 7 ∷ 8 ∷ 9 ∷ []
 
 -- the session's numbers in their order, by their places among the image's
 abbrev pub imageGroups : List Group
@@ -69,6 +70,7 @@ imageGroups =
     single image.clockAt
     ∷ single image.openingsAt
     ∷ group image.filesAt 1 (0 ∷ []) placeCount
+    ∷ group image.seriesAt 1 (0 ∷ []) placeCount
     ∷ single image.downloadCountAt
     ∷ single image.nonceCountAt
     ∷ group image.placesAt image.placeWidth placeNumbers placeCount

@@ -49,6 +49,7 @@ fn put_event(e: Event, numbers: &mut [u64], at: usize)
         e.number,
         e.clock,
         e.subscriber,
+        e.order_type,
         e.order,
         number_of_kind(kind),
     ];
@@ -79,6 +80,7 @@ fn event_from(numbers: &[u64], i: usize) -> Event
         number: e.number,
         clock: e.clock,
         subscriber: e.subscriber,
+        order_type: e.order_type,
         order: e.order,
         kind,
     }
@@ -93,6 +95,7 @@ pub fn row_from(numbers: &[u64]) -> [Event; RECORD_COUNT]
         number: 0,
         clock: 0,
         subscriber: 0,
+        order_type: 0,
         order: 0,
         kind: Kind::Unused,
     };

@@ -3,20 +3,13 @@ use crate::events::put_events;
 use crate::moving::move_groups;
 use crate::table::ALL_GROUPS;
 use crate::table::SESSION_GROUPS;
-use bank_rows::layout::PLACE_LOW;
-use bank_rows::layout::PLACE_NUMBER;
-use bank_rows::layout::PLACE_WIDTH;
-use bank_rows::layout::PLACES_AT;
-use bank_state::limits::PLACE_COUNT;
 use journal::event::Event;
 use journal::event::RECORD_COUNT;
 ghost use mathlib.Core.Path.{_≡_};
-ghost use Prim.Native.Nat.{_<_};
 ghost use lib.ListN.{length};
-ghost use Rattle.bank_state.specs.Limits.{placeCount};
 ghost use Rattle.bank_session.specs.Session.{sessionSize};
 ghost use Rattle.image_conditions.specs.Layout.{numberCount};
-ghost use Rattle.image_numbers.specs.Numbers.{numbersIn, rowsFrom, isNumbered, ordersNumbered};
+ghost use Rattle.image_numbers.specs.Numbers.{numbersIn, rowsFrom};
 
 // The numbers of a session's image: those of the rows, and behind them the journal's.
 pub fn gather(rows: &[u64], row: [Event; RECORD_COUNT], numbers: &mut [u64])
@@ -33,28 +26,4 @@ pub fn scatter(numbers: &[u64], rows: &mut [u64])
     ensures { λ _. ⌜ now (rows .exit) ≡ rowsFrom (now (numbers .entry)) ⌝ }
 {
     move_groups(SESSION_GROUPS, ALL_GROUPS, numbers, rows);
-}
-
-// Whether place i has its running number as its order number.
-fn is_numbered(rows: &[u64], i: usize) -> bool
-    requires { ⌜ (length (now rows) ≡ sessionSize) × (i < placeCount) ⌝ }
-    ensures { λ r. ⌜ r ≡ isNumbered (now (rows .entry)) i ⌝ }
-{
-    let at = PLACE_WIDTH * i;
-    rows[PLACES_AT + (at + PLACE_NUMBER)] == rows[PLACES_AT + (at + PLACE_LOW)]
-}
-
-// Whether each place's order number is its running number.
-pub fn orders_numbered(rows: &[u64]) -> bool
-    requires { ⌜ length (now rows) ≡ sessionSize ⌝ }
-    ensures { λ r. ⌜ r ≡ ordersNumbered (now (rows .entry)) ⌝ }
-{
-    let mut i = 0;
-    while i < PLACE_COUNT {
-        if !is_numbered(rows, i) {
-            return false;
-        }
-        i += 1;
-    }
-    true
 }

@@ -32,6 +32,13 @@ const GROUPS: [Group; ALL_GROUPS] = [
         records: 1,
     },
     Group {
+        at: bank_rows::layout::SERIES_AT,
+        width: 1,
+        size: 1,
+        parts: 0x0,
+        records: PLACE_COUNT,
+    },
+    Group {
         at: bank_session::layout::EVENTS_AT,
         width: 1,
         size: 1,
@@ -69,8 +76,8 @@ const GROUPS: [Group; ALL_GROUPS] = [
     Group {
         at: bank_rows::layout::PLACES_AT,
         width: bank_rows::layout::PLACE_WIDTH,
-        size: 9,
-        parts: 0x987652130,
+        size: 10,
+        parts: 0x9876542130,
         records: PLACE_COUNT,
     },
     Group {
@@ -102,6 +109,13 @@ const GROUPS: [Group; ALL_GROUPS] = [
         records: PLACE_COUNT,
     },
     Group {
+        at: image_conditions::layout::SERIES,
+        width: 1,
+        size: 1,
+        parts: 0x0,
+        records: PLACE_COUNT,
+    },
+    Group {
         at: image_conditions::layout::DOWNLOAD_COUNT_AT,
         width: 1,
         size: 1,
@@ -119,7 +133,7 @@ const GROUPS: [Group; ALL_GROUPS] = [
         at: image_conditions::layout::PLACES,
         width: image_conditions::layout::PLACE_WIDTH,
         size: 10,
-        parts: 0x8765431320,
+        parts: 0x9876541320,
         records: PLACE_COUNT,
     },
     Group {
@@ -146,9 +160,9 @@ const GROUPS: [Group; ALL_GROUPS] = [
 ];
 
 // Where the groups of `imageGroups` begin, and where they end.
-pub const SESSION_GROUPS: usize = 9;
+pub const SESSION_GROUPS: usize = 10;
 
-pub const ALL_GROUPS: usize = 18;
+pub const ALL_GROUPS: usize = 20;
 
 // The group at a row; none behind the last.
 pub fn group_at(i: usize) -> Group

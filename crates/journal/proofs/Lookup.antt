@@ -2,22 +2,24 @@
 -- cancellation or drop, Nothing where none is either; and what it says of the row is true of all events. Assumes nothing.
 use Prim.Native.Nat.{ℕ, zero, suc, _-_}
 use mathlib.Core.Path.{_≡_, refl, sym, _∙_, ap}
-use mathlib.Core.Bool.{Bool, true, false, cond}
+use mathlib.Core.Bool.{Bool, true, false, cond, _&&_}
 use mathlib.Core.Logic.{_⊎_, inl, inr}
 use mathlib.Core.List.{List, [], _∷_, _++_}
 use native.Mathlib.Omega.{arith}
 use lib.Dec.{eqb}
 use lib.ListN.{length, drop, replicate}
 use borrow.Author.Tests.{eqb-true, eq-eqb}
+use Rattle.octets.proofs.Tests.{and-true}
 use Rattle.message.specs.OrderNumbers.{orderNumberOf}
 use Rattle.journal.specs.declared.event.Kind.{Kind}
 use Rattle.journal.specs.declared.event.Kind.the-variants.{Unused, Opened, Booked, Cancelled, Dropped}
 use Rattle.journal.specs.declared.event.Event.{Event}
+use Rattle.journal.specs.declared.event.OrderName.{OrderName}
 use Rattle.journal.specs.declared.event.Found.{Found}
 use Rattle.journal.specs.declared.event.Found.the-variants as found
 use Rattle.journal.specs.Events.{recordCount, noEvent}
-use Rattle.journal.specs.Row.{orEnded, withKind, withRecord, lookup, newest, rowOf}
-use Rattle.journal.specs.Records.{Recorded, here, there, RecordedEnd}
+use Rattle.journal.specs.Row.{isOf, orEnded, withKind, withRecord, lookup, newest, rowOf}
+use Rattle.journal.specs.Records.{nameOf, Recorded, here, there, RecordedEnd}
 
 -- the three words differ
 not-ended : found.Nothing ≡ found.Ended → ⊥
@@ -74,46 +76,64 @@ kind-ends : (k : Kind) (f : Found) → (k ≡ Cancelled) ⊎ (k ≡ Dropped) →
 kind-ends k f (inl e) n = ap (λ (j : Kind). withKind j f) e ∙ or-ended f n
 kind-ends k f (inr e) n = ap (λ (j : Kind). withKind j f) e ∙ or-ended f n
 
-module _ (order : ℕ) (e : Event) (f : Found) where
-  abbrev its : ℕ
-  its = orderNumberOf (e .order)
+-- names are the same where all three parts are
+pub same-name : {s t n s′ t′ n′ : ℕ} → s ≡ s′ → t ≡ t′ → n ≡ n′ → _≡_ {A = OrderName} (record { subscriber = s; «order_type» = t; number = n }) (record { subscriber = s′; «order_type» = t′; number = n′ })
+same-name p q r = rw (p, q, r)
 
+-- a record is of an order exactly where it has its name
+pub is-of-true : (o : OrderName) (e : Event) → isOf o e ≡ true → nameOf e ≡ o
+unfolding isOf
+is-of-true o e h =
+    let b = and-true (eqb (e .subscriber) (o .subscriber) && eqb (e .«order_type») (o .«order_type»)) (eqb (orderNumberOf (e .order)) (o .number)) h in
+    let a = and-true (eqb (e .subscriber) (o .subscriber)) (eqb (e .«order_type») (o .«order_type»)) (b .0) in
+    same-name (eqb-true (e .subscriber) (o .subscriber) (a .0)) (eqb-true (e .«order_type») (o .«order_type») (a .1)) (eqb-true (orderNumberOf (e .order)) (o .number) (b .1))
+
+pub is-of : (o : OrderName) (e : Event) → nameOf e ≡ o → isOf o e ≡ true
+unfolding isOf
+is-of o e h =
+    rw (
+      eq-eqb (e .subscriber) (o .subscriber) (ap (λ (n : OrderName). n .subscriber) h),
+      eq-eqb (e .«order_type») (o .«order_type») (ap (λ (n : OrderName). n .«order_type») h),
+      eq-eqb (orderNumberOf (e .order)) (o .number) (ap (λ (n : OrderName). n .number) h),
+    )
+
+module _ (o : OrderName) (e : Event) (f : Found) where
   -- a record says something new only where it is the order's
-  record-booked : withRecord order e f ≡ found.Booked → ((its ≡ order) × (e .kind ≡ Booked)) ⊎ (f ≡ found.Booked)
+  record-booked : withRecord o e f ≡ found.Booked → ((nameOf e ≡ o) × (e .kind ≡ Booked)) ⊎ (f ≡ found.Booked)
   unfolding withRecord
-  record-booked = at (eqb its order) refl
+  record-booked = at (isOf o e) refl
     where
-      at : (t : Bool) → eqb its order ≡ t → cond t (withKind (e .kind) f) f ≡ found.Booked → ((its ≡ order) × (e .kind ≡ Booked)) ⊎ (f ≡ found.Booked)
-      at true q h = elim (kind-booked (e .kind) f h) [ inl b ↦ inl (eqb-true its order q, b) | inr b ↦ inr b ]
+      at : (t : Bool) → isOf o e ≡ t → cond t (withKind (e .kind) f) f ≡ found.Booked → ((nameOf e ≡ o) × (e .kind ≡ Booked)) ⊎ (f ≡ found.Booked)
+      at true q h = elim (kind-booked (e .kind) f h) [ inl b ↦ inl (is-of-true o e q, b) | inr b ↦ inr b ]
       at false q h = inr h
 
-  record-ended : withRecord order e f ≡ found.Ended → ((its ≡ order) × ((e .kind ≡ Cancelled) ⊎ (e .kind ≡ Dropped))) ⊎ (f ≡ found.Ended)
+  record-ended : withRecord o e f ≡ found.Ended → ((nameOf e ≡ o) × ((e .kind ≡ Cancelled) ⊎ (e .kind ≡ Dropped))) ⊎ (f ≡ found.Ended)
   unfolding withRecord
-  record-ended = at (eqb its order) refl
+  record-ended = at (isOf o e) refl
     where
-      at : (t : Bool) → eqb its order ≡ t → cond t (withKind (e .kind) f) f ≡ found.Ended → ((its ≡ order) × ((e .kind ≡ Cancelled) ⊎ (e .kind ≡ Dropped))) ⊎ (f ≡ found.Ended)
-      at true q h = elim (kind-ended (e .kind) f h) [ inl b ↦ inl (eqb-true its order q, b) | inr b ↦ inr b ]
+      at : (t : Bool) → isOf o e ≡ t → cond t (withKind (e .kind) f) f ≡ found.Ended → ((nameOf e ≡ o) × ((e .kind ≡ Cancelled) ⊎ (e .kind ≡ Dropped))) ⊎ (f ≡ found.Ended)
+      at true q h = elim (kind-ended (e .kind) f h) [ inl b ↦ inl (is-of-true o e q, b) | inr b ↦ inr b ]
       at false q h = inr h
 
-  books : its ≡ order → e .kind ≡ Booked → withRecord order e f ≡ found.Booked
+  books : nameOf e ≡ o → e .kind ≡ Booked → withRecord o e f ≡ found.Booked
   unfolding withRecord
-  books o k = rw (eq-eqb its order o, k)
+  books n k = rw (is-of o e n, k)
 
-  keeps : f ≡ found.Booked → withRecord order e f ≡ found.Booked
+  keeps : f ≡ found.Booked → withRecord o e f ≡ found.Booked
   unfolding withRecord
-  keeps h = at (eqb its order)
+  keeps h = at (isOf o e)
     where
       at : (t : Bool) → cond t (withKind (e .kind) f) f ≡ found.Booked
       at true = kind-keeps (e .kind) f h
       at false = h
 
-  ends-it : its ≡ order → (e .kind ≡ Cancelled) ⊎ (e .kind ≡ Dropped) → (f ≡ found.Booked → ⊥) → withRecord order e f ≡ found.Ended
+  ends-it : nameOf e ≡ o → (e .kind ≡ Cancelled) ⊎ (e .kind ≡ Dropped) → (f ≡ found.Booked → ⊥) → withRecord o e f ≡ found.Ended
   unfolding withRecord
-  ends-it o k n = rw (eq-eqb its order o) (kind-ends (e .kind) f k n)
+  ends-it n k b = rw (is-of o e n) (kind-ends (e .kind) f k b)
 
-  keeps-end : f ≡ found.Ended → (withRecord order e f ≡ found.Booked → ⊥) → withRecord order e f ≡ found.Ended
+  keeps-end : f ≡ found.Ended → (withRecord o e f ≡ found.Booked → ⊥) → withRecord o e f ≡ found.Ended
   unfolding withRecord
-  keeps-end h = at (eqb its order)
+  keeps-end h = at (isOf o e)
     where
       at : (t : Bool) → (cond t (withKind (e .kind) f) f ≡ found.Booked → ⊥) → cond t (withKind (e .kind) f) f ≡ found.Ended
       at true n = kind-keeps-end (e .kind) f h n
@@ -121,8 +141,8 @@ module _ (order : ℕ) (e : Event) (f : Found) where
 
 -- ---- a list of records
 
-module _ (order : ℕ) where
-  end-here : (e : Event) (es : List Event) → orderNumberOf (e .order) ≡ order → (e .kind ≡ Cancelled) ⊎ (e .kind ≡ Dropped) → RecordedEnd order (e ∷ es)
+module _ (order : OrderName) where
+  end-here : (e : Event) (es : List Event) → nameOf e ≡ order → (e .kind ≡ Cancelled) ⊎ (e .kind ≡ Dropped) → RecordedEnd order (e ∷ es)
   end-here e es o (inl k) = inl (here o k)
   end-here e es o (inr k) = inr (here o k)
 
@@ -174,7 +194,7 @@ module _ (order : ℕ) where
   unused-none : (m : ℕ) → lookup order (replicate m noEvent) ≡ found.Nothing
   unfolding lookup withRecord
   unused-none zero = refl
-  unused-none (suc m) = at (eqb (orderNumberOf 0) order) (unused-none m)
+  unused-none (suc m) = at (isOf order noEvent) (unused-none m)
     where
       at : (t : Bool) → lookup order (replicate m noEvent) ≡ found.Nothing → cond t (lookup order (replicate m noEvent)) (lookup order (replicate m noEvent)) ≡ found.Nothing
       at true h = h

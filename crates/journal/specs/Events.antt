@@ -19,15 +19,22 @@ maxEntries = 9
 
 -- a record that is not in use is zero
 abbrev pub noEvent : Event
-noEvent = record { number = 0; clock = 0; subscriber = 0; order = 0; kind = Unused }
+noEvent = record { number = 0; clock = 0; subscriber = 0; «order_type» = 0; order = 0; kind = Unused }
 
 abbrev pub noEntry : Entry
-noEntry = record { subscriber = 0; order = 0; kind = Unused }
+noEntry = record { subscriber = 0; «order_type» = 0; order = 0; kind = Unused }
 
 -- an entry's event, with its number and the clock
 abbrev pub eventOf : ℕ → ℕ → Entry → Event
 eventOf number clock e =
-    record { number = number; clock = clock; subscriber = e .subscriber; order = e .order; kind = e .kind }
+    record {
+      number = number;
+      clock = clock;
+      subscriber = e .subscriber;
+      «order_type» = e .«order_type»;
+      order = e .order;
+      kind = e .kind;
+    }
 
 -- "event number (8 bytes, from 1)": the events of one call at this clock, numbered on after n events
 unfoldable pub eventsFrom : ℕ → ℕ → List Entry → List Event

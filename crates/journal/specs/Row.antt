@@ -9,6 +9,7 @@ use Rattle.journal.specs.declared.event.Kind.{Kind}
 use Rattle.journal.specs.declared.event.Kind.the-variants.{Unused, Opened, Booked, Cancelled, Dropped}
 use Rattle.journal.specs.declared.event.Event.{Event}
 use Rattle.journal.specs.declared.event.Batch.{Batch}
+use Rattle.journal.specs.declared.event.OrderName.{OrderName}
 use Rattle.journal.specs.declared.event.Found.{Found}
 use Rattle.journal.specs.declared.event.Found.the-variants as found
 use Rattle.journal.specs.Events.{recordCount, maxEntries, noEvent, eventsFrom, entriesIn}
@@ -48,6 +49,11 @@ newest l = drop (length l - recordCount) l
 unfoldable pub rowOf : List Event → List Event
 rowOf l = newest l ++ replicate (recordCount - length l) noEvent
 
+-- whether a record is of an order: "subscriber, type and number together"
+unfoldable pub isOf : OrderName → Event → Bool
+isOf o e = eqb (e .subscriber) (o .subscriber) && eqb (e .«order_type») (o .«order_type»)
+    && eqb (orderNumberOf (e .order)) (o .number)
+
 -- what is known of an order that a record says ended
 abbrev pub orEnded : Found → Found
 orEnded found.Nothing = found.Ended
@@ -62,14 +68,14 @@ withKind Booked f = found.Booked
 withKind Cancelled f = orEnded f
 withKind Dropped f = orEnded f
 
--- what is known of an order with one record more, of any order: `order` is as field 0E has it
-unfoldable pub withRecord : ℕ → Event → Found → Found
-withRecord order e f = cond (eqb (orderNumberOf (e .order)) order) (withKind (e .kind) f) f
+-- what is known of an order with one record more, of any order
+unfoldable pub withRecord : OrderName → Event → Found → Found
+withRecord o e f = cond (isOf o e) (withKind (e .kind) f) f
 
 -- "a booking under its order number makes it lodged, a cancellation or drop makes it not lodged"
-unfoldable pub lookup : ℕ → List Event → Found
-lookup order [] = found.Nothing
-lookup order (e ∷ es) = withRecord order e (lookup order es)
+unfoldable pub lookup : OrderName → List Event → Found
+lookup o [] = found.Nothing
+lookup o (e ∷ es) = withRecord o e (lookup o es)
 
 -- ---- the row by value
 

@@ -15,12 +15,13 @@ pub enum Kind {
     Dropped,
 }
 
-// A record of the row, document 02's "event number (8 bytes, from 1), clock, subscriber, order number, and kind". The
-// order number is the number of the opening: A000 is 0.
+// A record of the row, document 02's "event number (8 bytes, from 1), clock, subscriber, order number, and kind"; "the
+// journal gains the type", the three bytes of field 04 as a number. The order number counts in its series: A000 is 0.
 pub struct Event {
     pub number: u64,
     pub clock: u64,
     pub subscriber: u64,
+    pub order_type: u64,
     pub order: u64,
     pub kind: Kind,
 }
@@ -28,6 +29,7 @@ pub struct Event {
 // An event before it has its number and clock.
 pub struct Entry {
     pub subscriber: u64,
+    pub order_type: u64,
     pub order: u64,
     pub kind: Kind,
 }
@@ -36,6 +38,13 @@ pub struct Entry {
 pub struct Batch {
     pub count: u64,
     pub entries: [Entry; MAX_ENTRIES],
+}
+
+// What names an order: document 02's "subscriber, type and number together", the number as field 0E has it.
+pub struct OrderName {
+    pub subscriber: u64,
+    pub order_type: u64,
+    pub number: u64,
 }
 
 // What the journal says of an order: nothing, that it was cancelled or dropped, or that it was booked.

@@ -81,6 +81,7 @@ pub fn event_at(events: u64, clock: u64, batch: Batch, k: usize) -> Event
         number: events + 1 + k as u64,
         clock,
         subscriber: entry.subscriber,
+        order_type: entry.order_type,
         order: entry.order,
         kind,
     }

@@ -4,12 +4,13 @@ use crate::event::Batch;
 use crate::event::Event;
 use crate::event::Found;
 use crate::event::Kind;
+use crate::event::OrderName;
 use crate::event::RECORD_COUNT;
 use crate::places::event_at;
 use crate::places::places_of;
 use message::order_numbers::order_number_of;
 ghost use mathlib.Core.Path.{_≡_};
-ghost use Rattle.journal.specs.Row.{rowAfter, orEnded, withRecord, lookup};
+ghost use Rattle.journal.specs.Row.{rowAfter, isOf, orEnded, withKind, withRecord, lookup};
 ghost use Rattle.journal.specs.Row.{emptyRow, copiedCount, heldRow, replaced};
 
 // The events of one call are entered after so many others, and numbered on from them. The records move up where there
@@ -29,6 +30,19 @@ pub fn enter(row: &mut [Event], events: u64, clock: u64, batch: Batch)
     }
 }
 
+// Whether a record is of an order, by all that names it.
+fn is_of(order: OrderName, e: Event) -> bool
+    ensures { λ r. ⌜ r ≡ isOf order e ⌝ }
+{
+    if e.subscriber != order.subscriber {
+        return false;
+    }
+    if e.order_type != order.order_type {
+        return false;
+    }
+    order_number_of(e.order) == order.number
+}
+
 // What is known of an order that a record says ended.
 fn or_ended(found: Found) -> Found
     ensures { λ r. ⌜ r ≡ orEnded found ⌝ }
@@ -40,14 +54,10 @@ fn or_ended(found: Found) -> Found
     }
 }
 
-// What is known of an order with one record more.
-fn with_record(order: u64, e: Event, found: Found) -> Found
-    ensures { λ r. ⌜ r ≡ withRecord order e found ⌝ }
+// What is known of an order with one record of it more.
+fn with_kind(kind: Kind, found: Found) -> Found
+    ensures { λ r. ⌜ r ≡ withKind kind found ⌝ }
 {
-    if order_number_of(e.order) != order {
-        return found;
-    }
-    let kind = e.kind;
     match kind {
         Kind::Unused => found,
         Kind::Opened => found,
@@ -57,8 +67,19 @@ fn with_record(order: u64, e: Event, found: Found) -> Found
     }
 }
 
+// What is known of an order with one record more, of any order.
+fn with_record(order: OrderName, e: Event, found: Found) -> Found
+    ensures { λ r. ⌜ r ≡ withRecord order e found ⌝ }
+{
+    if is_of(order, e) {
+        let kind = e.kind;
+        return with_kind(kind, found);
+    }
+    found
+}
+
 // What the row says of an order, from its last record to its first.
-pub fn find(row: &[Event], order: u64) -> Found
+pub fn find(row: &[Event], order: OrderName) -> Found
     ensures { λ r. ⌜ r ≡ lookup order (now (row .entry)) ⌝ }
 {
     let mut i = row.len();
@@ -79,6 +100,7 @@ fn empty_row() -> [Event; RECORD_COUNT]
         number: 0,
         clock: 0,
         subscriber: 0,
+        order_type: 0,
         order: 0,
         kind,
     };

@@ -18,7 +18,7 @@ use Rattle.bank_rows.specs.Layout.{stateSize}
 use Rattle.bank_rows.specs.State.{bankOf}
 use Rattle.bank_rows.proofs.State.{fresh-rows}
 use Rattle.bank_sound.proofs.Range.{zeros-sound}
-use Rattle.bank_openings.specs.Openings.{counted, openUpload, openDownload}
+use Rattle.bank_openings.specs.Openings.{counted, countedUpload, openUpload, openDownload}
 use Rattle.bank_verdicts.specs.declared.verdict.Action.the-variants as action
 use Rattle.bank_verdicts.specs.declared.verdict.DownloadAction.the-variants as down
 use Rattle.bank_verdicts.specs.declared.verdict.UploadAction.the-variants as up
@@ -39,7 +39,7 @@ use Rattle.marker_session.specs.Marking.{MarkerState, inputOf, callOf, c
 
 -- "beyond clock and drops only what is named changes": no verdict moves the clock
 carried-clock : (v : Verdict) (w : BankState) (q : Fields) (d : List ℕ) → carryOut v w q d .bank .clock ≡ w .bank .clock
-unfolding openUpload openDownload counted
+unfolding openUpload openDownload counted countedUpload
 carried-clock verdict.Unreadable w q d = refl
 carried-clock (verdict.Refused c) w q d = refl
 carried-clock (verdict.Of t (action.Upload (up.Opened n))) w q d = refl

@@ -19,8 +19,12 @@ use Rattle.print.specs.Text.{
   decimal,
   orderCharacters,
   orderNumberText,
+  typeCharacters,
+  typeColumn,
+  typeRoom,
   column,
   columnRoom,
+  space,
 }
 
 -- ---- how many digits
@@ -66,6 +70,15 @@ decimal-most x = omega (arith, length-digitsIn 10 48 (digitCount x) x, digitCoun
 
 pub order-number-most : (x : ℕ) → length (orderNumberText x) ≤ orderCharacters
 order-number-most x = omega (arith, length-digitsIn 256 0 orderCharacters x)
+
+pub type-most : (x : ℕ) → length (digitsIn 256 0 typeCharacters x) ≤ typeCharacters
+type-most x = omega (arith, length-digitsIn 256 0 typeCharacters x)
+
+pub type-column-most : (x : ℕ) → length (typeColumn x) ≤ typeRoom
+unfolding typeColumn
+type-column-most x =
+    let characters = digitsIn 256 0 typeCharacters x in
+    omega (arith, length-append characters (space ∷ []), type-most x)
 
 pub column-most : (x end : ℕ) → length (column x end) ≤ columnRoom
 unfolding column

@@ -1,26 +1,43 @@
--- How long a closing word, and an order's line, are at most. Assumes nothing.
+-- How long an order's name, a closing word, and an order's line are at most. Assumes nothing.
 use Prim.Native.Nat.{ℕ, _≤_}
 use mathlib.Core.List.{[], _∷_, _++_}
 use native.Mathlib.Omega.{arith}
 use lib.ListN.{length, length-append}
+use Rattle.journal.specs.declared.event.OrderName.{OrderName}
 use Rattle.client_run.specs.declared.run.Word.{Word}
 use Rattle.client_run.specs.declared.run.Word.the-variants.{Lodged, NotLodged, Unclear, Fetched, HeldUnconfirmed, NotFetched}
 use Rattle.bank_state.specs.declared.state.Place.{Place}
 use Rattle.bank_state.specs.Search.{isBooked}
+use Rattle.message.specs.Limits.{ful}
 use Rattle.message.specs.OrderNumbers.{orderNumberOf}
-use Rattle.print.specs.Text.{orderCharacters, orderNumberText, space, newline, column}
-use Rattle.print.proofs.Digits.{length-digitsIn, column-most}
+use Rattle.print.specs.Text.{orderCharacters, orderNumberText, typeColumn, space, newline, column}
+use Rattle.print.proofs.Digits.{length-digitsIn, type-column-most, column-most}
 use Rattle.print.proofs.Texts.{cond-most}
+use Rattle.print.specs.Name.{orderNameText, orderNameRoom}
 use Rattle.print.specs.Closing.{closingText, closingRoom}
 use Rattle.print.specs.Book.{orderColumns, orderColumnsRoom, orderLine}
 
-pub closing-most : (w : Word) (x : ℕ) → length (closingText w x) ≤ closingRoom
-closing-most Lodged x = omega (arith, length-digitsIn 256 0 orderCharacters x)
-closing-most NotLodged x = omega arith
-closing-most Unclear x = omega arith
-closing-most Fetched x = omega arith
-closing-most HeldUnconfirmed x = omega arith
-closing-most NotFetched x = omega arith
+pub order-name-most : (o : OrderName) → length (orderNameText o) ≤ orderNameRoom
+unfolding orderNameText
+order-name-most o =
+    let subscriber = column (o .subscriber) space in
+    let rest = typeColumn (o .«order_type») ++ orderNumberText (o .number) in
+    omega (
+      arith,
+      length-append subscriber rest,
+      length-append (typeColumn (o .«order_type»)) (orderNumberText (o .number)),
+      column-most (o .subscriber) space,
+      type-column-most (o .«order_type»),
+      length-digitsIn 256 0 orderCharacters (o .number),
+    )
+
+pub closing-most : (w : Word) (o : OrderName) → length (closingText w o) ≤ closingRoom
+closing-most Lodged o = omega (arith, order-name-most o)
+closing-most NotLodged o = omega arith
+closing-most Unclear o = omega arith
+closing-most Fetched o = omega arith
+closing-most HeldUnconfirmed o = omega arith
+closing-most NotFetched o = omega arith
 
 pub columns-most : (p : Place) (bytes end : ℕ) → length (orderColumns p bytes end) ≤ orderColumnsRoom
 unfolding orderColumns
@@ -29,10 +46,12 @@ columns-most p bytes end =
     let subscriber = column (p .subscriber) space in
     omega (
       arith,
-      length-append (orderNumberText number) (space ∷ subscriber ++ column bytes end),
-      length-append subscriber (column bytes end),
+      length-append (orderNumberText number) (space ∷ subscriber ++ (typeColumn ful ++ column bytes end)),
+      length-append subscriber (typeColumn ful ++ column bytes end),
+      length-append (typeColumn ful) (column bytes end),
       length-digitsIn 256 0 orderCharacters number,
       column-most (p .subscriber) space,
+      type-column-most ful,
       column-most bytes end,
     )
 

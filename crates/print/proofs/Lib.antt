@@ -4,3 +4,4 @@ pub mod Texts
 pub mod Signed
 pub mod Rows
 pub mod Lengths
+pub mod Examples

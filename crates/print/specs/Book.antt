@@ -1,4 +1,4 @@
--- The book: "order subscriber bytes", "in place order, its last column the order's length".
+-- The book: "order subscriber type bytes", "in place order, its last column the order's length".
 use Prim.Native.Nat.{ℕ, _+_, _*_}
 use mathlib.Core.Bool.{cond}
 use mathlib.Core.List.{List, [], _∷_, _++_}
@@ -7,17 +7,20 @@ use Rattle.bank_state.specs.declared.state.Place.{Place}
 use Rattle.bank_state.specs.Limits.{placeCount}
 use Rattle.bank_state.specs.Search.{isBooked}
 use Rattle.bank_state.specs.State.{placeAt}
+use Rattle.message.specs.Limits.{ful}
 use Rattle.message.specs.OrderNumbers.{orderNumberOf}
-use Rattle.print.specs.Text.{ascii, orderCharacters, orderNumberText, space, newline, column, columnRoom, rowsTo}
+use Rattle.print.specs.Text.{ascii, orderCharacters, orderNumberText, typeColumn, typeRoom, space, newline}
+use Rattle.print.specs.Text.{column, columnRoom, rowsTo}
 
 -- the names of the columns, and the byte after them: a newline, or a space where more columns follow
 abbrev pub bookHeader : ℕ → List ℕ
-bookHeader end = ascii "order subscriber bytes" ++ (end ∷ [])
+bookHeader end = ascii "order subscriber type bytes" ++ (end ∷ [])
 
--- the columns of an order of so many bytes, and the byte after them
+-- the columns of an order of so many bytes, and the byte after them; an order in the book is of the type of uploads
 unfoldable pub orderColumns : Place → ℕ → ℕ → List ℕ
 orderColumns p bytes end =
-    orderNumberText (orderNumberOf (p .number)) ++ (space ∷ column (p .subscriber) space ++ column bytes end)
+    orderNumberText (orderNumberOf (p .number))
+    ++ (space ∷ column (p .subscriber) space ++ (typeColumn ful ++ column bytes end))
 
 -- the line of a place; one that holds no booked order has none
 unfoldable pub orderLine : Place → List ℕ
@@ -32,10 +35,10 @@ bookOf b = bookHeader newline ++ rowsTo (lineAt b) placeCount
 
 -- the most bytes of the columns' names with the byte after them, of an order's columns, and of the book
 abbrev pub bookHeaderRoom : ℕ
-bookHeaderRoom = 22 + 1
+bookHeaderRoom = 27 + 1
 
 abbrev pub orderColumnsRoom : ℕ
-orderColumnsRoom = orderCharacters + 1 + columnRoom + columnRoom
+orderColumnsRoom = orderCharacters + 1 + columnRoom + typeRoom + columnRoom
 
 abbrev pub bookRoom : ℕ
 bookRoom = bookHeaderRoom + placeCount * orderColumnsRoom

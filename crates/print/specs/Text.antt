@@ -45,12 +45,15 @@ signedDecimal x = signOf x ++ decimal (natAbs x)
 abbrev pub signedRoom : ℕ
 signedRoom = 1 + maxDigits
 
--- "0D return code, 6 ASCII digits"; "0E order number, 4"
+-- "0D return code, 6 ASCII digits"; "0E order number, 4"; "04 order type, 3 capitals or digits"
 abbrev pub codeDigits : ℕ
 codeDigits = 6
 
 abbrev pub orderCharacters : ℕ
 orderCharacters = 4
+
+abbrev pub typeCharacters : ℕ
+typeCharacters = 3
 
 -- a return code's digits and an order number's characters, from the number of the field
 abbrev pub codeText : ℕ → List ℕ
@@ -64,6 +67,14 @@ space = 32
 
 abbrev pub newline : ℕ
 newline = 10
+
+-- an order type's characters, from the number of the field, and a space behind them
+unfoldable pub typeColumn : ℕ → List ℕ
+typeColumn x = digitsIn 256 0 typeCharacters x ++ (space ∷ [])
+
+-- the most bytes that it takes
+abbrev pub typeRoom : ℕ
+typeRoom = typeCharacters + 1
 
 -- a number and the byte behind it: a space, or a newline at the row's end
 unfoldable pub column : ℕ → ℕ → List ℕ

@@ -3,10 +3,12 @@ use crate::text::put_byte;
 use crate::text::put_column;
 use crate::text::put_order_number;
 use crate::text::put_text;
+use crate::text::put_type;
 use bank_rows::places::place_at;
 use bank_state::limits::PLACE_COUNT;
 use bank_state::search::is_booked;
 use bank_state::state::Place;
+use message::limits::FUL;
 use message::order_numbers::order_number_of;
 ghost use mathlib.Core.Path.{_≡_};
 ghost use Prim.Native.Nat.{_+_, _*_, _≤_};
@@ -19,9 +21,9 @@ ghost use Rattle.print.specs.Book.{bookHeader, bookHeaderRoom, orderColu
 ghost use Rattle.print.specs.Book.{orderLine, lineAt, bookOf, bookRoom};
 
 // The most bytes of the columns' names with the byte after them, of an order's columns, and of the book.
-pub const BOOK_HEADER_ROOM: usize = 22 + 1;
+pub const BOOK_HEADER_ROOM: usize = 27 + 1;
 
-pub const ORDER_COLUMNS_ROOM: usize = 4 + 1 + 21 + 21;
+pub const ORDER_COLUMNS_ROOM: usize = 4 + 1 + 21 + 4 + 21;
 
 pub const BOOK_ROOM: usize = BOOK_HEADER_ROOM + PLACE_COUNT * ORDER_COLUMNS_ROOM;
 
@@ -30,11 +32,11 @@ pub fn put_book_header(output: &mut [u8], at: usize, end: u8) -> usize
     requires { ⌜ at + bookHeaderRoom ≤ length (now output) ⌝ }
     ensures { λ r. ⌜ Put (now (output .entry)) at (bookHeader end) (now (output .exit)) r ⌝ }
 {
-    let a = put_text(output, at, b"order subscriber bytes");
+    let a = put_text(output, at, b"order subscriber type bytes");
     put_byte(output, a, end)
 }
 
-// Writes the columns of an order of so many bytes, and the byte after them.
+// Writes the columns of an order of so many bytes, an upload, and the byte after them.
 pub fn put_order_columns(output: &mut [u8], at: usize, p: Place, bytes: u64, end: u8) -> usize
     requires { ⌜ at + orderColumnsRoom ≤ length (now output) ⌝ }
     ensures { λ r. ⌜ Put (now (output .entry)) at (orderColumns p bytes end) (now (output .exit)) r ⌝ }
@@ -42,7 +44,8 @@ pub fn put_order_columns(output: &mut [u8], at: usize, p: Place, bytes: u64, end
     let a = put_order_number(output, at, order_number_of(p.number));
     let b = put_byte(output, a, b' ');
     let c = put_column(output, b, p.subscriber, b' ');
-    put_column(output, c, bytes, end)
+    let d = put_type(output, c, FUL);
+    put_column(output, d, bytes, end)
 }
 
 // Writes the line of a place, where it holds a booked order.

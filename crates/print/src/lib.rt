@@ -1,4 +1,5 @@
-// What the programs print, written into a lent output: numbers and texts, closing words, the book.
+// What the programs print, written into a lent output: numbers and texts, an order's name, closing words, the book.
 pub mod book;
 pub mod closing;
+pub mod name;
 pub mod text;

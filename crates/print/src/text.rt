@@ -8,15 +8,18 @@ ghost use lib.ListN.{length};
 ghost use Rattle.print.specs.Text.{Put, digitsIn, maxDigits, digitCount, decimal};
 ghost use Rattle.print.specs.Text.{signOf, signedDecimal, signedRoom};
 ghost use Rattle.print.specs.Text.{codeDigits, orderCharacters, codeText, orderNumberText};
+ghost use Rattle.print.specs.Text.{typeColumn, typeRoom};
 ghost use Rattle.print.specs.Text.{column, columnRoom};
 
 // The most decimal digits of a number.
 const MAX_DIGITS: usize = 20;
 
-// The digits of a return code, and the characters of an order number.
+// The digits of a return code, and the characters of an order number and of an order type.
 pub const CODE_DIGITS: usize = 6;
 
 pub const ORDER_CHARACTERS: usize = 4;
+
+const TYPE_CHARACTERS: usize = 3;
 
 // How many decimal digits x has.
 pub fn digit_count(x: u64) -> usize
@@ -116,6 +119,15 @@ pub fn put_byte(output: &mut [u8], at: usize, b: u8) -> usize
 {
     output[at] = b;
     at + 1
+}
+
+// Writes the characters of an order type, given as the number of field 04, and a space behind them.
+pub fn put_type(output: &mut [u8], at: usize, x: u64) -> usize
+    requires { ⌜ at + typeRoom ≤ length (now output) ⌝ }
+    ensures { λ r. ⌜ Put (now (output .entry)) at (typeColumn x) (now (output .exit)) r ⌝ }
+{
+    let a = put_digits(output, at, 256, 0, TYPE_CHARACTERS, x);
+    put_byte(output, a, b' ')
 }
 
 // Writes a number and the byte behind it.

@@ -1,5 +1,5 @@
 -- A client's call keeps the length of a file buffer of 3,840 bytes; one given a number changes nothing; a reply or none
--- is taken by a run that has begun.
+-- is taken by a run that has begun; one that answers a closing word leaves the run ended with it.
 use Prim.Native.Nat.{ℕ, _-_, _*_, _≤_}
 use mathlib.Core.Bool.{Bool, true, false, cond}
 use mathlib.Core.List.{List, []}
@@ -16,6 +16,7 @@ use Rattle.frame_writer.specs.declared.writer.Written.the-variants as written
 use Rattle.frame_reader.specs.Reader.{readReply}
 use Rattle.frame_row.specs.Row.{dataOf}
 use Rattle.message.specs.Limits.{segmentBytes, maxSegments, fileBytes}
+use Rattle.client_run.specs.declared.run.Answer.{Answer}
 use Rattle.client_run.specs.declared.run.Answer.the-variants as answer
 use Rattle.client_run.specs.declared.run.ClientRun.{ClientRun}
 use Rattle.client_run.specs.declared.run.Decision.{Decision}
@@ -32,6 +33,8 @@ use Rattle.client_run.specs.declared.run.Ruling.{Ruling}
 use Rattle.client_run.specs.declared.run.Ruling.the-variants.{Refuse, Accept}
 use Rattle.client_run.specs.declared.run.RunParameters.{RunParameters}
 use Rattle.client_run.specs.declared.run.Stage.{Stage}
+use Rattle.client_run.specs.declared.run.Stage.the-variants as stage
+use Rattle.client_run.specs.declared.run.Word.{Word}
 use Rattle.client.specs.Calls.{
   ifWritten,
   callOf,
@@ -49,7 +52,7 @@ use Rattle.client.specs.Calls.{
   admittedNoReply,
   noReplyCall,
 }
-use Rattle.client_run.specs.NextRun.{isNew, fileWith, learned}
+use Rattle.client_run.specs.NextRun.{isNew, fileWith, learned, ended}
 use Rattle.client_run.specs.Run.{Lent, ClientCall, lengthsOf, answerNumber, refusalNumber, maxExchange}
 use Rattle.client_rules.specs.Decisions.{onReply, onNoReply}
 use Rattle.client_rules.specs.Rulings.{beginRuling, runRuling, isBegun}
@@ -180,3 +183,67 @@ module _ (c : ClientRun) (l : Lent) where
   pub no-reply-begun : answerNumber (noReplyCall c l .answer) ≡ 0 → isBegun (c .stage) ≡ true
   unfolding noReplyCall
   no-reply-begun z = begun-by (admittedNoReply c l) z
+
+-- ---- a closing word
+
+-- the word of an answer that has one
+abbrev wordIn : Word → Answer → Word
+wordIn x (answer.Request n) = x
+wordIn x answer.Ignored = x
+wordIn x (answer.Closed w) = w
+wordIn x (answer.Refused y) = x
+
+abbrev isClosed : Answer → Bool
+isClosed (answer.Request n) = false
+isClosed answer.Ignored = false
+isClosed (answer.Closed w) = true
+isClosed (answer.Refused y) = false
+
+-- what answers a closing word leaves the run ended with it
+abbrev Ends : ClientCall → Type 0
+Ends k = (w : Word) → k .answer ≡ answer.Closed w → k .run .stage ≡ stage.Ended w
+
+issued-ends : (c next : ClientRun) (file : List ℕ) (l : Lent) → Ends (issued c next file l)
+unfolding issued
+issued-ends c next file l w = at (isWritten next l)
+  where
+    at : (x : Written) → outcomeOf x c next .answer ≡ answer.Closed w → outcomeOf x c next .client .run .stage ≡ stage.Ended w
+    at (written.Length n) e = never (ap isClosed e)
+    at written.Refused e = never (ap isClosed e)
+
+carried-ends : (decision : Decision) (c : ClientRun) (r : Fields) (d : List ℕ) (l : Lent) → Ends (carryOut decision c r d l)
+unfolding taken ended
+carried-ends Ignore c r d l w e = never (ap isClosed e)
+carried-ends Opened c r d l w e = issued-ends c _ _ l w e
+carried-ends Advance c r d l w e = issued-ends c _ _ l w e
+carried-ends (Return s) c r d l w e = issued-ends c _ (l .file) l w e
+carried-ends Repeat c r d l w e = issued-ends c _ (l .file) l w e
+carried-ends (Close x) c r d l w e = ap stage.Ended (ap (wordIn x) e)
+
+admitted-ends : (u : Ruling) (c : ClientRun) (l : Lent) (done : ClientCall) → Ends done → Ends (ifAdmitted u c l done)
+admitted-ends (Refuse x) c l done f w e = never (ap isClosed e)
+admitted-ends Accept c l done f w e = f w e
+
+module _ (c : ClientRun) (l : Lent) where
+  begin-ends : (params : RunParameters) → Ends (beginCall c params l)
+  unfolding beginCall
+  begin-ends params =
+      admitted-ends (beginRuling c params (l .time) (lengthsOf l)) c l (admittedBegin c params l) (issued-ends c _ (l .file) l)
+
+  reply-ends : (frame : List ℕ) → Ends (replyCall c frame l)
+  unfolding replyCall
+  reply-ends frame =
+      admitted-ends (runRuling c (l .time) (lengthsOf l)) c l (admittedReply c frame l)
+      (carried-ends (onReply c (readReply frame) (length (dataOf frame))) c (readReply frame) (dataOf frame) l)
+
+  no-reply-ends : Ends (noReplyCall c l)
+  unfolding noReplyCall
+  no-reply-ends =
+      admitted-ends (runRuling c (l .time) (lengthsOf l)) c l (admittedNoReply c l)
+      (carried-ends (onNoReply c) c noFields [] l)
+
+  pub event-ends : (r : List ℕ) (e : Event) → Ends (eventCall e c r l)
+  event-ends r Upload = begin-ends _
+  event-ends r Download = begin-ends _
+  event-ends r Reply = reply-ends _
+  event-ends r NoReply = no-reply-ends

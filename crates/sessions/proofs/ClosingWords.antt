@@ -8,6 +8,7 @@ use Rattle.client_run.specs.declared.run.Stage.{Stage}
 use Rattle.client_run.specs.declared.run.Stage.the-variants as stage
 use Rattle.client_run.specs.declared.run.Word.{Word}
 use Rattle.client_run.specs.declared.run.Word.the-variants.{Lodged, NotLodged, Fetched}
+use Rattle.client_run.specs.Run.{orderName}
 use Rattle.client_rules.specs.Rulings.{isBegun}
 use Rattle.exchange.specs.Course.{
   Call,
@@ -81,7 +82,7 @@ allowed [] s g c = tt
 allowed (k ∷ ks) s g c = (λ z. premise k s (g .0 z) (c .0 z), allowed ks (exec k s) (g .1) (c .1))
 
 -- the records of the session
-first-records : (rs ts : List (List ℕ)) → Records (rs ++ ts) → Records rs
+pub first-records : (rs ts : List (List ℕ)) → Records (rs ++ ts) → Records rs
 first-records [] ts h = none
 first-records (r ∷ rs) ts (more b e h) = more b e (first-records rs ts h)
 
@@ -124,7 +125,7 @@ closes : {u : State} {s : Course} → Same u s → Outcome s → Closes u s
 closes {u} {s} m out = record {
   lodged = λ i h e. let x = out .lodged i (ended m i h Lodged e) in
       let o = x .1 in
-      (x .0, (o .0, o .1, o .2, o .3, o .4 ∙ ap (λ (c : ClientRun). c .number) (sym (own m i h))));
+      (x .0, (o .0, o .1, o .2, o .3, o .4 ∙ ap (λ (c : ClientRun). orderName c) (sym (own m i h))));
   notLodged = λ i h e. out .notLodged i (ended m i h NotLodged e);
   fetched = λ i h e. let x = out .fetched i (ended m i h Fetched e) in
       (x .0, x .1, x .2 ∙ ap (λ (c : ClientRun). c .subscriber) (sym (own m i h)), held m i h Fetched e ∙ x .3);

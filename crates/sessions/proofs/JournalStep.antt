@@ -8,25 +8,32 @@ use native.Mathlib.Omega.{arith}
 use lib.ListN.{length, length-set}
 use lib.Seq.{getD-set-same, getD-set-other}
 use Rattle.journal.specs.declared.event.Event.{Event}
+use Rattle.journal.specs.declared.event.OrderName.{OrderName}
 use Rattle.journal.specs.Events.{recordCount}
-use Rattle.journal.specs.Row.{Journal}
+use Rattle.journal.specs.Row.{Journal, lookup}
 use Rattle.bank_state.specs.Store.{fileOf}
 use Rattle.client_run.specs.declared.run.ClientRun.{ClientRun}
 use Rattle.client_run.specs.declared.run.Stage.{Stage}
+use Rattle.client_run.specs.declared.run.Stage.the-variants as stage
+use Rattle.client_run.specs.declared.run.Word.{Word}
+use Rattle.client_run.specs.NextRun.{ended}
+use Rattle.client_run.specs.Run.{orderName}
 use Rattle.client_rules.specs.Rulings.{isBegun}
 use Rattle.client.specs.declared.journal_call.JournalAnswer.{JournalAnswer}
 use Rattle.client.specs.declared.journal_call.JournalAnswer.the-variants as answer
-use Rattle.client.specs.Journal.{JournalCall, journalCall}
+use Rattle.client.specs.Journal.{JournalCall, answerTo, runAfter, journalCall}
 use Rattle.client.proofs.Journal.{JournalCause, journal-cause}
 use Rattle.client.proofs.Journal as cause
 use Rattle.exchange.specs.Course.{Course, journalHanded, carryOut, exec}
 use Rattle.exchange.proofs.Calls.{carried}
+use Rattle.unit.specs.declared.call.Answer.the-variants.{Closed}
 use Rattle.unit.specs.declared.state.Run.{Run}
 use Rattle.unit.specs.Records.{runCount}
 use Rattle.unit.specs.State.{State, runAt}
 use Rattle.unit.specs.Call.{indexOf, journalAnswer, journalStep}
+use Rattle.unit.proofs.Named.{journal-named}
 use Rattle.sessions.specs.Sessions.{handedOf, told, Given}
-use Rattle.sessions.proofs.Standing.{SameRunAt, Standing, Stepped, row-long}
+use Rattle.sessions.proofs.Standing.{SameRunAt, Standing, Tells, Stepped, row-long}
 use Rattle.sessions.proofs.RunSteps.{changed-own, changed-other, by-parts}
 
 -- ---- what the journal makes of a run
@@ -53,6 +60,16 @@ module _ (c : ClientRun) (row : List Event) where
       at (cause.nothing e) b = b
       at (cause.booked u l e) b = ap (λ (x : Stage). isBegun x) u
       at (cause.ended-so u l e) b = ap (λ (x : Stage). isBegun x) u
+
+  -- one that it closes is ended with the word
+  closed-ends : (w : Word) → journalCall c row .answer ≡ answer.Closed w → journalCall c row .run .stage ≡ stage.Ended w
+  unfolding journalCall ended
+  closed-ends w = at (answerTo (c .stage) (length row) (lookup (orderName c) row))
+    where
+      at : (a : JournalAnswer) → a ≡ answer.Closed w → runAfter a c .stage ≡ stage.Ended w
+      at (answer.Closed x) e = ap (λ (b : JournalAnswer). runAfter b c .stage) e
+      at answer.Unchanged e = ap (λ (b : JournalAnswer). runAfter b c .stage) e
+      at answer.WrongLength e = ap (λ (b : JournalAnswer). runAfter b c .stage) e
 
 -- its answer has no bytes
 no-bytes : (a : JournalAnswer) (c : ClientRun) (buffer room : List ℕ) →
@@ -145,3 +162,15 @@ module _ {u : State} {s : Course} (v : Standing u s) (r : List ℕ) (inside : in
     standing = journal-standing;
     answer = no-bytes (o .answer) (o .run) (u .memory .buffer) (u .memory .room);
   }
+
+  -- its closing word and its name are the run's
+  pub journal-closed : (w : Word) (name : OrderName) → journalStep u r .answer ≡ Closed w name →
+      Tells w name (runAt (next .unit .runs) i .client .run)
+  unfolding journalStep
+  journal-closed w name h =
+      let x = journal-named (o .run) w name (o .answer) h in
+      let left-is = ap (λ (y : Run). y .client .run) run-set in
+      record {
+        ended = ap (λ (c : ClientRun). c .stage) left-is ∙ closed-ends (run .client .run) row w (x .0);
+        name = x .1 ∙ ap (λ (c : ClientRun). orderName c) (sym left-is);
+      }

@@ -9,3 +9,4 @@ pub mod JournalStep
 pub mod ImageSteps
 pub mod Theorem
 pub mod ClosingWords
+pub mod LodgedName

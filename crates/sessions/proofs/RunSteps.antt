@@ -10,14 +10,17 @@ use lib.ListN.{length, take, length-set}
 use lib.Seq.{getD-set-same, getD-set-other}
 use borrow.Author.Tests.{eq-eqb, ne-eqb}
 use Rattle.message.specs.Limits.{fileBytes}
+use Rattle.journal.specs.declared.event.OrderName.{OrderName}
 use Rattle.bank_state.specs.Store.{fileOf}
 use Rattle.client_run.specs.declared.run.Answer as client
 use Rattle.client_run.specs.declared.run.Answer.the-variants as answer
 use Rattle.client_run.specs.declared.run.ClientRun.{ClientRun}
-use Rattle.client_run.specs.Run.{Lent, ClientCall, lentOf, answerNumber}
+use Rattle.client_run.specs.declared.run.Word.{Word}
+use Rattle.client_run.specs.Run.{Lent, ClientCall, lentOf, answerNumber, orderName}
 use Rattle.client_rules.specs.Rulings.{isBegun}
 use Rattle.exchange.specs.Course.{Call, Course, callNumber, changed, carryOut, exec}
 use Rattle.exchange.proofs.Calls.{numbered-stays, carried}
+use Rattle.unit.specs.declared.call.Answer.the-variants.{Closed}
 use Rattle.unit.specs.declared.record.Event.{Event}
 use Rattle.unit.specs.declared.record.Event.the-variants.{Upload, Download, Reply, NoReply}
 use Rattle.unit.specs.declared.record.Kind.the-variants as kind
@@ -27,6 +30,7 @@ use Rattle.unit.specs.State.{State, roomsBytes, runAt}
 use Rattle.unit.specs.Call.{runAnswer, indexOf, eventCall, roomCall, keeps, nextRun, keptPayloads, runCall, runStep}
 use Rattle.unit.specs.Call as unit
 use Rattle.unit.proofs.Begins.{kept-fits}
+use Rattle.unit.proofs.Named.{run-named}
 use Rattle.sessions.specs.Sessions.{
   clientAt,
   payloadAt,
@@ -40,10 +44,10 @@ use Rattle.sessions.specs.Sessions.{
   Given,
   SameRun,
 }
-use Rattle.sessions.proofs.ClientCalls.{event-keeps, refusal-numbered, reply-begun, no-reply-begun}
+use Rattle.sessions.proofs.ClientCalls.{event-keeps, refusal-numbered, reply-begun, no-reply-begun, event-ends}
 use Rattle.sessions.proofs.ClientCalls as calls
 use Rattle.sessions.proofs.Rooms.{length-part, length-room, room-file, room-part, room-other}
-use Rattle.sessions.proofs.Standing.{SameRunAt, Standing, Stepped}
+use Rattle.sessions.proofs.Standing.{SameRunAt, Standing, Tells, Stepped}
 
 -- ---- a call of a run in the course
 
@@ -310,3 +314,13 @@ module _ {u : State} {s : Course} (v : Standing u s) (r : List ℕ) (e : Event) 
     standing = run-standing;
     answer = run-told (o .answer) (o .run) (o .request) (u .memory .room) ∙ told-is i (run .client .run) r l e;
   }
+
+  -- its closing word and its name are the run's
+  pub run-closed : (w : Word) (name : OrderName) → runStep e u r .answer ≡ Closed w name → Tells w name (clientAt next i)
+  unfolding runStep runCall roomCall lentTo
+  run-closed w name h =
+      let x = run-named (o .run) w name (o .answer) h in
+      record {
+        ended = ap (λ (c : ClientRun). c .stage) own-client ∙ event-ends (run .client .run) l r e w (x .0);
+        name = x .1 ∙ ap (λ (c : ClientRun). orderName c) (sym own-client);
+      }

@@ -8,6 +8,7 @@ use lib.ListN.{length, replicate, length-replicate, getD-replicate}
 use borrow.Author.Tests.{eq-eqb}
 use Rattle.octets.specs.Bytes.{Bytes}
 use Rattle.octets.proofs.Tests.{never}
+use Rattle.journal.specs.declared.event.OrderName.{OrderName}
 use Rattle.journal.specs.Events.{recordCount}
 use Rattle.bank_state.specs.Limits.{storeBytes}
 use Rattle.bank_state.specs.State.{Bank, bankState}
@@ -18,7 +19,10 @@ use Rattle.image_admitted.specs.Fresh.{freshSession}
 use Rattle.image_admitted.proofs.Holds.{lengths-told}
 use Rattle.image_admitted.specs.Reached.{InList}
 use Rattle.image_admitted.proofs.Theorems.{fresh-admitted, admitted-sound, admitted-takes}
-use Rattle.client_run.specs.Run.{nonceBytes}
+use Rattle.client_run.specs.declared.run.ClientRun.{ClientRun}
+use Rattle.client_run.specs.declared.run.Stage.the-variants as stage
+use Rattle.client_run.specs.declared.run.Word.{Word}
+use Rattle.client_run.specs.Run.{nonceBytes, orderName}
 use Rattle.exchange.specs.Course.{Call, Course, start, callNumber, exec}
 use Rattle.unit.specs.declared.record.Kind.{Kind}
 use Rattle.unit.specs.declared.state.Run.{Run}
@@ -56,6 +60,11 @@ pub record Standing (u : State) (s : Course) : Type 0 where
   pub room : length (u .memory .room) ≡ roomBytes
   pub image : Bytes (u .memory .room)
   pub runs : (i : ℕ) → i < runCount → SameRunAt u s i
+
+-- the closing word and the name that the unit answers are those of the run c
+pub record Tells (w : Word) (o : OrderName) (c : ClientRun) : Type 0 where
+  pub ended : c .stage ≡ stage.Ended w
+  pub name : o ≡ orderName c
 
 -- a call k of the course s, which the unit makes by o
 pub record Stepped (s : Course) (k : Call) (o : UnitCall) : Type 0 where

@@ -40,7 +40,7 @@ use Rattle.sessions.proofs.ImageSteps.{away-step, taken-step, image-sta
 
 -- ---- a record and those after it
 
-run-inside : (n : ℕ) → (1 ≤ n) × (n ≤ runCount) → n - 1 < runCount
+pub run-inside : (n : ℕ) → (1 ≤ n) × (n ≤ runCount) → n - 1 < runCount
 run-inside n h = omega arith
 
 module _ (u : State) {s : Course} (r : List ℕ) (rs : List (List ℕ)) (k : Call) (step : Stepped s k (unitCall u r))
@@ -115,6 +115,19 @@ is-course (more {r = r} {rs = rs} b h more-records) {u} {s} v =
     at : ((n : State) (t : Course) → Standing n t → IsCourse n rs t) → Next v r b → IsCourse u (r ∷ rs) s
     at rest (called k step first told) = joined u r rs k step first told (rest _ _ (step .standing))
     at rest (moved e stands) = beside u s r rs e (rest _ _ stands)
+
+-- the unit after the records still stands for a course
+pub standing-after : {rs : List (List ℕ)} → Records rs → {u : State} {s : Course} → Standing u s →
+    (t : Course) × Standing (unitAfter u rs) t
+unfolding unitAfter
+standing-after none {u} {s} v = (s, v)
+standing-after (more {r = r} {rs = rs} b h more-records) {u} {s} v =
+    at (λ n t stands. standing-after more-records stands) (next-call v r b (callOf r) refl h)
+  where
+    at : ((n : State) (t : Course) → Standing n t → (x : Course) × Standing (unitAfter n rs) x) → Next v r b →
+        (x : Course) × Standing (unitAfter (unitCall u r .state) rs) x
+    at rest (called k step first told) = rest _ _ (step .standing)
+    at rest (moved e stands) = rest _ _ stands
 
 pub sessions : Sessions
 unfolding Sessions

@@ -10,6 +10,7 @@ use Rattle.octets.specs.Bytes.{Bytes}
 use Rattle.frame_table.specs.Forms as forms
 use Rattle.frame_table.specs.Names.{subscriber}
 use Rattle.frame_reader.specs.Reader.{readRequest}
+use Rattle.journal.specs.declared.event.OrderName.{OrderName}
 use Rattle.journal.specs.Events.{recordCount}
 use Rattle.journal.specs.Row.{Journal}
 use Rattle.bank_state.specs.Limits.{storeBytes, replyRoom}
@@ -28,7 +29,7 @@ use Rattle.client_run.specs.declared.run.Stage.the-variants as stage
 use Rattle.client_run.specs.declared.run.Word.the-variants.{Lodged, NotLodged, Fetched}
 use Rattle.client.specs.Calls.{beginCall, replyCall, noReplyCall}
 use Rattle.client.specs.Journal.{journalCall}
-use Rattle.client_run.specs.Run.{Lent, ClientCall, lentOf}
+use Rattle.client_run.specs.Run.{Lent, ClientCall, lentOf, orderName}
 use Rattle.client_rules.specs.Rulings.{isBegun}
 use Rattle.exchange.specs.Course.{
   Call,
@@ -49,7 +50,7 @@ use Rattle.exchange.specs.Course.{
   heldOf,
 }
 use Rattle.exchange.specs.Demand3.{isSubscribers, Left, OneExchangeNumber, Outcome, ClosesInTurn}
-use Rattle.exchange.specs.Terms.{IssuedBy, Booked, Opened, Order, InBook, OrderOf}
+use Rattle.exchange.specs.Terms.{IssuedBy, Booked, Opened, Order, nameOf, InBook, OrderOf}
 use Rattle.unit.specs.declared.call.Answer.{Answer}
 use Rattle.unit.specs.declared.call.Answer.the-variants.{
   Frame,
@@ -209,7 +210,7 @@ bytesIn (Frame n) buffer room = take n buffer
 bytesIn Put buffer room = []
 bytesIn (Request n) buffer room = take n buffer
 bytesIn Ignored buffer room = []
-bytesIn (Closed w n) buffer room = []
+bytesIn (Closed w o) buffer room = []
 bytesIn Unchanged buffer room = []
 bytesIn (Away n) buffer room = take n room
 bytesIn TakenUp buffer room = []
@@ -325,9 +326,9 @@ courseOf rs = after (callsOf freshUnit rs) start
 
 -- demand 3's clauses on the closing words, of the unit u
 pub record Closes (u : State) (s : Course) : Type 0 where
-  -- "'lodged' names its booked order"
+  -- "'lodged' names its booked order": "subscriber, type and number together"
   pub lodged : (i : ℕ) → i < runCount → clientAt u i .stage ≡ stage.Ended Lodged →
-      Booked s i × ((j : ℕ) × (o : Order) × InBook s j o × OrderOf s i o × (o .number ≡ clientAt u i .number))
+      Booked s i × ((j : ℕ) × (o : Order) × InBook s j o × OrderOf s i o × (nameOf o ≡ orderName (clientAt u i)))
   -- "'not lodged' means never booked"
   pub notLodged : (i : ℕ) → i < runCount → clientAt u i .stage ≡ stage.Ended NotLodged → Booked s i → ⊥
   -- "a fetched file is the mailbox's file at its transaction's opening"
@@ -346,3 +347,13 @@ SessionsClose = (rs ts : List (List ℕ)) → Records (rs ++ ts) → AtEach Copy
     × Closes (unitAfter freshUnit rs) (courseOf rs)
     × ((i : ℕ) → i < runCount → clientAt (unitAfter freshUnit rs) i .stage ≡ stage.Ended NotLodged →
     Booked (courseOf (rs ++ ts)) i → ⊥)
+
+-- "'Lodged' names subscriber, type and number together", as the unit answers it to the record r: those of a booked
+-- order, its run's
+unfoldable pub LodgedNamed : Type 0
+LodgedNamed = (rs : List (List ℕ)) (r : List ℕ) (ts : List (List ℕ)) →
+    let ss = rs ++ (r ∷ []) in
+    let s = courseOf ss in
+    Records (ss ++ ts) → AtEach Copy (callsOf freshUnit (ss ++ ts)) start → OneExchangeNumber (courseOf (ss ++ ts)) →
+    (o : OrderName) → unitCall (unitAfter freshUnit rs) r .answer ≡ Closed Lodged o →
+    Booked s (indexOf r) × ((j : ℕ) × (x : Order) × InBook s j x × OrderOf s (indexOf r) x × (nameOf x ≡ o))

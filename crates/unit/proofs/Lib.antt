@@ -3,3 +3,4 @@ pub mod Parts
 pub mod Begins
 pub mod Steps
 pub mod ImageRoom
+pub mod Named

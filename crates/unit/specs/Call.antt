@@ -26,7 +26,7 @@ use Rattle.client_run.specs.declared.run.ClientRun.{ClientRun}
 use Rattle.client_run.specs.declared.run.Direction.{Direction}
 use Rattle.client_run.specs.declared.run.Direction.the-variants as direction
 use Rattle.client_run.specs.declared.run.RunParameters.{RunParameters}
-use Rattle.client_run.specs.Run.{Lent, ClientCall, parametersOf, lentOf, refusalNumber}
+use Rattle.client_run.specs.Run.{Lent, ClientCall, parametersOf, lentOf, refusalNumber, orderName}
 use Rattle.client.specs.Calls.{beginCall, replyCall, noReplyCall}
 use Rattle.client.specs.declared.journal_call.JournalAnswer.{JournalAnswer}
 use Rattle.client.specs.declared.journal_call.JournalAnswer.the-variants as journal-answer
@@ -104,8 +104,8 @@ afterCall u m a = record { state = stateOf u m; answer = a }
 abbrev pub unitCallOf : Called → Memory → UnitCall
 unitCallOf r m = afterCall (r .unit) m (r .answer)
 
--- the answers of the bank's two calls, of a client's, and of the journal handed to it; a run that ends as lodged has
--- its order number
+-- the answers of the bank's two calls, of a client's, and of the journal handed to it; a run that ends as lodged names
+-- its order: "subscriber, type and number together"
 abbrev pub frameAnswer : FrameAnswer → Answer
 frameAnswer (frame-answer.Reply n) = Frame n
 frameAnswer frame-answer.WrongLength = Number (frameNumber frame-answer.WrongLength)
@@ -120,11 +120,11 @@ fileAnswer file-answer.MailboxFull = Number (fileNumber file-answer.MailboxFull)
 abbrev pub runAnswer : client.Answer → ClientRun → Answer
 runAnswer (client-answer.Request n) c = Request n
 runAnswer client-answer.Ignored c = Ignored
-runAnswer (client-answer.Closed w) c = Closed w (c .number)
+runAnswer (client-answer.Closed w) c = Closed w (orderName c)
 runAnswer (client-answer.Refused x) c = Number (refusalNumber x)
 
 abbrev pub journalAnswer : JournalAnswer → ClientRun → Answer
-journalAnswer (journal-answer.Closed w) c = Closed w (c .number)
+journalAnswer (journal-answer.Closed w) c = Closed w (orderName c)
 journalAnswer journal-answer.Unchanged c = Unchanged
 journalAnswer journal-answer.WrongLength c = Number (journalNumber journal-answer.WrongLength)
 

@@ -42,7 +42,9 @@ use client_run::run::Direction;
 use client_run::run::NONCE_BYTES;
 use client_run::run::RunParameters;
 use client_run::run::Word;
+use client_run::run::order_name;
 use client_run::run::refusal_number;
+use journal::event::OrderName;
 use message::limits::FILE_BYTES;
 use octets::bytes::copy;
 ghost use mathlib.Core.Path.{_≡_};
@@ -63,15 +65,15 @@ ghost use Rattle.unit.specs.Call.{roomCall, keeps, withClient, nextRun, 
 ghost use Rattle.unit.specs.Call.{runStep, journalStep, unitCall};
 
 // What a call answers: the length of the reply in the buffer, the file is in the mailbox, the length of the request,
-// the run stays, its closing word with its order number, the journal left the run as it was, the length of the image,
-// the session is taken up, the bytes are in the image room, or the number that the call was given. A record that is no
-// call has none.
+// the run stays, its closing word with what names its order, the journal left the run as it was, the length of the
+// image, the session is taken up, the bytes are in the image room, or the number that the call was given. A record that
+// is no call has none.
 pub enum Answer {
     Frame(usize),
     Put,
     Request(usize),
     Ignored,
-    Closed(Word, u64),
+    Closed(Word, OrderName),
     Unchanged,
     Away(usize),
     TakenUp,
@@ -122,7 +124,7 @@ fn run_answer(answer: ClientAnswer, client: Client) -> Answer
     match answer {
         ClientAnswer::Request(n) => Answer::Request(n),
         ClientAnswer::Ignored => Answer::Ignored,
-        ClientAnswer::Closed(w) => Answer::Closed(w, client.run.number),
+        ClientAnswer::Closed(w) => Answer::Closed(w, order_name(client.run)),
         ClientAnswer::Refused(x) => Answer::Number(refusal_number(x)),
     }
 }
@@ -132,7 +134,7 @@ fn journal_answer(answer: JournalAnswer, client: Client) -> Answer
     ensures { λ r. ⌜ r ≡ journalAnswer answer (client .run) ⌝ }
 {
     match answer {
-        JournalAnswer::Closed(w) => Answer::Closed(w, client.run.number),
+        JournalAnswer::Closed(w) => Answer::Closed(w, order_name(client.run)),
         JournalAnswer::Unchanged => Answer::Unchanged,
         JournalAnswer::WrongLength => Answer::Number(1),
     }

@@ -41,6 +41,7 @@ pub fn fresh() -> UnitState
         number: 0,
         clock: 0,
         subscriber: 0,
+        order_type: 0,
         order: 0,
         kind: Kind::Unused,
     };

@@ -9,17 +9,30 @@ openings-requires c κs = search needs
 enum-told : tie.Need-enum-told
 enum-told c = search needs
 
+subscriber-requires : tie.Need-subscriber-requires
+subscriber-requires c κs = tt
+
+series-of-requires : tie.Need-series-of-requires
+series-of-requires c κs = search needs
+
 enum-told-2 : tie.Need-enum-told-2
 enum-told-2 c = search needs
 
-subscriber-requires : tie.Need-subscriber-requires
-subscriber-requires c κs = tt
+subscriber-requires-2 : tie.Need-subscriber-requires-2
+subscriber-requires-2 c κs = tt
 
 mailbox-segments-requires : tie.Need-mailbox-segments-requires
 mailbox-segments-requires c κs = search needs
 
 returns : tie.Need-returns
-returns c = rw (c .enum-told .given .1, c .before .before .openings .ensures)
+returns c =
+    let told = c .before .before in
+    rw (
+      told .enum-told .given .1,
+      c .series-of .ensures,
+      c .before .subscriber .ensures,
+      told .before .before .openings .ensures,
+    )
 
 returns-2 : tie.Need-returns-2
 returns-2 c =
@@ -27,7 +40,7 @@ returns-2 c =
     rw (
       told .enum-told2 .given .1,
       c .mailbox-segments .ensures,
-      c .before .subscriber .ensures,
+      c .before .subscriber2 .ensures,
       told .before .before .openings .ensures,
     )
 
@@ -37,8 +50,10 @@ accepted-spec =
     (tie.spec
     openings-requires
     enum-told
-    enum-told-2
     subscriber-requires
+    series-of-requires
+    enum-told-2
+    subscriber-requires-2
     mailbox-segments-requires
     returns
     returns-2)

@@ -23,7 +23,7 @@ add-download-requires c κs =
     let s = start .args .rows .now in
     let room = start .pre .1 in
     let same =
-    counted-downloads s (start .pre .0) (start .args .q) direction.Download room _ (count .count-opening .ensures) in (
+    counted-downloads s (start .pre .0) (start .args .q) room _ (count .count-opening .ensures) in (
       counted-laid s (start .pre .0) (start .args .q) direction.Download room _ (count .count-opening .ensures),
       omega (arith, same, room .place),
       refl,

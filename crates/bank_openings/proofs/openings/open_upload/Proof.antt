@@ -1,7 +1,6 @@
--- One opening more, then its place: two changes stored as one.
+-- One upload more, then its place: two changes stored as one.
 use native.Mathlib.Omega.{arith}
-use Rattle.bank_verdicts.specs.declared.verdict.Direction.the-variants as direction
-use Rattle.bank_openings.proofs.Opened.{counted-laid, upload-stored}
+use Rattle.bank_openings.proofs.Opened.{upload-laid, upload-stored}
 use borrow.Author.Needs.{needs}
 use Rattle.bank_openings.proofs.openings.open_upload.Statement.{statement}
 use Rattle.bank_openings.proofs.openings.open_upload.Tie as tie
@@ -18,8 +17,8 @@ segments-requires c κs = search needs
 clock-requires : tie.Need-clock-requires
 clock-requires c κs = search needs
 
-count-opening-requires : tie.Need-count-opening-requires
-count-opening-requires c κs = search needs
+count-upload-requires : tie.Need-count-upload-requires
+count-upload-requires c κs = search needs
 
 set-place-requires : tie.Need-set-place-requires
 set-place-requires c κs =
@@ -27,8 +26,8 @@ set-place-requires c κs =
     let free = count .before .before .before .before .before .before in
     let start = free .before .before .before in
     let a = start .args in (
-      counted-laid (a .rows .now) (start .pre .0) (a .q) direction.Upload (start .pre .1) _
-          (count .count-opening .ensures),
+      upload-laid (a .rows .now) (start .pre .0) (a .q) (start .pre .1) _
+          (count .count-upload .ensures),
       omega (arith, free .free-place .ensures, start .pre .1 .place),
     )
 
@@ -44,7 +43,7 @@ returns c =
     let free = segments .before .before in
     let start = free .before .before .before in
     let a = start .args in
-    upload-stored (a .rows .now) (start .pre .0) (a .q) (start .pre .1) _ (count .count-opening .ensures) _ _
+    upload-stored (a .rows .now) (start .pre .0) (a .q) (start .pre .1) _ (count .count-upload .ensures) _ _
     (a .number) (a .transaction) _ (set .set-place .ensures) (free .free-place .ensures)
     (rw (segments .before .subscriber .ensures, segments .segments .ensures, clock .clock .ensures))
 
@@ -56,7 +55,7 @@ open-upload-spec =
     subscriber-requires
     segments-requires
     clock-requires
-    count-opening-requires
+    count-upload-requires
     set-place-requires
     same-length
     returns)

@@ -13,7 +13,7 @@ use Rattle.bank_steps.proofs.steps.upload_opening.Tie as tie
 
 open-upload-requires : tie.Need-open-upload-requires
 open-upload-requires c κs =
-    let at-verdict = c .before .before .before .before in
+    let at-verdict = c .before .before .before .before .before in
     let at-judge-opening = at-verdict .before .before in
     let start = at-judge-opening .before .before .before in
     let a = start .args in
@@ -25,14 +25,15 @@ returns : tie.Need-returns
 returns c =
     λ o m d.
     let at-open-upload = c .before .before in
-    let at-openings = at-open-upload .before .before in
-    let at-verdict = at-openings .before .before .before in
+    let at-series = at-open-upload .before .before in
+    let at-subscriber = at-series .before in
+    let at-verdict = at-subscriber .before .before .before in
     let at-judge-opening = at-verdict .before .before in
     let start = at-judge-opening .before .before .before in
     let a = start .args in
     let told = sym (at-judge-opening .judge-opening .ensures) ∙ at-verdict .verdict .given .1 in
-    upload-opening-carried (a .rows .now) o m (a .first) (a .q) d told (at-openings .openings .ensures)
-    (at-open-upload .open-upload .ensures)
+    upload-opening-carried (a .rows .now) o m (a .first) (a .q) d told (at-subscriber .subscriber .ensures)
+    (at-series .series-of .ensures) (at-open-upload .open-upload .ensures)
 
 returns-2 : tie.Need-returns-2
 returns-2 c =
@@ -50,6 +51,7 @@ upload-opening-spec =
     (tie.spec
     (λ c κs. search needs)
     (λ c. search needs)
+    (λ c κs. search needs)
     (λ c κs. search needs)
     open-upload-requires
     (λ c. search needs)

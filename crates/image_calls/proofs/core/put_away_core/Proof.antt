@@ -10,7 +10,6 @@ use Rattle.bank_session.specs.Session.{session}
 use Rattle.image_calls.specs.Calls.{imageLength, sizesRight}
 use Rattle.image_calls.proofs.Tests.{sizes-are, lengths-are}
 use Rattle.image_calls.proofs.Putting.{
-  not-numbered,
   not-listed,
   away-lengths,
   away-short,
@@ -48,59 +47,40 @@ returns-2 c l e k =
     away-short (session (a .rows .now) l (a .orders .now) (a .mailboxes .now)) (a .buffer .now) right
     (omega (arith, c .if2 .taken, ap (λ (x : Sizes). x .image) (c .before .before .sizes-of .ensures)))
 
-orders-numbered-requires : tie.Need-orders-numbered-requires
-orders-numbered-requires c κs =
-    let at-if1 = c .before .before .before in
-    let a = at-if1 .before .before .before .before .before .before .args in
-    sizes-are (length (a .rows .now)) (a .records) (length (a .orders .now)) (length (a .mailboxes .now)) (lengths at-if1) .0
-
-returns-3 : tie.Need-returns-3
-returns-3 c l e k =
-    let at-if2 = c .before .before in
-    let at-if1 = at-if2 .before .before .before in
-    let a = at-if1 .before .before .before .before .before .before .args in
-    let m = session (a .rows .now) l (a .orders .now) (a .mailboxes .now) in
-    let right = lengths-are (a .rows .now) (a .orders .now) (a .mailboxes .now) l (a .records) e true (lengths at-if1) in
-    away-not m (a .buffer .now) right (room at-if2)
-    (not-numbered m (sym (c .before .orders-numbered .ensures) ∙ not-true _ (c .if3 .taken)))
-
 gather-requires : tie.Need-gather-requires
 gather-requires c κs =
-    let at-if1 = c .before .before .before .before .before .before in
+    let at-if1 = c .before .before .before .before in
     let a = at-if1 .before .before .before .before .before .before .args in
     (sizes-are (length (a .rows .now)) (a .records) (length (a .orders .now)) (length (a .mailboxes .now)) (lengths at-if1) .0, search needs)
 
-returns-4 : tie.Need-returns-4
-returns-4 c l e k =
+returns-3 : tie.Need-returns-3
+returns-3 c l e k =
     let at-gather = c .before .before .before .before in
-    let at-if3 = at-gather .before .before in
-    let at-if2 = at-if3 .before .before in
+    let at-if2 = at-gather .before .before in
     let at-if1 = at-if2 .before .before .before in
     let a = at-if1 .before .before .before .before .before .before .args in
     let m = session (a .rows .now) l (a .orders .now) (a .mailboxes .now) in
     let sizes = sizes-are (length (a .rows .now)) (a .records) (length (a .orders .now)) (length (a .mailboxes .now)) (lengths at-if1) in
     let right = lengths-are (a .rows .now) (a .orders .now) (a .mailboxes .now) l (a .records) e true (lengths at-if1) in
     away-not m (a .buffer .now) right (room at-if2)
-    (not-listed m (sym (at-if3 .before .orders-numbered .ensures) ∙ not-false _ (at-if3 .if3 .left))
+    (not-listed m
     (told-listed (a .rows .now) (a .orders .now) (a .mailboxes .now) (a .row) l _ (at-gather .gather .ensures) (k (sizes .1)) _
-    (c .before .admitted .ensures) false (not-true _ (c .if4 .taken))))
+    (c .before .admitted .ensures) false (not-true _ (c .if3 .taken))))
 
-returns-5 : tie.Need-returns-5
-returns-5 c l e k =
+returns-4 : tie.Need-returns-4
+returns-4 c l e k =
     let at-write = c .before .before .before in
-    let at-if4 = at-write .before .before .before in
-    let at-gather = at-if4 .before .before .before .before in
-    let at-if3 = at-gather .before .before in
-    let at-if2 = at-if3 .before .before in
+    let at-if3 = at-write .before .before .before in
+    let at-gather = at-if3 .before .before .before .before in
+    let at-if2 = at-gather .before .before in
     let at-if1 = at-if2 .before .before .before in
     let a = at-if1 .before .before .before .before .before .before .args in
     let m = session (a .rows .now) l (a .orders .now) (a .mailboxes .now) in
     let sizes = sizes-are (length (a .rows .now)) (a .records) (length (a .orders .now)) (length (a .mailboxes .now)) (lengths at-if1) in
     let right = lengths-are (a .rows .now) (a .orders .now) (a .mailboxes .now) l (a .records) e true (lengths at-if1) in
     away-written m (a .buffer .now) right (room at-if2)
-    (sym (at-if3 .before .orders-numbered .ensures) ∙ not-false _ (at-if3 .if3 .left))
     (told-listed (a .rows .now) (a .orders .now) (a .mailboxes .now) (a .row) l _ (at-gather .gather .ensures) (k (sizes .1)) _
-    (at-if4 .before .admitted .ensures) true (not-false _ (at-if4 .if4 .left)))
+    (at-if3 .before .admitted .ensures) true (not-false _ (at-if3 .if3 .left)))
     _ _
     (told-written (a .rows .now) (a .orders .now) (a .mailboxes .now) (a .row) l _ (at-gather .gather .ensures) (k (sizes .1)) _ _ _ (at-write .write .ensures))
     _ (c .away-of .ensures)
@@ -113,15 +93,13 @@ put-away-core-spec =
     returns
     (λ c κs. search needs)
     returns-2
-    orders-numbered-requires
-    returns-3
     (λ c. search needs)
     gather-requires
     (λ c. search needs)
     (λ c κs. search needs)
-    returns-4
+    returns-3
     (λ c. search needs)
     (λ c κs. search needs)
     (λ c κs. search needs)
     (λ c. search needs)
-    returns-5)
+    returns-4)

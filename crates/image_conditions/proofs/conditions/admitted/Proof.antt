@@ -4,6 +4,8 @@ use mathlib.Core.Bool.{Bool, true, _&&_}
 use lib.ListN.{length}
 use borrow.Author.Tests.{eq-eqb, ne-eqb}
 use Rattle.image_conditions.specs.Conditions.{admitted}
+use Rattle.bank_state.specs.Limits.{storeBytes}
+use Rattle.image_conditions.specs.Layout.{numberCount}
 use borrow.Author.Needs.{needs}
 use Rattle.image_conditions.proofs.conditions.admitted.Statement.{statement}
 use Rattle.image_conditions.proofs.conditions.admitted.Tie as tie
@@ -12,15 +14,15 @@ returns : tie.Need-returns
 unfolding admitted
 returns c =
     let a = c .before .before .before .before .args in
-    rw (ne-eqb (length (a .numbers .now)) 645 (c .if1 .taken))
+    rw (ne-eqb (length (a .numbers .now)) numberCount (c .if1 .taken))
 
 returns-2 : tie.Need-returns-2
 unfolding admitted
 returns-2 c =
     let a = c .before .before .before .before .before .args in
     rw (
-      eq-eqb (length (a .numbers .now)) 645 (c .before .if1 .left),
-      ne-eqb (length (a .orders .now)) 30720 (c .if2 .taken),
+      eq-eqb (length (a .numbers .now)) numberCount (c .before .if1 .left),
+      ne-eqb (length (a .orders .now)) storeBytes (c .if2 .taken),
     )
 
 returns-3 : tie.Need-returns-3
@@ -28,9 +30,9 @@ unfolding admitted
 returns-3 c =
     let a = c .before .before .before .before .before .before .args in
     rw (
-      eq-eqb (length (a .numbers .now)) 645 (c .before .before .if1 .left),
-      eq-eqb (length (a .orders .now)) 30720 (c .before .if2 .left),
-      ne-eqb (length (a .mailboxes .now)) 30720 (c .if3 .taken),
+      eq-eqb (length (a .numbers .now)) numberCount (c .before .before .if1 .left),
+      eq-eqb (length (a .orders .now)) storeBytes (c .before .if2 .left),
+      ne-eqb (length (a .mailboxes .now)) storeBytes (c .if3 .taken),
     )
 
 conditions-requires : tie.Need-conditions-requires
@@ -46,9 +48,9 @@ returns-4 c =
     let at-if2 = c .before .before .before .if2 in
     let a = c .before .before .before .before .before .before .before .before .args in
     rw (
-      eq-eqb (length (a .numbers .now)) 645 (at-if1 .left),
-      eq-eqb (length (a .orders .now)) 30720 (at-if2 .left),
-      eq-eqb (length (a .mailboxes .now)) 30720 (c .before .before .if3 .left),
+      eq-eqb (length (a .numbers .now)) numberCount (at-if1 .left),
+      eq-eqb (length (a .orders .now)) storeBytes (at-if2 .left),
+      eq-eqb (length (a .mailboxes .now)) storeBytes (c .before .before .if3 .left),
     ) (c .both .ensures ∙ ap (λ (t : Bool). t && true) (c .before .conditions .ensures))
 
 pub admitted-spec : {M : Type 1} → statement M

@@ -40,51 +40,46 @@ both-requires-5 c κs = search needs
 both-requires-6 : tie.Need-both-requires-6
 both-requires-6 c κs = search needs
 
+series-conditions-requires : tie.Need-series-conditions-requires
+series-conditions-requires c κs = search needs
+
+both-requires-7 : tie.Need-both-requires-7
+both-requires-7 c κs = search needs
+
 clock-fits-requires : tie.Need-clock-fits-requires
 clock-fits-requires c κs = search needs
 
 openings-fit-requires : tie.Need-openings-fit-requires
 openings-fit-requires c κs = search needs
 
-both-requires-7 : tie.Need-both-requires-7
-both-requires-7 c κs = search needs
-
 both-requires-8 : tie.Need-both-requires-8
 both-requires-8 c κs = search needs
+
+both-requires-9 : tie.Need-both-requires-9
+both-requires-9 c κs = search needs
 
 returns : tie.Need-returns
 unfolding conditions
 returns c =
-    let at-clock-fits = c .before .before .before .clock-fits in
-    let at-both6 = c .before .before .before .before .both6 in
-    let at-both5 = c .before .before .before .before .before .both5 in
-    let at-download-conditions = c .before .before .before .before .before .before .download-conditions in
-    let at-nonce-conditions = c .before .before .before .before .before .before .before .nonce-conditions in
-    let at-both4 = c .before .before .before .before .before .before .before .before .both4 in
-    let at-both3 = c .before .before .before .before .before .before .before .before .before .both3 in
-    let at-open-conditions = c .before .before .before .before .before .before .before .before .before .before .open-conditions in
-    let at-every-place = c .before .before .before .before .before .before .before .before .before .before .before .every-place in
-    let at-both2 = c .before .before .before .before .before .before .before .before .before .before .before .before .both2 in
-    let at-both = c .before .before .before .before .before .before .before .before .before .before .before .before .before .both in
-    let at-journal-conditions = c .before .before .before .before .before .before .before .before .before .before .before .before .before .before .journal-conditions in
-    let at-every-mailbox = c .before .before .before .before .before .before .before .before .before .before .before .before .before .before .before .every-mailbox in
     rw (
-      c .before .both7 .ensures,
+      c .before .both8 .ensures,
       c .before .before .openings-fit .ensures,
-      at-clock-fits .ensures,
-      at-both6 .ensures,
-      at-both5 .ensures,
-      at-download-conditions .ensures,
-      at-nonce-conditions .ensures,
-      at-both4 .ensures,
-      at-both3 .ensures,
-      at-open-conditions .ensures,
-      at-every-place .ensures,
-      at-both2 .ensures,
-      at-both .ensures,
-      at-journal-conditions .ensures,
-      at-every-mailbox .ensures,
-    ) at (c .both8 .ensures)
+      c .before .before .before .clock-fits .ensures,
+      c .before .before .before .before .both7 .ensures,
+      c .before .before .before .before .before .series-conditions .ensures,
+      c .before .before .before .before .before .before .both6 .ensures,
+      c .before .before .before .before .before .before .before .both5 .ensures,
+      c .before .before .before .before .before .before .before .before .download-conditions .ensures,
+      c .before .before .before .before .before .before .before .before .before .nonce-conditions .ensures,
+      c .before .before .before .before .before .before .before .before .before .before .both4 .ensures,
+      c .before .before .before .before .before .before .before .before .before .before .before .both3 .ensures,
+      c .before .before .before .before .before .before .before .before .before .before .before .before .open-conditions .ensures,
+      c .before .before .before .before .before .before .before .before .before .before .before .before .before .every-place .ensures,
+      c .before .before .before .before .before .before .before .before .before .before .before .before .before .before .both2 .ensures,
+      c .before .before .before .before .before .before .before .before .before .before .before .before .before .before .before .both .ensures,
+      c .before .before .before .before .before .before .before .before .before .before .before .before .before .before .before .before .journal-conditions .ensures,
+      c .before .before .before .before .before .before .before .before .before .before .before .before .before .before .before .before .before .every-mailbox .ensures,
+    ) at (c .both9 .ensures)
 
 pub conditions-spec : {M : Type 1} → statement M
 conditions-spec =
@@ -102,8 +97,10 @@ conditions-spec =
     download-conditions-requires
     both-requires-5
     both-requires-6
+    series-conditions-requires
+    both-requires-7
     clock-fits-requires
     openings-fit-requires
-    both-requires-7
     both-requires-8
+    both-requires-9
     returns)

@@ -4,9 +4,6 @@ use borrow.Author.Needs.{needs}
 use Rattle.image_conditions.proofs.conditions.open_conditions.Statement.{statement}
 use Rattle.image_conditions.proofs.conditions.open_conditions.Tie as tie
 
-numbers-distinct-requires : tie.Need-numbers-distinct-requires
-numbers-distinct-requires c κs = search needs
-
 open-in-all-requires : tie.Need-open-in-all-requires
 open-in-all-requires c κs = search needs
 
@@ -19,31 +16,41 @@ both-requires c κs = search needs
 both-requires-2 : tie.Need-both-requires-2
 both-requires-2 c κs = search needs
 
+orders-distinct-requires : tie.Need-orders-distinct-requires
+orders-distinct-requires c κs = search needs
+
+numbers-distinct-requires : tie.Need-numbers-distinct-requires
+numbers-distinct-requires c κs = search needs
+
 both-requires-3 : tie.Need-both-requires-3
 both-requires-3 c κs = search needs
+
+both-requires-4 : tie.Need-both-requires-4
+both-requires-4 c κs = search needs
 
 returns : tie.Need-returns
 unfolding openConditions
 returns c =
-    let at-every-subscriber = c .before .before .before .every-subscriber in
-    let at-open-in-all = c .before .before .before .before .open-in-all in
-    let at-numbers-distinct = c .before .before .before .before .before .numbers-distinct in
     rw (
-      c .before .both2 .ensures,
-      c .before .before .both .ensures,
-      at-every-subscriber .ensures,
-      at-open-in-all .ensures,
-      at-numbers-distinct .ensures,
-    ) at (c .both3 .ensures)
+      c .before .both3 .ensures,
+      c .before .before .numbers-distinct .ensures,
+      c .before .before .before .orders-distinct .ensures,
+      c .before .before .before .before .both2 .ensures,
+      c .before .before .before .before .before .both .ensures,
+      c .before .before .before .before .before .before .every-subscriber .ensures,
+      c .before .before .before .before .before .before .before .open-in-all .ensures,
+    ) at (c .both4 .ensures)
 
 pub open-conditions-spec : {M : Type 1} → statement M
 open-conditions-spec =
     tie.close
     (tie.spec
-    numbers-distinct-requires
     open-in-all-requires
     every-subscriber-requires
     both-requires
     both-requires-2
+    orders-distinct-requires
+    numbers-distinct-requires
     both-requires-3
+    both-requires-4
     returns)

@@ -53,6 +53,15 @@ mul-t20 c = search needs
 shared-slice-read-t22 : tie.Need-shared-slice-read-t22
 shared-slice-read-t22 c = search needs
 
+add-t23 : tie.Need-add-t23
+add-t23 c = search needs
+
+mul-t24 : tie.Need-mul-t24
+mul-t24 c = search needs
+
+shared-slice-read-t26 : tie.Need-shared-slice-read-t26
+shared-slice-read-t26 c = search needs
+
 returns : tie.Need-returns
 unfolding eventAt
 returns c = refl
@@ -77,4 +86,7 @@ event-at-spec =
     add-t19
     mul-t20
     shared-slice-read-t22
+    add-t23
+    mul-t24
+    shared-slice-read-t26
     returns)

@@ -1,6 +1,7 @@
 -- `file_of` meets its contract: a subscriber is 1 to 8. Assumes nothing.
 use Prim.Native.Nat.{_-_}
 use borrow.Author.Tests.{le-leb, lt-leb}
+use Rattle.message.specs.Limits.{subscribers}
 use Rattle.image_conditions.specs.Layout.{fileOf}
 use borrow.Author.Needs.{needs}
 use Rattle.image_conditions.proofs.layout.file_of.Statement.{statement}
@@ -16,7 +17,7 @@ returns-2 : tie.Need-returns-2
 unfolding fileOf
 returns-2 c =
     let a = c .before .before .before .args in
-    rw (le-leb 1 (a .subscriber) (c .before .if1 .left), lt-leb (a .subscriber) 8 (c .if2 .taken))
+    rw (le-leb 1 (a .subscriber) (c .before .if1 .left), lt-leb (a .subscriber) subscribers (c .if2 .taken))
 
 file-at-requires : tie.Need-file-at-requires
 file-at-requires c κs = search needs
@@ -25,7 +26,7 @@ returns-3 : tie.Need-returns-3
 unfolding fileOf
 returns-3 c =
     let a = c .before .before .before .before .args in
-    rw (le-leb 1 (a .subscriber) (c .before .before .if1 .left), le-leb (a .subscriber) 8 (c .before .if2 .left)) (c .file-at .ensures)
+    rw (le-leb 1 (a .subscriber) (c .before .before .if1 .left), le-leb (a .subscriber) subscribers (c .before .if2 .left)) (c .file-at .ensures)
 
 pub file-of-spec : {M : Type 1} → statement M
 file-of-spec = tie.close (tie.spec returns returns-2 file-at-requires returns-3)

@@ -89,6 +89,15 @@ mul-t36 c = search needs
 shared-slice-read-t38 : tie.Need-shared-slice-read-t38
 shared-slice-read-t38 c = search needs
 
+add-t39 : tie.Need-add-t39
+add-t39 c = search needs
+
+mul-t40 : tie.Need-mul-t40
+mul-t40 c = search needs
+
+shared-slice-read-t42 : tie.Need-shared-slice-read-t42
+shared-slice-read-t42 c = search needs
+
 returns : tie.Need-returns
 unfolding placeAt
 returns c = refl
@@ -125,4 +134,7 @@ place-at-spec =
     add-t35
     mul-t36
     shared-slice-read-t38
+    add-t39
+    mul-t40
+    shared-slice-read-t42
     returns)

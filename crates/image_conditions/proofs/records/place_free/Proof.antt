@@ -28,26 +28,24 @@ both-requires-7 c κs = search needs
 both-requires-8 : tie.Need-both-requires-8
 both-requires-8 c κs = search needs
 
+both-requires-9 : tie.Need-both-requires-9
+both-requires-9 c κs = search needs
+
 implies-requires : tie.Need-implies-requires
 implies-requires c κs = search needs
 
 returns : tie.Need-returns
 returns c =
-    let at-both6 = c .before .before .before .both6 in
-    let at-both5 = c .before .before .before .before .before .before .before .before .both5 in
-    let at-both4 = c .before .before .before .before .before .before .before .before .before .both4 in
-    let at-both3 = c .before .before .before .before .before .before .before .before .before .before .before .before .both3 in
-    let at-both2 = c .before .before .before .before .before .before .before .before .before .before .before .before .before .both2 in
-    let at-both = c .before .before .before .before .before .before .before .before .before .before .before .before .before .before .both in
     rw (
-      c .before .both8 .ensures,
-      c .before .before .both7 .ensures,
-      at-both6 .ensures,
-      at-both5 .ensures,
-      at-both4 .ensures,
-      at-both3 .ensures,
-      at-both2 .ensures,
-      at-both .ensures,
+      c .before .both9 .ensures,
+      c .before .before .both8 .ensures,
+      c .before .before .before .before .before .before .both7 .ensures,
+      c .before .before .before .before .before .before .before .both6 .ensures,
+      c .before .before .before .before .before .before .before .before .before .before .both5 .ensures,
+      c .before .before .before .before .before .before .before .before .before .before .before .both4 .ensures,
+      c .before .before .before .before .before .before .before .before .before .before .before .before .before .before .both3 .ensures,
+      c .before .before .before .before .before .before .before .before .before .before .before .before .before .before .before .both2 .ensures,
+      c .before .before .before .before .before .before .before .before .before .before .before .before .before .before .before .before .both .ensures,
     ) at (c .implies .ensures)
 
 pub place-free-spec : {M : Type 1} → statement M
@@ -62,5 +60,6 @@ place-free-spec =
     both-requires-6
     both-requires-7
     both-requires-8
+    both-requires-9
     implies-requires
     returns)

@@ -46,11 +46,11 @@ both-requires-6 c κs = search needs
 both-requires-7 : tie.Need-both-requires-7
 both-requires-7 c κs = search needs
 
-place-subscriber-requires : tie.Need-place-subscriber-requires
-place-subscriber-requires c κs = search needs
-
 place-number-requires : tie.Need-place-number-requires
 place-number-requires c κs = search needs
+
+place-order-requires : tie.Need-place-order-requires
+place-order-requires c κs = search needs
 
 both-requires-8 : tie.Need-both-requires-8
 both-requires-8 c κs = search needs
@@ -58,62 +58,51 @@ both-requires-8 c κs = search needs
 both-requires-9 : tie.Need-both-requires-9
 both-requires-9 c κs = search needs
 
+place-subscriber-requires : tie.Need-place-subscriber-requires
+place-subscriber-requires c κs = search needs
+
+both-requires-10 : tie.Need-both-requires-10
+both-requires-10 c κs = search needs
+
 place-state-requires : tie.Need-place-state-requires
 place-state-requires c κs = search needs
 
 place-free-requires : tie.Need-place-free-requires
 place-free-requires c κs = search needs
 
-both-requires-10 : tie.Need-both-requires-10
-both-requires-10 c κs = search needs
-
 both-requires-11 : tie.Need-both-requires-11
 both-requires-11 c κs = search needs
 
+both-requires-12 : tie.Need-both-requires-12
+both-requires-12 c κs = search needs
+
 returns : tie.Need-returns
 returns c =
-    let at-place-state = c .before .before .before .place-state in
-    let at-both9 = c .before .before .before .before .both9 in
-    let at-both8 = c .before .before .before .before .before .both8 in
-    let at-place-number = c .before .before .before .before .before .before .place-number in
-    let at-place-subscriber = c .before .before .before .before .before .before .before .place-subscriber in
-    let at-both7 = c .before .before .before .before .before .before .before .before .both7 in
-    let at-both6 = c .before .before .before .before .before .before .before .before .before .both6 in
-    let at-both5 = c .before .before .before .before .before .before .before .before .before .before .both5 in
-    let at-upload-attempts = c .before .before .before .before .before .before .before .before .before .before .before .upload-attempts in
-    let at-upload-taken = c .before .before .before .before .before .before .before .before .before .before .before .before .upload-taken in
-    let at-upload-segments = c .before .before .before .before .before .before .before .before .before .before .before .before .before .upload-segments in
-    let at-both4 = c .before .before .before .before .before .before .before .before .before .before .before .before .before .before .both4 in
-    let at-both3 = c .before .before .before .before .before .before .before .before .before .before .before .before .before .before .before .both3 in
-    let at-upload-length = c .before .before .before .before .before .before .before .before .before .before .before .before .before .before .before .before .upload-length in
-    let at-upload-time = c .before .before .before .before .before .before .before .before .before .before .before .before .before .before .before .before .before .upload-time in
-    let at-both2 = c .before .before .before .before .before .before .before .before .before .before .before .before .before .before .before .before .before .before .both2 in
-    let at-both = c .before .before .before .before .before .before .before .before .before .before .before .before .before .before .before .before .before .before .before .both in
-    let at-booked-rest = c .before .before .before .before .before .before .before .before .before .before .before .before .before .before .before .before .before .before .before .before .booked-rest in
-    let at-booked-length = c .before .before .before .before .before .before .before .before .before .before .before .before .before .before .before .before .before .before .before .before .before .booked-length in
     rw (
-      c .before .both10 .ensures,
+      c .before .both11 .ensures,
       c .before .before .place-free .ensures,
-      at-place-state .ensures,
-      at-both9 .ensures,
-      at-both8 .ensures,
-      at-place-number .ensures,
-      at-place-subscriber .ensures,
-      at-both7 .ensures,
-      at-both6 .ensures,
-      at-both5 .ensures,
-      at-upload-attempts .ensures,
-      at-upload-taken .ensures,
-      at-upload-segments .ensures,
-      at-both4 .ensures,
-      at-both3 .ensures,
-      at-upload-length .ensures,
-      at-upload-time .ensures,
-      at-both2 .ensures,
-      at-both .ensures,
-      at-booked-rest .ensures,
-      at-booked-length .ensures,
-    ) at (c .both11 .ensures)
+      c .before .before .before .place-state .ensures,
+      c .before .before .before .before .both10 .ensures,
+      c .before .before .before .before .before .place-subscriber .ensures,
+      c .before .before .before .before .before .before .both9 .ensures,
+      c .before .before .before .before .before .before .before .both8 .ensures,
+      c .before .before .before .before .before .before .before .before .place-order .ensures,
+      c .before .before .before .before .before .before .before .before .before .place-number .ensures,
+      c .before .before .before .before .before .before .before .before .before .before .both7 .ensures,
+      c .before .before .before .before .before .before .before .before .before .before .before .both6 .ensures,
+      c .before .before .before .before .before .before .before .before .before .before .before .before .both5 .ensures,
+      c .before .before .before .before .before .before .before .before .before .before .before .before .before .upload-attempts .ensures,
+      c .before .before .before .before .before .before .before .before .before .before .before .before .before .before .upload-taken .ensures,
+      c .before .before .before .before .before .before .before .before .before .before .before .before .before .before .before .upload-segments .ensures,
+      c .before .before .before .before .before .before .before .before .before .before .before .before .before .before .before .before .both4 .ensures,
+      c .before .before .before .before .before .before .before .before .before .before .before .before .before .before .before .before .before .both3 .ensures,
+      c .before .before .before .before .before .before .before .before .before .before .before .before .before .before .before .before .before .before .upload-length .ensures,
+      c .before .before .before .before .before .before .before .before .before .before .before .before .before .before .before .before .before .before .before .upload-time .ensures,
+      c .before .before .before .before .before .before .before .before .before .before .before .before .before .before .before .before .before .before .before .before .both2 .ensures,
+      c .before .before .before .before .before .before .before .before .before .before .before .before .before .before .before .before .before .before .before .before .before .both .ensures,
+      c .before .before .before .before .before .before .before .before .before .before .before .before .before .before .before .before .before .before .before .before .before .before .booked-rest .ensures,
+      c .before .before .before .before .before .before .before .before .before .before .before .before .before .before .before .before .before .before .before .before .before .before .before .booked-length .ensures,
+    ) at (c .both12 .ensures)
 
 pub place-holds-spec : {M : Type 1} → statement M
 place-holds-spec =
@@ -133,12 +122,14 @@ place-holds-spec =
     both-requires-5
     both-requires-6
     both-requires-7
-    place-subscriber-requires
     place-number-requires
+    place-order-requires
     both-requires-8
     both-requires-9
+    place-subscriber-requires
+    both-requires-10
     place-state-requires
     place-free-requires
-    both-requires-10
     both-requires-11
+    both-requires-12
     returns)

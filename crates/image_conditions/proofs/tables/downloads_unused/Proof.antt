@@ -5,6 +5,8 @@ use native.Mathlib.Omega.{arith}
 use lib.ListN.{getD}
 use Rattle.image_conditions.specs.Conditions.{downloadsUnused, unused}
 use Rattle.image_conditions.proofs.Shapes.{up-to-le}
+use Rattle.bank_state.specs.Limits.{placeCount}
+use Rattle.image_conditions.specs.Layout.{downloadCountAt, downloadsAt, downloadWidth}
 use borrow.Author.Needs.{needs}
 use Rattle.image_conditions.proofs.tables.downloads_unused.Statement.{statement}
 use Rattle.image_conditions.proofs.tables.downloads_unused.Tie as tie
@@ -13,13 +15,13 @@ downloads-requires : tie.Need-downloads-requires
 downloads-requires c κs = search needs
 
 unused-requires : tie.Need-unused-requires
-unused-requires c κs = omega (arith, c .downloads .ensures, up-to-le 8 (getD (c .before .before .args .numbers .now) 196 0) .0)
+unused-requires c κs = omega (arith, c .downloads .ensures, up-to-le placeCount (getD (c .before .before .args .numbers .now) downloadCountAt 0) .0)
 
 returns : tie.Need-returns
 unfolding downloadsUnused
 returns c =
     let at-args = c .before .before .before .args in
-    c .unused .ensures ∙ ap (λ (n : ℕ). unused (at-args .numbers .now) 197 6 n 8) (c .before .downloads .ensures)
+    c .unused .ensures ∙ ap (λ (n : ℕ). unused (at-args .numbers .now) downloadsAt downloadWidth n placeCount) (c .before .downloads .ensures)
 
 pub downloads-unused-spec : {M : Type 1} → statement M
 downloads-unused-spec = tie.close (tie.spec downloads-requires unused-requires returns)

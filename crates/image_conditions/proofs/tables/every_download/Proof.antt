@@ -6,6 +6,8 @@ use lib.ListN.{getD}
 use Rattle.image_conditions.specs.Shapes.{every}
 use Rattle.image_conditions.specs.Conditions.{downloadTest, everyDownload}
 use Rattle.image_conditions.proofs.Shapes.{every-none, every-next, up-to-le}
+use Rattle.bank_state.specs.Limits.{placeCount}
+use Rattle.image_conditions.specs.Layout.{downloadCountAt}
 use borrow.Author.Needs.{needs}
 use Rattle.image_conditions.proofs.tables.every_download.Statement.{statement}
 use Rattle.image_conditions.proofs.tables.every_download.Tie as tie
@@ -25,7 +27,7 @@ loop-holds c = (search needs, sym (every-none (downloadTest (c .before .before .
 download-test-requires : tie.Need-download-test-requires Inv-loop μ-loop
 download-test-requires c κs =
     let at-args = c .before .before .before .before .args in
-    (omega (arith, c .before .before .downloads .ensures, up-to-le 8 (getD (at-args .numbers .now) 196 0) .0), search needs)
+    (omega (arith, c .before .before .downloads .ensures, up-to-le placeCount (getD (at-args .numbers .now) downloadCountAt 0) .0), search needs)
 
 both-requires : tie.Need-both-requires Inv-loop μ-loop
 both-requires c κs = search needs

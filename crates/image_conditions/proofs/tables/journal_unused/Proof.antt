@@ -5,6 +5,8 @@ use native.Mathlib.Omega.{arith}
 use lib.ListN.{getD}
 use Rattle.image_conditions.specs.Conditions.{journalUnused, unused}
 use Rattle.image_conditions.proofs.Shapes.{up-to-le}
+use Rattle.journal.specs.Events.{recordCount}
+use Rattle.image_conditions.specs.Layout.{eventsAt, journalAt, eventWidth}
 use borrow.Author.Needs.{needs}
 use Rattle.image_conditions.proofs.tables.journal_unused.Statement.{statement}
 use Rattle.image_conditions.proofs.tables.journal_unused.Tie as tie
@@ -13,13 +15,13 @@ used-events-requires : tie.Need-used-events-requires
 used-events-requires c κs = search needs
 
 unused-requires : tie.Need-unused-requires
-unused-requires c κs = omega (arith, c .used-events .ensures, up-to-le 64 (getD (c .before .before .args .numbers .now) 2 0) .0)
+unused-requires c κs = omega (arith, c .used-events .ensures, up-to-le recordCount (getD (c .before .before .args .numbers .now) eventsAt 0) .0)
 
 returns : tie.Need-returns
 unfolding journalUnused
 returns c =
     let at-args = c .before .before .before .args in
-    c .unused .ensures ∙ ap (λ (n : ℕ). unused (at-args .numbers .now) 325 5 n 64) (c .before .used-events .ensures)
+    c .unused .ensures ∙ ap (λ (n : ℕ). unused (at-args .numbers .now) journalAt eventWidth n recordCount) (c .before .used-events .ensures)
 
 pub journal-unused-spec : {M : Type 1} → statement M
 journal-unused-spec = tie.close (tie.spec used-events-requires unused-requires returns)

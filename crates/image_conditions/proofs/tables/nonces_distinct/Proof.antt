@@ -7,6 +7,8 @@ use lib.ListN.{getD}
 use Rattle.image_conditions.specs.Shapes.{every, distinct}
 use Rattle.image_conditions.specs.Conditions.{noncesDistinct, sameNonce}
 use Rattle.image_conditions.proofs.Shapes.{every-none, every-next, up-to-le}
+use Rattle.bank_state.specs.Limits.{nonceCount}
+use Rattle.image_conditions.specs.Layout.{nonceCountAt}
 use borrow.Author.Needs.{needs}
 use Rattle.image_conditions.proofs.tables.nonces_distinct.Statement.{statement}
 use Rattle.image_conditions.proofs.tables.nonces_distinct.Tie as tie
@@ -26,7 +28,7 @@ loop-holds c = (search needs, sym (every-none (λ i. every (λ j. not (sameNonce
 new-nonce-requires : tie.Need-new-nonce-requires Inv-loop μ-loop
 new-nonce-requires c κs =
     let at-args = c .before .before .before .before .args in
-    (omega (arith, c .before .before .nonces .ensures, up-to-le 64 (getD (at-args .numbers .now) 3 0) .0), search needs)
+    (omega (arith, c .before .before .nonces .ensures, up-to-le nonceCount (getD (at-args .numbers .now) nonceCountAt 0) .0), search needs)
 
 both-requires : tie.Need-both-requires Inv-loop μ-loop
 both-requires c κs = search needs

@@ -122,6 +122,7 @@ use Rattle.journal.proofs.places.Places as P
 use Rattle.journal.proofs.places.Places.Laws as P′
 use Rattle.journal.proofs.Mixed.{mixed, mixed-length, mixed-after, mixed-next}
 use Rattle.journal.proofs.Entering.{Entering, entering}
+use Rattle.journal.proofs.Width.{eventBytes}
 use Rattle.journal.proofs.Plain.{calls-plain}
 use Rattle.journal.proofs.Rounds as rounds
 use Rattle.journal.proofs.Rounds.{holds, fails}
@@ -313,7 +314,7 @@ module _ {M : Type 1} (𝓤 : URA M) (H : Heap 𝓤) (A : Atoms 𝓤) (W : Given
           -- the event is stored at i
           assigns ! (bin ! (load ! (from ! (stop !)) (look ! 1 refl)) (lit ! tt) (record { fits = scaled })) (from ! (stop !)) (init ! 12 refl (tt, record { fits = scaled })) $
           assigns ! (bin ! (load ! (from ! (fld ! refl (stop !))) (look-in ! 14 (sub ! 0 refl (whole !)))) (load ! (from ! (stop !)) (look ! 12 refl)) tt) (from ! (stop !)) (init ! 13 refl (tt, tt)) $
-          rewrite ! 13 (λ (p : ℕ). ‵ (fat fullShare tyPtr l₁₉ 0 (vptr b p))) (sym (place-is 40 o i)) refl $
+          rewrite ! 13 (λ (p : ℕ). ‵ (fat fullShare tyPtr l₁₉ 0 (vptr b p))) (sym (place-is eventBytes o i)) refl $
           elem-out ! R (Is R) (shows 𝓤 H A R) vals (LL.tells T.the-type T′.the-laws) fullShare ys i noEvent b o in-row (λ _.
           assigns ! (of-opd ! (load ! (from ! (stop !)) (look ! 12 refl))) (from ! (hop ! (look ! 15 refl) (stop !))) (store-raw ! 0 refl (typed r w is)) $
           move ! (1 ∷ []) $ drop ! $ owned ! R (Is R) (LL.makes T.the-type T′.the-plain 𝓤 H A) r (w ∷ []) is $ move ! (1 ∷ 0 ∷ []) $ elem-put ! R fullShare ys i r (w ∷ []) b o in-row $
@@ -331,7 +332,7 @@ module _ {M : Type 1} (𝓤 : URA M) (H : Heap 𝓤) (A : Atoms 𝓤) (W : Given
           k : ℕ
           k = i - p .start
 
-          scaled : i * 40 < 2 ^ 64
+          scaled : i * eventBytes < 2 ^ 64
           scaled = omega (arith, within)
 
           in-row : i < length ys
@@ -369,14 +370,14 @@ module _ {M : Type 1} (𝓤 : URA M) (H : Heap 𝓤) (A : Atoms 𝓤) (W : Given
           assigns ! (bin ! (load ! (from ! (stop !)) (look ! 1 refl)) (load ! (from ! (fld ! refl (stop !))) (look-in ! 18 (sub ! 0 refl (whole !)))) (record { fits = omega (arith, within) })) (from ! (stop !)) (init ! 3 refl (tt, record { fits = omega (arith, within) })) $
           assigns ! (bin ! (load ! (from ! (stop !)) (look ! 3 refl)) (lit ! tt) (record { fits = scaled })) (from ! (stop !)) (init ! 4 refl (tt, record { fits = scaled })) $
           assigns ! (bin ! (load ! (from ! (fld ! refl (stop !))) (look-in ! 14 (sub ! 0 refl (whole !)))) (load ! (from ! (stop !)) (look ! 4 refl)) tt) (from ! (stop !)) (init ! 5 refl (tt, tt)) $
-          rewrite ! 5 (λ (p : ℕ). ‵ (fat fullShare tyPtr l₁₁ 0 (vptr b p))) (sym (place-is 40 o j)) refl $
+          rewrite ! 5 (λ (p : ℕ). ‵ (fat fullShare tyPtr l₁₁ 0 (vptr b p))) (sym (place-is eventBytes o j)) refl $
           elem-out ! R (Is R) (shows 𝓤 H A R) vals (LL.tells T.the-type T′.the-laws) fullShare ys j noEvent b o in-row (λ g.
           assigns ! (of-opd ! (load ! (from ! (hop ! (look ! 7 refl) (stop !))) (look-raw ! 0 refl))) (from ! (stop !)) (init ! 8 refl (typed e _ g)) $
           elem-back ! R fullShare ys j noEvent (vals e) b o in-row $
           -- it is stored at i
           assigns ! (bin ! (load ! (from ! (stop !)) (look ! 1 refl)) (lit ! tt) (record { fits = scaled-i })) (from ! (stop !)) (init ! 7 refl (tt, record { fits = scaled-i })) $
           assigns ! (bin ! (load ! (from ! (fld ! refl (stop !))) (look-in ! 14 (sub ! 0 refl (whole !)))) (load ! (from ! (stop !)) (look ! 7 refl)) tt) (from ! (stop !)) (init ! 8 refl (tt, tt)) $
-          rewrite ! 8 (λ (p : ℕ). ‵ (fat fullShare tyPtr l₁₄ 0 (vptr b p))) (sym (place-is 40 o i)) refl $
+          rewrite ! 8 (λ (p : ℕ). ‵ (fat fullShare tyPtr l₁₄ 0 (vptr b p))) (sym (place-is eventBytes o i)) refl $
           elem-out ! R (Is R) (shows 𝓤 H A R) vals (LL.tells T.the-type T′.the-laws) fullShare ys i noEvent b o i-in-row (λ _.
           assigns ! (of-opd ! (load ! (from ! (stop !)) (look ! 8 refl))) (from ! (hop ! (look ! 10 refl) (stop !))) (store-raw ! 0 refl (typed e _ g)) $
           move ! (1 ∷ []) $ drop ! $ owned ! R (Is R) (LL.makes T.the-type T′.the-plain 𝓤 H A) e (vals e) g $ move ! (1 ∷ 0 ∷ []) $ elem-put ! R fullShare ys i e (vals e) b o i-in-row $
@@ -397,10 +398,10 @@ module _ {M : Type 1} (𝓤 : URA M) (H : Heap 𝓤) (A : Atoms 𝓤) (W : Given
           within : (length xs ≡ recordCount) × (i + p .by < recordCount)
           within = facts .moves i after small
 
-          scaled : j * 40 < 2 ^ 64
+          scaled : j * eventBytes < 2 ^ 64
           scaled = omega (arith, within)
 
-          scaled-i : i * 40 < 2 ^ 64
+          scaled-i : i * eventBytes < 2 ^ 64
           scaled-i = omega (arith, within)
 
           in-row : j < length ys

@@ -33,8 +33,6 @@ use denote.Exit.{yes}
 use denote.RattleType.{RattleType, owns}
 use denote.Shadow.{pureI}
 use denote.Laws.{Is, shows}
-use denote.Plain.{uint-vals, uint-tells, uint-makes}
-use denote.Builtin.{u64}
 use denote.Memory.{pointee, shares}
 use denote.Ref.{RefT}
 use denote.Slice.{sliceTy, sliceVal, ShrSlice, Room, heres, codedHoleys, at-slice, slice-vals, shr-slice-tells}
@@ -50,14 +48,18 @@ use denote.Triple.Clauses.{ensured, lasts}
 use denote.Triple.Table.{entered, cited}
 use denote.Triple.Walked.{says, Stays, stay-none, stay-none-slice, walkOf, Walks, ends-at, walked, goes-none, goes-none-slice, walk-meets}
 use Rattle.journal.specs.declared.event.Event.{Event}
+use Rattle.journal.specs.declared.event.OrderName.{OrderName}
 use Rattle.journal.specs.declared.event.Found.{Found}
 use Rattle.journal.specs.declared.event.Found.the-variants.{Nothing, Ended, Booked}
 use Rattle.journal.specs.Events.{noEvent}
 use Rattle.journal.specs.Row.{withRecord, lookup}
 use Rattle.journal.proofs.event.Event as T
 use Rattle.journal.proofs.event.Event.Laws as T′
+use Rattle.journal.proofs.event.OrderName as N
+use Rattle.journal.proofs.event.OrderName.Laws as N′
 use Rattle.journal.proofs.event.Found as F
 use Rattle.journal.proofs.event.Found.Laws as F′
+use Rattle.journal.proofs.Width.{eventBytes}
 use Rattle.journal.proofs.Plain.{calls-plain-last}
 use Rattle.journal.proofs.Rounds.{holds, fails}
 use Rattle.journal.proofs.row.with_record as with-record
@@ -74,7 +76,7 @@ abbrev R : RattleType
 R = T.the-row
 
 abbrev stayed : Stays (find.ended .signature .params) (find.ended .kept)
-stayed = (stay-none-slice (0 ∷ []) tt (plain (λ _. R)) yes, (stay-none (λ _. u64) yes, tt))
+stayed = (stay-none-slice (0 ∷ []) tt (plain (λ _. R)) yes, (stay-none (λ _. N.the-row) yes, tt))
 
 abbrev word : Ty
 word = tyInt w64
@@ -93,11 +95,11 @@ found-is Ended = EL.owes F.the-type F′.the-laws Ended tt
 found-is Booked = EL.owes F.the-type F′.the-laws Booked tt
 
 -- from the records behind i to those from i on
-one-more : (c i : ℕ) (xs : List Event) (r : Found) → i < length xs → r ≡ withRecord c (getD xs i noEvent) (lookup c (drop (suc i) xs)) → r ≡ lookup c (drop i xs)
+one-more : (c : OrderName) (i : ℕ) (xs : List Event) (r : Found) → i < length xs → r ≡ withRecord c (getD xs i noEvent) (lookup c (drop (suc i) xs)) → r ≡ lookup c (drop i xs)
 unfolding lookup
 one-more c i xs r l e = rw (drop-cons xs i noEvent l) e
 
-none-behind : (c : ℕ) (xs : List Event) → lookup c (drop (length xs) xs) ≡ Nothing
+none-behind : (c : OrderName) (xs : List Event) → lookup c (drop (length xs) xs) ≡ Nothing
 unfolding lookup
 none-behind c xs = rw (drop-of-length-le xs {i = length xs} (omega arith))
 
@@ -106,11 +108,11 @@ module _ {M : Type 1} (𝓤 : URA M) (H : Heap 𝓤) (A : Atoms 𝓤) (mem : Mem
   abbrev WithRecord : Contract 𝓤
   WithRecord = tripleOf 𝓤 H A with-record.signature (with-record.spec 𝓤 H A mem run)
 
-  record-of : (e : Event) (c : ℕ) (f r : Found) → ent 𝓤 (ensured 𝓤 H A with-record.ended (with-record.clauses 𝓤 H A mem run) tt (c, (e, (f, tt))) tt r) (fact 𝓤 (r ≡ withRecord c e f))
+  record-of : (e : Event) (c : OrderName) (f r : Found) → ent 𝓤 (ensured 𝓤 H A with-record.ended (with-record.clauses 𝓤 H A mem run) tt (c, (e, (f, tt))) tt r) (fact 𝓤 (r ≡ withRecord c e f))
   record-of e c f r = exE 𝓤 _ (λ ws. snd∗ 𝓤 (sem 𝓤 H A (lasts with-record.ended tt (c, (e, (f, tt))) ws)) (fact 𝓤 (r ≡ withRecord c e f)))
 
-module _ {M : Type 1} (𝓤 : URA M) (H : Heap 𝓤) (A : Atoms 𝓤) (W : Given 𝓤 H A) (mem : Memory → SProp 𝓤) (run : Routine → Fun 𝓤) (κ : Lft) (q : Share) (b o : ℕ) (γ : GName) (xs : List Event) (c : ℕ)
-    (room : Room R (length xs)) (c-fits : c < 2 ^ 64) where
+module _ {M : Type 1} (𝓤 : URA M) (H : Heap 𝓤) (A : Atoms 𝓤) (W : Given 𝓤 H A) (mem : Memory → SProp 𝓤) (run : Routine → Fun 𝓤) (κ : Lft) (q : Share) (b o : ℕ) (γ : GName) (xs : List Event) (c : OrderName)
+    (room : Room R (length xs)) (c-is : Is N.the-row c (LL.vals N.the-type N′.the-laws c)) where
   abbrev vals : Event → List Val
   vals e = LL.vals T.the-type T′.the-laws e
 
@@ -120,20 +122,24 @@ module _ {M : Type 1} (𝓤 : URA M) (H : Heap 𝓤) (A : Atoms 𝓤) (W : Given
   found-typed : (f : Found) (w : Val) → Is F.the-row f (w ∷ []) → Holds (hasTy F′.mir w) × WT w
   found-typed f w is = EL.lawful F.the-type F′.the-laws 𝓤 H A W tt .typed f (w ∷ []) is .0
 
+  -- the machine values: the slice's pointer and count, and the order's name
   abbrev s : Val
   s = sliceVal (b, o) (length xs)
+
+  abbrev cv : Val
+  cv = LL.val N.the-type N′.the-laws c
 
   abbrev x : RefT (List Event)
   x = record { ptr = (b, o); name = γ; now = xs }
 
   abbrev Arg : Type 0
-  Arg = RefT (List Event) × (ℕ × Unit {0})
+  Arg = RefT (List Event) × (OrderName × Unit {0})
 
   abbrev a : Arg
   a = (x, (c, tt))
 
   abbrev at : List Val × (List Val × Unit {0})
-  at = (s ∷ [], (vint w64 c ∷ [], tt))
+  at = (s ∷ [], (cv ∷ [], tt))
 
   abbrev bind : walkOf 𝓤 H A find.ended stayed (find.clauses 𝓤 H A mem run) .Ghost
   bind = (((κ, tt), (q, tt), tt, a, at), tt)
@@ -146,17 +152,17 @@ module _ {M : Type 1} (𝓤 : URA M) (H : Heap 𝓤) (A : Atoms 𝓤) (W : Given
       qed W (‵ (flft κ q) ∷ ‵ (fshr-bor κ (λ p. arr-parts (shares R) (length xs) .part p xs b o)) ∷ ‵ (fres γ (codedHoleys R .code (heres R xs))) ∷ []) ∵
       suffices ! _ (ends-at 𝓤 H A find.ended stayed (find.clauses 𝓤 H A mem run) W bind (fv (lookup c xs)) (lookup c xs) (tt, (tt, tt)) (tt, (tt, tt))) $ says ! refl $
       nothing ! $ move ! (1 ∷ 0 ∷ []) $ join ! $ frame ! $ move ! (1 ∷ 0 ∷ []) $ fjoin ! $ pureI ! (at-slice R x (s ∷ [])) (tt, (tt, tt)) (refl, room) $ fjoin ! $
-      nothing ! $ owned ! u64 (Is u64) (uint-makes 𝓤 H A W w64) c _ (refl, c-fits) $ fjoin ! $ move ! (1 ∷ 0 ∷ []) $ fjoin ! $ frame ! $
+      nothing ! $ owned ! N.the-row (Is N.the-row) (LL.makes N.the-type N′.the-plain 𝓤 H A) c _ c-is $ fjoin ! $ move ! (1 ∷ 0 ∷ []) $ fjoin ! $ frame ! $
       owned ! F.the-row (Is F.the-row) (EL.makes F.the-type F′.the-plain 𝓤 H A) (lookup c xs) _ (found-is (lookup c xs)) $ done !
 
   -- what `with_record`'s triple binds outside, and that what it asks is had for nothing
   abbrev to-record : Event → Found → WithRecord 𝓤 H A mem run .Ghost
-  to-record e f = ((tt, tt, tt, (c, (e, (f, tt))), (vint w64 c ∷ [], (vals e, (fv f ∷ [], tt)))), tt)
+  to-record e f = ((tt, tt, tt, (c, (e, (f, tt))), (cv ∷ [], (vals e, (fv f ∷ [], tt)))), tt)
 
   goes-record : (e : Event) (f : Found) → Is R e (vals e) → ent 𝓤 (emp 𝓤) (WithRecord 𝓤 H A mem run .pre (to-record e f))
   goes-record e f is =
       qed W [] ∵ nothing ! $ owned ! F.the-row (Is F.the-row) (EL.makes F.the-type F′.the-plain 𝓤 H A) f _ (found-is f) $ fjoin ! $ owned ! R (Is R) (LL.makes T.the-type T′.the-plain 𝓤 H A) e _ is $ fjoin ! $
-      owned ! u64 (Is u64) (uint-makes 𝓤 H A W w64) c _ (refl, c-fits) $ fjoin ! $ nothing ! $ join ! $ frame ! $ done !
+      owned ! N.the-row (Is N.the-row) (LL.makes N.the-type N′.the-plain 𝓤 H A) c _ c-is $ fjoin ! $ nothing ! $ join ! $ frame ! $ done !
 
   module _ (𝓣 : Tables 𝓤 H) (known : Triple 𝓤 (𝓣 .C #journal·row·with-record) (WithRecord 𝓤 H A mem run)) where
     abbrev C : Calls 𝓤 H
@@ -167,12 +173,12 @@ module _ {M : Type 1} (𝓤 : URA M) (H : Heap 𝓤) (A : Atoms 𝓤) (W : Given
 
     module _ (q′ : Share) (l₀ l₁ l₂ l₃ l₄ l₅ l₆ l₇ l₈ : ℕ) where
       abbrev En : Env 𝓤 H
-      En = (F′.mir, l₀) ∷ (slice, l₁) ∷ (word, l₂) ∷ (word, l₃) ∷ (F′.mir, l₄) ∷ (tyBool, l₅) ∷ (word, l₆) ∷ (tyPtr, l₇) ∷ (T′.mir, l₈) ∷ []
+      En = (F′.mir, l₀) ∷ (slice, l₁) ∷ (N′.mir, l₂) ∷ (word, l₃) ∷ (F′.mir, l₄) ∷ (tyBool, l₅) ∷ (word, l₆) ∷ (tyPtr, l₇) ∷ (T′.mir, l₈) ∷ []
 
       -- what no turn touches: the parameters, the result's room, what the slice owns, and that each local dies
       abbrev Frame : List (Item 𝓤)
-      Frame = ‵ (fat fullShare slice l₁ 0 s) ∷ ‵ (fat fullShare word l₂ 0 (vint w64 c)) ∷ ‵ (froom F′.mir l₀ 0) ∷ ‵ (fobor κ q (arr-parts (shares R) (length xs) .part q′ xs b o)) ∷ ‵ (fshr-bor κ (λ p. arr-parts (shares R) (length xs) .part p xs b o)) ∷ ‵ (fres γ (codedHoleys R .code (heres R xs)))
-          ∷ ‵ (fdies F′.mir l₀) ∷ ‵ (fdies slice l₁) ∷ ‵ (fdies word l₂) ∷ ‵ (fdies word l₃) ∷ ‵ (fdies F′.mir l₄) ∷ ‵ (fdies tyBool l₅) ∷ ‵ (fdies word l₆) ∷ ‵ (fdies tyPtr l₇) ∷ ‵ (fdies T′.mir l₈) ∷ []
+      Frame = ‵ (fat fullShare slice l₁ 0 s) ∷ ‵ (fat fullShare N′.mir l₂ 0 cv) ∷ ‵ (froom F′.mir l₀ 0) ∷ ‵ (fobor κ q (arr-parts (shares R) (length xs) .part q′ xs b o)) ∷ ‵ (fshr-bor κ (λ p. arr-parts (shares R) (length xs) .part p xs b o)) ∷ ‵ (fres γ (codedHoleys R .code (heres R xs)))
+          ∷ ‵ (fdies F′.mir l₀) ∷ ‵ (fdies slice l₁) ∷ ‵ (fdies N′.mir l₂) ∷ ‵ (fdies word l₃) ∷ ‵ (fdies F′.mir l₄) ∷ ‵ (fdies tyBool l₅) ∷ ‵ (fdies word l₆) ∷ ‵ (fdies tyPtr l₇) ∷ ‵ (fdies T′.mir l₈) ∷ []
 
       -- the records from i on have been seen
       abbrev At : ℕ → List (Item 𝓤)
@@ -202,7 +208,7 @@ module _ {M : Type 1} (𝓤 : URA M) (H : Heap 𝓤) (A : Atoms 𝓤) (W : Given
           -- the record at i is read
           assigns ! (bin ! (load ! (from ! (stop !)) (look ! 1 refl)) (lit ! tt) (record { fits = scaled })) (from ! (stop !)) (init ! 4 refl (tt, record { fits = scaled })) $
           assigns ! (bin ! (load ! (from ! (fld ! refl (stop !))) (look-in ! 7 (sub ! 0 refl (whole !)))) (load ! (from ! (stop !)) (look ! 4 refl)) tt) (from ! (stop !)) (init ! 5 refl (tt, tt)) $
-          rewrite ! 5 (λ (p : ℕ). ‵ (fat fullShare tyPtr l₇ 0 (vptr b p))) (sym (place-is 40 o i)) refl $
+          rewrite ! 5 (λ (p : ℕ). ‵ (fat fullShare tyPtr l₇ 0 (vptr b p))) (sym (place-is eventBytes o i)) refl $
           elem-out ! R (Is R) (shows 𝓤 H A R) vals (LL.tells T.the-type T′.the-laws) q′ xs i noEvent b o l (λ g.
           -- [row[i]; what it owns; the others; _3; _4; _5; _6; _7; _8; …]
           assigns ! (of-opd ! (load ! (from ! (hop ! (look ! 7 refl) (stop !))) (look-raw ! 0 refl))) (from ! (stop !)) (init ! 8 refl (typed e _ g)) $
@@ -224,7 +230,7 @@ module _ {M : Type 1} (𝓤 : URA M) (H : Heap 𝓤) (A : Atoms 𝓤) (W : Given
           less : suc i - 1 ≡ i
           less = omega arith
 
-          scaled : i * 40 < 2 ^ 64
+          scaled : i * eventBytes < 2 ^ 64
           scaled = omega (arith, l, room)
 
       -- the turn that leaves the loop, and the rest of the body: the share is handed back
@@ -257,11 +263,11 @@ module _ {M : Type 1} (𝓤 : URA M) (H : Heap 𝓤) (A : Atoms 𝓤) (W : Given
       loops : Sq W (At (length xs)) (runs C Λ En code-mir.t-3 (atRet En Post))
       loops = first ! $ blocks ! $ record { prf = goes-round }
 
-    walk : ent 𝓤 (onEntry 𝓤 H A find.signature (κ, tt) (q, tt) a at) (WpFn 𝓤 H C Λ code.function (s ∷ vint w64 c ∷ []) Post)
+    walk : ent 𝓤 (onEntry 𝓤 H A find.signature (κ, tt) (q, tt) a at) (WpFn 𝓤 H C Λ code.function (s ∷ cv ∷ []) Post)
     walk =
-        qed W ((‵ (flft κ q) ⊛ ‵ ftrue) ∷ ‵ (owns (ShrSlice (named 0) κ R ∷ u64 ∷ []) a at) ∷ []) ∵ enter ! C Λ code.function (s ∷ vint w64 c ∷ []) _ $
+        qed W ((‵ (flft κ q) ⊛ ‵ ftrue) ∷ ‵ (owns (ShrSlice (named 0) κ R ∷ N.the-row ∷ []) a at) ∷ []) ∵ enter ! C Λ code.function (s ∷ cv ∷ []) _ $
         alloc1 ! (λ l₀. alloc1 ! (λ l₁. alloc1 ! (λ l₂. alloc1 ! (λ l₃. alloc1 ! (λ l₄. alloc1 ! (λ l₅. alloc1 ! (λ l₆. alloc1 ! (λ l₇. alloc1 ! (λ l₈. alloc0 ! $ params1 ! $
-        pass1 ! (init ! 14 refl (tt, (tt, (record { fits = room .0 }, tt)))) $ pass1 ! (init ! 12 refl (tt, record { fits = c-fits })) $ pass0 ! $
+        pass1 ! (init ! 14 refl (tt, (tt, (record { fits = room .0 }, tt)))) $ pass1 ! (init ! 12 refl (LL.lawful N.the-type N′.the-laws 𝓤 H A W .typed c _ c-is .0)) $ pass0 ! $
         assigns ! (of-opd ! (load ! (from ! (fld ! refl (stop !))) (look-in ! 14 (sub ! 1 refl (whole !))))) (from ! (stop !)) (init ! 10 refl (tt, record { fits = room .0 })) $
         assigns ! (agg ! (and-then ! (lit ! tt) (no-more !))) (from ! (stop !)) (init ! 8 refl (found-typed Nothing _ (found-is Nothing))) $
         rewrite ! 8 (λ (f : Found). ‵ (fat fullShare F′.mir l₄ 0 (fv f))) (sym (none-behind c xs)) refl $
@@ -271,13 +277,13 @@ module _ {M : Type 1} (𝓤 : URA M) (H : Heap 𝓤) (A : Atoms 𝓤) (W : Given
 
 module _ {M : Type 1} (𝓤 : URA M) (H : Heap 𝓤) (A : Atoms 𝓤) (W : Given 𝓤 H A) (mem : Memory → SProp 𝓤) (run : Routine → Fun 𝓤) (𝓣 : Tables 𝓤 H) (known : Triple 𝓤 (𝓣 .C #journal·row·with-record) (WithRecord 𝓤 H A mem run)) where
   find-walks : Walks 𝓤 H A find.ended stayed (WpFn 𝓤 H (𝓣 .C) (𝓣 .Λ) code.function) (find.clauses 𝓤 H A mem run)
-  find-walks = walked 𝓤 H A find.ended stayed (find.clauses 𝓤 H A mem run) (WpFn 𝓤 H (𝓣 .C) (𝓣 .Λ) code.function) (λ κs. (slice-vals, (uint-vals w64, tt))) (λ κs. (shr-slice-tells (named 0) (κs .0) R, (uint-tells w64, tt)))
+  find-walks = walked 𝓤 H A find.ended stayed (find.clauses 𝓤 H A mem run) (WpFn 𝓤 H (𝓣 .C) (𝓣 .Λ) code.function) (λ κs. (slice-vals, (LL.vals N.the-type N′.the-laws, tt))) (λ κs. (shr-slice-tells (named 0) (κs .0) R, (LL.tells N.the-type N′.the-laws, tt)))
       (λ κs qs bounds a g are. via 𝓤 _ (fst∗ 𝓤 _ (emp 𝓤))
-      (walk 𝓤 H A W mem run (κs .0) (qs .0) (a .0 .ptr .0) (a .0 .ptr .1) (a .0 .name) (a .0 .now) (a .1 .0) (are .0 .0 .1) (are .1 .0 .1) 𝓣 known))
+      (walk 𝓤 H A W mem run (κs .0) (qs .0) (a .0 .ptr .0) (a .0 .ptr .1) (a .0 .name) (a .0 .now) (a .1 .0) (are .0 .0 .1) (are .1 .0) 𝓣 known))
 
   find-meets : Meets 𝓤 H A find.signature (WpFn 𝓤 H (𝓣 .C) (𝓣 .Λ) code.function) (find.spec 𝓤 H A mem run)
   find-meets =
-      walk-meets 𝓤 H A find.ended stayed W (goes-none-slice 𝓤 H A W 1 (0 ∷ []) tt (plain (λ _. R)) yes, (goes-none 𝓤 H A W 1 (λ _. u64) yes (λ κs x f. refl), tt)) (find.clauses 𝓤 H A mem run)
+      walk-meets 𝓤 H A find.ended stayed W (goes-none-slice 𝓤 H A W 1 (0 ∷ []) tt (plain (λ _. R)) yes, (goes-none 𝓤 H A W 1 (λ _. N.the-row) yes (λ κs x f. refl), tt)) (find.clauses 𝓤 H A mem run)
       (WpFn 𝓤 H (𝓣 .C) (𝓣 .Λ) code.function) (WpFn-mono 𝓤 H (W .laws) 𝓣 code.function) find-walks
 
 pub find-spec : {M : Type 1} → stated.statement M

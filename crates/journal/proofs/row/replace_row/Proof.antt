@@ -53,6 +53,7 @@ use Rattle.journal.proofs.event.Event as T
 use Rattle.journal.proofs.event.Event.Laws as T′
 use Rattle.journal.proofs.Mixed.{mixed, mixed-none, mixed-length, mixed-next}
 use Rattle.journal.proofs.Copying.{Copying, replacing}
+use Rattle.journal.proofs.Width.{eventBytes}
 use Rattle.journal.proofs.Plain.{calls-plain}
 use Rattle.journal.proofs.Rounds as rounds
 use Rattle.journal.proofs.Rounds.{holds, fails}
@@ -207,14 +208,14 @@ module _ {M : Type 1} (𝓤 : URA M) (H : Heap 𝓤) (A : Atoms 𝓤) (W : Given
           assigns ! (bin ! (load ! (from ! (stop !)) (look ! 2 refl)) (lit ! tt) (record { fits = scaled })) (from ! (stop !)) (init ! 4 refl (tt, record { fits = scaled })) $
           assigns ! (addr ! (from ! (stop !))) (from ! (stop !)) (init ! 5 refl (tt, tt)) $
           assigns ! (bin ! (load ! (from ! (stop !)) (look ! 5 refl)) (load ! (from ! (stop !)) (look ! 4 refl)) tt) (from ! (stop !)) (init ! 6 refl (tt, tt)) $
-          rewrite ! 6 (λ (p : ℕ). ‵ (fat fullShare tyPtr l₁₁ 0 (vptr l₄ p))) (sym (place-is 40 0 i)) refl $
+          rewrite ! 6 (λ (p : ℕ). ‵ (fat fullShare tyPtr l₁₁ 0 (vptr l₄ p))) (sym (place-is eventBytes 0 i)) refl $
           elem-out ! R (Is R) (shows 𝓤 H A R) vals (LL.tells T.the-type T′.the-laws) fullShare held i noEvent l₄ 0 in-src (λ g.
           assigns ! (of-opd ! (load ! (from ! (hop ! (look ! 8 refl) (stop !))) (look-raw ! 0 refl))) (from ! (stop !)) (init ! 9 refl (typed e _ g)) $
           elem-back ! R fullShare held i noEvent (vals e) l₄ 0 in-src $
           -- it is stored at i
           assigns ! (bin ! (load ! (from ! (stop !)) (look ! 2 refl)) (lit ! tt) (record { fits = scaled })) (from ! (stop !)) (init ! 8 refl (tt, record { fits = scaled })) $
           assigns ! (bin ! (load ! (from ! (fld ! refl (stop !))) (look-in ! 10 (sub ! 0 refl (whole !)))) (load ! (from ! (stop !)) (look ! 8 refl)) tt) (from ! (stop !)) (init ! 9 refl (tt, tt)) $
-          rewrite ! 9 (λ (p : ℕ). ‵ (fat fullShare tyPtr l₁₄ 0 (vptr b p))) (sym (place-is 40 o i)) refl $
+          rewrite ! 9 (λ (p : ℕ). ‵ (fat fullShare tyPtr l₁₄ 0 (vptr b p))) (sym (place-is eventBytes o i)) refl $
           move ! (1 ∷ []) $
           elem-out ! R (Is R) (shows 𝓤 H A R) vals (LL.tells T.the-type T′.the-laws) fullShare ys i noEvent b o in-dst (λ _.
           assigns ! (of-opd ! (load ! (from ! (stop !)) (look ! 9 refl))) (from ! (hop ! (look ! 11 refl) (stop !))) (store-raw ! 0 refl (typed e _ g)) $
@@ -234,7 +235,7 @@ module _ {M : Type 1} (𝓤 : URA M) (H : Heap 𝓤) (A : Atoms 𝓤) (W : Given
           within : (length held ≡ 64) × (length xs ≡ 64) × (i < 64)
           within = facts .within i small
 
-          scaled : i * 40 < 2 ^ 64
+          scaled : i * eventBytes < 2 ^ 64
           scaled = omega (arith, within)
 
           in-src : i < length held

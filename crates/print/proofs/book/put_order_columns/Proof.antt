@@ -1,24 +1,37 @@
--- Its four parts stand one after the other, and each has the room that is left. Assumes nothing.
+-- Its five parts stand one after the other, and each has the room that is left. Assumes nothing.
 use Prim.Native.Nat.{_+_, _≤_}
 use native.Mathlib.Omega.{arith}
 use lib.ListN.{length}
-use Rattle.print.specs.Text.{orderCharacters, columnRoom}
+use Rattle.print.specs.Text.{orderCharacters, typeRoom, columnRoom}
 use Rattle.print.specs.Book.{orderColumns}
-use Rattle.print.proofs.Digits.{order-number-most, column-most}
+use Rattle.print.proofs.Digits.{order-number-most, type-column-most, column-most}
 use Rattle.print.proofs.Texts.{put-then, put-left}
 use borrow.Author.Needs.{needs}
 use Rattle.print.proofs.book.put_order_columns.Statement.{statement}
 use Rattle.print.proofs.book.put_order_columns.Tie as tie
 
--- what is left of the room after the order number, after the space, and after the subscriber
-left : (c : tie.After-put-order-number) → c .put-order-number .result + (1 + columnRoom + columnRoom) ≤ length (c .put-order-number .last .0)
-left c = put-left orderCharacters (1 + columnRoom + columnRoom) (c .put-order-number .ensures) (order-number-most _) (omega arith)
+-- what is left of the room after the order number, after the space, after the subscriber, and after the type
+left : (c : tie.After-put-order-number)
+    → c .put-order-number .result + (1 + columnRoom + typeRoom + columnRoom) ≤ length (c .put-order-number .last .0)
+left c =
+    put-left orderCharacters (1 + columnRoom + typeRoom + columnRoom) (c .put-order-number .ensures) (order-number-most _)
+    (omega arith)
 
-left-2 : (c : tie.After-put-byte) → c .put-byte .result + (columnRoom + columnRoom) ≤ length (c .put-byte .last .0)
-left-2 c = put-left 1 (columnRoom + columnRoom) (c .put-byte .ensures) (omega arith) (left (c .before .before .before .before))
+left-2 : (c : tie.After-put-byte)
+    → c .put-byte .result + (columnRoom + typeRoom + columnRoom) ≤ length (c .put-byte .last .0)
+left-2 c =
+    put-left 1 (columnRoom + typeRoom + columnRoom) (c .put-byte .ensures) (omega arith)
+    (left (c .before .before .before .before))
 
-left-3 : (c : tie.After-put-column) → c .put-column .result + columnRoom ≤ length (c .put-column .last .0)
-left-3 c = put-left columnRoom columnRoom (c .put-column .ensures) (column-most _ _) (left-2 (c .before .before .before .before))
+left-3 : (c : tie.After-put-column) → c .put-column .result + (typeRoom + columnRoom) ≤ length (c .put-column .last .0)
+left-3 c =
+    put-left columnRoom (typeRoom + columnRoom) (c .put-column .ensures) (column-most _ _)
+    (left-2 (c .before .before .before .before))
+
+left-4 : (c : tie.After-put-type) → c .put-type .result + columnRoom ≤ length (c .put-type .last .0)
+left-4 c =
+    put-left typeRoom columnRoom (c .put-type .ensures) (type-column-most _)
+    (left-3 (c .before .before .before .before))
 
 order-number-of-requires : tie.Need-order-number-of-requires
 order-number-of-requires c κs = tt
@@ -32,8 +45,11 @@ put-byte-requires c κs = omega (arith, left (c .before .before .before))
 put-column-requires : tie.Need-put-column-requires
 put-column-requires c κs = omega (arith, left-2 (c .before .before .before))
 
+put-type-requires : tie.Need-put-type-requires
+put-type-requires c κs = omega (arith, left-3 (c .before .before .before))
+
 put-column-requires-2 : tie.Need-put-column-requires-2
-put-column-requires-2 c κs = left-3 (c .before .before .before)
+put-column-requires-2 c κs = left-4 (c .before .before .before)
 
 same-length : tie.Need-same-length
 same-length c = search needs
@@ -42,12 +58,15 @@ returns : tie.Need-returns
 unfolding orderColumns
 returns c =
     let at-bytes = c .before .before in
-    let at-subscriber = at-bytes .before .before .before .before in
+    let at-type = at-bytes .before .before .before .before in
+    let at-subscriber = at-type .before .before .before .before in
     let at-space = at-subscriber .before .before .before .before in
     let at-number = at-space .before .before .before .before in
     rw (← at-number .before .order-number-of .ensures)
     (put-then (at-number .put-order-number .ensures)
-    (put-then (at-space .put-byte .ensures) (put-then (at-subscriber .put-column .ensures) (at-bytes .put-column2 .ensures))))
+    (put-then (at-space .put-byte .ensures)
+    (put-then (at-subscriber .put-column .ensures)
+    (put-then (at-type .put-type .ensures) (at-bytes .put-column2 .ensures)))))
 
 pub put-order-columns-spec : {M : Type 1} → statement M
 put-order-columns-spec =
@@ -57,6 +76,7 @@ put-order-columns-spec =
     put-order-number-requires
     put-byte-requires
     put-column-requires
+    put-type-requires
     put-column-requires-2
     same-length
     returns)

@@ -13,8 +13,8 @@ slice-aggregate-put-text c = search needs
 put-text-requires : tie.Need-put-text-requires
 put-text-requires c κs = search needs
 
-put-order-number-requires : tie.Need-put-order-number-requires
-put-order-number-requires c κs = search needs
+put-order-name-requires : tie.Need-put-order-name-requires
+put-order-name-requires c κs = search needs
 
 enum-told-2 : tie.Need-enum-told-2
 enum-told-2 c = search needs
@@ -66,9 +66,9 @@ same-length c = search needs
 
 returns : tie.Need-returns
 returns c =
-    let at-number = c .before .before in
-    let at-text = at-number .before .before .before .before in
-    rw (at-text .before .before .before .enum-told .given .1) (put-then (at-text .put-text .ensures) (at-number .put-order-number .ensures))
+    let at-name = c .before .before in
+    let at-text = at-name .before .before .before .before in
+    rw (at-text .before .before .before .enum-told .given .1) (put-then (at-text .put-text .ensures) (at-name .put-order-name .ensures))
 
 same-length-2 : tie.Need-same-length-2
 same-length-2 c = search needs
@@ -107,7 +107,7 @@ put-closing-spec =
     enum-told
     slice-aggregate-put-text
     put-text-requires
-    put-order-number-requires
+    put-order-name-requires
     enum-told-2
     slice-aggregate-put-text-2
     put-text-requires-2

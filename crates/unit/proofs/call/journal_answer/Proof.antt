@@ -4,7 +4,7 @@ use Rattle.unit.proofs.call.journal_answer.Statement.{statement}
 use Rattle.unit.proofs.call.journal_answer.Tie as tie
 
 returns : tie.Need-returns
-returns c = rw (c .before .answer .given .1)
+returns c = rw (c .before .before .answer .given .1, c .order-name .ensures)
 
 returns-2 : tie.Need-returns-2
 returns-2 c = rw (c .enum-told .given .1)
@@ -17,6 +17,7 @@ journal-answer-spec =
     tie.close
     (tie.spec
     (λ c. search needs)
+    (λ c κs. tt)
     (λ c. search needs)
     (λ c. search needs)
     returns

@@ -10,7 +10,7 @@ returns-2 : tie.Need-returns-2
 returns-2 c = rw (c .enum-told .given .1)
 
 returns-3 : tie.Need-returns-3
-returns-3 c = rw (c .before .answer2 .given .1)
+returns-3 c = rw (c .before .before .answer2 .given .1, c .order-name .ensures)
 
 returns-4 : tie.Need-returns-4
 returns-4 c = rw (c .before .before .answer3 .given .1, c .refusal-number .ensures)
@@ -22,6 +22,7 @@ run-answer-spec =
     (λ c. search needs)
     (λ c. search needs)
     (λ c. search needs)
+    (λ c κs. tt)
     (λ c. search needs)
     (λ c κs. tt)
     returns

@@ -1,4 +1,4 @@
--- No two openings have one order number, and document 01's examples of them. Assumes nothing.
+-- No two numbers of a series have one order number, and document 01's examples of them. Assumes nothing.
 use Prim.Native.Nat.{ℕ, _+_, _*_, _/_, _%_, _<_}
 use mathlib.Core.Bool.{Bool, true, false, cond}
 use mathlib.Core.Path.{_≡_, refl, sym, _∙_}
@@ -7,7 +7,7 @@ use native.Mathlib.Omega.{arith}
 use lib.Dec.{ltb}
 use borrow.Author.Tests.{ltb-true, ltb-false}
 use Rattle.octets.specs.Bytes.{numberFrom, number}
-use Rattle.bank_state.specs.Limits.{maxOpenings}
+use Rattle.bank_state.specs.Limits.{seriesLimit}
 use Rattle.message.specs.OrderNumbers.{character, letter, orderNumberOf}
 use Rattle.message.proofs.OrderNumbers.{character-lt}
 
@@ -41,7 +41,7 @@ one-number m n a b c d =
     same-by m n (same-by (m / 36) (n / 36) (twice m ∙ same-by (m / 1296) (n / 1296) (thrice m ∙ a ∙ sym (thrice n)) b
     ∙ sym (twice n)) c) d
 
-pub one-order-number : (m n : ℕ) → m < maxOpenings → n < maxOpenings → orderNumberOf m ≡ orderNumberOf n → m ≡ n
+pub one-order-number : (m n : ℕ) → m < seriesLimit → n < seriesLimit → orderNumberOf m ≡ orderNumberOf n → m ≡ n
 unfolding orderNumberOf letter
 one-order-number m n h k e =
     let digit : (x : ℕ) → x % 36 < 36 = λ x. omega arith in

@@ -1,15 +1,15 @@
--- Form 3 against the page that lays it down: its number, its tags, and where each field's content begins, computed from
+-- Form 5 against the page that lays it down: its number, its tags, and where each field's content begins, computed from
 -- the table.
 use Prim.Native.Nat.{ℕ, _+_, _-_, _/_, _^_}
 use mathlib.Core.List.{List, [], _∷_, map}
 use mathlib.Core.Path.{_≡_, refl}
 use Rattle.image.specs.declared.table.Row.{Row}
-use Rattle.image.specs.declared.table.Form.the-variants.{Three}
-use Rattle.image.specs.Table.{form3, formNumber}
+use Rattle.image.specs.declared.table.Form.the-variants.{Five}
+use Rattle.image.specs.Table.{formNumber, fieldsOf}
 
 -- "the number of the card that made the form"
-pub number-3 : formNumber Three ≡ 3
-number-3 = refl
+pub number-5 : formNumber Five ≡ 5
+number-5 = refl
 
 -- a field begins with its tag: the first byte of a head of three bytes, or of four where the form's number stands in it
 abbrev tagOf : Row → ℕ
@@ -21,10 +21,11 @@ contentsFrom at [] = []
 contentsFrom at (r ∷ rs) = (at + 3) ∷ contentsFrom (at + r .width + r .bytes) rs
 
 -- "tags rising, each once"
-pub tags-rise : map tagOf form3 ≡ 0x01 ∷ 0x02 ∷ 0x03 ∷ 0x05 ∷ 0x06 ∷ 0x07 ∷ 0x08 ∷ 0x09 ∷ 0x0A ∷ 0x0B ∷ 0x0C ∷ 0x0D ∷ 0x0E ∷ []
+pub tags-rise : map tagOf (fieldsOf Five)
+    ≡ 0x01 ∷ 0x02 ∷ 0x03 ∷ 0x04 ∷ 0x05 ∷ 0x06 ∷ 0x07 ∷ 0x08 ∷ 0x09 ∷ 0x0A ∷ 0x0B ∷ 0x0C ∷ 0x0D ∷ 0x0E ∷ []
 tags-rise = refl
 
 -- "Contents begin at"
-pub contents-begin : contentsFrom 0 form3
-    ≡ 3 ∷ 7 ∷ 18 ∷ 29 ∷ 40 ∷ 44 ∷ 1583 ∷ 1587 ∷ 1822 ∷ 2097 ∷ 2116 ∷ 3591 ∷ 34314 ∷ []
+pub contents-begin : contentsFrom 0 (fieldsOf Five)
+    ≡ 3 ∷ 7 ∷ 18 ∷ 29 ∷ 64 ∷ 75 ∷ 79 ∷ 1618 ∷ 1622 ∷ 1857 ∷ 2164 ∷ 2183 ∷ 3850 ∷ 34573 ∷ []
 contents-begin = refl

@@ -1,0 +1,28 @@
+-- The first order of subscriber 1, as document 02's cards print it: its name, its closing word, its line. Assumes
+-- nothing.
+use mathlib.Core.Path.{_≡_, refl}
+use Rattle.octets.specs.Texts.{ascii}
+use Rattle.message.specs.Limits.{ful}
+use Rattle.message.specs.OrderNumbers.{character, letter, orderNumberOf}
+use Rattle.journal.specs.declared.event.OrderName.{OrderName}
+use Rattle.client_run.specs.declared.run.Word.the-variants.{Lodged}
+use Rattle.bank_state.specs.declared.state.Place.{Place}
+use Rattle.print.specs.Text.{digitsIn, digitCountTo, digitCount, decimal, typeColumn, column, newline}
+use Rattle.print.specs.Name.{orderNameText}
+use Rattle.print.specs.Closing.{closingText}
+use Rattle.print.specs.Book.{orderColumns}
+
+abbrev first : OrderName
+first = record { subscriber = 1; «order_type» = ful; number = orderNumberOf 0 }
+
+pub name-first : orderNameText first ≡ ascii "1 FUL A000"
+unfolding orderNameText orderNumberOf character letter typeColumn column decimal digitsIn digitCount digitCountTo
+name-first = refl
+
+pub lodged-first : closingText Lodged first ≡ ascii "lodged 1 FUL A000"
+unfolding orderNameText orderNumberOf character letter typeColumn column decimal digitsIn digitCount digitCountTo
+lodged-first = refl
+
+pub line-first : (p : Place) → p .number ≡ 0 → p .subscriber ≡ 1 → orderColumns p 1 newline ≡ ascii "A000 1 FUL 1\n"
+unfolding orderColumns orderNumberOf character letter typeColumn column decimal digitsIn digitCount digitCountTo
+line-first p h k = rw (h, k) refl
