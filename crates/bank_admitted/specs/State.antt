@@ -69,7 +69,7 @@ pub record UsedPlace (openings : ℕ) (t : Bits128) (subscriber size : ℕ) (byt
 abbrev pub UsedAs : ℕ → Place → List ℕ → Type 0
 UsedAs openings p bytes = UsedPlace openings (p .transaction) (p .subscriber) (p .length) bytes
 
--- the place of an open upload: N is 1 to 15, k < N, at most five attempts, each of the k segments has 1 to 256 bytes
+-- the place of an open upload: N is 1 to the most segments, k < N, at most five attempts, each of the k segments has 1 to 256 bytes
 pub record OpenPlace (clock openings : ℕ) (p : Place) (bytes : List ℕ) : Type 0 where
   pub place : UsedAs openings p bytes
   pub some : 1 ≤ p .segments
@@ -163,7 +163,7 @@ pub record StateHolds (w : BankState) : Type 0 where
   pub downloads : (j : ℕ) →
       DownloadHolds (downloadAt (w .bank) j .used) (w .bank .clock) (w .bank .openings)
       (mailboxFile w (downloadAt (w .bank) j .subscriber)) (downloadAt (w .bank) j)
-  -- each mailbox holds at most 3,840 bytes, zeros behind
+  -- each mailbox holds at most a file's bytes, zeros behind
   pub mailboxesHold : (i : ℕ) → i < placeCount → MailboxHolds (getD (w .bank .files) i 0) (partAt (w .mailboxes) i)
   -- no two places in use have one running number, or one order number of one subscriber, and no place has the running
   -- number of an open download

@@ -126,7 +126,7 @@ module _ (w : BankState) (range : InRange (w .bank)) (long : length (w .mailboxe
   refused-written c = sent refl (omega arith) (refusal-written (exchange q) (r .numbered) (phase q) c (r .some)
       (r .most))
 
-  -- a mailbox has at most 15 segments
+  -- a mailbox has no more segments than an order
   segments-most : (s : ℕ) → segmentsOf (length (mailboxFile w s)) ≤ maxSegments
   unfolding mailboxFile fileOf partAt segmentsOf
   segments-most s = simp (length-take, length-drop) (omega arith)

@@ -41,7 +41,7 @@ pub record SoundOpening (f : Form) (t : Bits128) (e : Exchange) (h : List Exchan
   pub most : subscriber (e .request) ≤ subscribers
 
 -- an upload opened: "Uploads of a subscriber and type now count from A000 on their own", "The limit of 1,213,056 ...
--- holds per series"; "0 segments" and "over 15 segments" are refused
+-- holds per series"; "0 segments" and, from 32 on, too many are refused
 pub record SoundUploadOpening (n : ℕ) (t : Bits128) (e : Exchange) (h : List Exchange) : Type 0 where
   pub opening : SoundOpening forms.UploadOpening t e h
   pub number : n ≡ uploadsAccepted (subscriber (e .request)) h

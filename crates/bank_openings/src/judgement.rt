@@ -64,7 +64,7 @@ fn other_direction(d: Direction, q: Fields) -> bool
     }
 }
 
-// 091118: over 15 segments.
+// 091118: too many segments.
 fn many_segments(q: Fields) -> bool
     ensures { λ r. ⌜ r ≡ manySegments q ⌝ }
 {

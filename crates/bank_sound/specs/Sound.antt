@@ -28,18 +28,18 @@ use Rattle.bank_rows.specs.Layout.{
 use Rattle.bank_rows.specs.Rows.{allBelow}
 use Rattle.bank_rows.specs.State.{downloadCountOf, nonceCountOf}
 
--- "8 mailboxes of 3,840 bytes each"
+-- "8 mailboxes", each of a file's bytes
 abbrev pub isSoundFile : List ℕ → ℕ → Bool
 isSoundFile s i = leb (getD s (filesAt + i) 0) fileBytes
 
--- the row of an open upload: not "over 15 segments", the last one not taken, no "data over 256 bytes" in those taken
+-- the row of an open upload: not too many segments, the last one not taken, no "data over 256 bytes" in those taken
 unfoldable pub isSoundUpload : List ℕ → ℕ → Bool
 isSoundUpload s at =
     leb (getD s (at + placeSegments) 0) maxSegments
     && (ltb (getD s (at + placeTaken) 0) (getD s (at + placeSegments) 0)
     && leb (getD s (at + placeLength) 0) (getD s (at + placeTaken) 0 * segmentBytes))
 
--- free, open or booked; "8 order places ... of 3,840 bytes each"; and what is open
+-- free, open or booked; "8 order places", each of a file's bytes; and what is open
 abbrev pub isSoundPlace : List ℕ → ℕ → Bool
 isSoundPlace s i =
     let at = placesAt + placeWidth * i in
@@ -67,10 +67,10 @@ isSound s =
 
 -- what it says of the bank
 pub record InRange (b : Bank) : Type 0 where
-  -- "8 order places and 8 mailboxes of 3,840 bytes each"
+  -- "8 order places and 8 mailboxes", each of a file's bytes
   pub files : (i : ℕ) → i < placeCount → getD (b .files) i 0 ≤ fileBytes
   pub lengths : (i : ℕ) → i < placeCount → placeAt b i .length ≤ fileBytes
-  -- an open upload, "With k segments taken of N": N is not "over 15 segments"
+  -- an open upload, "With k segments taken of N": N is not too many
   pub few : (i : ℕ) → isOpen (placeAt b i .used) ≡ true → placeAt b i .segments ≤ maxSegments
   -- "Segment N books the order": k is below N
   pub below : (i : ℕ) → isOpen (placeAt b i .used) ≡ true → placeAt b i .taken < placeAt b i .segments

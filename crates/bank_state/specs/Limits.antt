@@ -6,9 +6,9 @@ pub use Rattle.frame_writer.specs.Writer.{replyRoom}
 abbrev pub placeCount : ℕ
 placeCount = 8
 
--- "(two stores of 30,720)"
+-- card 6: "stores of 63,488"
 abbrev pub storeBytes : ℕ
-storeBytes = 30720
+storeBytes = 63488
 
 -- "8 bytes for the transaction ID"
 abbrev pub idBytes : ℕ

@@ -4,7 +4,7 @@
 pub const PLACE_COUNT: usize = 8;
 
 // The bytes of a store: all places, or all mailboxes.
-pub const STORE_BYTES: usize = 30720;
+pub const STORE_BYTES: usize = 63488;
 
 // The lent bytes of a transaction ID, and the least reply buffer.
 pub const ID_BYTES: usize = 8;

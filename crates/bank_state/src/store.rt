@@ -10,8 +10,8 @@ ghost use Rattle.octets.specs.Bytes.{overwrite};
 ghost use Rattle.bank_state.specs.Limits.{placeCount, storeBytes};
 ghost use Rattle.bank_state.specs.Store.{partAt, zeroed, fileOf};
 
-// The most bytes that one loop clears: half a place.
-const BLOCK_BYTES: usize = FILE_BYTES / 2;
+// The most bytes that one loop clears: a quarter of a place.
+const BLOCK_BYTES: usize = FILE_BYTES / 4;
 
 fn clear_block(part: &mut [u8])
     ensures { λ _. ⌜ now (part .exit) ≡ replicate (length (now (part .entry))) 0 ⌝ }

@@ -108,7 +108,7 @@ abbrev pub otherDirection : Direction → Fields → Bool
 otherDirection direction.Upload q = eqb (orderType q) fdl || eqb (segments q) 0
 otherDirection direction.Download q = eqb (orderType q) ful
 
--- 091118: over 15 segments
+-- 091118: too many segments; "091118 begins at 32"
 unfoldable pub manySegments : Fields → Bool
 manySegments q = ltb maxSegments (segments q)
 

@@ -1,4 +1,4 @@
--- Every row of the table of cases holds, by computation: each line of document 01 and of card 5 by itself. Assumes
+-- Every row of the table of cases holds, by computation: each line of document 01 and of cards 5 and 6 by itself. Assumes
 -- nothing.
 use mathlib.Core.List.{List, [], _∷_, _++_}
 use mathlib.Core.Path.{refl}
@@ -12,6 +12,7 @@ use Rattle.cases.specs.Table.{
   orderNumberCases,
   seriesCases,
   lengthCases,
+  segmentCases,
   repeatCases,
   lastMarkCases,
   bookedCases,
@@ -43,6 +44,10 @@ series-hold = row refl (row refl (row refl (row refl (row refl (row refl none)))
 lengths-hold : Holds lengthCases
 unfolding lengthCases largest requestLengths replyLengths frames messages
 lengths-hold = row refl (row refl (row refl none))
+
+segments-hold : Holds segmentCases
+unfolding segmentCases calls
+segments-hold = row refl (row refl none)
 
 repeats-hold : Holds repeatCases
 unfolding repeatCases calls
@@ -77,4 +82,5 @@ cases-hold =
     (both order-numbers-hold
     (both series-hold
     (both lengths-hold
-    (both repeats-hold (both last-marks-hold (both booked-hold (both files-hold receipts-hold))))))))
+    (both segments-hold
+    (both repeats-hold (both last-marks-hold (both booked-hold (both files-hold receipts-hold)))))))))

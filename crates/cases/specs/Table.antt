@@ -221,6 +221,11 @@ lengthCases =
     ∷ ((largest replyLengths ∷ []) gives (312 ∷ []))
     ∷ []
 
+-- card 6: "Allow 31 segments", "091118 begins at 32"
+unfoldable pub segmentCases : List Case
+segmentCases =
+    (codes (upload clock 31 ∷ []) gives (six 0 ∷ [])) ∷ (codes (upload clock 32 ∷ []) gives (six 91118 ∷ [])) ∷ []
+
 -- "N = 2, segment 1 twice: 000000, then 061101 with 1."
 unfoldable pub repeatCases : List Case
 repeatCases =
@@ -259,7 +264,8 @@ cases =
     ++ (idleCases
     ++ (orderNumberCases
     ++ (seriesCases
-    ++ (lengthCases ++ (repeatCases ++ (lastMarkCases ++ (bookedCases ++ (fileCases ++ receiptCases))))))))
+    ++ (lengthCases
+    ++ (segmentCases ++ (repeatCases ++ (lastMarkCases ++ (bookedCases ++ (fileCases ++ receiptCases)))))))))
 
 -- every row holds
 pub data Holds : List Case → Type 0 where

@@ -56,28 +56,28 @@ fn print_case(sent: &[u8], code: u64) {
     io::write_all(STDOUT_FILENO, b"\n");
 }
 
-// 15 and 16 segments, and 256 and 257 data bytes.
+// 31 and 32 segments, and 256 and 257 data bytes.
 fn print_cases() {
     let mut rows = [0u64; STATE_SIZE];
     let mut orders = [0u8; STORE_BYTES];
     let mut mailboxes = [0u8; STORE_BYTES];
     let nothing = [0u8; 0];
     let a = ask(
-        opening(15),
+        opening(31),
         &nothing,
         &mut rows,
         &mut orders,
         &mut mailboxes,
     );
-    print_case(b"15 segments ", a);
+    print_case(b"31 segments ", a);
     let b = ask(
-        opening(16),
+        opening(32),
         &nothing,
         &mut rows,
         &mut orders,
         &mut mailboxes,
     );
-    print_case(b"16 segments ", b);
+    print_case(b"32 segments ", b);
     let c = ask(
         segment(1),
         &[7u8; 256],

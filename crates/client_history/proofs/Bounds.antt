@@ -170,7 +170,7 @@ pub requests-most : (es : List Event)
     → length (pastOf es .issues) ≤ maxRequests (pastOf es .run .direction) (pastOf es .run .segments)
 requests-most es = most-by (bounds es)
 
-most-fits : (direction : Direction) (n : ℕ) → n ≤ maxSegments → maxRequests direction n ≤ 96
+most-fits : (direction : Direction) (n : ℕ) → n ≤ maxSegments → maxRequests direction n ≤ maxRequests Download maxSegments
 most-fits Upload n h = omega arith
 most-fits Download n h = omega arith
 
@@ -216,7 +216,8 @@ pub all-held : (es : List Event) → pastOf es .run .direction ≡ Download → 
     → pastOf es .run .held ≡ pastOf es .run .segments
 all-held es w s = held-by w s (bounds es)
 
--- the guards of a download's replies tell nothing in a run from a begin: at most 15 segments are held, and asked for
+-- the guards of a download's replies tell nothing in a run from a begin: no more segments than an order has are held, and
+-- asked for
 guards-by : {c : ClientRun} {issues : List Issue} → c .direction ≡ Download → Bounds c issues
     → (c .held ≤ maxSegments) × (c .step ≡ step.Segment → c .segment ≤ maxSegments)
 guards-by w (fresh e z) = not-both (ap (λ (k : ClientRun). k .direction) e) w

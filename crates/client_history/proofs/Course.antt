@@ -312,7 +312,7 @@ download-at step.Segment e w (opening o) = not-opening-segment (o .at) e
 download-at {c} {q} step.Segment e w (downloading d) = (d .first, d .next, down-transfer c q d e)
 download-at {c} {q} step.Receipt e w k = receipt-held c q k w e
 
--- at most 15 segments are held, and asked for
+-- no more segments than an order has are held, and asked for
 pub course-guards : (c : ClientRun) (q : ℕ) → Course c q → c .direction ≡ Download
     → (c .held ≤ maxSegments) × (c .step ≡ step.Segment → c .segment ≤ maxSegments)
 course-guards c q (uploading u) w = not-both (u .direction) w

@@ -90,7 +90,7 @@ module _ (Given : Fields → List ℕ → Fields → List ℕ → Type 0) (fileA
     -- ---- download
 
     module _ (u : DownloadRun Given fileAt c (p .file) (p .issues)) where
-      -- "a download's file buffer not 3,840" is refused
+      -- a download's file buffer of another length is refused
       room : length (p .file) ≡ fileBytes
       room =
           subst (λ (f : List ℕ). length f ≡ fileBytes) (k .file)

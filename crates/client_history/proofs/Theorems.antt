@@ -240,7 +240,7 @@ module _ (Given : Fields → List ℕ → Fields → List ℕ → Type 0) (fileA
           go (upload g u) = u
           go (download g u) = not-both w (u .direction)
 
-      -- "It cuts the payload at 256 bytes": 1 to 15 segments
+      -- "It cuts the payload at 256 bytes": 1 to the most segments
       pub upload-segments : (p .run .segments ≡ segmentsOf (length (p .payload)))
           × (1 ≤ p .run .segments) × (p .run .segments ≤ maxSegments)
       upload-segments =

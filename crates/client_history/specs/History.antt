@@ -96,7 +96,7 @@ pub record BankReplies (Given : Fields → List ℕ → Fields → List ℕ → 
   -- "N is the file length divided by 256, rounded up"
   pub number : {q r : Fields} {d e : List ℕ} → Given q d r e → form r ≡ forms.DownloadOpened
       → segments r ≡ segmentsOf (length (fileAt (transaction r)))
-  -- "file of 0 or over 3,840 bytes" is in no mailbox
+  -- a file of 0 bytes or too many is in no mailbox
   pub some : {q r : Fields} {d e : List ℕ} → Given q d r e → form r ≡ forms.DownloadOpened
       → 0 < length (fileAt (transaction r))
   pub most : {q r : Fields} {d e : List ℕ} → Given q d r e → form r ≡ forms.DownloadOpened

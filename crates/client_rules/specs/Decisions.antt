@@ -108,7 +108,7 @@ answersSegment x c r = says x code.Ok transferPhase r && isOwn c r && eqb (segme
 unfoldable pub fitsData : ℕ → ℕ → ℕ → Bool
 fitsData s n d = cond (eqb s n) (leb 1 d && leb d segmentBytes) (eqb d segmentBytes)
 
--- "... with last mark 1 there only"; no call leaves s over 15
+-- "... with last mark 1 there only"; no call leaves s over the most segments
 unfoldable pub fitsSegment : ℕ → ℕ → ℕ → Fields → Bool
 fitsSegment s n d r = leb s maxSegments && eqb (lastMark r) (lastMarkOf s n) && fitsData s n d
 
@@ -129,11 +129,11 @@ goesBack first below reached c r = isPoint first c r && ltb (segment r) below &&
 unfoldable pub uploadReturns : ClientRun → Fields → Bool
 uploadReturns c r = goesBack 0 (c .segments) (c .issued) c r
 
--- a download's "if segments 1 to r are held" (no call leaves more than 15)
+-- a download's "if segments 1 to r are held" (no call leaves more than the most)
 unfoldable pub downloadReturns : ClientRun → Fields → Bool
 downloadReturns c r = goesBack 1 (maxSegments + 1) (c .held) c r
 
--- a download's opening is answered: "a download's N must be 1 to 15", "segment 1 is in it"
+-- a download's opening is answered: "a download's N must be 1 to" the most segments, "segment 1 is in it"
 unfoldable pub opensDownload : ℕ → Fields → Bool
 opensDownload d r =
     says forms.DownloadOpened code.Ok initialisationPhase r

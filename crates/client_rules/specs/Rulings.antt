@@ -28,7 +28,7 @@ use Rattle.client_run.specs.Run.{requestRoom, maxFirstExchange, maxExchange}
 unfoldable pub timeFirst : ℕ → Ruling → Ruling
 timeFirst time others = decide ((ltb lastTime time, Refuse TimeTooHigh) ∷ []) others
 
--- 5: "an upload's payload of 0 or over 3,840 bytes ..., a download's file buffer not 3,840, request buffer under 303
+-- 5: an upload's payload of 0 or over 7,936 bytes, a download's file buffer not 7,936 (card 6), "request buffer under 303
 -- (upload runs ignore the file buffer, download runs the payload)"
 abbrev pub wrongBuffers : Direction → Lengths → Bool
 wrongBuffers Upload l = eqb (l .payload) 0 || ltb fileBytes (l .payload) || ltb (l .request) requestRoom

@@ -27,9 +27,9 @@ use Rattle.client_run.specs.declared.run.Answer.{Answer}
 use Rattle.client_run.specs.declared.run.Answer.the-variants as answer
 use Rattle.client_run.specs.declared.run.Lengths.{Lengths}
 
--- "first exchange number over 4,294,967,200"
+-- card 6: "The highest first exchange number becomes 4,294,967,104"
 abbrev pub maxFirstExchange : ℕ
-maxFirstExchange = 4294967200
+maxFirstExchange = 4294967104
 
 -- the highest exchange number: its field has 4 bytes
 abbrev pub maxExchange : ℕ

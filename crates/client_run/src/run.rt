@@ -13,7 +13,7 @@ pub const NONCE_BYTES: usize = 12;
 pub const REQUEST_ROOM: usize = 303;
 
 // The highest first exchange number of a run.
-pub const MAX_FIRST_EXCHANGE: u64 = 4_294_967_200;
+pub const MAX_FIRST_EXCHANGE: u64 = 4_294_967_104;
 
 // The highest exchange number: its field has 4 bytes.
 pub const MAX_EXCHANGE: u64 = 4_294_967_295;

@@ -118,7 +118,7 @@ rowCount Journal = recordCount
 unfoldable pub tableOf : Table → UnitState → Lent → List ℕ → List ℕ
 tableOf t u m files = headerText t ++ rowsTo (rowAt t u m files) (rowCount t)
 
--- the most bytes that a header takes, the column "content" with a file of 3,840 bytes, a row with it, the column
+-- the most bytes that a header takes, the column "content" with the longest file, a row with it, the column
 -- "kind", and a row of the journal
 abbrev pub headerRoom : ℕ
 headerRoom = 39

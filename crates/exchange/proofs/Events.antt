@@ -146,7 +146,7 @@ module _ (first : ℕ) (w : BankState) (q : Fields) (d : List ℕ) where
 
 -- ---- mailboxes
 
--- no mailbox holds over 3,840 bytes
+-- no mailbox holds more than its bytes
 pub mailbox-short : (w : BankState) (m : ℕ) → length (mailboxFile w m) ≤ fileBytes
 unfolding mailboxFile fileOf partAt
 mailbox-short w m = simp length-take (omega arith)

@@ -55,7 +55,7 @@ pub stands-behind : {e f : Exchange} {g k h : List Exchange} → Stands f k g �
 stands-behind p newest = older p
 stands-behind p (older q) = older (stands-behind p q)
 
--- what is asked of every exchange: its refusals' codes, and a file of at most 3,840 bytes
+-- what is asked of every exchange: its refusals' codes, and a file of at most the bytes of a mailbox
 pub record Proper (e : Exchange) : Type 0 where
   pub refuses : Refuses (e .verdict)
   pub short : length (e .file) ≤ fileBytes

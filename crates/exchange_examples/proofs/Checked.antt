@@ -29,7 +29,7 @@ use Rattle.bank_rows.specs.Layout.{stateSize}
 use Rattle.bank_rows.specs.State.{stored}
 use Rattle.bank_steps.specs.Lent.{stateOf}
 use Rattle.bank_steps.specs.Lent as bankEnd
-use Rattle.bank.specs.Call.{FrameInput, frameCall, frameInput}
+use Rattle.bank.specs.Call.{FrameInput, frameInput}
 use Rattle.bank_session.specs.Session.{LentSession, sessionOf, bankIn, journalIn}
 use Rattle.image_calls.specs.Calls.{imageLength}
 use Rattle.client_run.specs.declared.run.Direction.{Direction}
@@ -58,6 +58,7 @@ use Rattle.exchange.specs.Course.{
 use Rattle.exchange.specs.Terms.{IssuedBy, NoIdleHour, InTurn, Accepted, AllInTurn, Settled}
 use Rattle.exchange.specs.Demand3.{isSubscribers, Allowed, AllAllowed, OneExchangeNumber, Outcome, ClosesInTurn, Demand3}
 use Rattle.exchange.specs.Lists.{AtMostOne, skip, only, NoDup, none, more}
+use Rattle.exchange.proofs.Calls.{carried}
 use Rattle.exchange.proofs.Guards.{numbered-allowed, numbered-in-turn, stray-allowed, journal-allowed, put-allowed}
 use Rattle.exchange.proofs.Theorem.{demand3}
 
@@ -91,10 +92,10 @@ then : (a b : Bool) → implies a b ≡ true → a ≡ true → b ≡ true
 then true b h e = h
 then false b h e = never e
 
-not-both : {a : Bool} → not a ≡ true → a ≡ true → ⊥
+pub not-both : {a : Bool} → not a ≡ true → a ≡ true → ⊥
 not-both h e = never (sym (ap not e) ∙ h)
 
-both : {a b : Bool} → a ≡ true → b ≡ true → a && b ≡ true
+pub both : {a b : Bool} → a ≡ true → b ≡ true → a && b ≡ true
 both e h = λ x. e x && h x
 
 abbrev sameBytes : List ℕ → List ℕ → Bool
@@ -185,7 +186,7 @@ lentAt time payload file = lentOf time (replicate nonceBytes 0) payload file (re
 abbrev pub lent : List ℕ → List ℕ → Lent
 lent = lentAt 1000
 
-abbrev requestAt : ℕ → Course → List ℕ
+abbrev pub requestAt : ℕ → Course → List ℕ
 requestAt n s = nth (record { run = 0; frame = []; file = []; box = [] }) n (s .issued) .frame
 
 abbrev pub noExchange : Exchange
@@ -195,15 +196,11 @@ abbrev replyAt : ℕ → Course → List ℕ
 replyAt n s = nth noExchange n (s .exchanged) .reply
 
 -- what a frame call is lent besides the bank
-abbrev inputAt : ℕ → List ℕ → FrameInput
+abbrev pub inputAt : ℕ → List ℕ → FrameInput
 inputAt time frame = frameInput time (replicate idBytes 0) frame (replicate replyRoom 0)
 
 abbrev pub frameCalled : List ℕ → ℕ → Course → Call
 frameCalled frame time s = frameArrives (s .bank) (s .journal) (inputAt time frame)
-
--- the clock as the frame has come
-abbrev frameClock : List ℕ → ℕ → Course → ℕ
-frameClock frame time s = frameCall (s .bank) (inputAt time frame) .bankState .bank .clock
 
 -- the session as it stands, in memory
 abbrev pub standing : Course → LentSession
@@ -234,10 +231,13 @@ abbrev pub callsOf : List Move → Course → List Call
 callsOf [] s = []
 callsOf (m ∷ ms) s = callOf m s ∷ callsOf ms (next m s)
 
--- the course at the end
+-- the course at the end, by these steps
+abbrev pub endBy : (Move → Course → Course) → List Move → Course → Course
+endBy step [] s = s
+endBy step (m ∷ ms) s = endBy step ms (step m s)
+
 abbrev pub endOf : List Move → Course → Course
-endOf [] s = s
-endOf (m ∷ ms) s = endOf ms (next m s)
+endOf = endBy next
 
 pub ends : (ms : List Move) (s : Course) → after (callsOf ms s) s ≡ endOf ms s
 unfolding after
@@ -266,8 +266,8 @@ isAllowed writes s = true
 isAllowed (takes n) s = has n (s .images)
 isAllowed (numbered k) s = not (eqb (callNumber k) 0)
 
--- the one premise that is no test: the memory put away is the bank and the journal that stand
-abbrev asked : Move → Course → Type 0 → Type 0
+-- what is no test: the memory put away is the bank and the journal that stand, and the call is given no number
+abbrev pub asked : Move → Course → Type 0 → Type 0
 asked (comes n time) s rest = rest
 asked (stray frame time) s rest = rest
 asked (puts m file) s rest = rest
@@ -275,7 +275,8 @@ asked (begin i direction u first payload) s rest = rest
 asked (reaches i n) s rest = rest
 asked (silent i) s rest = rest
 asked (hands i) s rest = rest
-asked writes s rest = (stateOf (bankIn (standing s)) ≡ s .bank) × (journalIn (standing s) ≡ s .journal) × rest
+asked writes s rest = (stateOf (bankIn (standing s)) ≡ s .bank) × (journalIn (standing s) ≡ s .journal)
+    × (callNumber (putsAway (standing s) room) ≡ 0) × rest
 asked (takes n) s rest = rest
 asked (numbered k) s rest = rest
 
@@ -303,7 +304,7 @@ allowed (reaches i n) s rest r h = (
 )
 allowed (silent i) s rest r h = (λ _. (refl, refl, refl), r)
 allowed (hands i) s rest r h = (journal-allowed s i, r)
-allowed writes s rest r h = (put-allowed s (standing s) room (r .0) (r .1), r .2)
+allowed writes s rest r h = (put-allowed s (standing s) room (r .0) (r .1), r .3)
 allowed (takes n) s rest r h = (λ _. nth-in [] n (s .images) h, r)
 allowed (numbered k) s rest r h = (numbered-allowed k s (λ z. not-both h (eq-eqb (callNumber k) 0 z)), r)
 
@@ -311,10 +312,13 @@ allowed (numbered k) s rest r h = (numbered-allowed k s (λ z. not-both h (eq-eq
 abbrev isNumbered : Course → Bool
 isNumbered s = distinct (map (λ (x : Issue). exchange (readRequest (x .frame))) (s .issued))
 
--- the test of a whole list
+-- the test of a whole list, by these steps
+abbrev pub isMetBy : (Move → Course → Course) → List Move → Course → Bool
+isMetBy step [] s = isNumbered s
+isMetBy step (m ∷ ms) s = isAllowed m s && isMetBy step ms (step m s)
+
 abbrev pub isMet : List Move → Course → Bool
-isMet [] s = isNumbered s
-isMet (m ∷ ms) s = isAllowed m s && isMet ms (next m s)
+isMet = isMetBy next
 
 pub all-allowed : (ms : List Move) (s : Course) → Asked ms s → isMet ms s ≡ true → AllAllowed (callsOf ms s) s
 all-allowed [] s r h = tt
@@ -395,21 +399,28 @@ module _ (i : ℕ) where
   abbrev notArrived : List ℕ → Course → Bool
   notArrived reply s = every (λ (a : Arrival). not (eqb (a .run) i && sameBytes (a .reply) reply)) (s .arrived)
 
-  abbrev pub isInTurn : Move → Course → Bool
-  isInTurn (comes n time) s = frameInTurn (requestAt n s) (frameClock (requestAt n s) time s) s
-  isInTurn (stray frame time) s = frameInTurn frame (frameClock frame time s) s
-  isInTurn (puts m file) s = true
-  isInTurn (begin j direction u first payload) s = true
-  isInTurn (reaches j n) s = implies (eqb j i) (notArrived (replyAt n s) s)
-  isInTurn (silent j) s = not (eqb j i)
-  isInTurn (hands j) s = true
-  isInTurn writes s = true
-  isInTurn (takes n) s = true
-  isInTurn (numbered k) s = not (eqb (callNumber k) 0)
+  -- clock: as the call has left it
+  abbrev pub isInTurn : Move → ℕ → Course → Bool
+  isInTurn (comes n time) clock s = frameInTurn (requestAt n s) clock s
+  isInTurn (stray frame time) clock s = frameInTurn frame clock s
+  isInTurn (puts m file) clock s = true
+  isInTurn (begin j direction u first payload) clock s = true
+  isInTurn (reaches j n) clock s = implies (eqb j i) (notArrived (replyAt n s) s)
+  isInTurn (silent j) clock s = not (eqb j i)
+  isInTurn (hands j) clock s = true
+  isInTurn writes clock s = true
+  isInTurn (takes n) clock s = true
+  isInTurn (numbered k) clock s = not (eqb (callNumber k) 0)
 
-  in-turn : (m : Move) (s : Course) → isInTurn m s ≡ true → InTurn i (callOf m s) s
-  in-turn (comes n time) s h = λ _. frame-in-turn (requestAt n s) _ s h
-  in-turn (stray frame time) s h = λ _. frame-in-turn frame _ s h
+  came-in-turn : (frame : List ℕ) (time : ℕ) (s : Course) → let k = frameCalled frame time s in
+      frameInTurn frame (exec k s .bank .bank .clock) s ≡ true → InTurn i k s
+  came-in-turn frame time s h z =
+      frame-in-turn frame _ s (subst (λ (t : Course). frameInTurn frame (t .bank .bank .clock) s ≡ true)
+      (carried (frameCalled frame time s) s z) h)
+
+  in-turn : (m : Move) (s : Course) → isInTurn m (next m s .bank .bank .clock) s ≡ true → InTurn i (callOf m s) s
+  in-turn (comes n time) s h = came-in-turn (requestAt n s) time s h
+  in-turn (stray frame time) s h = came-in-turn frame time s h
   in-turn (puts m file) s h = λ _. tt
   in-turn (begin j direction u first payload) s h = λ _. tt
   in-turn (reaches j n) s h = λ _. λ same a m r z.
@@ -478,32 +489,40 @@ module _ (i : ℕ) where
   abbrev isDone : ℕ → Course → Bool
   isDone n s = isAlone s && (isSettled s && isTaken n s)
 
+  -- one call of it, and the course that it leaves
+  abbrev pub isOneMore : Move → Course → Course → Bool
+  isOneMore m s t = isAlone s && isInTurn m (t .bank .bank .clock) s
+
+  abbrev pub isInOrderBy : (Move → Course → Course) → ℕ → List Move → Course → Bool
+  isInOrderBy step n [] s = isNumbered s && isDone n s
+  isInOrderBy step n (m ∷ ms) s = isAllowed m s && (isOneMore m s (step m s) && isInOrderBy step n ms (step m s))
+
   abbrev pub isInOrder : ℕ → List Move → Course → Bool
-  isInOrder n [] s = isNumbered s && isDone n s
-  isInOrder n (m ∷ ms) s = isAllowed m s && ((isAlone s && isInTurn m s) && isInOrder n ms (next m s))
+  isInOrder = isInOrderBy next
 
   module _ (n : ℕ) where
-    one-more : (m : Move) (ms : List Move) (s : Course) → isInOrder n (m ∷ ms) s ≡ true →
-        (isAllowed m s ≡ true) × (isAlone s && isInTurn m s ≡ true) × (isInOrder n ms (next m s) ≡ true)
-    one-more m ms s h =
-        let a = and-true (isAllowed m s) ((isAlone s && isInTurn m s) && isInOrder n ms (next m s)) h in
-        let b = and-true (isAlone s && isInTurn m s) (isInOrder n ms (next m s)) (a .1) in
+    pub one-more : (step : Move → Course → Course) (m : Move) (ms : List Move) (s : Course) →
+        isInOrderBy step n (m ∷ ms) s ≡ true →
+        (isAllowed m s ≡ true) × (isOneMore m s (step m s) ≡ true) × (isInOrderBy step n ms (step m s) ≡ true)
+    one-more step m ms s h =
+        let a = and-true (isAllowed m s) (isOneMore m s (step m s) && isInOrderBy step n ms (step m s)) h in
+        let b = and-true (isOneMore m s (step m s)) (isInOrderBy step n ms (step m s)) (a .1) in
         (a .0, b .0, b .1)
 
     pub order-met : (ms : List Move) (s : Course) → isInOrder n ms s ≡ true → isMet ms s ≡ true
     order-met [] s h = and-true (isNumbered s) (isDone n s) h .0
-    order-met (m ∷ ms) s h = let a = one-more m ms s h in both (a .0) (order-met ms (next m s) (a .2))
+    order-met (m ∷ ms) s h = let a = one-more next m ms s h in both (a .0) (order-met ms (next m s) (a .2))
 
     all-done : (ms : List Move) (s : Course) → isInOrder n ms s ≡ true → isDone n (endOf ms s) ≡ true
     all-done [] s h = and-true (isNumbered s) (isDone n s) h .1
-    all-done (m ∷ ms) s h = all-done ms (next m s) (one-more m ms s h .2)
+    all-done (m ∷ ms) s h = all-done ms (next m s) (one-more next m ms s h .2)
 
     all-in-turn : (ms : List Move) (s : Course) → isInOrder n ms s ≡ true → AllInTurn i (callsOf ms s) s
     all-in-turn [] s h = λ accepted running.
         leb-true _ 1 (and-true (isAlone s) (isSettled s && isTaken n s) (and-true (isNumbered s) (isDone n s) h .1) .0)
     all-in-turn (m ∷ ms) s h =
-        let a = one-more m ms s h in
-        let b = and-true (isAlone s) (isInTurn m s) (a .1) in
+        let a = one-more next m ms s h in
+        let b = and-true (isAlone s) (isInTurn m (next m s .bank .bank .clock) s) (a .1) in
         (λ accepted running. leb-true _ 1 (b .0), in-turn m s (b .1), all-in-turn ms (next m s) (a .2))
 
 -- ---- the theorem applied

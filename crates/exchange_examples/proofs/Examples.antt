@@ -17,6 +17,7 @@ use Rattle.journal.specs.declared.event.OrderName.{OrderName}
 use Rattle.bank_state.specs.declared.state.Use.the-variants as uses
 use Rattle.bank_state.specs.Limits.{idleLimit}
 use Rattle.bank_state.specs.State.{placeAt}
+use Rattle.bank_admitted.specs.State.{StateHolds}
 use Rattle.bank_steps.specs.Lent.{stateOf}
 use Rattle.bank_session.specs.Session.{LentSession, bankIn, journalIn}
 use Rattle.image_calls.specs.declared.calls.TakenUp.the-variants as taken
@@ -44,7 +45,7 @@ use Rattle.exchange.specs.Course.{
 use Rattle.exchange.specs.Lists.{AtMostOne}
 use Rattle.exchange.specs.Terms.{Opened, Books, Booked, Order, nameOf, InBook, OrderOf, AllInTurn}
 use Rattle.exchange.specs.Demand3.{Allowed, AllAllowed}
-use Rattle.exchange.proofs.Calls.{carried}
+use Rattle.exchange.proofs.Calls.{carried, by-number}
 use Rattle.exchange.proofs.Guards.{put-allowed}
 use Rattle.exchange.proofs.Images.{put-taken}
 use Rattle.exchange_examples.proofs.Unfolded.{bothEnds, images}
@@ -65,6 +66,7 @@ use Rattle.exchange_examples.proofs.Checked.{
   numbered,
   lentAt,
   lent,
+  requestAt,
   frameCalled,
   noExchange,
   standing,
@@ -74,19 +76,19 @@ use Rattle.exchange_examples.proofs.Checked.{
   callsOf,
   endOf,
   isAllowed,
+  asked,
   Asked,
   allowed,
   all-allowed,
-  isMet,
   Opens,
   isOwn,
   own,
-  isInOrder,
   order-met,
   outcome,
   Closed,
   closed,
 }
+use Rattle.exchange_examples.proofs.Quick.{quickNext, quick-frame, Meets, meets, Orders, orders}
 
 -- ---- the lists
 
@@ -97,9 +99,12 @@ lastOpen = 1000 + idleLimit
 abbrev firstGone : ℕ
 firstGone = lastOpen + 1
 
--- an upload of one byte, up to its segment, and lodged
+-- an upload of one byte, up to its opening, up to its segment, and lodged
+abbrev openingSent : List Move
+openingSent = begin 0 Upload 1 7 (65 ∷ []) ∷ comes 0 1000 ∷ []
+
 abbrev segmentSent : List Move
-segmentSent = begin 0 Upload 1 7 (65 ∷ []) ∷ comes 0 1000 ∷ reaches 0 0 ∷ comes 0 1000 ∷ []
+segmentSent = openingSent ++ (reaches 0 0 ∷ comes 0 1000 ∷ [])
 
 abbrev lodging : List Move
 lodging = segmentSent ++ (reaches 0 0 ∷ [])
@@ -168,7 +173,7 @@ cancelled = (begin 0 Upload 1 7 twoSegments ∷ comes 0 1000 ∷ reaches 0 0 ∷
 
 -- the opening is accepted, no reply comes, no segment is ever issued
 abbrev unsent : List Move
-unsent = (begin 0 Upload 1 7 (65 ∷ []) ∷ comes 0 1000 ∷ []) ++ replicate 6 (silent 0)
+unsent = openingSent ++ replicate 6 (silent 0)
 
 -- ---- the journal
 
@@ -218,11 +223,11 @@ ownSeries = bothFirst ++ (stray (1 ∷ 2 ∷ 3 ∷ []) firstGone ∷ hands 0 ∷
 
 -- an order in turn whose session is put away and taken up
 abbrev resuming : List Move
-resuming = begin 0 Upload 1 7 (65 ∷ []) ∷ comes 0 1000 ∷ writes ∷ takes 0 ∷ reaches 0 0 ∷ comes 0 1000 ∷ reaches 0 0 ∷ []
+resuming = openingSent ++ (writes ∷ takes 0 ∷ reaches 0 0 ∷ comes 0 1000 ∷ reaches 0 0 ∷ [])
 
 -- Seven calls, one of them a taking up without its premise: begin, the opening, its reply
 abbrev opening : List Move
-opening = begin 0 Upload 1 7 (65 ∷ []) ∷ comes 0 1000 ∷ reaches 0 0 ∷ []
+opening = openingSent ++ (reaches 0 0 ∷ [])
 
 abbrev opened : Course
 opened = endOf opening start
@@ -243,8 +248,14 @@ abbrev sentTwice : Course
 sentTwice = sent (exec up (sent (exec away opened)))
 
 -- the same, by what both calls leave: the image is written, and the bank and the journal are those of before the segment
+abbrev written : Course → Course
+written s = carryOut (callOf writes s) s
+
+abbrev resumed : Course → Course → Course
+resumed s t = withBank (s .bank) (withJournal (s .journal) t)
+
 abbrev onceMore : Course
-onceMore = withBank (opened .bank) (withJournal (opened .journal) (sent (carryOut away opened)))
+onceMore = resumed opened (sent (written opened))
 
 -- ---- what they compute to
 
@@ -284,178 +295,162 @@ books-at : (n : ℕ) (s : Course) → BooksAt n s → Books s 0 (nth noExchange 
 books-at n s (copy, upload, last, ok) =
     record { copy = own 0 (nth noExchange n (s .exchanged) .request) s copy; upload = upload; last = last; taken = ok }
 
+-- the segment comes after s and leaves t, once more after the taking up and leaves u: both allowed, both book the order
+record SentAgain (s t u : Course) : Type 0 where
+  sent-met : isAllowed (comes 0 1000) (written s) ≡ true
+  sent-images : t .images ≡ []
+  again-sent-met : isAllowed (comes 0 1000) (resumed s t) ≡ true
+  once-more-booked : (has 1 (u .exchanged) ≡ true) × BooksAt 0 u × BooksAt 1 u
+
+-- the segment comes, in fewer steps
+abbrev quickSent : Course → Course
+quickSent s = quickNext (comes 0 1000) s
+
 record Computed : Type 0 where
-  lodging-in-turn : isInOrder 0 1 lodging start ≡ true
-  lodging-ends : let s = endOf lodging start in Opens 1 s × InFirstPlace s
-  repeating-met : isMet repeating start ≡ true
-  repeating-ends : codeNow (endOf repeating start) ≡ codeField code.UnknownTransaction
-  losing-met : isMet losing start ≡ true
-  losing-ends : let s = endOf losing start in Ended Unclear s × InFirstPlace s
+  lodging-done : Orders 0 1 lodging (λ (s : Course). Opens 1 s × InFirstPlace s)
+  repeating-done : Meets repeating (λ (s : Course). codeNow s ≡ codeField code.UnknownTransaction)
+  losing-done : Meets losing (λ (s : Course). Ended Unclear s × InFirstPlace s)
   -- the fourth call was the last before the first "no reply"
-  no-reply-taken : callNumber (callOf (silent 0) (endOf segmentSent start)) ≡ 0
-  fetching-in-turn : isInOrder 0 1 fetching start ≡ true
-  fetching-ends : let s = endOf fetching start in Opens 1 s × Holds (66 ∷ 67 ∷ []) s × (mailboxOf (s .bank) 1 ≡ [])
-  crossing-in-turn : isInOrder 0 4 crossing start ≡ true
-  crossing-ends : let s = endOf crossing start in Opens 4 s × Ended Lodged s
-  again-met : isMet again start ≡ true
-  again-ends : let s = endOf again start in Ended Fetched s × Holds twoSegments s
-  cancelled-met : isMet cancelled start ≡ true
-  cancelled-ends : let s = endOf cancelled start in (codeNow s ≡ codeField code.TransactionAbort) × Ended NotLodged s
-  unsent-met : isMet unsent start ≡ true
-  unsent-ends : Ended NotLodged (endOf unsent start)
-  clearing-met : isMet clearing start ≡ true
-  clearing-ends : Ended Lodged (endOf clearing start)
-  waiting-ends : Ended Unclear (endOf waiting start)
-  booking-met : isMet booking start ≡ true
-  booking-ends : let s = endOf booking start in Ended Lodged s × InFirstPlace s
-  dropping-ends : Ended NotLodged (endOf dropping start)
-  late-met : isMet (dropping ++ late) start ≡ true
-  late-ends : let s = endOf (dropping ++ late) start in (codeNow s ≡ codeField code.UnknownTransaction) × Ended NotLodged s
-  asking-in-turn : isInOrder 0 1 asking start ≡ true
-  asking-opens : Opens 1 (endOf asking start)
-  opening-met : isMet opening start ≡ true
-  sent-met : isAllowed (comes 0 1000) (carryOut away opened) ≡ true
-  sent-images : sent (carryOut away opened) .images ≡ []
-  again-sent-met : isAllowed (comes 0 1000) onceMore ≡ true
-  once-more-booked : let s = sent onceMore in (has 1 (s .exchanged) ≡ true) × BooksAt 0 s × BooksAt 1 s
+  no-reply-taken : Meets segmentSent (λ (s : Course). callNumber (callOf (silent 0) s) ≡ 0)
+  fetching-done : Orders 0 1 fetching (λ (s : Course). Opens 1 s × Holds (66 ∷ 67 ∷ []) s × (mailboxOf (s .bank) 1 ≡ []))
+  crossing-done : Orders 0 4 crossing (λ (s : Course). Opens 4 s × Ended Lodged s)
+  again-done : Meets again (λ (s : Course). Ended Fetched s × Holds twoSegments s)
+  cancelled-done : Meets cancelled (λ (s : Course). (codeNow s ≡ codeField code.TransactionAbort) × Ended NotLodged s)
+  unsent-done : Meets unsent (λ (s : Course). Ended NotLodged s)
+  clearing-done : Meets clearing (λ (s : Course). Ended Lodged s)
+  waiting-done : Meets waiting (λ (s : Course). Ended Unclear s)
+  booking-done : Meets booking (λ (s : Course). Ended Lodged s × InFirstPlace s)
+  dropping-done : Meets dropping (λ (s : Course). Ended NotLodged s)
+  late-done : Meets (dropping ++ late) (λ (s : Course). (codeNow s ≡ codeField code.UnknownTransaction) × Ended NotLodged s)
+  asking-done : Orders 0 1 asking (Opens 1)
+  opening-done : Meets opening (λ (s : Course). let t = quickSent (written s) in SentAgain s t (quickSent (resumed s t)))
 
 computed : Computed
 unfolding bothEnds
 computed = record {
-  lodging-in-turn = refl;
-  lodging-ends = (inl refl, refl);
-  repeating-met = refl;
-  repeating-ends = refl;
-  losing-met = refl;
-  losing-ends = (refl, refl);
-  no-reply-taken = refl;
-  fetching-in-turn = refl;
-  fetching-ends = (inr refl, refl, refl);
-  crossing-in-turn = refl;
-  crossing-ends = (inl refl, refl);
-  again-met = refl;
-  again-ends = (refl, refl);
-  cancelled-met = refl;
-  cancelled-ends = (refl, refl);
-  unsent-met = refl;
-  unsent-ends = refl;
-  clearing-met = refl;
-  clearing-ends = refl;
-  waiting-ends = refl;
-  booking-met = refl;
-  booking-ends = (refl, refl);
-  dropping-ends = refl;
-  late-met = refl;
-  late-ends = (refl, refl);
-  asking-in-turn = refl;
-  asking-opens = inl refl;
-  opening-met = refl;
-  sent-met = refl;
-  sent-images = refl;
-  again-sent-met = refl;
-  once-more-booked = (refl, (refl, refl, refl, refl), (refl, refl, refl, refl));
+  lodging-done = orders 0 1 lodging tt refl (inl refl, refl);
+  repeating-done = meets repeating tt refl refl;
+  losing-done = meets losing tt refl (refl, refl);
+  no-reply-taken = meets segmentSent tt refl refl;
+  fetching-done = orders 0 1 fetching tt refl (inr refl, refl, refl);
+  crossing-done = orders 0 4 crossing tt refl (inl refl, refl);
+  again-done = meets again tt refl (refl, refl);
+  cancelled-done = meets cancelled tt refl (refl, refl);
+  unsent-done = meets unsent tt refl refl;
+  clearing-done = meets clearing tt refl refl;
+  waiting-done = meets waiting tt refl refl;
+  booking-done = meets booking tt refl (refl, refl);
+  dropping-done = meets dropping tt refl refl;
+  late-done = meets (dropping ++ late) tt refl (refl, refl);
+  asking-done = orders 0 1 asking tt refl (inl refl);
+  opening-done = meets opening tt refl (record {
+    sent-met = refl;
+    sent-images = refl;
+    again-sent-met = refl;
+    once-more-booked = (refl, (refl, refl, refl, refl), (refl, refl, refl, refl));
+  });
 }
 
+sent-again : SentAgain opened (sent (written opened)) (sent onceMore)
+sent-again =
+    let o = computed .opening-done in
+    let comes-so : (s : Course) → StateHolds (s .bank) → quickSent s ≡ sent s = λ s v. quick-frame s v 1000 (requestAt 0 s) in
+    subst (SentAgain opened (sent (written opened))) (comes-so onceMore (o .state))
+    (subst (λ (t : Course). SentAgain opened t (quickSent (resumed opened t))) (comes-so (written opened) (o .state)) (o .ends))
+
 record ComputedSeries : Type 0 where
-  each-first-met : isMet eachFirst start ≡ true
-  each-first-ends : let s = endOf eachFirst start in
-      Ended Lodged s × (s .runs 1 .stage ≡ stage.Ended Lodged) × OneNumber s
-  both-first-ends : let s = endOf bothFirst start in
-      Ended Unclear s × (s .runs 1 .stage ≡ stage.Ended Lodged) × OneNumber s
-  own-series-met : isMet ownSeries start ≡ true
-  own-series-ends : let s = endOf ownSeries start in
-      Ended NotLodged s × (s .runs 1 .stage ≡ stage.Ended Lodged) × OneNumber s
+  each-first-done : Meets eachFirst
+      (λ (s : Course). Ended Lodged s × (s .runs 1 .stage ≡ stage.Ended Lodged) × OneNumber s)
+  both-first-done : Meets bothFirst
+      (λ (s : Course). Ended Unclear s × (s .runs 1 .stage ≡ stage.Ended Lodged) × OneNumber s)
+  own-series-done : Meets ownSeries
+      (λ (s : Course). Ended NotLodged s × (s .runs 1 .stage ≡ stage.Ended Lodged) × OneNumber s)
 
 computed-series : ComputedSeries
 unfolding bothEnds
 computed-series = record {
-  each-first-met = refl;
-  each-first-ends = (refl, refl, (refl, refl, refl));
-  both-first-ends = (refl, refl, (refl, refl, refl));
-  own-series-met = refl;
-  own-series-ends = (refl, refl, (refl, refl, refl));
+  each-first-done = meets eachFirst tt refl (refl, refl, (refl, refl, refl));
+  both-first-done = meets bothFirst tt refl (refl, refl, (refl, refl, refl));
+  own-series-done = meets ownSeries tt refl (refl, refl, (refl, refl, refl));
 }
 
 -- ---- with the image's bytes
 
 resuming-asked : Asked resuming start
 unfolding bothEnds images
-resuming-asked = (refl, refl, tt)
+resuming-asked = (refl, refl, refl, tt)
 
-resuming-in-turn : isInOrder 0 1 resuming start ≡ true
-unfolding bothEnds images
-resuming-in-turn = refl
+resuming-done : Orders 0 1 resuming (Opens 1)
+unfolding bothEnds
+resuming-done = orders 0 1 resuming resuming-asked refl (inl refl)
 
-resuming-opens : Opens 1 (endOf resuming start)
-unfolding bothEnds images
-resuming-opens = inl refl
+-- the reply changes neither the bank nor the journal: the session is put away then too
+away-asked : asked writes opened (Unit {0})
+away-asked =
+    let s = endOf openingSent start in
+    by-number (callOf (reaches 0 0) s) s (λ (t : Course). asked writes t (Unit {0})) resuming-asked (λ _. resuming-asked)
 
--- the session is put away, and the memory of a fresh bank has the lengths to take it up
-away-done : (callNumber away ≡ 0) × (lengthsRight (standing start) ≡ true)
+-- the memory of a fresh bank has the lengths to take it up
+fresh-long : lengthsRight (standing start) ≡ true
 unfolding bothEnds images
-away-done = (refl, refl)
-
--- its memory is the bank that stands
-away-standing : (stateOf (bankIn (standing opened)) ≡ opened .bank) × (journalIn (standing opened) ≡ opened .journal)
-unfolding bothEnds images
-away-standing = (refl, refl)
+fresh-long = refl
 
 -- ---- the theorem applied
 
 lodging-closed : Closed 0 (endOf lodging start)
-lodging-closed = closed 0 1 lodging tt (computed .lodging-in-turn) (computed .lodging-ends .0)
+lodging-closed = closed 0 1 lodging tt (computed .lodging-done .in-order) (computed .lodging-done .ends .0)
 
 -- a call of "no reply" that is given no number is not in turn
 losing-not-in-turn : AllInTurn 0 (callsOf losing start) start → ⊥
-losing-not-in-turn h = h .2 .2 .2 .2 .1 (computed .no-reply-taken) refl
+losing-not-in-turn h = h .2 .2 .2 .2 .1 (computed .no-reply-taken .ends) refl
 
 fetching-closed : Closed 0 (endOf fetching start)
-fetching-closed = closed 0 1 fetching tt (computed .fetching-in-turn) (computed .fetching-ends .0)
+fetching-closed = closed 0 1 fetching tt (computed .fetching-done .in-order) (computed .fetching-done .ends .0)
 
 crossing-closed : Closed 0 (endOf crossing start)
-crossing-closed = closed 0 4 crossing tt (computed .crossing-in-turn) (computed .crossing-ends .0)
+crossing-closed = closed 0 4 crossing tt (computed .crossing-done .in-order) (computed .crossing-done .ends .0)
 
 -- and its order is in the book, with its bytes, under the subscriber, type and number that the run names
 crossing-booked : let s = endOf crossing start in
     (j : ℕ) × (o : Order) × InBook s j o × OrderOf s 0 o × (nameOf o ≡ orderName (s .runs 0))
 crossing-booked =
-    outcome crossing tt (order-met 0 4 crossing start (computed .crossing-in-turn)) .lodged 0 (computed .crossing-ends .1) .1
+    outcome crossing tt (order-met 0 4 crossing start (computed .crossing-done .in-order)) .lodged 0 (computed .crossing-done .ends .1) .1
 
 -- the whole file is the mailbox's at the opening, of which the run holds every byte
 again-fetched : (e : Exchange) × Opened forms.DownloadOpened (endOf again start) 0 e × (twoSegments ≡ e .box)
 again-fetched =
-    let o = outcome again tt (computed .again-met) .fetched 0 (computed .again-ends .0) in
-    (o .0, o .1, sym (computed .again-ends .1) ∙ o .3)
+    let o = outcome again tt (computed .again-done .met) .fetched 0 (computed .again-done .ends .0) in
+    (o .0, o .1, sym (computed .again-done .ends .1) ∙ o .3)
 
 cancelled-unbooked : Booked (endOf cancelled start) 0 → ⊥
-cancelled-unbooked = outcome cancelled tt (computed .cancelled-met) .notLodged 0 (computed .cancelled-ends .1)
+cancelled-unbooked = outcome cancelled tt (computed .cancelled-done .met) .notLodged 0 (computed .cancelled-done .ends .1)
 
 unsent-unbooked : Booked (endOf unsent start) 0 → ⊥
-unsent-unbooked = outcome unsent tt (computed .unsent-met) .notLodged 0 (computed .unsent-ends)
+unsent-unbooked = outcome unsent tt (computed .unsent-done .met) .notLodged 0 (computed .unsent-done .ends)
 
 -- a run that the journal closed as lodged names its order
 clearing-booked : (j : ℕ) × (o : Order) × InBook (endOf clearing start) j o × OrderOf (endOf clearing start) 0 o
 clearing-booked =
-    let o = outcome clearing tt (computed .clearing-met) .lodged 0 (computed .clearing-ends) .1 in
+    let o = outcome clearing tt (computed .clearing-done .met) .lodged 0 (computed .clearing-done .ends) .1 in
     (o .0, o .1, o .2, o .3)
 
 -- one that it closed as not lodged is not booked, by a late copy of its segment neither
 late-unbooked : Booked (endOf (dropping ++ late) start) 0 → ⊥
-late-unbooked = outcome (dropping ++ late) tt (computed .late-met) .notLodged 0 (computed .late-ends .1)
+late-unbooked = outcome (dropping ++ late) tt (computed .late-done .met) .notLodged 0 (computed .late-done .ends .1)
 
 -- one that stays unclear may still be booked
 booking-booked : Booked (endOf booking start) 0
-booking-booked = outcome booking tt (computed .booking-met) .lodged 0 (computed .booking-ends .0) .0
+booking-booked = outcome booking tt (computed .booking-done .met) .lodged 0 (computed .booking-done .ends .0) .0
 
 -- both are in the book, under one number, in two places
 each-first-booked : let s = endOf eachFirst start in
     (j : ℕ) × (j′ : ℕ) × (o : Order) × (o′ : Order) × InBook s j o × InBook s j′ o′ × (o .number ≡ o′ .number) × (j ≡ j′ → ⊥)
 each-first-booked =
     let s = endOf eachFirst start in
-    let k = outcome eachFirst tt (computed-series .each-first-met) in
-    let (same, first, second) = computed-series .each-first-ends .2 in
-    let (j, o, a, c, n) = k .lodged 0 (computed-series .each-first-ends .0) .1 in
-    let (j′, o′, b, d, m) = k .lodged 1 (computed-series .each-first-ends .1) .1 in (
+    let k = outcome eachFirst tt (computed-series .each-first-done .met) in
+    let (same, first, second) = computed-series .each-first-done .ends .2 in
+    let (j, o, a, c, n) = k .lodged 0 (computed-series .each-first-done .ends .0) .1 in
+    let (j′, o′, b, d, m) = k .lodged 1 (computed-series .each-first-done .ends .1) .1 in (
       j,
       j′,
       o,
@@ -474,28 +469,28 @@ each-first-booked =
 
 -- subscriber 2's booked A000 does not make subscriber 1's dropped A000 lodged
 own-series-unbooked : Booked (endOf ownSeries start) 0 → ⊥
-own-series-unbooked = outcome ownSeries tt (computed-series .own-series-met) .notLodged 0 (computed-series .own-series-ends .0)
+own-series-unbooked = outcome ownSeries tt (computed-series .own-series-done .met) .notLodged 0 (computed-series .own-series-done .ends .0)
 
 -- it is subscriber 2's own order
 other-booked : let s = endOf ownSeries start in
     (j : ℕ) × (o : Order) × InBook s j o × OrderOf s 1 o × (nameOf o ≡ orderName (s .runs 1))
-other-booked = outcome ownSeries tt (computed-series .own-series-met) .lodged 1 (computed-series .own-series-ends .1) .1
+other-booked = outcome ownSeries tt (computed-series .own-series-done .met) .lodged 1 (computed-series .own-series-done .ends .1) .1
 
 asking-closed : Closed 0 (endOf asking start)
-asking-closed = closed 0 1 asking tt (computed .asking-in-turn) (computed .asking-opens)
+asking-closed = closed 0 1 asking tt (computed .asking-done .in-order) (computed .asking-done .ends)
 
 -- with sessions put away and taken up between
 resuming-closed : Closed 0 (endOf resuming start)
-resuming-closed = closed 0 1 resuming resuming-asked resuming-in-turn resuming-opens
+resuming-closed = closed 0 1 resuming resuming-asked (resuming-done .in-order) (resuming-done .ends)
 
 -- ---- without the premise of a taking up
 
 away-is : exec away opened ≡ carryOut away opened
-away-is = carried away opened (away-done .0)
+away-is = carried away opened (away-asked .2)
 
 -- it is taken up
 up-is : takeUp (standing start) (take imageLength (putAway (standing opened) room .buffer)) ≡ takeUpOf taken.Done (standing opened)
-up-is = put-taken (standing opened) room (away-done .0) (standing start) (away-done .1)
+up-is = put-taken (standing opened) room (away-asked .2) (standing start) fresh-long
 
 up-done : callNumber up ≡ 0
 up-done = ap (λ (k : TakeUp). k .number) up-is
@@ -503,8 +498,8 @@ up-done = ap (λ (k : TakeUp). k .number) up-is
 once-more : exec up (sent (exec away opened)) ≡ onceMore
 once-more =
     let e = ap (λ (k : TakeUp). k .session) up-is in
-    let bank = ap (λ (m : LentSession). stateOf (bankIn m)) e ∙ away-standing .0 in
-    let journal = ap journalIn e ∙ away-standing .1 in
+    let bank = ap (λ (m : LentSession). stateOf (bankIn m)) e ∙ away-asked .0 in
+    let journal = ap journalIn e ∙ away-asked .1 in
     carried up (sent (exec away opened)) up-done
     ∙ (λ x. withBank (bank x) (withJournal (journal x) (sent (away-is x))))
 
@@ -512,16 +507,16 @@ once-more =
 sent-twice-booked : AtMostOne (Books sentTwice 0) (sentTwice .exchanged) → ⊥
 sent-twice-booked =
     subst (λ (t : Course). AtMostOne (Books (sent t) 0) (sent t .exchanged) → ⊥) (sym once-more)
-    (let o = computed .once-more-booked in
+    (let o = sent-again .once-more-booked in
     not-once noExchange (Books (sent onceMore) 0) (sent onceMore .exchanged) (o .0) (books-at 0 (sent onceMore) (o .1))
     (books-at 1 (sent onceMore) (o .2)))
 
 -- every other call has its premise
 opening-allowed : AllAllowed (callsOf opening start) start
-opening-allowed = all-allowed opening start tt (computed .opening-met)
+opening-allowed = all-allowed opening start tt (computed .opening-done .met)
 
 away-allowed : Allowed away opened
-away-allowed = put-allowed opened (standing opened) room (away-standing .0) (away-standing .1)
+away-allowed = put-allowed opened (standing opened) room (away-asked .0) (away-asked .1)
 
 comes-allowed : (s : Course) → isAllowed (comes 0 1000) s ≡ true → Allowed (callOf (comes 0 1000) s) s
 comes-allowed s h = allowed (comes 0 1000) s (Unit {0}) tt h .0
@@ -529,15 +524,15 @@ comes-allowed s h = allowed (comes 0 1000) s (Unit {0}) tt h .0
 sent-allowed : let s = exec away opened in Allowed (callOf (comes 0 1000) s) s
 sent-allowed =
     subst (λ (s : Course). Allowed (callOf (comes 0 1000) s) s) (sym away-is)
-    (comes-allowed (carryOut away opened) (computed .sent-met))
+    (comes-allowed (carryOut away opened) (sent-again .sent-met))
 
 again-allowed : let s = exec up (sent (exec away opened)) in Allowed (callOf (comes 0 1000) s) s
 again-allowed =
     subst (λ (s : Course). Allowed (callOf (comes 0 1000) s) s) (sym once-more)
-    (comes-allowed onceMore (computed .again-sent-met))
+    (comes-allowed onceMore (sent-again .again-sent-met))
 
 -- the taking up has not: its image is of a session that no longer stands
 up-refused : Allowed up (sent (exec away opened)) → ⊥
 up-refused a =
     in-none (subst (In (take imageLength (putAway (standing opened) room .buffer)))
-    (ap (λ (s : Course). sent s .images) away-is ∙ computed .sent-images) (a up-done))
+    (ap (λ (s : Course). sent s .images) away-is ∙ sent-again .sent-images) (a up-done))

@@ -90,14 +90,13 @@ unfolding frameBytes.numberFrom frameBytes.number frameBytes.bytesOf frameBytes.
     bankJournal.journalAfter clientJournal.answerTo clientJournal.journalCall
 bothEnds = tt
 
--- putting away and taking up
+-- putting away
 unfoldable pub images : Unit {0}
 unfolding bankrowsState.bankOf bankrowsState.joined bankrowsState.stored bankrowsRows.rowsOf bankrowsRows.rowsInUse
-    bankrowsRows.numbersOf bankrowsRows.written bankrowsRows.allBelow image.pack image.numbersOf image.storesOf
-    image.fits image.constantsRight image.imageOf image.isImage imageItems.partItems imageItems.recordItems
-    imageItems.storeItems imageItems.contentItems imageItems.fieldItems imageItems.itemsOf imageItems.bytesIn
-    imageItems.sizesOf imageTable.rowAt conditions.seriesFits conditions.seriesSum conditions.sameNonce
-    conditions.noncesDistinct conditions.unused conditions.noncesUnused conditions.downloadRises
+    bankrowsRows.numbersOf bankrowsRows.written bankrowsRows.allBelow image.fits imageItems.partItems
+    imageItems.recordItems imageItems.storeItems imageItems.contentItems imageItems.fieldItems imageItems.itemsOf
+    imageItems.bytesIn imageItems.sizesOf imageTable.rowAt conditions.seriesFits conditions.seriesSum
+    conditions.sameNonce conditions.noncesDistinct conditions.unused conditions.noncesUnused conditions.downloadRises
     conditions.downloadsUnused conditions.sameOrder conditions.ordersDistinct conditions.slotAt conditions.sameNumber
     conditions.numbersDistinct conditions.isOpenSlot conditions.isOpenOf conditions.openInAll conditions.openOfOne
     conditions.eventsFit conditions.bytesBehind conditions.placeBytes conditions.mailboxBytes conditions.journalUnused
@@ -111,7 +110,5 @@ unfolding bankrowsState.bankOf bankrowsState.joined bankrowsState.stored bankrow
     conditionsShapes.distinct conditionsShapes.allZero numbersTable.groupAt numbersTable.partPlaces
     numbersTable.recordPlaces numbersTable.recordsFrom numbersTable.groupPlaces numbersTable.groupsFrom
     numbersTable.sessionPlaces numbersTable.imagePlaces imageNumbers.numbersAt imageNumbers.numbersIn
-    imageNumbers.rowsFrom imageNumbers.rowFrom imageCalls.imageIn imageCalls.lengthsRight imageCalls.isAdmitted
-    imageCalls.putAway imageCalls.numbersFrom imageCalls.storeFrom imageCalls.isAdmittedImage imageCalls.sessionFrom
-    imageCalls.takeUp
+    imageCalls.lengthsRight imageCalls.isAdmitted imageCalls.putAway
 images = tt

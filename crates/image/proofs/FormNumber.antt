@@ -11,7 +11,7 @@ use Rattle.octets.specs.Bytes.{Bytes, number}
 use Rattle.octets.proofs.Numbers.{number-take}
 use Rattle.octets.proofs.Tests.{and-true}
 use Rattle.image.specs.declared.table.Form.{Form}
-use Rattle.image.specs.declared.table.Form.the-variants.{Five}
+use Rattle.image.specs.declared.table.Form.the-variants.{Five, Six}
 use Rattle.image.specs.Table.{rowAt, formField, formNumber}
 use Rattle.image.specs.Items.{Item, constant, itemsOf, sizesOf, fieldItems, bytesIn}
 use Rattle.image.specs.Image.{constantsRight, isImage}
@@ -22,9 +22,11 @@ first-item : (form : Form)
     → itemsOf form ≡ constant (formField 0x01 form .width) (formField 0x01 form .head) ∷ drop 1 (itemsOf form)
 unfolding itemsOf fieldItems rowAt
 first-item Five = refl
+first-item Six = refl
 
 one-byte : (form : Form) → formNumber form < 256
 one-byte Five = omega arith
+one-byte Six = omega arith
 
 -- "The first field is the form's number": the byte behind its head of three
 pub form-number : (form : Form) (s : List ℕ) → Bytes s → isImage form s ≡ true → getD s 3 0 ≡ formNumber form

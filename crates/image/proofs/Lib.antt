@@ -1,4 +1,4 @@
--- The laws of the image: of its walk, of what the loops keep, of both round trips, and the theorems.
+-- The laws of the image: of its walk, of what the loops keep, of both round trips, of the stores extended, and the theorems.
 pub mod Bytes
 pub mod Walking
 pub mod Lengths
@@ -8,4 +8,5 @@ pub mod RoundTrip
 pub mod Calls
 pub mod Theorems
 pub mod FormNumber
-pub mod Form5
+pub mod Forms
+pub mod Extended

@@ -1,13 +1,16 @@
 -- Card 2: the image of a session's numbers and stores, and what the two calls answer and leave.
-use Prim.Native.Nat.{ℕ, _+_, _^_}
+use Prim.Native.Nat.{ℕ, zero, suc, _+_, _-_, _^_}
 use mathlib.Core.List.{List, [], _∷_, _++_}
 use mathlib.Core.Bool.{Bool, true, cond, _&&_}
-use lib.ListN.{length, getD, take, drop}
+use lib.ListN.{length, getD, take, drop, replicate}
 use lib.Dec.{ltb, leb, eqb}
 use Rattle.octets.specs.Bytes.{number, bytesOf, overwrite}
+use Rattle.message.specs.Limits.{fileBytes}
+use Rattle.bank_state.specs.Limits.{placeCount}
 use Rattle.image.specs.declared.table.Form.{Form}
 use Rattle.image.specs.declared.codec.Answer.{Answer}
 use Rattle.image.specs.declared.codec.Answer.the-variants.{Done, Lengths, Contents}
+use Rattle.image.specs.Table.{fileSize}
 use Rattle.image.specs.Items.{Item, constant, part, store, itemsOf, sizesOf}
 
 -- the bytes of constants, numbers and stores
@@ -116,6 +119,17 @@ numbersTaken form s xs =
     cond (eqb (length xs) (sizesOf form .numbers))
     (cond (isImage form s) (tookNumbers Done (numbersOf (itemsOf form) s)) (tookNumbers Contents xs))
     (tookNumbers Lengths xs)
+
+-- ---- the stores of an older form
+
+-- card 6, "each place and mailbox extended with zeros": n parts of a store, each of so many bytes
+unfoldable pub extendedParts : ℕ → ℕ → List ℕ → List ℕ
+extendedParts size zero s = []
+extendedParts size (suc n) s = (take size s ++ replicate (fileBytes - size) 0) ++ extendedParts size n (drop size s)
+
+-- a store of the form with its places or mailboxes so extended
+unfoldable pub extended : Form → List ℕ → List ℕ
+extended form s = extendedParts (fileSize form) placeCount s
 
 -- the lengths of stores
 unfoldable pub lengths : List (List ℕ) → List ℕ

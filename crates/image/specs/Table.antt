@@ -1,20 +1,31 @@
 -- Card 2, "written as tagged fields": the fields of an image by form, each with its records' parts or its store.
 use Prim.Native.Nat.{ℕ, _+_, _-_, _*_}
-use mathlib.Core.List.{List, [], _∷_}
+use mathlib.Core.List.{List, [], _∷_, _++_}
 use lib.ListN.{length, getD}
-use Rattle.bank_state.specs.Limits.{placeCount, nonceCount, storeBytes}
+use Rattle.message.specs.Limits.{segmentBytes, maxSegments}
+use Rattle.bank_state.specs.Limits.{placeCount, nonceCount}
 use Rattle.journal.specs.Events.{recordCount}
 use Rattle.image.specs.declared.table.Row.{Row}
 use Rattle.image.specs.declared.table.Form.{Form}
-use Rattle.image.specs.declared.table.Form.the-variants.{Five}
+use Rattle.image.specs.declared.table.Form.the-variants.{Five, Six}
 
 -- "the form's number: the number of the card that made the form"
 abbrev pub formNumber : Form → ℕ
 formNumber Five = 5
+formNumber Six = 6
+
+-- the most segments of an order: "form 5 with its own limits (15 segments, 3,840 bytes)"
+abbrev pub segmentLimit : Form → ℕ
+segmentLimit Five = 15
+segmentLimit Six = maxSegments
+
+-- the bytes of a place and of a mailbox: all segments of an order
+abbrev pub fileSize : Form → ℕ
+fileSize form = segmentBytes * segmentLimit form
 
 -- the size of both stores
 abbrev pub storeSize : Form → ℕ
-storeSize Five = storeBytes
+storeSize form = placeCount * fileSize form
 
 -- the length of a time
 abbrev pub timeBytes : ℕ
@@ -92,7 +103,7 @@ fieldsOf form =
 
 -- the fields of all forms, one form behind the other
 abbrev pub allRows : List Row
-allRows = fieldsOf Five
+allRows = fieldsOf Five ++ fieldsOf Six
 
 unfoldable pub rowAt : ℕ → Row
 rowAt i = getD allRows i noRow
@@ -100,6 +111,7 @@ rowAt i = getD allRows i noRow
 -- a form's fields stand from this row on
 abbrev pub firstRow : Form → ℕ
 firstRow Five = 0
+firstRow Six = length (fieldsOf Five)
 
 abbrev pub fieldCount : Form → ℕ
 fieldCount form = length (fieldsOf form)

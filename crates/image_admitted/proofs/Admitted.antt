@@ -18,7 +18,7 @@ use Rattle.bank_admitted.specs.Session.{SessionHolds}
 use Rattle.bank_admitted.proofs.Rows.{packed-rises}
 use Rattle.image_conditions.specs.Layout as image
 use Rattle.image_numbers.proofs.Laws.{length-numbersIn}
-use Rattle.image_calls.specs.Calls.{numbersOf, lengthsRight, isAdmitted}
+use Rattle.image_calls.specs.Calls.{written, numbersOf, lengthsRight, isAdmitted}
 use Rattle.image_admitted.specs.Unused.{Wiped}
 use Rattle.image_conditions.proofs.General.{and-both}
 use Rattle.image_admitted.proofs.Shown.{Shown}
@@ -71,7 +71,7 @@ module _ (m : LentSession) (right : lengthsRight m ≡ true) (o : SessionHolds (
       packed-rises (λ (e : Download). e .used) noDownload (λ (e : Download). e .transaction .low)
       (λ (e : Download). suc (e .transaction .low)) refl (λ e. omega arith) (o .state .inOrder) i k less (v .usedDownload k below)
 
-  list : Listed (numbersOf m) (m .orders) (m .mailboxes)
+  list : Listed written (numbersOf m) (m .orders) (m .mailboxes)
   list = record {
     clock = le-leb (image.clock (numbersOf m)) lastTime (omega (arith, v .clock, o .clock));
     openings = le-leb (image.openings (numbersOf m)) maxOpenings (omega (arith, v .openings, o .state .numbers));
@@ -99,7 +99,7 @@ module _ (m : LentSession) (right : lengthsRight m ≡ true) (o : SessionHolds (
   unfolding isAdmitted
   holds-admitted =
       and-both
-      (listing (numbersOf m) (m .orders) (m .mailboxes) (length-numbersIn (m .rows) (m .row) (long .row)) (long .orders)
+      (listing written (numbersOf m) (m .orders) (m .mailboxes) (length-numbersIn (m .rows) (m .row) (long .row)) (long .orders)
       (long .mailboxes) list)
       (numbers-fit w v o (nonce-all (m .rows) (m .row) (long .rows) (long .row) l z)
       (download-all (m .rows) (m .row) (long .rows) (long .row) l z))

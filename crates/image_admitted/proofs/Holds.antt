@@ -76,15 +76,15 @@ module _ (m : LentSession) (right : lengthsRight m ≡ true) (h : isAdmitted m �
   long : Long m
   long = lengths-told m right
 
-  list : Listed (numbersOf m) (m .orders) (m .mailboxes)
+  list : Listed written (numbersOf m) (m .orders) (m .mailboxes)
   unfolding isAdmitted
   list =
-      listed (numbersOf m) (m .orders) (m .mailboxes)
-      (and-true (admitted (numbersOf m) (m .orders) (m .mailboxes)) _ h .0)
+      listed written (numbersOf m) (m .orders) (m .mailboxes)
+      (and-true (admitted written (numbersOf m) (m .orders) (m .mailboxes)) _ h .0)
 
   fit : fits (itemsOf written) (numbersOf m) ≡ true
   unfolding isAdmitted
-  fit = and-true (admitted (numbersOf m) (m .orders) (m .mailboxes)) _ h .1
+  fit = and-true (admitted written (numbersOf m) (m .orders) (m .mailboxes)) _ h .1
 
   -- the rows are a bank's, wiped behind their counts
   pub admitted-laid : Laid (bankRows (m .rows))

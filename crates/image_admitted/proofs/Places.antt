@@ -23,6 +23,7 @@ use Rattle.image_conditions.specs.Layout as image
 use Rattle.image_conditions.specs.Conditions.{placeHolds, bytesBehind, placeBytes, placeTest, everyPlace}
 use Rattle.image_conditions.proofs.Shapes.{every-at, every-from}
 use Rattle.image_conditions.proofs.General.{and-both}
+use Rattle.image_calls.specs.Calls.{written}
 use Rattle.image_admitted.proofs.Shown.{placeParts, Shown}
 use Rattle.image_admitted.proofs.Series.{counter-of}
 use Rattle.image_admitted.proofs.Stores.{zeros-told, zeros-tested}
@@ -55,7 +56,7 @@ module _ (clock openings counter : ℕ) (p : Place) (bytes : List ℕ) where
       (p .length ≤ fileBytes) × (p .used ≡ u → Zeros (p .length) bytes → PlaceHolds u clock openings p bytes)
       × NotIdle u clock p × Ordered u counter p
 
-  told-free : placeHolds clock openings counter (placeParts Free p) ≡ true → Told Free
+  told-free : placeHolds written clock openings counter (placeParts Free p) ≡ true → Told Free
   told-free h =
       let a = and-true (eqb (p .subscriber) 0) _ (and-true _ true h .0) in
       let b = and-true (eqb (p .transaction .high) 0) _ (a .1) in
@@ -99,7 +100,7 @@ module _ (clock openings counter : ℕ) (p : Place) (bytes : List ℕ) where
       → UsedAs openings p bytes
   used-as first most counted zeros = record { counted = counted; known = first; most = most; zeros = zeros }
 
-  told-open : placeHolds clock openings counter (placeParts Open p) ≡ true → Told Open
+  told-open : placeHolds written clock openings counter (placeParts Open p) ≡ true → Told Open
   told-open h =
       let a = and-true (leb 1 (p .subscriber) && leb (p .subscriber) subscribers) _ h in
       let b = and-true (ltb (p .transaction .low) openings) _ (a .1) in
@@ -134,7 +135,7 @@ module _ (clock openings counter : ℕ) (p : Place) (bytes : List ℕ) where
         λ _. ltb-true _ _ (order .0),
       )
 
-  told-booked : placeHolds clock openings counter (placeParts Booked p) ≡ true → Told Booked
+  told-booked : placeHolds written clock openings counter (placeParts Booked p) ≡ true → Told Booked
   told-booked h =
       let a = and-true (leb 1 (p .subscriber) && leb (p .subscriber) subscribers) _ h in
       let b = and-true (ltb (p .transaction .low) openings) _ (a .1) in
@@ -166,7 +167,7 @@ module _ (clock openings counter : ℕ) (p : Place) (bytes : List ℕ) where
         λ _. ltb-true _ _ (order .0),
       )
 
-  told : (u : Use) → placeHolds clock openings counter (placeParts u p) ≡ true → Told u
+  told : (u : Use) → placeHolds written clock openings counter (placeParts u p) ≡ true → Told u
   told Free = told-free
   told Open = told-open
   told Booked = told-booked
@@ -174,12 +175,12 @@ module _ (clock openings counter : ℕ) (p : Place) (bytes : List ℕ) where
   -- ---- and what passes it
 
   abbrev Tested : Use → Type 0
-  Tested u = (placeHolds clock openings counter (placeParts u p) ≡ true) × (p .length ≤ fileBytes) × Zeros (p .length) bytes
+  Tested u = (placeHolds written clock openings counter (placeParts u p) ≡ true) × (p .length ≤ fileBytes) × Zeros (p .length) bytes
 
   tested-free : FreePlace p bytes → Tested Free
   tested-free f =
       let e = f .empty in
-      subst (λ (q : Place). (placeHolds clock openings counter (placeParts Free q) ≡ true) × (q .length ≤ fileBytes) × Zeros (q .length) bytes) (sym e)
+      subst (λ (q : Place). (placeHolds written clock openings counter (placeParts Free q) ≡ true) × (q .length ≤ fileBytes) × Zeros (q .length) bytes) (sym e)
       (refl, omega arith, f .zeros)
 
   tested-open : OpenPlace clock openings p bytes → NotIdle Open clock p → Ordered Open counter p → Tested Open
@@ -231,19 +232,19 @@ module _ (clock openings counter : ℕ) (p : Place) (bytes : List ℕ) where
 
 module _ {xs : List ℕ} {b : Bank} {j : Journal} {d n : ℕ} (v : Shown xs b j d n)
     (orders : List ℕ) (whole : length orders ≡ storeBytes) where
-  module _ (h : everyPlace xs orders ≡ true) (i : ℕ) (k : i < placeCount) where
+  module _ (h : everyPlace written xs orders ≡ true) (i : ℕ) (k : i < placeCount) where
     abbrev p : Place
     p = placeAt b i
 
     abbrev counter : ℕ
     counter = image.counterOf xs (p .subscriber)
 
-    place-tests : (placeHolds (b .clock) (b .openings) counter (placeParts (p .used) p) ≡ true)
-        × (allZero (bytesBehind orders i (p .length)) ≡ true)
+    place-tests : (placeHolds written (b .clock) (b .openings) counter (placeParts (p .used) p) ≡ true)
+        × (allZero (bytesBehind fileBytes orders i (p .length)) ≡ true)
     unfolding everyPlace placeTest placeBytes
     place-tests =
-        let t = rw (v .clock, v .openings, v .place i k) at (every-at (placeTest xs orders) placeCount i h k) in
-        and-true (placeHolds (b .clock) (b .openings) counter (placeParts (p .used) p)) _ t
+        let t = rw (v .clock, v .openings, v .place i k) at (every-at (placeTest written xs orders) placeCount i h k) in
+        and-true (placeHolds written (b .clock) (b .openings) counter (placeParts (p .used) p)) _ t
 
     all-told : Told (b .clock) (b .openings) counter p (partAt orders i) (p .used)
     all-told = told (b .clock) (b .openings) counter p (partAt orders i) (p .used) (place-tests .0)
@@ -265,10 +266,10 @@ module _ {xs : List ℕ} {b : Bank} {j : Journal} {d n : ℕ} (v : Shown xs b j 
       → ((i : ℕ) → i < placeCount → isOpen (placeAt b i .used) ≡ true → b .clock ≤ placeAt b i .last + idleLimit)
       → ((i : ℕ) → i < placeCount → isFree (placeAt b i .used) ≡ false
       → placeAt b i .number < seriesOf (placeAt b i .subscriber) (b .series))
-      → everyPlace xs orders ≡ true
+      → everyPlace written xs orders ≡ true
   unfolding everyPlace placeTest placeBytes
   every-place f idle counted =
-      every-from (placeTest xs orders) placeCount
+      every-from (placeTest written xs orders) placeCount
       (λ i k.
       let p = placeAt b i in
       let ordered : Ordered (p .used) (image.counterOf xs (p .subscriber)) p =

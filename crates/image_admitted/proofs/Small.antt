@@ -48,7 +48,7 @@ use Rattle.image_admitted.proofs.Fits.{
 use Rattle.image_admitted.proofs.Journal.{used-few}
 use Rattle.image_admitted.proofs.Shown.{nonceParts, downloadParts, placeParts, Shown}
 
--- a file of a mailbox has at most 15 segments
+-- a file of a mailbox has no more segments than an order
 file-short : (w : BankState) (s : ℕ) → segmentsOf (length (mailboxFile w s)) ≤ maxSegments
 unfolding mailboxFile fileOf partAt segmentsOf
 file-short w s = simp length-take (omega arith)

@@ -20,7 +20,7 @@ module _ (store : List ℕ) (whole : length store ≡ storeBytes) (i : ℕ) (ins
     abbrev part : List ℕ
     part = partAt store i
 
-    behind : bytesBehind store i n ≡ drop n part
+    behind : bytesBehind fileBytes store i n ≡ drop n part
     unfolding bytesBehind partAt
     behind =
         let l : List ℕ = drop (i * fileBytes) store in
@@ -30,13 +30,13 @@ module _ (store : List ℕ) (whole : length store ≡ storeBytes) (i : ℕ) (ins
         (ap (take (fileBytes - n)) (sym (drop-drop n (i * fileBytes) store)) ∙ sym (drop-take n (fileBytes - n) l (omega arith))
         ∙ ap (λ (k : ℕ). drop n (take k l)) e)
 
-    pub zeros-told : allZero (bytesBehind store i n) ≡ true → part ≡ take n part ++ replicate (fileBytes - n) 0
+    pub zeros-told : allZero (bytesBehind fileBytes store i n) ≡ true → part ≡ take n part ++ replicate (fileBytes - n) 0
     zeros-told h =
         let z = zeros-are (drop n part) (rw behind at h) in
         let long = length-drop n part ∙ ap (λ (k : ℕ). k - n) (length-part store whole i inside) in
         sym (take-append-drop n part) ∙ ap (λ (r : List ℕ). take n part ++ r) (z ∙ ap (λ (k : ℕ). replicate k 0) long)
 
-    pub zeros-tested : part ≡ take n part ++ replicate (fileBytes - n) 0 → allZero (bytesBehind store i n) ≡ true
+    pub zeros-tested : part ≡ take n part ++ replicate (fileBytes - n) 0 → allZero (bytesBehind fileBytes store i n) ≡ true
     zeros-tested e =
         let z : List ℕ = replicate (fileBytes - n) 0 in
         let long = length-take-le n part (omega (arith, length-part store whole i inside)) in

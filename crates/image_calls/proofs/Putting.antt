@@ -30,7 +30,7 @@ use Rattle.image_calls.specs.Calls.{
 use Rattle.image_calls.proofs.Tests.{listed-lent}
 
 module _ (m : LentSession) where
-  pub not-listed : list.admitted (numbersOf m) (m .orders) (m .mailboxes) ≡ false → isAdmitted m ≡ false
+  pub not-listed : list.admitted written (numbersOf m) (m .orders) (m .mailboxes) ≡ false → isAdmitted m ≡ false
   unfolding isAdmitted
   not-listed h = rw h
 
@@ -54,7 +54,7 @@ module _ (m : LentSession) (buffer : List ℕ) where
       unfolding putAway
       away-done h = rw (right, le-leb imageLength (length buffer) room, h)
 
-      module _ (listed : list.admitted (numbersOf m) (m .orders) (m .mailboxes) ≡ true) where
+      module _ (listed : list.admitted written (numbersOf m) (m .orders) (m .mailboxes) ≡ true) where
         by-fits : (t : Bool) → codec.fits (itemsOf written) (numbersOf m) ≡ t → isAdmitted m ≡ t
         unfolding isAdmitted
         by-fits t h = rw listed h
@@ -64,7 +64,7 @@ module _ (m : LentSession) (buffer : List ℕ) where
             ≡ cond t (codec.wrote Done (overwrite buffer 0 (imageIn m))) (codec.wrote Contents buffer)
         unfolding codec.written imageIn
         codec-written t h =
-            rw (listed-lent (numbersOf m) (m .orders) (m .mailboxes) listed, le-leb imageLength (length buffer) room, h)
+            rw (listed-lent written (numbersOf m) (m .orders) (m .mailboxes) listed, le-leb imageLength (length buffer) room, h)
 
         by-answer : (a : Answer) (d : List ℕ) (t : Bool) → codec.fits (itemsOf written) (numbersOf m) ≡ t
             → codec.wrote a d ≡ cond t (codec.wrote Done (overwrite buffer 0 (imageIn m))) (codec.wrote Contents buffer)
@@ -85,8 +85,8 @@ module _ (m : LentSession) (buffer : List ℕ) where
 -- the numbers are gathered from the row by value, which is the session's
 module _ (rows orders mailboxes : List ℕ) (row l : List Event) (xs : List ℕ) (gathered : xs ≡ numbersIn rows row)
     (same : row ≡ l) where
-  pub told-listed : (r : Bool) → r ≡ list.admitted xs orders mailboxes → (t : Bool) → r ≡ t
-      → list.admitted (numbersIn rows l) orders mailboxes ≡ t
+  pub told-listed : (r : Bool) → r ≡ list.admitted written xs orders mailboxes → (t : Bool) → r ≡ t
+      → list.admitted written (numbersIn rows l) orders mailboxes ≡ t
   told-listed r e t h = sym (e ∙ rw (gathered, same)) ∙ h
 
   pub told-written : (a : Answer) (d buffer : List ℕ) → codec.wrote a d ≡ codec.written written xs orders mailboxes buffer

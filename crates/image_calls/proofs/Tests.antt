@@ -13,6 +13,9 @@ use Rattle.journal.specs.declared.event.Event.{Event}
 use Rattle.journal.specs.Events.{recordCount}
 use Rattle.bank_state.specs.Limits.{storeBytes}
 use Rattle.bank_session.specs.Session.{LentSession, session, sessionSize}
+use Rattle.image.specs.declared.table.Form.{Form}
+use Rattle.image.specs.declared.table.Form.the-variants.{Five, Six}
+use Rattle.image.specs.Table.{storeSize}
 use Rattle.image.specs.Items.{sizesOf}
 use Rattle.image.specs.Image as codec
 use Rattle.image.proofs.Calls.{lent-all}
@@ -30,20 +33,22 @@ use Rattle.image_conditions.specs.Layout.{
 }
 use Rattle.image_conditions.specs.Conditions as list
 use Rattle.image_conditions.proofs.Shapes.{every-at}
-use Rattle.image_calls.specs.Calls.{written, imageLength, sizesRight, lengthsRight}
+use Rattle.image_calls.specs.Calls.{sizesRight, lengthsRight}
 
 -- ---- lengths
 
 -- an image is so short that its places are numbers of 64 bits
-pub image-short : imageLength < 2 ^ 32
-image-short = omega (arith, image.form-5 .0)
+pub image-short : (form : Form) → sizesOf form .image < 2 ^ 32
+image-short Five = omega (arith, image.form-5 .0)
+image-short Six = omega (arith, image.form-6 .0)
 
-numbers-size : sizesOf written .numbers ≡ numberCount
-numbers-size = image.form-5 .1
+pub numbers-size : (form : Form) → sizesOf form .numbers ≡ numberCount
+numbers-size Five = image.form-5 .1
+numbers-size Six = image.form-6 .1
 
-pub store-size : sizesOf written .store ≡ storeBytes
+store-size : (form : Form) → sizesOf form .store ≡ storeSize form
 unfolding sizesOf
-store-size = refl
+store-size form = refl
 
 module _ (rows records orders mailboxes : ℕ) (h : sizesRight rows records orders mailboxes ≡ true) where
   pub sizes-are : (rows ≡ sessionSize) × (records ≡ recordCount) × (orders ≡ storeBytes) × (mailboxes ≡ storeBytes)
@@ -79,24 +84,24 @@ right-lengths m a b c d =
 
 -- ---- the list
 
-module _ (xs orders mailboxes : List ℕ) (h : list.admitted xs orders mailboxes ≡ true) where
-  listed : (length xs ≡ numberCount) × (length orders ≡ storeBytes) × (length mailboxes ≡ storeBytes)
-      × (list.conditions xs orders mailboxes ≡ true)
+module _ (form : Form) (xs orders mailboxes : List ℕ) (h : list.admitted form xs orders mailboxes ≡ true) where
+  listed : (length xs ≡ numberCount) × (length orders ≡ storeSize form) × (length mailboxes ≡ storeSize form)
+      × (list.conditions form xs orders mailboxes ≡ true)
   unfolding list.admitted
   listed =
-      let c = list.conditions xs orders mailboxes in
-      let p = and-true (eqb (length xs) numberCount) (eqb (length orders) storeBytes && (eqb (length mailboxes) storeBytes && (c && true))) h in
-      let q = and-true (eqb (length orders) storeBytes) (eqb (length mailboxes) storeBytes && (c && true)) (p .1) in
-      let r = and-true (eqb (length mailboxes) storeBytes) (c && true) (q .1) in
+      let c = list.conditions form xs orders mailboxes in
+      let p = and-true (eqb (length xs) numberCount) _ h in
+      let q = and-true (eqb (length orders) (storeSize form)) _ (p .1) in
+      let r = and-true (eqb (length mailboxes) (storeSize form)) (c && true) (q .1) in
       (eqb-true _ _ (p .0), eqb-true _ _ (q .0), eqb-true _ _ (r .0), and-true c true (r .1) .0)
 
-  pub listed-sizes : (length xs ≡ numberCount) × (length orders ≡ storeBytes) × (length mailboxes ≡ storeBytes)
+  pub listed-sizes : (length xs ≡ numberCount) × (length orders ≡ storeSize form) × (length mailboxes ≡ storeSize form)
   listed-sizes = (listed .0, listed .1, listed .2)
 
-  pub listed-lent : codec.lent written xs orders mailboxes ≡ true
+  pub listed-lent : codec.lent form xs orders mailboxes ≡ true
   listed-lent =
-      lent-all written (sizesOf written) refl xs orders mailboxes (listed .0 ∙ sym numbers-size)
-      (listed .1 ∙ sym store-size) (listed .2 ∙ sym store-size)
+      lent-all form (sizesOf form) refl xs orders mailboxes (listed .0 ∙ sym (numbers-size form))
+      (listed .1 ∙ sym (store-size form)) (listed .2 ∙ sym (store-size form))
 
 -- ---- the kinds of events
 
@@ -149,11 +154,11 @@ module _ (xs : List ℕ) where
     kind-by i h false e =
         let k = unused-kind (usedEvents xs) i (ltb-false i (usedEvents xs) e) h (parts .1) in omega arith
 
-pub listed-kinds : (xs orders mailboxes : List ℕ) → list.admitted xs orders mailboxes ≡ true
+pub listed-kinds : (form : Form) (xs orders mailboxes : List ℕ) → list.admitted form xs orders mailboxes ≡ true
     → (i : ℕ) → i < recordCount → eventAt xs i .kind ≤ 4
 unfolding list.conditions
-listed-kinds xs orders mailboxes h i k =
+listed-kinds form xs orders mailboxes h i k =
     let journal = all-of (list.clockFits xs ∷ list.openingsFit xs ∷ list.seriesConditions xs ∷ list.nonceConditions xs
-    ∷ list.downloadConditions xs ∷ list.everyPlace xs orders ∷ list.openConditions xs
-    ∷ list.everyMailbox xs mailboxes ∷ list.journalConditions xs ∷ []) (listed xs orders mailboxes h .3) 8 in
+    ∷ list.downloadConditions xs ∷ list.everyPlace form xs orders ∷ list.openConditions xs
+    ∷ list.everyMailbox form xs mailboxes ∷ list.journalConditions xs ∷ []) (listed form xs orders mailboxes h .3) 8 in
     kind-by xs journal i k (ltb i (usedEvents xs)) refl

@@ -9,9 +9,10 @@ use Rattle.journal.specs.Events.{recordCount}
 use Rattle.bank_state.specs.Limits.{storeBytes}
 use Rattle.bank_session.specs.Session.{LentSession, session, sessionSize}
 use Rattle.image.specs.declared.table.Form.{Form}
-use Rattle.image.specs.declared.table.Form.the-variants.{Five}
+use Rattle.image.specs.declared.table.Form.the-variants.{Five, Six}
 use Rattle.image.specs.declared.codec.Answer.{Answer}
 use Rattle.image.specs.declared.codec.Answer.the-variants as codec-answer
+use Rattle.image.specs.Table.{formNumber}
 use Rattle.image.specs.Items.{itemsOf, sizesOf}
 use Rattle.image.specs.Image as codec
 use Rattle.image_conditions.specs.Conditions as list
@@ -23,7 +24,7 @@ use Rattle.image_calls.specs.declared.calls.TakenUp.the-variants as up
 
 -- the form that is written, and the length of its images
 abbrev pub written : Form
-written = Five
+written = Six
 
 abbrev pub imageLength : ℕ
 imageLength = sizesOf written .image
@@ -46,7 +47,7 @@ lengthsRight m = sizesRight (length (m .rows)) (length (m .row)) (length (m .ord
 -- the session is one of the list: its numbers hold the conditions and have their parts' lengths
 unfoldable pub isAdmitted : LentSession → Bool
 isAdmitted m =
-    list.admitted (numbersOf m) (m .orders) (m .mailboxes) && codec.fits (itemsOf written) (numbersOf m)
+    list.admitted written (numbersOf m) (m .orders) (m .mailboxes) && codec.fits (itemsOf written) (numbersOf m)
 
 -- ---- putting away
 
@@ -97,26 +98,37 @@ pub record TakeUp : Type 0 where
 abbrev pub takeUpOf : TakenUp → LentSession → TakeUp
 takeUpOf r m = record { session = m; answer = r; number = takenUpNumber r }
 
--- the numbers and the stores in an image
+-- card 6, "forms 5 and 6 are taken up": "01 is a form that is taken up (and its table is the one used)"; bytes with
+-- another number are an image of neither
+unfoldable pub formOf : List ℕ → Form
+formOf image = cond (eqb (getD image 3 0) (formNumber Five)) Five Six
+
+-- the numbers and the stores in an image, by the table of its form
 unfoldable pub numbersFrom : List ℕ → List ℕ
-numbersFrom image = codec.numbersOf (itemsOf written) image
+numbersFrom image = codec.numbersOf (itemsOf (formOf image)) image
 
 unfoldable pub storeFrom : ℕ → List ℕ → List ℕ
-storeFrom n image = getD (codec.storesOf (itemsOf written) image) n []
+storeFrom n image = getD (codec.storesOf (itemsOf (formOf image)) image) n []
 
--- the bytes are an image of the form, and hold the conditions
+-- the bytes are an image of the form, and hold the conditions with the form's own limits
 unfoldable pub isAdmittedImage : List ℕ → Bool
 isAdmittedImage image =
-    codec.isImage written image && list.admitted (numbersFrom image) (storeFrom 0 image) (storeFrom 1 image)
+    codec.isImage (formOf image) image
+    && list.admitted (formOf image) (numbersFrom image) (storeFrom 0 image) (storeFrom 1 image)
+
+-- the store that the session gets: "each place and mailbox extended with zeros"
+unfoldable pub storeTaken : ℕ → List ℕ → List ℕ
+storeTaken n image = codec.extended (formOf image) (storeFrom n image)
 
 -- the session in an image
 unfoldable pub sessionFrom : List ℕ → LentSession
 sessionFrom image =
-    session (rowsFrom (numbersFrom image)) (rowFrom (numbersFrom image)) (storeFrom 0 image) (storeFrom 1 image)
+    session (rowsFrom (numbersFrom image)) (rowFrom (numbersFrom image)) (storeTaken 0 image) (storeTaken 1 image)
 
 -- "Number 1: a store or the row has another length. Then number 9: the image breaks a condition. Else state, stores and
 -- row become those of the image, whatever stood there; no clock moves, nothing is dropped or forgotten, no event is
--- entered"
+-- entered"; "an image of form 5 is judged by form 5's limits (15 segments, 3,840) and each place and mailbox gets 4,096
+-- zeros behind it"
 unfoldable pub takeUp : LentSession → List ℕ → TakeUp
 takeUp m image =
     cond (lengthsRight m)

@@ -5,8 +5,8 @@ use bank_session::layout::SESSION_SIZE;
 use bank_state::limits::STORE_BYTES;
 use image::codec::Answer;
 use image::codec::read_numbers;
-use image::codec::take_stores;
 use image::codec::write;
+use image::stores::take_extended;
 use image::table::Form;
 use image::table::sizes_of;
 use image_conditions::conditions::admitted;
@@ -25,13 +25,19 @@ ghost use Rattle.journal.specs.declared.event.Event.{Event};
 ghost use Rattle.journal.specs.Events.{recordCount};
 ghost use Rattle.journal.specs.Row.{replaced};
 ghost use Rattle.bank_session.specs.Session.{session};
+ghost use Rattle.image.specs.Items.{sizesOf};
 ghost use Rattle.image_conditions.specs.Layout.{numberCount};
 ghost use Rattle.image_conditions.specs.Conditions as list;
-ghost use Rattle.image_calls.specs.Calls.{imageLength, sizesRight, awayOf, putAwayOf, putAway, takeUpOf, takeUp};
-ghost use Rattle.image_calls.specs.Calls.{numbersFrom, storeFrom, isAdmittedImage};
+ghost use Rattle.image_calls.specs.Calls.{sizesRight, awayOf, putAwayOf, putAway, takeUpOf, takeUp};
+ghost use Rattle.image_calls.specs.Calls.{formOf, numbersFrom, storeFrom, isAdmittedImage};
+
+// Where the form's number stands in an image, and the number of form 5.
+const NUMBER_AT: usize = 3;
+
+const NUMBER_5: u8 = 5;
 
 // The form that is written.
-const WRITTEN: Form = Form::Five;
+const WRITTEN: Form = Form::Six;
 
 // What taking up comes to, but for the row: its answer, whether another row is taken, and that row.
 pub struct TakeUpCore {
@@ -91,7 +97,7 @@ pub fn put_away_core(
     }
     let mut numbers = [0u64; NUMBER_COUNT];
     gather(rows, row, &mut numbers);
-    if !admitted(&numbers, orders, mailboxes) {
+    if !admitted(WRITTEN, &numbers, orders, mailboxes) {
         return Away::NotAdmitted;
     }
     away_of(write(WRITTEN, &numbers, orders, mailboxes, buffer))
@@ -99,18 +105,32 @@ pub fn put_away_core(
 
 // ---- taking up
 
-// Whether the numbers of an image and the stores in it hold the conditions.
-fn holds_list(image: &[u8], numbers: &[u64]) -> bool
-    requires { ⌜ length (now image) ≡ imageLength ⌝ }
-    ensures { λ r. ⌜ r ≡ list.admitted (now (numbers .entry))
+// The form of an image, by its number; bytes with the number of no form taken up are no image of this one.
+fn form_of(image: &[u8]) -> Form
+    ensures { λ r. ⌜ r ≡ formOf (now (image .entry)) ⌝ }
+{
+    if image.len() <= NUMBER_AT {
+        return Form::Six;
+    }
+    if image[NUMBER_AT] == NUMBER_5 {
+        return Form::Five;
+    }
+    Form::Six
+}
+
+// Whether the numbers of an image and the stores in it hold the conditions of its form.
+fn holds_list(form: Form, image: &[u8], numbers: &[u64]) -> bool
+    requires { ⌜ (form ≡ formOf (now image)) × (length (now image) ≡ sizesOf form .image) ⌝ }
+    ensures { λ r. ⌜ r ≡ list.admitted form (now (numbers .entry))
         (storeFrom 0 (now (image .entry))) (storeFrom 1 (now (image .entry))) ⌝ }
 {
-    let f = sizes_of(WRITTEN);
+    let f = sizes_of(form);
     let orders = f.orders;
     let orders_end = orders + f.store;
     let mailboxes = f.mailboxes;
     let mailboxes_end = mailboxes + f.store;
     admitted(
+        form,
         numbers,
         &image[orders..orders_end],
         &image[mailboxes..mailboxes_end],
@@ -118,14 +138,14 @@ fn holds_list(image: &[u8], numbers: &[u64]) -> bool
 }
 
 // Whether the bytes are an admitted image; then its numbers are read.
-fn read_admitted(image: &[u8], numbers: &mut [u64]) -> bool
-    requires { ⌜ length (now numbers) ≡ numberCount ⌝ }
+fn read_admitted(form: Form, image: &[u8], numbers: &mut [u64]) -> bool
+    requires { ⌜ (form ≡ formOf (now image)) × (length (now numbers) ≡ numberCount) ⌝ }
     ensures { λ r. ⌜ (r ≡ isAdmittedImage (now (image .entry)))
         × (r ≡ true → now (numbers .exit) ≡ numbersFrom (now (image .entry))) ⌝ }
 {
-    let answer = read_numbers(WRITTEN, image, numbers);
+    let answer = read_numbers(form, image, numbers);
     match answer {
-        Answer::Done => holds_list(image, numbers),
+        Answer::Done => holds_list(form, image, numbers),
         Answer::Lengths => false,
         Answer::Contents => false,
     }
@@ -170,11 +190,12 @@ pub fn take_up_core(
         return refused(TakenUp::WrongLength);
     }
     let mut numbers = [0u64; NUMBER_COUNT];
-    if !read_admitted(image, &mut numbers) {
+    let form = form_of(image);
+    if !read_admitted(form, image, &mut numbers) {
         return refused(TakenUp::NotAdmitted);
     }
     scatter(&numbers, rows);
-    take_stores(WRITTEN, image, orders, mailboxes);
+    take_extended(form, image, orders, mailboxes);
     let row = row_from(&numbers);
     TakeUpCore {
         answer: TakenUp::Done,

@@ -9,17 +9,14 @@ use lib.ListN.{getD, take, drop}
 use lib.Seq.{getD-take, getD-drop}
 use borrow.Author.Tests.{leb-true, le-leb, ltb-true, lt-ltb, eq-eqb}
 use Rattle.octets.proofs.Tests.{never, and-true}
-use Rattle.message.specs.Limits.{fileBytes}
 use Rattle.bank_state.specs.Limits.{placeCount, window}
+use Rattle.image.specs.declared.table.Form.{Form}
+use Rattle.image.specs.declared.table.Form.the-variants.{Five}
+use Rattle.image.specs.Table.{fileSize}
 use Rattle.image_conditions.specs.Shapes.{upTo, count, total, allZero}
 use Rattle.image_conditions.specs.Layout.{clock, openings, events, nonceAt, placeAt, counterAt, counterOf, fileAt}
 use Rattle.image_conditions.specs.Conditions.{
   seriesSum,
-  placeState,
-  placeFree,
-  placeSubscriber,
-  placeNumber,
-  placeOrder,
   placeHolds,
   sameOrder,
   ordersDistinct,
@@ -30,8 +27,16 @@ use Rattle.image_conditions.specs.Conditions.{
   placeBytes,
   mailboxBytes,
   eventsFit,
+  openState,
+  bookedState,
+  mailboxTest,
+  everyPlace,
+  everyMailbox,
+  admitted,
 }
+use Rattle.image_conditions.proofs.Shapes.{every-at}
 use Rattle.image_conditions.proofs.General.{implied, zeros-at, distinct-at}
+use Rattle.image_conditions.proofs.Listed.{listed, PlaceListed, place-listed}
 
 -- "each timestamp .. at most clock + window"
 pub nonce-ahead : (xs : List ℕ) (i : ℕ) → nonceTest xs i ≡ true → nonceAt xs i .timestamp ≤ clock xs + window
@@ -47,19 +52,15 @@ unfolding seriesSum
 series-bounded xs e = leb-true (total (counterAt xs) placeCount) (openings xs) e
 
 -- "state 1 or 2: the order number is below" its subscriber's count in 04
-pub order-counted : (xs orders : List ℕ) (i : ℕ) → placeTest xs orders i ≡ true → 0 < placeAt xs i .state →
-    placeAt xs i .order < counterOf xs (placeAt xs i .subscriber)
+pub order-counted : (form : Form) (xs orders : List ℕ) (i : ℕ) → placeTest form xs orders i ≡ true →
+    0 < placeAt xs i .state → placeAt xs i .order < counterOf xs (placeAt xs i .subscriber)
 unfolding placeTest
-order-counted xs orders i e used =
+order-counted form xs orders i e used =
     let p = placeAt xs i in
     let counter = counterOf xs (p .subscriber) in
-    let h = and-true (placeHolds (clock xs) (openings xs) counter p) _ e .0 in
-    let a = and-true (placeState p) _ h in
-    let b = and-true (placeFree p) _ (a .1) in
-    let c = and-true (placeSubscriber p) _ (b .1) in
-    let d = and-true (placeNumber (openings xs) p) _ (c .1) in
-    let t = and-true (placeOrder counter p) _ (d .1) .0 in
-    ltb-true (p .order) counter (implied t (lt-ltb 0 (p .state) used))
+    let h = and-true (placeHolds form (clock xs) (openings xs) counter p) _ e .0 in
+    let l = place-listed form (clock xs) (openings xs) counter p h in
+    ltb-true (p .order) counter (implied (l .order) (lt-ltb 0 (p .state) used))
 
 -- "no two places in use have the same subscriber and order number"
 pub orders-apart : (xs : List ℕ) → ordersDistinct xs ≡ true → (i j : ℕ) → i < placeCount → j < i →
@@ -78,32 +79,62 @@ orders-apart xs e i j below less p q s o =
     ))
 
 -- the bytes of a part of a store behind its length
-byte-behind : (store : List ℕ) (i n k : ℕ) → allZero (bytesBehind store i n) ≡ true → n ≤ k → k < fileBytes →
-    getD store (i * fileBytes + k) 0 ≡ 0
+pub byte-behind : (size : ℕ) (store : List ℕ) (i n k : ℕ) → allZero (bytesBehind size store i n) ≡ true → n ≤ k →
+    k < size → getD store (i * size + k) 0 ≡ 0
 unfolding bytesBehind
-byte-behind store i n k e l h =
-    let few : upTo fileBytes n ≡ n = rw (le-leb n fileBytes (omega arith)) in
-    let z : allZero (take (fileBytes - n) (drop (i * fileBytes + n) store)) ≡ true = rw few at e in
-    let at : i * fileBytes + n + (k - n) ≡ i * fileBytes + k = omega arith in
+byte-behind size store i n k e l h =
+    let few : upTo size n ≡ n = rw (le-leb n size (omega arith)) in
+    let z : allZero (take (size - n) (drop (i * size + n) store)) ≡ true = rw few at e in
+    let at : i * size + n + (k - n) ≡ i * size + k = omega arith in
     ap (λ (p : ℕ). getD store p 0) (sym at)
-    ∙ (sym (getD-drop (i * fileBytes + n) store (k - n) 0)
-    ∙ (sym (getD-take (fileBytes - n) (drop (i * fileBytes + n) store) (k - n) 0 (omega arith))
-    ∙ zeros-at (take (fileBytes - n) (drop (i * fileBytes + n) store)) z (k - n)))
+    ∙ (sym (getD-drop (i * size + n) store (k - n) 0)
+    ∙ (sym (getD-take (size - n) (drop (i * size + n) store) (k - n) 0 (omega arith))
+    ∙ zeros-at (take (size - n) (drop (i * size + n) store)) z (k - n)))
 
 -- "the bytes of each place behind its length are 0"
-pub place-behind : (xs orders : List ℕ) (i k : ℕ) → placeBytes xs orders i ≡ true → placeAt xs i .length ≤ k →
-    k < fileBytes → getD orders (i * fileBytes + k) 0 ≡ 0
+pub place-behind : (form : Form) (xs orders : List ℕ) (i k : ℕ) → placeBytes form xs orders i ≡ true →
+    placeAt xs i .length ≤ k → k < fileSize form → getD orders (i * fileSize form + k) 0 ≡ 0
 unfolding placeBytes
-place-behind xs orders i k e = byte-behind orders i (placeAt xs i .length) k e
+place-behind form xs orders i k e = byte-behind (fileSize form) orders i (placeAt xs i .length) k e
 
 -- "the bytes of each mailbox behind its length are 0"
-pub mailbox-behind : (xs mailboxes : List ℕ) (i k : ℕ) → mailboxBytes xs mailboxes i ≡ true → fileAt xs i ≤ k →
-    k < fileBytes → getD mailboxes (i * fileBytes + k) 0 ≡ 0
+pub mailbox-behind : (form : Form) (xs mailboxes : List ℕ) (i k : ℕ) → mailboxBytes form xs mailboxes i ≡ true →
+    fileAt xs i ≤ k → k < fileSize form → getD mailboxes (i * fileSize form + k) 0 ≡ 0
 unfolding mailboxBytes
-mailbox-behind xs mailboxes i k e = byte-behind mailboxes i (fileAt xs i) k e
+mailbox-behind form xs mailboxes i k e = byte-behind (fileSize form) mailboxes i (fileAt xs i) k e
 
 -- "05 plus the number of open uploads is at most 2 × openings"
 pub events-bounded : (xs : List ℕ) → eventsFit xs ≡ true →
     events xs + count (isOpenSlot xs) placeCount ≤ 2 * openings xs
 unfolding eventsFit
 events-bounded xs e = leb-true (events xs + count (isOpenSlot xs) placeCount) (2 * openings xs) e
+
+-- "form 5 with its own limits (15 segments, 3,840 bytes; more is number 9)"
+module _ (xs orders mailboxes : List ℕ) (h : admitted Five xs orders mailboxes ≡ true) (i : ℕ)
+    (k : i < placeCount) where
+  place-in-5 : PlaceListed Five (clock xs) (openings xs) (counterOf xs (placeAt xs i .subscriber)) (placeAt xs i)
+  unfolding everyPlace placeTest
+  place-in-5 =
+      let p = placeAt xs i in
+      let counter = counterOf xs (p .subscriber) in
+      let t = every-at (placeTest Five xs orders) placeCount i (listed Five xs orders mailboxes h .places) k in
+      place-listed Five (clock xs) (openings xs) counter p
+      (and-true (placeHolds Five (clock xs) (openings xs) counter p) _ t .0)
+
+  pub form-5-segments : placeAt xs i .state ≡ openState → placeAt xs i .segments ≤ 15
+  form-5-segments e =
+      let n = placeAt xs i .segments in
+      let t = implied (place-in-5 .segments) (eq-eqb (placeAt xs i .state) openState e) in
+      leb-true n 15 (and-true (leb 1 n) _ t .1)
+
+  pub form-5-booked : placeAt xs i .state ≡ bookedState → placeAt xs i .length ≤ 3840
+  form-5-booked e =
+      let n = placeAt xs i .length in
+      let t = implied (place-in-5 .booked) (eq-eqb (placeAt xs i .state) bookedState e) in
+      leb-true n 3840 (and-true (leb 1 n) _ t .1)
+
+  pub form-5-mailbox : fileAt xs i ≤ 3840
+  unfolding everyMailbox mailboxTest
+  form-5-mailbox =
+      let t = every-at (mailboxTest Five xs mailboxes) placeCount i (listed Five xs orders mailboxes h .files) k in
+      leb-true (fileAt xs i) 3840 (and-true (leb (fileAt xs i) 3840) _ t .0)

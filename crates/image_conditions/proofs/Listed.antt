@@ -1,17 +1,32 @@
--- The list of conditions taken apart, and put together. Assumes nothing.
+-- The list of conditions taken apart, and put together; the tests of a place taken apart. Assumes nothing.
 use Prim.Native.Nat.{ℕ}
 use mathlib.Core.Bool.{true}
 use mathlib.Core.List.{List}
 use mathlib.Core.Path.{_≡_}
 use lib.Dec.{eqb}
 use lib.ListN.{length}
-use borrow.Author.Tests.{eq-eqb}
+use borrow.Author.Tests.{eqb-true, eq-eqb}
 use Rattle.octets.proofs.Tests.{and-true}
-use Rattle.bank_state.specs.Limits.{storeBytes}
+use Rattle.image.specs.declared.table.Form.{Form}
+use Rattle.image.specs.Table.{storeSize}
+use Rattle.image_conditions.specs.declared.layout.PlaceRecord.{PlaceRecord}
 use Rattle.image_conditions.specs.Layout.{numberCount}
 use Rattle.image_conditions.specs.Conditions.{
   clockFits,
   openingsFit,
+  placeState,
+  placeFree,
+  placeSubscriber,
+  placeNumber,
+  placeOrder,
+  uploadSegments,
+  uploadTaken,
+  uploadAttempts,
+  uploadTime,
+  uploadLength,
+  bookedLength,
+  bookedRest,
+  placeHolds,
   seriesSum,
   nonceCountFits,
   downloadCountFits,
@@ -39,7 +54,7 @@ use Rattle.image_conditions.specs.Conditions.{
   admitted,
 }
 
-pub record Listed (xs orders mailboxes : List ℕ) : Type 0 where
+pub record Listed (form : Form) (xs orders mailboxes : List ℕ) : Type 0 where
   pub clock : clockFits xs ≡ true
   pub openings : openingsFit xs ≡ true
   pub series : everySeries xs ≡ true
@@ -51,32 +66,41 @@ pub record Listed (xs orders mailboxes : List ℕ) : Type 0 where
   pub downloadCount : downloadCountFits xs ≡ true
   pub downloads : everyDownload xs ≡ true
   pub downloadsOver : downloadsUnused xs ≡ true
-  pub places : everyPlace xs orders ≡ true
+  pub places : everyPlace form xs orders ≡ true
   pub ordersApart : ordersDistinct xs ≡ true
   pub numbers : numbersDistinct xs ≡ true
   pub openAll : openInAll xs ≡ true
   pub openOf : everySubscriber xs ≡ true
-  pub files : everyMailbox xs mailboxes ≡ true
+  pub files : everyMailbox form xs mailboxes ≡ true
   pub events : eventsFit xs ≡ true
   pub journal : everyEvent xs ≡ true
   pub journalOver : journalUnused xs ≡ true
 
-module _ (xs orders mailboxes : List ℕ) where
-  pub listed : admitted xs orders mailboxes ≡ true → Listed xs orders mailboxes
+module _ (form : Form) (xs orders mailboxes : List ℕ) where
+  pub lengths : admitted form xs orders mailboxes ≡ true
+      → (length xs ≡ numberCount) × (length orders ≡ storeSize form) × (length mailboxes ≡ storeSize form)
+  unfolding admitted
+  lengths h =
+      let a = and-true (eqb (length xs) numberCount) _ h in
+      let b = and-true (eqb (length orders) (storeSize form)) _ (a .1) in
+      let c = and-true (eqb (length mailboxes) (storeSize form)) _ (b .1) in
+      (eqb-true _ _ (a .0), eqb-true _ _ (b .0), eqb-true _ _ (c .0))
+
+  pub listed : admitted form xs orders mailboxes ≡ true → Listed form xs orders mailboxes
   unfolding admitted conditions seriesConditions nonceConditions downloadConditions openConditions journalConditions
   listed h =
       let a = and-true (eqb (length xs) numberCount) _ h in
-      let b = and-true (eqb (length orders) storeBytes) _ (a .1) in
-      let c = and-true (eqb (length mailboxes) storeBytes) _ (b .1) in
-      let l = and-true (conditions xs orders mailboxes) true (c .1) .0 in
+      let b = and-true (eqb (length orders) (storeSize form)) _ (a .1) in
+      let c = and-true (eqb (length mailboxes) (storeSize form)) _ (b .1) in
+      let l = and-true (conditions form xs orders mailboxes) true (c .1) .0 in
       let clock = and-true (clockFits xs) _ l in
       let openings = and-true (openingsFit xs) _ (clock .1) in
       let series = and-true (seriesConditions xs) _ (openings .1) in
       let nonces = and-true (nonceConditions xs) _ (series .1) in
       let downloads = and-true (downloadConditions xs) _ (nonces .1) in
-      let places = and-true (everyPlace xs orders) _ (downloads .1) in
+      let places = and-true (everyPlace form xs orders) _ (downloads .1) in
       let opens = and-true (openConditions xs) _ (places .1) in
-      let files = and-true (everyMailbox xs mailboxes) _ (opens .1) in
+      let files = and-true (everyMailbox form xs mailboxes) _ (opens .1) in
       let journal = and-true (journalConditions xs) true (files .1) in
       let counter = and-true (everySeries xs) _ (series .0) in
       let sum = and-true (seriesSum xs) true (counter .1) in
@@ -117,14 +141,14 @@ module _ (xs orders mailboxes : List ℕ) where
         journalOver = none .0;
       }
 
-  pub listing : length xs ≡ numberCount → length orders ≡ storeBytes → length mailboxes ≡ storeBytes
-      → Listed xs orders mailboxes → admitted xs orders mailboxes ≡ true
+  pub listing : length xs ≡ numberCount → length orders ≡ storeSize form → length mailboxes ≡ storeSize form
+      → Listed form xs orders mailboxes → admitted form xs orders mailboxes ≡ true
   unfolding admitted conditions seriesConditions nonceConditions downloadConditions openConditions journalConditions
   listing n o f l =
       rw (
         eq-eqb (length xs) numberCount n,
-        eq-eqb (length orders) storeBytes o,
-        eq-eqb (length mailboxes) storeBytes f,
+        eq-eqb (length orders) (storeSize form) o,
+        eq-eqb (length mailboxes) (storeSize form) f,
         l .clock,
         l .openings,
         l .series,
@@ -146,3 +170,47 @@ module _ (xs orders mailboxes : List ℕ) where
         l .journal,
         l .journalOver,
       )
+
+pub record PlaceListed (form : Form) (now opened counter : ℕ) (p : PlaceRecord) : Type 0 where
+  pub state : placeState p ≡ true
+  pub free : placeFree p ≡ true
+  pub subscriber : placeSubscriber p ≡ true
+  pub number : placeNumber opened p ≡ true
+  pub order : placeOrder counter p ≡ true
+  pub segments : uploadSegments form p ≡ true
+  pub taken : uploadTaken p ≡ true
+  pub attempts : uploadAttempts p ≡ true
+  pub time : uploadTime now p ≡ true
+  pub length : uploadLength p ≡ true
+  pub booked : bookedLength form p ≡ true
+  pub rest : bookedRest p ≡ true
+
+module _ (form : Form) (now opened counter : ℕ) (p : PlaceRecord) where
+  pub place-listed : placeHolds form now opened counter p ≡ true → PlaceListed form now opened counter p
+  place-listed h =
+      let state = and-true (placeState p) _ h in
+      let free = and-true (placeFree p) _ (state .1) in
+      let subscriber = and-true (placeSubscriber p) _ (free .1) in
+      let number = and-true (placeNumber opened p) _ (subscriber .1) in
+      let order = and-true (placeOrder counter p) _ (number .1) in
+      let segments = and-true (uploadSegments form p) _ (order .1) in
+      let taken = and-true (uploadTaken p) _ (segments .1) in
+      let attempts = and-true (uploadAttempts p) _ (taken .1) in
+      let time = and-true (uploadTime now p) _ (attempts .1) in
+      let length = and-true (uploadLength p) _ (time .1) in
+      let booked = and-true (bookedLength form p) _ (length .1) in
+      let rest = and-true (bookedRest p) true (booked .1) in
+      record {
+        state = state .0;
+        free = free .0;
+        subscriber = subscriber .0;
+        number = number .0;
+        order = order .0;
+        segments = segments .0;
+        taken = taken .0;
+        attempts = attempts .0;
+        time = time .0;
+        length = length .0;
+        booked = booked .0;
+        rest = rest .0;
+      }

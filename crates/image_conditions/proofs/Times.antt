@@ -9,13 +9,14 @@ use borrow.Author.Tests.{leb-true, eqb-true, eqb-false, eq-eqb}
 use Rattle.octets.proofs.Tests.{and-true}
 use Rattle.frame_table.specs.Table.{lastTime}
 use Rattle.bank_state.specs.Limits.{placeCount, window}
+use Rattle.image.specs.declared.table.Form.{Form}
 use Rattle.image_conditions.specs.declared.layout.PlaceRecord.{PlaceRecord}
 use Rattle.image_conditions.specs.declared.layout.DownloadRecord.{DownloadRecord}
 use Rattle.image_conditions.specs.Layout as image
 use Rattle.image_conditions.specs.Conditions as list
 use Rattle.image_conditions.proofs.Shapes.{every-at}
 use Rattle.image_conditions.proofs.General.{implied}
-use Rattle.image_conditions.proofs.Listed.{listed}
+use Rattle.image_conditions.proofs.Listed.{listed, PlaceListed, place-listed}
 
 -- ---- one record's time
 
@@ -38,26 +39,10 @@ download-time now opened file d h =
     let c = and-true (list.downloadAttempts d) _ (b .1) in
     fit-time now (d .last) (and-true (list.downloadTime now d) _ (c .1) .0)
 
-module _ (now opened counter : ℕ) (p : PlaceRecord) (h : list.placeHolds now opened counter p ≡ true) where
-  -- the tests that say something of the last fitting request
-  place-tests : (p .state ≤ list.bookedState) × (list.placeFree p ≡ true) × (list.uploadTime now p ≡ true) × (list.bookedRest p ≡ true)
-  place-tests =
-      let a = and-true (list.placeState p) _ h in
-      let b = and-true (list.placeFree p) _ (a .1) in
-      let c = and-true (list.placeSubscriber p) _ (b .1) in
-      let d = and-true (list.placeNumber opened p) _ (c .1) in
-      let order = and-true (list.placeOrder counter p) _ (d .1) in
-      let e = and-true (list.uploadSegments p) _ (order .1) in
-      let f = and-true (list.uploadTaken p) _ (e .1) in
-      let g = and-true (list.uploadAttempts p) _ (f .1) in
-      let time = and-true (list.uploadTime now p) _ (g .1) in
-      let k = and-true (list.uploadLength p) _ (time .1) in
-      let l = and-true (list.bookedLength p) _ (k .1) in
-      (leb-true (p .state) list.bookedState (a .0), b .0, time .0, and-true (list.bookedRest p) true (l .1) .0)
-
+module _ (form : Form) (now opened counter : ℕ) (p : PlaceRecord) (l : PlaceListed form now opened counter p) where
   free-last : p .state ≡ 0 → p .last ≡ 0
   free-last e =
-      let a = and-true (eqb (p .subscriber) 0) _ (implied (place-tests .1) (eq-eqb (p .state) 0 e)) in
+      let a = and-true (eqb (p .subscriber) 0) _ (implied (l .free) (eq-eqb (p .state) 0 e)) in
       let b = and-true (eqb (p .high) 0) _ (a .1) in
       let c = and-true (eqb (p .low) 0) _ (b .1) in
       let order = and-true (eqb (p .order) 0) _ (c .1) in
@@ -68,19 +53,19 @@ module _ (now opened counter : ℕ) (p : PlaceRecord) (h : list.placeHolds now o
 
   booked-last : list.isBooked p ≡ true → p .last ≡ 0
   booked-last e =
-      let a = and-true (eqb (p .segments) 0) _ (implied (place-tests .3) e) in
+      let a = and-true (eqb (p .segments) 0) _ (implied (l .rest) e) in
       let b = and-true (eqb (p .taken) 0) _ (a .1) in
       let c = and-true (eqb (p .attempts) 0) _ (b .1) in
       eqb-true (p .last) 0 (and-true (eqb (p .last) 0) true (c .1) .0)
 
   -- free, open or booked
   last-by : (t u : Bool) → list.isOpen p ≡ t → list.isBooked p ≡ u → p .last ≤ now
-  last-by true u e f = fit-time now (p .last) (implied (place-tests .2) e)
+  last-by true u e f = fit-time now (p .last) (implied (l .time) e)
   last-by false true e f = omega (arith, booked-last f)
   last-by false false e f =
       let a = eqb-false (p .state) list.openState e in
       let b = eqb-false (p .state) list.bookedState f in
-      let z : p .state ≡ 0 = omega (arith, place-tests .0) in
+      let z : p .state ≡ 0 = omega (arith, leb-true (p .state) list.bookedState (l .state)) in
       omega (arith, free-last z)
 
   place-time : p .last ≤ now
@@ -104,10 +89,11 @@ pub record InTime (xs : List ℕ) : Type 0 where
   pub places : (i : ℕ) → i < placeCount → image.placeAt xs i .last ≤ lastTime
   pub events : (i : ℕ) → i < image.usedEvents xs → image.eventAt xs i .clock ≤ lastTime
 
-pub times-bounded : (xs orders mailboxes : List ℕ) → list.admitted xs orders mailboxes ≡ true → InTime xs
+pub times-bounded : (form : Form) (xs orders mailboxes : List ℕ) → list.admitted form xs orders mailboxes ≡ true
+    → InTime xs
 unfolding list.everyNonce list.everyDownload list.everyPlace list.everyEvent list.downloadTest list.placeTest
-times-bounded xs orders mailboxes h =
-    let l = listed xs orders mailboxes h in
+times-bounded form xs orders mailboxes h =
+    let l = listed form xs orders mailboxes h in
     let now = image.clock xs in
     let opened = image.openings xs in
     let bounded : now ≤ lastTime = leb-true now lastTime (l .clock) in
@@ -121,9 +107,10 @@ times-bounded xs orders mailboxes h =
           let n = download-time now opened file d (and-true (list.downloadHolds now opened file d) _ t .0) in omega arith;
       places = λ i k.
           let p = image.placeAt xs i in
-          let t = every-at (list.placeTest xs orders) placeCount i (l .places) k in
+          let t = every-at (list.placeTest form xs orders) placeCount i (l .places) k in
           let counter = image.counterOf xs (p .subscriber) in
-          let n = place-time now opened counter p (and-true (list.placeHolds now opened counter p) _ t .0) in omega arith;
+          let held = and-true (list.placeHolds form now opened counter p) _ t .0 in
+          let n = place-time form now opened counter p (place-listed form now opened counter p held) in omega arith;
       events = λ i k.
           let n = event-time xs i (every-at (list.eventTest xs) (image.usedEvents xs) i (l .journal) k) in omega arith;
     }

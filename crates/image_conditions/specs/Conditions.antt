@@ -1,15 +1,15 @@
--- Card 2, "the full list stands under docs/": the conditions of an admitted image of form 5, each under its label.
+-- Card 2, "the full list stands under docs/": the conditions of an admitted image, each under its label;
+-- where a limit is the form's own, by the form.
 use Prim.Native.Nat.{ℕ, _+_, _-_, _*_}
 use mathlib.Core.Bool.{Bool, cond, _&&_}
 use mathlib.Core.List.{List, [], _∷_}
 use lib.ListN.{length, take, drop}
 use lib.Dec.{leb, ltb, eqb}
 use Rattle.frame_table.specs.Table.{lastTime}
-use Rattle.message.specs.Limits.{subscribers, segmentBytes, maxSegments, fileBytes, maxAttempts, ful}
+use Rattle.message.specs.Limits.{subscribers, segmentBytes, maxAttempts, ful}
 use Rattle.message.specs.Segments.{segmentsOf}
 use Rattle.bank_state.specs.Limits.{
   placeCount,
-  storeBytes,
   nonceCount,
   idleLimit,
   maxOpen,
@@ -19,6 +19,8 @@ use Rattle.bank_state.specs.Limits.{
   window,
 }
 use Rattle.journal.specs.Events.{recordCount}
+use Rattle.image.specs.declared.table.Form.{Form}
+use Rattle.image.specs.Table.{segmentLimit, fileSize, storeSize}
 use Rattle.image_conditions.specs.declared.layout.NonceRecord.{NonceRecord}
 use Rattle.image_conditions.specs.declared.layout.DownloadRecord.{DownloadRecord}
 use Rattle.image_conditions.specs.declared.layout.PlaceRecord.{PlaceRecord}
@@ -184,9 +186,9 @@ placeNumber opened p = implies (inUse p) (ltb (p .low) opened)
 abbrev pub placeOrder : ℕ → PlaceRecord → Bool
 placeOrder counter p = implies (inUse p) (ltb (p .order) counter)
 
--- upload segments: "state 1: 1 to 15"
-abbrev pub uploadSegments : PlaceRecord → Bool
-uploadSegments p = implies (isOpen p) (within 1 maxSegments (p .segments))
+-- upload segments: "state 1: 1 to 15, form 6 on: 1 to 31"
+abbrev pub uploadSegments : Form → PlaceRecord → Bool
+uploadSegments form p = implies (isOpen p) (within 1 (segmentLimit form) (p .segments))
 
 -- upload taken: "state 1: below segments"
 abbrev pub uploadTaken : PlaceRecord → Bool
@@ -204,9 +206,9 @@ uploadTime now p = implies (isOpen p) (fitTime now (p .last))
 abbrev pub uploadLength : PlaceRecord → Bool
 uploadLength p = implies (isOpen p) (within (p .taken) (segmentBytes * p .taken) (p .length))
 
--- booked length: "state 2: 1 to 3,840"
-abbrev pub bookedLength : PlaceRecord → Bool
-bookedLength p = implies (isBooked p) (within 1 fileBytes (p .length))
+-- booked length: "state 2: 1 to 3,840, form 6 on: 1 to 7,936"
+abbrev pub bookedLength : Form → PlaceRecord → Bool
+bookedLength form p = implies (isBooked p) (within 1 (fileSize form) (p .length))
 
 -- booked rest: "state 2: segments, taken, attempts and last fit are 0"
 abbrev pub bookedRest : PlaceRecord → Bool
@@ -215,11 +217,11 @@ bookedRest p =
     (allOf (eqb (p .segments) 0 ∷ eqb (p .taken) 0 ∷ eqb (p .attempts) 0 ∷ eqb (p .last) 0 ∷ []))
 
 -- a place, with the counter of its subscriber's series
-abbrev pub placeHolds : ℕ → ℕ → ℕ → PlaceRecord → Bool
-placeHolds now opened counter p =
+abbrev pub placeHolds : Form → ℕ → ℕ → ℕ → PlaceRecord → Bool
+placeHolds form now opened counter p =
     allOf (placeState p ∷ placeFree p ∷ placeSubscriber p ∷ placeNumber opened p ∷ placeOrder counter p
-    ∷ uploadSegments p ∷ uploadTaken p ∷ uploadAttempts p ∷ uploadTime now p ∷ uploadLength p ∷ bookedLength p
-    ∷ bookedRest p ∷ [])
+    ∷ uploadSegments form p ∷ uploadTaken p ∷ uploadAttempts p ∷ uploadTime now p ∷ uploadLength p
+    ∷ bookedLength form p ∷ bookedRest p ∷ [])
 
 -- orders distinct: "no two places in use have the same subscriber and order number"
 unfoldable pub sameOrder : List ℕ → ℕ → ℕ → Bool
@@ -275,21 +277,21 @@ eventsFit xs = leb (events xs + count (isOpenSlot xs) placeCount) (2 * openings 
 
 -- ---- the stores
 
--- mailbox length: "each at most 3,840"
-abbrev pub mailboxLength : List ℕ → ℕ → Bool
-mailboxLength xs i = leb (fileAt xs i) fileBytes
+-- mailbox length: "each at most 3,840, form 6 on: 7,936"
+abbrev pub mailboxLength : Form → List ℕ → ℕ → Bool
+mailboxLength form xs i = leb (fileAt xs i) (fileSize form)
 
--- the bytes of part i of a store behind this length
-unfoldable pub bytesBehind : List ℕ → ℕ → ℕ → List ℕ
-bytesBehind store i n = take (fileBytes - upTo fileBytes n) (drop (i * fileBytes + upTo fileBytes n) store)
+-- the bytes behind this length of part i of a store whose parts have so many bytes
+unfoldable pub bytesBehind : ℕ → List ℕ → ℕ → ℕ → List ℕ
+bytesBehind size store i n = take (size - upTo size n) (drop (i * size + upTo size n) store)
 
 -- place bytes: "the bytes of each place behind its length are 0 (a free place: all)"
-unfoldable pub placeBytes : List ℕ → List ℕ → ℕ → Bool
-placeBytes xs orders i = allZero (bytesBehind orders i (placeAt xs i .length))
+unfoldable pub placeBytes : Form → List ℕ → List ℕ → ℕ → Bool
+placeBytes form xs orders i = allZero (bytesBehind (fileSize form) orders i (placeAt xs i .length))
 
 -- mailbox bytes: "the bytes of each mailbox behind its length are 0"
-unfoldable pub mailboxBytes : List ℕ → List ℕ → ℕ → Bool
-mailboxBytes xs mailboxes i = allZero (bytesBehind mailboxes i (fileAt xs i))
+unfoldable pub mailboxBytes : Form → List ℕ → List ℕ → ℕ → Bool
+mailboxBytes form xs mailboxes i = allZero (bytesBehind (fileSize form) mailboxes i (fileAt xs i))
 
 -- ---- a used event
 
@@ -338,13 +340,13 @@ downloadTest xs i =
     downloadHolds (clock xs) (openings xs) (fileOf xs (downloadAt xs i .subscriber)) (downloadAt xs i)
     && downloadRises xs i
 
-unfoldable pub placeTest : List ℕ → List ℕ → ℕ → Bool
-placeTest xs orders i =
-    placeHolds (clock xs) (openings xs) (counterOf xs (placeAt xs i .subscriber)) (placeAt xs i)
-    && placeBytes xs orders i
+unfoldable pub placeTest : Form → List ℕ → List ℕ → ℕ → Bool
+placeTest form xs orders i =
+    placeHolds form (clock xs) (openings xs) (counterOf xs (placeAt xs i .subscriber)) (placeAt xs i)
+    && placeBytes form xs orders i
 
-unfoldable pub mailboxTest : List ℕ → List ℕ → ℕ → Bool
-mailboxTest xs mailboxes i = mailboxLength xs i && mailboxBytes xs mailboxes i
+unfoldable pub mailboxTest : Form → List ℕ → List ℕ → ℕ → Bool
+mailboxTest form xs mailboxes i = mailboxLength form xs i && mailboxBytes form xs mailboxes i
 
 unfoldable pub eventTest : List ℕ → ℕ → Bool
 eventTest xs i =
@@ -359,11 +361,11 @@ everyNonce xs = every (nonceTest xs) (nonces xs)
 unfoldable pub everyDownload : List ℕ → Bool
 everyDownload xs = every (downloadTest xs) (downloads xs)
 
-unfoldable pub everyPlace : List ℕ → List ℕ → Bool
-everyPlace xs orders = every (placeTest xs orders) placeCount
+unfoldable pub everyPlace : Form → List ℕ → List ℕ → Bool
+everyPlace form xs orders = every (placeTest form xs orders) placeCount
 
-unfoldable pub everyMailbox : List ℕ → List ℕ → Bool
-everyMailbox xs mailboxes = every (mailboxTest xs mailboxes) placeCount
+unfoldable pub everyMailbox : Form → List ℕ → List ℕ → Bool
+everyMailbox form xs mailboxes = every (mailboxTest form xs mailboxes) placeCount
 
 unfoldable pub everySubscriber : List ℕ → Bool
 everySubscriber xs = every (openOfOne xs) subscribers
@@ -386,14 +388,14 @@ openConditions xs = allOf (ordersDistinct xs ∷ numbersDistinct xs ∷ openInAl
 unfoldable pub journalConditions : List ℕ → Bool
 journalConditions xs = allOf (eventsFit xs ∷ everyEvent xs ∷ journalUnused xs ∷ [])
 
--- the conditions, over numbers and stores of their lengths
-unfoldable pub conditions : List ℕ → List ℕ → List ℕ → Bool
-conditions xs orders mailboxes =
+-- the conditions, over numbers and stores of the form's lengths
+unfoldable pub conditions : Form → List ℕ → List ℕ → List ℕ → Bool
+conditions form xs orders mailboxes =
     allOf (clockFits xs ∷ openingsFit xs ∷ seriesConditions xs ∷ nonceConditions xs ∷ downloadConditions xs
-    ∷ everyPlace xs orders ∷ openConditions xs ∷ everyMailbox xs mailboxes ∷ journalConditions xs ∷ [])
+    ∷ everyPlace form xs orders ∷ openConditions xs ∷ everyMailbox form xs mailboxes ∷ journalConditions xs ∷ [])
 
--- "What a session may hold is bounded": the session is one of the list
-unfoldable pub admitted : List ℕ → List ℕ → List ℕ → Bool
-admitted xs orders mailboxes =
-    allOf (eqb (length xs) numberCount ∷ eqb (length orders) storeBytes ∷ eqb (length mailboxes) storeBytes
-    ∷ conditions xs orders mailboxes ∷ [])
+-- "What a session may hold is bounded": the session is one of the form's list
+unfoldable pub admitted : Form → List ℕ → List ℕ → List ℕ → Bool
+admitted form xs orders mailboxes =
+    allOf (eqb (length xs) numberCount ∷ eqb (length orders) (storeSize form)
+    ∷ eqb (length mailboxes) (storeSize form) ∷ conditions form xs orders mailboxes ∷ [])

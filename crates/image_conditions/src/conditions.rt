@@ -22,11 +22,12 @@ use crate::tables::orders_distinct;
 use crate::tables::series_sum;
 use crate::tests::both;
 use bank_state::limits::MAX_OPENINGS;
-use bank_state::limits::STORE_BYTES;
 use frame_table::table::LAST_TIME;
+use image::table::Form;
+use image::table::sizes_of;
 ghost use mathlib.Core.Path.{_≡_};
 ghost use lib.ListN.{length};
-ghost use Rattle.bank_state.specs.Limits.{storeBytes};
+ghost use Rattle.image.specs.Table.{storeSize};
 ghost use Rattle.image_conditions.specs.Layout.{numberCount};
 ghost use Rattle.image_conditions.specs.Conditions.{clockFits, openingsFit, nonceCountFits, downloadCountFits};
 ghost use Rattle.image_conditions.specs.Conditions.{seriesConditions, nonceConditions, downloadConditions};
@@ -110,17 +111,17 @@ fn journal_conditions(numbers: &[u64]) -> bool
     )
 }
 
-fn conditions(numbers: &[u64], orders: &[u8], mailboxes: &[u8]) -> bool
-    requires { ⌜ (length (now numbers) ≡ numberCount) × (length (now orders) ≡ storeBytes)
-        × (length (now mailboxes) ≡ storeBytes) ⌝ }
-    ensures { λ r. ⌜ r ≡ conditions (now (numbers .entry)) (now (orders .entry)) (now (mailboxes .entry)) ⌝ }
+fn conditions(form: Form, numbers: &[u64], orders: &[u8], mailboxes: &[u8]) -> bool
+    requires { ⌜ (length (now numbers) ≡ numberCount) × (length (now orders) ≡ storeSize form)
+        × (length (now mailboxes) ≡ storeSize form) ⌝ }
+    ensures { λ r. ⌜ r ≡ conditions form (now (numbers .entry)) (now (orders .entry)) (now (mailboxes .entry)) ⌝ }
 {
     let journal = both(
-        every_mailbox(numbers, mailboxes),
+        every_mailbox(form, numbers, mailboxes),
         both(journal_conditions(numbers), true),
     );
     let places = both(
-        every_place(numbers, orders),
+        every_place(form, numbers, orders),
         both(open_conditions(numbers), journal),
     );
     let nonces = both(
@@ -131,18 +132,19 @@ fn conditions(numbers: &[u64], orders: &[u8], mailboxes: &[u8]) -> bool
     both(clock_fits(numbers), both(openings_fit(numbers), series))
 }
 
-// Whether the session is one of the list; no other lengths are.
-pub fn admitted(numbers: &[u64], orders: &[u8], mailboxes: &[u8]) -> bool
-    ensures { λ r. ⌜ r ≡ admitted (now (numbers .entry)) (now (orders .entry)) (now (mailboxes .entry)) ⌝ }
+// Whether the session is one of the form's list; no other lengths are.
+pub fn admitted(form: Form, numbers: &[u64], orders: &[u8], mailboxes: &[u8]) -> bool
+    ensures { λ r. ⌜ r ≡ admitted form (now (numbers .entry)) (now (orders .entry)) (now (mailboxes .entry)) ⌝ }
 {
+    let size = sizes_of(form).store;
     if numbers.len() != NUMBER_COUNT {
         return false;
     }
-    if orders.len() != STORE_BYTES {
+    if orders.len() != size {
         return false;
     }
-    if mailboxes.len() != STORE_BYTES {
+    if mailboxes.len() != size {
         return false;
     }
-    both(conditions(numbers, orders, mailboxes), true)
+    both(conditions(form, numbers, orders, mailboxes), true)
 }

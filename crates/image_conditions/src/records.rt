@@ -12,10 +12,11 @@ use crate::tests::within;
 use bank_state::limits::IDLE_LIMIT;
 use bank_state::limits::WINDOW;
 use frame_table::table::LAST_TIME;
-use message::limits::FILE_BYTES;
+use image::table::Form;
+use image::table::file_size;
+use image::table::segment_limit;
 use message::limits::FUL;
 use message::limits::MAX_ATTEMPTS;
-use message::limits::MAX_SEGMENTS;
 use message::limits::SUBSCRIBERS;
 use message::segments::segments_of;
 ghost use mathlib.Core.Path.{_≡_};
@@ -31,9 +32,6 @@ ghost use Rattle.image_conditions.specs.Conditions.{uploadTime, uploadLe
 ghost use Rattle.image_conditions.specs.Conditions.{placeHolds};
 ghost use Rattle.image_conditions.specs.Conditions.{eventNumber, eventClock, eventSubscriber, eventType};
 ghost use Rattle.image_conditions.specs.Conditions.{eventOrder, eventKind, eventHolds};
-
-// The bytes of a place as a count of a file's bytes: fileBytes too.
-pub const FILE_SIZE: u64 = FILE_BYTES as u64;
 
 const OPEN: u64 = 1;
 
@@ -137,10 +135,10 @@ fn place_order(counter: u64, p: PlaceRecord) -> bool
     implies(0 < p.state, p.order < counter)
 }
 
-fn upload_segments(p: PlaceRecord) -> bool
-    ensures { λ r. ⌜ r ≡ uploadSegments p ⌝ }
+fn upload_segments(form: Form, p: PlaceRecord) -> bool
+    ensures { λ r. ⌜ r ≡ uploadSegments form p ⌝ }
 {
-    implies(p.state == OPEN, within(1, MAX_SEGMENTS, p.segments))
+    implies(p.state == OPEN, within(1, segment_limit(form), p.segments))
 }
 
 fn upload_taken(p: PlaceRecord) -> bool
@@ -170,10 +168,13 @@ fn upload_length(p: PlaceRecord) -> bool
     )
 }
 
-fn booked_length(p: PlaceRecord) -> bool
-    ensures { λ r. ⌜ r ≡ bookedLength p ⌝ }
+fn booked_length(form: Form, p: PlaceRecord) -> bool
+    ensures { λ r. ⌜ r ≡ bookedLength form p ⌝ }
 {
-    implies(p.state == BOOKED, within(1, FILE_SIZE, p.length))
+    implies(
+        p.state == BOOKED,
+        within(1, file_size(form) as u64, p.length),
+    )
 }
 
 fn booked_rest(p: PlaceRecord) -> bool
@@ -187,13 +188,13 @@ fn booked_rest(p: PlaceRecord) -> bool
 }
 
 // A place, with the counter of its subscriber's series.
-pub fn place_holds(clock: u64, openings: u64, counter: u64, p: PlaceRecord) -> bool
-    ensures { λ r. ⌜ r ≡ placeHolds clock openings counter p ⌝ }
+pub fn place_holds(form: Form, clock: u64, openings: u64, counter: u64, p: PlaceRecord) -> bool
+    ensures { λ r. ⌜ r ≡ placeHolds form clock openings counter p ⌝ }
 {
-    let booked = both(booked_length(p), both(booked_rest(p), true));
+    let booked = both(booked_length(form, p), both(booked_rest(p), true));
     let times = both(upload_time(clock, p), both(upload_length(p), booked));
     let upload = both(
-        upload_segments(p),
+        upload_segments(form, p),
         both(upload_taken(p), both(upload_attempts(p), times)),
     );
     let numbers = both(

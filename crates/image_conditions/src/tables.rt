@@ -21,7 +21,6 @@ use crate::layout::nonces;
 use crate::layout::place_at;
 use crate::layout::slot_at;
 use crate::layout::used_events;
-use crate::records::FILE_SIZE;
 use crate::records::download_holds;
 use crate::records::event_holds;
 use crate::records::nonce_time;
@@ -35,14 +34,16 @@ use crate::tests::zero_numbers;
 use bank_state::limits::NONCE_COUNT;
 use bank_state::limits::PLACE_COUNT;
 use bank_state::limits::SERIES_LIMIT;
+use image::table::Form;
+use image::table::file_size;
 use journal::event::RECORD_COUNT;
-use message::limits::FILE_BYTES;
 ghost use mathlib.Core.Path.{_≡_};
 ghost use mathlib.Core.Bool.{not};
 ghost use Prim.Native.Nat.{_+_, _-_, _*_, _≤_, _<_};
 ghost use lib.ListN.{length};
 ghost use Rattle.message.specs.Limits.{subscribers};
-ghost use Rattle.bank_state.specs.Limits.{placeCount, storeBytes, nonceCount};
+ghost use Rattle.bank_state.specs.Limits.{placeCount, nonceCount};
+ghost use Rattle.image.specs.Table.{fileSize, storeSize};
 ghost use Rattle.image_conditions.specs.Shapes.{every, count, allZero};
 ghost use Rattle.image_conditions.specs.Layout.{numberCount, nonces, downloads, usedEvents};
 ghost use Rattle.image_conditions.specs.Conditions.{seriesFits, everySeries, seriesSum};
@@ -232,43 +233,44 @@ pub fn downloads_unused(numbers: &[u64]) -> bool
 // ---- places and mailboxes
 
 // Whether the bytes of part i of a store behind this length are 0.
-fn zero_behind(store: &[u8], i: usize, n: u64) -> bool
-    requires { ⌜ (i < placeCount) × (length (now store) ≡ storeBytes) ⌝ }
-    ensures { λ r. ⌜ r ≡ allZero (bytesBehind (now (store .entry)) i n) ⌝ }
+fn zero_behind(form: Form, store: &[u8], i: usize, n: u64) -> bool
+    requires { ⌜ (i < placeCount) × (length (now store) ≡ storeSize form) ⌝ }
+    ensures { λ r. ⌜ r ≡ allZero (bytesBehind (fileSize form) (now (store .entry)) i n) ⌝ }
 {
-    let from = i * FILE_BYTES + up_to(FILE_SIZE, n) as usize;
-    let end = i * FILE_BYTES + FILE_BYTES;
+    let size = file_size(form);
+    let from = i * size + up_to(size as u64, n) as usize;
+    let end = i * size + size;
     zero_bytes(&store[from..end])
 }
 
-fn place_bytes(numbers: &[u64], orders: &[u8], i: usize) -> bool
-    requires { ⌜ (i < placeCount) × (length (now numbers) ≡ numberCount) × (length (now orders) ≡ storeBytes) ⌝ }
-    ensures { λ r. ⌜ r ≡ placeBytes (now (numbers .entry)) (now (orders .entry)) i ⌝ }
+fn place_bytes(form: Form, numbers: &[u64], orders: &[u8], i: usize) -> bool
+    requires { ⌜ (i < placeCount) × (length (now numbers) ≡ numberCount) × (length (now orders) ≡ storeSize form) ⌝ }
+    ensures { λ r. ⌜ r ≡ placeBytes form (now (numbers .entry)) (now (orders .entry)) i ⌝ }
 {
     let p = place_at(numbers, i);
-    zero_behind(orders, i, p.length)
+    zero_behind(form, orders, i, p.length)
 }
 
-fn place_test(numbers: &[u64], orders: &[u8], i: usize) -> bool
-    requires { ⌜ (i < placeCount) × (length (now numbers) ≡ numberCount) × (length (now orders) ≡ storeBytes) ⌝ }
-    ensures { λ r. ⌜ r ≡ placeTest (now (numbers .entry)) (now (orders .entry)) i ⌝ }
+fn place_test(form: Form, numbers: &[u64], orders: &[u8], i: usize) -> bool
+    requires { ⌜ (i < placeCount) × (length (now numbers) ≡ numberCount) × (length (now orders) ≡ storeSize form) ⌝ }
+    ensures { λ r. ⌜ r ≡ placeTest form (now (numbers .entry)) (now (orders .entry)) i ⌝ }
 {
     let p = place_at(numbers, i);
     let counter = counter_of(numbers, p.subscriber);
     both(
-        place_holds(numbers[CLOCK], numbers[OPENINGS], counter, p),
-        place_bytes(numbers, orders, i),
+        place_holds(form, numbers[CLOCK], numbers[OPENINGS], counter, p),
+        place_bytes(form, numbers, orders, i),
     )
 }
 
-pub fn every_place(numbers: &[u64], orders: &[u8]) -> bool
-    requires { ⌜ (length (now numbers) ≡ numberCount) × (length (now orders) ≡ storeBytes) ⌝ }
-    ensures { λ r. ⌜ r ≡ everyPlace (now (numbers .entry)) (now (orders .entry)) ⌝ }
+pub fn every_place(form: Form, numbers: &[u64], orders: &[u8]) -> bool
+    requires { ⌜ (length (now numbers) ≡ numberCount) × (length (now orders) ≡ storeSize form) ⌝ }
+    ensures { λ r. ⌜ r ≡ everyPlace form (now (numbers .entry)) (now (orders .entry)) ⌝ }
 {
     let mut ok = true;
     let mut i = 0;
     while i < PLACE_COUNT {
-        ok = both(place_test(numbers, orders, i), ok);
+        ok = both(place_test(form, numbers, orders, i), ok);
         i += 1;
     }
     ok
@@ -312,31 +314,31 @@ pub fn orders_distinct(numbers: &[u64]) -> bool
     ok
 }
 
-fn mailbox_bytes(numbers: &[u64], mailboxes: &[u8], i: usize) -> bool
-    requires { ⌜ (i < placeCount) × (length (now numbers) ≡ numberCount) × (length (now mailboxes) ≡ storeBytes) ⌝ }
-    ensures { λ r. ⌜ r ≡ mailboxBytes (now (numbers .entry)) (now (mailboxes .entry)) i ⌝ }
+fn mailbox_bytes(form: Form, numbers: &[u64], mailboxes: &[u8], i: usize) -> bool
+    requires { ⌜ (i < placeCount) × (length (now numbers) ≡ numberCount) × (length (now mailboxes) ≡ storeSize form) ⌝ }
+    ensures { λ r. ⌜ r ≡ mailboxBytes form (now (numbers .entry)) (now (mailboxes .entry)) i ⌝ }
 {
-    zero_behind(mailboxes, i, file_at(numbers, i))
+    zero_behind(form, mailboxes, i, file_at(numbers, i))
 }
 
-fn mailbox_test(numbers: &[u64], mailboxes: &[u8], i: usize) -> bool
-    requires { ⌜ (i < placeCount) × (length (now numbers) ≡ numberCount) × (length (now mailboxes) ≡ storeBytes) ⌝ }
-    ensures { λ r. ⌜ r ≡ mailboxTest (now (numbers .entry)) (now (mailboxes .entry)) i ⌝ }
+fn mailbox_test(form: Form, numbers: &[u64], mailboxes: &[u8], i: usize) -> bool
+    requires { ⌜ (i < placeCount) × (length (now numbers) ≡ numberCount) × (length (now mailboxes) ≡ storeSize form) ⌝ }
+    ensures { λ r. ⌜ r ≡ mailboxTest form (now (numbers .entry)) (now (mailboxes .entry)) i ⌝ }
 {
     both(
-        file_at(numbers, i) <= FILE_SIZE,
-        mailbox_bytes(numbers, mailboxes, i),
+        file_at(numbers, i) <= file_size(form) as u64,
+        mailbox_bytes(form, numbers, mailboxes, i),
     )
 }
 
-pub fn every_mailbox(numbers: &[u64], mailboxes: &[u8]) -> bool
-    requires { ⌜ (length (now numbers) ≡ numberCount) × (length (now mailboxes) ≡ storeBytes) ⌝ }
-    ensures { λ r. ⌜ r ≡ everyMailbox (now (numbers .entry)) (now (mailboxes .entry)) ⌝ }
+pub fn every_mailbox(form: Form, numbers: &[u64], mailboxes: &[u8]) -> bool
+    requires { ⌜ (length (now numbers) ≡ numberCount) × (length (now mailboxes) ≡ storeSize form) ⌝ }
+    ensures { λ r. ⌜ r ≡ everyMailbox form (now (numbers .entry)) (now (mailboxes .entry)) ⌝ }
 {
     let mut ok = true;
     let mut i = 0;
     while i < PLACE_COUNT {
-        ok = both(mailbox_test(numbers, mailboxes, i), ok);
+        ok = both(mailbox_test(form, numbers, mailboxes, i), ok);
         i += 1;
     }
     ok

@@ -2,13 +2,13 @@
 use Prim.Native.Nat.{ℕ}
 pub use Rattle.frame_writer.specs.Writer.{segmentBytes}
 
--- "over 15 segments" are too many
+-- card 6, "Allow 31 segments": "091118 begins at 32"
 abbrev pub maxSegments : ℕ
-maxSegments = 15
+maxSegments = 31
 
--- "8 order places and 8 mailboxes of 3,840 bytes each": all segments of an order
+-- "places, mailboxes, payloads and file buffers of 7,936 bytes": all segments of an order
 abbrev pub fileBytes : ℕ
-fileBytes = 3840
+fileBytes = 7936
 
 -- "The first five get 061101"; "These repeats and returns number at most five"
 abbrev pub maxAttempts : ℕ

@@ -7,10 +7,10 @@ pub const SEGMENT_BYTES: usize = 256;
 pub const SEGMENT_SIZE: u64 = SEGMENT_BYTES as u64;
 
 // The most segments of an order.
-pub const MAX_SEGMENTS: u64 = 15;
+pub const MAX_SEGMENTS: u64 = 31;
 
 // The bytes of an order place, a mailbox, a payload and a file buffer at most: all segments.
-pub const FILE_BYTES: usize = 3840;
+pub const FILE_BYTES: usize = 7936;
 
 // The recovery attempts that are answered; the next one ends the transaction or the run.
 pub const MAX_ATTEMPTS: u64 = 5;

@@ -1,4 +1,4 @@
--- A client's call keeps the length of a file buffer of 3,840 bytes; one given a number changes nothing; a reply or none
+-- A client's call keeps the length of a file buffer; one given a number changes nothing; a reply or none
 -- is taken by a run that has begun; one that answers a closing word leaves the run ended with it.
 use Prim.Native.Nat.{ℕ, _-_, _*_, _≤_}
 use mathlib.Core.Bool.{Bool, true, false, cond}

@@ -34,7 +34,9 @@ use Rattle.image_calls.specs.Calls.{
   takeUpOf,
   takeUp,
   isAdmittedImage,
+  formOf,
   storeFrom,
+  storeTaken,
   sessionFrom,
 }
 use Rattle.image_calls.proofs.Theorems.{image-long, put-away-done, refused-up, take-up-done, written-back}
@@ -47,7 +49,14 @@ use Rattle.unit.specs.State.{State, sessionIn}
 use Rattle.unit.specs.Call.{awayAnswer, takenUpAnswer, awayStep, takeUpStep, imageStep}
 use Rattle.unit.proofs.Parts.{callable}
 use Rattle.sessions.specs.Sessions.{bankAt, journalAt, frontOf, awayOf, takenOf, told}
-use Rattle.sessions.proofs.MemoryBytes.{bytes-overwrite, StoresHold, AllHold, packed-holds, stores-hold}
+use Rattle.sessions.proofs.MemoryBytes.{
+  bytes-overwrite,
+  extended-holds,
+  StoresHold,
+  AllHold,
+  packed-holds,
+  stores-hold,
+}
 use Rattle.sessions.proofs.BankSteps.{body-bytes}
 use Rattle.sessions.proofs.Standing.{SameRunAt, Standing, Stepped}
 
@@ -137,10 +146,11 @@ done-or-not m image = at (lengthsRight m) (isAdmittedImage image)
     at false c = inr (λ z. omega arith)
 
 from-hold : (image : List ℕ) → Bytes image → StoresHold (bank.stateOf (bankIn (sessionFrom image)))
-unfolding sessionFrom storeFrom
+unfolding sessionFrom storeTaken storeFrom
 from-hold image h =
-    let hold = stores-hold (itemsOf written) image h in
-    record { orders = hold 0; mailboxes = hold 1 }
+    let form = formOf image in
+    let hold = stores-hold (itemsOf form) image h in
+    record { orders = extended-holds form _ (hold 0); mailboxes = extended-holds form _ (hold 1) }
 
 -- ---- the steps
 

@@ -14,7 +14,7 @@ use Rattle.unit.specs.declared.state.Run.{Run}
 use Rattle.unit.specs.declared.state.UnitState.{UnitState}
 use Rattle.unit.specs.Records.{runCount}
 
--- "its own payload room and file buffer of 3,840 bytes": those of all runs
+-- "payload rooms and file buffers have 7,936 bytes": those of all runs
 abbrev pub roomsBytes : ℕ
 roomsBytes = runCount * fileBytes
 

@@ -1,7 +1,7 @@
 -- `sizes_of` meets its contract: a form's sizes are computed from its fields. Assumes nothing.
-use mathlib.Core.Path.{_≡_, refl}
+use mathlib.Core.Path.{_≡_, refl, sym, ap, _∙_}
 use Rattle.image.specs.declared.table.Form.{Form}
-use Rattle.image.specs.declared.table.Form.the-variants.{Five}
+use Rattle.image.specs.declared.table.Form.the-variants.{Five, Six}
 use Rattle.image.specs.declared.table.Sizes.{Sizes}
 use Rattle.image.specs.Table.{rowAt}
 use Rattle.image.specs.Items.{
@@ -16,15 +16,26 @@ use Rattle.image.specs.Items.{
   partsIn,
   storeAt,
 }
+use borrow.Author.Needs.{needs}
 use Rattle.image.proofs.table.sizes_of.Statement.{statement}
 use Rattle.image.proofs.table.sizes_of.Tie as tie
 
-by-form : (form : Form) {z : Sizes} → z ≡ sizesOf Five → z ≡ sizesOf form
-by-form Five e = e
+by-form : {form told : Form} {z : Sizes} → form ≡ told → z ≡ sizesOf told → z ≡ sizesOf form
+by-form e q = q ∙ ap sizesOf (sym e)
+
+enum-told : tie.Need-enum-told
+enum-told c = search needs
+
+enum-told-2 : tie.Need-enum-told-2
+enum-told-2 c = search needs
 
 returns : tie.Need-returns
 unfolding sizesOf itemsOf fieldItems contentItems recordItems partItems storeItems bytesIn partsIn storeAt rowAt
-returns c = by-form (c .args .form) refl
+returns c = by-form {told = Five} (c .enum-told .given .1) refl
+
+returns-2 : tie.Need-returns-2
+unfolding sizesOf itemsOf fieldItems contentItems recordItems partItems storeItems bytesIn partsIn storeAt rowAt
+returns-2 c = by-form {told = Six} (c .enum-told2 .given .1) refl
 
 pub sizes-of-spec : {M : Type 1} → statement M
-sizes-of-spec = tie.close (tie.spec returns)
+sizes-of-spec = tie.close (tie.spec enum-told enum-told-2 returns returns-2)

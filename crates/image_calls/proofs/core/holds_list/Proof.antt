@@ -1,5 +1,4 @@
 -- The parts of the image at the stores' places are the stores in it. Assumes nothing.
-use mathlib.Core.List.{[]}
 use native.Mathlib.Omega.{arith}
 use Rattle.image_calls.proofs.Tests.{image-short}
 use Rattle.image_calls.proofs.Taking.{places-within, parts-listed}
@@ -9,30 +8,32 @@ use Rattle.image_calls.proofs.core.holds_list.Tie as tie
 
 add-orders-end : tie.Need-add-orders-end
 add-orders-end c =
+    let form = c .before .before .before .before .args .form in
     let f = c .before .sizes-of in
-    omega (arith, image-short, places-within [] (f .result) (f .ensures) .0)
+    omega (arith, image-short form, places-within form (f .result) (f .ensures) .0)
 
 add-mailboxes-end : tie.Need-add-mailboxes-end
 add-mailboxes-end c =
+    let form = c .before .before .before .before .before .args .form in
     let f = c .before .before .sizes-of in
-    omega (arith, image-short, places-within [] (f .result) (f .ensures) .1)
+    omega (arith, image-short form, places-within form (f .result) (f .ensures) .1)
 
 part-admitted-end : tie.Need-part-admitted-end
 part-admitted-end c =
     let f = c .before .before .sizes-of in
-    omega (arith, c .before .before .before .before .before .pre, places-within [] (f .result) (f .ensures) .0)
+    omega (arith, c .before .before .before .before .before .pre .1, places-within (c .before .before .before .before .before .args .form) (f .result) (f .ensures) .0)
 
 part-admitted-end-2 : tie.Need-part-admitted-end-2
 part-admitted-end-2 c =
     let f = c .before .before .before .sizes-of in
-    let within = places-within [] (f .result) (f .ensures) in
-    omega (arith, c .before .before .before .before .before .before .pre, within .0, within .1)
+    let within = places-within (c .before .before .before .before .before .before .args .form) (f .result) (f .ensures) in
+    omega (arith, c .before .before .before .before .before .before .pre .1, within .0, within .1)
 
 returns : tie.Need-returns
 returns c =
     let a = c .before .before .before .before .before .before .before .before .args in
     let f = c .before .before .before .before .before .sizes-of in
-    parts-listed (a .image .now) (f .result) (f .ensures) (a .numbers .now) _ (c .admitted .ensures)
+    parts-listed (a .image .now) (a .form) (c .before .before .before .before .before .before .before .before .pre .0) (f .result) (f .ensures) (a .numbers .now) _ (c .admitted .ensures)
 
 pub holds-list-spec : {M : Type 1} → statement M
 holds-list-spec =

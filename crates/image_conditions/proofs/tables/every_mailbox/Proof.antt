@@ -2,6 +2,7 @@
 use Prim.Native.Nat.{_-_, _≤_}
 use mathlib.Core.Path.{_≡_, sym, ap, _∙_}
 use native.Mathlib.Omega.{arith}
+use Rattle.bank_state.specs.Limits.{placeCount}
 use Rattle.image_conditions.specs.Shapes.{every}
 use Rattle.image_conditions.specs.Conditions.{everyMailbox, mailboxTest}
 use Rattle.image_conditions.proofs.Shapes.{every-none, every-next}
@@ -10,15 +11,15 @@ use Rattle.image_conditions.proofs.tables.every_mailbox.Statement.{stat
 use Rattle.image_conditions.proofs.tables.every_mailbox.Tie as tie
 
 abbrev Inv-loop : tie.InvT-loop
-Inv-loop numbers mailboxes ok₀ i₀ ok i = (i ≤ 8) × (ok ≡ every (mailboxTest numbers mailboxes) i)
+Inv-loop form numbers mailboxes ok₀ i₀ ok i = (i ≤ placeCount) × (ok ≡ every (mailboxTest form numbers mailboxes) i)
 
 abbrev μ-loop : tie.MeasureT-loop
-μ-loop numbers mailboxes ok₀ i₀ ok i = 8 - i
+μ-loop form numbers mailboxes ok₀ i₀ ok i = placeCount - i
 
 loop-holds : tie.Need-loop-holds Inv-loop μ-loop
 loop-holds c =
     let at-args = c .before .before .args in
-    (search needs, sym (every-none (mailboxTest (at-args .numbers .now) (at-args .mailboxes .now))))
+    (search needs, sym (every-none (mailboxTest (at-args .form) (at-args .numbers .now) (at-args .mailboxes .now))))
 
 mailbox-test-requires : tie.Need-mailbox-test-requires Inv-loop μ-loop
 mailbox-test-requires c κs = search needs
@@ -36,16 +37,20 @@ loop-again : tie.Need-loop-again Inv-loop μ-loop
 loop-again c =
     let at-args = c .before .before .before .before .before .before .args in
     let l = c .before .before .before .loop in
-    let t = c .before .mailbox-test in
-    (search needs, c .both .ensures ∙ every-next (mailboxTest (at-args .numbers .now) (at-args .mailboxes .now)) (l .i) (t .result) (l .ok) (t .ensures) (l .inv .1))
+    let t = c .before .mailbox-test in (
+      search needs,
+      c .both .ensures
+          ∙ every-next (mailboxTest (at-args .form) (at-args .numbers .now) (at-args .mailboxes .now))
+          (l .i) (t .result) (l .ok) (t .ensures) (l .inv .1),
+    )
 
 returns : tie.Need-returns Inv-loop μ-loop
 unfolding everyMailbox
 returns c =
     let at-args = c .before .before .before .before .args in
     let l = c .before .loop in
-    let e : l .i ≡ 8 = omega arith in
-    l .inv .1 ∙ ap (every (mailboxTest (at-args .numbers .now) (at-args .mailboxes .now))) (e)
+    let e : l .i ≡ placeCount = omega arith in
+    l .inv .1 ∙ ap (every (mailboxTest (at-args .form) (at-args .numbers .now) (at-args .mailboxes .now))) (e)
 
 pub every-mailbox-spec : {M : Type 1} → statement M
 every-mailbox-spec =

@@ -2,6 +2,7 @@
 use Prim.Native.Nat.{_-_, _≤_}
 use mathlib.Core.Path.{_≡_, sym, ap, _∙_}
 use native.Mathlib.Omega.{arith}
+use Rattle.bank_state.specs.Limits.{placeCount}
 use Rattle.image_conditions.specs.Shapes.{every}
 use Rattle.image_conditions.specs.Conditions.{everyPlace, placeTest}
 use Rattle.image_conditions.proofs.Shapes.{every-none, every-next}
@@ -10,15 +11,15 @@ use Rattle.image_conditions.proofs.tables.every_place.Statement.{statem
 use Rattle.image_conditions.proofs.tables.every_place.Tie as tie
 
 abbrev Inv-loop : tie.InvT-loop
-Inv-loop numbers orders ok₀ i₀ ok i = (i ≤ 8) × (ok ≡ every (placeTest numbers orders) i)
+Inv-loop form numbers orders ok₀ i₀ ok i = (i ≤ placeCount) × (ok ≡ every (placeTest form numbers orders) i)
 
 abbrev μ-loop : tie.MeasureT-loop
-μ-loop numbers orders ok₀ i₀ ok i = 8 - i
+μ-loop form numbers orders ok₀ i₀ ok i = placeCount - i
 
 loop-holds : tie.Need-loop-holds Inv-loop μ-loop
 loop-holds c =
     let at-args = c .before .before .args in
-    (search needs, sym (every-none (placeTest (at-args .numbers .now) (at-args .orders .now))))
+    (search needs, sym (every-none (placeTest (at-args .form) (at-args .numbers .now) (at-args .orders .now))))
 
 place-test-requires : tie.Need-place-test-requires Inv-loop μ-loop
 place-test-requires c κs = search needs
@@ -36,16 +37,20 @@ loop-again : tie.Need-loop-again Inv-loop μ-loop
 loop-again c =
     let at-args = c .before .before .before .before .before .before .args in
     let l = c .before .before .before .loop in
-    let t = c .before .place-test in
-    (search needs, c .both .ensures ∙ every-next (placeTest (at-args .numbers .now) (at-args .orders .now)) (l .i) (t .result) (l .ok) (t .ensures) (l .inv .1))
+    let t = c .before .place-test in (
+      search needs,
+      c .both .ensures
+          ∙ every-next (placeTest (at-args .form) (at-args .numbers .now) (at-args .orders .now))
+          (l .i) (t .result) (l .ok) (t .ensures) (l .inv .1),
+    )
 
 returns : tie.Need-returns Inv-loop μ-loop
 unfolding everyPlace
 returns c =
     let at-args = c .before .before .before .before .args in
     let l = c .before .loop in
-    let e : l .i ≡ 8 = omega arith in
-    l .inv .1 ∙ ap (every (placeTest (at-args .numbers .now) (at-args .orders .now))) (e)
+    let e : l .i ≡ placeCount = omega arith in
+    l .inv .1 ∙ ap (every (placeTest (at-args .form) (at-args .numbers .now) (at-args .orders .now))) (e)
 
 pub every-place-spec : {M : Type 1} → statement M
 every-place-spec =

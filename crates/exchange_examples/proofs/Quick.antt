@@ -1,0 +1,223 @@
+-- The tests of a list of calls in fewer steps: what cannot fail there is not tested again. Assumes nothing.
+use Prim.Native.Nat.{ℕ, _≤_}
+use mathlib.Core.Bool.{Bool, true, cond}
+use mathlib.Core.List.{List, [], _∷_, List·Memᴰ·not-nil as in-none}
+use mathlib.Core.Path.{_≡_, refl, sym, ap, _∙_, subst}
+use native.Mathlib.Omega.{arith}
+use lib.Dec.{eqb, leb}
+use lib.ListN.{length, length-replicate}
+use borrow.Author.Tests.{eq-eqb, le-leb}
+use Rattle.frame_table.specs.Table.{lastTime}
+use Rattle.octets.proofs.Tests.{and-true}
+use Rattle.journal.specs.Events.{recordCount}
+use Rattle.bank_state.specs.Clock.{advanced}
+use Rattle.bank_state.specs.Limits.{storeBytes, idBytes, replyRoom}
+use Rattle.bank_state.specs.State.{BankState}
+use Rattle.bank.specs.Call.{FrameCall, FrameInput, frameNumber, replied, lentRight, frameRefused, frameCall}
+use Rattle.bank.specs.Journal.{journalAfter}
+use Rattle.bank_admitted.specs.State.{Sizes, StateHolds}
+use Rattle.bank_admitted.proofs.Fresh.{fresh-state}
+use Rattle.bank_admitted.proofs.Keeps.{frame-keeps-state, file-keeps-state}
+use Rattle.bank_history.proofs.Answers.{stepOf}
+use Rattle.exchange.specs.Course.{
+  Call,
+  frameArrives,
+  filePut,
+  begins,
+  replyArrives,
+  noReply,
+  journalHanded,
+  putsAway,
+  takesUp,
+  Course,
+  start,
+  withJournal,
+  callNumber,
+  replyIn,
+  afterFrame,
+  carryOut,
+  exec,
+}
+use Rattle.exchange.specs.Demand3.{Premise, Allowed}
+use Rattle.exchange.proofs.Calls.{numbered-stays, carried, by-number}
+use Rattle.exchange.proofs.Images.{Written, put-written, taken-stays}
+use Rattle.exchange_examples.proofs.Checked.{
+  not-both,
+  both,
+  Move,
+  comes,
+  stray,
+  puts,
+  begin,
+  reaches,
+  silent,
+  hands,
+  writes,
+  takes,
+  numbered,
+  requestAt,
+  inputAt,
+  callOf,
+  next,
+  endBy,
+  endOf,
+  isAllowed,
+  asked,
+  Asked,
+  allowed,
+  isMetBy,
+  isMet,
+  isOneMore,
+  isInOrderBy,
+  isInOrder,
+  one-more,
+}
+
+-- ---- a frame call without the test of the stores' lengths
+
+abbrev quickCall : BankState → FrameInput → FrameCall
+quickCall w a = cond (leb (a .time) lastTime) (replied (stepOf w a) (a .buffer)) (frameRefused w a)
+
+module _ (w : BankState) (sizes : Sizes w) (a : FrameInput) (ids : length (a .ids) ≡ idBytes)
+    (room : replyRoom ≤ length (a .buffer)) where
+  right-by-time : leb (a .time) lastTime ≡ lentRight w a
+  unfolding lentRight
+  right-by-time =
+      rw (
+        eq-eqb (length (w .orders)) storeBytes (sizes .orders),
+        eq-eqb (length (w .mailboxes)) storeBytes (sizes .mailboxes),
+        eq-eqb (length (a .ids)) idBytes ids,
+        le-leb replyRoom (length (a .buffer)) room,
+      )
+
+  quick-call : quickCall w a ≡ frameCall w a
+  unfolding frameCall
+  quick-call = ap (λ (b : Bool). cond b (replied (stepOf w a) (a .buffer)) (frameRefused w a)) right-by-time
+
+-- the course after a frame, by what its call leaves
+abbrev framed : FrameCall → FrameInput → Course → Course
+framed k a s =
+    cond (eqb (cond (eqb (length (s .journal .row)) recordCount) (frameNumber (k .answer)) 1) 0)
+    (withJournal (journalAfter (s .bank) a (s .journal))
+    (afterFrame (replyIn (k .answer) (k .buffer)) (k .bankState) (advanced (a .time) (s .bank)) (a .frame) s)) s
+
+abbrev quickFrame : List ℕ → ℕ → Course → Course
+quickFrame frame time s = framed (quickCall (s .bank) (inputAt time frame)) (inputAt time frame) s
+
+-- the course after one call: a session is put away, one taken up is the one that stands, a call given a number stays out
+abbrev pub quickNext : Move → Course → Course
+quickNext (comes n time) s = quickFrame (requestAt n s) time s
+quickNext (stray frame time) s = quickFrame frame time s
+quickNext (puts m file) s = next (puts m file) s
+quickNext (begin i direction u first payload) s = next (begin i direction u first payload) s
+quickNext (reaches i n) s = next (reaches i n) s
+quickNext (silent i) s = next (silent i) s
+quickNext (hands i) s = next (hands i) s
+quickNext writes s = carryOut (callOf writes s) s
+quickNext (takes n) s = s
+quickNext (numbered k) s = s
+
+-- ---- it is the same
+
+-- what the bank and the images are after allowed calls
+pub record Right (s : Course) : Type 0 where
+  pub state : StateHolds (s .bank)
+  pub images : Written s
+
+pub right-start : Right start
+unfolding start
+right-start = record { state = fresh-state; images = λ image i. absurd (in-none i) }
+
+right-carried : (k : Call) (s : Course) → Right s → Premise k s → callNumber k ≡ 0 → Right (carryOut k s)
+right-carried (frameArrives w j a) s v q z = record {
+  state = subst (λ (x : BankState). StateHolds (frameCall x a .bankState)) (sym (q .0)) (frame-keeps-state (s .bank) (v .state) a);
+  images = λ image i. absurd (in-none i);
+}
+right-carried (filePut b mailboxes m file) s v q z = record {
+  state = rw (q .0, q .1) (file-keeps-state (s .bank) (v .state) m file);
+  images = λ image i. absurd (in-none i);
+}
+right-carried (begins i c params l) s v q z = record { state = v .state; images = v .images }
+right-carried (replyArrives i c reply l) s v q z = record { state = v .state; images = v .images }
+right-carried (noReply i c l) s v q z = record { state = v .state; images = v .images }
+right-carried (journalHanded i c row) s v q z = record { state = v .state; images = v .images }
+right-carried (putsAway m buffer) s v q z = record { state = v .state; images = put-written m buffer s (v .images) q z }
+right-carried (takesUp m image) s v q z = subst Right (sym (taken-stays m image s (v .images) q z)) v
+
+right-next : (k : Call) (s : Course) → Right s → Allowed k s → Right (exec k s)
+right-next k s v a = by-number k s Right v (λ z. right-carried k s v (a z) z)
+
+pub quick-frame : (s : Course) → StateHolds (s .bank) → (time : ℕ) (frame : List ℕ) →
+    quickFrame frame time s ≡ exec (frameArrives (s .bank) (s .journal) (inputAt time frame)) s
+unfolding exec
+quick-frame s v time frame =
+    ap (λ (k : FrameCall). framed k (inputAt time frame) s) (quick-call (s .bank) (v .sizes) (inputAt time frame)
+    (length-replicate {A = ℕ} idBytes 0) (omega (arith, length-replicate {A = ℕ} replyRoom 0)))
+
+quick-next : (m : Move) (s : Course) (rest : Type 0) → asked m s rest → Right s → isAllowed m s ≡ true → Allowed (callOf m s) s →
+    quickNext m s ≡ next m s
+quick-next (comes n time) s rest r v h a = quick-frame s (v .state) time (requestAt n s)
+quick-next (stray frame time) s rest r v h a = quick-frame s (v .state) time frame
+quick-next (puts m file) s rest r v h a = refl
+quick-next (begin i direction u first payload) s rest r v h a = refl
+quick-next (reaches i n) s rest r v h a = refl
+quick-next (silent i) s rest r v h a = refl
+quick-next (hands i) s rest r v h a = refl
+quick-next writes s rest r v h a = sym (carried (callOf writes s) s (r .2))
+quick-next (takes n) s rest r v h a =
+    let k = callOf (takes n) s in by-number k s (λ (t : Course). s ≡ t) refl (λ z. sym (taken-stays _ _ s (v .images) (a z) z))
+quick-next (numbered k) s rest r v h a = sym (numbered-stays k s (λ z. not-both h (eq-eqb (callNumber k) 0 z)))
+
+-- ---- over a list
+
+-- the call is allowed, leaves this course, and what is asked of the list is asked of its rest
+one-call : (m : Move) (ms : List Move) (s : Course) → Right s → Asked (m ∷ ms) s → isAllowed m s ≡ true →
+    (quickNext m s ≡ next m s) × Right (next m s) × Asked ms (next m s)
+one-call m ms s v r h =
+    let a = allowed m s (Asked ms (next m s)) r h in
+    (quick-next m s (Asked ms (next m s)) r v h (a .0), right-next (callOf m s) s v (a .0), a .1)
+
+quick-met : (ms : List Move) (s : Course) → Right s → Asked ms s → isMetBy quickNext ms s ≡ true →
+    (isMet ms s ≡ true) × (endBy quickNext ms s ≡ endOf ms s) × Right (endOf ms s)
+quick-met [] s v r h = (h, refl, v)
+quick-met (m ∷ ms) s v r h =
+    let a = and-true (isAllowed m s) (isMetBy quickNext ms (quickNext m s)) h in
+    let (e, w, q) = one-call m ms s v r (a .0) in
+    let (met, end, right) = quick-met ms (next m s) w q (subst (λ (t : Course). isMetBy quickNext ms t ≡ true) e (a .1)) in
+    (both (a .0) met, ap (endBy quickNext ms) e ∙ end, right)
+
+module _ (i n : ℕ) where
+  quick-order : (ms : List Move) (s : Course) → Right s → Asked ms s → isInOrderBy i quickNext n ms s ≡ true →
+      (isInOrder i n ms s ≡ true) × (endBy quickNext ms s ≡ endOf ms s)
+  quick-order [] s v r h = (h, refl)
+  quick-order (m ∷ ms) s v r h =
+      let a = one-more i n quickNext m ms s h in
+      let (e, w, q) = one-call m ms s v r (a .0) in
+      let (order, end) = quick-order ms (next m s) w q (subst (λ (t : Course). isInOrderBy i quickNext n ms t ≡ true) e (a .2)) in (
+        both (a .0) (both (subst (λ (t : Course). isOneMore i m s t ≡ true) e (a .1)) order),
+        ap (endBy quickNext ms) e ∙ end,
+      )
+
+-- ---- from the start
+
+-- a list that meets the premises, and what holds at its end
+pub record Meets (ms : List Move) (P : Course → Type 0) : Type 0 where
+  pub met : isMet ms start ≡ true
+  pub state : StateHolds (endOf ms start .bank)
+  pub ends : P (endOf ms start)
+
+pub meets : (ms : List Move) {P : Course → Type 0} → Asked ms start → isMetBy quickNext ms start ≡ true →
+    P (endBy quickNext ms start) → Meets ms P
+meets ms {P} r h p =
+    let (met, end, right) = quick-met ms start right-start r h in
+    record { met = met; state = right .state; ends = subst P end p }
+
+-- one whose run i is in turn, opened by exchange n at its end
+pub record Orders (i n : ℕ) (ms : List Move) (P : Course → Type 0) : Type 0 where
+  pub in-order : isInOrder i n ms start ≡ true
+  pub ends : P (endOf ms start)
+
+pub orders : (i n : ℕ) (ms : List Move) {P : Course → Type 0} → Asked ms start → isInOrderBy i quickNext n ms start ≡ true →
+    P (endBy quickNext ms start) → Orders i n ms P
+orders i n ms {P} r h p =
+    let (order, end) = quick-order i n ms start right-start r h in record { in-order = order; ends = subst P end p }
