@@ -5,9 +5,9 @@ use mathlib.Core.List.{List, [], _++_, map}
 use mathlib.Core.Path.{_≡_}
 use lib.ListN.{length}
 use Rattle.frame_table.specs.declared.fields.Fields.{Fields}
-use Rattle.octets.specs.Bytes.{number}
 use Rattle.frame_reader.specs.Reader.{readRequest}
 use Rattle.frame_row.specs.Row.{dataOf}
+use Rattle.bank_verdicts.specs.declared.verdict.Context.{Context}
 use Rattle.bank_state.specs.Clock.{advanced}
 use Rattle.bank_state.specs.State.{Bank}
 use Rattle.bank_rows.specs.State.{bankOf, StoredWith}
@@ -20,16 +20,16 @@ use Rattle.journal.specs.declared.event.Entry.{Entry}
 use Rattle.journal.specs.declared.event.Batch.{Batch}
 use Rattle.bank_events.specs.Entries.{Holds, dropEntry, droppedUploads, verdictOrder, namedOrder, actionEntries, callEntries}
 use Rattle.bank.specs.declared.call.FrameOut.{FrameOut}
-use Rattle.bank.specs.Call.{respond, FrameInput}
+use Rattle.bank.specs.Call.{respond, FrameInput, contextOf}
 use Rattle.bank.specs.Journal.{clockBy, requestEntries, enteredBy, ifAnswered}
 use Rattle.bank.specs.Lent.{noReply}
 use Rattle.bank.proofs.Lent.{advanced-back}
 
 -- the order number is read before the step, the verdict is its result
-pub request-entered : (first : ℕ) (b : Bank) (q : Fields) (d : List ℕ) {v : Verdict} {named order : ℕ}
-    → v ≡ judge first b q (length d) → named ≡ namedOrder b q → order ≡ verdictOrder v named
-    → actionEntries v order q ≡ requestEntries first b q d
-request-entered first b q d e f g = rw (g, f, e)
+pub request-entered : (context : Context) (b : Bank) (q : Fields) (d : List ℕ) {v : Verdict} {named order : ℕ}
+    → v ≡ judge context b q (length d) → named ≡ namedOrder b q → order ≡ verdictOrder v named
+    → actionEntries v order q ≡ requestEntries context b q d
+request-entered context b q d e f g = rw (g, f, e)
 
 -- number 1 enters nothing
 pub none-entered : {o : FrameOut} {batch : Batch} → o ≡ noReply → Holds batch [] → (es : List Entry)
@@ -39,9 +39,9 @@ none-entered e h es = rw e h
 -- the whole call
 pub frame-entered : (m : Lent) (a : FrameInput) → isSound (m .rows) ≡ true → (t p : List ℕ)
     → StoredWith (advanced (a .time) (stateOf m)) (m .rows) t p
-    → {first : ℕ} {q : Fields} {d : List ℕ} {es : List Entry} → first ≡ number (a .ids) → q ≡ readRequest (a .frame)
+    → {context : Context} {q : Fields} {d : List ℕ} {es : List Entry} → context ≡ contextOf a → q ≡ readRequest (a .frame)
     → d ≡ dataOf (a .frame) → es ≡ map dropEntry (droppedUploads (clockBy (stateOf m) a) (bankOf (m .rows)))
-    → es ++ requestEntries first (bankOf t) q d ≡ enteredBy (stateOf m) a
+    → es ++ requestEntries context (bankOf t) q d ≡ enteredBy (stateOf m) a
 unfolding enteredBy callEntries respond
 frame-entered m a sound t p e x y z f =
     rw (

@@ -4,7 +4,6 @@ use mathlib.Core.Bool.{true}
 use mathlib.Core.List.{List}
 use mathlib.Core.Path.{_≡_, refl, ap, _∙_}
 use lib.ListN.{length}
-use Rattle.octets.specs.Bytes.{number}
 use Rattle.frame_reader.specs.Reader.{readRequest}
 use Rattle.frame_row.specs.Row.{dataOf}
 use Rattle.message.specs.Verdicts.{decide}
@@ -23,7 +22,7 @@ use Rattle.bank_steps.proofs.Held.{held-judged}
 use Rattle.bank_steps.proofs.Range.{stored-range, range-judged}
 use Rattle.bank.specs.declared.mailbox.FileAnswer.{FileAnswer}
 use Rattle.bank.specs.declared.mailbox.FileAnswer.the-variants as answers
-use Rattle.bank.specs.Call.{respond, FrameInput, FrameCall, lentRight, frameCall}
+use Rattle.bank.specs.Call.{respond, FrameInput, contextOf, FrameCall, lentRight, frameCall}
 use Rattle.bank.specs.Mailbox.{fileRefusals, carryOutFile, fileCall}
 use Rattle.bank.specs.Lent.{lentFrameCall, lentFileCall}
 use Rattle.bank.proofs.Accepted.{file-fits}
@@ -47,7 +46,7 @@ module _ (m : Lent) (a : FrameInput) (sound : isSound (m .rows) ≡ true) where
       let v = advanced (a .time) (stateOf m) in
       by-test (λ (c : FrameCall). Held (c .bankState .bank)) (lentRight (stateOf m) a)
       (λ _. held-judged (v .bank) held (readRequest (a .frame)) (v .orders) (v .mailboxes) (dataOf (a .frame))
-      (number (a .ids)))
+      (contextOf a))
       (λ _. held-rows (m .rows) laid)
 
   pub frame-range : InRange (after .bank)
@@ -57,7 +56,7 @@ module _ (m : Lent) (a : FrameInput) (sound : isSound (m .rows) ≡ true) where
       let r = advanced-range (a .time) (stateOf m) (sound-range (m .rows) sound) in
       by-test (λ (c : FrameCall). InRange (c .bankState .bank)) (lentRight (stateOf m) a)
       (λ _. range-judged (v .bank) held r (readRequest (a .frame)) (v .orders) (v .mailboxes) (dataOf (a .frame))
-      (number (a .ids)))
+      (contextOf a))
       (λ _. sound-range (m .rows) sound)
 
   -- the next call finds a bank's rows

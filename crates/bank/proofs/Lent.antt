@@ -7,9 +7,9 @@ use native.Mathlib.Omega.{arith}
 use lib.ListN.{length}
 use Rattle.frame_table.specs.declared.fields.Fields.{Fields}
 use Rattle.frame_table.specs.Names.{subscriber}
-use Rattle.octets.specs.Bytes.{number}
 use Rattle.frame_reader.specs.Reader.{readRequest}
 use Rattle.frame_row.specs.Row.{dataOf}
+use Rattle.bank_verdicts.specs.declared.verdict.Context.{Context}
 use Rattle.bank_state.specs.Clock.{advanced}
 use Rattle.bank_state.specs.Limits.{placeCount, storeBytes}
 use Rattle.bank_state.specs.State.{Bank, BankState, bankState, fileLength}
@@ -31,7 +31,7 @@ use Rattle.bank_steps.proofs.Held.{held-judged}
 use Rattle.bank_steps.proofs.Lent.{unchanged}
 use Rattle.bank.specs.declared.call.FrameAnswer.{FrameAnswer}
 use Rattle.bank.specs.Call.{fileSegment, mailboxSegment, stepBy, respond}
-use Rattle.bank.specs.Call.{frameNumber, SentAs, replied, FrameInput, lentRight}
+use Rattle.bank.specs.Call.{frameNumber, SentAs, replied, FrameInput, contextOf, lentRight}
 use Rattle.bank.specs.Call.{FrameCall, frameRefused, frameCall}
 use Rattle.bank.specs.Lent.{LentFrameCall, keptFrame, frameTurnedAway, lentFrameCall, lentRespond}
 
@@ -103,16 +103,16 @@ module _ (s o m : List ℕ) (l : Laid s) (time : ℕ) where
     }
 
     -- the step of the clock and the request's are stored as one
-    pub responded : (first : ℕ) (q : Fields) (d buffer : List ℕ) → lentRespond first (lent t p m) q d buffer
-        ≡ keptFrame (lent s o m) (replied (respond first (advanced time old) q d) buffer)
+    pub responded : (context : Context) (q : Fields) (d buffer : List ℕ) → lentRespond context (lent t p m) q d buffer
+        ≡ keptFrame (lent s o m) (replied (respond context (advanced time old) q d) buffer)
     unfolding respond
-    responded first q d buffer =
-        let c : BankState → FrameCall = λ (w : BankState). replied (respond first w q d) buffer in
+    responded context q d buffer =
+        let c : BankState → FrameCall = λ (w : BankState). replied (respond context w q d) buffer in
         let after = c (advanced time old) in
         let few = advanced-within in
         let v = advanced time old in
         let held : Held (after .bankState .bank) =
-        held-judged (v .bank) (few .held) q (v .orders) (v .mailboxes) d first in
+        held-judged (v .bank) (few .held) q (v .orders) (v .mailboxes) d context in
         let once = ap (stored (after .bankState .bank)) (e .rows)
         ∙ stored-twice (advanced time old .bank) (after .bankState .bank) s (few .held) held l
         (omega (arith, few .downloads)) (omega (arith, few .nonces)) in
@@ -147,10 +147,10 @@ module _ (m : Lent) (a : FrameInput) where
   -- the clock, the reading and the step
   pub frame-carried : isSound (m .rows) ≡ true → lentRight (stateOf m) a ≡ true
       → (t p : List ℕ) → StoredWith (advanced (a .time) (stateOf m)) (m .rows) t p
-      → {first : ℕ} {q : Fields} {d : List ℕ} {x : LentFrameCall} → first ≡ number (a .ids) → q ≡ readRequest (a .frame)
-      → d ≡ dataOf (a .frame) → x ≡ lentRespond first (lent t p (m .mailboxes)) q d (a .buffer) → x ≡ lentFrameCall m a
+      → {context : Context} {q : Fields} {d : List ℕ} {x : LentFrameCall} → context ≡ contextOf a → q ≡ readRequest (a .frame)
+      → d ≡ dataOf (a .frame) → x ≡ lentRespond context (lent t p (m .mailboxes)) q d (a .buffer) → x ≡ lentFrameCall m a
   unfolding lentFrameCall frameCall
-  frame-carried sound right t p e {first} {q} {d} x y z f =
+  frame-carried sound right t p e {context} {q} {d} x y z f =
       let l = sound-laid (m .rows) sound in
-      f ∙ responded (m .rows) (m .orders) (m .mailboxes) l (a .time) t p e first q d (a .buffer)
+      f ∙ responded (m .rows) (m .orders) (m .mailboxes) l (a .time) t p e context q d (a .buffer)
       ∙ rw (x, y, z, sound, right)

@@ -16,9 +16,10 @@ use Rattle.frame_table.specs.Table.{isReplyForm, lastTime}
 use Rattle.frame_writer.specs.Writer.{writeAnswer, writeBuffer}
 use Rattle.message.specs.Segments.{segmentOf}
 use Rattle.bank_state.specs.Clock.{advanced}
-use Rattle.bank_state.specs.Limits.{storeBytes, idBytes, replyRoom}
+use Rattle.bank_state.specs.Limits.{storeBytes, idBytes, replyRoom, idleOthers}
 use Rattle.bank_state.specs.State.{BankState, fileLength}
 use Rattle.bank_state.specs.Store.{fileOf}
+use Rattle.bank_verdicts.specs.declared.verdict.Context.{Context}
 use Rattle.bank_verdicts.specs.declared.verdict.Verdict.{Verdict}
 use Rattle.bank_verdicts.specs.Judgement.{judge}
 use Rattle.bank_verdicts.specs.Replies.{replyTo, segmentIn}
@@ -52,9 +53,9 @@ stepBy v w q d = record {
   replyData = mailboxSegment w (subscriber q) (segmentIn v q);
 }
 
--- a request, read, at the clock that the call has set; d is its data, first the number of the lent ID bytes
-unfoldable pub respond : ℕ → BankState → Fields → List ℕ → Step
-respond first w q d = stepBy (judge first (w .bank) q (length d)) w q d
+-- a request, read, at the clock that the call has set; d is its data
+unfoldable pub respond : Context → BankState → Fields → List ℕ → Step
+respond c w q d = stepBy (judge c (w .bank) q (length d)) w q d
 
 -- the reply written: "reply bytes behind the reply are untouched"
 abbrev pub answerOf : Written → FrameAnswer
@@ -100,15 +101,23 @@ replied s buffer = record {
       (writeBuffer (s .reply) (s .replyData) buffer);
 }
 
--- what a frame call brings and is lent besides the bank: the bank time, the 8 ID bytes, the frame, the reply buffer
+-- what a frame call brings and is lent besides the bank: the bank time, the 8 ID bytes, the frame, the reply buffer, and
+-- what the other banks count of the open transactions that all share
 pub record FrameInput : Type 0 where
   pub time : ℕ
   pub ids : List ℕ
   pub frame : List ℕ
   pub buffer : List ℕ
+  pub others : ℕ
 
+-- what its request is judged with
+abbrev pub contextOf : FrameInput → Context
+contextOf a = record { prefix = number (a .ids); others = a .others }
+
+-- the other banks being idle
 abbrev pub frameInput : ℕ → List ℕ → List ℕ → List ℕ → FrameInput
-frameInput time ids frame buffer = record { time = time; ids = ids; frame = frame; buffer = buffer }
+frameInput time ids frame buffer =
+    record { time = time; ids = ids; frame = frame; buffer = buffer; others = idleOthers }
 
 -- number 1 but for this: "a lent length differs from the above or is too short for what is to be written"
 abbrev pub lentLong : BankState → FrameInput → Bool
@@ -135,6 +144,6 @@ frameRefused w a =
 unfoldable pub frameCall : BankState → FrameInput → FrameCall
 frameCall w a =
     cond (lentRight w a)
-    (replied (respond (number (a .ids)) (advanced (a .time) w) (readRequest (a .frame)) (dataOf (a .frame)))
+    (replied (respond (contextOf a) (advanced (a .time) w) (readRequest (a .frame)) (dataOf (a .frame)))
     (a .buffer))
     (frameRefused w a)

@@ -3,11 +3,11 @@ use Prim.Native.Nat.{ℕ, _+_, max}
 use mathlib.Core.List.{List, []}
 use lib.ListN.{length}
 use Rattle.frame_table.specs.declared.fields.Fields.{Fields}
-use Rattle.octets.specs.Bytes.{number}
 use Rattle.frame_reader.specs.Reader.{readRequest}
 use Rattle.frame_row.specs.Row.{dataOf}
 use Rattle.bank_state.specs.Clock.{advanced}
 use Rattle.bank_state.specs.State.{Bank, BankState}
+use Rattle.bank_verdicts.specs.declared.verdict.Context.{Context}
 use Rattle.bank_verdicts.specs.Judgement.{judge}
 use Rattle.journal.specs.declared.event.Entry.{Entry}
 use Rattle.journal.specs.Events.{eventsFrom}
@@ -15,22 +15,22 @@ use Rattle.journal.specs.Row.{Journal, enteredAll}
 use Rattle.bank_events.specs.Entries.{orderIn, actionEntries, callEntries}
 use Rattle.bank.specs.declared.call.FrameAnswer.{FrameAnswer}
 use Rattle.bank.specs.declared.call.FrameAnswer.the-variants.{Reply, WrongLength}
-use Rattle.bank.specs.Call.{respond, FrameInput}
+use Rattle.bank.specs.Call.{respond, FrameInput, contextOf}
 
 -- the clock that a call sets
 abbrev pub clockBy : BankState → FrameInput → ℕ
 clockBy w a = max (w .bank .clock) (a .time)
 
--- what a request enters, at the bank b after the clock and its drops; first is the number of the lent ID bytes
-abbrev pub requestEntries : ℕ → Bank → Fields → List ℕ → List Entry
-requestEntries first b q d = let v = judge first b q (length d) in actionEntries v (orderIn v b q) q
+-- what a request enters, at the bank b after the clock and its drops
+abbrev pub requestEntries : Context → Bank → Fields → List ℕ → List Entry
+requestEntries c b q d = let v = judge c b q (length d) in actionEntries v (orderIn v b q) q
 
 -- what an answered frame call enters, with the bank before it: the drops, and what its request enters
 unfoldable pub enteredBy : BankState → FrameInput → List Entry
 enteredBy w a =
     let q = readRequest (a .frame) in
     let b = advanced (a .time) w in
-    let v = respond (number (a .ids)) b q (dataOf (a .frame)) .verdict in
+    let v = respond (contextOf a) b q (dataOf (a .frame)) .verdict in
     callEntries (clockBy w a) (w .bank) v (orderIn v (b .bank) q) q
 
 -- a call given number 1 enters nothing

@@ -6,6 +6,7 @@ use mathlib.Core.List.{List}
 use Rattle.frame_table.specs.declared.fields.Fields.{Fields}
 use Rattle.bank_rows.specs.State.{bankOf, stored}
 use Rattle.bank_sound.specs.Sound.{isSound}
+use Rattle.bank_verdicts.specs.declared.verdict.Context.{Context}
 use Rattle.bank_steps.specs.Lent.{Lent, stateOf, keptIn}
 use Rattle.bank.specs.declared.call.FrameAnswer.{FrameAnswer}
 use Rattle.bank.specs.declared.call.FrameAnswer.the-variants as frame
@@ -50,8 +51,8 @@ unfoldable pub lentFrameCall : Lent → FrameInput → LentFrameCall
 lentFrameCall m a = cond (isSound (m .rows)) (keptFrame m (frameCall (stateOf m) a)) (frameTurnedAway m a)
 
 -- a request, read, at the clock that the call has set
-abbrev pub lentRespond : ℕ → Lent → Fields → List ℕ → List ℕ → LentFrameCall
-lentRespond first m q d buffer = keptFrame m (replied (respond first (stateOf m) q d) buffer)
+abbrev pub lentRespond : Context → Lent → Fields → List ℕ → List ℕ → LentFrameCall
+lentRespond c m q d buffer = keptFrame m (replied (respond c (stateOf m) q d) buffer)
 
 -- ---- a file goes into a mailbox, with the rows and the mailboxes' store lent
 

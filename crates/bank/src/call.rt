@@ -8,6 +8,7 @@ use bank_events::drops::drops;
 use bank_rows::numbers::file_length_of;
 use bank_sound::sound::is_sound;
 use bank_state::limits::ID_BYTES;
+use bank_state::limits::IDLE_OTHERS;
 use bank_state::limits::REPLY_ROOM;
 use bank_state::limits::STORE_BYTES;
 use bank_state::store::file_of;
@@ -15,6 +16,7 @@ use bank_steps::mailboxes::mailbox_of;
 use bank_steps::steps::step;
 use bank_verdicts::replies::reply_to;
 use bank_verdicts::replies::segment_in;
+use bank_verdicts::verdict::Context;
 use bank_verdicts::verdict::Verdict;
 use frame_reader::reader::data_at;
 use frame_reader::reader::read_whole_request;
@@ -125,7 +127,7 @@ fn if_answered(answer: FrameAnswer, batch: Batch) -> Batch
 fn respond(
     rows: &mut [u64],
     dropped: Batch,
-    first: u64,
+    context: Context,
     q: Fields,
     bytes: &[u8],
     orders: &mut [u8],
@@ -135,14 +137,14 @@ fn respond(
     requires { ⌜ Prepared (now rows) (now orders) (now mailboxes) × (dropped .count ≤ placeCount) ⌝ }
     ensures { λ r. ⌜ (lentFrameCallOf (r .out) (lent (now (rows .exit)) (now (orders .exit)) (now (mailboxes .exit)))
         (now (buffer .exit))
-        ≡ lentRespond first (lent (now (rows .entry)) (now (orders .entry)) (now (mailboxes .entry)))
+        ≡ lentRespond context (lent (now (rows .entry)) (now (orders .entry)) (now (mailboxes .entry)))
         q (now (bytes .entry)) (now (buffer .entry)))
         × Holds (r .batch) (ifAnswered (r .out .answer) (entriesIn dropped
-        ++ requestEntries first (bankOf (now (rows .entry))) q (now (bytes .entry)))) ⌝ }
+        ++ requestEntries context (bankOf (now (rows .entry))) q (now (bytes .entry)))) ⌝ }
 {
     let n = file_length_of(rows, q.subscriber());
     let named = named_order(rows, q);
-    let verdict = step(rows, first, q, bytes, orders, mailboxes);
+    let verdict = step(rows, context, q, bytes, orders, mailboxes);
     let out = reply(verdict, q, n, mailboxes, buffer);
     let answer = out.answer;
     let entered = with_action(dropped, verdict, verdict_order(verdict, named), q);
@@ -210,10 +212,14 @@ pub fn answer_frame(
     advance(rows, time, orders);
     let p = read_whole_request(frame);
     let q = p.fields;
+    let context = Context {
+        prefix: number(ids),
+        others: IDLE_OTHERS,
+    };
     respond(
         rows,
         dropped,
-        number(ids),
+        context,
         q,
         data_at(frame, p.from, p.end),
         orders,

@@ -24,6 +24,7 @@ use Rattle.bank_state.specs.Limits.{placeCount, seriesLimit}
 use Rattle.bank_state.specs.Search.{freePlace, isUpload, findUpload, isDownload, findDownload}
 use Rattle.bank_state.specs.State.{BankState, placeAt, downloadAt, fileLength, seriesOf}
 use Rattle.bank_state.proofs.Rows.{first-passes}
+use Rattle.bank_verdicts.specs.declared.verdict.Context.{Context}
 use Rattle.bank_verdicts.specs.declared.verdict.Direction.the-variants as direction
 use Rattle.bank_verdicts.specs.declared.verdict.TransactionRequest.{TransactionRequest}
 use Rattle.bank_verdicts.specs.declared.verdict.TransactionRequest.the-variants as asked
@@ -119,10 +120,10 @@ pub data Happens (first : ℕ) (w : BankState) (q : Fields) (d : List ℕ) : Ver
   toDownload : (r : TransactionRequest) (a : DownloadAction) → ToDownload w q d r a →
       Happens first w q d (verdict.Of (downloadAt (w .bank) (downloadOf (w .bank) q) .transaction) (action.Download a))
 
-module _ (first : ℕ) (w : BankState) (q : Fields) (d : List ℕ) (rowed : length (w .bank .places) ≡ placeCount)
+module _ (k : Context) (w : BankState) (q : Fields) (d : List ℕ) (rowed : length (w .bank .places) ≡ placeCount)
     (listed : length (w .bank .downloads) ≡ placeCount) where
   abbrev Comes : Verdict → Type 0
-  Comes v = Happens first w q d v
+  Comes v = Happens (k .prefix) w q d v
 
   abbrev i : ℕ
   i = uploadAt (w .bank) q
@@ -146,7 +147,7 @@ module _ (first : ℕ) (w : BankState) (q : Fields) (d : List ℕ) (rowed : leng
       (and-false (leb placeCount i) (leb placeCount j) some (le-leb placeCount i (ltb-false i placeCount n)))
 
   transaction-happens : (r : TransactionRequest) → Readable q (length d) → form q ≡ requestForm r →
-      Comes (judgeTransaction r (w .bank) q (length d))
+      Comes (judgeTransaction r (w .bank) q)
   unfolding judgeTransaction judgeOpen
   transaction-happens r a f =
       judged-transaction Comes (w .bank) q _ (refused code.UnknownTransaction refl)
@@ -167,28 +168,28 @@ module _ (first : ℕ) (w : BankState) (q : Fields) (d : List ℕ) (rowed : leng
       })))
 
   upload-happens : {v : Verdict} → form q ≡ forms.UploadOpening → Readable q (length d) →
-      OpeningSound first (w .bank) q direction.Upload v → Comes v
+      OpeningSound (k .prefix) (w .bank) q direction.Upload v → Comes v
   upload-happens f a (opening.refused d c e) = refused c e
   upload-happens f a (opening.upload g n p below) = opensUpload f a g n p below
 
   download-happens : {v : Verdict} → form q ≡ forms.DownloadOpening → Readable q (length d) →
-      OpeningSound first (w .bank) q direction.Download v → Comes v
+      OpeningSound (k .prefix) (w .bank) q direction.Download v → Comes v
   download-happens f a (opening.refused d c e) = refused c e
   download-happens f a (opening.download g n) = opensDownload f a g n
 
-  request-happens : (x : RequestForm) → form q ≡ Request x → Readable q (length d) → Comes (judgeRequest x first (w .bank) q (length d))
-  request-happens requests.UploadOpening e a = upload-happens e a (judged-opening first (w .bank) q direction.Upload)
-  request-happens requests.DownloadOpening e a = download-happens e a (judged-opening first (w .bank) q direction.Download)
+  request-happens : (x : RequestForm) → form q ≡ Request x → Readable q (length d) → Comes (judgeRequest x k (w .bank) q)
+  request-happens requests.UploadOpening e a = upload-happens e a (judged-opening k (w .bank) q direction.Upload)
+  request-happens requests.DownloadOpening e a = download-happens e a (judged-opening k (w .bank) q direction.Download)
   request-happens requests.UploadTransfer e a = transaction-happens asked.UploadTransfer a e
   request-happens requests.DownloadTransfer e a = transaction-happens asked.DownloadTransfer a e
   request-happens requests.Receipt e a = transaction-happens asked.Receipt a e
 
-  form-happens : (f : Form) → form q ≡ f → Readable q (length d) → Comes (judgeForm f first (w .bank) q (length d))
+  form-happens : (f : Form) → form q ≡ f → Readable q (length d) → Comes (judgeForm f k (w .bank) q)
   form-happens NoForm e a = unreadable
   form-happens (Request x) e a = request-happens x e a
   form-happens (Reply x) e a = unreadable
 
   -- every request comes to one of these cases
-  pub happens : Happens first w q d (judge first (w .bank) q (length d))
+  pub happens : Happens (k .prefix) w q d (judge k (w .bank) q (length d))
   unfolding judge
   happens = judged-request Comes q (length d) _ (λ _. unreadable) refused (form-happens (form q) refl)

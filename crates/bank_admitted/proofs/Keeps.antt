@@ -13,11 +13,12 @@ use Rattle.octets.specs.Bytes.{number}
 use Rattle.message.proofs.Verdicts.{by-test}
 use Rattle.bank_state.specs.Clock.{advanced}
 use Rattle.bank_state.specs.State.{BankState, bankState}
+use Rattle.bank_verdicts.specs.declared.verdict.Context.{Context}
 use Rattle.bank_verdicts.specs.declared.verdict.Verdict.{Verdict}
 use Rattle.bank_steps.specs.Steps.{carryOut}
 use Rattle.bank.specs.declared.mailbox.FileAnswer.{FileAnswer}
 use Rattle.bank.specs.declared.mailbox.FileAnswer.the-variants as put
-use Rattle.bank.specs.Call.{FrameCall, FrameInput, lentRight, respond, frameCall}
+use Rattle.bank.specs.Call.{FrameCall, FrameInput, contextOf, lentRight, respond, frameCall}
 use Rattle.bank.specs.Mailbox.{FileCall, fileNumber, carryOutFile, fileCall}
 use Rattle.bank_admitted.specs.State.{StateHolds, NoneIdle}
 use Rattle.bank_admitted.proofs.Cases.{
@@ -40,22 +41,22 @@ use Rattle.bank_admitted.proofs.NotIdle.{case-not-idle}
 
 -- ---- a request, at the clock that the call has set
 
-module _ (first : ℕ) (w : BankState) (v : StateHolds w) (q : Fields) (d : List ℕ) where
-  pub case-keeps : (form q ≡ forms.UploadTransfer → 1 ≤ length d) → {u : Verdict} → Happens first w q d u → StateHolds (carryOut u w q d)
+module _ (k : Context) (w : BankState) (v : StateHolds w) (q : Fields) (d : List ℕ) where
+  pub case-keeps : (form q ≡ forms.UploadTransfer → 1 ≤ length d) → {u : Verdict} → Happens (k .prefix) w q d u → StateHolds (carryOut u w q d)
   case-keeps some unreadable = v
   case-keeps some (refused c e) = v
-  case-keeps some (opensUpload asked a g n p below) = opens-upload first w v q (length d) a g n p below
-  case-keeps some (opensDownload asked a g n) = opens-download first w v q (length d) a g n
+  case-keeps some (opensUpload asked a g n p below) = opens-upload (k .prefix) w v q (length d) a g n p below
+  case-keeps some (opensDownload asked a g n) = opens-download (k .prefix) w v q (length d) a g n
   case-keeps some (toUpload r a t) = upload-keeps w v q d r a some t
   case-keeps some (toDownload r a t) = download-keeps w v q d r a t
 
-  pub respond-keeps : (form q ≡ forms.UploadTransfer → 1 ≤ length d) → StateHolds (respond first w q d .bankState)
+  pub respond-keeps : (form q ≡ forms.UploadTransfer → 1 ≤ length d) → StateHolds (respond k w q d .bankState)
   unfolding respond
-  respond-keeps some = case-keeps some (happens first w q d (v .sizes .places) (v .sizes .downloads))
+  respond-keeps some = case-keeps some (happens k w q d (v .sizes .places) (v .sizes .downloads))
 
-  pub respond-not-idle : NoneIdle w → NoneIdle (respond first w q d .bankState)
+  pub respond-not-idle : NoneIdle w → NoneIdle (respond k w q d .bankState)
   unfolding respond
-  respond-not-idle n = case-not-idle w n first q d (v .sizes .places) (happens first w q d (v .sizes .places) (v .sizes .downloads))
+  respond-not-idle n = case-not-idle w n (k .prefix) q d (v .sizes .places) (happens k w q d (v .sizes .places) (v .sizes .downloads))
 
 -- ---- the calls
 
@@ -64,7 +65,7 @@ module _ (w : BankState) (v : StateHolds w) where
   unfolding frameCall
   frame-keeps-state a =
       by-test (λ (c : FrameCall). StateHolds (c .bankState)) (lentRight w a)
-      (λ _. respond-keeps (number (a .ids)) (advanced (a .time) w) (advanced-keeps (a .time) w v) (readRequest (a .frame))
+      (λ _. respond-keeps (contextOf a) (advanced (a .time) w) (advanced-keeps (a .time) w v) (readRequest (a .frame))
       (dataOf (a .frame)) (transfer-data (a .frame)))
       (λ _. v)
 
@@ -72,7 +73,7 @@ module _ (w : BankState) (v : StateHolds w) where
   unfolding frameCall
   frame-not-idle n a =
       by-test (λ (c : FrameCall). NoneIdle (c .bankState)) (lentRight w a)
-      (λ _. respond-not-idle (number (a .ids)) (advanced (a .time) w) (advanced-keeps (a .time) w v) (readRequest (a .frame))
+      (λ _. respond-not-idle (contextOf a) (advanced (a .time) w) (advanced-keeps (a .time) w v) (readRequest (a .frame))
       (dataOf (a .frame)) (advanced-not-idle (a .time) w (v .sizes)))
       (λ _. n)
 

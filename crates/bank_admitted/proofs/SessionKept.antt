@@ -35,7 +35,7 @@ use Rattle.bank.specs.declared.call.FrameAnswer.{FrameAnswer}
 use Rattle.bank.specs.declared.call.FrameAnswer.the-variants.{Reply, WrongLength}
 use Rattle.bank.specs.declared.mailbox.FileAnswer.{FileAnswer}
 use Rattle.bank.specs.declared.mailbox.FileAnswer.the-variants as answers
-use Rattle.bank.specs.Call.{RightInput, lentRight, respond, replied, FrameInput, FrameCall, frameCall}
+use Rattle.bank.specs.Call.{RightInput, lentRight, respond, replied, FrameInput, contextOf, FrameCall, frameCall}
 use Rattle.bank.specs.Journal.{enteredBy, journalAfter, journalBy, withEntries}
 use Rattle.bank.specs.Mailbox.{fileRefusals, carryOutFile, fileCall}
 use Rattle.bank.proofs.Right.{right-told}
@@ -135,7 +135,7 @@ module _ {w : BankState} {j : Journal} (h : SessionHolds w j) (a : FrameInput) (
     right = right-told w a lent .2
 
     abbrev v : Verdict
-    v = judge (number (a .ids)) (b .bank) q (length d)
+    v = judge (contextOf a) (b .bank) q (length d)
 
     -- the bank that it leaves, and what it enters
     abbrev after : BankState
@@ -156,7 +156,7 @@ module _ {w : BankState} {j : Journal} (h : SessionHolds w j) (a : FrameInput) (
           nonce = nonce-read (a .frame) (brought .frame);
           timestamp = timestamp-read (a .frame) (brought .frame);
         })
-        (happens (number (a .ids)) b q d (n .places) (n .downloads))
+        (happens (contextOf a) b q d (n .places) (n .downloads))
 
     now : after .bank .clock ≡ c
     now = left .clock ∙ at .clock
@@ -220,7 +220,7 @@ module _ {w : BankState} {j : Journal} (h : SessionHolds w j) where
       SessionHolds (frameCall w a .bankState) (journalBy (frameCall w a .answer) (journalAfter w a j) j)
   unfolding frameCall respond journalAfter enteredBy callEntries
   frame-keeps a brought =
-      let step = respond (number (a .ids)) (advanced (a .time) w) (readRequest (a .frame)) (dataOf (a .frame)) in
+      let step = respond (contextOf a) (advanced (a .time) w) (readRequest (a .frame)) (dataOf (a .frame)) in
       by-test
       (λ (x : FrameCall). StateHolds (x .bankState) → NoneIdle (x .bankState) →
       SessionHolds (x .bankState) (journalBy (x .answer) (journalAfter w a j) j))

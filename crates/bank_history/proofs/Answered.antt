@@ -16,7 +16,7 @@ use Rattle.message.specs.Limits.{segmentBytes}
 use Rattle.message.specs.Segments.{segmentsOf, segmentOf}
 use Rattle.bank_state.specs.Clock.{advanced}
 use Rattle.bank_state.specs.Limits.{replyRoom}
-use Rattle.bank.specs.Call.{Step, respond, lentRight, frameCall, FrameInput, RightInput}
+use Rattle.bank.specs.Call.{contextOf, Step, respond, lentRight, frameCall, FrameInput, RightInput}
 use Rattle.bank.proofs.Right.{right-tested}
 use Rattle.bank_verdicts.specs.declared.verdict.UploadAction.{UploadAction}
 use Rattle.bank_verdicts.specs.declared.verdict.UploadAction.the-variants as up
@@ -47,14 +47,14 @@ lent-right p a holds =
 
 -- such a call is answered, where its reply can be written in at most 312 bytes
 pub frame-answered : (a : FrameInput) (p : Past) → Holds p → RightInput a →
-    (let s = respond (number (a .ids)) (advanced (a .time) (p .bankState)) (readRequest (a .frame))
+    (let s = respond (contextOf a) (advanced (a .time) (p .bankState)) (readRequest (a .frame))
     (dataOf (a .frame)) in
     (writable (s .reply) (s .replyData) ≡ true) × (length (frameOf (s .reply) (s .replyData)) ≤ replyRoom)) →
     after (Frame a) p ≡ answered a p
 unfolding after frameCall
 frame-answered a p holds right can =
     let s : Step =
-    respond (number (a .ids)) (advanced (a .time) (p .bankState)) (readRequest (a .frame)) (dataOf (a .frame)) in
+    respond (contextOf a) (advanced (a .time) (p .bankState)) (readRequest (a .frame)) (dataOf (a .frame)) in
     let short = can .1 in
     let fits : length (frameOf (s .reply) (s .replyData)) ≤ length (a .buffer) = omega (arith, right .room) in
     let front = written-in-front (s .reply) (s .replyData) (a .buffer) _ (can .0) refl fits .0 in

@@ -23,10 +23,11 @@ use Rattle.bank_state.specs.State.{BankState}
 use Rattle.bank_state.proofs.Drops.{Sized, advanced-sized}
 use Rattle.bank_sound.specs.Sound.{InRange}
 use Rattle.bank_sound.proofs.Range.{advanced-range}
+use Rattle.bank_verdicts.specs.declared.verdict.Context.{Context}
 use Rattle.bank_verdicts.specs.declared.verdict.Verdict.the-variants as verdict
 use Rattle.bank_verdicts.specs.Refusals.{requestRows}
 use Rattle.bank_verdicts.specs.Judgement.{judge}
-use Rattle.bank.specs.Call.{Step, stepBy, respond, lentRight, frameCall, FrameInput, RightInput}
+use Rattle.bank.specs.Call.{contextOf, Step, stepBy, respond, lentRight, frameCall, FrameInput, RightInput}
 use Rattle.bank.proofs.Right.{right-told, right-tested}
 use Rattle.bank_history.specs.History.{Past, BankCall, Frame, exchangeOf, after, pastOf, callExchange}
 use Rattle.bank_admitted.specs.State.{Sizes}
@@ -51,12 +52,12 @@ ids-lt ids b long = number-small idBytes ids b long
 
 -- the answer to a request of a frame
 abbrev pub stepOf : BankState → FrameInput → Step
-stepOf w a = respond (number (a .ids)) (advanced (a .time) w) (readRequest (a .frame)) (dataOf (a .frame))
+stepOf w a = respond (contextOf a) (advanced (a .time) w) (readRequest (a .frame)) (dataOf (a .frame))
 
-unread-is : (first : ℕ) (w : BankState) (q : Fields) (d : List ℕ) → isRequestForm (form q) ≡ false →
-    respond first w q d ≡ stepBy verdict.Unreadable w q d
+unread-is : (context : Context) (w : BankState) (q : Fields) (d : List ℕ) → isRequestForm (form q) ≡ false →
+    respond context w q d ≡ stepBy verdict.Unreadable w q d
 unfolding respond judge requestRows
-unread-is first w q d e = rw e
+unread-is context w q d e = rw e
 
 -- a bank in range, with stores of their lengths, and a call that brings bytes
 module _ (w : BankState) (range : InRange (w .bank)) (sizes : Sizes w) (a : FrameInput)
@@ -78,10 +79,10 @@ module _ (w : BankState) (range : InRange (w .bank)) (sizes : Sizes w) (a : Fram
       at true e =
           case-written v (advanced-range (a .time) w range) (long .mailboxes) q
           (request-in-width (a .frame) frameBytes e) (ids-lt (a .ids) idsBytes right)
-          (happens (number (a .ids)) v q (dataOf (a .frame)) (long .places) (long .downloads))
+          (happens (contextOf a) v q (dataOf (a .frame)) (long .places) (long .downloads))
       at false e =
           subst (λ (s : Step). WrittenReply (s .reply) (s .replyData))
-          (sym (unread-is (number (a .ids)) v q (dataOf (a .frame)) e))
+          (sym (unread-is (contextOf a) v q (dataOf (a .frame)) e))
           (subst (WrittenReply unreadable) (sym (bare v (subscriber q))) (sent refl (omega arith) unreadable-written))
 
   -- its answer is the reply, in front of the buffer

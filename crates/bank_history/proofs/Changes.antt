@@ -41,7 +41,7 @@ use Rattle.bank.specs.declared.call.FrameAnswer.the-variants.{Reply, WrongLengt
 use Rattle.bank.specs.declared.mailbox.FileAnswer.{FileAnswer}
 use Rattle.bank.specs.declared.mailbox.FileAnswer.the-variants as put
 use Rattle.bank_steps.specs.Steps.{onUpload, downloadActs, emptied, carryOut}
-use Rattle.bank.specs.Call.{Step, FrameCall, lentRight, replied, respond, frameCall, FrameInput}
+use Rattle.bank.specs.Call.{contextOf, Step, FrameCall, lentRight, replied, respond, frameCall, FrameInput}
 use Rattle.bank.specs.Mailbox.{fileNumber, carryOutFile, fileCall}
 use Rattle.bank.proofs.Right.{right-told}
 use Rattle.bank_admitted.specs.State.{mailboxFile}
@@ -74,7 +74,7 @@ after-frame a p =
     (lentRight (p .bankState) a) (λ _. at (replied s (a .buffer) .answer)) (λ _. inl refl)
   where
     s : Step
-    s = respond (number (a .ids)) (advanced (a .time) (p .bankState)) (readRequest (a .frame)) (dataOf (a .frame))
+    s = respond (contextOf a) (advanced (a .time) (p .bankState)) (readRequest (a .frame)) (dataOf (a .frame))
 
     x : Exchange
     x = callExchange (p .bankState) a
@@ -185,7 +185,7 @@ pub frame-mailbox : (a : FrameInput) (p : Past) (m : ℕ) → Holds p → 1 ≤ 
 unfolding exchangeOf respond
 frame-mailbox a p m holds one =
     at (case-mailbox (number (a .ids)) w (p .history) v (readRequest (a .frame)) (dataOf (a .frame)) m one
-    (happens (number (a .ids)) w (readRequest (a .frame)) (dataOf (a .frame)) (v .state .sizes .places)
+    (happens (contextOf a) w (readRequest (a .frame)) (dataOf (a .frame)) (v .state .sizes .places)
     (v .state .sizes .downloads)))
   where
     w : BankState
@@ -280,7 +280,7 @@ module _ (t : Bits128) where
   answered-gone a p holds g =
       let v = advanced-keeps (a .time) (p .bankState) (p .history) (holds .invariant) in
       case-gone (advanced (a .time) (p .bankState)) g (number (a .ids)) (readRequest (a .frame)) (dataOf (a .frame))
-      (happens (number (a .ids)) (advanced (a .time) (p .bankState)) (readRequest (a .frame)) (dataOf (a .frame))
+      (happens (contextOf a) (advanced (a .time) (p .bankState)) (readRequest (a .frame)) (dataOf (a .frame))
       (v .state .sizes .places)
       (v .state .sizes .downloads))
 

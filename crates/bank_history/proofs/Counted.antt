@@ -37,7 +37,7 @@ use Rattle.bank_verdicts.specs.declared.verdict.Verdict.the-variants as verdict
 use Rattle.bank_verdicts.specs.Judgement.{transactionOf, uploadAt, downloadOf}
 use Rattle.bank_uploads.specs.Uploads.{grown, booked, attempted, placeAfter}
 use Rattle.bank_steps.specs.Steps.{onUpload, downloadActs, carryOut}
-use Rattle.bank.specs.Call.{respond}
+use Rattle.bank.specs.Call.{contextOf, respond}
 use Rattle.bank_history.specs.History.{Exchange, Past, BankCall, Stands, newest, older, ActionIn, isAction, isOpening, isTaking, isDelivery, did, ever, times, exchangeOf, start, pastOf}
 use Rattle.bank_admitted.specs.State.{Sizes}
 use Rattle.bank_history.specs.Invariant.{Invariant, Holds}
@@ -329,7 +329,7 @@ past-counted (call ∷ calls) =
     case-counted w (p .history) v
     (advanced-counted (a .time) (p .bankState) (p .history) (holds .invariant .state .sizes) c) (readRequest (a .frame))
     (dataOf (a .frame)) (number (a .ids))
-    (happens (number (a .ids)) w (readRequest (a .frame)) (dataOf (a .frame)) (v .state .sizes .places)
+    (happens (contextOf a) w (readRequest (a .frame)) (dataOf (a .frame)) (v .state .sizes .places)
     (v .state .sizes .downloads)))
     (λ m f e. record { places = c .places; downloads = c .downloads })
 

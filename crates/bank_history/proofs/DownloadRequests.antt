@@ -22,6 +22,7 @@ use Rattle.bank_state.specs.Limits.{placeCount}
 use Rattle.bank_state.specs.Search.{isFree, isUpload, isDownload, findUpload, findDownload, freeDownload}
 use Rattle.bank_state.specs.State.{BankState, noPlace, noDownload, placeAt, downloadAt}
 use Rattle.bank_downloads.specs.Downloads.{movedTo}
+use Rattle.bank_verdicts.specs.declared.verdict.Context.{Context}
 use Rattle.bank_verdicts.specs.declared.verdict.TransactionRequest.{TransactionRequest}
 use Rattle.bank_verdicts.specs.declared.verdict.TransactionRequest.the-variants as asks
 use Rattle.bank_verdicts.specs.declared.verdict.DownloadAction.{DownloadAction}
@@ -109,7 +110,7 @@ judge-receipt : (e : Download) (n : ℕ) (q : Fields) → e .delivered ≡ n →
 unfolding judgeDownload downloadRows receiptRows downloadAttempt
 judge-receipt e n q whole taken = rw (eq-eqb (e .delivered) n whole, eq-eqb (receiptCode q) 0 taken)
 
-module _ (first : ℕ) (w : BankState) (h : List Exchange) (v : Invariant w h) (t : Bits128) (s d last : ℕ) (u : DownloadAt w t s d last)
+module _ (context : Context) (w : BankState) (h : List Exchange) (v : Invariant w h) (t : Bits128) (s d last : ℕ) (u : DownloadAt w t s d last)
     (q : Fields) (b : List ℕ)
     (from : subscriber q ≡ s) (to : transaction q ≡ t) (short : length b ≤ segmentBytes) where
   abbrev own : Download
@@ -140,7 +141,7 @@ module _ (first : ℕ) (w : BankState) (h : List Exchange) (v : Invariant w h) (
   found-inside : downloadOf (w .bank) q < placeCount
   found-inside = let e = found in let i = u .inside in omega arith
 
-  at-record : (r : TransactionRequest) → judgeTransaction r (w .bank) q (length b)
+  at-record : (r : TransactionRequest) → judgeTransaction r (w .bank) q
       ≡ verdict.Of (downloadAt (w .bank) (downloadOf (w .bank) q) .transaction)
       (action.Download (judgeDownload r (downloadAt (w .bank) (downloadOf (w .bank) q)) n q))
   unfolding judgeTransaction transactionRows judgeOpen notOpen
@@ -152,10 +153,10 @@ module _ (first : ℕ) (w : BankState) (h : List Exchange) (v : Invariant w h) (
 
   -- the verdict on a request in this form, by that on the record
   own-verdict : (r : TransactionRequest) (a : DownloadAction) → form q ≡ requestForm r → isRequestForm (requestForm r) ≡ true →
-      judgeForm (requestForm r) first (w .bank) q (length b) ≡ judgeTransaction r (w .bank) q (length b) →
-      judgeDownload r own n q ≡ a → judge first (w .bank) q (length b) ≡ verdict.Of t (action.Download a)
+      judgeForm (requestForm r) context (w .bank) q ≡ judgeTransaction r (w .bank) q →
+      judgeDownload r own n q ≡ a → judge context (w .bank) q (length b) ≡ verdict.Of t (action.Download a)
   own-verdict r a asked request by judged =
-      verdict-by-form first w q b (requestForm r) asked (readable (ap isRequestForm asked ∙ request))
+      verdict-by-form context w q b (requestForm r) asked (readable (ap isRequestForm asked ∙ request))
       ∙ (by ∙ (at-record r
       ∙ (ap (λ (j : ℕ). verdict.Of (downloadAt (w .bank) j .transaction) (action.Download (judgeDownload r (downloadAt (w .bank) j) n q)))
       found
@@ -164,7 +165,7 @@ module _ (first : ℕ) (w : BankState) (h : List Exchange) (v : Invariant w h) (
 
   -- the next segment is delivered
   module _ (asked : form q ≡ forms.DownloadTransfer) (next : segment q ≡ suc d) (within : segment q ≤ n) where
-    pub deliver-verdict : judge first (w .bank) q (length b) ≡ verdict.Of t (action.Download (down.Delivered n))
+    pub deliver-verdict : judge context (w .bank) q (length b) ≡ verdict.Of t (action.Download (down.Delivered n))
     deliver-verdict = own-verdict asks.DownloadTransfer (down.Delivered n) asked refl refl
         (judge-next own n q (let e = u .delivered in omega arith) within)
 
@@ -185,14 +186,14 @@ module _ (first : ℕ) (w : BankState) (h : List Exchange) (v : Invariant w h) (
             (let a = v .state .sizes .downloads in let i = found-inside in omega arith)
             ∙ ap (λ (j : ℕ). let e = downloadAt (w .bank) j in movedTo (e .delivered + 1) (e .attempts) (w .bank .clock) e) found
 
-    pub deliver-open : DownloadAt (respond first w q b .bankState) t s (suc d) (w .bank .clock)
+    pub deliver-open : DownloadAt (respond context w q b .bankState) t s (suc d) (w .bank .clock)
     unfolding respond
     deliver-open =
         subst (λ (x : Verdict). DownloadAt (carryOut x w q b) t s (suc d) (w .bank .clock)) (sym deliver-verdict) delivered-open
 
   -- the receipt is answered 011000
   pub receipt-verdict : form q ≡ forms.Receipt → d ≡ n → receiptCode q ≡ 0 →
-      judge first (w .bank) q (length b) ≡ verdict.Of t (action.Download down.Confirmed)
+      judge context (w .bank) q (length b) ≡ verdict.Of t (action.Download down.Confirmed)
   receipt-verdict asked whole taken = own-verdict asks.Receipt down.Confirmed asked refl refl
       (judge-receipt own n q (u .delivered ∙ whole) taken)
 

@@ -28,6 +28,7 @@ use Rattle.bank_state.specs.Clock.{advanced}
 use Rattle.bank_state.specs.Limits.{window}
 use Rattle.bank_state.specs.Search.{isRemembered}
 use Rattle.bank_state.specs.State.{BankState}
+use Rattle.bank_verdicts.specs.declared.verdict.Context.{Context}
 use Rattle.bank_verdicts.specs.declared.verdict.Direction.{Direction}
 use Rattle.bank_verdicts.specs.declared.verdict.Direction.the-variants as direction
 use Rattle.bank_verdicts.specs.declared.verdict.UploadAction.{UploadAction}
@@ -42,6 +43,7 @@ use Rattle.bank_verdicts.specs.Refusals.{unknownType, manySegments, isReplay, i
 use Rattle.bank_verdicts.specs.Judgement.{judgeOpening, judge}
 use Rattle.bank_verdicts.specs.Replies.{replyTo, uploadReply, downloadReply, actionReply}
 use Rattle.bank_steps.specs.Steps.{carryOut}
+use Rattle.bank.specs.Call.{contextOf}
 use Rattle.bank_history.specs.History.{Exchange, BankCall, Frame, Stands, newest, older, ActionIn, pastOf, opens, isOpening, isUploadOpening, isDownloadOpening, isTaking, isBooking, did, ever, atOpening, openedBy}
 use Rattle.bank_history.specs.Sound.{SoundUploadPoint, SoundDownloadPoint, SoundUploadAction, SoundDownloadAction, SoundAction, SoundVerdict, AllSound, more}
 use Rattle.bank_history.specs.FalseEconomies.{Next, WellMadeOpening, Asks, RefusedWith, Opens, Takes, RecoveryPoint, FalseEconomies}
@@ -90,18 +92,18 @@ opens-action {t} {f} sound stands o = at (o .formed)
 -- ---- a nonce is refused while it is remembered
 
 -- the lines above 091103 pass, and its own holds
-module _ (first : ℕ) (b : Bank) (q : Fields) (few : segments q ≤ maxSegments) (seen : isRemembered (nonce q) b ≡ true) where
+module _ (context : Context) (b : Bank) (q : Fields) (few : segments q ≤ maxSegments) (seen : isRemembered (nonce q) b ≡ true) where
   replayed : isReplay b q ≡ true
   unfolding isReplay
   replayed = or-right (not (inTime (timestamp q) (b .clock))) (isRemembered (nonce q) b) seen
 
   upload-replayed : orderType q ≡ ful → 1 ≤ segments q →
-      judgeOpening direction.Upload first b q ≡ verdict.Refused code.MessageReplay
+      judgeOpening direction.Upload context b q ≡ verdict.Refused code.MessageReplay
   unfolding judgeOpening openingRows unknownType manySegments
   upload-replayed kind some =
       rw (replayed, kind, ne-eqb (segments q) 0 (λ z. omega arith), le-ltb maxSegments (segments q) few)
 
-  download-replayed : orderType q ≡ fdl → judgeOpening direction.Download first b q ≡ verdict.Refused code.MessageReplay
+  download-replayed : orderType q ≡ fdl → judgeOpening direction.Download context b q ≡ verdict.Refused code.MessageReplay
   unfolding judgeOpening openingRows unknownType manySegments
   download-replayed kind = rw (replayed, kind, le-ltb maxSegments (segments q) few)
 
@@ -123,16 +125,16 @@ nonce-refused {calls} {e} {f} {g} {t} n made stands o same recent = refused-with
 
     judged-so : ((form (asked n) ≡ forms.UploadOpening) × (orderType (asked n) ≡ ful) × (1 ≤ segments (asked n)))
         ⊎ ((form (asked n) ≡ forms.DownloadOpening) × (orderType (asked n) ≡ fdl)) →
-        judge (number (n .input .ids)) (judgedBank n .bank) (asked n)
+        judge (contextOf (n .input)) (judgedBank n .bank) (asked n)
         (length (sent n)) ≡ verdict.Refused code.MessageReplay
     judged-so (inl (z, kind, some)) =
-        verdict-by-form (number (n .input .ids)) (judgedBank n) (asked n) (sent n) forms.UploadOpening z
+        verdict-by-form (contextOf (n .input)) (judgedBank n) (asked n) (sent n) forms.UploadOpening z
         (well-made n (made .made) (ap isRequestForm z))
-        ∙ upload-replayed (number (n .input .ids)) (judgedBank n .bank) (asked n) few seen kind some
+        ∙ upload-replayed (contextOf (n .input)) (judgedBank n .bank) (asked n) few seen kind some
     judged-so (inr (z, kind)) =
-        verdict-by-form (number (n .input .ids)) (judgedBank n) (asked n) (sent n) forms.DownloadOpening z
+        verdict-by-form (contextOf (n .input)) (judgedBank n) (asked n) (sent n) forms.DownloadOpening z
         (well-made n (made .made) (ap isRequestForm z))
-        ∙ download-replayed (number (n .input .ids)) (judgedBank n .bank) (asked n) few seen kind
+        ∙ download-replayed (contextOf (n .input)) (judgedBank n .bank) (asked n) few seen kind
 
 -- ---- another subscriber's transaction ID
 

@@ -25,8 +25,9 @@ use Rattle.bank.specs.declared.call.FrameAnswer.the-variants.{Reply, WrongLengt
 use Rattle.bank.specs.declared.mailbox.FileAnswer.{FileAnswer}
 use Rattle.bank.specs.declared.mailbox.FileAnswer.the-variants as put
 use Rattle.bank_steps.specs.Steps.{carryOut}
-use Rattle.bank.specs.Call.{Step, FrameCall, lentRight, replied, respond, frameCall, FrameInput}
+use Rattle.bank.specs.Call.{contextOf, Step, FrameCall, lentRight, replied, respond, frameCall, FrameInput}
 use Rattle.bank.specs.Mailbox.{fileNumber, carryOutFile, fileCall}
+use Rattle.bank_verdicts.specs.declared.verdict.Context.{Context}
 use Rattle.bank_verdicts.specs.declared.verdict.Verdict.{Verdict}
 use Rattle.bank_verdicts.specs.declared.verdict.Verdict.the-variants as verdict
 use Rattle.bank_admitted.specs.State.{NoneIdle}
@@ -77,21 +78,21 @@ nothing-keeps w h x no-action unopened sound v = record {
   sound = more sound (v .sound);
 }
 
-module _ (first : ℕ) (w : BankState) (h : List Exchange) (v : Invariant w h) (q : Fields) (d : List ℕ)
+module _ (context : Context) (w : BankState) (h : List Exchange) (v : Invariant w h) (q : Fields) (d : List ℕ)
     (some : form q ≡ forms.UploadTransfer → 1 ≤ length d) where
-  case-keeps : {u : Verdict} → Happens first w q d u → Invariant (carryOut u w q d) (entry u w q d ∷ h)
+  case-keeps : {u : Verdict} → Happens (context .prefix) w q d u → Invariant (carryOut u w q d) (entry u w q d ∷ h)
   case-keeps unreadable =
       nothing-keeps w h (entry verdict.Unreadable w q d) (λ t. refl) refl (record { reply = refl; verdict = bare w (subscriber q) }) v
   case-keeps (refused c e) = nothing-keeps w h (entry (verdict.Refused c) w q d) (λ t. refl) refl
       (record { reply = refl; verdict = record { harmless = e; bare = bare w (subscriber q) } }) v
-  case-keeps (opensUpload asked a g n p l) = opens-upload first w h v q d a g asked n p l
-  case-keeps (opensDownload asked a g n) = opens-download first w h v q d a g asked n
+  case-keeps (opensUpload asked a g n p l) = opens-upload (context .prefix) w h v q d a g asked n p l
+  case-keeps (opensDownload asked a g n) = opens-download (context .prefix) w h v q d a g asked n
   case-keeps (toUpload r a t) = upload-keeps w h v q d r a some t
   case-keeps (toDownload r a t) = download-keeps w h v q d r a t
 
-  pub respond-keeps : Invariant (respond first w q d .bankState) (exchangeOf first w q d ∷ h)
+  pub respond-keeps : Invariant (respond context w q d .bankState) (exchangeOf context w q d ∷ h)
   unfolding exchangeOf respond
-  respond-keeps = case-keeps (happens first w q d (v .state .sizes .places) (v .state .sizes .downloads))
+  respond-keeps = case-keeps (happens context w q d (v .state .sizes .places) (v .state .sizes .downloads))
 
 -- ---- the calls
 
@@ -112,20 +113,20 @@ frame-holds p a old =
     w = advanced (a .time) (p .bankState)
 
     s : Step
-    s = respond (number (a .ids)) w (readRequest (a .frame)) (dataOf (a .frame))
+    s = respond (contextOf a) w (readRequest (a .frame)) (dataOf (a .frame))
 
     x : Exchange
-    x = exchangeOf (number (a .ids)) w (readRequest (a .frame)) (dataOf (a .frame))
+    x = exchangeOf (contextOf a) w (readRequest (a .frame)) (dataOf (a .frame))
 
     v : Invariant w (p .history)
     v = advanced-keeps (a .time) (p .bankState) (p .history) (old .invariant)
 
     kept : Invariant (s .bankState) (x ∷ p .history)
-    kept = respond-keeps (number (a .ids)) w (p .history) v (readRequest (a .frame)) (dataOf (a .frame))
+    kept = respond-keeps (contextOf a) w (p .history) v (readRequest (a .frame)) (dataOf (a .frame))
         (transfer-data (a .frame))
 
     notIdle : NoneIdle (s .bankState)
-    notIdle = respond-not-idle (number (a .ids)) w (v .state) (readRequest (a .frame)) (dataOf (a .frame))
+    notIdle = respond-not-idle (contextOf a) w (v .state) (readRequest (a .frame)) (dataOf (a .frame))
         (advanced-not-idle (a .time) (p .bankState) (old .invariant .state .sizes))
 
 file-holds : (p : Past) (mailbox : ℕ) (file : List ℕ) → Holds p → Holds (after (File mailbox file) p)

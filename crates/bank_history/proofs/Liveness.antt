@@ -28,7 +28,7 @@ use Rattle.bank_verdicts.specs.declared.verdict.Verdict.the-variants as verdict
 use Rattle.bank_verdicts.specs.Judgement.{mailboxSegments, uploadAt}
 use Rattle.bank_openings.specs.Openings.{counted, countedUpload, openUpload, openDownload}
 use Rattle.bank_steps.specs.Steps.{downloadActs, carryOut}
-use Rattle.bank.specs.Call.{respond, FrameInput}
+use Rattle.bank.specs.Call.{contextOf, respond, FrameInput}
 use Rattle.bank_history.specs.History.{Exchange, Past, BankCall, Frame, File, isAction, did, exchangeOf, after, fileAtOpening}
 use Rattle.bank_history.specs.Invariant.{Invariant, Holds}
 use Rattle.bank_admitted.proofs.Files.{filled}
@@ -103,14 +103,14 @@ module _ (a : FrameInput) (p : Past) (holds : Holds p) where
   judged = advanced (a .time) (p .bankState)
 
   abbrev pub newest : Exchange
-  newest = exchangeOf (number (a .ids)) judged (readRequest (a .frame)) (dataOf (a .frame))
+  newest = exchangeOf (contextOf a) judged (readRequest (a .frame)) (dataOf (a .frame))
 
   judged-holds : Invariant judged (p .history)
   judged-holds = advanced-keeps (a .time) (p .bankState) (p .history) (holds .invariant)
 
   the-case : Happens (number (a .ids)) judged (readRequest (a .frame)) (dataOf (a .frame)) (newest .verdict)
   unfolding exchangeOf respond
-  the-case = happens (number (a .ids)) judged (readRequest (a .frame)) (dataOf (a .frame))
+  the-case = happens (contextOf a) judged (readRequest (a .frame)) (dataOf (a .frame))
       (judged-holds .state .sizes .places)
       (judged-holds .state .sizes .downloads)
 
@@ -152,7 +152,7 @@ module _ (a : FrameInput) (p : Past) (holds : Holds p) where
     pub upload-takes : newest .verdict ≡ verdict.Of t (action.Upload (cond (eqb (k + 1) n) up.TookLast up.Took))
     unfolding exchangeOf respond
     upload-takes =
-        own.own-verdict (number (a .ids)) judged (p .history) judged-holds t s k n last there (readRequest (a .frame))
+        own.own-verdict (contextOf a) judged (p .history) judged-holds t s k n last there (readRequest (a .frame))
         (dataOf (a .frame))
         asked from to next mark short
 
@@ -160,7 +160,7 @@ module _ (a : FrameInput) (p : Past) (holds : Holds p) where
         UploadAt (answered a p .bankState) t s (suc k) n (max (p .bankState .bank .clock) (a .time))
     upload-goes-on below =
         subst (UploadAt (answered a p .bankState) t s (suc k) n) (advanced-clock (a .time) (p .bankState))
-        (own.own-open (number (a .ids)) judged (p .history) judged-holds t s k n last there (readRequest (a .frame))
+        (own.own-open (contextOf a) judged (p .history) judged-holds t s k n last there (readRequest (a .frame))
         (dataOf (a .frame)) asked from to
         next mark short below)
 
@@ -214,7 +214,7 @@ module _ (a : FrameInput) (p : Past) (holds : Holds p) where
           (action.Download (down.Delivered (mailboxSegments (subscriber (readRequest (a .frame))) (judged .bank))))
       unfolding exchangeOf respond
       download-delivers =
-          ownDownload.deliver-verdict (number (a .ids)) judged (p .history) judged-holds t s d last there-download
+          ownDownload.deliver-verdict (contextOf a) judged (p .history) judged-holds t s d last there-download
           (readRequest (a .frame))
           (dataOf (a .frame)) from to short asked next within
 
@@ -222,7 +222,7 @@ module _ (a : FrameInput) (p : Past) (holds : Holds p) where
           (max (p .bankState .bank .clock) (a .time))
       download-goes-on =
           subst (DownloadAt (answered a p .bankState) t s (suc d)) (advanced-clock (a .time) (p .bankState))
-          (ownDownload.deliver-open (number (a .ids)) judged (p .history) judged-holds t s d last there-download
+          (ownDownload.deliver-open (contextOf a) judged (p .history) judged-holds t s d last there-download
           (readRequest (a .frame))
           (dataOf (a .frame)) from to short asked next within)
 
@@ -233,7 +233,7 @@ module _ (a : FrameInput) (p : Past) (holds : Holds p) where
         newest .verdict ≡ verdict.Of t (action.Download down.Confirmed)
     unfolding exchangeOf respond
     download-confirms =
-        ownDownload.receipt-verdict (number (a .ids)) judged (p .history) judged-holds t s d last there-download
+        ownDownload.receipt-verdict (contextOf a) judged (p .history) judged-holds t s d last there-download
         (readRequest (a .frame)) (dataOf (a .frame)) from to short
 
 -- ---- whatever comes from elsewhere

@@ -24,6 +24,7 @@ use Rattle.message.proofs.Verdicts.{by-test}
 use Rattle.bank_state.specs.Clock.{advanced}
 use Rattle.bank_state.specs.Limits.{placeCount}
 use Rattle.bank_state.specs.State.{BankState}
+use Rattle.bank_verdicts.specs.declared.verdict.Context.{Context}
 use Rattle.bank_verdicts.specs.declared.verdict.TransactionRequest.{TransactionRequest}
 use Rattle.bank_verdicts.specs.declared.verdict.TransactionRequest.the-variants as asks
 use Rattle.bank_verdicts.specs.declared.verdict.UploadAction.{UploadAction}
@@ -38,7 +39,7 @@ use Rattle.bank_verdicts.specs.Refusals.{notOpen, transactionRows}
 use Rattle.bank_verdicts.specs.Judgement.{uploadAt, judgeOpen, judgeTransaction, judge}
 use Rattle.bank_verdicts.proofs.Sound.{Readable, judged-transaction}
 use Rattle.bank_steps.specs.Steps.{carryOut}
-use Rattle.bank.specs.Call.{respond}
+use Rattle.bank.specs.Call.{contextOf, respond}
 use Rattle.bank_history.specs.History.{Exchange, BankCall, Frame, Past, exchangeOf, pastOf, after, newest, isOpening}
 use Rattle.bank_history.specs.Sound.{SoundRequest, SoundAction, SoundUploadAction, SoundDownloadAction, AllSound}
 use Rattle.bank_history.specs.Invariant.{Invariant}
@@ -61,31 +62,31 @@ Acted v = (t : Bits128) × (k : Action) × (v ≡ verdict.Of t k)
 abbrev Answer : Verdict → Type 0
 Answer v = (v ≡ verdict.Refused code.UnknownTransaction) ⊎ Acted v
 
-module _ (first : ℕ) (w : BankState) (q : Fields) (d : List ℕ) where
-  by-transaction : (r : TransactionRequest) → Answer (judgeTransaction r (w .bank) q (length d))
+module _ (context : Context) (w : BankState) (q : Fields) (d : List ℕ) where
+  by-transaction : (r : TransactionRequest) → Answer (judgeTransaction r (w .bank) q)
   unfolding judgeTransaction judgeOpen
   by-transaction r =
       judged-transaction Answer (w .bank) q _ (inl refl)
       (λ _. by-test Answer (ltb (uploadAt (w .bank) q) placeCount) (λ _. inr (_, _, refl)) (λ _. inr (_, _, refl)))
 
   -- an action, where it is open
-  by-open : notOpen (w .bank) q ≡ false → (r : TransactionRequest) → Acted (judgeTransaction r (w .bank) q (length d))
+  by-open : notOpen (w .bank) q ≡ false → (r : TransactionRequest) → Acted (judgeTransaction r (w .bank) q)
   unfolding judgeTransaction transactionRows judgeOpen
   by-open some r =
       rw some (by-test Acted (ltb (uploadAt (w .bank) q) placeCount) (λ _. (_, _, refl)) (λ _. (_, _, refl)))
 
-  by-request : (P : Verdict → Type 0) → ((r : TransactionRequest) → P (judgeTransaction r (w .bank) q (length d))) →
+  by-request : (P : Verdict → Type 0) → ((r : TransactionRequest) → P (judgeTransaction r (w .bank) q)) →
       (isRequestForm (form q) ≡ true → Readable q (length d)) →
       (form q ≡ forms.UploadTransfer) ⊎ ((form q ≡ forms.DownloadTransfer) ⊎ (form q ≡ forms.Receipt)) →
-      P (judge first (w .bank) q (length d))
+      P (judge context (w .bank) q (length d))
   by-request P by readable (inl f) =
-      subst P (sym (verdict-by-form first w q d forms.UploadTransfer f (readable (ap isRequestForm f))))
+      subst P (sym (verdict-by-form context w q d forms.UploadTransfer f (readable (ap isRequestForm f))))
       (by asks.UploadTransfer)
   by-request P by readable (inr (inl f)) =
-      subst P (sym (verdict-by-form first w q d forms.DownloadTransfer f (readable (ap isRequestForm f))))
+      subst P (sym (verdict-by-form context w q d forms.DownloadTransfer f (readable (ap isRequestForm f))))
       (by asks.DownloadTransfer)
   by-request P by readable (inr (inr f)) =
-      subst P (sym (verdict-by-form first w q d forms.Receipt f (readable (ap isRequestForm f)))) (by asks.Receipt)
+      subst P (sym (verdict-by-form context w q d forms.Receipt f (readable (ap isRequestForm f)))) (by asks.Receipt)
 
 -- ---- the call
 
@@ -123,7 +124,7 @@ module _ {calls : List BankCall} {e : Exchange} (n : Next calls e) where
           absurd (omega arith)
       at (inr z) = z
 
-  pub exchange-is : e ≡ exchangeOf (number (n .input .ids)) judgedBank asked sent
+  pub exchange-is : e ≡ exchangeOf (contextOf (n .input)) judgedBank asked sent
   unfolding head-or exchangeOf
   exchange-is = ap (head-or e) (sym (n .entered) ∙ ap (λ (r : Past). r .history) left)
 
@@ -135,7 +136,7 @@ module _ {calls : List BankCall} {e : Exchange} (n : Next calls e) where
       subst AllSound (n .entered)
       (past-holds (Frame (n .input) ∷ calls) .invariant .sound)
 
-  pub verdict-is : e .verdict ≡ judge (number (n .input .ids)) (judgedBank .bank) asked (length sent)
+  pub verdict-is : e .verdict ≡ judge (contextOf (n .input)) (judgedBank .bank) asked (length sent)
   unfolding exchangeOf respond
   verdict-is = ap (λ (x : Exchange). x .verdict) exchange-is
 
@@ -154,7 +155,7 @@ module _ {calls : List BankCall} {e : Exchange} (n : Next calls e) where
   pub case-is : Happens (number (n .input .ids)) judgedBank asked sent (e .verdict)
   case-is =
       subst (Happens (number (n .input .ids)) judgedBank asked sent) (sym verdict-is)
-      (happens (number (n .input .ids)) judgedBank asked sent (judged-holds .state .sizes .places)
+      (happens (contextOf (n .input)) judgedBank asked sent (judged-holds .state .sizes .places)
       (judged-holds .state .sizes .downloads))
 
   -- the bank after the call
@@ -186,19 +187,19 @@ module _ {calls : List BankCall} {e : Exchange} (n : Next calls e) where
 
   module _ {t : Bits128} (a : Asks t e) where
     by-asked : (P : Verdict → Type 0) →
-        ((r : TransactionRequest) → P (judgeTransaction r (judgedBank .bank) asked (length sent))) →
+        ((r : TransactionRequest) → P (judgeTransaction r (judgedBank .bank) asked)) →
         P (e .verdict)
     by-asked P by =
         subst P (sym verdict-is)
-        (by-request (number (n .input .ids)) judgedBank asked sent P by (well-made (a .made))
+        (by-request (contextOf (n .input)) judgedBank asked sent P by (well-made (a .made))
         (rw (sym request-is) (a .kind)))
 
     pub answer : Answer (e .verdict)
-    answer = by-asked Answer (by-transaction (number (n .input .ids)) judgedBank asked sent)
+    answer = by-asked Answer (by-transaction (contextOf (n .input)) judgedBank asked sent)
 
     -- an action, where the transaction is open
     pub acted : notOpen (judgedBank .bank) asked ≡ false → (u : Bits128) × (k : Action) × (e .verdict ≡ verdict.Of u k)
-    acted some = by-asked Acted (by-open (number (n .input .ids)) judgedBank asked sent some)
+    acted some = by-asked Acted (by-open (contextOf (n .input)) judgedBank asked sent some)
 
     not-form : {f : Form} → form (e .request) ≡ f → (f ≡ forms.UploadOpening) ⊎ (f ≡ forms.DownloadOpening) → ⊥
     not-form {f} z o = at o (a .kind)

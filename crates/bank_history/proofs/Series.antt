@@ -22,6 +22,7 @@ use Rattle.message.specs.Limits.{ful, fdl, subscribers}
 use Rattle.message.specs.OrderNumbers.{orderNumberOf}
 use Rattle.bank_state.specs.Limits.{seriesLimit}
 use Rattle.bank_state.specs.State.{Bank}
+use Rattle.bank_verdicts.specs.declared.verdict.Context.{Context}
 use Rattle.bank_verdicts.specs.declared.verdict.Direction.the-variants as direction
 use Rattle.bank_verdicts.specs.declared.verdict.UploadAction.the-variants as up
 use Rattle.bank_verdicts.specs.declared.verdict.Action.{Action}
@@ -40,6 +41,7 @@ use Rattle.bank_admitted.proofs.Cases.{
   toUpload,
   toDownload,
 }
+use Rattle.bank.specs.Call.{contextOf}
 use Rattle.bank_history.specs.History.{
   Exchange,
   BankCall,
@@ -71,7 +73,7 @@ use Rattle.bank_history.proofs.UploadRequests.{verdict-by-form}
 
 -- ---- type FUL: the lines for the order type and for the other direction are passed
 
-module _ (first : ℕ) (b : Bank) (q : Fields) where
+module _ (context : Context) (b : Bank) (q : Fields) where
   is-ful : unknownType q ≡ false → eqb (orderType q) fdl || eqb (segments q) 0 ≡ false → orderType q ≡ ful
   unfolding unknownType
   is-ful known own =
@@ -83,10 +85,10 @@ module _ (first : ℕ) (b : Bank) (q : Fields) where
       one-of true y z n = refl
       one-of false y z n = never (sym n ∙ z)
 
-  upload-typed : acceptsUpload (judgeOpening direction.Upload first b q) ≡ true → orderType q ≡ ful
+  upload-typed : acceptsUpload (judgeOpening direction.Upload context b q) ≡ true → orderType q ≡ ful
   unfolding judgeOpening openingRows
   upload-typed z =
-      let f = passed acceptsUpload (openingRows direction.Upload b q) (accepted direction.Upload first b q) refl z in
+      let f = passed acceptsUpload (openingRows direction.Upload (context .others) b q) (accepted direction.Upload (context .prefix) b q) refl z in
       is-ful (f code.InvalidOrderType) (f code.InvalidRequest)
 
 module _ {calls : List BankCall} {e : Exchange} (n : Next calls e) where
@@ -98,9 +100,9 @@ module _ {calls : List BankCall} {e : Exchange} (n : Next calls e) where
   typed-by own unreadable z = never z
   typed-by own (refused c y) z = never z
   typed-by own (opensUpload f a g m inside below) z =
-      upload-typed (number (n .input .ids)) (judgedBank n .bank) (asked n)
+      upload-typed (contextOf (n .input)) (judgedBank n .bank) (asked n)
       (ap acceptsUpload (sym (verdict-is n
-      ∙ verdict-by-form (number (n .input .ids)) (judgedBank n) (asked n) (sent n) forms.UploadOpening f a) ∙ own))
+      ∙ verdict-by-form (contextOf (n .input)) (judgedBank n) (asked n) (sent n) forms.UploadOpening f a) ∙ own))
   typed-by own (opensDownload f a g m) z = never z
   typed-by own (toUpload r a s) z = absurd (goes-on (action.Upload a) (upload-goes-on (s .sound)) z)
   typed-by own (toDownload r a s) z = absurd (goes-on (action.Download a) (download-goes-on (s .sound)) z)

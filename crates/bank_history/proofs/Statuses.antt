@@ -44,7 +44,7 @@ use Rattle.bank_verdicts.specs.declared.verdict.Verdict.the-variants as verdict
 use Rattle.bank_verdicts.specs.Judgement.{transactionOf, mailboxSegments, uploadAt, downloadOf}
 use Rattle.bank_uploads.specs.Uploads.{grown, booked, attempted, placeAfter}
 use Rattle.bank_steps.specs.Steps.{onUpload, carryOut}
-use Rattle.bank.specs.Call.{respond}
+use Rattle.bank.specs.Call.{contextOf, respond}
 use Rattle.bank_history.specs.History.{Exchange, Past, BankCall, isAction, isOpening, did, exchangeOf, start, pastOf}
 use Rattle.bank_admitted.specs.State.{Sizes}
 use Rattle.bank_history.specs.Invariant.{Invariant}
@@ -606,7 +606,7 @@ past-told (call ∷ calls) =
     let v = advanced-keeps (a .time) (p .bankState) (p .history) (holds .invariant) in
     case-told w (p .history) v _ (advanced-told (a .time) (p .bankState) (holds .invariant .state .sizes) _ c)
     (readRequest (a .frame)) (dataOf (a .frame))
-    (happens (number (a .ids)) w (readRequest (a .frame)) (dataOf (a .frame)) (v .state .sizes .places)
+    (happens (contextOf a) w (readRequest (a .frame)) (dataOf (a .frame)) (v .state .sizes .places)
     (v .state .sizes .downloads)))
     (λ m f e. record {
       places = c .places;

@@ -26,6 +26,7 @@ use Rattle.bank_state.specs.Limits.{placeCount}
 use Rattle.bank_state.specs.Search.{isFree, isOpen, isUpload, findUpload, freePlace}
 use Rattle.bank_state.specs.State.{BankState, noPlace, placeAt}
 use Rattle.bank_state.specs.Store.{partAt}
+use Rattle.bank_verdicts.specs.declared.verdict.Context.{Context}
 use Rattle.bank_verdicts.specs.declared.verdict.TransactionRequest.the-variants as asks
 use Rattle.bank_verdicts.specs.declared.verdict.UploadAction.{UploadAction}
 use Rattle.bank_verdicts.specs.declared.verdict.UploadAction.the-variants as up
@@ -63,8 +64,8 @@ use Rattle.bank_state.proofs.Found.{upload-found}
 
 -- ---- a readable request that is not refused at once
 
-module _ (first : ℕ) (w : BankState) (q : Fields) (d : List ℕ) (f : Form) (asked : form q ≡ f) (readable : Readable q (length d)) where
-  proceeds : judge first (w .bank) q (length d) ≡ judgeForm (form q) first (w .bank) q (length d)
+module _ (context : Context) (w : BankState) (q : Fields) (d : List ℕ) (f : Form) (asked : form q ≡ f) (readable : Readable q (length d)) where
+  proceeds : judge context (w .bank) q (length d) ≡ judgeForm (form q) context (w .bank) q
   unfolding judge requestRows noSubscriber longData
   proceeds = rw (
     readable .request,
@@ -73,8 +74,8 @@ module _ (first : ℕ) (w : BankState) (q : Fields) (d : List ℕ) (f : Form) (a
     le-ltb segmentBytes (length d) (readable .short),
   )
 
-  pub verdict-by-form : judge first (w .bank) q (length d) ≡ judgeForm f first (w .bank) q (length d)
-  verdict-by-form = proceeds ∙ ap (λ (g : Form). judgeForm g first (w .bank) q (length d)) asked
+  pub verdict-by-form : judge context (w .bank) q (length d) ≡ judgeForm f context (w .bank) q
+  verdict-by-form = proceeds ∙ ap (λ (g : Form). judgeForm g context (w .bank) q) asked
 
 -- ---- the upload is found
 
@@ -134,7 +135,7 @@ judge-take p q next mark = rw (eq-eqb (segment q) (p .taken + 1) next, early, mi
             rw (ne-eqb (lastMark q) 0 (λ z. omega arith)) (and-no (eqb (segment q) (p .segments)))
         at false e = rw e
 
-module _ (first : ℕ) (w : BankState) (h : List Exchange) (v : Invariant w h) (t : Bits128) (s k n last : ℕ) (u : UploadAt w t s k n last)
+module _ (context : Context) (w : BankState) (h : List Exchange) (v : Invariant w h) (t : Bits128) (s k n last : ℕ) (u : UploadAt w t s k n last)
     (q : Fields) (d : List ℕ)
     (asked : form q ≡ forms.UploadTransfer) (from : subscriber q ≡ s) (to : transaction q ≡ t) (next : segment q ≡ suc k)
     (mark : lastMark q ≡ lastMarkOf (segment q) n) (short : length d ≤ segmentBytes) where
@@ -162,17 +163,17 @@ module _ (first : ℕ) (w : BankState) (h : List Exchange) (v : Invariant w h) (
   judged =
       judge-take own q (let e = u .taken in omega arith) (mark ∙ ap (lastMarkOf (segment q)) (sym (u .segments)))
 
-  at-place : judgeTransaction asks.UploadTransfer (w .bank) q (length d)
+  at-place : judgeTransaction asks.UploadTransfer (w .bank) q
       ≡ verdict.Of (placeAt (w .bank) (uploadAt (w .bank) q) .transaction)
       (action.Upload (judgeUpload asks.UploadTransfer (placeAt (w .bank) (uploadAt (w .bank) q)) q))
   unfolding judgeTransaction transactionRows judgeOpen notOpen
   at-place = rw (lt-leb placeCount (uploadAt (w .bank) q) found-inside, lt-ltb (uploadAt (w .bank) q) placeCount found-inside)
 
   -- the segment is taken
-  pub own-verdict : judge first (w .bank) q (length d) ≡ verdict.Of t (action.Upload (cond (eqb (k + 1) n) up.TookLast up.Took))
+  pub own-verdict : judge context (w .bank) q (length d) ≡ verdict.Of t (action.Upload (cond (eqb (k + 1) n) up.TookLast up.Took))
   unfolding takes
   own-verdict =
-      verdict-by-form first w q d forms.UploadTransfer asked readable
+      verdict-by-form context w q d forms.UploadTransfer asked readable
       ∙ (at-place
       ∙ (ap (λ (i : ℕ). verdict.Of (placeAt (w .bank) i .transaction)
       (action.Upload (judgeUpload asks.UploadTransfer (placeAt (w .bank) i) q))) found
@@ -202,7 +203,7 @@ module _ (first : ℕ) (w : BankState) (h : List Exchange) (v : Invariant w h) (
           ∙ ap (λ (i : ℕ). grown (w .bank .clock) (length d) (placeAt (w .bank) i)) found
 
   -- and the upload is open with one segment more, where that was not the last
-  pub own-open : suc k < n → UploadAt (respond first w q d .bankState) t s (suc k) n (w .bank .clock)
+  pub own-open : suc k < n → UploadAt (respond context w q d .bankState) t s (suc k) n (w .bank .clock)
   unfolding respond
   own-open below =
       subst (λ (x : Verdict). UploadAt (carryOut x w q d) t s (suc k) n (w .bank .clock)) (sym (own-verdict ∙ taken)) taken-open

@@ -21,6 +21,7 @@ use Rattle.bank_state.specs.Rows.{keep}
 use Rattle.bank_state.specs.State.{BankState, bankState, fresh, fileLength}
 use Rattle.bank_state.specs.Store.{fileOf}
 use Rattle.bank_admitted.specs.State.{mailboxFile}
+use Rattle.bank_verdicts.specs.declared.verdict.Context.{Context}
 use Rattle.bank_verdicts.specs.declared.verdict.UploadAction.{UploadAction}
 use Rattle.bank_verdicts.specs.declared.verdict.UploadAction.the-variants as up
 use Rattle.bank_verdicts.specs.declared.verdict.DownloadAction.{DownloadAction}
@@ -33,7 +34,7 @@ use Rattle.bank.specs.declared.call.FrameAnswer.{FrameAnswer}
 use Rattle.bank.specs.declared.call.FrameAnswer.the-variants.{Reply, WrongLength}
 use Rattle.bank.specs.declared.mailbox.FileAnswer.{FileAnswer}
 use Rattle.bank.specs.declared.mailbox.FileAnswer.the-variants as put
-use Rattle.bank.specs.Call.{Step, respond, FrameInput, frameCall}
+use Rattle.bank.specs.Call.{contextOf, Step, respond, FrameInput, frameCall}
 use Rattle.bank.specs.Mailbox.{fileCall}
 
 -- One answered frame: the request's fields and data as read, the reply's fields and data, the clock that the call has
@@ -59,13 +60,13 @@ exchangeBy s w q d = record {
   verdict = s .verdict;
 }
 
--- the exchange of a request that comes to the bank w, clock and drops done; first is the number of the lent ID bytes
-unfoldable pub exchangeOf : ℕ → BankState → Fields → List ℕ → Exchange
-exchangeOf first w q d = exchangeBy (respond first w q d) w q d
+-- the exchange of a request that comes to the bank w, clock and drops done
+unfoldable pub exchangeOf : Context → BankState → Fields → List ℕ → Exchange
+exchangeOf c w q d = exchangeBy (respond c w q d) w q d
 
 -- the exchange of a frame call to the bank w
 abbrev pub callExchange : BankState → FrameInput → Exchange
-callExchange w a = exchangeOf (number (a .ids)) (advanced (a .time) w) (readRequest (a .frame)) (dataOf (a .frame))
+callExchange w a = exchangeOf (contextOf a) (advanced (a .time) w) (readRequest (a .frame)) (dataOf (a .frame))
 
 -- A call of the bank: a frame arrives, or a file goes into a mailbox (mailbox, file)
 pub data BankCall : Type 0 where

@@ -16,7 +16,7 @@ use Rattle.bank_state.specs.Limits.{placeCount, idleLimit}
 use Rattle.bank_state.specs.Search.{isFree}
 use Rattle.bank_state.specs.State.{BankState, placeAt, downloadAt}
 use Rattle.bank_state.specs.Store.{partAt}
-use Rattle.bank.specs.Call.{FrameInput, respond}
+use Rattle.bank.specs.Call.{contextOf, FrameInput, respond}
 use Rattle.bank_verdicts.specs.declared.verdict.DownloadAction.the-variants as down
 use Rattle.bank_verdicts.specs.declared.verdict.Action.the-variants as action
 use Rattle.bank_verdicts.specs.declared.verdict.Verdict.the-variants as verdict
@@ -27,7 +27,7 @@ use Rattle.bank_history.specs.History.{Exchange, Past, callExchange, isT
 abbrev pub answered : FrameInput → Past → Past
 answered a p = record {
   bankState =
-      respond (number (a .ids)) (advanced (a .time) (p .bankState)) (readRequest (a .frame))
+      respond (contextOf a) (advanced (a .time) (p .bankState)) (readRequest (a .frame))
       (dataOf (a .frame)) .bankState;
   history = callExchange (p .bankState) a ∷ p .history;
 }

@@ -31,6 +31,7 @@ use Rattle.bank_rows.proofs.Calls.{
 use Rattle.bank_rows.proofs.Reading.{free-download}
 use Rattle.bank_rows.proofs.State.{held-rows, stored-back, stored-laid}
 use Rattle.bank_verdicts.specs.declared.verdict.Action.{Action}
+use Rattle.bank_verdicts.specs.declared.verdict.Context.{Context}
 use Rattle.bank_verdicts.specs.declared.verdict.Direction.{Direction}
 use Rattle.bank_verdicts.specs.declared.verdict.Direction.the-variants as direction
 use Rattle.bank_verdicts.specs.declared.verdict.Verdict.{Verdict}
@@ -52,13 +53,13 @@ use Rattle.bank_openings.specs.Openings.{
 
 -- ---- an accepted opening
 
-module _ (first : ℕ) (b : Bank) (q : Fields) (k : Held b) where
+module _ (y : Context) (b : Bank) (q : Fields) (k : Held b) where
   -- fewer than eight transactions are open, so fewer than eight downloads
   few-open : openCount b < maxOpen → freeDownload b < placeCount
   unfolding openCount
   few-open h = omega (arith, held-open-downloads b k)
 
-  room-by : {t : Bits128} {a : Action} (d : Direction) (v : Verdict) → OpeningSound first b q d v → v ≡ verdict.Of t a
+  room-by : {t : Bits128} {a : Action} (d : Direction) (v : Verdict) → OpeningSound (y .prefix) b q d v → v ≡ verdict.Of t a
       → Room d b q
   room-by d v (sound.refused e c h) x = absurd (let z : _≡_ {A = ℕ} 0 1 = cc in omega arith)
   room-by d v (sound.upload acc some free below) x = record {
@@ -71,8 +72,8 @@ module _ (first : ℕ) (b : Bank) (q : Fields) (k : Held b) where
       record { place = few-open (acc .ofAll); memory = acc .memory; series = refl; numbers = acc .numbers }
 
   -- the verdict on an opening that acts on a transaction is given only where there is room
-  pub accepted-room : {t : Bits128} {a : Action} (d : Direction) → judgeOpening d first b q ≡ verdict.Of t a → Room d b q
-  accepted-room d e = room-by d (judgeOpening d first b q) (judged-opening first b q d) e
+  pub accepted-room : {t : Bits128} {a : Action} (d : Direction) → judgeOpening d y b q ≡ verdict.Of t a → Room d b q
+  accepted-room d e = room-by d (judgeOpening d y b q) (judged-opening y b q d) e
 
 -- ---- the bank that it leaves
 

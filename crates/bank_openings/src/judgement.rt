@@ -14,8 +14,11 @@ use bank_state::limits::MAX_OPENINGS;
 use bank_state::limits::NONCE_COUNT;
 use bank_state::limits::PLACE_COUNT;
 use bank_state::limits::SERIES_LIMIT;
+use bank_state::limits::SHARED_OPEN;
+use bank_state::limits::SURE_OPEN;
 use bank_state::limits::WINDOW;
 use bank_verdicts::verdict::Action;
+use bank_verdicts::verdict::Context;
 use bank_verdicts::verdict::Direction;
 use bank_verdicts::verdict::DownloadAction;
 use bank_verdicts::verdict::UploadAction;
@@ -28,10 +31,11 @@ use message::limits::FUL;
 use message::limits::MAX_SEGMENTS;
 use message::segments::segments_of;
 ghost use mathlib.Core.Path.{_≡_};
+ghost use mathlib.Core.Bool.{_||_};
 ghost use Rattle.bank_rows.specs.State.{bankOf, Laid};
 ghost use Rattle.bank_verdicts.specs.Judgement.{accepted, judgeOpening, mailboxSegments};
 ghost use Rattle.bank_verdicts.specs.Refusals.{unknownType, otherDirection, manySegments, inTime, isReplay};
-ghost use Rattle.bank_verdicts.specs.Refusals.{emptyMailbox, manyOpen, noPlaceFree, seriesEnded, isFull};
+ghost use Rattle.bank_verdicts.specs.Refusals.{emptyMailbox, manyOpen, noPlaceFree, seriesEnded, isFull, noShare};
 
 // 091005: order type neither FUL nor FDL.
 fn unknown_type(q: Fields) -> bool
@@ -155,6 +159,32 @@ fn is_full(rows: &[u64], d: Direction, q: Fields) -> bool
     MAX_OPENINGS <= openings(rows)
 }
 
+// A bank with two or more open finds no share left by the others.
+fn no_share(rows: &[u64], others: u64) -> bool
+    requires { ⌜ Laid (now rows) ⌝ }
+    ensures { λ r. ⌜ r ≡ noShare others (bankOf (now (rows .entry))) ⌝ }
+{
+    let open = open_count(rows) as u64;
+    if open < SURE_OPEN {
+        return false;
+    }
+    if SHARED_OPEN <= others {
+        return true;
+    }
+    SHARED_OPEN - others <= open
+}
+
+// 061099: the bank's own limits, or no share left.
+fn no_room(rows: &[u64], d: Direction, others: u64, q: Fields) -> bool
+    requires { ⌜ Laid (now rows) ⌝ }
+    ensures { λ r. ⌜ r ≡ (isFull d (bankOf (now (rows .entry))) q || noShare others (bankOf (now (rows .entry)))) ⌝ }
+{
+    if is_full(rows, d, q) {
+        return true;
+    }
+    no_share(rows, others)
+}
+
 // The number of segments of a subscriber's mailbox.
 pub fn mailbox_segments(rows: &[u64], subscriber: u64) -> u64
     requires { ⌜ Laid (now rows) ⌝ }
@@ -186,10 +216,10 @@ fn accepted(rows: &[u64], d: Direction, first: u64, q: Fields) -> Verdict
     }
 }
 
-// An opening in the form of this direction, judged in document 01's order; `first` is the number of the lent ID bytes.
-pub fn judge_opening(rows: &[u64], d: Direction, first: u64, q: Fields) -> Verdict
+// An opening in the form of this direction, judged in document 01's order.
+pub fn judge_opening(rows: &[u64], d: Direction, context: Context, q: Fields) -> Verdict
     requires { ⌜ Laid (now rows) ⌝ }
-    ensures { λ r. ⌜ r ≡ judgeOpening d first (bankOf (now (rows .entry))) q ⌝ }
+    ensures { λ r. ⌜ r ≡ judgeOpening d context (bankOf (now (rows .entry))) q ⌝ }
 {
     if unknown_type(q) {
         return Verdict::Refused(ReturnCode::InvalidOrderType);
@@ -209,8 +239,8 @@ pub fn judge_opening(rows: &[u64], d: Direction, first: u64, q: Fields) -> Verdi
     if many_open(rows, q) {
         return Verdict::Refused(ReturnCode::MaxTransactionsExceeded);
     }
-    if is_full(rows, d, q) {
+    if no_room(rows, d, context.others, q) {
         return Verdict::Refused(ReturnCode::InternalError);
     }
-    accepted(rows, d, first, q)
+    accepted(rows, d, context.prefix, q)
 }

@@ -1,5 +1,5 @@
 -- The bank's own numbers of document 01.
-use Prim.Native.Nat.{ℕ}
+use Prim.Native.Nat.{ℕ, _*_}
 pub use Rattle.frame_writer.specs.Writer.{replyRoom}
 
 -- "Lent: 8 order places and 8 mailboxes"
@@ -28,6 +28,17 @@ maxOpen = 8
 
 abbrev pub maxOpenPerSubscriber : ℕ
 maxOpenPerSubscriber = 4
+
+-- card 13: "They share 16 open transactions, of which each bank is sure of two"
+abbrev pub sharedOpen : ℕ
+sharedOpen = 16
+
+abbrev pub sureOpen : ℕ
+sureOpen = 2
+
+-- what three idle banks count in the sum: each at least those that it is sure of
+abbrev pub idleOthers : ℕ
+idleOthers = 3 * sureOpen
 
 -- "64 nonces remembered"
 abbrev pub nonceCount : ℕ

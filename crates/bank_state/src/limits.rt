@@ -25,6 +25,13 @@ pub const MAX_OPEN_PER_SUBSCRIBER: usize = 4;
 // Remembered nonces.
 pub const NONCE_COUNT: usize = 64;
 
+// Open transactions that four banks share (document 02, card 13); those that each is sure of; what three idle ones count.
+pub const SHARED_OPEN: u64 = 16;
+
+pub const SURE_OPEN: u64 = 2;
+
+pub const IDLE_OTHERS: u64 = 6;
+
 // Accepted openings: the running numbers 0 to 4,294,967,295.
 pub const MAX_OPENINGS: u64 = 4294967296;
 

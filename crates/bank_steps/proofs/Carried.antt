@@ -17,6 +17,7 @@ use Rattle.bank_state.specs.declared.state.Place.{Place}
 use Rattle.bank_state.specs.Limits.{placeCount}
 use Rattle.bank_state.specs.State.{BankState, bankState, placeAt, downloadAt, seriesOf, withPlace}
 use Rattle.bank_state.specs.Store.{partAt, withPart}
+use Rattle.bank_verdicts.specs.declared.verdict.Context.{Context}
 use Rattle.bank_verdicts.specs.declared.verdict.Action.{Action}
 use Rattle.bank_verdicts.specs.declared.verdict.Action.the-variants as action
 use Rattle.bank_verdicts.specs.declared.verdict.Direction.{Direction}
@@ -53,34 +54,34 @@ of-none (verdict.Of t a) w q d k = absurd (miss ofNoneKeys 2 tt k)
 
 -- ---- an opening of a transaction
 
-module _ (first : ℕ) (b : Bank) (q : Fields) {t : Bits128} {a : Action} where
-  opens-by : (dir : Direction) (v : Verdict) → OpeningSound first b q dir v → v ≡ verdict.Of t a
-      → v ≡ accepted dir first b q
+module _ (context : Context) (b : Bank) (q : Fields) {t : Bits128} {a : Action} where
+  opens-by : (dir : Direction) (v : Verdict) → OpeningSound (context .prefix) b q dir v → v ≡ verdict.Of t a
+      → v ≡ accepted dir (context .prefix) b q
   opens-by dir v (sound.refused d c h) e = absurd (let z : _≡_ {A = ℕ} 0 1 = cc in omega arith)
   opens-by dir v (sound.upload acc some free below) e = refl
   opens-by dir v (sound.download acc full) e = refl
 
   -- one that acts on a transaction is accepted
-  opens : (dir : Direction) → judgeOpening dir first b q ≡ verdict.Of t a
-      → judgeOpening dir first b q ≡ accepted dir first b q
-  opens dir e = opens-by dir (judgeOpening dir first b q) (judged-opening first b q dir) e
+  opens : (dir : Direction) → judgeOpening dir context b q ≡ verdict.Of t a
+      → judgeOpening dir context b q ≡ accepted dir (context .prefix) b q
+  opens dir e = opens-by dir (judgeOpening dir context b q) (judged-opening context b q dir) e
 
   module _ (o m d : List ℕ) where
-    pub upload-opened : judgeOpening direction.Upload first b q ≡ verdict.Of t a
+    pub upload-opened : judgeOpening direction.Upload context b q ≡ verdict.Of t a
         → bankState (openUpload t (seriesOf (subscriber q) (b .series)) q b) o m
-        ≡ carryOut (judgeOpening direction.Upload first b q) (bankState b o m) q d
+        ≡ carryOut (judgeOpening direction.Upload context b q) (bankState b o m) q d
     upload-opened e =
         let known = opens direction.Upload e in
-        let same : t ≡ transactionOf first b = cc in
+        let same : t ≡ transactionOf (context .prefix) b = cc in
         ap (λ (id : Bits128). bankState (openUpload id (seriesOf (subscriber q) (b .series)) q b) o m) same
         ∙ sym (ap (λ (v : Verdict). carryOut v (bankState b o m) q d) known)
 
-    pub download-opened : judgeOpening direction.Download first b q ≡ verdict.Of t a
+    pub download-opened : judgeOpening direction.Download context b q ≡ verdict.Of t a
         → bankState (openDownload t q b) o m
-        ≡ carryOut (judgeOpening direction.Download first b q) (bankState b o m) q d
+        ≡ carryOut (judgeOpening direction.Download context b q) (bankState b o m) q d
     download-opened e =
         let known = opens direction.Download e in
-        let same : t ≡ transactionOf first b = cc in
+        let same : t ≡ transactionOf (context .prefix) b = cc in
         ap (λ (id : Bits128). bankState (openDownload id q b) o m) same
         ∙ sym (ap (λ (v : Verdict). carryOut v (bankState b o m) q d) known)
 
@@ -157,16 +158,16 @@ stays down.Declined j w q k = absurd (miss stayingKeys 6 tt k)
 -- ---- where a transaction is found, its verdict
 
 module _ (r : TransactionRequest) (b : Bank) (q : Fields) (n : ℕ) where
-  pub in-upload : {i : ℕ} → i ≡ uploadAt b q → i < placeCount → judgeTransaction r b q n ≡ uploadVerdict r i b q
+  pub in-upload : {i : ℕ} → i ≡ uploadAt b q → i < placeCount → judgeTransaction r b q ≡ uploadVerdict r i b q
   unfolding judgeTransaction transactionRows notOpen judgeOpen
   in-upload {i} e h =
       rw (← e, lt-leb placeCount i h, lt-ltb i placeCount h)
 
   module _ {i j : ℕ} (e : i ≡ uploadAt b q) (h : placeCount ≤ i) (f : j ≡ downloadOf b q) where
-    pub in-download : j < placeCount → judgeTransaction r b q n ≡ downloadVerdict r j b q
+    pub in-download : j < placeCount → judgeTransaction r b q ≡ downloadVerdict r j b q
     unfolding judgeTransaction transactionRows notOpen judgeOpen
     in-download k = rw (← e, ← f, le-leb placeCount i h, lt-leb placeCount j k, le-ltb i placeCount h)
 
-    pub in-none : placeCount ≤ j → judgeTransaction r b q n ≡ verdict.Refused code.UnknownTransaction
+    pub in-none : placeCount ≤ j → judgeTransaction r b q ≡ verdict.Refused code.UnknownTransaction
     unfolding judgeTransaction transactionRows notOpen judgeOpen
     in-none k = rw (← e, ← f, le-leb placeCount i h, le-leb placeCount j k)

@@ -21,6 +21,7 @@ use Rattle.bank_rows.proofs.Calls.{zeros-laid, held-place, held-file, held-ende
 use Rattle.bank_rows.proofs.Calls as calls
 use Rattle.bank_rows.proofs.Reading.{found-download}
 use Rattle.bank_rows.proofs.State.{stored-back, stored-laid, stored-download-count}
+use Rattle.bank_verdicts.specs.declared.verdict.Context.{Context}
 use Rattle.bank_verdicts.specs.declared.verdict.Direction.{Direction}
 use Rattle.bank_verdicts.specs.declared.verdict.Direction.the-variants as direction
 use Rattle.bank_verdicts.specs.declared.verdict.DownloadAction.{DownloadAction}
@@ -96,13 +97,13 @@ module _ (b : Bank) (k : Held b) (q : Fields) where
     abbrev P : Verdict → Type 0
     P v = Held (carryOut v w q d .bank)
 
-    opening-held : (first : ℕ) (dir : Direction) (v : Verdict) → OpeningSound first b q dir v
-        → judgeOpening dir first b q ≡ v → P v
-    opening-held first dir v (sound.refused e c h) told = k
-    opening-held first dir v (sound.upload acc some free below) told =
-        held-upload q b k (accepted-room first b q k direction.Upload told) _ _
-    opening-held first dir v (sound.download acc full) told =
-        held-download q b k (accepted-room first b q k direction.Download told) _
+    opening-held : (context : Context) (dir : Direction) (v : Verdict) → OpeningSound (context .prefix) b q dir v
+        → judgeOpening dir context b q ≡ v → P v
+    opening-held context dir v (sound.refused e c h) told = k
+    opening-held context dir v (sound.upload acc some free below) told =
+        held-upload q b k (accepted-room context b q k direction.Upload told) _ _
+    opening-held context dir v (sound.download acc full) told =
+        held-download q b k (accepted-room context b q k direction.Download told) _
 
     upload-held : (r : TransactionRequest) → P (uploadVerdict r (uploadAt b q) b q)
     upload-held r =
@@ -135,7 +136,7 @@ module _ (b : Bank) (k : Held b) (q : Fields) where
           subst (λ (x : BankState). Held (x .bank)) (sym (download-acts (e .transaction) w q d r e n))
           (on-download-held (judgeDownload r e n q))
 
-    pub held-judged : (first : ℕ) → P (judge first b q (length d))
-    held-judged first =
-        judged-each first b q (length d) P k (λ c. k) (λ _. opening-held first) (λ _ r _. upload-held r)
+    pub held-judged : (context : Context) → P (judge context b q (length d))
+    held-judged context =
+        judged-each context b q (length d) P k (λ c. k) (λ _. opening-held context) (λ _ r _. upload-held r)
         (λ _ r h. download-held h r)

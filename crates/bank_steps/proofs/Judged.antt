@@ -15,6 +15,7 @@ use Rattle.message.specs.declared.codes.ReturnCode.the-variants as code
 use Rattle.message.proofs.Verdicts.{by-test, and-false}
 use Rattle.bank_state.specs.State.{Bank}
 use Rattle.bank_state.specs.Limits.{placeCount}
+use Rattle.bank_verdicts.specs.declared.verdict.Context.{Context}
 use Rattle.bank_verdicts.specs.declared.verdict.Direction.{Direction}
 use Rattle.bank_verdicts.specs.declared.verdict.Direction.the-variants as direction
 use Rattle.bank_verdicts.specs.declared.verdict.TransactionRequest.{TransactionRequest}
@@ -27,10 +28,10 @@ use Rattle.bank_verdicts.specs.Refusals.{notOpen}
 use Rattle.bank_verdicts.proofs.Sound.{Readable, OpeningSound, judged-request, judged-opening, judged-transaction}
 use Rattle.bank_steps.specs.Steps.{uploadVerdict, downloadVerdict}
 
-module _ (first : ℕ) (b : Bank) (q : Fields) (n : ℕ) (P : Verdict → Type 0) (unreadable : P verdict.Unreadable)
+module _ (context : Context) (b : Bank) (q : Fields) (n : ℕ) (P : Verdict → Type 0) (unreadable : P verdict.Unreadable)
     (refused : (c : ReturnCode) → P (verdict.Refused c))
-    (opening : Readable q n → (dir : Direction) (v : Verdict) → OpeningSound first b q dir v
-    → judgeOpening dir first b q ≡ v → P v)
+    (opening : Readable q n → (dir : Direction) (v : Verdict) → OpeningSound (context .prefix) b q dir v
+    → judgeOpening dir context b q ≡ v → P v)
     (upload : Readable q n → (r : TransactionRequest) → uploadAt b q < placeCount
     → P (uploadVerdict r (uploadAt b q) b q))
     (download : Readable q n → (r : TransactionRequest) → downloadOf b q < placeCount
@@ -43,7 +44,7 @@ module _ (first : ℕ) (b : Bank) (q : Fields) (n : ℕ) (P : Verdict → Type 0
       (and-false (leb placeCount (uploadAt b q)) (leb placeCount (downloadOf b q)) some
       (le-leb placeCount (uploadAt b q) (ltb-false (uploadAt b q) placeCount none)))
 
-  transaction-each : Readable q n → (r : TransactionRequest) → P (judgeTransaction r b q n)
+  transaction-each : Readable q n → (r : TransactionRequest) → P (judgeTransaction r b q)
   unfolding judgeTransaction judgeOpen
   transaction-each k r =
       judged-transaction P b q _ (refused code.UnknownTransaction)
@@ -51,21 +52,21 @@ module _ (first : ℕ) (b : Bank) (q : Fields) (n : ℕ) (P : Verdict → Type 0
       (λ h. upload k r (ltb-true (uploadAt b q) placeCount h))
       (λ none. download k r (found-other some none)))
 
-  opening-each : Readable q n → (dir : Direction) → P (judgeOpening dir first b q)
-  opening-each k dir = opening k dir (judgeOpening dir first b q) (judged-opening first b q dir) refl
+  opening-each : Readable q n → (dir : Direction) → P (judgeOpening dir context b q)
+  opening-each k dir = opening k dir (judgeOpening dir context b q) (judged-opening context b q dir) refl
 
-  request-each : Readable q n → (x : RequestForm) → P (judgeRequest x first b q n)
+  request-each : Readable q n → (x : RequestForm) → P (judgeRequest x context b q)
   request-each k requests.UploadOpening = opening-each k direction.Upload
   request-each k requests.DownloadOpening = opening-each k direction.Download
   request-each k requests.UploadTransfer = transaction-each k asked.UploadTransfer
   request-each k requests.DownloadTransfer = transaction-each k asked.DownloadTransfer
   request-each k requests.Receipt = transaction-each k asked.Receipt
 
-  form-each : Readable q n → (f : Form) → P (judgeForm f first b q n)
+  form-each : Readable q n → (f : Form) → P (judgeForm f context b q)
   form-each k NoForm = unreadable
   form-each k (Request x) = request-each k x
   form-each k (Reply x) = unreadable
 
-  pub judged-each : P (judge first b q n)
+  pub judged-each : P (judge context b q n)
   unfolding judge
   judged-each = judged-request P q n _ (λ _. unreadable) (λ c _. refused c) (λ k. form-each k (form q))

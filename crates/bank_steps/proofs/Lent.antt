@@ -17,6 +17,7 @@ use Rattle.bank_state.specs.Store.{partAt, withPart}
 use Rattle.bank_rows.specs.State.{bankOf, stored, Laid}
 use Rattle.bank_rows.proofs.Calls.{Within, within-own, within-ended, stored-next, laid-next, held-file}
 use Rattle.bank_rows.proofs.State.{stored-own}
+use Rattle.bank_verdicts.specs.declared.verdict.Context.{Context}
 use Rattle.bank_verdicts.specs.declared.verdict.Action.{Action}
 use Rattle.bank_verdicts.specs.declared.verdict.Action.the-variants as action
 use Rattle.bank_verdicts.specs.declared.verdict.Direction.the-variants as direction
@@ -49,26 +50,26 @@ none-carried v s o m q d l k = record {
 
 -- ---- an opening
 
-module _ (s o m : List ℕ) (first : ℕ) (q : Fields) (d : List ℕ) {t : Bits128} {a : Action} {u : List ℕ} where
-  pub upload-opening-carried : {i n : ℕ} → judgeOpening direction.Upload first (bankOf s) q ≡ verdict.Of t a
+module _ (s o m : List ℕ) (context : Context) (q : Fields) (d : List ℕ) {t : Bits128} {a : Action} {u : List ℕ} where
+  pub upload-opening-carried : {i n : ℕ} → judgeOpening direction.Upload context (bankOf s) q ≡ verdict.Of t a
       → i ≡ subscriber q → n ≡ seriesOf i (bankOf s .series)
       → u ≡ stored (openUpload t n q (bankOf s)) s
-      → CarriedOut (judgeOpening direction.Upload first (bankOf s) q) (lent s o m) q d (verdict.Of t a) (lent u o m)
+      → CarriedOut (judgeOpening direction.Upload context (bankOf s) q) (lent s o m) q d (verdict.Of t a) (lent u o m)
   upload-opening-carried told x e f = record {
     judged = sym told;
     done =
         lent-same
         (f ∙ ap (λ (k : ℕ). stored (openUpload t k q (bankOf s)) s) (e ∙ ap (λ (j : ℕ). seriesOf j (bankOf s .series)) x))
         refl refl
-        ∙ ap (keptIn (lent s o m)) (upload-opened first (bankOf s) q o m d told);
+        ∙ ap (keptIn (lent s o m)) (upload-opened context (bankOf s) q o m d told);
   }
 
-  pub download-opening-carried : judgeOpening direction.Download first (bankOf s) q ≡ verdict.Of t a
+  pub download-opening-carried : judgeOpening direction.Download context (bankOf s) q ≡ verdict.Of t a
       → u ≡ stored (openDownload t q (bankOf s)) s
-      → CarriedOut (judgeOpening direction.Download first (bankOf s) q) (lent s o m) q d (verdict.Of t a) (lent u o m)
+      → CarriedOut (judgeOpening direction.Download context (bankOf s) q) (lent s o m) q d (verdict.Of t a) (lent u o m)
   download-opening-carried told f = record {
     judged = sym told;
-    done = lent-same f refl refl ∙ ap (keptIn (lent s o m)) (download-opened first (bankOf s) q o m d told);
+    done = lent-same f refl refl ∙ ap (keptIn (lent s o m)) (download-opened context (bankOf s) q o m d told);
   }
 
 -- ---- the open upload in place i

@@ -27,6 +27,7 @@ use Rattle.bank_state.proofs.Drops.{each-endDownloads}
 use Rattle.bank_sound.specs.Sound.{InRange}
 use Rattle.bank_rows.specs.State.{Held}
 use Rattle.bank_sound.proofs.Range.{upload-room, ended-range}
+use Rattle.bank_verdicts.specs.declared.verdict.Context.{Context}
 use Rattle.bank_verdicts.specs.declared.verdict.Direction.{Direction}
 use Rattle.bank_verdicts.specs.declared.verdict.DownloadAction.{DownloadAction}
 use Rattle.bank_verdicts.specs.declared.verdict.TransactionRequest.{TransactionRequest}
@@ -288,7 +289,7 @@ module _ (b : Bank) (k : Held b) (r : InRange b) (q : Fields) (o m d : List ℕ)
         subst (λ (x : BankState). InRange (x .bank)) (sym (download-acts (e .transaction) w q d t e n))
         (on-download-range (judgeDownload t e n q) (judged-download e n q t))
 
-  pub range-judged : (first : ℕ) → P (judge first b q (length d))
-  range-judged first =
-      judged-each first b q (length d) P r (λ c. r) (λ s dir v x _. opening-range s first dir v x)
+  pub range-judged : (context : Context) → P (judge context b q (length d))
+  range-judged context =
+      judged-each context b q (length d) P r (λ c. r) (λ s dir v x _. opening-range s (context .prefix) dir v x)
       upload-left download-left

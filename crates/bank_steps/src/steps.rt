@@ -22,6 +22,7 @@ use bank_state::limits::PLACE_COUNT;
 use bank_state::store::zero;
 use bank_uploads::uploads::upload_step;
 use bank_verdicts::verdict::Action;
+use bank_verdicts::verdict::Context;
 use bank_verdicts::verdict::Direction;
 use bank_verdicts::verdict::DownloadAction;
 use bank_verdicts::verdict::TransactionRequest;
@@ -50,13 +51,13 @@ ghost use Rattle.bank_steps.specs.Steps.{emptied, onDownload, uploadVerd
 ghost use Rattle.bank_steps.specs.Lent.{lent, stateOf, keptIn, Prepared, Ready, CarriedOut};
 
 // An opening of an upload.
-fn upload_opening(rows: &mut [u64], first: u64, q: Fields) -> Verdict
+fn upload_opening(rows: &mut [u64], context: Context, q: Fields) -> Verdict
     requires { ⌜ Laid (now rows) ⌝ }
     ensures { λ r. ⌜ ((o m d : List ℕ) →
-        CarriedOut (judgeOpening Direction.Upload first (bankOf (now (rows .entry))) q)
+        CarriedOut (judgeOpening Direction.Upload context (bankOf (now (rows .entry))) q)
         (lent (now (rows .entry)) o m) q d r (lent (now (rows .exit)) o m)) ⌝ }
 {
-    let verdict = judge_opening(rows, Direction::Upload, first, q);
+    let verdict = judge_opening(rows, Direction::Upload, context, q);
     match verdict {
         Verdict::Of(transaction, _) => {
             let number = series_of(rows, q.subscriber());
@@ -68,13 +69,13 @@ fn upload_opening(rows: &mut [u64], first: u64, q: Fields) -> Verdict
 }
 
 // An opening of a download.
-fn download_opening(rows: &mut [u64], first: u64, q: Fields) -> Verdict
+fn download_opening(rows: &mut [u64], context: Context, q: Fields) -> Verdict
     requires { ⌜ Laid (now rows) ⌝ }
     ensures { λ r. ⌜ ((o m d : List ℕ) →
-        CarriedOut (judgeOpening Direction.Download first (bankOf (now (rows .entry))) q)
+        CarriedOut (judgeOpening Direction.Download context (bankOf (now (rows .entry))) q)
         (lent (now (rows .entry)) o m) q d r (lent (now (rows .exit)) o m)) ⌝ }
 {
-    let verdict = judge_opening(rows, Direction::Download, first, q);
+    let verdict = judge_opening(rows, Direction::Download, context, q);
     match verdict {
         Verdict::Of(transaction, _) => {
             open_download(rows, transaction, q);
@@ -187,7 +188,7 @@ fn on_transaction(
     mailboxes: &mut [u8],
 ) -> Verdict
     requires { ⌜ Ready q (now bytes) (now rows) (now orders) (now mailboxes) ⌝ }
-    ensures { λ r. ⌜ CarriedOut (judgeTransaction asked (bankOf (now (rows .entry))) q (length (now (bytes .entry))))
+    ensures { λ r. ⌜ CarriedOut (judgeTransaction asked (bankOf (now (rows .entry))) q)
         (lent (now (rows .entry)) (now (orders .entry)) (now (mailboxes .entry))) q (now (bytes .entry))
         r (lent (now (rows .exit)) (now (orders .exit)) (now (mailboxes .exit))) ⌝ }
 {
@@ -208,7 +209,7 @@ fn on_transaction(
 fn by_request(
     request: RequestForm,
     rows: &mut [u64],
-    first: u64,
+    context: Context,
     q: Fields,
     bytes: &[u8],
     orders: &mut [u8],
@@ -216,13 +217,13 @@ fn by_request(
 ) -> Verdict
     requires { ⌜ Ready q (now bytes) (now rows) (now orders) (now mailboxes) ⌝ }
     ensures { λ r. ⌜ CarriedOut
-        (judgeRequest request first (bankOf (now (rows .entry))) q (length (now (bytes .entry))))
+        (judgeRequest request context (bankOf (now (rows .entry))) q)
         (lent (now (rows .entry)) (now (orders .entry)) (now (mailboxes .entry))) q (now (bytes .entry))
         r (lent (now (rows .exit)) (now (orders .exit)) (now (mailboxes .exit))) ⌝ }
 {
     match request {
-        RequestForm::UploadOpening => upload_opening(rows, first, q),
-        RequestForm::DownloadOpening => download_opening(rows, first, q),
+        RequestForm::UploadOpening => upload_opening(rows, context, q),
+        RequestForm::DownloadOpening => download_opening(rows, context, q),
         RequestForm::UploadTransfer => {
             on_transaction(
                 rows,
@@ -259,36 +260,36 @@ fn by_request(
 // A request of a subscriber, where it is readable.
 fn by_form(
     rows: &mut [u64],
-    first: u64,
+    context: Context,
     q: Fields,
     bytes: &[u8],
     orders: &mut [u8],
     mailboxes: &mut [u8],
 ) -> Verdict
     requires { ⌜ Ready q (now bytes) (now rows) (now orders) (now mailboxes) ⌝ }
-    ensures { λ r. ⌜ CarriedOut (judgeForm (form q) first (bankOf (now (rows .entry))) q (length (now (bytes .entry))))
+    ensures { λ r. ⌜ CarriedOut (judgeForm (form q) context (bankOf (now (rows .entry))) q)
         (lent (now (rows .entry)) (now (orders .entry)) (now (mailboxes .entry))) q (now (bytes .entry))
         r (lent (now (rows .exit)) (now (orders .exit)) (now (mailboxes .exit))) ⌝ }
 {
     let form = q.form();
     match form {
         Form::NoForm => Verdict::Unreadable,
-        Form::Request(request) => by_request(request, rows, first, q, bytes, orders, mailboxes),
+        Form::Request(request) => by_request(request, rows, context, q, bytes, orders, mailboxes),
         Form::Reply(_) => Verdict::Unreadable,
     }
 }
 
-// A request: judged in document 01's order, and carried out; `first` is the number of the lent ID bytes.
+// A request: judged in document 01's order, and carried out.
 pub fn step(
     rows: &mut [u64],
-    first: u64,
+    context: Context,
     q: Fields,
     bytes: &[u8],
     orders: &mut [u8],
     mailboxes: &mut [u8],
 ) -> Verdict
     requires { ⌜ Prepared (now rows) (now orders) (now mailboxes) ⌝ }
-    ensures { λ r. ⌜ CarriedOut (judge first (bankOf (now (rows .entry))) q (length (now (bytes .entry))))
+    ensures { λ r. ⌜ CarriedOut (judge context (bankOf (now (rows .entry))) q (length (now (bytes .entry))))
         (lent (now (rows .entry)) (now (orders .entry)) (now (mailboxes .entry))) q (now (bytes .entry))
         r (lent (now (rows .exit)) (now (orders .exit)) (now (mailboxes .exit))) ⌝ }
 {
@@ -301,5 +302,5 @@ pub fn step(
     if SEGMENT_BYTES < bytes.len() {
         return Verdict::Refused(ReturnCode::SegmentSizeExceeded);
     }
-    by_form(rows, first, q, bytes, orders, mailboxes)
+    by_form(rows, context, q, bytes, orders, mailboxes)
 }

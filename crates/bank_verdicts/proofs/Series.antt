@@ -13,37 +13,38 @@ use Rattle.bank_state.specs.State.{Bank, seriesOf, withSeries}
 use Rattle.bank_state.specs.Limits.{maxOpen, nonceCount, maxOpenings, seriesLimit}
 use Rattle.bank_state.specs.Search.{freePlace, freeNonce, openCount, openCountOf, isRemembered}
 use Rattle.bank_verdicts.specs.declared.verdict.Action.the-variants as action
+use Rattle.bank_verdicts.specs.declared.verdict.Context.{Context}
 use Rattle.bank_verdicts.specs.declared.verdict.Direction.{Direction}
 use Rattle.bank_verdicts.specs.declared.verdict.Direction.the-variants as direction
 use Rattle.bank_verdicts.specs.declared.verdict.UploadAction.the-variants as up
 use Rattle.bank_verdicts.specs.declared.verdict.Verdict.{Verdict}
 use Rattle.bank_verdicts.specs.declared.verdict.Verdict.the-variants.{Of}
 use Rattle.bank_verdicts.specs.Judgement.{judgeOpening}
-use Rattle.bank_verdicts.specs.Refusals.{noPlaceFree, seriesEnded, isFull, isReplay, manyOpen, openingRows}
+use Rattle.bank_verdicts.specs.Refusals.{noPlaceFree, seriesEnded, isFull, noShare, isReplay, manyOpen, openingRows}
 use Rattle.bank_verdicts.proofs.Sound.{OpeningSound, judged-opening}
 use Rattle.bank_verdicts.proofs.Sound as sound
 
-module _ (first : ℕ) (b : Bank) (q : Fields) where
-  numbers-by : {t : Bits128} {n : ℕ} (v : Verdict) → OpeningSound first b q direction.Upload v
+module _ (y : Context) (b : Bank) (q : Fields) where
+  numbers-by : {t : Bits128} {n : ℕ} (v : Verdict) → OpeningSound (y .prefix) b q direction.Upload v
       → v ≡ Of t (action.Upload (up.Opened n)) → (t .low ≡ b .openings) × (n ≡ seriesOf (subscriber q) (b .series))
   numbers-by v (sound.refused e c h) x = absurd (let z : _≡_ {A = ℕ} 0 1 = cc in omega arith)
   numbers-by v (sound.upload acc some free below) x = (cc, cc)
 
   -- "Transaction IDs keep the common running number", and the order has the number that its series has come to
-  pub upload-numbers : {t : Bits128} {n : ℕ} → judgeOpening direction.Upload first b q ≡ Of t (action.Upload (up.Opened n))
+  pub upload-numbers : {t : Bits128} {n : ℕ} → judgeOpening direction.Upload y b q ≡ Of t (action.Upload (up.Opened n))
       → (t .low ≡ b .openings) × (n ≡ seriesOf (subscriber q) (b .series))
-  upload-numbers e = numbers-by (judgeOpening direction.Upload first b q) (judged-opening first b q direction.Upload) e
+  upload-numbers e = numbers-by (judgeOpening direction.Upload y b q) (judged-opening y b q direction.Upload) e
 
   -- a download is judged without any series
   pub download-by-no-series : (l : List ℕ)
-      → judgeOpening direction.Download first (withSeries l b) q ≡ judgeOpening direction.Download first b q
-  unfolding judgeOpening openingRows isReplay manyOpen isFull freePlace freeNonce openCount openCountOf isRemembered
+      → judgeOpening direction.Download y (withSeries l b) q ≡ judgeOpening direction.Download y b q
+  unfolding judgeOpening openingRows isReplay manyOpen isFull noShare freePlace freeNonce openCount openCountOf isRemembered
   download-by-no-series l = refl
 
   -- an upload by its own subscriber's series alone
   pub upload-by-own-series : (l : List ℕ) → seriesOf (subscriber q) l ≡ seriesOf (subscriber q) (b .series)
-      → judgeOpening direction.Upload first (withSeries l b) q ≡ judgeOpening direction.Upload first b q
-  unfolding judgeOpening openingRows isReplay manyOpen isFull freePlace freeNonce openCount openCountOf isRemembered
+      → judgeOpening direction.Upload y (withSeries l b) q ≡ judgeOpening direction.Upload y b q
+  unfolding judgeOpening openingRows isReplay manyOpen isFull noShare freePlace freeNonce openCount openCountOf isRemembered
   upload-by-own-series l e = rw e
 
   or-right : (s t : Bool) → t ≡ true → s || t ≡ true

@@ -41,6 +41,7 @@ use Rattle.bank_state.specs.Limits.{placeCount, nonceCount, window, maxOpen, ma
 use Rattle.bank_state.specs.Limits.{maxOpenings, seriesLimit}
 use Rattle.bank_state.specs.Search.{freePlace, freeNonce, openCount, openCountOf, isRemembered}
 use Rattle.bank_state.specs.State.{fileLength, seriesOf}
+use Rattle.bank_verdicts.specs.declared.verdict.Context.{Context}
 use Rattle.bank_verdicts.specs.declared.verdict.Direction.{Direction}
 use Rattle.bank_verdicts.specs.declared.verdict.Direction.the-variants as direction
 use Rattle.bank_verdicts.specs.declared.verdict.TransactionRequest.{TransactionRequest}
@@ -67,6 +68,7 @@ use Rattle.bank_verdicts.specs.Refusals.{
   noPlaceFree,
   seriesEnded,
   isFull,
+  noShare,
   openingRows,
   notOpen,
   transactionRows,
@@ -140,7 +142,10 @@ isHarmless Unreadable = false
 isHarmless (Refused c) = not (cancels c)
 isHarmless (Of t a) = false
 
-module _ (first : ℕ) (b : Bank) (q : Fields) where
+module _ (x : Context) (b : Bank) (q : Fields) where
+  abbrev first : ℕ
+  first = x .prefix
+
   harmless : (d : Direction) (v : Verdict) → isHarmless v ≡ true → OpeningSound first b q d v
   harmless d Unreadable h = never h
   harmless d (Refused c) h = refused d c (not-true (cancels c) h)
@@ -162,13 +167,13 @@ module _ (first : ℕ) (b : Bank) (q : Fields) where
       let n = or-neither (seriesEnded d b q) (leb maxOpenings (b .openings)) (m .1) in
       (a .0, p .0, m .0, n .0, n .1)
 
-  acceptable : (d : Direction) → Fail (openingRows d b q) → Acceptable b q
+  acceptable : (d : Direction) → Fail (openingRows d (x .others) b q) → Acceptable b q
   unfolding openingRows manySegments isReplay manyOpen
   acceptable d failed =
       let late = not (inTime (timestamp q) (b .clock)) in
       let replay = or-neither late (isRemembered (nonce q) b) (failed code.MessageReplay) in
       let time = in-time (not-false (inTime (timestamp q) (b .clock)) (replay .0)) in
-      let room = place-and-numbers d (failed code.InternalError) in
+      let room = place-and-numbers d (or-neither (isFull d b q) (noShare (x .others) b) (failed code.InternalError) .0) in
       record {
         few = ltb-false maxSegments (segments q) (failed code.MaxSegmentsExceeded);
         timely = time .1;
@@ -180,11 +185,11 @@ module _ (first : ℕ) (b : Bank) (q : Fields) where
         numbers = leb-false maxOpenings (b .openings) (room .4);
       }
 
-  accepting : (d : Direction) → Fail (openingRows d b q) → OpeningSound first b q d (accepted d first b q)
+  accepting : (d : Direction) → Fail (openingRows d (x .others) b q) → OpeningSound first b q d (accepted d first b q)
   unfolding openingRows
   accepting direction.Upload failed =
       let kind = or-neither (eqb (orderType q) fdl) (eqb (segments q) 0) (failed code.InvalidRequest) in
-      let room = place-and-numbers direction.Upload (failed code.InternalError) in
+      let room = place-and-numbers direction.Upload (or-neither (isFull direction.Upload b q) (noShare (x .others) b) (failed code.InternalError) .0) in
       upload (acceptable direction.Upload failed) (eqb-false (segments q) 0 (kind .1))
       (leb-false placeCount (freePlace b) (room .1))
       (leb-false seriesLimit (seriesOf (subscriber q) (b .series)) (room .3))
@@ -192,10 +197,10 @@ module _ (first : ℕ) (b : Bank) (q : Fields) where
       download (acceptable direction.Download failed)
       (eqb-false (fileLength (subscriber q) (b .files)) 0 (failed code.NoDownloadDataAvailable))
 
-  pub judged-opening : (d : Direction) → OpeningSound first b q d (judgeOpening d first b q)
+  pub judged-opening : (d : Direction) → OpeningSound first b q d (judgeOpening d x b q)
   unfolding judgeOpening openingRows
   judged-opening d =
-      let rows : List (Row Verdict) = openingRows d b q in
+      let rows : List (Row Verdict) = openingRows d (x .others) b q in
       judged-by P rows (accepted d first b q) (each-such P isHarmless (harmless d) [] rows refl) (accepting d)
     where
       P : Verdict → Type 0

@@ -19,6 +19,7 @@ use Rattle.bank_state.specs.declared.state.Place.{Place}
 use Rattle.bank_state.specs.Limits.{placeCount}
 use Rattle.bank_state.specs.Search.{findUpload, findDownload}
 use Rattle.bank_state.specs.State.{placeAt, downloadAt, fileLength, seriesOf}
+use Rattle.bank_verdicts.specs.declared.verdict.Context.{Context}
 use Rattle.bank_verdicts.specs.declared.verdict.Direction.{Direction}
 use Rattle.bank_verdicts.specs.declared.verdict.Direction.the-variants as direction
 use Rattle.bank_verdicts.specs.declared.verdict.TransactionRequest.{TransactionRequest}
@@ -59,8 +60,8 @@ accepted direction.Download first b q =
     Of (transactionOf first b) (action.Download (down.Opened (mailboxSegments (subscriber q) b)))
 
 -- an opening in the form of this direction
-unfoldable pub judgeOpening : Direction → ℕ → Bank → Fields → Verdict
-judgeOpening d first b q = judged (openingRows d b q) (accepted d first b q)
+unfoldable pub judgeOpening : Direction → Context → Bank → Fields → Verdict
+judgeOpening d c b q = judged (openingRows d (c .others) b q) (accepted d (c .prefix) b q)
 
 -- "Segment N books the order"
 unfoldable pub takes : Place → UploadAction
@@ -82,8 +83,8 @@ abbrev pub downloadOf : Bank → Fields → ℕ
 downloadOf b q = findDownload (subscriber q) (transaction q) b
 
 -- a request to an open transaction: an upload's, else a download's
-unfoldable pub judgeOpen : TransactionRequest → Bank → Fields → ℕ → Verdict
-judgeOpen r b q n =
+unfoldable pub judgeOpen : TransactionRequest → Bank → Fields → Verdict
+judgeOpen r b q =
     let p = placeAt b (uploadAt b q) in
     let e = downloadAt b (downloadOf b q) in
     cond (ltb (uploadAt b q) placeCount)
@@ -91,22 +92,22 @@ judgeOpen r b q n =
     (Of (e .transaction) (action.Download (judgeDownload r e (mailboxSegments (subscriber q) b) q)))
 
 -- a request to a transaction
-unfoldable pub judgeTransaction : TransactionRequest → Bank → Fields → ℕ → Verdict
-judgeTransaction r b q n = judged (transactionRows b q) (judgeOpen r b q n)
+unfoldable pub judgeTransaction : TransactionRequest → Bank → Fields → Verdict
+judgeTransaction r b q = judged (transactionRows b q) (judgeOpen r b q)
 
 -- a readable request by its form
-abbrev pub judgeRequest : RequestForm → ℕ → Bank → Fields → ℕ → Verdict
-judgeRequest requests.UploadOpening first b q n = judgeOpening direction.Upload first b q
-judgeRequest requests.DownloadOpening first b q n = judgeOpening direction.Download first b q
-judgeRequest requests.UploadTransfer first b q n = judgeTransaction asked.UploadTransfer b q n
-judgeRequest requests.DownloadTransfer first b q n = judgeTransaction asked.DownloadTransfer b q n
-judgeRequest requests.Receipt first b q n = judgeTransaction asked.Receipt b q n
+abbrev pub judgeRequest : RequestForm → Context → Bank → Fields → Verdict
+judgeRequest requests.UploadOpening c b q = judgeOpening direction.Upload c b q
+judgeRequest requests.DownloadOpening c b q = judgeOpening direction.Download c b q
+judgeRequest requests.UploadTransfer c b q = judgeTransaction asked.UploadTransfer b q
+judgeRequest requests.DownloadTransfer c b q = judgeTransaction asked.DownloadTransfer b q
+judgeRequest requests.Receipt c b q = judgeTransaction asked.Receipt b q
 
-abbrev pub judgeForm : Form → ℕ → Bank → Fields → ℕ → Verdict
-judgeForm NoForm first b q n = Unreadable
-judgeForm (Request x) first b q n = judgeRequest x first b q n
-judgeForm (Reply x) first b q n = Unreadable
+abbrev pub judgeForm : Form → Context → Bank → Fields → Verdict
+judgeForm NoForm c b q = Unreadable
+judgeForm (Request x) c b q = judgeRequest x c b q
+judgeForm (Reply x) c b q = Unreadable
 
--- a request with n bytes of data; first is the number of the lent ID bytes
-unfoldable pub judge : ℕ → Bank → Fields → ℕ → Verdict
-judge first b q n = judged (requestRows q n) (judgeForm (form q) first b q n)
+-- a request with n bytes of data, in a context
+unfoldable pub judge : Context → Bank → Fields → ℕ → Verdict
+judge c b q n = judged (requestRows q n) (judgeForm (form q) c b q)

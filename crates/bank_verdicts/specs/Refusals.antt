@@ -25,7 +25,7 @@ use Rattle.bank_state.specs.State.{Bank}
 use Rattle.bank_state.specs.declared.state.Download.{Download}
 use Rattle.bank_state.specs.declared.state.Place.{Place}
 use Rattle.bank_state.specs.Limits.{placeCount, nonceCount, window, maxOpen, maxOpenPerSubscriber}
-use Rattle.bank_state.specs.Limits.{maxOpenings, seriesLimit}
+use Rattle.bank_state.specs.Limits.{maxOpenings, seriesLimit, sharedOpen, sureOpen}
 use Rattle.bank_state.specs.Search.{
   freePlace,
   freeNonce,
@@ -149,15 +149,19 @@ isFull d b q =
     leb maxOpen (openCount b)
     || (noPlaceFree d b || (leb nonceCount (freeNonce b) || (seriesEnded d b q || leb maxOpenings (b .openings))))
 
-unfoldable pub openingRows : Direction → Bank → Fields → List (Row Verdict)
-openingRows d b q =
+-- "A bank with two or more open may open another only while the sum ... is below 16"; the others' part is given
+unfoldable pub noShare : ℕ → Bank → Bool
+noShare others b = leb sureOpen (openCount b) && leb sharedOpen (others + openCount b)
+
+unfoldable pub openingRows : Direction → ℕ → Bank → Fields → List (Row Verdict)
+openingRows d others b q =
     refusing code.InvalidOrderType (unknownType q)
     ∷ refusing code.InvalidRequest (otherDirection d q)
     ∷ refusing code.MaxSegmentsExceeded (manySegments q)
     ∷ refusing code.MessageReplay (isReplay b q)
     ∷ refusing code.NoDownloadDataAvailable (emptyMailbox d b q)
     ∷ refusing code.MaxTransactionsExceeded (manyOpen b q)
-    ∷ refusing code.InternalError (isFull d b q)
+    ∷ refusing code.InternalError (isFull d b q || noShare others b)
     ∷ []
 
 -- ---- THE SUBSCRIBER, BY THE COURSE OF THE ORDER: a request to a transaction

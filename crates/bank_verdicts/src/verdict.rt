@@ -2,6 +2,13 @@
 use frame_table::fields::Bits128;
 use message::codes::ReturnCode;
 
+// What a request is judged with besides the bank: the lent ID bytes as a number, with which a transaction ID begins, and
+// what the other banks count of the open transactions that all share (document 02, card 13).
+pub struct Context {
+    pub prefix: u64,
+    pub others: u64,
+}
+
 // The direction of a transaction.
 pub enum Direction {
     Upload,

@@ -47,7 +47,7 @@ unfolding clocks.isIdle clocks.freed clocks.dropUpload clocks.dropUploads clocks
     searches.findDownload searches.openCount searches.openCountOf searches.isRemembered
     state.fresh state.fileLength state.seriesOf store.partAt store.withPart store.zeroed store.fileOf
     refusals.noSubscriber refusals.longData refusals.requestRows refusals.unknownType refusals.manySegments refusals.inTime
-    refusals.isReplay refusals.manyOpen refusals.isFull refusals.openingRows refusals.notOpen refusals.transactionRows
+    refusals.isReplay refusals.manyOpen refusals.isFull refusals.noShare refusals.openingRows refusals.notOpen refusals.transactionRows
     refusals.uploadAttempt refusals.isUnderrun refusals.isExceeded refusals.segmentRows refusals.uploadRows
     refusals.downloadAttempt refusals.receiptRows refusals.downloadRows
     judgement.judgeOpening judgement.takes judgement.judgeUpload judgement.judgeDownload judgement.judgeOpen

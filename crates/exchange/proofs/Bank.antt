@@ -33,7 +33,7 @@ use Rattle.bank.specs.declared.call.FrameAnswer.{FrameAnswer}
 use Rattle.bank.specs.declared.call.FrameAnswer.the-variants as frameAnswer
 use Rattle.bank.specs.declared.mailbox.FileAnswer.{FileAnswer}
 use Rattle.bank.specs.declared.mailbox.FileAnswer.the-variants as fileAnswer
-use Rattle.bank.specs.Call.{Step, FrameCall, replied, answerOf, lentRight, respond, frameCall, FrameInput, frameRefused}
+use Rattle.bank.specs.Call.{contextOf, Step, FrameCall, replied, answerOf, lentRight, respond, frameCall, FrameInput, frameRefused}
 use Rattle.bank.specs.Mailbox.{FileCall, fileCall, carryOutFile, fileRefusals, fileNumber}
 use Rattle.bank_history.proofs.Answers.{stepOf}
 use Rattle.bank_verdicts.specs.declared.verdict.DownloadAction.the-variants as down
@@ -213,7 +213,7 @@ module _ (s : Course) (b : BankPart s) (a : FrameInput) (n : ℕ) where
     next-proper : Proper x
     unfolding exchangeOf respond
     next-proper = record {
-      refuses = verdict-refuses (number (a .ids)) (advanced (a .time) (p .bankState)) (readRequest (a .frame))
+      refuses = verdict-refuses (contextOf a) (advanced (a .time) (p .bankState)) (readRequest (a .frame))
           (dataOf (a .frame));
       short = mailbox-short (advanced (a .time) (p .bankState)) (subscriber (readRequest (a .frame)));
     }
@@ -258,7 +258,7 @@ module _ (s : Course) (b : BankPart s) (a : FrameInput) (n : ℕ) where
           let v = advanced-keeps (a .time) (p .bankState) (p .history) (b .holds .invariant) in
           ap (mailboxFile (answered a p .bankState)) e
           ∙ case-empties
-          (happens (number (a .ids)) (advanced (a .time) (p .bankState)) (readRequest (a .frame)) (dataOf (a .frame))
+          (happens (contextOf a) (advanced (a .time) (p .bankState)) (readRequest (a .frame)) (dataOf (a .frame))
           (v .state .sizes .places)
           (v .state .sizes .downloads))
           (v .state .sizes) own .empty

@@ -23,6 +23,7 @@ use Rattle.bank_state.specs.Limits.{placeCount}
 use Rattle.bank_state.specs.State.{BankState, downloadAt, fileLength}
 use Rattle.bank_state.specs.Store.{partAt, fileOf}
 use Rattle.bank_state.proofs.Found.{download-found}
+use Rattle.bank_verdicts.specs.declared.verdict.Context.{Context}
 use Rattle.bank_verdicts.specs.declared.verdict.Direction.{Direction}
 use Rattle.bank_verdicts.specs.declared.verdict.Direction.the-variants as direction
 use Rattle.bank_verdicts.specs.declared.verdict.TransactionRequest.{TransactionRequest}
@@ -112,37 +113,37 @@ Refuses v = refusesIn v ≡ true
 lines-refuse : (rows : List (Row Verdict)) (other : Verdict) → allRows refusesIn rows ≡ true → Refuses other → Refuses (judged rows other)
 lines-refuse rows other h k = judged-by Refuses rows other (each-such Refuses refusesIn (λ v e. e) [] rows h) (λ _. k)
 
-module _ (first : ℕ) (w : BankState) (q : Fields) (d : List ℕ) where
-  opening-refuses : (x : Direction) → Refuses (judgeOpening x first (w .bank) q)
+module _ (context : Context) (w : BankState) (q : Fields) (d : List ℕ) where
+  opening-refuses : (x : Direction) → Refuses (judgeOpening x context (w .bank) q)
   unfolding judgeOpening openingRows
-  opening-refuses x = lines-refuse (openingRows x (w .bank) q) (accepted x first (w .bank) q) refl (accepts x)
+  opening-refuses x = lines-refuse (openingRows x (context .others) (w .bank) q) (accepted x (context .prefix) (w .bank) q) refl (accepts x)
     where
-      accepts : (x : Direction) → Refuses (accepted x first (w .bank) q)
+      accepts : (x : Direction) → Refuses (accepted x (context .prefix) (w .bank) q)
       accepts direction.Upload = refl
       accepts direction.Download = refl
 
-  transaction-refuses : (r : TransactionRequest) → Refuses (judgeTransaction r (w .bank) q (length d))
+  transaction-refuses : (r : TransactionRequest) → Refuses (judgeTransaction r (w .bank) q)
   unfolding judgeTransaction transactionRows judgeOpen
   transaction-refuses r =
-      lines-refuse (transactionRows (w .bank) q) (judgeOpen r (w .bank) q (length d)) refl
+      lines-refuse (transactionRows (w .bank) q) (judgeOpen r (w .bank) q) refl
       (by-test Refuses (ltb (uploadAt (w .bank) q) placeCount) (λ _. refl) (λ _. refl))
 
-  request-refuses : (x : RequestForm) → Refuses (judgeRequest x first (w .bank) q (length d))
+  request-refuses : (x : RequestForm) → Refuses (judgeRequest x context (w .bank) q)
   request-refuses requests.UploadOpening = opening-refuses direction.Upload
   request-refuses requests.DownloadOpening = opening-refuses direction.Download
   request-refuses requests.UploadTransfer = transaction-refuses asked.UploadTransfer
   request-refuses requests.DownloadTransfer = transaction-refuses asked.DownloadTransfer
   request-refuses requests.Receipt = transaction-refuses asked.Receipt
 
-  form-refuses : (f : Form) → Refuses (judgeForm f first (w .bank) q (length d))
+  form-refuses : (f : Form) → Refuses (judgeForm f context (w .bank) q)
   form-refuses NoForm = refl
   form-refuses (Request x) = request-refuses x
   form-refuses (Reply x) = refl
 
-  pub verdict-refuses : Refuses (judge first (w .bank) q (length d))
+  pub verdict-refuses : Refuses (judge context (w .bank) q (length d))
   unfolding judge requestRows
   verdict-refuses =
-      lines-refuse (requestRows q (length d)) (judgeForm (form q) first (w .bank) q (length d)) refl (form-refuses (form q))
+      lines-refuse (requestRows q (length d)) (judgeForm (form q) context (w .bank) q) refl (form-refuses (form q))
 
 -- ---- mailboxes
 

@@ -25,10 +25,11 @@ use Rattle.bank_state.specs.Rows.{countOf}
 use Rattle.bank_state.specs.declared.state.Download.{Download}
 use Rattle.bank_state.specs.Search.{openCountOf}
 use Rattle.bank_state.specs.State.{BankState, noDownload, downloadAt}
+use Rattle.bank_verdicts.specs.declared.verdict.Context.{Context}
 use Rattle.bank_verdicts.specs.declared.verdict.TransactionRequest.{TransactionRequest}
 use Rattle.bank_verdicts.specs.declared.verdict.TransactionRequest.the-variants as asksFor
 use Rattle.bank_steps.specs.Steps.{carryOut}
-use Rattle.bank.specs.Call.{respond, FrameInput}
+use Rattle.bank.specs.Call.{contextOf, respond, FrameInput}
 use Rattle.bank_verdicts.specs.declared.verdict.UploadAction.the-variants as up
 use Rattle.bank_verdicts.specs.declared.verdict.DownloadAction.the-variants as down
 use Rattle.bank_verdicts.specs.declared.verdict.Action.{Action}
@@ -171,17 +172,17 @@ module _ {A : Type 0} (p : A → Bool) (d : A) (free : p d ≡ false) where
   two-counted (x ∷ l) (suc i) (suc j) n e f = let z = two-counted l i j (λ k. n (ap suc k)) e f in omega arith
 
 -- where the subscriber has one transaction open, a download t, the receipt that is confirmed is that of t
-pub confirms-own : (first time : ℕ) (w : BankState) (q : Fields) (b : List ℕ) (k : List bank.Exchange) (v : bankInvariant.Invariant w k)
+pub confirms-own : (context : Context) (time : ℕ) (w : BankState) (q : Fields) (b : List ℕ) (k : List bank.Exchange) (v : bankInvariant.Invariant w k)
     {t u : Bits128} {s d last : ℕ} → DownloadAt w t s d last → openCountOf s (w .bank) ≤ 1 →
-    judge first (advanced time w .bank) q (length b) ≡ verdict.Of u (action.Download down.Confirmed) → subscriber q ≡ s → u ≡ t
+    judge context (advanced time w .bank) q (length b) ≡ verdict.Of u (action.Download down.Confirmed) → subscriber q ≡ s → u ≡ t
 unfolding openCountOf
-confirms-own first time w q b k v {t} {u} {s} a few own from = at (ℕ-discrete (a .row) (before .0))
+confirms-own context time w q b k v {t} {u} {s} a few own from = at (ℕ-discrete (a .row) (before .0))
   where
     n : bankInvariant.Invariant (advanced time w) k
     n = advanced-keeps time w k v
 
-    e : Empties (advanced time w) (carryOut (judge first (advanced time w .bank) q (length b)) (advanced time w) q b) q u
-    e = case-empties (happens first (advanced time w) q b (n .state .sizes .places) (n .state .sizes .downloads)) (n .state .sizes) own
+    e : Empties (advanced time w) (carryOut (judge context (advanced time w .bank) q (length b)) (advanced time w) q b) q u
+    e = case-empties (happens context (advanced time w) q b (n .state .sizes .places) (n .state .sizes .downloads)) (n .state .sizes) own
 
     before : (j : ℕ) × (downloadAt (w .bank) j ≡ downloadAt (advanced time w .bank) (e .row))
     before = each-download time w (λ (r : Download). r .used ≡ true → (j : ℕ) × (downloadAt (w .bank) j ≡ r)) (λ z. never z)
@@ -265,7 +266,7 @@ module _ (s : Course) (v : Parts s) (copies : Copied s) (numbers : OneExchangeNu
     unfolding exchangeOf respond
     case-of =
         let w = advanced-keeps (a .time) (v .bank .past .bankState) h (v .bank .holds .invariant) in
-        case-under (happens (number (a .ids)) (advanced (a .time) (v .bank .past .bankState)) (readRequest (a .frame))
+        case-under (happens (contextOf a) (advanced (a .time) (v .bank .past .bankState)) (readRequest (a .frame))
         (dataOf (a .frame)) (w .state .sizes .places)
         (w .state .sizes .downloads))
 

@@ -16,7 +16,7 @@ use Rattle.bank_state.specs.State.{BankState}
 use Rattle.bank_verdicts.specs.declared.verdict.DownloadAction.the-variants as down
 use Rattle.bank_verdicts.specs.declared.verdict.Action.the-variants as action
 use Rattle.bank_verdicts.specs.declared.verdict.Verdict.the-variants as verdict
-use Rattle.bank.specs.Call.{respond, FrameInput}
+use Rattle.bank.specs.Call.{contextOf, respond, FrameInput}
 use Rattle.bank_history.specs.History.{Past, BankCall, Frame, isAction, did, exchangeOf, callExchange}
 use Rattle.bank_history.specs.History as bank
 use Rattle.bank_history.specs.Transactions.{DownloadAt, UploadUnlessIdle, DownloadUnlessIdle}
@@ -100,7 +100,7 @@ module _ (s : Course) (v : Parts s) (copies : Copied s) (numbers : OneExchangeNu
             subscriber (x .request) ≡ u → ⊥
         confirmed-not {id} there own from =
             let same : id ≡ t =
-            confirms-own (number (a .ids)) (a .time) (p .bankState) (readRequest (a .frame)) (dataOf (a .frame))
+            confirms-own (contextOf a) (a .time) (p .bankState) (readRequest (a .frame)) (dataOf (a .frame))
             (p .history)
             (v .bank .holds .invariant)
             there (subst (λ (w : BankState). openCountOf u (w .bank) ≤ 1) (sym (v .bank .bankState)) few) own from in

@@ -39,7 +39,7 @@ use Rattle.bank_state.specs.Store.{partAt}
 use Rattle.bank_verdicts.specs.declared.verdict.Action.the-variants as action
 use Rattle.bank_verdicts.specs.declared.verdict.UploadAction.the-variants as up
 use Rattle.bank_verdicts.specs.declared.verdict.Verdict.the-variants as verdict
-use Rattle.bank.specs.Call.{respond, FrameInput}
+use Rattle.bank.specs.Call.{contextOf, respond, FrameInput}
 use Rattle.bank_admitted.specs.State.{mailboxFile}
 use Rattle.bank_history.specs.History.{Past, Frame, File, newest, isAction, isUploadOpening, ever, openedBy, exchangeOf}
 use Rattle.bank_history.specs.History as bank
@@ -280,7 +280,7 @@ not-gone b a en z g =
     let w = b .past .bankState in
     let n = advanced-keeps (a .time) w (b .past .history) (b .holds .invariant) in
     let e = case-empties
-    (happens (number (a .ids)) (advanced (a .time) w) (readRequest (a .frame)) (dataOf (a .frame))
+    (happens (contextOf a) (advanced (a .time) w) (readRequest (a .frame)) (dataOf (a .frame))
     (n .state .sizes .places)
     (n .state .sizes .downloads)) (n .state .sizes)
     (done-confirmed (en .sound) newest (en .proper) (ap returnCode (sym (en .same .reply)) ∙ z) .0) in

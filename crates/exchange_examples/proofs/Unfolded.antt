@@ -65,7 +65,7 @@ unfolding frameBytes.numberFrom frameBytes.number frameBytes.bytesOf frameBytes.
     bankstateSearch.openCount bankstateSearch.openCountOf bankstateSearch.isRemembered bankstateState.fresh
     bankstateStore.partAt bankstateStore.withPart bankstateStore.zeroed bankstateStore.fileOf bankstateState.fileLength
     bankstateState.seriesOf refusals.noSubscriber refusals.longData refusals.requestRows refusals.unknownType refusals.manySegments
-    refusals.inTime refusals.isReplay refusals.manyOpen refusals.isFull refusals.openingRows refusals.notOpen
+    refusals.inTime refusals.isReplay refusals.manyOpen refusals.isFull refusals.noShare refusals.openingRows refusals.notOpen
     refusals.transactionRows refusals.uploadAttempt refusals.isUnderrun refusals.isExceeded refusals.segmentRows
     refusals.uploadRows refusals.downloadAttempt refusals.receiptRows refusals.downloadRows judgement.judgeOpening
     judgement.takes judgement.judgeUpload judgement.judgeDownload judgement.judgeOpen judgement.judgeTransaction

@@ -29,7 +29,7 @@ use Rattle.bank_steps.specs.Lent.{Lent, stateOf}
 use Rattle.bank_steps.specs.Steps.{carryOut}
 use Rattle.bank.specs.declared.call.FrameAnswer.{FrameAnswer}
 use Rattle.bank.specs.declared.call.FrameAnswer.the-variants.{Reply, WrongLength}
-use Rattle.bank.specs.Call.{FrameInput, FrameCall, respond, lentRight, frameCall}
+use Rattle.bank.specs.Call.{contextOf, FrameInput, FrameCall, respond, lentRight, frameCall}
 use Rattle.bank.specs.Journal.{clockBy}
 use Rattle.bank.specs.Lent.{LentFrameCall, lentFrameCall}
 use Rattle.bank.proofs.Kept.{frame-sound, frame-state}
@@ -64,7 +64,7 @@ module _ (w : BankState) (a : FrameInput) where
       let q = readRequest (a .frame) in
       let d = dataOf (a .frame) in
       rw h
-      (carried-clock (judge (number (a .ids)) (v .bank) q (length d)) v q d ∙ advanced-at-clock (a .time) w .clock)
+      (carried-clock (judge (contextOf a) (v .bank) q (length d)) v q d ∙ advanced-at-clock (a .time) w .clock)
 
   -- an answered call is one that passes them
   answered-clock : (b : Bool) → lentRight w a ≡ b → (n : ℕ) → frameCall w a .answer ≡ Reply n

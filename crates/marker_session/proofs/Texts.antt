@@ -16,7 +16,7 @@ use Rattle.frame_row.specs.Row.{dataOf}
 use Rattle.bank_state.specs.State.{BankState}
 use Rattle.bank_state.specs.Clock.{advanced}
 use Rattle.bank_sound.specs.Sound.{isSound}
-use Rattle.bank.specs.Call.{Step, FrameInput, respond, replied, replyCode, lentRight, frameRefused, frameCall}
+use Rattle.bank.specs.Call.{contextOf, Step, FrameInput, respond, replied, replyCode, lentRight, frameRefused, frameCall}
 use Rattle.bank_steps.specs.Lent.{Lent, stateOf}
 use Rattle.bank.specs.Lent.{LentFrameCall, keptFrame, frameTurnedAway, lentFrameCall}
 use Rattle.marker_session.specs.Offset.{offsetText}
@@ -54,7 +54,7 @@ module _ (m : Lent) (a : FrameInput) where
   by-rows : (sound : Bool) → coded (cond sound (keptFrame m (frameCall (stateOf m) a)) (frameTurnedAway m a))
   unfolding frameCall
   by-rows true =
-      by-lengths (respond (number (a .ids)) (advanced (a .time) (stateOf m)) (readRequest (a .frame)) (dataOf (a .frame)))
+      by-lengths (respond (contextOf a) (advanced (a .time) (stateOf m)) (readRequest (a .frame)) (dataOf (a .frame)))
       (stateOf m) (lentRight (stateOf m) a)
   by-rows false = refl
 

@@ -32,7 +32,7 @@ use Rattle.bank_uploads.specs.Uploads.{bytesAfter}
 use Rattle.bank_steps.specs.Steps.{onUpload, carryOut}
 use Rattle.bank.specs.declared.mailbox.FileAnswer.{FileAnswer}
 use Rattle.bank.specs.declared.mailbox.FileAnswer.the-variants as put
-use Rattle.bank.specs.Call.{FrameInput, FrameCall, lentRight, respond, frameCall}
+use Rattle.bank.specs.Call.{contextOf, FrameInput, FrameCall, lentRight, respond, frameCall}
 use Rattle.bank.specs.Mailbox.{fileRefusals, carryOutFile, fileCall}
 use Rattle.image.specs.declared.table.Form.{Form}
 use Rattle.image.specs.Items.{Item, constant, part, store}
@@ -164,7 +164,7 @@ pub frame-holds : (w : BankState) (a : FrameInput) → Bytes (a .frame) → Stor
 unfolding frameCall respond
 frame-holds w a b h =
     by-test (λ (c : FrameCall). StoresHold (c .bankState)) (lentRight w a)
-    (λ _. carried-holds (judge (number (a .ids)) (advanced (a .time) w .bank) (readRequest (a .frame)) (length (dataOf (a .frame))))
+    (λ _. carried-holds (judge (contextOf a) (advanced (a .time) w .bank) (readRequest (a .frame)) (length (dataOf (a .frame))))
     (advanced (a .time) w) (readRequest (a .frame)) (dataOf (a .frame)) (bytes-data (a .frame) b) (advanced-holds (a .time) w h))
     (λ _. h)
 

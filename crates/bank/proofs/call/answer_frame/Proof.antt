@@ -6,7 +6,9 @@ use mathlib.Core.Path.{_≡_, sym, ap, _∙_, subst}
 use native.Mathlib.Omega.{arith}
 use lib.ListN.{length}
 use borrow.Author.Tests.{not-true, not-false}
-use Rattle.bank_state.specs.Limits.{storeBytes}
+use Prim.Native.Nat.{ℕ}
+use Rattle.bank_state.specs.Limits.{storeBytes, idleOthers}
+use Rattle.bank_verdicts.specs.declared.verdict.Context.{Context}
 use Rattle.bank_sound.specs.Sound.{isSound}
 use Rattle.bank_sound.proofs.Test.{sound-laid, sound-range}
 use Rattle.journal.specs.declared.event.Entry.{Entry}
@@ -22,6 +24,13 @@ use Rattle.bank.proofs.Right.{right-told}
 use borrow.Author.Needs.{needs}
 use Rattle.bank.proofs.call.answer_frame.Statement.{statement}
 use Rattle.bank.proofs.call.answer_frame.Tie as tie
+
+abbrev context : ℕ → Context
+context n = record { prefix = n; others = idleOthers }
+
+-- the context by the number of the ID bytes
+at-context : {n m : ℕ} → n ≡ m → context n ≡ context m
+at-context e = ap context e
 
 -- the lent lengths are right
 right : (c : tie.Else1)
@@ -74,7 +83,7 @@ advance-requires c κs =
 
 number-requires : tie.Need-number-requires
 number-requires c κs =
-    let at-if2 = c .before .before .before .before .before .before .before .before .before .before .before .before in
+    let at-if2 = c .before .before .before .before .before .before .before .before .before .before .before in
     omega (arith, right (at-if2 .before .before .before) .2 .ids)
 
 respond-requires : tie.Need-respond-requires
@@ -98,8 +107,8 @@ unfolding lentRight
 returns-3 c =
     let at-respond = c .before .before .before .before .before .before .before .before in
     let at-data = at-respond .before .before .before .before in
-    let at-number = at-data .before in
-    let at-read = at-number .before .before .before in
+    let at-number = at-data .before .before in
+    let at-read = at-number .before .before in
     let at-advance = at-read .before .before .before .before .before in
     let at-drops = at-advance .before .before .before in
     let at-if2 = at-drops .before .before in
@@ -112,9 +121,9 @@ returns-3 c =
     let lengths = sym (at-lent .lent-right .ensures) ∙ not-false (at-lent .lent-right .result) (at-if1 .if1 .left) in
     let step = at-respond .respond in
     let stored = at-advance .advance .ensures (m .mailboxes) in
-    let entered = frame-entered m input (sound at-if2) _ _ stored (at-number .number .ensures .0)
+    let entered = frame-entered m input (sound at-if2) _ _ stored (at-context (at-number .number .ensures .0))
     (at-read .read-whole-request .ensures .0) (at-data .data-at .ensures) (at-drops .drops .ensures .1 .entries) in (
-      frame-carried m input (sound at-if2) lengths _ _ stored (at-number .number .ensures .0)
+      frame-carried m input (sound at-if2) lengths _ _ stored (at-context (at-number .number .ensures .0))
           (at-read .read-whole-request .ensures .0) (at-data .data-at .ensures) (step .ensures .0),
       subst (λ (es : List Entry). Holds (step .result .batch) (ifAnswered (step .result .out .answer) es)) entered
           (step .ensures .1),

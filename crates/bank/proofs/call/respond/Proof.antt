@@ -32,11 +32,11 @@ returns c =
     let a = start .args in
     let b = bankOf (a .rows .now) in
     let step = at-step .step .ensures in
-    let v = judge (a .first) b (a .q) (length (a .bytes .now)) in
+    let v = judge (a .context) b (a .q) (length (a .bytes .now)) in
     let n =
     at-file-length-of .file-length-of .ensures
     ∙ ap (λ (k : ℕ). fileLength k (b .files)) (at-subscriber .subscriber .ensures) in
-    let entered = request-entered (a .first) b (a .q) (a .bytes .now) (step .judged)
+    let entered = request-entered (a .context) b (a .q) (a .bytes .now) (step .judged)
     (at-named-order .named-order .ensures) (at-verdict-order .verdict-order .ensures) in (
       respond-kept (lent (a .rows .now) (a .orders .now) (a .mailboxes .now)) v (a .q) (a .bytes .now)
           (step .judged) (step .done) n (at-reply .reply .ensures),

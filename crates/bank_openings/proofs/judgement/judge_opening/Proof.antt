@@ -14,8 +14,8 @@ abbrev Rest : ℕ → tie.Start → Type 0
 Rest k s =
     let a = s .args in
     let b = bankOf (a .rows .now) in
-    judgeOpening (a .d) (a .first) b (a .q)
-    ≡ judged (drop k (openingRows (a .d) b (a .q))) (accepted (a .d) (a .first) b (a .q))
+    judgeOpening (a .d) (a .context) b (a .q)
+    ≡ judged (drop k (openingRows (a .d) (a .context .others) b (a .q))) (accepted (a .d) (a .context .prefix) b (a .q))
 
 passed-1 : (c : tie.Else1) → Rest 1 (c .before .before .before)
 unfolding judgeOpening openingRows
@@ -47,7 +47,7 @@ passed-7 : (c : tie.Else7)
     → let e = c .before .before .before .before .before .before in
     Rest 7 (e .before .before .before .before .before .before .before .before .before)
 unfolding judgeOpening openingRows
-passed-7 c = passed-6 (c .before .before) ∙ rw (← c .before .is-full .ensures, c .if7 .left)
+passed-7 c = passed-6 (c .before .before) ∙ rw (← c .before .no-room .ensures, c .if7 .left)
 
 unknown-type-requires : tie.Need-unknown-type-requires
 unknown-type-requires c κs = tt
@@ -91,12 +91,12 @@ returns-6 : tie.Need-returns-6
 unfolding judgeOpening openingRows
 returns-6 c = sym (passed-5 (c .before .before) ∙ rw (← c .before .many-open .ensures, c .if6 .taken))
 
-is-full-requires : tie.Need-is-full-requires
-is-full-requires c κs = search needs
+no-room-requires : tie.Need-no-room-requires
+no-room-requires c κs = search needs
 
 returns-7 : tie.Need-returns-7
 unfolding judgeOpening openingRows
-returns-7 c = sym (passed-6 (c .before .before) ∙ rw (← c .before .is-full .ensures, c .if7 .taken))
+returns-7 c = sym (passed-6 (c .before .before) ∙ rw (← c .before .no-room .ensures, c .if7 .taken))
 
 accepted-requires : tie.Need-accepted-requires
 accepted-requires c κs = search needs
@@ -121,7 +121,7 @@ judge-opening-spec =
     returns-5
     many-open-requires
     returns-6
-    is-full-requires
+    no-room-requires
     returns-7
     accepted-requires
     returns-8)

@@ -19,7 +19,7 @@ open-download-requires c κs =
     let a = start .args in
     let s = a .rows .now in
     let told = sym (at-judge-opening .judge-opening .ensures) ∙ at-verdict .verdict .given .1 in
-    (start .pre, accepted-room (a .first) (bankOf s) (a .q) (held-rows s (start .pre)) direction.Download told)
+    (start .pre, accepted-room (a .context) (bankOf s) (a .q) (held-rows s (start .pre)) direction.Download told)
 
 returns : tie.Need-returns
 returns c =
@@ -30,7 +30,7 @@ returns c =
     let start = at-judge-opening .before .before .before in
     let a = start .args in
     let told = sym (at-judge-opening .judge-opening .ensures) ∙ at-verdict .verdict .given .1 in
-    download-opening-carried (a .rows .now) o m (a .first) (a .q) d told (at-open-download .open-download .ensures)
+    download-opening-carried (a .rows .now) o m (a .context) (a .q) d told (at-open-download .open-download .ensures)
 
 returns-2 : tie.Need-returns-2
 returns-2 c =

@@ -19,7 +19,7 @@ open-upload-requires c κs =
     let a = start .args in
     let s = a .rows .now in
     let told = sym (at-judge-opening .judge-opening .ensures) ∙ at-verdict .verdict .given .1 in
-    (start .pre, accepted-room (a .first) (bankOf s) (a .q) (held-rows s (start .pre)) direction.Upload told)
+    (start .pre, accepted-room (a .context) (bankOf s) (a .q) (held-rows s (start .pre)) direction.Upload told)
 
 returns : tie.Need-returns
 returns c =
@@ -32,7 +32,7 @@ returns c =
     let start = at-judge-opening .before .before .before in
     let a = start .args in
     let told = sym (at-judge-opening .judge-opening .ensures) ∙ at-verdict .verdict .given .1 in
-    upload-opening-carried (a .rows .now) o m (a .first) (a .q) d told (at-subscriber .subscriber .ensures)
+    upload-opening-carried (a .rows .now) o m (a .context) (a .q) d told (at-subscriber .subscriber .ensures)
     (at-series .series-of .ensures) (at-open-upload .open-upload .ensures)
 
 returns-2 : tie.Need-returns-2
