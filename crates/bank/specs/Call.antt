@@ -5,6 +5,7 @@ use mathlib.Core.Bool.{Bool, cond, _&&_}
 use mathlib.Core.List.{List, []}
 use lib.Dec.{leb, eqb}
 use lib.ListN.{length, take}
+use Rattle.number_table.specs.Table as numbers
 use Rattle.frame_table.specs.declared.fields.Fields.{Fields}
 use Rattle.frame_writer.specs.declared.writer.Written.{Written}
 use Rattle.frame_writer.specs.declared.writer.Written.the-variants as written
@@ -65,7 +66,7 @@ answerOf written.Refused = WrongLength
 -- document 01's number for an answer, 0 where there is a reply
 abbrev pub frameNumber : FrameAnswer → ℕ
 frameNumber (Reply n) = 0
-frameNumber WrongLength = 1
+frameNumber WrongLength = numbers.wrongLength
 
 -- the return code of the reply in the buffer; 0 where there is none
 abbrev pub replyCode : FrameAnswer → List ℕ → ℕ

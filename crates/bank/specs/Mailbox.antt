@@ -4,6 +4,7 @@ use mathlib.Core.Bool.{Bool, not, _||_}
 use mathlib.Core.List.{List, [], _∷_}
 use lib.Dec.{ltb, eqb}
 use lib.ListN.{length, set}
+use Rattle.number_table.specs.Table as numbers
 use Rattle.octets.specs.Bytes.{overwrite}
 use Rattle.message.specs.Limits.{fileBytes}
 use Rattle.message.specs.Verdicts.{decide}
@@ -27,10 +28,10 @@ fileRefusals b mailbox file mailboxes =
 -- document 01's numbers, 0 where the file is in the mailbox
 abbrev pub fileNumber : FileAnswer → ℕ
 fileNumber Done = 0
-fileNumber WrongLength = 1
-fileNumber NoMailbox = 2
-fileNumber WrongFile = 3
-fileNumber MailboxFull = 4
+fileNumber WrongLength = numbers.wrongLength
+fileNumber NoMailbox = numbers.noMailbox
+fileNumber WrongFile = numbers.wrongFile
+fileNumber MailboxFull = numbers.mailboxFull
 
 -- what the call leaves: the bank, the mailboxes' store, the answer, and document 01's number for it
 pub record FileCall : Type 0 where

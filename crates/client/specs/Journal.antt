@@ -4,6 +4,7 @@ use mathlib.Core.Bool.{Bool, true, false, cond}
 use mathlib.Core.List.{List}
 use lib.Dec.{eqb}
 use lib.ListN.{length}
+use Rattle.number_table.specs.Table as numbers
 use Rattle.journal.specs.declared.event.Event.{Event}
 use Rattle.journal.specs.declared.event.Found.{Found}
 use Rattle.journal.specs.declared.event.Found.the-variants as found
@@ -30,7 +31,7 @@ pub record JournalCall : Type 0 where
 abbrev pub journalNumber : JournalAnswer → ℕ
 journalNumber (answer.Closed w) = 0
 journalNumber answer.Unchanged = 0
-journalNumber answer.WrongLength = 1
+journalNumber answer.WrongLength = numbers.wrongLength
 
 -- what the call leaves, by the next run and the answer
 abbrev pub journalLeft : ClientRun → JournalAnswer → JournalCall

@@ -3,6 +3,7 @@ use Prim.Native.Nat.{ℕ}
 use mathlib.Core.Bool.{false}
 use mathlib.Core.List.{List}
 use lib.ListN.{length}
+use Rattle.number_table.specs.Table as numbers
 pub use Rattle.frame_writer.specs.Writer.{requestRoom}
 use Rattle.octets.specs.Texts.{ascii}
 use Rattle.message.specs.Limits.{ful, fdl}
@@ -37,11 +38,11 @@ maxExchange = 4294967295
 
 -- document 01's numbers for the client's owner; card 3: "as bank or client time number 1"
 abbrev pub refusalNumber : Refusal → ℕ
-refusalNumber TimeTooHigh = 1
-refusalNumber WrongBuffer = 5
-refusalNumber ExchangeTooHigh = 6
-refusalNumber NoSubscriber = 7
-refusalNumber WrongStage = 8
+refusalNumber TimeTooHigh = numbers.wrongLength
+refusalNumber WrongBuffer = numbers.wrongBuffer
+refusalNumber ExchangeTooHigh = numbers.exchangeTooHigh
+refusalNumber NoSubscriber = numbers.noSubscriber
+refusalNumber WrongStage = numbers.wrongStage
 
 -- document 01's number for an answer, 0 where it is none
 abbrev pub answerNumber : Answer → ℕ

@@ -3,6 +3,11 @@ use frame_table::fields::Bits128;
 use journal::event::OrderName;
 use message::limits::FDL;
 use message::limits::FUL;
+use number_table::table::EXCHANGE_TOO_HIGH;
+use number_table::table::NO_SUBSCRIBER;
+use number_table::table::WRONG_BUFFER;
+use number_table::table::WRONG_LENGTH;
+use number_table::table::WRONG_STAGE;
 ghost use mathlib.Core.Path.{_≡_};
 ghost use Rattle.client_run.specs.Run.{notBegun, refusalNumber, orderTypeOf, orderName};
 
@@ -89,11 +94,11 @@ pub fn refusal_number(refusal: Refusal) -> u64
     ensures { λ r. ⌜ r ≡ refusalNumber refusal ⌝ }
 {
     match refusal {
-        Refusal::TimeTooHigh => 1,
-        Refusal::WrongBuffer => 5,
-        Refusal::ExchangeTooHigh => 6,
-        Refusal::NoSubscriber => 7,
-        Refusal::WrongStage => 8,
+        Refusal::TimeTooHigh => WRONG_LENGTH,
+        Refusal::WrongBuffer => WRONG_BUFFER,
+        Refusal::ExchangeTooHigh => EXCHANGE_TOO_HIGH,
+        Refusal::NoSubscriber => NO_SUBSCRIBER,
+        Refusal::WrongStage => WRONG_STAGE,
     }
 }
 

@@ -4,6 +4,7 @@ use mathlib.Core.List.{List, [], _∷_, _++_}
 use mathlib.Core.Bool.{Bool, true, cond, not, _&&_, _||_}
 use lib.ListN.{length, getD}
 use lib.Dec.{leb, eqb}
+use Rattle.number_table.specs.Table as numbers
 use Rattle.frame_table.specs.declared.fields.Fields.{Fields}
 use Rattle.frame_table.specs.declared.table.Form.{Form}
 use Rattle.frame_table.specs.Forms as forms
@@ -12,7 +13,7 @@ use Rattle.frame_writer.specs.declared.writer.Written.the-variants.{Leng
 use Rattle.octets.specs.Bytes.{bytesOf, overwrite}
 use Rattle.frame_table.specs.Table.{frameLimit, tagCount, dataTag, width, has, tagsOf, isForm}
 use Rattle.frame_table.specs.Names.{form}
-use Rattle.frame_row.specs.Row.{wellFormed, highOf, lowOf, piece, join}
+use Rattle.frame_row.specs.Row.{wellFormed, highOf, lowOf, join}
 
 -- the content of tag t among the tags m: the data d, its number, or nothing where the tag is absent
 abbrev pub contentAt : ℕ → ℕ → ℕ → ℕ → List ℕ → List ℕ
@@ -21,10 +22,6 @@ contentAt m t hi lo d = cond (has m t) (cond (eqb t dataTag) d (bytesOf (width t
 -- the content of tag t of these fields
 unfoldable pub contentOf : ℕ → Fields → List ℕ → List ℕ
 contentOf t f d = contentAt (f .tags) t (getD (f .high) t 0) (getD (f .low) t 0) d
-
--- the bytes that tag t takes in the frame
-abbrev pub pieceOf : ℕ → Fields → List ℕ → List ℕ
-pieceOf t f d = piece t (contentOf t f d)
 
 -- the contents of the k tags from t on
 unfoldable pub contentsOf : ℕ → ℕ → Fields → List ℕ → List (List ℕ)
@@ -85,12 +82,12 @@ writeBuffer f d old = cond (accepted f d old) (overwrite old 0 (frameOf f d)) ol
 
 -- "fields of no form, values outside their list or too short a buffer get number 1"; 0 where a frame is written
 unfoldable pub writeNumber : Fields → List ℕ → List ℕ → ℕ
-writeNumber f d old = cond (accepted f d old) 0 1
+writeNumber f d old = cond (accepted f d old) 0 numbers.wrongLength
 
--- document 01's number for an answer
+-- document 01's number for an answer, 0 where a frame is written
 abbrev pub writtenNumber : Written → ℕ
 writtenNumber (Length n) = 0
-writtenNumber Refused = 1
+writtenNumber Refused = numbers.wrongLength
 
 -- "Frame lengths: upload opening" 57
 abbrev pub uploadOpeningLength : ℕ

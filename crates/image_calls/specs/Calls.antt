@@ -4,6 +4,7 @@ use mathlib.Core.Bool.{Bool, cond, _&&_}
 use mathlib.Core.List.{List, []}
 use lib.Dec.{eqb, leb}
 use lib.ListN.{length, getD}
+use Rattle.number_table.specs.Table as numbers
 use Rattle.octets.specs.Bytes.{overwrite}
 use Rattle.journal.specs.Events.{recordCount}
 use Rattle.bank_state.specs.Limits.{storeBytes}
@@ -54,8 +55,8 @@ isAdmitted m =
 -- document 01's number for an answer, 0 where the session is put away
 abbrev pub awayNumber : Away → ℕ
 awayNumber (away.Length n) = 0
-awayNumber away.WrongLength = 1
-awayNumber away.NotAdmitted = 9
+awayNumber away.WrongLength = numbers.wrongLength
+awayNumber away.NotAdmitted = numbers.notAdmitted
 
 -- what the call leaves: the buffer, the answer, document 01's number for it; nothing of the session changes
 pub record PutAway : Type 0 where
@@ -84,10 +85,11 @@ putAway m buffer =
 
 -- ---- taking up
 
+-- document 01's number for an answer, 0 where the session is taken up
 abbrev pub takenUpNumber : TakenUp → ℕ
 takenUpNumber up.Done = 0
-takenUpNumber up.WrongLength = 1
-takenUpNumber up.NotAdmitted = 9
+takenUpNumber up.WrongLength = numbers.wrongLength
+takenUpNumber up.NotAdmitted = numbers.notAdmitted
 
 -- what the call leaves: the session, the answer, document 01's number for it
 pub record TakeUp : Type 0 where

@@ -2,6 +2,7 @@
 use crate::offset::OFFSET_ROOM;
 use crate::offset::put_offset;
 use bank::call::FrameAnswer;
+use number_table::table::WRONG_LENGTH;
 use print::text::put_byte;
 use print::text::put_code;
 use print::text::put_column;
@@ -19,6 +20,9 @@ pub const LINE_ROOM: usize = 20 + 1 + 6 + 1 + OFFSET_ROOM + 1;
 // The bytes of the calls' header.
 pub const HEADER_ROOM: usize = 17;
 
+// The one number that a frame call can be given, as a digit.
+const NUMBER_DIGIT: u8 = b'0' + WRONG_LENGTH as u8;
+
 // Writes a call's code, or the number that it was given.
 fn put_answer(output: &mut [u8], at: usize, answer: FrameAnswer, code: u64) -> usize
     requires { ⌜ at + codeDigits ≤ length (now output) ⌝ }
@@ -26,7 +30,7 @@ fn put_answer(output: &mut [u8], at: usize, answer: FrameAnswer, code: u64) -> u
 {
     match answer {
         FrameAnswer::Reply(_) => put_code(output, at, code),
-        FrameAnswer::WrongLength => put_byte(output, at, b'1'),
+        FrameAnswer::WrongLength => put_byte(output, at, NUMBER_DIGIT),
     }
 }
 

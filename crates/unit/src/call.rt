@@ -46,6 +46,10 @@ use client_run::run::order_name;
 use client_run::run::refusal_number;
 use journal::event::OrderName;
 use message::limits::FILE_BYTES;
+use number_table::table::MAILBOX_FULL;
+use number_table::table::NO_MAILBOX;
+use number_table::table::WRONG_FILE;
+use number_table::table::WRONG_LENGTH;
 use octets::bytes::copy;
 ghost use mathlib.Core.Path.{_≡_};
 ghost use mathlib.Core.Bool.{true, cond};
@@ -100,7 +104,7 @@ fn frame_answer(answer: FrameAnswer) -> Answer
 {
     match answer {
         FrameAnswer::Reply(n) => Answer::Frame(n),
-        FrameAnswer::WrongLength => Answer::Number(1),
+        FrameAnswer::WrongLength => Answer::Number(WRONG_LENGTH),
     }
 }
 
@@ -110,10 +114,10 @@ fn file_answer(answer: FileAnswer) -> Answer
 {
     match answer {
         FileAnswer::Done => Answer::Put,
-        FileAnswer::WrongLength => Answer::Number(1),
-        FileAnswer::NoMailbox => Answer::Number(2),
-        FileAnswer::WrongFile => Answer::Number(3),
-        FileAnswer::MailboxFull => Answer::Number(4),
+        FileAnswer::WrongLength => Answer::Number(WRONG_LENGTH),
+        FileAnswer::NoMailbox => Answer::Number(NO_MAILBOX),
+        FileAnswer::WrongFile => Answer::Number(WRONG_FILE),
+        FileAnswer::MailboxFull => Answer::Number(MAILBOX_FULL),
     }
 }
 
@@ -136,7 +140,7 @@ fn journal_answer(answer: JournalAnswer, client: Client) -> Answer
     match answer {
         JournalAnswer::Closed(w) => Answer::Closed(w, order_name(client.run)),
         JournalAnswer::Unchanged => Answer::Unchanged,
-        JournalAnswer::WrongLength => Answer::Number(1),
+        JournalAnswer::WrongLength => Answer::Number(WRONG_LENGTH),
     }
 }
 
@@ -517,7 +521,7 @@ pub fn call(
     if !rooms_right(payloads.len(), files.len(), room.len()) {
         return Called {
             unit: u,
-            answer: Answer::Number(1),
+            answer: Answer::Number(WRONG_LENGTH),
         };
     }
     let kind = call_of(record);

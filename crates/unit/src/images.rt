@@ -11,6 +11,8 @@ use image_calls::calls::Away;
 use image_calls::calls::TakenUp;
 use image_calls::held::put_away_held;
 use image_calls::held::take_up_held;
+use number_table::table::NOT_ADMITTED;
+use number_table::table::WRONG_LENGTH;
 use octets::bytes::copy;
 use octets::bytes::front;
 ghost use mathlib.Core.Path.{_≡_};
@@ -30,8 +32,8 @@ fn away_answer(answer: Away) -> Answer
 {
     match answer {
         Away::Length(n) => Answer::Away(n),
-        Away::WrongLength => Answer::Number(1),
-        Away::NotAdmitted => Answer::Number(9),
+        Away::WrongLength => Answer::Number(WRONG_LENGTH),
+        Away::NotAdmitted => Answer::Number(NOT_ADMITTED),
     }
 }
 
@@ -41,8 +43,8 @@ fn taken_up_answer(answer: TakenUp) -> Answer
 {
     match answer {
         TakenUp::Done => Answer::TakenUp,
-        TakenUp::WrongLength => Answer::Number(1),
-        TakenUp::NotAdmitted => Answer::Number(9),
+        TakenUp::WrongLength => Answer::Number(WRONG_LENGTH),
+        TakenUp::NotAdmitted => Answer::Number(NOT_ADMITTED),
     }
 }
 

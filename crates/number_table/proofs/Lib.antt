@@ -1,0 +1,2 @@
+-- What the table says as a whole.
+pub mod InOrder

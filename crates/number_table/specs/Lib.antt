@@ -1,0 +1,2 @@
+-- The numbers of documents 01 and 02, in one table.
+pub mod Table

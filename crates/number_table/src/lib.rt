@@ -1,0 +1,2 @@
+// The numbers that a call is given where it is refused without a frame.
+pub mod table;
