@@ -4,6 +4,7 @@ use mathlib.Core.List.{List, [], _∷_, _++_}
 use mathlib.Core.Bool.{Bool, true, cond, _&&_}
 use lib.ListN.{length, getD, take, drop, replicate}
 use lib.Dec.{ltb, leb, eqb}
+use Rattle.number_table.specs.Table as numbers
 use Rattle.octets.specs.Bytes.{number, bytesOf, overwrite}
 use Rattle.message.specs.Limits.{fileBytes}
 use Rattle.bank_state.specs.Limits.{placeCount}
@@ -71,13 +72,20 @@ lent form xs orders mailboxes =
 unfoldable pub isImage : Form → List ℕ → Bool
 isImage form s = eqb (length s) (sizesOf form .image) && constantsRight (itemsOf form) s
 
--- what a call of the writer answers and leaves
+-- the papers' number for an answer, 0 where an image is written or read: "with number 9 after number 1"
+abbrev pub codecNumber : Answer → ℕ
+codecNumber Done = 0
+codecNumber Lengths = numbers.wrongLength
+codecNumber Contents = numbers.notAdmitted
+
+-- what a call of the writer answers, its number, and what it leaves
 pub record Wrote : Type 0 where
   pub answer : Answer
+  pub number : ℕ
   pub buffer : List ℕ
 
 abbrev pub wrote : Answer → List ℕ → Wrote
-wrote r d = record { answer = r; buffer = d }
+wrote r d = record { answer = r; number = codecNumber r; buffer = d }
 
 -- "in a lent buffer, bytes behind them untouched"
 unfoldable pub written : Form → List ℕ → List ℕ → List ℕ → List ℕ → Wrote
@@ -88,14 +96,15 @@ written form xs orders mailboxes d =
     (wrote Contents d))
     (wrote Lengths d)
 
--- what a call of the reader answers and leaves
+-- what a call of the reader answers, its number, and what it leaves
 pub record Took : Type 0 where
   pub answer : Answer
+  pub number : ℕ
   pub numbers : List ℕ
   pub stores : List (List ℕ)
 
 abbrev pub took : Answer → List ℕ → List (List ℕ) → Took
-took r xs ss = record { answer = r; numbers = xs; stores = ss }
+took r xs ss = record { answer = r; number = codecNumber r; numbers = xs; stores = ss }
 
 -- "taking up gives back the session written, whatever stood there"; "leaves the session unchanged" otherwise
 unfoldable pub taken : Form → List ℕ → List ℕ → List ℕ → List ℕ → Took
@@ -106,13 +115,14 @@ taken form s xs orders mailboxes =
     (took Contents xs (stores orders mailboxes)))
     (took Lengths xs (stores orders mailboxes))
 
--- what a call that reads the numbers alone answers and leaves
+-- what a call that reads the numbers alone answers, its number, and what it leaves
 pub record TookNumbers : Type 0 where
   pub answer : Answer
+  pub number : ℕ
   pub numbers : List ℕ
 
 abbrev pub tookNumbers : Answer → List ℕ → TookNumbers
-tookNumbers r xs = record { answer = r; numbers = xs }
+tookNumbers r xs = record { answer = r; number = codecNumber r; numbers = xs }
 
 unfoldable pub numbersTaken : Form → List ℕ → List ℕ → TookNumbers
 numbersTaken form s xs =
