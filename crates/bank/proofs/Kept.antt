@@ -1,8 +1,10 @@
--- The rows that a call leaves pass the test of the next call, and are the bank that the call leaves. Assumes nothing.
-use Prim.Native.Nat.{ℕ, _-_}
+-- The rows that a call leaves pass the test of the next call, and are the bank that the call leaves; a file call given a
+-- number leaves them as they were. Assumes nothing.
+use Prim.Native.Nat.{ℕ, _-_, _<_}
 use mathlib.Core.Bool.{true}
 use mathlib.Core.List.{List}
 use mathlib.Core.Path.{_≡_, refl, ap, _∙_}
+use native.Mathlib.Omega.{arith}
 use lib.ListN.{length}
 use Rattle.frame_reader.specs.Reader.{readRequest}
 use Rattle.frame_row.specs.Row.{dataOf}
@@ -15,7 +17,7 @@ use Rattle.bank_sound.specs.Sound.{isSound, InRange}
 use Rattle.bank_rows.specs.State.{bankOf, stored, Laid, Held}
 use Rattle.bank_rows.proofs.Calls.{held-file}
 use Rattle.bank_sound.proofs.Range.{advanced-range}
-use Rattle.bank_rows.proofs.State.{held-rows, stored-back}
+use Rattle.bank_rows.proofs.State.{held-rows, stored-own, stored-back}
 use Rattle.bank_sound.proofs.Test.{sound-laid, sound-range, stored-sound}
 use Rattle.bank_steps.specs.Lent.{Lent, stateOf}
 use Rattle.bank_steps.proofs.Held.{held-judged}
@@ -23,8 +25,8 @@ use Rattle.bank_steps.proofs.Range.{stored-range, range-judged}
 use Rattle.bank.specs.declared.mailbox.FileAnswer.{FileAnswer}
 use Rattle.bank.specs.declared.mailbox.FileAnswer.the-variants as answers
 use Rattle.bank.specs.Call.{respond, FrameInput, contextOf, FrameCall, lentRight, frameCall}
-use Rattle.bank.specs.Mailbox.{fileRefusals, carryOutFile, fileCall}
-use Rattle.bank.specs.Lent.{lentFrameCall, lentFileCall}
+use Rattle.bank.specs.Mailbox.{fileRefusals, refusedFile, carryOutFile, fileCall}
+use Rattle.bank.specs.Lent.{lentFrameCall, lentFileCallOf, keptFile, LentFileCall, lentFileCall}
 use Rattle.bank.proofs.Accepted.{file-fits}
 use Rattle.bank.proofs.Lent.{advanced-within, lent-frame}
 
@@ -113,3 +115,26 @@ module _ (s : List ℕ) (mailbox : ℕ) (file mailboxes : List ℕ) (sound : isS
   pub file-state : bankOf (lentFileCall s mailbox file mailboxes .rows) ≡ left
   unfolding lentFileCall
   file-state = rw sound (stored-back left file-held s (sound-laid s sound))
+
+-- "a number, nothing changed", whatever the rows are: what is stored anew where a file is refused is the bank's own rows
+module _ (s : List ℕ) (mailbox : ℕ) (file mailboxes : List ℕ) where
+  abbrev Unchanged : LentFileCall → Type 0
+  Unchanged c = 0 < c .number → c ≡ lentFileCallOf (c .answer) s mailboxes
+
+  refused-same : Laid s → (x : FileAnswer) →
+      keptFile s (refusedFile x (bankOf s) mailboxes) ≡ lentFileCallOf x s mailboxes
+  refused-same l x = ap (λ (rows : List ℕ). lentFileCallOf x rows mailboxes) (stored-own s l)
+
+  unchanged-by : Laid s → (x : FileAnswer) → Unchanged (keptFile s (carryOutFile x (bankOf s) mailbox file mailboxes))
+  unchanged-by l answers.Done z = absurd (omega arith)
+  unchanged-by l answers.WrongLength z = refused-same l answers.WrongLength
+  unchanged-by l answers.NoMailbox z = refused-same l answers.NoMailbox
+  unchanged-by l answers.WrongFile z = refused-same l answers.WrongFile
+  unchanged-by l answers.MailboxFull z = refused-same l answers.MailboxFull
+
+  pub file-unchanged : Unchanged (lentFileCall s mailbox file mailboxes)
+  unfolding lentFileCall fileCall
+  file-unchanged =
+      by-test Unchanged (isSound s)
+      (λ e. unchanged-by (sound-laid s e) (decide (fileRefusals (bankOf s) mailbox file mailboxes) answers.Done))
+      (λ _ _. refl)

@@ -6,6 +6,7 @@ use mathlib.Core.List.{List, [], _∷_}
 use mathlib.Core.Path.{_≡_, refl, sym, ap, _∙_}
 use native.Mathlib.Omega.{arith}
 use lib.ListN.{length, replicate}
+use Rattle.number_table.specs.Table as numbers
 use Rattle.octets.specs.Bytes.{Bytes}
 use Rattle.message.specs.Verdicts.{decide}
 use Rattle.message.proofs.Verdicts.{by-test}
@@ -31,7 +32,7 @@ use Rattle.bank.specs.Lent.{
   LentFileCall,
   lentFileCall,
 }
-use Rattle.bank.proofs.Kept.{frame-sound, frame-state, file-sound, file-state}
+use Rattle.bank.proofs.Kept.{frame-sound, frame-state, file-sound, file-state, file-unchanged}
 use Rattle.bank.proofs.Lent.{lent-refused, rows-refused, lent-frame}
 use Rattle.bank.proofs.Right.{right-told}
 use Rattle.bank_history.specs.Answers.{AllBytes, none, more, FrameAnswered}
@@ -135,7 +136,7 @@ module _ {m : Lent} {a : FrameInput} (b : Brought a) where
       let r = right-told (stateOf m) a h in
       record { rows = sound; orders = r .0; mailboxes = r .1; input = r .2 }
 
-  number-changes-nothing : lentFrameCall m a .number ≡ 1 → lentFrameCall m a ≡ frameTurnedAway m a
+  number-changes-nothing : lentFrameCall m a .number ≡ numbers.wrongLength → lentFrameCall m a ≡ frameTurnedAway m a
   number-changes-nothing z = at (isSound (m .rows)) refl (lentRight (stateOf m) a) refl
     where
       at : (t : Bool) → isSound (m .rows) ≡ t → (u : Bool) → lentRight (stateOf m) a ≡ u →
@@ -173,4 +174,5 @@ on-rows = record {
   file = λ given. next-file _ given;
   answered = λ r b. (lent-frame _ _ (r .rows), frame-given b r);
   unchanged = number-changes-nothing;
+  fileUnchanged = file-unchanged;
 }

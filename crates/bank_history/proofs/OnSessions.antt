@@ -29,7 +29,7 @@ use Rattle.bank_session.specs.Session.{
 }
 use Rattle.bank_session.proofs.Session.{takes, takes-in, frame-taken}
 use Rattle.bank_session.proofs.Laws.{frame-bank, frame-journal, frame-size, frame-unchanged}
-use Rattle.bank_session.proofs.Laws.{file-bank, file-events, file-size}
+use Rattle.bank_session.proofs.Laws.{file-bank, file-events, file-size, session-file-unchanged}
 use Rattle.bank_history.specs.Answers.{AllBytes, none, more}
 use Rattle.bank_history.specs.History.{BankCall, Frame, File, pastOf}
 use Rattle.bank_history.specs.Journal.{journalOver, journalOf, eventsIn}
@@ -112,4 +112,5 @@ on-sessions = record {
       frame-taken m a (same-taken m calls s)
       ∙ (ap (λ (n : Lent). withJournal m a (lentFrameCall n a)) (s .bank) ∙ ap (withJournal m a) (on-rows .frame given a));
   unchanged = λ {m} {a} b z. frame-unchanged m a (on-rows .unchanged b) z;
+  fileUnchanged = session-file-unchanged;
 }

@@ -1,17 +1,18 @@
 -- Lists of calls on lent memory, from rows and stores that are all zero, and the statements that they are the calls of
 -- document 01 on the bank that the rows are.
-use Prim.Native.Nat.{ℕ}
+use Prim.Native.Nat.{ℕ, _<_}
 use mathlib.Core.Bool.{true}
 use mathlib.Core.List.{List, [], _∷_}
 use mathlib.Core.Path.{_≡_}
 use lib.ListN.{length, replicate}
+use Rattle.number_table.specs.Table as numbers
 use Rattle.bank_state.specs.Limits.{storeBytes}
 use Rattle.bank_rows.specs.Layout.{stateSize}
 use Rattle.bank_sound.specs.Sound.{isSound}
 use Rattle.bank.specs.Call.{FrameInput, RightInput, frameCall}
 use Rattle.bank.specs.Mailbox.{fileCall}
 use Rattle.bank_steps.specs.Lent.{Lent, lent, stateOf}
-use Rattle.bank.specs.Lent.{keptFrame, frameTurnedAway, lentFrameCall, keptFile, lentFileCall}
+use Rattle.bank.specs.Lent.{keptFrame, frameTurnedAway, lentFrameCall, lentFileCallOf, keptFile, lentFileCall}
 use Rattle.bank_admitted.specs.Session.{Brought}
 use Rattle.bank_history.specs.Answers.{AllBytes, FrameAnswered}
 use Rattle.bank_history.specs.History.{BankCall, Frame, File, callExchange, pastOf}
@@ -50,5 +51,9 @@ pub record OnRows : Type 0 where
       (lentFrameCall m a ≡ keptFrame m (frameCall (stateOf m) a))
       × FrameAnswered (frameCall (stateOf m) a) (a .buffer) (callExchange (stateOf m) a)
   -- so in every state number 1 comes with nothing changed
-  pub unchanged : {m : Lent} {a : FrameInput} → Brought a → lentFrameCall m a .number ≡ 1 →
+  pub unchanged : {m : Lent} {a : FrameInput} → Brought a → lentFrameCall m a .number ≡ numbers.wrongLength →
       lentFrameCall m a ≡ frameTurnedAway m a
+  -- and whatever number a file call is given, every number of the rows and every byte of the mailboxes is as it was
+  pub fileUnchanged : (rows : List ℕ) (mailbox : ℕ) (file mailboxes : List ℕ) →
+      let c = lentFileCall rows mailbox file mailboxes in
+      0 < c .number → c ≡ lentFileCallOf (c .answer) rows mailboxes

@@ -1,14 +1,15 @@
 -- Lists of calls on a lent session, from numbers, records and stores that are all zero, and the statements that they
 -- are the calls on the bank's own memory and leave the journal of those calls.
-use Prim.Native.Nat.{ℕ}
+use Prim.Native.Nat.{ℕ, _<_}
 use mathlib.Core.Bool.{true}
 use mathlib.Core.List.{List, [], _∷_}
 use mathlib.Core.Path.{_≡_}
 use lib.ListN.{replicate}
+use Rattle.number_table.specs.Table as numbers
 use Rattle.bank_state.specs.Limits.{storeBytes}
 use Rattle.journal.specs.Row.{emptyRow}
 use Rattle.bank.specs.Call.{FrameInput, frameCall}
-use Rattle.bank.specs.Lent.{keptFrame}
+use Rattle.bank.specs.Lent.{keptFrame, lentFileCallOf}
 use Rattle.bank_session.specs.Session.{
   LentSession,
   session,
@@ -50,5 +51,9 @@ pub record OnSessions : Type 0 where
       sessionFrameCall (lentSessionOf calls) a
       ≡ withJournal (lentSessionOf calls) a (keptFrame (lentOf calls) (frameCall (pastOf calls .bankState) a))
   -- in every session, whether calls leave it or not, number 1 comes with nothing changed
-  pub unchanged : {m : LentSession} {a : FrameInput} → Brought a → sessionFrameCall m a .number ≡ 1 →
-      sessionFrameCall m a ≡ sessionTurnedAway m a
+  pub unchanged : {m : LentSession} {a : FrameInput} → Brought a →
+      sessionFrameCall m a .number ≡ numbers.wrongLength → sessionFrameCall m a ≡ sessionTurnedAway m a
+  -- and whatever number a file call is given, every number of the session and every byte of the mailboxes is as it was
+  pub fileUnchanged : (rows : List ℕ) (mailbox : ℕ) (file mailboxes : List ℕ) →
+      let c = sessionFileCall rows mailbox file mailboxes in
+      0 < c .number → c ≡ lentFileCallOf (c .answer) rows mailboxes

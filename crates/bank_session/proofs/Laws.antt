@@ -2,9 +2,11 @@
 use Prim.Native.Nat.{ℕ, _<_}
 use mathlib.Core.Bool.{Bool, true, false}
 use mathlib.Core.List.{List}
-use mathlib.Core.Path.{_≡_, refl, sym, ap, _∙_}
+use mathlib.Core.Path.{_≡_, refl, sym, ap, _∙_, subst}
+use lib.Dec.{eqb}
 use lib.ListN.{length}
-use borrow.Author.Tests.{eq-eqb}
+use borrow.Author.Tests.{eq-eqb, eqb-true}
+use Rattle.number_table.specs.Table as numbers
 use Rattle.frame_table.specs.Table.{lastTime}
 use Rattle.bank_rows.specs.Layout.{stateSize}
 use Rattle.bank_sound.specs.Sound.{isSound}
@@ -13,8 +15,15 @@ use Rattle.bank_steps.specs.Lent.{Lent, lent}
 use Rattle.journal.specs.declared.event.Event.{Event}
 use Rattle.journal.specs.Row.{Journal}
 use Rattle.bank.specs.Call.{FrameInput}
-use Rattle.bank.specs.Lent.{LentFrameCall, frameTurnedAway, lentFrameCall, LentFileCall, lentFileCall}
-use Rattle.bank.proofs.Kept.{frame-sound, file-sound}
+use Rattle.bank.specs.Lent.{
+  LentFrameCall,
+  frameTurnedAway,
+  lentFrameCall,
+  lentFileCallOf,
+  LentFileCall,
+  lentFileCall,
+}
+use Rattle.bank.proofs.Kept.{frame-sound, file-sound, file-unchanged}
 use Rattle.bank.proofs.Lent.{rows-refused}
 use Rattle.bank.proofs.Right.{late-refused}
 use Rattle.bank_session.specs.Session.{
@@ -85,8 +94,9 @@ unchanged-with m a away e =
 
 -- a call given number 1 leaves all as it was, where the bank's own call does
 pub frame-unchanged : (m : LentSession) (a : FrameInput)
-    → (lentFrameCall (bankIn m) a .number ≡ 1 → lentFrameCall (bankIn m) a ≡ frameTurnedAway (bankIn m) a)
-    → sessionFrameCall m a .number ≡ 1 → sessionFrameCall m a ≡ sessionTurnedAway m a
+    → (lentFrameCall (bankIn m) a .number ≡ numbers.wrongLength
+    → lentFrameCall (bankIn m) a ≡ frameTurnedAway (bankIn m) a)
+    → sessionFrameCall m a .number ≡ numbers.wrongLength → sessionFrameCall m a ≡ sessionTurnedAway m a
 frame-unchanged m a inner one = at (takesFrame m) refl
   where
     at : (t : Bool) → takesFrame m ≡ t → sessionFrameCall m a ≡ sessionTurnedAway m a
@@ -145,3 +155,25 @@ module _ (rows : List ℕ) (mailbox : ℕ) (file mailboxes : List ℕ) where
     pub file-size : length (sessionFileCall rows mailbox file mailboxes .rows) ≡ sessionSize
     file-size =
         ap (λ (c : LentFileCall). length (c .rows)) (file-taken long) ∙ both-long (put .rows) as-long (eventCount rows)
+
+-- a call given a number leaves all as it was, whatever the numbers are
+module _ (rows : List ℕ) (mailbox : ℕ) (file mailboxes : List ℕ) where
+  abbrev left : LentFileCall
+  left = sessionFileCall rows mailbox file mailboxes
+
+  file-number-by : (t : Bool) → eqb (length rows) sessionSize ≡ t → 0 < left .number
+      → left ≡ lentFileCallOf (left .answer) rows mailboxes
+  unfolding sessionFileCall
+  file-number-by false e z = rw e
+  file-number-by true e z =
+      let long = eqb-true (length rows) sessionSize e in
+      let taken = file-taken rows mailbox file mailboxes long in
+      let inner = lentFileCall (bankRows rows) mailbox file mailboxes in
+      let same = file-unchanged (bankRows rows) mailbox file mailboxes
+      (subst (λ (n : ℕ). 0 < n) (ap (λ (c : LentFileCall). c .number) taken) z) in
+      taken ∙ (ap (withEvents (eventCount rows)) same
+      ∙ (ap (λ (l : List ℕ). lentFileCallOf (inner .answer) l mailboxes) (parts rows long)
+      ∙ ap (λ (c : LentFileCall). lentFileCallOf (c .answer) rows mailboxes) (sym taken)))
+
+  pub session-file-unchanged : 0 < left .number → left ≡ lentFileCallOf (left .answer) rows mailboxes
+  session-file-unchanged = file-number-by (eqb (length rows) sessionSize) refl
