@@ -29,8 +29,8 @@ use Rattle.image.specs.Image as image
 use Rattle.image.specs.Items as imageItems
 use Rattle.image.specs.Table as imageTable
 use Rattle.image_conditions.specs.Conditions as conditions
-use Rattle.image_conditions.specs.Layout as conditionsLayout
-use Rattle.image_conditions.specs.Shapes as conditionsShapes
+use Rattle.image_records.specs.Layout as recordsLayout
+use Rattle.image_records.specs.Shapes as recordsShapes
 use Rattle.image_numbers.specs.Table as numbersTable
 use Rattle.image_numbers.specs.Numbers as imageNumbers
 use Rattle.image_calls.specs.Calls as imageCalls
@@ -96,18 +96,18 @@ unfolding bankrowsState.bankOf bankrowsState.joined bankrowsState.stored bankrow
     bankrowsRows.numbersOf bankrowsRows.written bankrowsRows.allBelow image.fits imageItems.partItems
     imageItems.recordItems imageItems.storeItems imageItems.contentItems imageItems.fieldItems imageItems.itemsOf
     imageItems.bytesIn imageItems.sizesOf imageTable.rowAt conditions.seriesFits conditions.seriesSum
-    conditions.sameNonce conditions.noncesDistinct conditions.unused conditions.noncesUnused conditions.downloadRises
-    conditions.downloadsUnused conditions.sameOrder conditions.ordersDistinct conditions.slotAt conditions.sameNumber
+    conditions.sameNonce conditions.noncesDistinct recordsShapes.unused conditions.noncesUnused conditions.downloadRises
+    conditions.downloadsUnused conditions.sameOrder conditions.ordersDistinct recordsLayout.slotAt conditions.sameNumber
     conditions.numbersDistinct conditions.isOpenSlot conditions.isOpenOf conditions.openInAll conditions.openOfOne
     conditions.eventsFit conditions.bytesBehind conditions.placeBytes conditions.mailboxBytes conditions.journalUnused
     conditions.nonceTest conditions.downloadTest conditions.placeTest conditions.mailboxTest conditions.eventTest
     conditions.everySeries conditions.everyNonce conditions.everyDownload conditions.everyPlace conditions.everyMailbox
     conditions.everySubscriber conditions.everyEvent conditions.seriesConditions conditions.nonceConditions
     conditions.downloadConditions conditions.openConditions conditions.journalConditions conditions.conditions
-    conditions.admitted conditionsLayout.nonceAt conditionsLayout.downloadAt conditionsLayout.placeAt
-    conditionsLayout.eventAt conditionsLayout.counterAt conditionsLayout.counterOf conditionsLayout.fileAt
-    conditionsLayout.fileOf conditionsShapes.every conditionsShapes.count conditionsShapes.total
-    conditionsShapes.distinct conditionsShapes.allZero numbersTable.groupAt numbersTable.partPlaces
+    conditions.admitted recordsLayout.nonceAt recordsLayout.downloadAt recordsLayout.placeAt
+    recordsLayout.eventAt recordsLayout.counterAt recordsLayout.counterOf recordsLayout.fileAt
+    recordsLayout.fileOf recordsShapes.every recordsShapes.count recordsShapes.total
+    recordsShapes.distinct recordsShapes.allZero numbersTable.groupAt numbersTable.partPlaces
     numbersTable.recordPlaces numbersTable.recordsFrom numbersTable.groupPlaces numbersTable.groupsFrom
     numbersTable.sessionPlaces numbersTable.imagePlaces imageNumbers.numbersAt imageNumbers.numbersIn
     imageCalls.lengthsRight imageCalls.isAdmitted imageCalls.putAway

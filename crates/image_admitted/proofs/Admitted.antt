@@ -16,18 +16,24 @@ use Rattle.bank_steps.specs.Lent.{stateOf}
 use Rattle.bank_session.specs.Session.{LentSession, sessionSize, bankRows, bankIn, journalIn}
 use Rattle.bank_admitted.specs.Session.{SessionHolds}
 use Rattle.bank_admitted.proofs.Rows.{packed-rises}
-use Rattle.image_conditions.specs.Layout as image
+use Rattle.image_records.specs.Layout as image
 use Rattle.image_numbers.proofs.Laws.{length-numbersIn}
 use Rattle.image_calls.specs.Calls.{written, numbersOf, lengthsRight, isAdmitted}
 use Rattle.image_admitted.specs.Unused.{Wiped}
-use Rattle.image_conditions.proofs.General.{and-both}
+use Rattle.image_records.proofs.General.{and-both}
 use Rattle.image_admitted.proofs.Shown.{Shown}
 use Rattle.image_admitted.proofs.Series.{every-series, series-sum}
 use Rattle.image_admitted.proofs.Nonces.{every-nonce, nonces-distinct}
 use Rattle.image_admitted.proofs.Mailboxes.{every-mailbox}
 use Rattle.image_admitted.proofs.Places.{every-place}
 use Rattle.image_admitted.proofs.Downloads.{every-download}
-use Rattle.image_admitted.proofs.Slots.{orders-distinct, numbers-distinct, open-in-all, events-fit, every-subscriber}
+use Rattle.image_admitted.proofs.Slots.{
+  orders-distinct,
+  numbers-distinct,
+  open-in-all,
+  events-fit,
+  every-subscriber,
+}
 use Rattle.image_admitted.proofs.Journal.{every-event, journal-unused}
 use Rattle.image_admitted.proofs.Rows.{
   counts-fit,

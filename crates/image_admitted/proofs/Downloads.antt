@@ -18,11 +18,12 @@ use Rattle.bank_admitted.specs.Packed.{AllFree, none, more, Packed, rest, one}
 use Rattle.bank_admitted.specs.State.{mailboxFile, OpenRecord, DownloadHolds}
 use Rattle.bank_admitted.proofs.Held.{kept-long}
 use Rattle.bank_admitted.proofs.Rows.{packed-rises}
-use Rattle.image_conditions.specs.declared.layout.DownloadRecord.{DownloadRecord}
-use Rattle.image_conditions.specs.Layout as image
-use Rattle.image_conditions.specs.Conditions.{downloadHolds, downloadRises, downloadTest, everyDownload}
-use Rattle.image_conditions.proofs.Shapes.{every-at, every-from}
-use Rattle.image_conditions.proofs.General.{and-both, implied, implies-from}
+use Rattle.image_records.specs.declared.layout.DownloadRecord.{DownloadRecord}
+use Rattle.image_records.specs.Layout as image
+use Rattle.image_records.specs.Records.{downloadHolds}
+use Rattle.image_conditions.specs.Conditions.{downloadRises, downloadTest, everyDownload}
+use Rattle.image_records.proofs.Shapes.{every-at, every-from}
+use Rattle.image_records.proofs.General.{and-both, implied, implies-from}
 use Rattle.image_admitted.proofs.Shown.{downloadParts, Shown, downloads-are, download-used}
 
 abbrev lowOf : Download → ℕ

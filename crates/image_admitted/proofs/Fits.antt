@@ -27,15 +27,15 @@ use Rattle.image.specs.Items.{
   itemsOf,
 }
 use Rattle.image.specs.Image.{fits}
-use Rattle.image_conditions.specs.declared.layout.NonceRecord.{NonceRecord}
-use Rattle.image_conditions.specs.declared.layout.DownloadRecord.{DownloadRecord}
-use Rattle.image_conditions.specs.declared.layout.PlaceRecord.{PlaceRecord}
-use Rattle.image_conditions.specs.declared.layout.EventRecord.{EventRecord}
-use Rattle.image_conditions.specs.Shapes.{every}
-use Rattle.image_conditions.specs.Layout as image
-use Rattle.image_conditions.proofs.Shapes.{every-at}
+use Rattle.image_records.specs.declared.layout.NonceRecord.{NonceRecord}
+use Rattle.image_records.specs.declared.layout.DownloadRecord.{DownloadRecord}
+use Rattle.image_records.specs.declared.layout.PlaceRecord.{PlaceRecord}
+use Rattle.image_records.specs.declared.layout.EventRecord.{EventRecord}
+use Rattle.image_records.specs.Shapes.{every}
+use Rattle.image_records.specs.Layout as image
+use Rattle.image_records.proofs.Shapes.{every-at}
 use Rattle.image_calls.specs.Calls.{written}
-use Rattle.image_conditions.proofs.General.{Below, below-at, by-record}
+use Rattle.image_records.proofs.General.{Below, below-at, by-record}
 
 -- ---- the lengths of the parts, in their order
 

@@ -24,7 +24,7 @@ use Rattle.bank_admitted.specs.State.{mailboxFile, PlaceHolds, DownloadHolds, S
 use Rattle.bank_admitted.specs.Session.{Words, SessionHolds}
 use Rattle.image.specs.Items.{itemsOf}
 use Rattle.image.specs.Image.{fits}
-use Rattle.image_conditions.specs.Layout as image
+use Rattle.image_records.specs.Layout as image
 use Rattle.image_conditions.specs.Conditions.{admitted}
 use Rattle.image_calls.specs.Calls.{written, numbersOf, lengthsRight, isAdmitted}
 use Rattle.image_admitted.specs.Unused.{Wiped}

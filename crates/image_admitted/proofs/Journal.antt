@@ -18,14 +18,15 @@ use Rattle.journal.specs.Row.{Journal}
 use Rattle.bank_state.specs.State.{Bank}
 use Rattle.bank_events.specs.Entries.{isEvent}
 use Rattle.bank_admitted.specs.Session.{recordAt, JournalHolds}
-use Rattle.image_conditions.specs.declared.layout.EventRecord.{EventRecord}
-use Rattle.image_conditions.specs.Shapes.{upTo}
-use Rattle.image_conditions.specs.Layout as image
-use Rattle.image_conditions.specs.Conditions.{lastKind, eventHolds, eventTest, everyEvent, journalUnused}
-use Rattle.image_conditions.proofs.Shapes.{every-at, every-from, up-to-le}
+use Rattle.image_records.specs.declared.layout.EventRecord.{EventRecord}
+use Rattle.image_records.specs.Shapes.{upTo}
+use Rattle.image_records.specs.Layout as image
+use Rattle.image_records.specs.Records.{lastKind, eventHolds}
+use Rattle.image_conditions.specs.Conditions.{eventTest, everyEvent, journalUnused}
+use Rattle.image_records.proofs.Shapes.{every-at, every-from, up-to-le}
 use Rattle.image_numbers.specs.Numbers.{numberOfKind}
 use Rattle.image_numbers.proofs.Records.{eventIn}
-use Rattle.image_conditions.proofs.General.{unused-part, unused-parts}
+use Rattle.image_records.proofs.General.{unused-part, unused-parts}
 use Rattle.image_admitted.proofs.Series.{counter-of}
 use Rattle.image_admitted.proofs.Shown.{Shown, up-to-few}
 

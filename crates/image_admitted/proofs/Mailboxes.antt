@@ -15,8 +15,8 @@ use Rattle.bank_state.specs.State.{Bank}
 use Rattle.bank_state.specs.Store.{partAt}
 use Rattle.bank_admitted.specs.State.{MailboxHolds}
 use Rattle.image_conditions.specs.Conditions.{mailboxBytes, mailboxTest, everyMailbox}
-use Rattle.image_conditions.proofs.Shapes.{every-at, every-from}
-use Rattle.image_conditions.proofs.General.{and-both}
+use Rattle.image_records.proofs.Shapes.{every-at, every-from}
+use Rattle.image_records.proofs.General.{and-both}
 use Rattle.image_calls.specs.Calls.{written}
 use Rattle.image_admitted.proofs.Shown.{Shown}
 use Rattle.image_admitted.proofs.Stores.{zeros-told, zeros-tested}

@@ -19,11 +19,12 @@ use Rattle.bank_rows.specs.State.{nonceAt}
 use Rattle.bank_admitted.specs.Session.{Words, NoncesApart}
 use Rattle.bank_admitted.specs.State.{AllRemembered, end, next, NoncesHold}
 use Rattle.bank_admitted.proofs.Rows.{getD-free}
-use Rattle.image_conditions.specs.declared.layout.NonceRecord.{NonceRecord}
-use Rattle.image_conditions.specs.Layout as image
-use Rattle.image_conditions.specs.Conditions.{nonceTime, sameNonce, noncesDistinct, nonceTest, everyNonce}
-use Rattle.image_conditions.proofs.Shapes.{every-at, every-from}
-use Rattle.image_conditions.proofs.General.{distinct-at, distinct-from}
+use Rattle.image_records.specs.declared.layout.NonceRecord.{NonceRecord}
+use Rattle.image_records.specs.Layout as image
+use Rattle.image_records.specs.Records.{nonceTime}
+use Rattle.image_conditions.specs.Conditions.{sameNonce, noncesDistinct, nonceTest, everyNonce}
+use Rattle.image_records.proofs.Shapes.{every-at, every-from}
+use Rattle.image_records.proofs.General.{distinct-at, distinct-from}
 use Rattle.image_admitted.proofs.Shown.{nonceParts, Shown, nonces-are, nonce-used}
 
 -- ---- the test of one nonce

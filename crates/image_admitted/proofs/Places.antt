@@ -18,11 +18,12 @@ use Rattle.bank_state.specs.Search.{isFree, isOpen}
 use Rattle.bank_state.specs.State.{Bank, placeAt, seriesOf}
 use Rattle.bank_state.specs.Store.{partAt}
 use Rattle.bank_admitted.specs.State.{UsedAs, FreePlace, OpenPlace, BookedPlace, PlaceHolds}
-use Rattle.image_conditions.specs.Shapes.{allZero}
-use Rattle.image_conditions.specs.Layout as image
-use Rattle.image_conditions.specs.Conditions.{placeHolds, bytesBehind, placeBytes, placeTest, everyPlace}
-use Rattle.image_conditions.proofs.Shapes.{every-at, every-from}
-use Rattle.image_conditions.proofs.General.{and-both}
+use Rattle.image_records.specs.Shapes.{allZero}
+use Rattle.image_records.specs.Layout as image
+use Rattle.image_records.specs.Records.{placeHolds}
+use Rattle.image_conditions.specs.Conditions.{bytesBehind, placeBytes, placeTest, everyPlace}
+use Rattle.image_records.proofs.Shapes.{every-at, every-from}
+use Rattle.image_records.proofs.General.{and-both}
 use Rattle.image_calls.specs.Calls.{written}
 use Rattle.image_admitted.proofs.Shown.{placeParts, Shown}
 use Rattle.image_admitted.proofs.Series.{counter-of}

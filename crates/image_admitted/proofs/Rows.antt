@@ -34,10 +34,10 @@ use Rattle.bank_rows.proofs.Reading.{
 use Rattle.bank_rows.proofs.Records.{use-number}
 use Rattle.bank_rows.proofs.State.{held-rows}
 use Rattle.bank_session.specs.Session.{sessionSize, bankRows, eventCount}
-use Rattle.image_conditions.specs.declared.layout.NonceRecord.{NonceRecord}
-use Rattle.image_conditions.specs.declared.layout.DownloadRecord.{DownloadRecord}
-use Rattle.image_conditions.specs.declared.layout.PlaceRecord.{PlaceRecord}
-use Rattle.image_conditions.specs.Layout as image
+use Rattle.image_records.specs.declared.layout.NonceRecord.{NonceRecord}
+use Rattle.image_records.specs.declared.layout.DownloadRecord.{DownloadRecord}
+use Rattle.image_records.specs.declared.layout.PlaceRecord.{PlaceRecord}
+use Rattle.image_records.specs.Layout as image
 use Rattle.image_conditions.specs.Conditions.{
   nonceCountFits,
   downloadCountFits,
@@ -46,7 +46,7 @@ use Rattle.image_conditions.specs.Conditions.{
   placeTest,
   everyPlace,
 }
-use Rattle.image_conditions.proofs.Shapes.{every-at}
+use Rattle.image_records.proofs.Shapes.{every-at}
 use Rattle.image_numbers.specs.Numbers.{numbersIn}
 use Rattle.image_numbers.proofs.Records.{
   clock-in,
@@ -66,7 +66,7 @@ use Rattle.image_numbers.proofs.Records.{
 }
 use Rattle.image_calls.specs.Calls.{written}
 use Rattle.image_admitted.specs.Unused.{Wiped}
-use Rattle.image_conditions.proofs.General.{Below, below-at, by-record, unused-part, unused-parts}
+use Rattle.image_records.proofs.General.{Below, below-at, by-record, unused-part, unused-parts}
 use Rattle.image_admitted.proofs.Shown.{nonceParts, downloadParts, placeParts, Shown, nonces-are, downloads-are}
 
 module _ (s : List ℕ) (row : List Event) (long : length s ≡ sessionSize) (full : length row ≡ recordCount) where

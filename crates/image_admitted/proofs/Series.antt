@@ -12,10 +12,10 @@ use Rattle.bank_state.specs.Limits.{placeCount, seriesLimit}
 use Rattle.bank_state.specs.State.{Bank, seriesOf}
 use Rattle.bank_admitted.specs.State as held
 use Rattle.bank_admitted.specs.State.{SeriesHold}
-use Rattle.image_conditions.specs.Shapes.{total}
-use Rattle.image_conditions.specs.Layout as image
+use Rattle.image_records.specs.Shapes.{total}
+use Rattle.image_records.specs.Layout as image
 use Rattle.image_conditions.specs.Conditions.{seriesFits, seriesSum, everySeries}
-use Rattle.image_conditions.proofs.Shapes.{every-at, every-from, total-none, total-first, total-same}
+use Rattle.image_records.proofs.Shapes.{every-at, every-from, total-none, total-first, total-same}
 use Rattle.image_admitted.proofs.Shown.{Shown}
 
 -- the sum of a list as by index

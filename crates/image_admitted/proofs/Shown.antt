@@ -16,11 +16,11 @@ use Rattle.bank_state.specs.Limits.{placeCount, nonceCount}
 use Rattle.bank_state.specs.State.{Bank, Nonce, noDownload, noNonce, placeAt, downloadAt}
 use Rattle.bank_rows.specs.Records.{numberOfUse}
 use Rattle.bank_rows.specs.State.{nonceAt}
-use Rattle.image_conditions.specs.declared.layout.NonceRecord.{NonceRecord}
-use Rattle.image_conditions.specs.declared.layout.DownloadRecord.{DownloadRecord}
-use Rattle.image_conditions.specs.declared.layout.PlaceRecord.{PlaceRecord}
-use Rattle.image_conditions.specs.Shapes.{upTo}
-use Rattle.image_conditions.specs.Layout as image
+use Rattle.image_records.specs.declared.layout.NonceRecord.{NonceRecord}
+use Rattle.image_records.specs.declared.layout.DownloadRecord.{DownloadRecord}
+use Rattle.image_records.specs.declared.layout.PlaceRecord.{PlaceRecord}
+use Rattle.image_records.specs.Shapes.{upTo}
+use Rattle.image_records.specs.Layout as image
 use Rattle.image_numbers.proofs.Records.{eventIn}
 
 -- the parts of a record

@@ -24,13 +24,11 @@ use Rattle.bank_state.specs.State.{Bank, noPlace, noDownload, placeAt, download
 use Rattle.bank_rows.specs.Records.{numberOfUse}
 use Rattle.bank_admitted.specs.Session.{openUploads}
 use Rattle.bank_admitted.specs.State.{Alike}
-use Rattle.image_conditions.specs.declared.layout.Slot.{Slot}
-use Rattle.image_conditions.specs.Shapes.{count}
-use Rattle.image_conditions.specs.Layout as image
+use Rattle.image_records.specs.declared.layout.Slot.{Slot}
+use Rattle.image_records.specs.Shapes.{count}
+use Rattle.image_records.specs.Layout as image
+use Rattle.image_records.specs.Layout.{openState, slotCount, slotAt}
 use Rattle.image_conditions.specs.Conditions.{
-  openState,
-  slotCount,
-  slotAt,
   sameOrder,
   ordersDistinct,
   sameNumber,
@@ -42,8 +40,8 @@ use Rattle.image_conditions.specs.Conditions.{
   eventsFit,
   everySubscriber,
 }
-use Rattle.image_conditions.proofs.Shapes.{every-at, every-from, count-same}
-use Rattle.image_conditions.proofs.General.{count-two, count-zero, count-row, distinct-at, distinct-from}
+use Rattle.image_records.proofs.Shapes.{every-at, every-from, count-same}
+use Rattle.image_records.proofs.General.{count-two, count-zero, count-row, distinct-at, distinct-from}
 use Rattle.image_conditions.proofs.Laws.{orders-apart}
 use Rattle.image_admitted.proofs.Shown.{Shown, downloads-are}
 

@@ -28,7 +28,7 @@ use Rattle.bank_rows.specs.State.{nonceAt}
 use Rattle.bank_admitted.specs.State.{mailboxFile, PlaceHolds, DownloadHolds}
 use Rattle.bank_admitted.specs.Session.{recordAt, SessionHolds}
 use Rattle.bank_admitted.proofs.Series.{series-counted}
-use Rattle.image_conditions.specs.Layout as image
+use Rattle.image_records.specs.Layout as image
 use Rattle.image_numbers.specs.Numbers.{numberOfKind}
 use Rattle.image_numbers.proofs.Records.{eventIn}
 use Rattle.image.specs.Table.{timeBytes}

@@ -10,9 +10,9 @@ use Rattle.message.specs.Limits.{fileBytes}
 use Rattle.bank_state.specs.Limits.{placeCount, storeBytes}
 use Rattle.bank_state.specs.Store.{partAt}
 use Rattle.bank_admitted.proofs.Stores.{drop-take, length-part}
-use Rattle.image_conditions.specs.Shapes.{allZero}
+use Rattle.image_records.specs.Shapes.{allZero}
 use Rattle.image_conditions.specs.Conditions.{bytesBehind}
-use Rattle.image_conditions.proofs.General.{zeros-are, all-zeros}
+use Rattle.image_records.proofs.General.{zeros-are, all-zeros}
 use Rattle.image_admitted.proofs.Shown.{up-to-few}
 
 module _ (store : List ℕ) (whole : length store ≡ storeBytes) (i : ℕ) (inside : i < placeCount) (n : ℕ) (fits : n ≤ fileBytes)

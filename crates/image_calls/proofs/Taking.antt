@@ -18,7 +18,7 @@ use Rattle.image.specs.declared.codec.Answer.the-variants.{Done, Contents}
 use Rattle.image.specs.Items.{itemsOf, sizesOf}
 use Rattle.image.specs.Image as codec
 use Rattle.image.proofs.Calls.{stores-are-parts, parts-within, image-long}
-use Rattle.image_conditions.specs.Layout.{numberCount}
+use Rattle.image_records.specs.Layout.{numberCount}
 use Rattle.image_conditions.specs.Conditions as list
 use Rattle.image_numbers.specs.Numbers.{rowsFrom, rowFrom}
 use Rattle.image_calls.specs.declared.calls.TakenUp.{TakenUp}

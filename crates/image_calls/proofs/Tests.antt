@@ -20,8 +20,8 @@ use Rattle.image.specs.Items.{sizesOf}
 use Rattle.image.specs.Image as codec
 use Rattle.image.proofs.Calls.{lent-all}
 use Rattle.image.proofs.Theorems as image
-use Rattle.image_conditions.specs.Shapes.{allOf, allZero}
-use Rattle.image_conditions.specs.Layout.{
+use Rattle.image_records.specs.Shapes.{allOf, allZero, unused}
+use Rattle.image_records.specs.Layout.{
   numberCount,
   journalAt,
   eventWidth,
@@ -31,8 +31,9 @@ use Rattle.image_conditions.specs.Layout.{
   eventAt,
   counterOf,
 }
+use Rattle.image_records.specs.Records as records
 use Rattle.image_conditions.specs.Conditions as list
-use Rattle.image_conditions.proofs.Shapes.{every-at}
+use Rattle.image_records.proofs.Shapes.{every-at}
 use Rattle.image_calls.specs.Calls.{sizesRight, lengthsRight}
 
 -- ---- lengths
@@ -126,12 +127,12 @@ module _ (xs : List ℕ) where
       let e = eventAt xs i in
       let b = eventAt xs (i - 1) in
       let n = events xs in
-      let holds = all-of (list.eventNumber n i e ∷ list.eventClock (clock xs) b e ∷ list.eventSubscriber e
-      ∷ list.eventType e ∷ list.eventOrder (counterOf xs (e .subscriber)) e ∷ list.eventKind e ∷ []) h 5 in
+      let holds = all-of (records.eventNumber n i e ∷ records.eventClock (clock xs) b e ∷ records.eventSubscriber e
+      ∷ records.eventType e ∷ records.eventOrder (counterOf xs (e .subscriber)) e ∷ records.eventKind e ∷ []) h 5 in
       leb-true (kindAt i) 4 (and-true (leb 1 (kindAt i)) (leb (kindAt i) 4) holds .1)
 
-  unused-kind : (u i : ℕ) → u ≤ i → i < recordCount → list.unused xs journalAt eventWidth u recordCount ≡ true → kindAt i ≡ 0
-  unfolding list.unused
+  unused-kind : (u i : ℕ) → u ≤ i → i < recordCount → unused xs journalAt eventWidth u recordCount ≡ true → kindAt i ≡ 0
+  unfolding unused
   unused-kind u i h k e =
       let n : ℕ = eventWidth * recordCount - u * eventWidth in
       let p : ℕ = journalAt + u * eventWidth in

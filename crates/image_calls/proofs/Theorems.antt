@@ -23,7 +23,7 @@ use Rattle.image.proofs.Calls.{taken-done}
 use Rattle.image.proofs.FormNumber.{form-number}
 use Rattle.image.proofs.Extended.{length-store}
 use Rattle.image.proofs.Theorems as image
-use Rattle.image_conditions.specs.Layout.{numberCount}
+use Rattle.image_records.specs.Layout.{numberCount}
 use Rattle.image_conditions.specs.Conditions as list
 use Rattle.image_conditions.proofs.Extended.{extended-listed}
 use Rattle.image_numbers.specs.Numbers.{rowsFrom, rowFrom}

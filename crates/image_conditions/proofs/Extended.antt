@@ -16,12 +16,10 @@ use Rattle.image.specs.declared.table.Form.the-variants.{Five, Six}
 use Rattle.image.specs.Table.{segmentLimit, fileSize, storeSize}
 use Rattle.image.specs.Image.{extended}
 use Rattle.image.proofs.Extended.{file-small, length-store, part-store}
-use Rattle.image_conditions.specs.Shapes.{implies, within, upTo, allZero}
-use Rattle.image_conditions.specs.Layout.{clock, openings, counterOf, placeAt, fileAt}
+use Rattle.image_records.specs.Shapes.{implies, within, upTo, allZero}
+use Rattle.image_records.specs.Layout.{clock, openings, counterOf, placeAt, fileAt}
+use Rattle.image_records.specs.Records.{isOpen, isBooked, placeHolds}
 use Rattle.image_conditions.specs.Conditions.{
-  isOpen,
-  isBooked,
-  placeHolds,
   bytesBehind,
   placeBytes,
   mailboxBytes,
@@ -32,10 +30,11 @@ use Rattle.image_conditions.specs.Conditions.{
   conditions,
   admitted,
 }
-use Rattle.image_conditions.proofs.Shapes.{every-at, every-from}
-use Rattle.image_conditions.proofs.General.{and-both, zeros-at, zeros-from, all-zeros}
+use Rattle.image_records.proofs.Shapes.{every-at, every-from}
+use Rattle.image_records.proofs.General.{and-both, zeros-at, zeros-from, all-zeros}
+use Rattle.image_records.proofs.OneRecord.{place-listed}
 use Rattle.image_conditions.proofs.Parts.{part-within}
-use Rattle.image_conditions.proofs.Listed.{listed, lengths, place-listed}
+use Rattle.image_conditions.proofs.Listed.{listed, lengths}
 use Rattle.image_conditions.proofs.Laws.{byte-behind}
 
 -- ---- the limits of a form are at most the newest's

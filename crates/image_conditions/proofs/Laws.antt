@@ -7,17 +7,28 @@ use native.Mathlib.Omega.{arith}
 use lib.Dec.{leb}
 use lib.ListN.{getD, take, drop}
 use lib.Seq.{getD-take, getD-drop}
-use borrow.Author.Tests.{leb-true, le-leb, ltb-true, lt-ltb, eq-eqb}
+use borrow.Author.Tests.{leb-true, le-leb, lt-ltb, eq-eqb}
 use Rattle.octets.proofs.Tests.{never, and-true}
 use Rattle.bank_state.specs.Limits.{placeCount, window}
 use Rattle.image.specs.declared.table.Form.{Form}
 use Rattle.image.specs.declared.table.Form.the-variants.{Five}
 use Rattle.image.specs.Table.{fileSize}
-use Rattle.image_conditions.specs.Shapes.{upTo, count, total, allZero}
-use Rattle.image_conditions.specs.Layout.{clock, openings, events, nonceAt, placeAt, counterAt, counterOf, fileAt}
+use Rattle.image_records.specs.Shapes.{upTo, count, total, allZero}
+use Rattle.image_records.specs.Layout.{
+  openState,
+  bookedState,
+  clock,
+  openings,
+  events,
+  nonceAt,
+  placeAt,
+  counterAt,
+  counterOf,
+  fileAt,
+}
+use Rattle.image_records.specs.Records.{placeHolds}
 use Rattle.image_conditions.specs.Conditions.{
   seriesSum,
-  placeHolds,
   sameOrder,
   ordersDistinct,
   nonceTest,
@@ -27,24 +38,20 @@ use Rattle.image_conditions.specs.Conditions.{
   placeBytes,
   mailboxBytes,
   eventsFit,
-  openState,
-  bookedState,
   mailboxTest,
   everyPlace,
   everyMailbox,
   admitted,
 }
-use Rattle.image_conditions.proofs.Shapes.{every-at}
-use Rattle.image_conditions.proofs.General.{implied, zeros-at, distinct-at}
-use Rattle.image_conditions.proofs.Listed.{listed, PlaceListed, place-listed}
+use Rattle.image_records.proofs.Shapes.{every-at}
+use Rattle.image_records.proofs.General.{zeros-at, distinct-at}
+use Rattle.image_records.proofs.OneRecord as one
+use Rattle.image_conditions.proofs.Listed.{listed}
 
 -- "each timestamp .. at most clock + window"
 pub nonce-ahead : (xs : List ℕ) (i : ℕ) → nonceTest xs i ≡ true → nonceAt xs i .timestamp ≤ clock xs + window
 unfolding nonceTest
-nonce-ahead xs i e =
-    let t = nonceAt xs i .timestamp in
-    leb-true t (clock xs + window)
-    (and-true (leb t (clock xs + window)) _ (and-true (leb (clock xs) (t + window)) _ e .1) .0)
+nonce-ahead xs i e = one.nonce-ahead (clock xs) (nonceAt xs i) e
 
 -- "the eight counts add up to at most openings"
 pub series-bounded : (xs : List ℕ) → seriesSum xs ≡ true → total (counterAt xs) placeCount ≤ openings xs
@@ -59,8 +66,8 @@ order-counted form xs orders i e used =
     let p = placeAt xs i in
     let counter = counterOf xs (p .subscriber) in
     let h = and-true (placeHolds form (clock xs) (openings xs) counter p) _ e .0 in
-    let l = place-listed form (clock xs) (openings xs) counter p h in
-    ltb-true (p .order) counter (implied (l .order) (lt-ltb 0 (p .state) used))
+    let l = one.place-listed form (clock xs) (openings xs) counter p h in
+    one.place-counted form (clock xs) (openings xs) counter p l used
 
 -- "no two places in use have the same subscriber and order number"
 pub orders-apart : (xs : List ℕ) → ordersDistinct xs ≡ true → (i j : ℕ) → i < placeCount → j < i →
@@ -112,26 +119,20 @@ events-bounded xs e = leb-true (events xs + count (isOpenSlot xs) placeCount) (2
 -- "form 5 with its own limits (15 segments, 3,840 bytes; more is number 9)"
 module _ (xs orders mailboxes : List ℕ) (h : admitted Five xs orders mailboxes ≡ true) (i : ℕ)
     (k : i < placeCount) where
-  place-in-5 : PlaceListed Five (clock xs) (openings xs) (counterOf xs (placeAt xs i .subscriber)) (placeAt xs i)
+  place-in-5 : one.PlaceListed Five (clock xs) (openings xs) (counterOf xs (placeAt xs i .subscriber)) (placeAt xs i)
   unfolding everyPlace placeTest
   place-in-5 =
       let p = placeAt xs i in
       let counter = counterOf xs (p .subscriber) in
       let t = every-at (placeTest Five xs orders) placeCount i (listed Five xs orders mailboxes h .places) k in
-      place-listed Five (clock xs) (openings xs) counter p
+      one.place-listed Five (clock xs) (openings xs) counter p
       (and-true (placeHolds Five (clock xs) (openings xs) counter p) _ t .0)
 
   pub form-5-segments : placeAt xs i .state ≡ openState → placeAt xs i .segments ≤ 15
-  form-5-segments e =
-      let n = placeAt xs i .segments in
-      let t = implied (place-in-5 .segments) (eq-eqb (placeAt xs i .state) openState e) in
-      leb-true n 15 (and-true (leb 1 n) _ t .1)
+  form-5-segments e = one.segments-in-5 _ _ _ (placeAt xs i) place-in-5 e
 
   pub form-5-booked : placeAt xs i .state ≡ bookedState → placeAt xs i .length ≤ 3840
-  form-5-booked e =
-      let n = placeAt xs i .length in
-      let t = implied (place-in-5 .booked) (eq-eqb (placeAt xs i .state) bookedState e) in
-      leb-true n 3840 (and-true (leb 1 n) _ t .1)
+  form-5-booked e = one.booked-in-5 _ _ _ (placeAt xs i) place-in-5 e
 
   pub form-5-mailbox : fileAt xs i ≤ 3840
   unfolding everyMailbox mailboxTest

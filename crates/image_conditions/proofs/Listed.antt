@@ -1,4 +1,4 @@
--- The list of conditions taken apart, and put together; the tests of a place taken apart. Assumes nothing.
+-- The list of conditions taken apart, and put together. Assumes nothing.
 use Prim.Native.Nat.{ℕ}
 use mathlib.Core.Bool.{true}
 use mathlib.Core.List.{List}
@@ -9,24 +9,10 @@ use borrow.Author.Tests.{eqb-true, eq-eqb}
 use Rattle.octets.proofs.Tests.{and-true}
 use Rattle.image.specs.declared.table.Form.{Form}
 use Rattle.image.specs.Table.{storeSize}
-use Rattle.image_conditions.specs.declared.layout.PlaceRecord.{PlaceRecord}
-use Rattle.image_conditions.specs.Layout.{numberCount}
+use Rattle.image_records.specs.Layout.{numberCount}
 use Rattle.image_conditions.specs.Conditions.{
   clockFits,
   openingsFit,
-  placeState,
-  placeFree,
-  placeSubscriber,
-  placeNumber,
-  placeOrder,
-  uploadSegments,
-  uploadTaken,
-  uploadAttempts,
-  uploadTime,
-  uploadLength,
-  bookedLength,
-  bookedRest,
-  placeHolds,
   seriesSum,
   nonceCountFits,
   downloadCountFits,
@@ -170,47 +156,3 @@ module _ (form : Form) (xs orders mailboxes : List ℕ) where
         l .journal,
         l .journalOver,
       )
-
-pub record PlaceListed (form : Form) (now opened counter : ℕ) (p : PlaceRecord) : Type 0 where
-  pub state : placeState p ≡ true
-  pub free : placeFree p ≡ true
-  pub subscriber : placeSubscriber p ≡ true
-  pub number : placeNumber opened p ≡ true
-  pub order : placeOrder counter p ≡ true
-  pub segments : uploadSegments form p ≡ true
-  pub taken : uploadTaken p ≡ true
-  pub attempts : uploadAttempts p ≡ true
-  pub time : uploadTime now p ≡ true
-  pub length : uploadLength p ≡ true
-  pub booked : bookedLength form p ≡ true
-  pub rest : bookedRest p ≡ true
-
-module _ (form : Form) (now opened counter : ℕ) (p : PlaceRecord) where
-  pub place-listed : placeHolds form now opened counter p ≡ true → PlaceListed form now opened counter p
-  place-listed h =
-      let state = and-true (placeState p) _ h in
-      let free = and-true (placeFree p) _ (state .1) in
-      let subscriber = and-true (placeSubscriber p) _ (free .1) in
-      let number = and-true (placeNumber opened p) _ (subscriber .1) in
-      let order = and-true (placeOrder counter p) _ (number .1) in
-      let segments = and-true (uploadSegments form p) _ (order .1) in
-      let taken = and-true (uploadTaken p) _ (segments .1) in
-      let attempts = and-true (uploadAttempts p) _ (taken .1) in
-      let time = and-true (uploadTime now p) _ (attempts .1) in
-      let length = and-true (uploadLength p) _ (time .1) in
-      let booked = and-true (bookedLength form p) _ (length .1) in
-      let rest = and-true (bookedRest p) true (booked .1) in
-      record {
-        state = state .0;
-        free = free .0;
-        subscriber = subscriber .0;
-        number = number .0;
-        order = order .0;
-        segments = segments .0;
-        taken = taken .0;
-        attempts = attempts .0;
-        time = time .0;
-        length = length .0;
-        booked = booked .0;
-        rest = rest .0;
-      }

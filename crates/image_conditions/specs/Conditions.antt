@@ -1,33 +1,19 @@
--- Card 2, "the full list stands under docs/": the conditions of an admitted image, each under its label;
--- where a limit is the form's own, by the form.
+-- Card 2, "the full list stands under docs/": the conditions of an admitted image, each under its label, those of one
+-- record by `image_records`; where a limit is the form's own, by the form.
 use Prim.Native.Nat.{ℕ, _+_, _-_, _*_}
-use mathlib.Core.Bool.{Bool, cond, _&&_}
+use mathlib.Core.Bool.{Bool, _&&_}
 use mathlib.Core.List.{List, [], _∷_}
-use lib.ListN.{length, take, drop}
+use lib.ListN.{length, getD, take, drop}
 use lib.Dec.{leb, ltb, eqb}
 use Rattle.frame_table.specs.Table.{lastTime}
-use Rattle.message.specs.Limits.{subscribers, segmentBytes, maxAttempts, ful}
-use Rattle.message.specs.Segments.{segmentsOf}
-use Rattle.bank_state.specs.Limits.{
-  placeCount,
-  nonceCount,
-  idleLimit,
-  maxOpen,
-  maxOpenPerSubscriber,
-  maxOpenings,
-  seriesLimit,
-  window,
-}
+use Rattle.message.specs.Limits.{subscribers}
+use Rattle.bank_state.specs.Limits.{placeCount, nonceCount, maxOpen, maxOpenPerSubscriber, maxOpenings, seriesLimit}
 use Rattle.journal.specs.Events.{recordCount}
 use Rattle.image.specs.declared.table.Form.{Form}
-use Rattle.image.specs.Table.{segmentLimit, fileSize, storeSize}
-use Rattle.image_conditions.specs.declared.layout.NonceRecord.{NonceRecord}
-use Rattle.image_conditions.specs.declared.layout.DownloadRecord.{DownloadRecord}
-use Rattle.image_conditions.specs.declared.layout.PlaceRecord.{PlaceRecord}
-use Rattle.image_conditions.specs.declared.layout.EventRecord.{EventRecord}
-use Rattle.image_conditions.specs.declared.layout.Slot.{Slot}
-use Rattle.image_conditions.specs.Shapes.{allOf, implies, within, upTo, every, count, total, distinct, allZero}
-use Rattle.image_conditions.specs.Layout.{
+use Rattle.image.specs.Table.{fileSize, storeSize}
+use Rattle.image_records.specs.Shapes.{allOf, implies, upTo, every, count, total, distinct, allZero, unused}
+use Rattle.image_records.specs.Layout.{
+  openState,
   noncesAt,
   nonceWidth,
   nonceCountAt,
@@ -51,23 +37,10 @@ use Rattle.image_conditions.specs.Layout.{
   counterOf,
   fileAt,
   fileOf,
+  slotCount,
+  slotAt,
 }
-use lib.ListN.{getD}
-
--- the states of a place
-abbrev pub openState : ℕ
-openState = 1
-
-abbrev pub bookedState : ℕ
-bookedState = 2
-
--- the kinds of an event: opened, booked, cancelled, dropped
-abbrev pub lastKind : ℕ
-lastKind = 4
-
--- the last fitting request of what is open: "last fit is at most clock, and clock is at most last fit + idle limit"
-abbrev pub fitTime : ℕ → ℕ → Bool
-fitTime clock last = leb last clock && leb clock (last + idleLimit)
+use Rattle.image_records.specs.Records.{nonceTime, downloadHolds, inUse, placeHolds, eventHolds}
 
 -- ---- single numbers
 
@@ -95,12 +68,7 @@ nonceCountFits xs = leb (getD xs nonceCountAt 0) nonceCount
 abbrev pub downloadCountFits : List ℕ → Bool
 downloadCountFits xs = leb (getD xs downloadCountAt 0) placeCount
 
--- ---- a nonce in use
-
--- nonce time: "each timestamp + window is at least clock, at most clock + window, and at most the last time"
-abbrev pub nonceTime : ℕ → NonceRecord → Bool
-nonceTime now n =
-    allOf (leb now (n .timestamp + window) ∷ leb (n .timestamp) (now + window) ∷ leb (n .timestamp) lastTime ∷ [])
+-- ---- the nonces in use
 
 -- nonces distinct: "no two records in use have the same nonce"
 unfoldable pub sameNonce : List ℕ → ℕ → ℕ → Bool
@@ -109,40 +77,11 @@ sameNonce xs i j = eqb (nonceAt xs i .high) (nonceAt xs j .high) && eqb (nonceAt
 unfoldable pub noncesDistinct : List ℕ → Bool
 noncesDistinct xs = distinct (sameNonce xs) (nonces xs)
 
--- the numbers of records from the one with this index to the end of their field are 0
-unfoldable pub unused : List ℕ → ℕ → ℕ → ℕ → ℕ → Bool
-unused xs at width used all = allZero (take (width * all - used * width) (drop (at + used * width) xs))
-
 -- nonces unused: "records from the count on are 0"
 unfoldable pub noncesUnused : List ℕ → Bool
 noncesUnused xs = unused xs noncesAt nonceWidth (nonces xs) nonceCount
 
--- ---- an open download
-
--- download subscriber: "1 to 8"
-abbrev pub downloadSubscriber : DownloadRecord → Bool
-downloadSubscriber d = within 1 subscribers (d .subscriber)
-
--- download delivered: "1 to N of its subscriber's mailbox, so that mailbox is not empty"
-abbrev pub downloadDelivered : ℕ → DownloadRecord → Bool
-downloadDelivered file d = within 1 (segmentsOf file) (d .delivered)
-
--- download attempts: "at most 5"
-abbrev pub downloadAttempts : DownloadRecord → Bool
-downloadAttempts d = leb (d .attempts) maxAttempts
-
--- download time: "last fit is at most clock, and clock is at most last fit + idle limit"
-abbrev pub downloadTime : ℕ → DownloadRecord → Bool
-downloadTime now d = fitTime now (d .last)
-
--- download number: "running is below openings"
-abbrev pub downloadNumber : ℕ → DownloadRecord → Bool
-downloadNumber opened d = ltb (d .low) opened
-
-abbrev pub downloadHolds : ℕ → ℕ → ℕ → DownloadRecord → Bool
-downloadHolds now opened file d =
-    allOf (downloadSubscriber d ∷ downloadDelivered file d ∷ downloadAttempts d ∷ downloadTime now d
-    ∷ downloadNumber opened d ∷ [])
+-- ---- the open downloads
 
 -- downloads rising: "running rises from record to record"
 unfoldable pub downloadRises : List ℕ → ℕ → Bool
@@ -152,76 +91,7 @@ downloadRises xs i = implies (ltb 0 i) (ltb (downloadAt xs (i - 1) .low) (downlo
 unfoldable pub downloadsUnused : List ℕ → Bool
 downloadsUnused xs = unused xs downloadsAt downloadWidth (downloads xs) placeCount
 
--- ---- a place
-
-abbrev pub isOpen : PlaceRecord → Bool
-isOpen p = eqb (p .state) openState
-
-abbrev pub isBooked : PlaceRecord → Bool
-isBooked p = eqb (p .state) bookedState
-
-abbrev pub inUse : PlaceRecord → Bool
-inUse p = ltb 0 (p .state)
-
--- place state: "0, 1 or 2"
-abbrev pub placeState : PlaceRecord → Bool
-placeState p = leb (p .state) bookedState
-
--- place free: "state 0: every part is 0"
-abbrev pub placeFree : PlaceRecord → Bool
-placeFree p =
-    implies (eqb (p .state) 0)
-    (allOf (eqb (p .subscriber) 0 ∷ eqb (p .high) 0 ∷ eqb (p .low) 0 ∷ eqb (p .order) 0 ∷ eqb (p .segments) 0
-    ∷ eqb (p .taken) 0 ∷ eqb (p .attempts) 0 ∷ eqb (p .last) 0 ∷ eqb (p .length) 0 ∷ []))
-
--- place subscriber: "state 1 or 2: 1 to 8"
-abbrev pub placeSubscriber : PlaceRecord → Bool
-placeSubscriber p = implies (inUse p) (within 1 subscribers (p .subscriber))
-
--- place number: "state 1 or 2: running is below openings"
-abbrev pub placeNumber : ℕ → PlaceRecord → Bool
-placeNumber opened p = implies (inUse p) (ltb (p .low) opened)
-
--- place order: "state 1 or 2: the order number is below the orders of the record", its subscriber's counter
-abbrev pub placeOrder : ℕ → PlaceRecord → Bool
-placeOrder counter p = implies (inUse p) (ltb (p .order) counter)
-
--- upload segments: "state 1: 1 to 15, form 6 on: 1 to 31"
-abbrev pub uploadSegments : Form → PlaceRecord → Bool
-uploadSegments form p = implies (isOpen p) (within 1 (segmentLimit form) (p .segments))
-
--- upload taken: "state 1: below segments"
-abbrev pub uploadTaken : PlaceRecord → Bool
-uploadTaken p = implies (isOpen p) (ltb (p .taken) (p .segments))
-
--- upload attempts: "state 1: at most 5"
-abbrev pub uploadAttempts : PlaceRecord → Bool
-uploadAttempts p = implies (isOpen p) (leb (p .attempts) maxAttempts)
-
--- upload time: "state 1: as for downloads"
-abbrev pub uploadTime : ℕ → PlaceRecord → Bool
-uploadTime now p = implies (isOpen p) (fitTime now (p .last))
-
--- upload length: "state 1: from taken to 256 times taken"
-abbrev pub uploadLength : PlaceRecord → Bool
-uploadLength p = implies (isOpen p) (within (p .taken) (segmentBytes * p .taken) (p .length))
-
--- booked length: "state 2: 1 to 3,840, form 6 on: 1 to 7,936"
-abbrev pub bookedLength : Form → PlaceRecord → Bool
-bookedLength form p = implies (isBooked p) (within 1 (fileSize form) (p .length))
-
--- booked rest: "state 2: segments, taken, attempts and last fit are 0"
-abbrev pub bookedRest : PlaceRecord → Bool
-bookedRest p =
-    implies (isBooked p)
-    (allOf (eqb (p .segments) 0 ∷ eqb (p .taken) 0 ∷ eqb (p .attempts) 0 ∷ eqb (p .last) 0 ∷ []))
-
--- a place, with the counter of its subscriber's series
-abbrev pub placeHolds : Form → ℕ → ℕ → ℕ → PlaceRecord → Bool
-placeHolds form now opened counter p =
-    allOf (placeState p ∷ placeFree p ∷ placeSubscriber p ∷ placeNumber opened p ∷ placeOrder counter p
-    ∷ uploadSegments form p ∷ uploadTaken p ∷ uploadAttempts p ∷ uploadTime now p ∷ uploadLength p
-    ∷ bookedLength form p ∷ bookedRest p ∷ [])
+-- ---- the places
 
 -- orders distinct: "no two places in use have the same subscriber and order number"
 unfoldable pub sameOrder : List ℕ → ℕ → ℕ → Bool
@@ -233,20 +103,6 @@ unfoldable pub ordersDistinct : List ℕ → Bool
 ordersDistinct xs = distinct (sameOrder xs) placeCount
 
 -- ---- places and open downloads together
-
--- a slot is a place (0 to 7) or an open download (8 to 15), with the same three states
-abbrev pub slotCount : ℕ
-slotCount = placeCount + placeCount
-
-unfoldable pub slotAt : List ℕ → ℕ → Slot
-slotAt xs i =
-    cond (ltb i placeCount)
-    (record { state = placeAt xs i .state; subscriber = placeAt xs i .subscriber; low = placeAt xs i .low })
-    (record {
-      state = cond (ltb (i - placeCount) (downloads xs)) openState 0;
-      subscriber = downloadAt xs (i - placeCount) .subscriber;
-      low = downloadAt xs (i - placeCount) .low;
-    })
 
 -- numbers distinct: "no two running numbers in use are the same"
 unfoldable pub sameNumber : List ℕ → ℕ → ℕ → Bool
@@ -293,37 +149,7 @@ placeBytes form xs orders i = allZero (bytesBehind (fileSize form) orders i (pla
 unfoldable pub mailboxBytes : Form → List ℕ → List ℕ → ℕ → Bool
 mailboxBytes form xs mailboxes i = allZero (bytesBehind (fileSize form) mailboxes i (fileAt xs i))
 
--- ---- a used event
-
--- event number: "used event i (from 0) has number 05 - used + 1 + i"
-abbrev pub eventNumber : ℕ → ℕ → EventRecord → Bool
-eventNumber entered i e = eqb (e .number) (entered - upTo recordCount entered + 1 + i)
-
--- event clock: "at most clock; no used event's clock is below the one before"
-abbrev pub eventClock : ℕ → EventRecord → EventRecord → Bool
-eventClock now before e = leb (e .clock) now && leb (before .clock) (e .clock)
-
--- event subscriber: "1 to 8"
-abbrev pub eventSubscriber : EventRecord → Bool
-eventSubscriber e = within 1 subscribers (e .subscriber)
-
--- event type: "FUL"
-abbrev pub eventType : EventRecord → Bool
-eventType e = eqb (e .«order_type») ful
-
--- event order: "below the orders of the record", its subscriber's counter
-abbrev pub eventOrder : ℕ → EventRecord → Bool
-eventOrder counter e = ltb (e .order) counter
-
--- event kind: "1 to 4"
-abbrev pub eventKind : EventRecord → Bool
-eventKind e = within 1 lastKind (e .kind)
-
--- an event, with the counter of its subscriber's series
-abbrev pub eventHolds : ℕ → ℕ → ℕ → ℕ → EventRecord → EventRecord → Bool
-eventHolds now counter entered i before e =
-    allOf (eventNumber entered i e ∷ eventClock now before e ∷ eventSubscriber e ∷ eventType e ∷ eventOrder counter e
-    ∷ eventKind e ∷ [])
+-- ---- the used events
 
 -- journal unused: "the records behind the used ones are 0"
 unfoldable pub journalUnused : List ℕ → Bool

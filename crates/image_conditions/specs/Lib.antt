@@ -1,4 +1,2 @@
--- The conditions of a session: the shapes of tests, where the numbers stand, and the conditions by label.
-pub mod Shapes
-pub mod Layout
+-- The conditions of a session, by label.
 pub mod Conditions

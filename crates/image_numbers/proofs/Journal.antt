@@ -15,8 +15,8 @@ use Rattle.journal.specs.declared.event.Event.{Event}
 use Rattle.journal.specs.Events.{recordCount, noEvent}
 use Rattle.bank_rows.specs.Rows.{rowsOf, numbersOf}
 use Rattle.bank_rows.proofs.General.{numbers-append, numbers-one, length-numbers, rows-next}
-use Rattle.image_conditions.specs.declared.layout.EventRecord.{EventRecord}
-use Rattle.image_conditions.specs.Layout.{journalAt, eventWidth, numberCount, eventAt}
+use Rattle.image_records.specs.declared.layout.EventRecord.{EventRecord}
+use Rattle.image_records.specs.Layout.{journalAt, eventWidth, numberCount, eventAt}
 use Rattle.image_numbers.specs.Table.{sessionPlaces}
 use Rattle.image_numbers.specs.Numbers.{numbersAt, kindOf, eventNumbers, eventOf, numbersIn}
 use Rattle.image_numbers.proofs.Places.{length-at, length-session}

@@ -16,7 +16,7 @@ use Rattle.bank_state.specs.Rows.{keep}
 use Rattle.bank_rows.specs.Rows.{numbersOf}
 use Rattle.bank_rows.proofs.General.{length-numbers, length-rows, numbers-rows, rows-numbers, take-listed}
 use Rattle.bank_session.specs.Session.{sessionSize}
-use Rattle.image_conditions.specs.Layout.{journalAt, eventWidth, numberCount, eventAt}
+use Rattle.image_records.specs.Layout.{journalAt, eventWidth, numberCount, eventAt}
 use Rattle.image_numbers.specs.Table.{sessionPlaces, imagePlaces}
 use Rattle.image_numbers.specs.Numbers.{
   numbersAt,

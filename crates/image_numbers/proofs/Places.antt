@@ -11,7 +11,7 @@ use Rattle.octets.proofs.Tests.{and-true}
 use Rattle.bank_rows.specs.Rows.{allBelow}
 use Rattle.bank_rows.proofs.Tests.{all-holds}
 use Rattle.bank_session.specs.Session.{sessionSize}
-use Rattle.image_conditions.specs.Layout.{journalAt, numberCount}
+use Rattle.image_records.specs.Layout.{journalAt, numberCount}
 use Rattle.image_numbers.specs.Table.{
   groupAt,
   partPlaces,

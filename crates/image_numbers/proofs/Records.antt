@@ -18,12 +18,12 @@ use Rattle.bank_rows.specs.Layout as rows
 use Rattle.bank_rows.specs.Rows.{numbersOf, allBelow}
 use Rattle.bank_rows.proofs.Tests.{all-holds}
 use Rattle.bank_session.specs.Session.{eventsAt}
-use Rattle.image_conditions.specs.declared.layout.NonceRecord.{NonceRecord}
-use Rattle.image_conditions.specs.declared.layout.DownloadRecord.{DownloadRecord}
-use Rattle.image_conditions.specs.declared.layout.PlaceRecord.{PlaceRecord}
-use Rattle.image_conditions.specs.declared.layout.EventRecord.{EventRecord}
-use Rattle.image_conditions.specs.Layout as image
-use Rattle.image_conditions.specs.Layout.{nonceAt, downloadAt, placeAt, eventAt, counterAt, fileAt}
+use Rattle.image_records.specs.declared.layout.NonceRecord.{NonceRecord}
+use Rattle.image_records.specs.declared.layout.DownloadRecord.{DownloadRecord}
+use Rattle.image_records.specs.declared.layout.PlaceRecord.{PlaceRecord}
+use Rattle.image_records.specs.declared.layout.EventRecord.{EventRecord}
+use Rattle.image_records.specs.Layout as image
+use Rattle.image_records.specs.Layout.{nonceAt, downloadAt, placeAt, eventAt, counterAt, fileAt}
 use Rattle.image_numbers.specs.Table.{
   nonceParts,
   downloadParts,

@@ -9,7 +9,7 @@ use Rattle.journal.specs.declared.event.Kind.the-variants.{Unused, Opened, Book
 use Rattle.journal.specs.declared.event.Event.{Event}
 use Rattle.journal.specs.Events.{recordCount}
 use Rattle.bank_rows.specs.Rows.{rowsOf, numbersOf}
-use Rattle.image_conditions.specs.Layout as image
+use Rattle.image_records.specs.Layout as image
 use Rattle.image_numbers.specs.Table.{sessionPlaces, imagePlaces}
 
 -- the numbers at some places

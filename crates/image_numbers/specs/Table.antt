@@ -8,7 +8,7 @@ use Rattle.bank_state.specs.Limits.{placeCount, nonceCount}
 use Rattle.bank_rows.specs.Layout as rows
 use Rattle.bank_session.specs.Session.{eventsAt}
 use Rattle.image.specs.Table.{hexDigits}
-use Rattle.image_conditions.specs.Layout as image
+use Rattle.image_records.specs.Layout as image
 use Rattle.image_numbers.specs.declared.table.Group.{Group}
 
 -- some records: the first one's numbers begin at a place, each further one's so many numbers on; which of a record's

@@ -1,8 +1,8 @@
 // The journal's records as numbers of the image, and back.
 use bank_rows::rows::put;
-use image_conditions::layout::EVENT_WIDTH;
-use image_conditions::layout::JOURNAL;
-use image_conditions::layout::event_at;
+use image_records::layout::EVENT_WIDTH;
+use image_records::layout::JOURNAL;
+use image_records::layout::event_at;
 use journal::event::Event;
 use journal::event::Kind;
 use journal::event::RECORD_COUNT;
@@ -12,7 +12,7 @@ ghost use lib.ListN.{length, drop};
 ghost use Rattle.octets.specs.Bytes.{overwrite};
 ghost use Rattle.journal.specs.Events.{recordCount};
 ghost use Rattle.bank_rows.specs.Rows.{numbersOf};
-ghost use Rattle.image_conditions.specs.Layout.{eventWidth, journalAt, numberCount};
+ghost use Rattle.image_records.specs.Layout.{eventWidth, journalAt, numberCount};
 ghost use Rattle.image_numbers.specs.Numbers.{numberOfKind, kindOf, eventNumbers, eventOf, rowFrom};
 
 fn number_of_kind(kind: Kind) -> u64

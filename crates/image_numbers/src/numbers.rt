@@ -8,7 +8,7 @@ use journal::event::RECORD_COUNT;
 ghost use mathlib.Core.Path.{_≡_};
 ghost use lib.ListN.{length};
 ghost use Rattle.bank_session.specs.Session.{sessionSize};
-ghost use Rattle.image_conditions.specs.Layout.{numberCount};
+ghost use Rattle.image_records.specs.Layout.{numberCount};
 ghost use Rattle.image_numbers.specs.Numbers.{numbersIn, rowsFrom};
 
 // The numbers of a session's image: those of the rows, and behind them the journal's.

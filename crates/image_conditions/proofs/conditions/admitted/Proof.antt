@@ -9,7 +9,7 @@ use Rattle.image.specs.declared.table.Form.{Form}
 use Rattle.image.specs.declared.table.Sizes.{Sizes}
 use Rattle.image.specs.Table.{storeSize}
 use Rattle.image.specs.Items.{sizesOf}
-use Rattle.image_conditions.specs.Layout.{numberCount}
+use Rattle.image_records.specs.Layout.{numberCount}
 use borrow.Author.Needs.{needs}
 use Rattle.image_conditions.proofs.conditions.admitted.Statement.{statement}
 use Rattle.image_conditions.proofs.conditions.admitted.Tie as tie

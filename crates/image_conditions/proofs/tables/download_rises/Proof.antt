@@ -5,8 +5,8 @@ use native.Mathlib.Omega.{arith}
 use lib.Dec.{ltb}
 use borrow.Author.Tests.{lt-ltb}
 use Rattle.image_conditions.specs.Conditions.{downloadRises}
-use Rattle.image_conditions.specs.Layout.{downloadAt}
-use Rattle.image_conditions.specs.declared.layout.DownloadRecord.{DownloadRecord}
+use Rattle.image_records.specs.Layout.{downloadAt}
+use Rattle.image_records.specs.declared.layout.DownloadRecord.{DownloadRecord}
 use borrow.Author.Needs.{needs}
 use Rattle.image_conditions.proofs.tables.download_rises.Statement.{statement}
 use Rattle.image_conditions.proofs.tables.download_rises.Tie as tie

@@ -2,9 +2,10 @@
 use Prim.Native.Nat.{ℕ, _-_}
 use mathlib.Core.Path.{ap, _∙_}
 use mathlib.Core.Bool.{Bool, _&&_}
-use Rattle.image_conditions.specs.Conditions.{downloadTest, downloadHolds}
-use Rattle.image_conditions.specs.Layout.{clock, openings, fileOf, downloadAt}
-use Rattle.image_conditions.specs.declared.layout.DownloadRecord.{DownloadRecord}
+use Rattle.image_records.specs.Records.{downloadHolds}
+use Rattle.image_conditions.specs.Conditions.{downloadTest}
+use Rattle.image_records.specs.Layout.{clock, openings, fileOf, downloadAt}
+use Rattle.image_records.specs.declared.layout.DownloadRecord.{DownloadRecord}
 use borrow.Author.Needs.{needs}
 use Rattle.image_conditions.proofs.tables.download_test.Statement.{statement}
 use Rattle.image_conditions.proofs.tables.download_test.Tie as tie

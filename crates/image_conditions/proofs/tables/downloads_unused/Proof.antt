@@ -3,10 +3,11 @@ use Prim.Native.Nat.{ℕ, _-_}
 use mathlib.Core.Path.{ap, _∙_}
 use native.Mathlib.Omega.{arith}
 use lib.ListN.{getD}
-use Rattle.image_conditions.specs.Conditions.{downloadsUnused, unused}
-use Rattle.image_conditions.proofs.Shapes.{up-to-le}
+use Rattle.image_records.specs.Shapes.{unused}
+use Rattle.image_conditions.specs.Conditions.{downloadsUnused}
+use Rattle.image_records.proofs.Shapes.{up-to-le}
 use Rattle.bank_state.specs.Limits.{placeCount}
-use Rattle.image_conditions.specs.Layout.{downloadCountAt, downloadsAt, downloadWidth}
+use Rattle.image_records.specs.Layout.{downloadCountAt, downloadsAt, downloadWidth}
 use borrow.Author.Needs.{needs}
 use Rattle.image_conditions.proofs.tables.downloads_unused.Statement.{statement}
 use Rattle.image_conditions.proofs.tables.downloads_unused.Tie as tie

@@ -3,10 +3,11 @@ use Prim.Native.Nat.{ℕ, _-_}
 use mathlib.Core.Path.{ap, _∙_}
 use native.Mathlib.Omega.{arith}
 use Rattle.journal.specs.Events.{recordCount}
-use Rattle.image_conditions.specs.Conditions.{eventTest, eventHolds}
-use Rattle.image_conditions.specs.Layout.{clock, events, counterOf, eventAt}
-use Rattle.image_conditions.specs.declared.layout.EventRecord.{EventRecord}
-use Rattle.image_conditions.proofs.Shapes.{up-to-le}
+use Rattle.image_records.specs.Records.{eventHolds}
+use Rattle.image_conditions.specs.Conditions.{eventTest}
+use Rattle.image_records.specs.Layout.{clock, events, counterOf, eventAt}
+use Rattle.image_records.specs.declared.layout.EventRecord.{EventRecord}
+use Rattle.image_records.proofs.Shapes.{up-to-le}
 use borrow.Author.Needs.{needs}
 use Rattle.image_conditions.proofs.tables.event_test.Statement.{statement}
 use Rattle.image_conditions.proofs.tables.event_test.Tie as tie

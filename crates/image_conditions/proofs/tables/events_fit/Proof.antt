@@ -3,7 +3,7 @@ use Prim.Native.Nat.{ℕ, _+_, _-_, _*_}
 use mathlib.Core.Path.{ap, _∙_}
 use lib.Dec.{leb}
 use Rattle.image_conditions.specs.Conditions.{eventsFit}
-use Rattle.image_conditions.specs.Layout.{events, openings}
+use Rattle.image_records.specs.Layout.{events, openings}
 use borrow.Author.Needs.{needs}
 use Rattle.image_conditions.proofs.tables.events_fit.Statement.{statement}
 use Rattle.image_conditions.proofs.tables.events_fit.Tie as tie

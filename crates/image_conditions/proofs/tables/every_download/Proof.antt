@@ -3,11 +3,11 @@ use Prim.Native.Nat.{_-_, _≤_}
 use mathlib.Core.Path.{_≡_, sym, ap, _∙_}
 use native.Mathlib.Omega.{arith}
 use lib.ListN.{getD}
-use Rattle.image_conditions.specs.Shapes.{every}
+use Rattle.image_records.specs.Shapes.{every}
 use Rattle.image_conditions.specs.Conditions.{downloadTest, everyDownload}
-use Rattle.image_conditions.proofs.Shapes.{every-none, every-next, up-to-le}
+use Rattle.image_records.proofs.Shapes.{every-none, every-next, up-to-le}
 use Rattle.bank_state.specs.Limits.{placeCount}
-use Rattle.image_conditions.specs.Layout.{downloadCountAt}
+use Rattle.image_records.specs.Layout.{downloadCountAt}
 use borrow.Author.Needs.{needs}
 use Rattle.image_conditions.proofs.tables.every_download.Statement.{statement}
 use Rattle.image_conditions.proofs.tables.every_download.Tie as tie

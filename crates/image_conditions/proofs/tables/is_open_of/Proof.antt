@@ -4,7 +4,7 @@ use mathlib.Core.Path.{ap, _∙_}
 use mathlib.Core.Bool.{_&&_}
 use lib.Dec.{eqb}
 use Rattle.image_conditions.specs.Conditions.{isOpenOf}
-use Rattle.image_conditions.specs.declared.layout.Slot.{Slot}
+use Rattle.image_records.specs.declared.layout.Slot.{Slot}
 use borrow.Author.Needs.{needs}
 use Rattle.image_conditions.proofs.tables.is_open_of.Statement.{statement}
 use Rattle.image_conditions.proofs.tables.is_open_of.Tie as tie

@@ -3,7 +3,7 @@ use Prim.Native.Nat.{_-_}
 use mathlib.Core.Path.{ap}
 use lib.Dec.{eqb}
 use Rattle.image_conditions.specs.Conditions.{isOpenSlot}
-use Rattle.image_conditions.specs.declared.layout.Slot.{Slot}
+use Rattle.image_records.specs.declared.layout.Slot.{Slot}
 use borrow.Author.Needs.{needs}
 use Rattle.image_conditions.proofs.tables.is_open_slot.Statement.{statement}
 use Rattle.image_conditions.proofs.tables.is_open_slot.Tie as tie

@@ -3,10 +3,11 @@ use Prim.Native.Nat.{ℕ, _-_}
 use mathlib.Core.Path.{ap, _∙_}
 use native.Mathlib.Omega.{arith}
 use lib.ListN.{getD}
-use Rattle.image_conditions.specs.Conditions.{journalUnused, unused}
-use Rattle.image_conditions.proofs.Shapes.{up-to-le}
+use Rattle.image_records.specs.Shapes.{unused}
+use Rattle.image_conditions.specs.Conditions.{journalUnused}
+use Rattle.image_records.proofs.Shapes.{up-to-le}
 use Rattle.journal.specs.Events.{recordCount}
-use Rattle.image_conditions.specs.Layout.{eventsAt, journalAt, eventWidth}
+use Rattle.image_records.specs.Layout.{eventsAt, journalAt, eventWidth}
 use borrow.Author.Needs.{needs}
 use Rattle.image_conditions.proofs.tables.journal_unused.Statement.{statement}
 use Rattle.image_conditions.proofs.tables.journal_unused.Tie as tie

@@ -3,9 +3,9 @@ use Prim.Native.Nat.{_-_, _≤_}
 use mathlib.Core.Path.{_≡_, sym, ap, _∙_}
 use mathlib.Core.Bool.{not}
 use native.Mathlib.Omega.{arith}
-use Rattle.image_conditions.specs.Shapes.{every}
+use Rattle.image_records.specs.Shapes.{every}
 use Rattle.image_conditions.specs.Conditions.{sameOrder}
-use Rattle.image_conditions.proofs.Shapes.{every-none, every-next}
+use Rattle.image_records.proofs.Shapes.{every-none, every-next}
 use borrow.Author.Needs.{needs}
 use Rattle.image_conditions.proofs.tables.new_order.Statement.{statement}
 use Rattle.image_conditions.proofs.tables.new_order.Tie as tie

@@ -1,8 +1,9 @@
 -- `nonce_test` meets its contract: what each call in it says, put together. Assumes nothing.
 use Prim.Native.Nat.{_-_}
 use mathlib.Core.Path.{ap, _∙_}
-use Rattle.image_conditions.specs.Conditions.{nonceTest, nonceTime}
-use Rattle.image_conditions.specs.Layout.{clock}
+use Rattle.image_records.specs.Records.{nonceTime}
+use Rattle.image_conditions.specs.Conditions.{nonceTest}
+use Rattle.image_records.specs.Layout.{clock}
 use borrow.Author.Needs.{needs}
 use Rattle.image_conditions.proofs.tables.nonce_test.Statement.{statement}
 use Rattle.image_conditions.proofs.tables.nonce_test.Tie as tie

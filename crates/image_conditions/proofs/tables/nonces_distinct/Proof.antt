@@ -4,11 +4,11 @@ use mathlib.Core.Path.{_≡_, sym, ap, _∙_}
 use mathlib.Core.Bool.{not}
 use native.Mathlib.Omega.{arith}
 use lib.ListN.{getD}
-use Rattle.image_conditions.specs.Shapes.{every, distinct}
+use Rattle.image_records.specs.Shapes.{every, distinct}
 use Rattle.image_conditions.specs.Conditions.{noncesDistinct, sameNonce}
-use Rattle.image_conditions.proofs.Shapes.{every-none, every-next, up-to-le}
+use Rattle.image_records.proofs.Shapes.{every-none, every-next, up-to-le}
 use Rattle.bank_state.specs.Limits.{nonceCount}
-use Rattle.image_conditions.specs.Layout.{nonceCountAt}
+use Rattle.image_records.specs.Layout.{nonceCountAt}
 use borrow.Author.Needs.{needs}
 use Rattle.image_conditions.proofs.tables.nonces_distinct.Statement.{statement}
 use Rattle.image_conditions.proofs.tables.nonces_distinct.Tie as tie

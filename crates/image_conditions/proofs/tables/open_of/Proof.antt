@@ -3,9 +3,9 @@ use Prim.Native.Nat.{_-_, _≤_}
 use mathlib.Core.Path.{_≡_, sym, ap, _∙_}
 use mathlib.Core.Bool.{Bool, cond}
 use native.Mathlib.Omega.{arith}
-use Rattle.image_conditions.specs.Shapes.{count}
+use Rattle.image_records.specs.Shapes.{count}
 use Rattle.image_conditions.specs.Conditions.{isOpenOf}
-use Rattle.image_conditions.proofs.Shapes.{count-none, count-next}
+use Rattle.image_records.proofs.Shapes.{count-none, count-next}
 use borrow.Author.Needs.{needs}
 use Rattle.image_conditions.proofs.tables.open_of.Statement.{statement}
 use Rattle.image_conditions.proofs.tables.open_of.Tie as tie

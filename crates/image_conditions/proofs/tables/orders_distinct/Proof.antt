@@ -4,9 +4,9 @@ use mathlib.Core.Path.{_≡_, sym, ap, _∙_}
 use mathlib.Core.Bool.{not}
 use native.Mathlib.Omega.{arith}
 use Rattle.bank_state.specs.Limits.{placeCount}
-use Rattle.image_conditions.specs.Shapes.{every, distinct}
+use Rattle.image_records.specs.Shapes.{every, distinct}
 use Rattle.image_conditions.specs.Conditions.{ordersDistinct, sameOrder}
-use Rattle.image_conditions.proofs.Shapes.{every-none, every-next}
+use Rattle.image_records.proofs.Shapes.{every-none, every-next}
 use borrow.Author.Needs.{needs}
 use Rattle.image_conditions.proofs.tables.orders_distinct.Statement.{statement}
 use Rattle.image_conditions.proofs.tables.orders_distinct.Tie as tie

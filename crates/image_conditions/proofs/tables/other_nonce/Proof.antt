@@ -4,8 +4,8 @@ use mathlib.Core.Path.{ap, _∙_}
 use mathlib.Core.Bool.{not, _&&_}
 use lib.Dec.{eqb}
 use Rattle.image_conditions.specs.Conditions.{sameNonce}
-use Rattle.image_conditions.specs.Layout.{nonceAt}
-use Rattle.image_conditions.specs.declared.layout.NonceRecord.{NonceRecord}
+use Rattle.image_records.specs.Layout.{nonceAt}
+use Rattle.image_records.specs.declared.layout.NonceRecord.{NonceRecord}
 use borrow.Author.Needs.{needs}
 use Rattle.image_conditions.proofs.tables.other_nonce.Statement.{statement}
 use Rattle.image_conditions.proofs.tables.other_nonce.Tie as tie

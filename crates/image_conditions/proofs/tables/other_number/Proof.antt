@@ -4,9 +4,10 @@ use mathlib.Core.Path.{ap, _∙_}
 use mathlib.Core.Bool.{Bool, not}
 use mathlib.Core.List.{[], _∷_}
 use lib.Dec.{ltb, eqb}
-use Rattle.image_conditions.specs.Conditions.{sameNumber, slotAt}
-use Rattle.image_conditions.specs.Shapes.{allOf}
-use Rattle.image_conditions.specs.declared.layout.Slot.{Slot}
+use Rattle.image_records.specs.Layout.{slotAt}
+use Rattle.image_conditions.specs.Conditions.{sameNumber}
+use Rattle.image_records.specs.Shapes.{allOf}
+use Rattle.image_records.specs.declared.layout.Slot.{Slot}
 use borrow.Author.Needs.{needs}
 use Rattle.image_conditions.proofs.tables.other_number.Statement.{statement}
 use Rattle.image_conditions.proofs.tables.other_number.Tie as tie

@@ -5,9 +5,9 @@ use mathlib.Core.Bool.{Bool, not}
 use mathlib.Core.List.{[], _∷_}
 use lib.Dec.{ltb, eqb}
 use Rattle.image_conditions.specs.Conditions.{sameOrder}
-use Rattle.image_conditions.specs.Shapes.{allOf}
-use Rattle.image_conditions.specs.Layout.{placeAt}
-use Rattle.image_conditions.specs.declared.layout.PlaceRecord.{PlaceRecord}
+use Rattle.image_records.specs.Shapes.{allOf}
+use Rattle.image_records.specs.Layout.{placeAt}
+use Rattle.image_records.specs.declared.layout.PlaceRecord.{PlaceRecord}
 use borrow.Author.Needs.{needs}
 use Rattle.image_conditions.proofs.tables.other_order.Statement.{statement}
 use Rattle.image_conditions.proofs.tables.other_order.Tie as tie

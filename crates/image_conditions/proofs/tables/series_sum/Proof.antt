@@ -5,10 +5,10 @@ use mathlib.Core.Path.{_≡_, sym}
 use native.Mathlib.Omega.{arith}
 use borrow.Author.Tests.{le-leb, lt-leb}
 use Rattle.bank_state.specs.Limits.{placeCount}
-use Rattle.image_conditions.specs.Shapes.{total}
-use Rattle.image_conditions.specs.Layout.{openings, counterAt}
+use Rattle.image_records.specs.Shapes.{total}
+use Rattle.image_records.specs.Layout.{openings, counterAt}
 use Rattle.image_conditions.specs.Conditions.{seriesSum}
-use Rattle.image_conditions.proofs.Shapes.{total-none, total-next, total-more}
+use Rattle.image_records.proofs.Shapes.{total-none, total-next, total-more}
 use borrow.Author.Needs.{needs}
 use Rattle.image_conditions.proofs.tables.series_sum.Statement.{statement}
 use Rattle.image_conditions.proofs.tables.series_sum.Tie as tie

@@ -3,8 +3,7 @@ use Prim.Native.Nat.{ℕ, _+_, _-_, _*_}
 use mathlib.Core.Path.{_≡_, ap, _∙_}
 use native.Mathlib.Omega.{arith}
 use lib.ListN.{take, drop}
-use Rattle.image_conditions.specs.Conditions.{unused}
-use Rattle.image_conditions.specs.Shapes.{allZero}
+use Rattle.image_records.specs.Shapes.{unused, allZero}
 use borrow.Author.Needs.{needs}
 use Rattle.image_conditions.proofs.tables.unused.Statement.{statement}
 use Rattle.image_conditions.proofs.tables.unused.Tie as tie

@@ -4,9 +4,9 @@ use mathlib.Core.Path.{_≡_, ap, _∙_}
 use native.Mathlib.Omega.{arith}
 use lib.ListN.{take, drop}
 use Rattle.image_conditions.specs.Conditions.{bytesBehind}
-use Rattle.image_conditions.proofs.Shapes.{up-to-le}
+use Rattle.image_records.proofs.Shapes.{up-to-le}
 use Rattle.image_conditions.proofs.Parts.{part-within}
-use Rattle.image_conditions.specs.Shapes.{allZero}
+use Rattle.image_records.specs.Shapes.{allZero}
 use borrow.Author.Needs.{needs}
 use Rattle.image_conditions.proofs.tables.zero_behind.Statement.{statement}
 use Rattle.image_conditions.proofs.tables.zero_behind.Tie as tie

@@ -10,7 +10,7 @@ use Rattle.octets.proofs.Numbers.{overwrite-nil}
 use Rattle.journal.specs.declared.event.Event.{Event}
 use Rattle.journal.specs.Events.{recordCount}
 use Rattle.bank_rows.specs.Rows.{numbersOf}
-use Rattle.image_conditions.specs.Layout.{journalAt}
+use Rattle.image_records.specs.Layout.{journalAt}
 use Rattle.image_numbers.specs.Numbers.{eventNumbers}
 use Rattle.image_numbers.proofs.Journal.{put-next}
 use borrow.Author.Needs.{needs}

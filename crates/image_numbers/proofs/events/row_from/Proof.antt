@@ -6,7 +6,7 @@ use lib.ListN.{length, take, drop, length-set}
 use lib.Seq.{take-all}
 use Rattle.journal.specs.Events.{recordCount}
 use Rattle.bank_rows.specs.Rows.{rowsOf}
-use Rattle.image_conditions.specs.Layout.{journalAt, eventWidth}
+use Rattle.image_records.specs.Layout.{journalAt, eventWidth}
 use Rattle.image_numbers.specs.Numbers.{eventOf, rowFrom}
 use Rattle.image_numbers.proofs.Journal.{row-next}
 use borrow.Author.Needs.{needs}

@@ -1,0 +1,180 @@
+-- What the conditions of one record say, in the page's own words: each is one of the tests that its record passes.
+use Prim.Native.Nat.{ℕ, _+_, _≤_, _<_}
+use mathlib.Core.Bool.{Bool, true, false}
+use mathlib.Core.Path.{_≡_, refl}
+use native.Mathlib.Omega.{arith}
+use lib.Dec.{leb, eqb}
+use borrow.Author.Tests.{leb-true, ltb-true, lt-ltb, eqb-true, eqb-false, eq-eqb}
+use Rattle.octets.proofs.Tests.{and-true}
+use Rattle.frame_table.specs.Table.{lastTime}
+use Rattle.bank_state.specs.Limits.{window}
+use Rattle.image.specs.declared.table.Form.{Form}
+use Rattle.image.specs.declared.table.Form.the-variants.{Five}
+use Rattle.image_records.specs.declared.layout.NonceRecord.{NonceRecord}
+use Rattle.image_records.specs.declared.layout.DownloadRecord.{DownloadRecord}
+use Rattle.image_records.specs.declared.layout.PlaceRecord.{PlaceRecord}
+use Rattle.image_records.specs.declared.layout.EventRecord.{EventRecord}
+use Rattle.image_records.specs.Layout.{openState, bookedState}
+use Rattle.image_records.specs.Records.{
+  fitTime,
+  nonceTime,
+  downloadSubscriber,
+  downloadDelivered,
+  downloadAttempts,
+  downloadTime,
+  downloadHolds,
+  isOpen,
+  isBooked,
+  placeState,
+  placeFree,
+  placeSubscriber,
+  placeNumber,
+  placeOrder,
+  uploadSegments,
+  uploadTaken,
+  uploadAttempts,
+  uploadTime,
+  uploadLength,
+  bookedLength,
+  bookedRest,
+  placeHolds,
+  eventNumber,
+  eventClock,
+  eventHolds,
+}
+use Rattle.image_records.proofs.General.{implied}
+
+-- ---- a nonce in use
+
+module _ (now : ℕ) (n : NonceRecord) (h : nonceTime now n ≡ true) where
+  -- "each timestamp .. at most clock + window"
+  pub nonce-ahead : n .timestamp ≤ now + window
+  nonce-ahead =
+      let t = n .timestamp in
+      leb-true t (now + window) (and-true (leb t (now + window)) _ (and-true (leb now (t + window)) _ h .1) .0)
+
+  -- "and at most the last time"
+  pub nonce-time : n .timestamp ≤ lastTime
+  nonce-time =
+      let t = n .timestamp in
+      let a = and-true (leb now (t + window)) _ h in
+      let b = and-true (leb t (now + window)) _ (a .1) in
+      leb-true t lastTime (and-true (leb t lastTime) _ (b .1) .0)
+
+-- ---- an open download
+
+fit-time : (now last : ℕ) → fitTime now last ≡ true → last ≤ now
+fit-time now last h = leb-true last now (and-true (leb last now) _ h .0)
+
+-- "last fit is at most clock"
+pub download-time : (now opened file : ℕ) (d : DownloadRecord) → downloadHolds now opened file d ≡ true → d .last ≤ now
+download-time now opened file d h =
+    let a = and-true (downloadSubscriber d) _ h in
+    let b = and-true (downloadDelivered file d) _ (a .1) in
+    let c = and-true (downloadAttempts d) _ (b .1) in
+    fit-time now (d .last) (and-true (downloadTime now d) _ (c .1) .0)
+
+-- ---- a place: its tests, one by one
+
+pub record PlaceListed (form : Form) (now opened counter : ℕ) (p : PlaceRecord) : Type 0 where
+  pub state : placeState p ≡ true
+  pub free : placeFree p ≡ true
+  pub subscriber : placeSubscriber p ≡ true
+  pub number : placeNumber opened p ≡ true
+  pub order : placeOrder counter p ≡ true
+  pub segments : uploadSegments form p ≡ true
+  pub taken : uploadTaken p ≡ true
+  pub attempts : uploadAttempts p ≡ true
+  pub time : uploadTime now p ≡ true
+  pub length : uploadLength p ≡ true
+  pub booked : bookedLength form p ≡ true
+  pub rest : bookedRest p ≡ true
+
+module _ (form : Form) (now opened counter : ℕ) (p : PlaceRecord) where
+  pub place-listed : placeHolds form now opened counter p ≡ true → PlaceListed form now opened counter p
+  place-listed h =
+      let state = and-true (placeState p) _ h in
+      let free = and-true (placeFree p) _ (state .1) in
+      let subscriber = and-true (placeSubscriber p) _ (free .1) in
+      let number = and-true (placeNumber opened p) _ (subscriber .1) in
+      let order = and-true (placeOrder counter p) _ (number .1) in
+      let segments = and-true (uploadSegments form p) _ (order .1) in
+      let taken = and-true (uploadTaken p) _ (segments .1) in
+      let attempts = and-true (uploadAttempts p) _ (taken .1) in
+      let time = and-true (uploadTime now p) _ (attempts .1) in
+      let length = and-true (uploadLength p) _ (time .1) in
+      let booked = and-true (bookedLength form p) _ (length .1) in
+      let rest = and-true (bookedRest p) true (booked .1) in
+      record {
+        state = state .0;
+        free = free .0;
+        subscriber = subscriber .0;
+        number = number .0;
+        order = order .0;
+        segments = segments .0;
+        taken = taken .0;
+        attempts = attempts .0;
+        time = time .0;
+        length = length .0;
+        booked = booked .0;
+        rest = rest .0;
+      }
+
+module _ (form : Form) (now opened counter : ℕ) (p : PlaceRecord) (l : PlaceListed form now opened counter p) where
+  free-last : p .state ≡ 0 → p .last ≡ 0
+  free-last e =
+      let a = and-true (eqb (p .subscriber) 0) _ (implied (l .free) (eq-eqb (p .state) 0 e)) in
+      let b = and-true (eqb (p .high) 0) _ (a .1) in
+      let c = and-true (eqb (p .low) 0) _ (b .1) in
+      let order = and-true (eqb (p .order) 0) _ (c .1) in
+      let d = and-true (eqb (p .segments) 0) _ (order .1) in
+      let f = and-true (eqb (p .taken) 0) _ (d .1) in
+      let g = and-true (eqb (p .attempts) 0) _ (f .1) in
+      eqb-true (p .last) 0 (and-true (eqb (p .last) 0) _ (g .1) .0)
+
+  booked-last : isBooked p ≡ true → p .last ≡ 0
+  booked-last e =
+      let a = and-true (eqb (p .segments) 0) _ (implied (l .rest) e) in
+      let b = and-true (eqb (p .taken) 0) _ (a .1) in
+      let c = and-true (eqb (p .attempts) 0) _ (b .1) in
+      eqb-true (p .last) 0 (and-true (eqb (p .last) 0) true (c .1) .0)
+
+  -- free, open or booked
+  last-by : (t u : Bool) → isOpen p ≡ t → isBooked p ≡ u → p .last ≤ now
+  last-by true u e f = fit-time now (p .last) (implied (l .time) e)
+  last-by false true e f = omega (arith, booked-last f)
+  last-by false false e f =
+      let a = eqb-false (p .state) openState e in
+      let b = eqb-false (p .state) bookedState f in
+      let z : p .state ≡ 0 = omega (arith, leb-true (p .state) bookedState (l .state)) in
+      omega (arith, free-last z)
+
+  -- "last fit is at most clock"
+  pub place-time : p .last ≤ now
+  place-time = last-by (isOpen p) (isBooked p) refl refl
+
+  -- "state 1 or 2: the order number is below" its subscriber's count in 04
+  pub place-counted : 0 < p .state → p .order < counter
+  place-counted used = ltb-true (p .order) counter (implied (l .order) (lt-ltb 0 (p .state) used))
+
+-- "form 5 with its own limits (15 segments, 3,840 bytes; more is number 9)"
+module _ (now opened counter : ℕ) (p : PlaceRecord) (l : PlaceListed Five now opened counter p) where
+  pub segments-in-5 : p .state ≡ openState → p .segments ≤ 15
+  segments-in-5 e =
+      let t = implied (l .segments) (eq-eqb (p .state) openState e) in
+      leb-true (p .segments) 15 (and-true (leb 1 (p .segments)) _ t .1)
+
+  pub booked-in-5 : p .state ≡ bookedState → p .length ≤ 3840
+  booked-in-5 e =
+      let t = implied (l .booked) (eq-eqb (p .state) bookedState e) in
+      leb-true (p .length) 3840 (and-true (leb 1 (p .length)) _ t .1)
+
+-- ---- a used event
+
+-- "at most clock"
+pub event-time : (now counter entered i : ℕ) (before e : EventRecord) → eventHolds now counter entered i before e ≡ true
+    → e .clock ≤ now
+event-time now counter entered i before e h =
+    let a = and-true (eventNumber entered i e) _ h in
+    let b = and-true (eventClock now before e) _ (a .1) in
+    leb-true (e .clock) now (and-true (leb (e .clock) now) _ (b .0) .0)
