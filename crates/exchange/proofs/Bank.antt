@@ -12,7 +12,6 @@ use Rattle.frame_table.specs.declared.fields.Bits128.{Bits128}
 use Rattle.frame_table.specs.declared.fields.Fields.{Fields}
 use Rattle.frame_writer.specs.declared.writer.Written.{Written}
 use Rattle.frame_writer.specs.declared.writer.Written.the-variants as written
-use Rattle.octets.specs.Bytes.{number}
 use Rattle.frame_table.specs.Names.{subscriber, transaction, returnCode, form}
 use Rattle.frame_reader.specs.Reader.{readRequest, readReply}
 use Rattle.frame_row.specs.Row.{dataOf}
@@ -29,6 +28,9 @@ use Rattle.bank_state.specs.Clock.{advanced}
 use Rattle.bank_state.specs.Limits.{placeCount}
 use Rattle.bank_state.specs.State.{BankState, bankState, fresh, fileLength}
 use Rattle.bank_state.specs.Store.{partAt, fileOf}
+use Rattle.bank_rows.specs.State.{bankOf}
+use Rattle.bank_steps.specs.Lent.{stateOf}
+use Rattle.bank_session.specs.Session.{LentSession, bankRows, bankIn, journalIn}
 use Rattle.bank.specs.declared.call.FrameAnswer.{FrameAnswer}
 use Rattle.bank.specs.declared.call.FrameAnswer.the-variants as frameAnswer
 use Rattle.bank.specs.declared.mailbox.FileAnswer.{FileAnswer}
@@ -73,7 +75,8 @@ use Rattle.exchange.specs.Course.{
   carryOut,
   withJournal,
 }
-use Rattle.exchange.proofs.Calls.{file-done, frame-replied, frame-done}
+use Rattle.exchange.proofs.Calls.{file-done}
+use Rattle.exchange.proofs.Host.{frameLeft, frame-answered, host-frame, fileLeft, file-answered, host-file}
 use Rattle.frame.proofs.Theorems.{data-read, reply-read}
 use Rattle.exchange.proofs.Events.{verdict-refuses, mailbox-short, case-empties}
 use Rattle.exchange.proofs.Told.{Proper, AllProper, coded, done-confirmed}
@@ -376,7 +379,7 @@ module _ (s : Course) (b : BankPart s) (mailbox : ℕ) (file : List ℕ) where
   file-by : FileSound bankBefore mailbox file boxesBefore fileAnswer.Done →
       Holds (placed fileAnswer.Done (put .bank) (put .mailboxes) (b .past)) →
       history.after (File mailbox file) (b .past) ≡ placed fileAnswer.Done (put .bank) (put .mailboxes) (b .past) →
-      Later s b (afterFile put mailbox file s)
+      Later s b (afterFile (put .bank) (put .mailboxes) mailbox file s)
   unfolding mailboxOf journalOf journalOver pastOf
   file-by (rejected l) holds next = absurd (omega arith)
   file-by (done known most some short empty) holds next = record {
@@ -409,7 +412,7 @@ module _ (s : Course) (b : BankPart s) (mailbox : ℕ) (file : List ℕ) where
           ∙ sym (same-mailbox (b .past .bankState) m) ∙ ap (λ (w : BankState). mailboxOf w m) (b .bankState) ∙ b .mailboxes m low high
 
   file-part : fileNumber (fileCall bankBefore mailbox file boxesBefore .answer) ≡ 0 →
-      Later s b (afterFile (fileCall bankBefore mailbox file boxesBefore) mailbox file s)
+      Later s b (fileLeft bankBefore boxesBefore mailbox file s)
   unfolding fileCall history.after
   file-part h =
       let a = decide (fileRefusals bankBefore mailbox file boxesBefore) fileAnswer.Done in
@@ -418,36 +421,36 @@ module _ (s : Course) (b : BankPart s) (mailbox : ℕ) (file : List ℕ) where
       subst (λ (x : FileAnswer). FileSound bankBefore mailbox file boxesBefore x →
       Holds (placed (k x .answer) (k x .bank) (k x .mailboxes) (b .past)) →
       history.after (File mailbox file) (b .past) ≡ placed (k x .answer) (k x .bank) (k x .mailboxes) (b .past) →
-      Later s b (afterFile (k x) mailbox file s)) (sym e) file-by
+      Later s b (afterFile (k x .bank) (k x .mailboxes) mailbox file s)) (sym e) file-by
       (judged-file bankBefore mailbox file boxesBefore) (after-holds (File mailbox file) (b .past) (b .holds)) refl
 
 -- ---- what calls given no number leave
 
-module _ (s : Course) (b : BankPart s) (w : BankState) (j : Journal) (a : FrameInput) (same : w ≡ s .bank) (lent : j ≡ s .journal)
-    (done : callNumber (frameArrives w j a) ≡ 0) where
+module _ (s : Course) (b : BankPart s) (m : LentSession) (a : FrameInput) (same : stateOf (bankIn m) ≡ s .bank)
+    (lent : journalIn m ≡ s .journal) (done : callNumber (frameArrives m a) ≡ 0) where
   -- what holds after the frame is answered to the bank and the journal as they were left holds after the call
   answered-so : (P : Course → Type 0) → ((n : ℕ) → let k = frameCall (b .past .bankState) a in
       k .answer ≡ frameAnswer.Reply n →
       P (withJournal (journalAfter (b .past .bankState) a (s .journal))
       (afterFrame (take n (k .buffer)) (k .bankState) (advanced (a .time) (b .past .bankState)) (a .frame) s))) →
-      P (carryOut (frameArrives w j a) s)
+      P (carryOut (frameArrives m a) s)
   answered-so P f =
-      subst (λ (i : Journal). P (carryOut (frameArrives w i a) s)) (sym lent)
-      (subst (λ (v : BankState). (n : ℕ) × (frameCall v a .answer ≡ frameAnswer.Reply n) →
-      P (carryOut (frameArrives v (s .journal) a) s)) (b .bankState ∙ sym same) at
-      (frame-replied (frameCall w a .answer) (frame-done w j a done)))
+      subst P (sym (host-frame m a done s))
+      (subst (λ (j : Journal). P (frameLeft (stateOf (bankIn m)) j a s)) (sym lent)
+      (subst (λ (v : BankState). (n : ℕ) × (frameCall v a .answer ≡ frameAnswer.Reply n) → P (frameLeft v (s .journal) a s))
+      (b .bankState ∙ sym same) at (frame-answered m a done)))
     where
       k : FrameCall
       k = frameCall (b .past .bankState) a
 
-      at : (n : ℕ) × (k .answer ≡ frameAnswer.Reply n) → P (carryOut (frameArrives (b .past .bankState) (s .journal) a) s)
+      at : (n : ℕ) × (k .answer ≡ frameAnswer.Reply n) → P (frameLeft (b .past .bankState) (s .journal) a s)
       at (n, e) =
           subst (λ (r : FrameAnswer). P (withJournal (journalAfter (b .past .bankState) a (s .journal))
           (afterFrame (replyIn r (k .buffer)) (k .bankState) (advanced (a .time) (b .past .bankState)) (a .frame) s)))
           (sym e) (f n e)
 
   -- a frame call, lent the bank and the journal as they were left
-  pub frame-keeps : Later s b (carryOut (frameArrives w j a) s)
+  pub frame-keeps : Later s b (carryOut (frameArrives m a) s)
   unfolding frame-part
   frame-keeps = answered-so (Later s b) (λ n h. record {
     bank = frame-part s b a n h;
@@ -455,19 +458,21 @@ module _ (s : Course) (b : BankPart s) (w : BankState) (j : Journal) (a : FrameI
     never = λ u. never-more (Frame a);
   })
 
-  pub frame-enters : Entered s b a (carryOut (frameArrives w j a) s)
+  pub frame-enters : Entered s b a (carryOut (frameArrives m a) s)
   frame-enters = answered-so (Entered s b a) (λ n h. entered-by s b a n h)
 
 -- a file call, lent the bank and the mailboxes as they were left
-pub file-keeps : (s : Course) (b : BankPart s) (bank : Bank) (mailboxes : List ℕ) (m : ℕ) (file : List ℕ) →
-    (bank ≡ s .bank .bank) × (mailboxes ≡ s .bank .mailboxes) → callNumber (filePut bank mailboxes m file) ≡ 0 →
-    Later s b (carryOut (filePut bank mailboxes m file) s)
-file-keeps s b bank mailboxes m file same =
-    subst (λ (c : Bank). P c mailboxes) (ap (λ (w : BankState). w .bank) (b .bankState) ∙ sym (same .0))
-    (subst (P (b .past .bankState .bank)) (ap (λ (w : BankState). w .mailboxes) (b .bankState) ∙ sym (same .1)) (file-part s b m file))
+pub file-keeps : (s : Course) (b : BankPart s) (rows mailboxes : List ℕ) (m : ℕ) (file : List ℕ) →
+    (bankOf (bankRows rows) ≡ s .bank .bank) × (mailboxes ≡ s .bank .mailboxes) →
+    callNumber (filePut rows mailboxes m file) ≡ 0 → Later s b (carryOut (filePut rows mailboxes m file) s)
+file-keeps s b rows mailboxes m file same z =
+    subst (Later s b) (sym (host-file rows mailboxes m file z s))
+    (subst (λ (c : Bank). P c mailboxes) (ap (λ (w : BankState). w .bank) (b .bankState) ∙ sym (same .0))
+    (subst (P (b .past .bankState .bank)) (ap (λ (w : BankState). w .mailboxes) (b .bankState) ∙ sym (same .1))
+    (file-part s b m file)) (file-answered rows mailboxes m file z))
   where
     P : Bank → List ℕ → Type 0
-    P c l = fileNumber (fileCall c m file l .answer) ≡ 0 → Later s b (afterFile (fileCall c m file l) m file s)
+    P c l = fileNumber (fileCall c m file l .answer) ≡ 0 → Later s b (fileLeft c l m file s)
 
 -- before the first call
 fresh-mailbox : (m : ℕ) → 1 ≤ m → m ≤ subscribers → mailboxOf (start .bank) m ≡ []

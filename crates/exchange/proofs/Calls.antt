@@ -1,24 +1,20 @@
 -- A call given a number leaves the course as it was; one given none is carried out. Assumes nothing.
 use Prim.Native.Nat.{ℕ}
-use mathlib.Core.Bool.{Bool, true, false, cond}
+use mathlib.Core.Bool.{Bool, cond}
 use mathlib.Core.List.{List}
 use mathlib.Core.Logic.{_⊎_, inl, inr}
 use mathlib.Core.Path.{_≡_, refl, sym, ap, subst}
 use native.Mathlib.Decide.{ℕ-discrete}
 use native.Mathlib.Omega.{arith}
-use lib.Dec.{eqb}
-use lib.ListN.{length}
 use borrow.Author.Tests.{eq-eqb, ne-eqb}
-use Rattle.journal.specs.Events.{recordCount}
-use Rattle.journal.specs.Row.{Journal}
-use Rattle.bank_state.specs.State.{Bank, BankState}
+use Rattle.bank_state.specs.State.{Bank}
 use Rattle.bank.specs.declared.call.FrameAnswer.{FrameAnswer}
 use Rattle.bank.specs.declared.call.FrameAnswer.the-variants as frameAnswer
 use Rattle.bank.specs.declared.mailbox.FileAnswer.{FileAnswer}
 use Rattle.bank.specs.declared.mailbox.FileAnswer.the-variants as fileAnswer
-use Rattle.bank.specs.Call.{FrameInput, frameNumber, frameCall}
+use Rattle.bank.specs.Call.{frameNumber}
 use Rattle.bank.specs.Mailbox.{carryOutFile, fileNumber}
-use Rattle.exchange.specs.Course.{Call, frameArrives, Course, callNumber, carryOut, exec}
+use Rattle.exchange.specs.Course.{Call, Course, callNumber, carryOut, exec}
 
 -- "a number, nothing changed"
 pub numbered-stays : (k : Call) (s : Course) → (callNumber k ≡ 0 → ⊥) → exec k s ≡ s
@@ -58,12 +54,3 @@ file-done fileAnswer.MailboxFull b mailbox file mailboxes z = absurd (omega arit
 pub frame-replied : (a : FrameAnswer) → frameNumber a ≡ 0 → (n : ℕ) × (a ≡ frameAnswer.Reply n)
 frame-replied (frameAnswer.Reply n) z = (n, refl)
 frame-replied frameAnswer.WrongLength z = absurd (omega arith)
-
--- and was lent a row of its length
-pub frame-done : (w : BankState) (j : Journal) (a : FrameInput) → callNumber (frameArrives w j a) ≡ 0 →
-    frameNumber (frameCall w a .answer) ≡ 0
-frame-done w j a = at (eqb (length (j .row)) recordCount)
-  where
-    at : (b : Bool) → cond b (frameNumber (frameCall w a .answer)) 1 ≡ 0 → frameNumber (frameCall w a .answer) ≡ 0
-    at true z = z
-    at false z = absurd (omega arith)

@@ -14,14 +14,14 @@ use Rattle.frame_reader.specs.Reader.{readRequest}
 use Rattle.octets.proofs.Tests.{never}
 use Rattle.message.specs.Verdicts.{decide}
 use Rattle.journal.specs.declared.event.Event.{Event}
-use Rattle.journal.specs.Row.{Journal}
 use Rattle.bank_state.specs.State.{Bank}
 use Rattle.bank_state.specs.Search.{openCountOf}
 use Rattle.bank_state.specs.State.{BankState, bankState}
 use Rattle.bank.specs.declared.mailbox.FileAnswer.{FileAnswer}
 use Rattle.bank.specs.declared.mailbox.FileAnswer.the-variants as fileAnswer
-use Rattle.bank.specs.Mailbox.{FileCall, fileCall, carryOutFile, fileRefusals}
+use Rattle.bank.specs.Mailbox.{FileCall, fileNumber, fileCall, carryOutFile, fileRefusals}
 use Rattle.bank.specs.Call.{FrameInput}
+use Rattle.bank_session.specs.Session.{LentSession}
 use Rattle.bank_history.specs.History.{Past, File, placed}
 use Rattle.bank_history.specs.History as bank
 use Rattle.bank_history.specs.Transactions.{UploadUnlessIdle, DownloadUnlessIdle}
@@ -60,6 +60,7 @@ use Rattle.exchange.specs.Course.{
 use Rattle.exchange.specs.Terms.{IssuedBy, NoIdleHour, Turn, InTurn}
 use Rattle.exchange.specs.Demand3.{isSubscribers, Left, Premise, Allowed, OneExchangeNumber}
 use Rattle.exchange.proofs.Calls.{carried, number-or-none, file-done}
+use Rattle.exchange.proofs.Host.{fileLeft, file-answered, host-file}
 use Rattle.exchange.proofs.Images.{taken-stays}
 use Rattle.exchange.proofs.Bank.{Entered, frame-enters}
 use Rattle.exchange.proofs.Clients.{issuesOf, runPast, issued-in, OpenedBy, Parts}
@@ -95,13 +96,13 @@ bank-same s v i t e y id o direction u k n last few a = subst (λ (w : BankState
 -- What the call is to run i
 pub data Concern (s : Course) (v : Parts s) (i : ℕ) : Call → Type 0 where
   elsewhere : {k : Call} → Same i s (exec k s) → Untouched s v i (exec k s) → Concern s v i k
-  own-frame : {w : BankState} {j : Journal} {a : FrameInput} →
-      Entered s (v .bank) a (exec (frameArrives w j a) s) → IssuedBy i (a .frame) s →
+  own-frame : {m : LentSession} {a : FrameInput} →
+      Entered s (v .bank) a (exec (frameArrives m a) s) → IssuedBy i (a .frame) s →
       ((e : Exchange) → In e (s .exchanged) → e .request ≡ a .frame → ⊥) →
-      NoIdleHour i (exec (frameArrives w j a) s .bank .bank .clock) s →
-      exec (frameArrives w j a) s .issued ≡ s .issued →
-      exec (frameArrives w j a) s .arrived ≡ s .arrived →
-      Concern s v i (frameArrives w j a)
+      NoIdleHour i (exec (frameArrives m a) s .bank .bank .clock) s →
+      exec (frameArrives m a) s .issued ≡ s .issued →
+      exec (frameArrives m a) s .arrived ≡ s .arrived →
+      Concern s v i (frameArrives m a)
   own-begin : {c : ClientRun} {params : RunParameters} {l : Lent} → c ≡ s .runs i →
       callNumber (begins i c params l) ≡ 0 → Concern s v i (begins i c params l)
   own-reply : {c : ClientRun} {reply : List ℕ} {l : Lent} → callNumber (replyArrives i c reply l) ≡ 0 → Left i c l s →
@@ -118,13 +119,16 @@ nothing-new s v i t e =
 -- ---- a frame
 
 -- a file put moves the bank as its history says, which enters nothing
-pub file-bank : (s : Course) (v : Parts s) (b : Bank) (mailboxes : List ℕ) (m : ℕ) (file : List ℕ) → Premise (filePut b mailboxes m file) s →
-    callNumber (filePut b mailboxes m file) ≡ 0 → let p = bank.after (File m file) (v .bank .past) in
-    (carryOut (filePut b mailboxes m file) s .bank ≡ p .bankState) × (p .history ≡ v .bank .past .history)
+pub file-bank : (s : Course) (v : Parts s) (rows mailboxes : List ℕ) (m : ℕ) (file : List ℕ) → Premise (filePut rows mailboxes m file) s →
+    callNumber (filePut rows mailboxes m file) ≡ 0 → let p = bank.after (File m file) (v .bank .past) in
+    (carryOut (filePut rows mailboxes m file) s .bank ≡ p .bankState) × (p .history ≡ v .bank .past .history)
 unfolding fileCall bank.after
-file-bank s v b mailboxes m file same =
-    subst (λ (c : Bank). P c mailboxes) (ap (λ (w : BankState). w .bank) (v .bank .bankState) ∙ sym (same .0))
+file-bank s v rows mailboxes m file same z =
+    subst (λ (t : Course). (t .bank ≡ next a .bankState) × (next a .history ≡ v .bank .past .history))
+    (sym (host-file rows mailboxes m file z s))
+    (subst (λ (c : Bank). P c mailboxes) (ap (λ (w : BankState). w .bank) (v .bank .bankState) ∙ sym (same .0))
     (subst (P (v .bank .past .bankState .bank)) (ap (λ (w : BankState). w .mailboxes) (v .bank .bankState) ∙ sym (same .1)) done)
+    (file-answered rows mailboxes m file z))
   where
     before : BankState
     before = v .bank .past .bankState
@@ -139,13 +143,13 @@ file-bank s v b mailboxes m file same =
     a = decide (fileRefusals (before .bank) m file (before .mailboxes)) fileAnswer.Done
 
     P : Bank → List ℕ → Type 0
-    P c l = callNumber (filePut c l m file) ≡ 0 →
-        (carryOut (filePut c l m file) s .bank ≡ next a .bankState) × (next a .history ≡ v .bank .past .history)
+    P c l = fileNumber (fileCall c m file l .answer) ≡ 0 →
+        (fileLeft c l m file s .bank ≡ next a .bankState) × (next a .history ≡ v .bank .past .history)
 
     done : P (before .bank) (before .mailboxes)
-    done z =
+    done y =
         subst (λ (x : FileAnswer). (bankState (k x .bank) (s .bank .orders) (k x .mailboxes) ≡ next x .bankState)
-        × (next x .history ≡ v .bank .past .history)) (sym (file-done a (before .bank) m file (before .mailboxes) z))
+        × (next x .history ≡ v .bank .past .history)) (sym (file-done a (before .bank) m file (before .mailboxes) y))
         (ap (λ (w : BankState). bankState (k fileAnswer.Done .bank) (w .orders) (k fileAnswer.Done .mailboxes)) (sym (v .bank .bankState)), refl)
 
 module _ (s : Course) (v : Parts s) (copies : Copied s) (numbers : OneExchangeNumber s) (i : ℕ) where
@@ -175,19 +179,19 @@ module _ (s : Course) (v : Parts s) (copies : Copied s) (numbers : OneExchangeNu
   foreign-untouched a given t en foreign y id o Download u k n last few stood =
       download-standing s v copies numbers a given t en o foreign (few refl) stood
 
-  frame-concern : (w : BankState) (j : Journal) (a : FrameInput) → Premise (frameArrives w j a) s →
-      Turn i (frameArrives w j a) s → callNumber (frameArrives w j a) ≡ 0 →
-      Concern s v i (frameArrives w j a)
-  frame-concern w j a q turn z = at (own-or-not (a .frame) (q .2))
+  frame-concern : (m : LentSession) (a : FrameInput) → Premise (frameArrives m a) s →
+      Turn i (frameArrives m a) s → callNumber (frameArrives m a) ≡ 0 →
+      Concern s v i (frameArrives m a)
+  frame-concern m a q turn z = at (own-or-not (a .frame) (q .2))
     where
       k : Call
-      k = frameArrives w j a
+      k = frameArrives m a
 
       now : carryOut k s ≡ exec k s
       now = sym (carried k s z)
 
       en : Entered s (v .bank) a (exec k s)
-      en = subst (Entered s (v .bank) a) now (frame-enters s (v .bank) w j a (q .0) (q .1) z)
+      en = subst (Entered s (v .bank) a) now (frame-enters s (v .bank) m a (q .0) (q .1) z)
 
       issued : exec k s .issued ≡ s .issued
       issued = ap (λ (t : Course). t .issued) (carried k s z)
@@ -200,7 +204,7 @@ module _ (s : Course) (v : Parts s) (copies : Copied s) (numbers : OneExchangeNu
           let x = turn own in
           own-frame en own (x .0) (subst (λ (t : Course). NoIdleHour i (t .bank .bank .clock) s) now (x .1)) issued arrivals
       at (inr foreign) =
-          elsewhere (foreign-same (en .exchanged) (en .request) issued arrivals (frame-runs s w j a i) foreign)
+          elsewhere (foreign-same (en .exchanged) (en .request) issued arrivals (frame-runs s m a i) foreign)
           (foreign-untouched a (q .2) (exec k s) en foreign)
 
   -- ---- a file
@@ -310,13 +314,13 @@ module _ (s : Course) (v : Parts s) (copies : Copied s) (numbers : OneExchangeNu
       at (ends e f r) = own-journal (ap (λ (x : ClientRun). x .stage) (sym (q .0)) ∙ e)
 
   carried-concern : (k : Call) → callNumber k ≡ 0 → Premise k s → Turn i k s → Concern s v i k
-  carried-concern (frameArrives w j a) z q turn = frame-concern w j a q turn z
-  carried-concern (filePut b mailboxes m file) z q turn =
-      let k = filePut b mailboxes m file in
+  carried-concern (frameArrives m a) z q turn = frame-concern m a q turn z
+  carried-concern (filePut rows mailboxes m file) z q turn =
+      let k = filePut rows mailboxes m file in
       let now = sym (carried k s z) in
       elsewhere
       (subst (Same i s) now (same-view refl refl refl refl))
-      (subst (Untouched s v i) now (file-untouched m file (carryOut k s) (file-bank s v b mailboxes m file q z)))
+      (subst (Untouched s v i) now (file-untouched m file (carryOut k s) (file-bank s v rows mailboxes m file q z)))
   carried-concern (begins j c params l) z q turn =
       run-concern (λ n. begins n c params l) j z q turn (λ d. (other-same s i j d (beginCall c params l) l, refl))
       (λ y own _. own-begin own y)

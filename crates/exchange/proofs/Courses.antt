@@ -4,9 +4,7 @@ use mathlib.Core.Bool.{true}
 use mathlib.Core.List.{List, [], _∷_, List·Memᴰ as In, List·Memᴰ·head as here, List·Memᴰ·tail as there, List·Memᴰ·not-nil as in-none}
 use mathlib.Core.Path.{_≡_, refl, sym, subst}
 use native.Mathlib.Decide.{ℕ-discrete}
-use Rattle.journal.specs.Row.{Journal}
-use Rattle.bank_state.specs.State.{Bank}
-use Rattle.bank_state.specs.State.{BankState}
+use Rattle.bank_session.specs.Session.{LentSession}
 use Rattle.client_run.specs.declared.run.ClientRun.{ClientRun}
 use Rattle.client_run.specs.declared.run.RunParameters.{RunParameters}
 use Rattle.client_run.specs.declared.run.Stage.the-variants as stage
@@ -48,14 +46,14 @@ use Rattle.exchange.proofs.Outstanding.{given-to, other-stays}
 -- ---- both ends
 
 -- a call of the bank leaves the runs
-pub frame-runs : (s : Course) (w : BankState) (j : Journal) (a : FrameInput) (i : ℕ) →
-    runPast (exec (frameArrives w j a) s) i ≡ runPast s i
-frame-runs s w j a i =
-    by-number (frameArrives w j a) s (λ (t : Course). runPast t i ≡ runPast s i) refl (λ _. refl)
+pub frame-runs : (s : Course) (m : LentSession) (a : FrameInput) (i : ℕ) →
+    runPast (exec (frameArrives m a) s) i ≡ runPast s i
+frame-runs s m a i =
+    by-number (frameArrives m a) s (λ (t : Course). runPast t i ≡ runPast s i) refl (λ _. refl)
 
-pub file-runs : (s : Course) (b : Bank) (mailboxes : List ℕ) (m : ℕ) (file : List ℕ) (i : ℕ) →
-    runPast (exec (filePut b mailboxes m file) s) i ≡ runPast s i
-file-runs s b mailboxes m file i = by-number (filePut b mailboxes m file) s (λ (t : Course). runPast t i ≡ runPast s i) refl (λ _. refl)
+pub file-runs : (s : Course) (rows mailboxes : List ℕ) (m : ℕ) (file : List ℕ) (i : ℕ) →
+    runPast (exec (filePut rows mailboxes m file) s) i ≡ runPast s i
+file-runs s rows mailboxes m file i = by-number (filePut rows mailboxes m file) s (λ (t : Course). runPast t i ≡ runPast s i) refl (λ _. refl)
 
 -- a frame or file call given no number leaves no image
 bank-called : {s t : Course} (v : Parts s) → Later s (v .bank) t → ((i : ℕ) → runPast t i ≡ runPast s i) → t .images ≡ [] → Parts t
@@ -106,9 +104,9 @@ no-reply-keeps s v i c l q =
     (run-fair s v i (NoReply l) (λ _. record { payload = q .1; file = q .2 })))
 
 carried-keeps : (k : Call) (s : Course) → Parts s → OneExchangeNumber s → Premise k s → callNumber k ≡ 0 → Parts (carryOut k s)
-carried-keeps (frameArrives w j a) s v n q z =
-    bank-called v (frame-keeps s (v .bank) w j a (q .0) (q .1) z) (λ i. refl) refl
-carried-keeps (filePut b mailboxes m file) s v n q z = bank-called v (file-keeps s (v .bank) b mailboxes m file q z) (λ i. refl) refl
+carried-keeps (frameArrives m a) s v n q z =
+    bank-called v (frame-keeps s (v .bank) m a (q .0) (q .1) z) (λ i. refl) refl
+carried-keeps (filePut rows mailboxes m file) s v n q z = bank-called v (file-keeps s (v .bank) rows mailboxes m file q z) (λ i. refl) refl
 carried-keeps (begins i c params l) s v n q z = begin-keeps s v i c params l q z
 carried-keeps (replyArrives i c reply l) s v n q z = reply-keeps s v n i c reply l q z
 carried-keeps (noReply i c l) s v n q z = no-reply-keeps s v i c l q z
@@ -149,8 +147,8 @@ pub data Exchanges (k : Call) (s : Course) : List Exchange → Type 0 where
   enters : {e : Exchange} → (isSubscribers (e .request) ≡ true → (i : ℕ) × IssuedBy i (e .request) s) → Exchanges k s (e ∷ s .exchanged)
 
 carried-exchanges : (k : Call) (s : Course) → Premise k s → Exchanges k s (carryOut k s .exchanged)
-carried-exchanges (frameArrives w j a) s q = enters (q .2)
-carried-exchanges (filePut b mailboxes m file) s q = nothing
+carried-exchanges (frameArrives m a) s q = enters (q .2)
+carried-exchanges (filePut rows mailboxes m file) s q = nothing
 carried-exchanges (begins i c params l) s q = nothing
 carried-exchanges (replyArrives i c reply l) s q = nothing
 carried-exchanges (noReply i c l) s q = nothing

@@ -4,6 +4,7 @@ use Prim.Native.Nat.{ℕ, _≤_}
 use mathlib.Core.Bool.{Bool, true, false, _&&_}
 use mathlib.Core.List.{List, [], _∷_, List·Memᴰ as In, List·Memᴰ·head as here, List·Memᴰ·tail as there}
 use mathlib.Core.Path.{_≡_, refl, sym, _∙_, subst}
+use native.Mathlib.Omega.{arith}
 use lib.Dec.{leb}
 use lib.ListN.{take}
 use borrow.Author.Tests.{leb-true}
@@ -13,8 +14,6 @@ use Rattle.frame_reader.specs.Reader.{readRequest}
 use Rattle.octets.proofs.Tests.{never, and-true}
 use Rattle.message.specs.Limits.{subscribers}
 use Rattle.journal.specs.declared.event.Event.{Event}
-use Rattle.journal.specs.Row.{Journal}
-use Rattle.bank_state.specs.State.{BankState}
 use Rattle.client_run.specs.declared.run.ClientRun.{ClientRun}
 use Rattle.client_run.specs.declared.run.RunParameters.{RunParameters}
 use Rattle.client_run.specs.declared.run.Stage.the-variants as stage
@@ -41,7 +40,7 @@ use Rattle.exchange.specs.Course.{
 }
 use Rattle.exchange.specs.Terms.{IssuedBy, InTurn, Order, nameOf, InBook}
 use Rattle.exchange.specs.Demand3.{isSubscribers, Allowed, Outcome}
-use Rattle.exchange.proofs.Calls.{carried, by-number}
+use Rattle.exchange.proofs.Calls.{numbered-stays, carried, by-number}
 
 -- ---- "a call given a number may be lent others"
 
@@ -51,35 +50,48 @@ numbered-allowed k s n z = absurd (n z)
 pub numbered-in-turn : (i : ℕ) (k : Call) (s : Course) → (callNumber k ≡ 0 → ⊥) → InTurn i k s
 numbered-in-turn i k s n z = absurd (n z)
 
--- ---- a frame that is no request of a subscriber, to the bank as it stands
+-- of one given number 1 it leaves the course too
+module _ (k : Call) (one : callNumber k ≡ 1) where
+  given : callNumber k ≡ 0 → ⊥
+  given z = let n = sym one ∙ z in omega arith
 
-pub stray-allowed : (s : Course) (a : FrameInput) → isSubscribers (a .frame) ≡ false →
-    Allowed (frameArrives (s .bank) (s .journal) a) s
-stray-allowed s a n _ = (refl, refl, λ e. never (sym n ∙ e))
+  pub one-allowed : (s : Course) → Allowed k s
+  one-allowed s = numbered-allowed k s given
 
--- an unreadable frame
-pub unreadable-allowed : (s : Course) (a : FrameInput) → isRequestForm (form (readRequest (a .frame))) ≡ false →
-    Allowed (frameArrives (s .bank) (s .journal) a) s
-unfolding isSubscribers
-unreadable-allowed s a n = stray-allowed s a (rw n)
+  pub one-in-turn : (i : ℕ) (s : Course) → InTurn i k s
+  one-in-turn i s = numbered-in-turn i k s given
 
--- a frame under no subscriber's number
-pub unknown-allowed : (s : Course) (a : FrameInput) →
-    (1 ≤ subscriber (readRequest (a .frame)) → subscriber (readRequest (a .frame)) ≤ subscribers → ⊥) →
-    Allowed (frameArrives (s .bank) (s .journal) a) s
-unfolding isSubscribers
-unknown-allowed s a n = stray-allowed s a (at (isSubscribers (a .frame)) refl)
-  where
-    u : ℕ
-    u = subscriber (readRequest (a .frame))
+  pub one-stays : (s : Course) → exec k s ≡ s
+  one-stays s = numbered-stays k s given
 
-    at : (b : Bool) → isSubscribers (a .frame) ≡ b → b ≡ false
-    at false e = refl
-    at true e =
-        let readable = isRequestForm (form (readRequest (a .frame))) in
-        let most = and-true (readable && leb 1 u) (leb u subscribers) e in
-        let least = and-true readable (leb 1 u) (most .0) in
-        absurd (n (leb-true 1 u (least .1)) (leb-true u subscribers (most .1)))
+-- ---- a frame that is no request of a subscriber, to the session as it stands, whatever else the call brings
+
+module _ (s : Course) (m : LentSession) (bank : stateOf (bankIn m) ≡ s .bank) (journal : journalIn m ≡ s .journal)
+    (a : FrameInput) where
+  pub stray-allowed : isSubscribers (a .frame) ≡ false → Allowed (frameArrives m a) s
+  stray-allowed n _ = (bank, journal, λ e. never (sym n ∙ e))
+
+  -- an unreadable frame
+  pub unreadable-allowed : isRequestForm (form (readRequest (a .frame))) ≡ false → Allowed (frameArrives m a) s
+  unfolding isSubscribers
+  unreadable-allowed n = stray-allowed (rw n)
+
+  -- a frame under no subscriber's number
+  pub unknown-allowed : (1 ≤ subscriber (readRequest (a .frame)) → subscriber (readRequest (a .frame)) ≤ subscribers → ⊥) →
+      Allowed (frameArrives m a) s
+  unfolding isSubscribers
+  unknown-allowed n = stray-allowed (at (isSubscribers (a .frame)) refl)
+    where
+      u : ℕ
+      u = subscriber (readRequest (a .frame))
+
+      at : (b : Bool) → isSubscribers (a .frame) ≡ b → b ≡ false
+      at false e = refl
+      at true e =
+          let readable = isRequestForm (form (readRequest (a .frame))) in
+          let most = and-true (readable && leb 1 u) (leb u subscribers) e in
+          let least = and-true readable (leb 1 u) (most .0) in
+          absurd (n (leb-true 1 u (least .1)) (leb-true u subscribers (most .1)))
 
 -- ---- the journal as it stands, to any run: not begun, under way or ended, unclear or not
 
@@ -159,9 +171,9 @@ pub taken-in-turn : (i : ℕ) (m : LentSession) (image : List ℕ) (s : Course) 
 taken-in-turn i m image s _ = tt
 
 -- a frame that the run did not issue
-pub foreign-in-turn : (i : ℕ) (s : Course) (w : BankState) (j : Journal) (a : FrameInput) → (IssuedBy i (a .frame) s → ⊥) →
-    InTurn i (frameArrives w j a) s
-foreign-in-turn i s w j a foreign _ = λ own. absurd (foreign own)
+pub foreign-in-turn : (i : ℕ) (s : Course) (m : LentSession) (a : FrameInput) → (IssuedBy i (a .frame) s → ⊥) →
+    InTurn i (frameArrives m a) s
+foreign-in-turn i s m a foreign _ = λ own. absurd (foreign own)
 
 -- ---- "'Lodged' names subscriber, type and number together"
 

@@ -48,8 +48,8 @@ run-issues s i k (answer.Closed w) = same
 run-issues s i k (answer.Refused r) = same
 
 carried-issues : (k : Call) (s : Course) → Issues (s .issued) (carryOut k s .issued)
-carried-issues (frameArrives w j a) s = same
-carried-issues (filePut b mailboxes m file) s = same
+carried-issues (frameArrives m a) s = same
+carried-issues (filePut rows mailboxes m file) s = same
 carried-issues (begins i c params l) s = let k = beginCall c params l in run-issues s i k (k .answer)
 carried-issues (replyArrives i c reply l) s = let k = replyCall c reply l in run-issues s i k (k .answer)
 carried-issues (noReply i c l) s = let k = noReplyCall c l in run-issues s i k (k .answer)

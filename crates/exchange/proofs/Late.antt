@@ -1,19 +1,12 @@
 -- A call at a time over the last one, to the bank or to a run: it is given number 1 and leaves the course, and the
 -- premises of demand 3 ask nothing of it. Assumes nothing.
 use Prim.Native.Nat.{ℕ, _<_}
-use mathlib.Core.Bool.{Bool, true, false, cond}
 use mathlib.Core.List.{List}
-use mathlib.Core.Path.{_≡_, refl, sym, _∙_}
-use native.Mathlib.Omega.{arith}
-use lib.Dec.{eqb}
-use lib.ListN.{length}
+use mathlib.Core.Path.{_≡_, ap}
 use Rattle.frame_table.specs.Table.{lastTime}
-use Rattle.message.proofs.Verdicts.{by-test}
-use Rattle.journal.specs.Events.{recordCount}
-use Rattle.journal.specs.Row.{Journal}
-use Rattle.bank_state.specs.State.{BankState}
-use Rattle.bank.specs.Call.{FrameInput, FrameCall, frameNumber, lentRight, frameCall}
-use Rattle.bank.proofs.Right.{right-told}
+use Rattle.bank.specs.Call.{FrameInput}
+use Rattle.bank_session.specs.Session.{LentSession, SessionFrameCall}
+use Rattle.bank_session.proofs.Laws.{late-unchanged}
 use Rattle.client_run.specs.declared.run.ClientRun.{ClientRun}
 use Rattle.client_run.specs.declared.run.Refusal.the-variants.{TimeTooHigh}
 use Rattle.client_run.specs.declared.run.Ruling.{Ruling}
@@ -42,29 +35,15 @@ use Rattle.exchange.specs.Course.{
 }
 use Rattle.exchange.specs.Terms.{InTurn}
 use Rattle.exchange.specs.Demand3.{Allowed}
-use Rattle.exchange.proofs.Calls.{numbered-stays}
-use Rattle.exchange.proofs.Guards.{numbered-allowed, numbered-in-turn}
+use Rattle.exchange.proofs.Guards.{one-allowed, one-in-turn, one-stays}
 
 -- whatever else it brings and is lent
 pub data LateCall : Call → Type 0 where
-  frame : {w : BankState} {j : Journal} {a : FrameInput} → lastTime < a .time → LateCall (frameArrives w j a)
+  frame : {m : LentSession} {a : FrameInput} → lastTime < a .time → LateCall (frameArrives m a)
   begin : {i : ℕ} {c : ClientRun} {params : RunParameters} {l : Lent} → lastTime < l .time →
       LateCall (begins i c params l)
   reply : {i : ℕ} {c : ClientRun} {bytes : List ℕ} {l : Lent} → lastTime < l .time → LateCall (replyArrives i c bytes l)
   no-reply : {i : ℕ} {c : ClientRun} {l : Lent} → lastTime < l .time → LateCall (noReply i c l)
-
-frame-late : (w : BankState) (j : Journal) (a : FrameInput) → lastTime < a .time → callNumber (frameArrives w j a) ≡ 1
-unfolding frameCall
-frame-late w j a late = at (eqb (length (j .row)) recordCount)
-  where
-    number : frameNumber (frameCall w a .answer) ≡ 1
-    number =
-        by-test (λ (c : FrameCall). frameNumber (c .answer) ≡ 1) (lentRight w a)
-        (λ right. absurd (let t = right-told w a right .2 .inTime in omega arith)) (λ _. refl)
-
-    at : (b : Bool) → cond b (frameNumber (frameCall w a .answer)) 1 ≡ 1
-    at true = number
-    at false = refl
 
 ruled-late : (c : ClientRun) (l : Lent) (u : Ruling) (done : ClientCall) → u ≡ Refuse TimeTooHigh →
     answerNumber (ifAdmitted u c l done .answer) ≡ 1
@@ -73,7 +52,7 @@ ruled-late c l u done e = rw e
 -- "as bank or client time number 1"
 pub late-number : {k : Call} → LateCall k → callNumber k ≡ 1
 unfolding beginCall replyCall noReplyCall
-late-number (frame {w} {j} {a} late) = frame-late w j a late
+late-number (frame {m} {a} late) = ap (λ (c : SessionFrameCall). c .number) (late-unchanged m a late)
 late-number (begin {c = c} {params = params} {l = l} late) =
     ruled-late c l _ (admittedBegin c params l) (begin-late c params (l .time) (lengthsOf l) late)
 late-number (reply {c = c} {bytes = bytes} {l = l} late) =
@@ -82,14 +61,11 @@ late-number (no-reply {c = c} {l = l} late) =
     ruled-late c l _ (admittedNoReply c l) (run-late c (l .time) (lengthsOf l) late)
 
 module _ {k : Call} (late : LateCall k) where
-  given : callNumber k ≡ 0 → ⊥
-  given z = let n = sym (late-number late) ∙ z in omega arith
-
   pub late-allowed : (s : Course) → Allowed k s
-  late-allowed s = numbered-allowed k s given
+  late-allowed s = one-allowed k (late-number late) s
 
   pub late-in-turn : (i : ℕ) (s : Course) → InTurn i k s
-  late-in-turn i s = numbered-in-turn i k s given
+  late-in-turn i s = one-in-turn k (late-number late) i s
 
   pub late-stays : (s : Course) → exec k s ≡ s
-  late-stays s = numbered-stays k s given
+  late-stays s = one-stays k (late-number late) s

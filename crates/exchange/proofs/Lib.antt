@@ -4,8 +4,10 @@ pub mod Events
 pub mod Told
 pub mod Journal
 pub mod Calls
+pub mod Host
 pub mod Guards
 pub mod Late
+pub mod Door
 pub mod Images
 pub mod Bank
 pub mod Clients

@@ -20,7 +20,6 @@ use borrow.Author.Tests.{eq-eqb}
 use Rattle.frame_table.specs.declared.fields.Bits128.{Bits128}
 use Rattle.frame_table.specs.declared.table.Form.{Form}
 use Rattle.frame_table.specs.Forms as forms
-use Rattle.octets.specs.Bytes.{number}
 use Rattle.frame_table.specs.Names.{subscriber, transaction, returnCode, form}
 use Rattle.frame_reader.specs.Reader.{readRequest, readReply}
 use Rattle.frame_row.specs.Row.{dataOf}
@@ -223,8 +222,8 @@ run-box s i k payload (answer.Closed w) x m = inl m
 run-box s i k payload (answer.Refused r) x m = inl m
 
 carried-box : (k : Call) (s : Course) (x : Issue) → In x (carryOut k s .issued) → In x (s .issued) ⊎ (x .box ≡ boxNow (carryOut k s) x)
-carried-box (frameArrives w j a) s x m = inl m
-carried-box (filePut b mailboxes n file) s x m = inl m
+carried-box (frameArrives n a) s x m = inl m
+carried-box (filePut rows mailboxes n file) s x m = inl m
 carried-box (begins i c params l) s x m = let k = beginCall c params l in run-box s i k (l .payload) (k .answer) x m
 carried-box (replyArrives i c reply l) s x m = let k = replyCall c reply l in run-box s i k (l .payload) (k .answer) x m
 carried-box (noReply i c l) s x m = let k = noReplyCall c l in run-box s i k (l .payload) (k .answer) x m
@@ -245,8 +244,8 @@ data BankMove (s : Course) (b : BankPart s) (t : Course) : Type 0 where
   answers : (a : FrameInput) → Entered s b a t → t .issued ≡ s .issued → BankMove s b t
 
 carried-move : (k : Call) (s : Course) (v : Parts s) → Premise k s → callNumber k ≡ 0 → BankMove s (v .bank) (carryOut k s)
-carried-move (frameArrives w j a) s v q z = answers a (frame-enters s (v .bank) w j a (q .0) (q .1) z) refl
-carried-move (filePut b mailboxes m file) s v q z = puts m file (file-bank s v b mailboxes m file q z .0) refl
+carried-move (frameArrives m a) s v q z = answers a (frame-enters s (v .bank) m a (q .0) (q .1) z) refl
+carried-move (filePut rows mailboxes m file) s v q z = puts m file (file-bank s v rows mailboxes m file q z .0) refl
 carried-move (begins i c params l) s v q z = rests refl refl
 carried-move (replyArrives i c reply l) s v q z = rests refl refl
 carried-move (noReply i c l) s v q z = rests refl refl

@@ -98,8 +98,8 @@ other-or-own k s i j stays q z own = at (ℕ-discrete i j)
     at (yes e) = subst (λ (n : ℕ). Premise (k n) s → callNumber (k n) ≡ 0 → RunStep s i (k n) (runPast (exec (k n) s) i)) e own q z
 
 carried-step : (k : Call) (s : Course) → Premise k s → (i : ℕ) → callNumber k ≡ 0 → RunStep s i k (runPast (exec k s) i)
-carried-step (frameArrives w j a) s q i z = rests (frame-runs s w j a i)
-carried-step (filePut b mailboxes m file) s q i z = rests (file-runs s b mailboxes m file i)
+carried-step (frameArrives m a) s q i z = rests (frame-runs s m a i)
+carried-step (filePut rows mailboxes m file) s q i z = rests (file-runs s rows mailboxes m file i)
 carried-step (begins j c params l) s q i z =
     other-or-own (λ n. begins n c params l) s i j (other-past s j (beginCall c params l) l i) q z
     (λ own y. begun own (begin-past s i c own params l y))

@@ -60,9 +60,9 @@ module _ (i : ℕ) where
       at : (k : Call) → Allowed k s → OneExchangeNumber (exec k s) → Concern s v i k → State (exec k s) i (runPast (exec k s) i)
       at k q later (elsewhere same untouched) =
           subst (State (exec k s) i) (sym (same .past)) (state-same same v untouched (runPast s i) alone z)
-      at k q later (own-frame {w = w} {j = j} {a = a} en own new hour issued arrivals) =
-          subst (State (exec (frameArrives w j a) s) i) (sym (frame-runs s w j a i))
-          (request-moves s v copies numbers i a (exec (frameArrives w j a) s) en own new hour issued
+      at k q later (own-frame {m = m} {a = a} en own new hour issued arrivals) =
+          subst (State (exec (frameArrives m a) s) i) (sym (frame-runs s m a i))
+          (request-moves s v copies numbers i a (exec (frameArrives m a) s) en own new hour issued
           arrivals z)
       at k q later (own-begin {c = c} {params = params} {l = l} own done) =
           begin-moves s v copies numbers i c params l q later own done z

@@ -4,26 +4,24 @@ use Prim.Native.Nat.{ℕ, _-_}
 use mathlib.Core.Bool.{cond}
 use mathlib.Core.List.{List, [], _∷_}
 use lib.Dec.{eqb}
-use lib.ListN.{length, take, replicate}
+use lib.ListN.{take, replicate}
 use Rattle.frame_table.specs.Names.{subscriber, returnCode}
 use Rattle.frame_reader.specs.Reader.{readRequest, readReply}
 use Rattle.message.specs.declared.codes.ReturnCode.the-variants as code
 use Rattle.message.specs.Codes.{codeField}
 use Rattle.journal.specs.declared.event.Event.{Event}
-use Rattle.journal.specs.Events.{recordCount}
 use Rattle.journal.specs.Row.{Journal, emptyRow}
 use Rattle.bank_state.specs.State.{Bank}
 use Rattle.bank_state.specs.Clock.{advanced}
 use Rattle.bank_state.specs.Limits.{storeBytes}
 use Rattle.bank_state.specs.State.{BankState, bankState, fresh, fileLength}
 use Rattle.bank_state.specs.Store.{fileOf}
+use Rattle.bank_rows.specs.State.{bankOf}
 use Rattle.bank_steps.specs.Lent.{stateOf}
 use Rattle.bank.specs.declared.call.FrameAnswer.{FrameAnswer}
 use Rattle.bank.specs.declared.call.FrameAnswer.the-variants as frameAnswer
-use Rattle.bank.specs.Call.{FrameInput, frameNumber, frameCall}
-use Rattle.bank.specs.Mailbox.{fileNumber, FileCall, fileCall}
-use Rattle.bank.specs.Journal.{journalAfter}
-use Rattle.bank_session.specs.Session.{LentSession, bankIn, journalIn}
+use Rattle.bank.specs.Call.{FrameInput}
+use Rattle.bank_session.specs.Session.{LentSession, bankRows, bankIn, journalIn, sessionFrameCall, sessionFileCall}
 use Rattle.image_calls.specs.Calls.{PutAway, putAway, takeUp, imageLength}
 use Rattle.client_run.specs.declared.run.Answer.{Answer}
 use Rattle.client_run.specs.declared.run.Answer.the-variants as answer
@@ -35,11 +33,10 @@ use Rattle.client_run.specs.Run.{Lent, ClientCall, notBegun, answerNumber}
 
 -- A call with everything that it brings and is lent; client runs are told apart by a number
 pub data Call : Type 0 where
-  -- a frame to the bank: the bank and its stores, the journal; the bank time, the 8 ID bytes, the frame and the reply
-  -- buffer
-  frameArrives : BankState → Journal → FrameInput → Call
-  -- a file into a mailbox: the bank, the mailboxes' store, the mailbox, the file
-  filePut : Bank → List ℕ → ℕ → List ℕ → Call
+  -- a frame to the bank: the session; the bank time, the 8 ID bytes, the frame, the reply buffer and the others' count
+  frameArrives : LentSession → FrameInput → Call
+  -- a file into a mailbox: the session's numbers, the mailboxes' store, the mailbox, the file
+  filePut : List ℕ → List ℕ → ℕ → List ℕ → Call
   -- begin: direction, subscriber, first exchange number
   begins : ℕ → ClientRun → RunParameters → Lent → Call
   -- reply arrived: its bytes
@@ -254,10 +251,10 @@ emptied request reply mailboxes =
 
 -- ---- ONE CALL
 
--- document 01's number for a call, 0 where it is given none; a frame call lent a row of another length is number 1
+-- document 01's number for a call, 0 where it is given none: the one that the host or the run's owner is told
 abbrev pub callNumber : Call → ℕ
-callNumber (frameArrives w j a) = cond (eqb (length (j .row)) recordCount) (frameNumber (frameCall w a .answer)) 1
-callNumber (filePut b mailboxes m file) = fileNumber (fileCall b m file mailboxes .answer)
+callNumber (frameArrives m a) = sessionFrameCall m a .number
+callNumber (filePut rows mailboxes m file) = sessionFileCall rows m file mailboxes .number
 callNumber (begins i c params l) = answerNumber (beginCall c params l .answer)
 callNumber (replyArrives i c reply l) = answerNumber (replyCall c reply l .answer)
 callNumber (noReply i c l) = answerNumber (noReplyCall c l .answer)
@@ -288,10 +285,10 @@ afterFrame reply now before request s =
     }
     ∷ s .exchanged) s))
 
--- a file put into mailbox m
-abbrev pub afterFile : FileCall → ℕ → List ℕ → Course → Course
-afterFile k m file s =
-    moved (bankState (k .bank) (s .bank .orders) (k .mailboxes)) (withMailboxes (changed (s .mailboxes) m file) s)
+-- a file put into mailbox m: the bank and the mailboxes' store after it
+abbrev pub afterFile : Bank → List ℕ → ℕ → List ℕ → Course → Course
+afterFile b mailboxes m file s =
+    moved (bankState b (s .bank .orders) mailboxes) (withMailboxes (changed (s .mailboxes) m file) s)
 
 -- the requests issued, with the one of n bytes that a call of run i issues
 abbrev pub issuedBy : Answer → ℕ → ClientCall → Course → List Issue
@@ -321,11 +318,13 @@ afterTaken m s = withBank (stateOf (bankIn m)) (withJournal (journalIn m) s)
 
 -- what a call given no number leaves
 abbrev pub carryOut : Call → Course → Course
-carryOut (frameArrives w j a) s =
-    let k = frameCall w a in
-    withJournal (journalAfter w a j)
-    (afterFrame (replyIn (k .answer) (k .buffer)) (k .bankState) (advanced (a .time) w) (a .frame) s)
-carryOut (filePut b mailboxes m file) s = afterFile (fileCall b m file mailboxes) m file s
+carryOut (frameArrives m a) s =
+    let k = sessionFrameCall m a in
+    withJournal (journalIn (k .session))
+    (afterFrame (replyIn (k .answer) (k .buffer)) (stateOf (bankIn (k .session)))
+    (advanced (a .time) (stateOf (bankIn m))) (a .frame) s)
+carryOut (filePut rows mailboxes m file) s =
+    let k = sessionFileCall rows m file mailboxes in afterFile (bankOf (bankRows (k .rows))) (k .mailboxes) m file s
 carryOut (begins i c params l) s = afterRun i (beginCall c params l) (l .payload) s
 carryOut (replyArrives i c reply l) s =
     withArrived (record { run = i; reply = reply } ∷ s .arrived) (afterRun i (replyCall c reply l) (l .payload) s)

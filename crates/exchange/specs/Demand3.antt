@@ -12,8 +12,9 @@ use Rattle.frame_table.specs.Table.{isRequestForm}
 use Rattle.message.specs.declared.codes.ReturnCode.the-variants as code
 use Rattle.message.specs.Codes.{codeField}
 use Rattle.message.specs.Limits.{subscribers}
+use Rattle.bank_rows.specs.State.{bankOf}
 use Rattle.bank_steps.specs.Lent.{stateOf}
-use Rattle.bank_session.specs.Session.{bankIn, journalIn}
+use Rattle.bank_session.specs.Session.{bankRows, bankIn, journalIn}
 use Rattle.client_run.specs.declared.run.ClientRun.{ClientRun}
 use Rattle.client_run.specs.declared.run.Stage.the-variants as stage
 use Rattle.client_run.specs.declared.run.Word.the-variants.{Lodged, NotLodged, Fetched}
@@ -70,11 +71,12 @@ Left i c l s = (c ≡ s .runs i) × (l .payload ≡ s .payloads i) × (l .file �
 -- its own payload and file buffer. A run is handed the row "as the bank last left it": as its last call given no number
 -- did. "Demand 3 covers a resumed session when nothing ran between the writing and the taking up": the image is one
 -- that the list wrote, no frame or file call given no number stands between, and the session lent is free; "no image is
--- taken up twice" is not asked, as the session taken up is the one that stands
+-- taken up twice" is not asked, as the session taken up is the one that stands. A file call may be lent any number of
+-- events, which it leaves
 abbrev pub Premise : Call → Course → Type 0
-Premise (frameArrives w j a) s = (w ≡ s .bank) × (j ≡ s .journal)
+Premise (frameArrives m a) s = (stateOf (bankIn m) ≡ s .bank) × (journalIn m ≡ s .journal)
     × (isSubscribers (a .frame) ≡ true → (i : ℕ) × IssuedBy i (a .frame) s)
-Premise (filePut b mailboxes m file) s = (b ≡ s .bank .bank) × (mailboxes ≡ s .bank .mailboxes)
+Premise (filePut rows mailboxes m file) s = (bankOf (bankRows rows) ≡ s .bank .bank) × (mailboxes ≡ s .bank .mailboxes)
 Premise (begins i c params l) s = c ≡ s .runs i
 Premise (replyArrives i c reply l) s = Left i c l s
     × ((e : Exchange) × In e (s .exchanged) × (e .reply ≡ reply) × ((j : ℕ) × IssuedBy j (e .request) s))

@@ -20,7 +20,8 @@ use Rattle.bank_state.specs.Search.{openCountOf}
 use Rattle.bank_state.specs.State.{placeAt}
 use Rattle.bank_state.specs.Store.{partAt}
 use Rattle.message.specs.OrderNumbers.{orderNumberOf}
-use Rattle.bank.specs.Call.{frameCall}
+use Rattle.bank_steps.specs.Lent.{stateOf}
+use Rattle.bank_session.specs.Session.{bankIn, sessionFrameCall}
 use Rattle.client_run.specs.declared.run.Stage.the-variants as stage
 use Rattle.exchange.specs.Course.{
   Call,
@@ -113,10 +114,10 @@ NoIdleHour i clock s =
 
 -- what "in turn" asks of a call given no number
 abbrev pub Turn : ℕ → Call → Course → Type 0
-Turn i (frameArrives w j a) s = IssuedBy i (a .frame) s →
+Turn i (frameArrives m a) s = IssuedBy i (a .frame) s →
     ((e : Exchange) → In e (s .exchanged) → e .request ≡ a .frame → ⊥)
-    × NoIdleHour i (frameCall w a .bankState .bank .clock) s
-Turn i (filePut b mailboxes m file) s = Unit {0}
+    × NoIdleHour i (stateOf (bankIn (sessionFrameCall m a .session)) .bank .clock) s
+Turn i (filePut rows mailboxes m file) s = Unit {0}
 Turn i (begins j c params l) s = Unit {0}
 Turn i (replyArrives j c reply l) s = j ≡ i → (a : Arrival) → In a (s .arrived) → a .run ≡ i → a .reply ≡ reply → ⊥
 Turn i (noReply j c l) s = j ≡ i → ⊥

@@ -25,12 +25,8 @@ use Rattle.message.specs.Codes.{codeField}
 use Rattle.message.specs.Limits.{fileBytes}
 use Rattle.bank_state.specs.Limits.{idBytes, idleLimit, replyRoom}
 use Rattle.bank_state.specs.Search.{openCountOf}
-use Rattle.bank_rows.specs.Layout.{stateSize}
-use Rattle.bank_rows.specs.State.{stored}
-use Rattle.bank_steps.specs.Lent.{stateOf}
-use Rattle.bank_steps.specs.Lent as bankEnd
 use Rattle.bank.specs.Call.{FrameInput, frameInput}
-use Rattle.bank_session.specs.Session.{LentSession, sessionOf, bankIn, journalIn}
+use Rattle.bank_admitted.specs.State.{StateHolds}
 use Rattle.image_calls.specs.Calls.{imageLength}
 use Rattle.client_run.specs.declared.run.Direction.{Direction}
 use Rattle.client_run.specs.declared.run.Stage.the-variants as stage
@@ -61,6 +57,15 @@ use Rattle.exchange.specs.Lists.{AtMostOne, skip, only, NoDup, none, more}
 use Rattle.exchange.proofs.Calls.{carried}
 use Rattle.exchange.proofs.Guards.{numbered-allowed, numbered-in-turn, stray-allowed, journal-allowed, put-allowed}
 use Rattle.exchange.proofs.Theorem.{demand3}
+use Rattle.exchange_examples.proofs.Standing.{
+  standing,
+  standing-numbers,
+  standing-bank,
+  standing-journal,
+  Right,
+  right-start,
+  right-next,
+}
 
 -- ---- tests of lists
 
@@ -200,13 +205,7 @@ abbrev pub inputAt : ℕ → List ℕ → FrameInput
 inputAt time frame = frameInput time (replicate idBytes 0) frame (replicate replyRoom 0)
 
 abbrev pub frameCalled : List ℕ → ℕ → Course → Call
-frameCalled frame time s = frameArrives (s .bank) (s .journal) (inputAt time frame)
-
--- the session as it stands, in memory
-abbrev pub standing : Course → LentSession
-standing s =
-    let m = bankEnd.lent (stored (s .bank .bank) (replicate stateSize 0)) (s .bank .orders) (s .bank .mailboxes) in
-    sessionOf m (s .journal)
+frameCalled frame time s = frameArrives (standing s) (inputAt time frame)
 
 -- what the session is put away into
 abbrev pub room : List ℕ
@@ -215,7 +214,7 @@ room = replicate imageLength 0
 abbrev pub callOf : Move → Course → Call
 callOf (comes n time) s = frameCalled (requestAt n s) time s
 callOf (stray frame time) s = frameCalled frame time s
-callOf (puts m file) s = filePut (s .bank .bank) (s .bank .mailboxes) m file
+callOf (puts m file) s = filePut (standing s .rows) (s .bank .mailboxes) m file
 callOf (begin i direction u first payload) s = begins i (s .runs i) (parametersOf direction u first) (lent payload (replicate fileBytes 0))
 callOf (reaches i n) s = replyArrives i (s .runs i) (replyAt n s) (lent (s .payloads i) (s .files i))
 callOf (silent i) s = noReply i (s .runs i) (lent (s .payloads i) (s .files i))
@@ -266,7 +265,7 @@ isAllowed writes s = true
 isAllowed (takes n) s = has n (s .images)
 isAllowed (numbered k) s = not (eqb (callNumber k) 0)
 
--- what is no test: the memory put away is the bank and the journal that stand, and the call is given no number
+-- what is no test: a session put away is given no number
 abbrev pub asked : Move → Course → Type 0 → Type 0
 asked (comes n time) s rest = rest
 asked (stray frame time) s rest = rest
@@ -275,26 +274,44 @@ asked (begin i direction u first payload) s rest = rest
 asked (reaches i n) s rest = rest
 asked (silent i) s rest = rest
 asked (hands i) s rest = rest
-asked writes s rest = (stateOf (bankIn (standing s)) ≡ s .bank) × (journalIn (standing s) ≡ s .journal)
-    × (callNumber (putsAway (standing s) room) ≡ 0) × rest
+asked writes s rest = (callNumber (putsAway (standing s) room) ≡ 0) × rest
 asked (takes n) s rest = rest
 asked (numbered k) s rest = rest
 
--- asked at each writing of a list
-abbrev pub Asked : List Move → Course → Type 0
-Asked [] s = Unit {0}
-Asked (m ∷ ms) s = asked m s (Asked ms (next m s))
+-- asked at each writing of a list, by these steps
+abbrev pub AskedBy : (Move → Course → Course) → List Move → Course → Type 0
+AskedBy step [] s = Unit {0}
+AskedBy step (m ∷ ms) s = asked m s (AskedBy step ms (step m s))
 
-pub allowed : (m : Move) (s : Course) (rest : Type 0) → asked m s rest → isAllowed m s ≡ true → Allowed (callOf m s) s × rest
-allowed (comes n time) s rest r h = (λ _. (refl, refl, λ _. issued (requestAt n s) s h), r)
-allowed (stray frame time) s rest r h = (stray-allowed s (inputAt time frame) (off (isSubscribers frame) h), r)
+abbrev pub Asked : List Move → Course → Type 0
+Asked = AskedBy next
+
+-- what is asked, of another rest
+pub asked-rest : (m : Move) (s : Course) (rest other : Type 0) → (rest → other) → asked m s rest → asked m s other
+asked-rest (comes n time) s rest other f r = f r
+asked-rest (stray frame time) s rest other f r = f r
+asked-rest (puts m file) s rest other f r = f r
+asked-rest (begin i direction u first payload) s rest other f r = f r
+asked-rest (reaches i n) s rest other f r = f r
+asked-rest (silent i) s rest other f r = f r
+asked-rest (hands i) s rest other f r = f r
+asked-rest writes s rest other f r = (r .0, f (r .1))
+asked-rest (takes n) s rest other f r = f r
+asked-rest (numbered k) s rest other f r = f r
+
+pub allowed : (m : Move) (s : Course) (rest : Type 0) → StateHolds (s .bank) → asked m s rest → isAllowed m s ≡ true →
+    Allowed (callOf m s) s × rest
+allowed (comes n time) s rest v r h =
+    (λ _. (standing-bank s v, standing-journal s v, λ _. issued (requestAt n s) s h), r)
+allowed (stray frame time) s rest v r h =
+    (stray-allowed s (standing s) (standing-bank s v) (standing-journal s v) (inputAt time frame) (off (isSubscribers frame) h), r)
   where
     off : (b : Bool) → not b ≡ true → b ≡ false
     off true e = sym e
     off false e = refl
-allowed (puts m file) s rest r h = (λ _. (refl, refl), r)
-allowed (begin i direction u first payload) s rest r h = (λ _. refl, r)
-allowed (reaches i n) s rest r h = (
+allowed (puts m file) s rest v r h = (λ _. (standing-numbers s v, refl), r)
+allowed (begin i direction u first payload) s rest v r h = (λ _. refl, r)
+allowed (reaches i n) s rest v r h = (
   λ _.
       let f : Exchange → Bool = λ e. sameBytes (e .reply) (replyAt n s) && isIssued (e .request) s in
       let o = some-in f (s .exchanged) h in
@@ -302,11 +319,11 @@ allowed (reaches i n) s rest r h = (
       ((refl, refl, refl), (o .0, o .1, same-bytes (o .0 .reply) (replyAt n s) (a .0), issued (o .0 .request) s (a .1))),
   r,
 )
-allowed (silent i) s rest r h = (λ _. (refl, refl, refl), r)
-allowed (hands i) s rest r h = (journal-allowed s i, r)
-allowed writes s rest r h = (put-allowed s (standing s) room (r .0) (r .1), r .3)
-allowed (takes n) s rest r h = (λ _. nth-in [] n (s .images) h, r)
-allowed (numbered k) s rest r h = (numbered-allowed k s (λ z. not-both h (eq-eqb (callNumber k) 0 z)), r)
+allowed (silent i) s rest v r h = (λ _. (refl, refl, refl), r)
+allowed (hands i) s rest v r h = (journal-allowed s i, r)
+allowed writes s rest v r h = (put-allowed s (standing s) room (standing-bank s v) (standing-journal s v), r .1)
+allowed (takes n) s rest v r h = (λ _. nth-in [] n (s .images) h, r)
+allowed (numbered k) s rest v r h = (numbered-allowed k s (λ z. not-both h (eq-eqb (callNumber k) 0 z)), r)
 
 -- no two requests under one exchange number
 abbrev isNumbered : Course → Bool
@@ -320,12 +337,12 @@ isMetBy step (m ∷ ms) s = isAllowed m s && isMetBy step ms (step m s)
 abbrev pub isMet : List Move → Course → Bool
 isMet = isMetBy next
 
-pub all-allowed : (ms : List Move) (s : Course) → Asked ms s → isMet ms s ≡ true → AllAllowed (callsOf ms s) s
-all-allowed [] s r h = tt
-all-allowed (m ∷ ms) s r h =
+pub all-allowed : (ms : List Move) (s : Course) → Right s → Asked ms s → isMet ms s ≡ true → AllAllowed (callsOf ms s) s
+all-allowed [] s v r h = tt
+all-allowed (m ∷ ms) s v r h =
     let a = and-true (isAllowed m s) (isMet ms (next m s)) h in
-    let b = allowed m s (Asked ms (next m s)) r (a .0) in
-    (b .0, all-allowed ms (next m s) (b .1) (a .1))
+    let b = allowed m s (Asked ms (next m s)) (v .state) r (a .0) in
+    (b .0, all-allowed ms (next m s) (right-next (callOf m s) s v (b .0)) (b .1) (a .1))
 
 numbers : (ms : List Move) (s : Course) → isMet ms s ≡ true → OneExchangeNumber (endOf ms s)
 unfolding OneExchangeNumber
@@ -536,7 +553,7 @@ module _ (ms : List Move) (held : Asked ms start) (met : isMet ms start ≡ true
   unfolding Demand3
   applied =
       let ks = callsOf ms start in
-      let all = subst (λ (l : List Call). AllAllowed l start) (sym (append-nil ks)) (all-allowed ms start held met) in
+      let all = subst (λ (l : List Call). AllAllowed l start) (sym (append-nil ks)) (all-allowed ms start right-start held met) in
       let d = demand3 ks [] all (subst (λ (l : List Call). OneExchangeNumber (after l start)) (sym (append-nil ks))
       (subst OneExchangeNumber (sym (ends ms start)) (numbers ms start met))) in
       (d .0, d .1)

@@ -1,5 +1,5 @@
 -- Computed examples of demand 3: lists that meet its premises, what they come to, and the theorem applied to them.
-use Prim.Native.Nat.{ℕ, _+_}
+use Prim.Native.Nat.{ℕ, _+_, _-_, _^_}
 use mathlib.Core.Bool.{true}
 use mathlib.Core.List.{List, [], _∷_, _++_, List·Memᴰ as In, List·Memᴰ·not-nil as in-none}
 use mathlib.Core.Logic.{inl, inr}
@@ -13,13 +13,17 @@ use Rattle.frame_reader.specs.Reader.{readRequest, readReply}
 use Rattle.message.specs.declared.codes.ReturnCode.the-variants as code
 use Rattle.message.specs.Codes.{codeField}
 use Rattle.message.specs.Segments.{segmentsOf}
+use Rattle.journal.specs.declared.event.Event.{Event}
 use Rattle.journal.specs.declared.event.OrderName.{OrderName}
+use Rattle.journal.specs.Events.{maxEntries}
+use Rattle.journal.specs.Row.{emptyRow}
 use Rattle.bank_state.specs.declared.state.Use.the-variants as uses
-use Rattle.bank_state.specs.Limits.{idleLimit}
+use Rattle.bank_state.specs.Limits.{placeCount, storeBytes, idleLimit}
 use Rattle.bank_state.specs.State.{placeAt}
 use Rattle.bank_admitted.specs.State.{StateHolds}
+use Rattle.bank_rows.specs.Layout.{stateSize}
 use Rattle.bank_steps.specs.Lent.{stateOf}
-use Rattle.bank_session.specs.Session.{LentSession, bankIn, journalIn}
+use Rattle.bank_session.specs.Session.{LentSession, session, sessionSize, withCount, bankIn, journalIn}
 use Rattle.image_calls.specs.declared.calls.TakenUp.the-variants as taken
 use Rattle.image_calls.specs.Calls.{imageLength, lengthsRight, putAway, TakeUp, takeUpOf, takeUp}
 use Rattle.client_run.specs.declared.run.Direction.the-variants.{Upload, Download}
@@ -29,6 +33,8 @@ use Rattle.client_run.specs.declared.run.Word.the-variants.{Lodged, NotLodged, 
 use Rattle.client_run.specs.Run.{notBegun, orderName}
 use Rattle.exchange.specs.Course.{
   Call,
+  frameArrives,
+  filePut,
   noReply,
   takesUp,
   Exchange,
@@ -49,6 +55,7 @@ use Rattle.exchange.proofs.Calls.{carried, by-number}
 use Rattle.exchange.proofs.Guards.{put-allowed}
 use Rattle.exchange.proofs.Images.{put-taken}
 use Rattle.exchange_examples.proofs.Unfolded.{bothEnds, images}
+use Rattle.exchange_examples.proofs.Standing.{standing, standing-bank, standing-journal, right-start}
 use Rattle.exchange_examples.proofs.Checked.{
   nth,
   has,
@@ -67,17 +74,15 @@ use Rattle.exchange_examples.proofs.Checked.{
   lentAt,
   lent,
   requestAt,
-  frameCalled,
+  inputAt,
   noExchange,
-  standing,
   room,
   callOf,
   next,
   callsOf,
   endOf,
   isAllowed,
-  asked,
-  Asked,
+  AskedBy,
   allowed,
   all-allowed,
   Opens,
@@ -125,9 +130,29 @@ fetching =
 abbrev twoSegments : List ℕ
 twoSegments = replicate 257 68
 
+-- memory with these numbers and this row, its stores zeroed
+abbrev memory : List ℕ → List Event → LentSession
+memory rows row = session rows row (replicate storeBytes 0) (replicate storeBytes 0)
+
+-- numbers that no call leaves: more open downloads than there are records
+abbrev unsound : List ℕ
+unsound = replicate sessionSize (placeCount + 1)
+
+-- a host's calls turned away at the door, given number 1: numbers of another length and numbers that no call leaves, to a
+-- file and to a frame; a row of another length; no room for the numbers of its events
+abbrev atDoor : List Move
+atDoor =
+    numbered (filePut [] (replicate storeBytes 0) 1 (66 ∷ []))
+    ∷ numbered (filePut unsound (replicate storeBytes 0) 1 (66 ∷ []))
+    ∷ numbered (frameArrives (memory [] emptyRow) (inputAt 1000 []))
+    ∷ numbered (frameArrives (memory unsound emptyRow) (inputAt 1000 []))
+    ∷ numbered (frameArrives (memory (replicate sessionSize 0) []) (inputAt 1000 []))
+    ∷ numbered (frameArrives (memory (withCount (replicate stateSize 0) (2 ^ 64 - maxEntries)) emptyRow) (inputAt 1000 []))
+    ∷ []
+
 -- an upload of 257 bytes beside one of a second subscriber
-abbrev crossing : List Move
-crossing =
+abbrev crossed : List Move
+crossed =
     begin 0 Upload 1 7 twoSegments
     ∷ comes 0 1000
     ∷ begin 1 Upload 2 100 (66 ∷ [])
@@ -141,16 +166,22 @@ crossing =
     -- a call given number 8, lent a run not begun
     ∷ numbered (noReply 0 notBegun (lent [] []))
     -- a frame and a run's call over the last time, given number 1
-    ∷ numbered (frameCalled [] (lastTime + 1) start)
+    ∷ numbered (frameArrives (memory (replicate sessionSize 0) emptyRow) (inputAt (lastTime + 1) []))
     ∷ numbered (noReply 0 notBegun (lentAt (lastTime + 1) [] []))
-    ∷ reaches 1 2
+    ∷ []
+
+-- it goes on after calls turned away at the door
+abbrev crossing : List Move
+crossing =
+    crossed ++ atDoor
+    ++ (reaches 1 2
     -- a late copy of it is ignored
     ∷ reaches 1 2
     ∷ reaches 0 0
     -- exactly the idle limit after the segment before
     ∷ comes 0 lastOpen
     ∷ reaches 0 0
-    ∷ []
+    ∷ [])
 
 -- a download of two segments, the second sent again
 abbrev again : List Move
@@ -376,19 +407,27 @@ computed-series = record {
 
 -- ---- with the image's bytes
 
-resuming-asked : Asked resuming start
+resuming-asked : AskedBy quickNext resuming start
 unfolding bothEnds images
-resuming-asked = (refl, refl, refl, tt)
+resuming-asked = (refl, tt)
 
 resuming-done : Orders 0 1 resuming (Opens 1)
 unfolding bothEnds
 resuming-done = orders 0 1 resuming resuming-asked refl (inl refl)
 
 -- the reply changes neither the bank nor the journal: the session is put away then too
-away-asked : asked writes opened (Unit {0})
-away-asked =
+away-done : callNumber away ≡ 0
+away-done =
     let s = endOf openingSent start in
-    by-number (callOf (reaches 0 0) s) s (λ (t : Course). asked writes t (Unit {0})) resuming-asked (λ _. resuming-asked)
+    let z = resuming-done .all-asked .0 in
+    by-number (callOf (reaches 0 0) s) s (λ (t : Course). callNumber (callOf writes t) ≡ 0) z (λ _. z)
+
+-- what is put away is the bank and the journal that stand
+away-bank : stateOf (bankIn (standing opened)) ≡ opened .bank
+away-bank = standing-bank opened (computed .opening-done .state)
+
+away-journal : journalIn (standing opened) ≡ opened .journal
+away-journal = standing-journal opened (computed .opening-done .state)
 
 -- the memory of a fresh bank has the lengths to take it up
 fresh-long : lengthsRight (standing start) ≡ true
@@ -481,16 +520,16 @@ asking-closed = closed 0 1 asking tt (computed .asking-done .in-order) (computed
 
 -- with sessions put away and taken up between
 resuming-closed : Closed 0 (endOf resuming start)
-resuming-closed = closed 0 1 resuming resuming-asked (resuming-done .in-order) (resuming-done .ends)
+resuming-closed = closed 0 1 resuming (resuming-done .all-asked) (resuming-done .in-order) (resuming-done .ends)
 
 -- ---- without the premise of a taking up
 
 away-is : exec away opened ≡ carryOut away opened
-away-is = carried away opened (away-asked .2)
+away-is = carried away opened away-done
 
 -- it is taken up
 up-is : takeUp (standing start) (take imageLength (putAway (standing opened) room .buffer)) ≡ takeUpOf taken.Done (standing opened)
-up-is = put-taken (standing opened) room (away-asked .2) (standing start) fresh-long
+up-is = put-taken (standing opened) room away-done (standing start) fresh-long
 
 up-done : callNumber up ≡ 0
 up-done = ap (λ (k : TakeUp). k .number) up-is
@@ -498,8 +537,8 @@ up-done = ap (λ (k : TakeUp). k .number) up-is
 once-more : exec up (sent (exec away opened)) ≡ onceMore
 once-more =
     let e = ap (λ (k : TakeUp). k .session) up-is in
-    let bank = ap (λ (m : LentSession). stateOf (bankIn m)) e ∙ away-asked .0 in
-    let journal = ap journalIn e ∙ away-asked .1 in
+    let bank = ap (λ (m : LentSession). stateOf (bankIn m)) e ∙ away-bank in
+    let journal = ap journalIn e ∙ away-journal in
     carried up (sent (exec away opened)) up-done
     ∙ (λ x. withBank (bank x) (withJournal (journal x) (sent (away-is x))))
 
@@ -513,23 +552,24 @@ sent-twice-booked =
 
 -- every other call has its premise
 opening-allowed : AllAllowed (callsOf opening start) start
-opening-allowed = all-allowed opening start tt (computed .opening-done .met)
+opening-allowed = all-allowed opening start right-start tt (computed .opening-done .met)
 
 away-allowed : Allowed away opened
-away-allowed = put-allowed opened (standing opened) room (away-asked .0) (away-asked .1)
+away-allowed = put-allowed opened (standing opened) room away-bank away-journal
 
-comes-allowed : (s : Course) → isAllowed (comes 0 1000) s ≡ true → Allowed (callOf (comes 0 1000) s) s
-comes-allowed s h = allowed (comes 0 1000) s (Unit {0}) tt h .0
+comes-allowed : (s : Course) → StateHolds (s .bank) → isAllowed (comes 0 1000) s ≡ true →
+    Allowed (callOf (comes 0 1000) s) s
+comes-allowed s v h = allowed (comes 0 1000) s (Unit {0}) v tt h .0
 
 sent-allowed : let s = exec away opened in Allowed (callOf (comes 0 1000) s) s
 sent-allowed =
     subst (λ (s : Course). Allowed (callOf (comes 0 1000) s) s) (sym away-is)
-    (comes-allowed (carryOut away opened) (sent-again .sent-met))
+    (comes-allowed (carryOut away opened) (computed .opening-done .state) (sent-again .sent-met))
 
 again-allowed : let s = exec up (sent (exec away opened)) in Allowed (callOf (comes 0 1000) s) s
 again-allowed =
     subst (λ (s : Course). Allowed (callOf (comes 0 1000) s) s) (sym once-more)
-    (comes-allowed onceMore (sent-again .again-sent-met))
+    (comes-allowed onceMore (computed .opening-done .state) (sent-again .again-sent-met))
 
 -- the taking up has not: its image is of a session that no longer stands
 up-refused : Allowed up (sent (exec away opened)) → ⊥

@@ -1,7 +1,7 @@
 -- The tests of a list of calls in fewer steps: what cannot fail there is not tested again. Assumes nothing.
 use Prim.Native.Nat.{ℕ, _≤_}
 use mathlib.Core.Bool.{Bool, true, cond}
-use mathlib.Core.List.{List, [], _∷_, List·Memᴰ·not-nil as in-none}
+use mathlib.Core.List.{List, [], _∷_}
 use mathlib.Core.Path.{_≡_, refl, sym, ap, _∙_, subst}
 use native.Mathlib.Omega.{arith}
 use lib.Dec.{eqb, leb}
@@ -9,26 +9,16 @@ use lib.ListN.{length, length-replicate}
 use borrow.Author.Tests.{eq-eqb, le-leb}
 use Rattle.frame_table.specs.Table.{lastTime}
 use Rattle.octets.proofs.Tests.{and-true}
-use Rattle.journal.specs.Events.{recordCount}
+use Rattle.journal.specs.Row.{Journal, takesEvents}
 use Rattle.bank_state.specs.Clock.{advanced}
 use Rattle.bank_state.specs.Limits.{storeBytes, idBytes, replyRoom}
-use Rattle.bank_state.specs.State.{BankState}
+use Rattle.bank_state.specs.State.{Bank, BankState}
 use Rattle.bank.specs.Call.{FrameCall, FrameInput, frameNumber, replied, lentRight, frameRefused, frameCall}
 use Rattle.bank.specs.Journal.{journalAfter}
+use Rattle.bank.specs.Mailbox.{fileNumber, fileCall}
 use Rattle.bank_admitted.specs.State.{Sizes, StateHolds}
-use Rattle.bank_admitted.proofs.Fresh.{fresh-state}
-use Rattle.bank_admitted.proofs.Keeps.{frame-keeps-state, file-keeps-state}
 use Rattle.bank_history.proofs.Answers.{stepOf}
 use Rattle.exchange.specs.Course.{
-  Call,
-  frameArrives,
-  filePut,
-  begins,
-  replyArrives,
-  noReply,
-  journalHanded,
-  putsAway,
-  takesUp,
   Course,
   start,
   withJournal,
@@ -38,9 +28,21 @@ use Rattle.exchange.specs.Course.{
   carryOut,
   exec,
 }
-use Rattle.exchange.specs.Demand3.{Premise, Allowed}
+use Rattle.exchange.specs.Demand3.{Allowed}
 use Rattle.exchange.proofs.Calls.{numbered-stays, carried, by-number}
-use Rattle.exchange.proofs.Images.{Written, put-written, taken-stays}
+use Rattle.exchange.proofs.Host.{frame-exec, fileLeft, file-exec}
+use Rattle.exchange.proofs.Images.{taken-stays}
+use Rattle.exchange_examples.proofs.Standing.{
+  standing,
+  standing-long,
+  standing-sound,
+  standing-numbers,
+  standing-bank,
+  standing-journal,
+  Right,
+  right-start,
+  right-next,
+}
 use Rattle.exchange_examples.proofs.Checked.{
   not-both,
   both,
@@ -57,13 +59,16 @@ use Rattle.exchange_examples.proofs.Checked.{
   numbered,
   requestAt,
   inputAt,
+  frameCalled,
   callOf,
   next,
   endBy,
   endOf,
   isAllowed,
   asked,
+  AskedBy,
   Asked,
+  asked-rest,
   allowed,
   isMetBy,
   isMet,
@@ -94,21 +99,26 @@ module _ (w : BankState) (sizes : Sizes w) (a : FrameInput) (ids : length (a .id
   unfolding frameCall
   quick-call = ap (λ (b : Bool). cond b (replied (stepOf w a) (a .buffer)) (frameRefused w a)) right-by-time
 
--- the course after a frame, by what its call leaves
-abbrev framed : FrameCall → FrameInput → Course → Course
-framed k a s =
-    cond (eqb (cond (eqb (length (s .journal .row)) recordCount) (frameNumber (k .answer)) 1) 0)
-    (withJournal (journalAfter (s .bank) a (s .journal))
-    (afterFrame (replyIn (k .answer) (k .buffer)) (k .bankState) (advanced (a .time) (s .bank)) (a .frame) s)) s
+-- the course after a frame, by what the bank's call leaves
+abbrev framed : FrameCall → BankState → Journal → FrameInput → Course → Course
+framed k w j a s =
+    cond (eqb (cond (takesEvents (length (j .row)) (j .events)) (frameNumber (k .answer)) 1) 0)
+    (withJournal (journalAfter w a j)
+    (afterFrame (replyIn (k .answer) (k .buffer)) (k .bankState) (advanced (a .time) w) (a .frame) s)) s
 
 abbrev quickFrame : List ℕ → ℕ → Course → Course
-quickFrame frame time s = framed (quickCall (s .bank) (inputAt time frame)) (inputAt time frame) s
+quickFrame frame time s = let a = inputAt time frame in framed (quickCall (s .bank) a) (s .bank) (s .journal) a s
+
+-- the course after a file, by what the bank's call leaves
+abbrev filed : Bank → List ℕ → ℕ → List ℕ → Course → Course
+filed b mailboxes m file s =
+    cond (eqb (fileNumber (fileCall b m file mailboxes .answer)) 0) (fileLeft b mailboxes m file s) s
 
 -- the course after one call: a session is put away, one taken up is the one that stands, a call given a number stays out
 abbrev pub quickNext : Move → Course → Course
 quickNext (comes n time) s = quickFrame (requestAt n s) time s
 quickNext (stray frame time) s = quickFrame frame time s
-quickNext (puts m file) s = next (puts m file) s
+quickNext (puts m file) s = filed (s .bank .bank) (s .bank .mailboxes) m file s
 quickNext (begin i direction u first payload) s = next (begin i direction u first payload) s
 quickNext (reaches i n) s = next (reaches i n) s
 quickNext (silent i) s = next (silent i) s
@@ -119,51 +129,33 @@ quickNext (numbered k) s = s
 
 -- ---- it is the same
 
--- what the bank and the images are after allowed calls
-pub record Right (s : Course) : Type 0 where
-  pub state : StateHolds (s .bank)
-  pub images : Written s
-
-pub right-start : Right start
-unfolding start
-right-start = record { state = fresh-state; images = λ image i. absurd (in-none i) }
-
-right-carried : (k : Call) (s : Course) → Right s → Premise k s → callNumber k ≡ 0 → Right (carryOut k s)
-right-carried (frameArrives w j a) s v q z = record {
-  state = subst (λ (x : BankState). StateHolds (frameCall x a .bankState)) (sym (q .0)) (frame-keeps-state (s .bank) (v .state) a);
-  images = λ image i. absurd (in-none i);
-}
-right-carried (filePut b mailboxes m file) s v q z = record {
-  state = rw (q .0, q .1) (file-keeps-state (s .bank) (v .state) m file);
-  images = λ image i. absurd (in-none i);
-}
-right-carried (begins i c params l) s v q z = record { state = v .state; images = v .images }
-right-carried (replyArrives i c reply l) s v q z = record { state = v .state; images = v .images }
-right-carried (noReply i c l) s v q z = record { state = v .state; images = v .images }
-right-carried (journalHanded i c row) s v q z = record { state = v .state; images = v .images }
-right-carried (putsAway m buffer) s v q z = record { state = v .state; images = put-written m buffer s (v .images) q z }
-right-carried (takesUp m image) s v q z = subst Right (sym (taken-stays m image s (v .images) q z)) v
-
-right-next : (k : Call) (s : Course) → Right s → Allowed k s → Right (exec k s)
-right-next k s v a = by-number k s Right v (λ z. right-carried k s v (a z) z)
-
 pub quick-frame : (s : Course) → StateHolds (s .bank) → (time : ℕ) (frame : List ℕ) →
-    quickFrame frame time s ≡ exec (frameArrives (s .bank) (s .journal) (inputAt time frame)) s
-unfolding exec
+    quickFrame frame time s ≡ exec (frameCalled frame time s) s
 quick-frame s v time frame =
-    ap (λ (k : FrameCall). framed k (inputAt time frame) s) (quick-call (s .bank) (v .sizes) (inputAt time frame)
+    let a = inputAt time frame in
+    let w = standing-bank s v in
+    let j = standing-journal s v in
+    ap (λ (k : FrameCall). framed k (s .bank) (s .journal) a s) (quick-call (s .bank) (v .sizes) a
     (length-replicate {A = ℕ} idBytes 0) (omega (arith, length-replicate {A = ℕ} replyRoom 0)))
+    ∙ sym (frame-exec (standing s) a (standing-long s v) (standing-sound s v) s
+    ∙ (λ x. framed (frameCall (w x) a) (w x) (j x) a s))
+
+quick-file : (s : Course) → StateHolds (s .bank) → (m : ℕ) (file : List ℕ) →
+    filed (s .bank .bank) (s .bank .mailboxes) m file s ≡ next (puts m file) s
+quick-file s v m file =
+    sym (file-exec (standing s .rows) (s .bank .mailboxes) m file (standing-long s v) (standing-sound s v) s
+    ∙ ap (λ (b : Bank). filed b (s .bank .mailboxes) m file s) (standing-numbers s v))
 
 quick-next : (m : Move) (s : Course) (rest : Type 0) → asked m s rest → Right s → isAllowed m s ≡ true → Allowed (callOf m s) s →
     quickNext m s ≡ next m s
 quick-next (comes n time) s rest r v h a = quick-frame s (v .state) time (requestAt n s)
 quick-next (stray frame time) s rest r v h a = quick-frame s (v .state) time frame
-quick-next (puts m file) s rest r v h a = refl
+quick-next (puts m file) s rest r v h a = quick-file s (v .state) m file
 quick-next (begin i direction u first payload) s rest r v h a = refl
 quick-next (reaches i n) s rest r v h a = refl
 quick-next (silent i) s rest r v h a = refl
 quick-next (hands i) s rest r v h a = refl
-quick-next writes s rest r v h a = sym (carried (callOf writes s) s (r .2))
+quick-next writes s rest r v h a = sym (carried (callOf writes s) s (r .0))
 quick-next (takes n) s rest r v h a =
     let k = callOf (takes n) s in by-number k s (λ (t : Course). s ≡ t) refl (λ z. sym (taken-stays _ _ s (v .images) (a z) z))
 quick-next (numbered k) s rest r v h a = sym (numbered-stays k s (λ z. not-both h (eq-eqb (callNumber k) 0 z)))
@@ -171,29 +163,38 @@ quick-next (numbered k) s rest r v h a = sym (numbered-stays k s (λ z. not-both
 -- ---- over a list
 
 -- the call is allowed, leaves this course, and what is asked of the list is asked of its rest
-one-call : (m : Move) (ms : List Move) (s : Course) → Right s → Asked (m ∷ ms) s → isAllowed m s ≡ true →
-    (quickNext m s ≡ next m s) × Right (next m s) × Asked ms (next m s)
+one-call : (m : Move) (ms : List Move) (s : Course) → Right s → AskedBy quickNext (m ∷ ms) s → isAllowed m s ≡ true →
+    (quickNext m s ≡ next m s) × Right (next m s) × AskedBy quickNext ms (next m s)
 one-call m ms s v r h =
-    let a = allowed m s (Asked ms (next m s)) r h in
-    (quick-next m s (Asked ms (next m s)) r v h (a .0), right-next (callOf m s) s v (a .0), a .1)
+    let rest = AskedBy quickNext ms (quickNext m s) in
+    let a = allowed m s rest (v .state) r h in
+    let e = quick-next m s rest r v h (a .0) in
+    (e, right-next (callOf m s) s v (a .0), subst (AskedBy quickNext ms) e (a .1))
 
-quick-met : (ms : List Move) (s : Course) → Right s → Asked ms s → isMetBy quickNext ms s ≡ true →
-    (isMet ms s ≡ true) × (endBy quickNext ms s ≡ endOf ms s) × Right (endOf ms s)
-quick-met [] s v r h = (h, refl, v)
+quick-met : (ms : List Move) (s : Course) → Right s → AskedBy quickNext ms s → isMetBy quickNext ms s ≡ true →
+    Asked ms s × (isMet ms s ≡ true) × (endBy quickNext ms s ≡ endOf ms s) × Right (endOf ms s)
+quick-met [] s v r h = (tt, h, refl, v)
 quick-met (m ∷ ms) s v r h =
     let a = and-true (isAllowed m s) (isMetBy quickNext ms (quickNext m s)) h in
     let (e, w, q) = one-call m ms s v r (a .0) in
-    let (met, end, right) = quick-met ms (next m s) w q (subst (λ (t : Course). isMetBy quickNext ms t ≡ true) e (a .1)) in
-    (both (a .0) met, ap (endBy quickNext ms) e ∙ end, right)
+    let (all, met, end, right) =
+    quick-met ms (next m s) w q (subst (λ (t : Course). isMetBy quickNext ms t ≡ true) e (a .1)) in (
+      asked-rest m s (AskedBy quickNext ms (quickNext m s)) (Asked ms (next m s)) (λ _. all) r,
+      both (a .0) met,
+      ap (endBy quickNext ms) e ∙ end,
+      right,
+    )
 
 module _ (i n : ℕ) where
-  quick-order : (ms : List Move) (s : Course) → Right s → Asked ms s → isInOrderBy i quickNext n ms s ≡ true →
-      (isInOrder i n ms s ≡ true) × (endBy quickNext ms s ≡ endOf ms s)
-  quick-order [] s v r h = (h, refl)
+  quick-order : (ms : List Move) (s : Course) → Right s → AskedBy quickNext ms s → isInOrderBy i quickNext n ms s ≡ true →
+      Asked ms s × (isInOrder i n ms s ≡ true) × (endBy quickNext ms s ≡ endOf ms s)
+  quick-order [] s v r h = (tt, h, refl)
   quick-order (m ∷ ms) s v r h =
       let a = one-more i n quickNext m ms s h in
       let (e, w, q) = one-call m ms s v r (a .0) in
-      let (order, end) = quick-order ms (next m s) w q (subst (λ (t : Course). isInOrderBy i quickNext n ms t ≡ true) e (a .2)) in (
+      let (all, order, end) =
+      quick-order ms (next m s) w q (subst (λ (t : Course). isInOrderBy i quickNext n ms t ≡ true) e (a .2)) in (
+        asked-rest m s (AskedBy quickNext ms (quickNext m s)) (Asked ms (next m s)) (λ _. all) r,
         both (a .0) (both (subst (λ (t : Course). isOneMore i m s t ≡ true) e (a .1)) order),
         ap (endBy quickNext ms) e ∙ end,
       )
@@ -206,18 +207,20 @@ pub record Meets (ms : List Move) (P : Course → Type 0) : Type 0 where
   pub state : StateHolds (endOf ms start .bank)
   pub ends : P (endOf ms start)
 
-pub meets : (ms : List Move) {P : Course → Type 0} → Asked ms start → isMetBy quickNext ms start ≡ true →
+pub meets : (ms : List Move) {P : Course → Type 0} → AskedBy quickNext ms start → isMetBy quickNext ms start ≡ true →
     P (endBy quickNext ms start) → Meets ms P
 meets ms {P} r h p =
-    let (met, end, right) = quick-met ms start right-start r h in
+    let (all, met, end, right) = quick-met ms start right-start r h in
     record { met = met; state = right .state; ends = subst P end p }
 
 -- one whose run i is in turn, opened by exchange n at its end
 pub record Orders (i n : ℕ) (ms : List Move) (P : Course → Type 0) : Type 0 where
+  pub all-asked : Asked ms start
   pub in-order : isInOrder i n ms start ≡ true
   pub ends : P (endOf ms start)
 
-pub orders : (i n : ℕ) (ms : List Move) {P : Course → Type 0} → Asked ms start → isInOrderBy i quickNext n ms start ≡ true →
-    P (endBy quickNext ms start) → Orders i n ms P
+pub orders : (i n : ℕ) (ms : List Move) {P : Course → Type 0} → AskedBy quickNext ms start →
+    isInOrderBy i quickNext n ms start ≡ true → P (endBy quickNext ms start) → Orders i n ms P
 orders i n ms {P} r h p =
-    let (order, end) = quick-order i n ms start right-start r h in record { in-order = order; ends = subst P end p }
+    let (all, order, end) = quick-order i n ms start right-start r h in
+    record { all-asked = all; in-order = order; ends = subst P end p }

@@ -19,6 +19,9 @@ use Rattle.bank_verdicts.specs.Refusals as refusals
 use Rattle.bank_verdicts.specs.Judgement as judgement
 use Rattle.bank_openings.specs.Openings as openings
 use Rattle.bank_uploads.specs.Uploads as uploads
+use Rattle.bank_sound.specs.Sound as soundRows
+use Rattle.bank.specs.Lent as bankLent
+use Rattle.bank_session.specs.Session as hostCalls
 use Rattle.bank.specs.Call as bankCall
 use Rattle.bank.specs.Mailbox as bankMailbox
 use Rattle.journal.specs.Events as journalEvents
@@ -87,7 +90,9 @@ unfolding frameBytes.numberFrom frameBytes.number frameBytes.bytesOf frameBytes.
     course.exec isSubscribers journalEvents.eventsFrom journalRow.emptyRow journalRow.entered journalRow.enteredAll
     journalRow.isOf journalRow.withRecord journalRow.lookup bankEntries.insertByOpening bankEntries.byOpening
     bankEntries.droppedUploads bankEntries.actionEntries bankEntries.callEntries bankJournal.enteredBy
-    bankJournal.journalAfter clientJournal.answerTo clientJournal.journalCall
+    bankJournal.journalAfter clientJournal.answerTo clientJournal.journalCall soundRows.isSoundUpload
+    soundRows.isSound bankrowsRows.allBelow bankLent.lentFrameCall bankLent.lentFileCall hostCalls.sessionFrameCall
+    hostCalls.sessionFileCall
 bothEnds = tt
 
 -- putting away

@@ -58,8 +58,8 @@ use Rattle.sessions.proofs.Theorem.{sessions}
 
 -- demand 3's premise is the two, no more and no less
 pub premise : (k : Call) (s : Course) → Given k s → Copy k s → Premise k s
-premise (frameArrives w j a) s g c = (g .0, g .1, c)
-premise (filePut b mailboxes m file) s g c = g
+premise (frameArrives m a) s g c = (g .0, g .1, c)
+premise (filePut rows mailboxes m file) s g c = g
 premise (begins i c params l) s g _ = g
 premise (replyArrives i c reply l) s g d = (g, d)
 premise (noReply i c l) s g _ = g
@@ -68,8 +68,8 @@ premise (putsAway m buffer) s g _ = g
 premise (takesUp m image) s _ c = c
 
 pub premise-parts : (k : Call) (s : Course) → Premise k s → Given k s × Copy k s
-premise-parts (frameArrives w j a) s p = ((p .0, p .1), p .2)
-premise-parts (filePut b mailboxes m file) s p = (p, tt)
+premise-parts (frameArrives m a) s p = ((p .0, p .1), p .2)
+premise-parts (filePut rows mailboxes m file) s p = (p, tt)
 premise-parts (begins i c params l) s p = (p, tt)
 premise-parts (replyArrives i c reply l) s p = (p .0, p .1)
 premise-parts (noReply i c l) s p = (p, tt)

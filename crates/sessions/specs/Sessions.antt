@@ -4,24 +4,28 @@ use Prim.Native.Nat.{ℕ, _<_}
 use mathlib.Core.Path.{_≡_}
 use mathlib.Core.Bool.{true, cond}
 use mathlib.Core.List.{List, [], _∷_, _++_, map, List·Memᴰ as In}
-use lib.Dec.{eqb}
-use lib.ListN.{length, take, replicate}
+use lib.ListN.{take, replicate}
 use Rattle.octets.specs.Bytes.{Bytes}
 use Rattle.frame_table.specs.Forms as forms
 use Rattle.frame_table.specs.Names.{subscriber}
 use Rattle.frame_reader.specs.Reader.{readRequest}
 use Rattle.journal.specs.declared.event.OrderName.{OrderName}
-use Rattle.journal.specs.Events.{recordCount}
 use Rattle.journal.specs.Row.{Journal}
 use Rattle.bank_state.specs.Limits.{storeBytes, replyRoom}
 use Rattle.bank_state.specs.State.{BankState}
 use Rattle.bank_state.specs.Store.{partAt, fileOf}
-use Rattle.bank.specs.declared.call.FrameAnswer.the-variants.{WrongLength}
-use Rattle.bank.specs.Call.{frameInput, frameCall}
-use Rattle.bank.specs.Mailbox.{fileCall}
+use Rattle.bank.specs.Call.{frameInput}
+use Rattle.bank_rows.specs.State.{bankOf}
 use Rattle.bank_steps.specs.Lent.{lent}
 use Rattle.bank_steps.specs.Lent as bank
-use Rattle.bank_session.specs.Session.{sessionSize, bankIn, journalIn}
+use Rattle.bank_session.specs.Session.{
+  sessionSize,
+  bankRows,
+  bankIn,
+  journalIn,
+  sessionFrameCall,
+  sessionFileCall,
+}
 use Rattle.image_calls.specs.Calls.{putAway, takeUp}
 use Rattle.client_run.specs.declared.run.ClientRun.{ClientRun}
 use Rattle.client_run.specs.declared.run.Direction.the-variants as direction
@@ -139,15 +143,14 @@ fileAt u i = partAt (u .memory .files) i
 
 -- ---- A RECORD AS A CALL OF DEMAND 3
 
--- `F`: a frame to the bank and the journal that the unit's rows and its row are
+-- `F`: a frame to the session
 unfoldable pub frameOf : State → List ℕ → Call
 frameOf u r =
-    frameArrives (bankAt u) (journalAt u)
-    (frameInput (bankTimeOf r) (idsOf r) (bodyOf kind.Frame r) (u .memory .buffer))
+    frameArrives (sessionIn u) (frameInput (bankTimeOf r) (idsOf r) (bodyOf kind.Frame r) (u .memory .buffer))
 
 -- `M`: a file into a mailbox
 unfoldable pub putOf : State → List ℕ → Call
-putOf u r = let w = bankAt u in filePut (w .bank) (w .mailboxes) (mailboxOf r) (bodyOf kind.File r)
+putOf u r = let m = sessionIn u in filePut (m .rows) (m .mailboxes) (mailboxOf r) (bodyOf kind.File r)
 
 -- what the unit lends to run i: to a begin the record's nonce bytes and payload, to a later call those that it keeps
 unfoldable pub lentTo : Event → ℕ → State → List ℕ → Lent
@@ -246,11 +249,8 @@ abbrev pub toldByRun : ClientCall → Told
 toldByRun k = told (runAnswer (k .answer) (k .run)) (k .request) []
 
 abbrev pub toldBy : Call → Told
-toldBy (frameArrives w j a) =
-    let k = frameCall w a in
-    cond (eqb (length (j .row)) recordCount) (told (frameAnswer (k .answer)) (k .buffer) [])
-    (told (frameAnswer WrongLength) (a .buffer) [])
-toldBy (filePut b mailboxes m file) = told (fileAnswer (fileCall b m file mailboxes .answer)) [] []
+toldBy (frameArrives m a) = let k = sessionFrameCall m a in told (frameAnswer (k .answer)) (k .buffer) []
+toldBy (filePut rows mailboxes m file) = told (fileAnswer (sessionFileCall rows m file mailboxes .answer)) [] []
 toldBy (begins i c params l) = toldByRun (beginCall c params l)
 toldBy (replyArrives i c reply l) = toldByRun (replyCall c reply l)
 toldBy (noReply i c l) = toldByRun (noReplyCall c l)
@@ -264,8 +264,8 @@ toldBy (takesUp m image) = told (takenUpAnswer (takeUp m image .answer)) [] []
 -- bank, or that client run)"; a begin brings its own payload and file buffer. A run is handed the row "as the bank last
 -- left it"
 abbrev pub Given : Call → Course → Type 0
-Given (frameArrives w j a) s = (w ≡ s .bank) × (j ≡ s .journal)
-Given (filePut b mailboxes m file) s = (b ≡ s .bank .bank) × (mailboxes ≡ s .bank .mailboxes)
+Given (frameArrives m a) s = (bank.stateOf (bankIn m) ≡ s .bank) × (journalIn m ≡ s .journal)
+Given (filePut rows mailboxes m file) s = (bankOf (bankRows rows) ≡ s .bank .bank) × (mailboxes ≡ s .bank .mailboxes)
 Given (begins i c params l) s = c ≡ s .runs i
 Given (replyArrives i c reply l) s = Left i c l s
 Given (noReply i c l) s = Left i c l s
@@ -277,8 +277,8 @@ Given (takesUp m image) s = Unit {0}
 -- earlier for such a copy". "Demand 3 covers a resumed session when nothing ran between the writing and the taking up":
 -- an image taken up is a copy of one written since the bank's last frame or file call given no number
 abbrev pub Copy : Call → Course → Type 0
-Copy (frameArrives w j a) s = isSubscribers (a .frame) ≡ true → (i : ℕ) × IssuedBy i (a .frame) s
-Copy (filePut b mailboxes m file) s = Unit {0}
+Copy (frameArrives m a) s = isSubscribers (a .frame) ≡ true → (i : ℕ) × IssuedBy i (a .frame) s
+Copy (filePut rows mailboxes m file) s = Unit {0}
 Copy (begins i c params l) s = Unit {0}
 Copy (replyArrives i c reply l) s =
     (e : Exchange) × In e (s .exchanged) × (e .reply ≡ reply) × ((j : ℕ) × IssuedBy j (e .request) s)

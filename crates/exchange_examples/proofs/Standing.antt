@@ -1,0 +1,115 @@
+-- The session as it stands, in memory: a call left its rows, so that a host's call on it is the bank's own on the bank and
+-- the journal that stand. Assumes nothing.
+use Prim.Native.Nat.{ℕ}
+use mathlib.Core.Bool.{true}
+use mathlib.Core.List.{List, List·Memᴰ·not-nil as in-none}
+use mathlib.Core.Path.{_≡_, sym, ap, _∙_, subst}
+use lib.ListN.{length, replicate}
+use Rattle.journal.specs.Row.{Journal}
+use Rattle.bank_state.specs.State.{Bank, BankState, bankState}
+use Rattle.bank_rows.specs.Layout.{stateSize}
+use Rattle.bank_rows.specs.State.{bankOf, stored, Laid, Held}
+use Rattle.bank_rows.proofs.State.{stored-back, stored-laid}
+use Rattle.bank_sound.specs.Sound.{isSound}
+use Rattle.bank_sound.proofs.Range.{zeros-sound}
+use Rattle.bank_sound.proofs.Test.{sound-laid, stored-sound}
+use Rattle.bank_steps.specs.Lent.{lent, stateOf}
+use Rattle.bank.specs.Call.{frameCall}
+use Rattle.bank_session.specs.Session.{LentSession, sessionSize, bankRows, sessionOf, bankIn, journalIn}
+use Rattle.bank_session.proofs.Rows.{bank-of-both, count-of-both, both-long}
+use Rattle.bank_admitted.specs.State.{StateHolds}
+use Rattle.bank_admitted.proofs.Fresh.{fresh-state}
+use Rattle.bank_admitted.proofs.InRange.{state-in-range}
+use Rattle.bank_admitted.proofs.Keeps.{frame-keeps-state, file-keeps-state}
+use Rattle.image_admitted.proofs.Held.{held-state}
+use Rattle.exchange.specs.Course.{
+  Call,
+  frameArrives,
+  filePut,
+  begins,
+  replyArrives,
+  noReply,
+  journalHanded,
+  putsAway,
+  takesUp,
+  Course,
+  start,
+  callNumber,
+  carryOut,
+  exec,
+}
+use Rattle.exchange.specs.Demand3.{Premise, Allowed}
+use Rattle.exchange.proofs.Calls.{by-number}
+use Rattle.exchange.proofs.Host.{host-frame, host-file}
+use Rattle.exchange.proofs.Images.{Written, put-written, taken-stays}
+
+abbrev numbers : Course → List ℕ
+numbers s = stored (s .bank .bank) (replicate stateSize 0)
+
+abbrev pub standing : Course → LentSession
+standing s = sessionOf (lent (numbers s) (s .bank .orders) (s .bank .mailboxes)) (s .journal)
+
+module _ (s : Course) (v : StateHolds (s .bank)) where
+  zeros-laid : Laid (replicate stateSize 0)
+  zeros-laid = sound-laid (replicate stateSize 0) zeros-sound
+
+  held : Held (s .bank .bank)
+  held = held-state (s .bank) v
+
+  long : length (numbers s) ≡ stateSize
+  long = stored-laid (s .bank .bank) held (replicate stateSize 0) zeros-laid .long
+
+  rows-are : bankRows (standing s .rows) ≡ numbers s
+  rows-are = bank-of-both (numbers s) long (s .journal .events)
+
+  pub standing-long : length (standing s .rows) ≡ sessionSize
+  standing-long = both-long (numbers s) long (s .journal .events)
+
+  -- a call left them
+  pub standing-sound : isSound (bankRows (standing s .rows)) ≡ true
+  standing-sound =
+      ap isSound rows-are
+      ∙ stored-sound (s .bank .bank) (replicate stateSize 0) held zeros-laid (state-in-range (s .bank) v)
+
+  pub standing-numbers : bankOf (bankRows (standing s .rows)) ≡ s .bank .bank
+  standing-numbers = ap bankOf rows-are ∙ stored-back (s .bank .bank) held (replicate stateSize 0) zeros-laid
+
+  pub standing-bank : stateOf (bankIn (standing s)) ≡ s .bank
+  standing-bank = ap (λ (b : Bank). bankState b (s .bank .orders) (s .bank .mailboxes)) standing-numbers
+
+  pub standing-journal : journalIn (standing s) ≡ s .journal
+  standing-journal =
+      let of : ℕ → Journal = λ (n : ℕ). record { events = n; row = s .journal .row } in
+      ap of (count-of-both (numbers s) long (s .journal .events))
+
+-- ---- over allowed calls
+
+-- what the bank and the images are after them
+pub record Right (s : Course) : Type 0 where
+  pub state : StateHolds (s .bank)
+  pub images : Written s
+
+pub right-start : Right start
+unfolding start
+right-start = record { state = fresh-state; images = λ image i. absurd (in-none i) }
+
+right-carried : (k : Call) (s : Course) → Right s → Premise k s → callNumber k ≡ 0 → Right (carryOut k s)
+right-carried (frameArrives m a) s v q z = record {
+  state = subst (λ (t : Course). StateHolds (t .bank)) (sym (host-frame m a z s))
+      (subst (λ (x : BankState). StateHolds (frameCall x a .bankState)) (sym (q .0)) (frame-keeps-state (s .bank) (v .state) a));
+  images = λ image i. absurd (in-none i);
+}
+right-carried (filePut rows mailboxes m file) s v q z = record {
+  state = subst (λ (t : Course). StateHolds (t .bank)) (sym (host-file rows mailboxes m file z s))
+      (rw (q .0, q .1) (file-keeps-state (s .bank) (v .state) m file));
+  images = λ image i. absurd (in-none i);
+}
+right-carried (begins i c params l) s v q z = record { state = v .state; images = v .images }
+right-carried (replyArrives i c reply l) s v q z = record { state = v .state; images = v .images }
+right-carried (noReply i c l) s v q z = record { state = v .state; images = v .images }
+right-carried (journalHanded i c row) s v q z = record { state = v .state; images = v .images }
+right-carried (putsAway m buffer) s v q z = record { state = v .state; images = put-written m buffer s (v .images) q z }
+right-carried (takesUp m image) s v q z = subst Right (sym (taken-stays m image s (v .images) q z)) v
+
+pub right-next : (k : Call) (s : Course) → Right s → Allowed k s → Right (exec k s)
+right-next k s v a = by-number k s Right v (λ z. right-carried k s v (a z) z)
