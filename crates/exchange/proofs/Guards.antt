@@ -18,27 +18,31 @@ use Rattle.client_run.specs.declared.run.ClientRun.{ClientRun}
 use Rattle.client_run.specs.declared.run.RunParameters.{RunParameters}
 use Rattle.client_run.specs.declared.run.Stage.the-variants as stage
 use Rattle.client_run.specs.declared.run.Word.the-variants.{Lodged}
-use Rattle.client_run.specs.Run.{Lent, orderName}
+use Rattle.client_run.specs.Run.{Lent, lentOf, orderName}
+use Rattle.bank_rows.specs.State.{bankOf}
 use Rattle.bank_steps.specs.Lent.{stateOf}
 use Rattle.bank.specs.Call.{FrameInput}
-use Rattle.bank_session.specs.Session.{LentSession, bankIn, journalIn}
+use Rattle.bank_session.specs.Session.{LentSession, bankRows, bankIn, journalIn, sessionFrameCall}
 use Rattle.image_calls.specs.Calls.{putAway, imageLength}
 use Rattle.exchange.specs.Course.{
   Call,
   frameArrives,
+  filePut,
   begins,
   replyArrives,
   noReply,
   journalHanded,
   putsAway,
   takesUp,
+  Exchange,
+  Arrival,
   Course,
   callNumber,
   carryOut,
   exec,
   after,
 }
-use Rattle.exchange.specs.Terms.{IssuedBy, InTurn, Order, nameOf, InBook}
+use Rattle.exchange.specs.Terms.{IssuedBy, NoIdleHour, InTurn, Order, nameOf, InBook}
 use Rattle.exchange.specs.Demand3.{isSubscribers, Allowed, Outcome}
 use Rattle.exchange.proofs.Calls.{numbered-stays, carried, by-number}
 
@@ -64,10 +68,15 @@ module _ (k : Call) (one : callNumber k ≡ 1) where
   pub one-stays : (s : Course) → exec k s ≡ s
   one-stays s = numbered-stays k s given
 
--- ---- a frame that is no request of a subscriber, to the session as it stands, whatever else the call brings
+-- ---- a frame to the session as it stands: at any time, with any ID bytes and reply buffer, whatever the others count
 
 module _ (s : Course) (m : LentSession) (bank : stateOf (bankIn m) ≡ s .bank) (journal : journalIn m ≡ s .journal)
     (a : FrameInput) where
+  -- a copy of a request issued
+  pub issued-allowed : (i : ℕ) → IssuedBy i (a .frame) s → Allowed (frameArrives m a) s
+  issued-allowed i own _ = (bank, journal, λ _. (i, own))
+
+  -- no request of a subscriber
   pub stray-allowed : isSubscribers (a .frame) ≡ false → Allowed (frameArrives m a) s
   stray-allowed n _ = (bank, journal, λ e. never (sym n ∙ e))
 
@@ -92,6 +101,31 @@ module _ (s : Course) (m : LentSession) (bank : stateOf (bankIn m) ≡ s .bank) 
           let most = and-true (readable && leb 1 u) (leb u subscribers) e in
           let least = and-true readable (leb 1 u) (most .0) in
           absurd (n (leb-true 1 u (least .1)) (leb-true u subscribers (most .1)))
+
+-- ---- a file to the bank as it stands: any file into any mailbox, with any number of events
+
+pub file-allowed : (s : Course) (rows : List ℕ) → bankOf (bankRows rows) ≡ s .bank .bank → (m : ℕ) (file : List ℕ) →
+    Allowed (filePut rows (s .bank .mailboxes) m file) s
+file-allowed s rows e m file _ = (e, refl)
+
+-- ---- a call of a run as it stands: at any time, with any nonce bytes and request buffer
+
+module _ (s : Course) (i time : ℕ) (nonce request : List ℕ) where
+  -- begin, with any payload and file buffer
+  pub begin-allowed : (params : RunParameters) (payload file : List ℕ) →
+      Allowed (begins i (s .runs i) params (lentOf time nonce payload file request)) s
+  begin-allowed params payload file _ = refl
+
+  abbrev left : Lent
+  left = lentOf time nonce (s .payloads i) (s .files i) request
+
+  -- a copy of a reply that the bank gave for a copy of a request issued
+  pub reply-allowed : (e : Exchange) → In e (s .exchanged) → (j : ℕ) → IssuedBy j (e .request) s →
+      Allowed (replyArrives i (s .runs i) (e .reply) left) s
+  reply-allowed e m j own _ = ((refl, refl, refl), (e, m, refl, (j, own)))
+
+  pub no-reply-allowed : Allowed (noReply i (s .runs i) left) s
+  no-reply-allowed _ = (refl, refl, refl)
 
 -- ---- the journal as it stands, to any run: not begun, under way or ended, unclear or not
 
@@ -169,6 +203,25 @@ put-in-turn i m buffer s _ = tt
 
 pub taken-in-turn : (i : ℕ) (m : LentSession) (image : List ℕ) (s : Course) → InTurn i (takesUp m image) s
 taken-in-turn i m image s _ = tt
+
+-- a file
+pub file-in-turn : (i : ℕ) (s : Course) (rows mailboxes : List ℕ) (m : ℕ) (file : List ℕ) →
+    InTurn i (filePut rows mailboxes m file) s
+file-in-turn i s rows mailboxes m file _ = tt
+
+-- the order's own begin, and its own reply that has not arrived
+pub begin-in-turn : (i : ℕ) (s : Course) (c : ClientRun) (params : RunParameters) (l : Lent) → InTurn i (begins i c params l) s
+begin-in-turn i s c params l _ = tt
+
+pub reply-in-turn : (i : ℕ) (s : Course) (c : ClientRun) (bytes : List ℕ) (l : Lent) →
+    ((a : Arrival) → In a (s .arrived) → a .run ≡ i → a .reply ≡ bytes → ⊥) → InTurn i (replyArrives i c bytes l) s
+reply-in-turn i s c bytes l fresh _ = λ _. fresh
+
+-- its own request that the bank has not received, within the idle limit of the one before
+pub own-in-turn : (i : ℕ) (s : Course) (m : LentSession) (a : FrameInput) →
+    ((e : Exchange) → In e (s .exchanged) → e .request ≡ a .frame → ⊥) →
+    NoIdleHour i (stateOf (bankIn (sessionFrameCall m a .session)) .bank .clock) s → InTurn i (frameArrives m a) s
+own-in-turn i s m a fresh hour _ = λ _. (fresh, hour)
 
 -- a frame that the run did not issue
 pub foreign-in-turn : (i : ℕ) (s : Course) (m : LentSession) (a : FrameInput) → (IssuedBy i (a .frame) s → ⊥) →

@@ -1,5 +1,5 @@
--- The session as it stands, in memory: a call left its rows, so that a host's call on it is the bank's own on the bank and
--- the journal that stand. Assumes nothing.
+-- The session as it stands, in memory: its rows are such as a call leaves, so that a host's call on it is the bank's own
+-- on the bank and the journal that stand. Assumes nothing.
 use Prim.Native.Nat.{ℕ}
 use mathlib.Core.Bool.{true}
 use mathlib.Core.List.{List, List·Memᴰ·not-nil as in-none}
@@ -65,7 +65,7 @@ module _ (s : Course) (v : StateHolds (s .bank)) where
   pub standing-long : length (standing s .rows) ≡ sessionSize
   standing-long = both-long (numbers s) long (s .journal .events)
 
-  -- a call left them
+  -- such as a call leaves
   pub standing-sound : isSound (bankRows (standing s .rows)) ≡ true
   standing-sound =
       ap isSound rows-are
