@@ -15,6 +15,7 @@ pub mod Issues
 pub mod Handed
 pub mod Outstanding
 pub mod Courses
+pub mod Openings
 pub mod Joint
 pub mod Outcome
 pub mod Runs

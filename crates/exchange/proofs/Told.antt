@@ -140,6 +140,11 @@ pub one-opened : {t : Bits128} {e f : Exchange} {g k h : List Exchange} → AllS
     Opening t f → e ≡ f
 one-opened {t} sound a b o p = one-opening (t .low) sound a b (opens-number o) (opens-number p) .0
 
+-- which stands in one place
+pub one-place-opened : {t : Bits128} {e f : Exchange} {g k h : List Exchange} → AllSound h → Stands e g h → Stands f k h →
+    Opening t e → Opening t f → g ≡ k
+one-place-opened {t} sound a b o p = one-opening (t .low) sound a b (opens-number o) (opens-number p) .1
+
 -- and so each number of an opening
 pub one-numbered : {t u : Bits128} {e f : Exchange} {g k h : List Exchange} → AllSound h → Stands e g h → Stands f k h → Opening t e →
     Opening u f →

@@ -3,3 +3,4 @@ pub mod Lists
 pub mod Course
 pub mod Terms
 pub mod Demand3
+pub mod Opening
