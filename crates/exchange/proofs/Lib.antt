@@ -30,3 +30,4 @@ pub mod OwnRequests
 pub mod OwnReplies
 pub mod Turn
 pub mod Theorem
+pub mod Consequences

@@ -4,3 +4,4 @@ pub mod Course
 pub mod Terms
 pub mod Demand3
 pub mod Opening
+pub mod Consequences
