@@ -4,3 +4,4 @@ pub mod Session
 pub mod Laws
 pub mod Lent
 pub mod Time
+pub mod Host
