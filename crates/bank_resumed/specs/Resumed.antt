@@ -1,0 +1,151 @@
+-- Every allowed list of a host's calls leaves what its answered frames and its files alone leave on a fresh bank. So
+-- the theorems on lists of the bank's calls speak of a session put away and taken up, whatever the requests are.
+use Prim.Native.Nat.{ℕ, _+_, _≤_, _<_}
+use mathlib.Core.Bool.{true, false}
+use mathlib.Core.List.{List, _∷_, _++_, List·Memᴰ as In}
+use mathlib.Core.Path.{_≡_}
+use lib.ListN.{length}
+use Rattle.frame_table.specs.declared.fields.Bits128.{Bits128}
+use Rattle.frame_table.specs.declared.table.Form.{Form}
+use Rattle.frame_table.specs.Names.{subscriber, nonce, timestamp, transaction, lastMark, orderNumber}
+use Rattle.message.specs.declared.codes.ReturnCode.the-variants as code
+use Rattle.message.specs.Limits.{subscribers, maxAttempts}
+use Rattle.message.specs.OrderNumbers.{orderNumberOf}
+use Rattle.journal.specs.declared.event.Kind.the-variants as kind
+use Rattle.journal.specs.declared.event.OrderName.{OrderName}
+use Rattle.journal.specs.Records.{Recorded, RecordedEnd}
+use Rattle.journal.specs.Row.{Journal, rowOf}
+use Rattle.bank_state.specs.Clock.{advanced}
+use Rattle.bank_state.specs.Limits.{window, idleLimit}
+use Rattle.bank_state.specs.State.{BankState, seriesOf}
+use Rattle.bank_verdicts.specs.declared.verdict.Direction.{Direction}
+use Rattle.bank_steps.specs.Lent.{stateOf}
+use Rattle.bank.specs.Call.{FrameInput}
+use Rattle.bank_session.specs.Session.{LentSession, bankIn}
+use Rattle.bank_history.specs.History.{
+  Exchange,
+  Stands,
+  BankCall,
+  Frame,
+  Past,
+  callExchange,
+  isBooking,
+  ever,
+  pastOf,
+}
+use Rattle.bank_history.specs.FalseEconomies.{
+  Next,
+  WellMadeOpening,
+  Asks,
+  RefusedWith,
+  Opens,
+  Takes,
+  Fits,
+  Attempt,
+  Attempts,
+  StillOpen,
+}
+use Rattle.bank_history.specs.Status.{Open, Drop, drops, eventsOf, OpenAs, OpenIn, Rising}
+use Rattle.bank_history.specs.ByReplies.{uploadsOpened, standing}
+use Rattle.bank_history.specs.Series.{InSeries}
+use Rattle.bank_history.specs.Journal.{journalOf, eventsIn}
+use Rattle.bank_history.specs.JournalOrders.{OpensOrder}
+use Rattle.bank_resumed.specs.Calls.{
+  HostCall,
+  frameArrives,
+  callNumber,
+  leftBy,
+  AllAllowed,
+  bankCalls,
+}
+
+-- the answered frames that a list leaves, and the bank with its stores
+abbrev pub historyLeft : List HostCall → List Exchange
+historyLeft ks = leftBy ks .past .history
+
+abbrev pub bankLeft : List HostCall → BankState
+bankLeft ks = leftBy ks .past .bankState
+
+-- after these calls a frame call is answered, and e is its exchange
+pub record NextFrame (ks : List HostCall) (e : Exchange) : Type 0 where
+  pub lent : LentSession
+  pub input : FrameInput
+  pub allowed : AllAllowed (frameArrives lent input ∷ ks)
+  pub answered : callNumber (frameArrives lent input) ≡ 0
+  pub is : callExchange (stateOf (bankIn lent)) input ≡ e
+
+-- ---- the statement
+
+pub record Resumed : Type 1 where
+  -- bank, stores, answered frames and journal are those of the bank's calls alone
+  pub past : {ks : List HostCall} → AllAllowed ks → leftBy ks .past ≡ pastOf (bankCalls ks)
+  pub journal : {ks : List HostCall} → AllAllowed ks → leftBy ks .journal ≡ journalOf (bankCalls ks)
+  -- an answered frame is the bank's next one, with all that it brings
+  pub next : {ks : List HostCall} {e : Exchange} → NextFrame ks e → Next (bankCalls ks) e
+  pub input : {ks : List HostCall} {e : Exchange} (n : NextFrame ks e) → next n .input ≡ n .input
+  pub joins : {ks : List HostCall} {e : Exchange} (n : NextFrame ks e) →
+      bankCalls (frameArrives (n .lent) (n .input) ∷ ks) ≡ Frame (n .input) ∷ bankCalls ks
+  -- so what is true after every list of the bank's calls is true here, and so is what is true of each answered frame
+  pub holds : (P : Past → Journal → Type 0) → ((calls : List BankCall) → P (pastOf calls) (journalOf calls)) →
+      (ks : List HostCall) → AllAllowed ks → P (leftBy ks .past) (leftBy ks .journal)
+  pub holdsNext : (P : List Exchange → Exchange → Type 0) →
+      ((calls : List BankCall) (e : Exchange) → Next calls e → P (pastOf calls .history) e) →
+      (ks : List HostCall) (e : Exchange) → NextFrame ks e → P (historyLeft ks) e
+
+-- ---- what it says after an allowed list, of the false economies, the series, the journal, the drops and the statuses
+
+pub record ResumedBank (ks : List HostCall) : Type 0 where
+  -- `FalseEconomies`: "An accepted opening's nonce is remembered, against all subscribers"
+  pub replay : {e f : Exchange} {g : List Exchange} {t : Bits128} → NextFrame ks e → WellMadeOpening e →
+      Stands f g (historyLeft ks) → Opens t f → nonce (e .request) ≡ nonce (f .request) →
+      e .clock ≤ timestamp (f .request) + window → RefusedWith code.MessageReplay e
+  -- "Accepting another subscriber's transaction ID": it gets 091101, and "beyond clock and drops" nothing changes
+  pub foreign : {e f : Exchange} {g : List Exchange} {t : Bits128} (n : NextFrame ks e) → Asks t e →
+      Stands f g (historyLeft ks) → Opens t f → (subscriber (e .request) ≡ subscriber (f .request) → ⊥) →
+      RefusedWith code.UnknownTransaction e
+      × (bankLeft (frameArrives (n .lent) (n .input) ∷ ks) ≡ advanced (n .input .time) (bankLeft ks))
+  -- "Answering a repeated last segment 000000 (the order is closed: 091101)"
+  pub closed : {e f : Exchange} {g : List Exchange} {t : Bits128} → NextFrame ks e → Asks t e →
+      Stands f g (historyLeft ks) → Takes t f → lastMark (f .request) ≡ 1 → RefusedWith code.UnknownTransaction e
+  -- "Letting a recovery attempt refresh the idle hour"; a request to an open transaction never gets 091101
+  pub idle : {e : Exchange} {t : Bits128} → NextFrame ks e → Asks t e →
+      ((f : Exchange) (g : List Exchange) → Stands f g (historyLeft ks) → Fits t g f →
+      f .clock + idleLimit < e .clock) →
+      RefusedWith code.UnknownTransaction e
+  pub known : {e : Exchange} {t : Bits128} {f : Form} {last : ℕ} → NextFrame ks e → Asks t e →
+      StillOpen t f (subscriber (e .request)) last (historyLeft ks) → e .clock ≤ last + idleLimit →
+      RefusedWith code.UnknownTransaction e → ⊥
+  -- "Attempts are counted per transaction and never reset"
+  pub five : {e : Exchange} {t : Bits128} {n : ℕ} → NextFrame ks e → Attempts t n (historyLeft ks) →
+      Attempt t (historyLeft ks) e → n < maxAttempts
+  pub sixth : {e : Exchange} {n : ℕ} → NextFrame ks e → Attempts (transaction (e .request)) n (historyLeft ks) →
+      RefusedWith code.TransactionAbort e → n ≡ maxAttempts
+  -- `Series`: "Uploads of a subscriber and type now count from A000 on their own", and no number comes twice
+  pub numbered : {s : ℕ} {e : Exchange} {g : List Exchange} → InSeries s e g (historyLeft ks) →
+      orderNumber (e .reply) ≡ orderNumberOf (uploadsOpened s g)
+  pub apart : {s : ℕ} {e f : Exchange} {g h : List Exchange} → InSeries s e g (historyLeft ks) →
+      InSeries s f h (historyLeft ks) → orderNumber (e .reply) ≡ orderNumber (f .reply) → (e ≡ f) × (g ≡ h)
+  -- the bank's counters are how many there were
+  pub counters : (s : ℕ) → 1 ≤ s → s ≤ subscribers →
+      seriesOf s (bankLeft ks .bank .series) ≡ uploadsOpened s (historyLeft ks)
+  -- `JournalTold`: the row and the number of events, by requests, replies and clocks
+  pub row : leftBy ks .journal .row ≡ rowOf (eventsIn (historyLeft ks))
+  pub events : leftBy ks .journal .events ≡ length (eventsIn (historyLeft ks))
+  -- `JournalOrders`: "a booking under its order number"; "a cancellation or drop", whatever allowed calls come after
+  pub booked : {o : OrderName} {t : Bits128} → Recorded kind.Booked o (leftBy ks .journal .row) →
+      OpensOrder o t (historyLeft ks) → ever isBooking t (historyLeft ks) ≡ true
+  pub ended : {o : OrderName} {t : Bits128} → RecordedEnd o (leftBy ks .journal .row) →
+      OpensOrder o t (historyLeft ks) → (more : List HostCall) → AllAllowed (more ++ ks) →
+      (OpenIn (bankLeft (more ++ ks)) t → ⊥) × (ever isBooking t (historyLeft (more ++ ks)) ≡ false)
+  -- `Drops` and the statuses: open in the bank exactly when open by requests, replies and clocks
+  pub told : (t : Bits128) (d : Direction) (s last : ℕ) → OpenAs (bankLeft ks) t d s last →
+      standing t (historyLeft ks) ≡ Open d s last
+  pub shown : (t : Bits128) (d : Direction) (s last : ℕ) → standing t (historyLeft ks) ≡ Open d s last →
+      OpenAs (bankLeft ks) t d s last
+  -- a call's clock takes out of the bank exactly what its events drop, the oldest opening first
+  pub gone : {e : Exchange} (n : NextFrame ks e) (t : Bits128) → In (Drop t) (eventsOf e (historyLeft ks)) →
+      OpenIn (bankLeft ks) t × (OpenIn (advanced (n .input .time) (bankLeft ks)) t → ⊥)
+  pub stays : {e : Exchange} (n : NextFrame ks e) (t : Bits128) (d : Direction) (s last : ℕ) →
+      OpenAs (bankLeft ks) t d s last → (In (Drop t) (eventsOf e (historyLeft ks)) → ⊥) →
+      OpenAs (advanced (n .input .time) (bankLeft ks)) t d s last
+  pub ordered : (clock : ℕ) → Rising 0 (drops clock (historyLeft ks))
