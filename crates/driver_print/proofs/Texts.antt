@@ -35,11 +35,11 @@ use Rattle.print.proofs.Digits.{decimal-most, column-most}
 use Rattle.print.proofs.Texts.{put-then, put-one, cond-most}
 use Rattle.print.specs.Closing.{closingRoom}
 use Rattle.print.proofs.Lengths.{order-name-most, closing-most, columns-most}
-use Rattle.unit.specs.declared.call.Answer.{Answer}
-use Rattle.unit.specs.declared.call.Answer.the-variants as answer
-use Rattle.unit.specs.declared.state.UnitState.{UnitState}
-use Rattle.unit.specs.Records.{runCount}
-use Rattle.unit.specs.State.{runAt}
+use Rattle.unit_state.specs.declared.answer.Answer.{Answer}
+use Rattle.unit_state.specs.declared.answer.Answer.the-variants as answer
+use Rattle.unit_state.specs.declared.state.UnitState.{UnitState}
+use Rattle.unit_state.specs.Records.{runCount}
+use Rattle.unit_state.specs.State.{runAt}
 use Rattle.driver_print.specs.declared.tables.Table.{Table}
 use Rattle.driver_print.specs.declared.tables.Table.the-variants.{Book, Mailboxes, Words, Files, Journal}
 use Rattle.driver_print.specs.Line.{hexDigit, hexOf, digest, awayText, answerText, awayRoom, answerRoom}

@@ -7,8 +7,8 @@ use lib.ListN.{take}
 use Rattle.octets.specs.Bytes.{number}
 use Rattle.print.specs.Text.{ascii, maxDigits, decimal, space, newline, column, columnRoom}
 use Rattle.print.specs.Closing.{closingText}
-use Rattle.unit.specs.declared.call.Answer.{Answer}
-use Rattle.unit.specs.declared.call.Answer.the-variants.{
+use Rattle.unit_state.specs.declared.answer.Answer.{Answer}
+use Rattle.unit_state.specs.declared.answer.Answer.the-variants.{
   Frame,
   Put,
   Request,

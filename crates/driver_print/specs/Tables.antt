@@ -29,9 +29,9 @@ use Rattle.print.specs.Text.{ascii, space, newline, column, columnRoom, rowsTo}
 use Rattle.print.specs.Name.{orderNameText, orderNameRoom}
 use Rattle.print.specs.Book.{bookHeader, orderColumns, orderColumnsRoom}
 use Rattle.print.specs.Closing.{closingText}
-use Rattle.unit.specs.declared.state.UnitState.{UnitState}
-use Rattle.unit.specs.Records.{runCount}
-use Rattle.unit.specs.State.{runAt}
+use Rattle.unit_state.specs.declared.state.UnitState.{UnitState}
+use Rattle.unit_state.specs.Records.{runCount}
+use Rattle.unit_state.specs.State.{runAt}
 use Rattle.driver_print.specs.declared.tables.Table.{Table}
 use Rattle.driver_print.specs.declared.tables.Table.the-variants.{Book, Mailboxes, Words, Files, Journal}
 use Rattle.driver_print.specs.Line.{hexOf}

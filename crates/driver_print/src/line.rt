@@ -6,7 +6,7 @@ use print::text::put_byte;
 use print::text::put_column;
 use print::text::put_decimal;
 use print::text::put_text;
-use unit::call::Answer;
+use unit_state::answer::Answer;
 ghost use mathlib.Core.Path.{_≡_};
 ghost use mathlib.Core.List.{_++_};
 ghost use Prim.Native.Nat.{_+_, _*_, _≤_, _<_};

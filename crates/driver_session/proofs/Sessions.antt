@@ -9,9 +9,9 @@ use Rattle.bank_state.specs.State.{fresh}
 use Rattle.bank_rows.specs.State.{bankOf}
 use Rattle.bank_rows.proofs.State.{fresh-rows}
 use Rattle.bank_session.specs.Session.{bankRows}
-use Rattle.unit.specs.declared.record.Kind.{Kind}
-use Rattle.unit.specs.declared.state.UnitState.{UnitState}
-use Rattle.unit.specs.Records.{callOf, isCall}
+use Rattle.unit_state.specs.declared.record.Kind.{Kind}
+use Rattle.unit_state.specs.declared.state.UnitState.{UnitState}
+use Rattle.unit_state.specs.Records.{callOf, isCall}
 use Rattle.unit.specs.State.{Memory, State, stateOf}
 use Rattle.unit.specs.Call.{UnitCall, unitCall}
 use Rattle.driver_session.specs.Session.{unitAfter, allCalls, Calls, start, Session}

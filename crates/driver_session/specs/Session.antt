@@ -7,9 +7,10 @@ use lib.ListN.{replicate}
 use Rattle.bank_state.specs.Limits.{storeBytes, replyRoom}
 use Rattle.bank_steps.specs.Lent.{lent}
 use Rattle.bank_session.specs.Session.{sessionSize}
-use Rattle.unit.specs.declared.state.UnitState.{UnitState}
-use Rattle.unit.specs.Records.{roomBytes, callOf, isCall}
-use Rattle.unit.specs.State.{State, fresh, roomsBytes, memory, stateOf}
+use Rattle.unit_state.specs.declared.state.UnitState.{UnitState}
+use Rattle.unit_state.specs.Records.{roomBytes, callOf, isCall}
+use Rattle.unit_state.specs.State.{fresh, roomsBytes}
+use Rattle.unit.specs.State.{State, memory, stateOf}
 use Rattle.unit.specs.Call.{unitCall}
 
 -- the unit after the calls of these records, one after the other

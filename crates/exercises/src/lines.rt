@@ -13,7 +13,7 @@ use frame_table::table::ReplyForm;
 use frame_table::table::RequestForm;
 use message::codes::ReturnCode;
 use message::codes::code_field;
-use unit::call::Answer;
+use unit_state::answer::Answer;
 
 // The key of what a request says.
 fn request_key(form: RequestForm) -> u8 {

@@ -27,10 +27,10 @@ use script::MOVES_DAY;
 use script::Move;
 use script::move_at;
 use unit::call::call;
-use unit::record::ROOM_BYTES;
-use unit::state::ROOMS_BYTES;
-use unit::state::UnitState;
-use unit::state::fresh;
+use unit_state::record::ROOM_BYTES;
+use unit_state::state::ROOMS_BYTES;
+use unit_state::state::UnitState;
+use unit_state::state::fresh;
 
 // Number i of the session's; 0 after the last.
 fn number_at(rows: &[u64], i: usize) -> u64 {

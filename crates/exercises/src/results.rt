@@ -24,7 +24,7 @@ use message::order_numbers::order_number_of;
 use octets::bytes::front;
 use print::book::BOOK_ROOM;
 use print::book::book;
-use unit::state::UnitState;
+use unit_state::state::UnitState;
 
 // Whether two byte rows are the same.
 fn same_bytes(a: &[u8], b: &[u8]) -> bool {

@@ -39,9 +39,9 @@ use Rattle.image_admitted.proofs.Theorems.{frame-admitted, file-admitted}
 use Rattle.exchange.specs.Course.{Call, Course, frameArrives, filePut, afterFile, exec}
 use Rattle.exchange.proofs.Calls.{numbered-stays, carried, by-number}
 use Rattle.exchange.proofs.Host.{frame-numbered, frame-kept, file-exec}
-use Rattle.unit.specs.declared.record.Kind.{Kind}
-use Rattle.unit.specs.declared.record.Kind.the-variants as kind
-use Rattle.unit.specs.Records.{idsAt, headOf, bankTimeOf, idsOf, mailboxOf, sizeOf, bodyOf}
+use Rattle.unit_state.specs.declared.record.Kind.{Kind}
+use Rattle.unit_state.specs.declared.record.Kind.the-variants as kind
+use Rattle.unit_state.specs.Records.{idsAt, headOf, bankTimeOf, idsOf, mailboxOf, sizeOf, bodyOf}
 use Rattle.unit.specs.State.{State, sessionIn}
 use Rattle.unit.specs.Call.{frameAnswer, fileAnswer, frameStep, fileStep}
 use Rattle.sessions.specs.Sessions.{bankAt, journalAt, frameOf, putOf, told}

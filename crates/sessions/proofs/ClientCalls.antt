@@ -60,8 +60,8 @@ use Rattle.client_rules.proofs.Accepted.{accepted}
 use Rattle.client_rules.proofs.Causes.{Cause, by-reply, by-no-reply, brought}
 use Rattle.client_rules.proofs.Causes as cause
 use Rattle.client_rules.proofs.Feasible.{opened-takes}
-use Rattle.unit.specs.declared.record.Event.{Event}
-use Rattle.unit.specs.declared.record.Event.the-variants.{Upload, Download, Reply, NoReply}
+use Rattle.unit_state.specs.declared.record.Event.{Event}
+use Rattle.unit_state.specs.declared.record.Event.the-variants.{Upload, Download, Reply, NoReply}
 use Rattle.unit.specs.Call.{eventCall}
 
 -- what a call to the run c that is lent l leaves

@@ -29,9 +29,9 @@ use Rattle.exchange.specs.Course.{
 use Rattle.exchange.specs.Demand3.{Premise, AllAllowed, OneExchangeNumber, Demand3, Outcome}
 use Rattle.exchange.specs.Terms.{Booked}
 use Rattle.exchange.proofs.Theorem.{demand3}
-use Rattle.unit.specs.declared.record.Kind.{Kind}
-use Rattle.unit.specs.declared.record.Kind.the-variants as kind
-use Rattle.unit.specs.Records.{runCount, callOf}
+use Rattle.unit_state.specs.declared.record.Kind.{Kind}
+use Rattle.unit_state.specs.declared.record.Kind.the-variants as kind
+use Rattle.unit_state.specs.Records.{runCount, callOf}
 use Rattle.unit.specs.State.{State}
 use Rattle.unit.specs.Call.{unitCall}
 use Rattle.sessions.specs.Sessions.{

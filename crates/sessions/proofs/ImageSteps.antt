@@ -43,11 +43,11 @@ use Rattle.image_calls.proofs.Theorems.{image-long, put-away-done, refused-up, 
 use Rattle.image_admitted.specs.Reached.{InList}
 use Rattle.exchange.specs.Course.{Call, Course, putsAway, takesUp, exec}
 use Rattle.exchange.proofs.Calls.{numbered-stays, carried, by-number}
-use Rattle.unit.specs.declared.record.Kind.the-variants as kind
-use Rattle.unit.specs.Records.{lentLengthOf, offsetOf, sizeOf, bodyOf, roomBytes, callOf}
+use Rattle.unit_state.specs.declared.record.Kind.the-variants as kind
+use Rattle.unit_state.specs.Records.{lentLengthOf, offsetOf, sizeOf, bodyOf, roomBytes, callOf}
 use Rattle.unit.specs.State.{State, sessionIn}
 use Rattle.unit.specs.Call.{awayAnswer, takenUpAnswer, awayStep, takeUpStep, imageStep}
-use Rattle.unit.proofs.Parts.{callable}
+use Rattle.unit_state.proofs.Parts.{callable}
 use Rattle.sessions.specs.Sessions.{bankAt, journalAt, frontOf, awayOf, takenOf, told}
 use Rattle.sessions.proofs.MemoryBytes.{
   bytes-overwrite,

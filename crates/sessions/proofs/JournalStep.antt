@@ -26,10 +26,11 @@ use Rattle.client.proofs.Journal.{JournalCause, journal-cause}
 use Rattle.client.proofs.Journal as cause
 use Rattle.exchange.specs.Course.{Course, journalHanded, carryOut, exec}
 use Rattle.exchange.proofs.Calls.{carried}
-use Rattle.unit.specs.declared.call.Answer.the-variants.{Closed}
-use Rattle.unit.specs.declared.state.Run.{Run}
-use Rattle.unit.specs.Records.{runCount}
-use Rattle.unit.specs.State.{State, runAt}
+use Rattle.unit_state.specs.declared.answer.Answer.the-variants.{Closed}
+use Rattle.unit_state.specs.declared.state.Run.{Run}
+use Rattle.unit_state.specs.Records.{runCount}
+use Rattle.unit_state.specs.State.{runAt}
+use Rattle.unit.specs.State.{State}
 use Rattle.unit.specs.Call.{indexOf, journalAnswer, journalStep}
 use Rattle.unit.proofs.Named.{journal-named}
 use Rattle.sessions.specs.Sessions.{handedOf, told, Given}

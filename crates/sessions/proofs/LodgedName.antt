@@ -22,10 +22,10 @@ use Rattle.client_run.specs.declared.run.Word.{Word}
 use Rattle.client_run.specs.declared.run.Word.the-variants.{Lodged}
 use Rattle.client_run.specs.Run.{orderName}
 use Rattle.exchange.specs.Course.{Course}
-use Rattle.unit.specs.declared.call.Answer.the-variants.{Closed}
-use Rattle.unit.specs.declared.record.Kind.{Kind}
-use Rattle.unit.specs.declared.record.Kind.the-variants as kind
-use Rattle.unit.specs.Records.{bankTimeOf, idsOf, mailboxOf, runOf, bodyOf, runCount, callOf, isCall}
+use Rattle.unit_state.specs.declared.answer.Answer.the-variants.{Closed}
+use Rattle.unit_state.specs.declared.record.Kind.{Kind}
+use Rattle.unit_state.specs.declared.record.Kind.the-variants as kind
+use Rattle.unit_state.specs.Records.{bankTimeOf, idsOf, mailboxOf, runOf, bodyOf, runCount, callOf, isCall}
 use Rattle.unit.specs.State.{State, sessionIn}
 use Rattle.unit.specs.Call.{
   UnitCall,
@@ -43,7 +43,7 @@ use Rattle.unit.specs.Call.{
   unitCall,
 }
 use Rattle.unit.proofs.Named.{isClosed}
-use Rattle.unit.proofs.Parts.{callable, run-within}
+use Rattle.unit_state.proofs.Parts.{callable, run-within}
 use Rattle.sessions.specs.Sessions.{freshUnit, Records, more, unitAfter, clientAt, frontOf, SessionsClose, LodgedNamed}
 use Rattle.sessions.proofs.Standing.{Standing, Tells, made, fresh-standing}
 use Rattle.sessions.proofs.RunSteps.{run-closed}

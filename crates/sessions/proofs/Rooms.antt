@@ -11,8 +11,8 @@ use Rattle.octets.proofs.Numbers.{length-overwrite}
 use Rattle.message.specs.Limits.{fileBytes}
 use Rattle.bank_state.specs.Store.{partAt, withPart, fileOf}
 use Rattle.bank_state.proofs.Stores.{overwrite-same, overwrite-before, overwrite-behind}
-use Rattle.unit.specs.Records.{runCount}
-use Rattle.unit.specs.State.{roomsBytes}
+use Rattle.unit_state.specs.Records.{runCount}
+use Rattle.unit_state.specs.State.{roomsBytes}
 
 module _ (d : List ℕ) (whole : length d ≡ roomsBytes) (i : ℕ) (inside : i < runCount) where
   pub length-part : length (partAt d i) ≡ fileBytes

@@ -20,13 +20,14 @@ use Rattle.client_run.specs.Run.{Lent, ClientCall, lentOf, answerNumber, orderN
 use Rattle.client_rules.specs.Rulings.{isBegun}
 use Rattle.exchange.specs.Course.{Call, Course, callNumber, changed, carryOut, exec}
 use Rattle.exchange.proofs.Calls.{numbered-stays, carried}
-use Rattle.unit.specs.declared.call.Answer.the-variants.{Closed}
-use Rattle.unit.specs.declared.record.Event.{Event}
-use Rattle.unit.specs.declared.record.Event.the-variants.{Upload, Download, Reply, NoReply}
-use Rattle.unit.specs.declared.record.Kind.the-variants as kind
-use Rattle.unit.specs.declared.state.Run.{Run}
-use Rattle.unit.specs.Records.{timeOf, nonceOf, bodyOf, runCount}
-use Rattle.unit.specs.State.{State, roomsBytes, runAt}
+use Rattle.unit_state.specs.declared.answer.Answer.the-variants.{Closed}
+use Rattle.unit_state.specs.declared.record.Event.{Event}
+use Rattle.unit_state.specs.declared.record.Event.the-variants.{Upload, Download, Reply, NoReply}
+use Rattle.unit_state.specs.declared.record.Kind.the-variants as kind
+use Rattle.unit_state.specs.declared.state.Run.{Run}
+use Rattle.unit_state.specs.Records.{timeOf, nonceOf, bodyOf, runCount}
+use Rattle.unit_state.specs.State.{roomsBytes, runAt}
+use Rattle.unit.specs.State.{State}
 use Rattle.unit.specs.Call.{runAnswer, indexOf, eventCall, roomCall, keeps, nextRun, keptPayloads, runCall, runStep}
 use Rattle.unit.specs.Call as unit
 use Rattle.unit.proofs.Begins.{kept-fits}

@@ -24,10 +24,11 @@ use Rattle.client_run.specs.declared.run.Stage.the-variants as stage
 use Rattle.client_run.specs.declared.run.Word.{Word}
 use Rattle.client_run.specs.Run.{nonceBytes, orderName}
 use Rattle.exchange.specs.Course.{Call, Course, start, callNumber, exec}
-use Rattle.unit.specs.declared.record.Kind.{Kind}
-use Rattle.unit.specs.declared.state.Run.{Run}
-use Rattle.unit.specs.Records.{runCount, roomBytes, callOf}
-use Rattle.unit.specs.State.{State, newRun, fresh, roomsBytes, sessionIn}
+use Rattle.unit_state.specs.declared.record.Kind.{Kind}
+use Rattle.unit_state.specs.declared.state.Run.{Run}
+use Rattle.unit_state.specs.Records.{runCount, roomBytes, callOf}
+use Rattle.unit_state.specs.State.{newRun, fresh, roomsBytes}
+use Rattle.unit.specs.State.{State, sessionIn}
 use Rattle.unit.specs.Call.{UnitCall, roomsRight, stepOf, unitCall}
 use Rattle.sessions.specs.Sessions.{
   freshUnit,

@@ -8,12 +8,12 @@ use native.Mathlib.Omega.{arith}
 use Rattle.octets.specs.Bytes.{Bytes}
 use Rattle.octets.proofs.Tests.{never}
 use Rattle.exchange.specs.Course.{Call, Course, exec, after}
-use Rattle.unit.specs.declared.record.Kind.{Kind}
-use Rattle.unit.specs.declared.record.Kind.the-variants as kind
-use Rattle.unit.specs.Records.{runOf, runCount, callOf, isCall}
+use Rattle.unit_state.specs.declared.record.Kind.{Kind}
+use Rattle.unit_state.specs.declared.record.Kind.the-variants as kind
+use Rattle.unit_state.specs.Records.{runOf, runCount, callOf, isCall}
 use Rattle.unit.specs.State.{State}
 use Rattle.unit.specs.Call.{UnitCall, stepOf, unitCall}
-use Rattle.unit.proofs.Parts.{callable, run-within}
+use Rattle.unit_state.proofs.Parts.{callable, run-within}
 use Rattle.sessions.specs.Sessions.{
   Records,
   none,

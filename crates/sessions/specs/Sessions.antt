@@ -55,8 +55,8 @@ use Rattle.exchange.specs.Course.{
 }
 use Rattle.exchange.specs.Demand3.{isSubscribers, Left, OneExchangeNumber, Outcome, ClosesInTurn}
 use Rattle.exchange.specs.Terms.{IssuedBy, Booked, Opened, Order, nameOf, InBook, OrderOf}
-use Rattle.unit.specs.declared.call.Answer.{Answer}
-use Rattle.unit.specs.declared.call.Answer.the-variants.{
+use Rattle.unit_state.specs.declared.answer.Answer.{Answer}
+use Rattle.unit_state.specs.declared.answer.Answer.the-variants.{
   Frame,
   Put,
   Request,
@@ -69,11 +69,11 @@ use Rattle.unit.specs.declared.call.Answer.the-variants.{
   Number,
   NoCall,
 }
-use Rattle.unit.specs.declared.record.Event.{Event}
-use Rattle.unit.specs.declared.record.Event.the-variants.{Upload, Download, Reply, NoReply}
-use Rattle.unit.specs.declared.record.Kind.{Kind}
-use Rattle.unit.specs.declared.record.Kind.the-variants as kind
-use Rattle.unit.specs.Records.{
+use Rattle.unit_state.specs.declared.record.Event.{Event}
+use Rattle.unit_state.specs.declared.record.Event.the-variants.{Upload, Download, Reply, NoReply}
+use Rattle.unit_state.specs.declared.record.Kind.{Kind}
+use Rattle.unit_state.specs.declared.record.Kind.the-variants as kind
+use Rattle.unit_state.specs.Records.{
   bankTimeOf,
   idsOf,
   mailboxOf,
@@ -86,7 +86,8 @@ use Rattle.unit.specs.Records.{
   callOf,
   isCall,
 }
-use Rattle.unit.specs.State.{State, fresh, roomsBytes, memory, stateOf, sessionIn, runAt}
+use Rattle.unit_state.specs.State.{fresh, roomsBytes, runAt}
+use Rattle.unit.specs.State.{State, memory, stateOf, sessionIn}
 use Rattle.unit.specs.Call.{
   frameAnswer,
   fileAnswer,

@@ -20,11 +20,11 @@ use Rattle.client_run.specs.declared.run.Answer.{Answer}
 use Rattle.client_run.specs.declared.run.Answer.the-variants as answer
 use Rattle.client_rules.proofs.Accepted as accepted
 use Rattle.client_rules.proofs.Accepted.{Serves}
-use Rattle.unit.specs.declared.record.Event.{Event}
-use Rattle.unit.specs.declared.record.Event.the-variants.{Upload, Download, Reply, NoReply}
-use Rattle.unit.specs.declared.record.Kind.the-variants.{Run}
-use Rattle.unit.specs.Records.{headOf, sizeOf, bodyOf, roomBytes}
-use Rattle.unit.specs.State.{roomsBytes}
+use Rattle.unit_state.specs.declared.record.Event.{Event}
+use Rattle.unit_state.specs.declared.record.Event.the-variants.{Upload, Download, Reply, NoReply}
+use Rattle.unit_state.specs.declared.record.Kind.the-variants.{Run}
+use Rattle.unit_state.specs.Records.{headOf, sizeOf, bodyOf, roomBytes}
+use Rattle.unit_state.specs.State.{roomsBytes}
 use Rattle.unit.specs.Call.{begins, roomCall, keeps, roomsRight}
 
 module _ (c : ClientRun) (params : RunParameters) (l : Lent) where

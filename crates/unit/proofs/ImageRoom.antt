@@ -10,14 +10,14 @@ use Rattle.octets.specs.Bytes.{overwrite}
 use Rattle.bank_steps.specs.Lent.{Lent}
 use Rattle.image_calls.specs.declared.calls.Away as put-away
 use Rattle.image_calls.specs.Calls.{putAwayOf, putAway}
-use Rattle.unit.specs.declared.record.Kind.{Kind}
-use Rattle.unit.specs.declared.record.Kind.the-variants as kind
-use Rattle.unit.specs.declared.call.Answer.{Answer}
-use Rattle.unit.specs.declared.state.UnitState.{UnitState}
-use Rattle.unit.specs.Records.{lentLengthOf, offsetOf, sizeOf, roomBytes, callOf}
+use Rattle.unit_state.specs.declared.record.Kind.{Kind}
+use Rattle.unit_state.specs.declared.record.Kind.the-variants as kind
+use Rattle.unit_state.specs.declared.answer.Answer.{Answer}
+use Rattle.unit_state.specs.declared.state.UnitState.{UnitState}
+use Rattle.unit_state.specs.Records.{lentLengthOf, offsetOf, sizeOf, roomBytes, callOf}
 use Rattle.unit.specs.State.{memory, stateOf, sessionIn}
 use Rattle.unit.specs.Call.{afterCall, awayAnswer, awayStep}
-use Rattle.unit.proofs.Parts.{callable}
+use Rattle.unit_state.proofs.Parts.{callable}
 
 -- the bytes of the image room that a record names are there
 module _ (r room : List ℕ) (k : Kind) (long : length room ≡ roomBytes) (ek : k ≡ callOf r) where

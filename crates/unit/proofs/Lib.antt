@@ -1,5 +1,4 @@
 -- The laws that several proofs cite.
-pub mod Parts
 pub mod Begins
 pub mod Steps
 pub mod ImageRoom

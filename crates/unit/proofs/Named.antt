@@ -10,8 +10,8 @@ use Rattle.client_run.specs.declared.run.Word.{Word}
 use Rattle.client_run.specs.Run.{orderName}
 use Rattle.client.specs.declared.journal_call.JournalAnswer.{JournalAnswer}
 use Rattle.client.specs.declared.journal_call.JournalAnswer.the-variants as journal-answer
-use Rattle.unit.specs.declared.call.Answer.{Answer}
-use Rattle.unit.specs.declared.call.Answer.the-variants.{
+use Rattle.unit_state.specs.declared.answer.Answer.{Answer}
+use Rattle.unit_state.specs.declared.answer.Answer.the-variants.{
   Frame,
   Put,
   Request,

@@ -16,15 +16,16 @@ use Rattle.client_run.specs.Run.{lentOf}
 use Rattle.client.specs.Calls as client
 use Rattle.client.specs.declared.journal_call.JournalOutcome.{JournalOutcome}
 use Rattle.client.specs.Journal.{journalCallOf, journalCall}
-use Rattle.unit.specs.declared.record.Event.{Event}
-use Rattle.unit.specs.declared.record.Kind.{Kind}
-use Rattle.unit.specs.declared.record.Kind.the-variants as kind
-use Rattle.unit.specs.declared.call.Answer.{Answer}
+use Rattle.unit_state.specs.declared.record.Event.{Event}
+use Rattle.unit_state.specs.declared.record.Kind.{Kind}
+use Rattle.unit_state.specs.declared.record.Kind.the-variants as kind
+use Rattle.unit_state.specs.declared.answer.Answer.{Answer}
 use Rattle.unit.specs.declared.call.RunOut.{RunOut}
-use Rattle.unit.specs.declared.state.Run.{Run}
-use Rattle.unit.specs.declared.state.UnitState.{UnitState}
-use Rattle.unit.specs.Records.{runOf, timeOf, nonceOf, bodyOf, isRun, callOf}
-use Rattle.unit.specs.State.{Memory, State, roomsBytes, memory, stateOf, runAt, withRun}
+use Rattle.unit_state.specs.declared.state.Run.{Run}
+use Rattle.unit_state.specs.declared.state.UnitState.{UnitState}
+use Rattle.unit_state.specs.Records.{runOf, timeOf, nonceOf, bodyOf, isRun, callOf}
+use Rattle.unit_state.specs.State.{roomsBytes, runAt, withRun}
+use Rattle.unit.specs.State.{Memory, State, memory, stateOf}
 use Rattle.unit.specs.Call.{
   UnitCall,
   Ready,
@@ -47,7 +48,7 @@ use Rattle.unit.specs.Call.{
   stepOf,
   unitCall,
 }
-use Rattle.unit.proofs.Parts.{callable, whole-head}
+use Rattle.unit_state.proofs.Parts.{callable, whole-head}
 
 -- the part of a run, lent and come back as x
 pub part-kept : (files x : List ℕ) (i : ℕ) → i * fileBytes + fileBytes ≤ length files

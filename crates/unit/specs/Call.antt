@@ -31,12 +31,12 @@ use Rattle.client.specs.Calls.{beginCall, replyCall, noReplyCall}
 use Rattle.client.specs.declared.journal_call.JournalAnswer.{JournalAnswer}
 use Rattle.client.specs.declared.journal_call.JournalAnswer.the-variants as journal-answer
 use Rattle.client.specs.Journal.{journalNumber, journalCall}
-use Rattle.unit.specs.declared.record.Event.{Event}
-use Rattle.unit.specs.declared.record.Event.the-variants.{Upload, Download, Reply, NoReply}
-use Rattle.unit.specs.declared.record.Kind.{Kind}
-use Rattle.unit.specs.declared.record.Kind.the-variants as kind
-use Rattle.unit.specs.declared.call.Answer.{Answer}
-use Rattle.unit.specs.declared.call.Answer.the-variants.{
+use Rattle.unit_state.specs.declared.record.Event.{Event}
+use Rattle.unit_state.specs.declared.record.Event.the-variants.{Upload, Download, Reply, NoReply}
+use Rattle.unit_state.specs.declared.record.Kind.{Kind}
+use Rattle.unit_state.specs.declared.record.Kind.the-variants as kind
+use Rattle.unit_state.specs.declared.answer.Answer.{Answer}
+use Rattle.unit_state.specs.declared.answer.Answer.the-variants.{
   Frame,
   Put,
   Request,
@@ -49,11 +49,11 @@ use Rattle.unit.specs.declared.call.Answer.the-variants.{
   Number,
   NoCall,
 }
-use Rattle.unit.specs.declared.call.Called.{Called}
+use Rattle.unit_state.specs.declared.answer.Called.{Called}
 use Rattle.unit.specs.declared.call.RunOut.{RunOut}
-use Rattle.unit.specs.declared.state.Run.{Run}
-use Rattle.unit.specs.declared.state.UnitState.{UnitState}
-use Rattle.unit.specs.Records.{
+use Rattle.unit_state.specs.declared.state.Run.{Run}
+use Rattle.unit_state.specs.declared.state.UnitState.{UnitState}
+use Rattle.unit_state.specs.Records.{
   headOf,
   bankTimeOf,
   idsOf,
@@ -70,17 +70,8 @@ use Rattle.unit.specs.Records.{
   roomBytes,
   callOf,
 }
-use Rattle.unit.specs.State.{
-  Memory,
-  State,
-  roomsBytes,
-  memory,
-  stateOf,
-  sessionIn,
-  runAt,
-  withRun,
-  withJournal,
-}
+use Rattle.unit_state.specs.State.{roomsBytes, runAt, withRun, withJournal}
+use Rattle.unit.specs.State.{Memory, State, memory, stateOf, sessionIn}
 
 -- the rooms lent for the runs and for images are of their lengths
 unfoldable pub roomsRight : ℕ → ℕ → ℕ → Bool

@@ -1,4 +1,3 @@
--- The definitions of the unit: records, its state, its calls.
-pub mod Records
+-- The definitions of the unit: its state with the memory lent to it, its calls.
 pub mod State
 pub mod Call

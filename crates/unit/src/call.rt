@@ -2,31 +2,6 @@
 use crate::images::away_call;
 use crate::images::image_call;
 use crate::images::take_up_call;
-use crate::record::BANK_TIME_AT;
-use crate::record::Event;
-use crate::record::FIRST_AT;
-use crate::record::FIRST_BYTES;
-use crate::record::IDS_AT;
-use crate::record::Kind;
-use crate::record::MAILBOX_AT;
-use crate::record::MAILBOX_BYTES;
-use crate::record::NONCE_AT;
-use crate::record::ROOM_BYTES;
-use crate::record::RUN_BYTES;
-use crate::record::RUN_NUMBER_AT;
-use crate::record::SUBSCRIBER_AT;
-use crate::record::SUBSCRIBER_BYTES;
-use crate::record::TIME_AT;
-use crate::record::TIME_BYTES;
-use crate::record::body_of;
-use crate::record::bytes_at;
-use crate::record::call_of;
-use crate::record::number_at;
-use crate::state::ROOMS_BYTES;
-use crate::state::Run;
-use crate::state::UnitState;
-use crate::state::with_journal;
-use crate::state::with_run;
 use bank::call::FrameAnswer;
 use bank::mailbox::FileAnswer;
 use bank_session::calls::frame_held;
@@ -41,16 +16,41 @@ use client_run::run::Answer as ClientAnswer;
 use client_run::run::Direction;
 use client_run::run::NONCE_BYTES;
 use client_run::run::RunParameters;
-use client_run::run::Word;
 use client_run::run::order_name;
 use client_run::run::refusal_number;
-use journal::event::OrderName;
 use message::limits::FILE_BYTES;
 use number_table::table::MAILBOX_FULL;
 use number_table::table::NO_MAILBOX;
 use number_table::table::WRONG_FILE;
 use number_table::table::WRONG_LENGTH;
 use octets::bytes::copy;
+use unit_state::answer::Answer;
+use unit_state::answer::Called;
+use unit_state::record::BANK_TIME_AT;
+use unit_state::record::Event;
+use unit_state::record::FIRST_AT;
+use unit_state::record::FIRST_BYTES;
+use unit_state::record::IDS_AT;
+use unit_state::record::Kind;
+use unit_state::record::MAILBOX_AT;
+use unit_state::record::MAILBOX_BYTES;
+use unit_state::record::NONCE_AT;
+use unit_state::record::ROOM_BYTES;
+use unit_state::record::RUN_BYTES;
+use unit_state::record::RUN_NUMBER_AT;
+use unit_state::record::SUBSCRIBER_AT;
+use unit_state::record::SUBSCRIBER_BYTES;
+use unit_state::record::TIME_AT;
+use unit_state::record::TIME_BYTES;
+use unit_state::record::body_of;
+use unit_state::record::bytes_at;
+use unit_state::record::call_of;
+use unit_state::record::number_at;
+use unit_state::state::ROOMS_BYTES;
+use unit_state::state::Run;
+use unit_state::state::UnitState;
+use unit_state::state::with_journal;
+use unit_state::state::with_run;
 ghost use mathlib.Core.Path.{_≡_};
 ghost use mathlib.Core.Bool.{true, cond};
 ghost use mathlib.Core.List.{List};
@@ -60,37 +60,14 @@ ghost use Rattle.message.specs.Limits.{fileBytes};
 ghost use Rattle.bank_steps.specs.Lent.{Lent, lent};
 ghost use Rattle.client_run.specs.Run.{lentOf};
 ghost use Rattle.client.specs.Calls.{callOf, beginCall};
-ghost use Rattle.unit.specs.Records.{headOf, timeOf, nonceOf, runOf, isRun, runCount};
-ghost use Rattle.unit.specs.declared.state.UnitState.{UnitState};
-ghost use Rattle.unit.specs.State.{Memory, roomsBytes, memory, stateOf};
+ghost use Rattle.unit_state.specs.Records.{headOf, timeOf, nonceOf, runOf, isRun, runCount};
+ghost use Rattle.unit_state.specs.declared.state.UnitState.{UnitState};
+ghost use Rattle.unit_state.specs.State.{roomsBytes};
+ghost use Rattle.unit.specs.State.{Memory, memory, stateOf};
 ghost use Rattle.unit.specs.Call.{Ready, roomsRight, afterCall, unitCallOf, frameAnswer, fileAnswer, runAnswer};
 ghost use Rattle.unit.specs.Call.{journalAnswer, frameStep, fileStep, indexOf, begins, paramsOf, eventCall};
 ghost use Rattle.unit.specs.Call.{roomCall, keeps, withClient, nextRun, keptPayloads, runCallOf, runCall};
 ghost use Rattle.unit.specs.Call.{runStep, journalStep, unitCall};
-
-// What a call answers: the length of the reply in the buffer, the file is in the mailbox, the length of the request,
-// the run stays, its closing word with what names its order, the journal left the run as it was, the length of the
-// image, the session is taken up, the bytes are in the image room, or the number that the call was given. A record that
-// is no call has none.
-pub enum Answer {
-    Frame(usize),
-    Put,
-    Request(usize),
-    Ignored,
-    Closed(Word, OrderName),
-    Unchanged,
-    Away(usize),
-    TakenUp,
-    Room,
-    Number(u64),
-    NoCall,
-}
-
-// The unit after a call, and the call's answer.
-pub struct Called {
-    pub unit: UnitState,
-    pub answer: Answer,
-}
 
 // A run after a call, and the call's answer.
 struct RunOut {

@@ -1,5 +1,3 @@
 // The unit: one bank, its stores, 16 client runs with their buffers, the image room, and one call of a record on them.
 pub mod call;
 mod images;
-pub mod record;
-pub mod state;

@@ -3,7 +3,7 @@ use Prim.Native.Nat.{_<_}
 use native.Mathlib.Omega.{arith}
 use Rattle.journal.specs.Events.{recordCount}
 use Rattle.bank_state.specs.Limits.{placeCount}
-use Rattle.unit.specs.Records.{runCount}
+use Rattle.unit_state.specs.Records.{runCount}
 use Rattle.driver_print.proofs.Texts.{count-most, file-fits}
 use borrow.Author.Needs.{needs}
 use Rattle.driver_print.proofs.tables.put_row.Statement.{statement}

@@ -4,7 +4,8 @@ use Prim.Native.Nat.{_-_}
 use mathlib.Core.Path.{_≡_, refl, _∙_}
 use lib.ListN.{length}
 use Rattle.bank_steps.specs.Lent.{lent}
-use Rattle.unit.specs.State.{fresh, memory, stateOf}
+use Rattle.unit_state.specs.State.{fresh}
+use Rattle.unit.specs.State.{memory, stateOf}
 use Rattle.driver_session.specs.Session.{Calls}
 use Rattle.driver_session.proofs.Sessions.{start-calls, calls-on}
 use Rattle.driver_session.proofs.session.read_all.Statement.{statement}

@@ -1,6 +1,6 @@
 -- `read_record` is safe: a head and a length of two bytes. Assumes nothing.
 use native.Mathlib.Omega.{arith}
-use Rattle.unit.proofs.Parts.{sizeOf-most, head-within}
+use Rattle.unit_state.proofs.Parts.{sizeOf-most, head-within}
 use borrow.Author.Needs.{needs}
 use Rattle.driver_session.proofs.session.read_record.Statement.{statement}
 use Rattle.driver_session.proofs.session.read_record.Tie as tie

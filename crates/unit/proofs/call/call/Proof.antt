@@ -5,8 +5,8 @@ use mathlib.Core.Path.{_≡_, refl, sym, _∙_}
 use lib.ListN.{length}
 use borrow.Author.Tests.{not-true, not-false}
 use Rattle.bank_steps.specs.Lent.{lent}
-use Rattle.unit.specs.declared.record.Kind.{Kind}
-use Rattle.unit.specs.declared.record.Kind.the-variants.{Frame, File, Run, Journal, Away, TakeUp, Image, NoCall}
+use Rattle.unit_state.specs.declared.record.Kind.{Kind}
+use Rattle.unit_state.specs.declared.record.Kind.the-variants.{Frame, File, Run, Journal, Away, TakeUp, Image, NoCall}
 use Rattle.unit.specs.State.{State, memory, stateOf}
 use Rattle.unit.specs.Call.{UnitCall, stepOf, unitCall}
 use Rattle.unit.proofs.Begins.{RoomsLengths, rooms-lengths}

@@ -2,8 +2,8 @@
 use native.Mathlib.Omega.{arith}
 use mathlib.Core.Path.{ap}
 use Prim.Native.Nat.{ℕ, _-_}
-use Rattle.unit.specs.Records.{runOf}
-use Rattle.unit.proofs.Parts.{run-within}
+use Rattle.unit_state.specs.Records.{runOf}
+use Rattle.unit_state.proofs.Parts.{run-within}
 use borrow.Author.Needs.{needs}
 use Rattle.unit.proofs.call.index_of.Statement.{statement}
 use Rattle.unit.proofs.call.index_of.Tie as tie

@@ -2,7 +2,7 @@
 use native.Mathlib.Omega.{arith}
 use mathlib.Core.Path.{ap}
 use lib.ListN.{length, length-take}
-use Rattle.unit.specs.Records.{bodyOf}
+use Rattle.unit_state.specs.Records.{bodyOf}
 use Rattle.unit.specs.Call.{imageStep}
 use borrow.Author.Needs.{needs}
 use Rattle.unit.proofs.images.image_call.Statement.{statement}
