@@ -1,4 +1,3 @@
--- The laws of reading: the set of the tags, the loop, the place of the data.
-pub mod Present
-pub mod Loops
-pub mod Places
+-- The laws of reading: the number of a content, the walk over the tags with the place of the data.
+pub mod Values
+pub mod Walk

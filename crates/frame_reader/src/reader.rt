@@ -7,17 +7,18 @@ use frame_table::table::FRAME_LIMIT;
 use frame_table::table::TAG_COUNT;
 use frame_table::table::is_reply_form;
 use frame_table::table::is_request_form;
-use octets::bytes::inner;
-use octets::bytes::number;
+use frame_table::table::width;
+use octets::bytes::leading;
 use octets::bytes::wide;
 ghost use mathlib.Core.Path.{_≡_};
 ghost use mathlib.Core.Bool.{cond, _&&_};
-ghost use Prim.Native.Nat.{_*_, _^_, _≤_, _<_};
+ghost use mathlib.Core.Logic.{_⊎_};
+ghost use Prim.Native.Nat.{_+_, _-_, _^_, _≤_, _<_};
 ghost use lib.ListN.{length};
 ghost use lib.Dec.{leb, eqb};
-ghost use Rattle.frame_table.specs.Table.{tagCount, frameLimit, dataTag};
-ghost use Rattle.frame_row.specs.Row.{fieldSize, NoneStands, present, highOf, lowOf, dataOf, DataAt};
-ghost use Rattle.frame_reader.specs.Reader.{parse, readRequest, readReply};
+ghost use Rattle.frame_table.specs.Table.{tagCount, frameLimit, width};
+ghost use Rattle.frame_row.specs.Row.{fieldSize, highOf, lowOf, dataOf, DataAt};
+ghost use Rattle.frame_reader.specs.Reader.{said, FieldRead, parse, readRequest, readReply};
 ghost use Rattle.frame_table.specs.Names.{noFields};
 
 // What a frame says, and where its data stand in it: from a place on to the end.
@@ -32,7 +33,7 @@ fn field_size(rest: &[u8], tag: usize) -> usize
     requires { ⌜ tag < tagCount ⌝ }
     ensures { λ r. ⌜ r ≡ fieldSize tag (now (rest .entry)) ⌝ }
 {
-    if rest.len() < 3 {
+    if rest.len() < 3 + width(tag) {
         return 0;
     }
     if wide(rest[0]) != tag as u64 {
@@ -45,59 +46,56 @@ fn field_size(rest: &[u8], tag: usize) -> usize
     if well_formed(tag, &rest[3..n]) { n } else { 0 }
 }
 
-// The number that the content of the field stands for. Data are no number.
+// How many of n bytes stand before the last eight.
+fn before_eight(n: usize) -> usize
+    ensures { λ r. ⌜ r ≡ n - 8 ⌝ }
+{
+    if n < 8 { 0 } else { n - 8 }
+}
+
+// The number that the content of the field stands for, as long as the table says. Data, which have no length there, are
+// no number.
 fn value(tag: usize, content: &[u8]) -> Bits128
-    requires { ⌜ ((tag ≡ dataTag → ⊥) → length (now content) ≤ 16) ⌝ }
+    requires { ⌜ (tag < tagCount) × ((width tag ≡ 0 → ⊥) → length (now content) ≡ width tag) ⌝ }
     ensures { λ r. ⌜ (r .high ≡ highOf tag (now (content .entry))) × (r .low ≡ lowOf tag (now (content .entry))) ⌝ }
 {
-    let n = content.len();
-    if tag == table::DATA {
-        return Bits128 { high: 0, low: 0 };
-    }
-    if n <= 8 {
-        return Bits128 {
-            high: 0,
-            low: number(content),
-        };
-    }
-    let k = n - 8;
+    let n = width(tag);
+    let k = before_eight(n);
     Bits128 {
-        high: number(&content[..k]),
-        low: number(&content[k..]),
+        high: leading(content, k),
+        low: leading(&content[k..], n - k),
     }
 }
 
-// The set of the tag alone, or the empty set where its field takes no bytes.
-fn tag_bit(size: usize, tag: usize) -> u32
-    requires { ⌜ tag < tagCount ⌝ }
-    ensures { λ r. ⌜ r ≡ present size * 2 ^ tag ⌝ }
+// Reads the field with this tag where it stands at the front of rest, and goes on to what stands behind it.
+fn read_field<'a>(
+    rest: &'a [u8],
+    tag: usize,
+    tags: &mut u32,
+    high: &mut [u64; TAG_COUNT],
+    low: &mut [u64; TAG_COUNT],
+) -> &'a [u8]
+    requires { ⌜ (tag < tagCount) × (now tags < 2 ^ tag) ⌝ }
+    ensures { λ r. ⌜ FieldRead tag (now (rest .entry)) (said (now (tags .entry)) (now (high .entry)) (now (low .entry)))
+        (said (now (tags .exit)) (now (high .exit)) (now (low .exit))) (now r) ⌝ }
 {
-    if size == 0 { 0 } else { 1 << tag }
+    let n = field_size(rest, tag);
+    if n == 0 {
+        return rest;
+    }
+    let v = value(tag, &rest[3..n]);
+    *tags = *tags + (1 << tag);
+    high[tag] = v.high;
+    low[tag] = v.low;
+    &rest[n..]
 }
 
-// The least tag, from a given one on, whose field can stand at the front of rest; TAG_COUNT where there is none.
-fn next_tag(rest: &[u8], least: usize) -> usize
-    requires { ⌜ least ≤ tagCount ⌝ }
-    ensures { λ r. ⌜ (least ≤ r) × (r ≤ tagCount) × NoneStands least r (now (rest .entry)) ⌝ }
+// Where the content begins of a field that stands from a place on to the end; the end where no field stands there.
+fn content_at(at: usize, end: usize) -> usize
+    requires { ⌜ (at ≡ end) ⊎ (at + 3 ≤ end) ⌝ }
+    ensures { λ r. ⌜ r ≡ end - (end - at - 3) ⌝ }
 {
-    if rest.len() < 3 {
-        return TAG_COUNT;
-    }
-    let tag = wide(rest[0]) as usize;
-    if tag < least {
-        return TAG_COUNT;
-    }
-    if TAG_COUNT <= tag {
-        return TAG_COUNT;
-    }
-    tag
-}
-
-// The new place where the tag is that of the data, else the old one.
-fn if_data(tag: usize, new: usize, old: usize) -> usize
-    ensures { λ r. ⌜ r ≡ cond (eqb tag dataTag) new old ⌝ }
-{
-    if tag == table::DATA { new } else { old }
+    if at == end { end } else { at + 3 }
 }
 
 // The fields where a test on them holds, else no fields.
@@ -117,35 +115,39 @@ fn is_whole(n: usize, left: usize) -> bool
     left == 0
 }
 
-// What the frame says, no fields where it is no row of fields as the table has them, and where its data stand.
+// What the frame says, no fields where it is no row of fields as the table has them, and where its data stand. The tags
+// are constants, one after the other, so that the compiler makes a reader of its own for each.
 fn parse(frame: &[u8]) -> Parsed
     ensures { λ r. ⌜ (r .fields ≡ parse (now (frame .entry))) × DataAt (now (frame .entry)) (r .from) (r .end) ⌝ }
 {
     let mut tags: u32 = 0;
     let mut high = [0u64; TAG_COUNT];
     let mut low = [0u64; TAG_COUNT];
-    let mut from = 0;
-    let mut end = 0;
-    let mut rest = frame;
-    let mut tag = next_tag(frame, 0);
-    while tag < TAG_COUNT {
-        let n = field_size(rest, tag);
-        tags = tags + tag_bit(n, tag);
-        let content = inner(rest, n);
-        let v = value(tag, content);
-        high[tag] = v.high;
-        low[tag] = v.low;
-        rest = &rest[n..];
-        let at = frame.len() - rest.len();
-        from = if_data(tag, at - content.len(), from);
-        end = if_data(tag, at, end);
-        tag = next_tag(rest, tag + 1);
-    }
+    let rest = read_field(frame, table::PHASE, &mut tags, &mut high, &mut low);
+    let rest = read_field(rest, table::SUBSCRIBER, &mut tags, &mut high, &mut low);
+    let rest = read_field(rest, table::EXCHANGE, &mut tags, &mut high, &mut low);
+    let rest = read_field(rest, table::ORDER_TYPE, &mut tags, &mut high, &mut low);
+    let rest = read_field(rest, table::NONCE, &mut tags, &mut high, &mut low);
+    let rest = read_field(rest, table::TIMESTAMP, &mut tags, &mut high, &mut low);
+    let rest = read_field(rest, table::SEGMENTS, &mut tags, &mut high, &mut low);
+    let rest = read_field(rest, table::TRANSACTION, &mut tags, &mut high, &mut low);
+    let rest = read_field(rest, table::SEGMENT, &mut tags, &mut high, &mut low);
+    let rest = read_field(rest, table::LAST_MARK, &mut tags, &mut high, &mut low);
+    let at = frame.len() - rest.len();
+    let rest = read_field(rest, table::DATA, &mut tags, &mut high, &mut low);
+    let end = frame.len() - rest.len();
+    let rest = read_field(rest, table::RECEIPT_CODE, &mut tags, &mut high, &mut low);
+    let rest = read_field(rest, table::RETURN_CODE, &mut tags, &mut high, &mut low);
+    let rest = read_field(rest, table::ORDER_NUMBER, &mut tags, &mut high, &mut low);
     let fields = fields_if(
         is_whole(frame.len(), rest.len()),
         Fields { tags, high, low },
     );
-    Parsed { fields, from, end }
+    Parsed {
+        fields,
+        from: content_at(at, end),
+        end,
+    }
 }
 
 // What a request says, and where its data stand; no fields where the frame is of no request form.

@@ -1,9 +1,10 @@
 -- Laws of a content, and of the field at the front of some bytes. Assumes nothing.
-use Prim.Native.Nat.{ℕ, zero, suc, _+_, _-_, _≤_, _<_}
-use mathlib.Core.List.{List, [], _∷_}
+use Prim.Native.Nat.{ℕ, zero, suc, _+_, _-_, _*_, _^_, _≤_, _<_}
+use mathlib.Core.List.{List, [], _∷_, _++_}
 use mathlib.Core.Bool.{Bool, true, false, cond, _&&_}
 use mathlib.Core.Logic.{_⊎_, inl, inr, ⊎-elim}
-use mathlib.Core.Path.{_≡_, refl, ap, _∙_}
+use mathlib.Core.Path.{_≡_, refl, sym, ap, _∙_}
+use native.Mathlib.Nat.{add-zero, add-suc, suc-add, mul-assoc, pow-suc}
 use native.Mathlib.Numerals.{add-one}
 use native.Mathlib.Omega.{arith}
 use lib.ListN.{drop-of-length-le, length, getD, take, drop, length-drop}
@@ -13,7 +14,7 @@ use lib.Dec.{leb, eqb}
 use Rattle.octets.specs.Bytes.{fieldBytes}
 use Rattle.frame_table.specs.declared.table.Characters.{Characters}
 use Rattle.frame_table.specs.declared.table.Values.{Values}
-use Rattle.frame_table.specs.Table.{tagCount, frameLimit, dataTag, width, valuesOf, allowed}
+use Rattle.frame_table.specs.Table.{frameLimit, dataTag, width, valuesOf, allowed}
 use Rattle.frame_row.specs.Row.{
   spelled,
   isValue,
@@ -26,6 +27,7 @@ use Rattle.frame_row.specs.Row.{
   contents,
   behind,
   present,
+  presentTags,
   highOf,
   lowOf,
   eachFrom,
@@ -33,7 +35,6 @@ use Rattle.frame_row.specs.Row.{
 }
 use Rattle.octets.proofs.Tests.{and-true, or-true}
 use Rattle.octets.proofs.Numbers.{number-nil, length-fieldBytes}
-use Rattle.frame_table.proofs.Values.{width-narrow}
 
 -- ---- a content
 
@@ -106,15 +107,11 @@ module _ (t : ℕ) (s : List ℕ) where
   pub size-cases : (fieldSize t s ≡ 0) ⊎ Stands t s
   size-cases = size-at (stands t s) refl
 
+  pub stood : (fieldSize t s ≡ 0 → ⊥) → Stands t s
+  stood n = ⊎-elim (λ e. absurd (n e)) (λ e. e) size-cases
+
   pub size-le : fieldSize t s ≤ length s
   size-le = ⊎-elim (λ e. omega arith) (λ (e : Stands t s). omega (arith, e .is, e .room)) size-cases
-
-  -- where another tag is at the front, or too few bytes, no field t stands
-  pub none-other : (getD s 0 0 ≡ t → ⊥) → fieldSize t s ≡ 0
-  none-other n = ⊎-elim (λ e. e) (λ (e : Stands t s). absurd (n (e .tag))) size-cases
-
-  pub none-short : length s < 3 → fieldSize t s ≡ 0
-  none-short h = ⊎-elim (λ e. e) (λ (e : Stands t s). absurd (omega (arith, e .room))) size-cases
 
   -- a field that stands has its three bytes in front
   pub size-three : (fieldSize t s ≡ 0) ⊎ (3 ≤ fieldSize t s)
@@ -138,12 +135,21 @@ module _ (t : ℕ) (s : List ℕ) where
   content-long e =
       ap length (content-is e) ∙ length-take-le (announced s - 3) (drop 3 s) (simp length-drop (omega (arith, e .room)))
 
-  pub content-narrow : t < tagCount → (t ≡ dataTag → ⊥) → length (content t s) ≤ 16
-  content-narrow h n =
-      let w = width-narrow t h n in
-      ⊎-elim (λ e. omega (arith, ap length (content-none e)))
-      (λ (e : Stands t s). omega (arith, well-formed t (content t s) (content-fit e) .fit (λ z. omega arith)))
-      size-cases
+  -- a field that stands is as long as the table says
+  pub content-fits : Stands t s → (width t ≡ 0 → ⊥) → length (content t s) ≡ width t
+  content-fits e = well-formed t (content t s) (content-fit e) .fit
+
+  room-at : Stands t s → (b : Bool) → eqb (width t) 0 ≡ b → 3 + width t ≤ length s
+  room-at e true q = let z = eqb-true (width t) 0 q in omega (arith, e .room)
+  room-at e false q = omega (arith, e .room, content-long e, content-fits e (eqb-false (width t) 0 q))
+
+  -- where another tag is at the front, or too few bytes, no field t stands
+  pub none-other : (getD s 0 0 ≡ t → ⊥) → fieldSize t s ≡ 0
+  none-other n = ⊎-elim (λ e. e) (λ (e : Stands t s). absurd (n (e .tag))) size-cases
+
+  pub none-short : length s < 3 + width t → fieldSize t s ≡ 0
+  none-short h =
+      ⊎-elim (λ e. e) (λ (e : Stands t s). let k = room-at e (eqb (width t) 0) refl in absurd (omega arith)) size-cases
 
   pub present-content : present (length (content t s)) ≡ present (fieldSize t s)
   present-content =
@@ -153,39 +159,52 @@ module _ (t : ℕ) (s : List ℕ) where
 
 -- ---- the tags in turn
 
-module _ (n t : ℕ) (h : t < n) where
-  pub turn : n - t ≡ suc (n - (t + 1))
-  turn = omega arith
+module _ (n t : ℕ) where
+  pub turn : t < n → n - t ≡ suc (n - (t + 1))
+  turn h = omega arith
 
-  pub contents-step : (s : List ℕ) → contents (n - t) t s ≡ content t s ∷ contents (n - (t + 1)) (t + 1) (drop (fieldSize t s) s)
-  unfolding contents
-  contents-step s = rw turn
+  pub turn-end : n ≤ t → n - t ≡ 0
+  turn-end h = omega arith
 
-  pub behind-step : (s : List ℕ) → behind (n - t) t s ≡ behind (n - (t + 1)) (t + 1) (drop (fieldSize t s) s)
-  unfolding behind
-  behind-step s = rw turn
+-- the tag after k of them is looked for behind them
+pub behind-next : (k t : ℕ) (s : List ℕ) → behind (suc k) t s ≡ drop (fieldSize (t + k) (behind k t s)) (behind k t s)
+unfolding behind
+behind-next zero t s = rw (add-zero t)
+behind-next (suc k) t s = rw (add-suc t k, ← suc-add t k, ← add-one t) (behind-next k (t + 1) (drop (fieldSize t s) s))
 
-module _ (n t : ℕ) (h : n ≤ t) where
-  pub turn-end : n - t ≡ 0
-  turn-end = omega arith
+pub contents-next : (k t : ℕ) (s : List ℕ) → contents (suc k) t s ≡ contents k t s ++ (content (t + k) (behind k t s) ∷ [])
+unfolding contents behind
+contents-next zero t s = rw (add-zero t)
+contents-next (suc k) t s =
+    rw (add-suc t k, ← suc-add t k, ← add-one t)
+    (ap (λ (r : List (List ℕ)). content t s ∷ r) (contents-next k (t + 1) (drop (fieldSize t s) s)))
 
-  pub contents-end : (s : List ℕ) → contents (n - t) t s ≡ []
-  unfolding contents
-  contents-end s = rw turn-end
+pub length-contents : (k t : ℕ) (s : List ℕ) → length (contents k t s) ≡ k
+unfolding contents
+length-contents zero t s = refl
+length-contents (suc k) t s = ap suc (length-contents k (t + 1) (drop (fieldSize t s) s))
 
-  pub behind-end : (s : List ℕ) → behind (n - t) t s ≡ s
-  unfolding behind
-  behind-end s = rw turn-end
+pub each-next : (g : ℕ → List ℕ → ℕ) (t : ℕ) (r : List (List ℕ)) (c : List ℕ)
+    → eachFrom g t (r ++ (c ∷ [])) ≡ eachFrom g t r ++ (g (t + length r) c ∷ [])
+unfolding eachFrom
+each-next g t [] c = rw (add-zero t)
+each-next g t (x ∷ r) c =
+    rw (add-suc t (length r), ← suc-add t (length r), ← add-one t) (ap (λ (l : List ℕ). g t x ∷ l) (each-next g (t + 1) r c))
 
 pub length-eachFrom : (g : ℕ → List ℕ → ℕ) (t : ℕ) (r : List (List ℕ)) → length (eachFrom g t r) ≡ length r
 unfolding eachFrom
 length-eachFrom g t [] = refl
 length-eachFrom g t (c ∷ r) = ap suc (length-eachFrom g (t + 1) r)
 
-pub length-contents : (k t : ℕ) (s : List ℕ) → length (contents k t s) ≡ k
-unfolding contents
-length-contents zero t s = refl
-length-contents (suc k) t s = ap suc (length-contents k (t + 1) (drop (fieldSize t s) s))
+pub present-next : (r : List (List ℕ)) (c : List ℕ)
+    → presentTags (r ++ (c ∷ [])) ≡ presentTags r + present (length c) * 2 ^ length r
+unfolding presentTags
+present-next [] c = omega arith
+present-next (x ∷ r) c =
+    let p : ℕ = present (length c) in
+    let e : p * 2 ^ suc (length r) ≡ p * 2 ^ length r * 2 =
+    ap (λ (n : ℕ). p * n) (pow-suc 2 (length r)) ∙ sym (mul-assoc p (2 ^ length r) 2) in
+    omega (arith, present-next r c)
 
 -- ---- a field's bytes
 

@@ -1,6 +1,6 @@
 -- Document 01, "The frame": "A frame is a row of fields". The row holds a content for each tag from 0 on, [] where
 -- the tag is absent.
-use Prim.Native.Nat.{ℕ, zero, suc, _+_, _-_, _*_, _/_, _%_, _^_, _≤_, _<_}
+use Prim.Native.Nat.{ℕ, zero, suc, _+_, _-_, _*_, _/_, _%_, _^_, _≤_}
 use mathlib.Core.List.{List, [], _∷_, _++_}
 use mathlib.Core.Bool.{Bool, true, cond, not, _&&_, _||_}
 use mathlib.Core.Path.{_≡_}
@@ -44,10 +44,6 @@ stands t s = leb 3 (length s) && eqb (getD s 0 0) t && leb (announced s) (length
 -- how many bytes the field t takes at the front of s; 0 where no such field stands there
 unfoldable pub fieldSize : ℕ → List ℕ → ℕ
 fieldSize t s = cond (stands t s) (announced s) 0
-
--- no field with a tag from t on and below u stands at the front of s
-abbrev pub NoneStands : ℕ → ℕ → List ℕ → Type 0
-NoneStands t u s = (v : ℕ) → t ≤ v → v < u → fieldSize v s ≡ 0
 
 unfoldable pub content : ℕ → List ℕ → List ℕ
 content t s = take (fieldSize t s - 3) (drop 3 s)

@@ -104,14 +104,21 @@ number-append : (l m : List ℕ) → number (l ++ m) ≡ number l * 256 ^ length
 unfolding number
 number-append l m = numberFrom-append 0 l m ∙ numberFrom-split (numberFrom 0 l) m
 
--- the last eight bytes are the low 64 bits
-pub number-halves : (l : List ℕ) → 8 ≤ length l
-    → number l ≡ number (take (length l - 8) l) * 2 ^ 64 + number (drop (length l - 8) l)
-number-halves l h =
-    let k : ℕ = length l - 8 in
-    let e : length (drop k l) ≡ 8 = simp length-drop (omega arith) in
+halves-at : (l : List ℕ) (k : ℕ) (b : Bool) → k ≡ length l - 8 → ltb 8 (length l) ≡ b
+    → number l ≡ number (take k l) * 2 ^ 64 + number (drop k l)
+halves-at l k true q e =
+    let h = ltb-true 8 (length l) e in
+    let n : length (drop k l) ≡ 8 = simp length-drop (omega arith) in
     ap number (sym (take-append-drop k l)) ∙ number-append (take k l) (drop k l)
-    ∙ ap (λ (n : ℕ). number (take k l) * 256 ^ n + number (drop k l)) e
+    ∙ ap (λ (n : ℕ). number (take k l) * 256 ^ n + number (drop k l)) n
+halves-at l k false q e =
+    let h = ltb-false 8 (length l) e in
+    let z : k ≡ 0 = omega arith in
+    rw z (omega (arith, number-nil))
+
+-- the last eight bytes are the low 64 bits, those before them the high ones
+pub number-halves : (l : List ℕ) → number l ≡ number (take (length l - 8) l) * 2 ^ 64 + number (drop (length l - 8) l)
+number-halves l = halves-at l (length l - 8) (ltb 8 (length l)) refl refl
 
 -- ---- the bytes of a number
 

@@ -1,7 +1,7 @@
 // Numbers high byte first, parts of a slice, and bytes written into a buffer.
 ghost use mathlib.Core.Path.{_≡_};
 ghost use mathlib.Core.List.{_++_};
-ghost use Prim.Native.Nat.{_+_, _-_, _*_, _^_, _≤_, _<_};
+ghost use Prim.Native.Nat.{_+_, _*_, _^_, _≤_, _<_};
 ghost use lib.ListN.{length, take, drop};
 ghost use Rattle.octets.specs.Bytes.{number, bytesOf, fieldBytes, overwrite};
 
@@ -11,18 +11,26 @@ pub fn wide(x: u8) -> u64
     x as u64
 }
 
+// The number that the first n bytes are, high byte first. Where n is a constant, the compiler makes the loop one load.
+pub fn leading(s: &[u8], n: usize) -> u64
+    requires { ⌜ (n ≤ length (now s)) × (n ≤ 8) ⌝ }
+    ensures { λ r. ⌜ (r ≡ number (take n (now (s .entry)))) × (r < 2 ^ (8 * n)) ⌝ }
+{
+    let mut x: u64 = 0;
+    let mut i = 0;
+    while i < n {
+        x = x * 256 + wide(s[i]);
+        i += 1;
+    }
+    x
+}
+
 // The number that the bytes are, high byte first.
 pub fn number(s: &[u8]) -> u64
     requires { ⌜ length (now s) ≤ 8 ⌝ }
     ensures { λ r. ⌜ (r ≡ number (now (s .entry))) × (r < 2 ^ (8 * length (now (s .entry)))) ⌝ }
 {
-    let mut x: u64 = 0;
-    let mut i = 0;
-    while i < s.len() {
-        x = x * 256 + wide(s[i]);
-        i += 1;
-    }
-    x
+    leading(s, s.len())
 }
 
 // The first n bytes; all of them where there are fewer.
@@ -57,14 +65,6 @@ pub fn behind_pieces(s: &[u8], k: u64, size: u64) -> &[u8]
         return &s[n..];
     }
     behind(s, (k * size) as usize)
-}
-
-// What stands behind the first three of the first n bytes.
-pub fn inner(s: &[u8], n: usize) -> &[u8]
-    requires { ⌜ n ≤ length (now s) ⌝ }
-    ensures { λ r. ⌜ now r ≡ take (n - 3) (drop 3 (now (s .entry))) ⌝ }
-{
-    if n < 3 { &s[..0] } else { &s[3..n] }
 }
 
 // The sixteen bytes of a number given as two of 64 bits, high byte first.

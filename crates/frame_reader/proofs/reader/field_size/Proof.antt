@@ -3,16 +3,23 @@ use mathlib.Core.Path.{_≡_, sym, _∙_}
 use mathlib.Core.Bool.{cond}
 use Prim.Native.Nat.{_+_, _*_}
 use native.Mathlib.Omega.{arith}
+use lib.ListN.{length}
 use borrow.Author.Needs.{needs}
 use borrow.Author.Tests.{le-leb, lt-leb, eq-eqb}
 use Rattle.frame_row.specs.Row.{stands, fieldSize}
-use Rattle.octets.proofs.Tests.{tests}
+use Rattle.frame_row.proofs.Contents.{none-short, none-other}
+use Rattle.frame_reader.proofs.Values.{width-most}
 use Rattle.frame_reader.proofs.reader.field_size.Statement.{statement}
 use Rattle.frame_reader.proofs.reader.field_size.Tie as tie
 
+width-requires : tie.Need-width-requires
+width-requires c κs = search needs
+
+add-if1 : tie.Need-add-if1
+add-if1 c = omega (arith, c .width .ensures, width-most _ (c .before .before .pre))
+
 returns : tie.Need-returns
-unfolding stands fieldSize
-returns c = search tests
+returns c = sym (none-short _ _ (omega (arith, c .before .width .ensures)))
 
 shared-slice-read-wide : tie.Need-shared-slice-read-wide
 shared-slice-read-wide c = search needs
@@ -21,8 +28,7 @@ wide-requires : tie.Need-wide-requires
 wide-requires c κs = tt
 
 returns-2 : tie.Need-returns-2
-unfolding stands fieldSize
-returns-2 c = search (tests, ← c .before .wide .ensures)
+returns-2 c = sym (none-other _ _ (λ e. c .if2 .taken (c .before .wide .ensures ∙ e)))
 
 shared-slice-read-wide-2 : tie.Need-shared-slice-read-wide-2
 shared-slice-read-wide-2 c = search needs
@@ -54,7 +60,7 @@ returns-3 c =
     let at-if2 = c .before .before .before .before .before in
     let at-wide = at-if2 .before in
     let at-if1 = at-wide .before .before in
-    let long = le-leb _ _ (at-if1 .if1 .left) in
+    let long = le-leb 3 (length (at-if1 .before .before .before .args .rest .now)) (omega arith) in
     let tag = eq-eqb _ _ (at-if2 .if2 .left) in
     let short = lt-leb _ _ (c .if3 .taken) in
     sym (rw (long, ← at-wide .wide .ensures, tag, ← c .before .before .before .wide2 .ensures, ← c .before .wide3 .ensures, short))
@@ -72,7 +78,7 @@ well-formed-requires : tie.Need-well-formed-requires
 well-formed-requires c κs = search needs
 
 abbrev start : tie.After-well-formed → tie.Start
-start c = c .before .before .before .before .before .before .before .before .before .before .before .before
+start c = c .before .before .before .before .before .before .before .before .before .before .before .before .before
 
 -- with its tag and the room for it, the content decides
 if-formed : (c : tie.After-well-formed) → fieldSize (start c .args .tag) (start c .args .rest .now)
@@ -85,7 +91,7 @@ if-formed c =
     let at-if2 = at-wide2 .before .before in
     let at-wide = at-if2 .before in
     let at-if1 = at-wide .before .before in
-    let long = le-leb _ _ (at-if1 .if1 .left) in
+    let long = le-leb 3 (length (at-if1 .before .before .before .args .rest .now)) (omega arith) in
     let tag = eq-eqb _ _ (at-if2 .if2 .left) in
     let room = le-leb _ _ (c .before .before .if3 .left) in
     let n = c .before .before .before .wide3 in
@@ -101,6 +107,8 @@ pub field-size-spec : {M : Type 1} → statement M
 field-size-spec =
     tie.close
     (tie.spec
+    width-requires
+    add-if1
     returns
     shared-slice-read-wide
     wide-requires
