@@ -2,3 +2,4 @@
 pub mod Lines
 pub mod Sound
 pub mod Series
+pub mod Share
