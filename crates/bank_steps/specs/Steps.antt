@@ -4,6 +4,8 @@ use mathlib.Core.List.{List}
 use lib.ListN.{length, set}
 use Rattle.frame_table.specs.declared.fields.Bits128.{Bits128}
 use Rattle.frame_table.specs.declared.fields.Fields.{Fields}
+use Rattle.frame_table.specs.declared.table.RequestForm.{RequestForm}
+use Rattle.frame_table.specs.declared.table.RequestForm.the-variants as requests
 use Rattle.frame_table.specs.Names.{subscriber, transaction}
 use Rattle.bank_state.specs.declared.clock.Ended.{Ended}
 use Rattle.bank_state.specs.declared.clock.Ended.the-variants as ending
@@ -11,6 +13,8 @@ use Rattle.bank_state.specs.Clock.{endDownloads}
 use Rattle.bank_state.specs.State.{Bank, BankState, bankState, placeAt, downloadAt}
 use Rattle.bank_state.specs.State.{withPlace, withDownload, withDownloads, withFiles}
 use Rattle.bank_state.specs.Store.{partAt, withPart, zeroed}
+use Rattle.bank_verdicts.specs.declared.verdict.Context.{Context}
+use Rattle.bank_verdicts.specs.declared.verdict.Direction.the-variants as direction
 use Rattle.bank_verdicts.specs.declared.verdict.UploadAction.{UploadAction}
 use Rattle.bank_verdicts.specs.declared.verdict.UploadAction.the-variants as up
 use Rattle.bank_verdicts.specs.declared.verdict.DownloadAction.{DownloadAction}
@@ -20,10 +24,14 @@ use Rattle.bank_verdicts.specs.declared.verdict.Action.the-variants as action
 use Rattle.bank_verdicts.specs.declared.verdict.Verdict.{Verdict}
 use Rattle.bank_verdicts.specs.declared.verdict.Verdict.the-variants as verdict
 use Rattle.bank_verdicts.specs.declared.verdict.TransactionRequest.{TransactionRequest}
+use Rattle.bank_verdicts.specs.declared.verdict.TransactionRequest.the-variants as asked
 use Rattle.bank_verdicts.specs.Judgement.{mailboxSegments, judgeUpload, judgeDownload, uploadAt, downloadOf}
+use Rattle.bank_verdicts.specs.Judgement.{judgeOpening, judgeTransaction}
 use Rattle.bank_downloads.specs.Downloads.{downloadAfter}
 use Rattle.bank_openings.specs.Openings.{openUpload, openDownload}
 use Rattle.bank_uploads.specs.Uploads.{placeAfter, bytesAfter}
+use Rattle.bank_steps.specs.declared.steps.Target.{Target}
+use Rattle.bank_steps.specs.declared.steps.Target.the-variants as target
 
 -- the open upload in place i, by an action with the data d
 abbrev pub onUpload : UploadAction → ℕ → BankState → List ℕ → BankState
@@ -98,3 +106,17 @@ abbrev pub downloadVerdict : TransactionRequest → ℕ → Bank → Fields → 
 downloadVerdict r j b q =
     let e = downloadAt b j in
     verdict.Of (e .transaction) (action.Download (judgeDownload r e (mailboxSegments (subscriber q) b) q))
+
+-- what a request is on, by its form
+abbrev pub targetOf : RequestForm → Target
+targetOf requests.UploadOpening = target.UploadOpening
+targetOf requests.DownloadOpening = target.DownloadOpening
+targetOf requests.UploadTransfer = target.Transaction asked.UploadTransfer
+targetOf requests.DownloadTransfer = target.Transaction asked.DownloadTransfer
+targetOf requests.Receipt = target.Transaction asked.Receipt
+
+-- how a request to a target is judged
+abbrev pub judgeTarget : Target → Context → Bank → Fields → Verdict
+judgeTarget target.UploadOpening c b q = judgeOpening direction.Upload c b q
+judgeTarget target.DownloadOpening c b q = judgeOpening direction.Download c b q
+judgeTarget (target.Transaction r) c b q = judgeTransaction r b q

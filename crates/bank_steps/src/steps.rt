@@ -47,7 +47,7 @@ ghost use Rattle.bank_sound.specs.Sound.{InRange};
 ghost use Rattle.bank_verdicts.specs.Judgement.{judgeOpening, uploadAt, downloadOf, judgeTransaction};
 ghost use Rattle.bank_verdicts.specs.Judgement.{judgeRequest, judgeForm, judge};
 ghost use Rattle.bank_downloads.specs.Downloads.{downloadAfter};
-ghost use Rattle.bank_steps.specs.Steps.{emptied, onDownload, uploadVerdict, downloadVerdict};
+ghost use Rattle.bank_steps.specs.Steps.{emptied, onDownload, uploadVerdict, downloadVerdict, targetOf};
 ghost use Rattle.bank_steps.specs.Lent.{lent, stateOf, keptIn, Prepared, Ready, CarriedOut};
 
 // An opening of an upload.
@@ -205,6 +205,25 @@ fn on_transaction(
     Verdict::Refused(ReturnCode::UnknownTransaction)
 }
 
+// What a request is on: an opening of either direction, or a transaction.
+pub enum Target {
+    UploadOpening,
+    DownloadOpening,
+    Transaction(TransactionRequest),
+}
+
+fn target_of(request: RequestForm) -> Target
+    ensures { λ r. ⌜ r ≡ targetOf request ⌝ }
+{
+    match request {
+        RequestForm::UploadOpening => Target::UploadOpening,
+        RequestForm::DownloadOpening => Target::DownloadOpening,
+        RequestForm::UploadTransfer => Target::Transaction(TransactionRequest::UploadTransfer),
+        RequestForm::DownloadTransfer => Target::Transaction(TransactionRequest::DownloadTransfer),
+        RequestForm::Receipt => Target::Transaction(TransactionRequest::Receipt),
+    }
+}
+
 // A readable request of a subscriber, by its form.
 fn by_request(
     request: RequestForm,
@@ -221,39 +240,11 @@ fn by_request(
         (lent (now (rows .entry)) (now (orders .entry)) (now (mailboxes .entry))) q (now (bytes .entry))
         r (lent (now (rows .exit)) (now (orders .exit)) (now (mailboxes .exit))) ⌝ }
 {
-    match request {
-        RequestForm::UploadOpening => upload_opening(rows, context, q),
-        RequestForm::DownloadOpening => download_opening(rows, context, q),
-        RequestForm::UploadTransfer => {
-            on_transaction(
-                rows,
-                TransactionRequest::UploadTransfer,
-                q,
-                bytes,
-                orders,
-                mailboxes,
-            )
-        }
-        RequestForm::DownloadTransfer => {
-            on_transaction(
-                rows,
-                TransactionRequest::DownloadTransfer,
-                q,
-                bytes,
-                orders,
-                mailboxes,
-            )
-        }
-        RequestForm::Receipt => {
-            on_transaction(
-                rows,
-                TransactionRequest::Receipt,
-                q,
-                bytes,
-                orders,
-                mailboxes,
-            )
-        }
+    let target = target_of(request);
+    match target {
+        Target::UploadOpening => upload_opening(rows, context, q),
+        Target::DownloadOpening => download_opening(rows, context, q),
+        Target::Transaction(asked) => on_transaction(rows, asked, q, bytes, orders, mailboxes),
     }
 }
 
