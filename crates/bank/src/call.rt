@@ -29,11 +29,14 @@ use journal::event::Batch;
 use message::segments::segment_of;
 use octets::bytes::number;
 ghost use mathlib.Core.Path.{_≡_};
-ghost use mathlib.Core.Bool.{_&&_};
+ghost use mathlib.Core.Bool.{true, _&&_};
 ghost use mathlib.Core.List.{List, [], _++_};
-ghost use Prim.Native.Nat.{_≤_};
+ghost use Prim.Native.Nat.{ℕ, _≤_};
 ghost use lib.Dec.{eqb, leb};
 ghost use Rattle.frame_table.specs.Names.{subscriber};
+ghost use Rattle.frame_reader.specs.Reader.{readRequest};
+ghost use Rattle.frame_row.specs.Row.{dataOf};
+ghost use Rattle.bank_sound.specs.Sound.{isSound};
 ghost use Rattle.frame_table.specs.Table.{lastTime};
 ghost use Rattle.bank_state.specs.Limits.{placeCount, storeBytes, idBytes, replyRoom};
 ghost use Rattle.bank_rows.specs.State.{bankOf};
@@ -184,6 +187,49 @@ fn lent_right(orders: usize, mailboxes: usize, ids: usize, buffer: usize, time: 
     time <= LAST_TIME
 }
 
+// A request, read, arrives at a bank time, with the rows of a bank, the ID bytes, both stores and the reply buffer lent;
+// `bytes` are its data.
+pub fn answer_request(
+    rows: &mut [u64],
+    time: u64,
+    ids: &[u8],
+    q: Fields,
+    bytes: &[u8],
+    orders: &mut [u8],
+    mailboxes: &mut [u8],
+    buffer: &mut [u8],
+) -> FrameStep
+    requires { ⌜ isSound (now rows) ≡ true ⌝ }
+    ensures { λ r. ⌜ ((frame : List ℕ) → q ≡ readRequest frame → now (bytes .entry) ≡ dataOf frame →
+        (lentFrameCallOf (r .out) (lent (now (rows .exit)) (now (orders .exit)) (now (mailboxes .exit)))
+        (now (buffer .exit))
+        ≡ lentFrameCall (lent (now (rows .entry)) (now (orders .entry)) (now (mailboxes .entry)))
+        (frameInput time (now (ids .entry)) frame (now (buffer .entry))))
+        × Holds (r .batch) (ifAnswered (r .out .answer)
+        (enteredBy (stateOf (lent (now (rows .entry)) (now (orders .entry)) (now (mailboxes .entry))))
+        (frameInput time (now (ids .entry)) frame (now (buffer .entry)))))) ⌝ }
+{
+    if !lent_right(orders.len(), mailboxes.len(), ids.len(), buffer.len(), time) {
+        return turned_away();
+    }
+    let dropped = drops(rows, time);
+    advance(rows, time, orders);
+    let context = Context {
+        prefix: number(ids),
+        others: IDLE_OTHERS,
+    };
+    respond(
+        rows,
+        dropped,
+        context,
+        q,
+        bytes,
+        orders,
+        mailboxes,
+        buffer,
+    )
+}
+
 // A frame arrives at a bank time, with the bank's rows, the ID bytes, both stores and the reply buffer lent.
 pub fn answer_frame(
     rows: &mut [u64],
@@ -202,28 +248,11 @@ pub fn answer_frame(
         (enteredBy (stateOf (lent (now (rows .entry)) (now (orders .entry)) (now (mailboxes .entry))))
         (frameInput time (now (ids .entry)) (now (frame .entry)) (now (buffer .entry))))) ⌝ }
 {
-    if !lent_right(orders.len(), mailboxes.len(), ids.len(), buffer.len(), time) {
-        return turned_away();
-    }
     if !is_sound(rows) {
         return turned_away();
     }
-    let dropped = drops(rows, time);
-    advance(rows, time, orders);
     let p = read_whole_request(frame);
     let q = p.fields;
-    let context = Context {
-        prefix: number(ids),
-        others: IDLE_OTHERS,
-    };
-    respond(
-        rows,
-        dropped,
-        context,
-        q,
-        data_at(frame, p.from, p.end),
-        orders,
-        mailboxes,
-        buffer,
-    )
+    let bytes = data_at(frame, p.from, p.end);
+    answer_request(rows, time, ids, q, bytes, orders, mailboxes, buffer)
 }

@@ -9,6 +9,8 @@ use lib.ListN.{length, drop, replicate}
 use lib.Seq.{drop-drop}
 use native.Mathlib.Nat.{add-assoc}
 use borrow.Author.Tests.{lt-ltb}
+use Rattle.frame_table.specs.declared.fields.Fields.{Fields}
+use Rattle.frame_reader.specs.Reader.{readRequest}
 use Rattle.print.specs.Text.{Put}
 use Rattle.print.proofs.Texts.{put-length, put-then}
 use Rattle.bank_state.specs.Limits.{idBytes}
@@ -38,22 +40,23 @@ module _ (input : List ℕ) (memory : Lent) (buffer output : List ℕ) (m : Mark
       → (frame : List ℕ) → frame ≡ frameIn rest → (size : ℕ) → size ≡ sizeOf rest
       → (k : LentFrameCall) → k ≡ lentFrameCall memory (frameInput time (replicate idBytes 0) frame buffer)
       → Clocked (memory .rows) → (clock : ℕ) → clock ≡ bankOf (k .lent .rows) .clock
-      → (output′ : List ℕ) (written : ℕ)
-      → Put output (m .written) (codedLine (m .calls + 1) (k .answer) (k .code) frame clock) output′ written
+      → (q : Fields) → q ≡ readRequest frame → (output′ : List ℕ) (written : ℕ)
+      → Put output (m .written) (codedLine (m .calls + 1) (k .answer) (k .code) q clock) output′ written
       → _≡_ {A = Print} (record {
         state = markerState (m .calls + 1) (drop (m .used + headBytes + size) input) (k .lent) (k .buffer);
         output = output′;
         written = written;
       }) (markedNext (m .written) here output) × Clocked (k .lent .rows)
   unfolding called calledLine callOf
-  marked-call rest er time et frame ef size es k e timed clock ec output′ written put =
+  marked-call rest er time et frame ef size es k e timed clock ec q eq output′ written put =
       let is : k ≡ callOf here = e ∙ rw (et, ef, er) in
       let brought : frame ≡ frameIn (drop (m .used) input) = ef ∙ ap frameIn er in
       let kept : (n : ℕ) → k .answer ≡ Reply n → clock ≡ offsetClock here =
       λ n h. ec ∙ ap (λ (x : LentFrameCall). bankOf (x .lent .rows) .clock) is
       ∙ sym (offset-clock here timed n (ap (λ (x : LentFrameCall). x .answer) (sym is) ∙ h)) in
-      let line : codedLine (m .calls + 1) (k .answer) (k .code) frame clock ≡ calledLine here
-      = coded-line (m .calls + 1) (k .answer) (k .buffer) (k .code) frame (call-code memory _ k e) kept
+      let line : codedLine (m .calls + 1) (k .answer) (k .code) q clock ≡ calledLine here
+      = ap (λ (f : Fields). codedLine (m .calls + 1) (k .answer) (k .code) f clock) eq
+      ∙ coded-line (m .calls + 1) (k .answer) (k .buffer) (k .code) frame (call-code memory _ k e) kept
       ∙ ap (λ (x : LentFrameCall). lineOf (m .calls + 1) (x .answer) (x .buffer) frame (offsetClock here)) is
       ∙ ap (λ (l : List ℕ). lineOf (m .calls + 1) (callOf here .answer) (callOf here .buffer) l (offsetClock here))
       brought in

@@ -20,15 +20,13 @@ use Rattle.frame_table.specs.Table.{timestampTag, lastTime, width, has, tagsOf,
 use Rattle.frame_table.proofs.Forms.{form-tags, request-form}
 use Rattle.frame_table.specs.Names as names
 use Rattle.frame_reader.specs.Reader.{readRequest}
-use Rattle.frame_row.specs.Row.{dataOf}
-use Rattle.frame_writer.specs.Writer.{formLength, frameLength, lengthFrom, uploadOpeningLength}
-use Rattle.frame.proofs.Theorems.{request-time, request-written, request-writable, frame-length}
+use Rattle.frame.proofs.Theorems.{request-time}
 use Rattle.print.specs.Text.{ascii, digitsIn, digitCountTo, digitCount, decimal, hyphen, signedDecimal}
 use Rattle.print.proofs.Signed.{signed-most}
 use Rattle.print.proofs.Texts.{cond-most}
 use Rattle.bank.specs.declared.call.FrameAnswer.{FrameAnswer}
 use Rattle.bank.specs.declared.call.FrameAnswer.the-variants.{Reply, WrongLength}
-use Rattle.marker_session.specs.Offset.{offsetOf, isOpening, showsOffset, offsetText, offsetRoom}
+use Rattle.marker_session.specs.Offset.{offsetOf, isOpening, showsOffset, Timed, requestOffset, offsetRoom}
 
 -- ---- "timestamp minus clock", on both sides of zero
 
@@ -75,70 +73,44 @@ shown-opening : (a : FrameAnswer) (x : Form) → showsOffset a x ≡ true → is
 shown-opening (Reply n) x h = h
 shown-opening WrongLength x h = never h
 
--- what the code finds: the request read, its form, and whether its offset is shown
-module _ (a : FrameAnswer) (frame : List ℕ) (clock : ℕ) {q : Fields} {x : Form} {shown : Bool}
-    (read : q ≡ readRequest frame) (formed : x ≡ names.form q) (tested : shown ≡ showsOffset a x) where
-  at-form : shown ≡ showsOffset a (names.form (readRequest frame))
-  at-form = tested ∙ rw (formed, read)
+-- what the code finds: the request's form, and whether its offset is shown
+module _ (a : FrameAnswer) (clock : ℕ) (q : Fields) {x : Form} {shown : Bool}
+    (formed : x ≡ names.form q) (tested : shown ≡ showsOffset a x) where
+  at-form : shown ≡ showsOffset a (names.form q)
+  at-form = tested ∙ rw formed
 
-  pub offset-hidden : shown ≡ false → hyphen ∷ [] ≡ offsetText a frame clock
-  unfolding offsetText
+  pub offset-hidden : shown ≡ false → hyphen ∷ [] ≡ requestOffset a q clock
+  unfolding requestOffset
   offset-hidden h = rw (sym at-form ∙ h)
 
   pub offset-shown : shown ≡ true → {t : ℕ} → t ≡ names.timestamp q
-      → signedDecimal (offsetOf t clock) ≡ offsetText a frame clock
-  unfolding offsetText
-  offset-shown h e = rw (sym at-form ∙ h, e, read)
+      → signedDecimal (offsetOf t clock) ≡ requestOffset a q clock
+  unfolding requestOffset
+  offset-shown h e = rw (sym at-form ∙ h, e)
 
-  -- a timestamp that is read is at most the last time
-  pub shown-time : Bytes frame → shown ≡ true → names.timestamp q ≤ lastTime
-  shown-time b h =
-      let r = readRequest frame in
-      let k = opening-timed (names.form r) (shown-opening a (names.form r) (sym at-form ∙ h)) in
-      let tags = form-tags (r .tags) (names.phase r) (request-form (names.form r) (k .0)) in
-      rw read (request-time frame b (k .0) (ap (λ (n : ℕ). has n timestampTag) tags ∙ k .1))
+-- a timestamp that is shown is at most the last time
+pub shown-time : (a : FrameAnswer) (q : Fields) {x : Form} {shown : Bool} → x ≡ names.form q → shown ≡ showsOffset a x
+    → shown ≡ true → Timed q → names.timestamp q ≤ lastTime
+shown-time a q formed tested h t =
+    t (shown-opening a (names.form q) (ap (showsOffset a) (sym formed) ∙ sym tested ∙ h))
 
--- ---- no opening is longer than an upload's
-
-opening-most : (x : Form) (n : ℕ) → isOpening x ≡ true → formLength x n ≤ uploadOpeningLength
-unfolding frameLength lengthFrom width
-opening-most form.NoForm n h = never h
-opening-most (form.Request request.UploadOpening) n h = omega arith
-opening-most (form.Request request.DownloadOpening) n h = omega arith
-opening-most (form.Request request.UploadTransfer) n h = never h
-opening-most (form.Request request.DownloadTransfer) n h = never h
-opening-most (form.Request request.Receipt) n h = never h
-opening-most (form.Reply x) n h = never h
-
-opening-short : (s : List ℕ) → Bytes s → isOpening (names.form (readRequest s)) ≡ true → length s ≤ uploadOpeningLength
-opening-short s b h =
-    let q = readRequest s in
-    let k = opening-timed (names.form q) h .0 in
-    let long = frame-length q (dataOf s) (request-writable s b k) in
-    let most = opening-most (names.form q) (length (dataOf s)) h in
-    subst (λ (l : List ℕ). length l ≤ uploadOpeningLength) (request-written s b k) (omega arith)
-
-long-by : (a : FrameAnswer) (s : List ℕ) (clock : ℕ) (shown : Bool) → showsOffset a (names.form (readRequest s)) ≡ shown
-    → Bytes s → uploadOpeningLength < length s → hyphen ∷ [] ≡ offsetText a s clock
-unfolding offsetText
-long-by a s clock false e b h = rw e
-long-by a s clock true e b h =
-    let short = opening-short s b (shown-opening a (names.form (readRequest s)) e) in absurd (omega arith)
-
-pub offset-long : (a : FrameAnswer) (s : List ℕ) (clock : ℕ) → Bytes s → uploadOpeningLength < length s
-    → hyphen ∷ [] ≡ offsetText a s clock
-offset-long a s clock = long-by a s clock (showsOffset a (names.form (readRequest s))) refl
+-- the timestamp of an opening that is read is at most the last time
+pub read-timed : (frame : List ℕ) → Bytes frame → {q : Fields} → q ≡ readRequest frame → Timed q
+read-timed frame b {q = q} read h =
+    let r = readRequest frame in
+    let k = opening-timed (names.form r) (sym (ap (λ (f : Fields). isOpening (names.form f)) read) ∙ h) in
+    let tags = form-tags (r .tags) (names.phase r) (request-form (names.form r) (k .0)) in
+    rw read (request-time frame b (k .0) (ap (λ (n : ℕ). has n timestampTag) tags ∙ k .1))
 
 -- the same at two clocks that are one where the call is answered
-pub offset-same : (a : FrameAnswer) (frame : List ℕ) {c d : ℕ} → ((n : ℕ) → a ≡ Reply n → c ≡ d)
-    → offsetText a frame c ≡ offsetText a frame d
-unfolding offsetText
-offset-same (Reply n) frame e = rw (e n refl)
-offset-same WrongLength frame e = refl
+pub offset-same : (a : FrameAnswer) (q : Fields) {c d : ℕ} → ((n : ℕ) → a ≡ Reply n → c ≡ d)
+    → requestOffset a q c ≡ requestOffset a q d
+unfolding requestOffset
+offset-same (Reply n) q e = rw (e n refl)
+offset-same WrongLength q e = refl
 
-pub offset-most : (a : FrameAnswer) (frame : List ℕ) (clock : ℕ) → length (offsetText a frame clock) ≤ offsetRoom
-unfolding offsetText
-offset-most a frame clock =
-    let q = readRequest frame in
+pub offset-most : (a : FrameAnswer) (q : Fields) (clock : ℕ) → length (requestOffset a q clock) ≤ offsetRoom
+unfolding requestOffset
+offset-most a q clock =
     cond-most (showsOffset a (names.form q)) _ (hyphen ∷ []) offsetRoom
     (signed-most (offsetOf (names.timestamp q) clock)) (omega arith)

@@ -36,10 +36,10 @@ coded-most WrongLength code = omega (arith, length-digitsIn 10 48 1 1)
 -- the line goes by the return code of the reply in the buffer, and where there is a reply by the clock
 pub coded-line : (n : ℕ) (a : FrameAnswer) (buffer : List ℕ) (code : ℕ) (frame : List ℕ) {clock c : ℕ}
     → code ≡ replyCode a buffer → ((k : ℕ) → a ≡ Reply k → clock ≡ c)
-    → codedLine n a code frame clock ≡ lineOf n a buffer frame c
+    → codedLine n a code (readRequest frame) clock ≡ lineOf n a buffer frame c
 unfolding codedLine lineOf codeOf
 coded-line n (Reply k) buffer code frame e f = rw (e, f k refl)
-coded-line n WrongLength buffer code frame e f = rw (offset-same WrongLength frame f)
+coded-line n WrongLength buffer code frame e f = rw (offset-same WrongLength (readRequest frame) f)
 
 -- a call's code is that of the reply that it leaves in the buffer
 module _ (m : Lent) (a : FrameInput) where
@@ -70,4 +70,4 @@ line-most n a buffer frame clock =
     let e = length-append (column n space) (answerText a buffer ++ (space ∷ last)) in
     let f = length-append (answerText a buffer) (space ∷ last) in
     let g = length-append (offsetText a frame clock) (newline ∷ []) in
-    omega (arith, column-most n space, answer-most a buffer, offset-most a frame clock)
+    omega (arith, column-most n space, answer-most a buffer, offset-most a (readRequest frame) clock)

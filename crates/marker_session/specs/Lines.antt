@@ -12,7 +12,8 @@ use Rattle.print.specs.Text.{ascii, maxDigits, codeDigits, codeText, decimal, s
 use Rattle.bank.specs.declared.call.FrameAnswer.{FrameAnswer}
 use Rattle.bank.specs.declared.call.FrameAnswer.the-variants.{Reply, WrongLength}
 use Rattle.bank.specs.Call.{frameNumber}
-use Rattle.marker_session.specs.Offset.{offsetText, offsetRoom}
+use Rattle.frame_table.specs.declared.fields.Fields.{Fields}
+use Rattle.marker_session.specs.Offset.{requestOffset, offsetText, offsetRoom}
 
 -- "records from standard input: time .., frame length (2), frame"; the time has the bytes of a timestamp (card 3: "8
 -- bytes of milliseconds, as .. the marker's input"); s is the input from the record on
@@ -53,14 +54,14 @@ unfoldable pub lineOf : ℕ → FrameAnswer → List ℕ → List ℕ → ℕ �
 lineOf n a buffer frame clock =
     column n space ++ (answerText a buffer ++ (space ∷ offsetText a frame clock ++ (newline ∷ [])))
 
--- the same text and line, from the return code of the reply
+-- the same text and line, from the return code of the reply and the request
 abbrev pub codedText : FrameAnswer → ℕ → List ℕ
 codedText (Reply n) code = codeText code
 codedText WrongLength code = decimal (frameNumber WrongLength)
 
-unfoldable pub codedLine : ℕ → FrameAnswer → ℕ → List ℕ → ℕ → List ℕ
-codedLine n a code frame clock =
-    column n space ++ (codedText a code ++ (space ∷ offsetText a frame clock ++ (newline ∷ [])))
+unfoldable pub codedLine : ℕ → FrameAnswer → ℕ → Fields → ℕ → List ℕ
+codedLine n a code q clock =
+    column n space ++ (codedText a code ++ (space ∷ requestOffset a q clock ++ (newline ∷ [])))
 
 -- the most bytes that a line takes: a number, a space, a return code, a space, an offset, a newline
 abbrev pub lineRoom : ℕ

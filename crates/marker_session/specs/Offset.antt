@@ -1,9 +1,12 @@
 -- The third column (document 02, card 3): "the offset of each readable opening answered by a frame, timestamp minus
 -- clock, as a signed number of milliseconds"; "others a hyphen".
-use Prim.Native.Nat.{ℕ}
+use Prim.Native.Nat.{ℕ, _≤_}
 use mathlib.Core.Bool.{Bool, true, false, cond}
 use mathlib.Core.List.{List, [], _∷_}
+use mathlib.Core.Path.{_≡_}
 use lib.IntN.{ℤ, pos, _-ℤ_}
+use Rattle.frame_table.specs.declared.fields.Fields.{Fields}
+use Rattle.frame_table.specs.Table.{lastTime}
 use Rattle.frame_table.specs.declared.table.Form.{Form}
 use Rattle.frame_table.specs.declared.table.Form.the-variants as form
 use Rattle.frame_table.specs.declared.table.RequestForm.{RequestForm}
@@ -36,11 +39,18 @@ abbrev pub showsOffset : FrameAnswer → Form → Bool
 showsOffset (Reply n) x = isOpening x
 showsOffset WrongLength x = false
 
--- the column of a call that brought this frame and set this clock
-unfoldable pub offsetText : FrameAnswer → List ℕ → ℕ → List ℕ
-offsetText a frame clock =
-    let q = readRequest frame in
+-- an opening's timestamp is at most the last time
+abbrev pub Timed : Fields → Type 0
+Timed q = isOpening (names.form q) ≡ true → names.timestamp q ≤ lastTime
+
+-- the column of a call that brought this request and set this clock
+unfoldable pub requestOffset : FrameAnswer → Fields → ℕ → List ℕ
+requestOffset a q clock =
     cond (showsOffset a (names.form q)) (signedDecimal (offsetOf (names.timestamp q) clock)) (hyphen ∷ [])
+
+-- and one that brought this frame
+abbrev pub offsetText : FrameAnswer → List ℕ → ℕ → List ℕ
+offsetText a frame clock = requestOffset a (readRequest frame) clock
 
 -- the most bytes that it takes
 abbrev pub offsetRoom : ℕ

@@ -2,6 +2,7 @@
 use crate::offset::OFFSET_ROOM;
 use crate::offset::put_offset;
 use bank::call::FrameAnswer;
+use frame_table::fields::Fields;
 use number_table::table::WRONG_LENGTH;
 use print::text::put_byte;
 use print::text::put_code;
@@ -11,6 +12,7 @@ ghost use mathlib.Core.Path.{_≡_};
 ghost use Prim.Native.Nat.{_+_, _≤_};
 ghost use lib.ListN.{length};
 ghost use Rattle.frame_table.specs.Table.{lastTime};
+ghost use Rattle.marker_session.specs.Offset.{Timed};
 ghost use Rattle.print.specs.Text.{Put, codeDigits, printed, printedCount};
 ghost use Rattle.marker_session.specs.Lines.{codedText, codedLine, lineRoom, callHeader, headerRoom};
 
@@ -34,24 +36,23 @@ fn put_answer(output: &mut [u8], at: usize, answer: FrameAnswer, code: u64) -> u
     }
 }
 
-// Writes the line of call n, which brought this frame, set this clock, and whose reply has this return code.
+// Writes the line of call n, which brought this request, set this clock, and whose reply has this return code.
 pub(crate) fn put_line(
     output: &mut [u8],
     at: usize,
     n: u64,
     answer: FrameAnswer,
     code: u64,
-    frame: &[u8],
+    q: Fields,
     clock: u64,
 ) -> usize
-    requires { ⌜ (at + lineRoom ≤ length (now output)) × (clock ≤ lastTime) ⌝ }
-    ensures { λ r. ⌜ Put (now (output .entry)) at (codedLine n answer code (now (frame .entry)) clock)
-        (now (output .exit)) r ⌝ }
+    requires { ⌜ (at + lineRoom ≤ length (now output)) × (clock ≤ lastTime) × Timed q ⌝ }
+    ensures { λ r. ⌜ Put (now (output .entry)) at (codedLine n answer code q clock) (now (output .exit)) r ⌝ }
 {
     let a = put_column(output, at, n, b' ');
     let b = put_answer(output, a, answer, code);
     let c = put_byte(output, b, b' ');
-    let d = put_offset(output, c, answer, frame, clock);
+    let d = put_offset(output, c, answer, q, clock);
     put_byte(output, d, b'\n')
 }
 

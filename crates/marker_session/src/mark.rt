@@ -6,9 +6,11 @@ use crate::record::frame_in;
 use crate::record::is_whole;
 use crate::record::size_of;
 use crate::record::time_of;
-use bank::call::answer_frame;
+use bank::call::answer_request;
 use bank_rows::numbers::clock;
 use bank_state::limits::ID_BYTES;
+use frame_reader::reader::data_at;
+use frame_reader::reader::read_whole_request;
 use octets::bytes::behind;
 ghost use mathlib.Core.Path.{_≡_};
 ghost use mathlib.Core.Bool.{true, _&&_};
@@ -74,11 +76,23 @@ fn mark_call(
     let rest = behind(input, used);
     let frame = frame_in(rest);
     let ids = [0u8; ID_BYTES];
-    let step = answer_frame(rows, time_of(rest), &ids, frame, orders, mailboxes, buffer);
+    let p = read_whole_request(frame);
+    let q = p.fields;
+    let bytes = data_at(frame, p.from, p.end);
+    let step = answer_request(
+        rows,
+        time_of(rest),
+        &ids,
+        q,
+        bytes,
+        orders,
+        mailboxes,
+        buffer,
+    );
     let o = step.out;
     let calls = m.calls + 1;
     let answer = o.answer;
-    let written = put_line(output, m.written, calls, answer, o.code, frame, clock(rows));
+    let written = put_line(output, m.written, calls, answer, o.code, q, clock(rows));
     Marked {
         calls,
         used: used + HEAD_BYTES + size_of(rest),

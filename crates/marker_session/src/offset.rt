@@ -1,6 +1,6 @@
 // The offset of an opening: its timestamp less the clock, as a signed number.
 use bank::call::FrameAnswer;
-use frame_reader::reader::read_request;
+use frame_table::fields::Fields;
 use frame_table::table::Form;
 use frame_table::table::RequestForm;
 use print::text::put_byte;
@@ -10,10 +10,8 @@ ghost use Prim.Native.Nat.{_+_, _≤_};
 ghost use lib.ListN.{length};
 ghost use Rattle.frame_table.specs.Table.{lastTime};
 ghost use Rattle.print.specs.Text.{Put};
-ghost use Rattle.marker_session.specs.Offset.{offsetOf, opens, isOpening, showsOffset, offsetText, offsetRoom};
-
-// The bytes of the longest opening.
-const LONGEST_OPENING: usize = 57;
+ghost use Rattle.marker_session.specs.Offset.{offsetOf, opens, isOpening, showsOffset, Timed, requestOffset};
+ghost use Rattle.marker_session.specs.Offset.{offsetRoom};
 
 // The most bytes of an offset: a hyphen, and the digits of a number.
 pub const OFFSET_ROOM: usize = 1 + 20;
@@ -60,39 +58,19 @@ fn shows_offset(answer: FrameAnswer, form: Form) -> bool
     }
 }
 
-// Writes the offset of the frame at this clock, or a hyphen where the call shows none: the frame is read.
-fn put_read_offset(
-    output: &mut [u8],
-    at: usize,
-    answer: FrameAnswer,
-    frame: &[u8],
-    clock: u64,
-) -> usize
-    requires { ⌜ (at + offsetRoom ≤ length (now output)) × (clock ≤ lastTime) ⌝ }
-    ensures { λ r. ⌜ Put (now (output .entry)) at (offsetText answer (now (frame .entry)) clock)
-        (now (output .exit)) r ⌝ }
-{
-    let q = read_request(frame);
-    if !shows_offset(answer, q.form()) {
-        return put_byte(output, at, b'-');
-    }
-    put_signed(output, at, offset(q.timestamp(), clock))
-}
-
-// The same; a frame longer than any opening is not read again.
+// Writes the offset of the request at this clock, or a hyphen where the call shows none.
 pub(crate) fn put_offset(
     output: &mut [u8],
     at: usize,
     answer: FrameAnswer,
-    frame: &[u8],
+    q: Fields,
     clock: u64,
 ) -> usize
-    requires { ⌜ (at + offsetRoom ≤ length (now output)) × (clock ≤ lastTime) ⌝ }
-    ensures { λ r. ⌜ Put (now (output .entry)) at (offsetText answer (now (frame .entry)) clock)
-        (now (output .exit)) r ⌝ }
+    requires { ⌜ (at + offsetRoom ≤ length (now output)) × (clock ≤ lastTime) × Timed q ⌝ }
+    ensures { λ r. ⌜ Put (now (output .entry)) at (requestOffset answer q clock) (now (output .exit)) r ⌝ }
 {
-    if LONGEST_OPENING < frame.len() {
+    if !shows_offset(answer, q.form()) {
         return put_byte(output, at, b'-');
     }
-    put_read_offset(output, at, answer, frame, clock)
+    put_signed(output, at, offset(q.timestamp(), clock))
 }

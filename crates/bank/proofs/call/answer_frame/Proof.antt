@@ -1,133 +1,37 @@
--- Number 1 where a lent length or the time is wrong or the rows are no bank's; else clock, reading and step, as in the
--- definition.
-use mathlib.Core.Bool.{true}
-use mathlib.Core.List.{List}
-use mathlib.Core.Path.{_≡_, sym, ap, _∙_, subst}
-use native.Mathlib.Omega.{arith}
-use lib.ListN.{length}
+-- Number 1 where the rows are no bank's; else the frame is read and its request answered.
+use mathlib.Core.Path.{_≡_, sym, ap, _∙_}
 use borrow.Author.Tests.{not-true, not-false}
-use Prim.Native.Nat.{ℕ}
-use Rattle.bank_state.specs.Limits.{storeBytes, idleOthers}
-use Rattle.bank_verdicts.specs.declared.verdict.Context.{Context}
-use Rattle.bank_sound.specs.Sound.{isSound}
-use Rattle.bank_sound.proofs.Test.{sound-laid, sound-range}
-use Rattle.journal.specs.declared.event.Entry.{Entry}
-use Rattle.bank_events.specs.Entries.{Holds}
 use Rattle.bank.specs.declared.call.FrameOut.{FrameOut}
-use Rattle.bank.specs.Call.{RightInput, lentRight, frameInput}
-use Rattle.bank.specs.Journal.{ifAnswered}
 use Rattle.bank.specs.Lent.{lentFrameCallOf}
-use Rattle.bank_steps.specs.Lent.{lent, stateOf}
-use Rattle.bank.proofs.Entered.{none-entered, frame-entered}
-use Rattle.bank.proofs.Lent.{advanced-prepared, lent-refused, rows-refused, frame-carried}
-use Rattle.bank.proofs.Right.{right-told}
+use Rattle.bank_steps.specs.Lent.{lent}
+use Rattle.bank.proofs.Entered.{none-entered}
+use Rattle.bank.proofs.Lent.{rows-refused}
 use borrow.Author.Needs.{needs}
 use Rattle.bank.proofs.call.answer_frame.Statement.{statement}
 use Rattle.bank.proofs.call.answer_frame.Tie as tie
 
-abbrev context : ℕ → Context
-context n = record { prefix = n; others = idleOthers }
-
--- the context by the number of the ID bytes
-at-context : {n m : ℕ} → n ≡ m → context n ≡ context m
-at-context e = ap context e
-
--- the lent lengths are right
-right : (c : tie.Else1)
-    → let a = c .before .before .before .before .before .before .before .before .args in
-    (length (a .orders .now) ≡ storeBytes) × (length (a .mailboxes .now) ≡ storeBytes)
-    × RightInput (frameInput (a .time) (a .ids .now) (a .frame .now) (a .buffer .now))
-unfolding lentRight
-right c =
-    let a = c .before .before .before .before .before .before .before .before .args in
-    let right = not-false (c .before .lent-right .result) (c .if1 .left) in
-    right-told (stateOf (lent (a .rows .now) (a .orders .now) (a .mailboxes .now))) _
-    (sym (c .before .lent-right .ensures) ∙ right)
-
--- the rows are a bank's
-sound : (c : tie.Else2)
-    → let a = c .before .before .before .before .before .before .before .before .before .before .before .args in
-    isSound (a .rows .now) ≡ true
-sound c = sym (c .before .is-sound .ensures) ∙ not-false (c .before .is-sound .result) (c .if2 .left)
-
 returns : tie.Need-returns
-unfolding lentRight
 returns c =
-    let at-lent-right = c .before .before in
-    let a = at-lent-right .before .before .before .before .before .before .before .args in
-    let wrong = not-true (at-lent-right .lent-right .result) (c .before .if1 .taken) in
-    let away = c .turned-away .ensures in (
-      ap (λ (o : FrameOut). lentFrameCallOf o (lent (a .rows .now) (a .orders .now) (a .mailboxes .now)) (a .buffer .now))
-          (away .0) ∙ sym (lent-refused _ _ (sym (at-lent-right .lent-right .ensures) ∙ wrong)),
-      none-entered (away .0) (away .1) _,
-    )
-
-returns-2 : tie.Need-returns-2
-returns-2 c =
     let at-is-sound = c .before .before in
-    let a = at-is-sound .before .before .before .before .before .before .before .before .before .before .args in
-    let wrong = not-true (at-is-sound .is-sound .result) (c .before .if2 .taken) in
-    let away = c .turned-away2 .ensures in (
+    let a = at-is-sound .before .before .before .before .before .before .before .before .args in
+    let wrong = not-true (at-is-sound .is-sound .result) (c .before .if1 .taken) in
+    let away = c .turned-away .ensures in (
       ap (λ (o : FrameOut). lentFrameCallOf o (lent (a .rows .now) (a .orders .now) (a .mailboxes .now)) (a .buffer .now))
           (away .0) ∙ sym (rows-refused _ _ (sym (at-is-sound .is-sound .ensures) ∙ wrong)),
       none-entered (away .0) (away .1) _,
     )
 
-drops-requires : tie.Need-drops-requires
-drops-requires c κs = sound-laid _ (sound (c .before))
+answer-request-requires : tie.Need-answer-request-requires
+answer-request-requires c κs =
+    let at-if1 = c .before .before .before .before .before .before .before in
+    sym (at-if1 .before .is-sound .ensures) ∙ not-false (at-if1 .before .is-sound .result) (at-if1 .if1 .left)
 
-advance-requires : tie.Need-advance-requires
-advance-requires c κs =
-    let at-if2 = c .before .before .before .before in
-    (sound-laid _ (sound at-if2), right (at-if2 .before .before .before) .0)
-
-number-requires : tie.Need-number-requires
-number-requires c κs =
-    let at-if2 = c .before .before .before .before .before .before .before .before .before .before .before in
-    omega (arith, right (at-if2 .before .before .before) .2 .ids)
-
-respond-requires : tie.Need-respond-requires
-respond-requires c κs =
-    let at-orders = c .before .before .before .before .before .before .before .before .before in
-    let at-advance = at-orders .before .before .before in
-    let at-drops = at-advance .before .before .before in
-    let at-if2 = at-drops .before .before in
-    let at-if1 = at-if2 .before .before .before in
-    let start = at-if1 .before .before .before .before .before .before .before .before in
-    let a = start .args in
-    let m = a .mailboxes .now in (
-      advanced-prepared (a .rows .now) (a .orders .now) m (sound-laid _ (sound at-if2)) (a .time) _ _
-          (at-advance .advance .ensures m)
-          (sound-range _ (sound at-if2)) (at-orders .orders .given ∙ right at-if1 .0) (right at-if1 .1),
-      at-drops .drops .ensures .0,
-    )
-
-returns-3 : tie.Need-returns-3
-unfolding lentRight
-returns-3 c =
-    let at-respond = c .before .before .before .before .before .before .before .before in
-    let at-data = at-respond .before .before .before .before in
-    let at-number = at-data .before .before in
-    let at-read = at-number .before .before in
-    let at-advance = at-read .before .before .before .before .before in
-    let at-drops = at-advance .before .before .before in
-    let at-if2 = at-drops .before .before in
-    let at-if1 = at-if2 .before .before .before in
-    let at-lent = at-if1 .before in
-    let start = at-lent .before .before .before .before .before .before .before in
-    let a = start .args in
-    let m = lent (a .rows .now) (a .orders .now) (a .mailboxes .now) in
-    let input = frameInput (a .time) (a .ids .now) (a .frame .now) (a .buffer .now) in
-    let lengths = sym (at-lent .lent-right .ensures) ∙ not-false (at-lent .lent-right .result) (at-if1 .if1 .left) in
-    let step = at-respond .respond in
-    let stored = at-advance .advance .ensures (m .mailboxes) in
-    let entered = frame-entered m input (sound at-if2) _ _ stored (at-context (at-number .number .ensures .0))
-    (at-read .read-whole-request .ensures .0) (at-data .data-at .ensures) (at-drops .drops .ensures .1 .entries) in (
-      frame-carried m input (sound at-if2) lengths _ _ stored (at-context (at-number .number .ensures .0))
-          (at-read .read-whole-request .ensures .0) (at-data .data-at .ensures) (step .ensures .0),
-      subst (λ (es : List Entry). Holds (step .result .batch) (ifAnswered (step .result .out .answer) es)) entered
-          (step .ensures .1),
-    )
+returns-2 : tie.Need-returns-2
+returns-2 c =
+    let at-answer = c .before .before .before .before .before .before .before .before in
+    let at-data = at-answer .before .before .before .before .before in
+    let at-read = at-data .before .before in
+    at-answer .answer-request .ensures _ (at-read .read-whole-request .ensures .0) (at-data .data-at .ensures)
 
 pub answer-frame-spec : {M : Type 1} → statement M
 answer-frame-spec =
@@ -135,19 +39,13 @@ answer-frame-spec =
     (tie.spec
     (λ c κs. search needs)
     (λ c κs. search needs)
+    (λ c. search needs)
     returns
     (λ c κs. search needs)
     (λ c κs. search needs)
-    (λ c. search needs)
-    returns-2
-    drops-requires
-    advance-requires
-    (λ c κs. search needs)
-    number-requires
-    (λ c κs. search needs)
-    respond-requires
+    answer-request-requires
     (λ c. search needs)
     (λ c. search needs)
     (λ c. search needs)
     (λ c. search needs)
-    returns-3)
+    returns-2)

@@ -24,7 +24,7 @@ abbrev at-column : tie.After-put-answer → tie.After-put-column
 at-column c = c .before .before .before .before
 
 abbrev at-start : tie.After-put-column → tie.Start
-at-start c = c .before .before .before .before
+at-start c = c .before .before .before
 
 -- what is left of the line's room after the call's number, after the code, after the space, and after the offset
 left : (c : tie.After-put-column)
@@ -43,7 +43,7 @@ left-3 c = put-left 1 (offsetRoom + 1) (c .put-byte .ensures) (omega arith) (lef
 left-4 : (c : tie.After-put-offset) → c .put-offset .result + 1 ≤ length (c .put-offset .last .0)
 left-4 c =
     let a = at-start (at-column (at-answer (at-space c))) .args in
-    put-left offsetRoom 1 (c .put-offset .ensures) (offset-most (a .answer) (a .frame .now) (a .clock))
+    put-left offsetRoom 1 (c .put-offset .ensures) (offset-most (a .answer) (a .q) (a .clock))
     (left-3 (at-space c))
 
 put-column-requires : tie.Need-put-column-requires
@@ -58,7 +58,8 @@ put-byte-requires c κs = omega (arith, left-2 (c .before .before .before))
 put-offset-requires : tie.Need-put-offset-requires
 put-offset-requires c κs =
     let at-byte = c .before .before .before in
-    (omega (arith, left-3 at-byte), at-start (at-column (at-answer at-byte)) .pre .1)
+    let start = at-start (at-column (at-answer at-byte)) in
+    (omega (arith, left-3 at-byte), start .pre .1, start .pre .2)
 
 put-byte-requires-2 : tie.Need-put-byte-requires-2
 put-byte-requires-2 c κs = omega (arith, left-4 (c .before .before .before))

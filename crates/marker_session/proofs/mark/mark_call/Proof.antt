@@ -1,26 +1,33 @@
 -- The record that is ready is read, called, and its line written; it ends within the input. Assumes nothing.
-use mathlib.Core.Path.{ap}
+use mathlib.Core.Path.{sym, ap, _∙_, subst}
 use native.Mathlib.Omega.{arith}
-use Prim.Native.Nat.{_+_, _^_, _≤_, _<_}
+use Prim.Native.Nat.{ℕ, _+_, _^_, _≤_, _<_}
+use mathlib.Core.List.{List}
 use lib.ListN.{length, drop, length-drop}
 use Rattle.frame_table.specs.Table.{width}
 use Rattle.bank_sound.proofs.Test.{sound-laid}
-use Rattle.marker_session.specs.Lines.{headBytes, sizeOf}
+use Rattle.octets.specs.Bytes.{Bytes}
+use Rattle.octets.proofs.Numbers.{bytes-take, bytes-drop}
+use Rattle.marker_session.specs.Lines.{headBytes, sizeOf, frameIn}
 use Rattle.marker_session.specs.Marking.{Clocked}
 use Rattle.bank_steps.specs.Lent.{lent}
 use Rattle.marker_session.proofs.Calls.{Readied, readied}
 use Rattle.marker_session.proofs.Clock.{left-clocked}
 use Rattle.marker_session.proofs.Lines.{marked-call}
+use Rattle.marker_session.proofs.Offsets.{read-timed}
 use borrow.Author.Needs.{needs}
 use Rattle.marker_session.proofs.mark.mark_call.Statement.{statement}
 use Rattle.marker_session.proofs.mark.mark_call.Tie as tie
 
 -- the places of the body, from the last back to the first
-abbrev at-frame : tie.After-clock-arg → tie.After-answer-frame
+abbrev at-frame : tie.After-clock-arg → tie.After-answer-request
 at-frame c = c .before .before .before .before .before .before .before .before .before .before .before .before
 
-abbrev at-behind : tie.After-answer-frame → tie.After-behind
-at-behind c = c .before .before .before .before .before .before .before .before
+abbrev at-read : tie.After-answer-request → tie.After-read-whole-request
+at-read c = c .before .before .before .before .before .before .before .before .before
+
+abbrev at-behind : tie.After-answer-request → tie.After-behind
+at-behind c = at-read c .before .before
 
 abbrev at-start : tie.After-behind → tie.Start
 at-start c = c .before .before .before .before .before .before .before
@@ -45,8 +52,26 @@ end-within c =
     omega (arith, ap sizeOf (c .behind .ensures), r .head, r .end, length-drop (a .m .used) (a .input .now))
 
 -- the rows after the call
-clocked : (c : tie.After-answer-frame) → Clocked (c .answer-frame .last .0)
-clocked c = left-clocked _ _ (at-start (at-behind c) .pre .2) _ (c .answer-frame .ensures .0)
+clocked : (c : tie.After-answer-request) → Clocked (c .answer-request .last .0)
+clocked c =
+    let at-data = c .before .before .before .before .before .before .before in
+    left-clocked _ _ (at-start (at-behind c) .pre .2) _
+    (c .answer-request .ensures _ (at-read c .read-whole-request .ensures .0) (at-data .data-at .ensures) .0)
+
+-- the bytes of a frame are those of the input
+bytes-in : (n : ℕ) (s : List ℕ) → Bytes s → Bytes (frameIn (drop n s))
+unfolding frameIn
+bytes-in n s b =
+    bytes-take (sizeOf (drop n s)) (drop headBytes (drop n s)) (bytes-drop headBytes (drop n s) (bytes-drop n s b))
+
+frame-bytes : (c : tie.After-read-whole-request) → Bytes (c .before .frame-in .result .now)
+frame-bytes c =
+    let at-frame-in = c .before in
+    let behind = at-frame-in .before in
+    let known = behind .before .before .before .before .before .before in
+    let a = at-start behind .args in
+    subst Bytes (sym (at-frame-in .frame-in .ensures ∙ ap frameIn (behind .behind .ensures)))
+    (bytes-in (a .m .used) (a .input .now) (λ i. known .shared-slice-known .given i .fits))
 
 behind-requires : tie.Need-behind-requires
 behind-requires c κs = search needs
@@ -55,13 +80,13 @@ frame-in-requires : tie.Need-frame-in-requires
 frame-in-requires c κs = omega (arith, head-fits c)
 
 time-of-requires : tie.Need-time-of-requires
-time-of-requires c κs = omega (arith, head-fits (c .before .before))
+time-of-requires c κs = omega (arith, head-fits (c .before .before .before .before .before))
 
-slice-aggregate-answer-frame : tie.Need-slice-aggregate-answer-frame
-slice-aggregate-answer-frame c = search needs
+slice-aggregate-answer-request : tie.Need-slice-aggregate-answer-request
+slice-aggregate-answer-request c = search needs
 
-answer-frame-requires : tie.Need-answer-frame-requires
-answer-frame-requires c κs = tt
+answer-request-requires : tie.Need-answer-request-requires
+answer-request-requires c κs = at-start (c .before .before .before .before .before .before .before .before .before .before) .pre .2 .sound
 
 add-calls : tie.Need-add-calls
 add-calls c = omega (arith, ready (at-start (at-behind (c .before .before .before .before .before .before .before .before .before .before))) .count)
@@ -71,19 +96,22 @@ clock-requires c κs = sound-laid _ (clocked (at-frame c) .sound)
 
 put-line-requires : tie.Need-put-line-requires
 put-line-requires c κs =
-    let frame = at-frame (c .before) in
-    (omega (arith, at-start (at-behind frame) .pre .1), omega (arith, c .clock .ensures, clocked frame .inTime))
+    let frame = at-frame (c .before) in (
+      omega (arith, at-start (at-behind frame) .pre .1),
+      omega (arith, c .clock .ensures, clocked frame .inTime),
+      read-timed _ (frame-bytes (at-read frame)) (at-read frame .read-whole-request .ensures .0),
+    )
 
-add-t32 : tie.Need-add-t32
+add-t35 : tie.Need-add-t35
 unfolding width
-add-t32 c = omega (arith, end-fits (at-behind (at-frame (c .before .before .before .before))))
+add-t35 c = omega (arith, end-fits (at-behind (at-frame (c .before .before .before .before))))
 
 size-of-requires : tie.Need-size-of-requires
 size-of-requires c κs = omega (arith, head-fits (at-behind (at-frame (c .before .before .before .before))))
 
-add-t34 : tie.Need-add-t34
+add-t37 : tie.Need-add-t37
 unfolding width
-add-t34 c =
+add-t37 c =
     omega (arith, c .size-of .ensures, end-fits (at-behind (at-frame (c .before .before .before .before .before))))
 
 same-length : tie.Need-same-length
@@ -105,15 +133,18 @@ returns : tie.Need-returns
 unfolding width
 returns c =
     let at-line = c .before .before .before in
-    let frame = at-frame (at-line .before .before) in
-    let at-time = frame .before .before .before .before .before in
-    let at-read = at-time .before .before in
-    let behind = at-read .before in
+    let answered = at-frame (at-line .before .before) in
+    let at-time = answered .before .before .before .before .before in
+    let at-data = at-time .before .before in
+    let read = at-read answered in
+    let at-frame-in = read .before in
+    let behind = at-frame-in .before in
     let a = at-start behind .args in
+    let said = read .read-whole-request .ensures .0 in
     let done = marked-call (a .input .now) (lent (a .rows .now) (a .orders .now) (a .mailboxes .now)) (a .buffer .now)
-    (a .output .now) (a .m) _ (behind .behind .ensures) _ (at-time .time-of .ensures) _ (at-read .frame-in .ensures)
-    _ (c .size-of .ensures) _ (frame .answer-frame .ensures .0) (at-start behind .pre .2)
-    _ (at-line .before .clock .ensures) _ _ (at-line .put-line .ensures) in
+    (a .output .now) (a .m) _ (behind .behind .ensures) _ (at-time .time-of .ensures) _ (at-frame-in .frame-in .ensures)
+    _ (c .size-of .ensures) _ (answered .answer-request .ensures _ said (at-data .data-at .ensures) .0)
+    (at-start behind .pre .2) _ (at-line .before .clock .ensures) _ said _ _ (at-line .put-line .ensures) in
     (done .0, omega (arith, c .size-of .ensures, end-within behind), done .1)
 
 pub mark-call-spec : {M : Type 1} → statement M
@@ -122,15 +153,17 @@ mark-call-spec =
     (tie.spec
     behind-requires
     frame-in-requires
+    (λ c κs. search needs)
+    (λ c κs. search needs)
     time-of-requires
-    slice-aggregate-answer-frame
-    answer-frame-requires
+    slice-aggregate-answer-request
+    answer-request-requires
     add-calls
     clock-requires
     put-line-requires
-    add-t32
+    add-t35
     size-of-requires
-    add-t34
+    add-t37
     same-length
     same-length-2
     same-length-3
