@@ -125,8 +125,10 @@ module _ (f : Fields) (d : List ℕ) where
                 ∙ sym (overwrite-overwrite out at (length next) next (rest-from f d (t + 1)) refl (omega (arith, writing-left, w .long)));
           })
 
-    pub writing-end : tagCount ≤ t → overwrite old 0 (frameOf f d) ≡ out
-    writing-end h = w .bytes ∙ ap (overwrite out at) (join-end t f d h) ∙ overwrite-nil out at
+    pub writing-end : tagCount ≤ t → (at ≡ length (frameOf f d)) × (overwrite old 0 (frameOf f d) ≡ out)
+    writing-end h =
+        let e = join-end t f d h in
+        (omega (arith, w .left, ap length e), w .bytes ∙ ap (overwrite out at) e ∙ overwrite-nil out at)
 
 -- ---- what the writer accepts
 

@@ -1,7 +1,7 @@
 -- What the writer's answer tells of the buffer, and of the fields and the data. Assumes nothing.
 use Prim.Native.Nat.{ℕ, _+_, _≤_}
 use mathlib.Core.List.{List, _++_}
-use mathlib.Core.Bool.{Bool, true, false, cond}
+use mathlib.Core.Bool.{Bool, true, false, cond, _&&_}
 use mathlib.Core.Path.{_≡_, refl, sym, ap, _∙_}
 use native.Mathlib.Nat.{zero-add}
 use native.Mathlib.Omega.{arith}
@@ -11,16 +11,24 @@ use lib.Seq.{take-at, drop-at}
 use borrow.Author.Tests.{le-leb, leb-true}
 use Rattle.frame_table.specs.declared.fields.Fields.{Fields}
 use Rattle.octets.specs.Bytes.{overwrite}
+use Rattle.frame_table.specs.Table.{tagCount, frameLimit, isForm}
+use Rattle.frame_table.specs.Names.{form}
 use Rattle.octets.proofs.Tests.{and-true}
 use Rattle.frame_writer.specs.declared.writer.Written.{Written}
 use Rattle.frame_writer.specs.declared.writer.Written.the-variants.{Length, Refused}
-use Rattle.frame_writer.specs.Writer.{frameOf, writable, accepted, writeAnswer, writeBuffer}
+use Rattle.frame_writer.specs.Writer.{frameOf, fieldsWritable, writable, accepted, writeAnswer, writeBuffer}
 
 module _ (f : Fields) (d old : List ℕ) where
   -- what can be written, where there is room for it, is accepted
   pub is-accepted : writable f d ≡ true → length (frameOf f d) ≤ length old → accepted f d old ≡ true
   unfolding accepted
   is-accepted h k = rw (h, le-leb (length (frameOf f d)) (length old) k)
+
+  -- a frame that can be written is within the limit
+  pub writable-limit : writable f d ≡ true → length (frameOf f d) ≤ frameLimit
+  unfolding writable
+  writable-limit h =
+      leb-true (length (frameOf f d)) frameLimit (and-true (isForm (form f) && fieldsWritable tagCount 0 f d) _ h .1)
 
   pub accepted-writable : accepted f d old ≡ true → (writable f d ≡ true) × (length (frameOf f d) ≤ length old)
   unfolding accepted

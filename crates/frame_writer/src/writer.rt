@@ -26,7 +26,7 @@ ghost use Rattle.octets.specs.Bytes.{bytesOf, overwrite};
 ghost use Rattle.frame_table.specs.Table.{tagCount, frameLimit, dataTag, width, has, isForm};
 ghost use Rattle.frame_row.specs.Row.{spelled, listed, piece};
 ghost use Rattle.frame_writer.specs.Writer.{contentAt, frameOf, dataWhole, contentFits, fieldsWritable, writeAnswer};
-ghost use Rattle.frame_writer.specs.Writer.{writeBuffer, writeNumber, writtenNumber};
+ghost use Rattle.frame_writer.specs.Writer.{accepted, writeBuffer, writeNumber, writtenNumber};
 
 // The length of the frame written, or document 01's number 1: nothing written.
 pub enum Written {
@@ -221,7 +221,30 @@ fn is_form(form: Form) -> bool
     is_reply_form(form)
 }
 
-// Writes the frame that says these fields with this data into the front of out.
+// Writes the frame that says these fields with this data, which the writer accepts, into the front of out; its length.
+pub fn write_accepted(fields: Fields, data: &[u8], out: &mut [u8]) -> usize
+    requires { ⌜ accepted fields (now «data») (now out) ≡ true ⌝ }
+    ensures { λ r. ⌜ (r ≡ length (frameOf fields (now («data» .entry))))
+        × (now (out .exit) ≡ overwrite (now (out .entry)) 0 (frameOf fields (now («data» .entry)))) ⌝ }
+{
+    let mut at = 0;
+    let mut tag = 0;
+    while tag < TAG_COUNT {
+        at = put(
+            out,
+            at,
+            fields.tags,
+            tag,
+            fields.high[tag],
+            fields.low[tag],
+            data,
+        );
+        tag += 1;
+    }
+    at
+}
+
+// Writes the frame that says these fields with this data into the front of out, where the writer accepts them.
 pub fn write(fields: Fields, data: &[u8], out: &mut [u8]) -> Written
     ensures { λ r. ⌜ (r ≡ writeAnswer fields (now («data» .entry)) (now (out .entry)))
         × (now (out .exit) ≡ writeBuffer fields (now («data» .entry)) (now (out .entry)))
@@ -237,19 +260,5 @@ pub fn write(fields: Fields, data: &[u8], out: &mut [u8]) -> Written
     if out.len() < n {
         return Written::Refused;
     }
-    let mut at = 0;
-    let mut tag = 0;
-    while tag < TAG_COUNT {
-        at = put(
-            out,
-            at,
-            fields.tags,
-            tag,
-            fields.high[tag],
-            fields.low[tag],
-            data,
-        );
-        tag += 1;
-    }
-    Written::Length(n)
+    Written::Length(write_accepted(fields, data, out))
 }
