@@ -19,6 +19,8 @@ use Rattle.bank_steps.specs.Lent.{Lent, stateOf}
 use Rattle.journal.specs.declared.event.Entry.{Entry}
 use Rattle.journal.specs.declared.event.Batch.{Batch}
 use Rattle.bank_events.specs.Entries.{Holds, dropEntry, droppedUploads, verdictOrder, namedOrder, actionEntries, callEntries}
+use Rattle.bank.specs.declared.call.FrameAnswer.{FrameAnswer}
+use Rattle.bank.specs.declared.call.FrameAnswer.the-variants.{Reply}
 use Rattle.bank.specs.declared.call.FrameOut.{FrameOut}
 use Rattle.bank.specs.Call.{respond, FrameInput, contextOf}
 use Rattle.bank.specs.Journal.{clockBy, requestEntries, enteredBy, ifAnswered}
@@ -35,6 +37,11 @@ request-entered context b q d e f g = rw (g, f, e)
 pub none-entered : {o : FrameOut} {batch : Batch} → o ≡ noReply → Holds batch [] → (es : List Entry)
     → Holds batch (ifAnswered (o .answer) es)
 none-entered e h es = rw e h
+
+-- a reply leaves the events
+pub answered-entered : {a : FrameAnswer} {n : ℕ} {batch : Batch} {es : List Entry} → a ≡ Reply n → Holds batch es
+    → Holds batch (ifAnswered a es)
+answered-entered e h = rw e h
 
 -- the whole call
 pub frame-entered : (m : Lent) (a : FrameInput) → isSound (m .rows) ≡ true → (t p : List ℕ)

@@ -6,3 +6,5 @@ pub mod Lent
 pub mod Right
 pub mod Kept
 pub mod Entered
+pub mod RequestBounds
+pub mod WrittenReplies

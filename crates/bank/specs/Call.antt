@@ -1,7 +1,7 @@
 -- A frame arrives: the lent lengths, the clock and the drops, the reading, the verdict carried out, and the reply.
-use Prim.Native.Nat.{ℕ, _-_, _≤_}
+use Prim.Native.Nat.{ℕ, _-_, _^_, _≤_, _<_}
 use mathlib.Core.Path.{_≡_}
-use mathlib.Core.Bool.{Bool, cond, _&&_}
+use mathlib.Core.Bool.{Bool, true, cond, _&&_}
 use mathlib.Core.List.{List, []}
 use lib.Dec.{leb, eqb}
 use lib.ListN.{length, take}
@@ -10,11 +10,11 @@ use Rattle.frame_table.specs.declared.fields.Fields.{Fields}
 use Rattle.frame_writer.specs.declared.writer.Written.{Written}
 use Rattle.frame_writer.specs.declared.writer.Written.the-variants as written
 use Rattle.octets.specs.Bytes.{number}
-use Rattle.frame_table.specs.Names.{subscriber, returnCode, form}
+use Rattle.frame_table.specs.Names.{phase, subscriber, exchange, transaction, returnCode, form}
 use Rattle.frame_reader.specs.Reader.{readRequest, readReply}
 use Rattle.frame_row.specs.Row.{dataOf}
-use Rattle.frame_table.specs.Table.{isReplyForm, lastTime}
-use Rattle.frame_writer.specs.Writer.{writeAnswer, writeBuffer}
+use Rattle.frame_table.specs.Table.{isRequestForm, isReplyForm, lastTime}
+use Rattle.frame_writer.specs.Writer.{accepted, writeAnswer, writeBuffer}
 use Rattle.message.specs.Segments.{segmentOf}
 use Rattle.bank_state.specs.Clock.{advanced}
 use Rattle.bank_state.specs.Limits.{storeBytes, idBytes, replyRoom, idleOthers}
@@ -34,6 +34,19 @@ pub record Step : Type 0 where
   pub bankState : BankState
   pub reply : Fields
   pub replyData : List ℕ
+
+-- ---- the request
+
+-- what a reply takes over from a request is in the width of its field
+pub record InWidth (q : Fields) : Type 0 where
+  pub some : 1 ≤ phase q
+  pub most : phase q ≤ 3
+  pub numbered : exchange q < 2 ^ 32
+  pub wide : (transaction q .high < 2 ^ 64) × (transaction q .low < 2 ^ 64)
+
+-- as it is where a request was read
+abbrev pub Bounded : Fields → Type 0
+Bounded q = isRequestForm (form q) ≡ true → InWidth q
 
 -- ---- the reply
 
@@ -73,9 +86,9 @@ abbrev pub replyCode : FrameAnswer → List ℕ → ℕ
 replyCode (Reply n) buffer = returnCode (readReply (take n buffer))
 replyCode WrongLength buffer = 0
 
--- the return code that a reader of these fields finds
-abbrev pub codeIn : Fields → ℕ
-codeIn f = cond (isReplyForm (form f)) (returnCode f) 0
+-- a reply, f with the data d, that can be written into old
+abbrev pub Sendable : Fields → List ℕ → List ℕ → Type 0
+Sendable f d old = (accepted f d old ≡ true) × (isReplyForm (form f) ≡ true)
 
 -- what is left where f with the data d was to be written into old
 pub record SentAs (f : Fields) (d old : List ℕ) (a : FrameAnswer) (code : ℕ) (buffer : List ℕ) : Type 0 where

@@ -22,9 +22,7 @@ use frame_reader::reader::data_at;
 use frame_reader::reader::read_whole_request;
 use frame_table::fields::Fields;
 use frame_table::table::LAST_TIME;
-use frame_table::table::is_reply_form;
-use frame_writer::writer::Written;
-use frame_writer::writer::write;
+use frame_writer::writer::write_accepted;
 use journal::event::Batch;
 use message::segments::segment_of;
 use octets::bytes::number;
@@ -33,6 +31,7 @@ ghost use mathlib.Core.Bool.{true, _&&_};
 ghost use mathlib.Core.List.{List, [], _++_};
 ghost use Prim.Native.Nat.{ℕ, _≤_};
 ghost use lib.Dec.{eqb, leb};
+ghost use lib.ListN.{length};
 ghost use Rattle.frame_table.specs.Names.{subscriber};
 ghost use Rattle.frame_reader.specs.Reader.{readRequest};
 ghost use Rattle.frame_row.specs.Row.{dataOf};
@@ -41,9 +40,8 @@ ghost use Rattle.frame_table.specs.Table.{lastTime};
 ghost use Rattle.bank_state.specs.Limits.{placeCount, storeBytes, idBytes, replyRoom};
 ghost use Rattle.bank_rows.specs.State.{bankOf};
 ghost use Rattle.bank_verdicts.specs.Replies.{replyTo, segmentIn};
-ghost use Rattle.bank.specs.Call.{fileSegment, codeIn, SentAs, frameInput};
+ghost use Rattle.bank.specs.Call.{Bounded, Sendable, fileSegment, SentAs, frameInput};
 ghost use Rattle.bank_steps.specs.Lent.{lent, stateOf, Prepared};
-ghost use Rattle.journal.specs.declared.event.Entry.{Entry};
 ghost use Rattle.journal.specs.Events.{entriesIn};
 ghost use Rattle.bank_events.specs.Entries.{Holds};
 ghost use Rattle.bank.specs.Journal.{requestEntries, enteredBy, ifAnswered};
@@ -67,31 +65,16 @@ pub struct FrameStep {
     pub batch: Batch,
 }
 
-// The return code that a reader of these fields finds; 0 where they are of no reply form.
-fn code_in(fields: Fields) -> u64
-    ensures { λ r. ⌜ r ≡ codeIn fields ⌝ }
-{
-    if is_reply_form(fields.form()) {
-        return fields.return_code();
-    }
-    0
-}
-
-// The reply written into the lent buffer: its answer, and its return code, 0 where it was not written.
+// The reply written into the lent buffer: its answer, and its return code.
 fn reply_with(fields: Fields, bytes: &[u8], buffer: &mut [u8]) -> FrameOut
+    requires { ⌜ Sendable fields (now bytes) (now buffer) ⌝ }
     ensures { λ r. ⌜ SentAs fields (now (bytes .entry)) (now (buffer .entry))
         (r .answer) (r .code) (now (buffer .exit)) ⌝ }
 {
-    let written = write(fields, bytes, buffer);
-    match written {
-        Written::Length(n) => FrameOut {
-            answer: FrameAnswer::Reply(n),
-            code: code_in(fields),
-        },
-        Written::Refused => FrameOut {
-            answer: FrameAnswer::WrongLength,
-            code: 0,
-        },
+    let n = write_accepted(fields, bytes, buffer);
+    FrameOut {
+        answer: FrameAnswer::Reply(n),
+        code: fields.return_code(),
     }
 }
 
@@ -108,22 +91,14 @@ fn file_segment(mailboxes: &[u8], subscriber: u64, n: u64, segment: u64) -> &[u8
 
 // The reply that a verdict on the request q gives; n is the length of the file in its mailbox.
 fn reply(verdict: Verdict, q: Fields, n: u64, mailboxes: &[u8], buffer: &mut [u8]) -> FrameOut
+    requires { ⌜ Sendable (replyTo verdict q)
+        (fileSegment (now mailboxes) (subscriber q) n (segmentIn verdict q)) (now buffer) ⌝ }
     ensures { λ r. ⌜ SentAs (replyTo verdict q)
         (fileSegment (now (mailboxes .entry)) (subscriber q) n (segmentIn verdict q))
         (now (buffer .entry)) (r .answer) (r .code) (now (buffer .exit)) ⌝ }
 {
     let bytes = file_segment(mailboxes, q.subscriber(), n, segment_in(verdict, q));
     reply_with(reply_to(verdict, q), bytes, buffer)
-}
-
-// A call given number 1 enters nothing.
-fn if_answered(answer: FrameAnswer, batch: Batch) -> Batch
-    ensures { λ r. ⌜ ((es : List Entry) → Holds batch es → Holds r (ifAnswered answer es)) ⌝ }
-{
-    match answer {
-        FrameAnswer::Reply(_) => batch,
-        FrameAnswer::WrongLength => no_events(),
-    }
 }
 
 // A request, read, at the clock that the call has set; it enters its event after the drops.
@@ -137,7 +112,8 @@ fn respond(
     mailboxes: &mut [u8],
     buffer: &mut [u8],
 ) -> FrameStep
-    requires { ⌜ Prepared (now rows) (now orders) (now mailboxes) × (dropped .count ≤ placeCount) ⌝ }
+    requires { ⌜ Prepared (now rows) (now orders) (now mailboxes) × (dropped .count ≤ placeCount) × Bounded q
+        × (replyRoom ≤ length (now buffer)) ⌝ }
     ensures { λ r. ⌜ (lentFrameCallOf (r .out) (lent (now (rows .exit)) (now (orders .exit)) (now (mailboxes .exit)))
         (now (buffer .exit))
         ≡ lentRespond context (lent (now (rows .entry)) (now (orders .entry)) (now (mailboxes .entry)))
@@ -149,9 +125,7 @@ fn respond(
     let named = named_order(rows, q);
     let verdict = step(rows, context, q, bytes, orders, mailboxes);
     let out = reply(verdict, q, n, mailboxes, buffer);
-    let answer = out.answer;
-    let entered = with_action(dropped, verdict, verdict_order(verdict, named), q);
-    let batch = if_answered(answer, entered);
+    let batch = with_action(dropped, verdict, verdict_order(verdict, named), q);
     FrameStep { out, batch }
 }
 
@@ -199,7 +173,7 @@ pub fn answer_request(
     mailboxes: &mut [u8],
     buffer: &mut [u8],
 ) -> FrameStep
-    requires { ⌜ isSound (now rows) ≡ true ⌝ }
+    requires { ⌜ (isSound (now rows) ≡ true) × Bounded q ⌝ }
     ensures { λ r. ⌜ ((frame : List ℕ) → q ≡ readRequest frame → now (bytes .entry) ≡ dataOf frame →
         (lentFrameCallOf (r .out) (lent (now (rows .exit)) (now (orders .exit)) (now (mailboxes .exit)))
         (now (buffer .exit))
@@ -218,16 +192,7 @@ pub fn answer_request(
         prefix: number(ids),
         others: IDLE_OTHERS,
     };
-    respond(
-        rows,
-        dropped,
-        context,
-        q,
-        bytes,
-        orders,
-        mailboxes,
-        buffer,
-    )
+    respond(rows, dropped, context, q, bytes, orders, mailboxes, buffer)
 }
 
 // A frame arrives at a bank time, with the bank's rows, the ID bytes, both stores and the reply buffer lent.

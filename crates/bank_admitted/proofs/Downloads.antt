@@ -45,7 +45,7 @@ use Rattle.bank_downloads.specs.Downloads.{movedTo}
 use Rattle.bank_steps.specs.Steps.{ended, emptied, carryOut}
 use Rattle.bank_admitted.specs.State.{mailboxFile, OpenRecord, DownloadHolds, MailboxHolds, NoncesHold, StateHolds}
 use Rattle.bank_admitted.proofs.Rows.{used-inside, each-set, count-set-le, packed-set, packed-keepOnly}
-use Rattle.bank_admitted.proofs.Cases.{ToDownload}
+use Rattle.bank_steps.proofs.Cases.{ToDownload}
 use Rattle.bank_admitted.proofs.Held.{file-long, download-open}
 use Rattle.bank_admitted.proofs.Parts.{download-later, download-moved}
 use Rattle.bank_admitted.proofs.DownloadChange.{besides, download-change}

@@ -1,34 +1,23 @@
 -- What a state that may be held tells of one place, one record of downloads and one mailbox.
-use Prim.Native.Nat.{ℕ, suc, _-_, _≤_, _<_}
+use Prim.Native.Nat.{ℕ, suc, _≤_, _<_}
 use mathlib.Core.Bool.{Bool, true, false}
 use mathlib.Core.Path.{_≡_, refl, sym, subst}
 use native.Mathlib.Decide.{decLt}
 use native.Mathlib.Omega.{arith}
-use lib.ListN.{length, getD, length-take}
+use lib.ListN.{length}
 use Rattle.octets.proofs.Tests.{never}
-use Rattle.message.specs.Limits.{subscribers, fileBytes}
+use Rattle.message.specs.Limits.{subscribers}
 use Rattle.bank_state.specs.declared.state.Download.{Download}
 use Rattle.bank_state.specs.declared.state.Use.{Use}
 use Rattle.bank_state.specs.declared.state.Use.the-variants.{Free, Open, Booked}
-use Rattle.bank_state.specs.Limits.{placeCount, storeBytes, seriesLimit}
+use Rattle.bank_state.specs.Limits.{placeCount, seriesLimit}
 use Rattle.bank_state.specs.Search.{isFree, isOpen}
 use Rattle.bank_state.specs.State.{BankState, noDownload, placeAt, downloadAt, fileLength}
-use Rattle.bank_state.specs.Store.{partAt, fileOf}
+use Rattle.bank_state.specs.Store.{partAt}
+use Rattle.bank_state.proofs.Stores.{kept-long}
 use Rattle.bank_admitted.specs.State.{mailboxFile, UsedAs, PlaceHolds, OpenRecord, DownloadHolds, StateHolds}
 use Rattle.bank_admitted.proofs.Rows.{packed-rises}
 use Rattle.bank_admitted.proofs.Series.{series-counted, series-limited}
-use Rattle.bank_admitted.proofs.Stores.{length-part}
-
--- the file of a mailbox has the length that is kept for it
-pub kept-long : (w : BankState) → length (w .mailboxes) ≡ storeBytes →
-    ((i : ℕ) → i < placeCount → getD (w .bank .files) i 0 ≤ fileBytes) → (s : ℕ) → 1 ≤ s → s ≤ subscribers →
-    length (mailboxFile w s) ≡ fileLength s (w .bank .files)
-unfolding mailboxFile fileLength fileOf
-kept-long w long room s a b =
-    let inside : s - 1 < placeCount = omega arith in
-    let l = length-part (w .mailboxes) long (s - 1) inside in
-    let m = room (s - 1) inside in
-    simp length-take (omega arith)
 
 -- an open upload is a place in use
 pub open-in-use : (u : Use) → isOpen u ≡ true → isFree u ≡ false

@@ -21,7 +21,7 @@ use Rattle.bank.specs.declared.mailbox.FileAnswer.the-variants as put
 use Rattle.bank.specs.Call.{FrameCall, FrameInput, contextOf, lentRight, respond, frameCall}
 use Rattle.bank.specs.Mailbox.{FileCall, fileNumber, carryOutFile, fileCall}
 use Rattle.bank_admitted.specs.State.{StateHolds, NoneIdle}
-use Rattle.bank_admitted.proofs.Cases.{
+use Rattle.bank_steps.proofs.Cases.{
   Happens,
   unreadable,
   refused,

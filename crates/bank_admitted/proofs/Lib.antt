@@ -2,7 +2,6 @@
 pub mod Stores
 pub mod Rows
 pub mod Series
-pub mod Cases
 pub mod Reading
 pub mod Parts
 pub mod Nonces

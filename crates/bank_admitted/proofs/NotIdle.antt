@@ -38,7 +38,7 @@ use Rattle.bank_uploads.specs.Uploads.{grown, booked, attempted, placeAfter}
 use Rattle.bank_steps.specs.Steps.{onUpload, downloadActs, carryOut}
 use Rattle.bank_admitted.specs.State.{NoneIdle}
 use Rattle.bank_admitted.proofs.Rows.{each-set}
-use Rattle.bank_admitted.proofs.Cases.{
+use Rattle.bank_steps.proofs.Cases.{
   Happens,
   unreadable,
   refused,

@@ -59,7 +59,7 @@ use Rattle.journal.specs.declared.event.Kind.the-variants as kind
 use Rattle.bank_events.specs.Entries.{entry, isEvent, orderIn, actionEntries}
 use Rattle.bank_steps.specs.Steps.{uploadActs, downloadActs, carryOut}
 use Rattle.bank_admitted.specs.Session.{Words, NoncesApart, openUploads}
-use Rattle.bank_admitted.proofs.Cases.{
+use Rattle.bank_steps.proofs.Cases.{
   ToUpload,
   ToDownload,
   Happens,

@@ -41,7 +41,7 @@ use Rattle.bank.specs.Mailbox.{fileRefusals, carryOutFile, fileCall}
 use Rattle.bank.proofs.Right.{right-told}
 use Rattle.bank_admitted.specs.State.{StateHolds, NoneIdle}
 use Rattle.bank_admitted.specs.Session.{NoncesApart, JournalHolds, openUploads, SessionHolds, Brought}
-use Rattle.bank_admitted.proofs.Cases.{happens}
+use Rattle.bank_steps.proofs.Cases.{happens}
 use Rattle.bank_admitted.proofs.Clock.{sized}
 use Rattle.bank_admitted.proofs.Series.{Further}
 use Rattle.bank_admitted.proofs.Held.{open-in-use}

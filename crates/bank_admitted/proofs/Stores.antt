@@ -4,7 +4,7 @@ use mathlib.Core.List.{List, _++_}
 use mathlib.Core.Path.{_≡_, sym, ap, _∙_}
 use native.Mathlib.Decide.{decLt}
 use native.Mathlib.Omega.{arith}
-use lib.ListN.{length, take, drop, length-take, length-drop}
+use lib.ListN.{length, take, drop, length-drop}
 use lib.Seq.{drop-at, drop-drop, take-add, length-take-le}
 use Rattle.octets.specs.Bytes.{overwrite}
 use Rattle.octets.proofs.Numbers.{length-overwrite}
@@ -30,10 +30,6 @@ written-part s a x m fits room =
 
 -- a store of 8 parts
 module _ (d : List ℕ) (whole : length d ≡ storeBytes) (i : ℕ) (inside : i < placeCount) where
-  pub length-part : length (partAt d i) ≡ fileBytes
-  unfolding partAt
-  length-part = simp (length-take, length-drop) (omega arith)
-
   module _ (xs : List ℕ) (fits : length xs ≤ fileBytes) where
     room : i * fileBytes + length xs ≤ length d
     room = omega arith

@@ -45,9 +45,9 @@ use Rattle.bank_verdicts.proofs.Sound.{
 use Rattle.bank_uploads.specs.Uploads.{grown, booked, attempted}
 use Rattle.bank_steps.specs.Steps.{onUpload, carryOut}
 use Rattle.bank_admitted.specs.State.{OpenPlace, PlaceHolds, Alike, StateHolds}
-use Rattle.bank_admitted.proofs.Stores.{length-part}
+use Rattle.bank_state.proofs.Stores.{length-part}
 use Rattle.bank_admitted.proofs.Rows.{count-set-le}
-use Rattle.bank_admitted.proofs.Cases.{requestForm, ToUpload}
+use Rattle.bank_steps.proofs.Cases.{requestForm, ToUpload}
 use Rattle.bank_admitted.proofs.Parts.{place-attempted, place-grown, place-booked}
 use Rattle.bank_admitted.proofs.Series.{further-same}
 use Rattle.bank_admitted.proofs.Held.{open-in-use}

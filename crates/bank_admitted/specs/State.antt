@@ -26,13 +26,10 @@ use Rattle.bank_state.specs.Limits.{
   window,
 }
 use Rattle.bank_state.specs.Search.{isFree, isOpen, openCount, openCountOf}
-use Rattle.bank_state.specs.State.{BankState, noPlace, noDownload, noNonce, placeAt, downloadAt, fileLength, seriesOf}
-use Rattle.bank_state.specs.Store.{partAt, fileOf}
+use Rattle.bank_state.specs.State.{BankState, noPlace, noDownload, noNonce, placeAt, downloadAt, seriesOf}
+use Rattle.bank_state.specs.Store.{partAt}
+unfoldable pub use Rattle.bank_state.specs.Store.{mailboxFile}
 use Rattle.bank_admitted.specs.Packed.{Packed}
-
--- "The bank's mailbox holds exactly the file ...": the file in a subscriber's mailbox
-unfoldable pub mailboxFile : BankState → ℕ → List ℕ
-mailboxFile w s = fileOf (w .mailboxes) (s - 1) (fileLength s (w .bank .files))
 
 -- rows and stores have their lengths
 pub record Sizes (w : BankState) : Type 0 where

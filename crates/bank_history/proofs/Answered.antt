@@ -4,7 +4,7 @@ use mathlib.Core.Bool.{true}
 use mathlib.Core.List.{List, []}
 use mathlib.Core.Path.{_≡_, refl, ap}
 use native.Mathlib.Omega.{arith}
-use lib.ListN.{length, length-take, length-drop}
+use lib.ListN.{length}
 use Rattle.frame_table.specs.declared.fields.Bits128.{Bits128}
 use Rattle.octets.specs.Bytes.{number}
 use Rattle.frame_table.specs.Names.{segment}
@@ -13,7 +13,7 @@ use Rattle.frame_row.specs.Row.{dataOf}
 use Rattle.frame_writer.specs.Writer.{frameOf, writable}
 use Rattle.frame_writer.proofs.Written.{written-in-front}
 use Rattle.message.specs.Limits.{segmentBytes}
-use Rattle.message.specs.Segments.{segmentsOf, segmentOf}
+use Rattle.message.specs.Segments.{segmentsOf}
 use Rattle.bank_state.specs.Clock.{advanced}
 use Rattle.bank_state.specs.Limits.{replyRoom}
 use Rattle.bank.specs.Call.{contextOf, Step, respond, lentRight, frameCall, FrameInput, RightInput}
@@ -37,7 +37,7 @@ use Rattle.bank_history.specs.Sound.{
 }
 use Rattle.bank_history.specs.Invariant.{Holds}
 use Rattle.bank_history.specs.Transactions.{answered}
-use Rattle.message.proofs.SegmentNumbers.{some-segment}
+use Rattle.message.proofs.SegmentNumbers.{some-segment, segment-length}
 use Rattle.bank_history.proofs.Positions.{sound-at}
 
 -- the stores that the calls left have the lengths that a frame call asks for
@@ -61,12 +61,6 @@ frame-answered a p holds right can =
     rw (lent-right p a holds right, front)
 
 -- ---- a reply's data
-
--- a segment of a file has 1 to 256 bytes
-pub segment-length : (file : List ℕ) (s : ℕ) → 1 ≤ s → s ≤ segmentsOf (length file) →
-    (1 ≤ length (segmentOf file s)) × (length (segmentOf file s) ≤ segmentBytes)
-unfolding segmentOf segmentsOf
-segment-length file s some within = (simp (length-take, length-drop) (omega arith), simp (length-take, length-drop) (omega arith))
 
 module _ (e : Exchange) (g : List Exchange) where
   carried : (n : ℕ) (t : Bits128) → SoundData n t e g → length (e .replyData) ≤ segmentBytes

@@ -2,45 +2,34 @@
 use Prim.Native.Nat.{ℕ, _^_, _≤_, _<_}
 use mathlib.Core.Bool.{Bool, true, false}
 use mathlib.Core.List.{List}
-use mathlib.Core.Path.{_≡_, refl, sym, ap, _∙_, subst}
+use mathlib.Core.Path.{_≡_, refl, ap, _∙_}
 use native.Mathlib.Omega.{arith}
 use lib.ListN.{length}
-use Rattle.frame_table.specs.declared.fields.Fields.{Fields}
 use Rattle.octets.specs.Bytes.{Bytes, number}
-use Rattle.frame_table.specs.Names.{subscriber, form}
 use Rattle.frame_reader.specs.Reader.{readRequest}
 use Rattle.frame_row.specs.Row.{dataOf}
-use Rattle.frame_table.specs.Table.{isRequestForm}
 use Rattle.frame_writer.specs.Writer.{frameOf}
 use Rattle.octets.proofs.Numbers.{number-small}
 use Rattle.frame_writer.proofs.Written.{written-in-front, written-behind}
 use Rattle.frame.proofs.Theorems.{data-read, reply-read}
-use Rattle.message.specs.Replies.{unreadable}
-use Rattle.message.proofs.Writable.{unreadable-written}
 use Rattle.bank_state.specs.Clock.{advanced}
 use Rattle.bank_state.specs.Limits.{idBytes}
 use Rattle.bank_state.specs.State.{BankState}
-use Rattle.bank_state.proofs.Drops.{Sized, advanced-sized}
+use Rattle.bank_state.proofs.Drops.{advanced-sized}
 use Rattle.bank_sound.specs.Sound.{InRange}
 use Rattle.bank_sound.proofs.Range.{advanced-range}
-use Rattle.bank_verdicts.specs.declared.verdict.Context.{Context}
-use Rattle.bank_verdicts.specs.declared.verdict.Verdict.the-variants as verdict
-use Rattle.bank_verdicts.specs.Refusals.{requestRows}
-use Rattle.bank_verdicts.specs.Judgement.{judge}
-use Rattle.bank.specs.Call.{contextOf, Step, stepBy, respond, lentRight, frameCall, FrameInput, RightInput}
+use Rattle.bank.specs.Call.{contextOf, Step, respond, lentRight, frameCall, FrameInput, RightInput}
 use Rattle.bank.proofs.Right.{right-told, right-tested}
+use Rattle.bank.proofs.RequestBounds.{request-in-width}
+use Rattle.bank.proofs.WrittenReplies.{WrittenReply, respond-written}
 use Rattle.bank_history.specs.History.{Past, BankCall, Frame, exchangeOf, after, pastOf, callExchange}
 use Rattle.bank_admitted.specs.State.{Sizes}
 use Rattle.bank_history.specs.Transactions.{answered}
 use Rattle.bank_history.specs.Answers.{FrameAnswered}
-use Rattle.bank_admitted.proofs.Cases.{happens}
 use Rattle.bank_admitted.proofs.Clock.{sized}
 use Rattle.bank_history.proofs.InRange.{in-range}
-use Rattle.bank_history.proofs.Uploads.{bare}
 use Rattle.bank_history.proofs.Keeps.{past-holds}
 use Rattle.bank_history.proofs.Answered.{frame-answered}
-use Rattle.bank_history.proofs.RequestBounds.{request-in-width}
-use Rattle.bank_history.proofs.WrittenReplies.{WrittenReply, sent, case-written}
 
 -- ---- the lent bytes
 
@@ -54,36 +43,15 @@ ids-lt ids b long = number-small idBytes ids b long
 abbrev pub stepOf : BankState → FrameInput → Step
 stepOf w a = respond (contextOf a) (advanced (a .time) w) (readRequest (a .frame)) (dataOf (a .frame))
 
-unread-is : (context : Context) (w : BankState) (q : Fields) (d : List ℕ) → isRequestForm (form q) ≡ false →
-    respond context w q d ≡ stepBy verdict.Unreadable w q d
-unfolding respond judge requestRows
-unread-is context w q d e = rw e
-
 -- a bank in range, with stores of their lengths, and a call that brings bytes
 module _ (w : BankState) (range : InRange (w .bank)) (sizes : Sizes w) (a : FrameInput)
     (idsBytes : Bytes (a .ids)) (frameBytes : Bytes (a .frame)) where
   pub reply-written : length (a .ids) ≡ idBytes → WrittenReply (stepOf w a .reply) (stepOf w a .replyData)
-  unfolding respond
-  reply-written right = at (isRequestForm (form q)) refl
-    where
-      v : BankState
-      v = advanced (a .time) w
-
-      q : Fields
-      q = readRequest (a .frame)
-
-      long : Sized v
-      long = advanced-sized (a .time) w (sized sizes)
-
-      at : (b : Bool) → isRequestForm (form q) ≡ b → WrittenReply (stepOf w a .reply) (stepOf w a .replyData)
-      at true e =
-          case-written v (advanced-range (a .time) w range) (long .mailboxes) q
-          (request-in-width (a .frame) frameBytes e) (ids-lt (a .ids) idsBytes right)
-          (happens (contextOf a) v q (dataOf (a .frame)) (long .places) (long .downloads))
-      at false e =
-          subst (λ (s : Step). WrittenReply (s .reply) (s .replyData))
-          (sym (unread-is (contextOf a) v q (dataOf (a .frame)) e))
-          (subst (WrittenReply unreadable) (sym (bare v (subscriber q))) (sent refl (omega arith) unreadable-written))
+  reply-written right =
+      let long = advanced-sized (a .time) w (sized sizes) in
+      respond-written (contextOf a) (advanced (a .time) w) (readRequest (a .frame)) (dataOf (a .frame))
+      (ids-lt (a .ids) idsBytes right) (advanced-range (a .time) w range) (long .places) (long .downloads) (long .mailboxes)
+      (request-in-width (a .frame) frameBytes)
 
   -- its answer is the reply, in front of the buffer
   pub call-answered : RightInput a → FrameAnswered (frameCall w a) (a .buffer) (callExchange w a)

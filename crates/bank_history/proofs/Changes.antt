@@ -53,7 +53,7 @@ use Rattle.bank_history.specs.Transactions.{Emptied, Filled, Gone, answe
 use Rattle.bank_state.proofs.Drops.{each-endDownloads}
 use Rattle.bank_admitted.proofs.Rows.{each-set-all}
 use Rattle.message.proofs.Verdicts.{by-test}
-use Rattle.bank_admitted.proofs.Cases.{Happens, unreadable, refused, opensUpload, opensDownload, toUpload, toDownload, upload-acts, happens}
+use Rattle.bank_steps.proofs.Cases.{Happens, unreadable, refused, opensUpload, opensDownload, toUpload, toDownload, upload-acts, happens}
 use Rattle.bank_history.proofs.GoesOn.{download-goes-on}
 use Rattle.bank_state.proofs.Found.{upload-found}
 use Rattle.bank_history.proofs.Uploads.{entry}

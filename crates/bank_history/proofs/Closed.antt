@@ -46,7 +46,7 @@ use Rattle.bank_history.specs.Status.{
   statusAfter,
   status,
 }
-use Rattle.bank_admitted.proofs.Cases.{
+use Rattle.bank_steps.proofs.Cases.{
   Happens,
   unreadable,
   refused,

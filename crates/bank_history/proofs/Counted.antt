@@ -41,7 +41,7 @@ use Rattle.bank.specs.Call.{contextOf, respond}
 use Rattle.bank_history.specs.History.{Exchange, Past, BankCall, Stands, newest, older, ActionIn, isAction, isOpening, isTaking, isDelivery, did, ever, times, exchangeOf, start, pastOf}
 use Rattle.bank_admitted.specs.State.{Sizes}
 use Rattle.bank_history.specs.Invariant.{Invariant, Holds}
-use Rattle.bank_admitted.proofs.Cases.{Happens, unreadable, refused, opensUpload, opensDownload, toUpload, toDownload, ToUpload, ToDownload, upload-acts, happens}
+use Rattle.bank_steps.proofs.Cases.{Happens, unreadable, refused, opensUpload, opensDownload, toUpload, toDownload, ToUpload, ToDownload, upload-acts, happens}
 use Rattle.bank_history.proofs.GoesOn.{upload-goes-on, download-goes-on}
 use Rattle.bank_admitted.proofs.Clock.{each-advanced, each-download}
 use Rattle.bank_history.proofs.Clock.{advanced-keeps}

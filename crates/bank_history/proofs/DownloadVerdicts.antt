@@ -45,10 +45,11 @@ use Rattle.bank_verdicts.proofs.Sound.{
   confirmed,
   declined,
 }
-use Rattle.bank_admitted.proofs.Cases.{requestForm, ToDownload}
+use Rattle.bank_steps.proofs.Cases.{requestForm, ToDownload}
 use Rattle.bank_history.proofs.Records.{download-moved}
 use Rattle.bank_history.proofs.Uploads.{entry, bare}
-use Rattle.bank_history.proofs.Downloads.{download-open, moved-step, ended-step, carried-segment}
+use Rattle.bank.proofs.WrittenReplies.{carried-segment}
+use Rattle.bank_history.proofs.Downloads.{download-open, moved-step, ended-step}
 
 module _ (w : BankState) (h : List Exchange) (v : Invariant w h) (q : Fields) (d : List ℕ) (readable : Readable q (length d))
     (found : isDownload (subscriber q) (transaction q) (downloadAt (w .bank) (downloadOf (w .bank) q)) ≡ true) where

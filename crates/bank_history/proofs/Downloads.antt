@@ -4,12 +4,10 @@ use Prim.Native.Nat.{ℕ, _≤_, _<_}
 use mathlib.Core.Bool.{Bool, true, false, not, _&&_}
 use mathlib.Core.List.{List, _∷_}
 use mathlib.Core.Path.{_≡_, refl, sym, ap, _∙_, subst}
-use native.Mathlib.Omega.{arith}
 use lib.ListN.{getD, set}
-use borrow.Author.Tests.{ne-eqb, not-true}
+use borrow.Author.Tests.{not-true}
 use Rattle.frame_table.specs.declared.fields.Bits128.{Bits128}
 use Rattle.octets.proofs.Tests.{never, and-true}
-use Rattle.message.specs.Segments.{segmentOf}
 use Rattle.bank_state.specs.declared.clock.Ended.{Ended}
 use Rattle.bank_state.specs.declared.state.Download.{Download}
 use Rattle.bank_state.specs.Clock.{ends, endDownloads}
@@ -19,7 +17,6 @@ use Rattle.bank_state.specs.State.{BankState, noDownload, placeAt, downloadAt, 
 use Rattle.bank_state.specs.Store.{partAt}
 use Rattle.bank_state.proofs.Drops.{each-endDownloads}
 use Rattle.bank_downloads.specs.Downloads.{movedTo}
-use Rattle.bank.specs.Call.{mailboxSegment}
 use Rattle.bank_verdicts.specs.declared.verdict.Action.{Action}
 use Rattle.bank_verdicts.specs.declared.verdict.Verdict.the-variants as verdict
 use Rattle.bank_admitted.specs.State.{mailboxFile, StateHolds}
@@ -137,8 +134,3 @@ module _ (w : BankState) (h : List Exchange) (v : Invariant w h) (j : ℕ) (used
           let a = and-true (downloadAt (w .bank) i .used) (not (ends which (downloadAt (w .bank) i))) g in
           let f = not-true (ends which (downloadAt (w .bank) i)) (a .1) in
           other-stays i (λ z. never (sym f ∙ (ap (λ (m : ℕ). ends which (downloadAt (w .bank) m)) z ∙ gone)))
-
--- the segment of a mailbox that a reply carries
-pub carried-segment : (w : BankState) (s n : ℕ) → 1 ≤ n → mailboxSegment w s n ≡ segmentOf (mailboxFile w s) n
-unfolding mailboxSegment mailboxFile
-carried-segment w s n h = rw (ne-eqb n 0 (λ e. omega arith))

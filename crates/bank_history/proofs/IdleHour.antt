@@ -20,7 +20,7 @@ use Rattle.bank_verdicts.specs.Judgement.{uploadAt, downloadOf}
 use Rattle.bank_history.specs.History.{Exchange, BankCall, Stands, newest, pastOf, opens, isOpening}
 use Rattle.bank_admitted.specs.State.{NoneIdle}
 use Rattle.bank_history.specs.FalseEconomies.{Next, Asks, RefusedWith, Fits}
-use Rattle.bank_admitted.proofs.Cases.{
+use Rattle.bank_steps.proofs.Cases.{
   Happens,
   unreadable,
   refused,

@@ -82,7 +82,7 @@ use Rattle.bank_history.proofs.ByReplies.{
   at-opened,
 }
 use Rattle.bank_history.proofs.GoesOn.{upload-goes-on}
-use Rattle.bank_admitted.proofs.Cases.{
+use Rattle.bank_steps.proofs.Cases.{
   Happens,
   unreadable,
   refused,

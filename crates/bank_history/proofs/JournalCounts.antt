@@ -112,7 +112,7 @@ use Rattle.bank_history.proofs.Counts.{
   count-two-less,
 }
 use Rattle.bank_history.proofs.GoesOn.{upload-goes-on}
-use Rattle.bank_admitted.proofs.Cases.{
+use Rattle.bank_steps.proofs.Cases.{
   Happens,
   unreadable,
   refused,

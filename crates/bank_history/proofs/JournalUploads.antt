@@ -76,7 +76,7 @@ use Rattle.bank_history.specs.Journal.{journalOf, entryOf, uploadDrops, 
 use Rattle.bank_history.specs.JournalOrders.{OpensOrder, NeverBooked}
 use Rattle.bank_history.specs.Series.{InSeries}
 use Rattle.bank_history.proofs.ByReplies.{opening-below}
-use Rattle.bank_admitted.proofs.Cases.{Happens, unreadable, refused, opensUpload, opensDownload, toUpload, toDownload}
+use Rattle.bank_steps.proofs.Cases.{Happens, unreadable, refused, opensUpload, opensDownload, toUpload, toDownload}
 use Rattle.bank_history.proofs.GoesOn.{upload-goes-on}
 use Rattle.bank_history.proofs.Closed.{
   isClosed,

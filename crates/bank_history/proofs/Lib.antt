@@ -21,8 +21,6 @@ pub mod OpenDownloads
 pub mod DownloadRequests
 pub mod Dropped
 pub mod Answered
-pub mod RequestBounds
-pub mod WrittenReplies
 pub mod InRange
 pub mod Answers
 pub mod Theorems

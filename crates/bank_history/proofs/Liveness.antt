@@ -33,7 +33,7 @@ use Rattle.bank_history.specs.History.{Exchange, Past, BankCall, Frame, 
 use Rattle.bank_history.specs.Invariant.{Invariant, Holds}
 use Rattle.bank_admitted.proofs.Files.{filled}
 use Rattle.bank_history.specs.Transactions.{Filled, UploadAt, DownloadAt, UploadUnlessIdle, DownloadUnlessIdle, answered}
-use Rattle.bank_admitted.proofs.Cases.{
+use Rattle.bank_steps.proofs.Cases.{
   Happens,
   unreadable,
   refused,

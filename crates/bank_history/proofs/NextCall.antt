@@ -45,7 +45,7 @@ use Rattle.bank_history.specs.Sound.{SoundRequest, SoundAction, SoundUpl
 use Rattle.bank_history.specs.Invariant.{Invariant}
 use Rattle.bank_history.specs.Transactions.{answered}
 use Rattle.bank_history.specs.FalseEconomies.{Next, WellMade, Asks, RefusedWith}
-use Rattle.bank_admitted.proofs.Cases.{Happens, happens}
+use Rattle.bank_steps.proofs.Cases.{Happens, happens}
 use Rattle.bank_history.proofs.Changes.{after-frame}
 use Rattle.bank_history.proofs.Clock.{advanced-keeps}
 use Rattle.bank_history.proofs.Keeps.{past-holds}

@@ -34,7 +34,7 @@ use Rattle.bank_history.specs.Invariant.{Invariant}
 use Rattle.bank_history.specs.Transactions.{DownloadAt, DownloadUnlessIdle}
 use Rattle.bank_state.proofs.Drops.{length-endDownloads, advanced-at-clock}
 use Rattle.bank_state.proofs.Rows.{first-passes, keepOnly-holds}
-use Rattle.bank_admitted.proofs.Cases.{Happens, unreadable, refused, opensUpload, opensDownload, toUpload, toDownload, upload-acts}
+use Rattle.bank_steps.proofs.Cases.{Happens, unreadable, refused, opensUpload, opensDownload, toUpload, toDownload, upload-acts}
 use Rattle.bank_history.proofs.GoesOn.{download-goes-on}
 use Rattle.bank_history.proofs.Entries.{same-bits}
 use Rattle.bank_admitted.proofs.Clock.{advanced-clock}

@@ -26,7 +26,7 @@ use Rattle.bank_history.specs.History.{Exchange, isAction, did}
 use Rattle.bank_admitted.specs.State.{Sizes}
 use Rattle.bank_history.specs.Invariant.{Invariant}
 use Rattle.bank_history.specs.Transactions.{UploadAt, UploadUnlessIdle}
-use Rattle.bank_admitted.proofs.Cases.{
+use Rattle.bank_steps.proofs.Cases.{
   Happens,
   unreadable,
   refused,

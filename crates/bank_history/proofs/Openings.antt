@@ -47,7 +47,7 @@ use Rattle.bank_history.proofs.Memory.{memory-added}
 use Rattle.bank_history.proofs.Places.{place-unchanged, place-opened, places-told}
 use Rattle.bank_history.proofs.Records.{download-unchanged, download-opened}
 use Rattle.bank_history.proofs.Uploads.{entry, bare, booked-at, still-booked}
-use Rattle.bank_history.proofs.Downloads.{carried-segment}
+use Rattle.bank.proofs.WrittenReplies.{carried-segment}
 
 free-not-booked : (u : Use) → u ≡ Free → u ≡ Booked → ⊥
 free-not-booked u e f = let z : _≡_ {A = ℕ} 0 1 = cc in omega arith

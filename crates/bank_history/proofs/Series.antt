@@ -32,7 +32,7 @@ use Rattle.bank_verdicts.specs.declared.verdict.Verdict.the-variants as verdict
 use Rattle.bank_verdicts.specs.Refusals.{unknownType, openingRows}
 use Rattle.bank_verdicts.specs.Judgement.{accepted, judgeOpening}
 use Rattle.bank_verdicts.proofs.Lines.{passed}
-use Rattle.bank_admitted.proofs.Cases.{
+use Rattle.bank_steps.proofs.Cases.{
   Happens,
   unreadable,
   refused,

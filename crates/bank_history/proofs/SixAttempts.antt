@@ -57,7 +57,7 @@ use Rattle.bank_admitted.specs.State.{OpenPlace, PlaceHolds}
 use Rattle.bank_history.specs.Invariant.{Invariant}
 use Rattle.bank_history.specs.FalseEconomies.{Next, RefusedWith, Sent, Attempt, point, again, Attempts}
 use Rattle.bank_history.specs.FalseEconomies as history
-use Rattle.bank_admitted.proofs.Cases.{
+use Rattle.bank_steps.proofs.Cases.{
   Happens,
   unreadable,
   refused,

@@ -73,7 +73,7 @@ use Rattle.bank_history.specs.Status.{
   download,
 }
 use Rattle.bank_history.proofs.GoesOn.{upload-goes-on, download-goes-on}
-use Rattle.bank_admitted.proofs.Cases.{
+use Rattle.bank_steps.proofs.Cases.{
   Happens,
   unreadable,
   refused,

@@ -57,7 +57,7 @@ use Rattle.bank_history.proofs.Parts.{OpenUpload, PlaceKept, place-kept
 use Rattle.bank_history.specs.Transactions.{UploadAt}
 use Rattle.bank_state.proofs.Rows.{first-passes}
 use Rattle.bank_admitted.proofs.Rows.{first-at-most}
-use Rattle.bank_admitted.proofs.Cases.{Happens, unreadable, refused, opensUpload, opensDownload, toUpload, toDownload}
+use Rattle.bank_steps.proofs.Cases.{Happens, unreadable, refused, opensUpload, opensDownload, toUpload, toDownload}
 use Rattle.bank_history.proofs.GoesOn.{upload-goes-on}
 use Rattle.bank_history.proofs.Entries.{and-no, same-bits}
 use Rattle.bank_state.proofs.Found.{upload-found}

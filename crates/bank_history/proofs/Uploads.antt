@@ -54,7 +54,7 @@ use Rattle.bank_verdicts.proofs.Sound.{
   underrun,
   exceeded,
 }
-use Rattle.bank_admitted.proofs.Cases.{requestForm, ToUpload}
+use Rattle.bank_steps.proofs.Cases.{requestForm, ToUpload}
 use Rattle.bank_admitted.proofs.Held.{place-counted}
 use Rattle.bank_admitted.proofs.PlaceChange.{changedAt}
 use Rattle.bank_admitted.proofs.Uploads as admitted

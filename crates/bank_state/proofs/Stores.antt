@@ -1,4 +1,4 @@
--- Laws of bytes written into a store. Assumes nothing.
+-- Laws of bytes written into a store, and of the lengths of its parts. Assumes nothing.
 use Prim.Native.Nat.{ℕ, suc, _+_, _-_, _*_, _≤_, _<_}
 use mathlib.Core.Bool.{Bool, true, false}
 use mathlib.Core.List.{List, _++_, append-assoc, append-nil}
@@ -15,6 +15,7 @@ use lib.ListN.{
   set,
   replicate,
   length-append,
+  length-take,
   length-drop,
   length-replicate,
   replicate-append-replicate,
@@ -37,9 +38,10 @@ use borrow.Rule.Slice.PartMut.{putMid, midOf, mid-len, post-is}
 use borrow.Author.Tests.{ltb-true, ltb-false}
 use Rattle.octets.specs.Bytes.{overwrite}
 use Rattle.octets.proofs.Numbers.{length-overwrite}
-use Rattle.message.specs.Limits.{fileBytes}
+use Rattle.message.specs.Limits.{subscribers, fileBytes}
 use Rattle.bank_state.specs.Limits.{placeCount, storeBytes}
-use Rattle.bank_state.specs.Store.{partAt, withPart, zeroed}
+use Rattle.bank_state.specs.State.{BankState, fileLength}
+use Rattle.bank_state.specs.Store.{partAt, withPart, zeroed, fileOf, mailboxFile}
 
 -- one more byte zeroed from the front
 pub zeros-next : (p : List ℕ) (i : ℕ) → i < length p → set (replicate i 0 ++ drop i p) i 0 ≡ replicate (i + 1) 0 ++ drop (i + 1) p
@@ -158,3 +160,20 @@ module _ (s : List ℕ) (i : ℕ) (k : length s ≡ storeBytes) (h : i < placeCo
   pub zeroed-other : (j : ℕ) → (j ≡ i → ⊥) → partAt (zeroed s i) j ≡ partAt s j
   unfolding zeroed
   zeroed-other = part-other s i (replicate fileBytes 0) k (length-replicate {A = ℕ} fileBytes 0) h
+
+-- ---- the parts of a store of 8
+
+pub length-part : (d : List ℕ) → length d ≡ storeBytes → (i : ℕ) → i < placeCount → length (partAt d i) ≡ fileBytes
+unfolding partAt
+length-part d whole i inside = simp (length-take, length-drop) (omega arith)
+
+-- the file of a mailbox has the length that is kept for it
+pub kept-long : (w : BankState) → length (w .mailboxes) ≡ storeBytes →
+    ((i : ℕ) → i < placeCount → getD (w .bank .files) i 0 ≤ fileBytes) → (s : ℕ) → 1 ≤ s → s ≤ subscribers →
+    length (mailboxFile w s) ≡ fileLength s (w .bank .files)
+unfolding mailboxFile fileLength fileOf
+kept-long w long room s a b =
+    let inside : s - 1 < placeCount = omega arith in
+    let l = length-part (w .mailboxes) long (s - 1) inside in
+    let m = room (s - 1) inside in
+    simp length-take (omega arith)

@@ -7,3 +7,4 @@ pub mod Judged
 pub mod Held
 pub mod Range
 pub mod Lent
+pub mod Cases

@@ -54,7 +54,7 @@ use Rattle.bank_admitted.proofs.Files.{filled}
 use Rattle.bank_history.specs.Transactions.{answered, Emptied}
 use Rattle.bank_admitted.proofs.Clock.{advanced-clock}
 use Rattle.bank_history.proofs.Clock.{advanced-keeps}
-use Rattle.bank_admitted.proofs.Cases.{happens}
+use Rattle.bank_steps.proofs.Cases.{happens}
 use Rattle.bank_admitted.proofs.Files.{FileSound, rejected, done, judged-file, filled-same, filled-other}
 use Rattle.bank_history.proofs.Replies.{verdictCode, reply-form}
 use Rattle.bank_history.proofs.Theorems.{frame-mailbox, after-holds, past-holds, reply-is}

@@ -50,7 +50,7 @@ use Rattle.bank_verdicts.proofs.Lines.{allRows, judged-by, each-such}
 use Rattle.bank_steps.specs.Steps.{downloadActs, emptied, carryOut}
 use Rattle.bank_admitted.specs.State.{mailboxFile}
 use Rattle.bank_admitted.specs.State.{Sizes}
-use Rattle.bank_admitted.proofs.Cases.{Happens, unreadable, refused, opensUpload, opensDownload, toUpload, toDownload}
+use Rattle.bank_steps.proofs.Cases.{Happens, unreadable, refused, opensUpload, opensDownload, toUpload, toDownload}
 use Rattle.bank_history.proofs.Changes.{no-file}
 
 -- ---- no refusal carries 000000, 011000 or 011001

@@ -40,7 +40,7 @@ use Rattle.bank_verdicts.specs.Judgement.{judge}
 use Rattle.bank_history.specs.History.{Stands, newest, older, ActionIn, isOpening, isAction, opens, exchangeOf, callExchange}
 use Rattle.bank_history.specs.History as bank
 use Rattle.bank_history.specs.Sound.{AllSound}
-use Rattle.bank_admitted.proofs.Cases.{
+use Rattle.bank_steps.proofs.Cases.{
   requestForm,
   Happens,
   unreadable,

@@ -45,7 +45,7 @@ use Rattle.bank_history.specs.History as bank
 use Rattle.bank_history.specs.Invariant as bankInvariant
 use Rattle.bank_history.specs.Sound.{AllSound}
 use Rattle.bank_history.specs.Transactions.{Gone}
-use Rattle.bank_admitted.proofs.Cases.{happens}
+use Rattle.bank_steps.proofs.Cases.{happens}
 use Rattle.bank_admitted.proofs.Clock.{each-download}
 use Rattle.bank_history.proofs.Clock.{advanced-keeps}
 use Rattle.bank_history.proofs.Downloads.{download-open}

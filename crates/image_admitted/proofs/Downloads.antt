@@ -16,7 +16,7 @@ use Rattle.bank_state.specs.Limits.{placeCount, storeBytes, idleLimit}
 use Rattle.bank_state.specs.State.{BankState, noDownload, downloadAt, fileLength}
 use Rattle.bank_admitted.specs.Packed.{AllFree, none, more, Packed, rest, one}
 use Rattle.bank_admitted.specs.State.{mailboxFile, OpenRecord, DownloadHolds}
-use Rattle.bank_admitted.proofs.Held.{kept-long}
+use Rattle.bank_state.proofs.Stores.{kept-long}
 use Rattle.bank_admitted.proofs.Rows.{packed-rises}
 use Rattle.image_records.specs.declared.layout.DownloadRecord.{DownloadRecord}
 use Rattle.image_records.specs.Layout as image

@@ -9,7 +9,8 @@ use lib.Seq.{drop-drop, drop-at, length-take-le}
 use Rattle.message.specs.Limits.{fileBytes}
 use Rattle.bank_state.specs.Limits.{placeCount, storeBytes}
 use Rattle.bank_state.specs.Store.{partAt}
-use Rattle.bank_admitted.proofs.Stores.{drop-take, length-part}
+use Rattle.bank_state.proofs.Stores.{length-part}
+use Rattle.bank_admitted.proofs.Stores.{drop-take}
 use Rattle.image_records.specs.Shapes.{allZero}
 use Rattle.image_conditions.specs.Conditions.{bytesBehind}
 use Rattle.image_records.proofs.General.{zeros-are, all-zeros}

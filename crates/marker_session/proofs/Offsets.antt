@@ -1,8 +1,8 @@
 -- The offset is exact on both sides of zero, and of two times up to the last one none wraps. Assumes nothing.
-use Prim.Native.Nat.{ℕ, zero, suc, _+_, _≤_, _<_}
+use Prim.Native.Nat.{ℕ, zero, suc, _+_, _≤_}
 use mathlib.Core.Bool.{Bool, true, false}
 use mathlib.Core.List.{List, [], _∷_}
-use mathlib.Core.Path.{_≡_, refl, sym, ap, _∙_, subst}
+use mathlib.Core.Path.{_≡_, refl, sym, ap, _∙_}
 use native.Mathlib.Omega.{arith}
 use lib.Dec.{ltb}
 use lib.IntN.{pos, negsuc}
@@ -16,7 +16,7 @@ use Rattle.frame_table.specs.declared.fields.Fields.{Fields}
 use Rattle.frame_table.specs.declared.table.Form.{Form}
 use Rattle.frame_table.specs.declared.table.Form.the-variants as form
 use Rattle.frame_table.specs.declared.table.RequestForm.the-variants as request
-use Rattle.frame_table.specs.Table.{timestampTag, lastTime, width, has, tagsOf, isRequestForm}
+use Rattle.frame_table.specs.Table.{timestampTag, lastTime, has, tagsOf, isRequestForm}
 use Rattle.frame_table.proofs.Forms.{form-tags, request-form}
 use Rattle.frame_table.specs.Names as names
 use Rattle.frame_reader.specs.Reader.{readRequest}

@@ -1,11 +1,12 @@
 -- Number 1 where the rows are no bank's; else the frame is read and its request answered.
-use mathlib.Core.Path.{_≡_, sym, ap, _∙_}
+use mathlib.Core.Path.{sym, ap, _∙_}
 use borrow.Author.Tests.{not-true, not-false}
 use Rattle.bank.specs.declared.call.FrameOut.{FrameOut}
 use Rattle.bank.specs.Lent.{lentFrameCallOf}
 use Rattle.bank_steps.specs.Lent.{lent}
 use Rattle.bank.proofs.Entered.{none-entered}
 use Rattle.bank.proofs.Lent.{rows-refused}
+use Rattle.bank.proofs.RequestBounds.{read-bounded}
 use borrow.Author.Needs.{needs}
 use Rattle.bank.proofs.call.answer_frame.Statement.{statement}
 use Rattle.bank.proofs.call.answer_frame.Tie as tie
@@ -23,8 +24,13 @@ returns c =
 
 answer-request-requires : tie.Need-answer-request-requires
 answer-request-requires c κs =
-    let at-if1 = c .before .before .before .before .before .before .before in
-    sym (at-if1 .before .is-sound .ensures) ∙ not-false (at-if1 .before .is-sound .result) (at-if1 .if1 .left)
+    let at-read = c .before .before .before .before .before .before in
+    let at-if1 = at-read .before in
+    let at-is-sound = at-if1 .before in
+    let known = at-is-sound .before .before .before .before .before in (
+      sym (at-is-sound .is-sound .ensures) ∙ not-false (at-is-sound .is-sound .result) (at-if1 .if1 .left),
+      read-bounded _ (λ i. known .shared-slice-known2 .given i .fits) (at-read .read-whole-request .ensures .0),
+    )
 
 returns-2 : tie.Need-returns-2
 returns-2 c =

@@ -37,7 +37,7 @@ abbrev at-start : tie.After-lent-right → tie.Start
 at-start c = c .before .before .before .before .before .before .before
 
 sound : (c : tie.After-lent-right) → isSound (at-start c .args .rows .now) ≡ true
-sound c = at-start c .pre
+sound c = at-start c .pre .0
 
 -- the lent lengths are right, whatever the frame
 right : (c : tie.Else1) (frame : List ℕ)
@@ -82,13 +82,16 @@ respond-requires c κs =
     let at-advance = at-orders .before .before .before in
     let at-drops = at-advance .before .before .before in
     let at-if1 = at-drops .before .before in
-    let a = at-start (at-if1 .before) .args in
+    let start = at-start (at-if1 .before) in
+    let a = start .args in
     let m = a .mailboxes .now in
     let s = sound (at-if1 .before) in (
       advanced-prepared (a .rows .now) (a .orders .now) m (sound-laid _ s) (a .time) _ _
           (at-advance .advance .ensures m)
           (sound-range _ s) (at-orders .orders .given ∙ right at-if1 [] .0) (right at-if1 [] .1),
       at-drops .drops .ensures .0,
+      start .pre .1,
+      right at-if1 [] .2 .room,
     )
 
 returns-2 : tie.Need-returns-2

@@ -3,6 +3,20 @@ use borrow.Author.Needs.{needs}
 use Rattle.bank.proofs.call.reply.Statement.{statement}
 use Rattle.bank.proofs.call.reply.Tie as tie
 
+reply-with-requires : tie.Need-reply-with-requires
+reply-with-requires c κs =
+    let at-reply-to = c .before in
+    let at-file-segment = at-reply-to .before in
+    let at-segment-in = at-file-segment .before in
+    let at-subscriber = at-segment-in .before in
+    let start = at-subscriber .before .before .before in
+    rw (
+      at-reply-to .reply-to .ensures,
+      at-file-segment .file-segment .ensures,
+      at-segment-in .segment-in .ensures,
+      at-subscriber .subscriber .ensures,
+    ) (start .pre)
+
 returns : tie.Need-returns
 returns c =
     let at-reply-with = c .before .before in
@@ -25,6 +39,6 @@ reply-spec =
     (λ c κs. search needs)
     (λ c κs. search needs)
     (λ c κs. search needs)
-    (λ c κs. search needs)
+    reply-with-requires
     (λ c. search needs)
     returns)

@@ -1,9 +1,11 @@
 -- What was written is read back, so the code carried beside it is the reply's. Assumes nothing.
-use mathlib.Core.Path.{_≡_, sym, ap, _∙_}
-use lib.ListN.{length, length-map}
+use mathlib.Core.Path.{sym, ap, _∙_}
+use lib.ListN.{length-map}
 use borrow.Author.Needs.{needs}
 use Rattle.frame.proofs.RoundTrip.{Sized}
-use Rattle.bank.proofs.Codes.{written-code, refused-code}
+use Rattle.frame_writer.proofs.Written.{accepted-written}
+use Rattle.bank.specs.declared.call.FrameAnswer.the-variants.{Reply}
+use Rattle.bank.proofs.Codes.{written-code}
 use Rattle.bank.proofs.call.reply_with.Statement.{statement}
 use Rattle.bank.proofs.call.reply_with.Tie as tie
 
@@ -17,41 +19,24 @@ long c =
 
 returns : tie.Need-returns
 returns c =
-    let at-write = c .before .before .before .before .before .before in
+    let at-write = c .before .before .before in
     let start = at-write .before .before .before .before in
     let a = start .args in
-    let wrote = at-write .write .ensures in
-    let told = c .before .before .written .given .1 in
-    let code = written-code (a .fields) (a .bytes .now) (a .buffer .now) (long start) _ (sym (wrote .0) ∙ told) in
+    let wrote = at-write .write-accepted .ensures in
+    let w = accepted-written (a .fields) (a .bytes .now) (a .buffer .now) (start .pre .0) in
     record {
-      answered = rw (← wrote .0, told);
-      written = wrote .1;
-      coded = c .code-in .ensures ∙ sym code;
-    }
-
-returns-2 : tie.Need-returns-2
-returns-2 c =
-    let at-write = c .before .before .before .before in
-    let start = at-write .before .before .before .before in
-    let a = start .args in
-    let wrote = at-write .write .ensures in
-    let told = c .enum-told .given .1 in
-    let code = refused-code (a .fields) (a .bytes .now) (a .buffer .now) (sym (wrote .0) ∙ told) in
-    record {
-      answered = rw (← wrote .0, told);
-      written = wrote .1;
-      coded = sym code;
+      answered = rw (w .0) (ap Reply (wrote .0));
+      written = wrote .1 ∙ sym (w .1);
+      coded =
+          c .return-code .ensures
+          ∙ sym (written-code (a .fields) (a .bytes .now) (a .buffer .now) (long start) (start .pre));
     }
 
 pub reply-with-spec : {M : Type 1} → statement M
 reply-with-spec =
     tie.close
     (tie.spec
-    (λ c κs. tt)
+    (λ c κs. c .before .before .before .pre .0)
+    (λ c κs. search needs)
     (λ c. search needs)
-    (λ c κs. tt)
-    (λ c. search needs)
-    (λ c. search needs)
-    returns
-    (λ c. search needs)
-    returns-2)
+    returns)

@@ -11,6 +11,7 @@ use Rattle.octets.proofs.Numbers.{bytes-take, bytes-drop}
 use Rattle.marker_session.specs.Lines.{headBytes, sizeOf, frameIn}
 use Rattle.marker_session.specs.Marking.{Clocked}
 use Rattle.bank_steps.specs.Lent.{lent}
+use Rattle.bank.proofs.RequestBounds.{read-bounded}
 use Rattle.marker_session.proofs.Calls.{Readied, readied}
 use Rattle.marker_session.proofs.Clock.{left-clocked}
 use Rattle.marker_session.proofs.Lines.{marked-call}
@@ -86,7 +87,11 @@ slice-aggregate-answer-request : tie.Need-slice-aggregate-answer-request
 slice-aggregate-answer-request c = search needs
 
 answer-request-requires : tie.Need-answer-request-requires
-answer-request-requires c κs = at-start (c .before .before .before .before .before .before .before .before .before .before) .pre .2 .sound
+answer-request-requires c κs =
+    let read = c .before .before .before .before .before .before .before .before in (
+      at-start (read .before .before) .pre .2 .sound,
+      read-bounded _ (frame-bytes read) (read .read-whole-request .ensures .0),
+    )
 
 add-calls : tie.Need-add-calls
 add-calls c = omega (arith, ready (at-start (at-behind (c .before .before .before .before .before .before .before .before .before .before))) .count)

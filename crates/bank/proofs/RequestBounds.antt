@@ -1,12 +1,12 @@
 -- The numbers of a request that was read: phase, exchange number and transaction ID in their widths.
-use Prim.Native.Nat.{ℕ, _^_, _≤_, _<_}
+use Prim.Native.Nat.{ℕ, _<_}
 use mathlib.Core.Bool.{true}
 use mathlib.Core.List.{List}
-use mathlib.Core.Path.{_≡_, refl, ap, _∙_}
+use mathlib.Core.Path.{_≡_, refl, sym, ap, _∙_, subst}
 use native.Mathlib.Omega.{arith}
 use Rattle.frame_table.specs.declared.fields.Fields.{Fields}
 use Rattle.octets.specs.Bytes.{Bytes}
-use Rattle.frame_table.specs.Names.{phase, exchange, transaction, form}
+use Rattle.frame_table.specs.Names.{phase, form}
 use Rattle.frame_reader.specs.Reader.{readRequest}
 use Rattle.frame_table.specs.Table.{
   tagCount,
@@ -23,16 +23,7 @@ use Rattle.frame_table.specs.Table.{
 use Rattle.frame_table.proofs.Forms.{form-tags, request-form, request-has}
 use Rattle.frame.proofs.Parsed.{numberOf, InRow}
 use Rattle.frame.proofs.Theorems.{request-halves, request-number}
-use Rattle.message.proofs.Writable.{Wide}
-
--- what a reply takes over from a readable request
-pub record InWidth (q : Fields) : Type 0 where
-  pub some : 1 ≤ phase q
-  pub most : phase q ≤ 3
-  pub numbered : exchange q < 2 ^ 32
-  pub wide : Wide (transaction q)
-
--- ---- a request of a frame of bytes
+use Rattle.bank.specs.Call.{InWidth, Bounded}
 
 module _ (s : List ℕ) (bytes : Bytes s) (readable : isRequestForm (form (readRequest s)) ≡ true) where
   abbrev q : Fields
@@ -57,3 +48,7 @@ module _ (s : List ℕ) (bytes : Bytes s) (readable : isRequestForm (form (readR
         numbered = omega arith;
         wide = request-halves s bytes transactionTag (omega arith);
       }
+
+-- so what was read of bytes is bounded
+pub read-bounded : (s : List ℕ) → Bytes s → {q : Fields} → q ≡ readRequest s → Bounded q
+read-bounded s bytes e = subst Bounded (sym e) (request-in-width s bytes)

@@ -1,4 +1,4 @@
--- Each reply of the bank can be written, in as many bytes as the tables say of its form.
+-- Each reply of a bank in range to a request that was read can be written, in as many bytes as the tables say of its form.
 use Prim.Native.Nat.{ℕ, _+_, _/_, _%_, _^_, _≤_, _<_}
 use mathlib.Core.Bool.{Bool, true, false, cond}
 use mathlib.Core.List.{List, []}
@@ -6,12 +6,13 @@ use mathlib.Core.Path.{_≡_, refl, sym, ap, _∙_, subst}
 use native.Mathlib.Omega.{arith}
 use lib.Dec.{eqb}
 use lib.ListN.{length, length-take, length-drop}
+use borrow.Author.Tests.{ne-eqb}
 use Rattle.frame_table.specs.declared.fields.Bits128.{Bits128}
 use Rattle.frame_table.specs.declared.fields.Fields.{Fields}
 use Rattle.frame_table.specs.declared.table.Form.{Form}
 use Rattle.frame_table.specs.Forms as forms
 use Rattle.frame_table.specs.Names.{phase, subscriber, exchange, transaction, segment, form, sameBits}
-use Rattle.frame_table.specs.Table.{isReplyForm, isForm}
+use Rattle.frame_table.specs.Table.{isRequestForm, isReplyForm, isForm}
 use Rattle.frame_writer.specs.Writer.{frameOf, replyRoom, smallestReply}
 use Rattle.frame.proofs.Theorems.{reply-length, reply-least}
 use Rattle.frame_table.proofs.Bits.{bits-same}
@@ -20,7 +21,7 @@ use Rattle.message.specs.declared.codes.ReturnCode.the-variants as code
 use Rattle.message.specs.Limits.{segmentBytes, maxSegments}
 use Rattle.message.specs.Replies.{uploadOpened, downloadOpened, segmentTaken, receiptAnswered, refusal}
 use Rattle.message.specs.Segments.{segmentsOf, segmentOf, lastMarkOf}
-use Rattle.message.proofs.SegmentNumbers.{some-segment, mark-most}
+use Rattle.message.proofs.SegmentNumbers.{some-segment, segment-length, mark-most}
 use Rattle.message.proofs.OrderNumbers.{letter-lt, character-lt}
 use Rattle.message.proofs.Writable.{
   WrittenAs,
@@ -39,17 +40,27 @@ use Rattle.message.proofs.Writable.{
 use Rattle.bank_state.specs.declared.state.Download.{Download}
 use Rattle.bank_state.specs.declared.state.Place.{Place}
 use Rattle.bank_state.specs.declared.state.Use.the-variants.{Open}
-use Rattle.bank_state.specs.Limits.{storeBytes}
+use Rattle.bank_state.specs.Limits.{placeCount, storeBytes}
 use Rattle.bank_state.specs.Search.{isOpen}
 use Rattle.bank_state.specs.State.{BankState, placeAt, downloadAt, fileLength, seriesOf}
 use Rattle.bank_sound.specs.Sound.{InRange}
-use Rattle.bank_state.specs.Store.{partAt, fileOf}
+use Rattle.bank_state.specs.Store.{partAt, fileOf, mailboxFile}
+use Rattle.bank_verdicts.specs.declared.verdict.Context.{Context}
 use Rattle.bank_verdicts.specs.declared.verdict.TransactionRequest.{TransactionRequest}
 use Rattle.bank_verdicts.specs.declared.verdict.UploadAction.{UploadAction}
 use Rattle.bank_verdicts.specs.declared.verdict.DownloadAction.{DownloadAction}
 use Rattle.bank_verdicts.specs.declared.verdict.Verdict.{Verdict}
-use Rattle.bank_verdicts.specs.Judgement.{transactionOf, mailboxSegments, uploadAt, downloadOf}
+use Rattle.bank_verdicts.specs.declared.verdict.Verdict.the-variants as verdict
+use Rattle.bank_verdicts.specs.Refusals.{requestRows}
+use Rattle.bank_verdicts.specs.Judgement.{transactionOf, mailboxSegments, uploadAt, downloadOf, judge}
+use Rattle.bank_steps.specs.Steps.{carryOut}
+use Rattle.bank_steps.specs.Lent.{Lent, stateOf, keptIn, Prepared}
+use Rattle.bank_rows.specs.State.{bankOf}
+use Rattle.bank_rows.proofs.State.{held-rows}
+use Rattle.frame_writer.proofs.Written.{is-accepted}
 use Rattle.bank_verdicts.specs.Replies.{
+  replyTo,
+  segmentIn,
   uploadPointPhase,
   downloadPointPhase,
   segmentReply,
@@ -60,9 +71,9 @@ use Rattle.bank_verdicts.specs.Replies.{
 use Rattle.bank_verdicts.proofs.Sound.{Readable, Acceptable, UploadSound, DownloadSound}
 use Rattle.bank_verdicts.proofs.Sound as sound
 use Rattle.message.specs.OrderNumbers.{orderNumberOf}
-use Rattle.bank.specs.Call.{stepBy, mailboxSegment}
-use Rattle.bank_admitted.specs.State.{mailboxFile}
-use Rattle.bank_admitted.proofs.Cases.{
+use Rattle.bank.specs.Call.{InWidth, Bounded, Step, fileSegment, mailboxSegment, stepBy, respond, Sendable}
+use Rattle.bank.proofs.Lent.{same-segment}
+use Rattle.bank_steps.proofs.Cases.{
   Happens,
   ToUpload,
   ToDownload,
@@ -70,13 +81,11 @@ use Rattle.bank_admitted.proofs.Cases.{
   opensDownload,
   toUpload,
   toDownload,
+  happens,
 }
-use Rattle.bank_admitted.proofs.Cases as cases
+use Rattle.bank_steps.proofs.Cases as cases
 use Rattle.bank_state.proofs.Found.{upload-found, download-found}
-use Rattle.bank_admitted.proofs.Held.{kept-long}
-use Rattle.bank_history.proofs.Downloads.{carried-segment}
-use Rattle.bank_history.proofs.Answered.{segment-length}
-use Rattle.bank_history.proofs.RequestBounds.{InWidth}
+use Rattle.bank_state.proofs.Stores.{kept-long}
 
 -- a reply that can be written, in as many bytes as the buffer has room for
 pub record WrittenReply (f : Fields) (d : List ℕ) : Type 0 where
@@ -117,6 +126,17 @@ not-zero n h = omega arith
 phase-range : (b : Bool) → (1 ≤ cond b 1 2) × (cond b 1 2 ≤ 3)
 phase-range true = (omega arith, omega arith)
 phase-range false = (omega arith, omega arith)
+
+-- the segment of a mailbox that a reply carries
+pub carried-segment : (w : BankState) (s n : ℕ) → 1 ≤ n → mailboxSegment w s n ≡ segmentOf (mailboxFile w s) n
+unfolding mailboxSegment mailboxFile
+carried-segment w s n h = rw (ne-eqb n 0 (λ e. omega arith))
+
+-- the reply to what is not readable
+unreadable-sent : (w : BankState) (q : Fields) (d : List ℕ) →
+    let s = stepBy verdict.Unreadable w q d in WrittenReply (s .reply) (s .replyData)
+unfolding mailboxSegment
+unreadable-sent w q d = sent refl (omega arith) unreadable-written
 
 -- ---- each case of a request
 
@@ -273,12 +293,46 @@ module _ (w : BankState) (range : InRange (w .bank)) (long : length (w .mailboxe
         (download-opened-written (exchange q) (r .numbered) t opening-wide n (lastMarkOf 1 n) (mailboxSegment w (subscriber q) 1)
         (omega arith) (mark-most 1 n) (part-content 1 (omega arith) s forms.DownloadOpened refl))
 
-  pub case-written : {first : ℕ} {d : List ℕ} {x : Verdict} → first < 2 ^ 64 → Happens first w q d x →
+  case-written : {first : ℕ} {d : List ℕ} {x : Verdict} → first < 2 ^ 64 → Happens first w q d x →
       WrittenReply (stepBy x w q d .reply) (stepBy x w q d .replyData)
   unfolding mailboxSegment
-  case-written small cases.unreadable = sent refl (omega arith) unreadable-written
+  case-written {d = d} small cases.unreadable = unreadable-sent w q d
   case-written small (cases.refused c e) = refused-written c
   case-written {first = first} {d = d} small (opensUpload asked a g n p below) = upload-opening-written d first small a g
   case-written {first = first} {d = d} small (opensDownload asked a g n) = download-opening-written d first small a g n
   case-written {d = d} small (toUpload k u c) = upload-written d k u c
   case-written {d = d} small (toDownload k u c) = download-written d k u c
+
+-- ---- every request
+
+module _ (context : Context) (w : BankState) (q : Fields) (d : List ℕ) where
+  unread-is : isRequestForm (form q) ≡ false → respond context w q d ≡ stepBy verdict.Unreadable w q d
+  unfolding respond judge requestRows
+  unread-is e = rw e
+
+  -- of a bank whose lists and mailboxes' store have their lengths
+  pub respond-written : context .prefix < 2 ^ 64 → InRange (w .bank) → length (w .bank .places) ≡ placeCount
+      → length (w .bank .downloads) ≡ placeCount → length (w .mailboxes) ≡ storeBytes → Bounded q
+      → let s = respond context w q d in WrittenReply (s .reply) (s .replyData)
+  unfolding respond
+  respond-written small range rowed listed long bounded = at (isRequestForm (form q)) refl
+    where
+      at : (b : Bool) → isRequestForm (form q) ≡ b → let s = respond context w q d in WrittenReply (s .reply) (s .replyData)
+      at true e = case-written w range long q (bounded e) small (happens context w q d rowed listed)
+      at false e =
+          subst (λ (s : Step). WrittenReply (s .reply) (s .replyData)) (sym (unread-is e)) (unreadable-sent w q d)
+
+-- the reply that the code writes: of the verdict, and of the mailboxes as the step leaves them
+pub sendable : (context : Context) (m : Lent) (q : Fields) (d buffer : List ℕ) {u : Verdict} {x : Lent} {n : ℕ}
+    → context .prefix < 2 ^ 64 → Prepared (m .rows) (m .orders) (m .mailboxes) → Bounded q → replyRoom ≤ length buffer
+    → let v = judge context (bankOf (m .rows)) q (length d) in
+    u ≡ v → x ≡ keptIn m (carryOut v (stateOf m) q d) → n ≡ fileLength (subscriber q) (bankOf (m .rows) .files)
+    → Sendable (replyTo u q) (fileSegment (x .mailboxes) (subscriber q) n (segmentIn u q)) buffer
+unfolding respond mailboxSegment
+sendable context m q d buffer small ready bounded room e f g =
+    let held = held-rows (m .rows) (ready .laid) in
+    let r = respond-written context (stateOf m) q d small (ready .range) (held .places) (held .downloads)
+    (ready .mailboxStore) bounded in
+    let v = judge context (bankOf (m .rows)) q (length d) in
+    rw (e, f, g, same-segment v (stateOf m) q d (subscriber q))
+    (is-accepted _ _ buffer (r .written .accepted) (omega (arith, r .most)), r .kind)
