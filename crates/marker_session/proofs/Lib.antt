@@ -1,5 +1,4 @@
 -- The laws that several proofs cite.
-pub mod Offsets
 pub mod Clock
 pub mod Texts
 pub mod Kept

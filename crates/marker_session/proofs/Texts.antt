@@ -19,9 +19,9 @@ use Rattle.bank_sound.specs.Sound.{isSound}
 use Rattle.bank.specs.Call.{contextOf, Step, FrameInput, respond, replied, replyCode, lentRight, frameRefused, frameCall}
 use Rattle.bank_steps.specs.Lent.{Lent, stateOf}
 use Rattle.bank.specs.Lent.{LentFrameCall, keptFrame, frameTurnedAway, lentFrameCall}
-use Rattle.marker_session.specs.Offset.{offsetText}
-use Rattle.marker_session.proofs.Offsets.{offset-same, offset-most}
-use Rattle.marker_session.specs.Lines.{codeOf, answerText, lineOf, codedText, codedLine, lineRoom}
+use Rattle.marker_column.specs.Offset.{requestOffset}
+use Rattle.marker_column.proofs.Offsets.{offset-most}
+use Rattle.marker_session.specs.Lines.{codeOf, answerText, isAnswered, offsetText, lineOf, codedText, codedLine, lineRoom}
 
 pub answer-most : (a : FrameAnswer) (buffer : List ℕ) → length (answerText a buffer) ≤ codeDigits
 unfolding codeOf decimal digitCount digitCountTo
@@ -37,9 +37,9 @@ coded-most WrongLength code = omega (arith, length-digitsIn 10 48 1 1)
 pub coded-line : (n : ℕ) (a : FrameAnswer) (buffer : List ℕ) (code : ℕ) (frame : List ℕ) {clock c : ℕ}
     → code ≡ replyCode a buffer → ((k : ℕ) → a ≡ Reply k → clock ≡ c)
     → codedLine n a code (readRequest frame) clock ≡ lineOf n a buffer frame c
-unfolding codedLine lineOf codeOf
+unfolding codedLine lineOf codeOf requestOffset
 coded-line n (Reply k) buffer code frame e f = rw (e, f k refl)
-coded-line n WrongLength buffer code frame e f = rw (offset-same WrongLength (readRequest frame) f)
+coded-line n WrongLength buffer code frame e f = refl
 
 -- a call's code is that of the reply that it leaves in the buffer
 module _ (m : Lent) (a : FrameInput) where
@@ -70,4 +70,4 @@ line-most n a buffer frame clock =
     let e = length-append (column n space) (answerText a buffer ++ (space ∷ last)) in
     let f = length-append (answerText a buffer) (space ∷ last) in
     let g = length-append (offsetText a frame clock) (newline ∷ []) in
-    omega (arith, column-most n space, answer-most a buffer, offset-most a (readRequest frame) clock)
+    omega (arith, column-most n space, answer-most a buffer, offset-most (isAnswered a) (readRequest frame) clock)

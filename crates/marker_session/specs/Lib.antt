@@ -1,5 +1,4 @@
--- The definitions of the marker: offsets, lines, calls, the session.
-pub mod Offset
+-- The definitions of the marker: lines, calls, the session.
 pub mod Lines
 pub mod Marking
 pub mod Session

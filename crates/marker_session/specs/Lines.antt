@@ -1,19 +1,19 @@
 -- "The marker's print": a record of the input, and the line of a call. The book follows (`print`, `Book`).
 use Prim.Native.Nat.{ℕ, _+_}
-use mathlib.Core.Bool.{Bool, cond, _&&_}
+use mathlib.Core.Bool.{Bool, true, false, _&&_}
 use mathlib.Core.List.{List, [], _∷_, _++_}
 use lib.Dec.{leb}
 use lib.ListN.{length, take, drop}
 use Rattle.octets.specs.Bytes.{number}
 use Rattle.frame_table.specs.Table.{timestampTag, width}
 use Rattle.frame_table.specs.Names.{returnCode}
-use Rattle.frame_reader.specs.Reader.{readReply}
+use Rattle.frame_reader.specs.Reader.{readRequest, readReply}
 use Rattle.print.specs.Text.{ascii, maxDigits, codeDigits, codeText, decimal, space, newline, column}
 use Rattle.bank.specs.declared.call.FrameAnswer.{FrameAnswer}
 use Rattle.bank.specs.declared.call.FrameAnswer.the-variants.{Reply, WrongLength}
 use Rattle.bank.specs.Call.{frameNumber}
 use Rattle.frame_table.specs.declared.fields.Fields.{Fields}
-use Rattle.marker_session.specs.Offset.{requestOffset, offsetText, offsetRoom}
+use Rattle.marker_column.specs.Offset.{requestOffset, offsetRoom}
 
 -- "records from standard input: time .., frame length (2), frame"; the time has the bytes of a timestamp (card 3: "8
 -- bytes of milliseconds, as .. the marker's input"); s is the input from the record on
@@ -48,6 +48,15 @@ abbrev pub answerText : FrameAnswer → List ℕ → List ℕ
 answerText (Reply n) buffer = codeOf buffer n
 answerText WrongLength buffer = decimal (frameNumber WrongLength)
 
+-- "each readable opening answered by a frame": whether a call is
+abbrev pub isAnswered : FrameAnswer → Bool
+isAnswered (Reply n) = true
+isAnswered WrongLength = false
+
+-- the third column of a call that brought this frame and set this clock
+abbrev pub offsetText : FrameAnswer → List ℕ → ℕ → List ℕ
+offsetText a frame clock = requestOffset (isAnswered a) (readRequest frame) clock
+
 -- "Calls count from 1": the line of call n, which brought this frame and set this clock; the offset stands "in a third
 -- column "offset" behind the code"
 unfoldable pub lineOf : ℕ → FrameAnswer → List ℕ → List ℕ → ℕ → List ℕ
@@ -61,7 +70,7 @@ codedText WrongLength code = decimal (frameNumber WrongLength)
 
 unfoldable pub codedLine : ℕ → FrameAnswer → ℕ → Fields → ℕ → List ℕ
 codedLine n a code q clock =
-    column n space ++ (codedText a code ++ (space ∷ requestOffset a q clock ++ (newline ∷ [])))
+    column n space ++ (codedText a code ++ (space ∷ requestOffset (isAnswered a) q clock ++ (newline ∷ [])))
 
 -- the most bytes that a line takes: a number, a space, a return code, a space, an offset, a newline
 abbrev pub lineRoom : ℕ

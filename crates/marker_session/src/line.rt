@@ -1,8 +1,8 @@
 // The line of a call, and the header of the calls, written into a lent output.
-use crate::offset::OFFSET_ROOM;
-use crate::offset::put_offset;
 use bank::call::FrameAnswer;
 use frame_table::fields::Fields;
+use marker_column::offset::OFFSET_ROOM;
+use marker_column::offset::put_offset;
 use number_table::table::WRONG_LENGTH;
 use print::text::put_byte;
 use print::text::put_code;
@@ -12,9 +12,10 @@ ghost use mathlib.Core.Path.{_≡_};
 ghost use Prim.Native.Nat.{_+_, _≤_};
 ghost use lib.ListN.{length};
 ghost use Rattle.frame_table.specs.Table.{lastTime};
-ghost use Rattle.marker_session.specs.Offset.{Timed};
 ghost use Rattle.print.specs.Text.{Put, codeDigits, printed, printedCount};
-ghost use Rattle.marker_session.specs.Lines.{codedText, codedLine, lineRoom, callHeader, headerRoom};
+ghost use Rattle.marker_column.specs.Offset.{Timed};
+ghost use Rattle.marker_session.specs.Lines.{isAnswered, codedText, codedLine, lineRoom};
+ghost use Rattle.marker_session.specs.Lines.{callHeader, headerRoom};
 
 // The most bytes of a line: a number, a space, a return code, a space, an offset, a newline.
 pub const LINE_ROOM: usize = 20 + 1 + 6 + 1 + OFFSET_ROOM + 1;
@@ -36,6 +37,16 @@ fn put_answer(output: &mut [u8], at: usize, answer: FrameAnswer, code: u64) -> u
     }
 }
 
+// Whether a call is answered by a frame.
+fn is_answered(answer: FrameAnswer) -> bool
+    ensures { λ r. ⌜ r ≡ isAnswered answer ⌝ }
+{
+    match answer {
+        FrameAnswer::Reply(_) => true,
+        FrameAnswer::WrongLength => false,
+    }
+}
+
 // Writes the line of call n, which brought this request, set this clock, and whose reply has this return code.
 pub(crate) fn put_line(
     output: &mut [u8],
@@ -52,7 +63,7 @@ pub(crate) fn put_line(
     let a = put_column(output, at, n, b' ');
     let b = put_answer(output, a, answer, code);
     let c = put_byte(output, b, b' ');
-    let d = put_offset(output, c, answer, q, clock);
+    let d = put_offset(output, c, is_answered(answer), q, clock);
     put_byte(output, d, b'\n')
 }
 

@@ -3,11 +3,11 @@ use Prim.Native.Nat.{_+_, _≤_}
 use lib.ListN.{length}
 use native.Mathlib.Omega.{arith}
 use Rattle.print.specs.Text.{codeDigits, columnRoom}
-use Rattle.marker_session.specs.Offset.{offsetRoom}
+use Rattle.marker_column.specs.Offset.{offsetRoom}
 use Rattle.marker_session.specs.Lines.{codedLine}
 use Rattle.print.proofs.Digits.{column-most}
 use Rattle.print.proofs.Texts.{put-then, put-left}
-use Rattle.marker_session.proofs.Offsets.{offset-most}
+use Rattle.marker_column.proofs.Offsets.{offset-most}
 use Rattle.marker_session.proofs.Texts.{coded-most}
 use borrow.Author.Needs.{needs}
 use Rattle.marker_session.proofs.line.put_line.Statement.{statement}
@@ -15,7 +15,7 @@ use Rattle.marker_session.proofs.line.put_line.Tie as tie
 
 -- the places of the body, from the last back to the first
 abbrev at-space : tie.After-put-offset → tie.After-put-byte
-at-space c = c .before .before .before .before
+at-space c = c .before .before .before .before .before
 
 abbrev at-answer : tie.After-put-byte → tie.After-put-answer
 at-answer c = c .before .before .before .before
@@ -43,7 +43,7 @@ left-3 c = put-left 1 (offsetRoom + 1) (c .put-byte .ensures) (omega arith) (lef
 left-4 : (c : tie.After-put-offset) → c .put-offset .result + 1 ≤ length (c .put-offset .last .0)
 left-4 c =
     let a = at-start (at-column (at-answer (at-space c))) .args in
-    put-left offsetRoom 1 (c .put-offset .ensures) (offset-most (a .answer) (a .q) (a .clock))
+    put-left offsetRoom 1 (c .put-offset .ensures) (offset-most _ (a .q) (a .clock))
     (left-3 (at-space c))
 
 put-column-requires : tie.Need-put-column-requires
@@ -57,7 +57,7 @@ put-byte-requires c κs = omega (arith, left-2 (c .before .before .before))
 
 put-offset-requires : tie.Need-put-offset-requires
 put-offset-requires c κs =
-    let at-byte = c .before .before .before in
+    let at-byte = c .before .before .before .before in
     let start = at-start (at-column (at-answer at-byte)) in
     (omega (arith, left-3 at-byte), start .pre .1, start .pre .2)
 
@@ -73,9 +73,10 @@ returns c =
     let at-end = c .before .before in
     let at-offset = at-end .before .before .before .before in
     let at-byte = at-space at-offset in
-    put-then (at-column (at-answer at-byte) .put-column .ensures)
+    rw (← at-offset .before .is-answered .ensures)
+    (put-then (at-column (at-answer at-byte) .put-column .ensures)
     (put-then (at-answer at-byte .put-answer .ensures)
-    (put-then (at-byte .put-byte .ensures) (put-then (at-offset .put-offset .ensures) (at-end .put-byte2 .ensures))))
+    (put-then (at-byte .put-byte .ensures) (put-then (at-offset .put-offset .ensures) (at-end .put-byte2 .ensures)))))
 
 pub put-line-spec : {M : Type 1} → statement M
 put-line-spec =
@@ -84,6 +85,7 @@ put-line-spec =
     put-column-requires
     put-answer-requires
     put-byte-requires
+    (λ c κs. search needs)
     put-offset-requires
     put-byte-requires-2
     same-length

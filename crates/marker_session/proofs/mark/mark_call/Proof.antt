@@ -12,10 +12,10 @@ use Rattle.marker_session.specs.Lines.{headBytes, sizeOf, frameIn}
 use Rattle.marker_session.specs.Marking.{Clocked}
 use Rattle.bank_steps.specs.Lent.{lent}
 use Rattle.bank.proofs.RequestBounds.{read-bounded}
+use Rattle.marker_column.proofs.Offsets.{read-timed}
 use Rattle.marker_session.proofs.Calls.{Readied, readied}
 use Rattle.marker_session.proofs.Clock.{left-clocked}
 use Rattle.marker_session.proofs.Lines.{marked-call}
-use Rattle.marker_session.proofs.Offsets.{read-timed}
 use borrow.Author.Needs.{needs}
 use Rattle.marker_session.proofs.mark.mark_call.Statement.{statement}
 use Rattle.marker_session.proofs.mark.mark_call.Tie as tie

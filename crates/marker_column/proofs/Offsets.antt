@@ -11,7 +11,7 @@ use mir.Syntax.{w64}
 use mir.Val.{SFits}
 use borrow.Author.Tests.{lt-ltb, le-ltb}
 use Rattle.octets.specs.Bytes.{Bytes}
-use Rattle.octets.proofs.Tests.{never}
+use Rattle.octets.proofs.Tests.{never, and-true}
 use Rattle.frame_table.specs.declared.fields.Fields.{Fields}
 use Rattle.frame_table.specs.declared.table.Form.{Form}
 use Rattle.frame_table.specs.declared.table.Form.the-variants as form
@@ -24,9 +24,7 @@ use Rattle.frame.proofs.Theorems.{request-time}
 use Rattle.print.specs.Text.{ascii, digitsIn, digitCountTo, digitCount, decimal, hyphen, signedDecimal}
 use Rattle.print.proofs.Signed.{signed-most}
 use Rattle.print.proofs.Texts.{cond-most}
-use Rattle.bank.specs.declared.call.FrameAnswer.{FrameAnswer}
-use Rattle.bank.specs.declared.call.FrameAnswer.the-variants.{Reply, WrongLength}
-use Rattle.marker_session.specs.Offset.{offsetOf, isOpening, showsOffset, Timed, requestOffset, offsetRoom}
+use Rattle.marker_column.specs.Offset.{offsetOf, isOpening, showsOffset, Timed, requestOffset, offsetRoom}
 
 -- ---- "timestamp minus clock", on both sides of zero
 
@@ -69,30 +67,26 @@ opening-timed (form.Request request.DownloadTransfer) h = never h
 opening-timed (form.Request request.Receipt) h = never h
 opening-timed (form.Reply x) h = never h
 
-shown-opening : (a : FrameAnswer) (x : Form) → showsOffset a x ≡ true → isOpening x ≡ true
-shown-opening (Reply n) x h = h
-shown-opening WrongLength x h = never h
-
 -- what the code finds: the request's form, and whether its offset is shown
-module _ (a : FrameAnswer) (clock : ℕ) (q : Fields) {x : Form} {shown : Bool}
-    (formed : x ≡ names.form q) (tested : shown ≡ showsOffset a x) where
-  at-form : shown ≡ showsOffset a (names.form q)
+module _ (answered : Bool) (clock : ℕ) (q : Fields) {x : Form} {shown : Bool}
+    (formed : x ≡ names.form q) (tested : shown ≡ showsOffset answered x) where
+  at-form : shown ≡ showsOffset answered (names.form q)
   at-form = tested ∙ rw formed
 
-  pub offset-hidden : shown ≡ false → hyphen ∷ [] ≡ requestOffset a q clock
+  pub offset-hidden : shown ≡ false → hyphen ∷ [] ≡ requestOffset answered q clock
   unfolding requestOffset
   offset-hidden h = rw (sym at-form ∙ h)
 
   pub offset-shown : shown ≡ true → {t : ℕ} → t ≡ names.timestamp q
-      → signedDecimal (offsetOf t clock) ≡ requestOffset a q clock
+      → signedDecimal (offsetOf t clock) ≡ requestOffset answered q clock
   unfolding requestOffset
   offset-shown h e = rw (sym at-form ∙ h, e)
 
 -- a timestamp that is shown is at most the last time
-pub shown-time : (a : FrameAnswer) (q : Fields) {x : Form} {shown : Bool} → x ≡ names.form q → shown ≡ showsOffset a x
+pub shown-time : (answered : Bool) (q : Fields) {x : Form} {shown : Bool} → x ≡ names.form q → shown ≡ showsOffset answered x
     → shown ≡ true → Timed q → names.timestamp q ≤ lastTime
-shown-time a q formed tested h t =
-    t (shown-opening a (names.form q) (ap (showsOffset a) (sym formed) ∙ sym tested ∙ h))
+shown-time answered q formed tested h t =
+    t (and-true answered (isOpening (names.form q)) (ap (showsOffset answered) (sym formed) ∙ sym tested ∙ h) .1)
 
 -- the timestamp of an opening that is read is at most the last time
 pub read-timed : (frame : List ℕ) → Bytes frame → {q : Fields} → q ≡ readRequest frame → Timed q
@@ -102,15 +96,8 @@ read-timed frame b {q = q} read h =
     let tags = form-tags (r .tags) (names.phase r) (request-form (names.form r) (k .0)) in
     rw read (request-time frame b (k .0) (ap (λ (n : ℕ). has n timestampTag) tags ∙ k .1))
 
--- the same at two clocks that are one where the call is answered
-pub offset-same : (a : FrameAnswer) (q : Fields) {c d : ℕ} → ((n : ℕ) → a ≡ Reply n → c ≡ d)
-    → requestOffset a q c ≡ requestOffset a q d
+pub offset-most : (answered : Bool) (q : Fields) (clock : ℕ) → length (requestOffset answered q clock) ≤ offsetRoom
 unfolding requestOffset
-offset-same (Reply n) q e = rw (e n refl)
-offset-same WrongLength q e = refl
-
-pub offset-most : (a : FrameAnswer) (q : Fields) (clock : ℕ) → length (requestOffset a q clock) ≤ offsetRoom
-unfolding requestOffset
-offset-most a q clock =
-    cond-most (showsOffset a (names.form q)) _ (hyphen ∷ []) offsetRoom
+offset-most answered q clock =
+    cond-most (showsOffset answered (names.form q)) _ (hyphen ∷ []) offsetRoom
     (signed-most (offsetOf (names.timestamp q) clock)) (omega arith)

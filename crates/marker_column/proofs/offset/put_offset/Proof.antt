@@ -8,10 +8,10 @@ use mir.Syntax.{w64}
 use mir.Val.{SFits}
 use Rattle.frame_table.specs.Table.{lastTime}
 use Rattle.print.specs.Text.{signedDecimal}
-use Rattle.marker_session.proofs.Offsets.{offset-fits, offset-hidden, offset-shown, shown-time}
+use Rattle.marker_column.proofs.Offsets.{offset-fits, offset-hidden, offset-shown, shown-time}
 use borrow.Author.Needs.{needs}
-use Rattle.marker_session.proofs.offset.put_offset.Statement.{statement}
-use Rattle.marker_session.proofs.offset.put_offset.Tie as tie
+use Rattle.marker_column.proofs.offset.put_offset.Statement.{statement}
+use Rattle.marker_column.proofs.offset.put_offset.Tie as tie
 
 abbrev at-start : tie.After-shows-offset → tie.Start
 at-start c = c .before .before .before
@@ -22,7 +22,7 @@ returns c =
     let at-if = at-byte .before .before in
     let test = at-if .before in
     let a = at-start test .args in
-    let text = offset-hidden (a .answer) (a .clock) (a .q) (test .before .form .ensures) (test .shows-offset .ensures)
+    let text = offset-hidden (a .answered) (a .clock) (a .q) (test .before .form .ensures) (test .shows-offset .ensures)
     (not-true (test .shows-offset .result) (at-if .if1 .taken)) in
     rw (← text) (at-byte .put-byte .ensures)
 
@@ -38,7 +38,7 @@ timed c =
     let test = at-if c .before in
     let start = at-start test in
     rw (c .timestamp .ensures)
-    (shown-time (start .args .answer) (start .args .q) (test .before .form .ensures) (test .shows-offset .ensures) (shown c)
+    (shown-time (start .args .answered) (start .args .q) (test .before .form .ensures) (test .shows-offset .ensures) (shown c)
     (start .pre .2))
 
 offset-requires : tie.Need-offset-requires
@@ -55,7 +55,7 @@ returns-2 c =
     let d = at-offset .offset .ensures in
     let fits = offset-fits (at-time .timestamp .result) (a .clock) (timed at-time) (start .pre .1) in
     let text = ap signedDecimal (toZ-ofZ (subst (SFits w64) (sym d) fits) ∙ d)
-    ∙ offset-shown (a .answer) (a .clock) (a .q)
+    ∙ offset-shown (a .answered) (a .clock) (a .q)
     (test .before .form .ensures) (test .shows-offset .ensures) (shown at-time) (at-time .timestamp .ensures) in
     rw (← text) (at-put .put-signed .ensures)
 

@@ -1,7 +1,7 @@
 -- The third column (document 02, card 3): "the offset of each readable opening answered by a frame, timestamp minus
 -- clock, as a signed number of milliseconds"; "others a hyphen".
 use Prim.Native.Nat.{ℕ, _≤_}
-use mathlib.Core.Bool.{Bool, true, false, cond}
+use mathlib.Core.Bool.{Bool, true, false, cond, _&&_}
 use mathlib.Core.List.{List, [], _∷_}
 use mathlib.Core.Path.{_≡_}
 use lib.IntN.{ℤ, pos, _-ℤ_}
@@ -12,9 +12,6 @@ use Rattle.frame_table.specs.declared.table.Form.the-variants as form
 use Rattle.frame_table.specs.declared.table.RequestForm.{RequestForm}
 use Rattle.frame_table.specs.declared.table.RequestForm.the-variants as request
 use Rattle.frame_table.specs.Names as names
-use Rattle.frame_reader.specs.Reader.{readRequest}
-use Rattle.bank.specs.declared.call.FrameAnswer.{FrameAnswer}
-use Rattle.bank.specs.declared.call.FrameAnswer.the-variants.{Reply, WrongLength}
 use Rattle.print.specs.Text.{hyphen, signedDecimal, signedRoom}
 
 -- "timestamp minus clock": a difference of integers, exact on both sides of zero
@@ -35,22 +32,17 @@ isOpening (form.Request x) = opens x
 isOpening (form.Reply x) = false
 
 -- "each readable opening answered by a frame", whatever the code
-abbrev pub showsOffset : FrameAnswer → Form → Bool
-showsOffset (Reply n) x = isOpening x
-showsOffset WrongLength x = false
+abbrev pub showsOffset : Bool → Form → Bool
+showsOffset answered x = answered && isOpening x
 
 -- an opening's timestamp is at most the last time
 abbrev pub Timed : Fields → Type 0
 Timed q = isOpening (names.form q) ≡ true → names.timestamp q ≤ lastTime
 
--- the column of a call that brought this request and set this clock
-unfoldable pub requestOffset : FrameAnswer → Fields → ℕ → List ℕ
-requestOffset a q clock =
-    cond (showsOffset a (names.form q)) (signedDecimal (offsetOf (names.timestamp q) clock)) (hyphen ∷ [])
-
--- and one that brought this frame
-abbrev pub offsetText : FrameAnswer → List ℕ → ℕ → List ℕ
-offsetText a frame clock = requestOffset a (readRequest frame) clock
+-- the column of a call that was answered or not, brought this request and set this clock
+unfoldable pub requestOffset : Bool → Fields → ℕ → List ℕ
+requestOffset answered q clock =
+    cond (showsOffset answered (names.form q)) (signedDecimal (offsetOf (names.timestamp q) clock)) (hyphen ∷ [])
 
 -- the most bytes that it takes
 abbrev pub offsetRoom : ℕ

@@ -1,5 +1,4 @@
 // The offset of an opening: its timestamp less the clock, as a signed number.
-use bank::call::FrameAnswer;
 use frame_table::fields::Fields;
 use frame_table::table::Form;
 use frame_table::table::RequestForm;
@@ -10,8 +9,8 @@ ghost use Prim.Native.Nat.{_+_, _≤_};
 ghost use lib.ListN.{length};
 ghost use Rattle.frame_table.specs.Table.{lastTime};
 ghost use Rattle.print.specs.Text.{Put};
-ghost use Rattle.marker_session.specs.Offset.{offsetOf, opens, isOpening, showsOffset, Timed, requestOffset};
-ghost use Rattle.marker_session.specs.Offset.{offsetRoom};
+ghost use Rattle.marker_column.specs.Offset.{offsetOf, opens, isOpening, showsOffset, Timed, requestOffset};
+ghost use Rattle.marker_column.specs.Offset.{offsetRoom};
 
 // The most bytes of an offset: a hyphen, and the digits of a number.
 pub const OFFSET_ROOM: usize = 1 + 20;
@@ -48,28 +47,22 @@ fn is_opening(form: Form) -> bool
     }
 }
 
-// Whether a call with this answer to a frame of this form shows an offset.
-fn shows_offset(answer: FrameAnswer, form: Form) -> bool
-    ensures { λ r. ⌜ r ≡ showsOffset answer form ⌝ }
+// Whether a call with a request of this form shows an offset.
+fn shows_offset(answered: bool, form: Form) -> bool
+    ensures { λ r. ⌜ r ≡ showsOffset answered form ⌝ }
 {
-    match answer {
-        FrameAnswer::Reply(_) => is_opening(form),
-        FrameAnswer::WrongLength => false,
+    if !answered {
+        return false;
     }
+    is_opening(form)
 }
 
 // Writes the offset of the request at this clock, or a hyphen where the call shows none.
-pub(crate) fn put_offset(
-    output: &mut [u8],
-    at: usize,
-    answer: FrameAnswer,
-    q: Fields,
-    clock: u64,
-) -> usize
+pub fn put_offset(output: &mut [u8], at: usize, answered: bool, q: Fields, clock: u64) -> usize
     requires { ⌜ (at + offsetRoom ≤ length (now output)) × (clock ≤ lastTime) × Timed q ⌝ }
-    ensures { λ r. ⌜ Put (now (output .entry)) at (requestOffset answer q clock) (now (output .exit)) r ⌝ }
+    ensures { λ r. ⌜ Put (now (output .entry)) at (requestOffset answered q clock) (now (output .exit)) r ⌝ }
 {
-    if !shows_offset(answer, q.form()) {
+    if !shows_offset(answered, q.form()) {
         return put_byte(output, at, b'-');
     }
     put_signed(output, at, offset(q.timestamp(), clock))

@@ -6,11 +6,11 @@ use lib.IntN.{pos, _-ℤ_}
 use mir.Facts.{toZ-pos, toZ-ofZ}
 use mir.Syntax.{w64}
 use mir.Val.{toZ}
-use Rattle.marker_session.specs.Offset.{offsetOf}
-use Rattle.marker_session.proofs.Offsets.{offset-fits}
+use Rattle.marker_column.specs.Offset.{offsetOf}
+use Rattle.marker_column.proofs.Offsets.{offset-fits}
 use borrow.Author.Needs.{needs}
-use Rattle.marker_session.proofs.offset.offset.Statement.{statement}
-use Rattle.marker_session.proofs.offset.offset.Tie as tie
+use Rattle.marker_column.proofs.offset.offset.Statement.{statement}
+use Rattle.marker_column.proofs.offset.offset.Tie as tie
 
 cast-result : tie.Need-cast-result
 cast-result c = search needs

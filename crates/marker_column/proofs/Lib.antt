@@ -1,0 +1,2 @@
+-- The laws of offsets, and of the column.
+pub mod Offsets

@@ -1,0 +1,2 @@
+-- The definition of the third column.
+pub mod Offset

@@ -1,0 +1,2 @@
+// The third column of the marker: the offset of an opening.
+pub mod offset;
