@@ -3,7 +3,7 @@
 use Prim.Native.Nat.{ℕ, _-_, _<_}
 use mathlib.Core.Bool.{true}
 use mathlib.Core.List.{List}
-use mathlib.Core.Path.{_≡_, refl, ap, _∙_}
+use mathlib.Core.Path.{_≡_, refl, ap}
 use native.Mathlib.Omega.{arith}
 use lib.ListN.{length}
 use Rattle.frame_reader.specs.Reader.{readRequest}
@@ -14,7 +14,7 @@ use Rattle.bank_state.specs.State.{Bank}
 use Rattle.bank_state.specs.Clock.{advanced}
 use Rattle.bank_state.specs.State.{BankState}
 use Rattle.bank_sound.specs.Sound.{isSound, InRange}
-use Rattle.bank_rows.specs.State.{bankOf, stored, Laid, Held}
+use Rattle.bank_rows.specs.State.{bankOf, Laid, Held}
 use Rattle.bank_rows.proofs.Calls.{held-file}
 use Rattle.bank_sound.proofs.Range.{advanced-range}
 use Rattle.bank_rows.proofs.State.{held-rows, stored-own, stored-back}

@@ -1,6 +1,6 @@
 -- The test of a frame call's lent lengths and its time: what passes it, and that a late call changes nothing. Assumes
 -- nothing.
-use Prim.Native.Nat.{ℕ, _<_}
+use Prim.Native.Nat.{_<_}
 use mathlib.Core.Bool.{Bool, true, false, _&&_}
 use mathlib.Core.Path.{_≡_, refl}
 use lib.Dec.{eqb, leb}

@@ -9,7 +9,6 @@ use Rattle.frame_table.specs.Forms as forms
 use Rattle.frame_table.specs.Names.{form}
 use Rattle.frame_reader.specs.Reader.{readRequest}
 use Rattle.frame_row.specs.Row.{dataOf}
-use Rattle.octets.specs.Bytes.{number}
 use Rattle.message.proofs.Verdicts.{by-test}
 use Rattle.bank_state.specs.Clock.{advanced}
 use Rattle.bank_state.specs.State.{BankState, bankState}

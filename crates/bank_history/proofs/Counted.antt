@@ -1,7 +1,7 @@
 -- What the columns of an open transaction count, by the history: its recovery attempts, and the clock of its last fitting
 -- request.
-use Prim.Native.Nat.{ℕ, suc, _+_, _≤_, _<_}
-use mathlib.Core.Bool.{Bool, true, false, cond, _&&_, _||_}
+use Prim.Native.Nat.{ℕ, _+_, _<_}
+use mathlib.Core.Bool.{Bool, true, false, _||_}
 use mathlib.Core.List.{List, [], _∷_}
 use mathlib.Core.Path.{_≡_, refl, sym, ap, _∙_, subst}
 use native.Mathlib.Omega.{arith}
@@ -24,8 +24,7 @@ use Rattle.bank_state.specs.Search.{isFree, isOpen, freePlace, freeDownload}
 use Rattle.bank_state.specs.State.{BankState, noPlace, noDownload, fresh, placeAt, downloadAt, seriesOf}
 use Rattle.bank_state.proofs.Drops.{each-endDownloads}
 use Rattle.bank_state.proofs.Found.{upload-found, download-found}
-use Rattle.bank_openings.specs.Openings.{counted, countedUpload, newPlace, newDownload, openUpload, openDownload}
-use Rattle.bank_verdicts.specs.declared.verdict.TransactionRequest.{TransactionRequest}
+use Rattle.bank_openings.specs.Openings.{counted, countedUpload, openUpload, openDownload}
 use Rattle.bank_verdicts.specs.declared.verdict.UploadAction.{UploadAction}
 use Rattle.bank_verdicts.specs.declared.verdict.UploadAction.the-variants as up
 use Rattle.bank_verdicts.specs.declared.verdict.DownloadAction.{DownloadAction}
@@ -40,8 +39,8 @@ use Rattle.bank_steps.specs.Steps.{onUpload, downloadActs, carryOut}
 use Rattle.bank.specs.Call.{contextOf, respond}
 use Rattle.bank_history.specs.History.{Exchange, Past, BankCall, Stands, newest, older, ActionIn, isAction, isOpening, isTaking, isDelivery, did, ever, times, exchangeOf, start, pastOf}
 use Rattle.bank_admitted.specs.State.{Sizes}
-use Rattle.bank_history.specs.Invariant.{Invariant, Holds}
-use Rattle.bank_steps.proofs.Cases.{Happens, unreadable, refused, opensUpload, opensDownload, toUpload, toDownload, ToUpload, ToDownload, upload-acts, happens}
+use Rattle.bank_history.specs.Invariant.{Invariant}
+use Rattle.bank_steps.proofs.Cases.{Happens, unreadable, refused, opensUpload, opensDownload, toUpload, toDownload, upload-acts, happens}
 use Rattle.bank_history.proofs.GoesOn.{upload-goes-on, download-goes-on}
 use Rattle.bank_admitted.proofs.Clock.{each-advanced, each-download}
 use Rattle.bank_history.proofs.Clock.{advanced-keeps}

@@ -1,24 +1,21 @@
 -- The false economies: why none of them is the bank's.
 use Prim.Native.Nat.{ℕ, _+_, _≤_}
-use mathlib.Core.Bool.{Bool, true, false, cond, not, _||_}
+use mathlib.Core.Bool.{Bool, true, false, cond, not}
 use mathlib.Core.List.{List, _∷_}
 use mathlib.Core.Logic.{_⊎_, inl, inr}
-use mathlib.Core.Path.{_≡_, refl, sym, ap, _∙_, subst}
+use mathlib.Core.Path.{_≡_, refl, sym, ap, _∙_}
 use native.Mathlib.Omega.{arith}
-use lib.Dec.{eqb, ltb, leb}
+use lib.Dec.{eqb}
 use lib.ListN.{length}
-use borrow.Author.Tests.{eq-eqb, ne-eqb, le-ltb}
+use borrow.Author.Tests.{ne-eqb, le-ltb}
 use Rattle.frame_table.specs.declared.fields.Bits128.{Bits128}
 use Rattle.frame_table.specs.declared.fields.Fields.{Fields}
 use Rattle.frame_table.specs.declared.table.Form.{Form}
 use Rattle.frame_table.specs.Forms as forms
-use Rattle.frame_table.specs.Names.{phase, subscriber, orderType, nonce, timestamp, segments, transaction, segment, lastMark, returnCode, form, sameBits}
+use Rattle.frame_table.specs.Names.{phase, subscriber, orderType, nonce, timestamp, segments, transaction, segment, lastMark, returnCode, form}
 use Rattle.frame_table.specs.Table.{isRequestForm}
 use Rattle.frame_table.proofs.Forms.{phaseOf, request-phase, request-form}
 use Rattle.octets.proofs.Tests.{never, or-left, or-right}
-use Rattle.frame_table.proofs.Bits.{bits-same}
-use Rattle.octets.specs.Bytes.{number}
-use Rattle.message.specs.declared.codes.ReturnCode.{ReturnCode}
 use Rattle.message.specs.declared.codes.ReturnCode.the-variants as code
 use Rattle.message.specs.Codes.{codeField}
 use Rattle.message.specs.Limits.{ful, fdl, maxSegments, initialisationPhase, transferPhase}
@@ -27,9 +24,7 @@ use Rattle.bank_state.specs.State.{Bank}
 use Rattle.bank_state.specs.Clock.{advanced}
 use Rattle.bank_state.specs.Limits.{window}
 use Rattle.bank_state.specs.Search.{isRemembered}
-use Rattle.bank_state.specs.State.{BankState}
 use Rattle.bank_verdicts.specs.declared.verdict.Context.{Context}
-use Rattle.bank_verdicts.specs.declared.verdict.Direction.{Direction}
 use Rattle.bank_verdicts.specs.declared.verdict.Direction.the-variants as direction
 use Rattle.bank_verdicts.specs.declared.verdict.UploadAction.{UploadAction}
 use Rattle.bank_verdicts.specs.declared.verdict.UploadAction.the-variants as up
@@ -41,7 +36,7 @@ use Rattle.bank_verdicts.specs.declared.verdict.Verdict.{Verdict}
 use Rattle.bank_verdicts.specs.declared.verdict.Verdict.the-variants as verdict
 use Rattle.bank_verdicts.specs.Refusals.{unknownType, manySegments, isReplay, inTime, openingRows}
 use Rattle.bank_verdicts.specs.Judgement.{judgeOpening, judge}
-use Rattle.bank_verdicts.specs.Replies.{replyTo, uploadReply, downloadReply, actionReply}
+use Rattle.bank_verdicts.specs.Replies.{replyTo, uploadReply, downloadReply}
 use Rattle.bank_steps.specs.Steps.{carryOut}
 use Rattle.bank.specs.Call.{contextOf}
 use Rattle.bank_history.specs.History.{Exchange, BankCall, Frame, Stands, newest, older, ActionIn, pastOf, opens, isOpening, isUploadOpening, isDownloadOpening, isTaking, isBooking, did, ever, atOpening, openedBy}
@@ -69,7 +64,7 @@ use Rattle.bank_history.proofs.SentSegments.{action-in, reply-form, rep
 use Rattle.bank_history.proofs.IdleHour.{idle-refused}
 use Rattle.bank_history.proofs.OpenAnswered.{open-answered}
 use Rattle.bank_history.proofs.SixAttempts.{five-answered, sixth-cancels, attempts-counted}
-use Rattle.bank_history.proofs.Replies.{verdictForm, verdictCode, verdict-form, verdict-code, action-transaction, actionForm}
+use Rattle.bank_history.proofs.Replies.{verdictForm, verdictCode, verdict-form, verdict-code, actionForm}
 use Rattle.bank_history.proofs.Theorems.{history-sound, reply-is, upload-opened, download-opened, segment-taken, recovery-point}
 use Rattle.bank_history.proofs.UploadRequests.{verdict-by-form}
 

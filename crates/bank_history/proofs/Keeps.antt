@@ -9,7 +9,6 @@ use lib.ListN.{length}
 use Rattle.frame_table.specs.declared.fields.Bits128.{Bits128}
 use Rattle.frame_table.specs.declared.fields.Fields.{Fields}
 use Rattle.frame_table.specs.Forms as forms
-use Rattle.octets.specs.Bytes.{number}
 use Rattle.frame_table.specs.Names.{subscriber, form}
 use Rattle.frame_reader.specs.Reader.{readRequest}
 use Rattle.frame_row.specs.Row.{dataOf}

@@ -1,6 +1,6 @@
 -- The uploads of a history with their subscribers and their numbers: no two have one name, and they are the uploads among
 -- the openings.
-use Prim.Native.Nat.{ℕ, _+_, _≤_, _<_}
+use Prim.Native.Nat.{ℕ, _≤_, _<_}
 use mathlib.Core.Bool.{Bool, true, false}
 use mathlib.Core.List.{
   List,

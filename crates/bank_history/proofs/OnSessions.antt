@@ -1,39 +1,28 @@
 -- The calls on a lent session are the calls on the bank's own memory and on the journal, call by call: the number of
 -- events stays far below the limit, so that no call is turned away for it.
-use Prim.Native.Nat.{ℕ, _+_, _≤_, _<_, _^_}
+use Prim.Native.Nat.{ℕ}
 use mathlib.Core.Bool.{true}
 use mathlib.Core.List.{List, [], _∷_}
-use mathlib.Core.Path.{_≡_, refl, sym, ap, _∙_}
+use mathlib.Core.Path.{_≡_, refl, ap, _∙_}
 use native.Mathlib.Omega.{arith}
 use lib.ListN.{length}
-use Rattle.octets.specs.Bytes.{Bytes}
-use Rattle.journal.specs.declared.event.Event.{Event}
-use Rattle.journal.specs.Events.{recordCount, maxEntries}
-use Rattle.journal.specs.Row.{Journal, emptyRow}
+use Rattle.journal.specs.Events.{recordCount}
+use Rattle.journal.specs.Row.{Journal}
 use Rattle.journal.proofs.Laws.{row-of-length}
 use Rattle.bank_state.specs.State.{BankState}
 use Rattle.bank_steps.specs.Lent.{Lent, lent, stateOf}
 use Rattle.bank.specs.declared.call.FrameAnswer.{FrameAnswer}
 use Rattle.bank.specs.Call.{FrameInput, frameCall}
 use Rattle.bank.specs.Journal.{journalAfter, journalBy}
-use Rattle.bank.specs.Lent.{LentFrameCall, lentFrameCall, LentFileCall, lentFileCall}
-use Rattle.bank_session.specs.Session.{
-  LentSession,
-  sessionSize,
-  bankRows,
-  eventCount,
-  bankIn,
-  journalIn,
-  takesFrame,
-  withJournal,
-}
+use Rattle.bank.specs.Lent.{LentFrameCall, lentFrameCall, lentFileCall}
+use Rattle.bank_session.specs.Session.{LentSession, sessionSize, eventCount, bankIn, journalIn, takesFrame, withJournal}
 use Rattle.bank_session.proofs.Session.{takes, takes-in, frame-taken}
 use Rattle.bank_session.proofs.Laws.{frame-bank, frame-journal, frame-size, frame-unchanged}
 use Rattle.bank_session.proofs.Laws.{file-bank, file-events, file-size, session-file-unchanged}
 use Rattle.bank_history.specs.Answers.{AllBytes, none, more}
 use Rattle.bank_history.specs.History.{BankCall, Frame, File, pastOf}
 use Rattle.bank_history.specs.Journal.{journalOver, journalOf, eventsIn}
-use Rattle.bank_history.specs.OnRows.{lentAfter, lentOf, OnRows}
+use Rattle.bank_history.specs.OnRows.{lentAfter, lentOf}
 use Rattle.bank_history.specs.OnSessions.{sessionAfter, lentSessionOf, OnSessions}
 use Rattle.bank_history.proofs.Journal.{journal-told}
 use Rattle.bank_history.proofs.JournalCounts.{few-events}

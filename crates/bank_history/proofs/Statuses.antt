@@ -16,7 +16,6 @@ use Rattle.frame_table.specs.Names.{subscriber, transaction, segments, sameBits
 use Rattle.frame_table.proofs.Bits.{bits-same}
 use Rattle.frame_reader.specs.Reader.{readRequest}
 use Rattle.frame_row.specs.Row.{dataOf}
-use Rattle.octets.specs.Bytes.{number}
 use Rattle.octets.proofs.Tests.{never, and-true, and-true-right}
 use Rattle.message.proofs.Verdicts.{by-test, and-false}
 use Rattle.bank_state.specs.declared.clock.Ended.{Ended}

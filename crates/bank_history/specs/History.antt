@@ -1,5 +1,5 @@
 -- The bank's calls, the history of requests and replies that they leave, and what a history says of one transaction.
-use Prim.Native.Nat.{ℕ, suc, _+_, _-_}
+use Prim.Native.Nat.{ℕ, suc, _+_}
 use mathlib.Core.Bool.{Bool, true, false, cond, _&&_, _||_}
 use mathlib.Core.List.{List, [], _∷_, _++_}
 use mathlib.Core.Path.{_≡_}
@@ -18,8 +18,7 @@ use Rattle.bank_state.specs.State.{Nonce}
 use Rattle.bank_state.specs.Clock.{advanced}
 use Rattle.bank_state.specs.Limits.{storeBytes, window}
 use Rattle.bank_state.specs.Rows.{keep}
-use Rattle.bank_state.specs.State.{BankState, bankState, fresh, fileLength}
-use Rattle.bank_state.specs.Store.{fileOf}
+use Rattle.bank_state.specs.State.{BankState, bankState, fresh}
 use Rattle.bank_admitted.specs.State.{mailboxFile}
 use Rattle.bank_verdicts.specs.declared.verdict.Context.{Context}
 use Rattle.bank_verdicts.specs.declared.verdict.UploadAction.{UploadAction}

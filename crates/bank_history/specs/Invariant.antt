@@ -1,36 +1,23 @@
 -- The bank's invariant: what holds of the state and the stores after every list of calls, and what the history tells
 -- of them.
-use Prim.Native.Nat.{ℕ, suc, _+_, _-_, _*_, _<_, _≤_}
+use Prim.Native.Nat.{ℕ, _-_, _*_, _<_, _≤_}
 use mathlib.Core.Bool.{Bool, true, false}
-use mathlib.Core.List.{List, [], _∷_, _++_}
-use mathlib.Core.Logic.{_⊎_}
+use mathlib.Core.List.{List, _++_}
 use mathlib.Core.Path.{_≡_}
-use lib.Dec.{leb}
-use lib.ListN.{length, getD, take, replicate}
+use lib.ListN.{length, replicate}
 use Rattle.frame_table.specs.declared.fields.Bits128.{Bits128}
-use Rattle.message.specs.Limits.{subscribers, segmentBytes, maxSegments, fileBytes, maxAttempts}
-use Rattle.message.specs.Segments.{segmentsOf}
+use Rattle.message.specs.Limits.{subscribers, segmentBytes, maxSegments, fileBytes}
 use Rattle.bank_state.specs.declared.state.Download.{Download}
 use Rattle.bank_state.specs.State.{Nonce}
 use Rattle.bank_state.specs.declared.state.Place.{Place}
 use Rattle.bank_state.specs.declared.state.Use.{Use}
 use Rattle.bank_state.specs.declared.state.Use.the-variants.{Free, Open, Booked}
-use Rattle.bank_state.specs.Limits.{
-  placeCount,
-  storeBytes,
-  nonceCount,
-  idleLimit,
-  maxOpen,
-  maxOpenPerSubscriber,
-  maxOpenings,
-  window,
-}
-use Rattle.bank_state.specs.Search.{isFree, isOpen, openCount, openCountOf}
-use Rattle.bank_state.specs.State.{BankState, noPlace, noDownload, noNonce, placeAt, downloadAt, seriesOf}
+use Rattle.bank_state.specs.Limits.{placeCount, nonceCount}
+use Rattle.bank_state.specs.State.{BankState, noNonce, placeAt, downloadAt, seriesOf}
 use Rattle.bank_state.specs.Store.{partAt}
 use Rattle.bank_admitted.specs.State.{mailboxFile}
 use Rattle.bank_history.specs.History.{Exchange, Past, isUploadOpening, isDownloadOpening, isBooking, isTaking, isDelivery, isEnding, isAction, ever, times, received, accepted, uploadsAccepted, openedBy, numberAt, segmentsAt, fileAtOpening, remembered}
-use Rattle.bank_admitted.specs.State.{Sizes, FreePlace, NoSteps, UsedPlace, UsedAs, OpenPlace, BookedPlace, PlaceHolds, OpenRecord, DownloadHolds, MailboxHolds, AllRemembered, NoncesHold, Alike, StateHolds, NoneIdle}
+use Rattle.bank_admitted.specs.State.{StateHolds, NoneIdle}
 use Rattle.bank_history.specs.Sound.{AllSound}
 
 -- ---- what the history tells of the state

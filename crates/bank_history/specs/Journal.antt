@@ -1,5 +1,5 @@
 -- The journal after a list of calls, and the events of a history told by requests, replies and clocks alone.
-use Prim.Native.Nat.{ℕ, _+_, max}
+use Prim.Native.Nat.{ℕ}
 use mathlib.Core.Bool.{Bool, false, cond, _&&_}
 use mathlib.Core.List.{List, [], _∷_, _++_, map}
 use mathlib.Core.Path.{_≡_}
@@ -9,14 +9,10 @@ use Rattle.frame_table.specs.declared.fields.Bits128.{Bits128}
 use Rattle.frame_table.specs.declared.table.ReplyForm.{ReplyForm}
 use Rattle.frame_table.specs.declared.table.ReplyForm.the-variants as replies
 use Rattle.frame_table.specs.Names.{subscriber, transaction, segment, returnCode, form}
-use Rattle.octets.specs.Bytes.{number}
-use Rattle.frame_reader.specs.Reader.{readRequest}
-use Rattle.frame_row.specs.Row.{dataOf}
 use Rattle.message.specs.declared.codes.ReturnCode.the-variants as code
 use Rattle.message.specs.Codes.{codeField}
-use Rattle.bank_state.specs.Clock.{isIdle, advanced}
+use Rattle.bank_state.specs.Clock.{isIdle}
 use Rattle.bank_state.specs.Rows.{keep}
-use Rattle.bank_state.specs.State.{BankState}
 use Rattle.bank_verdicts.specs.declared.verdict.Direction.{Direction}
 use Rattle.bank_verdicts.specs.declared.verdict.Direction.the-variants as direction
 use Rattle.bank_verdicts.specs.declared.verdict.Verdict.the-variants.{Unreadable}
@@ -26,10 +22,8 @@ use Rattle.journal.specs.declared.event.Entry.{Entry}
 use Rattle.journal.specs.declared.event.Event.{Event}
 use Rattle.journal.specs.Events.{eventsFrom}
 use Rattle.journal.specs.Records.{Numbered}
-use Rattle.journal.specs.Row.{Journal, emptyRow, enteredAll, rowOf}
-use Rattle.bank_events.specs.Entries.{entry, orderIn, callEntries}
-use Rattle.bank.specs.declared.call.FrameAnswer.{FrameAnswer}
-use Rattle.bank.specs.declared.call.FrameAnswer.the-variants.{Reply, WrongLength}
+use Rattle.journal.specs.Row.{Journal, emptyRow, rowOf}
+use Rattle.bank_events.specs.Entries.{entry}
 use Rattle.bank.specs.Call.{frameCall}
 use Rattle.bank.specs.Journal.{journalAfter, journalBy}
 use Rattle.bank_history.specs.History.{Exchange, BankCall, Frame, File, Past, pastOf}

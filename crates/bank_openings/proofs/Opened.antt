@@ -33,7 +33,6 @@ use Rattle.bank_rows.proofs.State.{held-rows, stored-back, stored-laid}
 use Rattle.bank_verdicts.specs.declared.verdict.Action.{Action}
 use Rattle.bank_verdicts.specs.declared.verdict.Context.{Context}
 use Rattle.bank_verdicts.specs.declared.verdict.Direction.{Direction}
-use Rattle.bank_verdicts.specs.declared.verdict.Direction.the-variants as direction
 use Rattle.bank_verdicts.specs.declared.verdict.Verdict.{Verdict}
 use Rattle.bank_verdicts.specs.declared.verdict.Verdict.the-variants as verdict
 use Rattle.bank_verdicts.specs.Judgement.{judgeOpening}

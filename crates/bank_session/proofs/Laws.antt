@@ -12,7 +12,6 @@ use Rattle.bank_rows.specs.Layout.{stateSize}
 use Rattle.bank_sound.specs.Sound.{isSound}
 use Rattle.bank_sound.proofs.Test.{sound-laid}
 use Rattle.bank_steps.specs.Lent.{Lent, lent}
-use Rattle.journal.specs.declared.event.Event.{Event}
 use Rattle.journal.specs.Row.{Journal}
 use Rattle.bank.specs.Call.{FrameInput}
 use Rattle.bank.specs.Lent.{
@@ -26,24 +25,7 @@ use Rattle.bank.specs.Lent.{
 use Rattle.bank.proofs.Kept.{frame-sound, file-sound, file-unchanged}
 use Rattle.bank.proofs.Lent.{rows-refused}
 use Rattle.bank.proofs.Right.{late-refused}
-use Rattle.bank_session.specs.Session.{
-  LentSession,
-  session,
-  sessionSize,
-  bankRows,
-  eventCount,
-  bankIn,
-  journalIn,
-  withCount,
-  SessionFrameCall,
-  takesFrame,
-  journalNext,
-  withJournal,
-  sessionTurnedAway,
-  sessionFrameCall,
-  withEvents,
-  sessionFileCall,
-}
+use Rattle.bank_session.specs.Session.{LentSession, session, sessionSize, bankRows, eventCount, bankIn, journalIn, SessionFrameCall, takesFrame, journalNext, withJournal, sessionTurnedAway, sessionFrameCall, withEvents, sessionFileCall}
 use Rattle.bank_session.proofs.Rows.{bank-long, parts, bank-of-both, count-of-both, both-long}
 use Rattle.bank_session.proofs.Session.{takes-length, frame-refused, frame-taken}
 

@@ -3,7 +3,7 @@ use Prim.Native.Nat.{ℕ, suc, _≤_}
 use mathlib.Core.List.{List, [], _∷_, _++_}
 use mathlib.Core.Path.{_≡_, sym, ap, _∙_}
 use native.Mathlib.Omega.{arith}
-use lib.ListN.{length, getD, take, drop, set, length-append, length-take, take-append-drop, drop-of-length-le}
+use lib.ListN.{length, getD, drop, set, length-append, length-take, take-append-drop, drop-of-length-le}
 use lib.Seq.{drop-cons, set-at, getD-at, getD-take, take-at}
 use Rattle.bank_rows.specs.Layout.{clockAt, stateSize}
 use Rattle.bank_rows.specs.State.{bankOf}

@@ -22,23 +22,7 @@ use Rattle.bank.specs.Call.{FrameInput}
 use Rattle.bank.specs.Journal.{clockBy, enteredBy, ifAnswered, withEntries, journalAfter}
 use Rattle.bank.specs.Lent.{noReply, lentFrameCallOf, lentFrameCall}
 use Rattle.bank.proofs.Right.{and-last}
-use Rattle.bank_session.specs.Session.{
-  LentSession,
-  session,
-  sessionSize,
-  eventCount,
-  bankIn,
-  journalIn,
-  withCount,
-  sessionOf,
-  SessionFrameCall,
-  sessionFrameCallOf,
-  takesFrame,
-  journalNext,
-  withJournal,
-  sessionTurnedAway,
-  sessionFrameCall,
-}
+use Rattle.bank_session.specs.Session.{LentSession, session, sessionSize, eventCount, bankIn, journalIn, withCount, sessionOf, sessionFrameCallOf, takesFrame, journalNext, withJournal, sessionTurnedAway, sessionFrameCall}
 
 -- ---- batches
 

@@ -1,7 +1,6 @@
 -- The stated cases of the window and of the idle limit, in milliseconds. Assumes nothing.
-use Prim.Native.Nat.{ℕ}
-use mathlib.Core.Bool.{Bool, true, false}
-use mathlib.Core.List.{List, [], _∷_}
+use mathlib.Core.Bool.{true, false}
+use mathlib.Core.List.{[], _∷_}
 use mathlib.Core.Path.{_≡_, refl}
 use Rattle.bank_state.specs.Clock.{isIdle, forget}
 use Rattle.bank_state.specs.Rows.{keepOnly, keep}

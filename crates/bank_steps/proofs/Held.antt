@@ -29,7 +29,7 @@ use Rattle.bank_verdicts.specs.declared.verdict.DownloadAction.the-variants as 
 use Rattle.bank_verdicts.specs.declared.verdict.TransactionRequest.{TransactionRequest}
 use Rattle.bank_verdicts.specs.declared.verdict.Verdict.{Verdict}
 use Rattle.bank_verdicts.specs.Judgement.{mailboxSegments, judgeOpening, judgeDownload, uploadAt, downloadOf, judge}
-use Rattle.bank_verdicts.proofs.Sound.{Readable, OpeningSound}
+use Rattle.bank_verdicts.proofs.Sound.{OpeningSound}
 use Rattle.bank_verdicts.proofs.Sound as sound
 use Rattle.bank_openings.proofs.Opened.{accepted-room, held-upload, held-download}
 use Rattle.bank_downloads.specs.Downloads.{downloadAfter}

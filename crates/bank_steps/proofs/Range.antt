@@ -1,15 +1,15 @@
 -- A request and a file leave a bank in range in range. Assumes nothing.
-use Prim.Native.Nat.{ℕ, zero, suc, _+_, _*_, _-_, _≤_, _<_}
-use mathlib.Core.Bool.{Bool, true, false, not, cond, _&&_}
+use Prim.Native.Nat.{ℕ, zero, suc, _*_, _-_, _≤_, _<_}
+use mathlib.Core.Bool.{Bool, true, false, not}
 use mathlib.Core.List.{List, [], _∷_}
-use mathlib.Core.Path.{_≡_, refl, sym, ap, _∙_, subst}
+use mathlib.Core.Path.{_≡_, refl, sym, ap, subst}
 use native.Mathlib.Omega.{arith}
 use lib.Dec.{eqb}
 use lib.ListN.{length, getD, set}
 use lib.Seq.{getD-set-other}
 use borrow.Author.Tests.{eqb-true, eqb-false, not-true}
 use Rattle.frame_table.specs.declared.fields.Fields.{Fields}
-use Rattle.frame_table.specs.Names.{subscriber, segment}
+use Rattle.frame_table.specs.Names.{subscriber}
 use Rattle.octets.proofs.Tests.{never, and-true}
 use Rattle.message.specs.Limits.{fileBytes, segmentBytes, maxSegments, subscribers}
 use Rattle.message.specs.Segments.{segmentsOf}
@@ -18,11 +18,11 @@ use Rattle.bank_state.specs.declared.clock.Ended.the-variants as ending
 use Rattle.bank_state.specs.State.{Bank}
 use Rattle.bank_state.specs.declared.state.Download.{Download}
 use Rattle.bank_state.specs.declared.state.Place.{Place}
-use Rattle.bank_state.specs.Clock.{ends, endDownloads}
+use Rattle.bank_state.specs.Clock.{ends}
 use Rattle.bank_state.specs.Limits.{placeCount}
 use Rattle.bank_state.specs.Search.{isOpen, freePlace, freeDownload}
 use Rattle.bank_state.specs.State.{BankState, bankState, noPlace, noDownload, placeAt, downloadAt, fileLength}
-use Rattle.bank_state.specs.State.{withPlace, withDownload, withDownloads, withFiles}
+use Rattle.bank_state.specs.State.{withPlace, withDownload, withFiles}
 use Rattle.bank_state.proofs.Drops.{each-endDownloads}
 use Rattle.bank_sound.specs.Sound.{InRange}
 use Rattle.bank_rows.specs.State.{Held}
@@ -37,7 +37,7 @@ use Rattle.bank_verdicts.specs.Judgement.{mailboxSegments, judgeDownload, uploa
 use Rattle.bank_verdicts.proofs.Sound.{Readable, OpeningSound, UploadSound, DownloadSound}
 use Rattle.bank_verdicts.proofs.Sound.{judged-upload, judged-download}
 use Rattle.bank_verdicts.proofs.Sound as sound
-use Rattle.bank_openings.specs.Openings.{counted, countedUpload, newPlace, openUpload, newDownload, openDownload}
+use Rattle.bank_openings.specs.Openings.{counted, countedUpload, openUpload, openDownload}
 use Rattle.bank_downloads.specs.Downloads.{downloadAfter}
 use Rattle.bank_uploads.specs.Uploads.{grown, booked, attempted, placeAfter}
 use Rattle.bank_steps.specs.Steps.{emptied, onDownload, carryOut, uploadVerdict, downloadVerdict}

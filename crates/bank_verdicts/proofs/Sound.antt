@@ -1,8 +1,8 @@
 -- The verdicts on a request, each with the facts that led to it. Assumes nothing.
 use Prim.Native.Nat.{ℕ, _+_, _<_, _≤_}
-use mathlib.Core.Bool.{Bool, true, false, not, _&&_, _||_}
+use mathlib.Core.Bool.{Bool, true, false, not, _&&_}
 use mathlib.Core.List.{List, []}
-use mathlib.Core.Path.{_≡_, refl, sym, ap, _∙_}
+use mathlib.Core.Path.{_≡_, refl, sym, _∙_}
 use lib.Dec.{ltb, leb, eqb}
 use borrow.Author.Tests.{
   eqb-true,
@@ -32,7 +32,7 @@ use Rattle.frame_table.specs.Table.{isRequestForm}
 use Rattle.octets.proofs.Tests.{never, and-true, or-neither}
 use Rattle.message.specs.declared.codes.ReturnCode.{ReturnCode}
 use Rattle.message.specs.declared.codes.ReturnCode.the-variants as code
-use Rattle.message.specs.Limits.{ful, fdl, subscribers, segmentBytes, maxSegments, maxAttempts}
+use Rattle.message.specs.Limits.{fdl, subscribers, segmentBytes, maxSegments, maxAttempts}
 use Rattle.message.proofs.Verdicts.{by-test, and-false}
 use Rattle.bank_state.specs.State.{Bank}
 use Rattle.bank_state.specs.declared.state.Download.{Download}
@@ -52,39 +52,7 @@ use Rattle.bank_verdicts.specs.declared.verdict.DownloadAction.{Download
 use Rattle.bank_verdicts.specs.declared.verdict.DownloadAction.the-variants as down
 use Rattle.bank_verdicts.specs.declared.verdict.Verdict.{Verdict}
 use Rattle.bank_verdicts.specs.declared.verdict.Verdict.the-variants.{Unreadable, Refused, Of}
-use Rattle.bank_verdicts.specs.Refusals.{
-  Row,
-  cancels,
-  isUnreadable,
-  noSubscriber,
-  longData,
-  requestRows,
-  otherDirection,
-  manySegments,
-  inTime,
-  isReplay,
-  emptyMailbox,
-  manyOpen,
-  noPlaceFree,
-  seriesEnded,
-  isFull,
-  noShare,
-  openingRows,
-  notOpen,
-  transactionRows,
-  fitsUpload,
-  uploadAttempt,
-  isUnderrun,
-  isExceeded,
-  segmentRows,
-  uploadRows,
-  fitsDownload,
-  isSentAgain,
-  downloadAttempt,
-  isReceipt,
-  receiptRows,
-  downloadRows,
-}
+use Rattle.bank_verdicts.specs.Refusals.{Row, cancels, noSubscriber, longData, requestRows, manySegments, inTime, isReplay, manyOpen, noPlaceFree, seriesEnded, isFull, noShare, openingRows, notOpen, transactionRows, fitsUpload, uploadAttempt, isUnderrun, isExceeded, segmentRows, uploadRows, fitsDownload, isSentAgain, downloadAttempt, isReceipt, receiptRows, downloadRows}
 use Rattle.bank_verdicts.specs.Judgement.{judged, accepted, judgeOpening, takes, judgeUpload, judgeDownload}
 use Rattle.bank_verdicts.proofs.Lines.{Fail, end, line, judged-by, each-such}
 

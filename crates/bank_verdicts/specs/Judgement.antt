@@ -1,6 +1,6 @@
 -- How a request is judged: "Checked in the order given, from top to bottom." The clock and the drops are done.
 use Prim.Native.Nat.{ℕ, _+_}
-use mathlib.Core.Bool.{Bool, true, false, cond}
+use mathlib.Core.Bool.{Bool, false, cond}
 use mathlib.Core.List.{List, [], _∷_}
 use lib.Dec.{ltb, eqb}
 use Rattle.frame_table.specs.declared.fields.Bits128.{Bits128}

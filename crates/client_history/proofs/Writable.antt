@@ -1,13 +1,13 @@
 -- From a begin, each request that a run issues is written, in at most 303 bytes: a call that its ruling admits is given
 -- no number. Over every list of events whose arguments are of their types, at any times. Assumes nothing.
-use Prim.Native.Nat.{ℕ, _+_, _-_, _*_, _^_, _≤_, _<_}
+use Prim.Native.Nat.{ℕ, _^_, _≤_, _<_}
 use mathlib.Core.Bool.{true}
 use mathlib.Core.List.{List, []}
 use mathlib.Core.Logic.{inl, inr}
-use mathlib.Core.Path.{_≡_, refl, sym, ap, subst, _∙_}
+use mathlib.Core.Path.{_≡_, refl, sym, ap, _∙_}
 use native.Mathlib.Omega.{arith}
 use lib.ListN.{length, take, drop, length-take, length-drop}
-use Rattle.octets.specs.Bytes.{Bytes, number}
+use Rattle.octets.specs.Bytes.{Bytes}
 use Rattle.octets.proofs.Numbers.{bytes-take, bytes-drop, number-small}
 use Rattle.frame_table.specs.declared.fields.Fields.{Fields}
 use Rattle.frame_table.specs.declared.table.Form.{Form}

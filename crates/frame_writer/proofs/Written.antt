@@ -2,7 +2,7 @@
 use Prim.Native.Nat.{ℕ, _+_, _≤_}
 use mathlib.Core.List.{List, _++_}
 use mathlib.Core.Bool.{Bool, true, false, cond, _&&_}
-use mathlib.Core.Path.{_≡_, refl, sym, ap, _∙_}
+use mathlib.Core.Path.{_≡_, refl, ap, _∙_}
 use native.Mathlib.Nat.{zero-add}
 use native.Mathlib.Omega.{arith}
 use lib.Dec.{leb}
@@ -14,7 +14,6 @@ use Rattle.octets.specs.Bytes.{overwrite}
 use Rattle.frame_table.specs.Table.{tagCount, frameLimit, isForm}
 use Rattle.frame_table.specs.Names.{form}
 use Rattle.octets.proofs.Tests.{and-true}
-use Rattle.frame_writer.specs.declared.writer.Written.{Written}
 use Rattle.frame_writer.specs.declared.writer.Written.the-variants.{Length, Refused}
 use Rattle.frame_writer.specs.Writer.{frameOf, fieldsWritable, writable, accepted, writeAnswer, writeBuffer}
 

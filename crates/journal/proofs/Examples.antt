@@ -1,7 +1,7 @@
 -- What the row says of an order, at examples: only records under its own name count. Assumes nothing.
 use Prim.Native.Nat.{ℕ}
 use mathlib.Core.Path.{_≡_, refl}
-use mathlib.Core.List.{List, [], _∷_}
+use mathlib.Core.List.{[], _∷_}
 use Rattle.message.specs.Limits.{ful, fdl}
 use Rattle.message.specs.OrderNumbers.{character, letter, orderNumberOf}
 use Rattle.journal.specs.declared.event.Kind.{Kind}

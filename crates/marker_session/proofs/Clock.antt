@@ -1,12 +1,11 @@
 -- The clock that a call leaves: the larger of its old value and the time given, and so at most the last time. Assumes
 -- nothing.
-use Prim.Native.Nat.{ℕ, max, _≤_}
+use Prim.Native.Nat.{ℕ, _≤_}
 use mathlib.Core.Bool.{Bool, true, false}
 use mathlib.Core.List.{List}
 use mathlib.Core.Path.{_≡_, refl, sym, ap, _∙_}
 use native.Mathlib.Omega.{arith}
 use lib.ListN.{length, replicate}
-use Rattle.octets.specs.Bytes.{number}
 use Rattle.frame_table.specs.declared.fields.Fields.{Fields}
 use Rattle.frame_table.specs.Table.{lastTime}
 use Rattle.frame_reader.specs.Reader.{readRequest}
@@ -27,9 +26,8 @@ use Rattle.bank_verdicts.specs.declared.verdict.Verdict.the-variants as verdict
 use Rattle.bank_verdicts.specs.Judgement.{judge}
 use Rattle.bank_steps.specs.Lent.{Lent, stateOf}
 use Rattle.bank_steps.specs.Steps.{carryOut}
-use Rattle.bank.specs.declared.call.FrameAnswer.{FrameAnswer}
-use Rattle.bank.specs.declared.call.FrameAnswer.the-variants.{Reply, WrongLength}
-use Rattle.bank.specs.Call.{contextOf, FrameInput, FrameCall, respond, lentRight, frameCall}
+use Rattle.bank.specs.declared.call.FrameAnswer.the-variants.{Reply}
+use Rattle.bank.specs.Call.{contextOf, FrameInput, respond, lentRight, frameCall}
 use Rattle.bank.specs.Journal.{clockBy}
 use Rattle.bank.specs.Lent.{LentFrameCall, lentFrameCall}
 use Rattle.bank.proofs.Kept.{frame-sound, frame-state}

@@ -11,7 +11,6 @@ use Rattle.print.specs.Text.{codeDigits, digitCountTo, digitCount, decimal, spa
 use Rattle.print.proofs.Digits.{length-digitsIn, column-most}
 use Rattle.bank.specs.declared.call.FrameAnswer.{FrameAnswer}
 use Rattle.bank.specs.declared.call.FrameAnswer.the-variants.{Reply, WrongLength}
-use Rattle.octets.specs.Bytes.{number}
 use Rattle.frame_row.specs.Row.{dataOf}
 use Rattle.bank_state.specs.State.{BankState}
 use Rattle.bank_state.specs.Clock.{advanced}

@@ -1,4 +1,4 @@
-// Order numbers: the number of an opening in base 36, three characters behind a letter.
+// Order numbers: the number of an upload in its series in base 36, three characters behind a letter.
 ghost use mathlib.Core.Path.{_≡_};
 ghost use Prim.Native.Nat.{_<_};
 ghost use Rattle.message.specs.OrderNumbers.{character, letter, orderNumberOf};

@@ -1,6 +1,5 @@
 -- The count of segments is the field's. Assumes nothing.
 use Rattle.bank_verdicts.specs.Refusals.{manySegments}
-use borrow.Author.Needs.{needs}
 use Rattle.bank_openings.proofs.judgement.many_segments.Statement.{statement}
 use Rattle.bank_openings.proofs.judgement.many_segments.Tie as tie
 

@@ -1,13 +1,12 @@
 -- Number 1 where the lengths or the number of events are wrong; else the bank's call on its numbers, and the number of
 -- events moved on by those of the call.
 use Prim.Native.Nat.{ℕ, max}
-use mathlib.Core.Bool.{true, false}
-use mathlib.Core.List.{List, [], _∷_}
-use mathlib.Core.Path.{_≡_, refl, sym, ap, _∙_}
+use mathlib.Core.Bool.{true}
+use mathlib.Core.Path.{_≡_, sym, ap, _∙_}
 use native.Mathlib.Omega.{arith}
 use borrow.Author.Needs.{needs}
 use borrow.Author.Tests.{ne-eqb, not-true, not-false}
-use lib.ListN.{length, take}
+use lib.ListN.{length}
 use lib.Seq.{length-take-le}
 use Rattle.bank_rows.specs.Layout.{stateSize}
 use Rattle.journal.specs.Row.{takesEvents}

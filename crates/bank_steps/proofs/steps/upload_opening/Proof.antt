@@ -1,5 +1,5 @@
 -- An opening that acts on a transaction is accepted; the other verdicts change nothing. Assumes nothing.
-use mathlib.Core.Path.{_≡_, sym, ap, _∙_, subst}
+use mathlib.Core.Path.{sym, _∙_, subst}
 use Rattle.bank_rows.specs.State.{bankOf}
 use Rattle.bank_rows.proofs.State.{held-rows}
 use Rattle.bank_verdicts.specs.declared.verdict.Direction.the-variants as direction

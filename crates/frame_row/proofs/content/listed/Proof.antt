@@ -1,8 +1,6 @@
 -- `listed` meets its contract: the values of the tag say which test it is. Assumes nothing.
-use Prim.Native.Nat.{_≤_}
-use mathlib.Core.Path.{_≡_, sym, ap, _∙_}
+use mathlib.Core.Path.{sym, ap, _∙_}
 use native.Mathlib.Omega.{arith}
-use lib.ListN.{length}
 use borrow.Author.Needs.{needs}
 use Rattle.frame_table.specs.Table.{inRange}
 use Rattle.frame_table.proofs.Values.{range-narrow}

@@ -1,5 +1,5 @@
 -- `allowed` meets its contract: each case is its own test of the byte. Assumes nothing.
-use mathlib.Core.Path.{sym, _∙_}
+use mathlib.Core.Path.{_∙_}
 use borrow.Author.Needs.{needs}
 use Rattle.frame_table.specs.Table.{allowed}
 use Rattle.frame_table.proofs.table.allowed.Statement.{statement}

@@ -1,5 +1,5 @@
 -- `form_of` meets its contract. Assumes nothing.
-use mathlib.Core.Path.{_≡_, sym, _∙_}
+use mathlib.Core.Path.{sym, _∙_}
 use borrow.Author.Needs.{needs}
 use borrow.Author.Tests.{ne-eqb}
 use Rattle.frame_table.specs.Table.{rowFits, findForm, formOf}

@@ -1,7 +1,7 @@
 -- `field_writable` meets its contract. Assumes nothing.
-use mathlib.Core.Path.{_≡_, sym, ap, _∙_}
+use mathlib.Core.Path.{sym, _∙_}
 use borrow.Author.Needs.{needs}
-use borrow.Author.Tests.{not-true, not-false, eq-eqb, ne-eqb}
+use borrow.Author.Tests.{not-true, not-false, ne-eqb}
 use Rattle.frame_writer.proofs.writer.field_writable.Statement.{statement}
 use Rattle.frame_writer.proofs.writer.field_writable.Tie as tie
 

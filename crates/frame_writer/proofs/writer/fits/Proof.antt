@@ -1,5 +1,5 @@
 -- `fits` meets its contract. Assumes nothing.
-use mathlib.Core.Path.{sym, ap, _∙_}
+use mathlib.Core.Path.{sym, _∙_}
 use borrow.Author.Needs.{needs}
 use Rattle.frame_writer.proofs.Numbers.{high-fits, low-fits, low-only}
 use Rattle.frame_writer.proofs.writer.fits.Statement.{statement}

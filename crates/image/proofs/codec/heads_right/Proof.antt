@@ -1,5 +1,4 @@
 -- `heads_right` meets its contract. The loop's invariant: the fields left to test are the answer. Assumes nothing.
-use Prim.Native.Nat.{_-_}
 use mathlib.Core.Path.{refl, sym, _∙_}
 use native.Mathlib.Omega.{arith}
 use borrow.Author.Tests.{eq-eqb, ne-eqb}

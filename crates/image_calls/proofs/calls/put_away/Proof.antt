@@ -23,7 +23,7 @@ use types.Run.{look, init, forget, stop, hop, fld, from, load, addr, of-opd, and
 use denote.Exit.{yes}
 use denote.RattleType.{RattleType, owns}
 use denote.Laws.{Is, shows}
-use denote.Array.{Array, each, array-lawful, array-makes}
+use denote.Array.{Array, array-lawful, array-makes}
 use denote.Plain.{uint-makes}
 use denote.Builtin.{u8, u64, usize}
 use denote.Memory.{pointee}

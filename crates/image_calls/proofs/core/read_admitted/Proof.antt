@@ -1,6 +1,6 @@
 -- Where the codec is done, the list has the answer; else the bytes are no image. Assumes nothing.
-use Prim.Native.Nat.{ℕ}
 use mathlib.Core.Path.{_≡_}
+use Prim.Native.Nat.{ℕ}
 use native.Mathlib.Omega.{arith}
 use Rattle.image_calls.proofs.Taking.{image-done, admitted-done, admitted-other}
 use borrow.Author.Needs.{needs}

@@ -1,5 +1,5 @@
 -- `download_test` meets its contract: what each call in it says, put together. Assumes nothing.
-use Prim.Native.Nat.{ℕ, _-_}
+use Prim.Native.Nat.{ℕ}
 use mathlib.Core.Path.{ap, _∙_}
 use mathlib.Core.Bool.{Bool, _&&_}
 use Rattle.image_records.specs.Records.{downloadHolds}

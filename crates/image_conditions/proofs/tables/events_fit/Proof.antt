@@ -1,5 +1,5 @@
 -- `events_fit` meets its contract: what each call in it says, put together. Assumes nothing.
-use Prim.Native.Nat.{ℕ, _+_, _-_, _*_}
+use Prim.Native.Nat.{ℕ, _+_, _*_}
 use mathlib.Core.Path.{ap, _∙_}
 use lib.Dec.{leb}
 use Rattle.image_conditions.specs.Conditions.{eventsFit}

@@ -1,5 +1,4 @@
 -- `is_open_of` meets its contract: what each call in it says, put together. Assumes nothing.
-use Prim.Native.Nat.{_-_}
 use mathlib.Core.Path.{ap, _∙_}
 use mathlib.Core.Bool.{_&&_}
 use lib.Dec.{eqb}

@@ -1,5 +1,4 @@
 -- `is_open_slot` meets its contract: what each call in it says, put together. Assumes nothing.
-use Prim.Native.Nat.{_-_}
 use mathlib.Core.Path.{ap}
 use lib.Dec.{eqb}
 use Rattle.image_conditions.specs.Conditions.{isOpenSlot}

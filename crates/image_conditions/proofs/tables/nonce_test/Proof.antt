@@ -1,5 +1,4 @@
 -- `nonce_test` meets its contract: what each call in it says, put together. Assumes nothing.
-use Prim.Native.Nat.{_-_}
 use mathlib.Core.Path.{ap, _∙_}
 use Rattle.image_records.specs.Records.{nonceTime}
 use Rattle.image_conditions.specs.Conditions.{nonceTest}

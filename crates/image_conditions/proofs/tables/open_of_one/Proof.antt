@@ -1,5 +1,5 @@
 -- `open_of_one` meets its contract: what each call in it says, put together. Assumes nothing.
-use Prim.Native.Nat.{ℕ, _-_}
+use Prim.Native.Nat.{ℕ}
 use mathlib.Core.Path.{ap}
 use lib.Dec.{leb}
 use Rattle.image_conditions.specs.Conditions.{openOfOne}

@@ -1,5 +1,5 @@
 -- `move_record` meets its contract. The loop's invariant: the places left are what the answer lacks. Assumes nothing.
-use Prim.Native.Nat.{_+_, _-_, _*_}
+use Prim.Native.Nat.{_+_, _*_}
 use mathlib.Core.Path.{refl}
 use native.Mathlib.Omega.{arith}
 use lib.ListN.{length}

@@ -1,5 +1,4 @@
 -- `file_of` meets its contract: a subscriber is 1 to 8. Assumes nothing.
-use Prim.Native.Nat.{_-_}
 use borrow.Author.Tests.{le-leb, lt-leb}
 use Rattle.message.specs.Limits.{subscribers}
 use Rattle.image_records.specs.Layout.{fileOf}

@@ -1,7 +1,7 @@
 -- `Client::journal_held` meets its contract: a walk of its MIR, by hand. The array stands in a local, is lent as a slice for a lifetime that is made for the call, and comes back as it was.
 -- All that the proof knows of `journal` is that it meets its contract. Assumes nothing.
 use mathlib.Core.Path.{_≡_, refl, sym, subst}
-use Prim.Native.Nat.{ℕ, _<_}
+use Prim.Native.Nat.{ℕ}
 use mathlib.Core.List.{List, [], _∷_, map}
 use lib.Dec.{T as Holds, lit<}
 use lib.ListN.{length}
