@@ -1,5 +1,5 @@
--- A host's call turned away at the door is a call of the list: given number 1, as the host is told, it leaves the course,
--- and the premises of demand 3 ask nothing of it. Assumes nothing.
+-- A host's call turned away at the door is a call of the list: given number 1, as the host is told, it leaves the
+-- course, and the premises of demand 3 ask nothing of it. Assumes nothing.
 use Prim.Native.Nat.{ℕ, _+_, _≤_, _^_}
 use mathlib.Core.Bool.{false}
 use mathlib.Core.List.{List}

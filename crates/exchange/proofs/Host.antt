@@ -1,5 +1,5 @@
--- The host's calls are the bank's: one given no number leaves what the bank's own call leaves on the bank and journal that
--- its memory is; one turned away at the door is given number 1. Assumes nothing.
+-- The host's calls are the bank's: one given no number leaves what the bank's own call leaves on the bank and journal
+-- that its memory is; one turned away at the door is given number 1. Assumes nothing.
 use Prim.Native.Nat.{ℕ}
 use mathlib.Core.Bool.{Bool, true, false, cond}
 use mathlib.Core.List.{List}

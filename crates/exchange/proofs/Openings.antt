@@ -1,4 +1,5 @@
--- A transaction's opening is one exchange: its running number is that of one opening of the bank's history. Assumes nothing.
+-- A transaction's opening is one exchange, as its running number is that of one opening of the bank's history. Assumes
+-- nothing.
 use Prim.Native.Nat.{ℕ, _<_}
 use mathlib.Core.Bool.{Bool, true, false}
 use mathlib.Core.List.{List, _∷_}

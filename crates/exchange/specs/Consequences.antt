@@ -1,5 +1,5 @@
--- What demand 3 comes to for the people of a course: what may be read off the book, a closing word and a mailbox. All of it
--- follows from the clauses.
+-- What demand 3 comes to for the people of a course: what may be read off the book, a closing word and a mailbox. All
+-- follows from its clauses.
 use Prim.Native.Nat.{ℕ, _≤_}
 use mathlib.Core.List.{List, [], _∷_, _++_, List·Memᴰ as In}
 use mathlib.Core.Path.{_≡_}

@@ -138,8 +138,8 @@ memory rows row = session rows row (replicate storeBytes 0) (replicate storeByte
 abbrev unsound : List ℕ
 unsound = replicate sessionSize (placeCount + 1)
 
--- a host's calls turned away at the door, given number 1: numbers of another length and numbers that no call leaves, to a
--- file and to a frame; a row of another length; no room for the numbers of its events
+-- a host's calls turned away at the door, given number 1: numbers of another length and numbers that no call leaves, of
+-- a file call and a frame call; a row of another length; no room for the numbers of its events
 abbrev atDoor : List Move
 atDoor =
     numbered (filePut [] (replicate storeBytes 0) 1 (66 ∷ []))

@@ -1,5 +1,5 @@
--- The session as it stands, in memory: its rows are such as a call leaves, so that a host's call on it is the bank's own
--- on the bank and the journal that stand. Assumes nothing.
+-- The session as it stands, in memory: its rows are such as a call leaves, so that a host's call on it is the bank's
+-- own on the bank and the journal that stand. Assumes nothing.
 use Prim.Native.Nat.{ℕ}
 use mathlib.Core.Bool.{true}
 use mathlib.Core.List.{List, List·Memᴰ·not-nil as in-none}

@@ -77,7 +77,7 @@ premise-parts (journalHanded i c row) s p = (p, tt)
 premise-parts (putsAway m buffer) s p = (p, tt)
 premise-parts (takesUp m image) s p = (tt, p)
 
-allowed : (ks : List Call) (s : Course) → AtEach Given ks s → AtEach Copy ks s → AllAllowed ks s
+pub allowed : (ks : List Call) (s : Course) → AtEach Given ks s → AtEach Copy ks s → AllAllowed ks s
 allowed [] s g c = tt
 allowed (k ∷ ks) s g c = (λ z. premise k s (g .0 z) (c .0 z), allowed ks (exec k s) (g .1) (c .1))
 

@@ -10,3 +10,4 @@ pub mod ImageSteps
 pub mod Theorem
 pub mod ClosingWords
 pub mod LodgedName
+pub mod Book
