@@ -76,7 +76,8 @@ use Rattle.exchange.specs.Course.{
   withJournal,
 }
 use Rattle.exchange.proofs.Calls.{file-done}
-use Rattle.exchange.proofs.Host.{frameLeft, frame-answered, host-frame, fileLeft, file-answered, host-file}
+use Rattle.bank_session.proofs.Host.{frame-answered}
+use Rattle.exchange.proofs.Host.{frameLeft, host-frame, fileLeft, file-answered, host-file}
 use Rattle.frame.proofs.Theorems.{data-read, reply-read}
 use Rattle.exchange.proofs.Events.{verdict-refuses, mailbox-short, case-empties}
 use Rattle.exchange.proofs.Told.{Proper, AllProper, coded, done-confirmed}

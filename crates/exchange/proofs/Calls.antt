@@ -8,11 +8,8 @@ use native.Mathlib.Decide.{ℕ-discrete}
 use native.Mathlib.Omega.{arith}
 use borrow.Author.Tests.{eq-eqb, ne-eqb}
 use Rattle.bank_state.specs.State.{Bank}
-use Rattle.bank.specs.declared.call.FrameAnswer.{FrameAnswer}
-use Rattle.bank.specs.declared.call.FrameAnswer.the-variants as frameAnswer
 use Rattle.bank.specs.declared.mailbox.FileAnswer.{FileAnswer}
 use Rattle.bank.specs.declared.mailbox.FileAnswer.the-variants as fileAnswer
-use Rattle.bank.specs.Call.{frameNumber}
 use Rattle.bank.specs.Mailbox.{carryOutFile, fileNumber}
 use Rattle.exchange.specs.Course.{Call, Course, callNumber, carryOut, exec}
 
@@ -49,8 +46,3 @@ file-done fileAnswer.WrongLength b mailbox file mailboxes z = absurd (omega arit
 file-done fileAnswer.NoMailbox b mailbox file mailboxes z = absurd (omega arith)
 file-done fileAnswer.WrongFile b mailbox file mailboxes z = absurd (omega arith)
 file-done fileAnswer.MailboxFull b mailbox file mailboxes z = absurd (omega arith)
-
--- a frame call given none has a reply
-pub frame-replied : (a : FrameAnswer) → frameNumber a ≡ 0 → (n : ℕ) × (a ≡ frameAnswer.Reply n)
-frame-replied (frameAnswer.Reply n) z = (n, refl)
-frame-replied frameAnswer.WrongLength z = absurd (omega arith)

@@ -17,7 +17,7 @@ use Rattle.bank_session.proofs.Session.{not-taken}
 use Rattle.exchange.specs.Course.{Call, frameArrives, filePut, Course, callNumber, exec}
 use Rattle.exchange.specs.Terms.{InTurn}
 use Rattle.exchange.specs.Demand3.{Allowed}
-use Rattle.exchange.proofs.Host.{frame-away, frame-unsound, file-away, file-unsound}
+use Rattle.bank_session.proofs.Host.{frame-away, frame-unsound, file-away, file-unsound}
 use Rattle.exchange.proofs.Guards.{one-allowed, one-in-turn, one-stays}
 
 -- whatever else the call brings and is lent

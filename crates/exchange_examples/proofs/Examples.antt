@@ -53,7 +53,7 @@ use Rattle.exchange.specs.Terms.{Opened, Books, Booked, Order, nameOf, InBook, 
 use Rattle.exchange.specs.Demand3.{Allowed, AllAllowed}
 use Rattle.exchange.proofs.Calls.{carried, by-number}
 use Rattle.exchange.proofs.Guards.{put-allowed}
-use Rattle.exchange.proofs.Images.{put-taken}
+use Rattle.image_calls.proofs.Again.{put-taken}
 use Rattle.exchange_examples.proofs.Unfolded.{bothEnds, images}
 use Rattle.exchange_examples.proofs.Standing.{standing, standing-bank, standing-journal, right-start}
 use Rattle.exchange_examples.proofs.Checked.{

@@ -38,7 +38,8 @@ use Rattle.bank_history.proofs.OnRows.{on-rows}
 use Rattle.image_admitted.proofs.Theorems.{frame-admitted, file-admitted}
 use Rattle.exchange.specs.Course.{Call, Course, frameArrives, filePut, afterFile, exec}
 use Rattle.exchange.proofs.Calls.{numbered-stays, carried, by-number}
-use Rattle.exchange.proofs.Host.{frame-numbered, frame-kept, file-exec}
+use Rattle.bank_session.proofs.Host.{frame-numbered, frame-kept}
+use Rattle.exchange.proofs.Host.{file-exec}
 use Rattle.unit_state.specs.declared.record.Kind.{Kind}
 use Rattle.unit_state.specs.declared.record.Kind.the-variants as kind
 use Rattle.unit_state.specs.Records.{idsAt, headOf, bankTimeOf, idsOf, mailboxOf, sizeOf, bodyOf}
