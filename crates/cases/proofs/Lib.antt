@@ -1,3 +1,3 @@
 -- The theorem over the table of cases.
-pub mod Computing
+pub mod Quick
 pub mod Theorem

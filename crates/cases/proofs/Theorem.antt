@@ -1,12 +1,14 @@
--- Every row of the table of cases holds, by computation: each line of document 01 and of cards 5 and 6 by itself. Assumes
--- nothing.
-use mathlib.Core.List.{List, [], _∷_, _++_}
+-- Every row of the table of cases gives what is due, by computation: each line of document 01 and of cards 5 and 6 by
+-- itself. Assumes nothing.
 use mathlib.Core.Path.{refl}
+use Rattle.case_rows.specs.Rows.{Holds}
+use Rattle.case_rows.proofs.Computing.{frames, messages}
+use Rattle.case_rows.proofs.Tables.{listed, both, otherwise}
 use Rattle.cases.specs.Table.{
-  Case,
   largest,
   requestLengths,
   replyLengths,
+  come,
   timestampCases,
   idleCases,
   orderNumberCases,
@@ -19,68 +21,61 @@ use Rattle.cases.specs.Table.{
   fileCases,
   receiptCases,
   cases,
-  Holds,
-  none,
-  row,
 }
-use Rattle.cases.proofs.Computing.{frames, messages, calls}
+use Rattle.cases.proofs.Quick.{calls, quick, same}
 
-timestamps-hold : Holds timestampCases
+timestamps-hold : Holds quick timestampCases
 unfolding timestampCases calls
-timestamps-hold = row refl (row refl (row refl (row refl none)))
+timestamps-hold = listed timestampCases refl
 
-idle-hold : Holds idleCases
+idle-hold : Holds quick idleCases
 unfolding idleCases calls
-idle-hold = row refl (row refl none)
+idle-hold = listed idleCases refl
 
-order-numbers-hold : Holds orderNumberCases
+order-numbers-hold : Holds quick orderNumberCases
 unfolding orderNumberCases calls
-order-numbers-hold = row refl (row refl (row refl (row refl (row refl none))))
+order-numbers-hold = listed orderNumberCases refl
 
-series-hold : Holds seriesCases
+series-hold : Holds quick seriesCases
 unfolding seriesCases calls
-series-hold = row refl (row refl (row refl (row refl (row refl (row refl none)))))
+series-hold = listed seriesCases refl
 
-lengths-hold : Holds lengthCases
+lengths-hold : Holds quick lengthCases
 unfolding lengthCases largest requestLengths replyLengths frames messages
-lengths-hold = row refl (row refl (row refl none))
+lengths-hold = listed lengthCases refl
 
-segments-hold : Holds segmentCases
+segments-hold : Holds quick segmentCases
 unfolding segmentCases calls
-segments-hold = row refl (row refl none)
+segments-hold = listed segmentCases refl
 
-repeats-hold : Holds repeatCases
+repeats-hold : Holds quick repeatCases
 unfolding repeatCases calls
-repeats-hold = row refl (row refl none)
+repeats-hold = listed repeatCases refl
 
-last-marks-hold : Holds lastMarkCases
+last-marks-hold : Holds quick lastMarkCases
 unfolding lastMarkCases calls
-last-marks-hold = row refl (row refl none)
+last-marks-hold = listed lastMarkCases refl
 
-booked-hold : Holds bookedCases
+booked-hold : Holds quick bookedCases
 unfolding bookedCases calls
-booked-hold = row refl (row refl none)
+booked-hold = listed bookedCases refl
 
-files-hold : Holds fileCases
+files-hold : Holds quick fileCases
 unfolding fileCases calls
-files-hold = row refl (row refl none)
+files-hold = listed fileCases refl
 
-receipts-hold : Holds receiptCases
+receipts-hold : Holds quick receiptCases
 unfolding receiptCases calls
-receipts-hold = row refl none
+receipts-hold = listed receiptCases refl
 
--- two parts of a table
-both : {l m : List Case} → Holds l → Holds m → Holds (l ++ m)
-both none g = g
-both (row e f) g = row e (both f g)
-
-pub cases-hold : Holds cases
+pub cases-hold : Holds come cases
 unfolding cases
 cases-hold =
-    both timestamps-hold
+    otherwise same
+    (both timestamps-hold
     (both idle-hold
     (both order-numbers-hold
     (both series-hold
     (both lengths-hold
     (both segments-hold
-    (both repeats-hold (both last-marks-hold (both booked-hold (both files-hold receipts-hold)))))))))
+    (both repeats-hold (both last-marks-hold (both booked-hold (both files-hold receipts-hold))))))))))

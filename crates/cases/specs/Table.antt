@@ -1,18 +1,15 @@
--- Document 01, "Cases; starred ones are proved", and card 5's numbers: each row is what comes of its calls, and what
+-- Document 01, "Cases; starred ones are proved", and card 5's numbers: each row is what is asked of its calls, and what
 -- must come. The calls are `frameCall` and `fileCall`, on a bank with its whole stores: a fresh one where nothing else
--- is said.
+-- is said. The order of the refusals and the other limits: the table of `bank_cases`.
 use Prim.Native.Nat.{ℕ, _+_, max}
-use mathlib.Core.Path.{_≡_}
 use mathlib.Core.List.{List, [], _∷_, _++_, map}
 use lib.ListN.{length, replicate, set, take}
-use Rattle.frame_table.specs.declared.fields.Bits128.{Bits128}
 use Rattle.frame_table.specs.declared.fields.Fields.{Fields}
 use Rattle.octets.specs.Bytes.{number}
 use Rattle.frame_table.specs.Names.{segment, segments, transaction, returnCode, orderNumber, noFields}
 use Rattle.frame_reader.specs.Reader.{readReply}
 use Rattle.frame_writer.specs.Writer.{frameOf, replyRoom}
 use Rattle.message.specs.declared.codes.ReturnCode.the-variants as code
-use Rattle.message.specs.Codes.{asciiDigits}
 use Rattle.message.specs.Limits.{segmentBytes}
 use Rattle.message.specs.OrderNumbers.{orderNumberOf}
 use Rattle.message.specs.Requests.{uploadOpening, downloadOpening, uploadTransfer, downloadTransfer, receipt}
@@ -27,24 +24,9 @@ use Rattle.bank.specs.declared.call.FrameAnswer.{FrameAnswer}
 use Rattle.bank.specs.declared.call.FrameAnswer.the-variants.{Reply, WrongLength}
 use Rattle.bank.specs.Call.{frameInput, frameCall}
 use Rattle.bank.specs.Mailbox.{fileCall}
-
--- a row of the table
-pub record Case : Type 0 where
-  pub come : List ℕ
-  pub due : List ℕ
-
-infixl 4 _gives_
-abbrev pub _gives_ : List ℕ → List ℕ → Case
-come gives due = record { come = come; due = due }
+use Rattle.case_rows.specs.Rows.{Case, _gives_, clock, idOf, six}
 
 -- ---- what is called: subscriber 1 at bank time 1,000,000 or later, exchange number 1, lent ID bytes 0
-
-abbrev pub clock : ℕ
-clock = 1000000
-
--- the number of an accepted opening is the low half of its transaction ID
-abbrev pub idOf : ℕ → Bits128
-idOf n = record { high = 0; low = n }
 
 -- a call: a file of so many bytes goes into mailbox 1, or at a time the frame of a request with its data arrives
 pub data HostCall : Type 0 where
@@ -74,12 +56,20 @@ receipt0 = request clock (receipt 1 1 (idOf 0) 0) []
 abbrev pub startOf : Bank → BankState
 startOf b = bankState b (replicate storeBytes 0) (replicate storeBytes 0)
 
-abbrev pub start : BankState
-start = startOf fresh
-
 -- one that has accepted so many openings, so many of them uploads of subscriber 1, and has nothing of them left
 abbrev pub counting : ℕ → ℕ → BankState
 counting openings uploads = startOf (withOpenings openings (withSeries (set (fresh .series) 0 uploads) fresh))
+
+-- where calls start: fresh, before the last number of subscriber 1's series, before the last running number
+pub data Start : Type 0 where
+  new : Start
+  lastOfSeries : Start
+  lastOfAll : Start
+
+abbrev pub started : Start → BankState
+started new = startOf fresh
+started lastOfSeries = counting 1213055 1213055
+started lastOfAll = counting 4294967295 0
 
 -- ---- what comes of calls one after the other
 
@@ -88,7 +78,7 @@ abbrev pub replyIn : FrameAnswer → List ℕ → Fields
 replyIn (Reply n) buffer = readReply (take n buffer)
 replyIn WrongLength buffer = noFields
 
--- the bank after a call, and the replies so far, the newest first
+-- the bank after the calls, and their replies, the first one first
 pub record Played : Type 0 where
   pub bank : BankState
   pub replies : List Fields
@@ -105,33 +95,41 @@ unfoldable pub played : List HostCall → Played → Played
 played [] p = p
 played (c ∷ l) p = played l (called c p)
 
-abbrev pub afterFrom : BankState → List HostCall → Played
-afterFrom b l = played l (record { bank = b; replies = [] })
+abbrev pub after : Start → List HostCall → Played
+after s l = played l (record { bank = started s; replies = [] })
 
-abbrev pub after : List HostCall → Played
-after = afterFrom start
+-- what is asked: of each reply to calls from a start a number; how many orders are booked after the calls of a fresh
+-- bank; or numbers as they are
+pub data Question : Type 0 where
+  eachFrom : Start → (Fields → ℕ) → List HostCall → Question
+  booked : List HostCall → Question
+  numbers : List ℕ → Question
 
--- of each reply a number
-unfoldable pub eachFrom : BankState → (Fields → ℕ) → List HostCall → List ℕ
-eachFrom b g l = map g (afterFrom b l .replies)
+abbrev pub bookedIn : Played → ℕ
+bookedIn p = countOf (λ (e : Place). isBooked (e .used)) (p .bank .bank .places)
 
-abbrev pub each : (Fields → ℕ) → List HostCall → List ℕ
-each = eachFrom start
+abbrev pub come : Question → List ℕ
+come (eachFrom s g l) = map g (after s l .replies)
+come (booked l) = bookedIn (after new l) ∷ []
+come (numbers l) = l
+
+-- a row of the table
+abbrev pub Row : Type 0
+Row = Case Question (List ℕ)
+
+abbrev pub each : (Fields → ℕ) → List HostCall → Question
+each = eachFrom new
 
 -- the number of an accepted opening: the low half of its transaction ID
 abbrev pub runningNumber : Fields → ℕ
 runningNumber r = transaction r .low
 
 -- the return codes
-abbrev pub codesFrom : BankState → List HostCall → List ℕ
-codesFrom b = eachFrom b returnCode
+abbrev pub codesFrom : Start → List HostCall → Question
+codesFrom s = eachFrom s returnCode
 
-abbrev pub codes : List HostCall → List ℕ
-codes = codesFrom start
-
--- how many orders are booked after the calls
-unfoldable pub bookedAfter : List HostCall → ℕ
-bookedAfter l = countOf (λ (p : Place). isBooked (p .used)) (after l .bank .bank .places)
+abbrev pub codes : List HostCall → Question
+codes = codesFrom new
 
 -- the largest of some lengths
 unfoldable pub largest : List ℕ → ℕ
@@ -163,14 +161,10 @@ replyLengths =
     ∷ length (frameOf (refusal 1 1 code.MessageReplay) [])
     ∷ []
 
--- the six digits of a code, as the number of field 0D
-abbrev pub six : ℕ → ℕ
-six n = asciiDigits 6 n
-
 -- ---- the table, by document 01's lines
 
 -- in milliseconds: "Clock 1000: timestamps 700 and 1300 pass, 699 and 1301 get 091103."
-unfoldable pub timestampCases : List Case
+unfoldable pub timestampCases : List Row
 timestampCases =
     (codes (upload 700000 1 ∷ []) gives (six 0 ∷ []))
     ∷ (codes (upload 1300000 1 ∷ []) gives (six 0 ∷ []))
@@ -179,86 +173,86 @@ timestampCases =
     ∷ []
 
 -- in milliseconds: "open at 3,600, gone at 3,601"
-unfoldable pub idleCases : List Case
+unfoldable pub idleCases : List Row
 idleCases =
     (codes (upload clock 2 ∷ sentAt (clock + 3600000) 1 0 ∷ []) gives (six 0 ∷ six 0 ∷ []))
     ∷ (codes (upload clock 2 ∷ sentAt (clock + 3600001) 1 0 ∷ []) gives (six 0 ∷ six 91101 ∷ []))
     ∷ []
 
 -- "Order numbers 0, 35 (A00Z), 46,655 (AZZZ), 1,213,055": A is 65, Z 90, 0 is 48
-unfoldable pub orderNumberCases : List Case
+unfoldable pub orderNumberCases : List Row
 orderNumberCases =
-    ((orderNumberOf 0 ∷ []) gives (number (65 ∷ 48 ∷ 48 ∷ 48 ∷ []) ∷ []))
-    ∷ ((orderNumberOf 35 ∷ []) gives (number (65 ∷ 48 ∷ 48 ∷ 90 ∷ []) ∷ []))
-    ∷ ((orderNumberOf 46655 ∷ []) gives (number (65 ∷ 90 ∷ 90 ∷ 90 ∷ []) ∷ []))
-    ∷ ((orderNumberOf 1213055 ∷ []) gives (number (90 ∷ 90 ∷ 90 ∷ 90 ∷ []) ∷ []))
+    (numbers (orderNumberOf 0 ∷ []) gives (number (65 ∷ 48 ∷ 48 ∷ 48 ∷ []) ∷ []))
+    ∷ (numbers (orderNumberOf 35 ∷ []) gives (number (65 ∷ 48 ∷ 48 ∷ 90 ∷ []) ∷ []))
+    ∷ (numbers (orderNumberOf 46655 ∷ []) gives (number (65 ∷ 90 ∷ 90 ∷ 90 ∷ []) ∷ []))
+    ∷ (numbers (orderNumberOf 1213055 ∷ []) gives (number (90 ∷ 90 ∷ 90 ∷ 90 ∷ []) ∷ []))
     -- and the first opening's reply has the number 0
     ∷ (each orderNumber (upload clock 1 ∷ []) gives (orderNumberOf 0 ∷ []))
     ∷ []
 
 -- "Uploads of a subscriber and type now count from A000 on their own. Transaction IDs keep the common running number",
 -- "allowed up to 4,294,967,295. The limit of 1,213,056 in 061099 holds per series, the running number's end joins it."
-unfoldable pub seriesCases : List Case
+unfoldable pub seriesCases : List Row
 seriesCases =
     (each orderNumber (uploadBy 1 1 ∷ uploadBy 2 2 ∷ uploadBy 1 3 ∷ [])
     gives (orderNumberOf 0 ∷ orderNumberOf 0 ∷ orderNumberOf 1 ∷ []))
     ∷ (each runningNumber (uploadBy 1 1 ∷ uploadBy 2 2 ∷ uploadBy 1 3 ∷ []) gives (0 ∷ 1 ∷ 2 ∷ []))
     -- the last number of subscriber 1; then its uploads are refused, those of subscriber 2 and its downloads are not
-    ∷ (eachFrom (counting 1213055 1213055) orderNumber (uploadBy 1 1 ∷ []) gives (orderNumberOf 1213055 ∷ []))
-    ∷ (codesFrom (counting 1213055 1213055) (put 1 ∷ uploadBy 1 1 ∷ uploadBy 1 2 ∷ uploadBy 2 3 ∷ download ∷ [])
+    ∷ (eachFrom lastOfSeries orderNumber (uploadBy 1 1 ∷ []) gives (orderNumberOf 1213055 ∷ []))
+    ∷ (codesFrom lastOfSeries (put 1 ∷ uploadBy 1 1 ∷ uploadBy 1 2 ∷ uploadBy 2 3 ∷ download ∷ [])
     gives (six 0 ∷ six 61099 ∷ six 0 ∷ six 0 ∷ []))
     -- the last running number; then every opening is refused
-    ∷ (eachFrom (counting 4294967295 0) runningNumber (uploadBy 1 1 ∷ []) gives (4294967295 ∷ []))
-    ∷ (codesFrom (counting 4294967295 0) (put 1 ∷ uploadBy 1 1 ∷ uploadBy 1 2 ∷ download ∷ [])
+    ∷ (eachFrom lastOfAll runningNumber (uploadBy 1 1 ∷ []) gives (4294967295 ∷ []))
+    ∷ (codesFrom lastOfAll (put 1 ∷ uploadBy 1 1 ∷ uploadBy 1 2 ∷ download ∷ [])
     gives (six 0 ∷ six 61099 ∷ six 61099 ∷ []))
     ∷ []
 
 -- with a timestamp of 8 bytes: "Frame lengths: upload opening" 57, "largest request 303, largest reply 312."
-unfoldable pub lengthCases : List Case
+unfoldable pub lengthCases : List Row
 lengthCases =
-    ((length (frameOf (uploadOpening 1 1 (idOf 0) clock 1) []) ∷ []) gives (57 ∷ []))
-    ∷ ((largest requestLengths ∷ []) gives (303 ∷ []))
-    ∷ ((largest replyLengths ∷ []) gives (312 ∷ []))
+    (numbers (length (frameOf (uploadOpening 1 1 (idOf 0) clock 1) []) ∷ []) gives (57 ∷ []))
+    ∷ (numbers (largest requestLengths ∷ []) gives (303 ∷ []))
+    ∷ (numbers (largest replyLengths ∷ []) gives (312 ∷ []))
     ∷ []
 
 -- card 6: "Allow 31 segments", "091118 begins at 32"
-unfoldable pub segmentCases : List Case
+unfoldable pub segmentCases : List Row
 segmentCases =
     (codes (upload clock 31 ∷ []) gives (six 0 ∷ [])) ∷ (codes (upload clock 32 ∷ []) gives (six 91118 ∷ [])) ∷ []
 
 -- "N = 2, segment 1 twice: 000000, then 061101 with 1."
-unfoldable pub repeatCases : List Case
+unfoldable pub repeatCases : List Row
 repeatCases =
     (codes (upload clock 2 ∷ sent 1 0 ∷ sent 1 0 ∷ []) gives (six 0 ∷ six 0 ∷ six 61101 ∷ []))
     ∷ (each segment (upload clock 2 ∷ sent 1 0 ∷ sent 1 0 ∷ []) gives (0 ∷ 1 ∷ 1 ∷ []))
     ∷ []
 
 -- "N = 1, last mark 0: 091104, nothing booked."
-unfoldable pub lastMarkCases : List Case
+unfoldable pub lastMarkCases : List Row
 lastMarkCases =
     (codes (upload clock 1 ∷ sent 1 0 ∷ []) gives (six 0 ∷ six 91104 ∷ []))
-    ∷ ((bookedAfter (upload clock 1 ∷ sent 1 0 ∷ []) ∷ []) gives (0 ∷ []))
+    ∷ (booked (upload clock 1 ∷ sent 1 0 ∷ []) gives (0 ∷ []))
     ∷ []
 
 -- "N = 1, booked, segment repeated: 091101."
-unfoldable pub bookedCases : List Case
+unfoldable pub bookedCases : List Row
 bookedCases =
     (codes (upload clock 1 ∷ sent 1 1 ∷ sent 1 1 ∷ []) gives (six 0 ∷ six 0 ∷ six 91101 ∷ []))
-    ∷ ((bookedAfter (upload clock 1 ∷ sent 1 1 ∷ sent 1 1 ∷ []) ∷ []) gives (1 ∷ []))
+    ∷ (booked (upload clock 1 ∷ sent 1 1 ∷ sent 1 1 ∷ []) gives (1 ∷ []))
     ∷ []
 
 -- "File of 256 bytes: one segment; 257: two."
-unfoldable pub fileCases : List Case
+unfoldable pub fileCases : List Row
 fileCases =
     (each segments (put 256 ∷ download ∷ []) gives (1 ∷ []))
     ∷ (each segments (put 257 ∷ download ∷ []) gives (2 ∷ []))
     ∷ []
 
 -- "Receipt while d < N: 061101."
-unfoldable pub receiptCases : List Case
+unfoldable pub receiptCases : List Row
 receiptCases = (codes (put 257 ∷ download ∷ receipt0 ∷ []) gives (six 0 ∷ six 61101 ∷ [])) ∷ []
 
-unfoldable pub cases : List Case
+unfoldable pub cases : List Row
 cases =
     timestampCases
     ++ (idleCases
@@ -266,8 +260,3 @@ cases =
     ++ (seriesCases
     ++ (lengthCases
     ++ (segmentCases ++ (repeatCases ++ (lastMarkCases ++ (bookedCases ++ (fileCases ++ receiptCases)))))))))
-
--- every row holds
-pub data Holds : List Case → Type 0 where
-  none : Holds []
-  row : {c : Case} {l : List Case} → c .come ≡ c .due → Holds l → Holds (c ∷ l)

@@ -1,4 +1,4 @@
--- What the bank's two calls compute with, under one name: to unfold `calls` is to unfold all that its line lists.
+-- What the calls compute with: to unfold one of these names is to unfold all that its lines list.
 use Prim.Native.Nat.{ℕ}
 use Rattle.octets.specs.Bytes as octets
 use Rattle.frame_table.specs.Table as frameTable
@@ -20,7 +20,6 @@ use Rattle.bank_openings.specs.Openings as openings
 use Rattle.bank_uploads.specs.Uploads as uploads
 use Rattle.bank.specs.Call as bankCall
 use Rattle.bank.specs.Mailbox as bankMailbox
-use Rattle.cases.specs.Table as table
 
 unfoldable pub frames : ℕ
 unfolding octets.numberFrom octets.number octets.bytesOf octets.fieldBytes octets.overwrite
@@ -55,7 +54,3 @@ unfolding clocks.isIdle clocks.freed clocks.dropUpload clocks.dropUploads clocks
     openings.counted openings.countedUpload openings.openUpload openings.openDownload uploads.grown uploads.booked uploads.attempted
     bankCall.mailboxSegment bankCall.respond bankCall.lentRight bankCall.frameCall bankMailbox.fileRefusals bankMailbox.fileCall
 bank = 0
-
-unfoldable pub calls : ℕ
-unfolding frames messages bank table.called table.played table.eachFrom table.bookedAfter
-calls = 0

@@ -1,0 +1,2 @@
+-- What the tables of cases have in common.
+pub mod Rows
