@@ -1,0 +1,4 @@
+-- The theorem over the table of the bank's cases.
+pub mod Computing
+pub mod Quick
+pub mod Theorem

@@ -1,0 +1,434 @@
+-- Document 01, "Who can cause which refusal", as rows: the order of the lines ("Checked in the order given, from top to
+-- bottom"), the limits from both sides, and the host's numbers. A row of two neighbours is a request with the causes of
+-- both and, where that can be, of no other line; the upper one is answered. The calls are the host's on a session,
+-- `sessionFrameCall`, `sessionFileCall`, `putAway` and `takeUp`, on a bank as given. Digits stand here as in the paper.
+use Prim.Native.Nat.{ℕ, zero, suc, _-_, _^_}
+use mathlib.Core.Bool.{true}
+use mathlib.Core.List.{List, [], _∷_, _++_}
+use lib.ListN.{length, replicate}
+use Rattle.octets.specs.Bytes.{number}
+use Rattle.octets.specs.Texts.{ascii}
+use Rattle.frame_table.specs.declared.fields.Fields.{Fields}
+use Rattle.frame_table.specs.Names.{with}
+use Rattle.frame_table.specs.Table.{lastMarkTag, orderTypeTag}
+use Rattle.frame_writer.specs.Writer.{frameOf}
+use Rattle.message.specs.Requests.{uploadOpening, downloadOpening, uploadTransfer, downloadTransfer, receipt}
+use Rattle.journal.specs.Events.{noEvent}
+use Rattle.bank_state.specs.declared.state.Use.the-variants.{Open, Booked}
+use Rattle.bank_state.specs.declared.state.Place.{Place}
+use Rattle.bank_state.specs.declared.state.Download.{Download}
+use Rattle.bank_state.specs.State.{Nonce, Bank, noPlace, noDownload, noNonce, withClock, withOpenings, withSeries}
+use Rattle.bank_rows.specs.Layout.{stateSize}
+use Rattle.bank_rows.specs.State.{stored}
+use Rattle.bank.specs.Call.{FrameInput}
+use Rattle.bank_session.specs.Session.{LentSession, session, withCount, sessionFrameCall, sessionFileCall}
+use Rattle.image_calls.specs.Calls.{putAway, takeUp}
+use Rattle.case_rows.specs.Rows.{Case, _gives_, clock, idOf, six}
+
+-- ---- a bank as given
+
+-- an upload of subscriber s, by opening n: of 3 segments so many are taken, after so many attempts
+abbrev pub uploadOf : ℕ → ℕ → ℕ → ℕ → Place
+uploadOf s n taken attempts = record {
+  used = Open;
+  transaction = idOf n;
+  subscriber = s;
+  number = n;
+  segments = 3;
+  taken = taken;
+  attempts = attempts;
+  last = clock;
+  length = taken;
+}
+
+-- one just opened
+abbrev pub opened : ℕ → ℕ → Place
+opened s n = uploadOf s n 0 0
+
+-- an order of subscriber s, of 1 byte, booked
+abbrev pub booked : ℕ → ℕ → Place
+booked s n = record {
+  used = Booked;
+  transaction = idOf n;
+  subscriber = s;
+  number = n;
+  segments = 0;
+  taken = 0;
+  attempts = 0;
+  last = 0;
+  length = 1;
+}
+
+-- a download of subscriber s, by opening n: of 3 segments so many are delivered, after so many attempts
+abbrev pub downloadOf : ℕ → ℕ → ℕ → ℕ → Download
+downloadOf s n delivered attempts =
+    record {
+      used = true;
+      transaction = idOf n;
+      subscriber = s;
+      delivered = delivered;
+      attempts = attempts;
+      last = clock;
+    }
+
+-- one just opened
+abbrev pub loading : ℕ → ℕ → Download
+loading s n = downloadOf s n 1 0
+
+-- the nonce n with a timestamp, and with the clock's
+abbrev pub nonceAt : ℕ → ℕ → Nonce
+nonceAt timestamp n = record { used = true; value = idOf n; timestamp = timestamp }
+
+abbrev pub nonce : ℕ → Nonce
+nonce = nonceAt clock
+
+-- so many, by the openings from one on
+unfoldable pub from : {A : Type 0} → ℕ → ℕ → (ℕ → A) → List A
+from first zero f = []
+from first (suc n) f = f first ∷ from (suc first) n f
+
+-- these records, and free ones after them: so many in all
+abbrev pub filled : {A : Type 0} → ℕ → A → List A → List A
+filled n free l = l ++ replicate (n - length l) free
+
+-- "8 order places and 8 mailboxes", "64 nonces"; mailbox 1 is empty, the others hold 600 bytes, so 3 segments
+abbrev pub bankWith : List Place → List Download → List Nonce → Bank
+bankWith places downloads nonces = record {
+  clock = clock;
+  openings = 100;
+  series = replicate 8 100;
+  places = filled 8 noPlace places;
+  downloads = filled 8 noDownload downloads;
+  nonces = filled 64 noNonce nonces;
+  files = 0 ∷ replicate 7 600;
+}
+
+-- nothing open, booked or remembered
+abbrev pub idle : Bank
+idle = bankWith [] [] []
+
+-- subscriber 1 has 4 open uploads
+abbrev pub four : Bank
+four = bankWith (from 0 4 (opened 1)) [] []
+
+-- ---- the requests, all under exchange number 1
+
+-- an upload of n segments is opened, with a timestamp and a nonce
+abbrev pub opensUpload : ℕ → ℕ → ℕ → ℕ → Fields
+opensUpload s nonce timestamp n = uploadOpening s 1 (idOf nonce) timestamp n
+
+-- one of 1 segment by a subscriber, in time and with a nonce that is not remembered
+abbrev pub uploads : ℕ → Fields
+uploads s = opensUpload s 900 clock 1
+
+abbrev pub downloads : ℕ → Fields
+downloads s = downloadOpening s 1 (idOf 900) clock
+
+-- the same with another type
+abbrev pub typed : List ℕ → Fields → Fields
+typed letters q = with orderTypeTag (number letters) q
+
+-- segment s of the upload 0 of subscriber u, with a last mark
+abbrev pub sends : ℕ → ℕ → ℕ → Fields
+sends u s lastMark = uploadTransfer u 1 (idOf 0) s lastMark
+
+-- segment s of the download 0 of subscriber u, and its receipt with a code
+abbrev pub asks : ℕ → ℕ → Fields
+asks u s = downloadTransfer u 1 (idOf 0) s
+
+abbrev pub confirms : ℕ → ℕ → Fields
+confirms u c = receipt u 1 (idOf 0) c
+
+-- data of so many bytes
+abbrev pub bytes : ℕ → List ℕ
+bytes n = replicate n 7
+
+-- a timestamp that is not in time
+abbrev pub late : ℕ
+late = 699999
+
+-- ---- a call on its session
+
+-- the numbers of a session with this bank
+abbrev pub numbersOf : Bank → List ℕ
+numbersOf b = withCount (stored b (replicate stateSize 0)) 0
+
+-- a session with this bank, with so many records, and stores of so many bytes
+abbrev pub lending : ℕ → ℕ → ℕ → Bank → LentSession
+lending records orders mailboxes b =
+    session (numbersOf b) (replicate records noEvent) (replicate orders 0) (replicate mailboxes 0)
+
+-- "a journal in a lent row of 64 records", "stores of 63,488"
+abbrev pub sessionWith : Bank → LentSession
+sessionWith = lending 64 63488 63488
+
+-- a request at a bank time, with so many ID bytes and a reply buffer of so many, the other banks counting so many
+abbrev pub asking : ℕ → ℕ → ℕ → ℕ → Fields → List ℕ → FrameInput
+asking time ids buffer others q d = record {
+  time = time;
+  ids = replicate ids 0;
+  frame = frameOf q d;
+  buffer = replicate buffer 0;
+  others = others;
+}
+
+-- a call of the host
+pub data HostCall : Type 0 where
+  -- a request with its data, at a bank, the other banks counting so many: the code of its reply
+  codeWith : ℕ → Bank → Fields → List ℕ → HostCall
+  -- the same request with so many records, bytes in the stores of orders and of mailboxes, ID bytes, bytes in the reply
+  -- buffer, and at a bank time: its number
+  frameWith : ℕ → ℕ → ℕ → ℕ → ℕ → ℕ → HostCall
+  -- a file for a mailbox of so many bytes, with the numbers of a session, and a store of so many bytes: its number
+  fileWith : List ℕ → ℕ → ℕ → ℕ → HostCall
+  -- an image of no bytes is taken up, with a store of mailboxes of so many bytes: its number
+  takeUpWith : ℕ → HostCall
+  -- a session with this bank is put away in a buffer of so many bytes: its number
+  putAwayWith : Bank → ℕ → HostCall
+
+-- what comes of it
+abbrev pub come : HostCall → ℕ
+come (codeWith others b q d) = sessionFrameCall (sessionWith b) (asking clock 8 312 others q d) .code
+come (frameWith records orders mailboxes ids buffer time) =
+    sessionFrameCall (lending records orders mailboxes idle) (asking time ids buffer 6 (uploads 1) []) .number
+come (fileWith numbers store mailbox n) = sessionFileCall numbers mailbox (bytes n) (replicate store 0) .number
+come (takeUpWith mailboxes) = takeUp (lending 64 63488 mailboxes idle) [] .number
+come (putAwayWith b buffer) = putAway (sessionWith b) (replicate buffer 0) .number
+
+-- a row of the table
+abbrev pub Row : Type 0
+Row = Case HostCall ℕ
+
+-- the other three banks being idle, each counts the 2 that it is sure of
+abbrev pub codeOf : Bank → Fields → List ℕ → HostCall
+codeOf = codeWith 6
+
+-- ---- the order of the lines: what the upper of two neighbours answers
+
+unfoldable pub orderCases : List Row
+orderCases =
+    -- 091010 before 091003: a last mark outside its list, to an upload that is open for subscriber 9
+    (codeOf (bankWith (opened 9 0 ∷ []) [] []) (with lastMarkTag 2 (sends 9 1 1)) (bytes 1) gives six 091010)
+    -- a frame of 1,025 bytes of subscriber 9; one of 1,024 is read (its data is over 256 too: 091003 before 091009)
+    ∷ (codeOf idle (sends 9 1 1) (bytes 978) gives six 091010)
+    ∷ (codeOf idle (sends 9 1 1) (bytes 977) gives six 091003)
+    -- 091003 before 091009: 257 bytes to it
+    ∷ (codeOf (bankWith (opened 9 0 ∷ []) [] []) (sends 9 1 0) (bytes 257) gives six 091003)
+    -- 091009 before 091101: 257 bytes to a transaction that is not open
+    ∷ (codeOf idle (sends 1 1 0) (bytes 257) gives six 091009)
+    -- 091005 before 061002: type FUX, 0 segments
+    ∷ (codeOf idle (typed (ascii "FUX") (opensUpload 1 900 clock 0)) [] gives six 091005)
+    -- 061002 before 091118: "opening form of the other direction", 32 segments
+    ∷ (codeOf idle (typed (ascii "FDL") (opensUpload 1 900 clock 32)) [] gives six 061002)
+    -- 061002 before 091103, where 091118 cannot be: FUL in the download's form, or 0 segments, not in time
+    ∷ (codeOf idle (typed (ascii "FUL") (downloadOpening 2 1 (idOf 900) late)) [] gives six 061002)
+    ∷ (codeOf idle (opensUpload 1 900 late 0) [] gives six 061002)
+    -- 091118 before 091103: 32 segments, "timestamp not in time, or nonce remembered"
+    ∷ (codeOf idle (opensUpload 1 900 late 32) [] gives six 091118)
+    ∷ (codeOf (bankWith [] [] (nonce 900 ∷ [])) (opensUpload 1 900 clock 32) [] gives six 091118)
+    -- 091103 before 090005: "download, mailbox empty"
+    ∷ (codeOf idle (downloadOpening 1 1 (idOf 900) late) [] gives six 091103)
+    ∷ (codeOf (bankWith [] [] (nonce 900 ∷ [])) (downloads 1) [] gives six 091103)
+    -- 091103 before 091119, where 090005 cannot be: an upload of a subscriber with 4 open
+    ∷ (codeOf four (opensUpload 1 900 late 1) [] gives six 091103)
+    ∷ (codeOf (bankWith (from 0 4 (opened 1)) [] (nonce 900 ∷ [])) (uploads 1) [] gives six 091103)
+    -- 090005 before 091119: a download of a subscriber with 4 open, its mailbox empty
+    ∷ (codeOf four (downloads 1) [] gives six 090005)
+    -- 090005 before 061099, where 091119 is not: the mailbox empty, 8 open
+    ∷ (codeOf (bankWith (from 0 4 (opened 3)) (from 4 4 (loading 2)) []) (downloads 1) [] gives six 090005)
+    -- "061099, after 091119": 4 open of the subscriber, and "8 transactions open"
+    ∷ (codeOf (bankWith (from 0 4 (opened 1)) (from 4 4 (loading 2)) []) (uploads 1) [] gives six 091119)
+    -- "an upload with 8 places in use"
+    ∷ (codeOf (bankWith (from 0 4 (opened 1) ++ from 4 4 (booked 1)) [] []) (uploads 1) [] gives six 091119)
+    -- "64 nonces remembered"
+    ∷ (codeOf (bankWith (from 0 4 (opened 1)) [] (from 0 64 nonce)) (uploads 1) [] gives six 091119)
+    -- "The limit of 1,213,056 ... holds per series, the running number's end joins it"
+    ∷ (codeOf (withSeries (replicate 8 1213056) four) (uploads 1) [] gives six 091119)
+    ∷ (codeOf (withOpenings 4294967296 four) (uploads 1) [] gives six 091119)
+    -- the share of four banks
+    ∷ (codeWith 14 four (uploads 1) [] gives six 091119)
+    ∷ []
+
+-- No request meets two of the lines 091119 and 091101 (an opening, a transaction's request), 091101 and 061101 (not
+-- open, open), 061101 and 091102 (the first five attempts, the sixth), 091102 and 011101 (does not fit, fits), 011101
+-- and 091104 (below N, N). A last mark cancels only where the segment fits: else the request is a recovery attempt.
+
+-- the upload of subscriber 1 with so many segments of 3 taken, after so many attempts
+abbrev pub sending : ℕ → ℕ → Bank
+sending taken attempts = bankWith (uploadOf 1 0 taken attempts ∷ []) [] []
+
+-- the download of subscriber 2 with so many segments of 3 delivered, after so many attempts
+abbrev pub fetching : ℕ → ℕ → Bank
+fetching delivered attempts = bankWith [] (downloadOf 2 0 delivered attempts ∷ []) []
+
+unfoldable pub transactionCases : List Row
+transactionCases =
+    -- 091101: "transaction ID not open for this subscriber": of none, of another, booked
+    (codeOf idle (sends 1 1 0) (bytes 1) gives six 091101)
+    ∷ (codeOf (sending 1 0) (sends 2 2 0) (bytes 1) gives six 091101)
+    ∷ (codeOf (bankWith (booked 1 0 ∷ []) [] []) (sends 1 1 1) (bytes 1) gives six 091101)
+    -- "With k segments taken of N, only segment k + 1 fits", in the last place too
+    ∷ (codeOf (sending 1 5) (sends 1 2 0) (bytes 1) gives six 000000)
+    ∷ (codeOf (sending 2 5) (sends 1 3 1) (bytes 1) gives six 000000)
+    ∷ (codeOf (bankWith (from 1 7 (booked 2) ++ (opened 1 0 ∷ [])) [] []) (sends 1 1 0) (bytes 1) gives six 000000)
+    -- "The first five get 061101 ...; the sixth gets 091102"
+    ∷ (codeOf (sending 1 4) (sends 1 1 0) (bytes 1) gives six 061101)
+    ∷ (codeOf (sending 1 5) (sends 1 1 0) (bytes 1) gives six 091102)
+    -- 061101 and 091102, not 011101: below N with last mark 1, but not k + 1
+    ∷ (codeOf (sending 1 4) (sends 1 1 1) (bytes 1) gives six 061101)
+    ∷ (codeOf (sending 1 5) (sends 1 1 1) (bytes 1) gives six 091102)
+    -- 061101 and 091102, not 091104: N with last mark 0, but not k + 1
+    ∷ (codeOf (sending 1 4) (sends 1 3 0) (bytes 1) gives six 061101)
+    ∷ (codeOf (sending 1 5) (sends 1 3 0) (bytes 1) gives six 091102)
+    -- "the wrong form for its direction included"
+    ∷ (codeOf (sending 1 4) (asks 1 2) [] gives six 061101)
+    ∷ (codeOf (sending 1 5) (confirms 1 0) [] gives six 091102)
+    -- 011101: "fitting segment below N with last mark 1"; 091104: "fitting segment N with last mark 0"
+    ∷ (codeOf (sending 1 5) (sends 1 2 1) (bytes 1) gives six 011101)
+    ∷ (codeOf (sending 2 5) (sends 1 3 0) (bytes 1) gives six 091104)
+    -- a download: "segment d + 1 (up to N) fits; 1 to d are sent again but count as recovery attempts"
+    ∷ (codeOf (fetching 1 5) (asks 2 2) [] gives six 000000)
+    ∷ (codeOf (fetching 1 4) (asks 2 1) [] gives six 000000)
+    ∷ (codeOf (fetching 1 5) (asks 2 1) [] gives six 091102)
+    ∷ (codeOf (fetching 1 4) (asks 2 3) [] gives six 061101)
+    ∷ (codeOf (fetching 1 5) (asks 2 3) [] gives six 091102)
+    ∷ (codeOf (fetching 3 4) (asks 2 4) [] gives six 061101)
+    ∷ (codeOf (fetching 1 4) (asks 2 0) [] gives six 061101)
+    ∷ (codeOf (fetching 1 4) (sends 2 2 0) (bytes 1) gives six 061101)
+    -- "A receipt fits when d = N. Code 0 is answered 011000", "Code 1 is answered 011001"
+    ∷ (codeOf (fetching 2 4) (confirms 2 0) [] gives six 061101)
+    ∷ (codeOf (fetching 2 5) (confirms 2 0) [] gives six 091102)
+    ∷ (codeOf (fetching 3 5) (confirms 2 0) [] gives six 011000)
+    ∷ (codeOf (fetching 3 5) (confirms 2 1) [] gives six 011001)
+    ∷ []
+
+-- ---- the limits, from below and from above (those of timestamps, idle time, segments, series and running numbers: in
+-- the table of `cases`)
+
+unfoldable pub limitCases : List Row
+limitCases =
+    -- "a value outside its list": a receipt code of 2, a small letter in an order type; "Values over"
+    -- 253,402,300,799,999 "in a frame get 091010"
+    (codeOf (fetching 3 0) (confirms 2 2) [] gives six 091010)
+    ∷ (codeOf idle (typed (ascii "FUl") (uploads 1)) [] gives six 091010)
+    ∷ (codeOf idle (opensUpload 1 900 253402300800000 1) [] gives six 091010)
+    ∷ (codeOf idle (opensUpload 1 900 253402300799999 1) [] gives six 091103)
+    -- "Subscribers are 1 to 8"
+    ∷ (codeOf idle (uploads 1) [] gives six 000000)
+    ∷ (codeOf idle (uploads 8) [] gives six 000000)
+    ∷ (codeOf idle (uploads 0) [] gives six 091003)
+    ∷ (codeOf idle (uploads 9) [] gives six 091003)
+    -- "256 data bytes pass, 257 get 091009"
+    ∷ (codeOf (sending 1 0) (sends 1 2 0) (bytes 256) gives six 000000)
+    ∷ (codeOf (sending 1 0) (sends 1 2 0) (bytes 257) gives six 091009)
+    -- "remembered, against all subscribers, while its timestamp is at most" 300,000 "behind the clock"
+    ∷ (codeOf (bankWith [] [] (nonceAt 700000 900 ∷ [])) (uploads 2) [] gives six 091103)
+    ∷ (codeOf (bankWith [] [] (nonceAt 699999 900 ∷ [])) (uploads 2) [] gives six 000000)
+    -- "the subscriber has 4 open transactions": 3 and 4, uploads, downloads, and both; and 4 of another
+    ∷ (codeOf (bankWith (from 0 3 (opened 1)) [] []) (uploads 1) [] gives six 000000)
+    ∷ (codeOf four (uploads 1) [] gives six 091119)
+    ∷ (codeOf (bankWith [] (from 4 3 (loading 2)) []) (downloads 2) [] gives six 000000)
+    ∷ (codeOf (bankWith [] (from 4 4 (loading 2)) []) (downloads 2) [] gives six 091119)
+    ∷ (codeOf (bankWith (opened 2 0 ∷ []) (from 4 2 (loading 2)) []) (downloads 2) [] gives six 000000)
+    ∷ (codeOf (bankWith (opened 2 0 ∷ opened 2 1 ∷ []) (from 4 2 (loading 2)) []) (downloads 2) [] gives six 091119)
+    ∷ (codeOf four (uploads 2) [] gives six 000000)
+    -- "8 transactions open": 7 and 8
+    ∷ (codeOf (bankWith (from 0 4 (opened 3)) (from 4 3 (loading 2)) []) (uploads 1) [] gives six 000000)
+    ∷ (codeOf (bankWith (from 0 4 (opened 3)) (from 4 4 (loading 2)) []) (uploads 1) [] gives six 061099)
+    ∷ (codeOf (bankWith (from 0 4 (opened 3)) (from 4 3 (loading 2)) []) (downloads 4) [] gives six 000000)
+    ∷ (codeOf (bankWith (from 0 4 (opened 3)) (from 4 4 (loading 2)) []) (downloads 4) [] gives six 061099)
+    -- "an upload with 8 places in use": 7 and 8; a download needs none
+    ∷ (codeOf (bankWith (from 0 7 (booked 1)) [] []) (uploads 1) [] gives six 000000)
+    ∷ (codeOf (bankWith (from 0 8 (booked 1)) [] []) (uploads 1) [] gives six 061099)
+    ∷ (codeOf (bankWith (from 0 8 (booked 1)) [] []) (downloads 2) [] gives six 000000)
+    -- "64 nonces remembered": 63 and 64; one of them forgotten; 091103 by the last of 64
+    ∷ (codeOf (bankWith [] [] (from 0 63 nonce)) (uploads 1) [] gives six 000000)
+    ∷ (codeOf (bankWith [] [] (from 0 64 nonce)) (uploads 1) [] gives six 061099)
+    ∷ (codeOf (bankWith [] [] (nonceAt late 64 ∷ from 0 63 nonce)) (uploads 1) [] gives six 000000)
+    ∷ (codeOf (bankWith [] [] (from 0 64 nonce)) (opensUpload 1 63 clock 1) [] gives six 091103)
+    ∷ []
+
+-- card 13: "A bank with two or more open may open another only while the sum, over the four banks, of the larger of 2
+-- and its open transactions is below 16, else it is 061099": what the others count, and so many open of subscriber 3
+abbrev pub sharing : ℕ → ℕ → HostCall
+sharing others n = codeWith others (bankWith (from 0 n (opened 3)) [] []) (uploads 1) []
+
+unfoldable pub shareCases : List Row
+shareCases =
+    (sharing 13 2 gives six 000000)
+    ∷ (sharing 14 2 gives six 061099)
+    ∷ (sharing 12 3 gives six 000000)
+    ∷ (sharing 13 3 gives six 061099)
+    -- "each bank is sure of two"
+    ∷ (sharing 14 1 gives six 000000)
+    ∷ (sharing 16 1 gives six 000000)
+    ∷ (sharing 16 0 gives six 000000)
+    ∷ []
+
+-- ---- the host's numbers ("a number, nothing changed, clock included")
+
+-- 1: "a lent length differs from the above or is too short for what is to be written"
+unfoldable pub frameCases : List Row
+frameCases =
+    (frameWith 64 63488 63488 8 312 clock gives 0)
+    ∷ (frameWith 63 63488 63488 8 312 clock gives 1)
+    ∷ (frameWith 65 63488 63488 8 312 clock gives 1)
+    ∷ (frameWith 64 63487 63488 8 312 clock gives 1)
+    ∷ (frameWith 64 63489 63488 8 312 clock gives 1)
+    ∷ (frameWith 64 63488 63487 8 312 clock gives 1)
+    ∷ (frameWith 64 63488 63489 8 312 clock gives 1)
+    ∷ (frameWith 64 63488 63488 7 312 clock gives 1)
+    ∷ (frameWith 64 63488 63488 9 312 clock gives 1)
+    ∷ (frameWith 64 63488 63488 8 311 clock gives 1)
+    ∷ (frameWith 64 63488 63488 8 313 clock gives 0)
+    -- card 3: "Values over 253,402,300,799,999 ... as bank or client time number 1"
+    ∷ (frameWith 64 63488 63488 8 312 253402300799999 gives 0)
+    ∷ (frameWith 64 63488 63488 8 312 253402300800000 gives 1)
+    ∷ []
+
+-- a store of so many bytes, a mailbox, and a file of so many bytes; mailbox 1 is empty
+abbrev pub file : ℕ → ℕ → ℕ → HostCall
+file = fileWith (numbersOf idle)
+
+unfoldable pub fileCases : List Row
+fileCases =
+    -- 1 before 2: mailbox 9
+    (file 63487 9 1 gives 1)
+    ∷ (file 63489 9 1 gives 1)
+    ∷ (fileWith [] 63488 9 1 gives 1)
+    -- 2 before 3: "mailbox not 1 to 8", "file of 0 or over" 7,936 "bytes"
+    ∷ (file 63488 9 0 gives 2)
+    ∷ (file 63488 0 7937 gives 2)
+    -- 3 before 4: mailboxes 2 to 8 hold a file
+    ∷ (file 63488 2 0 gives 3)
+    ∷ (file 63488 8 7937 gives 3)
+    -- 4: "mailbox holds a file"
+    ∷ (file 63488 2 1 gives 4)
+    ∷ (file 63488 8 1 gives 4)
+    -- each limit of an empty mailbox
+    ∷ (file 63488 1 0 gives 3)
+    ∷ (file 63488 1 1 gives 0)
+    ∷ (file 63488 1 7936 gives 0)
+    ∷ (file 63488 1 7937 gives 3)
+    ∷ []
+
+-- ---- images: "with number 9 after number 1"
+
+-- a clock that 8 bytes do not hold: no session of the list
+abbrev pub beyond : Bank
+beyond = withClock (2 ^ 64) idle
+
+unfoldable pub imageCases : List Row
+imageCases =
+    -- 1 before 9: a store of another length, a buffer too short
+    (takeUpWith 63487 gives 1)
+    ∷ (putAwayWith beyond 0 gives 1)
+    -- 9: "out of form", "outside that list"
+    ∷ (takeUpWith 63488 gives 9)
+    ∷ (putAwayWith beyond 200000 gives 9)
+    ∷ []
+
+unfoldable pub bankCases : List Row
+bankCases =
+    orderCases
+    ++ (transactionCases ++ (limitCases ++ (shareCases ++ (frameCases ++ (fileCases ++ imageCases)))))
