@@ -1,0 +1,2 @@
+-- The client's numbers, steps and closing words, row by row.
+pub mod Table
