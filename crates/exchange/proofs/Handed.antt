@@ -1,19 +1,16 @@
 -- The journal handed to a run: what it makes of the run, and that what it says of it is so. Assumes nothing.
 use Prim.Native.Nat.{ℕ, _≤_}
-use mathlib.Core.Bool.{Bool, true, false, cond}
+use mathlib.Core.Bool.{true}
 use mathlib.Core.List.{List}
 use mathlib.Core.Path.{_≡_, refl, sym, ap, _∙_, subst}
 use native.Mathlib.Decide.{ℕ-discrete}
 use native.Mathlib.Omega.{arith}
-use lib.Dec.{eqb}
-use lib.ListN.{length}
 use borrow.Author.Tests.{eq-eqb, ne-eqb}
 use Rattle.frame_table.specs.Names.{subscriber, orderType, transaction, orderNumber, form}
 use Rattle.octets.proofs.Tests.{never}
 use Rattle.journal.specs.declared.event.Event.{Event}
 use Rattle.journal.specs.declared.event.Found.{Found}
 use Rattle.journal.specs.declared.event.Found.the-variants as found
-use Rattle.journal.specs.Events.{recordCount}
 use Rattle.journal.specs.Row.{Journal, lookup}
 use Rattle.journal.proofs.Lookup.{same-name}
 use Rattle.bank_history.specs.History.{Exchange, BankCall, isBooking, ever, pastOf}

@@ -2,7 +2,7 @@
 -- own on the bank and the journal that stand. Assumes nothing.
 use Prim.Native.Nat.{ℕ}
 use mathlib.Core.Bool.{true}
-use mathlib.Core.List.{List, List·Memᴰ·not-nil as in-none}
+use mathlib.Core.List.{List, [], _∷_, List·Memᴰ·not-nil as in-none}
 use mathlib.Core.Path.{_≡_, sym, ap, _∙_, subst}
 use lib.ListN.{length, replicate}
 use Rattle.journal.specs.Row.{Journal}
@@ -37,8 +37,9 @@ use Rattle.exchange.specs.Course.{
   callNumber,
   carryOut,
   exec,
+  after,
 }
-use Rattle.exchange.specs.Demand3.{Premise, Allowed}
+use Rattle.exchange.specs.Demand3.{Premise, Allowed, AllAllowed}
 use Rattle.exchange.proofs.Calls.{by-number}
 use Rattle.exchange.proofs.Host.{host-frame, host-file}
 use Rattle.exchange.proofs.Images.{Written, put-written, taken-stays}
@@ -113,3 +114,19 @@ right-carried (takesUp m image) s v q z = subst Right (sym (taken-stays m image 
 
 pub right-next : (k : Call) (s : Course) → Right s → Allowed k s → Right (exec k s)
 right-next k s v a = by-number k s Right v (λ z. right-carried k s v (a z) z)
+
+-- ---- after every list of allowed calls there is a session to lend: the premises of a frame and of a file can be met
+
+right-after : (ks : List Call) (s : Course) → Right s → AllAllowed ks s → Right (after ks s)
+unfolding after
+right-after [] s v a = v
+right-after (k ∷ ks) s v a = right-after ks (exec k s) (right-next k s v (a .0)) (a .1)
+
+-- whose numbers are such as a call leaves
+pub lendable : (ks : List Call) → AllAllowed ks start → let s = after ks start in
+    (m : LentSession) × (stateOf (bankIn m) ≡ s .bank) × (journalIn m ≡ s .journal) × (length (m .rows) ≡ sessionSize)
+    × (isSound (bankRows (m .rows)) ≡ true)
+lendable ks a =
+    let s = after ks start in
+    let v = right-after ks start right-start a .state in
+    (standing s, standing-bank s v, standing-journal s v, standing-long s v, standing-sound s v)
