@@ -161,7 +161,7 @@ fn lent_right(orders: usize, mailboxes: usize, ids: usize, buffer: usize, time: 
     time <= LAST_TIME
 }
 
-// A request, read, arrives at a bank time, with the rows of a bank, the ID bytes, both stores and the reply buffer lent;
+// A request, read, arrives at a bank time, with a bank's rows, the ID bytes, both stores and the reply buffer lent;
 // `bytes` are its data.
 pub fn answer_request(
     rows: &mut [u64],

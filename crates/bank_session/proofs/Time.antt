@@ -1,4 +1,4 @@
--- The width of a call's time: the walks by hand of `frame_arrives` and `frame_held` have it from here.
+-- The width of a call's time: the walk by hand of `frame_arrives` has it from here.
 use Prim.Native.Nat.{ℕ, _<_, _^_}
 use mir.Syntax.{Width, w64}
 use mir.Val.{bits}

@@ -1,5 +1,5 @@
-// The host's calls on a session: a frame arrives, and a file goes into a mailbox. `frame_arrives` and `frame_held`
-// alone have the journal's row; what they call has its length.
+// The host's calls on a session: a frame arrives, and a file goes into a mailbox. `frame_arrives` alone has the
+// journal's row; what it calls has its length, and serves rows that are held as numbers.
 use crate::layout::EVENTS_AT;
 use crate::layout::SESSION_SIZE;
 use bank::call::FrameAnswer;
@@ -35,12 +35,6 @@ pub struct FrameCore {
     pub batch: Batch,
 }
 
-// The answer of a frame call, and the row after it.
-pub struct FrameHeld {
-    pub out: FrameOut,
-    pub row: [Event; RECORD_COUNT],
-}
-
 // Whether events are entered after so many in a row of so many records.
 fn takes_events(records: usize, events: u64) -> bool
     ensures { λ r. ⌜ r ≡ takesEvents records events ⌝ }
@@ -69,7 +63,7 @@ fn turned_away() -> FrameCore
 }
 
 // A frame arrives, with all of the session lent but the row, whose length is told.
-fn frame_core(
+pub fn frame_core(
     rows: &mut [u64],
     records: usize,
     time: u64,
@@ -134,27 +128,6 @@ pub fn frame_arrives(
     let c = frame_core(rows, row.len(), time, ids, frame, orders, mailboxes, buffer);
     enter(row, c.before, c.clock, c.batch);
     c.out
-}
-
-// The same with the row by value, for programs.
-pub fn frame_held(
-    rows: &mut [u64],
-    row: [Event; RECORD_COUNT],
-    time: u64,
-    ids: &[u8],
-    frame: &[u8],
-    orders: &mut [u8],
-    mailboxes: &mut [u8],
-    buffer: &mut [u8],
-) -> FrameHeld
-    ensures { λ r. ⌜ sessionFrameCallOf (r .out)
-        (session (now (rows .exit)) (r .row) (now (orders .exit)) (now (mailboxes .exit))) (now (buffer .exit))
-        ≡ sessionFrameCall (session (now (rows .entry)) row (now (orders .entry)) (now (mailboxes .entry)))
-        (frameInput time (now (ids .entry)) (now (frame .entry)) (now (buffer .entry))) ⌝ }
-{
-    let mut lent = row;
-    let out = frame_arrives(rows, &mut lent, time, ids, frame, orders, mailboxes, buffer);
-    FrameHeld { out, row: lent }
 }
 
 // A file goes into a mailbox, with the session's numbers and the mailboxes' store lent.

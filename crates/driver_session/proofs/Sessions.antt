@@ -1,17 +1,21 @@
 -- Laws of the calls of records, and of the session that they make. Assumes nothing.
 use Prim.Native.Nat.{ℕ}
-use mathlib.Core.Path.{_≡_, refl, sym, ap, _∙_}
+use mathlib.Core.Path.{_≡_, refl, sym, ap, subst, _∙_}
 use mathlib.Core.Bool.{Bool, true, false, not, _&&_}
 use mathlib.Core.List.{List, [], _∷_, _++_}
+use lib.ListN.{replicate}
 use borrow.Author.Tests.{not-false}
 use Rattle.octets.proofs.Tests.{never}
-use Rattle.bank_state.specs.State.{fresh}
+use Rattle.bank_state.specs.State as bank
 use Rattle.bank_rows.specs.State.{bankOf}
 use Rattle.bank_rows.proofs.State.{fresh-rows}
 use Rattle.bank_session.specs.Session.{bankRows}
 use Rattle.unit_state.specs.declared.record.Kind.{Kind}
 use Rattle.unit_state.specs.declared.state.UnitState.{UnitState}
 use Rattle.unit_state.specs.Records.{callOf, isCall}
+use Rattle.unit_state.specs.State.{fresh}
+use Rattle.unit_rows.specs.Rows.{runsSize, noncesSize, rowSize, unitFrom}
+use Rattle.unit_rows.proofs.Rows.{fresh-unit}
 use Rattle.unit.specs.State.{Memory, State, stateOf}
 use Rattle.unit.specs.Call.{UnitCall, unitCall}
 use Rattle.driver_session.specs.Session.{unitAfter, allCalls, Calls, start, Session}
@@ -21,8 +25,11 @@ pub no-calls : (s : State) → Calls s s
 unfolding unitAfter allCalls
 no-calls s = record { records = []; each = refl; left = refl }
 
-pub start-calls : (u v : UnitState) (m : Memory) → u ≡ v → Calls (stateOf v m) (stateOf u m)
-start-calls u v m e = rw e (no-calls (stateOf v m))
+-- zeros are a fresh unit
+pub zeros-calls : (m : Memory) (after : State)
+    → Calls (stateOf (unitFrom (replicate runsSize 0) (replicate noncesSize 0) (replicate rowSize 0)) m) after
+    → Calls (stateOf fresh m) after
+zeros-calls m after h = subst (λ (u : UnitState). Calls (stateOf u m) after) fresh-unit h
 
 -- the call of the record r, which was tested as t
 pub one-call : (s : State) (r t : List ℕ) (k : Kind) (b : Bool) (o : UnitCall)
@@ -57,10 +64,10 @@ calls-on s t u a b = record {
 }
 
 -- what is lent to the calls is the session's own
-pub session-of : (u : UnitState) (m : Memory) → Calls start (stateOf u m) → Session u (m .bank .rows)
-session-of u m h = record { last = stateOf u m; calls = h; unit = refl; bank = refl }
+pub session-of : (u v : UnitState) (m : Memory) → u ≡ v → Calls start (stateOf v m) → Session u (m .bank .rows)
+session-of u v m e h = record { last = stateOf v m; calls = h; unit = e; bank = refl }
 
 -- the bank that a session starts with is fresh
-pub start-fresh : bankOf (bankRows (start .memory .bank .rows)) ≡ fresh
+pub start-fresh : bankOf (bankRows (start .memory .bank .rows)) ≡ bank.fresh
 unfolding start
 start-fresh = fresh-rows

@@ -11,6 +11,10 @@ use libc::STDIN_FILENO;
 use libc::STDOUT_FILENO;
 use octets::bytes::front;
 use unit::call::call;
+use unit_rows::events::ROW_SIZE;
+use unit_rows::runs::NONCES_SIZE;
+use unit_rows::runs::RUNS_SIZE;
+use unit_rows::whole::unit_of;
 use unit_state::record::RECORD_BYTES;
 use unit_state::record::ROOM_BYTES;
 use unit_state::record::call_of;
@@ -21,20 +25,13 @@ use unit_state::record::lent_length;
 use unit_state::record::size_of;
 use unit_state::state::ROOMS_BYTES;
 use unit_state::state::UnitState;
-use unit_state::state::fresh;
 ghost use mathlib.Core.Path.{_≡_};
 ghost use lib.ListN.{length};
 ghost use Rattle.bank_steps.specs.Lent.{lent};
 ghost use Rattle.bank_session.specs.Session.{sessionSize};
-ghost use Rattle.unit_state.specs.State.{fresh};
+ghost use Rattle.unit_rows.specs.Rows.{unitFrom};
 ghost use Rattle.unit.specs.State.{memory, stateOf};
 ghost use Rattle.driver_session.specs.Session.{Calls, Session};
-
-// Between two records: the unit, and whether the input may go on.
-struct Reading {
-    pub unit: UnitState,
-    pub more: bool,
-}
 
 // What a session leaves: the client runs with the journal, and the session's numbers.
 pub struct SessionEnd {
@@ -81,7 +78,9 @@ fn first(input: &[u8]) -> u8 {
 
 // One record: its call, the call's line, and whether the input may go on.
 fn step(
-    u: UnitState,
+    runs: &mut [u64; RUNS_SIZE],
+    nonces: &mut [u8; NONCES_SIZE],
+    row: &mut [u64; ROW_SIZE],
     n: u64,
     input: &mut [u8],
     output: &mut [u8],
@@ -92,24 +91,23 @@ fn step(
     files: &mut [u8],
     buffer: &mut [u8],
     room: &mut [u8],
-) -> Reading
+) -> bool
     ensures { λ r. ⌜ Calls
-        (stateOf u
+        (stateOf (unitFrom (now (runs .entry)) (now (nonces .entry)) (now (row .entry)))
         (memory (lent (now (rows .entry)) (now (orders .entry)) (now (mailboxes .entry)))
         (now (payloads .entry)) (now (files .entry)) (now (buffer .entry)) (now (room .entry))))
-        (stateOf (r .unit)
+        (stateOf (unitFrom (now (runs .exit)) (now (nonces .exit)) (now (row .exit)))
         (memory (lent (now (rows .exit)) (now (orders .exit)) (now (mailboxes .exit)))
         (now (payloads .exit)) (now (files .exit)) (now (buffer .exit)) (now (room .exit)))) ⌝ }
 {
     let size = read_record(input);
     if !is_call(call_of(front(input, size))) {
-        return Reading {
-            unit: u,
-            more: false,
-        };
+        return false;
     }
-    let o = call(
-        u,
+    let answer = call(
+        runs,
+        nonces,
+        row,
         front(input, size),
         rows,
         orders,
@@ -119,16 +117,16 @@ fn step(
         buffer,
         room,
     );
-    let unit = o.unit;
-    let answer = o.answer;
     let k = line(n, answer, buffer, front(room, lent_length(input)), output);
-    let more = io::write_all(STDOUT_FILENO, front(output, k));
-    Reading { unit, more }
+    io::write_all(STDOUT_FILENO, front(output, k))
 }
 
 // The calls of all records. Nothing says that an input ends, so the calls are counted up to a number that no run
 // reaches.
 fn read_all(
+    runs: &mut [u64; RUNS_SIZE],
+    nonces: &mut [u8; NONCES_SIZE],
+    row: &mut [u64; ROW_SIZE],
     input: &mut [u8],
     output: &mut [u8],
     rows: &mut [u64],
@@ -138,23 +136,23 @@ fn read_all(
     files: &mut [u8],
     buffer: &mut [u8],
     room: &mut [u8],
-) -> UnitState
-    ensures { λ r. ⌜ Calls
-        (stateOf fresh
+)
+    ensures { λ _. ⌜ Calls
+        (stateOf (unitFrom (now (runs .entry)) (now (nonces .entry)) (now (row .entry)))
         (memory (lent (now (rows .entry)) (now (orders .entry)) (now (mailboxes .entry)))
         (now (payloads .entry)) (now (files .entry)) (now (buffer .entry)) (now (room .entry))))
-        (stateOf r
+        (stateOf (unitFrom (now (runs .exit)) (now (nonces .exit)) (now (row .exit)))
         (memory (lent (now (rows .exit)) (now (orders .exit)) (now (mailboxes .exit)))
         (now (payloads .exit)) (now (files .exit)) (now (buffer .exit)) (now (room .exit)))) ⌝ }
 {
-    let unit = fresh();
-    let mut t = Reading { unit, more: true };
+    let mut more = true;
     let mut calls = 0;
-    while calls < u64::MAX && t.more {
+    while calls < u64::MAX && more {
         calls += 1;
-        let u = t.unit;
-        t = step(
-            u,
+        more = step(
+            runs,
+            nonces,
+            row,
             calls,
             input,
             output,
@@ -167,7 +165,6 @@ fn read_all(
             room,
         );
     }
-    t.unit
 }
 
 // Writes a closing table.
@@ -218,7 +215,13 @@ pub fn session() -> SessionEnd
     let mut files = [0u8; ROOMS_BYTES];
     let mut buffer = [0u8; REPLY_ROOM];
     let mut room = [0u8; ROOM_BYTES];
-    let unit = read_all(
+    let mut runs = [0u64; RUNS_SIZE];
+    let mut nonces = [0u8; NONCES_SIZE];
+    let mut row = [0u64; ROW_SIZE];
+    read_all(
+        &mut runs,
+        &mut nonces,
+        &mut row,
         &mut input,
         &mut output,
         &mut rows,
@@ -229,6 +232,7 @@ pub fn session() -> SessionEnd
         &mut buffer,
         &mut room,
     );
+    let unit = unit_of(&runs, &nonces, &row);
     close(unit, &mut output, &rows, &orders, &mailboxes, &files);
     SessionEnd { unit, rows }
 }

@@ -27,10 +27,12 @@ use script::MOVES_DAY;
 use script::Move;
 use script::move_at;
 use unit::call::call;
+use unit_rows::events::ROW_SIZE;
+use unit_rows::runs::NONCES_SIZE;
+use unit_rows::runs::RUNS_SIZE;
+use unit_rows::whole::unit_of;
 use unit_state::record::ROOM_BYTES;
 use unit_state::state::ROOMS_BYTES;
-use unit_state::state::UnitState;
-use unit_state::state::fresh;
 
 // Number i of the session's; 0 after the last.
 fn number_at(rows: &[u64], i: usize) -> u64 {
@@ -53,7 +55,15 @@ fn bank_numbers(rows: &[u64]) -> [u64; STATE_SIZE] {
 
 // Prints what stands before move i: the headings, with exercise C's each order's closing word, and after the last move
 // those of the runs that were handed the journal, and the book.
-fn say_before(i: u8, u: UnitState, rows: &[u64], orders: &[u8], files: &[u8]) {
+fn say_before(
+    i: u8,
+    runs: &[u64; RUNS_SIZE],
+    nonces: &[u8; NONCES_SIZE],
+    row: &[u64; ROW_SIZE],
+    rows: &[u64],
+    orders: &[u8],
+    files: &[u8],
+) {
     if i == 0 {
         io::write_all(
             STDOUT_FILENO,
@@ -69,9 +79,11 @@ fn say_before(i: u8, u: UnitState, rows: &[u64], orders: &[u8], files: &[u8]) {
             STDOUT_FILENO,
             b"exercise C: each order's closing word beside what the bank has\n",
         );
+        let u = unit_of(runs, nonces, row);
         say_results(u, &bank_numbers(rows), orders, files);
     } else if i == MOVES {
         let numbers = bank_numbers(rows);
+        let u = unit_of(runs, nonces, row);
         say_handed(u, &numbers, orders, files);
         say_book(&numbers);
     }
@@ -79,7 +91,9 @@ fn say_before(i: u8, u: UnitState, rows: &[u64], orders: &[u8], files: &[u8]) {
 
 // Plays a move on the unit, and prints its line.
 fn play_move(
-    u: UnitState,
+    runs: &mut [u64; RUNS_SIZE],
+    nonces: &mut [u8; NONCES_SIZE],
+    row: &mut [u64; ROW_SIZE],
     m: Move,
     mail: &mut [u8],
     rows: &mut [u64],
@@ -88,12 +102,14 @@ fn play_move(
     payloads: &mut [u8],
     files: &mut [u8],
     room: &mut [u8],
-) -> UnitState {
+) {
     let mut record = [0u8; RECORD_BYTES];
     let mut buffer = [0u8; REPLY_ROOM];
     put_move(&mut record, m, mail);
-    let o = call(
-        u,
+    let answer = call(
+        runs,
+        nonces,
+        row,
         &record,
         rows,
         orders,
@@ -103,16 +119,16 @@ fn play_move(
         &mut buffer,
         room,
     );
-    let answer = o.answer;
     say_line(m, message_of(mail, m), answer);
     hold_back(mail, m.fate, &record);
     keep(mail, answer, &buffer);
-    o.unit
 }
 
 // Plays the moves of the script from one on, up to another.
 fn play(
-    start: UnitState,
+    runs: &mut [u64; RUNS_SIZE],
+    nonces: &mut [u8; NONCES_SIZE],
+    row: &mut [u64; ROW_SIZE],
     first: u8,
     end: u8,
     mail: &mut [u8],
@@ -122,33 +138,47 @@ fn play(
     payloads: &mut [u8],
     files: &mut [u8],
     room: &mut [u8],
-) -> UnitState {
-    let mut u = start;
+) {
     let mut i = first;
     while i < end {
-        say_before(i, u, rows, orders, files);
+        say_before(i, runs, nonces, row, rows, orders, files);
         let m = move_at(i);
         i += 1;
-        u = play_move(u, m, mail, rows, orders, mailboxes, payloads, files, room);
+        play_move(
+            runs,
+            nonces,
+            row,
+            m,
+            mail,
+            rows,
+            orders,
+            mailboxes,
+            payloads,
+            files,
+            room,
+        );
     }
-    u
 }
 
 // The moves of a day, which has a bank's memory of its own: the second day takes up what the first put away.
 fn day(
-    start: UnitState,
+    runs: &mut [u64; RUNS_SIZE],
+    nonces: &mut [u8; NONCES_SIZE],
+    row: &mut [u64; ROW_SIZE],
     first: u8,
     end: u8,
     mail: &mut [u8],
     payloads: &mut [u8],
     files: &mut [u8],
     room: &mut [u8],
-) -> UnitState {
+) {
     let mut rows = [0u64; SESSION_SIZE];
     let mut orders = [0u8; STORE_BYTES];
     let mut mailboxes = [0u8; STORE_BYTES];
-    let u = play(
-        start,
+    play(
+        runs,
+        nonces,
+        row,
         first,
         end,
         mail,
@@ -159,8 +189,7 @@ fn day(
         files,
         room,
     );
-    say_before(end, u, &rows, &orders, files);
-    u
+    say_before(end, runs, nonces, row, &rows, &orders, files);
 }
 
 fn main() {
@@ -168,8 +197,13 @@ fn main() {
     let mut payloads = [0u8; ROOMS_BYTES];
     let mut files = [0u8; ROOMS_BYTES];
     let mut room = [0u8; ROOM_BYTES];
-    let u = day(
-        fresh(),
+    let mut runs = [0u64; RUNS_SIZE];
+    let mut nonces = [0u8; NONCES_SIZE];
+    let mut row = [0u64; ROW_SIZE];
+    day(
+        &mut runs,
+        &mut nonces,
+        &mut row,
         0,
         MOVES_DAY,
         &mut mail,
@@ -178,7 +212,9 @@ fn main() {
         &mut room,
     );
     day(
-        u,
+        &mut runs,
+        &mut nonces,
+        &mut row,
         MOVES_DAY,
         MOVES,
         &mut mail,

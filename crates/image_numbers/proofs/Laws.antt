@@ -101,7 +101,7 @@ kind-back Booked = refl
 kind-back Cancelled = refl
 kind-back Dropped = refl
 
-event-back : (e : Event) → true ≡ true → (r : List ℕ) → eventOf (eventNumbers e ++ r) ≡ e
+pub event-back : (e : Event) → true ≡ true → (r : List ℕ) → eventOf (eventNumbers e ++ r) ≡ e
 event-back e t r = rw (kind-back (e .kind))
 
 keep-every : (l : List Event) → keep (λ (e : Event). true) l ≡ l

@@ -27,7 +27,7 @@ fn number_of_kind(kind: Kind) -> u64
     }
 }
 
-fn kind_of(n: u64) -> Kind
+pub fn kind_of(n: u64) -> Kind
     ensures { λ r. ⌜ r ≡ kindOf n ⌝ }
 {
     match n {
@@ -40,7 +40,7 @@ fn kind_of(n: u64) -> Kind
 }
 
 // Writes an event's parts from a place on.
-fn put_event(e: Event, numbers: &mut [u64], at: usize)
+pub fn put_event(e: Event, numbers: &mut [u64], at: usize)
     requires { ⌜ at + eventWidth ≤ length (now numbers) ⌝ }
     ensures { λ _. ⌜ now (numbers .exit) ≡ overwrite (now (numbers .entry)) at (eventNumbers e) ⌝ }
 {

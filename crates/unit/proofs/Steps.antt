@@ -3,7 +3,7 @@ use Prim.Native.Nat.{ℕ, _+_, _-_, _*_, _≤_}
 use mathlib.Core.Bool.{Bool, true, false, not, cond}
 use mathlib.Core.List.{List}
 use mathlib.Core.Path.{_≡_, refl, sym, _∙_}
-use lib.ListN.{length}
+use lib.ListN.{length, set}
 use borrow.Author.Tests.{not-false}
 use borrow.Rule.Slice.PartMut.{putMid, midOf}
 use Rattle.message.specs.Limits.{fileBytes}
@@ -24,13 +24,13 @@ use Rattle.unit.specs.declared.call.RunOut.{RunOut}
 use Rattle.unit_state.specs.declared.state.Run.{Run}
 use Rattle.unit_state.specs.declared.state.UnitState.{UnitState}
 use Rattle.unit_state.specs.Records.{runOf, timeOf, nonceOf, bodyOf, isRun, callOf}
-use Rattle.unit_state.specs.State.{roomsBytes, runAt, withRun}
+use Rattle.unit_state.specs.State.{roomsBytes, unitOf, runAt}
 use Rattle.unit.specs.State.{Memory, State, memory, stateOf}
 use Rattle.unit.specs.Call.{
   UnitCall,
   Ready,
   roomsRight,
-  unitCallOf,
+  afterCall,
   runAnswer,
   journalAnswer,
   indexOf,
@@ -83,21 +83,21 @@ ran run i bank payloads files buffer room r e begin nonce body held payload out 
     rw (ea, er, es, ek, ← eb, ← en, ← ey, ← eh, ← ep, ← ec)
 
 -- the run taken out, called, and put back
-pub put-back : (u u′ : UnitState) (m m′ : Memory) (r : List ℕ) (e : Event) (i : ℕ) (out : RunOut)
+pub put-back : (u : UnitState) (runs′ : List Run) (m m′ : Memory) (r : List ℕ) (e : Event) (i : ℕ) (out : RunOut)
     → i ≡ indexOf r → runCallOf out m′ ≡ runCall e i (runAt (u .runs) i) m r
-    → u′ ≡ withRun u i (out .run)
-    → unitCallOf (record { unit = u′; answer = out .answer }) m′ ≡ runStep e (stateOf u m) r
+    → runs′ ≡ set (u .runs) i (out .run)
+    → afterCall (unitOf runs′ (u .journal)) m′ (out .answer) ≡ runStep e (stateOf u m) r
 unfolding runStep
-put-back u u′ m m′ r e i out at eo eu = rw (eu, ← at, ← eo)
+put-back u runs′ m m′ r e i out at eo eu = rw (eu, ← at, ← eo)
 
 -- the run taken out, handed the journal, and put back
-pub handed : (u u′ : UnitState) (m : Memory) (r : List ℕ) (i : ℕ) (out : JournalOutcome) (run′ : Run) (answer : Answer)
+pub handed : (u : UnitState) (runs′ : List Run) (m : Memory) (r : List ℕ) (i : ℕ) (out : JournalOutcome) (run′ : Run) (answer : Answer)
     → i ≡ indexOf r → journalCallOf out ≡ journalCall (runAt (u .runs) i .client .run) (u .journal)
-    → run′ ≡ withClient (runAt (u .runs) i) (out .client .run) → u′ ≡ withRun u i run′
+    → run′ ≡ withClient (runAt (u .runs) i) (out .client .run) → runs′ ≡ set (u .runs) i run′
     → answer ≡ journalAnswer (out .answer) (out .client .run)
-    → unitCallOf (record { unit = u′; answer = answer }) m ≡ journalStep (stateOf u m) r
+    → afterCall (unitOf runs′ (u .journal)) m answer ≡ journalStep (stateOf u m) r
 unfolding journalStep
-handed u u′ m r i out run′ answer at eo er eu ea = rw (ea, eu, er, ← at, ← eo)
+handed u runs′ m r i out run′ answer at eo er eu ea = rw (ea, eu, er, ← at, ← eo)
 
 -- a record that hands over the journal names one of the runs
 pub handed-run : (r : List ℕ) (k : Kind) → k ≡ callOf r → k ≡ kind.Journal → isRun (runOf r) ≡ true

@@ -49,7 +49,6 @@ use Rattle.unit_state.specs.declared.answer.Answer.the-variants.{
   Number,
   NoCall,
 }
-use Rattle.unit_state.specs.declared.answer.Called.{Called}
 use Rattle.unit.specs.declared.call.RunOut.{RunOut}
 use Rattle.unit_state.specs.declared.state.Run.{Run}
 use Rattle.unit_state.specs.declared.state.UnitState.{UnitState}
@@ -91,9 +90,6 @@ pub record UnitCall : Type 0 where
 
 abbrev pub afterCall : UnitState → Memory → Answer → UnitCall
 afterCall u m a = record { state = stateOf u m; answer = a }
-
-abbrev pub unitCallOf : Called → Memory → UnitCall
-unitCallOf r m = afterCall (r .unit) m (r .answer)
 
 -- the answers of the bank's two calls, of a client's, and of the journal handed to it; a run that ends as lodged names
 -- its order: "subscriber, type and number together"

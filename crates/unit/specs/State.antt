@@ -26,7 +26,7 @@ pub record State : Type 0 where
 abbrev pub stateOf : UnitState → Memory → State
 stateOf u m = record { unit = u; memory = m }
 
--- the session in them: the journal's row goes by value, all else is lent
+-- the session in them: the journal's row is the unit's, all else is the memory's
 abbrev pub sessionIn : State → LentSession
 sessionIn s =
     let bank = s .memory .bank in

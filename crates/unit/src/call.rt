@@ -4,7 +4,7 @@ use crate::images::image_call;
 use crate::images::take_up_call;
 use bank::call::FrameAnswer;
 use bank::mailbox::FileAnswer;
-use bank_session::calls::frame_held;
+use bank_session::calls::frame_core;
 use bank_session::calls::put_file;
 use bank_state::limits::ID_BYTES;
 use bank_state::store::append;
@@ -18,14 +18,21 @@ use client_run::run::NONCE_BYTES;
 use client_run::run::RunParameters;
 use client_run::run::order_name;
 use client_run::run::refusal_number;
+use journal::event::RECORD_COUNT;
 use message::limits::FILE_BYTES;
 use number_table::table::MAILBOX_FULL;
 use number_table::table::NO_MAILBOX;
 use number_table::table::WRONG_FILE;
 use number_table::table::WRONG_LENGTH;
 use octets::bytes::copy;
+use unit_rows::events::ROW_SIZE;
+use unit_rows::events::enter;
+use unit_rows::events::journal_of;
+use unit_rows::runs::NONCES_SIZE;
+use unit_rows::runs::RUNS_SIZE;
+use unit_rows::runs::run_at;
+use unit_rows::runs::set_run;
 use unit_state::answer::Answer;
-use unit_state::answer::Called;
 use unit_state::record::BANK_TIME_AT;
 use unit_state::record::Event;
 use unit_state::record::FIRST_AT;
@@ -48,9 +55,6 @@ use unit_state::record::call_of;
 use unit_state::record::number_at;
 use unit_state::state::ROOMS_BYTES;
 use unit_state::state::Run;
-use unit_state::state::UnitState;
-use unit_state::state::with_journal;
-use unit_state::state::with_run;
 ghost use mathlib.Core.Path.{_≡_};
 ghost use mathlib.Core.Bool.{true, cond};
 ghost use mathlib.Core.List.{List};
@@ -61,10 +65,13 @@ ghost use Rattle.bank_steps.specs.Lent.{Lent, lent};
 ghost use Rattle.client_run.specs.Run.{lentOf};
 ghost use Rattle.client.specs.Calls.{callOf, beginCall};
 ghost use Rattle.unit_state.specs.Records.{headOf, timeOf, nonceOf, runOf, isRun, runCount};
+ghost use Rattle.journal.specs.declared.event.Event as row-event;
+ghost use Rattle.unit_state.specs.declared.state.Run.{Run};
 ghost use Rattle.unit_state.specs.declared.state.UnitState.{UnitState};
-ghost use Rattle.unit_state.specs.State.{roomsBytes};
+ghost use Rattle.unit_state.specs.State.{roomsBytes, unitOf};
+ghost use Rattle.unit_rows.specs.Rows.{runsFrom, journalFrom, unitFrom};
 ghost use Rattle.unit.specs.State.{Memory, memory, stateOf};
-ghost use Rattle.unit.specs.Call.{Ready, roomsRight, afterCall, unitCallOf, frameAnswer, fileAnswer, runAnswer};
+ghost use Rattle.unit.specs.Call.{Ready, roomsRight, afterCall, frameAnswer, fileAnswer, runAnswer};
 ghost use Rattle.unit.specs.Call.{journalAnswer, frameStep, fileStep, indexOf, begins, paramsOf, eventCall};
 ghost use Rattle.unit.specs.Call.{roomCall, keeps, withClient, nextRun, keptPayloads, runCallOf, runCall};
 ghost use Rattle.unit.specs.Call.{runStep, journalStep, unitCall};
@@ -141,23 +148,23 @@ fn index_of(record: &[u8]) -> usize
 
 // A frame to the bank, with the unit's journal.
 fn frame_call(
-    u: UnitState,
+    row: &mut [u64; ROW_SIZE],
     record: &[u8],
     rows: &mut [u64],
     orders: &mut [u8],
     mailboxes: &mut [u8],
     buffer: &mut [u8],
-) -> Called
-    ensures { λ r. ⌜ ((p f room : List ℕ)
-        → unitCallOf r (memory (lent (now (rows .exit)) (now (orders .exit)) (now (mailboxes .exit))) p f
-        (now (buffer .exit)) room)
-        ≡ frameStep (stateOf u (memory (lent (now (rows .entry)) (now (orders .entry)) (now (mailboxes .entry))) p f
+) -> Answer
+    ensures { λ r. ⌜ ((runs : List Run) (p f room : List ℕ)
+        → afterCall (unitOf runs (journalFrom (now (row .exit))))
+        (memory (lent (now (rows .exit)) (now (orders .exit)) (now (mailboxes .exit))) p f (now (buffer .exit)) room) r
+        ≡ frameStep (stateOf (unitOf runs (journalFrom (now (row .entry))))
+        (memory (lent (now (rows .entry)) (now (orders .entry)) (now (mailboxes .entry))) p f
         (now (buffer .entry)) room)) (now («record» .entry))) ⌝ }
 {
-    let row = u.journal;
-    let o = frame_held(
+    let c = frame_core(
         rows,
-        row,
+        RECORD_COUNT,
         number_at(record, BANK_TIME_AT, TIME_BYTES),
         bytes_at(record, IDS_AT, ID_BYTES),
         body_of(Kind::Frame, record),
@@ -165,13 +172,11 @@ fn frame_call(
         mailboxes,
         buffer,
     );
-    let next = o.row;
-    let out = o.out;
+    let batch = c.batch;
+    enter(row, c.before, c.clock, batch);
+    let out = c.out;
     let answer = out.answer;
-    Called {
-        unit: with_journal(u, next),
-        answer: frame_answer(answer),
-    }
+    frame_answer(answer)
 }
 
 // A file into a mailbox.
@@ -416,50 +421,54 @@ fn run_event(
     }
 }
 
-// A call to the client run that a record names: it is taken out of the unit and put back.
+// A call to the client run that a record names: it is taken out of the numbers and put back.
 fn run_call(
-    u: UnitState,
+    runs: &mut [u64; RUNS_SIZE],
+    nonces: &mut [u8; NONCES_SIZE],
     event: Event,
     record: &[u8],
     payloads: &mut [u8],
     files: &mut [u8],
     buffer: &mut [u8],
-) -> Called
+) -> Answer
     requires { ⌜ Ready event (now «record») (now payloads) (now files) ⌝ }
-    ensures { λ r. ⌜ ((bank : Lent) (room : List ℕ)
-        → unitCallOf r (memory bank (now (payloads .exit)) (now (files .exit)) (now (buffer .exit)) room)
-        ≡ runStep event (stateOf u
+    ensures { λ r. ⌜ ((row : List row-event.Event) (bank : Lent) (room : List ℕ)
+        → afterCall (unitOf (runsFrom (now (runs .exit)) (now (nonces .exit))) row)
+        (memory bank (now (payloads .exit)) (now (files .exit)) (now (buffer .exit)) room) r
+        ≡ runStep event (stateOf (unitOf (runsFrom (now (runs .entry)) (now (nonces .entry))) row)
         (memory bank (now (payloads .entry)) (now (files .entry)) (now (buffer .entry)) room))
         (now («record» .entry))) ⌝ }
 {
     let i = index_of(record);
-    let run = u.runs[i];
+    let run = run_at(runs, nonces, i);
     let o = run_event(run, i, event, record, payloads, files, buffer);
     let next = o.run;
-    let answer = o.answer;
-    Called {
-        unit: with_run(u, i, next),
-        answer,
-    }
+    set_run(runs, nonces, i, next);
+    o.answer
 }
 
 // The journal is handed to the run that a record names.
-fn journal_call(u: UnitState, record: &[u8]) -> Called
+fn journal_call(
+    runs: &mut [u64; RUNS_SIZE],
+    nonces: &mut [u8; NONCES_SIZE],
+    row: &[u64; ROW_SIZE],
+    record: &[u8],
+) -> Answer
     requires { ⌜ isRun (runOf (now «record»)) ≡ true ⌝ }
-    ensures { λ r. ⌜ ((m : Memory) → unitCallOf r m ≡ journalStep (stateOf u m) (now («record» .entry))) ⌝ }
+    ensures { λ r. ⌜ ((m : Memory)
+        → afterCall (unitFrom (now (runs .exit)) (now (nonces .exit)) (now (row .entry))) m r
+        ≡ journalStep (stateOf (unitFrom (now (runs .entry)) (now (nonces .entry)) (now (row .entry))) m)
+        (now («record» .entry))) ⌝ }
 {
     let i = index_of(record);
-    let run = u.runs[i];
+    let run = run_at(runs, nonces, i);
     let client = run.client;
-    let row = u.journal;
-    let o = client.journal_held(row);
+    let held = journal_of(row);
+    let o = client.journal_held(held);
     let after = o.client;
     let answer = o.answer;
-    let next = with_client(run, after);
-    Called {
-        unit: with_run(u, i, next),
-        answer: journal_answer(answer, after),
-    }
+    set_run(runs, nonces, i, with_client(run, after));
+    journal_answer(answer, after)
 }
 
 // Whether the rooms lent for the runs and for images are of their lengths.
@@ -477,7 +486,9 @@ fn rooms_right(payloads: usize, files: usize, room: usize) -> bool
 
 // One call of a record on the unit. Rooms of another length get number 1.
 pub fn call(
-    u: UnitState,
+    runs: &mut [u64; RUNS_SIZE],
+    nonces: &mut [u8; NONCES_SIZE],
+    row: &mut [u64; ROW_SIZE],
     record: &[u8],
     rows: &mut [u64],
     orders: &mut [u8],
@@ -486,42 +497,27 @@ pub fn call(
     files: &mut [u8],
     buffer: &mut [u8],
     room: &mut [u8],
-) -> Called
-    ensures { λ r. ⌜ unitCallOf r
+) -> Answer
+    ensures { λ r. ⌜ afterCall (unitFrom (now (runs .exit)) (now (nonces .exit)) (now (row .exit)))
         (memory (lent (now (rows .exit)) (now (orders .exit)) (now (mailboxes .exit)))
-        (now (payloads .exit)) (now (files .exit)) (now (buffer .exit)) (now (room .exit)))
-        ≡ unitCall (stateOf u
+        (now (payloads .exit)) (now (files .exit)) (now (buffer .exit)) (now (room .exit))) r
+        ≡ unitCall (stateOf (unitFrom (now (runs .entry)) (now (nonces .entry)) (now (row .entry)))
         (memory (lent (now (rows .entry)) (now (orders .entry)) (now (mailboxes .entry)))
         (now (payloads .entry)) (now (files .entry)) (now (buffer .entry)) (now (room .entry))))
         (now («record» .entry)) ⌝ }
 {
     if !rooms_right(payloads.len(), files.len(), room.len()) {
-        return Called {
-            unit: u,
-            answer: Answer::Number(WRONG_LENGTH),
-        };
+        return Answer::Number(WRONG_LENGTH);
     }
     let kind = call_of(record);
     match kind {
-        Kind::Frame => frame_call(u, record, rows, orders, mailboxes, buffer),
-        Kind::File => Called {
-            unit: u,
-            answer: file_call(record, rows, mailboxes),
-        },
-        Kind::Run(event) => run_call(u, event, record, payloads, files, buffer),
-        Kind::Journal => journal_call(u, record),
-        Kind::Away => Called {
-            unit: u,
-            answer: away_call(u, record, rows, orders, mailboxes, room),
-        },
-        Kind::TakeUp => take_up_call(u, record, rows, orders, mailboxes, room),
-        Kind::Image => Called {
-            unit: u,
-            answer: image_call(record, room),
-        },
-        Kind::NoCall => Called {
-            unit: u,
-            answer: Answer::NoCall,
-        },
+        Kind::Frame => frame_call(row, record, rows, orders, mailboxes, buffer),
+        Kind::File => file_call(record, rows, mailboxes),
+        Kind::Run(event) => run_call(runs, nonces, event, record, payloads, files, buffer),
+        Kind::Journal => journal_call(runs, nonces, row, record),
+        Kind::Away => away_call(row, record, rows, orders, mailboxes, room),
+        Kind::TakeUp => take_up_call(row, record, rows, orders, mailboxes, room),
+        Kind::Image => image_call(record, room),
+        Kind::NoCall => Answer::NoCall,
     }
 }

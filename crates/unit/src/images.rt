@@ -7,23 +7,26 @@ use number_table::table::NOT_ADMITTED;
 use number_table::table::WRONG_LENGTH;
 use octets::bytes::copy;
 use octets::bytes::front;
+use unit_rows::events::ROW_SIZE;
+use unit_rows::events::journal_of;
+use unit_rows::events::set_journal;
 use unit_state::answer::Answer;
-use unit_state::answer::Called;
 use unit_state::record::Kind;
 use unit_state::record::body_of;
 use unit_state::record::lent_length;
 use unit_state::record::offset_of;
-use unit_state::state::UnitState;
-use unit_state::state::with_journal;
 ghost use mathlib.Core.Path.{_≡_};
 ghost use mathlib.Core.List.{List};
 ghost use Prim.Native.Nat.{ℕ, _+_, _≤_};
 ghost use lib.ListN.{length};
 ghost use Rattle.bank_steps.specs.Lent.{Lent, lent};
 ghost use Rattle.unit_state.specs.Records.{lentLengthOf, offsetOf, sizeOf};
+ghost use Rattle.unit_state.specs.declared.state.Run.{Run};
 ghost use Rattle.unit_state.specs.declared.state.UnitState.{UnitState};
+ghost use Rattle.unit_state.specs.State.{unitOf};
+ghost use Rattle.unit_rows.specs.Rows.{journalFrom};
 ghost use Rattle.unit.specs.State.{memory, stateOf};
-ghost use Rattle.unit.specs.Call.{afterCall, unitCallOf, awayAnswer, takenUpAnswer};
+ghost use Rattle.unit.specs.Call.{afterCall, awayAnswer, takenUpAnswer};
 ghost use Rattle.unit.specs.Call.{awayStep, takeUpStep, imageStep};
 
 // What the answer of putting away says.
@@ -50,7 +53,7 @@ fn taken_up_answer(answer: TakenUp) -> Answer
 
 // The session is put away into the front of the image room.
 pub(crate) fn away_call(
-    u: UnitState,
+    row: &[u64; ROW_SIZE],
     record: &[u8],
     rows: &[u64],
     orders: &[u8],
@@ -58,42 +61,42 @@ pub(crate) fn away_call(
     room: &mut [u8],
 ) -> Answer
     requires { ⌜ lentLengthOf (now «record») ≤ length (now room) ⌝ }
-    ensures { λ r. ⌜ ((p f b : List ℕ)
-        → afterCall u (memory (lent (now (rows .entry)) (now (orders .entry)) (now (mailboxes .entry))) p f b
-        (now (room .exit))) r
-        ≡ awayStep (stateOf u (memory (lent (now (rows .entry)) (now (orders .entry)) (now (mailboxes .entry))) p f b
+    ensures { λ r. ⌜ ((runs : List Run) (p f b : List ℕ)
+        → afterCall (unitOf runs (journalFrom (now (row .entry))))
+        (memory (lent (now (rows .entry)) (now (orders .entry)) (now (mailboxes .entry))) p f b (now (room .exit))) r
+        ≡ awayStep (stateOf (unitOf runs (journalFrom (now (row .entry))))
+        (memory (lent (now (rows .entry)) (now (orders .entry)) (now (mailboxes .entry))) p f b
         (now (room .entry)))) (now («record» .entry))) ⌝ }
 {
     let n = lent_length(record);
-    let row = u.journal;
-    let answer = put_away_held(rows, row, orders, mailboxes, &mut room[..n]);
+    let held = journal_of(row);
+    let answer = put_away_held(rows, held, orders, mailboxes, &mut room[..n]);
     away_answer(answer)
 }
 
 // The session is taken up from the front of the image room.
 pub(crate) fn take_up_call(
-    u: UnitState,
+    row: &mut [u64; ROW_SIZE],
     record: &[u8],
     rows: &mut [u64],
     orders: &mut [u8],
     mailboxes: &mut [u8],
     room: &[u8],
-) -> Called
-    ensures { λ r. ⌜ ((p f b : List ℕ)
-        → unitCallOf r (memory (lent (now (rows .exit)) (now (orders .exit)) (now (mailboxes .exit))) p f b
-        (now (room .entry)))
-        ≡ takeUpStep (stateOf u (memory (lent (now (rows .entry)) (now (orders .entry)) (now (mailboxes .entry))) p f b
+) -> Answer
+    ensures { λ r. ⌜ ((runs : List Run) (p f b : List ℕ)
+        → afterCall (unitOf runs (journalFrom (now (row .exit))))
+        (memory (lent (now (rows .exit)) (now (orders .exit)) (now (mailboxes .exit))) p f b (now (room .entry))) r
+        ≡ takeUpStep (stateOf (unitOf runs (journalFrom (now (row .entry))))
+        (memory (lent (now (rows .entry)) (now (orders .entry)) (now (mailboxes .entry))) p f b
         (now (room .entry)))) (now («record» .entry))) ⌝ }
 {
     let n = lent_length(record);
-    let row = u.journal;
-    let o = take_up_held(rows, row, orders, mailboxes, front(room, n));
+    let held = journal_of(row);
+    let o = take_up_held(rows, held, orders, mailboxes, front(room, n));
     let next = o.row;
     let answer = o.answer;
-    Called {
-        unit: with_journal(u, next),
-        answer: taken_up_answer(answer),
-    }
+    set_journal(row, next);
+    taken_up_answer(answer)
 }
 
 // The record's bytes go into the image room.

@@ -10,7 +10,16 @@ use Rattle.bank_state.specs.Limits.{idBytes}
 use Rattle.client_run.specs.Run.{nonceBytes}
 use Rattle.unit_state.specs.declared.record.Event.the-variants.{Upload, Download, Reply, NoReply}
 use Rattle.unit_state.specs.declared.record.Kind.{Kind}
-use Rattle.unit_state.specs.declared.record.Kind.the-variants.{Frame, File, Run, Journal, Away, TakeUp, Image, NoCall}
+use Rattle.unit_state.specs.declared.record.Kind.the-variants.{
+  Frame,
+  File,
+  Run,
+  Journal,
+  Away,
+  TakeUp,
+  Image,
+  NoCall,
+}
 
 -- the letters F, M, U, D, R, N, J, P, T and I
 unfoldable pub kindOf : ℕ → Kind

@@ -27,7 +27,10 @@ fresh = record { runs = replicate runCount (newRun (replicate nonceBytes 0)); jo
 abbrev pub runAt : List Run → ℕ → Run
 runAt runs i = getD runs i (newRun [])
 
--- the unit with this run as run i, and with this row as the journal
+-- a unit of these runs and this journal; the unit with this run as run i, and with this row as the journal
+abbrev pub unitOf : List Run → List Event → UnitState
+unitOf runs row = record { runs = runs; journal = row }
+
 abbrev pub withRun : UnitState → ℕ → Run → UnitState
 withRun u i run = record { runs = set (u .runs) i run; journal = u .journal }
 

@@ -1,5 +1,4 @@
 // What a call of a record answers.
-use crate::state::UnitState;
 use client_run::run::Word;
 use journal::event::OrderName;
 
@@ -19,10 +18,4 @@ pub enum Answer {
     Room,
     Number(u64),
     NoCall,
-}
-
-// The unit after a call, and the call's answer.
-pub struct Called {
-    pub unit: UnitState,
-    pub answer: Answer,
 }

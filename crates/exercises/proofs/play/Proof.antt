@@ -8,7 +8,7 @@ use Rattle.exercises.proofs.play.Statement.{statement}
 use Rattle.exercises.proofs.play.Tie as tie
 
 abbrev Inv-loop : tie.InvT-loop
-Inv-loop first last mail₀ rows₀ orders₀ boxes₀ payloads₀ files₀ room₀ u₀ i₀ mail rows orders mailboxes payloads files room u i =
+Inv-loop runs₀ nonces₀ row₀ first last mail₀ rows₀ orders₀ boxes₀ payloads₀ files₀ room₀ i₀ runs nonces row mail rows orders mailboxes payloads files room i =
     (length mail ≡ length mail₀)
     × (length rows ≡ length rows₀)
     × (length orders ≡ length orders₀)
@@ -18,7 +18,7 @@ Inv-loop first last mail₀ rows₀ orders₀ boxes₀ payloads₀ files₀ room
     × (length room ≡ length room₀)
 
 abbrev μ-loop : tie.MeasureT-loop
-μ-loop first last mail₀ rows₀ orders₀ boxes₀ payloads₀ files₀ room₀ u₀ i₀ mail rows orders mailboxes payloads files room u i =
+μ-loop runs₀ nonces₀ row₀ first last mail₀ rows₀ orders₀ boxes₀ payloads₀ files₀ room₀ i₀ runs nonces row mail rows orders mailboxes payloads files room i =
     last - i
 
 -- where a move has given back the mail, and where it began
@@ -26,7 +26,7 @@ abbrev moved : tie.After-slice-known14 Inv-loop μ-loop → tie.After-mail Inv-l
 moved c = c .before .before .before .before .before .before .before .before .before .before .before .before .before
 
 abbrev began : tie.After-mail Inv-loop μ-loop → tie.In-loop Inv-loop μ-loop
-began c = c .before .before .before .before .before .before .before .before .before .before .before .before .before .before
+began c = c .before .before .before .before .before .before .before .before .before .before .before .before .before .before .before .before .before .before .before .before
 
 loop-less : tie.Need-loop-less Inv-loop μ-loop
 loop-less c = omega (arith, began (moved c) .loop-test .taken)

@@ -1,4 +1,4 @@
--- `step` meets its contract: a record that is a call is called, and another changes nothing. Assumes nothing.
+-- A record that is a call is called, and another changes nothing. Assumes nothing.
 use mathlib.Core.Path.{sym, _∙_}
 use Rattle.driver_session.proofs.Sessions.{no-calls, one-call}
 use Rattle.driver_session.proofs.session.step.Statement.{statement}
@@ -6,7 +6,7 @@ use Rattle.driver_session.proofs.session.step.Tie as tie
 
 -- the places where what was lent to the call has come back, and the call, seen from the end
 abbrev at-room : tie.After-write-all → tie.After-room
-at-room c = c .before .before .before .before .before .before .before .before .before .before .before .before .before .before
+at-room c = c .before .before .before .before .before .before .before .before .before .before .before .before .before
 
 abbrev at-mailboxes : tie.After-write-all → tie.After-mailboxes
 at-mailboxes c = at-room c .before .before .before .before .before .before .before .before
@@ -21,7 +21,7 @@ returns : tie.Need-returns
 returns c = no-calls _
 
 same-length-2 : tie.Need-same-length-2
-same-length-2 c = at-call c .before .before .before .before .before .before .before .before .before .before .before .before .before .before .before .before .input .given
+same-length-2 c = at-call c .before .before .before .before .before .before .before .before .before .before .before .before .before .before .before .before .before .before .before .input .given
 
 same-length-3 : tie.Need-same-length-3
 same-length-3 c = c .before .before .before .before .output .given
@@ -50,7 +50,7 @@ same-length-10 c = at-room c .room .given
 returns-2 : tie.Need-returns-2
 returns-2 c =
     let at-record = at-call c .before .before .before .before .before .before .before .before in
-    let at-test = at-record .before .before in
+    let at-test = at-record .before .before .before .before .before in
     let at-kind = at-test .before .before in
     one-call _ _ _ _ _ _ (at-kind .call-of .ensures) (at-test .before .is-call .ensures) (at-test .if1 .left)
     (at-record .front2 .ensures ∙ sym (at-kind .before .front .ensures)) (at-call c .call .ensures)

@@ -4,7 +4,7 @@ use native.Mathlib.Omega.{arith}
 use borrow.Author.Needs.{needs}
 use Rattle.bank_state.specs.Limits.{placeCount}
 use Rattle.bank_rows.specs.State.{bankOf}
-use Rattle.print.specs.Book.{lineAt, orderLine, orderColumnsRoom}
+use Rattle.print.specs.Book.{lineAt, orderColumnsRoom}
 use Rattle.print.proofs.Texts.{put-length}
 use Rattle.print.proofs.Rows.{Rows, rows-start, rows-left, rows-next, rows-end}
 use Rattle.print.proofs.Lengths.{order-most}

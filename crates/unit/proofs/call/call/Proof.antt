@@ -7,6 +7,7 @@ use borrow.Author.Tests.{not-true, not-false}
 use Rattle.bank_steps.specs.Lent.{lent}
 use Rattle.unit_state.specs.declared.record.Kind.{Kind}
 use Rattle.unit_state.specs.declared.record.Kind.the-variants.{Frame, File, Run, Journal, Away, TakeUp, Image, NoCall}
+use Rattle.unit_rows.specs.Rows.{unitFrom}
 use Rattle.unit.specs.State.{State, memory, stateOf}
 use Rattle.unit.specs.Call.{UnitCall, stepOf, unitCall}
 use Rattle.unit.proofs.Begins.{RoomsLengths, rooms-lengths}
@@ -20,7 +21,7 @@ use Rattle.unit.proofs.call.call.Tie as tie
 abbrev unit-at : tie.After-call-of → State
 unit-at c =
     let a = c .before .before .before .before .before .before .before .before .before .before .before .args in
-    stateOf (a .u)
+    stateOf (unitFrom (a .runs .now) (a .nonces .now) (a .row .now))
     (memory (lent (a .rows .now) (a .orders .now) (a .mailboxes .now)) (a .payloads .now) (a .files .now) (a .buffer .now) (a .room .now))
 
 abbrev record-at : tie.After-call-of → List ℕ
@@ -46,19 +47,19 @@ returns c = rw (← c .before .rooms-right .ensures, not-true (c .before .rooms-
 
 run-call-requires : tie.Need-run-call-requires
 run-call-requires c κs =
-    let at-told = c .before .before .before .before in
+    let at-told = c .before .before .before .before .before .before in
     let at-call = at-told .before .before in
     let rooms = rooms-at at-call in
     ready _ (record-at at-call) _ _ _ (rooms .payload-rooms) (rooms .file-rooms) (at-call .call-of .ensures) (at-told .kind .given .1)
 
 journal-call-requires : tie.Need-journal-call-requires
 journal-call-requires c κs =
-    let at-call = c .before .before in
-    handed-run _ _ (at-call .call-of .ensures) (c .enum-told3 .given .1)
+    let at-told = c .before .before .before in
+    handed-run _ _ (at-told .before .before .call-of .ensures) (at-told .enum-told3 .given .1)
 
 away-call-requires : tie.Need-away-call-requires
 away-call-requires c κs =
-    let at-told = c .before .before .before .before in
+    let at-told = c .before .before .before .before .before in
     let at-call = at-told .before .before in
     away-within (record-at at-call) (unit-at at-call .memory .room) _ (rooms-at at-call .image-room) (at-call .call-of .ensures) (at-told .enum-told4 .given .1)
 
@@ -71,8 +72,8 @@ image-call-requires c κs =
 returns-2 : tie.Need-returns-2
 returns-2 c =
     let at-frame = c .before .before .before .before .before .before .before .before in
-    let at-told = at-frame .before .before .before .before .before in
-    by-kind (at-told .before .before) Frame _ (at-told .enum-told .given .1) (at-frame .frame-call .ensures _ _ _)
+    let at-told = at-frame .before .before .before .before .before .before in
+    by-kind (at-told .before .before) Frame _ (at-told .enum-told .given .1) (at-frame .frame-call .ensures _ _ _ _)
 
 returns-3 : tie.Need-returns-3
 returns-3 c =
@@ -83,25 +84,25 @@ returns-3 c =
 returns-4 : tie.Need-returns-4
 returns-4 c =
     let at-run = c .before .before .before .before .before .before in
-    let at-told = at-run .before .before .before .before .before in
-    by-kind (at-told .before .before) (Run _) _ (at-told .kind .given .1) (at-run .run-call .ensures _ _)
+    let at-told = at-run .before .before .before .before .before .before .before in
+    by-kind (at-told .before .before) (Run _) _ (at-told .kind .given .1) (at-run .run-call .ensures _ _ _)
 
 returns-5 : tie.Need-returns-5
 returns-5 c =
-    let at-told = c .before in
+    let at-told = c .before .before .before .before in
     by-kind (at-told .before .before) Journal _ (at-told .enum-told3 .given .1) (c .journal-call .ensures _)
 
 returns-6 : tie.Need-returns-6
 returns-6 c =
     let at-away = c .before .before in
-    let at-told = at-away .before .before .before .before .before in
-    by-kind (at-told .before .before) Away _ (at-told .enum-told4 .given .1) (at-away .away-call .ensures _ _ _)
+    let at-told = at-away .before .before .before .before .before .before in
+    by-kind (at-told .before .before) Away _ (at-told .enum-told4 .given .1) (at-away .away-call .ensures _ _ _ _)
 
 returns-7 : tie.Need-returns-7
 returns-7 c =
     let at-take-up = c .before .before .before .before .before .before in
-    let at-told = at-take-up .before .before .before .before .before in
-    by-kind (at-told .before .before) TakeUp _ (at-told .enum-told5 .given .1) (at-take-up .take-up-call .ensures _ _ _)
+    let at-told = at-take-up .before .before .before .before .before .before in
+    by-kind (at-told .before .before) TakeUp _ (at-told .enum-told5 .given .1) (at-take-up .take-up-call .ensures _ _ _ _)
 
 returns-8 : tie.Need-returns-8
 returns-8 c =
@@ -116,13 +117,13 @@ pub call-spec : {M : Type 1} → statement M
 call-spec =
     tie.close
     (tie.spec
-    (λ c κs. tt)
+    (λ c κs. search needs)
     returns
-    (λ c κs. tt)
+    (λ c κs. search needs)
     (λ c. search needs)
-    (λ c κs. tt)
+    (λ c κs. search needs)
     (λ c. search needs)
-    (λ c κs. tt)
+    (λ c κs. search needs)
     (λ c. search needs)
     run-call-requires
     (λ c. search needs)
@@ -130,7 +131,7 @@ call-spec =
     (λ c. search needs)
     away-call-requires
     (λ c. search needs)
-    (λ c κs. tt)
+    (λ c κs. search needs)
     (λ c. search needs)
     image-call-requires
     (λ c. search needs)

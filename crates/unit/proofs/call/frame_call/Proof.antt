@@ -1,4 +1,7 @@
--- The bank's call on the parts of the record with the unit's journal, and what its answer says. Assumes nothing.
+-- The bank's call on the parts of the record, its events entered into the unit's journal, and what its answer says.
+-- Assumes nothing.
+use Rattle.unit_rows.specs.Rows.{journalFrom}
+use Rattle.unit_rows.proofs.Rows.{length-journal}
 use Rattle.unit.specs.Call.{frameStep}
 use borrow.Author.Needs.{needs}
 use Rattle.unit.proofs.call.frame_call.Statement.{statement}
@@ -7,17 +10,18 @@ use Rattle.unit.proofs.call.frame_call.Tie as tie
 returns : tie.Need-returns
 unfolding frameStep
 returns c =
-    λ p f room.
-    let at-journal = c .before in
-    let at-frame = at-journal .before .before .before .before .before .before .before .before .before .before .before in
-    let at-body = at-frame .before .before .before .before in
+    λ runs p f room.
+    let at-enter = c .before .before in
+    let at-core = at-enter .before .before .before .before .before .before .before .before .before .before .before in
+    let at-body = at-core .before .before .before .before in
+    let row = at-body .before .before .before .before .before .before .before .before .before .args .row .now in
     rw (
       c .frame-answer .ensures,
-      at-journal .with-journal .ensures,
+      at-enter .enter .ensures,
       ← at-body .before .before .number-at .ensures,
       ← at-body .before .bytes-at .ensures,
       ← at-body .body-of .ensures,
-      ← at-frame .frame-held .ensures,
+      ← at-core .frame-core .ensures (journalFrom row) (length-journal row),
     )
 
 pub frame-call-spec : {M : Type 1} → statement M
@@ -25,11 +29,11 @@ frame-call-spec =
     tie.close
     (tie.spec
     (λ c κs. search needs)
-    (λ c κs. tt)
-    (λ c κs. tt)
-    (λ c κs. tt)
-    (λ c κs. tt)
-    (λ c κs. tt)
+    (λ c κs. search needs)
+    (λ c κs. search needs)
+    (λ c κs. search needs)
+    (λ c κs. search needs)
+    (λ c κs. search needs)
     (λ c. search needs)
     (λ c. search needs)
     (λ c. search needs)

@@ -1,0 +1,2 @@
+-- The laws that several proofs, and the crates above, cite.
+pub mod Rows

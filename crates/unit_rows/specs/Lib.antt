@@ -1,0 +1,3 @@
+-- The definitions of the unit as numbers and bytes: codes, rows.
+pub mod Codes
+pub mod Rows
