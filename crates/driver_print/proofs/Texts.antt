@@ -34,7 +34,7 @@ use Rattle.print.specs.Book.{orderColumns}
 use Rattle.print.proofs.Digits.{decimal-most, column-most}
 use Rattle.print.proofs.Texts.{put-then, put-one, cond-most}
 use Rattle.print.specs.Closing.{closingRoom}
-use Rattle.print.proofs.Lengths.{order-name-most, closing-most, columns-most}
+use Rattle.print.proofs.Lengths.{day-most, order-name-most, closing-most, columns-most}
 use Rattle.unit_state.specs.declared.answer.Answer.{Answer}
 use Rattle.unit_state.specs.declared.answer.Answer.the-variants as answer
 use Rattle.unit_state.specs.declared.state.UnitState.{UnitState}
@@ -126,6 +126,7 @@ answer-most answer.Unchanged buffer room = omega arith
 answer-most (answer.Away n) buffer room = omega (arith, away-most n room)
 answer-most answer.TakenUp buffer room = omega arith
 answer-most answer.Room buffer room = omega arith
+answer-most (answer.Day d) buffer room = omega (arith, day-most d)
 answer-most (answer.Number n) buffer room = omega (arith, decimal-most n)
 answer-most answer.NoCall buffer room = omega arith
 

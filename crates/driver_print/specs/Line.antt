@@ -6,6 +6,7 @@ use lib.Dec.{ltb}
 use lib.ListN.{take}
 use Rattle.octets.specs.Bytes.{number}
 use Rattle.print.specs.Text.{ascii, maxDigits, decimal, space, newline, column, columnRoom}
+use Rattle.print.specs.Day.{dayText}
 use Rattle.print.specs.Closing.{closingText}
 use Rattle.unit_state.specs.declared.answer.Answer.{Answer}
 use Rattle.unit_state.specs.declared.answer.Answer.the-variants.{
@@ -18,6 +19,7 @@ use Rattle.unit_state.specs.declared.answer.Answer.the-variants.{
   Away,
   TakenUp,
   Room,
+  Day,
   Number,
   NoCall,
 }
@@ -50,6 +52,7 @@ answerText Unchanged buffer room = ascii "unchanged"
 answerText (Away n) buffer room = awayText n room
 answerText TakenUp buffer room = ascii "taken up"
 answerText Room buffer room = ascii "room"
+answerText (Day d) buffer room = ascii "day " ++ dayText d
 answerText (Number n) buffer room = ascii "number " ++ decimal n
 answerText NoCall buffer room = []
 

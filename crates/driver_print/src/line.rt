@@ -2,6 +2,7 @@
 use crate::digest::digest;
 use octets::bytes::front;
 use print::closing::put_closing;
+use print::day::put_day;
 use print::text::put_byte;
 use print::text::put_column;
 use print::text::put_decimal;
@@ -85,6 +86,10 @@ fn put_answer(output: &mut [u8], at: usize, answer: Answer, buffer: &[u8], room:
         Answer::Away(n) => put_away(output, at, n, room),
         Answer::TakenUp => put_text(output, at, b"taken up"),
         Answer::Room => put_text(output, at, b"room"),
+        Answer::Day(date) => {
+            let a = put_text(output, at, b"day ");
+            put_day(output, a, date)
+        }
         Answer::Number(n) => {
             let a = put_text(output, at, b"number ");
             put_decimal(output, a, n)

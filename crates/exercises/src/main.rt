@@ -18,6 +18,7 @@ use record::keep;
 use record::message_of;
 use record::put_move;
 use results::say_book;
+use results::say_days;
 use results::say_handed;
 use results::say_results;
 use script::MOVES;
@@ -54,7 +55,7 @@ fn bank_numbers(rows: &[u64]) -> [u64; STATE_SIZE] {
 }
 
 // Prints what stands before move i: the headings, with exercise C's each order's closing word, and after the last move
-// those of the runs that were handed the journal, and the book.
+// those of the runs that were handed the journal, the book, and the day on which each order is executed.
 fn say_before(
     i: u8,
     runs: &[u64; RUNS_SIZE],
@@ -86,6 +87,7 @@ fn say_before(
         let u = unit_of(runs, nonces, row);
         say_handed(u, &numbers, orders, files);
         say_book(&numbers);
+        say_days(u);
     }
 }
 

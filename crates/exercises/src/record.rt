@@ -25,10 +25,14 @@ use unit_state::record::TIME_BYTES;
 use unit_state::record::UPLOAD_HEAD;
 use unit_state::record::lent_length;
 
-// The time of a call, and of one so much later that an idle transaction is gone.
-const TIME: u64 = 1000000;
+// Thursday 28 March 2024, 15:59:26, the last business day before Easter, in milliseconds. Each move comes a second after
+// the one before it, the first a second after that time, and the 34th at 16:00.
+const TIME: u64 = 1711641566000;
 
-const LATER: u64 = TIME + IDLE_LIMIT + 1;
+const SECOND: u64 = 1000;
+
+// So much later an idle transaction is gone.
+const HOUR: u64 = IDLE_LIMIT + 1;
 
 // The text of which the orders' bytes are parts.
 const TEXT_BYTES: usize = 1024;
@@ -167,12 +171,13 @@ fn head_of(letter: u8, run: u8, time: u64, image: u64) -> Head {
     }
 }
 
-// The time of a move.
-fn time_of(hour: u8) -> u64 {
-    if hour == b'H' {
-        return LATER;
+// The time of a move; there are fewer than a hundred.
+fn time_of(m: Move) -> u64 {
+    let time = TIME + SECOND * (m.number % 100);
+    if m.hour == b'H' {
+        return time + HOUR;
     }
-    TIME
+    time
 }
 
 // The bytes of the image room that a move lends.
@@ -188,7 +193,7 @@ fn put_record(record: &mut [u8], m: Move, image: u64, body: &[u8]) {
     if m.fate == b'x' {
         return;
     }
-    let h = head_of(m.letter, m.run, time_of(m.hour), image);
+    let h = head_of(m.letter, m.run, time_of(m), image);
     put_number(record, 0, h.named, h.name);
     put_number(record, h.named, h.width, h.number);
     put_number(

@@ -1,4 +1,5 @@
-// Exercise C: a run's closing word beside what the bank has, whether the word is true of it, and the bank's book.
+// Exercise C: a run's closing word beside what the bank has, whether the word is true of it, the bank's book, and the
+// day on which each booked order is executed.
 use crate::record::content_of;
 use crate::record::example_text;
 use crate::say::VALUES;
@@ -13,17 +14,24 @@ use bank_state::limits::PLACE_COUNT;
 use bank_state::search::is_booked;
 use bank_state::state::Place;
 use bank_state::store::file_of;
+use calendar::value_day::ValueDay;
+use calendar::value_day::value_day;
 use client_run::run::ClientRun;
 use client_run::run::Direction;
 use client_run::run::Stage;
 use client_run::run::Word;
 use client_run::run::order_name;
+use journal::event::Event;
+use journal::event::Kind;
 use journal::event::OrderName;
+use journal::event::RECORD_COUNT;
 use libc::STDOUT_FILENO;
 use message::order_numbers::order_number_of;
 use octets::bytes::front;
 use print::book::BOOK_ROOM;
 use print::book::book;
+use print::day::DAY_ROOM;
+use print::day::put_day;
 use unit_state::state::UnitState;
 
 // Whether two byte rows are the same.
@@ -223,4 +231,48 @@ pub(crate) fn say_book(rows: &[u64; STATE_SIZE]) {
     let mut output = [0u8; BOOK_ROOM];
     let n = book(rows, &mut output);
     io::write_all(STDOUT_FILENO, front(&output, n));
+}
+
+// Prints the value day of a booking time, or its number.
+fn say_day(time: u64) {
+    let answer = value_day(time);
+    match answer {
+        ValueDay::Day(date) => {
+            let mut text = [0u8; DAY_ROOM];
+            put_day(&mut text, 0, date);
+            io::write_all(STDOUT_FILENO, &text);
+        }
+        ValueDay::TooLate => {
+            io::write_all(STDOUT_FILENO, b"number 10");
+        }
+    }
+}
+
+// The row of a booked order, by its booking event, whose clock is the booking time.
+fn say_booking(e: Event) {
+    let mut v = [0u64; VALUES];
+    v[2] = e.subscriber;
+    v[7] = order_number_of(e.order);
+    say(b'v', v);
+    say_day(e.clock);
+    say_end();
+}
+
+// The row of an event, where it is a booking.
+fn say_event(e: Event) {
+    let kind = e.kind;
+    match kind {
+        Kind::Booked => say_booking(e),
+        _ => {}
+    }
+}
+
+// The day on which each booked order is executed.
+pub(crate) fn say_days(u: UnitState) {
+    let mut i = 0;
+    while i < RECORD_COUNT {
+        let e = u.journal[i];
+        say_event(e);
+        i += 1;
+    }
 }

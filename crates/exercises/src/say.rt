@@ -72,7 +72,7 @@ fn say_keyed(table: &[u8], key: u8, v: [u64; VALUES]) {
 // for what a request says, a to k for a reply; E for what follows each of them, A a request that repeats one, C the
 // code of a reply, O, S, Y and K the codes' names in Annex 1; x and l for what became of a message, H for the hour; i,
 // q, w and n for what the call answered; u and d for a run's row in exercise C, o for a run that has not ended, B, Z
-// and X for what the bank has, V and W for whether the closing word is true.
+// and X for what the bank has, V and W for whether the closing word is true, v for an order and its day.
 pub(crate) fn say(key: u8, v: [u64; VALUES]) {
     say_keyed(
         b"\
@@ -121,6 +121,7 @@ pub(crate) fn say(key: u8, v: [u64; VALUES]) {
             X; mailbox 2, 3 bytes\n\
             V; true\n\
             W; false\n\
+            v2 FUL 7 is executed on \n\
             ",
         key,
         v,

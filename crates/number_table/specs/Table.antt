@@ -48,12 +48,16 @@ wrongStage = 8
 abbrev pub notAdmitted : ℕ
 notAdmitted = 9
 
+-- card 7: "It refuses, with number 10, a booking time whose value day would lie after 2199"
+abbrev pub tooLate : ℕ
+tooLate = 10
+
 -- ---- the table, in the papers' order; a card adds its row at the end
 
 abbrev pub table : List ℕ
 table =
     wrongLength ∷ noMailbox ∷ wrongFile ∷ mailboxFull ∷ wrongBuffer ∷ exchangeTooHigh ∷ noSubscriber ∷ wrongStage
-    ∷ notAdmitted ∷ []
+    ∷ notAdmitted ∷ tooLate ∷ []
 
 -- so many numbers, one by one from the first on
 unfoldable pub countedFrom : ℕ → ℕ → List ℕ

@@ -20,3 +20,5 @@ pub const WRONG_STAGE: u64 = 8;
 
 // The cards.
 pub const NOT_ADMITTED: u64 = 9;
+
+pub const TOO_LATE: u64 = 10;

@@ -1,8 +1,9 @@
--- How long an order's name, a closing word, and an order's line are at most. Assumes nothing.
+-- How long a day, an order's name, a closing word, and an order's line are at most. Assumes nothing.
 use Prim.Native.Nat.{ℕ, _≤_}
 use mathlib.Core.List.{[], _∷_, _++_}
 use native.Mathlib.Omega.{arith}
 use lib.ListN.{length, length-append}
+use Rattle.calendar.specs.declared.dates.Date.{Date}
 use Rattle.journal.specs.declared.event.OrderName.{OrderName}
 use Rattle.client_run.specs.declared.run.Word.{Word}
 use Rattle.client_run.specs.declared.run.Word.the-variants.{Lodged, NotLodged, Unclear, Fetched, HeldUnconfirmed, NotFetched}
@@ -10,12 +11,26 @@ use Rattle.bank_state.specs.declared.state.Place.{Place}
 use Rattle.bank_state.specs.Search.{isBooked}
 use Rattle.message.specs.Limits.{ful}
 use Rattle.message.specs.OrderNumbers.{orderNumberOf}
-use Rattle.print.specs.Text.{orderCharacters, orderNumberText, typeColumn, space, newline, column}
+use Rattle.print.specs.Text.{hyphen, orderCharacters, orderNumberText, typeColumn, space, newline, column}
 use Rattle.print.proofs.Digits.{length-digitsIn, type-column-most, column-most}
 use Rattle.print.proofs.Texts.{cond-most}
+use Rattle.print.specs.Day.{lastDigits, dayText, dayRoom}
 use Rattle.print.specs.Name.{orderNameText, orderNameRoom}
 use Rattle.print.specs.Closing.{closingText, closingRoom}
 use Rattle.print.specs.Book.{orderColumns, orderColumnsRoom, orderLine}
+
+pub day-most : (d : Date) → length (dayText d) ≤ dayRoom
+unfolding dayText
+day-most d =
+    let day = hyphen ∷ lastDigits 2 (d .day) in
+    omega (
+      arith,
+      length-append (lastDigits 4 (d .year)) (hyphen ∷ (lastDigits 2 (d .month) ++ day)),
+      length-append (lastDigits 2 (d .month)) day,
+      length-digitsIn 10 48 4 (d .year),
+      length-digitsIn 10 48 2 (d .month),
+      length-digitsIn 10 48 2 (d .day),
+    )
 
 pub order-name-most : (o : OrderName) → length (orderNameText o) ≤ orderNameRoom
 unfolding orderNameText

@@ -1,5 +1,7 @@
-// What the programs print, written into a lent output: numbers and texts, an order's name, closing words, the book.
+// What the programs print, written into a lent output: numbers and texts, a day, an order's name, closing words,
+// the book.
 pub mod book;
 pub mod closing;
+pub mod day;
 pub mod name;
 pub mod text;

@@ -97,6 +97,7 @@ first-appended kind.Journal u r ks ls = refl
 first-appended kind.Away u r ks ls = refl
 first-appended kind.TakeUp u r ks ls = refl
 first-appended kind.Image u r ks ls = refl
+first-appended kind.ValueDay u r ks ls = refl
 first-appended kind.NoCall u r ks ls = refl
 
 appended : (u : State) (rs ts : List (List ℕ)) → callsOf u (rs ++ ts) ≡ callsOf u rs ++ callsOf (unitAfter u rs) ts

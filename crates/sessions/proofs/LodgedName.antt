@@ -17,6 +17,9 @@ use Rattle.image_calls.specs.declared.calls.Away.the-variants as away
 use Rattle.image_calls.specs.declared.calls.TakenUp.{TakenUp}
 use Rattle.image_calls.specs.declared.calls.TakenUp.the-variants as up
 use Rattle.image_calls.specs.Calls.{putAway, takeUp}
+use Rattle.calendar.specs.declared.value_day.ValueDay.{ValueDay}
+use Rattle.calendar.specs.declared.value_day.ValueDay.the-variants as value
+use Rattle.calendar.specs.ValueDay.{valueDay}
 use Rattle.client_run.specs.declared.run.ClientRun.{ClientRun}
 use Rattle.client_run.specs.declared.run.Word.{Word}
 use Rattle.client_run.specs.declared.run.Word.the-variants.{Lodged}
@@ -25,7 +28,17 @@ use Rattle.exchange.specs.Course.{Course}
 use Rattle.unit_state.specs.declared.answer.Answer.the-variants.{Closed}
 use Rattle.unit_state.specs.declared.record.Kind.{Kind}
 use Rattle.unit_state.specs.declared.record.Kind.the-variants as kind
-use Rattle.unit_state.specs.Records.{bankTimeOf, idsOf, mailboxOf, runOf, bodyOf, runCount, callOf, isCall}
+use Rattle.unit_state.specs.Records.{
+  bankTimeOf,
+  idsOf,
+  mailboxOf,
+  runOf,
+  bookingTimeOf,
+  bodyOf,
+  runCount,
+  callOf,
+  isCall,
+}
 use Rattle.unit.specs.State.{State, sessionIn}
 use Rattle.unit.specs.Call.{
   UnitCall,
@@ -33,12 +46,14 @@ use Rattle.unit.specs.Call.{
   fileAnswer,
   awayAnswer,
   takenUpAnswer,
+  valueDayAnswer,
   indexOf,
   frameStep,
   fileStep,
   awayStep,
   takeUpStep,
   imageStep,
+  valueDayStep,
   stepOf,
   unitCall,
 }
@@ -69,6 +84,10 @@ by-away (away.Length n) = refl
 by-away away.WrongLength = refl
 by-away away.NotAdmitted = refl
 
+by-value-day : (x : ValueDay) → isClosed (valueDayAnswer x) ≡ false
+by-value-day (value.Day d) = refl
+by-value-day value.TooLate = refl
+
 by-taken : (x : TakenUp) → isClosed (takenUpAnswer x) ≡ false
 by-taken up.Done = refl
 by-taken up.WrongLength = refl
@@ -81,7 +100,7 @@ module _ {u : State} {s : Course} (v : Standing u s) (r : List ℕ) (w : Word) (
   Named x = (indexOf r < runCount) × Tells w o (clientAt (x .state) (indexOf r))
 
   named-by : (g : Kind) → callOf r ≡ g → isCall g ≡ true → stepOf g u r .answer ≡ Closed w o → Named (stepOf g u r)
-  unfolding frameStep fileStep awayStep takeUpStep imageStep
+  unfolding frameStep fileStep awayStep takeUpStep imageStep valueDayStep
   named-by kind.Frame e h c =
       let input = frameInput (bankTimeOf r) (idsOf r) (bodyOf kind.Frame r) (u .memory .buffer) in
       never (sym (by-frame (sessionFrameCall (sessionIn u) input .answer)) ∙ ap isClosed c)
@@ -97,6 +116,7 @@ module _ {u : State} {s : Course} (v : Standing u s) (r : List ℕ) (w : Word) (
   named-by kind.Away e h c = never (sym (by-away (putAway (sessionIn u) (frontOf u r) .answer)) ∙ ap isClosed c)
   named-by kind.TakeUp e h c = never (sym (by-taken (takeUp (sessionIn u) (frontOf u r) .answer)) ∙ ap isClosed c)
   named-by kind.Image e h c = never (ap isClosed c)
+  named-by kind.ValueDay e h c = never (sym (by-value-day (valueDay (bookingTimeOf r))) ∙ ap isClosed c)
   named-by kind.NoCall e h c = never h
 
   named : isCall (callOf r) ≡ true → unitCall u r .answer ≡ Closed w o → Named (unitCall u r)

@@ -12,7 +12,7 @@ use Rattle.unit_state.specs.declared.record.Kind.{Kind}
 use Rattle.unit_state.specs.declared.record.Kind.the-variants as kind
 use Rattle.unit_state.specs.Records.{runOf, runCount, callOf, isCall}
 use Rattle.unit.specs.State.{State}
-use Rattle.unit.specs.Call.{UnitCall, stepOf, unitCall}
+use Rattle.unit.specs.Call.{UnitCall, valueDayStep, stepOf, unitCall}
 use Rattle.unit_state.proofs.Parts.{callable, run-within}
 use Rattle.sessions.specs.Sessions.{
   Records,
@@ -63,33 +63,44 @@ module _ (u : State) {s : Course} (r : List ℕ) (rs : List (List ℕ)) (k : Cal
         ∙ ap (map toldBy) (sym (first ks));
   }
 
--- a record that is no call
-beside : (u : State) (s : Course) (r : List ℕ) (rs : List (List ℕ)) → callOf r ≡ kind.Image →
-    IsCourse (unitCall u r .state) rs s → IsCourse u (r ∷ rs) s
+-- a record that is no call of the course
+beside : (u : State) (s : Course) (r : List ℕ) (rs : List (List ℕ))
+    → ((ks : List Call) → callFirst (callOf r) u r ks ≡ ks) → ((t : Told) (ts : List Told) → answerFirst (callOf r) t ts ≡ ts)
+    → IsCourse (unitCall u r .state) rs s → IsCourse u (r ∷ rs) s
 unfolding callsOf unitAfter answersOf
-beside u s r rs e rest =
-    let ks = callsOf (unitCall u r .state) rs in
-    let first : callFirst (callOf r) u r ks ≡ ks = ap (λ (g : Kind). callFirst g u r ks) e in
+beside u s r rs first-left told rest =
+    let first = first-left (callsOf (unitCall u r .state) rs) in
     record {
       given = subst (λ (l : List Call). AtEach Given l s) (sym first) (rest .given);
       same = subst (λ (l : List Call). Same (unitAfter (unitCall u r .state) rs) (after l s)) (sym first) (rest .same);
       answers =
-          ap (λ (g : Kind). answerFirst g (toldOf (unitCall u r)) (answersOf (unitCall u r .state) rs)) e
+          told (toldOf (unitCall u r)) (answersOf (unitCall u r .state) rs)
           ∙ rest .answers ∙ ap (map toldBy) (sym first);
     }
 
 module _ {u : State} {s : Course} (v : Standing u s) (r : List ℕ) (b : Bytes r) where
-  -- the call of the record, and the course after it; or the image room's bytes alone
+  -- the call of the record, and the course after it; or no call of the course
   data Next : Type 0 where
     called : (k : Call) → Stepped s k (unitCall u r) → ((ks : List Call) → callFirst (callOf r) u r ks ≡ k ∷ ks) →
         ((t : Told) (ts : List Told) → answerFirst (callOf r) t ts ≡ t ∷ ts) → Next
-    moved : callOf r ≡ kind.Image → Standing (unitCall u r .state) s → Next
+    left : ((ks : List Call) → callFirst (callOf r) u r ks ≡ ks)
+        → ((t : Told) (ts : List Told) → answerFirst (callOf r) t ts ≡ ts) → Standing (unitCall u r .state) s → Next
 
   as-made : (g : Kind) → callOf r ≡ g → (k : Call) → Stepped s k (stepOf g u r) →
       ((ks : List Call) → callFirst g u r ks ≡ k ∷ ks) → ((t : Told) (ts : List Told) → answerFirst g t ts ≡ t ∷ ts) → Next
   as-made g e k step first told =
       called k (subst (Stepped s k) (sym (made v r g e)) step)
       (λ ks. ap (λ (x : Kind). callFirst x u r ks) e ∙ first ks) (λ t ts. ap (λ (x : Kind). answerFirst x t ts) e ∙ told t ts)
+
+  as-left : (g : Kind) → callOf r ≡ g → Standing (stepOf g u r .state) s → ((ks : List Call) → callFirst g u r ks ≡ ks)
+      → ((t : Told) (ts : List Told) → answerFirst g t ts ≡ ts) → Next
+  as-left g e stands first-left told =
+      left (λ ks. ap (λ (x : Kind). callFirst x u r ks) e ∙ first-left ks) (λ t ts. ap (λ (x : Kind). answerFirst x t ts) e ∙ told t ts)
+      (subst (λ (o : UnitCall). Standing (o .state) s) (sym (made v r g e)) stands)
+
+  value-day-standing : Standing (valueDayStep u r .state) s
+  unfolding valueDayStep
+  value-day-standing = v
 
   next-call : (g : Kind) → callOf r ≡ g → isCall g ≡ true → Next
   next-call kind.Frame e h = as-made kind.Frame e _ (frame-step v r b) (λ ks. refl) (λ t ts. refl)
@@ -102,8 +113,8 @@ module _ {u : State} {s : Course} (v : Standing u s) (r : List ℕ) (b : Bytes r
       as-made kind.Journal e _ (journal-step v r inside) (λ ks. refl) (λ t ts. refl)
   next-call kind.Away e h = as-made kind.Away e _ (away-step v r) (λ ks. refl) (λ t ts. refl)
   next-call kind.TakeUp e h = as-made kind.TakeUp e _ (taken-step v r) (λ ks. refl) (λ t ts. refl)
-  next-call kind.Image e h =
-      moved e (subst (λ (o : UnitCall). Standing (o .state) s) (sym (made v r kind.Image e)) (image-standing v r b e))
+  next-call kind.Image e h = as-left kind.Image e (image-standing v r b e) (λ ks. refl) (λ t ts. refl)
+  next-call kind.ValueDay e h = as-left kind.ValueDay e value-day-standing (λ ks. refl) (λ t ts. refl)
   next-call kind.NoCall e h = never h
 
 is-course : {rs : List (List ℕ)} → Records rs → {u : State} {s : Course} → Standing u s → IsCourse u rs s
@@ -114,7 +125,7 @@ is-course (more {r = r} {rs = rs} b h more-records) {u} {s} v =
   where
     at : ((n : State) (t : Course) → Standing n t → IsCourse n rs t) → Next v r b → IsCourse u (r ∷ rs) s
     at rest (called k step first told) = joined u r rs k step first told (rest _ _ (step .standing))
-    at rest (moved e stands) = beside u s r rs e (rest _ _ stands)
+    at rest (left first told stands) = beside u s r rs first told (rest _ _ stands)
 
 -- the unit after the records still stands for a course
 pub standing-after : {rs : List (List ℕ)} → Records rs → {u : State} {s : Course} → Standing u s →
@@ -127,7 +138,7 @@ standing-after (more {r = r} {rs = rs} b h more-records) {u} {s} v =
     at : ((n : State) (t : Course) → Standing n t → (x : Course) × Standing (unitAfter n rs) x) → Next v r b →
         (x : Course) × Standing (unitAfter (unitCall u r .state) rs) x
     at rest (called k step first told) = rest _ _ (step .standing)
-    at rest (moved e stands) = rest _ _ stands
+    at rest (left first told stands) = rest _ _ stands
 
 pub sessions : Sessions
 unfolding Sessions

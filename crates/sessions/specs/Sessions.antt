@@ -66,6 +66,7 @@ use Rattle.unit_state.specs.declared.answer.Answer.the-variants.{
   Away,
   TakenUp,
   Room,
+  Day,
   Number,
   NoCall,
 }
@@ -186,7 +187,8 @@ awayOf u r = putsAway (sessionIn u) (frontOf u r)
 unfoldable pub takenOf : State → List ℕ → Call
 takenOf u r = takesUp (sessionIn u) (frontOf u r)
 
--- the call of a record of this kind, before the calls ks; `I` is "the host's own doing, no call of the unit"
+-- the call of a record of this kind, before the calls ks; `I` is "the host's own doing, no call of the unit", and `V`
+-- asks the calendar alone, no call of demand 3
 abbrev pub callFirst : Kind → State → List ℕ → List Call → List Call
 callFirst kind.Frame u r ks = frameOf u r ∷ ks
 callFirst kind.File u r ks = putOf u r ∷ ks
@@ -195,6 +197,7 @@ callFirst kind.Journal u r ks = handedOf u r ∷ ks
 callFirst kind.Away u r ks = awayOf u r ∷ ks
 callFirst kind.TakeUp u r ks = takenOf u r ∷ ks
 callFirst kind.Image u r ks = ks
+callFirst kind.ValueDay u r ks = ks
 callFirst kind.NoCall u r ks = ks
 
 -- the calls of these records
@@ -219,6 +222,7 @@ bytesIn Unchanged buffer room = []
 bytesIn (Away n) buffer room = take n room
 bytesIn TakenUp buffer room = []
 bytesIn Room buffer room = []
+bytesIn (Day d) buffer room = []
 bytesIn (Number n) buffer room = []
 bytesIn NoCall buffer room = []
 
@@ -238,6 +242,7 @@ answerFirst kind.Journal t ts = t ∷ ts
 answerFirst kind.Away t ts = t ∷ ts
 answerFirst kind.TakeUp t ts = t ∷ ts
 answerFirst kind.Image t ts = ts
+answerFirst kind.ValueDay t ts = ts
 answerFirst kind.NoCall t ts = t ∷ ts
 
 -- by the unit, call by call

@@ -21,6 +21,7 @@ use Rattle.unit_state.specs.declared.answer.Answer.the-variants.{
   Away,
   TakenUp,
   Room,
+  Day,
   Number,
   NoCall,
 }
@@ -36,6 +37,7 @@ isClosed Unchanged = false
 isClosed (Away n) = false
 isClosed TakenUp = false
 isClosed Room = false
+isClosed (Day d) = false
 isClosed (Number n) = false
 isClosed NoCall = false
 
@@ -50,6 +52,7 @@ wordIn x Unchanged = x
 wordIn x (Away n) = x
 wordIn x TakenUp = x
 wordIn x Room = x
+wordIn x (Day d) = x
 wordIn x (Number n) = x
 wordIn x NoCall = x
 
@@ -63,6 +66,7 @@ nameIn x Unchanged = x
 nameIn x (Away n) = x
 nameIn x TakenUp = x
 nameIn x Room = x
+nameIn x (Day d) = x
 nameIn x (Number n) = x
 nameIn x NoCall = x
 

@@ -6,6 +6,9 @@ use mathlib.Core.List.{List}
 use lib.Dec.{eqb}
 use lib.ListN.{length, take}
 use Rattle.octets.specs.Bytes.{overwrite}
+use Rattle.calendar.specs.declared.value_day.ValueDay.{ValueDay}
+use Rattle.calendar.specs.declared.value_day.ValueDay.the-variants as value
+use Rattle.calendar.specs.ValueDay.{valueDay, answered}
 use Rattle.bank_state.specs.Store.{partAt, withPart, fileOf}
 use Rattle.bank.specs.declared.call.FrameAnswer.{FrameAnswer}
 use Rattle.bank.specs.declared.call.FrameAnswer.the-variants as frame-answer
@@ -46,6 +49,7 @@ use Rattle.unit_state.specs.declared.answer.Answer.the-variants.{
   Away,
   TakenUp,
   Room,
+  Day,
   Number,
   NoCall,
 }
@@ -64,6 +68,7 @@ use Rattle.unit_state.specs.Records.{
   nonceOf,
   lentLengthOf,
   offsetOf,
+  bookingTimeOf,
   bodyOf,
   isRun,
   roomBytes,
@@ -125,6 +130,11 @@ abbrev pub takenUpAnswer : taken-up.TakenUp → Answer
 takenUpAnswer up.Done = TakenUp
 takenUpAnswer up.WrongLength = Number (takenUpNumber up.WrongLength)
 takenUpAnswer up.NotAdmitted = Number (takenUpNumber up.NotAdmitted)
+
+-- the answer of a value day
+abbrev pub valueDayAnswer : ValueDay → Answer
+valueDayAnswer (value.Day d) = Day d
+valueDayAnswer value.TooLate = Number (answered value.TooLate .number)
 
 -- `F`: a frame to the bank
 unfoldable pub frameStep : State → List ℕ → UnitCall
@@ -265,6 +275,10 @@ imageStep s r =
 abbrev pub unchanged : State → Answer → UnitCall
 unchanged s a = record { state = s; answer = a }
 
+-- `V`: "the value day of a booking"
+unfoldable pub valueDayStep : State → List ℕ → UnitCall
+valueDayStep s r = unchanged s (valueDayAnswer (valueDay (bookingTimeOf r)))
+
 abbrev pub stepOf : Kind → State → List ℕ → UnitCall
 stepOf kind.Frame s r = frameStep s r
 stepOf kind.File s r = fileStep s r
@@ -273,6 +287,7 @@ stepOf kind.Journal s r = journalStep s r
 stepOf kind.Away s r = awayStep s r
 stepOf kind.TakeUp s r = takeUpStep s r
 stepOf kind.Image s r = imageStep s r
+stepOf kind.ValueDay s r = valueDayStep s r
 stepOf kind.NoCall s r = unchanged s NoCall
 
 -- one call of the record r on the unit; rooms of another length get number 1, "a lent length differs"

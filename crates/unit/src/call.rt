@@ -9,6 +9,8 @@ use bank_session::calls::put_file;
 use bank_state::limits::ID_BYTES;
 use bank_state::store::append;
 use bank_state::store::file_of;
+use calendar::value_day::ValueDay;
+use calendar::value_day::value_day;
 use client::calls::Client;
 use client::calls::Outcome;
 use client::journal_call::JournalAnswer;
@@ -22,6 +24,7 @@ use journal::event::RECORD_COUNT;
 use message::limits::FILE_BYTES;
 use number_table::table::MAILBOX_FULL;
 use number_table::table::NO_MAILBOX;
+use number_table::table::TOO_LATE;
 use number_table::table::WRONG_FILE;
 use number_table::table::WRONG_LENGTH;
 use octets::bytes::copy;
@@ -34,6 +37,7 @@ use unit_rows::runs::run_at;
 use unit_rows::runs::set_run;
 use unit_state::answer::Answer;
 use unit_state::record::BANK_TIME_AT;
+use unit_state::record::BOOKING_AT;
 use unit_state::record::Event;
 use unit_state::record::FIRST_AT;
 use unit_state::record::FIRST_BYTES;
@@ -61,10 +65,11 @@ ghost use mathlib.Core.List.{List};
 ghost use Prim.Native.Nat.{ℕ, _≤_, _<_};
 ghost use lib.ListN.{length};
 ghost use Rattle.message.specs.Limits.{fileBytes};
+ghost use Rattle.calendar.specs.ValueDay.{valueDay};
 ghost use Rattle.bank_steps.specs.Lent.{Lent, lent};
 ghost use Rattle.client_run.specs.Run.{lentOf};
 ghost use Rattle.client.specs.Calls.{callOf, beginCall};
-ghost use Rattle.unit_state.specs.Records.{headOf, timeOf, nonceOf, runOf, isRun, runCount};
+ghost use Rattle.unit_state.specs.Records.{headOf, timeOf, nonceOf, bookingTimeOf, runOf, isRun, runCount};
 ghost use Rattle.journal.specs.declared.event.Event as row-event;
 ghost use Rattle.unit_state.specs.declared.state.Run.{Run};
 ghost use Rattle.unit_state.specs.declared.state.UnitState.{UnitState};
@@ -74,7 +79,7 @@ ghost use Rattle.unit.specs.State.{Memory, memory, stateOf};
 ghost use Rattle.unit.specs.Call.{Ready, roomsRight, afterCall, frameAnswer, fileAnswer, runAnswer};
 ghost use Rattle.unit.specs.Call.{journalAnswer, frameStep, fileStep, indexOf, begins, paramsOf, eventCall};
 ghost use Rattle.unit.specs.Call.{roomCall, keeps, withClient, nextRun, keptPayloads, runCallOf, runCall};
-ghost use Rattle.unit.specs.Call.{runStep, journalStep, unitCall};
+ghost use Rattle.unit.specs.Call.{runStep, journalStep, valueDayAnswer, unitCall};
 
 // A run after a call, and the call's answer.
 struct RunOut {
@@ -126,6 +131,23 @@ fn journal_answer(answer: JournalAnswer, client: Client) -> Answer
         JournalAnswer::Unchanged => Answer::Unchanged,
         JournalAnswer::WrongLength => Answer::Number(WRONG_LENGTH),
     }
+}
+
+// What a value day says.
+fn value_day_answer(answer: ValueDay) -> Answer
+    ensures { λ r. ⌜ r ≡ valueDayAnswer answer ⌝ }
+{
+    match answer {
+        ValueDay::Day(date) => Answer::Day(date),
+        ValueDay::TooLate => Answer::Number(TOO_LATE),
+    }
+}
+
+// The value day of the booking time in a record.
+fn value_day_call(record: &[u8]) -> Answer
+    ensures { λ r. ⌜ r ≡ valueDayAnswer (valueDay (bookingTimeOf (now («record» .entry)))) ⌝ }
+{
+    value_day_answer(value_day(number_at(record, BOOKING_AT, TIME_BYTES)))
 }
 
 // The nonce bytes of a record.
@@ -518,6 +540,7 @@ pub fn call(
         Kind::Away => away_call(row, record, rows, orders, mailboxes, room),
         Kind::TakeUp => take_up_call(row, record, rows, orders, mailboxes, room),
         Kind::Image => image_call(record, room),
+        Kind::ValueDay => value_day_call(record),
         Kind::NoCall => Answer::NoCall,
     }
 }

@@ -16,7 +16,17 @@ use Rattle.octets.proofs.Tests.{never, and-true}
 use Rattle.unit_state.specs.declared.record.Event.{Event}
 use Rattle.unit_state.specs.declared.record.Event.the-variants.{Upload, Download, Reply, NoReply}
 use Rattle.unit_state.specs.declared.record.Kind.{Kind}
-use Rattle.unit_state.specs.declared.record.Kind.the-variants.{Frame, File, Run, Journal, Away, TakeUp, Image, NoCall}
+use Rattle.unit_state.specs.declared.record.Kind.the-variants.{
+  Frame,
+  File,
+  Run,
+  Journal,
+  Away,
+  TakeUp,
+  Image,
+  ValueDay,
+  NoCall,
+}
 use Rattle.unit_state.specs.Records.{
   kindOf,
   sizeBytes,
@@ -79,6 +89,7 @@ head-within Journal = omega arith
 head-within Away = omega arith
 head-within TakeUp = omega arith
 head-within Image = omega arith
+head-within ValueDay = omega arith
 head-within NoCall = omega arith
 
 -- a length stands in the last bytes of a head
@@ -93,6 +104,7 @@ length-head Journal h = omega arith
 length-head Away h = omega arith
 length-head TakeUp h = omega arith
 length-head Image h = omega arith
+length-head ValueDay h = omega arith
 length-head NoCall h = never h
 
 pub nothing-whole : (k : Kind) (r : List ℕ) → length r < 1 → isWhole k r ≡ false

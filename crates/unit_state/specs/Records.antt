@@ -18,10 +18,11 @@ use Rattle.unit_state.specs.declared.record.Kind.the-variants.{
   Away,
   TakeUp,
   Image,
+  ValueDay,
   NoCall,
 }
 
--- the letters F, M, U, D, R, N, J, P, T and I
+-- the letters F, M, U, D, R, N, J, P, T, I and V
 unfoldable pub kindOf : ℕ → Kind
 kindOf letter =
     decide
@@ -35,6 +36,7 @@ kindOf letter =
     ∷ (eqb letter 80, Away)
     ∷ (eqb letter 84, TakeUp)
     ∷ (eqb letter 73, Image)
+    ∷ (eqb letter 86, ValueDay)
     ∷ [])
     NoCall
 
@@ -102,6 +104,10 @@ nonceAt = firstAt + firstBytes
 abbrev pub extentAt : ℕ
 extentAt = letterBytes
 
+-- V: the booking time
+abbrev pub bookingAt : ℕ
+bookingAt = letterBytes
+
 -- the bytes of a record before those that its length counts: the letter, then the parts in their order
 abbrev pub headOf : Kind → ℕ
 -- "bank time 8, ID bytes 8, length 2"
@@ -123,6 +129,8 @@ headOf Away = extentAt + extentBytes
 headOf TakeUp = extentAt + extentBytes
 -- "offset 4, length 2"
 headOf Image = extentAt + extentBytes + sizeBytes
+-- "booking time 8"
+headOf ValueDay = bookingAt + timeBytes
 headOf NoCall = letterBytes
 
 -- whether a length stands at the end of the head
@@ -137,6 +145,7 @@ hasLength Journal = false
 hasLength Away = false
 hasLength TakeUp = false
 hasLength Image = true
+hasLength ValueDay = false
 hasLength NoCall = false
 
 -- n bytes of a record r from a place on, and their number
@@ -183,6 +192,10 @@ lentLengthOf r = numberAt extentAt extentBytes r
 abbrev pub offsetOf : List ℕ → ℕ
 offsetOf r = numberAt extentAt extentBytes r
 
+-- V: the booking time
+abbrev pub bookingTimeOf : List ℕ → ℕ
+bookingTimeOf r = numberAt bookingAt timeBytes r
+
 -- what the length says, and the frame, file, payload, reply or bytes that it counts
 unfoldable pub sizeOf : Kind → List ℕ → ℕ
 sizeOf k r = cond (hasLength k) (numberAt (headOf k - sizeBytes) sizeBytes r) 0
@@ -215,6 +228,7 @@ isWithin Journal r = isRun (runOf r)
 isWithin Away r = inRoom 0 (lentLengthOf r)
 isWithin TakeUp r = inRoom 0 (lentLengthOf r)
 isWithin Image r = inRoom (offsetOf r) (sizeOf Image r)
+isWithin ValueDay r = true
 isWithin NoCall r = false
 
 -- a record of this kind that is not cut short
@@ -237,4 +251,5 @@ isCall Journal = true
 isCall Away = true
 isCall TakeUp = true
 isCall Image = true
+isCall ValueDay = true
 isCall NoCall = false

@@ -35,7 +35,7 @@ pub const SIZE_BYTES: usize = 2;
 pub const EXTENT_BYTES: usize = 4;
 
 // Where the parts begin, each behind the one before it: those of a frame to the bank, of a file, of a call to a run,
-// and of one on the image room.
+// of one on the image room, and of one for a value day.
 pub const BANK_TIME_AT: usize = LETTER_BYTES;
 
 pub const IDS_AT: usize = BANK_TIME_AT + TIME_BYTES;
@@ -54,6 +54,8 @@ pub const NONCE_AT: usize = FIRST_AT + FIRST_BYTES;
 
 pub const EXTENT_AT: usize = LETTER_BYTES;
 
+pub const BOOKING_AT: usize = LETTER_BYTES;
+
 // The bytes of an upload's head, the longest one.
 pub const UPLOAD_HEAD: usize = NONCE_AT + NONCE_BYTES + SIZE_BYTES;
 
@@ -69,7 +71,7 @@ pub enum Event {
 }
 
 // What a record is: a call to the bank, a call to a client run, the journal handed to a run, the session put away or
-// taken up, bytes for the image room, or no call.
+// taken up, bytes for the image room, the value day of a booking, or no call.
 pub enum Kind {
     Frame,
     File,
@@ -78,6 +80,7 @@ pub enum Kind {
     Away,
     TakeUp,
     Image,
+    ValueDay,
     NoCall,
 }
 
@@ -96,6 +99,7 @@ pub fn kind_of(letter: u8) -> Kind
         b'P' => Kind::Away,
         b'T' => Kind::TakeUp,
         b'I' => Kind::Image,
+        b'V' => Kind::ValueDay,
         _ => Kind::NoCall,
     }
 }
@@ -124,6 +128,7 @@ pub fn head_of(kind: Kind) -> usize
         Kind::Away => EXTENT_AT + EXTENT_BYTES,
         Kind::TakeUp => EXTENT_AT + EXTENT_BYTES,
         Kind::Image => EXTENT_AT + EXTENT_BYTES + SIZE_BYTES,
+        Kind::ValueDay => BOOKING_AT + TIME_BYTES,
         Kind::NoCall => LETTER_BYTES,
     }
 }
@@ -152,6 +157,7 @@ fn has_length(kind: Kind) -> bool
         Kind::Away => false,
         Kind::TakeUp => false,
         Kind::Image => true,
+        Kind::ValueDay => false,
         Kind::NoCall => false,
     }
 }
@@ -234,6 +240,7 @@ fn is_within(kind: Kind, s: &[u8]) -> bool
         Kind::Away => in_room(0, lent_length(s)),
         Kind::TakeUp => in_room(0, lent_length(s)),
         Kind::Image => in_room(offset_of(s), size_of(kind, s)),
+        Kind::ValueDay => true,
         Kind::NoCall => false,
     }
 }
@@ -278,6 +285,7 @@ pub fn is_call(kind: Kind) -> bool
         Kind::Away => true,
         Kind::TakeUp => true,
         Kind::Image => true,
+        Kind::ValueDay => true,
         Kind::NoCall => false,
     }
 }

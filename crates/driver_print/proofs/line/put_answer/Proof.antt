@@ -52,13 +52,20 @@ returns-9 c = rw (c .before .before .before .before .before .enum-told5 .given .
 
 returns-10 : tie.Need-returns-10
 returns-10 c =
-    let at-number = c .before .before in
-    let at-text = at-number .before .before .before .before in
+    let at-day = c .before .before in
+    let at-text = at-day .before .before .before .before in
     let told = at-text .before .before .before .before .answer5 .given .1 in
-    rw told (put-then (at-text .put-text7 .ensures) (at-number .put-decimal .ensures))
+    rw told (put-then (at-text .put-text7 .ensures) (at-day .put-day .ensures))
 
 returns-11 : tie.Need-returns-11
-returns-11 c = rw (c .enum-told6 .given .1) (put-nothing _ _ (omega arith))
+returns-11 c =
+    let at-number = c .before .before in
+    let at-text = at-number .before .before .before .before in
+    let told = at-text .before .before .before .before .answer6 .given .1 in
+    rw told (put-then (at-text .put-text8 .ensures) (at-number .put-decimal .ensures))
+
+returns-12 : tie.Need-returns-12
+returns-12 c = rw (c .enum-told6 .given .1) (put-nothing _ _ (omega arith))
 
 pub put-answer-spec : {M : Type 1} → statement M
 put-answer-spec =
@@ -99,6 +106,10 @@ put-answer-spec =
     (λ c κs. search needs)
     (λ c. search needs)
     (λ c. search needs)
+    (λ c κs. search needs)
+    (λ c κs. search needs)
+    (λ c. search needs)
+    (λ c. search needs)
     returns
     (λ c. search needs)
     returns-2
@@ -118,4 +129,6 @@ put-answer-spec =
     returns-9
     (λ c. search needs)
     returns-10
-    returns-11)
+    (λ c. search needs)
+    returns-11
+    returns-12)

@@ -6,10 +6,20 @@ use lib.ListN.{length}
 use borrow.Author.Tests.{not-true, not-false}
 use Rattle.bank_steps.specs.Lent.{lent}
 use Rattle.unit_state.specs.declared.record.Kind.{Kind}
-use Rattle.unit_state.specs.declared.record.Kind.the-variants.{Frame, File, Run, Journal, Away, TakeUp, Image, NoCall}
+use Rattle.unit_state.specs.declared.record.Kind.the-variants.{
+  Frame,
+  File,
+  Run,
+  Journal,
+  Away,
+  TakeUp,
+  Image,
+  ValueDay,
+  NoCall,
+}
 use Rattle.unit_rows.specs.Rows.{unitFrom}
 use Rattle.unit.specs.State.{State, memory, stateOf}
-use Rattle.unit.specs.Call.{UnitCall, stepOf, unitCall}
+use Rattle.unit.specs.Call.{UnitCall, valueDayStep, stepOf, unitCall}
 use Rattle.unit.proofs.Begins.{RoomsLengths, rooms-lengths}
 use Rattle.unit.proofs.Steps.{handed-run, ready, called}
 use Rattle.unit.proofs.ImageRoom.{away-within, image-within}
@@ -111,7 +121,13 @@ returns-8 c =
     by-kind (at-told .before .before) Image _ (at-told .enum-told6 .given .1) (at-image .image-call .ensures _ _ _ _ _)
 
 returns-9 : tie.Need-returns-9
-returns-9 c = by-kind (c .before .before) NoCall _ (c .enum-told7 .given .1) refl
+unfolding valueDayStep
+returns-9 c =
+    let at-told = c .before in
+    by-kind (at-told .before .before) ValueDay _ (at-told .enum-told7 .given .1) (rw (c .value-day-call .ensures))
+
+returns-10 : tie.Need-returns-10
+returns-10 c = by-kind (c .before .before) NoCall _ (c .enum-told8 .given .1) refl
 
 pub call-spec : {M : Type 1} → statement M
 call-spec =
@@ -134,6 +150,8 @@ call-spec =
     (λ c κs. search needs)
     (λ c. search needs)
     image-call-requires
+    (λ c. search needs)
+    (λ c κs. tt)
     (λ c. search needs)
     (λ c. search needs)
     (λ c. search needs)
@@ -160,4 +178,5 @@ call-spec =
     returns-7
     (λ c. search needs)
     returns-8
-    returns-9)
+    returns-9
+    returns-10)

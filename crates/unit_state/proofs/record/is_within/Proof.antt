@@ -47,9 +47,11 @@ is-within-spec =
     (λ c. search needs)
     (λ c. search needs)
     (λ c. search needs)
+    (λ c. search needs)
     returns-3
     returns-4
     returns-5
     returns-6
     returns-7
+    (λ c. search needs)
     (λ c. search needs))
