@@ -31,7 +31,6 @@ use unit::call::call;
 use unit_rows::events::ROW_SIZE;
 use unit_rows::runs::NONCES_SIZE;
 use unit_rows::runs::RUNS_SIZE;
-use unit_rows::whole::unit_of;
 use unit_state::record::ROOM_BYTES;
 use unit_state::state::ROOMS_BYTES;
 
@@ -80,14 +79,12 @@ fn say_before(
             STDOUT_FILENO,
             b"exercise C: each order's closing word beside what the bank has\n",
         );
-        let u = unit_of(runs, nonces, row);
-        say_results(u, &bank_numbers(rows), orders, files);
+        say_results(runs, nonces, &bank_numbers(rows), orders, files);
     } else if i == MOVES {
         let numbers = bank_numbers(rows);
-        let u = unit_of(runs, nonces, row);
-        say_handed(u, &numbers, orders, files);
+        say_handed(runs, nonces, &numbers, orders, files);
         say_book(&numbers);
-        say_days(u);
+        say_days(row);
     }
 }
 

@@ -32,7 +32,11 @@ use print::book::BOOK_ROOM;
 use print::book::book;
 use print::day::DAY_ROOM;
 use print::day::put_day;
-use unit_state::state::UnitState;
+use unit_rows::events::ROW_SIZE;
+use unit_rows::events::record_at;
+use unit_rows::runs::NONCES_SIZE;
+use unit_rows::runs::RUNS_SIZE;
+use unit_rows::runs::run_at;
 
 // Whether two byte rows are the same.
 fn same_bytes(a: &[u8], b: &[u8]) -> bool {
@@ -206,10 +210,16 @@ fn say_run(c: ClientRun, i: usize, rows: &[u64; STATE_SIZE], orders: &[u8], file
 }
 
 // The rows of all client runs.
-pub(crate) fn say_results(u: UnitState, rows: &[u64; STATE_SIZE], orders: &[u8], files: &[u8]) {
+pub(crate) fn say_results(
+    runs: &[u64; RUNS_SIZE],
+    nonces: &[u8; NONCES_SIZE],
+    rows: &[u64; STATE_SIZE],
+    orders: &[u8],
+    files: &[u8],
+) {
     let mut i = 0;
     while i < RUN_COUNT {
-        let r = u.runs[i];
+        let r = run_at(runs, nonces, i);
         let c = r.client.run;
         say_run(c, i, rows, orders, files);
         i += 1;
@@ -217,9 +227,15 @@ pub(crate) fn say_results(u: UnitState, rows: &[u64; STATE_SIZE], orders: &[u8],
 }
 
 // The rows of the runs that were handed the journal: client runs 4 and 6.
-pub(crate) fn say_handed(u: UnitState, rows: &[u64; STATE_SIZE], orders: &[u8], files: &[u8]) {
-    let fourth = u.runs[3];
-    let sixth = u.runs[5];
+pub(crate) fn say_handed(
+    runs: &[u64; RUNS_SIZE],
+    nonces: &[u8; NONCES_SIZE],
+    rows: &[u64; STATE_SIZE],
+    orders: &[u8],
+    files: &[u8],
+) {
+    let fourth = run_at(runs, nonces, 3);
+    let sixth = run_at(runs, nonces, 5);
     let c = fourth.client;
     let d = sixth.client;
     say_run(c.run, 3, rows, orders, files);
@@ -268,10 +284,10 @@ fn say_event(e: Event) {
 }
 
 // The day on which each booked order is executed.
-pub(crate) fn say_days(u: UnitState) {
+pub(crate) fn say_days(row: &[u64; ROW_SIZE]) {
     let mut i = 0;
     while i < RECORD_COUNT {
-        let e = u.journal[i];
+        let e = record_at(row, i);
         say_event(e);
         i += 1;
     }

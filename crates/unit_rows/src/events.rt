@@ -19,7 +19,7 @@ const EVENT_WIDTH: usize = 6;
 pub const ROW_SIZE: usize = RECORD_COUNT * EVENT_WIDTH;
 
 // Record i.
-fn record_at(row: &[u64; ROW_SIZE], i: usize) -> Event
+pub fn record_at(row: &[u64; ROW_SIZE], i: usize) -> Event
     requires { ⌜ i < recordCount ⌝ }
     ensures { λ r. ⌜ r ≡ getD (journalFrom (now (row .entry))) i noEvent ⌝ }
 {

@@ -6,10 +6,10 @@ use Rattle.exercises.proofs.results.say_days.Statement.{statement}
 use Rattle.exercises.proofs.results.say_days.Tie as tie
 
 abbrev Inv-loop : tie.InvT-loop
-Inv-loop u i₀ i = 0 ≤ i
+Inv-loop row i₀ i = 0 ≤ i
 
 abbrev μ-loop : tie.MeasureT-loop
-μ-loop u i₀ i = 64 - i
+μ-loop row i₀ i = 64 - i
 
 pub say-days-spec : {M : Type 1} → statement M
 say-days-spec =
@@ -18,8 +18,7 @@ say-days-spec =
     Inv-loop
     μ-loop
     (λ c. omega arith)
-    (λ c. search needs)
-    (λ c. search needs)
+    (λ c κs. search needs)
     (λ c κs. tt)
     (λ c. search needs)
     (λ c. search needs)
