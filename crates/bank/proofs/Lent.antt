@@ -50,6 +50,7 @@ same-segment (verdict.Of t (action.Download (down.Point k))) w q d s size = refl
 same-segment (verdict.Of t (action.Download down.Cancelled)) w q d s size = refl
 same-segment (verdict.Of t (action.Download down.Confirmed)) w q d s size = refl
 same-segment (verdict.Of t (action.Download down.Declined)) w q d s size = refl
+same-segment (verdict.Signed n added) w q d s size = refl
 
 pub respond-kept : (m : Lent) (v : Verdict) (q : Fields) (d : List ℕ) {u : Verdict} {x : Lent} {n k : ℕ}
     {buffer after : List ℕ} {a : FrameAnswer} → u ≡ v → x ≡ keptIn m (carryOut v (stateOf m) q d)

@@ -302,6 +302,7 @@ module _ (w : BankState) (range : InRange (w .bank)) (long : length (w .mailboxe
   case-written {first = first} {d = d} small (opensDownload asked a g n) = download-opening-written d first small a g n
   case-written {d = d} small (toUpload k u c) = upload-written d k u c
   case-written {d = d} small (toDownload k u c) = download-written d k u c
+  case-written small (cases.signs c) = refused-written code.Ok
 
 -- ---- every request
 

@@ -11,7 +11,7 @@ use Rattle.message.specs.Segments.{segmentsOf}
 use Rattle.bank_state.specs.declared.state.Place.{Place}
 use Rattle.bank_state.specs.declared.state.Use.{Use}
 use Rattle.bank_state.specs.declared.state.Use.the-variants.{Free, Open, Booked}
-use Rattle.bank_state.specs.Limits.{placeCount}
+use Rattle.bank_state.specs.Limits.{placeCount, allSigners}
 use Rattle.bank_state.specs.Search.{isOpen}
 use Rattle.bank_state.specs.State.{BankState, noPlace, placeAt, downloadAt, fileLength}
 use Rattle.bank_state.specs.Store.{partAt}
@@ -50,6 +50,15 @@ module _ (w : BankState) (v : StateHolds w) where
       at Open p = let a = p .below in let b = p .few in let c = p .largest in omega arith
       at Booked p = p .room
 
+  place-signed : (i : ℕ) → i < placeCount → placeAt (w .bank) i .signers ≤ allSigners
+  place-signed i l = at (placeAt (w .bank) i .used) (v .places i l)
+    where
+      at : (u : Use) → PlaceHolds u (w .bank .clock) (w .bank .openings) (placeAt (w .bank) i) (partAt (w .orders) i) →
+          placeAt (w .bank) i .signers ≤ allSigners
+      at Free p = let z = ap (λ (r : Place). r .signers) (p .empty) in omega arith
+      at Open p = let z = p .unsigned in omega arith
+      at Booked p = p .signed
+
   delivered-within : (j : ℕ) → downloadAt (w .bank) j .used ≡ true →
       downloadAt (w .bank) j .delivered ≤ segmentsOf (fileLength (downloadAt (w .bank) j .subscriber) (w .bank .files))
   delivered-within j u =
@@ -61,6 +70,7 @@ module _ (w : BankState) (v : StateHolds w) where
   state-in-range = record {
     files = λ i l. v .mailboxesHold i l .room;
     lengths = place-short;
+    signers = place-signed;
     few = λ i o. open-place i o .few;
     below = λ i o. open-place i o .below;
     largest = λ i o. open-place i o .largest;

@@ -28,12 +28,14 @@ use Rattle.bank_steps.proofs.Cases.{
   opensDownload,
   toUpload,
   toDownload,
+  signs,
   happens,
 }
 use Rattle.bank_admitted.proofs.Reading.{transfer-data}
 use Rattle.bank_admitted.proofs.Uploads.{upload-keeps}
 use Rattle.bank_admitted.proofs.Downloads.{download-keeps}
 use Rattle.bank_admitted.proofs.Openings.{opens-upload, opens-download}
+use Rattle.bank_admitted.proofs.Signings.{signing-keeps}
 use Rattle.bank_admitted.proofs.Clock.{advanced-keeps, advanced-not-idle}
 use Rattle.bank_admitted.proofs.Files.{FileSound, rejected, done, judged-file, filled-keeps}
 use Rattle.bank_admitted.proofs.NotIdle.{case-not-idle}
@@ -48,6 +50,7 @@ module _ (k : Context) (w : BankState) (v : StateHolds w) (q : Fields) (d : List
   case-keeps some (opensDownload asked a g n) = opens-download (k .prefix) w v q (length d) a g n
   case-keeps some (toUpload r a t) = upload-keeps w v q d r a some t
   case-keeps some (toDownload r a t) = download-keeps w v q d r a t
+  case-keeps some (signs t) = signing-keeps w v q d t
 
   pub respond-keeps : (form q ≡ forms.UploadTransfer → 1 ≤ length d) → StateHolds (respond k w q d .bankState)
   unfolding respond

@@ -11,6 +11,7 @@ pub mod DownloadChange
 pub mod Uploads
 pub mod Downloads
 pub mod Openings
+pub mod Signings
 pub mod Clock
 pub mod Files
 pub mod InRange
@@ -20,6 +21,7 @@ pub mod JournalKept
 pub mod NoncesKept
 pub mod OpeningRead
 pub mod DropsKept
+pub mod Signers
 pub mod RequestKept
 pub mod SessionKept
 pub mod Fresh

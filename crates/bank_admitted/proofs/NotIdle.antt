@@ -19,12 +19,13 @@ use Rattle.bank_state.specs.Search.{isOpen, freePlace, freeDownload}
 use Rattle.bank_state.specs.State.{BankState, noPlace, noDownload, placeAt}
 use Rattle.bank_state.proofs.Drops.{each-endDownloads}
 use Rattle.bank_openings.specs.Openings.{counted, countedUpload, openUpload, openDownload}
+use Rattle.bank_signing.specs.Signings.{sign}
 use Rattle.bank_verdicts.specs.declared.verdict.TransactionRequest.{TransactionRequest}
 use Rattle.bank_verdicts.specs.declared.verdict.UploadAction.{UploadAction}
 use Rattle.bank_verdicts.specs.declared.verdict.UploadAction.the-variants as up
 use Rattle.bank_verdicts.specs.declared.verdict.DownloadAction.{DownloadAction}
 use Rattle.bank_verdicts.specs.declared.verdict.Verdict.{Verdict}
-use Rattle.bank_verdicts.specs.Judgement.{uploadAt, downloadOf}
+use Rattle.bank_verdicts.specs.Judgement.{orderAt, uploadAt, downloadOf}
 use Rattle.bank_verdicts.proofs.Sound.{
   DownloadSound,
   delivered,
@@ -46,6 +47,7 @@ use Rattle.bank_steps.proofs.Cases.{
   opensDownload,
   toUpload,
   toDownload,
+  signs,
   upload-acts,
 }
 
@@ -106,7 +108,7 @@ module _ (w : BankState) (notIdle : NoneIdle w) where
 
   pub case-not-idle : (first : ℕ) (q : Fields) (d : List ℕ) {v : Verdict} → length (w .bank .places) ≡ placeCount →
       Happens first w q d v → NoneIdle (carryOut v w q d)
-  unfolding openUpload openDownload countedUpload counted
+  unfolding openUpload openDownload countedUpload counted sign
   case-not-idle first q d long unreadable = notIdle
   case-not-idle first q d long (refused c e) = notIdle
   case-not-idle first q d long (opensUpload asked a g n inside below) =
@@ -117,3 +119,9 @@ module _ (w : BankState) (notIdle : NoneIdle w) where
       subst NoneIdle (sym (upload-acts (placeAt (w .bank) (uploadAt (w .bank) q) .transaction) t))
       (upload-not-idle long (uploadAt (w .bank) q) (t .inside) a d)
   case-not-idle first q d long (toDownload r a t) = download-not-idle q _ (t .sound)
+  case-not-idle first q d long (signs t) = record {
+    places =
+        place-set long (orderAt (w .bank) q) _ (t .signable .inside)
+        (notIdle .places (orderAt (w .bank) q) (t .signable .inside));
+    downloads = notIdle .downloads;
+  }

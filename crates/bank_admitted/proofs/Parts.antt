@@ -17,6 +17,7 @@ use Rattle.bank_state.specs.declared.state.Download.{Download}
 use Rattle.bank_state.specs.declared.state.Place.{Place}
 use Rattle.bank_state.specs.declared.state.Use.{Use}
 use Rattle.bank_state.specs.declared.state.Use.the-variants.{Free, Open, Booked}
+use Rattle.bank_state.specs.Limits.{allSigners}
 use Rattle.bank_openings.specs.Openings.{newPlace, newDownload}
 use Rattle.bank_uploads.specs.Uploads.{grown, booked, attempted}
 use Rattle.bank_downloads.specs.Downloads.{movedTo}
@@ -44,8 +45,15 @@ module _ (c c′ o o′ : ℕ) (later : c ≤ c′) (grow : o ≤ o′) where
     current = let k = s .current in omega arith;
     least = s .least;
     largest = s .largest;
+    unsigned = s .unsigned;
   }
-  place-later p bytes Booked s = record { place = used-later (s .place); over = s .over; some = s .some; room = s .room }
+  place-later p bytes Booked s = record {
+    place = used-later (s .place);
+    over = s .over;
+    some = s .some;
+    room = s .room;
+    signed = s .signed;
+  }
 
   pub download-later : (file : List ℕ) (e : Download) (u : Bool) → DownloadHolds u c o file e → DownloadHolds u c′ o′ file e
   download-later file e false s = s
@@ -111,6 +119,7 @@ module _ (o : ℕ) (p : Place) (bytes : List ℕ) (c : ℕ) (u : OpenPlace c o p
     current = u .current;
     least = u .least;
     largest = u .largest;
+    unsigned = u .unsigned;
   }
 
   module _ (d : List ℕ) (one : 1 ≤ length d) (short : length d ≤ segmentBytes) (room : p .length + length d ≤ fileBytes)
@@ -138,6 +147,7 @@ module _ (o : ℕ) (p : Place) (bytes : List ℕ) (c : ℕ) (u : OpenPlace c o p
       current = omega arith;
       least = let k = u .least in omega arith;
       largest = let k = u .largest in omega arith;
+      unsigned = u .unsigned;
     }
 
     -- segment N taken: "Segment N books the order"
@@ -148,6 +158,7 @@ module _ (o : ℕ) (p : Place) (bytes : List ℕ) (c : ℕ) (u : OpenPlace c o p
       over = record { segments = refl; taken = refl; attempts = refl; last = refl };
       some = omega arith;
       room = room;
+      signed = omega arith;
     }
 
 -- an upload just opened, with its transaction ID and its order's number
@@ -163,6 +174,39 @@ place-opened o c number t q low known most some few = record {
   current = omega arith;
   least = omega arith;
   largest = omega arith;
+  unsigned = refl;
+}
+
+-- ---- a booked order
+
+-- the place with another set of signers
+abbrev pub withSigners : ℕ → Place → Place
+withSigners signers p = record {
+  used = p .used;
+  transaction = p .transaction;
+  subscriber = p .subscriber;
+  number = p .number;
+  segments = p .segments;
+  taken = p .taken;
+  attempts = p .attempts;
+  last = p .last;
+  length = p .length;
+  signers = signers;
+}
+
+pub place-signed : {o : ℕ} {p : Place} {bytes : List ℕ} (signers : ℕ) → signers ≤ allSigners → BookedPlace o p bytes →
+    BookedPlace o (withSigners signers p) bytes
+place-signed signers small s = record {
+  place = s .place;
+  over = record {
+    segments = s .over .segments;
+    taken = s .over .taken;
+    attempts = s .over .attempts;
+    last = s .over .last;
+  };
+  some = s .some;
+  room = s .room;
+  signed = small;
 }
 
 -- ---- a request to this download

@@ -16,7 +16,7 @@ use Rattle.bank_admitted.proofs.Rows.{each-set}
 use Rattle.bank_admitted.proofs.Series.{Further}
 use Rattle.bank_admitted.proofs.Parts.{place-later, download-later}
 
-alike-sym : (p r : Place) → Alike p r → Alike r p
+pub alike-sym : (p r : Place) → Alike p r → Alike r p
 alike-sym p r (inl e) = inl (sym e)
 alike-sym p r (inr (s, n)) = inr (sym s, sym n)
 

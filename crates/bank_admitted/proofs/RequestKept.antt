@@ -1,6 +1,6 @@
 -- What a request leaves of the rest of what a session may hold, the clock and the drops done, and what it enters.
 use Prim.Native.Nat.{ℕ, _+_, _*_, _^_, _≤_, _<_}
-use mathlib.Core.Bool.{Bool, true, false, cond}
+use mathlib.Core.Bool.{Bool, true, false, not, cond}
 use mathlib.Core.List.{
   List,
   [],
@@ -12,27 +12,32 @@ use mathlib.Core.List.{
 use mathlib.Core.Path.{_≡_, refl, sym, ap, _∙_, subst}
 use native.Mathlib.Omega.{arith}
 use lib.ListN.{length, getD, set}
+use borrow.Author.Tests.{le-leb}
 use Rattle.frame_table.specs.declared.fields.Bits128.{Bits128}
 use Rattle.frame_table.specs.declared.fields.Fields.{Fields}
 use Rattle.frame_table.specs.declared.table.Form.{Form}
-use Rattle.frame_table.specs.Names.{subscriber, nonce, timestamp, transaction, form}
+use Rattle.frame_table.specs.Names.{subscriber, nonce, timestamp, transaction, orderNumber, owner, form}
 use Rattle.frame_table.specs.Table.{lastTime, timestampTag, has, isRequestForm, tagsOf}
 use Rattle.bank_state.specs.declared.clock.Ended.{Ended}
 use Rattle.bank_state.specs.declared.state.Download.{Download}
 use Rattle.bank_state.specs.declared.state.Place.{Place}
 use Rattle.bank_state.specs.Clock.{endDownloads}
 use Rattle.bank_state.specs.Limits.{placeCount, nonceCount}
-use Rattle.bank_state.specs.Search.{isOpen, freePlace, freeDownload}
-use Rattle.bank_state.specs.State.{BankState, bankState, noPlace, noDownload, placeAt, downloadAt, seriesOf, withPlace, withDownloads, withFiles}
+use Rattle.bank_state.specs.Search.{isFree, isOpen, isBooked, freePlace, freeDownload, freeNonce}
+use Rattle.bank_state.specs.State.{Nonce, BankState, bankState, noPlace, noDownload, placeAt, downloadAt, seriesOf, withPlace, withDownloads, withFiles}
 use Rattle.bank_state.proofs.Drops.{each-endDownloads}
 use Rattle.bank_state.proofs.Found.{upload-found}
+use Rattle.bank_state.proofs.Rows.{first-passes}
+use Rattle.signers.specs.Signers.{bitCount, hasBit, isSigner, withSigner, signerCount}
+use Rattle.signers.proofs.Counts.{count-grows}
 use Rattle.bank_verdicts.specs.declared.verdict.TransactionRequest.{TransactionRequest}
 use Rattle.bank_verdicts.specs.declared.verdict.UploadAction.{UploadAction}
 use Rattle.bank_verdicts.specs.declared.verdict.DownloadAction.{DownloadAction}
 use Rattle.bank_verdicts.specs.declared.verdict.Action.the-variants as action
 use Rattle.bank_verdicts.specs.declared.verdict.Verdict.{Verdict}
 use Rattle.bank_verdicts.specs.declared.verdict.Verdict.the-variants as verdict
-use Rattle.bank_verdicts.specs.Judgement.{transactionOf, mailboxSegments, uploadAt, downloadOf}
+use Rattle.bank_verdicts.specs.Judgement.{transactionOf, mailboxSegments, orderAt, uploadAt, downloadOf}
+use Rattle.bank_verdicts.proofs.Signing.{order-found}
 use Rattle.bank_verdicts.proofs.Sound.{
   Readable,
   Acceptable,
@@ -51,14 +56,15 @@ use Rattle.bank_verdicts.proofs.Sound.{
   confirmed,
   declined,
 }
-use Rattle.bank_openings.specs.Openings.{counted, moved, countedUpload, newPlace, openUpload, newDownload, openDownload}
+use Rattle.bank_signing.specs.Signings.{sign}
+use Rattle.bank_openings.specs.Openings.{remembered, counted, moved, countedUpload, newPlace, openUpload, newDownload, openDownload}
 use Rattle.bank_uploads.specs.Uploads.{grown, booked, attempted}
 use Rattle.journal.specs.declared.event.Entry.{Entry}
 use Rattle.journal.specs.declared.event.Kind.{Kind}
 use Rattle.journal.specs.declared.event.Kind.the-variants as kind
-use Rattle.bank_events.specs.Entries.{entry, isEvent, orderIn, actionEntries}
+use Rattle.bank_events.specs.Entries.{entry, isEvent, signedKind, orderIn, actionEntries}
 use Rattle.bank_steps.specs.Steps.{uploadActs, downloadActs, carryOut}
-use Rattle.bank_admitted.specs.Session.{Words, NoncesApart, openUploads}
+use Rattle.bank_admitted.specs.Session.{Words, NoncesApart, openUploads, signersGiven}
 use Rattle.bank_steps.proofs.Cases.{
   ToUpload,
   ToDownload,
@@ -67,13 +73,19 @@ use Rattle.bank_steps.proofs.Cases.{
   refused,
   opensUpload,
   opensDownload,
+  ToOrder,
   toUpload,
   toDownload,
+  signs,
 }
+use Rattle.bank_admitted.proofs.Held.{open-in-use}
 use Rattle.bank_admitted.proofs.Series.{Further, further-same, moved-further, moved-own}
 use Rattle.bank_admitted.proofs.JournalKept.{EntryHolds}
 use Rattle.bank_admitted.proofs.NoncesKept.{nonces-counted}
 use Rattle.bank_admitted.proofs.Rows.{count-set, count-set-suc, each-set-all}
+use Rattle.bank_admitted.proofs.Parts.{withSigners}
+use Rattle.bank_admitted.proofs.PlaceChange.{changedAt}
+use Rattle.bank_admitted.proofs.Signers.{given-set, given-more, open-not-booked, free-not-booked}
 
 -- the halves of a transaction ID are numbers of eight bytes
 abbrev pub PlaceNumbered : Place → Type 0
@@ -92,9 +104,11 @@ pub record Found (w : BankState) : Type 0 where
   pub nonces : NoncesApart (w .bank .clock) (w .bank .nonces)
   pub places : (i : ℕ) → PlaceNumbered (placeAt (w .bank) i)
   pub downloads : (i : ℕ) → DownloadNumbered (downloadAt (w .bank) i)
-  pub named : (i : ℕ) → i < placeCount → isOpen (placeAt (w .bank) i .used) ≡ true →
+  pub named : (i : ℕ) → i < placeCount → isFree (placeAt (w .bank) i .used) ≡ false →
       placeAt (w .bank) i .number < seriesOf (placeAt (w .bank) i .subscriber) (w .bank .series)
   pub counters : length (w .bank .series) ≡ placeCount
+  pub unsigned : (i : ℕ) → i < placeCount → isBooked (placeAt (w .bank) i .used) ≡ false →
+      placeAt (w .bank) i .signers ≡ 0
 
 -- what it leaves with these entries
 pub record Left (w v : BankState) (es : List Entry) : Type 0 where
@@ -105,8 +119,9 @@ pub record Left (w v : BankState) (es : List Entry) : Type 0 where
   pub places : (i : ℕ) → PlaceNumbered (placeAt (v .bank) i)
   pub downloads : (i : ℕ) → DownloadNumbered (downloadAt (v .bank) i)
   pub entries : (e : Entry) → In e es → EntryHolds (v .bank .series) e
-  -- an opening has room for two events, of which an open upload has had one
-  pub events : length es + openUploads (v .bank) + 2 * w .bank .openings ≤ openUploads (w .bank) + 2 * v .bank .openings
+  -- an opening has room for two events, of which an open upload has had one, and a signer for one
+  pub events : length es + openUploads (v .bank) + (2 * w .bank .openings + signersGiven (w .bank .places))
+      ≤ openUploads (w .bank) + (2 * v .bank .openings + signersGiven (v .bank .places))
 
 -- what the frame of an opening brings
 pub record OpeningBrought (q : Fields) : Type 0 where
@@ -152,13 +167,17 @@ module _ (first : ℕ) (small : first < 2 ^ 64) (w : BankState) (f : Found w) (q
     abbrev order : ℕ
     order = seriesOf (subscriber q) (w .bank .series)
 
-    upload-opened : Left w (bankState (openUpload t order q (w .bank)) (w .orders) (w .mailboxes))
+    upload-opened : freePlace (w .bank) < placeCount → Left w (bankState (openUpload t order q (w .bank)) (w .orders) (w .mailboxes))
         (entry kind.Opened (subscriber q) order ∷ [])
-    unfolding openUpload countedUpload counted
-    upload-opened =
+    unfolding openUpload countedUpload counted freePlace
+    upload-opened inside =
         let p = newPlace t order (w .bank .clock) q in
         let o = moved-own (subscriber q) (w .bank .series) (f .counters) (a .known) (a .most) in
         let m = count-set-suc (λ (r : Place). isOpen (r .used)) (w .bank .places) (freePlace (w .bank)) p in
+        let n = f .rowed in
+        let free = first-passes (λ (r : Place). isFree (r .used)) (w .bank .places) noPlace (omega arith) in
+        let none = f .unsigned (freePlace (w .bank)) inside (free-not-booked (placeAt (w .bank) (freePlace (w .bank)) .used) free) in
+        let k = given-more (w .bank .places) (freePlace (w .bank)) p noPlace (omega arith) none in
         record {
           clock = refl;
           more = omega arith;
@@ -195,6 +214,8 @@ module _ (first : ℕ) (small : first < 2 ^ 64) (w : BankState) (f : Found w) (q
       let h = f .rowed in
       let m = count-set (λ (r : Place). isOpen (r .used)) (w .bank .places) i p noPlace (omega arith) in
       let k = ap (λ (b : Bool). cond {A = ℕ} b 1 0) used in
+      let none = f .unsigned i inside (open-not-booked (placeAt (w .bank) i .used) used) in
+      let g = given-more (w .bank .places) i p noPlace (omega arith) none in
       record {
         clock = refl;
         more = omega arith;
@@ -220,7 +241,7 @@ module _ (first : ℕ) (small : first < 2 ^ 64) (w : BankState) (f : Found w) (q
     named : p .number < seriesOf (subscriber q) (w .bank .series)
     named =
         subst (λ (s : ℕ). p .number < seriesOf s (w .bank .series))
-        (upload-found (subscriber q) (transaction q) p (c .found) .1) (f .named i (c .inside) used)
+        (upload-found (subscriber q) (transaction q) p (c .found) .1) (f .named i (c .inside) (open-in-use (p .used) used))
 
     still-few : (b : Bool) → length {A = Entry} [] + cond b 1 0 ≤ 1
     still-few true = omega arith
@@ -289,6 +310,78 @@ module _ (first : ℕ) (small : first < 2 ^ 64) (w : BankState) (f : Found w) (q
     download-left u (confirmed y last code) = downloads-left _ _ _ (others _)
     download-left u (declined y last code) = downloads-left _ (w .bank .files) (w .mailboxes) (others _)
 
+  -- ---- a booked order signed
+
+  -- its set of signers and the nonces changed, with at most one event for each signer more
+  pub order-left : (i : ℕ) → i < placeCount → (signers : ℕ) (nonces : List Nonce) (es : List Entry) →
+      NoncesApart (w .bank .clock) nonces → length es + signerCount (placeAt (w .bank) i .signers) ≤ signerCount signers →
+      ((e : Entry) → In e es → EntryHolds (w .bank .series) e) →
+      Left w (changedAt i (withSigners signers (placeAt (w .bank) i)) (w .bank .openings) (w .bank .series) nonces (w .orders) w) es
+  order-left i inside signers nonces es apart few entered =
+      let h = f .rowed in
+      let p = withSigners signers (placeAt (w .bank) i) in
+      let m = count-set (λ (r : Place). isOpen (r .used)) (w .bank .places) i p noPlace (omega arith) in
+      let g = given-set (w .bank .places) i p noPlace (omega arith) in
+      record {
+        clock = refl;
+        more = omega arith;
+        further = further-same (w .bank .series);
+        nonces = apart;
+        places = each-set-all PlaceNumbered (w .bank .places) i p noPlace (f .places i) (f .places);
+        downloads = f .downloads;
+        entries = entered;
+        events = omega arith;
+      }
+
+  module _ (c : ToOrder w q d) (timed : has (tagsOf (form q)) timestampTag ≡ true) where
+    abbrev at : ℕ
+    at = orderAt (w .bank) q
+
+    abbrev signedAt : Place
+    signedAt = placeAt (w .bank) at
+
+    -- the order is one of the owner's series
+    order-named : signedAt .number < seriesOf (owner q) (w .bank .series)
+    order-named =
+        let found = order-found (owner q) (orderNumber q) signedAt (c .found) in
+        subst (λ (s : ℕ). signedAt .number < seriesOf s (w .bank .series)) (found .1)
+        (f .named at (c .signable .inside) (ap isFree (found .0)))
+
+    signed-nonces : NoncesApart (w .bank .clock) (remembered q (w .bank) .nonces)
+    unfolding counted
+    signed-nonces =
+        nonces-counted (w .bank) q (f .remembered) (c .signable .unseen) (c .signable .memory)
+        (record {
+          words = brought .nonce;
+          ahead = c .signable .ahead;
+          last = brought .timestamp (c .readable .request) timed;
+        }) (f .nonces)
+
+    has-bit : hasBit (subscriber q) ≡ true
+    unfolding hasBit
+    has-bit = rw (le-leb 1 (subscriber q) (c .readable .known), le-leb (subscriber q) bitCount (c .readable .most))
+
+    signed-by : (t : Bool) → isSigner (subscriber q) (signedAt .signers) ≡ t
+        → Left w (bankState (sign q (w .bank)) (w .orders) (w .mailboxes))
+        (cond (isEvent (signedKind (not t))) (entry (signedKind (not t)) (owner q) (signedAt .number) ∷ []) [])
+    unfolding sign freeNonce
+    signed-by true e =
+        let g = count-grows (subscriber q) (signedAt .signers) has-bit in
+        order-left at (c .signable .inside) (withSigner (subscriber q) (signedAt .signers)) _ [] signed-nonces
+        (rw (g, e) (omega arith)) (λ x i. absurd (in-none i))
+    signed-by false e =
+        let g = count-grows (subscriber q) (signedAt .signers) has-bit in
+        order-left at (c .signable .inside) (withSigner (subscriber q) (signedAt .signers)) _
+        (entry kind.Signed (owner q) (signedAt .number) ∷ []) signed-nonces (rw (g, e) (omega arith))
+        (λ x i. subst (EntryHolds (w .bank .series)) (sym (in-one i))
+        (record {
+          known = c .signable .known;
+          most = c .signable .most;
+          typed = refl;
+          counted = order-named;
+          happened = refl;
+        }))
+
   -- ---- every request
 
   timed-by : {x : Form} → form q ≡ x → has (tagsOf x) timestampTag ≡ true → has (tagsOf (form q)) timestampTag ≡ true
@@ -299,7 +392,8 @@ module _ (first : ℕ) (small : first < 2 ^ 64) (w : BankState) (f : Found w) (q
   unfolding actionEntries
   request-left unreadable = unchanged
   request-left (refused c z) = unchanged
-  request-left (opensUpload e a g n inside below) = upload-opened a g (timed-by e refl)
+  request-left (opensUpload e a g n inside below) = upload-opened a g (timed-by e refl) inside
   request-left (opensDownload e a g n) = download-opened a g (timed-by e refl)
   request-left (toUpload r a c) = upload-left r a c _ (c .sound)
   request-left (toDownload r a c) = download-left r a c _ (c .sound)
+  request-left (signs c) = signed-by c (timed-by (c .asked) refl) _ refl

@@ -1,9 +1,9 @@
 -- Every call keeps what a session may hold; what it holds of the state and of idle transactions is taken as given.
 use Prim.Native.Nat.{ℕ, _+_, _*_, _^_, _≤_, _<_, max}
-use mathlib.Core.Bool.{true}
+use mathlib.Core.Bool.{true, false}
 use mathlib.Core.List.{List, _++_, map, List·Memᴰ as In, List·Memᴰ·append-cases as in-append}
 use mathlib.Core.Logic.{_⊎_, inl, inr}
-use mathlib.Core.Path.{_≡_, sym, _∙_, subst}
+use mathlib.Core.Path.{_≡_, refl, sym, _∙_, subst}
 use native.Mathlib.Decide.{decLt}
 use native.Mathlib.Omega.{arith}
 use lib.ListN.{length, getD, length-append, List·getD-eq-default, length-map}
@@ -21,7 +21,7 @@ use Rattle.bank_state.specs.declared.state.Download.{Download}
 use Rattle.bank_state.specs.declared.state.Place.{Place}
 use Rattle.bank_state.specs.Clock.{advanced}
 use Rattle.bank_state.specs.Limits.{placeCount, idBytes}
-use Rattle.bank_state.specs.Search.{isOpen}
+use Rattle.bank_state.specs.Search.{isFree, isBooked}
 use Rattle.bank_state.specs.State.{BankState, bankState, noPlace, noDownload, placeAt, downloadAt, seriesOf, withFiles}
 use Rattle.bank_state.proofs.Drops.{isIdlePlace, AtClock, advanced-at-clock, Sized, advanced-sized, each-endDownloads}
 use Rattle.bank_verdicts.specs.declared.verdict.Verdict.{Verdict}
@@ -40,20 +40,25 @@ use Rattle.bank.specs.Journal.{enteredBy, journalAfter, journalBy, withEntries}
 use Rattle.bank.specs.Mailbox.{fileRefusals, carryOutFile, fileCall}
 use Rattle.bank.proofs.Right.{right-told}
 use Rattle.bank_admitted.specs.State.{StateHolds, NoneIdle}
-use Rattle.bank_admitted.specs.Session.{NoncesApart, JournalHolds, openUploads, SessionHolds, Brought}
+use Rattle.bank_admitted.specs.Session.{NoncesApart, JournalHolds, openUploads, signersGiven, SessionHolds, Brought}
 use Rattle.bank_steps.proofs.Cases.{happens}
 use Rattle.bank_admitted.proofs.Clock.{sized}
 use Rattle.bank_admitted.proofs.Series.{Further}
-use Rattle.bank_admitted.proofs.Held.{open-in-use}
 use Rattle.bank_admitted.proofs.DropsKept.{advanced-place, drops-counted, drops-entered}
 use Rattle.bank_admitted.proofs.JournalKept.{EntryHolds, entry-later, journal-later, journal-entered}
 use Rattle.bank_admitted.proofs.NoncesKept.{nonces-later}
 use Rattle.bank_admitted.proofs.OpeningRead.{nonce-read, timestamp-read}
+use Rattle.bank_admitted.proofs.Signers.{given-most, unsigned, drops-unsigned}
 use Rattle.bank_admitted.proofs.RequestKept.{PlaceNumbered, DownloadNumbered, free-numbered, Found, Left, request-left}
 
 -- no count of events wraps: nine more fit in 64 bits
 pub events-fit : {w : BankState} {j : Journal} → SessionHolds w j → j .events + maxEntries < 2 ^ 64
-events-fit {w} {j} h = let a = h .events in let b = h .state .numbers in omega arith
+events-fit {w} {j} h =
+    let a = h .events in
+    let b = h .state .numbers in
+    let c = h .state .sizes .places in
+    let d = given-most (w .bank .places) in
+    omega arith
 
 -- ---- a frame call that is answered
 
@@ -93,17 +98,25 @@ module _ {w : BankState} {j : Journal} (h : SessionHolds w j) (a : FrameInput) (
           let n = advanced-sized (a .time) w s .places in
           subst PlaceNumbered (sym (List·getD-eq-default (b .bank .places) noPlace {n = i} (omega arith))) free-numbered
 
-  found-named : (i : ℕ) → i < placeCount → isOpen (placeAt (b .bank) i .used) ≡ true →
+  found-named : (i : ℕ) → i < placeCount → isFree (placeAt (b .bank) i .used) ≡ false →
       placeAt (b .bank) i .number < seriesOf (placeAt (b .bank) i .subscriber) (b .bank .series)
   found-named i l =
-      subst (λ (series : List ℕ). isOpen (placeAt (b .bank) i .used) ≡ true →
+      subst (λ (series : List ℕ). isFree (placeAt (b .bank) i .used) ≡ false →
       placeAt (b .bank) i .number < seriesOf (placeAt (b .bank) i .subscriber) series) (sym (at .series))
       (subst Named (sym (advanced-place (a .time) w s i l))
-      (by-test Named (isIdlePlace c (placeAt (w .bank) i)) (λ _ e. never e)
-      (λ _ e. h .state .orders i l (open-in-use (placeAt (w .bank) i .used) e))))
+      (by-test Named (isIdlePlace c (placeAt (w .bank) i)) (λ _ e. never (sym e))
+      (λ _ e. h .state .orders i l e)))
     where
       Named : Place → Type 0
-      Named p = isOpen (p .used) ≡ true → p .number < seriesOf (p .subscriber) (w .bank .series)
+      Named p = isFree (p .used) ≡ false → p .number < seriesOf (p .subscriber) (w .bank .series)
+
+  found-unsigned : (i : ℕ) → i < placeCount → isBooked (placeAt (b .bank) i .used) ≡ false → placeAt (b .bank) i .signers ≡ 0
+  found-unsigned i l =
+      subst Unsigned (sym (advanced-place (a .time) w s i l))
+      (by-test Unsigned (isIdlePlace c (placeAt (w .bank) i)) (λ _ _. refl) (λ _. unsigned w (h .state) i l))
+    where
+      Unsigned : Place → Type 0
+      Unsigned p = isBooked (p .used) ≡ false → p .signers ≡ 0
 
   found-nonces : NoncesApart (b .bank .clock) (b .bank .nonces)
   found-nonces =
@@ -128,6 +141,7 @@ module _ {w : BankState} {j : Journal} (h : SessionHolds w j) (a : FrameInput) (
         downloads = found-downloads;
         named = found-named;
         counters = n .series;
+        unsigned = found-unsigned;
       }
 
   module _ (lent : lentRight w a ≡ true) where
@@ -180,7 +194,7 @@ module _ {w : BankState} {j : Journal} (h : SessionHolds w j) (a : FrameInput) (
 
     -- all but the journal
     with-journal : (k : Journal) → StateHolds after → NoneIdle after → JournalHolds c (after .bank .series) k →
-        k .events + openUploads (after .bank) ≤ 2 * after .bank .openings → SessionHolds after k
+        k .events + openUploads (after .bank) ≤ 2 * after .bank .openings + signersGiven (after .bank .places) → SessionHolds after k
     with-journal k state idle journal events = record {
       state = state;
       idle = idle;
@@ -192,13 +206,15 @@ module _ {w : BankState} {j : Journal} (h : SessionHolds w j) (a : FrameInput) (
       events = events;
     }
 
-    -- no opening has more than two events, and an open upload one
-    few : j .events + length (drops ++ acted) + openUploads (after .bank) ≤ 2 * after .bank .openings
+    -- no opening has more than two events, an open upload one, and a signer one
+    few : j .events + length (drops ++ acted) + openUploads (after .bank)
+        ≤ 2 * after .bank .openings + signersGiven (after .bank .places)
     few =
         let x = h .events in
         let y = drops-counted (a .time) w s in
         let z = left .events in
         let o = at .openings in
+        let g = drops-unsigned (a .time) w (h .state) s in
         let l = length-append drops acted in
         let m = length-map (droppedUploads c (w .bank)) dropEntry in
         omega arith

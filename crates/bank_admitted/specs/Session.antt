@@ -1,13 +1,14 @@
 -- What a session may hold: the bank and its stores, and the journal.
 use Prim.Native.Nat.{ℕ, suc, _+_, _-_, _*_, _^_, _<_, _≤_}
 use mathlib.Core.Bool.{true}
-use mathlib.Core.List.{List}
+use mathlib.Core.List.{List, [], _∷_}
 use mathlib.Core.Path.{_≡_}
 use lib.ListN.{length, getD}
 use Rattle.octets.specs.Bytes.{Bytes}
 use Rattle.frame_table.specs.declared.fields.Bits128.{Bits128}
 use Rattle.frame_table.specs.Table.{lastTime}
 use Rattle.message.specs.Limits.{subscribers, ful}
+use Rattle.signers.specs.Signers.{signerCount}
 use Rattle.journal.specs.declared.event.Event.{Event}
 use Rattle.journal.specs.Events.{recordCount, noEvent}
 use Rattle.journal.specs.Places.{usedAfter}
@@ -62,6 +63,11 @@ pub record JournalHolds (clock : ℕ) (series : List ℕ) (j : Journal) : Type 0
 abbrev pub openUploads : Bank → ℕ
 openUploads b = countOf (λ (p : Place). isOpen (p .used)) (b .places)
 
+-- "signers the bits set in the places' signers, all together"
+unfoldable pub signersGiven : List Place → ℕ
+signersGiven [] = 0
+signersGiven (p ∷ l) = signerCount (p .signers) + signersGiven l
+
 -- the session
 pub record SessionHolds (w : BankState) (j : Journal) : Type 0 where
   pub state : StateHolds w
@@ -71,8 +77,8 @@ pub record SessionHolds (w : BankState) (j : Journal) : Type 0 where
   pub places : (i : ℕ) → i < placeCount → Words (placeAt (w .bank) i .transaction)
   pub downloads : (i : ℕ) → Words (downloadAt (w .bank) i .transaction)
   pub journal : JournalHolds (w .bank .clock) (w .bank .series) j
-  -- "05 plus the number of open uploads is at most 2 × openings"
-  pub events : j .events + openUploads (w .bank) ≤ 2 * w .bank .openings
+  -- "05 plus the number of open uploads is at most 2 × openings + *signers*"
+  pub events : j .events + openUploads (w .bank) ≤ 2 * w .bank .openings + signersGiven (w .bank .places)
 
 -- what a frame call brings is of the machine: bytes
 pub record Brought (a : FrameInput) : Type 0 where

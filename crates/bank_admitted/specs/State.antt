@@ -24,6 +24,7 @@ use Rattle.bank_state.specs.Limits.{
   maxOpenings,
   seriesLimit,
   window,
+  allSigners,
 }
 use Rattle.bank_state.specs.Search.{isFree, isOpen, openCount, openCountOf}
 use Rattle.bank_state.specs.State.{BankState, noPlace, noDownload, noNonce, placeAt, downloadAt, seriesOf}
@@ -66,7 +67,8 @@ pub record UsedPlace (openings : ℕ) (t : Bits128) (subscriber size : ℕ) (byt
 abbrev pub UsedAs : ℕ → Place → List ℕ → Type 0
 UsedAs openings p bytes = UsedPlace openings (p .transaction) (p .subscriber) (p .length) bytes
 
--- the place of an open upload: N is 1 to the most segments, k < N, at most five attempts, each of the k segments has 1 to 256 bytes
+-- the place of an open upload: N is 1 to the most segments, k < N, at most five attempts, each of the k segments has 1
+-- to 256 bytes; nobody has signed it
 pub record OpenPlace (clock openings : ℕ) (p : Place) (bytes : List ℕ) : Type 0 where
   pub place : UsedAs openings p bytes
   pub some : 1 ≤ p .segments
@@ -76,13 +78,15 @@ pub record OpenPlace (clock openings : ℕ) (p : Place) (bytes : List ℕ) : Typ
   pub current : p .last ≤ clock
   pub least : p .taken ≤ p .length
   pub largest : p .length ≤ p .taken * segmentBytes
+  pub unsigned : p .signers ≡ 0
 
--- the place of a booked order: what counted its steps is 0
+-- the place of a booked order: what counted its steps is 0, and "Signers are a set over the 8 subscribers"
 pub record BookedPlace (openings : ℕ) (p : Place) (bytes : List ℕ) : Type 0 where
   pub place : UsedAs openings p bytes
   pub over : NoSteps p
   pub some : 1 ≤ p .length
   pub room : p .length ≤ fileBytes
+  pub signed : p .signers ≤ allSigners
 
 -- a place by its use
 abbrev pub PlaceHolds : Use → ℕ → ℕ → Place → List ℕ → Type 0

@@ -1,9 +1,13 @@
 -- What the rows compute with besides the bank's calls: to unfold one of these names is to unfold all that its lines list.
 use Prim.Native.Nat.{ℕ}
+use Rattle.journal.specs.Events as events
+use Rattle.journal.specs.Row as journal
 use Rattle.bank_state.specs.Rows as lists
 use Rattle.bank_rows.specs.Rows as rows
 use Rattle.bank_rows.specs.State as laid
 use Rattle.bank_sound.specs.Sound as sound
+use Rattle.bank_events.specs.Entries as entries
+use Rattle.bank.specs.Journal as bankJournal
 use Rattle.bank.specs.Lent as lentCalls
 use Rattle.bank_session.specs.Session as sessionCalls
 use Rattle.image.specs.Image as image
@@ -12,7 +16,7 @@ use Rattle.image.specs.Table as imageTable
 use Rattle.image_numbers.specs.Table as numbersTable
 use Rattle.image_numbers.specs.Numbers as imageNumbers
 use Rattle.image_calls.specs.Calls as imageCalls
-use Rattle.case_rows.proofs.Computing.{frames, messages, bank}
+use Rattle.case_rows.proofs.Computing.{frames, messages, bank, signings}
 use Rattle.bank_cases.specs.Table as table
 
 -- a session's numbers
@@ -21,9 +25,16 @@ unfolding lists.keep rows.rowsOf rows.rowsInUse rows.numbersOf rows.written rows
     laid.stored sound.isSoundUpload sound.isSound table.from
 numbers = 0
 
+-- the events of a call
+unfoldable pub journals : ℕ
+unfolding events.eventsFrom journal.entered journal.enteredAll
+    entries.insertByOpening entries.byOpening entries.droppedUploads entries.actionEntries entries.callEntries
+    bankJournal.enteredBy bankJournal.journalAfter
+journals = 0
+
 -- a frame and a file arrive
 unfoldable pub calls : ℕ
-unfolding frames messages bank numbers lentCalls.lentFileCall sessionCalls.sessionFileCall
+unfolding frames messages bank signings numbers journals lentCalls.lentFileCall sessionCalls.sessionFileCall
 calls = 0
 
 -- an image's length, and the first number of a session to be put away

@@ -8,13 +8,14 @@ use lib.ListN.{length, replicate, length-replicate}
 use Rattle.octets.specs.Bytes.{overwrite}
 use Rattle.frame_table.specs.declared.fields.Fields.{Fields}
 use Rattle.frame_table.specs.Table.{lastTime}
+use Rattle.signers.specs.Signers.{signerCount, isReleased}
 use Rattle.bank_state.specs.Limits.{storeBytes, idBytes, replyRoom}
 use Rattle.bank_state.specs.State.{Bank}
 use Rattle.bank_sound.specs.Sound.{isSound}
 use Rattle.bank_steps.specs.Lent.{stateOf}
 use Rattle.bank.specs.Call.{FrameCall, FrameInput, lentRight, frameCall}
 use Rattle.bank.specs.Lent.{keptFrame, frameTurnedAway, lentFrameCall}
-use Rattle.bank_session.specs.Session.{LentSession, bankIn, SessionFrameCall, takesFrame, withJournal, sessionTurnedAway, sessionFrameCall}
+use Rattle.bank_session.specs.Session.{LentSession, eventCount, bankIn, SessionFrameCall, takesFrame, withJournal, sessionTurnedAway, sessionFrameCall}
 use Rattle.image.specs.Items.{itemsOf}
 use Rattle.image.specs.Image.{fits}
 use Rattle.image_conditions.specs.Conditions.{admitted}
@@ -32,7 +33,27 @@ use Rattle.image_calls.specs.Calls.{
 }
 use Rattle.case_rows.specs.Rows.{clock}
 use Rattle.case_rows.proofs.Calls.{frameBy, frame-by}
-use Rattle.bank_cases.specs.Table.{idle, lending, sessionWith, asking, uploads, HostCall, codeWith, frameWith, fileWith, takeUpWith, putAwayWith, come}
+use Rattle.bank_cases.specs.Table.{
+  idle,
+  lending,
+  sessionWith,
+  sessionAfter,
+  signersIn,
+  firstUnder,
+  asking,
+  uploads,
+  HostCall,
+  codeWith,
+  signersAfter,
+  releasedAfter,
+  eventsAfter,
+  enteredUnder,
+  frameWith,
+  fileWith,
+  takeUpWith,
+  putAwayWith,
+  come,
+}
 
 -- ---- a frame arrives
 
@@ -109,8 +130,18 @@ quick-away m buffer = ap (λ (t : Bool). putAwayBy t m buffer) (admitted-by m)
 
 -- ---- every call of the table
 
+abbrev quickAfter : Bank → Fields → List ℕ → LentSession
+quickAfter b q d = quickCall 64 63488 63488 clock 8 312 6 b q d .session
+
+quick-after : (b : Bank) (q : Fields) (d : List ℕ) → sessionAfter b q d ≡ quickAfter b q d
+quick-after b q d = ap (λ (c : SessionFrameCall). c .session) (quick-call 64 63488 63488 clock 8 312 6 b q d)
+
 abbrev pub quick : HostCall → ℕ
 quick (codeWith others b q d) = quickCall 64 63488 63488 clock 8 312 others b q d .code
+quick (signersAfter b q d) = signerCount (signersIn (quickAfter b q d))
+quick (releasedAfter b q d) = cond (isReleased (signersIn (quickAfter b q d))) 1 0
+quick (eventsAfter b q d) = eventCount (quickAfter b q d .rows)
+quick (enteredUnder b q d) = firstUnder (quickAfter b q d)
 quick (frameWith records orders mailboxes ids buffer time) =
     quickCall records orders mailboxes time ids buffer 6 idle (uploads 1) [] .number
 quick (fileWith numbers store mailbox n) = come (fileWith numbers store mailbox n)
@@ -121,6 +152,10 @@ quick (putAwayWith b buffer) =
 pub same : (c : HostCall) → come c ≡ quick c
 same (codeWith others b q d) =
     ap (λ (c : SessionFrameCall). c .code) (quick-call 64 63488 63488 clock 8 312 others b q d)
+same (signersAfter b q d) = ap (λ (m : LentSession). signerCount (signersIn m)) (quick-after b q d)
+same (releasedAfter b q d) = ap (λ (m : LentSession). cond (isReleased (signersIn m)) 1 0) (quick-after b q d)
+same (eventsAfter b q d) = ap (λ (m : LentSession). eventCount (m .rows)) (quick-after b q d)
+same (enteredUnder b q d) = ap firstUnder (quick-after b q d)
 same (frameWith records orders mailboxes ids buffer time) =
     ap (λ (c : SessionFrameCall). c .number)
     (quick-call records orders mailboxes time ids buffer 6 idle (uploads 1) [])

@@ -17,6 +17,8 @@ use Rattle.bank_cases.specs.Table.{
   transactionCases,
   limitCases,
   shareCases,
+  signingCases,
+  signerCases,
   frameCases,
   fileCases,
   imageCases,
@@ -41,6 +43,14 @@ shares-hold : Holds quick shareCases
 unfolding shareCases calls
 shares-hold = listed shareCases refl
 
+signings-hold : Holds quick signingCases
+unfolding signingCases calls
+signings-hold = listed signingCases refl
+
+signers-hold : Holds quick signerCases
+unfolding signerCases calls
+signers-hold = listed signerCases refl
+
 frames-hold : Holds quick frameCases
 unfolding frameCases calls
 frames-hold = listed frameCases refl
@@ -58,7 +68,8 @@ unfolding bankCases
 bank-cases-hold =
     otherwise same
     (both order-hold
-    (both transactions-hold (both limits-hold (both shares-hold (both frames-hold (both files-hold images-hold))))))
+    (both transactions-hold (both limits-hold (both shares-hold
+    (both signings-hold (both signers-hold (both frames-hold (both files-hold images-hold))))))))
 
 -- card 13's share while the other three banks are idle: nobody is refused by it who has fewer than 8 open
 

@@ -3,25 +3,38 @@
 -- both and, where that can be, of no other line; the upper one is answered. The calls are the host's on a session,
 -- `sessionFrameCall`, `sessionFileCall`, `putAway` and `takeUp`, on a bank as given. Digits stand here as in the paper.
 use Prim.Native.Nat.{ℕ, zero, suc, _-_, _^_}
-use mathlib.Core.Bool.{true}
+use mathlib.Core.Bool.{true, cond}
 use mathlib.Core.List.{List, [], _∷_, _++_}
-use lib.ListN.{length, replicate}
+use lib.ListN.{length, replicate, getD}
 use Rattle.octets.specs.Bytes.{number}
 use Rattle.octets.specs.Texts.{ascii}
 use Rattle.frame_table.specs.declared.fields.Fields.{Fields}
 use Rattle.frame_table.specs.Names.{with}
-use Rattle.frame_table.specs.Table.{lastMarkTag, orderTypeTag}
+use Rattle.frame_table.specs.Table.{phaseTag, orderTypeTag, lastMarkTag, dataTag, orderAttributeTag}
 use Rattle.frame_writer.specs.Writer.{frameOf}
-use Rattle.message.specs.Requests.{uploadOpening, downloadOpening, uploadTransfer, downloadTransfer, receipt}
+use Rattle.message.specs.Requests.{uploadOpening, downloadOpening, uploadTransfer, downloadTransfer, receipt, signing}
+use Rattle.signers.specs.Signers.{signerCount, isReleased}
 use Rattle.journal.specs.Events.{noEvent}
 use Rattle.bank_state.specs.declared.state.Use.the-variants.{Open, Booked}
 use Rattle.bank_state.specs.declared.state.Place.{Place}
 use Rattle.bank_state.specs.declared.state.Download.{Download}
-use Rattle.bank_state.specs.State.{Nonce, Bank, noPlace, noDownload, noNonce, withClock, withOpenings, withSeries}
+use Rattle.bank_state.specs.State.{
+  Nonce,
+  Bank,
+  noPlace,
+  noDownload,
+  noNonce,
+  placeAt,
+  withClock,
+  withOpenings,
+  withSeries,
+}
 use Rattle.bank_rows.specs.Layout.{stateSize}
 use Rattle.bank_rows.specs.State.{stored}
+use Rattle.bank_steps.specs.Lent.{stateOf}
 use Rattle.bank.specs.Call.{FrameInput}
-use Rattle.bank_session.specs.Session.{LentSession, session, withCount, sessionFrameCall, sessionFileCall}
+use Rattle.bank_session.specs.Session.{LentSession, session, eventCount, bankIn, withCount}
+use Rattle.bank_session.specs.Session.{sessionFrameCall, sessionFileCall}
 use Rattle.image_calls.specs.Calls.{putAway, takeUp}
 use Rattle.case_rows.specs.Rows.{Case, _gives_, clock, idOf, six}
 
@@ -39,15 +52,16 @@ uploadOf s n taken attempts = record {
   attempts = attempts;
   last = clock;
   length = taken;
+  signers = 0;
 }
 
 -- one just opened
 abbrev pub opened : ℕ → ℕ → Place
 opened s n = uploadOf s n 0 0
 
--- an order of subscriber s, of 1 byte, booked
-abbrev pub booked : ℕ → ℕ → Place
-booked s n = record {
+-- an order of subscriber s, of 1 byte, booked, with a set of signers as bits
+abbrev pub signedBy : ℕ → ℕ → ℕ → Place
+signedBy signers s n = record {
   used = Booked;
   transaction = idOf n;
   subscriber = s;
@@ -57,7 +71,12 @@ booked s n = record {
   attempts = 0;
   last = 0;
   length = 1;
+  signers = signers;
 }
+
+-- one that nobody has signed
+abbrev pub booked : ℕ → ℕ → Place
+booked = signedBy 0
 
 -- a download of subscriber s, by opening n: of 3 segments so many are delivered, after so many attempts
 abbrev pub downloadOf : ℕ → ℕ → ℕ → ℕ → Download
@@ -139,6 +158,17 @@ asks u s = downloadTransfer u 1 (idOf 0) s
 abbrev pub confirms : ℕ → ℕ → Fields
 confirms u c = receipt u 1 (idOf 0) c
 
+-- card 8: subscriber s signs the order of this number and owner, with a timestamp
+abbrev pub signsAt : ℕ → ℕ → List ℕ → ℕ → Fields
+signsAt timestamp s order owner = signing s 1 (idOf 900) timestamp (number order) owner
+
+abbrev pub signs : ℕ → List ℕ → ℕ → Fields
+signs = signsAt clock
+
+-- the same with another attribute
+abbrev pub attributed : List ℕ → Fields → Fields
+attributed letters q = with orderAttributeTag (number letters) q
+
 -- data of so many bytes
 abbrev pub bytes : ℕ → List ℕ
 bytes n = replicate n 7
@@ -176,6 +206,12 @@ asking time ids buffer others q d = record {
 pub data HostCall : Type 0 where
   -- a request with its data, at a bank, the other banks counting so many: the code of its reply
   codeWith : ℕ → Bank → Fields → List ℕ → HostCall
+  -- the same of idle banks: how many signers the order in the first place has then, and whether it is released: 1, or 0
+  signersAfter : Bank → Fields → List ℕ → HostCall
+  releasedAfter : Bank → Fields → List ℕ → HostCall
+  -- the same: how many events the journal has then, and under whom the first of them is entered: 0 where there is none
+  eventsAfter : Bank → Fields → List ℕ → HostCall
+  enteredUnder : Bank → Fields → List ℕ → HostCall
   -- the same request with so many records, bytes in the stores of orders and of mailboxes, ID bytes, bytes in the reply
   -- buffer, and at a bank time: its number
   frameWith : ℕ → ℕ → ℕ → ℕ → ℕ → ℕ → HostCall
@@ -186,9 +222,24 @@ pub data HostCall : Type 0 where
   -- a session with this bank is put away in a buffer of so many bytes: its number
   putAwayWith : Bank → ℕ → HostCall
 
+-- the session after a request at a bank, the other banks being idle
+abbrev pub sessionAfter : Bank → Fields → List ℕ → LentSession
+sessionAfter b q d = sessionFrameCall (sessionWith b) (asking clock 8 312 6 q d) .session
+
+-- the signers of the order in the first place of a session's bank, and under whom its journal's first event is
+abbrev pub signersIn : LentSession → ℕ
+signersIn m = placeAt (stateOf (bankIn m) .bank) 0 .signers
+
+abbrev pub firstUnder : LentSession → ℕ
+firstUnder m = getD (m .row) 0 noEvent .subscriber
+
 -- what comes of it
 abbrev pub come : HostCall → ℕ
 come (codeWith others b q d) = sessionFrameCall (sessionWith b) (asking clock 8 312 others q d) .code
+come (signersAfter b q d) = signerCount (signersIn (sessionAfter b q d))
+come (releasedAfter b q d) = cond (isReleased (signersIn (sessionAfter b q d))) 1 0
+come (eventsAfter b q d) = eventCount (sessionAfter b q d .rows)
+come (enteredUnder b q d) = firstUnder (sessionAfter b q d)
 come (frameWith records orders mailboxes ids buffer time) =
     sessionFrameCall (lending records orders mailboxes idle) (asking time ids buffer 6 (uploads 1) []) .number
 come (fileWith numbers store mailbox n) = sessionFileCall numbers mailbox (bytes n) (replicate store 0) .number
@@ -365,6 +416,133 @@ shareCases =
     ∷ (sharing 16 0 gives six 000000)
     ∷ []
 
+-- ---- card 8: signings
+
+-- order A000 of subscriber 1, with these signers; and nothing else
+abbrev pub lodged : ℕ → Bank
+lodged signers = bankWith (signedBy signers 1 0 ∷ []) [] []
+
+-- it, signed by nobody, with so many nonces remembered: the last is that of the signings below
+abbrev pub remembering : ℕ → Bank
+remembering n = bankWith (booked 1 0 ∷ []) [] (from (901 - n) n nonce)
+
+-- nothing in the book, and 64 nonces remembered
+abbrev pub full : Bank
+full = bankWith [] [] (from 0 64 nonce)
+
+-- the lines in their order: 091010, 091003 (subscriber or owner), 091005, 061002, 091103, 091114, 061099. 091009 and
+-- 091118 cannot be: a signing has no data and no segments. 091005 and 061002 are two types.
+unfoldable pub signingCases : List Row
+signingCases =
+    -- accepted: by its owner, by another, and "Signing again answers 000000"
+    (codeOf (lodged 0) (signs 1 (ascii "A000") 1) [] gives six 000000)
+    ∷ (codeOf (lodged 0) (signs 8 (ascii "A000") 1) [] gives six 000000)
+    ∷ (codeOf (lodged 2) (signs 2 (ascii "A000") 1) [] gives six 000000)
+    -- 091010: "attribute UZHNN"; phase 1; 257 bytes of data, which the form does not have
+    ∷ (codeOf (lodged 0) (attributed (ascii "UZHNM") (signs 2 (ascii "A000") 1)) [] gives six 091010)
+    ∷ (codeOf (lodged 0) (attributed (ascii "UZHNO") (signs 2 (ascii "A000") 1)) [] gives six 091010)
+    ∷ (codeOf (lodged 0) (with phaseTag 2 (signs 2 (ascii "A000") 1)) [] gives six 091010)
+    ∷ (codeOf (lodged 0) (with dataTag 0 (signs 2 (ascii "A000") 1)) (bytes 257) gives six 091010)
+    -- 091010 before 091003: another attribute, and owner 9, subscriber 9
+    ∷ (codeOf (lodged 0) (attributed (ascii "UZHNM") (signs 2 (ascii "A000") 9)) [] gives six 091010)
+    ∷ (codeOf (lodged 0) (attributed (ascii "UZHNM") (signs 9 (ascii "A000") 1)) [] gives six 091010)
+    -- 091003: "an owner outside 1 to 8 gets 091003", and a subscriber outside
+    ∷ (codeOf (lodged 0) (signs 2 (ascii "A000") 0) [] gives six 091003)
+    ∷ (codeOf (bankWith (booked 9 0 ∷ []) [] []) (signs 2 (ascii "A000") 9) [] gives six 091003)
+    ∷ (codeOf (bankWith (booked 8 0 ∷ []) [] []) (signs 2 (ascii "A000") 8) [] gives six 000000)
+    ∷ (codeOf (lodged 0) (signs 0 (ascii "A000") 1) [] gives six 091003)
+    ∷ (codeOf (lodged 0) (signs 9 (ascii "A000") 1) [] gives six 091003)
+    -- 091003 before 091005: owner 9, subscriber 9, type FUX
+    ∷ (codeOf (lodged 0) (typed (ascii "FUX") (signs 2 (ascii "A000") 9)) [] gives six 091003)
+    ∷ (codeOf (lodged 0) (typed (ascii "FUX") (signs 9 (ascii "A000") 1)) [] gives six 091003)
+    -- 091003 before 061002, where 091005 cannot be: owner 9, subscriber 9, type FDL
+    ∷ (codeOf (lodged 0) (typed (ascii "FDL") (signs 2 (ascii "A000") 9)) [] gives six 091003)
+    ∷ (codeOf (lodged 0) (typed (ascii "FDL") (signs 9 (ascii "A000") 1)) [] gives six 091003)
+    -- 091005 before 091103, where 061002 cannot be: type FUX, not in time, or nonce remembered; and alone
+    ∷ (codeOf (lodged 0) (typed (ascii "FUX") (signsAt late 2 (ascii "A000") 1)) [] gives six 091005)
+    ∷ (codeOf (remembering 1) (typed (ascii "FUX") (signs 2 (ascii "A000") 1)) [] gives six 091005)
+    ∷ (codeOf (lodged 0) (typed (ascii "FUX") (signs 2 (ascii "A000") 1)) [] gives six 091005)
+    -- 061002 before 091103: "Type FDL gets 061002 here", the same
+    ∷ (codeOf (lodged 0) (typed (ascii "FDL") (signsAt late 2 (ascii "A000") 1)) [] gives six 061002)
+    ∷ (codeOf (remembering 1) (typed (ascii "FDL") (signs 2 (ascii "A000") 1)) [] gives six 061002)
+    ∷ (codeOf (lodged 0) (typed (ascii "FDL") (signs 2 (ascii "A000") 1)) [] gives six 061002)
+    -- 091103 before 091114: not in time, or nonce remembered, and nothing in the book
+    ∷ (codeOf idle (signsAt late 2 (ascii "A000") 1) [] gives six 091103)
+    ∷ (codeOf (bankWith [] [] (nonce 900 ∷ [])) (signs 2 (ascii "A000") 1) [] gives six 091103)
+    -- 091103 before 061099, where 091114 is not: 64 nonces, the signing's the last of them
+    ∷ (codeOf (remembering 64) (signs 2 (ascii "A000") 1) [] gives six 091103)
+    -- its timestamp, from both sides
+    ∷ (codeOf (lodged 0) (signsAt 700000 2 (ascii "A000") 1) [] gives six 000000)
+    ∷ (codeOf (lodged 0) (signsAt 1300000 2 (ascii "A000") 1) [] gives six 000000)
+    ∷ (codeOf (lodged 0) (signsAt 699999 2 (ascii "A000") 1) [] gives six 091103)
+    ∷ (codeOf (lodged 0) (signsAt 1300001 2 (ascii "A000") 1) [] gives six 091103)
+    -- 091114: "an order not in the book": none, another number, another owner's, open
+    ∷ (codeOf idle (signs 2 (ascii "A000") 1) [] gives six 091114)
+    ∷ (codeOf (lodged 0) (signs 2 (ascii "A001") 1) [] gives six 091114)
+    ∷ (codeOf (lodged 0) (signs 2 (ascii "a000") 1) [] gives six 091114)
+    ∷ (codeOf (lodged 0) (signs 2 (ascii "A000") 2) [] gives six 091114)
+    ∷ (codeOf (bankWith (opened 1 0 ∷ []) [] []) (signs 2 (ascii "A000") 1) [] gives six 091114)
+    -- in the last place too
+    ∷ (codeOf (bankWith (from 1 7 (booked 2) ++ (booked 1 0 ∷ [])) [] []) (signs 2 (ascii "A000") 1) []
+    gives six 000000)
+    -- 091114 before 061099: 64 nonces, and nothing in the book
+    ∷ (codeOf full (signs 2 (ascii "A000") 1) [] gives six 091114)
+    -- each with the causes of all that come after it: not in time, nothing in the book, 64 nonces
+    ∷ (codeOf full (attributed (ascii "UZHNM") (typed (ascii "FUX") (signsAt late 9 (ascii "A000") 9))) []
+    gives six 091010)
+    ∷ (codeOf full (typed (ascii "FUX") (signsAt late 9 (ascii "A000") 1)) [] gives six 091003)
+    ∷ (codeOf full (typed (ascii "FUX") (signsAt late 2 (ascii "A000") 9)) [] gives six 091003)
+    ∷ (codeOf full (typed (ascii "FDL") (signsAt late 2 (ascii "A000") 9)) [] gives six 091003)
+    ∷ (codeOf full (typed (ascii "FUX") (signsAt late 2 (ascii "A000") 1)) [] gives six 091005)
+    ∷ (codeOf full (typed (ascii "FDL") (signsAt late 2 (ascii "A000") 1)) [] gives six 061002)
+    ∷ (codeOf full (signsAt late 2 (ascii "A000") 1) [] gives six 091103)
+    -- "of 091119's and 061099's causes only the 64 nonces apply": 63 and 64
+    ∷ (codeOf (bankWith (booked 1 0 ∷ []) [] (from 0 63 nonce)) (signs 2 (ascii "A000") 1) [] gives six 000000)
+    ∷ (codeOf (bankWith (booked 1 0 ∷ []) [] (from 0 64 nonce)) (signs 2 (ascii "A000") 1) [] gives six 061099)
+    -- 4 open of the subscriber, 8 open, 8 places in use, the series' end, the running number's end, the share
+    ∷ (codeOf (bankWith (booked 1 0 ∷ from 1 4 (opened 2)) [] []) (signs 2 (ascii "A000") 1) [] gives six 000000)
+    ∷ (codeOf (bankWith (booked 1 0 ∷ from 1 4 (opened 3)) (from 5 4 (loading 4)) []) (signs 2 (ascii "A000") 1) []
+    gives six 000000)
+    ∷ (codeOf (bankWith (from 0 8 (booked 1)) [] []) (signs 2 (ascii "A000") 1) [] gives six 000000)
+    ∷ (codeOf (withSeries (replicate 8 1213056) (lodged 0)) (signs 2 (ascii "A000") 1) [] gives six 000000)
+    ∷ (codeOf (withOpenings 4294967296 (lodged 0)) (signs 2 (ascii "A000") 1) [] gives six 000000)
+    ∷ (codeWith 14 (bankWith (booked 1 0 ∷ from 1 2 (opened 3)) [] []) (signs 2 (ascii "A000") 1) []
+    gives six 000000)
+    ∷ []
+
+-- "the number of signatures given is the count of signers; two or more make the order released": of the signers as
+-- given, 1 is subscriber 1, 2 subscriber 2, 128 subscriber 8, 127 are the first seven, 255 all
+unfoldable pub signerCases : List Row
+signerCases =
+    -- segment 3 of 3 books the order: nobody is a signer, the owner neither
+    (signersAfter (sending 2 0) (sends 1 3 1) (bytes 1) gives 0)
+    ∷ (releasedAfter (sending 2 0) (sends 1 3 1) (bytes 1) gives 0)
+    -- one signer, the owner or another
+    ∷ (signersAfter (lodged 0) (signs 1 (ascii "A000") 1) [] gives 1)
+    ∷ (releasedAfter (lodged 0) (signs 1 (ascii "A000") 1) [] gives 0)
+    ∷ (releasedAfter (lodged 0) (signs 8 (ascii "A000") 1) [] gives 0)
+    -- "Signing again ... adds nobody"
+    ∷ (signersAfter (lodged 2) (signs 2 (ascii "A000") 1) [] gives 1)
+    ∷ (releasedAfter (lodged 2) (signs 2 (ascii "A000") 1) [] gives 0)
+    -- two
+    ∷ (signersAfter (lodged 2) (signs 1 (ascii "A000") 1) [] gives 2)
+    ∷ (releasedAfter (lodged 2) (signs 1 (ascii "A000") 1) [] gives 1)
+    ∷ (releasedAfter (lodged 128) (signs 7 (ascii "A000") 1) [] gives 1)
+    -- all
+    ∷ (signersAfter (lodged 127) (signs 8 (ascii "A000") 1) [] gives 8)
+    ∷ (signersAfter (lodged 255) (signs 8 (ascii "A000") 1) [] gives 8)
+    -- a refused signing adds nobody
+    ∷ (signersAfter (lodged 2) (signsAt late 1 (ascii "A000") 1) [] gives 1)
+    ∷ (signersAfter (lodged 2) (signs 1 (ascii "A001") 1) [] gives 1)
+    -- nor does a request of another form
+    ∷ (signersAfter (lodged 2) (uploads 1) [] gives 1)
+    -- "kind signed, once a signer, under the owner": subscriber 2 signs subscriber 1's
+    ∷ (eventsAfter (lodged 0) (signs 2 (ascii "A000") 1) [] gives 1)
+    ∷ (enteredUnder (lodged 0) (signs 2 (ascii "A000") 1) [] gives 1)
+    ∷ (eventsAfter (lodged 2) (signs 2 (ascii "A000") 1) [] gives 0)
+    ∷ (eventsAfter (lodged 2) (signs 1 (ascii "A001") 1) [] gives 0)
+    ∷ []
+
 -- ---- the host's numbers ("a number, nothing changed, clock included")
 
 -- 1: "a lent length differs from the above or is too short for what is to be written"
@@ -431,4 +609,5 @@ imageCases =
 unfoldable pub bankCases : List Row
 bankCases =
     orderCases
-    ++ (transactionCases ++ (limitCases ++ (shareCases ++ (frameCases ++ (fileCases ++ imageCases)))))
+    ++ (transactionCases ++ (limitCases ++ (shareCases
+    ++ (signingCases ++ (signerCases ++ (frameCases ++ (fileCases ++ imageCases)))))))

@@ -7,7 +7,7 @@ use native.Mathlib.Omega.{arith}
 use lib.ListN.{length}
 use Rattle.frame_table.specs.declared.fields.Bits128.{Bits128}
 use Rattle.frame_table.specs.declared.fields.Fields.{Fields}
-use Rattle.frame_table.specs.Names.{subscriber}
+use Rattle.frame_table.specs.Names.{subscriber, owner}
 use Rattle.message.specs.declared.codes.ReturnCode.{ReturnCode}
 use Rattle.bank_verdicts.specs.declared.verdict.UploadAction.the-variants as up
 use Rattle.bank_verdicts.specs.declared.verdict.DownloadAction.{DownloadAction}
@@ -17,7 +17,7 @@ use Rattle.bank_verdicts.specs.declared.verdict.Verdict.the-variants as verdict
 use Rattle.journal.specs.declared.event.Kind.{Kind}
 use Rattle.journal.specs.declared.event.Kind.the-variants as kind
 use Rattle.journal.specs.declared.event.Entry.{Entry}
-use Rattle.bank_events.specs.Entries.{entry, isEvent, verdictKind, actionEntries}
+use Rattle.bank_events.specs.Entries.{entry, isEvent, verdictKind, verdictSubscriber, actionEntries}
 
 module _ (order : ℕ) (q : Fields) where
   -- an accepted opening, a booking and a cancellation are entered, under the request's subscriber and the order's number
@@ -36,7 +36,16 @@ module _ (order : ℕ) (q : Fields) where
   unfolding actionEntries
   cancelled-entry t c = refl
 
-  -- nothing else is
+  -- so is a signer more, under the order's owner
+  pub signed-entry : (n : ℕ) → actionEntries (verdict.Signed n true) order q ≡ entry kind.Signed (owner q) order ∷ []
+  unfolding actionEntries
+  signed-entry n = refl
+
+  -- nothing else is: "Signing again answers 000000 and adds nobody"
+  pub again-none : (n : ℕ) → actionEntries (verdict.Signed n false) order q ≡ []
+  unfolding actionEntries
+  again-none n = refl
+
   pub took-none : (t : Bits128) → actionEntries (verdict.Of t (action.Upload up.Took)) order q ≡ []
   unfolding actionEntries
   took-none t = refl
@@ -60,7 +69,7 @@ module _ (order : ℕ) (q : Fields) where
   -- at most one
   pub action-few : (v : Verdict) → length (actionEntries v order q) ≤ 1
   unfolding actionEntries
-  action-few v = at (isEvent (verdictKind v)) (entry (verdictKind v) (subscriber q) order)
+  action-few v = at (isEvent (verdictKind v)) (entry (verdictKind v) (verdictSubscriber v q) order)
     where
       at : (t : Bool) (e : Entry) → length (cond t (e ∷ []) []) ≤ 1
       at true e = omega arith
@@ -68,7 +77,7 @@ module _ (order : ℕ) (q : Fields) where
 
 -- the request's event by its kind
 module _ (v : Verdict) (order : ℕ) (q : Fields) (k : Kind) (is : k ≡ verdictKind v) where
-  pub entry-of : (s : ℕ) → s ≡ subscriber q → isEvent k ≡ true → actionEntries v order q ≡ entry k s order ∷ []
+  pub entry-of : (s : ℕ) → s ≡ verdictSubscriber v q → isEvent k ≡ true → actionEntries v order q ≡ entry k s order ∷ []
   unfolding actionEntries
   entry-of s t e = rw (← is, ← t, e)
 

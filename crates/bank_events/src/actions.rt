@@ -18,8 +18,8 @@ ghost use Prim.Native.Nat.{_≤_};
 ghost use Rattle.bank_state.specs.Limits.{placeCount};
 ghost use Rattle.bank_rows.specs.State.{bankOf, Laid};
 ghost use Rattle.journal.specs.Events.{entriesIn};
-ghost use Rattle.bank_events.specs.Entries.{Holds, actionKind, kindOf, verdictKind, isEvent, actionEntries};
-ghost use Rattle.bank_events.specs.Entries.{actionOrder, orderOf, verdictOrder, namedOrder};
+ghost use Rattle.bank_events.specs.Entries.{Holds, actionKind, kindOf, signedKind, verdictKind, isEvent};
+ghost use Rattle.bank_events.specs.Entries.{actionOrder, orderOf, verdictOrder, namedOrder, verdictSubscriber, actionEntries};
 
 // What an upload's action is to the journal.
 fn action_kind(action: UploadAction) -> Kind
@@ -44,6 +44,16 @@ fn kind_of(action: Action) -> Kind
     }
 }
 
+// A signer more is an event, a signer again is none.
+fn signed_kind(added: bool) -> Kind
+    ensures { λ r. ⌜ r ≡ signedKind added ⌝ }
+{
+    if added {
+        return Kind::Signed;
+    }
+    Kind::Unused
+}
+
 fn verdict_kind(verdict: Verdict) -> Kind
     ensures { λ r. ⌜ r ≡ verdictKind verdict ⌝ }
 {
@@ -51,6 +61,7 @@ fn verdict_kind(verdict: Verdict) -> Kind
         Verdict::Unreadable => Kind::Unused,
         Verdict::Refused(_) => Kind::Unused,
         Verdict::Of(_, action) => kind_of(action),
+        Verdict::Signed(_, added) => signed_kind(added),
     }
 }
 
@@ -63,6 +74,7 @@ fn is_event(kind: Kind) -> bool
         Kind::Booked => true,
         Kind::Cancelled => true,
         Kind::Dropped => true,
+        Kind::Signed => true,
     }
 }
 
@@ -109,6 +121,19 @@ pub fn verdict_order(verdict: Verdict, named: u64) -> u64
         Verdict::Unreadable => 0,
         Verdict::Refused(_) => 0,
         Verdict::Of(_, action) => order_of(action, named),
+        Verdict::Signed(n, _) => n,
+    }
+}
+
+// Whose upload a request's event is of: the subscriber's, but a signing's is the owner's.
+fn verdict_subscriber(verdict: Verdict, q: Fields) -> u64
+    ensures { λ r. ⌜ r ≡ verdictSubscriber verdict q ⌝ }
+{
+    match verdict {
+        Verdict::Unreadable => q.subscriber(),
+        Verdict::Refused(_) => q.subscriber(),
+        Verdict::Of(_, _) => q.subscriber(),
+        Verdict::Signed(_, _) => q.owner(),
     }
 }
 
@@ -138,7 +163,7 @@ pub fn with_action(batch: Batch, verdict: Verdict, order: u64, q: Fields) -> Bat
 {
     let kind = verdict_kind(verdict);
     if is_event(kind) {
-        let subscriber = q.subscriber();
+        let subscriber = verdict_subscriber(verdict, q);
         return with_entry(
             batch,
             Entry {

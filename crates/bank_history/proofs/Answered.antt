@@ -99,6 +99,7 @@ module _ (e : Exchange) (g : List Exchange) where
   verdict-short : (v : Verdict) → SoundVerdict v e g → length (e .replyData) ≤ segmentBytes
   verdict-short verdict.Unreadable s = bare s
   verdict-short (verdict.Refused c) s = bare (s .bare)
+  verdict-short (verdict.Signed n added) s = bare (s .bare)
   verdict-short (verdict.Of t k) s = action-short k t s
 
 -- no reply of the history carries more than 256 bytes of data

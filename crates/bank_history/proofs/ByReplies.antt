@@ -97,6 +97,7 @@ download-opens down.Declined t = refl
 opened-form : (v : Verdict) → openedBy v ≡ opens v
 opened-form verdict.Unreadable = refl
 opened-form (verdict.Refused c) = refl
+opened-form (verdict.Signed n added) = refl
 opened-form (verdict.Of t (action.Upload a)) = upload-opens a t
 opened-form (verdict.Of t (action.Download a)) = download-opens a t
 
@@ -124,6 +125,7 @@ upload-form (action.Download down.Declined) = refl
 upload-verdict : (v : Verdict) → ofReply false isUploadForm (verdictForm v) ≡ acceptsUpload v
 upload-verdict verdict.Unreadable = refl
 upload-verdict (verdict.Refused c) = refl
+upload-verdict (verdict.Signed n added) = refl
 upload-verdict (verdict.Of t k) = upload-form k
 
 module _ {e : Exchange} {h : List Exchange} (s : Sound e h) where
@@ -171,6 +173,8 @@ module _ {e : Exchange} {h : List Exchange} (s : Sound e h) where
           ap (λ (b : Bool). b && sameBits t (transaction (e .reply))) (is-opened ∙ ap opens own)
       at (verdict.Refused c) own =
           ap (λ (b : Bool). b && sameBits t (transaction (e .reply))) (is-opened ∙ ap opens own)
+      at (verdict.Signed n added) own =
+          ap (λ (b : Bool). b && sameBits t (transaction (e .reply))) (is-opened ∙ ap opens own)
       at (verdict.Of u k) own =
           ap (λ (b : Bool). b && sameBits t (transaction (e .reply))) (is-opened ∙ ap opens own)
           ∙ by (isOpening k) refl
@@ -187,6 +191,8 @@ module _ {e : Exchange} {h : List Exchange} (s : Sound e h) where
       at verdict.Unreadable own =
           ap (λ (b : Bool). cond b (transaction (e .reply) ∷ []) []) (is-opened ∙ ap opens own)
       at (verdict.Refused c) own =
+          ap (λ (b : Bool). cond b (transaction (e .reply) ∷ []) []) (is-opened ∙ ap opens own)
+      at (verdict.Signed n added) own =
           ap (λ (b : Bool). cond b (transaction (e .reply) ∷ []) []) (is-opened ∙ ap opens own)
       at (verdict.Of u k) own =
           ap (λ (b : Bool). cond b (transaction (e .reply) ∷ []) []) (is-opened ∙ ap opens own)
@@ -315,6 +321,7 @@ module _ (t : Bits128) {e : Exchange} {h : List Exchange} (s : Sound e h) (r : A
   unfolding downloadOpened downloadSegment
   sent-by verdict.Unreadable own = sends-not verdict.Unreadable own refl refl
   sent-by (verdict.Refused c) own = sends-not (verdict.Refused c) own refl refl
+  sent-by (verdict.Signed n added) own = sends-not (verdict.Signed n added) own refl refl
   sent-by (verdict.Of u (action.Upload (up.Opened n))) own = sends-not _ own refl (and-no (sameBits t u))
   sent-by (verdict.Of u (action.Upload up.Took)) own = sends-not _ own refl (and-no (sameBits t u))
   sent-by (verdict.Of u (action.Upload up.TookLast)) own = sends-not _ own refl (and-no (sameBits t u))
@@ -371,6 +378,15 @@ module _ (t : Bits128) {e : Exchange} {h : List Exchange} (s : Sound e h) (r : A
       ∙ (ap (λ (i : Bits128). cond (sameBits t i) (cond (isCancelling (returnCode (e .reply))) Cancelled x) x) same
       ∙ (ap (λ (d : Bool). cond (sameBits t u) (cond d Cancelled x) x) (ap isCancelling (coded-as s own) ∙ c) ∙ b))
 
+  -- 01 03 0D that cancels nothing: a refusal's, and a signing's reply
+  by-none : (v : Verdict) → e .verdict ≡ v → verdictForm v ≡ forms.Refusal → isCancelling (codeField (verdictCode v)) ≡ false →
+      ofReply x (replyStatus t e h x) (form (e .reply)) ≡ x
+  by-none v own f c =
+      ap (ofReply x (replyStatus t e h x)) (formed s ∙ (ap verdictForm own ∙ f))
+      ∙ (ap (λ (d : Bool). cond (sameBits t (transaction (e .request))) (cond d Cancelled x) x)
+      (ap isCancelling (coded s ∙ ap (λ (v : Verdict). codeField (verdictCode v)) own) ∙ c)
+      ∙ by-test (λ (y : Status). y ≡ x) (sameBits t (transaction (e .request))) (λ _. refl) (λ _. refl))
+
   -- the N of its opening
   count-is : (u : Bits128) → sameBits t u ≡ true → segmentCountOf t h ≡ segmentsAt u h
   count-is u z =
@@ -383,11 +399,8 @@ module _ (t : Bits128) {e : Exchange} {h : List Exchange} (s : Sound e h) (r : A
   says-by : (v : Verdict) → e .verdict ≡ v → SoundVerdict v e h → Says v
   unfolding downloadSegment
   says-by verdict.Unreadable own z = ap (ofReply x (replyStatus t e h x)) (formed s ∙ ap verdictForm own)
-  says-by (verdict.Refused c) own z =
-      ap (ofReply x (replyStatus t e h x)) (formed s ∙ ap verdictForm own)
-      ∙ (ap (λ (d : Bool). cond (sameBits t (transaction (e .request))) (cond d Cancelled x) x)
-      (ap isCancelling (coded s ∙ ap (λ (v : Verdict). codeField (verdictCode v)) own) ∙ (cancelling-code c ∙ z .harmless))
-      ∙ by-test (λ (y : Status). y ≡ x) (sameBits t (transaction (e .request))) (λ _. refl) (λ _. refl))
+  says-by (verdict.Refused c) own z = by-none (verdict.Refused c) own refl (cancelling-code c ∙ z .harmless)
+  says-by (verdict.Signed n added) own z = by-none (verdict.Signed n added) own refl refl
   says-by (verdict.Of u (action.Upload (up.Opened n))) own z =
       by-id u _ own (λ y. let w : _≡_ {A = ℕ} 0 1 = cc in omega arith)
       (λ (i : Bits128). cond (sameBits t i) (Open direction.Upload (subscriber (e .request)) (e .clock)) x) refl refl

@@ -34,7 +34,8 @@ use Rattle.bank_verdicts.specs.declared.verdict.DownloadAction.the-variants as 
 use Rattle.bank_verdicts.specs.declared.verdict.Action.the-variants as action
 use Rattle.bank_verdicts.specs.declared.verdict.Verdict.{Verdict}
 use Rattle.bank_verdicts.specs.declared.verdict.Verdict.the-variants as verdict
-use Rattle.bank_verdicts.specs.Judgement.{uploadAt, downloadOf}
+use Rattle.bank_verdicts.specs.Judgement.{uploadAt, downloadOf, orderAt}
+use Rattle.bank_signing.specs.Signings.{sign}
 use Rattle.bank_uploads.specs.Uploads.{grown, booked, attempted, placeAfter}
 use Rattle.bank.specs.declared.call.FrameAnswer.{FrameAnswer}
 use Rattle.bank.specs.declared.call.FrameAnswer.the-variants.{Reply, WrongLength}
@@ -53,7 +54,7 @@ use Rattle.bank_history.specs.Transactions.{Emptied, Filled, Gone, answe
 use Rattle.bank_state.proofs.Drops.{each-endDownloads}
 use Rattle.bank_admitted.proofs.Rows.{each-set-all}
 use Rattle.message.proofs.Verdicts.{by-test}
-use Rattle.bank_steps.proofs.Cases.{Happens, unreadable, refused, opensUpload, opensDownload, toUpload, toDownload, upload-acts, happens}
+use Rattle.bank_steps.proofs.Cases.{Happens, unreadable, refused, opensUpload, opensDownload, signs, toUpload, toDownload, upload-acts, happens}
 use Rattle.bank_history.proofs.GoesOn.{download-goes-on}
 use Rattle.bank_state.proofs.Found.{upload-found}
 use Rattle.bank_history.proofs.Uploads.{entry}
@@ -169,9 +170,10 @@ module _ (first : ℕ) (w : BankState) (h : List Exchange) (v : Invariant w h) (
 
   -- a request empties the mailbox of its subscriber by 011000, or leaves it; it leaves the others
   case-mailbox : {u : Verdict} → Happens first w q d u → Mailbox u
-  unfolding mailboxFile fileLength openUpload countedUpload openDownload counted
+  unfolding mailboxFile fileLength openUpload countedUpload openDownload counted sign
   case-mailbox unreadable = inl refl
   case-mailbox (refused c e) = inl refl
+  case-mailbox (signs c) = inl refl
   case-mailbox (opensUpload asked a g n inside below) = inl refl
   case-mailbox (opensDownload asked a g n) = inl refl
   case-mailbox (toUpload r a t) =
@@ -260,9 +262,12 @@ module _ (t : Bits128) where
     fresh-number u n e = let k = g .known in let z = ap (λ (b : Bits128). b .low) e in omega arith
 
     pub case-gone : (first : ℕ) (q : Fields) (d : List ℕ) {v : Verdict} → Happens first w q d v → Gone (carryOut v w q d) t
-    unfolding openUpload countedUpload openDownload counted
+    unfolding openUpload countedUpload openDownload counted sign
     case-gone first q d unreadable = g
     case-gone first q d (refused c e) = g
+    case-gone first q d (signs c) =
+        let i = orderAt (w .bank) q in
+        record { known = g .known; places = place-gone i _ (g .places i); downloads = g .downloads }
     case-gone first q d (opensUpload asked a f n inside below) =
         record { known = let k = g .known in omega arith; places = place-gone _ _ (λ _. fresh-number _ refl); downloads = g .downloads }
     case-gone first q d (opensDownload asked a f n) =

@@ -1,7 +1,7 @@
 -- The clock, the drops and the forgetting keep the invariant.
 use Prim.{tt}
 use Prim.Native.Nat.{ℕ, zero, suc, _≤_, _<_, max}
-use mathlib.Core.Bool.{true, _&&_}
+use mathlib.Core.Bool.{true, false, _&&_}
 use mathlib.Core.List.{List}
 use mathlib.Core.Path.{_≡_, refl, sym, ap, _∙_}
 use native.Mathlib.Omega.{arith}
@@ -11,16 +11,19 @@ use Rattle.message.specs.Limits.{fileBytes}
 use Rattle.message.proofs.Verdicts.{by-test}
 use Rattle.bank_state.specs.declared.clock.Ended.the-variants as ended
 use Rattle.bank_state.specs.declared.state.Download.{Download}
-use Rattle.bank_state.specs.declared.state.Use.the-variants.{Booked}
+use Rattle.bank_state.specs.declared.state.Use.{Use}
+use Rattle.bank_state.specs.declared.state.Use.the-variants.{Free, Open, Booked}
 use Rattle.bank_state.specs.Clock.{isIdle, freed, dropUpload, dropUploads, atClock, advanced}
 use Rattle.bank_state.specs.Limits.{placeCount}
-use Rattle.bank_state.specs.Search.{isOpen}
+use Rattle.bank_state.specs.Search.{isOpen, isBooked}
 use Rattle.bank_state.specs.State.{BankState, bankState, noPlace, placeAt, fileLength}
 use Rattle.bank_state.specs.Store.{zeroed}
 use Rattle.bank_state.proofs.Stores.{zeroed-same, zeroed-other}
 use Rattle.bank_state.proofs.Drops.{each-endDownloads}
 use Rattle.bank_admitted.specs.State.{mailboxFile}
 use Rattle.bank_admitted.proofs.Clock as admitted
+use Rattle.bank_verdicts.specs.Refusals.{findOrder}
+use Rattle.bank_history.proofs.Signatures.{unbooked-signers}
 use Rattle.bank_history.specs.History.{Exchange}
 use Rattle.bank_history.specs.Invariant.{DownloadTold, Invariant}
 use Rattle.bank_history.proofs.Memory.{memory-later}
@@ -30,7 +33,7 @@ use Rattle.bank_history.proofs.Uploads.{booked-at, still-booked}
 -- the state at a later clock, but for its uploads
 at-clock : (c : ℕ) (w : BankState) (h : List Exchange) → w .bank .clock ≤ c → Invariant w h →
     Invariant (bankState (atClock c (w .bank)) (w .orders) (w .mailboxes)) h
-unfolding atClock mailboxFile fileLength
+unfolding atClock mailboxFile fileLength findOrder
 at-clock c w h l v = record {
   state = admitted.at-clock c w l (v .state);
   counted = v .counted;
@@ -39,6 +42,7 @@ at-clock c w h l v = record {
   downloads = each-endDownloads (λ (r : Download). DownloadTold (r .used) h (mailboxFile w (r .subscriber)) r) tt (ended.Idle c)
       (w .bank .downloads) (λ j _ g. v .downloads j);
   memory = memory-later (w .bank .clock) c h l (w .bank .nonces) (v .state .sizes .nonces) (v .memory);
+  signers = v .signers;
   known = v .known;
   booked = λ t e. booked-at w (bankState (atClock c (w .bank)) (w .orders) (w .mailboxes)) t (v .booked t e) refl;
   sound = v .sound;
@@ -46,7 +50,7 @@ at-clock c w h l v = record {
 
 freed-keeps : (i : ℕ) (w : BankState) (h : List Exchange) → i < placeCount → isOpen (placeAt (w .bank) i .used) ≡ true → Invariant w h →
     Invariant (freed i w) h
-unfolding freed mailboxFile fileLength
+unfolding freed mailboxFile fileLength findOrder
 freed-keeps i w h inside opened v = record {
   state = admitted.freed-keeps i w inside (v .state);
   counted = v .counted;
@@ -56,11 +60,18 @@ freed-keeps i w h inside opened v = record {
       (λ j a n. v .places j a);
   downloads = v .downloads;
   memory = v .memory;
+  signers = λ o n. unbooked-signers o n (w .bank .places) i noPlace (let l = v .state .sizes .places in omega arith)
+      (unbooked (placeAt (w .bank) i .used) opened) refl ∙ v .signers o n;
   known = v .known;
   booked = λ t g. still-booked w i noPlace (freed i w) refl open-not-booked t (v .booked t g);
   sound = v .sound;
 }
   where
+    unbooked : (u : Use) → isOpen u ≡ true → isBooked u ≡ false
+    unbooked Free e = refl
+    unbooked Open e = refl
+    unbooked Booked e = never e
+
     open-not-booked : placeAt (w .bank) i .used ≡ Booked → ⊥
     open-not-booked e = never (sym (ap isOpen e) ∙ opened)
 

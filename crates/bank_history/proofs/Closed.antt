@@ -52,6 +52,7 @@ use Rattle.bank_steps.proofs.Cases.{
   refused,
   opensUpload,
   opensDownload,
+  signs,
   toUpload,
   toDownload,
 }
@@ -119,6 +120,7 @@ case-open : {first : ℕ} (w : BankState) (σ : Bits128 → Status) → Told w �
     OpenStatus (directionOf k) (σ t)
 case-open w σ told q d unreadable t k z o = absurd (let x : _≡_ {A = ℕ} 0 1 = cc in omega arith)
 case-open w σ told q d (refused c y) t k z o = absurd (let x : _≡_ {A = ℕ} 0 1 = cc in omega arith)
+case-open w σ told q d (signs s) t k z o = absurd (let x : _≡_ {A = ℕ} 0 1 = cc in omega arith)
 case-open w σ told q d (opensUpload f a g n inside below) t k z o =
     let same : action.Upload (up.Opened (seriesOf (subscriber q) (w .bank .series))) ≡ k = cc in never (sym o ∙ ap isOpening (sym same))
 case-open w σ told q d (opensDownload f a g n) t k z o =
@@ -176,6 +178,7 @@ module _ {calls : List BankCall} {e : Exchange} (n : Next calls e) where
       at : (v : Verdict) → e .verdict ≡ v → statusAfter t v e x ≡ x
       at verdict.Unreadable own = refl
       at (verdict.Refused c) own = refl
+      at (verdict.Signed n added) own = refl
       at (verdict.Of u k) own = by (sameBits t u) refl
         where
           by : (b : Bool) → sameBits t u ≡ b → cond b (actionStatus k e x) (otherStatus k e x) ≡ x
@@ -310,6 +313,7 @@ after-booked : (t : Bits128) (v : Verdict) (e : Exchange) (x : Status) → isBoo
     cond (did isBooking t v) true (isBookedStatus x) ≡ true
 after-booked t verdict.Unreadable e x z = z
 after-booked t (verdict.Refused c) e x z = z
+after-booked t (verdict.Signed n added) e x z = z
 after-booked t (verdict.Of u k) e x z = at (sameBits t u) z
   where
     at : (b : Bool) → isBookedStatus (cond b (actionStatus k e x) (otherStatus k e x)) ≡ true →

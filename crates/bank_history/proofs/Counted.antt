@@ -33,14 +33,15 @@ use Rattle.bank_verdicts.specs.declared.verdict.Action.{Action}
 use Rattle.bank_verdicts.specs.declared.verdict.Action.the-variants as action
 use Rattle.bank_verdicts.specs.declared.verdict.Verdict.{Verdict}
 use Rattle.bank_verdicts.specs.declared.verdict.Verdict.the-variants as verdict
-use Rattle.bank_verdicts.specs.Judgement.{transactionOf, uploadAt, downloadOf}
+use Rattle.bank_verdicts.specs.Judgement.{transactionOf, uploadAt, downloadOf, orderAt, signed}
+use Rattle.bank_signing.specs.Signings.{sign}
 use Rattle.bank_uploads.specs.Uploads.{grown, booked, attempted, placeAfter}
 use Rattle.bank_steps.specs.Steps.{onUpload, downloadActs, carryOut}
 use Rattle.bank.specs.Call.{contextOf, respond}
 use Rattle.bank_history.specs.History.{Exchange, Past, BankCall, Stands, newest, older, ActionIn, isAction, isOpening, isTaking, isDelivery, did, ever, times, exchangeOf, start, pastOf}
 use Rattle.bank_admitted.specs.State.{Sizes}
 use Rattle.bank_history.specs.Invariant.{Invariant}
-use Rattle.bank_steps.proofs.Cases.{Happens, unreadable, refused, opensUpload, opensDownload, toUpload, toDownload, upload-acts, happens}
+use Rattle.bank_steps.proofs.Cases.{Happens, unreadable, refused, opensUpload, opensDownload, signs, toUpload, toDownload, upload-acts, happens}
 use Rattle.bank_history.proofs.GoesOn.{upload-goes-on, download-goes-on}
 use Rattle.bank_admitted.proofs.Clock.{each-advanced, each-download}
 use Rattle.bank_history.proofs.Clock.{advanced-keeps}
@@ -274,7 +275,7 @@ module _ (w : BankState) (h : List Exchange) (v : Invariant w h) (c : Counted w 
     download-counted down.Declined o = record { places = places-stay down.Declined; downloads = ended-stay down.Declined refl _ }
 
   case-counted : (first : ℕ) {u : Verdict} → Happens first w q d u → Counted (carryOut u w q d) (entry u w q d ∷ h)
-  unfolding openUpload countedUpload openDownload counted
+  unfolding openUpload countedUpload openDownload counted sign
   case-counted first unreadable = nothing (entry verdict.Unreadable w q d) (λ t. refl)
   case-counted first (refused r z) = nothing (entry (verdict.Refused r) w q d) (λ t. refl)
   case-counted first (opensUpload asked a g n inside below) =
@@ -304,6 +305,14 @@ module _ (w : BankState) (h : List Exchange) (v : Invariant w h) (c : Counted w 
   case-counted first (toDownload r a s) =
       download-counted (let l = v .state .sizes .downloads in let b = s .inside in omega arith)
       (download-found (subscriber q) (transaction q) _ (s .found) .0) a (download-goes-on (s .sound))
+  case-counted first (signs s) =
+      let i = orderAt (w .bank) q in
+      let x = entry (signed (w .bank) q) w q d in
+      let stays : (j : ℕ) → j < placeCount → PlaceCounts (x ∷ h) (placeAt (w .bank) j) = λ j b z. other x h _ _ _ refl (c .places j b z) in
+      record {
+        places = place-set (x ∷ h) i _ (s .signable .inside) (stays i (s .signable .inside)) (λ j _ b. stays j b);
+        downloads = λ j z. other x h _ _ _ refl (c .downloads j z);
+      }
 
 -- ---- after every list of calls
 

@@ -52,7 +52,7 @@ use Rattle.bank_history.proofs.Parts.{OpenDownload}
 use Rattle.bank_history.specs.Transactions.{DownloadAt}
 use Rattle.bank_state.proofs.Rows.{first-passes}
 use Rattle.bank_admitted.proofs.Rows.{first-at-most}
-use Rattle.bank_steps.proofs.Cases.{Happens, unreadable, refused, opensUpload, opensDownload, toUpload, toDownload, requestForm}
+use Rattle.bank_steps.proofs.Cases.{Happens, unreadable, refused, opensUpload, opensDownload, signs, toUpload, toDownload, requestForm}
 use Rattle.bank_history.proofs.GoesOn.{download-goes-on}
 use Rattle.bank_history.proofs.Entries.{and-no, same-bits}
 use Rattle.bank_state.proofs.Found.{upload-found, download-found}
@@ -218,5 +218,6 @@ opened-open first w h v q b t n (opensDownload asked a g m) z =
       delivered = ap (λ (r : Download). r .delivered) is;
       fitting = ap (λ (r : Download). r .last) is;
     }
+opened-open first w h v q b t n (signs c) z = absurd (let y : _≡_ {A = ℕ} 0 1 = cc in omega arith)
 opened-open first w h v q b t n (toUpload r a c) z = absurd (let y : _≡_ {A = ℕ} 0 1 = cc in omega arith)
 opened-open first w h v q b t n (toDownload r a c) z = never (sym (download-goes-on (c .sound)) ∙ ap opens z)

@@ -31,6 +31,7 @@ use Rattle.bank_admitted.specs.State.{mailboxFile, StateHolds}
 use Rattle.bank_admitted.proofs.DownloadChange.{besides}
 use Rattle.bank_admitted.proofs.Downloads as admitted
 use Rattle.bank_history.specs.History.{Exchange, downloadKind, isDelivery, times}
+use Rattle.bank_history.specs.Signatures.{isSigningForm}
 use Rattle.bank_history.specs.Sound.{SoundRequest, SoundDownload, SoundData, SoundReceipt, SoundDownloadAction}
 use Rattle.bank_history.specs.Invariant.{Invariant}
 use Rattle.bank_history.proofs.Parts.{OpenDownload}
@@ -47,12 +48,14 @@ use Rattle.bank_verdicts.proofs.Sound.{
 }
 use Rattle.bank_steps.proofs.Cases.{requestForm, ToDownload}
 use Rattle.bank_history.proofs.Records.{download-moved}
+use Rattle.bank_history.proofs.Signatures.{unsigned-form, transaction-form}
 use Rattle.bank_history.proofs.Uploads.{entry, bare}
 use Rattle.bank.proofs.WrittenReplies.{carried-segment}
 use Rattle.bank_history.proofs.Downloads.{download-open, moved-step, ended-step}
 
 module _ (w : BankState) (h : List Exchange) (v : Invariant w h) (q : Fields) (d : List ℕ) (readable : Readable q (length d))
-    (found : isDownload (subscriber q) (transaction q) (downloadAt (w .bank) (downloadOf (w .bank) q)) ≡ true) where
+    (found : isDownload (subscriber q) (transaction q) (downloadAt (w .bank) (downloadOf (w .bank) q)) ≡ true)
+    (other : isSigningForm (form q) ≡ false) where
   abbrev j : ℕ
   j = downloadOf (w .bank) q
 
@@ -121,7 +124,8 @@ module _ (w : BankState) (h : List Exchange) (v : Invariant w h) (q : Fields) (d
       cond (downloadKind a .delivers) (suc (old .delivered)) (old .delivered) ≡ m → SoundDownloadAction a (old .transaction) (now a) h →
       Invariant after (now a ∷ h)
   moves a up opens books ends m attempts last state count sound =
-      moved-step w h v j is-used (action.Download a) (rw (up, opens) refl) books (now a) refl m attempts last state
+      moved-step w h v j is-used (action.Download a) (rw (up, opens) refl) books (now a) refl (unsigned-form (now a) other)
+      m attempts last state
       (download-moved (now a) h _ old (action.Download a) m attempts last refl opens (rw (up, opens) refl) books ends count (isOpen′ .1))
       (record { reply = refl; verdict = sound })
 
@@ -160,7 +164,7 @@ module _ (w : BankState) (h : List Exchange) (v : Invariant w h) (q : Fields) (d
       Invariant (ended q w) (now a ∷ h)
   unfolding mailboxFile fileLength ends
   ends-keeps a up opens books state sound =
-      ended-step w h v j is-used (action.Download a) (rw (up, opens) refl) books (now a) refl
+      ended-step w h v j is-used (action.Download a) (rw (up, opens) refl) books (now a) refl (unsigned-form (now a) other)
       (ending.Transaction (subscriber q) (transaction q)) (w .bank .files) (w .mailboxes)
       found (λ i a f. refl) state (record { reply = refl; verdict = sound })
 
@@ -179,7 +183,8 @@ module _ (w : BankState) (h : List Exchange) (v : Invariant w h) (q : Fields) (d
       Invariant (left down.Confirmed) (now down.Confirmed ∷ h)
   unfolding ends
   confirmed-keeps state asked whole taken =
-      ended-step w h v j is-used (action.Download down.Confirmed) refl refl (now down.Confirmed) refl (ending.Mailbox (subscriber q))
+      ended-step w h v j is-used (action.Download down.Confirmed) refl refl (now down.Confirmed) refl
+      (unsigned-form (now down.Confirmed) other) (ending.Mailbox (subscriber q))
       (set (w .bank .files) (subscriber q - 1) 0) (zeroed (w .mailboxes) (subscriber q - 1))
       (eq-eqb (old .subscriber) (subscriber q) owned) (admitted.others-kept w (v .state) q d readable found) state
       (record {
@@ -203,4 +208,5 @@ pub download-keeps : (w : BankState) (h : List Exchange) → Invariant w h → (
     let v = verdict.Of (downloadAt (w .bank) (downloadOf (w .bank) q) .transaction) (action.Download a) in
     Invariant (carryOut v w q d) (entry v w q d ∷ h)
 download-keeps w h v q d r a t =
-    download-sound-keeps w h v q d (t .readable) (t .found) (t .asked) (t .sound) (admitted.download-keeps w (v .state) q d r a t)
+    download-sound-keeps w h v q d (t .readable) (t .found) (ap isSigningForm (t .asked) ∙ transaction-form r) (t .asked) (t .sound)
+    (admitted.download-keeps w (v .state) q d r a t)

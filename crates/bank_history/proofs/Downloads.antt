@@ -19,11 +19,13 @@ use Rattle.bank_state.proofs.Drops.{each-endDownloads}
 use Rattle.bank_downloads.specs.Downloads.{movedTo}
 use Rattle.bank_verdicts.specs.declared.verdict.Action.{Action}
 use Rattle.bank_verdicts.specs.declared.verdict.Verdict.the-variants as verdict
+use Rattle.bank_verdicts.specs.Refusals.{findOrder}
 use Rattle.bank_admitted.specs.State.{mailboxFile, StateHolds}
 use Rattle.bank_admitted.proofs.Rows.{used-inside, each-set}
 use Rattle.bank_admitted.proofs.Held as held
 use Rattle.bank_admitted.proofs.DownloadChange.{besides}
-use Rattle.bank_history.specs.History.{Exchange, isBooking, isOpening, opens, isAction, did}
+use Rattle.bank_history.specs.History.{Exchange, isBooking, isOpening, opens, remembers, isAction, did}
+use Rattle.bank_history.specs.Signatures.{isSigned}
 use Rattle.bank_history.specs.Sound.{Sound, more}
 use Rattle.bank_history.specs.Invariant.{PlaceTold, OpenTold, DownloadTold, Invariant}
 use Rattle.bank_history.proofs.Parts.{OpenDownload, DownloadKept, download-kept}
@@ -31,6 +33,7 @@ use Rattle.bank_history.proofs.Entries.{did-other, known-more, booked-m
 use Rattle.bank_history.proofs.Memory.{memory-unchanged}
 use Rattle.bank_history.proofs.Places.{place-unchanged}
 use Rattle.bank_history.proofs.Records.{download-unchanged}
+use Rattle.bank_history.proofs.Signatures.{signers-unchanged}
 use Rattle.bank_history.proofs.Uploads.{booked-at}
 
 module _ (w : BankState) (h : List Exchange) (v : Invariant w h) where
@@ -54,7 +57,7 @@ module _ (w : BankState) (h : List Exchange) (v : Invariant w h) where
 -- the download of record j does the action k
 module _ (w : BankState) (h : List Exchange) (v : Invariant w h) (j : ℕ) (used : downloadAt (w .bank) j .used ≡ true)
     (k : Action) (noOpening : isOpening k ≡ false) (unbooked : isBooking k ≡ false) (x : Exchange)
-    (own : x .verdict ≡ verdict.Of (downloadAt (w .bank) j .transaction) k) where
+    (own : x .verdict ≡ verdict.Of (downloadAt (w .bank) j .transaction) k) (unsigned : isSigned x ≡ false) where
   abbrev e : Download
   e = downloadAt (w .bank) j
 
@@ -78,14 +81,16 @@ module _ (w : BankState) (h : List Exchange) (v : Invariant w h) (j : ℕ) (used
       let after = besides (w .bank .clock) (w .bank .openings) downs (w .bank .nonces) files mailboxes w in StateHolds after →
       ((i : ℕ) → let r = getD downs i noDownload in DownloadTold (r .used) (x ∷ h) (mailboxFile after (r .subscriber)) r) → Sound x h →
       Invariant after (x ∷ h)
+  unfolding findOrder
   download-step downs files mailboxes state downloads sound = record {
     state = state;
     counted = v .counted ∙ sym (accepted-own (e .transaction) k x h own ∙ rw noOpening refl);
     series = λ s a b. v .series s a b ∙ sym (series-unmoved s x h (ap opens own ∙ noOpening));
     places = places-stay;
     downloads = downloads;
-    memory = memory-unchanged _ _ x h (ap opens own ∙ noOpening) (v .memory);
+    memory = memory-unchanged _ _ x h (ap remembers own ∙ noOpening) (v .memory);
     known = known-more (e .transaction) k x h own (w .bank .openings) (download-open w h v j used .0 .counted) (v .known);
+    signers = λ owner order. v .signers owner order ∙ sym (signers-unchanged _ x h unsigned);
     booked = λ t g. booked-at w (besides (w .bank .clock) (w .bank .openings) downs (w .bank .nonces) files mailboxes w) t
         (v .booked t (booked-more (e .transaction) k x h own unbooked t g)) refl;
     sound = more sound (v .sound);

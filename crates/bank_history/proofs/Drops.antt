@@ -146,6 +146,7 @@ module _ (t : Bits128) where
   no-act : (v : Verdict) → In (Drop t) (actedIn v) → ⊥
   no-act verdict.Unreadable i = in-none i
   no-act (verdict.Refused c) i = in-none i
+  no-act (verdict.Signed n added) i = in-none i
   no-act (verdict.Of u k) (here z) = let x : _≡_ {A = ℕ} 0 1 = cc in omega arith
   no-act (verdict.Of u k) (there i) = in-none i
 
@@ -195,6 +196,7 @@ opened-numbered (sounds.more {e = e} {h = h} s r) = at (e .verdict) (s .verdict)
     at : (u : Verdict) → SoundVerdict u e h → Numbered 0 (openings h) × (length (openings h) ≡ accepted h) → Out u
     at verdict.Unreadable z k = same k
     at (verdict.Refused c) z k = same k
+    at (verdict.Signed n added) z k = same k
     at (verdict.Of t a) z k = by (isOpening a) refl
       where
         by : (b : Bool) → isOpening a ≡ b →
@@ -359,6 +361,7 @@ module _ (e : Exchange) (x : Status) (z : isNotOpened x ≡ false) where
   after-opened : (t : Bits128) (v : Verdict) → isNotOpened (statusAfter t v e x) ≡ false
   after-opened t verdict.Unreadable = z
   after-opened t (verdict.Refused c) = z
+  after-opened t (verdict.Signed n added) = z
   after-opened t (verdict.Of u k) =
       by-test (λ (y : Status). isNotOpened y ≡ false) (sameBits t u) (λ _. action-opened k) (λ _. other-opened k)
 
@@ -382,6 +385,7 @@ new-opened : (t : Bits128) (v : Verdict) (e : Exchange) (x : Status) → In t (o
     isNotOpened (statusAfter t v e x) ≡ false
 new-opened t verdict.Unreadable e x i = absurd (in-none i)
 new-opened t (verdict.Refused c) e x i = absurd (in-none i)
+new-opened t (verdict.Signed n added) e x i = absurd (in-none i)
 new-opened t (verdict.Of u k) e x i = at (isOpening k) refl i
   where
     at : (b : Bool) → isOpening k ≡ b → In t (cond b (u ∷ []) []) →

@@ -34,6 +34,7 @@ other-bits t u h = rw (ne-eqb (t .low) (u .low) h) (and-no (eqb (t .high) (u .hi
 pub did-none : (f : Action → Bool) (t : Bits128) (v : Verdict) → did isAction t v ≡ false → did f t v ≡ false
 did-none f t verdict.Unreadable h = refl
 did-none f t (verdict.Refused c) h = refl
+did-none f t (verdict.Signed n added) h = refl
 did-none f t (verdict.Of u k) h = at (sameBits t u) h
   where
     at : (b : Bool) → b && true ≡ false → b && f k ≡ false
@@ -90,6 +91,7 @@ module _ (t : Bits128) (k : Action) (x : Exchange) (h : List Exchange) (own : x 
 ever-less : (f : Action → Bool) (t : Bits128) (v : Verdict) → did f t v ≡ true → did isAction t v ≡ true
 ever-less f t verdict.Unreadable h = h
 ever-less f t (verdict.Refused c) h = h
+ever-less f t (verdict.Signed n added) h = h
 ever-less f t (verdict.Of u k) h = rw (and-true (sameBits t u) (f k) h .0)
 
 -- an action of one kind is an action
@@ -162,6 +164,7 @@ module _ (u : Bits128) (k : Action) (x : Exchange) (h : List Exchange) (own : x 
 opens-no-upload : (v : Verdict) → opens v ≡ false → acceptsUpload v ≡ false
 opens-no-upload verdict.Unreadable z = refl
 opens-no-upload (verdict.Refused c) z = refl
+opens-no-upload (verdict.Signed n added) z = refl
 opens-no-upload (verdict.Of t k) z = or-neither (isUploadOpening k) (isDownloadOpening k) z .0
 
 pub series-unmoved : (s : ℕ) (x : Exchange) (h : List Exchange) → opens (x .verdict) ≡ false →

@@ -39,7 +39,7 @@ use Rattle.bank_verdicts.specs.Judgement.{judgeOpening, judge}
 use Rattle.bank_verdicts.specs.Replies.{replyTo, uploadReply, downloadReply}
 use Rattle.bank_steps.specs.Steps.{carryOut}
 use Rattle.bank.specs.Call.{contextOf}
-use Rattle.bank_history.specs.History.{Exchange, BankCall, Frame, Stands, newest, older, ActionIn, pastOf, opens, isOpening, isUploadOpening, isDownloadOpening, isTaking, isBooking, did, ever, atOpening, openedBy}
+use Rattle.bank_history.specs.History.{Exchange, BankCall, Frame, Stands, newest, older, ActionIn, pastOf, remembers, isOpening, isUploadOpening, isDownloadOpening, isTaking, isBooking, did, ever, atOpening, openedBy}
 use Rattle.bank_history.specs.Sound.{SoundUploadPoint, SoundDownloadPoint, SoundUploadAction, SoundDownloadAction, SoundAction, SoundVerdict, AllSound, more}
 use Rattle.bank_history.specs.FalseEconomies.{Next, WellMadeOpening, Asks, RefusedWith, Opens, Takes, RecoveryPoint, FalseEconomies}
 use Rattle.bank_history.proofs.Entries.{opening-own, did-same}
@@ -102,19 +102,19 @@ module _ (context : Context) (b : Bank) (q : Fields) (few : segments q ≤ maxSe
   unfolding judgeOpening openingRows unknownType manySegments
   download-replayed kind = rw (replayed, kind, le-ltb maxSegments (segments q) few)
 
-nonce-refused : {calls : List BankCall} {e f : Exchange} {g : List Exchange} {t : Bits128} → Next calls e → WellMadeOpening e →
-    Stands f g (pastOf calls .history) → Opens t f → nonce (e .request) ≡ nonce (f .request) → e .clock ≤ timestamp (f .request) + window →
-    RefusedWith code.MessageReplay e
-nonce-refused {calls} {e} {f} {g} {t} n made stands o same recent = refused-with n code.MessageReplay (verdict-is n ∙ judged-so (rw (sym (request-is n)) (made .kind)))
+-- what an accepted opening or signing has left is found by the next request with that nonce
+pub nonce-seen : {calls : List BankCall} {e f : Exchange} {g : List Exchange} (n : Next calls e) → Stands f g (pastOf calls .history) →
+    remembers (f .verdict) ≡ true → nonce (e .request) ≡ nonce (f .request) → e .clock ≤ timestamp (f .request) + window →
+    isRemembered (nonce (asked n)) (judgedBank n .bank) ≡ true
+nonce-seen n stands left same recent =
+    ap (λ (b : Bits128). isRemembered b (judgedBank n .bank)) (ap nonce (sym (request-is n)) ∙ same)
+    ∙ nonce-remembered (judged-holds n) stands left (let c = clock-is n in omega arith)
+
+-- an opening with a nonce that is remembered
+pub seen-refused : {calls : List BankCall} {e : Exchange} (n : Next calls e) → WellMadeOpening e →
+    isRemembered (nonce (asked n)) (judgedBank n .bank) ≡ true → RefusedWith code.MessageReplay e
+seen-refused {calls} {e} n made seen = refused-with n code.MessageReplay (verdict-is n ∙ judged-so (rw (sym (request-is n)) (made .kind)))
   where
-    opened : ActionIn isOpening t f
-    opened = opens-action (history-sound calls) stands o
-
-    seen : isRemembered (nonce (asked n)) (judgedBank n .bank) ≡ true
-    seen =
-        ap (λ (b : Bits128). isRemembered b (judgedBank n .bank)) (ap nonce (sym (request-is n)) ∙ same)
-        ∙ nonce-remembered (judged-holds n) stands (ap opens (opened .is) ∙ opened .kind) (let c = clock-is n in omega arith)
-
     few : segments (asked n) ≤ maxSegments
     few = rw (sym (request-is n)) (made .few)
 
@@ -130,6 +130,17 @@ nonce-refused {calls} {e} {f} {g} {t} n made stands o same recent = refused-with
         verdict-by-form (contextOf (n .input)) (judgedBank n) (asked n) (sent n) forms.DownloadOpening z
         (well-made n (made .made) (ap isRequestForm z))
         ∙ download-replayed (contextOf (n .input)) (judgedBank n .bank) (asked n) few seen kind
+
+-- the nonce of an accepted opening is remembered
+pub opens-remembered : {t : Bits128} {f : Exchange} {g h : List Exchange} → AllSound h → Stands f g h → Opens t f →
+    remembers (f .verdict) ≡ true
+opens-remembered sound stands o = let a = opens-action sound stands o in ap remembers (a .is) ∙ a .kind
+
+nonce-refused : {calls : List BankCall} {e f : Exchange} {g : List Exchange} {t : Bits128} → Next calls e → WellMadeOpening e →
+    Stands f g (pastOf calls .history) → Opens t f → nonce (e .request) ≡ nonce (f .request) → e .clock ≤ timestamp (f .request) + window →
+    RefusedWith code.MessageReplay e
+nonce-refused {calls} n made stands o same recent =
+    seen-refused n made (nonce-seen n stands (opens-remembered (history-sound calls) stands o) same recent)
 
 -- ---- another subscriber's transaction ID
 
@@ -198,17 +209,11 @@ taking-form (action.Download down.Cancelled) z = never z
 taking-form (action.Download down.Confirmed) z = never z
 taking-form (action.Download down.Declined) z = never z
 
-closed-refused : {calls : List BankCall} {e f : Exchange} {g : List Exchange} {t : Bits128} → Next calls e → Asks t e →
-    Stands f g (pastOf calls .history) → Takes t f → lastMark (f .request) ≡ 1 → RefusedWith code.UnknownTransaction e
-closed-refused {calls} {e} {f} {g} {t} n a stands taken mark =
-    refused-with n code.UnknownTransaction (unknown-unless n a (λ u k own.
-    let s = asked-open n a own in
-    never (sym (s .1 .unbooked) ∙ (ap (λ (i : Bits128). ever isBooking i (pastOf calls .history)) (s .0)
-    ∙ stands-ever isBooking t stands booked))))
+-- a reply "segment taken" with 000000 is that of a segment taken under its transaction ID
+pub takes-action : {t : Bits128} {f : Exchange} {g h : List Exchange} → AllSound h → Stands f g h → Takes t f → ActionIn isTaking t f
+takes-action {t} {f} sound stands taken =
+    record { action = took .action; is = took .is ∙ ap (λ (i : Bits128). verdict.Of i (took .action)) own-id; kind = took .kind }
   where
-    sound : AllSound (pastOf calls .history)
-    sound = history-sound calls
-
     took : ActionIn isTaking (transaction (f .request)) f
     took = segment-taken sound stands (taken .formed) (taken .coded) .0
 
@@ -218,11 +223,22 @@ closed-refused {calls} {e} {f} {g} {t} n a stands taken mark =
     own-id : transaction (f .request) ≡ t
     own-id = sym (reply-transaction sound stands (took .is) refuses-not) ∙ taken .id
 
+closed-refused : {calls : List BankCall} {e f : Exchange} {g : List Exchange} {t : Bits128} → Next calls e → Asks t e →
+    Stands f g (pastOf calls .history) → Takes t f → lastMark (f .request) ≡ 1 → RefusedWith code.UnknownTransaction e
+closed-refused {calls} {e} {f} {g} {t} n a stands taken mark =
+    refused-with n code.UnknownTransaction (unknown-unless n a (λ u k own.
+    let s = asked-open n a own in
+    never (sym (s .1 .unbooked) ∙ (ap (λ (i : Bits128). ever isBooking i (pastOf calls .history)) (s .0)
+    ∙ stands-ever isBooking t stands booked))))
+  where
+    took : ActionIn isTaking t f
+    took = takes-action (history-sound calls) stands taken
+
     booked : ActionIn isBooking t f
     booked = record {
       action = took .action;
-      is = took .is ∙ ap (λ (i : Bits128). verdict.Of i (took .action)) own-id;
-      kind = took-last (took .action) (transaction (f .request)) f g (took .kind) (action-sound sound stands (took .is)) mark;
+      is = took .is;
+      kind = took-last (took .action) t f g (took .kind) (action-sound (history-sound calls) stands (took .is)) mark;
     }
 
 -- ---- the phase
@@ -265,6 +281,7 @@ module _ (e : Exchange) (g : List Exchange) where
   unfolding refusal Phased
   verdict-phase verdict.Unreadable s p = absurd (p .0 refl)
   verdict-phase (verdict.Refused c) s p = refl
+  verdict-phase (verdict.Signed n added) s p = refl
   verdict-phase (verdict.Of t (action.Upload a)) s p = upload-phase t a s p
   verdict-phase (verdict.Of t (action.Download a)) s p = download-phase t a s p
 

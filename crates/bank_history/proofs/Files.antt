@@ -6,6 +6,7 @@ use mathlib.Core.Path.{_≡_, refl}
 use lib.ListN.{length}
 use Rattle.message.specs.Limits.{subscribers, fileBytes}
 use Rattle.bank_state.specs.State.{BankState, downloadAt, fileLength}
+use Rattle.bank_verdicts.specs.Refusals.{findOrder}
 use Rattle.bank_admitted.specs.State.{mailboxFile}
 use Rattle.bank_admitted.proofs.Files.{filled, downloads-elsewhere}
 use Rattle.bank_admitted.proofs.Files as admitted
@@ -30,6 +31,7 @@ module _ (w : BankState) (h : List Exchange) (v : Invariant w h) (mailbox : ℕ)
       at true e s = rw (e refl) s
 
   pub filled-keeps : Invariant (filled mailbox file w) h
+  unfolding findOrder
   filled-keeps = record {
     state = admitted.filled-keeps w (v .state) mailbox file known most some short empty;
     counted = v .counted;
@@ -37,6 +39,7 @@ module _ (w : BankState) (h : List Exchange) (v : Invariant w h) (mailbox : ℕ)
     places = v .places;
     downloads = downloads-stay;
     memory = v .memory;
+    signers = v .signers;
     known = v .known;
     booked = λ t e. booked-at w (filled mailbox file w) t (v .booked t e) refl;
     sound = v .sound;

@@ -26,6 +26,7 @@ use Rattle.bank_steps.proofs.Cases.{
   refused,
   opensUpload,
   opensDownload,
+  signs,
   toUpload,
   toDownload,
 }
@@ -50,11 +51,13 @@ use Rattle.bank_history.proofs.Theorems.{history-sound}
 idOf : Verdict → Bits128
 idOf verdict.Unreadable = noBits
 idOf (verdict.Refused c) = noBits
+idOf (verdict.Signed n added) = noBits
 idOf (verdict.Of t k) = t
 
 isOf : Verdict → ℕ
 isOf verdict.Unreadable = 0
 isOf (verdict.Refused c) = 0
+isOf (verdict.Signed n added) = 0
 isOf (verdict.Of t k) = 1
 
 -- a fitting request of u at most the idle limit before the clock of w
@@ -69,6 +72,7 @@ module _ (w : BankState) (h : List Exchange) (c : Counted w h) (current : NoneId
   unfolding idOf isOf
   acted-recent unreadable z = absurd (let y = ap isOf z in omega arith)
   acted-recent (refused r e) z = absurd (let y = ap isOf z in omega arith)
+  acted-recent (signs s) z = absurd (let y = ap isOf z in omega arith)
   acted-recent (opensUpload asked a g n inside below) z = never (sym noOpening ∙ sym (ap opens z))
   acted-recent (opensDownload asked a g n) z = never (sym noOpening ∙ sym (ap opens z))
   acted-recent (toUpload r a s) z =

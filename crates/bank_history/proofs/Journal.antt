@@ -1,19 +1,20 @@
 -- The journal after every list of calls holds the events that requests, replies and clocks tell.
 use Prim.Native.Nat.{ℕ, _+_, _<_, max}
-use mathlib.Core.Bool.{Bool, true, false, cond, _&&_}
+use mathlib.Core.Bool.{Bool, true, false, cond, not, _&&_}
 use mathlib.Core.List.{List, [], _∷_, _++_, map}
 use mathlib.Core.Path.{_≡_, refl, sym, ap, _∙_, subst}
 use native.Mathlib.Nat.{zero-add}
 use native.Mathlib.Omega.{arith}
 use lib.Dec.{eqb}
 use lib.ListN.{length, length-append}
-use borrow.Author.Tests.{eq-eqb, ne-eqb}
+use borrow.Author.Tests.{eqb-true, eq-eqb, ne-eqb}
 use Rattle.frame_table.specs.declared.fields.Bits128.{Bits128}
 use Rattle.frame_table.specs.declared.fields.Fields.{Fields}
+use Rattle.frame_table.specs.declared.table.Form.{Form}
 use Rattle.frame_table.specs.Forms as forms
-use Rattle.frame_table.specs.Names.{subscriber, transaction, segments, segment, returnCode, form}
-use Rattle.octets.specs.Bytes.{number}
+use Rattle.frame_table.specs.Names.{subscriber, transaction, segments, segment, returnCode, owner, form}
 use Rattle.octets.proofs.Tests.{never}
+use Rattle.message.specs.declared.codes.ReturnCode.{ReturnCode}
 use Rattle.message.specs.declared.codes.ReturnCode.the-variants as code
 use Rattle.message.specs.Codes.{codeField}
 use Rattle.bank_state.specs.declared.state.Place.{Place}
@@ -31,25 +32,37 @@ use Rattle.bank_verdicts.specs.declared.verdict.Action.{Action}
 use Rattle.bank_verdicts.specs.declared.verdict.Action.the-variants as action
 use Rattle.bank_verdicts.specs.declared.verdict.Verdict.{Verdict}
 use Rattle.bank_verdicts.specs.declared.verdict.Verdict.the-variants as verdict
+use Rattle.bank_verdicts.specs.Refusals.{cancels}
 use Rattle.bank_verdicts.specs.Judgement.{uploadAt, downloadOf}
 use Rattle.journal.specs.declared.event.Kind.{Kind}
 use Rattle.journal.specs.declared.event.Kind.the-variants as kind
 use Rattle.journal.specs.declared.event.Entry.{Entry}
 use Rattle.journal.specs.declared.event.Event.{Event}
+use Rattle.journal.specs.declared.event.OrderName.{OrderName}
 use Rattle.journal.specs.Events.{eventsFrom}
 use Rattle.journal.specs.Row.{Journal, enteredAll, rowOf}
 use Rattle.journal.specs.Records.{Numbered, none}
 use Rattle.journal.proofs.Events.{events-length}
 use Rattle.journal.proofs.Laws.{row-of-none, row-continues, events-numbered, numbered-on}
-use Rattle.bank_events.specs.Entries.{entry, dropEntry, droppedUploads, orderIn, actionEntries, callEntries}
+use Rattle.bank_events.specs.Entries.{
+  entry,
+  dropEntry,
+  droppedUploads,
+  signedKind,
+  isEvent,
+  orderIn,
+  actionEntries,
+  callEntries,
+}
 use Rattle.bank.specs.declared.call.FrameAnswer.{FrameAnswer}
 use Rattle.bank.specs.declared.call.FrameAnswer.the-variants.{Reply, WrongLength}
-use Rattle.bank.specs.Call.{FrameInput, respond, frameCall}
+use Rattle.bank.specs.Call.{contextOf, FrameInput, respond, frameCall}
 use Rattle.bank.specs.Journal.{enteredBy, journalAfter, journalBy}
 use Rattle.bank_history.specs.History.{Exchange, BankCall, Frame, File, Past, isOpening, isDownloadOpening, ever, callExchange, segmentsAt, entered, after, start, pastOf}
+use Rattle.bank_history.specs.Signatures.{isSigningForm, signedName, isSigned, hasSigned}
 use Rattle.bank_history.specs.FalseEconomies.{Next}
 use Rattle.bank_history.specs.Invariant.{PlaceTold, UploadTold, Invariant}
-use Rattle.bank_history.specs.Sound.{isCancelling, Sound, SoundRequest, AllSound}
+use Rattle.bank_history.specs.Sound.{isCancelling, Sound, SoundRequest, SoundSigning, SoundVerdict, AllSound}
 use Rattle.bank_history.specs.Sound as sounds
 use Rattle.bank_history.specs.ByReplies.{
   ofReply,
@@ -65,6 +78,8 @@ use Rattle.bank_history.specs.Journal.{
   journalOf,
   entryOf,
   uploadDrops,
+  numberNamed,
+  signedEntries,
   replyEntries,
   entriesOf,
   eventsIn,
@@ -88,6 +103,7 @@ use Rattle.bank_steps.proofs.Cases.{
   refused,
   opensUpload,
   opensDownload,
+  signs,
   toUpload,
   toDownload,
 }
@@ -97,9 +113,11 @@ use Rattle.bank_history.proofs.Downloads.{download-open}
 use Rattle.bank_history.proofs.DropOrder.{owner-is, order-is, upload-id, download-id, same-entries}
 use Rattle.bank_history.proofs.Keeps.{past-holds}
 use Rattle.bank_history.proofs.Liveness.{by-call}
+use Rattle.bank_history.proofs.NamedNumbers.{number-named}
 use Rattle.bank_history.proofs.NextCall.{
   judgedBank,
   asked,
+  sent,
   all-sound,
   request-is,
   verdict-is,
@@ -108,10 +126,20 @@ use Rattle.bank_history.proofs.NextCall.{
   case-is,
 }
 use Rattle.bank_history.proofs.Plain.{events-plain}
+use Rattle.bank_history.proofs.Refusing.{refusing-not-ok, Refuses, verdict-refuses}
 use Rattle.bank_history.proofs.Replies.{verdictForm, verdictCode, uploadForm, actionForm, cancelling-code}
+use Rattle.bank_history.proofs.Signatures.{unsigned-code, signer-told, has-bit}
 use Rattle.bank_history.proofs.Statuses.{past-told}
 
 -- ---- the event of the request
+
+-- a code that cancels is not 000000
+cancelling-not-ok : (c : ReturnCode) → cancels c ≡ true → eqb (codeField c) (codeField code.Ok) ≡ false
+cancelling-not-ok c z = at (eqb (codeField c) (codeField code.Ok)) refl
+  where
+    at : (b : Bool) → eqb (codeField c) (codeField code.Ok) ≡ b → b ≡ false
+    at true y = never (ap isCancelling (sym (eqb-true (codeField c) (codeField code.Ok) y)) ∙ (cancelling-code c ∙ z))
+    at false y = refl
 
 -- the exchange e of the request q with the data d at the bank w, clock and drops done
 module _ {e : Exchange} {h : List Exchange} (s : Sound e h) (r : AllSound h) (w : BankState) (v : Invariant w h)
@@ -133,6 +161,20 @@ module _ {e : Exchange} {h : List Exchange} (s : Sound e h) (r : AllSound h) (w 
       ofReply [] (replyEntries e h) (actionForm k) ≡ cond b fs [] → b ≡ true → es ≡ fs →
       es ≡ ofReply [] (replyEntries e h) (form (e .reply))
   some-by b fs own z n y = by-form _ own (y ∙ (ap (λ (x : Bool). cond x fs []) (sym n) ∙ sym z))
+
+  -- the event that a refusal tells
+  abbrev cancellation : Bool → List Entry
+  cancellation b = cond b (entryOf kind.Cancelled (transaction (e .request)) h ∷ []) []
+
+  abbrev cancelled : Bool
+  cancelled = isCancelling (returnCode (e .reply)) && isUploadId (transaction (e .request)) h
+
+  -- 01 03 0D, to an accepted signing or with another code than 000000
+  by-refusal : (es : List Entry) (b : Bool) → form (e .reply) ≡ forms.Refusal → isSigned e ≡ b →
+      es ≡ cond b (signedEntries e h) (cancellation cancelled) → es ≡ ofReply [] (replyEntries e h) (form (e .reply))
+  by-refusal es b f is z =
+      z ∙ sym (ap (ofReply [] (replyEntries e h)) f
+      ∙ ap (λ (x : Bool). cond x (signedEntries e h) (cancellation cancelled)) is)
 
   -- a request to the upload in place i, by what the history tells of that place
   module _ (i : ℕ) (inside : i < placeCount) (used : placeAt (w .bank) i .used ≡ uses.Open) where
@@ -192,11 +234,13 @@ module _ {e : Exchange} {h : List Exchange} (s : Sound e h) (r : AllSound h) (w 
         (is-code s own (codeField code.Ok)))
     upload-enters (up.Cancelled c) o own =
         let z = sound-as s own in
-        some-by _ _ own refl
-        (ap (λ (b : Bool). b && isUploadId (transaction (e .request)) h)
+        let told : cancelled ≡ true = ap (λ (b : Bool). b && isUploadId (transaction (e .request)) h)
         (ap isCancelling (coded-as s own) ∙ (cancelling-code c ∙ z .cancelling))
-        ∙ (ap (λ (u : Bits128). isUploadId u h) (sym (z .request .same)) ∙ upload-id t r (p-told .place .opened)))
-        (booked-entry (transaction (e .request)) (sym (z .request .same)) (z .request) kind.Cancelled)
+        ∙ (ap (λ (u : Bits128). isUploadId u h) (sym (z .request .same)) ∙ upload-id t r (p-told .place .opened)) in
+        by-refusal _ false (formed-as s own)
+        (unsigned-code e (is-code s own (codeField code.Ok) ∙ cancelling-not-ok c (z .cancelling)))
+        (booked-entry (transaction (e .request)) (sym (z .request .same)) (z .request) kind.Cancelled
+        ∙ ap cancellation (sym told))
 
   -- a request to the download of record j
   download-enters : (t : Bits128) (a : DownloadAction) → ever isDownloadOpening t h ≡ true →
@@ -209,10 +253,10 @@ module _ {e : Exchange} {h : List Exchange} (s : Sound e h) (r : AllSound h) (w 
       (ap (λ (b : Bool). b && eqb (segment (e .request)) (segmentCountOf (transaction (e .reply)) h))
       (is-code s own (codeField code.Ok)))
   download-enters t down.Cancelled o own =
-      none-by _ _ own refl
-      (ap (λ (b : Bool). isCancelling (returnCode (e .reply)) && b)
+      by-refusal [] false (formed-as s own) (unsigned-code e (is-code s own (codeField code.Ok)))
+      (ap cancellation (sym (ap (λ (b : Bool). isCancelling (returnCode (e .reply)) && b)
       (ap (λ (u : Bits128). isUploadId u h) (sym (sound-as s own .request .same)) ∙ download-id t r o)
-      ∙ and-no (isCancelling (returnCode (e .reply))))
+      ∙ and-no (isCancelling (returnCode (e .reply))))))
   download-enters t down.Confirmed o own = by-form [] own refl
   download-enters t down.Declined o own = by-form [] own refl
 
@@ -225,26 +269,57 @@ module _ {e : Exchange} {h : List Exchange} (s : Sound e h) (r : AllSound h) (w 
   upload-order t (up.Point k) o = refl
   upload-order t (up.Cancelled c) o = refl
 
-  -- every case of a request
-  case-enters : {first : ℕ} {d : List ℕ} {u : Verdict} → e .verdict ≡ u → Happens first w q d u → Enters u
+  -- an accepted signing: an event where its subscriber has not signed the order before
+  signing-enters : {n : ℕ} {added : Bool} → e .verdict ≡ verdict.Signed n added →
+      actionEntries (verdict.Signed n added) n q ≡ ofReply [] (replyEntries e h) (form (e .reply))
   unfolding actionEntries
-  case-enters own unreadable = sym (ap (ofReply [] (replyEntries e h)) (formed s ∙ ap verdictForm own))
-  case-enters own (refused c z) =
-      sym (ap (ofReply [] (replyEntries e h)) (formed s ∙ ap verdictForm own)
-      ∙ ap (λ (b : Bool). cond (b && isUploadId (transaction (e .request)) h)
-      (entryOf kind.Cancelled (transaction (e .request)) h ∷ []) [])
-      (ap isCancelling (coded s ∙ ap (λ (x : Verdict). codeField (verdictCode x)) own) ∙ (cancelling-code c ∙ z)))
-  case-enters own (opensUpload asked a g n inside below) =
+  signing-enters {n} {added} own =
+      by-refusal _ true (formed s ∙ ap verdictForm own)
+      (ap (λ (f : Form). isSigningForm f && eqb (returnCode (e .reply)) (codeField code.Ok)) (z .asked)
+      ∙ ap (λ (c : ℕ). eqb c (codeField code.Ok)) (coded s ∙ ap (λ (x : Verdict). codeField (verdictCode x)) own))
+      (ap (λ (b : Bool). event b n) (z .adds ∙ ap not (signer-told o by (has-bit by (z .known) (z .most)) h))
+      ∙ (at (hasSigned o by h)
+      ∙ (ap (λ (m : ℕ). cond (hasSigned o by h) [] (entry kind.Signed (owner q) m ∷ [])) (sym (number-named r z))
+      ∙ ap (λ (f : Fields). cond (hasSigned o by h) [] (entry kind.Signed (owner f) (numberNamed o h) ∷ [])) (sym same))))
+    where
+      z : SoundSigning n added e h
+      z = subst (λ (u : Verdict). SoundVerdict u e h) own (s .verdict)
+
+      o : OrderName
+      o = signedName e
+
+      by : ℕ
+      by = subscriber (e .request)
+
+      event : Bool → ℕ → List Entry
+      event b m = cond (isEvent (signedKind b)) (entry (signedKind b) (owner q) m ∷ []) []
+
+      at : (b : Bool) → event (not b) n ≡ cond b [] (entry kind.Signed (owner q) n ∷ [])
+      at true = refl
+      at false = refl
+
+  -- every case of a request
+  case-enters : {first : ℕ} {d : List ℕ} {u : Verdict} → e .verdict ≡ u → Refuses u → Happens first w q d u → Enters u
+  unfolding actionEntries
+  case-enters own k unreadable = sym (ap (ofReply [] (replyEntries e h)) (formed s ∙ ap verdictForm own))
+  case-enters own k (refused c z) =
+      let coded-so : returnCode (e .reply) ≡ codeField c = coded s ∙ ap (λ (x : Verdict). codeField (verdictCode x)) own in
+      by-refusal [] false (formed s ∙ ap verdictForm own)
+      (unsigned-code e (ap (λ (m : ℕ). eqb m (codeField code.Ok)) coded-so ∙ refusing-not-ok c k))
+      (ap (λ (b : Bool). cancellation (b && isUploadId (transaction (e .request)) h))
+      (sym (ap isCancelling coded-so ∙ (cancelling-code c ∙ z))))
+  case-enters own k (signs y) = signing-enters own
+  case-enters own k (opensUpload asked a g n inside below) =
       by-form _ own (ap (λ (m : ℕ). entry kind.Opened (subscriber q) m ∷ [])
       (v .series (subscriber q) (a .known) (a .most) ∙ sym (uploads-told (subscriber q) r))
       ∙ ap (λ (f : Fields). entry kind.Opened (subscriber f) (uploadsOpened (subscriber f) h) ∷ []) (sym same))
-  case-enters own (opensDownload asked a g n) = by-form [] own refl
-  case-enters own (toUpload y a z) =
+  case-enters own k (opensDownload asked a g n) = by-form [] own refl
+  case-enters own k (toUpload y a z) =
       let i = uploadAt (w .bank) q in
       upload-order (placeAt (w .bank) i .transaction) a (upload-goes-on (z .sound))
       ∙ upload-enters i (z .inside) (upload-found (subscriber q) (transaction q) (placeAt (w .bank) i) (z .found) .0) a
       (upload-goes-on (z .sound)) own
-  case-enters own (toDownload y a z) =
+  case-enters own k (toDownload y a z) =
       let j = downloadOf (w .bank) q in
       download-enters (downloadAt (w .bank) j .transaction) a
       (download-open w h v j (download-found (subscriber q) (transaction q) (downloadAt (w .bank) j) (z .found) .0) .1 .opened)
@@ -268,7 +343,10 @@ module _ {calls : List BankCall} {e : Exchange} (n : Next calls e) where
       at : AllSound (e ∷ h) →
           actionEntries (e .verdict) (orderIn (e .verdict) (judgedBank n .bank) (asked n)) (asked n) ≡ ofReply []
           (replyEntries e h) (form (e .reply))
-      at (sounds.more s r) = case-enters s r (judgedBank n) (judged-holds n) (asked n) (request-is n) refl (case-is n)
+      at (sounds.more s r) =
+          case-enters s r (judgedBank n) (judged-holds n) (asked n) (request-is n) refl
+          (subst Refuses (sym (verdict-is n)) (verdict-refuses (contextOf (n .input)) (judgedBank n) (asked n) (sent n)))
+          (case-is n)
 
   -- what an answered frame call enters is what its exchange tells
   pub enters : enteredBy (pastOf calls .bankState) (n .input) ≡ entriesOf e h

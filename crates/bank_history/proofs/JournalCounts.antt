@@ -1,6 +1,6 @@
--- How many events the journal has: an upload has at most one that ends it, and at most two in all.
+-- How many events the journal has: an upload has at most one that ends it, and at most two but those of its signers.
 use Prim.Native.Nat.{ℕ, suc, _+_, _*_, _≤_, _<_}
-use mathlib.Core.Bool.{Bool, true, false, cond, _&&_}
+use mathlib.Core.Bool.{Bool, true, false, cond, not, _&&_}
 use mathlib.Core.List.{
   List,
   [],
@@ -23,7 +23,7 @@ use Rattle.frame_table.specs.declared.table.ReplyForm.the-variants as replies
 use Rattle.frame_table.specs.Names.{subscriber, transaction, segment, returnCode, form, sameBits}
 use Rattle.message.specs.declared.codes.ReturnCode.the-variants as code
 use Rattle.message.specs.Codes.{codeField}
-use Rattle.message.specs.Limits.{ful}
+use Rattle.message.specs.Limits.{ful, subscribers}
 use Rattle.message.specs.OrderNumbers.{orderNumberOf}
 use Rattle.octets.proofs.Tests.{never, and-true}
 use Rattle.message.proofs.Verdicts.{by-test}
@@ -32,8 +32,9 @@ use Rattle.bank_state.specs.declared.state.Use.the-variants as uses
 use Rattle.bank_state.specs.Clock.{isIdle}
 use Rattle.bank_state.specs.State.{BankState, placeAt}
 use Rattle.bank_state.proofs.Found.{upload-found}
-use Rattle.bank_verdicts.specs.Judgement.{uploadAt}
-use Rattle.bank_state.specs.Limits.{maxOpenings, seriesLimit}
+use Rattle.bank_verdicts.specs.Judgement.{uploadAt, orderAt}
+use Rattle.signers.specs.Signers.{isSigner}
+use Rattle.bank_state.specs.Limits.{placeCount, maxOpenings, seriesLimit}
 use Rattle.bank_state.specs.Rows.{countOf}
 use Rattle.bank_state.proofs.Rows.{count-le}
 use Rattle.journal.specs.declared.event.Kind.{Kind}
@@ -44,7 +45,7 @@ use Rattle.journal.specs.declared.event.OrderName.{OrderName}
 use Rattle.journal.specs.Events.{eventsFrom}
 use Rattle.journal.specs.Row.{isOf}
 use Rattle.journal.proofs.Events.{events-length}
-use Rattle.bank_events.specs.Entries.{orderIn, actionEntries}
+use Rattle.bank_events.specs.Entries.{entry, orderIn, actionEntries}
 use Rattle.bank_verdicts.specs.declared.verdict.Direction.{Direction}
 use Rattle.bank_verdicts.specs.declared.verdict.Direction.the-variants as direction
 use Rattle.bank_verdicts.specs.declared.verdict.UploadAction.{UploadAction}
@@ -68,6 +69,8 @@ use Rattle.bank_history.specs.ByReplies.{
   ownerOf,
   orderOf,
 }
+use Rattle.bank_history.specs.Signatures.{signedName, isSigned, hasSigned}
+use Rattle.bank_history.specs.Signers.{isSignedKind}
 use Rattle.bank_history.specs.FalseEconomies.{Next}
 use Rattle.bank_history.specs.Invariant.{Invariant}
 use Rattle.bank_history.specs.Sound.{isCancelling, AllSound}
@@ -77,6 +80,7 @@ use Rattle.bank_history.specs.Journal.{
   isIdleUploadAt,
   uploadDrops,
   entryOf,
+  signedEntries,
   replyEntries,
   entriesOf,
   eventsIn,
@@ -118,9 +122,11 @@ use Rattle.bank_steps.proofs.Cases.{
   refused,
   opensUpload,
   opensDownload,
+  signs,
   toUpload,
   toDownload,
 }
+use Rattle.bank_admitted.proofs.Signers.{given-most}
 use Rattle.bank_history.proofs.Closed.{isClosed, acted-open, closed-next, by-exchange}
 use Rattle.bank_history.proofs.DropOrder.{
   OpensAs,
@@ -150,18 +156,8 @@ use Rattle.bank_history.proofs.OrderNumbers.{one-order-number}
 use Rattle.bank_history.proofs.NextCall.{judgedBank, asked, all-sound, request-is, judged-holds, case-is}
 use Rattle.bank_history.proofs.Positions.{action-sound, opening-number, stands-ever}
 use Rattle.bank_history.proofs.SentSegments.{action-in}
+use Rattle.bank_history.proofs.GivenSigners.{count-from, signedIn, signedOf, signed-few}
 use Rattle.bank_history.proofs.Statuses.{past-told}
-
--- ---- entries
-
--- the entries numbered on
-count-from : (p : Kind → ℕ → ℕ → ℕ → Bool) (n clock : ℕ) (es : List Entry) →
-    countOf (λ (v : Event). p (v .kind) (v .subscriber) (v .«order_type») (v .order)) (eventsFrom n clock es)
-    ≡ countOf (λ (y : Entry). p (y .kind) (y .subscriber) (y .«order_type») (y .order)) es
-unfolding countOf eventsFrom
-count-from p n clock [] = refl
-count-from p n clock (e ∷ es) =
-    ap (λ (m : ℕ). unit (p (e .kind) (e .subscriber) (e .«order_type») (e .order)) + m) (count-from p (suc n) clock es)
 
 -- ---- how a transaction stands: an open upload
 
@@ -230,6 +226,7 @@ after-open : (t : Bits128) (v : Verdict) (e : Exchange) (x : Status) → did isO
     isOpenUpload (statusAfter t v e x) ≡ true → isOpenUpload x ≡ true
 after-open t verdict.Unreadable e x o z = z
 after-open t (verdict.Refused c) e x o z = z
+after-open t (verdict.Signed n added) e x o z = z
 after-open t (verdict.Of u k) e x o z = at (sameBits t u) o z
   where
     at : (b : Bool) → b && isOpening k ≡ false → isOpenUpload (cond b (actionStatus k e x) (otherStatus k e x)) ≡ true →
@@ -370,6 +367,7 @@ module _ (which : ℕ → ℕ → ℕ → Bool) where
         at : (u : Verdict) → x .verdict ≡ u → countOf idleBy (openedIn u) ≡ countOf idle (uploadBy u (x .request))
         at verdict.Unreadable own = refl
         at (verdict.Refused c) own = refl
+        at (verdict.Signed n added) own = refl
         at (verdict.Of t (action.Upload (up.Opened m))) own =
             let z = opened-as (v .sound) (record { exchange = x; before = g; stands = s; is = own; owner = refl }) in
             rw (z .0, z .1)
@@ -469,6 +467,16 @@ module _ (which : ℕ → ℕ → ℕ → Bool) where
             told (all-sound n) (up.Cancelled c) y o
             (ap isOpenUpload (own-status n (p .transaction) (up.Cancelled c) y Cancelled (λ _. refl)))
     request-fewer own (toDownload r a s) = none-fewer
+    request-fewer own (signs s) = at (not (isSigner (subscriber (asked n)) (p .signers)))
+      where
+        p : Place
+        p = placeAt (judgedBank n .bank) (orderAt (judgedBank n .bank) (asked n))
+
+        -- "signed" ends no upload, and signing again is no event
+        at : (added : Bool) → Fewer (endsIn (actionEntries (verdict.Signed (p .number) added)
+            (orderIn (verdict.Signed (p .number) added) (judgedBank n .bank) (asked n)) (asked n)))
+        at true = none-fewer
+        at false = none-fewer
 
     ended-next : Ended h → Ended (e ∷ h)
     unfolding eventsIn entriesOf uploadsIn
@@ -529,7 +537,7 @@ one-end calls o =
     let b = named-once (λ (s n : ℕ). isNamed o s ful n) (one-name o) (past-holds calls .invariant .sound) in
     omega arith
 
--- ---- at most two events
+-- ---- at most two events, and one for each signer
 
 abbrev any : ℕ → ℕ → ℕ → Bool
 any s t o = true
@@ -543,15 +551,29 @@ unfolding countOf
 drops-all h [] = omega arith
 drops-all h (t ∷ l) = let a = drops-all h l in omega arith
 
--- a reply's event ends an upload, or is an accepted opening
+-- a reply's event ends an upload, is one signed, or is an accepted opening
 module _ (e : Exchange) (h : List Exchange) where
   abbrev Told : List Entry → Bool → Type 0
-  Told es b = length es ≤ endsIn any es + unit b
+  Told es b = length es ≤ endsIn any es + signedIn es + unit b
 
   either : (b : Bool) (t : Bits128) (k : Kind) → isEnd k ≡ true → Told (cond b (entryOf k t h ∷ []) []) false
   unfolding countOf
   either true t k z = rw z (omega arith)
   either false t k z = omega arith
+
+  signing : (b : Bool) (s n : ℕ) → Told (cond b [] (entry kind.Signed s n ∷ [])) false
+  unfolding countOf
+  signing true s n = omega arith
+  signing false s n = omega arith
+
+  refusal : (b : Bool) →
+      let t = transaction (e .request) in
+      let isEnded = isCancelling (returnCode (e .reply)) && isUploadId t h in
+      Told (cond b (signedEntries e h) (cond isEnded (entryOf kind.Cancelled t h ∷ []) [])) false
+  refusal true = signing (hasSigned (signedName e) (subscriber (e .request)) h) _ _
+  refusal false =
+      either (isCancelling (returnCode (e .reply)) && isUploadId (transaction (e .request)) h) (transaction (e .request))
+      kind.Cancelled refl
 
   form-told : (f : ReplyForm) → Told (replyEntries e h f) (isOpenedForm f)
   unfolding countOf
@@ -562,9 +584,7 @@ module _ (e : Exchange) (h : List Exchange) where
       (transaction (e .reply)) kind.Booked refl
   form-told replies.DownloadSegment = omega arith
   form-told replies.ReceiptAnswered = omega arith
-  form-told replies.Refusal =
-      either (isCancelling (returnCode (e .reply)) && isUploadId (transaction (e .request)) h) (transaction (e .request))
-      kind.Cancelled refl
+  form-told replies.Refusal = refusal (isSigned e)
   form-told replies.Unreadable = omega arith
 
   reply-told : (f : Form) → Told (ofReply [] (replyEntries e h) f) (ofReply false isOpenedForm f)
@@ -582,9 +602,13 @@ module _ (e : Exchange) (h : List Exchange) where
       let b = reply-told (form (e .reply)) in
       let c = length-append drops rest in
       let d = count-append (λ (y : Entry). ends any (y .kind) (y .subscriber) (y .«order_type») (y .order)) drops rest in
+      let f = count-append (λ (y : Entry). isSignedKind (y .kind)) drops rest in
       omega arith
 
-events-told : (h : List Exchange) → length (eventsIn h) ≤ endsOf any h + openedCount h
+abbrev isSignedEvent : Event → Bool
+isSignedEvent x = isSignedKind (x .kind)
+
+events-told : (h : List Exchange) → length (eventsIn h) ≤ endsOf any h + signedOf h + openedCount h
 unfolding eventsIn openedCount countOf
 events-told [] = omega arith
 events-told (e ∷ h) = at (isOpened e) (entries-told e h) (events-told h)
@@ -592,18 +616,22 @@ events-told (e ∷ h) = at (isOpened e) (entries-told e h) (events-told h)
     new : List Event
     new = eventsFrom (length (eventsIn h)) (e .clock) (entriesOf e h)
 
-    at : (b : Bool) → length (entriesOf e h) ≤ endsIn any (entriesOf e h) + unit b → length (eventsIn h) ≤ endsOf any h + openedCount h →
-        length (eventsIn h ++ new) ≤ countOf anyEnd (eventsIn h ++ new)
+    at : (b : Bool) → length (entriesOf e h) ≤ endsIn any (entriesOf e h) + signedIn (entriesOf e h) + unit b →
+        length (eventsIn h) ≤ endsOf any h + signedOf h + openedCount h →
+        length (eventsIn h ++ new) ≤ countOf anyEnd (eventsIn h ++ new) + countOf isSignedEvent (eventsIn h ++ new)
         + cond b (suc (openedCount h)) (openedCount h)
     at b y old =
         let a = length-append (eventsIn h) new in
         let c = events-length (length (eventsIn h)) (e .clock) (entriesOf e h) in
         let d = count-append anyEnd (eventsIn h) new in
         let f = count-from (ends any) (length (eventsIn h)) (e .clock) (entriesOf e h) in
-        by-test (λ (m : ℕ). length (eventsIn h ++ new) ≤ countOf anyEnd (eventsIn h ++ new) + m)
+        let i = count-append isSignedEvent (eventsIn h) new in
+        let j = count-from (λ (k : Kind) (s t o : ℕ). isSignedKind k) (length (eventsIn h)) (e .clock) (entriesOf e h) in
+        by-test (λ (m : ℕ). length (eventsIn h ++ new) ≤ countOf anyEnd (eventsIn h ++ new)
+        + countOf isSignedEvent (eventsIn h ++ new) + m)
         b (λ z. let g : unit b ≡ 1 = ap unit z in omega arith) (λ z. let g : unit b ≡ 0 = ap unit z in omega arith)
 
-pub few-events : (calls : List BankCall) → journalOf calls .events ≤ 2 * maxOpenings
+pub few-events : (calls : List BankCall) → journalOf calls .events ≤ 2 * maxOpenings + placeCount * subscribers
 few-events calls =
     let h = pastOf calls .history in
     let v = past-holds calls .invariant in
@@ -615,4 +643,7 @@ few-events calls =
     let g = v .counted in
     let i = v .state .numbers in
     let j = journal-told .events calls in
+    let k = signed-few calls in
+    let m = given-most (pastOf calls .bankState .bank .places) in
+    let l = v .state .sizes .places in
     omega arith

@@ -1,5 +1,5 @@
--- A computed example: places are used again, so that the drops by place, and by order number, would stand in another order
--- than by opening.
+-- Computed examples: places are used again, so that the drops by place, and by order number, would stand in another order
+-- than by opening; and an order is signed by two subscribers, one of them twice.
 use Prim.Native.Nat.{ℕ, _+_}
 use mathlib.Core.List.{List, [], _∷_, _++_}
 use mathlib.Core.Path.{_≡_, refl}
@@ -7,11 +7,13 @@ use lib.ListN.{replicate}
 use Rattle.frame_table.specs.declared.fields.Bits128.{Bits128}
 use Rattle.frame_writer.specs.Writer.{frameOf}
 use Rattle.message.specs.Limits.{ful}
-use Rattle.message.specs.Requests.{uploadOpening, uploadTransfer}
+use Rattle.message.specs.OrderNumbers.{orderNumberOf}
+use Rattle.message.specs.Requests.{uploadOpening, uploadTransfer, signing}
+use Rattle.signers.specs.Signers.{signerCount}
 use Rattle.bank_state.specs.Limits.{idBytes, replyRoom, idleLimit}
 use Rattle.bank_state.specs.State.{placeAt}
 use Rattle.journal.specs.declared.event.Kind.{Kind}
-use Rattle.journal.specs.declared.event.Kind.the-variants.{Opened, Cancelled, Dropped}
+use Rattle.journal.specs.declared.event.Kind.the-variants.{Opened, Booked, Cancelled, Dropped, Signed}
 use Rattle.journal.specs.declared.event.Event.{Event}
 use Rattle.journal.specs.Events.{noEvent}
 use Rattle.bank.specs.Call.{frameInput}
@@ -26,6 +28,7 @@ use Rattle.frame_writer.specs.Writer as frameWriter
 use Rattle.message.specs.OrderNumbers as orderNumbers
 use Rattle.message.specs.Replies as replies
 use Rattle.message.specs.Requests as requests
+use Rattle.signers.specs.Signers as signers
 use Rattle.bank_state.specs.Clock as clocks
 use Rattle.bank_state.specs.Rows as rows
 use Rattle.bank_state.specs.Search as searches
@@ -35,6 +38,7 @@ use Rattle.bank_verdicts.specs.Refusals as refusals
 use Rattle.bank_verdicts.specs.Judgement as judgement
 use Rattle.bank_openings.specs.Openings as openings
 use Rattle.bank_uploads.specs.Uploads as uploads
+use Rattle.bank_signing.specs.Signings as signings
 use Rattle.journal.specs.Events as events
 use Rattle.journal.specs.Row as row
 use Rattle.bank_events.specs.Entries as entries
@@ -42,6 +46,7 @@ use Rattle.bank.specs.Call as bankCall
 use Rattle.bank.specs.Journal as bankJournal
 use Rattle.bank_history.specs.History as history
 use Rattle.bank_admitted.specs.State as admitted
+use Rattle.bank_history.specs.Signatures as signatures
 use Rattle.bank_history.specs.ByReplies as byReplies
 use Rattle.bank_history.specs.Journal as journal
 
@@ -86,6 +91,13 @@ unfoldable events-told : ℕ
 unfolding events.eventsFrom byReplies.uploadsOpened byReplies.openedIds byReplies.atOpened byReplies.sentUpTo byReplies.standing
     journal.uploadDrops journal.entriesOf journal.eventsIn
 events-told = 0
+
+unfoldable signatures-given : ℕ
+unfolding requests.signing refusals.noOwner refusals.signsDownload refusals.isOrder refusals.findOrder refusals.notBooked
+    refusals.noMemory refusals.signingRows judgement.judgeSigning signings.sign
+    signers.hasBit signers.isSigner signers.withSigner signers.countFrom signers.signerCount
+    signatures.sameName signatures.hasSigned journal.numberNamed
+signatures-given = 0
 
 -- ---- the calls
 
@@ -160,3 +172,42 @@ drops-told = refl
 pub drops-by-opening : journalOf withDrops .row ≡ expected ++ replicate 58 noEvent
 unfolding frames bank events-entered
 drops-by-opening = refl
+
+-- ---- an order signed
+
+-- a signing by a subscriber, with its nonce, of the order A000 of subscriber 1
+abbrev signsFirst : ℕ → ℕ → BankCall
+signsFirst s nonce = call early (frameOf (signing s 1 (idOf nonce) early (orderNumberOf 0) 1) [])
+
+-- subscriber 1 opens upload 0, its A000, and segment 1 of 1 books it; subscriber 2 signs it, signs it again, and its
+-- owner signs it. The newest call first
+abbrev withSignings : List BankCall
+withSignings =
+    signsFirst 1 4
+    ∷ signsFirst 2 3
+    ∷ signsFirst 2 2
+    ∷ call early (frameOf (uploadTransfer 1 2 (idOf 0) 1 1) (65 ∷ []))
+    ∷ opens 1 1
+    ∷ []
+
+-- "once a signer, under the owner"
+abbrev expectedSigned : List Event
+expectedSigned =
+    event 1 early 1 0 Opened
+    ∷ event 2 early 1 0 Booked
+    ∷ event 3 early 1 0 Signed
+    ∷ event 4 early 1 0 Signed
+    ∷ []
+
+-- the bits of subscribers 1 and 2
+pub signers-counted : let p = placeAt (pastOf withSignings .bankState .bank) 0 in (p .signers ≡ 3) × (signerCount (p .signers) ≡ 2)
+unfolding frames bank signatures-given
+signers-counted = (refl, refl)
+
+pub signings-told : eventsIn (pastOf withSignings .history) ≡ expectedSigned
+unfolding frames bank events-told signatures-given
+signings-told = refl
+
+pub signings-entered : journalOf withSignings .row ≡ expectedSigned ++ replicate 60 noEvent
+unfolding frames bank events-entered signatures-given
+signings-entered = refl

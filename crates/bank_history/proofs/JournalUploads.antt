@@ -23,7 +23,7 @@ use lib.ListN.{length, drop, replicate}
 use Rattle.frame_table.specs.declared.fields.Bits128.{Bits128}
 use Rattle.frame_table.specs.declared.fields.Fields.{Fields}
 use Rattle.frame_table.specs.Forms as forms
-use Rattle.frame_table.specs.Names.{subscriber, transaction, orderNumber, form}
+use Rattle.frame_table.specs.Names.{subscriber, transaction, orderNumber, owner, form}
 use Rattle.octets.proofs.Tests.{never}
 use Rattle.message.specs.Limits.{ful}
 use Rattle.message.specs.OrderNumbers.{orderNumberOf}
@@ -58,7 +58,7 @@ use Rattle.bank_history.specs.History.{Exchange, BankCall, isOpening, is
 use Rattle.bank_history.specs.History as stands
 use Rattle.bank_history.specs.FalseEconomies.{Next}
 use Rattle.bank_history.specs.Invariant.{Invariant}
-use Rattle.bank_history.specs.Sound.{SoundRequest, AllSound}
+use Rattle.bank_history.specs.Sound.{SoundRequest, SoundVerdict, AllSound}
 use Rattle.bank_history.specs.Sound as sounds
 use Rattle.bank_history.specs.Status.{
   Status,
@@ -76,7 +76,7 @@ use Rattle.bank_history.specs.Journal.{journalOf, entryOf, uploadDrops, 
 use Rattle.bank_history.specs.JournalOrders.{OpensOrder, NeverBooked}
 use Rattle.bank_history.specs.Series.{InSeries}
 use Rattle.bank_history.proofs.ByReplies.{opening-below}
-use Rattle.bank_steps.proofs.Cases.{Happens, unreadable, refused, opensUpload, opensDownload, toUpload, toDownload}
+use Rattle.bank_steps.proofs.Cases.{Happens, unreadable, refused, opensUpload, opensDownload, signs, toUpload, toDownload}
 use Rattle.bank_history.proofs.GoesOn.{upload-goes-on}
 use Rattle.bank_history.proofs.Closed.{
   isClosed,
@@ -93,6 +93,7 @@ use Rattle.bank_history.proofs.Drops.{call-drops, in-either}
 use Rattle.bank_history.proofs.Entries.{same-bits}
 use Rattle.bank_history.proofs.Journal.{journal-told, request-told, enters, p-told, number-is, owned}
 use Rattle.bank_history.proofs.Keeps.{past-holds}
+use Rattle.bank_history.proofs.NamedNumbers.{signed-upload}
 use Rattle.bank_history.proofs.NextCall.{judgedBank, asked, all-sound, request-is, judged-holds, case-is}
 use Rattle.bank_history.proofs.Positions.{action-sound}
 use Rattle.bank_history.proofs.Series.{series-apart, series-typed}
@@ -145,6 +146,7 @@ Says kind.Opened t h = Unit
 Says kind.Booked t h = status t h ≡ Booked
 Says kind.Cancelled t h = status t h ≡ Cancelled
 Says kind.Dropped t h = status t h ≡ Dropped
+Says kind.Signed t h = status t h ≡ Booked
 
 record Of (s o : ℕ) (k : Kind) (h : List Exchange) : Type 0 where
   id : Bits128
@@ -190,6 +192,7 @@ module _ {calls : List BankCall} {e : Exchange} (n : Next calls e) where
   says-older kind.Booked t known z = closed-says Booked refl t known z
   says-older kind.Cancelled t known z = closed-says Cancelled refl t known z
   says-older kind.Dropped t known z = closed-says Dropped refl t known z
+  says-older kind.Signed t known z = closed-says Booked refl t known z
 
   of-older : {s o : ℕ} {k : Kind} → Of s o k h → Of s o k (e ∷ h)
   of-older {s} {o} {k} x = record {
@@ -220,6 +223,27 @@ module _ {calls : List BankCall} {e : Exchange} (n : Next calls e) where
   own-status t a own x z =
       ap (λ (u : Verdict). statusAfter t u e (dropIdle (e .clock) (status t h))) own
       ∙ (rw (same-bits t) (z (dropIdle (e .clock) (status t h))))
+
+  -- an accepted signing: its order is booked, and an event is one of that order
+  of-signing : {m : ℕ} {added : Bool} {y : Entry} → e .verdict ≡ verdict.Signed m added →
+      In y (actionEntries (verdict.Signed m added) m q) → Of (y .subscriber) (y .order) (y .kind) (e ∷ h)
+  unfolding actionEntries
+  of-signing {m} {added} {y} own = at added (all-sound n) own
+    where
+      at : (b : Bool) → AllSound (e ∷ h) → e .verdict ≡ verdict.Signed m b →
+          In y (actionEntries (verdict.Signed m b) m q) → Of (y .subscriber) (y .order) (y .kind) (e ∷ h)
+      at false r z i = absurd (in-none i)
+      at true (sounds.more x r) z i =
+          let s = subst (λ (u : Verdict). SoundVerdict u e h) z (x .verdict) in
+          let o = signed-upload r s in
+          let same = in-one i in
+          of-same (ap (λ (k : Entry). k .subscriber) same ∙ sym (ap owner (request-is n))) (ap (λ (k : Entry). k .order) same)
+          (ap (λ (k : Entry). k .kind) same)
+          (record {
+            id = s .id;
+            opening = order-older e o;
+            says = closed-says Booked refl (s .id) (order-low r o) (booked-status (s .id) calls (s .booked));
+          })
 
   of-request : {u : Verdict} {first : ℕ} {d : List ℕ} {y : Entry} → e .verdict ≡ u → Happens first w q d u →
       In y (actionEntries u (orderIn u (w .bank) q) q) → Of (y .subscriber) (y .order) (y .kind) (e ∷ h)
@@ -276,6 +300,7 @@ module _ {calls : List BankCall} {e : Exchange} (n : Next calls e) where
           told (all-sound n) kind.Cancelled (action-sound (all-sound n) stands.newest z .request)
           (own-status (p .transaction) (up.Cancelled c) z Cancelled (λ _. refl)) (in-one j)
   of-request own (toDownload r a s) i = absurd (in-none i)
+  of-request own (signs s) i = of-signing own i
 
   of-entry : (y : Entry) → In y (entriesOf e h) → Of (y .subscriber) (y .order) (y .kind) (e ∷ h)
   unfolding entriesOf

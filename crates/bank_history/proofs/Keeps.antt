@@ -3,8 +3,9 @@ use Prim.{tt}
 use Prim.Native.Nat.{ℕ, _-_, _≤_, _<_}
 use mathlib.Core.Bool.{false}
 use mathlib.Core.List.{List, [], _∷_}
-use mathlib.Core.Path.{_≡_, refl, sym, _∙_}
+use mathlib.Core.Path.{_≡_, refl, sym, ap, _∙_}
 use native.Mathlib.Omega.{arith}
+use lib.Dec.{eqb}
 use lib.ListN.{length}
 use Rattle.frame_table.specs.declared.fields.Bits128.{Bits128}
 use Rattle.frame_table.specs.declared.fields.Fields.{Fields}
@@ -13,10 +14,12 @@ use Rattle.frame_table.specs.Names.{subscriber, form}
 use Rattle.frame_reader.specs.Reader.{readRequest}
 use Rattle.frame_row.specs.Row.{dataOf}
 use Rattle.octets.proofs.Tests.{never}
+use Rattle.message.specs.declared.codes.ReturnCode.the-variants as code
+use Rattle.message.specs.Codes.{codeField}
 use Rattle.message.proofs.Verdicts.{by-test}
 use Rattle.bank_state.specs.State.{Bank}
 use Rattle.bank_state.specs.Clock.{advanced}
-use Rattle.bank_state.specs.Rows.{keep}
+use Rattle.bank_state.specs.Rows.{firstOf, keep}
 use Rattle.bank_state.specs.Limits.{placeCount}
 use Rattle.bank_state.specs.State.{BankState, fresh, placeAt, downloadAt, seriesOf}
 use Rattle.bank.specs.declared.call.FrameAnswer.{FrameAnswer}
@@ -36,6 +39,7 @@ use Rattle.bank_steps.proofs.Cases.{
   refused,
   opensUpload,
   opensDownload,
+  signs,
   toUpload,
   toDownload,
   happens,
@@ -46,10 +50,16 @@ use Rattle.bank_admitted.proofs.Files.{FileSound, rejected, done, judged-file}
 use Rattle.bank_admitted.proofs.Keeps.{respond-not-idle}
 use Rattle.bank_admitted.proofs.Rows.{getD-free}
 use Rattle.bank_admitted.proofs.Fresh.{fresh-place, fresh-download, fresh-state, fresh-not-idle}
-use Rattle.bank_history.specs.History.{Exchange, Past, BankCall, Frame, File, did, isAction, isBooking, opens, accepted, uploadsAccepted, exchangeOf, entered, placed, after, start, pastOf, ever, openingNonces, remembered}
+use Rattle.bank_history.specs.History.{Exchange, Past, BankCall, Frame, File, did, isAction, isBooking, opens, remembers, accepted, uploadsAccepted, exchangeOf, entered, placed, after, start, pastOf, ever, openingNonces, remembered}
 use Rattle.bank_history.specs.Sound.{Sound, none, more}
 use Rattle.bank_history.specs.Invariant.{Invariant, Holds}
 use Rattle.bank_history.proofs.Entries.{ever-other, series-unmoved}
+use Rattle.bank_verdicts.specs.Refusals.{isOrder, findOrder}
+use Rattle.bank_history.specs.Signatures.{isSigned, signersIn}
+use Rattle.bank_history.proofs.Signatures.{signers-unchanged, unsigned-code}
+use Rattle.bank_history.proofs.Refusing.{refusing-not-ok, Refuses, verdict-refuses}
+use Rattle.bank_history.proofs.Replies.{verdictCode, verdict-code}
+use Rattle.bank_history.proofs.Signings.{signing-keeps}
 use Rattle.bank_history.proofs.Memory.{memory-unchanged}
 use Rattle.bank_history.proofs.Places.{place-unchanged}
 use Rattle.bank_history.proofs.Records.{download-unchanged}
@@ -61,17 +71,18 @@ use Rattle.bank_history.proofs.Files.{filled-keeps}
 
 -- a request that does nothing
 nothing-keeps : (w : BankState) (h : List Exchange) (x : Exchange) → ((t : Bits128) → did isAction t (x .verdict) ≡ false) →
-    opens (x .verdict) ≡ false → Sound x h →
+    opens (x .verdict) ≡ false → remembers (x .verdict) ≡ false → isSigned x ≡ false → Sound x h →
     Invariant w h → Invariant w (x ∷ h)
 unfolding accepted
-nothing-keeps w h x no-action unopened sound v = record {
+nothing-keeps w h x no-action unopened forgotten unsigned sound v = record {
   state = v .state;
   counted = rw unopened (v .counted);
   series = λ s a b. v .series s a b ∙ sym (series-unmoved s x h unopened);
   places = λ i a. place-unchanged x h _ _ (placeAt (w .bank) i .used) (λ _. no-action (placeAt (w .bank) i .transaction)) (v .places i a);
   downloads = λ j. download-unchanged x h _ _ (downloadAt (w .bank) j .used) (λ _. no-action (downloadAt (w .bank) j .transaction))
       (v .downloads j);
-  memory = memory-unchanged _ _ x h unopened (v .memory);
+  memory = memory-unchanged _ _ x h forgotten (v .memory);
+  signers = λ owner order. v .signers owner order ∙ sym (signers-unchanged _ x h unsigned);
   known = λ t e. v .known t (sym (ever-other t x h (no-action t) isAction) ∙ e);
   booked = λ t e. v .booked t (sym (ever-other t x h (no-action t) isBooking) ∙ e);
   sound = more sound (v .sound);
@@ -79,19 +90,29 @@ nothing-keeps w h x no-action unopened sound v = record {
 
 module _ (context : Context) (w : BankState) (h : List Exchange) (v : Invariant w h) (q : Fields) (d : List ℕ)
     (some : form q ≡ forms.UploadTransfer → 1 ≤ length d) where
-  case-keeps : {u : Verdict} → Happens (context .prefix) w q d u → Invariant (carryOut u w q d) (entry u w q d ∷ h)
-  case-keeps unreadable =
-      nothing-keeps w h (entry verdict.Unreadable w q d) (λ t. refl) refl (record { reply = refl; verdict = bare w (subscriber q) }) v
-  case-keeps (refused c e) = nothing-keeps w h (entry (verdict.Refused c) w q d) (λ t. refl) refl
+  -- a verdict's code other than 000000 is no accepted signing's
+  unsigned : (u : Verdict) → eqb (codeField (verdictCode u)) (codeField code.Ok) ≡ false → isSigned (entry u w q d) ≡ false
+  unsigned u other =
+      unsigned-code (entry u w q d) (ap (λ (n : ℕ). eqb n (codeField code.Ok)) (verdict-code u q) ∙ other)
+
+  case-keeps : {u : Verdict} → Refuses u → Happens (context .prefix) w q d u →
+      Invariant (carryOut u w q d) (entry u w q d ∷ h)
+  case-keeps r unreadable =
+      nothing-keeps w h (entry verdict.Unreadable w q d) (λ t. refl) refl refl (unsigned verdict.Unreadable refl)
+      (record { reply = refl; verdict = bare w (subscriber q) }) v
+  case-keeps r (refused c e) =
+      nothing-keeps w h (entry (verdict.Refused c) w q d) (λ t. refl) refl refl
+      (unsigned (verdict.Refused c) (refusing-not-ok c r))
       (record { reply = refl; verdict = record { harmless = e; bare = bare w (subscriber q) } }) v
-  case-keeps (opensUpload asked a g n p l) = opens-upload (context .prefix) w h v q d a g asked n p l
-  case-keeps (opensDownload asked a g n) = opens-download (context .prefix) w h v q d a g asked n
-  case-keeps (toUpload r a t) = upload-keeps w h v q d r a some t
-  case-keeps (toDownload r a t) = download-keeps w h v q d r a t
+  case-keeps r (opensUpload asked a g n p l) = opens-upload (context .prefix) w h v q d a g asked n p l
+  case-keeps r (opensDownload asked a g n) = opens-download (context .prefix) w h v q d a g asked n
+  case-keeps r (toUpload x a t) = upload-keeps w h v q d x a some t
+  case-keeps r (toDownload x a t) = download-keeps w h v q d x a t
+  case-keeps r (signs t) = signing-keeps w h v q d t
 
   pub respond-keeps : Invariant (respond context w q d .bankState) (exchangeOf context w q d ∷ h)
   unfolding exchangeOf respond
-  respond-keeps = case-keeps (happens context w q d (v .state .sizes .places) (v .state .sizes .downloads))
+  respond-keeps = case-keeps (verdict-refuses context w q d) (happens context w q d (v .state .sizes .places) (v .state .sizes .downloads))
 
 -- ---- the calls
 
@@ -163,7 +184,8 @@ after-holds (File mailbox file) p old = file-holds p mailbox file old
 -- ---- a fresh bank
 
 start-holds : Holds start
-unfolding start fresh seriesOf accepted uploadsAccepted ever remembered openingNonces keep
+unfolding start fresh seriesOf accepted uploadsAccepted ever remembered openingNonces keep signersIn findOrder isOrder
+    firstOf
 start-holds = record {
   invariant = record {
     state = fresh-state;
@@ -172,6 +194,7 @@ start-holds = record {
     places = λ i a. rw (fresh-place i) tt;
     downloads = λ j. rw (fresh-download j) tt;
     memory = record { held = refl };
+    signers = λ owner order. refl;
     known = λ t e. never e;
     booked = λ t e. never e;
     sound = none;

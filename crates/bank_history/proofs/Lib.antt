@@ -1,5 +1,8 @@
 -- The laws of rows, stores and histories, and the theorems on the bank's invariant.
 pub mod GoesOn
+pub mod Signatures
+pub mod SignedHistory
+pub mod Refusing
 pub mod Entries
 pub mod Memory
 pub mod Parts
@@ -11,6 +14,7 @@ pub mod DownloadVerdicts
 pub mod Openings
 pub mod Clock
 pub mod Files
+pub mod Signings
 pub mod Keeps
 pub mod Replies
 pub mod Positions
@@ -40,13 +44,20 @@ pub mod OrderNumbers
 pub mod Series
 pub mod DropOrder
 pub mod Plain
+pub mod NamedNumbers
 pub mod Journal
 pub mod Closed
 pub mod Counts
 pub mod NamedUploads
+pub mod GivenSigners
 pub mod JournalUploads
 pub mod JournalCounts
 pub mod JournalOrders
 pub mod JournalExample
+pub mod SignedVerdicts
+pub mod Book
+pub mod FreshNonces
+pub mod SignedEvents
+pub mod Signers
 pub mod OnRows
 pub mod OnSessions

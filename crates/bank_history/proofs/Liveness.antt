@@ -26,6 +26,7 @@ use Rattle.bank_verdicts.specs.declared.verdict.Action.the-variants as action
 use Rattle.bank_verdicts.specs.declared.verdict.Verdict.{Verdict}
 use Rattle.bank_verdicts.specs.declared.verdict.Verdict.the-variants as verdict
 use Rattle.bank_verdicts.specs.Judgement.{mailboxSegments, uploadAt}
+use Rattle.bank_signing.specs.Signings.{sign}
 use Rattle.bank_openings.specs.Openings.{counted, countedUpload, openUpload, openDownload}
 use Rattle.bank_steps.specs.Steps.{downloadActs, carryOut}
 use Rattle.bank.specs.Call.{contextOf, respond, FrameInput}
@@ -39,6 +40,7 @@ use Rattle.bank_steps.proofs.Cases.{
   refused,
   opensUpload,
   opensDownload,
+  signs,
   toUpload,
   toDownload,
   upload-acts,
@@ -67,9 +69,10 @@ download-clock w q t down.Declined = refl
 
 case-clock : {first : ℕ} {w : BankState} {q : Fields} {d : List ℕ} {x : Verdict} → Happens first w q d x →
     carryOut x w q d .bank .clock ≡ w .bank .clock
-unfolding openUpload countedUpload openDownload counted
+unfolding openUpload countedUpload openDownload counted sign
 case-clock unreadable = refl
 case-clock (refused c e) = refl
+case-clock (signs c) = refl
 case-clock (opensUpload asked a g n inside below) = refl
 case-clock (opensDownload asked a g n) = refl
 case-clock {w = w} {q = q} (toUpload r a c) =

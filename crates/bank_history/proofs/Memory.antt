@@ -14,13 +14,13 @@ use Rattle.bank_state.specs.Limits.{nonceCount, window}
 use Rattle.bank_state.specs.Rows.{firstOf, keep, keepOnly}
 use Rattle.bank_state.specs.State.{noNonce}
 use Rattle.bank_state.proofs.Rows.{keep-append}
-use Rattle.bank_history.specs.History.{Exchange, opens, nonceOf, openingNonces, remembered}
+use Rattle.bank_history.specs.History.{Exchange, remembers, nonceOf, openingNonces, remembered}
 use Rattle.bank_admitted.specs.State.{AllRemembered, end, next}
 use Rattle.bank_admitted.proofs.Nonces.{keep-front, row-added}
 use Rattle.bank_history.specs.Invariant.{Memory}
 
--- a request that opens nothing
-pub memory-unchanged : (c : ℕ) (nonces : List Nonce) (x : Exchange) (h : List Exchange) → opens (x .verdict) ≡ false → Memory c nonces h →
+-- a request that neither opens nor signs
+pub memory-unchanged : (c : ℕ) (nonces : List Nonce) (x : Exchange) (h : List Exchange) → remembers (x .verdict) ≡ false → Memory c nonces h →
     Memory c nonces (x ∷ h)
 unfolding remembered openingNonces
 memory-unchanged c nonces x h noOpening m = record { held = rw noOpening (m .held) }
@@ -39,7 +39,7 @@ used-append (more e f) g = more e (used-append f g)
 used-openings : (h : List Exchange) → AllUsed (openingNonces h)
 unfolding openingNonces
 used-openings [] = none
-used-openings (x ∷ h) = at (opens (x .verdict)) (used-openings h)
+used-openings (x ∷ h) = at (remembers (x .verdict)) (used-openings h)
   where
     at : (b : Bool) → AllUsed (openingNonces h) → AllUsed (cond b (openingNonces h ++ (nonceOf x ∷ [])) (openingNonces h))
     at true g = used-append g (more refl none)
@@ -89,7 +89,7 @@ memory-later c c′ h later nonces long m = record {
 
 -- ---- an accepted opening
 
-remembered-more : (c : ℕ) (h : List Exchange) (x : Exchange) → opens (x .verdict) ≡ true → leb c (nonceOf x .timestamp + window) ≡ true →
+remembered-more : (c : ℕ) (h : List Exchange) (x : Exchange) → remembers (x .verdict) ≡ true → leb c (nonceOf x .timestamp + window) ≡ true →
     remembered c (x ∷ h) ≡ remembered c h ++ (nonceOf x ∷ [])
 unfolding remembered openingNonces keep
 remembered-more c h x opened timely = rw opened (keep-append (recent c) (openingNonces h) (nonceOf x ∷ []) ∙ rw timely refl)
@@ -109,7 +109,7 @@ unfolding remembered
 all-remembered c h = keep-recent c (used-openings h)
 
 -- the nonce of an opening in time stands behind the others
-pub memory-added : (c : ℕ) (h : List Exchange) (x : Exchange) → opens (x .verdict) ≡ true → leb c (nonceOf x .timestamp + window) ≡ true →
+pub memory-added : (c : ℕ) (h : List Exchange) (x : Exchange) → remembers (x .verdict) ≡ true → leb c (nonceOf x .timestamp + window) ≡ true →
     (nonces : List Nonce) → Memory c nonces h →
     firstOf (λ (e : Nonce). not (e .used)) nonces < nonceCount →
     Memory c (set nonces (firstOf (λ (e : Nonce). not (e .used)) nonces) (nonceOf x)) (x ∷ h)

@@ -65,6 +65,7 @@ actionUpload t (action.Download a) q = []
 abbrev pub uploadBy : Verdict → Fields → List Upload
 uploadBy verdict.Unreadable q = []
 uploadBy (verdict.Refused c) q = []
+uploadBy (verdict.Signed n added) q = []
 uploadBy (verdict.Of t k) q = actionUpload t k q
 
 -- the uploads of a history, the oldest first
@@ -91,6 +92,7 @@ opened-by : {u : Upload} {e : Exchange} {h : List Exchange} (v : Verdict) → e 
     OpensAs (u .owner) (u .order) (u .id) (e ∷ h)
 opened-by verdict.Unreadable own i = absurd (in-none i)
 opened-by (verdict.Refused c) own i = absurd (in-none i)
+opened-by (verdict.Signed n added) own i = absurd (in-none i)
 opened-by {u} {e} {h} (verdict.Of t (action.Upload (up.Opened n))) own i =
     let z = in-one i in
     record {
@@ -177,6 +179,7 @@ module _ (which : ℕ → ℕ → Bool)
       at : (v : Verdict) → e .verdict ≡ v → Out (uploadBy v (e .request))
       at verdict.Unreadable own = nothing
       at (verdict.Refused c) own = nothing
+      at (verdict.Signed n added) own = nothing
       at (verdict.Of t (action.Upload (up.Opened n))) own = added t n own (which (subscriber (e .request)) n) refl
       at (verdict.Of t (action.Upload up.Took)) own = nothing
       at (verdict.Of t (action.Upload up.TookLast)) own = nothing
@@ -194,6 +197,7 @@ module _ (which : ℕ → ℕ → Bool)
 some-opens : (v : Verdict) (q : Fields) → length (uploadBy v q) ≤ unit (opens v)
 some-opens verdict.Unreadable q = omega arith
 some-opens (verdict.Refused c) q = omega arith
+some-opens (verdict.Signed n added) q = omega arith
 some-opens (verdict.Of t (action.Upload (up.Opened n))) q = omega arith
 some-opens (verdict.Of t (action.Upload up.Took)) q = omega arith
 some-opens (verdict.Of t (action.Upload up.TookLast)) q = omega arith

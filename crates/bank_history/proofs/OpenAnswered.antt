@@ -271,6 +271,7 @@ module _ (t : Bits128) (f : Form) (s : ℕ) {e : Exchange} {g : List Exchange} (
               statusAfter t v e (Open (old .direction) s last) ≡ Open (old .direction) s last
           at verdict.Unreadable own = refl
           at (verdict.Refused c) own = refl
+          at (verdict.Signed n added) own = refl
           at (verdict.Of u k) own = by (sameBits t u) refl
             where
               by : (b : Bool) → sameBits t u ≡ b →

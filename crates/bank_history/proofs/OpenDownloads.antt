@@ -27,6 +27,7 @@ use Rattle.bank_verdicts.specs.declared.verdict.Action.the-variants as action
 use Rattle.bank_verdicts.specs.declared.verdict.Verdict.{Verdict}
 use Rattle.bank_verdicts.specs.declared.verdict.Verdict.the-variants as verdict
 use Rattle.bank_verdicts.specs.Judgement.{uploadAt, downloadOf}
+use Rattle.bank_signing.specs.Signings.{sign}
 use Rattle.bank_openings.specs.Openings.{counted, countedUpload, openUpload, openDownload}
 use Rattle.bank_steps.specs.Steps.{downloadActs, carryOut}
 use Rattle.bank_history.specs.History.{Exchange, isOpening, isAction, did}
@@ -34,7 +35,7 @@ use Rattle.bank_history.specs.Invariant.{Invariant}
 use Rattle.bank_history.specs.Transactions.{DownloadAt, DownloadUnlessIdle}
 use Rattle.bank_state.proofs.Drops.{length-endDownloads, advanced-at-clock}
 use Rattle.bank_state.proofs.Rows.{first-passes, keepOnly-holds}
-use Rattle.bank_steps.proofs.Cases.{Happens, unreadable, refused, opensUpload, opensDownload, toUpload, toDownload, upload-acts}
+use Rattle.bank_steps.proofs.Cases.{Happens, unreadable, refused, opensUpload, opensDownload, signs, toUpload, toDownload, upload-acts}
 use Rattle.bank_history.proofs.GoesOn.{download-goes-on}
 use Rattle.bank_history.proofs.Entries.{same-bits}
 use Rattle.bank_admitted.proofs.Clock.{advanced-clock}
@@ -136,9 +137,10 @@ module _ (t : Bits128) (s d last : ℕ) where
     pub case-open : (first : ℕ) (q : Fields) (b : List ℕ) {x : Verdict} → Happens first w q b x → did isAction t x ≡ false →
         ((id : Bits128) → x ≡ verdict.Of id (action.Download down.Confirmed) → subscriber q ≡ s → ⊥) →
         DownloadAt (carryOut x w q b) t s d last
-    unfolding openUpload countedUpload openDownload counted
+    unfolding openUpload countedUpload openDownload counted sign
     case-open first q b unreadable f n = u
     case-open first q b (refused c e) f n = u
+    case-open first q b (signs c) f n = record-moved u (u .row) (u .inside) refl
     case-open first q b (opensUpload asked a g m inside below) f n = record-moved u (u .row) (u .inside) refl
     case-open first q b (opensDownload asked a g m) f n =
         record-moved u (u .row) (u .inside) (getD-set-other (w .bank .downloads) (freeDownload (w .bank)) (u .row) _ noDownload taken-free)

@@ -8,18 +8,20 @@ use lib.Seq.{getD-set-other}
 use borrow.Author.Tests.{le-ltb}
 use Rattle.frame_table.specs.declared.fields.Bits128.{Bits128}
 use Rattle.frame_table.specs.declared.fields.Fields.{Fields}
-use Rattle.frame_table.specs.Names.{subscriber, transaction, sameBits}
+use Rattle.frame_table.specs.Names.{subscriber, transaction, orderNumber, owner, sameBits}
 use Rattle.octets.proofs.Tests.{never, and-true-right}
 use Rattle.bank_state.specs.declared.state.Place.{Place}
 use Rattle.bank_state.specs.Clock.{isIdle, advanced}
 use Rattle.bank_state.specs.Limits.{idleLimit}
-use Rattle.bank_state.specs.Search.{isFree, freePlace}
+use Rattle.bank_state.specs.Search.{isFree, isBooked, freePlace}
 use Rattle.bank_state.specs.State.{BankState, noPlace, placeAt}
 use Rattle.bank_state.proofs.Drops.{isIdlePlace, Spot, advanced-spot}
 use Rattle.bank_verdicts.specs.declared.verdict.DownloadAction.{DownloadAction}
 use Rattle.bank_verdicts.specs.declared.verdict.DownloadAction.the-variants as down
 use Rattle.bank_verdicts.specs.declared.verdict.Verdict.{Verdict}
-use Rattle.bank_verdicts.specs.Judgement.{uploadAt}
+use Rattle.bank_verdicts.specs.Judgement.{uploadAt, orderAt}
+use Rattle.bank_verdicts.proofs.Signing.{order-found}
+use Rattle.bank_signing.specs.Signings.{sign}
 use Rattle.bank_openings.specs.Openings.{counted, countedUpload, openUpload, openDownload}
 use Rattle.bank_steps.specs.Steps.{downloadActs, carryOut}
 use Rattle.bank_history.specs.History.{Exchange, isAction, did}
@@ -32,6 +34,7 @@ use Rattle.bank_steps.proofs.Cases.{
   refused,
   opensUpload,
   opensDownload,
+  signs,
   toUpload,
   toDownload,
   upload-acts,
@@ -91,9 +94,18 @@ module _ (t : Bits128) (s k n last : ℕ) where
 
     pub case-open : (first : ℕ) (q : Fields) (d : List ℕ) {x : Verdict} → Happens first w q d x → did isAction t x ≡ false →
         UploadAt (carryOut x w q d) t s k n last
-    unfolding openUpload countedUpload openDownload counted
+    unfolding openUpload countedUpload openDownload counted sign
     case-open first q d unreadable f = u
     case-open first q d (refused c e) f = u
+    case-open first q d (signs c) f =
+        upload-moved u (getD-set-other (w .bank .places) (orderAt (w .bank) q) (u .place) _ noPlace open-unbooked)
+      where
+        -- the order signed is booked, and this one is open
+        open-unbooked : u .place ≡ orderAt (w .bank) q → ⊥
+        open-unbooked z =
+            let p = placeAt (w .bank) (orderAt (w .bank) q) in
+            never (sym (ap isBooked (u .used)) ∙ (ap (λ (i : ℕ). isBooked (placeAt (w .bank) i .used)) z
+            ∙ ap isBooked (order-found (owner q) (orderNumber q) p (c .found) .0)))
     case-open first q d (opensUpload asked a g m inside below) f =
         upload-moved u (getD-set-other (w .bank .places) (freePlace (w .bank)) (u .place) _ noPlace (λ z. taken-free z))
       where

@@ -21,7 +21,7 @@ use Rattle.bank_state.specs.declared.state.Place.{Place}
 use Rattle.bank_state.specs.declared.state.Use.{Use}
 use Rattle.bank_state.specs.declared.state.Use.the-variants.{Free, Booked}
 use Rattle.bank_state.specs.Limits.{placeCount, seriesLimit}
-use Rattle.bank_state.specs.Search.{freePlace, freeDownload, freeNonce}
+use Rattle.bank_state.specs.Search.{isBooked, freePlace, freeDownload, freeNonce}
 use Rattle.bank_state.specs.State.{BankState, noDownload, placeAt, downloadAt, fileLength, seriesOf}
 use Rattle.bank_state.specs.Store.{partAt}
 use Rattle.bank_openings.specs.Openings.{counted, moved, countedUpload, newPlace, openUpload, newDownload, openDownload}
@@ -31,6 +31,7 @@ use Rattle.bank_verdicts.specs.declared.verdict.DownloadAction.the-variants as 
 use Rattle.bank_verdicts.specs.declared.verdict.UploadAction.the-variants as up
 use Rattle.bank_verdicts.specs.declared.verdict.Action.{Action}
 use Rattle.bank_verdicts.specs.declared.verdict.Verdict.the-variants as verdict
+use Rattle.bank_verdicts.specs.Refusals.{findOrder}
 use Rattle.bank_verdicts.specs.Judgement.{transactionOf, mailboxSegments}
 use Rattle.bank_verdicts.proofs.Sound.{Acceptable, Readable}
 use Rattle.bank_admitted.specs.State.{mailboxFile}
@@ -39,13 +40,15 @@ use Rattle.bank_admitted.proofs.Held.{place-counted, file-long, download-open}
 use Rattle.bank_admitted.proofs.Series.{moved-own}
 use Rattle.bank_admitted.proofs.Openings.{free-inside-open}
 use Rattle.bank_admitted.proofs.Openings as admitted
-use Rattle.bank_history.specs.History.{Exchange, isBooking, isOpening, opens, nonceOf, isAction, did, ever, accepted, uploadsAccepted}
+use Rattle.bank_history.specs.History.{Exchange, isBooking, isOpening, remembers, nonceOf, isAction, did, ever, accepted, uploadsAccepted}
+use Rattle.bank_history.specs.Signatures.{isSigningForm}
 use Rattle.bank_history.specs.Sound.{SoundOpening, more}
 use Rattle.bank_history.specs.Invariant.{PlaceTold, DownloadTold, Memory, Invariant}
 use Rattle.bank_history.proofs.Entries.{did-other, known-more, booked-more, accepted-own}
 use Rattle.bank_history.proofs.Memory.{memory-added}
 use Rattle.bank_history.proofs.Places.{place-unchanged, place-opened, places-told}
 use Rattle.bank_history.proofs.Records.{download-unchanged, download-opened}
+use Rattle.bank_history.proofs.Signatures.{signers-unchanged, unsigned-form, unbooked-signers}
 use Rattle.bank_history.proofs.Uploads.{entry, bare, booked-at, still-booked}
 use Rattle.bank.proofs.WrittenReplies.{carried-segment}
 
@@ -80,7 +83,7 @@ module _ (first : ℕ) (w : BankState) (h : List Exchange) (v : Invariant w h) (
       at true e = absurd (let z = v .known t e in omega arith)
       at false e = refl
 
-  memory-kept : (x : Exchange) → opens (x .verdict) ≡ true → x .request ≡ q → Memory (w .bank .clock) nonces (x ∷ h)
+  memory-kept : (x : Exchange) → remembers (x .verdict) ≡ true → x .request ≡ q → Memory (w .bank .clock) nonces (x ∷ h)
   unfolding freeNonce
   memory-kept x opened same =
       let e : nonceOf x ≡ record { used = true; value = nonce q; timestamp = timestamp q } =
@@ -145,7 +148,7 @@ module _ (first : ℕ) (w : BankState) (h : List Exchange) (v : Invariant w h) (
       seriesOf (subscriber q) (w .bank .series) < seriesLimit →
       let u = verdict.Of t (action.Upload (up.Opened (seriesOf (subscriber q) (w .bank .series)))) in
       Invariant (carryOut u w q d) (entry u w q d ∷ h)
-  unfolding openUpload countedUpload counted mailboxFile fileLength uploadsAccepted
+  unfolding openUpload countedUpload counted mailboxFile fileLength uploadsAccepted findOrder
   opens-upload asked some inside below = record {
     state = admitted.opens-upload first w (v .state) q (length d) readable acceptable some inside below;
     counted = counted-more k refl refl x refl;
@@ -159,6 +162,9 @@ module _ (first : ℕ) (w : BankState) (h : List Exchange) (v : Invariant w h) (
     booked = λ u g. still-booked w i new (carryOut (verdict.Of t k) w q d) refl
         (free-not-booked _ (admitted.found-free (w .bank) (v .state .sizes .places) inside)) u
         (v .booked u (booked-more t k x h refl refl u g));
+    signers = λ owner order. unbooked-signers owner order (w .bank .places) i new (let l = v .state .sizes .places in omega arith)
+        (ap isBooked (admitted.found-free (w .bank) (v .state .sizes .places) inside)) refl
+        ∙ (v .signers owner order ∙ sym (signers-unchanged _ x h (unsigned-form x (ap isSigningForm asked))));
     sound = more {e = x} (record {
       reply = refl;
       verdict = record {
@@ -188,7 +194,7 @@ module _ (first : ℕ) (w : BankState) (h : List Exchange) (v : Invariant w h) (
   pub opens-download : form q ≡ forms.DownloadOpening → (fileLength (subscriber q) (w .bank .files) ≡ 0 → ⊥) →
       let u = verdict.Of t (action.Download (down.Opened (mailboxSegments (subscriber q) (w .bank)))) in
       Invariant (carryOut u w q d) (entry u w q d ∷ h)
-  unfolding openDownload counted mailboxFile fileLength uploadsAccepted
+  unfolding openDownload counted mailboxFile fileLength uploadsAccepted findOrder
   opens-download asked some = record {
     state = admitted.opens-download first w (v .state) q (length d) readable acceptable some;
     counted = counted-more k refl refl x refl;
@@ -202,6 +208,7 @@ module _ (first : ℕ) (w : BankState) (h : List Exchange) (v : Invariant w h) (
     memory = memory-kept x refl refl;
     known = known-stays k refl refl x refl;
     booked = λ u g. booked-at w (carryOut (verdict.Of t k) w q d) u (v .booked u (booked-more t k x h refl refl u g)) refl;
+    signers = λ owner order. v .signers owner order ∙ sym (signers-unchanged _ x h (unsigned-form x (ap isSigningForm asked)));
     sound = more {e = x} (record {
       reply = refl;
       verdict = record {

@@ -1,6 +1,6 @@
 -- The events of the journal go by request, reply and clock of each exchange alone.
 use Prim.Native.Nat.{ℕ, suc, max}
-use mathlib.Core.Bool.{Bool, false, cond, _&&_}
+use mathlib.Core.Bool.{Bool, true, false, cond, _&&_}
 use mathlib.Core.List.{List, [], _∷_, _++_, map}
 use mathlib.Core.Path.{_≡_, refl, ap, _∙_}
 use lib.Dec.{eqb}
@@ -16,8 +16,10 @@ use Rattle.journal.specs.declared.event.Kind.{Kind}
 use Rattle.journal.specs.declared.event.Kind.the-variants as kind
 use Rattle.journal.specs.declared.event.Entry.{Entry}
 use Rattle.journal.specs.declared.event.Event.{Event}
+use Rattle.journal.specs.declared.event.OrderName.{OrderName}
 use Rattle.journal.specs.Events.{eventsFrom}
 use Rattle.bank_history.specs.History.{Exchange}
+use Rattle.bank_history.specs.Signatures.{signedName, signs, hasSigned}
 use Rattle.bank_history.specs.Status.{Status, dropIdle}
 use Rattle.bank_history.specs.ByReplies.{
   ofReply,
@@ -39,6 +41,7 @@ use Rattle.bank_history.specs.Journal.{
   entryOf,
   isIdleUploadAt,
   uploadDrops,
+  numberNamed,
   replyEntries,
   entriesOf,
   eventsIn,
@@ -136,6 +139,18 @@ map-same : (f g : Bits128 → Entry) → ((t : Bits128) → f t ≡ g t) → (l 
 map-same f g k [] = refl
 map-same f g k (t ∷ l) = ap (λ (x : Entry). x ∷ map f l) (k t) ∙ ap (λ (x : List Entry). g t ∷ x) (map-same f g k l)
 
+-- what a signing's reply tells
+signed-plain : (o : OrderName) (s : ℕ) (h : List Exchange) → hasSigned o s (plains h) ≡ hasSigned o s h
+unfolding hasSigned
+signed-plain o s [] = refl
+signed-plain o s (e ∷ h) =
+    ap (λ (b : Bool). cond (signs o e && eqb (subscriber (e .request)) s) true b) (signed-plain o s h)
+
+named-plain : (o : OrderName) (h : List Exchange) → numberNamed o (plains h) ≡ numberNamed o h
+unfolding numberNamed
+named-plain o [] = refl
+named-plain o (e ∷ h) = rw (count-plain (o .subscriber) h, named-plain o h)
+
 reply-plain : (e : Exchange) (h : List Exchange) (f : ReplyForm) → replyEntries (plain e) (plains h) f ≡ replyEntries e h f
 reply-plain e h replies.UploadOpened = rw (count-plain (subscriber (e .request)) h)
 reply-plain e h replies.DownloadOpened = refl
@@ -144,7 +159,12 @@ reply-plain e h replies.SegmentTaken =
 reply-plain e h replies.DownloadSegment = refl
 reply-plain e h replies.ReceiptAnswered = refl
 reply-plain e h replies.Refusal =
-    rw (upload-plain (transaction (e .request)) h, entry-plain (transaction (e .request)) h kind.Cancelled)
+    rw (
+      signed-plain (signedName e) (subscriber (e .request)) h,
+      named-plain (signedName e) h,
+      upload-plain (transaction (e .request)) h,
+      entry-plain (transaction (e .request)) h kind.Cancelled,
+    )
 reply-plain e h replies.Unreadable = refl
 
 entries-plain : (e : Exchange) (h : List Exchange) → entriesOf (plain e) (plains h) ≡ entriesOf e h

@@ -31,6 +31,7 @@ use Rattle.bank_history.specs.Sound.{
   SoundVerdict,
   SoundRequest,
   SoundTaking,
+  SoundSigning,
   Sound,
   AllSound,
   none,
@@ -43,11 +44,21 @@ pub sound-at : {e : Exchange} {g h : List Exchange} → AllSound h → Stands e 
 sound-at (more s r) newest = s
 sound-at (more s r) (older p) = sound-at r p
 
+-- what stands before an exchange of a history stands in it
+pub stands-behind : {e f : Exchange} {g k h : List Exchange} → Stands f k g → Stands e g h → Stands f k h
+stands-behind p newest = older p
+stands-behind p (older q) = older (stands-behind p q)
+
 -- what the verdict of a standing exchange says
 pub action-sound : {e : Exchange} {g h : List Exchange} {t : Bits128} {k : Action} → AllSound h → Stands e g h →
     e .verdict ≡ verdict.Of t k →
     SoundAction k t e g
 action-sound {e} {g} r p own = subst (λ (v : Verdict). SoundVerdict v e g) own (sound-at r p .verdict)
+
+-- so is an accepted signing
+pub signing-sound : {e : Exchange} {g h : List Exchange} {n : ℕ} {added : Bool} → AllSound h → Stands e g h →
+    e .verdict ≡ verdict.Signed n added → SoundSigning n added e g
+signing-sound {e} {g} r p own = subst (λ (v : Verdict). SoundVerdict v e g) own (sound-at r p .verdict)
 
 -- at most one exchange with one value, where the value is a measure of what came before it that each such exchange raises
 module _ (P : Exchange → Type 0) (value : Exchange → ℕ) (measure : List Exchange → ℕ)
@@ -253,6 +264,7 @@ one-booking t r a b p q = one-place (ActionIn isBooking t) (λ _. 0) (times isBo
 action-in : (f : Action → Bool) (t : Bits128) (x : Exchange) (v : Verdict) → x .verdict ≡ v → did f t v ≡ true → ActionIn f t x
 action-in f t x verdict.Unreadable e d = never d
 action-in f t x (verdict.Refused c) e d = never d
+action-in f t x (verdict.Signed n added) e d = never d
 action-in f t x (verdict.Of u k) e d =
     let a = and-true (sameBits t u) (f k) d in
     record { action = k; is = e ∙ ap (λ (b : Bits128). verdict.Of b k) (sym (bits-same t u (a .0))); kind = a .1 }
@@ -338,6 +350,7 @@ ended-unbooked t {h} r e b = let x = ever-stands isEnding t h e in let y = ever-
         ending : Verdict → Bool
         ending verdict.Unreadable = false
         ending (verdict.Refused c) = false
+        ending (verdict.Signed n added) = false
         ending (verdict.Of u d) = isEnding d
     at {e} {f} {g} (more s r) newest p (older b) q =
         let z = request-of (p .action) (ending-opens-not (p .action) (p .kind))

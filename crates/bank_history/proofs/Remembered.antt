@@ -13,7 +13,7 @@ use Rattle.bank_state.specs.Limits.{nonceCount, window}
 use Rattle.bank_state.specs.Rows.{firstOf, keep}
 use Rattle.bank_state.specs.Search.{isRemembered}
 use Rattle.bank_state.specs.State.{BankState, noNonce}
-use Rattle.bank_history.specs.History.{Exchange, Stands, newest, older, opens, nonceOf, openingNonces, remembered}
+use Rattle.bank_history.specs.History.{Exchange, Stands, newest, older, remembers, nonceOf, openingNonces, remembered}
 use Rattle.bank_history.specs.Invariant.{Invariant}
 use Rattle.bank_history.proofs.Entries.{same-bits}
 
@@ -49,17 +49,18 @@ first-in p h (later {y = y} {l = l} i) = at (p y) (first-in p h i)
     at true j = omega arith
     at false j = omega arith
 
-in-openings : {f : Exchange} {g h : List Exchange} → opens (f .verdict) ≡ true → Stands f g h → In (nonceOf f) (openingNonces h)
+in-openings : {f : Exchange} {g h : List Exchange} → remembers (f .verdict) ≡ true → Stands f g h → In (nonceOf f) (openingNonces h)
 unfolding openingNonces
 in-openings {f} {g} o newest = rw o (in-right (openingNonces g) here)
-in-openings {f} o (older {x = x} {h = h} s) = at (opens (x .verdict)) (in-openings o s)
+in-openings {f} o (older {x = x} {h = h} s) = at (remembers (x .verdict)) (in-openings o s)
   where
     at : (t : Bool) → In (nonceOf f) (openingNonces h) →
         In (nonceOf f) (cond t (openingNonces h ++ (nonceOf x ∷ [])) (openingNonces h))
     at true i = in-left (nonceOf x ∷ []) i
     at false i = i
 
-pub nonce-remembered : {w : BankState} {f : Exchange} {g h : List Exchange} → Invariant w h → Stands f g h → opens (f .verdict) ≡ true →
+-- the nonce of an accepted opening or signing is remembered
+pub nonce-remembered : {w : BankState} {f : Exchange} {g h : List Exchange} → Invariant w h → Stands f g h → remembers (f .verdict) ≡ true →
     w .bank .clock ≤ timestamp (f .request) + window → isRemembered (nonce (f .request)) (w .bank) ≡ true
 unfolding isRemembered remembered
 nonce-remembered {w} {f} {g} {h} v s o recent =

@@ -64,6 +64,7 @@ abbrev pub verdictForm : Verdict → Form
 verdictForm verdict.Unreadable = forms.Unreadable
 verdictForm (verdict.Refused c) = forms.Refusal
 verdictForm (verdict.Of t k) = actionForm k
+verdictForm (verdict.Signed n added) = forms.Refusal
 
 -- the return code of an action and of a verdict
 abbrev pub uploadCode : UploadAction → ReturnCode
@@ -90,6 +91,7 @@ abbrev pub verdictCode : Verdict → ReturnCode
 verdictCode verdict.Unreadable = code.InvalidXml
 verdictCode (verdict.Refused c) = c
 verdictCode (verdict.Of t k) = actionCode k
+verdictCode (verdict.Signed n added) = code.Ok
 
 -- what an action's reply says
 pub record ActionReply (k : Action) (t : Bits128) (q : Fields) (r : Fields) : Type 0 where
@@ -151,18 +153,21 @@ unfolding unreadable refusal formOf findForm rowFits
 reply-form verdict.Unreadable q = ((refl, refl), refl)
 reply-form (verdict.Refused c) q = ((refl, refl), refl)
 reply-form (verdict.Of t k) q = let r = action-reply t q k in (r .sized, r .kind)
+reply-form (verdict.Signed n added) q = ((refl, refl), refl)
 
 pub verdict-form : (v : Verdict) (q : Fields) → form (replyTo v q) ≡ verdictForm v
 unfolding unreadable refusal formOf findForm rowFits
 verdict-form verdict.Unreadable q = refl
 verdict-form (verdict.Refused c) q = refl
 verdict-form (verdict.Of t k) q = action-reply t q k .formed
+verdict-form (verdict.Signed n added) q = refl
 
 pub verdict-code : (v : Verdict) (q : Fields) → returnCode (replyTo v q) ≡ codeField (verdictCode v)
 unfolding unreadable refusal
 verdict-code verdict.Unreadable q = refl
 verdict-code (verdict.Refused c) q = refl
 verdict-code (verdict.Of t k) q = action-reply t q k .coded
+verdict-code (verdict.Signed n added) q = refl
 
 -- every reply but the one to an unreadable request carries its exchange number
 pub verdict-exchange : (v : Verdict) (q : Fields) → (verdictForm v ≡ forms.Unreadable → ⊥) → exchange (replyTo v q) ≡ exchange q
@@ -170,6 +175,7 @@ unfolding refusal
 verdict-exchange verdict.Unreadable q n = absurd (n refl)
 verdict-exchange (verdict.Refused c) q n = refl
 verdict-exchange (verdict.Of t k) q n = action-reply t q k .same-exchange
+verdict-exchange (verdict.Signed m added) q n = refl
 
 -- ---- the verdict back from the reply's form
 
@@ -236,6 +242,7 @@ ofAction (Reply x) = replyOfAction x
 pub is-action : (v : Verdict) (f : Form) → verdictForm v ≡ f → ofAction f ≡ true → IsAction v f
 is-action verdict.Unreadable f e d = never (ap ofAction e ∙ d)
 is-action (verdict.Refused c) f e d = never (ap ofAction e ∙ d)
+is-action (verdict.Signed n added) f e d = never (ap ofAction e ∙ d)
 is-action (verdict.Of t k) f e d = record { id = t; action = k; is = refl; kind = subst (λ (g : Form). ActionOf g k) e (action-of k) }
 
 -- the three codes that cancel, told by field 0D
@@ -256,5 +263,6 @@ cancelling-code code.UnknownTransaction = refl
 cancelling-code code.TransactionAbort = refl
 cancelling-code code.MessageReplay = refl
 cancelling-code code.SegmentNumberExceeded = refl
+cancelling-code code.OrderIdUnknown = refl
 cancelling-code code.MaxSegmentsExceeded = refl
 cancelling-code code.MaxTransactionsExceeded = refl

@@ -44,6 +44,7 @@ use Rattle.bank_history.proofs.Theorems.{reply-is, download-opened}
 pub action-in : (f : Action → Bool) (t : Bits128) (x : Exchange) (v : Verdict) → x .verdict ≡ v → did f t v ≡ true → ActionIn f t x
 action-in f t x verdict.Unreadable e d = never d
 action-in f t x (verdict.Refused c) e d = never d
+action-in f t x (verdict.Signed n added) e d = never d
 action-in f t x (verdict.Of u k) e d =
     let a = and-true (sameBits t u) (f k) d in
     record { action = k; is = e ∙ ap (λ (b : Bits128). verdict.Of b k) (sym (bits-same t u (a .0))); kind = a .1 }

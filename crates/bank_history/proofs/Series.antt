@@ -38,6 +38,7 @@ use Rattle.bank_steps.proofs.Cases.{
   refused,
   opensUpload,
   opensDownload,
+  signs,
   toUpload,
   toDownload,
 }
@@ -105,6 +106,7 @@ module _ {calls : List BankCall} {e : Exchange} (n : Next calls e) where
       ∙ verdict-by-form (contextOf (n .input)) (judgedBank n) (asked n) (sent n) forms.UploadOpening f a) ∙ own))
   typed-by own (opensDownload f a g m) z = never z
   typed-by own (toUpload r a s) z = absurd (goes-on (action.Upload a) (upload-goes-on (s .sound)) z)
+  typed-by own (signs s) z = never z
   typed-by own (toDownload r a s) z = absurd (goes-on (action.Download a) (download-goes-on (s .sound)) z)
 
   typed-next : acceptsUpload (e .verdict) ≡ true → orderType (e .request) ≡ ful
@@ -113,7 +115,7 @@ module _ {calls : List BankCall} {e : Exchange} (n : Next calls e) where
 abbrev AllTyped : List Exchange → Type 0
 AllTyped h = (e : Exchange) (g : List Exchange) → Stands e g h → acceptsUpload (e .verdict) ≡ true → orderType (e .request) ≡ ful
 
-stands-none : {e : Exchange} {g h : List Exchange} → Stands e g h → h ≡ [] → ⊥
+pub stands-none : {e : Exchange} {g h : List Exchange} → Stands e g h → h ≡ [] → ⊥
 stands-none newest z = let l = ap length z in omega arith
 stands-none (older s) z = let l = ap length z in omega arith
 
@@ -170,7 +172,7 @@ series-apart calls {s} i j z =
 
 -- ---- each number of a series
 
-is-upload-opened : (f : Form) → ofReply false isUploadForm f ≡ true → f ≡ forms.UploadOpened
+pub is-upload-opened : (f : Form) → ofReply false isUploadForm f ≡ true → f ≡ forms.UploadOpened
 is-upload-opened NoForm z = never z
 is-upload-opened (Request x) z = never z
 is-upload-opened (Reply replies.UploadOpened) z = refl

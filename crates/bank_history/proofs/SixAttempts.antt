@@ -63,6 +63,7 @@ use Rattle.bank_steps.proofs.Cases.{
   refused,
   opensUpload,
   opensDownload,
+  signs,
   toUpload,
   toDownload,
 }
@@ -290,6 +291,7 @@ download-few (declined t whole other) = ((λ z. never z), (λ z. absurd (omega a
 abbrev ByHistory : List Exchange → Verdict → Type 0
 ByHistory h verdict.Unreadable = Unit {0}
 ByHistory h (verdict.Refused c) = Unit {0}
+ByHistory h (verdict.Signed n added) = Unit {0}
 ByHistory h (verdict.Of u k) =
     (isAttempt k ≡ true → times isAttempt u h < maxAttempts) × (Aborts k → times isAttempt u h ≡ maxAttempts)
 
@@ -297,6 +299,7 @@ module _ (w : BankState) (h : List Exchange) (v : Invariant w h) (c : Counted w 
   acted-attempts : {x : Verdict} → Happens first w q d x → ByHistory h x
   acted-attempts unreadable = tt
   acted-attempts (refused r e) = tt
+  acted-attempts (signs s) = tt
   acted-attempts (opensUpload asked a g n inside below) = ((λ z. never z), (λ z. absurd (omega arith)))
   acted-attempts (opensDownload asked a g n) = ((λ z. never z), (λ z. absurd (omega arith)))
   acted-attempts (toUpload r a s) =

@@ -40,7 +40,8 @@ use Rattle.bank_verdicts.specs.declared.verdict.Action.{Action}
 use Rattle.bank_verdicts.specs.declared.verdict.Action.the-variants as action
 use Rattle.bank_verdicts.specs.declared.verdict.Verdict.{Verdict}
 use Rattle.bank_verdicts.specs.declared.verdict.Verdict.the-variants as verdict
-use Rattle.bank_verdicts.specs.Judgement.{transactionOf, mailboxSegments, uploadAt, downloadOf}
+use Rattle.bank_verdicts.specs.Judgement.{transactionOf, mailboxSegments, uploadAt, downloadOf, orderAt, signed}
+use Rattle.bank_signing.specs.Signings.{sign}
 use Rattle.bank_uploads.specs.Uploads.{grown, booked, attempted, placeAfter}
 use Rattle.bank_steps.specs.Steps.{onUpload, carryOut}
 use Rattle.bank.specs.Call.{contextOf, respond}
@@ -78,6 +79,7 @@ use Rattle.bank_steps.proofs.Cases.{
   refused,
   opensUpload,
   opensDownload,
+  signs,
   toUpload,
   toDownload,
   upload-acts,
@@ -526,7 +528,7 @@ module _ (w : BankState) (h : List Exchange) (v : Invariant w h) (σ : Bits128 �
 
   -- every case of a request
   case-told : {first : ℕ} {u : Verdict} → Happens first w q d u → Told (carryOut u w q d) (then u)
-  unfolding openUpload countedUpload openDownload counted
+  unfolding openUpload countedUpload openDownload counted sign
   case-told unreadable = told
   case-told (refused r z) = told
   case-told {first} (opensUpload asked a g n inside below) =
@@ -575,6 +577,15 @@ module _ (w : BankState) (h : List Exchange) (v : Invariant w h) (σ : Bits128 �
       omega arith)) o)))
   case-told {first} (toDownload r a s) =
       download-told (s .inside) (s .found) {first = first} a (download-goes-on (s .sound)) (toDownload r a s)
+  case-told {first} (signs s) =
+      let i = orderAt (w .bank) q in
+      record {
+        places = place-set σ i _ (s .signable .inside) (told .places i (s .signable .inside)) (λ j _ b. told .places j b);
+        downloads = told .downloads;
+        shown = λ t. still-shown w (carryOut (signed (w .bank) q) w q d) t (σ t) (told .shown t)
+            (λ g y last. open-other {first = first} t (signs s) refl g y last
+            (λ id z. absurd (let x : _≡_ {A = ℕ} 0 1 = cc in omega arith)));
+      }
 
 -- ---- after every list of calls
 

@@ -348,6 +348,9 @@ module _ {e : Exchange} {g h : List Exchange} (sound : AllSound h) (stands : Sta
           let s = subst (λ (v : Verdict). SoundVerdict v e g) own (sound-at sound stands .verdict) in
           let c′ : returnCode (e .reply) ≡ codeField c = coded ∙ ap (λ (v : Verdict). codeField (verdictCode v)) own in
           never (sym (s .harmless) ∙ (sym (cancelling-code c) ∙ (ap isCancelling (sym c′) ∙ ends)))
+      at (verdict.Signed n added) own =
+          let c′ : returnCode (e .reply) ≡ codeField code.Ok = coded ∙ ap (λ (v : Verdict). codeField (verdictCode v)) own in
+          never (ap isCancelling (sym c′) ∙ ends)
       at (verdict.Of t k) own = by t k own (subst (λ (f : Form). ActionOf f k) (sym (ap verdictForm own) ∙ (sym formed ∙ z)) (action-of k))
 
   -- 01 03 08 09 0D with 061101: the recovery point is the number of segments taken or delivered

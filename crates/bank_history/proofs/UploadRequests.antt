@@ -57,7 +57,7 @@ use Rattle.bank_history.proofs.Parts.{OpenUpload, PlaceKept, place-kept
 use Rattle.bank_history.specs.Transactions.{UploadAt}
 use Rattle.bank_state.proofs.Rows.{first-passes}
 use Rattle.bank_admitted.proofs.Rows.{first-at-most}
-use Rattle.bank_steps.proofs.Cases.{Happens, unreadable, refused, opensUpload, opensDownload, toUpload, toDownload}
+use Rattle.bank_steps.proofs.Cases.{Happens, unreadable, refused, opensUpload, opensDownload, signs, toUpload, toDownload}
 use Rattle.bank_history.proofs.GoesOn.{upload-goes-on}
 use Rattle.bank_history.proofs.Entries.{and-no, same-bits}
 use Rattle.bank_state.proofs.Found.{upload-found}
@@ -233,5 +233,6 @@ opened-open first w h v q d t m (opensUpload asked a g n inside below) z =
       fitting = ap (λ (r : Place). r .last) is;
     }
 opened-open first w h v q d t m (opensDownload asked a g n) z = absurd (let y : _≡_ {A = ℕ} 0 1 = cc in omega arith)
+opened-open first w h v q d t m (signs c) z = absurd (let y : _≡_ {A = ℕ} 0 1 = cc in omega arith)
 opened-open first w h v q d t m (toUpload r a c) z = never (sym (upload-goes-on (c .sound)) ∙ ap opens z)
 opened-open first w h v q d t m (toDownload r a c) z = absurd (let y : _≡_ {A = ℕ} 0 1 = cc in omega arith)

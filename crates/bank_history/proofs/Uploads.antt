@@ -3,7 +3,7 @@ use Prim.{tt}
 use Prim.Native.Nat.{ℕ, _+_, _≤_, _<_}
 use mathlib.Core.Bool.{true, false}
 use mathlib.Core.List.{List, [], _∷_}
-use mathlib.Core.Logic.{inl}
+use mathlib.Core.Logic.{inl, inr}
 use mathlib.Core.Path.{_≡_, refl, sym, ap, _∙_, subst}
 use native.Mathlib.Omega.{arith}
 use lib.ListN.{length, getD, set, length-replicate}
@@ -17,11 +17,12 @@ use Rattle.frame_table.proofs.Bits.{bits-same}
 use Rattle.message.specs.declared.codes.ReturnCode.{ReturnCode}
 use Rattle.message.specs.declared.codes.ReturnCode.the-variants as code
 use Rattle.message.specs.Limits.{fileBytes}
+use Rattle.message.specs.OrderNumbers.{orderNumberOf}
 use Rattle.bank_state.specs.declared.state.Place.{Place}
 use Rattle.bank_state.specs.declared.state.Use.{Use}
 use Rattle.bank_state.specs.declared.state.Use.the-variants.{Open, Booked}
 use Rattle.bank_state.specs.Limits.{placeCount}
-use Rattle.bank_state.specs.Search.{isFree, isUpload}
+use Rattle.bank_state.specs.Search.{isFree, isBooked, isUpload}
 use Rattle.bank_state.specs.State.{BankState, noPlace, placeAt, downloadAt, fileLength}
 use Rattle.bank_state.specs.Store.{partAt, withPart}
 use Rattle.bank_verdicts.specs.declared.verdict.TransactionRequest.{TransactionRequest}
@@ -36,10 +37,11 @@ use Rattle.bank_uploads.specs.Uploads.{grown, booked, attempted}
 use Rattle.bank_steps.specs.Steps.{onUpload, carryOut}
 use Rattle.bank.specs.Call.{mailboxSegment, stepBy}
 use Rattle.bank_admitted.specs.State.{mailboxFile, StateHolds}
-use Rattle.bank_history.specs.History.{Exchange, exchangeBy, uploadKind, isBooking, isOpening, opens, isAction, did, ever}
-use Rattle.bank_verdicts.specs.Refusals.{cancels}
+use Rattle.bank_history.specs.History.{Exchange, exchangeBy, uploadKind, isBooking, isOpening, opens, remembers, isAction, did, ever}
+use Rattle.bank_verdicts.specs.Refusals.{cancels, isOrder, findOrder}
 use Rattle.bank_history.specs.Sound.{SoundRequest, SoundUpload, SoundTaking, Sound, more}
-use Rattle.bank_history.specs.Invariant.{PlaceTold, BookedIn, Invariant}
+use Rattle.bank_history.specs.Signatures.{isSigningForm, isSigned}
+use Rattle.bank_history.specs.Invariant.{PlaceTold, BookedIn, Invariant, signersHeld}
 use Rattle.bank_history.proofs.Parts.{OpenUpload, PlaceKept, place-kept}
 use Rattle.bank_state.proofs.Found.{upload-found}
 use Rattle.bank_state.proofs.Stores.{part-same, part-other}
@@ -54,14 +56,23 @@ use Rattle.bank_verdicts.proofs.Sound.{
   underrun,
   exceeded,
 }
+use Rattle.bank_verdicts.proofs.Signing.{order-found}
 use Rattle.bank_steps.proofs.Cases.{requestForm, ToUpload}
-use Rattle.bank_admitted.proofs.Held.{place-counted}
+use Rattle.bank_admitted.proofs.Held.{place-counted, order-limited}
 use Rattle.bank_admitted.proofs.PlaceChange.{changedAt}
 use Rattle.bank_admitted.proofs.Uploads as admitted
 use Rattle.bank_history.proofs.Entries.{did-other, known-more, booked-more, booked-last, accepted-own, series-unmoved}
 use Rattle.bank_history.proofs.Memory.{memory-unchanged}
 use Rattle.bank_history.proofs.Places.{place-unchanged, place-attempted, place-grown, place-booked, places-told}
 use Rattle.bank_history.proofs.Records.{download-unchanged}
+use Rattle.bank_history.proofs.OrderNumbers.{one-order-number}
+use Rattle.bank_history.proofs.Signatures.{
+  signers-unchanged,
+  unsigned-form,
+  transaction-form,
+  unbooked-signers,
+  booked-signers,
+}
 
 -- the exchange of a verdict
 abbrev pub entry : Verdict → BankState → Fields → List ℕ → Exchange
@@ -115,9 +126,10 @@ module _ (w : BankState) (h : List Exchange) (v : Invariant w h) (i : ℕ) (insi
   changed = changedAt i p (w .bank .openings) (w .bank .series) (w .bank .nonces) (withPart (w .orders) i bytes) w
 
   upload-step : StateHolds changed → PlaceTold (p .used) (x ∷ h) p bytes →
-      ((t : Bits128) → ever isBooking t (x ∷ h) ≡ true → BookedIn changed t) → Sound x h → Invariant changed (x ∷ h)
+      ((t : Bits128) → ever isBooking t (x ∷ h) ≡ true → BookedIn changed t) → isSigned x ≡ false →
+      ((o n : ℕ) → signersHeld o n (changed .bank) ≡ signersHeld o n (w .bank)) → Sound x h → Invariant changed (x ∷ h)
   unfolding mailboxFile fileLength
-  upload-step state new booked sound = record {
+  upload-step state new booked unsigned signers sound = record {
     state = state;
     counted = v .counted ∙ sym (accepted-own _ k x h own ∙ rw noOpening refl);
     series = λ s a b. v .series s a b ∙ sym (series-unmoved s x h (ap opens own ∙ noOpening));
@@ -129,9 +141,10 @@ module _ (w : BankState) (h : List Exchange) (v : Invariant w h) (i : ℕ) (insi
     downloads = λ j. download-unchanged x h (mailboxFile w (downloadAt (w .bank) j .subscriber)) (downloadAt (w .bank) j)
         (downloadAt (w .bank) j .used)
         (λ f. about (downloadAt (w .bank) j .transaction) (download-other w h v i j k inside used f)) (v .downloads j);
-    memory = memory-unchanged _ _ x h (ap opens own ∙ noOpening) (v .memory);
+    memory = memory-unchanged _ _ x h (ap remembers own ∙ noOpening) (v .memory);
     known = known-more _ k x h own (w .bank .openings) (place-counted w (v .state) i inside used .0) (v .known);
     booked = booked;
+    signers = λ o n. signers o n ∙ (v .signers o n ∙ sym (signers-unchanged _ x h unsigned));
     sound = more sound (v .sound);
   }
     where
@@ -143,7 +156,8 @@ module _ (w : BankState) (h : List Exchange) (v : Invariant w h) (i : ℕ) (insi
 
 module _ (w : BankState) (h : List Exchange) (v : Invariant w h) (q : Fields) (d : List ℕ) (readable : Readable q (length d))
     (inside : uploadAt (w .bank) q < placeCount)
-    (found : isUpload (subscriber q) (transaction q) (placeAt (w .bank) (uploadAt (w .bank) q)) ≡ true) where
+    (found : isUpload (subscriber q) (transaction q) (placeAt (w .bank) (uploadAt (w .bank) q)) ≡ true)
+    (other : isSigningForm (form q) ≡ false) where
   abbrev i : ℕ
   i = uploadAt (w .bank) q
 
@@ -183,6 +197,42 @@ module _ (w : BankState) (h : List Exchange) (v : Invariant w h) (q : Fields) (d
       still-booked w i _ (left a) refl not-booked t
       (v .booked t (booked-more (old .transaction) (action.Upload a) (now a) h refl e t g))
 
+  -- the bank in which the place is another
+  abbrev having : Place → BankState
+  having p = changedAt i p (w .bank .openings) (w .bank .series) (w .bank .nonces) (w .orders) w
+
+  listed : i < length (w .bank .places)
+  listed = let l = v .state .sizes .places in omega arith
+
+  -- every order has its signers as before, where the place is not booked after either
+  signers-stay : (p : Place) → isBooked (p .used) ≡ false → (o n : ℕ) →
+      signersHeld o n (having p .bank) ≡ signersHeld o n (w .bank)
+  unfolding findOrder
+  signers-stay p unbooked o n = unbooked-signers o n (w .bank .places) i p listed (ap isBooked used-open) unbooked
+
+  -- and where it is booked with no signers: no other place has an order of that name
+  signers-booked : (p : Place) → p .subscriber ≡ old .subscriber → p .number ≡ old .number → p .signers ≡ 0 → (o n : ℕ) →
+      signersHeld o n (having p .bank) ≡ signersHeld o n (w .bank)
+  unfolding findOrder
+  signers-booked p owned numbered none o n =
+      booked-signers o n (w .bank .places) i p listed (ap isBooked used-open) none apart
+    where
+      used : isFree (old .used) ≡ false
+      used = ap isFree used-open
+
+      apart : (j : ℕ) → j < length (w .bank .places) → (j ≡ i → ⊥) → isOrder o n p ≡ true →
+          isOrder o n (placeAt (w .bank) j) ≡ true → ⊥
+      apart j a z e g =
+          let b : j < placeCount = (let l = v .state .sizes .places in omega arith) in
+          let mine = order-found o n p e in
+          let its = order-found o n (placeAt (w .bank) j) g in
+          let taken : isFree (placeAt (w .bank) j .used) ≡ false = ap isFree (its .0) in
+          z (v .state .placesApart j i b inside taken used (inr (
+            its .1 ∙ (sym (mine .1) ∙ owned),
+            one-order-number _ _ (order-limited w (v .state) j b taken) (order-limited w (v .state) i inside used)
+                (its .2 ∙ (sym (mine .2) ∙ ap orderNumberOf numbered)),
+          )))
+
   sound-request : (a : UploadAction) → SoundRequest (old .transaction) (now a) h
   sound-request a =
       let f = upload-found (subscriber q) (transaction q) old found in
@@ -221,7 +271,7 @@ module _ (w : BankState) (h : List Exchange) (v : Invariant w h) (q : Fields) (d
         (subst (λ (u : Use). PlaceTold u (now up.Took ∷ h) (grown (w .bank .clock) (length d) old)
         (overwrite (partAt (w .orders) i) (old .length) d)) (sym used-open)
         (place-grown (now up.Took) h old (partAt (w .orders) i) room (upload-open .1) (w .bank .clock) refl))
-        (others-booked up.Took refl)
+        (others-booked up.Took refl) (unsigned-form (now up.Took) other) (signers-stay _ (ap isBooked used-open))
         (record {
           reply = refl;
           verdict = let l : segment q < old .segments = (let b = upload-open .0 .below in omega arith) in
@@ -246,7 +296,7 @@ module _ (w : BankState) (h : List Exchange) (v : Invariant w h) (q : Fields) (d
         upload-step w h v i inside used-open _ _ full (action.Upload up.TookLast) refl (now up.TookLast) refl state
         (place-booked (now up.TookLast) h old (partAt (w .orders) i) room (upload-open .1) (upload-open .0) some (readable .short) refl
         (sym next ∙ last))
-        last-booked
+        last-booked (unsigned-form (now up.TookLast) other) (signers-booked _ refl refl refl)
         (record {
           reply = refl;
           verdict = record { taking = sound-taking up.TookLast; last = last ∙ sym (upload-open .1 .size); mark = mark };
@@ -260,7 +310,7 @@ module _ (w : BankState) (h : List Exchange) (v : Invariant w h) (q : Fields) (d
       upload-step w h v i inside used-open _ _ part-long (action.Upload a) refl (now a) refl state
       (subst (λ (u : Use). PlaceTold u (now a ∷ h) (attempted old) (partAt (w .orders) i)) (sym used-open)
       (place-attempted (now a) h old (partAt (w .orders) i) (old .taken) refl (upload-open .1)))
-      (others-booked a refl)
+      (others-booked a refl) (unsigned-form (now a) other) (signers-stay _ (ap isBooked used-open))
       (record { reply = refl; verdict = record { upload = sound-upload a; point = sym (upload-open .1 .takings) } })
 
   -- the transaction cancelled: "place zeroed and freed"
@@ -269,7 +319,7 @@ module _ (w : BankState) (h : List Exchange) (v : Invariant w h) (q : Fields) (d
   cancel-keeps c cancelling state =
       let a : UploadAction = up.Cancelled c in
       upload-step w h v i inside used-open _ _ (length-replicate (length (partAt (w .orders) i)) 0 ∙ part-long)
-      (action.Upload a) refl (now a) refl state tt (others-booked a refl)
+      (action.Upload a) refl (now a) refl state tt (others-booked a refl) (unsigned-form (now a) other) (signers-stay _ refl)
       (record { reply = refl; verdict = record { request = sound-request a; cancelling = cancelling; bare = bare w (subscriber q) } })
 
   upload-asked : {r : TransactionRequest} → form q ≡ requestForm r → UploadFits r old q → form q ≡ forms.UploadTransfer
@@ -293,5 +343,6 @@ pub upload-keeps : (w : BankState) (h : List Exchange) → Invariant w h → (q 
     let v = verdict.Of (placeAt (w .bank) (uploadAt (w .bank) q) .transaction) (action.Upload a) in
     Invariant (carryOut v w q d) (entry v w q d ∷ h)
 upload-keeps w h v q d r a some t =
-    upload-sound-keeps w h v q d (t .readable) (t .inside) (t .found) (t .asked) some (t .sound)
+    upload-sound-keeps w h v q d (t .readable) (t .inside) (t .found) (ap isSigningForm (t .asked) ∙ transaction-form r)
+    (t .asked) some (t .sound)
     (admitted.upload-keeps w (v .state) q d r a some t)

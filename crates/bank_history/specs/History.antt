@@ -187,6 +187,7 @@ abbrev pub did : (Action → Bool) → Bits128 → Verdict → Bool
 did f t verdict.Unreadable = false
 did f t (verdict.Refused c) = false
 did f t (verdict.Of u k) = sameBits t u && f k
+did f t (verdict.Signed n added) = false
 
 -- the exchange is such an action of t
 pub record ActionIn (f : Action → Bool) (t : Bits128) (e : Exchange) : Type 0 where
@@ -244,6 +245,7 @@ abbrev pub numberIn : Verdict → ℕ
 numberIn verdict.Unreadable = 0
 numberIn (verdict.Refused c) = 0
 numberIn (verdict.Of t k) = actionNumber k
+numberIn (verdict.Signed n added) = 0
 
 -- the subscriber that opened t, an upload's order number and number of segments, the file in the mailbox at a
 -- download's opening
@@ -264,6 +266,7 @@ abbrev pub opens : Verdict → Bool
 opens verdict.Unreadable = false
 opens (verdict.Refused c) = false
 opens (verdict.Of t k) = isOpening k
+opens (verdict.Signed n added) = false
 
 unfoldable pub accepted : List Exchange → ℕ
 accepted [] = 0
@@ -274,20 +277,29 @@ abbrev pub acceptsUpload : Verdict → Bool
 acceptsUpload verdict.Unreadable = false
 acceptsUpload (verdict.Refused c) = false
 acceptsUpload (verdict.Of t k) = isUploadOpening k
+acceptsUpload (verdict.Signed n added) = false
 
 unfoldable pub uploadsAccepted : ℕ → List Exchange → ℕ
 uploadsAccepted s [] = 0
 uploadsAccepted s (e ∷ h) =
     cond (acceptsUpload (e .verdict) && eqb (subscriber (e .request)) s) (suc (uploadsAccepted s h)) (uploadsAccepted s h)
 
+-- the verdicts that a nonce is remembered for: an accepted opening's, and an accepted signing's, which "opens no
+-- transaction and takes no running number; its nonce is remembered"
+abbrev pub remembers : Verdict → Bool
+remembers verdict.Unreadable = false
+remembers (verdict.Refused c) = false
+remembers (verdict.Of t k) = isOpening k
+remembers (verdict.Signed n added) = true
+
 -- "An accepted opening's nonce": with its timestamp
 abbrev pub nonceOf : Exchange → Nonce
 nonceOf e = record { used = true; value = nonce (e .request); timestamp = timestamp (e .request) }
 
--- the nonces of the accepted openings, in the order of the openings
+-- the nonces of the accepted openings, signings among them, in their order
 unfoldable pub openingNonces : List Exchange → List Nonce
 openingNonces [] = []
-openingNonces (e ∷ h) = cond (opens (e .verdict)) (openingNonces h ++ (nonceOf e ∷ [])) (openingNonces h)
+openingNonces (e ∷ h) = cond (remembers (e .verdict)) (openingNonces h ++ (nonceOf e ∷ [])) (openingNonces h)
 
 -- "remembered, against all subscribers, while its timestamp is at most" the window "behind the clock"
 unfoldable pub remembered : ℕ → List Exchange → List Nonce

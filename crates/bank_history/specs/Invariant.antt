@@ -6,18 +6,22 @@ use mathlib.Core.List.{List, _++_}
 use mathlib.Core.Path.{_≡_}
 use lib.ListN.{length, replicate}
 use Rattle.frame_table.specs.declared.fields.Bits128.{Bits128}
-use Rattle.message.specs.Limits.{subscribers, segmentBytes, maxSegments, fileBytes}
+use Rattle.message.specs.Limits.{ful, subscribers, segmentBytes, maxSegments, fileBytes}
+use Rattle.message.specs.OrderNumbers.{orderNumberOf}
+use Rattle.journal.specs.declared.event.OrderName.{OrderName}
 use Rattle.bank_state.specs.declared.state.Download.{Download}
 use Rattle.bank_state.specs.State.{Nonce}
 use Rattle.bank_state.specs.declared.state.Place.{Place}
 use Rattle.bank_state.specs.declared.state.Use.{Use}
 use Rattle.bank_state.specs.declared.state.Use.the-variants.{Free, Open, Booked}
 use Rattle.bank_state.specs.Limits.{placeCount, nonceCount}
-use Rattle.bank_state.specs.State.{BankState, noNonce, placeAt, downloadAt, seriesOf}
+use Rattle.bank_state.specs.State.{Bank, BankState, noNonce, placeAt, downloadAt, seriesOf}
 use Rattle.bank_state.specs.Store.{partAt}
+use Rattle.bank_verdicts.specs.Refusals.{findOrder}
 use Rattle.bank_admitted.specs.State.{mailboxFile}
 use Rattle.bank_history.specs.History.{Exchange, Past, isUploadOpening, isDownloadOpening, isBooking, isTaking, isDelivery, isEnding, isAction, ever, times, received, accepted, uploadsAccepted, openedBy, numberAt, segmentsAt, fileAtOpening, remembered}
 use Rattle.bank_admitted.specs.State.{StateHolds, NoneIdle}
+use Rattle.bank_history.specs.Signatures.{signersIn}
 use Rattle.bank_history.specs.Sound.{AllSound}
 
 -- ---- what the history tells of the state
@@ -81,6 +85,14 @@ DownloadTold false h file e = Unit
 pub record Memory (clock : ℕ) (nonces : List Nonce) (h : List Exchange) : Type 0 where
   pub held : nonces ≡ remembered clock h ++ replicate (nonceCount - length (remembered clock h)) noNonce
 
+-- the name of the order in a place: "subscriber, type and number together"; FUL is the only upload type
+abbrev pub placeName : Place → OrderName
+placeName p = record { subscriber = p .subscriber; «order_type» = ful; number = orderNumberOf (p .number) }
+
+-- the signers that the bank holds for the booked order of this owner with this number; none where it is not booked
+abbrev pub signersHeld : ℕ → ℕ → Bank → ℕ
+signersHeld owner order b = placeAt b (findOrder owner order b) .signers
+
 -- the order of transaction t is booked in some place
 pub record BookedIn (w : BankState) (t : Bits128) : Type 0 where
   pub place : ℕ
@@ -107,6 +119,10 @@ pub record Invariant (w : BankState) (h : List Exchange) : Type 0 where
   pub known : (t : Bits128) → ever isAction t h ≡ true → t .low < w .bank .openings
   -- a transaction whose segment N was taken is booked
   pub booked : (t : Bits128) → ever isBooking t h ≡ true → BookedIn w t
+  -- the signers of each order are those of the history; an order that is not in the book has none
+  pub signers : (owner order : ℕ) →
+      signersHeld owner order (w .bank)
+      ≡ signersIn (record { subscriber = owner; «order_type» = ful; number = order }) h
   -- every exchange of the history is sound
   pub sound : AllSound h
 

@@ -8,7 +8,7 @@ use lib.ListN.{length}
 use Rattle.frame_table.specs.declared.fields.Bits128.{Bits128}
 use Rattle.frame_table.specs.declared.table.ReplyForm.{ReplyForm}
 use Rattle.frame_table.specs.declared.table.ReplyForm.the-variants as replies
-use Rattle.frame_table.specs.Names.{subscriber, transaction, segment, returnCode, form}
+use Rattle.frame_table.specs.Names.{subscriber, transaction, segment, returnCode, orderNumber, form}
 use Rattle.message.specs.declared.codes.ReturnCode.the-variants as code
 use Rattle.message.specs.Codes.{codeField}
 use Rattle.bank_state.specs.Clock.{isIdle}
@@ -20,6 +20,7 @@ use Rattle.journal.specs.declared.event.Kind.{Kind}
 use Rattle.journal.specs.declared.event.Kind.the-variants as kind
 use Rattle.journal.specs.declared.event.Entry.{Entry}
 use Rattle.journal.specs.declared.event.Event.{Event}
+use Rattle.journal.specs.declared.event.OrderName.{OrderName}
 use Rattle.journal.specs.Events.{eventsFrom}
 use Rattle.journal.specs.Records.{Numbered}
 use Rattle.journal.specs.Row.{Journal, emptyRow, rowOf}
@@ -27,6 +28,7 @@ use Rattle.bank_events.specs.Entries.{entry}
 use Rattle.bank.specs.Call.{frameCall}
 use Rattle.bank.specs.Journal.{journalAfter, journalBy}
 use Rattle.bank_history.specs.History.{Exchange, BankCall, Frame, File, Past, pastOf}
+use Rattle.bank_history.specs.Signatures.{signedName, isSigned, hasSigned}
 use Rattle.bank_history.specs.Sound.{isCancelling}
 use Rattle.bank_history.specs.Status.{
   Status,
@@ -41,6 +43,7 @@ use Rattle.bank_history.specs.Status.{
 }
 use Rattle.bank_history.specs.ByReplies.{
   ofReply,
+  isUploadOpened,
   uploadsOpened,
   openedIds,
   ownerOf,
@@ -87,8 +90,21 @@ isIdleUploadAt clock Dropped = false
 unfoldable pub uploadDrops : ℕ → List Exchange → List Bits128
 uploadDrops clock h = keep (λ (t : Bits128). isIdleUploadAt clock (standing t h)) (openedIds h)
 
--- what a reply says beside the drops: an upload opened; an upload's segment N taken; an upload cancelled by 091102,
--- 011101 or 091104
+-- the number in its owner's series of the order so named: how many uploads of its owner were opened before it
+unfoldable pub numberNamed : OrderName → List Exchange → ℕ
+numberNamed o [] = 0
+numberNamed o (e ∷ h) =
+    cond (isUploadOpened e && eqb (subscriber (e .request)) (o .subscriber) && eqb (orderNumber (e .reply)) (o .number))
+    (uploadsOpened (o .subscriber) h) (numberNamed o h)
+
+-- "kind signed, once a signer, under the owner": the first signature of a subscriber is an event, "signing again" none
+abbrev pub signedEntries : Exchange → List Exchange → List Entry
+signedEntries e h =
+    let o = signedName e in
+    cond (hasSigned o (subscriber (e .request)) h) [] (entry kind.Signed (o .subscriber) (numberNamed o h) ∷ [])
+
+-- what a reply says beside the drops: an upload opened; an upload's segment N taken; 01 03 0D with 000000 to a signing;
+-- an upload cancelled by 091102, 011101 or 091104
 abbrev pub replyEntries : Exchange → List Exchange → ReplyForm → List Entry
 replyEntries e h replies.UploadOpened =
     let s = subscriber (e .request) in entry kind.Opened s (uploadsOpened s h) ∷ []
@@ -101,7 +117,8 @@ replyEntries e h replies.DownloadSegment = []
 replyEntries e h replies.ReceiptAnswered = []
 replyEntries e h replies.Refusal =
     let t = transaction (e .request) in
-    cond (isCancelling (returnCode (e .reply)) && isUploadId t h) (entryOf kind.Cancelled t h ∷ []) []
+    cond (isSigned e) (signedEntries e h)
+    (cond (isCancelling (returnCode (e .reply)) && isUploadId t h) (entryOf kind.Cancelled t h ∷ []) [])
 replyEntries e h replies.Unreadable = []
 
 -- the events of the exchange e after the history h: "drops of one call by opening", then at most one other

@@ -1,5 +1,5 @@
 -- What the journal's events say of orders, over every list of calls to a fresh bank: for demand 3.
-use Prim.Native.Nat.{_*_, _≤_}
+use Prim.Native.Nat.{_+_, _*_, _≤_}
 use mathlib.Core.Bool.{Bool, true, false, _&&_}
 use mathlib.Core.List.{List, _++_, List·Memᴰ as In}
 use mathlib.Core.Logic.{_⊎_}
@@ -7,8 +7,8 @@ use mathlib.Core.Path.{_≡_}
 use Rattle.frame_table.specs.declared.fields.Bits128.{Bits128}
 use Rattle.frame_table.specs.Forms as forms
 use Rattle.frame_table.specs.Names.{subscriber, orderType, transaction, orderNumber, form}
-use Rattle.message.specs.Limits.{ful}
-use Rattle.bank_state.specs.Limits.{maxOpenings}
+use Rattle.message.specs.Limits.{ful, subscribers}
+use Rattle.bank_state.specs.Limits.{placeCount, maxOpenings}
 use Rattle.bank_state.specs.Rows.{countOf}
 use Rattle.journal.specs.declared.event.Kind.{Kind}
 use Rattle.journal.specs.declared.event.Kind.the-variants as kind
@@ -44,6 +44,7 @@ isEnd kind.Opened = false
 isEnd kind.Booked = true
 isEnd kind.Cancelled = true
 isEnd kind.Dropped = true
+isEnd kind.Signed = false
 
 -- the upload t is not open, and is never booked, whatever calls come after
 pub record NeverBooked (calls : List BankCall) (t : Bits128) : Type 0 where
@@ -78,5 +79,6 @@ pub record JournalOrders : Type 0 where
   -- an upload has at most one event that ends it
   pub once : (calls : List BankCall) (o : OrderName) →
       countOf (λ (v : Event). isEnd (v .kind) && isOf o v) (eventsIn (pastOf calls .history)) ≤ 1
-  -- and at most two events in all: 4,294,967,296 openings accepted
-  pub bounded : (calls : List BankCall) → journalOf calls .events ≤ 2 * maxOpenings
+  -- and at most two events but those of signers: 4,294,967,296 openings accepted, 8 orders in the book, each signed by
+  -- "a set over the 8 subscribers"
+  pub bounded : (calls : List BankCall) → journalOf calls .events ≤ 2 * maxOpenings + placeCount * subscribers

@@ -1,5 +1,6 @@
 -- The definitions of the bank's history, of its invariant, and of what holds after every list of calls.
 pub mod History
+pub mod Signatures
 pub mod Sound
 pub mod Invariant
 pub mod Transactions
@@ -10,5 +11,6 @@ pub mod ByReplies
 pub mod Series
 pub mod Journal
 pub mod JournalOrders
+pub mod Signers
 pub mod OnRows
 pub mod OnSessions

@@ -1,6 +1,6 @@
 -- What is true of every exchange in a history, seen from the exchanges before it.
 use Prim.Native.Nat.{ℕ, suc, _<_, _≤_}
-use mathlib.Core.Bool.{Bool, true, false, _||_}
+use mathlib.Core.Bool.{Bool, true, false, not, _||_}
 use mathlib.Core.List.{List, [], _∷_}
 use mathlib.Core.Path.{_≡_}
 use lib.Dec.{eqb}
@@ -8,12 +8,25 @@ use lib.ListN.{length}
 use Rattle.frame_table.specs.declared.fields.Bits128.{Bits128}
 use Rattle.frame_table.specs.declared.table.Form.{Form}
 use Rattle.frame_table.specs.Forms as forms
-use Rattle.frame_table.specs.Names.{subscriber, transaction, segments, segment, lastMark, receiptCode, form}
+use Rattle.frame_table.specs.Names.{
+  subscriber,
+  orderType,
+  transaction,
+  segments,
+  segment,
+  lastMark,
+  receiptCode,
+  orderNumber,
+  owner,
+  form,
+}
 use Rattle.message.specs.declared.codes.ReturnCode.{ReturnCode}
 use Rattle.message.specs.declared.codes.ReturnCode.the-variants as code
 use Rattle.message.specs.Codes.{codeField}
-use Rattle.message.specs.Limits.{subscribers, segmentBytes, maxSegments}
+use Rattle.message.specs.Limits.{ful, subscribers, segmentBytes, maxSegments}
+use Rattle.message.specs.OrderNumbers.{orderNumberOf}
 use Rattle.message.specs.Segments.{segmentsOf, segmentOf}
+use Rattle.signers.specs.Signers.{isSigner}
 use Rattle.bank_state.specs.Limits.{seriesLimit}
 use Rattle.bank_verdicts.specs.declared.verdict.UploadAction.{UploadAction}
 use Rattle.bank_verdicts.specs.declared.verdict.UploadAction.the-variants as up
@@ -25,7 +38,24 @@ use Rattle.bank_verdicts.specs.declared.verdict.Verdict.{Verdict}
 use Rattle.bank_verdicts.specs.declared.verdict.Verdict.the-variants as verdict
 use Rattle.bank_verdicts.specs.Refusals.{cancels}
 use Rattle.bank_verdicts.specs.Replies.{replyTo}
-use Rattle.bank_history.specs.History.{Exchange, isUploadOpening, isDownloadOpening, isBooking, isTaking, isDelivery, isEnding, ever, times, accepted, uploadsAccepted, openedBy, segmentsAt, fileAtOpening}
+use Rattle.bank_history.specs.History.{
+  Exchange,
+  isUploadOpening,
+  isDownloadOpening,
+  isBooking,
+  isTaking,
+  isDelivery,
+  isEnding,
+  ever,
+  times,
+  accepted,
+  uploadsAccepted,
+  openedBy,
+  numberAt,
+  segmentsAt,
+  fileAtOpening,
+}
+use Rattle.bank_history.specs.Signatures.{signedName, signersIn}
 
 -- field 0D is 091102, 011101 or 091104, the codes that cancel
 abbrev pub isCancelling : ℕ → Bool
@@ -137,6 +167,22 @@ pub record SoundCancelled (c : ReturnCode) (t : Bits128) (e : Exchange) (h : Lis
   pub cancelling : cancels c ≡ true
   pub bare : e .replyData ≡ []
 
+-- an accepted signing of the order with the number n of its owner's series: "the subscriber becomes a signer of that
+-- booked order", so the order was booked before; "Signing again answers 000000 and adds nobody"
+pub record SoundSigning (n : ℕ) (added : Bool) (e : Exchange) (h : List Exchange) : Type 0 where
+  pub asked : form (e .request) ≡ forms.Signing
+  pub known : 1 ≤ subscriber (e .request)
+  pub most : subscriber (e .request) ≤ subscribers
+  pub typed : orderType (e .request) ≡ ful
+  pub named : orderNumber (e .request) ≡ orderNumberOf n
+  pub id : Bits128
+  pub opened : ever isUploadOpening id h ≡ true
+  pub owned : openedBy id h ≡ owner (e .request)
+  pub order : numberAt id h ≡ n
+  pub booked : ever isBooking id h ≡ true
+  pub adds : added ≡ not (isSigner (subscriber (e .request)) (signersIn (signedName e) h))
+  pub bare : e .replyData ≡ []
+
 -- a refusal that changes nothing beyond clock and drops
 pub record SoundRefusal (c : ReturnCode) (e : Exchange) : Type 0 where
   pub harmless : cancels c ≡ false
@@ -167,6 +213,7 @@ abbrev pub SoundVerdict : Verdict → Exchange → List Exchange → Type 0
 SoundVerdict verdict.Unreadable e h = e .replyData ≡ []
 SoundVerdict (verdict.Refused c) e h = SoundRefusal c e
 SoundVerdict (verdict.Of t k) e h = SoundAction k t e h
+SoundVerdict (verdict.Signed n added) e h = SoundSigning n added e h
 
 -- an exchange after the history h: its reply's fields are those of its verdict, and what its verdict says is so
 pub record Sound (e : Exchange) (h : List Exchange) : Type 0 where

@@ -104,6 +104,7 @@ abbrev pub statusAfter : Bits128 → Verdict → Exchange → Status → Status
 statusAfter t verdict.Unreadable e x = x
 statusAfter t (verdict.Refused c) e x = x
 statusAfter t (verdict.Of u k) e x = cond (sameBits t u) (actionStatus k e x) (otherStatus k e x)
+statusAfter t (verdict.Signed n added) e x = x
 
 -- how t stands after a history: each call first drops, then its verdict does what it names
 unfoldable pub status : Bits128 → List Exchange → Status
@@ -115,6 +116,7 @@ abbrev pub openedIn : Verdict → List Bits128
 openedIn verdict.Unreadable = []
 openedIn (verdict.Refused c) = []
 openedIn (verdict.Of t k) = cond (isOpening k) (t ∷ []) []
+openedIn (verdict.Signed n added) = []
 
 unfoldable pub openings : List Exchange → List Bits128
 openings [] = []
@@ -144,6 +146,7 @@ abbrev pub actedIn : Verdict → List Event
 actedIn verdict.Unreadable = []
 actedIn (verdict.Refused c) = []
 actedIn (verdict.Of t k) = Act t k ∷ []
+actedIn (verdict.Signed n added) = []
 
 -- the events of a call after a history: its drops, the oldest opening first, then its action
 unfoldable pub eventsOf : Exchange → List Exchange → List Event

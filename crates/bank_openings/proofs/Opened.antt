@@ -77,12 +77,12 @@ module _ (y : Context) (b : Bank) (q : Fields) (k : Held b) where
 -- ---- the bank that it leaves
 
 -- the bank with this nonce remembered
-abbrev noted : Bits128 → ℕ → Bank → Bank
+abbrev pub noted : Bits128 → ℕ → Bank → Bank
 noted v time b = withNonces (set (b .nonces) (freeNonce b) (nonceRecord v time)) b
 
 module _ (q : Fields) (b : Bank) (k : Held b) where
   module _ (memory : freeNonce b < nonceCount) where
-    held-noted : Held (noted (nonce q) (timestamp q) b)
+    pub held-noted : Held (noted (nonce q) (timestamp q) b)
     held-noted =
         let e = held-free-nonce b k in
         rw e (held-nonce-added (nonceRecord (nonce q) (timestamp q)) k refl (omega arith))

@@ -37,11 +37,14 @@ UploadRoom b q = Room direction.Upload b q
 abbrev pub DownloadRoom : Bank → Fields → Type 0
 DownloadRoom b q = Room direction.Download b q
 
--- "The accepted openings are numbered from 0", uploads and downloads together; "An accepted opening's nonce is remembered"
+-- "An accepted opening's nonce is remembered"
+abbrev pub remembered : Fields → Bank → Bank
+remembered q b =
+    withNonces (set (b .nonces) (freeNonce b) (record { used = true; value = nonce q; timestamp = timestamp q })) b
+
+-- "The accepted openings are numbered from 0", uploads and downloads together
 unfoldable pub counted : Fields → Bank → Bank
-counted q b =
-    withOpenings (b .openings + 1)
-    (withNonces (set (b .nonces) (freeNonce b) (record { used = true; value = nonce q; timestamp = timestamp q })) b)
+counted q b = withOpenings (b .openings + 1) (remembered q b)
 
 -- a subscriber's series one number further
 abbrev pub moved : ℕ → List ℕ → List ℕ
@@ -63,6 +66,7 @@ newPlace t number clock q = record {
   attempts = 0;
   last = clock;
   length = 0;
+  signers = 0;
 }
 
 -- "An upload takes the first place not in use"

@@ -38,7 +38,7 @@ ghost use Rattle.bank_verdicts.specs.Refusals.{unknownType, otherDirection, man
 ghost use Rattle.bank_verdicts.specs.Refusals.{emptyMailbox, manyOpen, noPlaceFree, seriesEnded, isFull, noShare};
 
 // 091005: order type neither FUL nor FDL.
-fn unknown_type(q: Fields) -> bool
+pub fn unknown_type(q: Fields) -> bool
     ensures { λ r. ⌜ r ≡ unknownType q ⌝ }
 {
     let order_type = q.order_type();
@@ -86,7 +86,7 @@ fn in_time(time: u64, clock: u64) -> bool
 }
 
 // 091103: timestamp not in time, or nonce remembered.
-fn is_replay(rows: &[u64], q: Fields) -> bool
+pub fn is_replay(rows: &[u64], q: Fields) -> bool
     requires { ⌜ Laid (now rows) ⌝ }
     ensures { λ r. ⌜ r ≡ isReplay (bankOf (now (rows .entry))) q ⌝ }
 {

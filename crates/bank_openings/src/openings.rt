@@ -61,6 +61,7 @@ pub fn open_upload(rows: &mut [u64], transaction: Bits128, number: u64, q: Field
         attempts: 0,
         last: clock(rows),
         length: 0,
+        signers: 0,
     };
     count_upload(rows, q);
     set_place(rows, i, place);

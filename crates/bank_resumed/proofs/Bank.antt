@@ -1,6 +1,6 @@
 -- The bank's theorems of a session put away and taken up: each is the theorem on the bank's calls among the host's.
 -- Assumes nothing.
-use Prim.Native.Nat.{ℕ}
+use Prim.Native.Nat.{ℕ, _≤_}
 use mathlib.Core.Bool.{Bool, true, false, cond}
 use mathlib.Core.List.{List, [], _∷_, _++_, List·Memᴰ as In}
 use mathlib.Core.Logic.{inl, inr}
@@ -16,7 +16,9 @@ use Rattle.journal.specs.declared.event.Event.{Event}
 use Rattle.journal.specs.declared.event.OrderName.{OrderName}
 use Rattle.journal.specs.Records.{nameOf, Recorded, RecordedEnd}
 use Rattle.journal.specs.Row.{Journal, rowOf}
+use Rattle.signers.specs.Signers.{isSigner, signerCount, isReleased}
 use Rattle.bank_state.specs.Clock.{advanced}
+use Rattle.bank_state.specs.Rows.{countOf}
 use Rattle.bank_state.specs.State.{BankState, seriesOf}
 use Rattle.bank.specs.Call.{FrameInput}
 use Rattle.bank_history.specs.History.{Exchange, Stands, BankCall, Frame, Past, isBooking, ever, pastOf}
@@ -26,12 +28,15 @@ use Rattle.bank_history.specs.ByReplies.{uploadsOpened, standing}
 use Rattle.bank_history.specs.Series.{InSeries}
 use Rattle.bank_history.specs.Journal.{journalOf, eventsIn}
 use Rattle.bank_history.specs.JournalOrders.{OpensOrder, NeverBooked}
+use Rattle.bank_history.specs.Signatures.{signatureCount}
+use Rattle.bank_history.specs.Signers.{Signature, BooksOrder, InBook, signersAt, SignsOnly, isSignedOf}
 use Rattle.bank_history.proofs.ByReplies.{standing-is}
 use Rattle.bank_history.proofs.Drops.{call-drops}
 use Rattle.bank_history.proofs.FalseEconomies.{false-economies}
 use Rattle.bank_history.proofs.Journal.{journal-told}
 use Rattle.bank_history.proofs.JournalOrders.{journal-orders}
 use Rattle.bank_history.proofs.Series.{series}
+use Rattle.bank_history.proofs.Signers.{signers-told}
 use Rattle.bank_history.proofs.Theorems.{history-sound}
 use Rattle.bank_resumed.specs.Calls.{
   HostCall,
@@ -152,6 +157,31 @@ resumed-bank {ks} r = record {
       (λ calls. series .counters calls s least most) ks r;
   row = resumed .holds (λ p j. j .row ≡ rowOf (eventsIn (p .history))) (journal-told .row) ks r;
   events = resumed .holds (λ p j. j .events ≡ length (eventsIn (p .history))) (journal-told .events) ks r;
+  signers = λ {o} {i} placed u. resumed .holds
+      (λ p j. InBook (p .bankState) o i → isSigner u (signersAt (p .bankState) i) ≡ true → Signature o u (p .history))
+      (λ calls a. signers-told .signers calls a u) ks r placed;
+  signed = λ {o} {i} placed u. resumed .holds
+      (λ p j. InBook (p .bankState) o i → Signature o u (p .history) → isSigner u (signersAt (p .bankState) i) ≡ true)
+      (λ calls a. signers-told .signed calls a u) ks r placed;
+  bookedBefore = λ {o} {s}. resumed .holds (λ p j. (x : Signature o s (p .history)) → BooksOrder o (x .before))
+      (λ calls x. signers-told .booked calls x) ks r;
+  count = λ {o} {i}. resumed .holds
+      (λ p j. InBook (p .bankState) o i → signerCount (signersAt (p .bankState) i) ≡ signatureCount o (p .history))
+      (λ calls a. signers-told .count calls a) ks r;
+  signedEvents = λ o. resumed .holds
+      (λ p j. countOf (isSignedOf o) (eventsIn (p .history)) ≡ signatureCount o (p .history))
+      (λ calls. signers-told .events calls o) ks r;
+  released = λ {o} {i}. resumed .holds
+      (λ p j. InBook (p .bankState) o i → isReleased (signersAt (p .bankState) i) ≡ true → 2 ≤ signatureCount o (p .history))
+      (λ calls a. signers-told .released calls a) ks r;
+  unreleased = λ {o} {i}. resumed .holds
+      (λ p j. InBook (p .bankState) o i → isReleased (signersAt (p .bankState) i) ≡ false → signatureCount o (p .history) ≤ 1)
+      (λ calls a. signers-told .unreleased calls a) ks r;
+  signsOnly = λ {e} n s. subst (λ (w : BankState). SignsOnly e w (bankLeft (frameArrives (n .lent) (n .input) ∷ ks)))
+      (sym (advanced-is n))
+      (subst (SignsOnly e (advanced (resumed .next n .input .time) (pastOf (bankCalls ks) .bankState))) (sym (bank-after n))
+      (signers-told .only (resumed .next n) s));
+  signedReplay = λ n s x z c. signers-told .replay (resumed .next n) (stood n s) x z c;
   booked = λ {o} {t}. resumed .holds
       (λ p j. Recorded kind.Booked o (j .row) → OpensOrder o t (p .history) → ever isBooking t (p .history) ≡ true)
       (λ calls x opened. row-booked calls o t opened x) ks r;

@@ -2,6 +2,7 @@
 -- the theorems on lists of the bank's calls speak of a session put away and taken up, whatever the requests are.
 use Prim.Native.Nat.{ℕ, _+_, _≤_, _<_}
 use mathlib.Core.Bool.{true, false}
+use mathlib.Core.Logic.{_⊎_}
 use mathlib.Core.List.{List, _∷_, _++_, List·Memᴰ as In}
 use mathlib.Core.Path.{_≡_}
 use lib.ListN.{length}
@@ -15,8 +16,10 @@ use Rattle.journal.specs.declared.event.Kind.the-variants as kind
 use Rattle.journal.specs.declared.event.OrderName.{OrderName}
 use Rattle.journal.specs.Records.{Recorded, RecordedEnd}
 use Rattle.journal.specs.Row.{Journal, rowOf}
+use Rattle.signers.specs.Signers.{isSigner, signerCount, isReleased}
 use Rattle.bank_state.specs.Clock.{advanced}
 use Rattle.bank_state.specs.Limits.{window, idleLimit}
+use Rattle.bank_state.specs.Rows.{countOf}
 use Rattle.bank_state.specs.State.{BankState, seriesOf}
 use Rattle.bank_verdicts.specs.declared.verdict.Direction.{Direction}
 use Rattle.bank_steps.specs.Lent.{stateOf}
@@ -50,6 +53,17 @@ use Rattle.bank_history.specs.ByReplies.{uploadsOpened, standing}
 use Rattle.bank_history.specs.Series.{InSeries}
 use Rattle.bank_history.specs.Journal.{journalOf, eventsIn}
 use Rattle.bank_history.specs.JournalOrders.{OpensOrder}
+use Rattle.bank_history.specs.Signatures.{signatureCount}
+use Rattle.bank_history.specs.Signers.{
+  WellMadeSigning,
+  Signs,
+  Signature,
+  BooksOrder,
+  InBook,
+  signersAt,
+  SignsOnly,
+  isSignedOf,
+}
 use Rattle.bank_resumed.specs.Calls.{
   HostCall,
   frameArrives,
@@ -92,7 +106,7 @@ pub record Resumed : Type 1 where
       ((calls : List BankCall) (e : Exchange) → Next calls e → P (pastOf calls .history) e) →
       (ks : List HostCall) (e : Exchange) → NextFrame ks e → P (historyLeft ks) e
 
--- ---- what it says after an allowed list, of the false economies, the series, the journal, the drops and the statuses
+-- ---- what it says after an allowed list, of the false economies, series, journal, signers, drops and statuses
 
 pub record ResumedBank (ks : List HostCall) : Type 0 where
   -- `FalseEconomies`: "An accepted opening's nonce is remembered, against all subscribers"
@@ -137,6 +151,30 @@ pub record ResumedBank (ks : List HostCall) : Type 0 where
   pub ended : {o : OrderName} {t : Bits128} → RecordedEnd o (leftBy ks .journal .row) →
       OpensOrder o t (historyLeft ks) → (more : List HostCall) → AllAllowed (more ++ ks) →
       (OpenIn (bankLeft (more ++ ks)) t → ⊥) × (ever isBooking t (historyLeft (more ++ ks)) ≡ false)
+  -- `SignersTold`: the signers of an order in the book are exactly the subscribers to whom a signing naming its owner,
+  -- type and number was answered 000000, in whatever part of the session, each after its booking
+  pub signers : {o : OrderName} {i : ℕ} → InBook (bankLeft ks) o i → (s : ℕ) →
+      isSigner s (signersAt (bankLeft ks) i) ≡ true → Signature o s (historyLeft ks)
+  pub signed : {o : OrderName} {i : ℕ} → InBook (bankLeft ks) o i → (s : ℕ) → Signature o s (historyLeft ks) →
+      isSigner s (signersAt (bankLeft ks) i) ≡ true
+  pub bookedBefore : {o : OrderName} {s : ℕ} (x : Signature o s (historyLeft ks)) → BooksOrder o (x .before)
+  -- their number is the one printed and that of the order's events, and from two on it is released
+  pub count : {o : OrderName} {i : ℕ} → InBook (bankLeft ks) o i →
+      signerCount (signersAt (bankLeft ks) i) ≡ signatureCount o (historyLeft ks)
+  pub signedEvents : (o : OrderName) →
+      countOf (isSignedOf o) (eventsIn (historyLeft ks)) ≡ signatureCount o (historyLeft ks)
+  pub released : {o : OrderName} {i : ℕ} → InBook (bankLeft ks) o i →
+      isReleased (signersAt (bankLeft ks) i) ≡ true → 2 ≤ signatureCount o (historyLeft ks)
+  pub unreleased : {o : OrderName} {i : ℕ} → InBook (bankLeft ks) o i →
+      isReleased (signersAt (bankLeft ks) i) ≡ false → signatureCount o (historyLeft ks) ≤ 1
+  -- an accepted signing changes nothing but clock, drops, nonces and that order's signers
+  pub signsOnly : {e : Exchange} (n : NextFrame ks e) → Signs e →
+      SignsOnly e (advanced (n .input .time) (bankLeft ks)) (bankLeft (frameArrives (n .lent) (n .input) ∷ ks))
+  -- "its nonce is remembered", among those of the openings
+  pub signedReplay : {e f : Exchange} {g : List Exchange} {t : Bits128} → NextFrame ks e → Stands f g (historyLeft ks) →
+      (WellMadeSigning e × (Signs f ⊎ Opens t f)) ⊎ (WellMadeOpening e × Signs f) →
+      nonce (e .request) ≡ nonce (f .request) → e .clock ≤ timestamp (f .request) + window →
+      RefusedWith code.MessageReplay e
   -- `Drops` and the statuses: open in the bank exactly when open by requests, replies and clocks
   pub told : (t : Bits128) (d : Direction) (s last : ℕ) → OpenAs (bankLeft ks) t d s last →
       standing t (historyLeft ks) ≡ Open d s last

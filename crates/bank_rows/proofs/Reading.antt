@@ -35,6 +35,7 @@ use Rattle.bank_rows.specs.Layout.{
   placeAttempts,
   placeLast,
   placeLength,
+  placeSigners,
   placeWidth,
   placesSize,
   downloadsAt,
@@ -90,6 +91,7 @@ placeFrom s at = record {
   attempts = getD s (at + placeAttempts) 0;
   last = getD s (at + placeLast) 0;
   length = getD s (at + placeLength) 0;
+  signers = getD s (at + placeSigners) 0;
 }
 
 module _ (s : List ℕ) where
@@ -127,6 +129,7 @@ module _ (s : List ℕ) where
           col placeAttempts (omega arith),
           col placeLast (omega arith),
           col placeLength (omega arith),
+          col placeSigners (omega arith),
         )
 
     pub open-read : isOpen (placeAt (bankOf s) i .used) ≡ eqb (getD s (at + placeUse) 0) 1

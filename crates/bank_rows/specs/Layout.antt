@@ -58,8 +58,11 @@ placeLast = 8
 abbrev pub placeLength : ℕ
 placeLength = 9
 
+abbrev pub placeSigners : ℕ
+placeSigners = 10
+
 abbrev pub placeWidth : ℕ
-placeWidth = 10
+placeWidth = 11
 
 abbrev pub placesSize : ℕ
 placesSize = placeWidth * placeCount

@@ -24,6 +24,7 @@ use Rattle.bank_rows.specs.Layout.{
   placeAttempts,
   placeLast,
   placeLength,
+  placeSigners,
   downloadHigh,
   downloadLow,
   downloadSubscriber,
@@ -61,12 +62,13 @@ placeOf s = record {
   attempts = getD s placeAttempts 0;
   last = getD s placeLast 0;
   length = getD s placeLength 0;
+  signers = getD s placeSigners 0;
 }
 
 abbrev pub placeRow : Place → List ℕ
 placeRow p =
     numberOfUse (p .used) ∷ p .transaction .high ∷ p .transaction .low ∷ p .subscriber ∷ p .number ∷ p .segments
-    ∷ p .taken ∷ p .attempts ∷ p .last ∷ p .length ∷ []
+    ∷ p .taken ∷ p .attempts ∷ p .last ∷ p .length ∷ p .signers ∷ []
 
 abbrev pub downloadOf : List ℕ → Download
 downloadOf s = record {

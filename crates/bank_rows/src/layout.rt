@@ -41,7 +41,9 @@ pub const PLACE_LAST: usize = 8;
 
 pub const PLACE_LENGTH: usize = 9;
 
-pub const PLACE_WIDTH: usize = 10;
+pub const PLACE_SIGNERS: usize = 10;
+
+pub const PLACE_WIDTH: usize = 11;
 
 pub const PLACES_SIZE: usize = PLACE_WIDTH * PLACE_COUNT;
 

@@ -6,6 +6,7 @@ use crate::layout::PLACE_LENGTH;
 use crate::layout::PLACE_LOW;
 use crate::layout::PLACE_NUMBER;
 use crate::layout::PLACE_SEGMENTS;
+use crate::layout::PLACE_SIGNERS;
 use crate::layout::PLACE_SUBSCRIBER;
 use crate::layout::PLACE_TAKEN;
 use crate::layout::PLACE_USE;
@@ -80,6 +81,7 @@ pub fn place_at(rows: &[u64], i: usize) -> Place
         attempts: rows[at + PLACE_ATTEMPTS],
         last: rows[at + PLACE_LAST],
         length: rows[at + PLACE_LENGTH],
+        signers: rows[at + PLACE_SIGNERS],
     }
 }
 
@@ -100,6 +102,7 @@ pub fn set_place(rows: &mut [u64], i: usize, p: Place)
         p.attempts,
         p.last,
         p.length,
+        p.signers,
     ];
     put(rows, PLACES_AT + PLACE_WIDTH * i, &numbers);
 }

@@ -15,7 +15,7 @@ use Rattle.bank_state.specs.State.{Bank}
 use Rattle.bank_state.specs.declared.state.Download.{Download}
 use Rattle.bank_state.specs.declared.state.Place.{Place}
 use Rattle.bank_state.specs.Clock.{freed, dropUpload, dropUploads, endDownloads, atClock, advanced}
-use Rattle.bank_state.specs.Limits.{placeCount}
+use Rattle.bank_state.specs.Limits.{placeCount, allSigners}
 use Rattle.bank_state.specs.Search.{isOpen}
 use Rattle.bank_state.specs.State.{
   BankState,
@@ -63,6 +63,7 @@ module _ {b : Bank} (r : InRange b) where
   freed-range i = record {
     files = r .files;
     lengths = λ j h. freed-each (λ (p : Place). p .length ≤ fileBytes) (omega arith) (b .places) i j (r .lengths j h);
+    signers = λ j h. freed-each (λ (p : Place). p .signers ≤ allSigners) (omega arith) (b .places) i j (r .signers j h);
     few = each (λ (p : Place). p .segments ≤ maxSegments) (r .few);
     below = each (λ (p : Place). p .taken < p .segments) (r .below);
     largest = each (λ (p : Place). p .length ≤ p .taken * segmentBytes) (r .largest);
@@ -80,6 +81,7 @@ module _ {b : Bank} (r : InRange b) where
   ended-range which = record {
     files = r .files;
     lengths = r .lengths;
+    signers = r .signers;
     few = r .few;
     below = r .below;
     largest = r .largest;
@@ -100,6 +102,7 @@ module _ {b : Bank} (r : InRange b) where
       record {
         files = e .files;
         lengths = e .lengths;
+        signers = e .signers;
         few = e .few;
         below = e .below;
         largest = e .largest;

@@ -14,7 +14,7 @@ use Rattle.message.specs.Segments.{segmentsOf}
 use Rattle.bank_state.specs.State.{Bank}
 use Rattle.bank_state.specs.declared.state.Download.{Download}
 use Rattle.bank_state.specs.declared.state.Place.{Place}
-use Rattle.bank_state.specs.Limits.{placeCount, nonceCount}
+use Rattle.bank_state.specs.Limits.{placeCount, nonceCount, allSigners}
 use Rattle.bank_state.specs.Search.{isOpen}
 use Rattle.bank_state.specs.State.{noPlace, placeAt, downloadAt, fileLength}
 use Rattle.bank_rows.specs.Layout.{
@@ -24,6 +24,7 @@ use Rattle.bank_rows.specs.Layout.{
   placeSegments,
   placeTaken,
   placeLength,
+  placeSigners,
   placeWidth,
   downloadsAt,
   downloadWidth,
@@ -68,10 +69,11 @@ module _ (s : List ℕ) (at : ℕ) where
       rw (le-leb size fileBytes (omega arith))
 
   -- the segments of an open upload bound its length
-  pub bounded-place : getD s (at + placeUse) 0 ≡ 1 → isSoundUpload s at
+  pub bounded-place : getD s (at + placeUse) 0 ≡ 1 → getD s (at + placeSigners) 0 ≤ allSigners → isSoundUpload s at
       ≡ (leb (getD s (at + placeUse) 0) 2
-      && (leb (getD s (at + placeLength) 0) fileBytes && cond (eqb (getD s (at + placeUse) 0) 1) (isSoundUpload s at) true))
-  bounded-place e = rw e (sym (short-at (isSoundUpload s at) refl))
+      && (leb (getD s (at + placeSigners) 0) allSigners
+      && (leb (getD s (at + placeLength) 0) fileBytes && cond (eqb (getD s (at + placeUse) 0) 1) (isSoundUpload s at) true)))
+  bounded-place e h = rw (e, le-leb _ _ h) (sym (short-at (isSoundUpload s at) refl))
 
 -- the numbers of an open upload, and of an open download where the mailboxes' files have these lengths
 abbrev UploadRange : Place → Type 0
@@ -113,13 +115,15 @@ module _ (s : List ℕ) (e : isSound s ≡ true) where
     abbrev at : ℕ
     at = placesAt + placeWidth * i
 
-    place-tests : (getD s (at + placeUse) 0 ≤ 2) × (getD s (at + placeLength) 0 ≤ fileBytes)
+    place-tests : (getD s (at + placeUse) 0 ≤ 2) × (getD s (at + placeSigners) 0 ≤ allSigners)
+        × (getD s (at + placeLength) 0 ≤ fileBytes)
         × (eqb (getD s (at + placeUse) 0) 1 ≡ true → isSoundUpload s at ≡ true)
     place-tests =
         let opens : Bool = eqb (getD s (at + placeUse) 0) 1 in
         let a = and-true (leb (getD s (at + placeUse) 0) 2) _ (all-holds (isSoundPlace s) placeCount (tests .4) i h) in
-        let b = and-true (leb (getD s (at + placeLength) 0) fileBytes) (cond opens (isSoundUpload s at) true) (a .1) in
-        (leb-true _ _ (a .0), leb-true _ _ (b .0), only-true opens (isSoundUpload s at) (b .1))
+        let b = and-true (leb (getD s (at + placeSigners) 0) allSigners) _ (a .1) in
+        let c = and-true (leb (getD s (at + placeLength) 0) fileBytes) (cond opens (isSoundUpload s at) true) (b .1) in
+        (leb-true _ _ (a .0), leb-true _ _ (b .0), leb-true _ _ (c .0), only-true opens (isSoundUpload s at) (c .1))
 
   download-tests : (i : ℕ) → i < downloadCountOf s
       → DownloadRange (bankOf s .files) (downloadFrom s (downloadsAt + downloadWidth * i))
@@ -158,7 +162,7 @@ module _ (s : List ℕ) (e : isSound s ≡ true) where
   upload-range i o =
       let h = open-place i (ltb i placeCount) refl o in
       subst UploadRange (sym (place-read s i h))
-      (upload-tests (at i h) (place-tests i h .2 (sym (open-read s i h) ∙ o)))
+      (upload-tests (at i h) (place-tests i h .3 (sym (open-read s i h) ∙ o)))
 
   download-range : (i : ℕ) → downloadAt (bankOf s) i .used ≡ true
       → DownloadRange (bankOf s .files) (downloadAt (bankOf s) i)
@@ -170,7 +174,8 @@ module _ (s : List ℕ) (e : isSound s ≡ true) where
   pub sound-range : InRange (bankOf s)
   sound-range = record {
     files = λ i h. rw (← file-read s i h) (leb-true _ _ (all-holds (isSoundFile s) placeCount (tests .3) i h));
-    lengths = λ i h. rw (ap (λ (p : Place). p .length) (place-read s i h)) (place-tests i h .1);
+    lengths = λ i h. rw (ap (λ (p : Place). p .length) (place-read s i h)) (place-tests i h .2);
+    signers = λ i h. rw (ap (λ (p : Place). p .signers) (place-read s i h)) (place-tests i h .1);
     few = λ i o. upload-range i o .0;
     below = λ i o. upload-range i o .1;
     largest = λ i o. upload-range i o .2;
@@ -196,11 +201,13 @@ module _ (s : List ℕ) (l : Laid s) (r : InRange (bankOf s)) where
       let u : getD s (at + placeUse) 0 ≤ 2 = rw (add-assoc placesAt (placeWidth * i) placeUse) (l .uses i h) in
       let n : getD s (at + placeLength) 0 ≤ fileBytes =
       rw (ap (λ (p : Place). p .length) (place-read s i h)) at (r .lengths i h) in
+      let m : getD s (at + placeSigners) 0 ≤ allSigners =
+      rw (ap (λ (p : Place). p .signers) (place-read s i h)) at (r .signers i h) in
       let open-passes : opens ≡ true → isSoundUpload s at ≡ true =
       λ k.
       let o = open-read s i h ∙ k in
       upload-passes at (subst UploadRange (place-read s i h) (r .few i o, r .below i o, r .largest i o)) in
-      rw (le-leb _ _ u, le-leb _ _ n) (true-only opens (isSoundUpload s at) open-passes)
+      rw (le-leb _ _ u, le-leb _ _ m, le-leb _ _ n) (true-only opens (isSoundUpload s at) open-passes)
 
   download-passes : (i : ℕ) → i < downloadCountOf s → isSoundDownload s i ≡ true
   download-passes i h =

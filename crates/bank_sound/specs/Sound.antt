@@ -8,7 +8,7 @@ use lib.ListN.{length, getD}
 use Rattle.message.specs.Limits.{fileBytes, segmentBytes, maxSegments, subscribers}
 use Rattle.message.specs.Segments.{segmentsOf}
 use Rattle.bank_state.specs.State.{Bank}
-use Rattle.bank_state.specs.Limits.{placeCount, nonceCount}
+use Rattle.bank_state.specs.Limits.{placeCount, nonceCount, allSigners}
 use Rattle.bank_state.specs.Search.{isOpen}
 use Rattle.bank_state.specs.State.{placeAt, downloadAt, fileLength}
 use Rattle.bank_rows.specs.Layout.{
@@ -18,6 +18,7 @@ use Rattle.bank_rows.specs.Layout.{
   placeSegments,
   placeTaken,
   placeLength,
+  placeSigners,
   placeWidth,
   downloadsAt,
   downloadSubscriber,
@@ -39,13 +40,15 @@ isSoundUpload s at =
     && (ltb (getD s (at + placeTaken) 0) (getD s (at + placeSegments) 0)
     && leb (getD s (at + placeLength) 0) (getD s (at + placeTaken) 0 * segmentBytes))
 
--- free, open or booked; "8 order places", each of a file's bytes; and what is open
+-- free, open or booked; "Signers are a set over the 8 subscribers"; "8 order places", each of a file's bytes; and what
+-- is open
 abbrev pub isSoundPlace : List ℕ → ℕ → Bool
 isSoundPlace s i =
     let at = placesAt + placeWidth * i in
     leb (getD s (at + placeUse) 0) 2
+    && (leb (getD s (at + placeSigners) 0) allSigners
     && (leb (getD s (at + placeLength) 0) fileBytes
-    && cond (eqb (getD s (at + placeUse) 0) 1) (isSoundUpload s at) true)
+    && cond (eqb (getD s (at + placeUse) 0) 1) (isSoundUpload s at) true))
 
 -- "Subscribers are 1 to 8, each with the mailbox of that number"; at most the segments of that mailbox delivered
 abbrev pub isSoundDownload : List ℕ → ℕ → Bool
@@ -70,6 +73,8 @@ pub record InRange (b : Bank) : Type 0 where
   -- "8 order places and 8 mailboxes", each of a file's bytes
   pub files : (i : ℕ) → i < placeCount → getD (b .files) i 0 ≤ fileBytes
   pub lengths : (i : ℕ) → i < placeCount → placeAt b i .length ≤ fileBytes
+  -- "Signers are a set over the 8 subscribers"
+  pub signers : (i : ℕ) → i < placeCount → placeAt b i .signers ≤ allSigners
   -- an open upload, "With k segments taken of N": N is not too many
   pub few : (i : ℕ) → isOpen (placeAt b i .used) ≡ true → placeAt b i .segments ≤ maxSegments
   -- "Segment N books the order": k is below N

@@ -8,6 +8,7 @@ use bank_rows::layout::FILES_AT;
 use bank_rows::layout::NONCE_COUNT_AT;
 use bank_rows::layout::PLACE_LENGTH;
 use bank_rows::layout::PLACE_SEGMENTS;
+use bank_rows::layout::PLACE_SIGNERS;
 use bank_rows::layout::PLACE_TAKEN;
 use bank_rows::layout::PLACE_USE;
 use bank_rows::layout::PLACE_WIDTH;
@@ -15,6 +16,7 @@ use bank_rows::layout::PLACES_AT;
 use bank_rows::layout::STATE_SIZE;
 use bank_rows::places::BOOKED;
 use bank_rows::places::OPEN;
+use bank_state::limits::ALL_SIGNERS;
 use bank_state::limits::NONCE_COUNT;
 use bank_state::limits::PLACE_COUNT;
 use message::limits::FILE_BYTES;
@@ -68,6 +70,9 @@ fn is_sound_place(rows: &[u64], i: usize) -> bool
 {
     let at = PLACES_AT + PLACE_WIDTH * i;
     if BOOKED < rows[at + PLACE_USE] {
+        return false;
+    }
+    if ALL_SIGNERS < rows[at + PLACE_SIGNERS] {
         return false;
     }
     if rows[at + PLACE_USE] == OPEN {

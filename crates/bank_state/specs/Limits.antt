@@ -51,3 +51,7 @@ maxOpenings = 4294967296
 -- "The limit of 1,213,056 ... holds per series"
 abbrev pub seriesLimit : ℕ
 seriesLimit = 1213056
+
+-- card 8: "Signers are a set over the 8 subscribers", a bit for each; the largest set is that of all
+abbrev pub allSigners : ℕ
+allSigners = 255

@@ -50,6 +50,7 @@ noPlace = record {
   attempts = 0;
   last = 0;
   length = 0;
+  signers = 0;
 }
 
 abbrev pub noDownload : Download

@@ -37,3 +37,6 @@ pub const MAX_OPENINGS: u64 = 4294967296;
 
 // Accepted uploads of one series: the order numbers A000 to ZZZZ.
 pub const SERIES_LIMIT: u64 = 1213056;
+
+// The set of all eight subscribers as signers, the largest one: a bit for each.
+pub const ALL_SIGNERS: u64 = 255;

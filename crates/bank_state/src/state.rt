@@ -12,7 +12,8 @@ pub enum Use {
 }
 
 // An order place: an open upload or a booked order. `number` is its order number in its series, `taken` counts its
-// segments taken, `last` is the clock at its last fitting request, `length` counts its bytes.
+// segments taken, `last` is the clock at its last fitting request, `length` counts its bytes; `signers` is the set of a
+// booked order's signers, of which subscriber s is the bit of value 2 to the power s - 1, and 0 of any other place.
 pub struct Place {
     pub used: Use,
     pub transaction: Bits128,
@@ -23,6 +24,7 @@ pub struct Place {
     pub attempts: u64,
     pub last: u64,
     pub length: u64,
+    pub signers: u64,
 }
 
 // An open download of its subscriber's mailbox.
@@ -52,5 +54,6 @@ pub fn no_place() -> Place
         attempts: 0,
         last: 0,
         length: 0,
+        signers: 0,
     }
 }

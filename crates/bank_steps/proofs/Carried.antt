@@ -1,5 +1,6 @@
 -- What a verdict on a request leaves alone, and what it does where its transaction is open. Assumes nothing.
 use Prim.Native.Nat.{ℕ, _<_, _≤_}
+use mathlib.Core.Bool.{Bool, false}
 use mathlib.Core.List.{List, [], _∷_}
 use mathlib.Core.Path.{_≡_, refl, sym, ap, _∙_}
 use native.Mathlib.Omega.{arith}
@@ -9,6 +10,7 @@ use denote.Enum.Declared.{tagOf}
 use Rattle.frame_table.specs.declared.fields.Bits128.{Bits128}
 use Rattle.frame_table.specs.declared.fields.Fields.{Fields}
 use Rattle.frame_table.specs.Names.{subscriber}
+use Rattle.octets.proofs.Tests.{never}
 use Rattle.message.specs.declared.codes.ReturnCode.the-variants as code
 use Rattle.bank_state.specs.State.{Bank}
 use Rattle.bank_state.specs.declared.state.Download.{Download}
@@ -26,29 +28,47 @@ use Rattle.bank_verdicts.specs.declared.verdict.TransactionRequest.{Transaction
 use Rattle.bank_verdicts.specs.declared.verdict.UploadAction.{UploadAction}
 use Rattle.bank_verdicts.specs.declared.verdict.Verdict.{Verdict}
 use Rattle.bank_verdicts.specs.declared.verdict.Verdict.the-variants as verdict
-use Rattle.bank_verdicts.specs.Judgement.{transactionOf, mailboxSegments, accepted, judgeOpening}
+use Rattle.bank_verdicts.specs.Judgement.{transactionOf, mailboxSegments, accepted, judgeOpening, judgeSigning}
 use Rattle.bank_verdicts.specs.Judgement.{judgeUpload, judgeDownload, uploadAt, downloadOf, judgeOpen, judgeTransaction}
 use Rattle.bank_verdicts.specs.Refusals.{notOpen, transactionRows}
 use Rattle.bank_verdicts.proofs.Sound.{OpeningSound, UploadSound, DownloadSound}
 use Rattle.bank_verdicts.proofs.Sound.{judged-opening, judged-upload, judged-download}
 use Rattle.bank_verdicts.proofs.Sound as sound
+use Rattle.bank_verdicts.proofs.Signing.{isActed, isSigned}
 use Rattle.bank_verdicts.proofs.verdict.DownloadAction as actions
 use Rattle.bank_verdicts.proofs.verdict.Verdict.{the-type}
 use Rattle.bank_openings.specs.Openings.{openUpload, openDownload}
+use Rattle.bank_signing.specs.Signings.{sign}
 use Rattle.bank_uploads.specs.Uploads.{UploadStep, uploadStep}
 use Rattle.bank_steps.specs.Steps.{onUpload, uploadActs, staying, onDownload, downloadActs, carryOut}
 use Rattle.bank_steps.specs.Steps.{uploadVerdict, downloadVerdict}
 
--- the verdicts that are of no transaction
-abbrev pub ofNoneKeys : List ℕ
-ofNoneKeys = 0 ∷ 1 ∷ []
+-- a verdict that is of no transaction and signs nothing changes nothing
+pub of-none : (v : Verdict) (w : BankState) (q : Fields) (d : List ℕ) → isActed v ≡ false → isSigned v ≡ false
+    → w ≡ carryOut v w q d
+of-none verdict.Unreadable w q d a s = refl
+of-none (verdict.Refused c) w q d a s = refl
+of-none (verdict.Of t x) w q d a s = never (sym a)
+of-none (verdict.Signed n added) w q d a s = never (sym s)
 
--- they change nothing
-pub of-none : (v : Verdict) (w : BankState) (q : Fields) (d : List ℕ) →
-    OneOf ofNoneKeys (tagOf the-type v) → w ≡ carryOut v w q d
-of-none verdict.Unreadable w q d k = refl
-of-none (verdict.Refused c) w q d k = refl
-of-none (verdict.Of t a) w q d k = absurd (miss ofNoneKeys 2 tt k)
+-- the verdicts that are of no transaction, and those that sign nothing
+abbrev unactedKeys : List ℕ
+unactedKeys = 0 ∷ 1 ∷ 3 ∷ []
+
+pub unacted : (v : Verdict) → OneOf unactedKeys (tagOf the-type v) → isActed v ≡ false
+unacted verdict.Unreadable k = refl
+unacted (verdict.Refused c) k = refl
+unacted (verdict.Of t a) k = absurd (miss unactedKeys 2 tt k)
+unacted (verdict.Signed n added) k = refl
+
+abbrev unsignedKeys : List ℕ
+unsignedKeys = 0 ∷ 1 ∷ 2 ∷ []
+
+pub unsigned : (v : Verdict) → OneOf unsignedKeys (tagOf the-type v) → isSigned v ≡ false
+unsigned verdict.Unreadable k = refl
+unsigned (verdict.Refused c) k = refl
+unsigned (verdict.Of t a) k = refl
+unsigned (verdict.Signed n added) k = absurd (miss unsignedKeys 3 tt k)
 
 -- ---- an opening of a transaction
 
@@ -82,6 +102,13 @@ module _ (context : Context) (b : Bank) (q : Fields) {t : Bits128} {a : Action} 
         let same : t ≡ transactionOf (context .prefix) b = cc in
         ap (λ (id : Bits128). bankState (openDownload id q b) o m) same
         ∙ sym (ap (λ (v : Verdict). carryOut v (bankState b o m) q d) known)
+
+-- ---- a signing that signs
+
+pub signing-carried : (b : Bank) (q : Fields) (o m d : List ℕ) {n : ℕ} {added : Bool}
+    → judgeSigning b q ≡ verdict.Signed n added
+    → bankState (sign q b) o m ≡ carryOut (judgeSigning b q) (bankState b o m) q d
+signing-carried b q o m d e = sym (ap (λ (v : Verdict). carryOut v (bankState b o m) q d) e)
 
 -- ---- a request to an open transaction opens none
 

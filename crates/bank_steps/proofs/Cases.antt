@@ -15,7 +15,7 @@ use Rattle.frame_table.specs.declared.table.Form.the-variants.{NoForm, Request,
 use Rattle.frame_table.specs.declared.table.RequestForm.{RequestForm}
 use Rattle.frame_table.specs.declared.table.RequestForm.the-variants as requests
 use Rattle.frame_table.specs.Forms as forms
-use Rattle.frame_table.specs.Names.{subscriber, transaction, segments, form}
+use Rattle.frame_table.specs.Names.{subscriber, transaction, segments, orderNumber, owner, form}
 use Rattle.message.specs.declared.codes.ReturnCode.{ReturnCode}
 use Rattle.message.specs.declared.codes.ReturnCode.the-variants as code
 use Rattle.message.proofs.Verdicts.{by-test, and-false}
@@ -35,12 +35,14 @@ use Rattle.bank_verdicts.specs.declared.verdict.DownloadAction.the-variants as 
 use Rattle.bank_verdicts.specs.declared.verdict.Action.the-variants as action
 use Rattle.bank_verdicts.specs.declared.verdict.Verdict.{Verdict}
 use Rattle.bank_verdicts.specs.declared.verdict.Verdict.the-variants as verdict
-use Rattle.bank_verdicts.specs.Refusals.{notOpen, cancels}
+use Rattle.bank_verdicts.specs.Refusals.{isOrder, findOrder, notOpen, cancels}
 use Rattle.bank_verdicts.specs.Judgement.{
   transactionOf,
   mailboxSegments,
   uploadAt,
   downloadOf,
+  orderAt,
+  signed,
   judgeOpen,
   judgeTransaction,
   judgeRequest,
@@ -67,6 +69,8 @@ use Rattle.bank_verdicts.proofs.Sound.{
   judged-download,
 }
 use Rattle.bank_verdicts.proofs.Sound as opening
+use Rattle.bank_verdicts.proofs.Signing.{Signable, SigningSound, judged-signing}
+use Rattle.bank_verdicts.proofs.Signing as signing
 
 -- the form of a request to a transaction
 abbrev pub requestForm : TransactionRequest → Form
@@ -89,6 +93,13 @@ pub record ToDownload (w : BankState) (q : Fields) (d : List ℕ) (r : Transacti
   pub inside : downloadOf (w .bank) q < placeCount
   pub found : isDownload (subscriber q) (transaction q) (downloadAt (w .bank) (downloadOf (w .bank) q)) ≡ true
   pub sound : DownloadSound r (downloadAt (w .bank) (downloadOf (w .bank) q)) (mailboxSegments (subscriber q) (w .bank)) q a
+
+-- a signing of the booked order that is found
+pub record ToOrder (w : BankState) (q : Fields) (d : List ℕ) : Type 0 where
+  pub readable : Readable q (length d)
+  pub asked : form q ≡ forms.Signing
+  pub signable : Signable (w .bank) q
+  pub found : isOrder (owner q) (orderNumber q) (placeAt (w .bank) (orderAt (w .bank) q)) ≡ true
 
 -- what an action leaves of the upload that is found
 pub upload-acts : {w : BankState} {q : Fields} {d : List ℕ} {r : TransactionRequest} {a : UploadAction} (t : Bits128) → ToUpload w q d r a →
@@ -119,6 +130,7 @@ pub data Happens (first : ℕ) (w : BankState) (q : Fields) (d : List ℕ) : Ver
       Happens first w q d (verdict.Of (placeAt (w .bank) (uploadAt (w .bank) q) .transaction) (action.Upload a))
   toDownload : (r : TransactionRequest) (a : DownloadAction) → ToDownload w q d r a →
       Happens first w q d (verdict.Of (downloadAt (w .bank) (downloadOf (w .bank) q) .transaction) (action.Download a))
+  signs : ToOrder w q d → Happens first w q d (signed (w .bank) q)
 
 module _ (k : Context) (w : BankState) (q : Fields) (d : List ℕ) (rowed : length (w .bank .places) ≡ placeCount)
     (listed : length (w .bank .downloads) ≡ placeCount) where
@@ -177,12 +189,23 @@ module _ (k : Context) (w : BankState) (q : Fields) (d : List ℕ) (rowed : leng
   download-happens f a (opening.refused d c e) = refused c e
   download-happens f a (opening.download g n) = opensDownload f a g n
 
+  found-order : orderAt (w .bank) q < placeCount
+      → isOrder (owner q) (orderNumber q) (placeAt (w .bank) (orderAt (w .bank) q)) ≡ true
+  unfolding findOrder
+  found-order h = first-passes (isOrder (owner q) (orderNumber q)) (w .bank .places) _ (omega arith)
+
+  signing-happens : {v : Verdict} → form q ≡ forms.Signing → Readable q (length d) → SigningSound (w .bank) q v → Comes v
+  signing-happens f a (signing.unsigned c e) = refused c e
+  signing-happens f a (signing.signs g) =
+      signs (record { readable = a; asked = f; signable = g; found = found-order (g .inside) })
+
   request-happens : (x : RequestForm) → form q ≡ Request x → Readable q (length d) → Comes (judgeRequest x k (w .bank) q)
   request-happens requests.UploadOpening e a = upload-happens e a (judged-opening k (w .bank) q direction.Upload)
   request-happens requests.DownloadOpening e a = download-happens e a (judged-opening k (w .bank) q direction.Download)
   request-happens requests.UploadTransfer e a = transaction-happens asked.UploadTransfer a e
   request-happens requests.DownloadTransfer e a = transaction-happens asked.DownloadTransfer a e
   request-happens requests.Receipt e a = transaction-happens asked.Receipt a e
+  request-happens requests.Signing e a = signing-happens e a (judged-signing (w .bank) q)
 
   form-happens : (f : Form) → form q ≡ f → Readable q (length d) → Comes (judgeForm f k (w .bank) q)
   form-happens NoForm e a = unreadable

@@ -31,7 +31,10 @@ use Rattle.bank_verdicts.specs.declared.verdict.Verdict.{Verdict}
 use Rattle.bank_verdicts.specs.Judgement.{mailboxSegments, judgeOpening, judgeDownload, uploadAt, downloadOf, judge}
 use Rattle.bank_verdicts.proofs.Sound.{OpeningSound}
 use Rattle.bank_verdicts.proofs.Sound as sound
+use Rattle.bank_verdicts.proofs.Signing.{SigningSound}
+use Rattle.bank_verdicts.proofs.Signing as signing
 use Rattle.bank_openings.proofs.Opened.{accepted-room, held-upload, held-download}
+use Rattle.bank_signing.proofs.Signed.{held-signed}
 use Rattle.bank_downloads.specs.Downloads.{downloadAfter}
 use Rattle.bank_steps.specs.Steps.{staying, onDownload, carryOut, uploadVerdict, downloadVerdict}
 use Rattle.bank_steps.proofs.Carried.{upload-acts, download-acts}
@@ -105,6 +108,10 @@ module _ (b : Bank) (k : Held b) (q : Fields) where
     opening-held context dir v (sound.download acc full) told =
         held-download q b k (accepted-room context b q k direction.Download told) _
 
+    signing-held : (v : Verdict) → SigningSound b q v → P v
+    signing-held v (signing.unsigned c h) = k
+    signing-held v (signing.signs a) = held-signed q b k (a .memory)
+
     upload-held : (r : TransactionRequest) → P (uploadVerdict r (uploadAt b q) b q)
     upload-held r =
         let p = placeAt b (uploadAt b q) in
@@ -138,5 +145,6 @@ module _ (b : Bank) (k : Held b) (q : Fields) where
 
     pub held-judged : (context : Context) → P (judge context b q (length d))
     held-judged context =
-        judged-each context b q (length d) P k (λ c. k) (λ _. opening-held context) (λ _ r _. upload-held r)
+        judged-each context b q (length d) P k (λ c. k) (λ _. opening-held context) (λ _. signing-held)
+        (λ _ r _. upload-held r)
         (λ _ r h. download-held h r)

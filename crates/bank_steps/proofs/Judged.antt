@@ -22,16 +22,18 @@ use Rattle.bank_verdicts.specs.declared.verdict.TransactionRequest.{Transaction
 use Rattle.bank_verdicts.specs.declared.verdict.TransactionRequest.the-variants as asked
 use Rattle.bank_verdicts.specs.declared.verdict.Verdict.{Verdict}
 use Rattle.bank_verdicts.specs.declared.verdict.Verdict.the-variants as verdict
-use Rattle.bank_verdicts.specs.Judgement.{judgeOpening, uploadAt, downloadOf, judgeOpen, judgeTransaction}
+use Rattle.bank_verdicts.specs.Judgement.{judgeOpening, judgeSigning, uploadAt, downloadOf, judgeOpen, judgeTransaction}
 use Rattle.bank_verdicts.specs.Judgement.{judgeRequest, judgeForm, judge}
 use Rattle.bank_verdicts.specs.Refusals.{notOpen}
 use Rattle.bank_verdicts.proofs.Sound.{Readable, OpeningSound, judged-request, judged-opening, judged-transaction}
+use Rattle.bank_verdicts.proofs.Signing.{SigningSound, judged-signing}
 use Rattle.bank_steps.specs.Steps.{uploadVerdict, downloadVerdict}
 
 module _ (context : Context) (b : Bank) (q : Fields) (n : ℕ) (P : Verdict → Type 0) (unreadable : P verdict.Unreadable)
     (refused : (c : ReturnCode) → P (verdict.Refused c))
     (opening : Readable q n → (dir : Direction) (v : Verdict) → OpeningSound (context .prefix) b q dir v
     → judgeOpening dir context b q ≡ v → P v)
+    (signing : Readable q n → (v : Verdict) → SigningSound b q v → P v)
     (upload : Readable q n → (r : TransactionRequest) → uploadAt b q < placeCount
     → P (uploadVerdict r (uploadAt b q) b q))
     (download : Readable q n → (r : TransactionRequest) → downloadOf b q < placeCount
@@ -61,6 +63,7 @@ module _ (context : Context) (b : Bank) (q : Fields) (n : ℕ) (P : Verdict → 
   request-each k requests.UploadTransfer = transaction-each k asked.UploadTransfer
   request-each k requests.DownloadTransfer = transaction-each k asked.DownloadTransfer
   request-each k requests.Receipt = transaction-each k asked.Receipt
+  request-each k requests.Signing = signing k (judgeSigning b q) (judged-signing b q)
 
   form-each : Readable q n → (f : Form) → P (judgeForm f context b q)
   form-each k NoForm = unreadable

@@ -1,10 +1,9 @@
 -- The steps on lent rows: the rows after a step are those of the bank that the definition leaves. Assumes nothing.
 use Prim.Native.Nat.{ℕ, _-_}
+use mathlib.Core.Bool.{Bool, false}
 use mathlib.Core.List.{List}
 use mathlib.Core.Path.{_≡_, refl, sym, ap, _∙_}
 use lib.ListN.{set}
-use types.Run.{OneOf}
-use denote.Enum.Declared.{tagOf}
 use Rattle.frame_table.specs.declared.fields.Bits128.{Bits128}
 use Rattle.frame_table.specs.declared.fields.Fields.{Fields}
 use Rattle.frame_table.specs.Names.{subscriber}
@@ -24,13 +23,14 @@ use Rattle.bank_verdicts.specs.declared.verdict.Direction.the-variants as direc
 use Rattle.bank_verdicts.specs.declared.verdict.TransactionRequest.{TransactionRequest}
 use Rattle.bank_verdicts.specs.declared.verdict.Verdict.{Verdict}
 use Rattle.bank_verdicts.specs.declared.verdict.Verdict.the-variants as verdict
-use Rattle.bank_verdicts.specs.Judgement.{judgeOpening, uploadAt}
-use Rattle.bank_verdicts.proofs.verdict.Verdict.{the-type}
+use Rattle.bank_verdicts.specs.Judgement.{judgeOpening, judgeSigning, uploadAt}
+use Rattle.bank_verdicts.proofs.Signing.{isActed, isSigned}
 use Rattle.bank_openings.specs.Openings.{openUpload, openDownload}
+use Rattle.bank_signing.specs.Signings.{sign}
 use Rattle.bank_uploads.specs.Uploads.{UploadStep, uploadStep}
 use Rattle.bank_steps.specs.Steps.{uploadVerdict}
 use Rattle.bank_steps.specs.Lent.{lent, stateOf, keptIn, CarriedOut}
-use Rattle.bank_steps.proofs.Carried.{ofNoneKeys, of-none}
+use Rattle.bank_steps.proofs.Carried.{of-none, signing-carried}
 use Rattle.bank_steps.proofs.Carried.{upload-opened, download-opened, landed, upload-acts-at}
 
 pub lent-same : {r s o p m n : List ℕ} → r ≡ s → o ≡ p → m ≡ n → lent r o m ≡ lent s p n
@@ -41,11 +41,11 @@ lent-same x y z = rw (x, y, z)
 pub unchanged : (s : List ℕ) → Laid s → (o m : List ℕ) → lent s o m ≡ keptIn (lent s o m) (stateOf (lent s o m))
 unchanged s l o m = ap (λ (r : List ℕ). lent r o m) (sym (stored-own s l))
 
-pub none-carried : (v : Verdict) (s o m : List ℕ) (q : Fields) (d : List ℕ) → Laid s →
-    OneOf ofNoneKeys (tagOf the-type v) → CarriedOut v (lent s o m) q d v (lent s o m)
-none-carried v s o m q d l k = record {
+pub none-carried : (v : Verdict) (s o m : List ℕ) (q : Fields) (d : List ℕ) → Laid s → isActed v ≡ false
+    → isSigned v ≡ false → CarriedOut v (lent s o m) q d v (lent s o m)
+none-carried v s o m q d l x y = record {
   judged = refl;
-  done = unchanged s l o m ∙ ap (keptIn (lent s o m)) (of-none v (stateOf (lent s o m)) q d k);
+  done = unchanged s l o m ∙ ap (keptIn (lent s o m)) (of-none v (stateOf (lent s o m)) q d x y);
 }
 
 -- ---- an opening
@@ -71,6 +71,16 @@ module _ (s o m : List ℕ) (context : Context) (q : Fields) (d : List ℕ) {t :
     judged = sym told;
     done = lent-same f refl refl ∙ ap (keptIn (lent s o m)) (download-opened context (bankOf s) q o m d told);
   }
+
+-- ---- a signing
+
+pub signed-carried : (s o m : List ℕ) (q : Fields) (d : List ℕ) {r : Verdict} {n : ℕ} {added : Bool} {u : List ℕ}
+    → r ≡ judgeSigning (bankOf s) q → r ≡ verdict.Signed n added → u ≡ stored (sign q (bankOf s)) s
+    → CarriedOut (judgeSigning (bankOf s) q) (lent s o m) q d r (lent u o m)
+signed-carried s o m q d is told f = record {
+  judged = is;
+  done = lent-same f refl refl ∙ ap (keptIn (lent s o m)) (signing-carried (bankOf s) q o m d (sym is ∙ told));
+}
 
 -- ---- the open upload in place i
 

@@ -11,6 +11,7 @@ use Rattle.bank_verdicts.specs.declared.verdict.UploadAction.the-variants as up
 use Rattle.bank_verdicts.specs.declared.verdict.Verdict.{Verdict}
 use Rattle.bank_verdicts.specs.declared.verdict.Verdict.the-variants as verdict
 use Rattle.bank_openings.specs.Openings.{counted, moved, countedUpload, openUpload, openDownload}
+use Rattle.bank_signing.specs.Signings.{sign}
 use Rattle.bank_steps.specs.Steps.{carryOut}
 
 -- the series after a verdict on the request q: an accepted upload moves its subscriber's, and nothing else moves any
@@ -23,10 +24,11 @@ seriesAfter (verdict.Of t (action.Upload up.TookLast)) q l = l
 seriesAfter (verdict.Of t (action.Upload (up.Point k))) q l = l
 seriesAfter (verdict.Of t (action.Upload (up.Cancelled c))) q l = l
 seriesAfter (verdict.Of t (action.Download a)) q l = l
+seriesAfter (verdict.Signed n added) q l = l
 
 module _ (w : BankState) (q : Fields) (d : List ℕ) where
   pub series-after : (v : Verdict) → carryOut v w q d .bank .series ≡ seriesAfter v q (w .bank .series)
-  unfolding openUpload openDownload countedUpload counted
+  unfolding openUpload openDownload countedUpload counted sign
   series-after verdict.Unreadable = refl
   series-after (verdict.Refused c) = refl
   series-after (verdict.Of t (action.Upload (up.Opened n))) = refl
@@ -41,3 +43,4 @@ module _ (w : BankState) (q : Fields) (d : List ℕ) where
   series-after (verdict.Of t (action.Download down.Cancelled)) = refl
   series-after (verdict.Of t (action.Download down.Confirmed)) = refl
   series-after (verdict.Of t (action.Download down.Declined)) = refl
+  series-after (verdict.Signed n added) = refl

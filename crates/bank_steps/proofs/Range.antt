@@ -19,7 +19,7 @@ use Rattle.bank_state.specs.State.{Bank}
 use Rattle.bank_state.specs.declared.state.Download.{Download}
 use Rattle.bank_state.specs.declared.state.Place.{Place}
 use Rattle.bank_state.specs.Clock.{ends}
-use Rattle.bank_state.specs.Limits.{placeCount}
+use Rattle.bank_state.specs.Limits.{placeCount, allSigners}
 use Rattle.bank_state.specs.Search.{isOpen, freePlace, freeDownload}
 use Rattle.bank_state.specs.State.{BankState, bankState, noPlace, noDownload, placeAt, downloadAt, fileLength}
 use Rattle.bank_state.specs.State.{withPlace, withDownload, withFiles}
@@ -33,11 +33,15 @@ use Rattle.bank_verdicts.specs.declared.verdict.DownloadAction.{DownloadAction}
 use Rattle.bank_verdicts.specs.declared.verdict.TransactionRequest.{TransactionRequest}
 use Rattle.bank_verdicts.specs.declared.verdict.UploadAction.{UploadAction}
 use Rattle.bank_verdicts.specs.declared.verdict.Verdict.{Verdict}
-use Rattle.bank_verdicts.specs.Judgement.{mailboxSegments, judgeDownload, uploadAt, downloadOf, judge}
+use Rattle.bank_verdicts.specs.Judgement.{mailboxSegments, orderAt, judgeDownload, uploadAt, downloadOf, judge}
 use Rattle.bank_verdicts.proofs.Sound.{Readable, OpeningSound, UploadSound, DownloadSound}
 use Rattle.bank_verdicts.proofs.Sound.{judged-upload, judged-download}
 use Rattle.bank_verdicts.proofs.Sound as sound
-use Rattle.bank_openings.specs.Openings.{counted, countedUpload, openUpload, openDownload}
+use Rattle.bank_verdicts.proofs.Signing.{SigningSound}
+use Rattle.bank_verdicts.proofs.Signing as signing
+use Rattle.bank_openings.specs.Openings.{remembered, counted, countedUpload, openUpload, openDownload}
+use Rattle.bank_signing.specs.Signings.{signedPlace, sign}
+use Rattle.bank_signing.proofs.Signed.{signers-few}
 use Rattle.bank_downloads.specs.Downloads.{downloadAfter}
 use Rattle.bank_uploads.specs.Uploads.{grown, booked, attempted, placeAfter}
 use Rattle.bank_steps.specs.Steps.{emptied, onDownload, carryOut, uploadVerdict, downloadVerdict}
@@ -59,6 +63,7 @@ module _ {A : Type 0} (P : A → Type 0) (none new : A) (x : P new) where
 -- a place in range
 record PlaceRange (p : Place) : Type 0 where
   size : p .length ≤ fileBytes
+  signers : p .signers ≤ allSigners
   few : isOpen (p .used) ≡ true → p .segments ≤ maxSegments
   below : isOpen (p .used) ≡ true → p .taken < p .segments
   largest : isOpen (p .used) ≡ true → p .length ≤ p .taken * segmentBytes
@@ -70,7 +75,7 @@ record DownloadRange (files : List ℕ) (e : Download) : Type 0 where
   within : e .delivered ≤ segmentsOf (fileLength (e .subscriber) files)
 
 freed-range : PlaceRange noPlace
-freed-range = record { size = omega arith; few = never; below = never; largest = never }
+freed-range = record { size = omega arith; signers = omega arith; few = never; below = never; largest = never }
 
 module _ {b : Bank} (r : InRange b) where
   place-range : (i : ℕ) (p : Place) → PlaceRange p → InRange (withPlace i p b)
@@ -78,6 +83,8 @@ module _ {b : Bank} (r : InRange b) where
     files = r .files;
     lengths =
         λ j h. set-each (λ (x : Place). x .length ≤ fileBytes) noPlace p (k .size) (b .places) i j (r .lengths j h);
+    signers =
+        λ j h. set-each (λ (x : Place). x .signers ≤ allSigners) noPlace p (k .signers) (b .places) i j (r .signers j h);
     few = each (λ (x : Place). x .segments ≤ maxSegments) (k .few) (r .few);
     below = each (λ (x : Place). x .taken < x .segments) (k .below) (r .below);
     largest = each (λ (x : Place). x .length ≤ x .taken * segmentBytes) (k .largest) (r .largest);
@@ -96,6 +103,7 @@ module _ {b : Bank} (r : InRange b) where
   download-range j e k = record {
     files = r .files;
     lengths = r .lengths;
+    signers = r .signers;
     few = r .few;
     below = r .below;
     largest = r .largest;
@@ -117,6 +125,7 @@ module _ {b : Bank} (r : InRange b) where
   counted-range q = record {
     files = r .files;
     lengths = r .lengths;
+    signers = r .signers;
     few = r .few;
     below = r .below;
     largest = r .largest;
@@ -130,12 +139,37 @@ module _ {b : Bank} (r : InRange b) where
   counted-upload-range q = record {
     files = r .files;
     lengths = r .lengths;
+    signers = r .signers;
     few = r .few;
     below = r .below;
     largest = r .largest;
     known = r .known;
     most = r .most;
     within = r .within;
+  }
+
+  -- ---- a signing
+
+  remembered-range : (q : Fields) → InRange (remembered q b)
+  remembered-range q = record {
+    files = r .files;
+    lengths = r .lengths;
+    signers = r .signers;
+    few = r .few;
+    below = r .below;
+    largest = r .largest;
+    known = r .known;
+    most = r .most;
+    within = r .within;
+  }
+
+  signed-place-range : (i s : ℕ) → i < placeCount → PlaceRange (signedPlace s (placeAt b i))
+  signed-place-range i s h = record {
+    size = r .lengths i h;
+    signers = signers-few s (placeAt b i .signers) (r .signers i h);
+    few = r .few i;
+    below = r .below i;
+    largest = r .largest i;
   }
 
   -- ---- an open upload
@@ -146,14 +180,15 @@ module _ {b : Bank} (r : InRange b) where
   unfolding grown booked attempted
   upload-range i n clock h o short t q a (sound.took fits other mark) = record {
     size = upload-room r i n o short;
+    signers = r .signers i h;
     few = λ _. r .few i o;
     below = λ _. omega (arith, r .below i o, fits .next, other);
     largest = λ _. omega (arith, r .largest i o);
   }
   upload-range i n clock h o short t q a (sound.tookLast fits last mark) =
-      record { size = upload-room r i n o short; few = never; below = never; largest = never }
+      record { size = upload-room r i n o short; signers = omega arith; few = never; below = never; largest = never }
   upload-range i n clock h o short t q a (sound.uploadPoint none few) =
-      record { size = r .lengths i h; few = r .few i; below = r .below i; largest = r .largest i }
+      record { size = r .lengths i h; signers = r .signers i h; few = r .few i; below = r .below i; largest = r .largest i }
   upload-range i n clock h o short t q a (sound.abort none many) = freed-range
   upload-range i n clock h o short t q a (sound.underrun fits below mark) = freed-range
   upload-range i n clock h o short t q a (sound.exceeded fits last mark) = freed-range
@@ -188,6 +223,7 @@ module _ {b : Bank} (r : InRange b) where
   file-range s n h f = record {
     files = λ i k. set-each (λ (x : ℕ). x ≤ fileBytes) 0 n h (b .files) (s - 1) i (r .files i k);
     lengths = r .lengths;
+    signers = r .signers;
     few = r .few;
     below = r .below;
     largest = r .largest;
@@ -226,6 +262,14 @@ stored-range {b} r s n h free = file-range r s n h (λ i u. by i u (eqb (downloa
         rw (getD-set-other (b .files) (s - 1) (downloadAt b i .subscriber - 1) n 0
         (eqb-false (downloadAt b i .subscriber - 1) (s - 1) e)) (r .within i u)
 
+-- "the subscriber becomes a signer"
+signed-range : {b : Bank} → InRange b → (q : Fields) → orderAt b q < placeCount → InRange (sign q b)
+unfolding sign
+signed-range {b} r q h =
+    remembered-range
+    (place-range r (orderAt b q) (signedPlace (subscriber q) (placeAt b (orderAt b q)))
+    (signed-place-range r (orderAt b q) (subscriber q) h)) q
+
 -- ---- every request
 
 module _ (b : Bank) (k : Held b) (r : InRange b) (q : Fields) (o m d : List ℕ) where
@@ -242,6 +286,7 @@ module _ (b : Bank) (k : Held b) (r : InRange b) (q : Fields) (o m d : List ℕ)
   opening-range s first dir v (sound.upload acc some free below) =
       place-range (counted-upload-range r q) (freePlace b) _ (record {
         size = omega arith;
+        signers = omega arith;
         few = λ _. acc .few;
         below = λ _. omega (arith, some);
         largest = λ _. omega arith;
@@ -252,6 +297,10 @@ module _ (b : Bank) (k : Held b) (r : InRange b) (q : Fields) (o m d : List ℕ)
         most = s .most;
         within = some-segment (fileLength (subscriber q) (b .files)) (omega (arith, full));
       })
+
+  signing-range : (v : Verdict) → SigningSound b q v → P v
+  signing-range v (signing.unsigned c h) = r
+  signing-range v (signing.signs a) = signed-range r q (a .inside)
 
   upload-left : Readable q (length d) → (t : TransactionRequest) → uploadAt b q < placeCount
       → P (uploadVerdict t (uploadAt b q) b q)
@@ -292,4 +341,4 @@ module _ (b : Bank) (k : Held b) (r : InRange b) (q : Fields) (o m d : List ℕ)
   pub range-judged : (context : Context) → P (judge context b q (length d))
   range-judged context =
       judged-each context b q (length d) P r (λ c. r) (λ s dir v x _. opening-range s (context .prefix) dir v x)
-      upload-left download-left
+      (λ _. signing-range) upload-left download-left

@@ -26,9 +26,10 @@ use Rattle.bank_verdicts.specs.declared.verdict.Verdict.the-variants as verdict
 use Rattle.bank_verdicts.specs.declared.verdict.TransactionRequest.{TransactionRequest}
 use Rattle.bank_verdicts.specs.declared.verdict.TransactionRequest.the-variants as asked
 use Rattle.bank_verdicts.specs.Judgement.{mailboxSegments, judgeUpload, judgeDownload, uploadAt, downloadOf}
-use Rattle.bank_verdicts.specs.Judgement.{judgeOpening, judgeTransaction}
+use Rattle.bank_verdicts.specs.Judgement.{judgeOpening, judgeSigning, judgeTransaction}
 use Rattle.bank_downloads.specs.Downloads.{downloadAfter}
 use Rattle.bank_openings.specs.Openings.{openUpload, openDownload}
+use Rattle.bank_signing.specs.Signings.{sign}
 use Rattle.bank_uploads.specs.Uploads.{placeAfter, bytesAfter}
 use Rattle.bank_steps.specs.declared.steps.Target.{Target}
 use Rattle.bank_steps.specs.declared.steps.Target.the-variants as target
@@ -97,6 +98,7 @@ abbrev pub carryOut : Verdict → BankState → Fields → List ℕ → BankStat
 carryOut verdict.Unreadable w q d = w
 carryOut (verdict.Refused c) w q d = w
 carryOut (verdict.Of t a) w q d = acts a t w q d
+carryOut (verdict.Signed n added) w q d = bankState (sign q (w .bank)) (w .orders) (w .mailboxes)
 
 -- the verdict on a request to the open upload in place i, and to the open download of record j
 abbrev pub uploadVerdict : TransactionRequest → ℕ → Bank → Fields → Verdict
@@ -114,9 +116,11 @@ targetOf requests.DownloadOpening = target.DownloadOpening
 targetOf requests.UploadTransfer = target.Transaction asked.UploadTransfer
 targetOf requests.DownloadTransfer = target.Transaction asked.DownloadTransfer
 targetOf requests.Receipt = target.Transaction asked.Receipt
+targetOf requests.Signing = target.Signing
 
 -- how a request to a target is judged
 abbrev pub judgeTarget : Target → Context → Bank → Fields → Verdict
 judgeTarget target.UploadOpening c b q = judgeOpening direction.Upload c b q
 judgeTarget target.DownloadOpening c b q = judgeOpening direction.Download c b q
 judgeTarget (target.Transaction r) c b q = judgeTransaction r b q
+judgeTarget target.Signing c b q = judgeSigning b q

@@ -17,6 +17,8 @@ use bank_rows::numbers::set_file_length;
 use bank_rows::places::find_upload;
 use bank_rows::places::place_at;
 use bank_rows::places::set_place;
+use bank_signing::judgement::judge_signing;
+use bank_signing::signing::sign;
 use bank_state::clock::Ended;
 use bank_state::limits::PLACE_COUNT;
 use bank_state::store::zero;
@@ -44,8 +46,9 @@ ghost use Rattle.bank_state.specs.Limits.{placeCount, storeBytes};
 ghost use Rattle.bank_state.specs.State.{downloadAt};
 ghost use Rattle.bank_rows.specs.State.{bankOf, Laid};
 ghost use Rattle.bank_sound.specs.Sound.{InRange};
-ghost use Rattle.bank_verdicts.specs.Judgement.{judgeOpening, uploadAt, downloadOf, judgeTransaction};
+ghost use Rattle.bank_verdicts.specs.Judgement.{judgeOpening, judgeSigning, uploadAt, downloadOf, judgeTransaction};
 ghost use Rattle.bank_verdicts.specs.Judgement.{judgeRequest, judgeForm, judge};
+ghost use Rattle.bank_signing.specs.Signings.{SignerSets};
 ghost use Rattle.bank_downloads.specs.Downloads.{downloadAfter};
 ghost use Rattle.bank_steps.specs.Steps.{emptied, onDownload, uploadVerdict, downloadVerdict, targetOf};
 ghost use Rattle.bank_steps.specs.Lent.{lent, stateOf, keptIn, Prepared, Ready, CarriedOut};
@@ -79,6 +82,22 @@ fn download_opening(rows: &mut [u64], context: Context, q: Fields) -> Verdict
     match verdict {
         Verdict::Of(transaction, _) => {
             open_download(rows, transaction, q);
+            verdict
+        }
+        _ => verdict,
+    }
+}
+
+// A signing.
+fn signing(rows: &mut [u64], q: Fields) -> Verdict
+    requires { ⌜ Laid (now rows) × SignerSets (bankOf (now rows)) ⌝ }
+    ensures { λ r. ⌜ ((o m d : List ℕ) → CarriedOut (judgeSigning (bankOf (now (rows .entry))) q)
+        (lent (now (rows .entry)) o m) q d r (lent (now (rows .exit)) o m)) ⌝ }
+{
+    let verdict = judge_signing(rows, q);
+    match verdict {
+        Verdict::Signed(_, _) => {
+            sign(rows, q);
             verdict
         }
         _ => verdict,
@@ -205,11 +224,12 @@ fn on_transaction(
     Verdict::Refused(ReturnCode::UnknownTransaction)
 }
 
-// What a request is on: an opening of either direction, or a transaction.
+// What a request is on: an opening of either direction, a transaction, or a booked order that is signed.
 pub enum Target {
     UploadOpening,
     DownloadOpening,
     Transaction(TransactionRequest),
+    Signing,
 }
 
 fn target_of(request: RequestForm) -> Target
@@ -221,6 +241,7 @@ fn target_of(request: RequestForm) -> Target
         RequestForm::UploadTransfer => Target::Transaction(TransactionRequest::UploadTransfer),
         RequestForm::DownloadTransfer => Target::Transaction(TransactionRequest::DownloadTransfer),
         RequestForm::Receipt => Target::Transaction(TransactionRequest::Receipt),
+        RequestForm::Signing => Target::Signing,
     }
 }
 
@@ -245,6 +266,7 @@ fn by_request(
         Target::UploadOpening => upload_opening(rows, context, q),
         Target::DownloadOpening => download_opening(rows, context, q),
         Target::Transaction(asked) => on_transaction(rows, asked, q, bytes, orders, mailboxes),
+        Target::Signing => signing(rows, q),
     }
 }
 

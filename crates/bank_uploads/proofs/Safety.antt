@@ -1,5 +1,5 @@
--- What a request to an open upload never does: free a place that is not zero, or book an order by any segment but its
--- next and last. Assumes nothing.
+-- What a request to an open upload never does: free a place that is not zero, book an order by any segment but its next
+-- and last, or make a signer. Assumes nothing.
 use Prim.Native.Nat.{ℕ, _+_}
 use mathlib.Core.List.{List}
 use mathlib.Core.Path.{_≡_, refl, sym, ap, _∙_}
@@ -54,3 +54,12 @@ module _ (clock : ℕ) (p : Place) (opened : p .used ≡ Open) (q : Fields) (d b
       at up.TookLast h e = last-fits r p q h
       at (up.Point k) h e = not-booked e
       at (up.Cancelled c) h e = never (ap isBooked e)
+
+  -- "booking makes nobody a signer": where there are none, a request leaves none, whatever the action
+  pub none-signed : p .signers ≡ 0 → (a : UploadAction) → carriedOut a clock p d bytes .place .signers ≡ 0
+  unfolding grown booked attempted
+  none-signed e (up.Opened number) = e
+  none-signed e up.Took = e
+  none-signed e up.TookLast = refl
+  none-signed e (up.Point k) = e
+  none-signed e (up.Cancelled c) = refl

@@ -24,10 +24,11 @@ grown clock n p = record {
   attempts = p .attempts;
   last = clock;
   length = p .length + n;
+  signers = p .signers;
 }
 
 -- "Segment N books the order: subscriber, order number, length, bytes; the transaction ends, the place stays used"; it
--- keeps its transaction ID, and what counted its steps is 0
+-- keeps its transaction ID, what counted its steps is 0, and booking makes nobody a signer
 unfoldable pub booked : ℕ → Place → Place
 booked n p = record {
   used = Booked;
@@ -39,6 +40,7 @@ booked n p = record {
   attempts = 0;
   last = 0;
   length = p .length + n;
+  signers = 0;
 }
 
 -- a place with one recovery attempt more
@@ -53,6 +55,7 @@ attempted p = record {
   attempts = p .attempts + 1;
   last = p .last;
   length = p .length;
+  signers = p .signers;
 }
 
 -- the place after a request with n bytes of data, at this clock

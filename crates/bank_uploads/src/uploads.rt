@@ -108,7 +108,7 @@ fn grown(p: Place, clock: u64, taken: u64, n: usize) -> Place
     g
 }
 
-// The place with the order booked, after its last segment of n bytes.
+// The place with the order booked, after its last segment of n bytes; nobody has signed it.
 fn booked(p: Place, n: usize) -> Place
     requires { ⌜ p .length + n ≤ fileBytes ⌝ }
     ensures { λ r. ⌜ r ≡ booked n p ⌝ }
@@ -124,6 +124,7 @@ fn booked(p: Place, n: usize) -> Place
         attempts: 0,
         last: 0,
         length: p.length + n as u64,
+        signers: 0,
     }
 }
 

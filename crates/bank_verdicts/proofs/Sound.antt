@@ -51,7 +51,7 @@ use Rattle.bank_verdicts.specs.declared.verdict.UploadAction.the-variant
 use Rattle.bank_verdicts.specs.declared.verdict.DownloadAction.{DownloadAction}
 use Rattle.bank_verdicts.specs.declared.verdict.DownloadAction.the-variants as down
 use Rattle.bank_verdicts.specs.declared.verdict.Verdict.{Verdict}
-use Rattle.bank_verdicts.specs.declared.verdict.Verdict.the-variants.{Unreadable, Refused, Of}
+use Rattle.bank_verdicts.specs.declared.verdict.Verdict.the-variants.{Unreadable, Refused, Of, Signed}
 use Rattle.bank_verdicts.specs.Refusals.{Row, cancels, noSubscriber, longData, requestRows, manySegments, inTime, isReplay, manyOpen, noPlaceFree, seriesEnded, isFull, noShare, openingRows, notOpen, transactionRows, fitsUpload, uploadAttempt, isUnderrun, isExceeded, segmentRows, uploadRows, fitsDownload, isSentAgain, downloadAttempt, isReceipt, receiptRows, downloadRows}
 use Rattle.bank_verdicts.specs.Judgement.{judged, accepted, judgeOpening, takes, judgeUpload, judgeDownload}
 use Rattle.bank_verdicts.proofs.Lines.{Fail, end, line, judged-by, each-such}
@@ -105,10 +105,27 @@ pub data OpeningSound (first : ℕ) (b : Bank) (q : Fields) : Direction → Verd
       OpeningSound first b q direction.Download (accepted direction.Download first b q)
 
 -- a refusal that cancels nothing
-abbrev isHarmless : Verdict → Bool
+abbrev pub isHarmless : Verdict → Bool
 isHarmless Unreadable = false
 isHarmless (Refused c) = not (cancels c)
 isHarmless (Of t a) = false
+isHarmless (Signed n added) = false
+
+module _ (b : Bank) (q : Fields) where
+  in-time : inTime (timestamp q) (b .clock) ≡ true →
+      (leb (timestamp q) (b .clock + window) ≡ true) × (leb (b .clock) (timestamp q + window) ≡ true)
+  unfolding inTime
+  in-time h = and-true (leb (timestamp q) (b .clock + window)) (leb (b .clock) (timestamp q + window)) h
+
+  -- what line 091103 lets pass is in time, and its nonce is not remembered
+  pub no-replay : isReplay b q ≡ false →
+      (leb (timestamp q) (b .clock + window) ≡ true) × (leb (b .clock) (timestamp q + window) ≡ true) ×
+      (isRemembered (nonce q) b ≡ false)
+  unfolding isReplay
+  no-replay h =
+      let replay = or-neither (not (inTime (timestamp q) (b .clock))) (isRemembered (nonce q) b) h in
+      let time = in-time (not-false (inTime (timestamp q) (b .clock)) (replay .0)) in
+      (time .0, time .1, replay .1)
 
 module _ (x : Context) (b : Bank) (q : Fields) where
   abbrev first : ℕ
@@ -118,11 +135,7 @@ module _ (x : Context) (b : Bank) (q : Fields) where
   harmless d Unreadable h = never h
   harmless d (Refused c) h = refused d c (not-true (cancels c) h)
   harmless d (Of t a) h = never h
-
-  in-time : inTime (timestamp q) (b .clock) ≡ true →
-      (leb (timestamp q) (b .clock + window) ≡ true) × (leb (b .clock) (timestamp q + window) ≡ true)
-  unfolding inTime
-  in-time h = and-true (leb (timestamp q) (b .clock + window)) (leb (b .clock) (timestamp q + window)) h
+  harmless d (Signed n added) h = never h
 
   place-and-numbers : (d : Direction) → isFull d b q ≡ false →
       (leb maxOpen (openCount b) ≡ false) × (noPlaceFree d b ≡ false) × (leb nonceCount (freeNonce b) ≡ false) ×
@@ -136,17 +149,15 @@ module _ (x : Context) (b : Bank) (q : Fields) where
       (a .0, p .0, m .0, n .0, n .1)
 
   acceptable : (d : Direction) → Fail (openingRows d (x .others) b q) → Acceptable b q
-  unfolding openingRows manySegments isReplay manyOpen
+  unfolding openingRows manySegments manyOpen
   acceptable d failed =
-      let late = not (inTime (timestamp q) (b .clock)) in
-      let replay = or-neither late (isRemembered (nonce q) b) (failed code.MessageReplay) in
-      let time = in-time (not-false (inTime (timestamp q) (b .clock)) (replay .0)) in
+      let fresh = no-replay b q (failed code.MessageReplay) in
       let room = place-and-numbers d (or-neither (isFull d b q) (noShare (x .others) b) (failed code.InternalError) .0) in
       record {
         few = ltb-false maxSegments (segments q) (failed code.MaxSegmentsExceeded);
-        timely = time .1;
-        ahead = leb-true (timestamp q) (b .clock + window) (time .0);
-        unseen = replay .1;
+        timely = fresh .1;
+        ahead = leb-true (timestamp q) (b .clock + window) (fresh .0);
+        unseen = fresh .2;
         ofSubscriber = leb-false maxOpenPerSubscriber (openCountOf (subscriber q) b) (failed code.MaxTransactionsExceeded);
         ofAll = leb-false maxOpen (openCount b) (room .0);
         memory = leb-false nonceCount (freeNonce b) (room .2);

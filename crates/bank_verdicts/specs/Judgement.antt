@@ -1,6 +1,6 @@
 -- How a request is judged: "Checked in the order given, from top to bottom." The clock and the drops are done.
 use Prim.Native.Nat.{ℕ, _+_}
-use mathlib.Core.Bool.{Bool, false, cond}
+use mathlib.Core.Bool.{Bool, false, not, cond}
 use mathlib.Core.List.{List, [], _∷_}
 use lib.Dec.{ltb, eqb}
 use Rattle.frame_table.specs.declared.fields.Bits128.{Bits128}
@@ -9,10 +9,11 @@ use Rattle.frame_table.specs.declared.table.Form.{Form}
 use Rattle.frame_table.specs.declared.table.Form.the-variants.{NoForm, Request, Reply}
 use Rattle.frame_table.specs.declared.table.RequestForm.{RequestForm}
 use Rattle.frame_table.specs.declared.table.RequestForm.the-variants as requests
-use Rattle.frame_table.specs.Names.{subscriber, transaction, form}
+use Rattle.frame_table.specs.Names.{subscriber, transaction, orderNumber, owner, form}
 use Rattle.message.specs.declared.codes.ReturnCode.{ReturnCode}
 use Rattle.message.specs.Codes.{codeValue}
 use Rattle.message.specs.Segments.{segmentsOf}
+use Rattle.signers.specs.Signers.{isSigner}
 use Rattle.bank_state.specs.State.{Bank}
 use Rattle.bank_state.specs.declared.state.Download.{Download}
 use Rattle.bank_state.specs.declared.state.Place.{Place}
@@ -30,8 +31,9 @@ use Rattle.bank_verdicts.specs.declared.verdict.DownloadAction.{Download
 use Rattle.bank_verdicts.specs.declared.verdict.DownloadAction.the-variants as down
 use Rattle.bank_verdicts.specs.declared.verdict.Action.the-variants as action
 use Rattle.bank_verdicts.specs.declared.verdict.Verdict.{Verdict}
-use Rattle.bank_verdicts.specs.declared.verdict.Verdict.the-variants.{Unreadable, Of}
-use Rattle.bank_verdicts.specs.Refusals.{Row, requestRows, openingRows, transactionRows, uploadRows, downloadRows}
+use Rattle.bank_verdicts.specs.declared.verdict.Verdict.the-variants.{Unreadable, Of, Signed}
+use Rattle.bank_verdicts.specs.Refusals.{Row, requestRows, openingRows, findOrder, signingRows}
+use Rattle.bank_verdicts.specs.Refusals.{transactionRows, uploadRows, downloadRows}
 
 -- what the first line whose test holds gives; the last one where none does
 abbrev pub judged : {A : Type 0} → List (Row A) → A → A
@@ -62,6 +64,19 @@ accepted direction.Download first b q =
 -- an opening in the form of this direction
 unfoldable pub judgeOpening : Direction → Context → Bank → Fields → Verdict
 judgeOpening d c b q = judged (openingRows d (c .others) b q) (accepted d (c .prefix) b q)
+
+-- the place of the booked order that a signing names
+abbrev pub orderAt : Bank → Fields → ℕ
+orderAt b q = findOrder (owner q) (orderNumber q) b
+
+-- an accepted signing, with its order's number in the owner's series: "the subscriber becomes a signer of that booked
+-- order", "Signing again answers 000000 and adds nobody"
+abbrev pub signed : Bank → Fields → Verdict
+signed b q = let p = placeAt b (orderAt b q) in Signed (p .number) (not (isSigner (subscriber q) (p .signers)))
+
+-- a signing
+unfoldable pub judgeSigning : Bank → Fields → Verdict
+judgeSigning b q = judged (signingRows b q) (signed b q)
 
 -- "Segment N books the order"
 unfoldable pub takes : Place → UploadAction
@@ -102,6 +117,7 @@ judgeRequest requests.DownloadOpening c b q = judgeOpening direction.Download c 
 judgeRequest requests.UploadTransfer c b q = judgeTransaction asked.UploadTransfer b q
 judgeRequest requests.DownloadTransfer c b q = judgeTransaction asked.DownloadTransfer b q
 judgeRequest requests.Receipt c b q = judgeTransaction asked.Receipt b q
+judgeRequest requests.Signing c b q = judgeSigning b q
 
 abbrev pub judgeForm : Form → Context → Bank → Fields → Verdict
 judgeForm NoForm c b q = Unreadable

@@ -15,18 +15,23 @@ use Rattle.frame_table.specs.Names.{
   segment,
   lastMark,
   receiptCode,
+  orderNumber,
+  owner,
   form,
 }
 use Rattle.frame_table.specs.Table.{isRequestForm}
 use Rattle.message.specs.declared.codes.ReturnCode.{ReturnCode}
 use Rattle.message.specs.declared.codes.ReturnCode.the-variants as code
 use Rattle.message.specs.Limits.{ful, fdl, subscribers, segmentBytes, maxSegments, maxAttempts}
+use Rattle.message.specs.OrderNumbers.{orderNumberOf}
 use Rattle.bank_state.specs.State.{Bank}
 use Rattle.bank_state.specs.declared.state.Download.{Download}
 use Rattle.bank_state.specs.declared.state.Place.{Place}
 use Rattle.bank_state.specs.Limits.{placeCount, nonceCount, window, maxOpen, maxOpenPerSubscriber}
 use Rattle.bank_state.specs.Limits.{maxOpenings, seriesLimit, sharedOpen, sureOpen}
+use Rattle.bank_state.specs.Rows.{firstOf}
 use Rattle.bank_state.specs.Search.{
+  isBooked,
   freePlace,
   freeNonce,
   openCount,
@@ -73,6 +78,7 @@ cancels code.UnknownTransaction = false
 cancels code.TransactionAbort = true
 cancels code.MessageReplay = false
 cancels code.SegmentNumberExceeded = true
+cancels code.OrderIdUnknown = false
 cancels code.MaxSegmentsExceeded = false
 cancels code.MaxTransactionsExceeded = false
 
@@ -162,6 +168,41 @@ openingRows d others b q =
     ∷ refusing code.NoDownloadDataAvailable (emptyMailbox d b q)
     ∷ refusing code.MaxTransactionsExceeded (manyOpen b q)
     ∷ refusing code.InternalError (isFull d b q || noShare others b)
+    ∷ []
+
+-- ---- a signing, to the bank b: "Signing an order already lodged" (document 02, card 8)
+
+-- 091003: "an owner outside 1 to 8 gets 091003"
+unfoldable pub noOwner : Fields → Bool
+noOwner q = ltb (owner q) 1 || ltb subscribers (owner q)
+
+-- 061002: "Type FDL gets 061002 here"
+unfoldable pub signsDownload : Fields → Bool
+signsDownload q = eqb (orderType q) fdl
+
+-- the booked order of this owner with this order number: an upload's, so of type FUL, and "open ones do not count"
+unfoldable pub isOrder : ℕ → ℕ → Place → Bool
+isOrder owner order p = isBooked (p .used) && eqb (p .subscriber) owner && eqb (orderNumberOf (p .number)) order
+
+unfoldable pub findOrder : ℕ → ℕ → Bank → ℕ
+findOrder owner order b = firstOf (isOrder owner order) (b .places)
+
+-- 091114: "It refuses an order not in the book with 091114, directly after 091103"
+unfoldable pub notBooked : Bank → Fields → Bool
+notBooked b q = leb placeCount (findOrder (owner q) (orderNumber q) b)
+
+-- 061099: "of 091119's and 061099's causes only the 64 nonces apply"
+unfoldable pub noMemory : Bank → Bool
+noMemory b = leb nonceCount (freeNonce b)
+
+unfoldable pub signingRows : Bank → Fields → List (Row Verdict)
+signingRows b q =
+    refusing code.UserUnknown (noOwner q)
+    ∷ refusing code.InvalidOrderType (unknownType q)
+    ∷ refusing code.InvalidRequest (signsDownload q)
+    ∷ refusing code.MessageReplay (isReplay b q)
+    ∷ refusing code.OrderIdUnknown (notBooked b q)
+    ∷ refusing code.InternalError (noMemory b)
     ∷ []
 
 -- ---- THE SUBSCRIBER, BY THE COURSE OF THE ORDER: a request to a transaction

@@ -62,11 +62,12 @@ abbrev pub actionReply : Action → Bits128 → Fields → Fields
 actionReply (action.Upload a) t q = uploadReply a t q
 actionReply (action.Download a) t q = downloadReply a t q
 
--- the reply's fields
+-- the reply's fields; a signing's "reply is 01 03 0D", the form of a refusal, with 000000
 abbrev pub replyTo : Verdict → Fields → Fields
 replyTo verdict.Unreadable q = unreadable
 replyTo (verdict.Refused c) q = refusal (phase q) (exchange q) c
 replyTo (verdict.Of t a) q = actionReply a t q
+replyTo (verdict.Signed n added) q = refusal (phase q) (exchange q) code.Ok
 
 -- the mailbox's segment whose bytes are the reply's data; 0 stands for none
 
@@ -87,3 +88,4 @@ abbrev pub segmentIn : Verdict → Fields → ℕ
 segmentIn verdict.Unreadable q = 0
 segmentIn (verdict.Refused c) q = 0
 segmentIn (verdict.Of t a) q = actionSegmentIn a q
+segmentIn (verdict.Signed n added) q = 0

@@ -112,6 +112,7 @@ pub fn reply_to(verdict: Verdict, q: Fields) -> Fields
         Verdict::Unreadable => unreadable(),
         Verdict::Refused(code) => refusal(q.phase(), q.exchange(), code),
         Verdict::Of(transaction, action) => action_reply(action, transaction, q),
+        Verdict::Signed(_, _) => refusal(q.phase(), q.exchange(), ReturnCode::Ok),
     }
 }
 
@@ -148,5 +149,6 @@ pub fn segment_in(verdict: Verdict, q: Fields) -> u64
         Verdict::Unreadable => 0,
         Verdict::Refused(_) => 0,
         Verdict::Of(_, action) => action_segment_in(action, q),
+        Verdict::Signed(_, _) => 0,
     }
 }

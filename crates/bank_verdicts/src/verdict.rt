@@ -50,10 +50,11 @@ pub enum Action {
     Download(DownloadAction),
 }
 
-// What a request comes to: it is unreadable, it is refused with a code and changes nothing, or it acts on the
-// transaction with this ID.
+// What a request comes to: it is unreadable, it is refused with a code and changes nothing, it acts on the transaction
+// with this ID, or it signs the booked order of this number in its owner's series, by a signer more or by one again.
 pub enum Verdict {
     Unreadable,
     Refused(ReturnCode),
     Of(Bits128, Action),
+    Signed(u64, bool),
 }

@@ -9,6 +9,7 @@ use Rattle.message.specs.OrderNumbers as orderNumbers
 use Rattle.message.specs.Replies as replies
 use Rattle.message.specs.Requests as requests
 use Rattle.message.specs.Segments as files
+use Rattle.signers.specs.Signers as sets
 use Rattle.bank_state.specs.Clock as clocks
 use Rattle.bank_state.specs.Rows as rows
 use Rattle.bank_state.specs.Search as searches
@@ -17,6 +18,7 @@ use Rattle.bank_state.specs.Store as store
 use Rattle.bank_verdicts.specs.Refusals as refusals
 use Rattle.bank_verdicts.specs.Judgement as judgement
 use Rattle.bank_openings.specs.Openings as openings
+use Rattle.bank_signing.specs.Signings as signed
 use Rattle.bank_uploads.specs.Uploads as uploads
 use Rattle.bank.specs.Call as bankCall
 use Rattle.bank.specs.Mailbox as bankMailbox
@@ -54,3 +56,10 @@ unfolding clocks.isIdle clocks.freed clocks.dropUpload clocks.dropUploads clocks
     openings.counted openings.countedUpload openings.openUpload openings.openDownload uploads.grown uploads.booked uploads.attempted
     bankCall.mailboxSegment bankCall.respond bankCall.lentRight bankCall.frameCall bankMailbox.fileRefusals bankMailbox.fileCall
 bank = 0
+
+-- card 8, a signing: its lines, its order and its signers
+unfoldable pub signings : ℕ
+unfolding requests.signing refusals.noOwner refusals.signsDownload refusals.isOrder refusals.findOrder refusals.notBooked
+    refusals.noMemory refusals.signingRows judgement.judgeSigning signed.sign
+    sets.hasBit sets.isSigner sets.withSigner sets.countFrom sets.signerCount sets.isReleased
+signings = 0

@@ -23,7 +23,7 @@ use Rattle.bank_admitted.proofs.Rows.{getD-free}
 use Rattle.bank_admitted.proofs.Keeps.{frame-keeps-state, file-keeps-state}
 use Rattle.bank.specs.Call.{FrameCall, FrameInput, frameInput, lentRight, frameCall}
 use Rattle.case_rows.proofs.Calls.{frameBy, frame-by}
-use Rattle.case_rows.proofs.Computing.{frames, messages, bank}
+use Rattle.case_rows.proofs.Computing.{frames, messages, bank, signings}
 use Rattle.cases.specs.Table.{
   HostCall,
   put,
@@ -42,8 +42,10 @@ use Rattle.cases.specs.Table.{
   Question,
   eachFrom,
   booked,
+  signers,
   numbers,
   bookedIn,
+  signersIn,
   come,
 }
 
@@ -147,14 +149,16 @@ same-after s l = same-played l (record { bank = started s; replies = [] }) (star
 abbrev pub quick : Question → List ℕ
 quick (eachFrom s g l) = map g (quickAfter s l .replies)
 quick (booked l) = bookedIn (quickAfter new l) ∷ []
+quick (signers l) = signersIn (quickAfter new l)
 quick (numbers l) = l
 
 pub same : (c : Question) → come c ≡ quick c
 same (eachFrom s g l) = ap (λ (p : Played). map g (p .replies)) (same-after s l)
 same (booked l) = ap (λ (p : Played). bookedIn p ∷ []) (same-after new l)
+same (signers l) = ap signersIn (same-after new l)
 same (numbers l) = refl
 
 -- what they compute with
 unfoldable pub calls : ℕ
-unfolding frames messages bank called quickPlayed
+unfolding frames messages bank signings called quickPlayed
 calls = 0

@@ -1,8 +1,8 @@
--- Every row of the table of cases gives what is due, by computation: each line of document 01 and of cards 5 and 6 by
--- itself. Assumes nothing.
+-- Every row of the table of cases gives what is due, by computation: each line of document 01 and of cards 5, 6 and 8
+-- by itself. Assumes nothing.
 use mathlib.Core.Path.{refl}
 use Rattle.case_rows.specs.Rows.{Holds}
-use Rattle.case_rows.proofs.Computing.{frames, messages}
+use Rattle.case_rows.proofs.Computing.{frames, messages, signings}
 use Rattle.case_rows.proofs.Tables.{listed, both, otherwise}
 use Rattle.cases.specs.Table.{
   largest,
@@ -20,6 +20,8 @@ use Rattle.cases.specs.Table.{
   bookedCases,
   fileCases,
   receiptCases,
+  signerCases,
+  signingCases,
   cases,
 }
 use Rattle.cases.proofs.Quick.{calls, quick, same}
@@ -41,7 +43,7 @@ unfolding seriesCases calls
 series-hold = listed seriesCases refl
 
 lengths-hold : Holds quick lengthCases
-unfolding lengthCases largest requestLengths replyLengths frames messages
+unfolding lengthCases largest requestLengths replyLengths frames messages signings
 lengths-hold = listed lengthCases refl
 
 segments-hold : Holds quick segmentCases
@@ -68,6 +70,14 @@ receipts-hold : Holds quick receiptCases
 unfolding receiptCases calls
 receipts-hold = listed receiptCases refl
 
+signers-hold : Holds quick signerCases
+unfolding signerCases calls
+signers-hold = listed signerCases refl
+
+signings-hold : Holds quick signingCases
+unfolding signingCases calls
+signings-hold = listed signingCases refl
+
 pub cases-hold : Holds come cases
 unfolding cases
 cases-hold =
@@ -78,4 +88,5 @@ cases-hold =
     (both series-hold
     (both lengths-hold
     (both segments-hold
-    (both repeats-hold (both last-marks-hold (both booked-hold (both files-hold receipts-hold))))))))))
+    (both repeats-hold (both last-marks-hold (both booked-hold
+    (both files-hold (both receipts-hold (both signers-hold signings-hold))))))))))))

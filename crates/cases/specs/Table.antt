@@ -1,25 +1,28 @@
--- Document 01, "Cases; starred ones are proved", and card 5's numbers: each row is what is asked of its calls, and what
--- must come. The calls are `frameCall` and `fileCall`, on a bank with its whole stores: a fresh one where nothing else
--- is said. The order of the refusals and the other limits: the table of `bank_cases`.
+-- Document 01, "Cases; starred ones are proved", card 5's numbers and card 8's signings: each row is what is asked of
+-- its calls, and what must come. The calls are `frameCall` and `fileCall`, on a bank with its whole stores: a fresh one
+-- where nothing else is said. The order of the refusals and the other limits: the table of `bank_cases`.
 use Prim.Native.Nat.{ℕ, _+_, max}
+use mathlib.Core.Bool.{cond}
 use mathlib.Core.List.{List, [], _∷_, _++_, map}
 use lib.ListN.{length, replicate, set, take}
 use Rattle.frame_table.specs.declared.fields.Fields.{Fields}
 use Rattle.octets.specs.Bytes.{number}
+use Rattle.octets.specs.Texts.{ascii}
 use Rattle.frame_table.specs.Names.{segment, segments, transaction, returnCode, orderNumber, noFields}
 use Rattle.frame_reader.specs.Reader.{readReply}
 use Rattle.frame_writer.specs.Writer.{frameOf, replyRoom}
 use Rattle.message.specs.declared.codes.ReturnCode.the-variants as code
 use Rattle.message.specs.Limits.{segmentBytes}
 use Rattle.message.specs.OrderNumbers.{orderNumberOf}
-use Rattle.message.specs.Requests.{uploadOpening, downloadOpening, uploadTransfer, downloadTransfer, receipt}
+use Rattle.message.specs.Requests.{uploadOpening, downloadOpening, uploadTransfer, downloadTransfer, receipt, signing}
 use Rattle.message.specs.Replies.{uploadOpened, downloadOpened, segmentTaken, downloadSegment, receiptAnswered}
 use Rattle.message.specs.Replies.{unreadable, refusal}
+use Rattle.signers.specs.Signers.{signerCount, isReleased}
 use Rattle.bank_state.specs.declared.state.Place.{Place}
 use Rattle.bank_state.specs.Limits.{storeBytes, idBytes}
 use Rattle.bank_state.specs.Search.{isBooked}
 use Rattle.bank_state.specs.Rows.{countOf}
-use Rattle.bank_state.specs.State.{Bank, BankState, bankState, fresh, withOpenings, withSeries}
+use Rattle.bank_state.specs.State.{Bank, BankState, bankState, fresh, placeAt, withOpenings, withSeries}
 use Rattle.bank.specs.declared.call.FrameAnswer.{FrameAnswer}
 use Rattle.bank.specs.declared.call.FrameAnswer.the-variants.{Reply, WrongLength}
 use Rattle.bank.specs.Call.{frameInput, frameCall}
@@ -51,6 +54,10 @@ download = request clock (downloadOpening 1 1 (idOf 0) clock) []
 
 abbrev pub receipt0 : HostCall
 receipt0 = request clock (receipt 1 1 (idOf 0) 0) []
+
+-- card 8: the order A000 of subscriber 1 is signed by a subscriber, with a nonce
+abbrev pub signBy : ℕ → ℕ → HostCall
+signBy s nonce = request clock (signing s 1 (idOf nonce) clock (number (ascii "A000")) 1) []
 
 -- a fresh bank, "and every lent byte kept between calls 0"
 abbrev pub startOf : Bank → BankState
@@ -99,18 +106,24 @@ abbrev pub after : Start → List HostCall → Played
 after s l = played l (record { bank = started s; replies = [] })
 
 -- what is asked: of each reply to calls from a start a number; how many orders are booked after the calls of a fresh
--- bank; or numbers as they are
+-- bank; how many signers the order in its first place has then, and whether it is released (1, or 0); or numbers as
+-- they are
 pub data Question : Type 0 where
   eachFrom : Start → (Fields → ℕ) → List HostCall → Question
   booked : List HostCall → Question
+  signers : List HostCall → Question
   numbers : List ℕ → Question
 
 abbrev pub bookedIn : Played → ℕ
 bookedIn p = countOf (λ (e : Place). isBooked (e .used)) (p .bank .bank .places)
 
+abbrev pub signersIn : Played → List ℕ
+signersIn p = let set = placeAt (p .bank .bank) 0 .signers in signerCount set ∷ cond (isReleased set) 1 0 ∷ []
+
 abbrev pub come : Question → List ℕ
 come (eachFrom s g l) = map g (after s l .replies)
 come (booked l) = bookedIn (after new l) ∷ []
+come (signers l) = signersIn (after new l)
 come (numbers l) = l
 
 -- a row of the table
@@ -148,6 +161,7 @@ requestLengths =
     ∷ length (frameOf (uploadTransfer 1 1 (idOf 0) 1 1) whole)
     ∷ length (frameOf (downloadTransfer 1 1 (idOf 0) 1) [])
     ∷ length (frameOf (receipt 1 1 (idOf 0) 0) [])
+    ∷ length (frameOf (signing 1 1 (idOf 0) clock 0 1) [])
     ∷ []
 
 unfoldable pub replyLengths : List ℕ
@@ -207,10 +221,13 @@ seriesCases =
     gives (six 0 ∷ six 61099 ∷ six 61099 ∷ []))
     ∷ []
 
--- with a timestamp of 8 bytes: "Frame lengths: upload opening" 57, "largest request 303, largest reply 312."
+-- with a timestamp of 8 bytes: "Frame lengths: upload opening" 57, "largest request 303, largest reply 312."; card 8's
+-- signing, 01 to 06, 0E, 0F, 10 with 1, 2, 4, 3, 16, 8, 4, 5 and 2 bytes, and its reply, 01 03 0D with 1, 4 and 6
 unfoldable pub lengthCases : List Row
 lengthCases =
     (numbers (length (frameOf (uploadOpening 1 1 (idOf 0) clock 1) []) ∷ []) gives (57 ∷ []))
+    ∷ (numbers (length (frameOf (signing 1 1 (idOf 0) clock 0 1) []) ∷ []) gives (72 ∷ []))
+    ∷ (numbers (length (frameOf (refusal 1 1 code.Ok) []) ∷ []) gives (20 ∷ []))
     ∷ (numbers (largest requestLengths ∷ []) gives (303 ∷ []))
     ∷ (numbers (largest replyLengths ∷ []) gives (312 ∷ []))
     ∷ []
@@ -252,6 +269,28 @@ fileCases =
 unfoldable pub receiptCases : List Row
 receiptCases = (codes (put 257 ∷ download ∷ receipt0 ∷ []) gives (six 0 ∷ six 61101 ∷ [])) ∷ []
 
+-- card 8: "the subscriber becomes a signer of that booked order", "two or more make the order released", "Signing again
+-- answers 000000 and adds nobody"
+unfoldable pub signerCases : List Row
+signerCases =
+    (signers (upload clock 1 ∷ sent 1 1 ∷ []) gives (0 ∷ 0 ∷ []))
+    ∷ (signers (upload clock 1 ∷ sent 1 1 ∷ signBy 2 1 ∷ signBy 2 2 ∷ []) gives (1 ∷ 0 ∷ []))
+    ∷ (signers (upload clock 1 ∷ sent 1 1 ∷ signBy 2 1 ∷ signBy 2 2 ∷ signBy 1 3 ∷ []) gives (2 ∷ 1 ∷ []))
+    -- "an order not in the book": signed while it is open, it gets 091114, and later nobody is its signer
+    ∷ (signers (upload clock 1 ∷ signBy 2 1 ∷ sent 1 1 ∷ []) gives (0 ∷ 0 ∷ []))
+    ∷ []
+
+-- card 8: "refused openings are not remembered", a signing neither, "its nonce is remembered" where it is accepted; "It
+-- opens no transaction and takes no running number", and none of a series
+unfoldable pub signingCases : List Row
+signingCases =
+    (codes (upload clock 1 ∷ signBy 2 1 ∷ sent 1 1 ∷ signBy 2 1 ∷ signBy 3 1 ∷ uploadBy 2 1 ∷ [])
+    gives (six 0 ∷ six 91114 ∷ six 0 ∷ six 0 ∷ six 91103 ∷ six 91103 ∷ []))
+    ∷ (each runningNumber (upload clock 1 ∷ sent 1 1 ∷ signBy 2 1 ∷ uploadBy 2 2 ∷ []) gives (0 ∷ 0 ∷ 0 ∷ 1 ∷ []))
+    ∷ (each orderNumber (upload clock 1 ∷ sent 1 1 ∷ signBy 1 1 ∷ signBy 2 2 ∷ uploadBy 1 3 ∷ uploadBy 2 4 ∷ [])
+    gives (orderNumberOf 0 ∷ 0 ∷ 0 ∷ 0 ∷ orderNumberOf 1 ∷ orderNumberOf 0 ∷ []))
+    ∷ []
+
 unfoldable pub cases : List Row
 cases =
     timestampCases
@@ -259,4 +298,5 @@ cases =
     ++ (orderNumberCases
     ++ (seriesCases
     ++ (lengthCases
-    ++ (segmentCases ++ (repeatCases ++ (lastMarkCases ++ (bookedCases ++ (fileCases ++ receiptCases)))))))))
+    ++ (segmentCases ++ (repeatCases ++ (lastMarkCases ++ (bookedCases
+    ++ (fileCases ++ (receiptCases ++ (signerCases ++ signingCases)))))))))))

@@ -151,6 +151,7 @@ fn print_codes_091() {
         ReturnCode::SegmentNumberExceeded,
         b"EBICS_TX_SEGMENT_NUMBER_EXCEEDED\n",
     );
+    print_code(ReturnCode::OrderIdUnknown, b"EBICS_ORDERID_UNKNOWN\n");
     print_code(
         ReturnCode::MaxSegmentsExceeded,
         b"EBICS_MAX_SEGMENTS_EXCEEDED\n",

@@ -319,6 +319,7 @@ notLodgedCases =
     ∷ (refused 2 code.InvalidXml gives closes Unclear)
     ∷ (refused 2 code.UnknownTransaction gives closes Unclear)
     ∷ (refused 2 code.MessageReplay gives closes Unclear)
+    ∷ (refused 2 code.OrderIdUnknown gives closes Unclear)
     ∷ (refused 2 code.MaxSegmentsExceeded gives closes Unclear)
     ∷ (refused 2 code.MaxTransactionsExceeded gives closes Unclear)
     -- of phase 2, and in no other form

@@ -405,6 +405,15 @@ module _ (Given : Fields → List ℕ → Fields → List ℕ → Type 0) (fileA
           go (upload g u) = not-upload (upload-form (u .each x m)) e (λ z. cc) (λ z. cc)
           go (download g u) = asked (u .direction) (u .each x m)
 
+      -- card 8: a run issues no signing, so that demand 3's premise on requests leaves out none of its own
+      pub no-signing-issued : form (x .request) ≡ forms.Signing → ⊥
+      no-signing-issued e = go i
+        where
+          go : Invariant Given fileAt p → ⊥
+          go (not-begun f g) = in-none (subst (In x) g m)
+          go (upload g u) = not-upload (upload-form (u .each x m)) e (λ z. cc) (λ z. cc)
+          go (download g u) = not-download (download-form (u .each x m)) e (λ z. cc) (λ z. cc) (λ z. cc)
+
       -- "the run held the whole when, as it issued that receipt, its file was the mailbox's"
       pub receipt-issued : form (x .request) ≡ forms.Receipt → ReceiptIssued p (fileAt (p .run .transaction)) x
       receipt-issued e = go i

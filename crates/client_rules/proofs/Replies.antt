@@ -46,6 +46,7 @@ request-indexed request.DownloadOpening = refl
 request-indexed request.UploadTransfer = refl
 request-indexed request.DownloadTransfer = refl
 request-indexed request.Receipt = refl
+request-indexed request.Signing = refl
 
 reply-indexed : (x : ReplyForm) → formAt (replyIndex x) ≡ Reply x
 reply-indexed reply.UploadOpened = refl

@@ -46,22 +46,23 @@ use Rattle.client_run.specs.declared.run.Step.the-variants as step
 use Rattle.client_run.specs.declared.run.Word.{Word}
 use Rattle.client_run.specs.declared.run.Word.the-variants as word
 
--- the place of a form in document 01's list, by which two forms are compared
+-- the place of a form in document 01's list with that of card 8, by which two forms are compared
 abbrev pub requestIndex : RequestForm → ℕ
 requestIndex request.UploadOpening = 1
 requestIndex request.DownloadOpening = 2
 requestIndex request.UploadTransfer = 3
 requestIndex request.DownloadTransfer = 4
 requestIndex request.Receipt = 5
+requestIndex request.Signing = 6
 
 abbrev pub replyIndex : ReplyForm → ℕ
-replyIndex reply.UploadOpened = 6
-replyIndex reply.DownloadOpened = 7
-replyIndex reply.SegmentTaken = 8
-replyIndex reply.DownloadSegment = 9
-replyIndex reply.ReceiptAnswered = 10
-replyIndex reply.Unreadable = 11
-replyIndex reply.Refusal = 12
+replyIndex reply.UploadOpened = 7
+replyIndex reply.DownloadOpened = 8
+replyIndex reply.SegmentTaken = 9
+replyIndex reply.DownloadSegment = 10
+replyIndex reply.ReceiptAnswered = 11
+replyIndex reply.Unreadable = 12
+replyIndex reply.Refusal = 13
 
 abbrev pub formIndex : Form → ℕ
 formIndex NoForm = 0

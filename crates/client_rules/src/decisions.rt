@@ -29,7 +29,7 @@ ghost use Rattle.client_rules.specs.Decisions.{goesBack, uploadReturns, 
 ghost use Rattle.client_rules.specs.Decisions.{takesSegment, bringsSegment, confirms};
 ghost use Rattle.client_rules.specs.Decisions.{onUpload, onDownload, onAnswer, isAnswer, onReply, onNoReply};
 
-// The place of a form in document 01's list, requests first.
+// The place of a form in document 01's list with that of card 8, requests first.
 fn request_index(form: RequestForm) -> u64
     ensures { λ r. ⌜ r ≡ requestIndex form ⌝ }
 {
@@ -39,6 +39,7 @@ fn request_index(form: RequestForm) -> u64
         RequestForm::UploadTransfer => 3,
         RequestForm::DownloadTransfer => 4,
         RequestForm::Receipt => 5,
+        RequestForm::Signing => 6,
     }
 }
 
@@ -46,13 +47,13 @@ fn reply_index(form: ReplyForm) -> u64
     ensures { λ r. ⌜ r ≡ replyIndex form ⌝ }
 {
     match form {
-        ReplyForm::UploadOpened => 6,
-        ReplyForm::DownloadOpened => 7,
-        ReplyForm::SegmentTaken => 8,
-        ReplyForm::DownloadSegment => 9,
-        ReplyForm::ReceiptAnswered => 10,
-        ReplyForm::Unreadable => 11,
-        ReplyForm::Refusal => 12,
+        ReplyForm::UploadOpened => 7,
+        ReplyForm::DownloadOpened => 8,
+        ReplyForm::SegmentTaken => 9,
+        ReplyForm::DownloadSegment => 10,
+        ReplyForm::ReceiptAnswered => 11,
+        ReplyForm::Unreadable => 12,
+        ReplyForm::Refusal => 13,
     }
 }
 

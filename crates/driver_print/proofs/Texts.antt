@@ -196,6 +196,7 @@ kind-most kind.Opened = omega arith
 kind-most kind.Booked = omega arith
 kind-most kind.Cancelled = omega arith
 kind-most kind.Dropped = omega arith
+kind-most kind.Signed = omega arith
 
 event-most : (e : Event) → length (eventRow e) ≤ eventRoom
 unfolding eventRow

@@ -27,7 +27,7 @@ use Rattle.client_run.specs.Run.{orderName}
 use Rattle.client_rules.specs.Rulings.{isBegun}
 use Rattle.print.specs.Text.{ascii, space, newline, column, columnRoom, rowsTo}
 use Rattle.print.specs.Name.{orderNameText, orderNameRoom}
-use Rattle.print.specs.Book.{bookHeader, orderColumns, orderColumnsRoom}
+use Rattle.print.specs.Book.{bookHeader, bookHeaderRoom, orderColumns, orderColumnsRoom}
 use Rattle.print.specs.Closing.{closingText}
 use Rattle.unit_state.specs.declared.state.UnitState.{UnitState}
 use Rattle.unit_state.specs.Records.{runCount}
@@ -47,7 +47,8 @@ headerText Journal = ascii "event clock subscriber type order kind\n"
 unfoldable pub contentText : List ℕ → List ℕ
 contentText content = hexOf content ++ (newline ∷ [])
 
--- a booked order: the book's columns, content; a place that holds none has no row
+-- a booked order: the book's columns, "the number of signers and whether the order is released in front of the
+-- content"; a place that holds none has no row
 unfoldable pub orderRow : Place → List ℕ → List ℕ
 orderRow p content = cond (isBooked (p .used)) (orderColumns p (length content) space ++ contentText content) []
 
@@ -70,13 +71,14 @@ abbrev pub heldBy : Direction → ClientRun → ℕ
 heldBy Upload c = 0
 heldBy Download c = c .length
 
--- what happened to an upload, the column "kind", the last of its row
+-- what happened to an upload or to a booked order, the column "kind", the last of its row
 abbrev pub kindText : Kind → List ℕ
 kindText kind.Unused = []
 kindText kind.Opened = ascii "opened\n"
 kindText kind.Booked = ascii "booked\n"
 kindText kind.Cancelled = ascii "cancelled\n"
 kindText kind.Dropped = ascii "dropped\n"
+kindText kind.Signed = ascii "signed\n"
 
 abbrev pub isUsed : Kind → Bool
 isUsed kind.Unused = false
@@ -84,6 +86,7 @@ isUsed kind.Opened = true
 isUsed kind.Booked = true
 isUsed kind.Cancelled = true
 isUsed kind.Dropped = true
+isUsed kind.Signed = true
 
 -- a record of the journal: event, clock, subscriber, type, order, kind; one that is not in use has no row
 unfoldable pub eventRow : Event → List ℕ
@@ -118,10 +121,10 @@ rowCount Journal = recordCount
 unfoldable pub tableOf : Table → UnitState → Lent → List ℕ → List ℕ
 tableOf t u m files = headerText t ++ rowsTo (rowAt t u m files) (rowCount t)
 
--- the most bytes that a header takes, the column "content" with the longest file, a row with it, the column
+-- the most bytes that a header takes, the book's, the column "content" with the longest file, a row with it, the column
 -- "kind", and a row of the journal
 abbrev pub headerRoom : ℕ
-headerRoom = 39
+headerRoom = bookHeaderRoom + 8
 
 abbrev pub contentRoom : ℕ
 contentRoom = 2 * fileBytes + 1

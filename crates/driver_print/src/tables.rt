@@ -18,6 +18,7 @@ use journal::event::OrderName;
 use journal::event::RECORD_COUNT;
 use message::limits::FILE_BYTES;
 use message::order_numbers::order_number_of;
+use print::book::BOOK_HEADER_ROOM;
 use print::book::ORDER_COLUMNS_ROOM;
 use print::book::put_book_header;
 use print::book::put_order_columns;
@@ -42,8 +43,10 @@ ghost use Rattle.driver_print.specs.Tables.{heldBy, kindText, isUsed, ev
 ghost use Rattle.driver_print.specs.Tables.{headerRoom, contentRoom, rowRoom, kindRoom, eventRoom, roomOf};
 ghost use Rattle.driver_print.specs.Tables.{tableRoom};
 
-// The most bytes of a table: the journal's header and 16 of the book's rows.
-pub const TABLE_ROOM: usize = 39 + RUN_COUNT * (ORDER_COLUMNS_ROOM + 2 * FILE_BYTES + 1);
+// The most bytes of a table: the book's header and 16 of its rows.
+pub const TABLE_ROOM: usize = BOOK_HEADER_ROOM
+    + 8
+    + RUN_COUNT * (ORDER_COLUMNS_ROOM + 2 * FILE_BYTES + 1);
 
 // The closing tables.
 pub enum Table {
@@ -143,7 +146,7 @@ fn held_by(c: ClientRun) -> u64
     }
 }
 
-// Writes what happened to an upload, to the line's end. A record that is not in use says nothing.
+// Writes what happened to an upload or a booked order, to the line's end. A record that is not in use says nothing.
 fn put_kind(output: &mut [u8], at: usize, kind: Kind) -> usize
     requires { ⌜ at + kindRoom ≤ length (now output) ⌝ }
     ensures { λ r. ⌜ Put (now (output .entry)) at (kindText kind) (now (output .exit)) r ⌝ }
@@ -154,6 +157,7 @@ fn put_kind(output: &mut [u8], at: usize, kind: Kind) -> usize
         Kind::Booked => put_text(output, at, b"booked\n"),
         Kind::Cancelled => put_text(output, at, b"cancelled\n"),
         Kind::Dropped => put_text(output, at, b"dropped\n"),
+        Kind::Signed => put_text(output, at, b"signed\n"),
     }
 }
 
@@ -167,6 +171,7 @@ fn is_used(kind: Kind) -> bool
         Kind::Booked => true,
         Kind::Cancelled => true,
         Kind::Dropped => true,
+        Kind::Signed => true,
     }
 }
 

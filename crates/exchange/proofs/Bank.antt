@@ -79,7 +79,8 @@ use Rattle.exchange.proofs.Calls.{file-done}
 use Rattle.bank_session.proofs.Host.{frame-answered}
 use Rattle.exchange.proofs.Host.{frameLeft, host-frame, fileLeft, file-answered, host-file}
 use Rattle.frame.proofs.Theorems.{data-read, reply-read}
-use Rattle.exchange.proofs.Events.{verdict-refuses, mailbox-short, case-empties}
+use Rattle.bank_history.proofs.Refusing.{verdict-refuses}
+use Rattle.exchange.proofs.Events.{mailbox-short, case-empties}
 use Rattle.exchange.proofs.Told.{Proper, AllProper, coded, done-confirmed}
 use Rattle.exchange.proofs.Told.{none as no-entry, more as one-more}
 use Rattle.exchange.proofs.Journal.{never-more}

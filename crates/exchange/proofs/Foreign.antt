@@ -18,7 +18,6 @@ use Rattle.octets.specs.Bytes.{number}
 use Rattle.frame_table.specs.Names.{subscriber, transaction, form}
 use Rattle.frame_reader.specs.Reader.{readRequest}
 use Rattle.frame_row.specs.Row.{dataOf}
-use Rattle.frame_table.specs.Table.{isRequestForm}
 use Rattle.octets.proofs.Tests.{never}
 use Rattle.bank_state.specs.Clock.{advanced}
 use Rattle.bank_state.specs.Rows.{countOf}
@@ -47,6 +46,7 @@ use Rattle.bank_steps.proofs.Cases.{
   refused,
   opensUpload,
   opensDownload,
+  signs,
   toUpload,
   toDownload,
   happens,
@@ -80,7 +80,7 @@ use Rattle.message.specs.Limits.{subscribers}
 use Rattle.message.specs.Requests as requests
 use Rattle.exchange.specs.Course.{Issue, Course}
 use Rattle.exchange.specs.Terms.{IssuedBy}
-use Rattle.exchange.specs.Demand3.{isSubscribers, OneExchangeNumber}
+use Rattle.exchange.specs.Demand3.{isNamed, isSubscribers, OneExchangeNumber}
 use Rattle.exchange.proofs.Events.{Empties, case-empties}
 use Rattle.exchange.proofs.Told.{Opening, opening-action, opening-at, Gave, fileIn, bank-replies}
 use Rattle.exchange.proofs.Clients.{asIssue, issuesOf, issued-in, OpenedBy, opened-upload, opened-download, Parts, ownPast}
@@ -103,10 +103,10 @@ under-not (asking e) (inr z) = absurd (let y : _≡_ {A = ℕ} 0 1 = cc in omega
 under-not (confirming e) (inl z) = absurd (let y : _≡_ {A = ℕ} 0 1 = cc in omega arith)
 under-not (confirming e) (inr z) = absurd (let y : _≡_ {A = ℕ} 0 1 = cc in omega arith)
 
-under-request : {q : Fields} → Under q → isRequestForm (form q) ≡ true
-under-request (sending e) = ap isRequestForm e
-under-request (asking e) = ap isRequestForm e
-under-request (confirming e) = ap isRequestForm e
+under-request : {q : Fields} → Under q → isNamed (form q) ≡ true
+under-request (sending e) = ap isNamed e
+under-request (asking e) = ap isNamed e
+under-request (confirming e) = ap isNamed e
 
 asked-under : {q : Fields} (r : TransactionRequest) → form q ≡ requestForm r → Under q
 asked-under asksFor.UploadTransfer e = sending e
@@ -120,6 +120,7 @@ case-under unreadable z o = absurd (let y : _≡_ {A = ℕ} 0 1 = cc in omega ar
 case-under (refused c e) z o = absurd (let y : _≡_ {A = ℕ} 0 1 = cc in omega arith)
 case-under (opensUpload asked a g n inside below) z o = never (sym o ∙ ap opens (sym z))
 case-under (opensDownload asked a g n) z o = never (sym o ∙ ap opens (sym z))
+case-under (signs c) z o = absurd (let y : _≡_ {A = ℕ} 0 1 = cc in omega arith)
 case-under (toUpload r a c) z o = asked-under r (c .asked)
 case-under (toDownload r a c) z o = asked-under r (c .asked)
 

@@ -8,6 +8,7 @@ use native.Mathlib.Omega.{arith}
 use lib.Dec.{leb}
 use lib.ListN.{take}
 use borrow.Author.Tests.{leb-true}
+use Rattle.frame_table.specs.Forms as forms
 use Rattle.frame_table.specs.Names.{subscriber, form}
 use Rattle.frame_table.specs.Table.{isRequestForm}
 use Rattle.frame_reader.specs.Reader.{readRequest}
@@ -43,7 +44,7 @@ use Rattle.exchange.specs.Course.{
   after,
 }
 use Rattle.exchange.specs.Terms.{IssuedBy, NoIdleHour, InTurn, Order, nameOf, InBook}
-use Rattle.exchange.specs.Demand3.{isSubscribers, Allowed, Outcome}
+use Rattle.exchange.specs.Demand3.{isNamed, isSubscribers, Allowed, Outcome}
 use Rattle.exchange.proofs.Calls.{numbered-stays, carried, by-number}
 
 -- ---- "a call given a number may be lent others"
@@ -85,6 +86,11 @@ module _ (s : Course) (m : LentSession) (bank : stateOf (bankIn m) ≡ s .bank) 
   unfolding isSubscribers
   unreadable-allowed n = stray-allowed (rw n)
 
+  -- "closing words hold whoever signs": a signing, by whomever, of whatever order, issued by a run or not
+  pub signing-allowed : form (readRequest (a .frame)) ≡ forms.Signing → Allowed (frameArrives m a) s
+  unfolding isSubscribers
+  signing-allowed f = stray-allowed (rw f refl)
+
   -- a frame under no subscriber's number
   pub unknown-allowed : (1 ≤ subscriber (readRequest (a .frame)) → subscriber (readRequest (a .frame)) ≤ subscribers → ⊥) →
       Allowed (frameArrives m a) s
@@ -97,7 +103,7 @@ module _ (s : Course) (m : LentSession) (bank : stateOf (bankIn m) ≡ s .bank) 
       at : (b : Bool) → isSubscribers (a .frame) ≡ b → b ≡ false
       at false e = refl
       at true e =
-          let readable = isRequestForm (form (readRequest (a .frame))) in
+          let readable = isNamed (form (readRequest (a .frame))) in
           let most = and-true (readable && leb 1 u) (leb u subscribers) e in
           let least = and-true readable (leb 1 u) (most .0) in
           absurd (n (leb-true 1 u (least .1)) (leb-true u subscribers (most .1)))

@@ -13,7 +13,6 @@ use Rattle.frame_table.specs.Forms as forms
 use Rattle.frame_table.specs.Names.{subscriber, exchange, transaction, segments, segment, returnCode, form}
 use Rattle.frame_reader.specs.Reader.{readRequest}
 use Rattle.frame_row.specs.Row.{dataOf}
-use Rattle.frame_table.specs.Table.{isRequestForm}
 use Rattle.message.specs.Codes.{codeField}
 use Rattle.message.specs.Limits.{subscribers, segmentBytes}
 use Rattle.message.specs.Requests.{uploadOpening}
@@ -26,7 +25,7 @@ use Rattle.bank_verdicts.specs.declared.verdict.Verdict.the-variants as verdict
 use Rattle.bank_history.specs.History.{Stands, ActionIn, isTaking, isBooking, isUploadOpening, isDownloadOpening, ever, times, received, atOpening, openedBy, segmentsAt}
 use Rattle.bank_history.specs.History as bank
 use Rattle.bank_history.specs.Sound.{AllSound}
-use Rattle.bank_history.proofs.Positions.{action-sound, booking-last}
+use Rattle.bank_history.proofs.Positions.{stands-behind, action-sound, booking-last}
 use Rattle.bank_history.proofs.Replies.{verdictCode}
 use Rattle.bank_history.proofs.Theorems.{taking-sound, taken-last-books, booking-takes-last, ever-stands, stands-ever, received-payload}
 use Rattle.client_run.proofs.Apart.{not-both}
@@ -47,7 +46,7 @@ use Rattle.client_history.proofs.Requests.{form-uploadTransfer, segment-uploadT
 use Rattle.client_history.proofs.Theorems.{issued-begun, upload-segments, segment-sent, segment-opened, one-subscriber}
 use Rattle.exchange.specs.Course.{Issue, Exchange, Course}
 use Rattle.exchange.specs.Terms.{IssuedBy, Books, Booked}
-use Rattle.exchange.specs.Demand3.{isSubscribers, OneExchangeNumber}
+use Rattle.exchange.specs.Demand3.{isNamed, isSubscribers, OneExchangeNumber}
 use Rattle.exchange.proofs.Told.{
   Opening,
   upload-kind,
@@ -56,7 +55,6 @@ use Rattle.exchange.proofs.Told.{
   opening-at,
   upload-opening,
   download-opening,
-  stands-behind,
   sound-before,
   proper-at,
   coded,
@@ -218,8 +216,8 @@ module _ (s : Course) (v : Parts s) (copies : Copied s) (numbers : OneExchangeNu
 
   -- ---- the requests that the bank took
 
-  -- an answered request under a subscriber's number
-  pub counts : (frame : List ℕ) → isRequestForm (form (readRequest frame)) ≡ true → 1 ≤ subscriber (readRequest frame) →
+  -- an answered request, no signing, under a subscriber's number
+  pub counts : (frame : List ℕ) → isNamed (form (readRequest frame)) ≡ true → 1 ≤ subscriber (readRequest frame) →
       subscriber (readRequest frame) ≤ subscribers → isSubscribers frame ≡ true
   unfolding isSubscribers
   counts frame k low high = rw (
@@ -249,7 +247,7 @@ module _ (s : Course) (v : Parts s) (copies : Copied s) (numbers : OneExchangeNu
       let from : subscriber (o .exchange .request) ≡ subscriber (readRequest (l .0 .request)) =
       sym (opening-at (λ (e : bank.Exchange). subscriber (e .request)) 0 (sound-before sound stands) (o .stands) (o .opening))
       ∙ k .upload .request .owner ∙ ap subscriber (sym (l .2 .request)) in
-      let c = copies (l .0) (l .1) (counts (l .0 .request) (ap isRequestForm asked) (let z = o .low in omega arith)
+      let c = copies (l .0) (l .1) (counts (l .0 .request) (ap isNamed asked) (let z = o .low in omega arith)
       (let z = o .high in omega arith)) in
       let id : transaction (readRequest (l .0 .request)) ≡ t = ap transaction (l .2 .request) ∙ sym (k .upload .request .same) in
       record {

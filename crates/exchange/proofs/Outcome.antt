@@ -14,7 +14,6 @@ use Rattle.frame_table.specs.declared.table.Form.{Form}
 use Rattle.frame_table.specs.Forms as forms
 use Rattle.frame_table.specs.Names.{subscriber, orderType, exchange, transaction, segments, segment, returnCode, orderNumber, form}
 use Rattle.frame_reader.specs.Reader.{readRequest, readReply}
-use Rattle.frame_table.specs.Table.{isRequestForm}
 use Rattle.octets.proofs.Tests.{never}
 use Rattle.message.specs.declared.codes.ReturnCode.{ReturnCode}
 use Rattle.message.specs.declared.codes.ReturnCode.the-variants as code
@@ -87,7 +86,7 @@ use Rattle.client_history.proofs.Requests.{
 use Rattle.client_history.proofs.Theorems.{lodged, not-lodged, last-not-sent, fetched, fetched-file, receipt-issued, one-subscriber, opened-name}
 use Rattle.exchange.specs.Course.{Issue, Exchange, Course, heldOf}
 use Rattle.exchange.specs.Terms.{IssuedBy, Opened, Books, Booked, Order, nameOf, InBook, OrderOf}
-use Rattle.exchange.specs.Demand3.{OneExchangeNumber, Outcome}
+use Rattle.exchange.specs.Demand3.{isNamed, OneExchangeNumber, Outcome}
 use Rattle.exchange.specs.Lists.{AtMostOne}
 use Rattle.exchange.proofs.Told.{
   opening-at,
@@ -137,15 +136,15 @@ use Rattle.exchange.proofs.Joint.{
 -- ---- forms and codes
 
 upload-kind : {s n top : ℕ} {t : Bits128} {payload : List ℕ} {x : history.Issue} → UploadIssue s n t top payload x →
-    isRequestForm (form (x .request)) ≡ true
-upload-kind (uploadOpens number time nonce q d) = ap isRequestForm (ap form q ∙ form-uploadOpening _ _ _ _ _)
-upload-kind (sends number j a b q d) = ap isRequestForm (ap form q ∙ form-uploadTransfer _ _ _ _ _)
+    isNamed (form (x .request)) ≡ true
+upload-kind (uploadOpens number time nonce q d) = ap isNamed (ap form q ∙ form-uploadOpening _ _ _ _ _)
+upload-kind (sends number j a b q d) = ap isNamed (ap form q ∙ form-uploadTransfer _ _ _ _ _)
 
 download-kind : {s n held : ℕ} {t : Bits128} {b : Bool} {f : List ℕ} {x : history.Issue} → DownloadIssue s n t held b f x →
-    isRequestForm (form (x .request)) ≡ true
-download-kind (downloadOpens number time nonce q d) = ap isRequestForm (ap form q ∙ form-downloadOpening _ _ _ _)
-download-kind (asks number j a b c e q d) = ap isRequestForm (ap form q ∙ form-downloadTransfer _ _ _ _)
-download-kind (confirms number a b c e q d) = ap isRequestForm (ap form q ∙ form-receipt _ _ _ _)
+    isNamed (form (x .request)) ≡ true
+download-kind (downloadOpens number time nonce q d) = ap isNamed (ap form q ∙ form-downloadOpening _ _ _ _)
+download-kind (asks number j a b c e q d) = ap isNamed (ap form q ∙ form-downloadTransfer _ _ _ _)
+download-kind (confirms number a b c e q d) = ap isNamed (ap form q ∙ form-receipt _ _ _ _)
 
 pub receipt-id : {p : Past} {f : List ℕ} {x : history.Issue} → ReceiptIssued p f x → transaction (x .request) ≡ p .run .transaction
 receipt-id r = ap transaction (r .request) ∙ id-receipt _ _ _ _
@@ -187,11 +186,11 @@ module _ (s : Course) (v : Parts s) (copies : Copied s) (numbers : OneExchangeNu
 
   -- each run's request is of a request form, under a subscriber's number
   pub request-of : (i : ℕ) {y : history.Issue} → In y (issuesOf i (s .issued)) →
-      (isRequestForm (form (y .request)) ≡ true) × (1 ≤ subscriber (y .request)) × (subscriber (y .request) ≤ subscribers)
+      (isNamed (form (y .request)) ≡ true) × (1 ≤ subscriber (y .request)) × (subscriber (y .request) ≤ subscribers)
   request-of i {y} m = at (v .runs i .own)
     where
       at : Invariant (Gave (v .bank .past .history)) (fileIn (v .bank .past .history)) (ownPast v i) →
-          (isRequestForm (form (y .request)) ≡ true) × (1 ≤ subscriber (y .request)) × (subscriber (y .request) ≤ subscribers)
+          (isNamed (form (y .request)) ≡ true) × (1 ≤ subscriber (y .request)) × (subscriber (y .request) ≤ subscribers)
       at (not-begun e g) = absurd (in-none (subst (In y) g m))
       at (upload b u) = let z = b .bounded .own y m in (
         upload-kind (u .each y m),
@@ -211,7 +210,7 @@ module _ (s : Course) (v : Parts s) (copies : Copied s) (numbers : OneExchangeNu
       let q : readRequest (l .0 .request) ≡ y .request = l .2 .request ∙ a .request in
       let k = request-of i m in
       let n = ap subscriber q in
-      let c = copies (l .0) (l .1) (counts s v copies numbers (l .0 .request) (ap (λ (f : Fields). isRequestForm (form f)) q ∙ k .0)
+      let c = copies (l .0) (l .1) (counts s v copies numbers (l .0 .request) (ap (λ (f : Fields). isNamed (form f)) q ∙ k .0)
       (let z = k .1 in omega arith) (let z = k .2 in omega arith)) in
       let x = issue-of i (s .issued) m in
       let one : c .1 .0 ≡ x .issue = one-issue s numbers (c .1 .1) (x .own)
@@ -542,7 +541,7 @@ module _ (s : Course) (v : Parts s) (copies : Copied s) (numbers : OneExchangeNu
       sym (opening-at (λ (x : bank.Exchange). subscriber (x .request)) 0 g (o .stands) (o .opening))
       ∙ d .download .request .owner ∙ ap subscriber (sym (f .same .request)) in
       let asked : form (readRequest (e .request)) ≡ forms.Receipt = ap form (f .same .request) ∙ d .asked in
-      let c = copies e m (counts s v copies numbers (e .request) (ap isRequestForm asked) (let y = o .low in omega arith)
+      let c = copies e m (counts s v copies numbers (e .request) (ap isNamed asked) (let y = o .low in omega arith)
       (let y = o .high in omega arith)) in
       let q : readRequest (c .1 .0 .frame) ≡ readRequest (e .request) = ap readRequest (c .1 .3) in
       let r = receipt-issued (Gave h) (fileIn h) replies (ownPast v (c .0)) (v .runs (c .0) .own) (asIssue (c .1 .0))

@@ -39,7 +39,7 @@ use Rattle.bank_history.specs.History.{newest, isOpening, exchangeOf, callExcha
 use Rattle.bank_history.specs.History as bank
 use Rattle.bank_history.specs.Transactions.{UploadAt, DownloadAt, UploadUnlessIdle, DownloadUnlessIdle, answered}
 use Rattle.bank_history.proofs.Liveness as bankTurn
-use Rattle.bank_history.proofs.Positions.{action-sound}
+use Rattle.bank_history.proofs.Positions.{action-sound, signing-sound}
 use Rattle.bank_history.proofs.Theorems.{reply-is}
 use Rattle.client_run.specs.declared.run.ClientRun.{ClientRun}
 use Rattle.client_run.specs.declared.run.Direction.{Direction}
@@ -335,9 +335,20 @@ module _ (s : Course) (v : Parts s) (copies : Copied s) (numbers : OneExchangeNu
           (form (readRequest (a .frame)) ≡ forms.DownloadOpening) →
           returnCode (readReply (f .reply)) ≡ codeField code.Ok →
           (id : Bits128) × (k : Action) × (x .verdict ≡ verdict.Of id k) × (isOpening k ≡ true)
-      opening-done kind ok = let b = by-code (en .sound) newest (en .proper) code.Ok refl (sym (ap returnCode (en .same .reply)) ∙ ok) in
+      opening-done kind ok =
+          let b = by-code (en .sound) newest (en .proper) code.Ok refl (sym (ap returnCode (en .same .reply)) ∙ ok) unsigned in
           (b .0, b .1, b .2, at (b .2) (isOpening (b .1)) refl)
         where
+          other : (form (readRequest (a .frame)) ≡ forms.UploadOpening) ⊎ (form (readRequest (a .frame)) ≡ forms.DownloadOpening) →
+              form (readRequest (a .frame)) ≡ forms.Signing → ⊥
+          other (inl o) f = let y : _≡_ {A = ℕ} 0 1 = cc in omega arith
+          other (inr o) f = let y : _≡_ {A = ℕ} 0 1 = cc in omega arith
+
+          unsigned : (n : ℕ) (added : Bool) → x .verdict ≡ verdict.Signed n added → ⊥
+          unsigned n added own =
+              other kind (ap (λ (l : List ℕ). form (readRequest l)) (sym (en .request)) ∙ ap form (en .same .request)
+              ∙ signing-sound (en .sound) newest own .asked)
+
           at : {id : Bits128} {k : Action} → x .verdict ≡ verdict.Of id k → (z : Bool) → isOpening k ≡ z → z ≡ true
           at e true z = refl
           at e false z = under-not (case-of s v copies numbers a (λ _. (i, own)) (en .sound) e z) kind

@@ -7,13 +7,12 @@ use native.Mathlib.Omega.{arith}
 use Rattle.frame_table.specs.declared.fields.Fields.{Fields}
 use Rattle.frame_table.specs.Names.{subscriber, exchange, form}
 use Rattle.frame_reader.specs.Reader.{readRequest}
-use Rattle.frame_table.specs.Table.{isRequestForm}
 use Rattle.client_run.specs.declared.run.Answer.{Answer}
 use Rattle.client_run.specs.declared.run.Answer.the-variants as answer
 use Rattle.client_run.specs.Run.{Lent, ClientCall}
 use Rattle.exchange.specs.Course.{Call, Issue, Exchange, Arrival, Course, issuedBy, afterRun, exec}
 use Rattle.exchange.specs.Terms.{IssuedBy, Received}
-use Rattle.exchange.specs.Demand3.{Allowed, OneExchangeNumber}
+use Rattle.exchange.specs.Demand3.{isNamed, Allowed, OneExchangeNumber}
 use Rattle.exchange.proofs.Clients.{runPast, issued-in, other-past, Parts}
 use Rattle.exchange.proofs.Issues.{in-more, run-issues, call-issues, one-issue}
 use Rattle.exchange.proofs.Courses.{Copied, call-keeps, copied-call}
@@ -30,7 +29,7 @@ module _ (k : Call) (s : Course) (v : Parts s) (copies : Copied s) (q : Allowed 
       let y = request-of (exec k s) w c numbers i (issued-in i n r) in
       let z : readRequest (x .frame) ≡ readRequest (e .request) = ap readRequest f in
       let g = ap subscriber z in
-      let o = copies e m (counts (exec k s) w c numbers (e .request) (ap (λ (a : Fields). isRequestForm (form a)) (sym z) ∙ y .0)
+      let o = copies e m (counts (exec k s) w c numbers (e .request) (ap (λ (a : Fields). isNamed (form a)) (sym z) ∙ y .0)
       (let l = y .1 in omega arith) (let l = y .2 in omega arith)) in
       let same : o .1 .0 ≡ x =
       one-issue (exec k s) numbers (in-more (call-issues k s) (o .1 .1)) n

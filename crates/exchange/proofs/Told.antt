@@ -32,7 +32,7 @@ use Rattle.bank_history.specs.History.{Exchange, Stands, newest, older, ActionI
 use Rattle.bank_history.specs.Sound.{isCancelling, SoundConfirmed, AllSound}
 use Rattle.bank_history.specs.Sound.{more as sounds}
 use Rattle.bank_history.proofs.Entries.{same-bits}
-use Rattle.bank_history.proofs.Positions.{action-sound}
+use Rattle.bank_history.proofs.Positions.{stands-behind, action-sound, signing-sound}
 use Rattle.bank_history.proofs.Replies.{
   verdictForm,
   verdictCode,
@@ -47,13 +47,7 @@ use Rattle.bank_history.proofs.Replies.{
 }
 use Rattle.bank_history.proofs.Theorems.{one-opening, ever-stands, reply-is, reply-exchange, download-opened, segment-delivered}
 use Rattle.client_history.specs.History.{BankReplies}
-use Rattle.exchange.proofs.Events.{refuses, isRefusing, refusing-code, Refuses}
-
--- ---- places of a history
-
-pub stands-behind : {e f : Exchange} {g k h : List Exchange} → Stands f k g → Stands e g h → Stands f k h
-stands-behind p newest = older p
-stands-behind p (older q) = older (stands-behind p q)
+use Rattle.bank_history.proofs.Refusing.{refuses, isRefusing, refusing-code, Refuses}
 
 -- what is asked of every exchange: its refusals' codes, and a file of at most the bytes of a mailbox
 pub record Proper (e : Exchange) : Type 0 where
@@ -122,6 +116,7 @@ did-action f t e h = at (e .verdict) refl h
     at : (v : Verdict) → e .verdict ≡ v → did f t v ≡ true → ActionIn f t e
     at verdict.Unreadable z k = never k
     at (verdict.Refused c) z k = never k
+    at (verdict.Signed n added) z k = never k
     at (verdict.Of u a) z k =
         let b = and-true (sameBits t u) (f a) k in
         record { action = a; is = z ∙ ap (λ (i : Bits128). verdict.Of i a) (sym (bits-same t u (b .0))); kind = b .1 }
@@ -200,10 +195,11 @@ module _ {e : Exchange} {g h : List Exchange} (sound : AllSound h) (stands : Sta
       at d = by d (d .kind)
 
   module _ (proper : Proper e) where
-    -- the verdict by its code, where that is no refusal's
+    -- the verdict by its code, where that is no refusal's and the request no accepted signing
     pub by-code : (c : ReturnCode) → refuses c ≡ false → returnCode (e .reply) ≡ codeField c →
+        ((n : ℕ) (added : Bool) → e .verdict ≡ verdict.Signed n added → ⊥) →
         (t : Bits128) × (k : Action) × (e .verdict ≡ verdict.Of t k)
-    by-code c n z = at (e .verdict) refl (proper .refuses)
+    by-code c n z unsigned = at (e .verdict) refl (proper .refuses)
       where
         told : (v : Verdict) → e .verdict ≡ v → isRefusing (codeField (verdictCode v)) ≡ false
         told v own = ap (λ (u : Verdict). isRefusing (codeField (verdictCode u))) (sym own) ∙ ap isRefusing (sym coded ∙ z)
@@ -213,6 +209,7 @@ module _ {e : Exchange} {g h : List Exchange} (sound : AllSound h) (stands : Sta
         at verdict.Unreadable own r = never (sym (told verdict.Unreadable own))
         at (verdict.Refused x) own r = never (sym (told (verdict.Refused x) own) ∙ (refusing-code x ∙ r))
         at (verdict.Of t k) own r = (t, k, own)
+        at (verdict.Signed m added) own r = absurd (unsigned m added own)
 
     other-code : {A : Type 0} (c : ReturnCode) {t : Bits128} {k : Action} → returnCode (e .reply) ≡ codeField c →
         e .verdict ≡ verdict.Of t k →
@@ -222,8 +219,13 @@ module _ {e : Exchange} {g h : List Exchange} (sound : AllSound h) (stands : Sta
     -- 000000 to an upload transfer: a segment of the request's transaction is taken
     pub transfer-taken : form (e .request) ≡ forms.UploadTransfer → returnCode (e .reply) ≡ codeField code.Ok →
         ActionIn isTaking (transaction (e .request)) e
-    transfer-taken asked z = let b = by-code code.Ok refl z in at (b .0) (b .1) (b .2)
+    transfer-taken asked z = let b = by-code code.Ok refl z unsigned in at (b .0) (b .1) (b .2)
       where
+        unsigned : (n : ℕ) (added : Bool) → e .verdict ≡ verdict.Signed n added → ⊥
+        unsigned n added own =
+            let f = sym (signing-sound sound stands own .asked) ∙ asked in
+            let y : _≡_ {A = ℕ} 0 1 = cc in omega arith
+
         Out : Type 0
         Out = ActionIn isTaking (transaction (e .request)) e
 
@@ -268,8 +270,12 @@ module _ {e : Exchange} {g h : List Exchange} (sound : AllSound h) (stands : Sta
     pub done-confirmed : returnCode (e .reply) ≡ codeField code.DownloadPostprocessDone →
         (e .verdict ≡ verdict.Of (transaction (e .request)) (action.Download down.Confirmed))
         × SoundConfirmed (transaction (e .request)) e g
-    done-confirmed z = let b = by-code code.DownloadPostprocessDone refl z in at (b .0) (b .1) (b .2)
+    done-confirmed z = let b = by-code code.DownloadPostprocessDone refl z unsigned in at (b .0) (b .1) (b .2)
       where
+        unsigned : (n : ℕ) (added : Bool) → e .verdict ≡ verdict.Signed n added → ⊥
+        unsigned n added own =
+            let y = ap (λ (v : Verdict). codeField (verdictCode v)) (sym own) ∙ sym coded ∙ z in omega arith
+
         Out : Type 0
         Out = (e .verdict ≡ verdict.Of (transaction (e .request)) (action.Download down.Confirmed))
             × SoundConfirmed (transaction (e .request)) e g

@@ -1,10 +1,11 @@
 -- Demand 3 of document 01: its premises, its clauses, and the one claim over every list of calls.
 use Prim.Native.Nat.{ℕ, _≤_}
 use mathlib.Core.Path.{_≡_}
-use mathlib.Core.Bool.{Bool, true, _&&_}
+use mathlib.Core.Bool.{Bool, true, not, _&&_}
 use mathlib.Core.Logic.{_⊎_}
 use mathlib.Core.List.{List, [], _∷_, _++_, map, List·Memᴰ as In}
 use lib.Dec.{leb}
+use Rattle.frame_table.specs.declared.table.Form.{Form}
 use Rattle.frame_table.specs.Forms as forms
 use Rattle.frame_table.specs.Names.{subscriber, exchange, returnCode, form}
 use Rattle.frame_reader.specs.Reader.{readRequest, readReply}
@@ -15,6 +16,7 @@ use Rattle.message.specs.Limits.{subscribers}
 use Rattle.bank_rows.specs.State.{bankOf}
 use Rattle.bank_steps.specs.Lent.{stateOf}
 use Rattle.bank_session.specs.Session.{bankRows, bankIn, journalIn}
+use Rattle.bank_history.specs.Signatures.{isSigningForm}
 use Rattle.client_run.specs.declared.run.ClientRun.{ClientRun}
 use Rattle.client_run.specs.declared.run.Stage.the-variants as stage
 use Rattle.client_run.specs.declared.run.Word.the-variants.{Lodged, NotLodged, Fetched}
@@ -56,9 +58,14 @@ use Rattle.exchange.specs.Terms.{
 
 -- ---- THE PREMISES
 
--- a readable frame under a subscriber's number
+-- the request forms that demand 3 names; card 8: "closing words hold whoever signs: demand 3's premise on requests
+-- leaves signings out", so that every readable frame of that form is free, whoever sent it
+abbrev pub isNamed : Form → Bool
+isNamed f = isRequestForm f && not (isSigningForm f)
+
+-- a readable frame of such a form under a subscriber's number
 unfoldable pub isSubscribers : List ℕ → Bool
-isSubscribers frame = isRequestForm (form (readRequest frame)) && leb 1 (subscriber (readRequest frame)) && leb
+isSubscribers frame = isNamed (form (readRequest frame)) && leb 1 (subscriber (readRequest frame)) && leb
     (subscriber (readRequest frame)) subscribers
 
 -- "Each call gets state, stores, payload and file buffer as the last call not given a number left them at its end (the
@@ -67,12 +74,12 @@ abbrev pub Left : ℕ → ClientRun → Lent → Course → Type 0
 Left i c l s = (c ≡ s .runs i) × (l .payload ≡ s .payloads i) × (l .file ≡ s .files i)
 
 -- "A request that demand 3 names is a copy of one issued earlier in the list; a reply is a copy of one the bank gave
--- earlier for such a copy": each frame under a subscriber's number, and each reply that reaches a run. A begin brings
--- its own payload and file buffer. A run is handed the row "as the bank last left it": as its last call given no number
--- did. "Demand 3 covers a resumed session when nothing ran between the writing and the taking up": the image is one
--- that the list wrote, no frame or file call given no number stands between, and the session lent is free; "no image is
--- taken up twice" is not asked, as the session taken up is the one that stands. A file call may be lent any number of
--- events, which it leaves
+-- earlier for such a copy": each frame under a subscriber's number that is no signing, and each reply that reaches a
+-- run. A begin brings its own payload and file buffer. A run is handed the row "as the bank last left it": as its last
+-- call given no number did. "Demand 3 covers a resumed session when nothing ran between the writing and the taking up":
+-- the image is one that the list wrote, no frame or file call given no number stands between, and the session lent is
+-- free; "no image is taken up twice" is not asked, as the session taken up is the one that stands. A file call may be
+-- lent any number of events, which it leaves
 abbrev pub Premise : Call → Course → Type 0
 Premise (frameArrives m a) s = (stateOf (bankIn m) ≡ s .bank) × (journalIn m ≡ s .journal)
     × (isSubscribers (a .frame) ≡ true → (i : ℕ) × IssuedBy i (a .frame) s)

@@ -1,7 +1,7 @@
 -- Computed examples of demand 3: lists that meet its premises, what they come to, and the theorem applied to them.
 use Prim.Native.Nat.{ℕ, _+_, _-_, _^_}
 use mathlib.Core.Bool.{true}
-use mathlib.Core.List.{List, [], _∷_, _++_, List·Memᴰ as In, List·Memᴰ·not-nil as in-none}
+use mathlib.Core.List.{List, [], _∷_, _++_, map, List·Memᴰ as In, List·Memᴰ·not-nil as in-none}
 use mathlib.Core.Logic.{inl, inr}
 use mathlib.Core.Path.{_≡_, refl, sym, ap, _∙_, subst}
 use native.Mathlib.Omega.{arith}
@@ -10,9 +10,13 @@ use Rattle.frame_table.specs.Forms as forms
 use Rattle.frame_table.specs.Names.{segment, returnCode, form}
 use Rattle.frame_table.specs.Table.{lastTime}
 use Rattle.frame_reader.specs.Reader.{readRequest, readReply}
+use Rattle.frame_writer.specs.Writer.{frameOf}
 use Rattle.message.specs.declared.codes.ReturnCode.the-variants as code
 use Rattle.message.specs.Codes.{codeField}
+use Rattle.message.specs.OrderNumbers.{orderNumberOf}
+use Rattle.message.specs.Requests.{signing}
 use Rattle.message.specs.Segments.{segmentsOf}
+use Rattle.signers.specs.Signers.{countFrom, signerCount, isReleased}
 use Rattle.journal.specs.declared.event.Event.{Event}
 use Rattle.journal.specs.declared.event.OrderName.{OrderName}
 use Rattle.journal.specs.Events.{maxEntries}
@@ -250,6 +254,27 @@ bothFirst =
 abbrev ownSeries : List Move
 ownSeries = bothFirst ++ (stray (1 ∷ 2 ∷ 3 ∷ []) firstGone ∷ hands 0 ∷ [])
 
+-- ---- signings between
+
+-- a signing of subscriber 1's A000 by subscriber u, with this nonce
+abbrev signingBy : ℕ → ℕ → List ℕ
+signingBy u n = frameOf (signing u 300 (record { high = 1; low = n }) 1000 (orderNumberOf 0) 1) []
+
+-- An order in turn that others sign, by requests that no run issued: subscriber 2 before the booking, who is refused and
+-- signs after it by the same request, and subscriber 3, twice
+abbrev signedBetween : List Move
+signedBetween =
+    openingSent
+    ++ (stray (signingBy 2 1) 1000
+    ∷ reaches 0 1
+    ∷ comes 0 1000
+    ∷ stray (signingBy 2 1) 1000
+    ∷ stray (signingBy 3 2) 1000
+    ∷ stray (signingBy 3 3) 1000
+    ∷ reaches 0 3
+    ∷ hands 0
+    ∷ [])
+
 -- ---- a session put away
 
 -- an order in turn whose session is put away and taken up
@@ -405,6 +430,22 @@ computed-series = record {
   own-series-done = meets ownSeries tt refl (refl, refl, (refl, refl, refl));
 }
 
+-- the codes of the replies, the newest first
+abbrev codesOf : Course → List ℕ
+codesOf s = map (λ (e : Exchange). returnCode (readReply (e .reply))) (s .exchanged)
+
+record ComputedSignings : Type 0 where
+  signed-between-done : Orders 0 5 signedBetween
+      (λ (s : Course). Opens 5 s
+      × (codesOf s ≡ map codeField (code.Ok ∷ code.Ok ∷ code.Ok ∷ code.Ok ∷ code.OrderIdUnknown ∷ code.Ok ∷ []))
+      × InFirstPlace s × (isReleased (placeAt (s .bank .bank) 0 .signers) ≡ true) × (s .journal .events ≡ 4))
+
+computed-signings : ComputedSignings
+unfolding bothEnds isReleased signerCount countFrom
+computed-signings = record {
+  signed-between-done = orders 0 5 signedBetween tt refl (inl refl, refl, refl, refl, refl);
+}
+
 -- ---- with the image's bytes
 
 resuming-asked : AskedBy quickNext resuming start
@@ -442,6 +483,11 @@ lodging-closed = closed 0 1 lodging tt (computed .lodging-done .in-order) (compu
 -- a call of "no reply" that is given no number is not in turn
 losing-not-in-turn : AllInTurn 0 (callsOf losing start) start → ⊥
 losing-not-in-turn h = h .2 .2 .2 .2 .1 (computed .no-reply-taken .ends) refl
+
+-- "closing words hold whoever signs"
+signed-between-closed : Closed 0 (endOf signedBetween start)
+signed-between-closed =
+    closed 0 5 signedBetween tt (computed-signings .signed-between-done .in-order) (computed-signings .signed-between-done .ends .0)
 
 fetching-closed : Closed 0 (endOf fetching start)
 fetching-closed = closed 0 1 fetching tt (computed .fetching-done .in-order) (computed .fetching-done .ends .0)

@@ -8,6 +8,7 @@ use Rattle.message.specs.OrderNumbers as messageOrderNumbers
 use Rattle.message.specs.Replies as messageReplies
 use Rattle.message.specs.Requests as messageRequests
 use Rattle.message.specs.Segments as messageSegments
+use Rattle.signers.specs.Signers as signerSets
 use Rattle.bank_state.specs.Clock as bankstateClock
 use Rattle.bank_state.specs.Rows as bankstateRows
 use Rattle.bank_state.specs.Search as bankstateSearch
@@ -18,6 +19,7 @@ use Rattle.bank_rows.specs.Rows as bankrowsRows
 use Rattle.bank_verdicts.specs.Refusals as refusals
 use Rattle.bank_verdicts.specs.Judgement as judgement
 use Rattle.bank_openings.specs.Openings as openings
+use Rattle.bank_signing.specs.Signings as signings
 use Rattle.bank_uploads.specs.Uploads as uploads
 use Rattle.bank_sound.specs.Sound as soundRows
 use Rattle.bank.specs.Lent as bankLent
@@ -59,7 +61,7 @@ unfolding frameBytes.numberFrom frameBytes.number frameBytes.bytesOf frameBytes.
     frameWriter.writeBuffer messageReplies.uploadOpened messageReplies.downloadOpened messageReplies.segmentTaken
     messageReplies.recoveryPoint messageReplies.downloadSegment messageReplies.receiptAnswered
     messageReplies.unreadable messageReplies.refusal messageRequests.uploadOpening messageRequests.downloadOpening
-    messageRequests.uploadTransfer messageRequests.downloadTransfer messageRequests.receipt messageSegments.segmentsOf
+    messageRequests.uploadTransfer messageRequests.downloadTransfer messageRequests.receipt messageRequests.signing messageSegments.segmentsOf
     messageSegments.segmentOf bankstateClock.isIdle bankstateClock.freed bankstateClock.dropUpload
     bankstateClock.dropUploads bankstateClock.ends bankstateClock.endDownloads bankstateClock.forget
     bankstateClock.atClock bankstateClock.advanced bankstateRows.firstOf bankstateRows.countOf bankstateRows.keep
@@ -68,11 +70,13 @@ unfolding frameBytes.numberFrom frameBytes.number frameBytes.bytesOf frameBytes.
     bankstateSearch.openCount bankstateSearch.openCountOf bankstateSearch.isRemembered bankstateState.fresh
     bankstateStore.partAt bankstateStore.withPart bankstateStore.zeroed bankstateStore.fileOf bankstateState.fileLength
     bankstateState.seriesOf refusals.noSubscriber refusals.longData refusals.requestRows refusals.unknownType refusals.manySegments
-    refusals.inTime refusals.isReplay refusals.manyOpen refusals.isFull refusals.noShare refusals.openingRows refusals.notOpen
+    refusals.inTime refusals.isReplay refusals.manyOpen refusals.isFull refusals.noShare refusals.openingRows refusals.noOwner
+    refusals.signsDownload refusals.isOrder refusals.findOrder refusals.notBooked refusals.noMemory refusals.signingRows refusals.notOpen
     refusals.transactionRows refusals.uploadAttempt refusals.isUnderrun refusals.isExceeded refusals.segmentRows
-    refusals.uploadRows refusals.downloadAttempt refusals.receiptRows refusals.downloadRows judgement.judgeOpening
+    refusals.uploadRows refusals.downloadAttempt refusals.receiptRows refusals.downloadRows judgement.judgeOpening judgement.judgeSigning
     judgement.takes judgement.judgeUpload judgement.judgeDownload judgement.judgeOpen judgement.judgeTransaction
-    judgement.judge openings.counted openings.countedUpload openings.openUpload openings.openDownload messageOrderNumbers.character
+    judgement.judge openings.counted openings.countedUpload openings.openUpload openings.openDownload signings.sign signerSets.hasBit
+    signerSets.isSigner signerSets.withSigner messageOrderNumbers.character
     messageOrderNumbers.letter messageOrderNumbers.orderNumberOf uploads.grown uploads.booked uploads.attempted
     bankCall.mailboxSegment bankCall.respond bankCall.lentRight bankCall.frameCall bankMailbox.fileRefusals
     bankMailbox.fileCall clientCalls.isWritten clientCalls.requestWith clientCalls.issued clientCalls.taken
@@ -104,7 +108,8 @@ unfolding bankrowsState.bankOf bankrowsState.joined bankrowsState.stored bankrow
     conditions.sameNonce conditions.noncesDistinct recordsShapes.unused conditions.noncesUnused conditions.downloadRises
     conditions.downloadsUnused conditions.sameOrder conditions.ordersDistinct recordsLayout.slotAt conditions.sameNumber
     conditions.numbersDistinct conditions.isOpenSlot conditions.isOpenOf conditions.openInAll conditions.openOfOne
-    conditions.eventsFit conditions.bytesBehind conditions.placeBytes conditions.mailboxBytes conditions.journalUnused
+    conditions.signersAt conditions.signersInAll signerSets.hasBit signerSets.isSigner signerSets.countFrom
+    signerSets.signerCount conditions.eventsFit conditions.bytesBehind conditions.placeBytes conditions.mailboxBytes conditions.journalUnused
     conditions.nonceTest conditions.downloadTest conditions.placeTest conditions.mailboxTest conditions.eventTest
     conditions.everySeries conditions.everyNonce conditions.everyDownload conditions.everyPlace conditions.everyMailbox
     conditions.everySubscriber conditions.everyEvent conditions.seriesConditions conditions.nonceConditions

@@ -1,32 +1,29 @@
-// The exercises A, B and C on standard output: a script played on the unit, each move with its line.
-mod lines;
-mod record;
+// The exercises A to D on standard output: a script played on the unit, each move with its line.
 mod results;
-mod say;
-mod script;
 
 use bank_rows::layout::STATE_SIZE;
 use bank_session::layout::SESSION_SIZE;
 use bank_state::limits::REPLY_ROOM;
 use bank_state::limits::STORE_BYTES;
+use exercise_texts::lines::say_line;
+use exercise_texts::record::MAIL_BYTES;
+use exercise_texts::record::RECORD_BYTES;
+use exercise_texts::record::keep;
+use exercise_texts::record::message_of;
+use exercise_texts::record::put_move;
+use exercise_texts::record::put_signing;
+use exercise_texts::script::MOVES;
+use exercise_texts::script::MOVES_A;
+use exercise_texts::script::MOVES_B;
+use exercise_texts::script::MOVES_C;
+use exercise_texts::script::MOVES_DAY;
+use exercise_texts::script::Move;
+use exercise_texts::script::move_at;
 use libc::STDOUT_FILENO;
-use lines::say_line;
-use record::MAIL_BYTES;
-use record::RECORD_BYTES;
-use record::hold_back;
-use record::keep;
-use record::message_of;
-use record::put_move;
 use results::say_book;
 use results::say_days;
 use results::say_handed;
 use results::say_results;
-use script::MOVES;
-use script::MOVES_A;
-use script::MOVES_B;
-use script::MOVES_DAY;
-use script::Move;
-use script::move_at;
 use unit::call::call;
 use unit_rows::events::ROW_SIZE;
 use unit_rows::runs::NONCES_SIZE;
@@ -53,8 +50,9 @@ fn bank_numbers(rows: &[u64]) -> [u64; STATE_SIZE] {
     numbers
 }
 
-// Prints what stands before move i: the headings, with exercise C's each order's closing word, and after the last move
-// those of the runs that were handed the journal, the book, and the day on which each order is executed.
+// Prints what stands before move i: the headings, with exercise C's each order's closing word, before exercise D's
+// those of the runs that were handed the journal, the book, and the day on which each order is executed, and after the
+// last move the book again, with the signers.
 fn say_before(
     i: u8,
     runs: &[u64; RUNS_SIZE],
@@ -80,15 +78,18 @@ fn say_before(
             b"exercise C: each order's closing word beside what the bank has\n",
         );
         say_results(runs, nonces, &bank_numbers(rows), orders, files);
-    } else if i == MOVES {
+    } else if i == MOVES_C {
         let numbers = bank_numbers(rows);
         say_handed(runs, nonces, &numbers, orders, files);
         say_book(&numbers);
         say_days(row);
+        io::write_all(STDOUT_FILENO, b"exercise D: a booked order is signed\n");
+    } else if i == MOVES {
+        say_book(&bank_numbers(rows));
     }
 }
 
-// Plays a move on the unit, and prints its line.
+// Plays a move on the unit, its message among the mail, and prints its line.
 fn play_move(
     runs: &mut [u64; RUNS_SIZE],
     nonces: &mut [u8; NONCES_SIZE],
@@ -119,11 +120,10 @@ fn play_move(
         room,
     );
     say_line(m, message_of(mail, m), answer);
-    hold_back(mail, m.fate, &record);
-    keep(mail, answer, &buffer);
+    keep(mail, m.fate, &record, answer, &buffer);
 }
 
-// Plays the moves of the script from one on, up to another.
+// Plays the moves of the script from one on, up to another; a signing is written before it is sent.
 fn play(
     runs: &mut [u64; RUNS_SIZE],
     nonces: &mut [u8; NONCES_SIZE],
@@ -143,6 +143,7 @@ fn play(
         say_before(i, runs, nonces, row, rows, orders, files);
         let m = move_at(i);
         i += 1;
+        put_signing(mail, m);
         play_move(
             runs,
             nonces,

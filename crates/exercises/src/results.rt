@@ -1,12 +1,5 @@
 // Exercise C: a run's closing word beside what the bank has, whether the word is true of it, the bank's book, and the
 // day on which each booked order is executed.
-use crate::record::content_of;
-use crate::record::example_text;
-use crate::say::VALUES;
-use crate::say::say;
-use crate::say::say_closing;
-use crate::say::say_end;
-use crate::script::RUN_COUNT;
 use bank_rows::layout::STATE_SIZE;
 use bank_rows::numbers::file_length;
 use bank_rows::places::place_at;
@@ -21,6 +14,13 @@ use client_run::run::Direction;
 use client_run::run::Stage;
 use client_run::run::Word;
 use client_run::run::order_name;
+use exercise_texts::record::content_of;
+use exercise_texts::record::example_text;
+use exercise_texts::say::VALUES;
+use exercise_texts::say::say;
+use exercise_texts::say::say_closing;
+use exercise_texts::say::say_end;
+use exercise_texts::script::RUN_COUNT;
 use journal::event::Event;
 use journal::event::Kind;
 use journal::event::OrderName;

@@ -40,6 +40,8 @@ use Rattle.frame_writer.specs.Writer.{
   writable,
   uploadOpeningLength,
   downloadOpeningLength,
+  signingLength,
+  signedLength,
   requestRoom,
   replyRoom,
   smallestReply,
@@ -113,6 +115,7 @@ requests-fit request.DownloadOpening = omega arith
 requests-fit request.UploadTransfer = omega arith
 requests-fit request.DownloadTransfer = omega arith
 requests-fit request.Receipt = omega arith
+requests-fit request.Signing = omega arith
 
 replies-fit : (x : ReplyForm) → formLength (Reply x) segmentBytes ≤ replyRoom
 unfolding frameLength lengthFrom width
@@ -164,6 +167,14 @@ download-tags : (n : ℕ) → formLength forms.DownloadOpening n ≡ downloadOpe
 unfolding frameLength lengthFrom width
 download-tags n = refl
 
+signing-tags : (n : ℕ) → formLength forms.Signing n ≡ signingLength
+unfolding frameLength lengthFrom width
+signing-tags n = refl
+
+signed-tags : (n : ℕ) → formLength forms.Refusal n ≡ signedLength
+unfolding frameLength lengthFrom width
+signed-tags n = refl
+
 module _ (f : Fields) (d : List ℕ) (h : writable f d ≡ true) where
   -- a frame of a form is as long as the tables say of that form
   pub form-length : length (frameOf f d) ≡ formLength (form f) (length d)
@@ -182,3 +193,9 @@ module _ (f : Fields) (d : List ℕ) (h : writable f d ≡ true) where
 
   pub download-length : form f ≡ forms.DownloadOpening → length (frameOf f d) ≡ downloadOpeningLength
   download-length e = form-length ∙ ap (λ (x : Form). formLength x (length d)) e ∙ download-tags (length d)
+
+  pub signing-size : form f ≡ forms.Signing → length (frameOf f d) ≡ signingLength
+  signing-size e = form-length ∙ ap (λ (x : Form). formLength x (length d)) e ∙ signing-tags (length d)
+
+  pub signed-size : form f ≡ forms.Refusal → length (frameOf f d) ≡ signedLength
+  signed-size e = form-length ∙ ap (λ (x : Form). formLength x (length d)) e ∙ signed-tags (length d)

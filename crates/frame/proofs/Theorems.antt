@@ -19,12 +19,14 @@ use Rattle.frame_table.specs.Table.{
   exchangeTag,
   timestampTag,
   lastTime,
+  uzhnn,
   segmentsTag,
   transactionTag,
   segmentTag,
   lastMarkTag,
   dataTag,
   returnCodeTag,
+  orderAttributeTag,
   width,
   valuesOf,
   inRange,
@@ -37,7 +39,7 @@ use Rattle.frame_table.specs.Table.{
   isReplyForm,
   isForm,
 }
-use Rattle.frame_table.specs.Names.{form, with, timestamp}
+use Rattle.frame_table.specs.Names.{form, with, timestamp, orderAttribute}
 use Rattle.frame_row.specs.Row.{spelled, listed, wellFormed, dataOf, highOf, lowOf, piece, join}
 use Rattle.frame_reader.specs.Reader.{parse, readAs, readRequest, readReply}
 use Rattle.frame_table.specs.Names.{noFields}
@@ -54,6 +56,8 @@ use Rattle.frame_writer.specs.Writer.{
   writeBuffer,
   uploadOpeningLength,
   downloadOpeningLength,
+  signingLength,
+  signedLength,
   requestRoom,
   replyRoom,
   smallestReply,
@@ -63,7 +67,16 @@ use Rattle.octets.proofs.Tests.{never}
 use Rattle.frame_table.proofs.Forms.{request-not-reply, reply-not-request, request-form, reply-form}
 use Rattle.frame_writer.proofs.Loops.{field-writable}
 use Rattle.frame.proofs.RoundTrip.{Sized, parse-frameOf, dataOf-frameOf, frameOf-parse, writable-parse, writable-at}
-use Rattle.frame.proofs.Lengths.{writable-parts, form-length, length-limit, length-least, opening-length, download-length}
+use Rattle.frame.proofs.Lengths.{
+  writable-parts,
+  form-length,
+  length-limit,
+  length-least,
+  opening-length,
+  download-length,
+  signing-size,
+  signed-size,
+}
 use Rattle.frame_writer.proofs.Written.{written-front}
 use Rattle.frame.proofs.Parsed.{numberOf, Halves, InRow, field-in-row, read-halves, in-row, read-data}
 
@@ -204,6 +217,13 @@ module _ (s : List ℕ) where
           let n = request-number timestampTag (omega arith) (λ z. omega arith) e .within 0 lastTime refl .1 in
           omega arith
 
+      -- reading 8.1, "An attribute other than UZHNN is a value outside its list: 091010": one that is read is UZHNN
+      pub request-attribute : has (readRequest s .tags) orderAttributeTag ≡ true → orderAttribute (readRequest s) ≡ uzhnn
+      unfolding width valuesOf
+      request-attribute e =
+          let n = request-number orderAttributeTag (omega arith) (λ z. omega arith) e .within uzhnn uzhnn refl in
+          omega arith
+
     module _ (h : isReplyForm (form (readReply s)) ≡ true) where
       pub reply-written : frameOf (readReply s) (dataOf s) ≡ s
       unfolding readReply
@@ -233,6 +253,14 @@ written-time f d h e =
     let n = written-number f d h timestampTag (omega arith) (λ z. omega arith) e .within 0 lastTime refl .1 in
     omega arith
 
+-- nor another attribute
+pub written-attribute : (f : Fields) (d : List ℕ) → writable f d ≡ true → has (f .tags) orderAttributeTag ≡ true
+    → numberOf orderAttributeTag f ≡ uzhnn
+unfolding width valuesOf
+written-attribute f d h e =
+    let n = written-number f d h orderAttributeTag (omega arith) (λ z. omega arith) e .within uzhnn uzhnn refl in
+    omega arith
+
 -- ---- request forms and reply forms cannot be taken for each other
 
 pub request-form-excludes : (x : Form) → isRequestForm x ≡ true → isReplyForm x ≡ false
@@ -246,7 +274,7 @@ pub reply-excludes-request : (s : List ℕ) → isReplyForm (form (readReply s))
 unfolding readRequest
 reply-excludes-request s h = rw (reply-not-request (form (parse s)) (reply-parsed s h .1))
 
--- ---- "Frame lengths: upload opening" 57, "largest request 303, largest reply 312"
+-- ---- "Frame lengths: upload opening" 57, "largest request 303, largest reply 312"; of card 8, signing 72, its reply 20
 
 module _ (f : Fields) (d : List ℕ) (h : writable f d ≡ true) where
   -- a frame is as long as the tables say of its form
@@ -258,6 +286,13 @@ module _ (f : Fields) (d : List ℕ) (h : writable f d ≡ true) where
 
   pub download-opening-length : form f ≡ forms.DownloadOpening → length (frameOf f d) ≡ downloadOpeningLength
   download-opening-length = download-length f d h
+
+  pub signing-length : form f ≡ forms.Signing → length (frameOf f d) ≡ signingLength
+  signing-length = signing-size f d h
+
+  -- a signing is answered by a frame of the form of refusals, with 000000 too
+  pub signed-length : form f ≡ forms.Refusal → length (frameOf f d) ≡ signedLength
+  signed-length = signed-size f d h
 
   pub request-length : isRequestForm (form f) ≡ true → length d ≤ segmentBytes → length (frameOf f d) ≤ requestRoom
   request-length k n = rw k at (length-limit f d h n)

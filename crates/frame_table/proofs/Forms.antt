@@ -74,6 +74,7 @@ request-tags-lt request.DownloadOpening = omega arith
 request-tags-lt request.UploadTransfer = omega arith
 request-tags-lt request.DownloadTransfer = omega arith
 request-tags-lt request.Receipt = omega arith
+request-tags-lt request.Signing = omega arith
 
 reply-tags-lt : (x : ReplyForm) → replyRow x < 2 ^ tagCount
 reply-tags-lt reply.UploadOpened = omega arith
@@ -107,6 +108,7 @@ request-row-has request.DownloadOpening = (refl, refl, refl)
 request-row-has request.UploadTransfer = (refl, refl, refl)
 request-row-has request.DownloadTransfer = (refl, refl, refl)
 request-row-has request.Receipt = (refl, refl, refl)
+request-row-has request.Signing = (refl, refl, refl)
 
 -- a phase, a subscriber and an exchange number
 pub request-has : (x : Form) → isRequestForm x ≡ true

@@ -1,4 +1,4 @@
--- The forms of document 01 by name.
+-- The forms of document 01 and of card 8 by name.
 use Rattle.frame_table.specs.declared.table.RequestForm.the-variants as request
 use Rattle.frame_table.specs.declared.table.ReplyForm.the-variants as reply
 use Rattle.frame_table.specs.declared.table.Form.{Form}
@@ -18,6 +18,9 @@ DownloadTransfer = Request request.DownloadTransfer
 
 abbrev pub Receipt : Form
 Receipt = Request request.Receipt
+
+abbrev pub Signing : Form
+Signing = Request request.Signing
 
 abbrev pub UploadOpened : Form
 UploadOpened = Reply reply.UploadOpened

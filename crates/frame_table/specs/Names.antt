@@ -21,6 +21,8 @@ use Rattle.frame_table.specs.Table.{
   receiptCodeTag,
   returnCodeTag,
   orderNumberTag,
+  orderAttributeTag,
+  ownerTag,
   has,
   formOf,
 }
@@ -76,6 +78,14 @@ returnCode f = getD (f .low) returnCodeTag 0
 -- "0E order number": its four bytes as a number
 abbrev pub orderNumber : Fields → ℕ
 orderNumber f = getD (f .low) orderNumberTag 0
+
+-- card 8, "attribute UZHNN (0F, 5 bytes)": its five bytes as a number
+abbrev pub orderAttribute : Fields → ℕ
+orderAttribute f = getD (f .low) orderAttributeTag 0
+
+-- "its owner (10, 2 bytes)": the subscriber whose order is named
+abbrev pub owner : Fields → ℕ
+owner f = getD (f .low) ownerTag 0
 
 -- the form that the fields are of
 abbrev pub form : Fields → Form

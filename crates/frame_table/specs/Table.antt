@@ -1,4 +1,4 @@
--- Document 01, "The frame": the fields by tag, and the forms as sets of tags.
+-- Document 01, "The frame", and card 8: the fields by tag, and the forms as sets of tags.
 use Prim.Native.Nat.{ℕ, _+_, _/_, _%_, _^_}
 use mathlib.Core.List.{List, [], _∷_}
 use mathlib.Core.Bool.{Bool, true, false, cond, _&&_, _||_}
@@ -12,6 +12,7 @@ use Rattle.frame_table.specs.declared.table.Field.{Field}
 use Rattle.frame_table.specs.declared.table.RequestForm.{RequestForm}
 use Rattle.frame_table.specs.declared.table.RequestForm.the-variants.{UploadOpening, DownloadOpening}
 use Rattle.frame_table.specs.declared.table.RequestForm.the-variants.{UploadTransfer, DownloadTransfer, Receipt}
+use Rattle.frame_table.specs.declared.table.RequestForm.the-variants.{Signing}
 use Rattle.frame_table.specs.declared.table.ReplyForm.{ReplyForm}
 use Rattle.frame_table.specs.declared.table.ReplyForm.the-variants.{
   UploadOpened,
@@ -35,7 +36,7 @@ lastTime = 253402300799999
 
 -- how many tags there are, from 0 on
 abbrev pub tagCount : ℕ
-tagCount = 15
+tagCount = 17
 
 -- "Tags (hex)": 01 phase
 abbrev pub phaseTag : ℕ
@@ -93,6 +94,18 @@ returnCodeTag = 13
 abbrev pub orderNumberTag : ℕ
 orderNumberTag = 14
 
+-- of card 8: 0F order attribute
+abbrev pub orderAttributeTag : ℕ
+orderAttributeTag = 15
+
+-- 10 owner
+abbrev pub ownerTag : ℕ
+ownerTag = 16
+
+-- "attribute UZHNN": five characters, high byte first
+abbrev pub uzhnn : ℕ
+uzhnn = 0x555A484E4E
+
 -- "content lengths" (0: 1 or more), and the values, for each tag from 0 on
 abbrev pub fieldTable : List Field
 fieldTable =
@@ -111,6 +124,8 @@ fieldTable =
     ∷ (1, Range 0 1)  -- "receipt code, 1: 0 taken, 1 not taken"
     ∷ (6, Text Digits)  -- "return code, 6 ASCII digits"
     ∷ (4, Any)  -- "order number, 4"
+    ∷ (5, Range uzhnn uzhnn)  -- "attribute UZHNN (0F, 5 bytes)": no other value
+    ∷ (2, Any)  -- "owner (10, 2 bytes)"
     ∷ []
 
 -- the row of a tag; no values where there is no such tag
@@ -157,6 +172,12 @@ requestRow UploadTransfer =
 requestRow DownloadTransfer = (2, tagSet (phaseTag ∷ subscriberTag ∷ exchangeTag ∷ transactionTag ∷ segmentTag ∷ []))
 -- "receipt (3): 01 02 03 08 0C"
 requestRow Receipt = (3, tagSet (phaseTag ∷ subscriberTag ∷ exchangeTag ∷ transactionTag ∷ receiptCodeTag ∷ []))
+-- card 8, "An opening of form 01 to 06, 0E, 0F, 10": phase 1
+requestRow Signing = (
+  1,
+  tagSet (phaseTag ∷ subscriberTag ∷ exchangeTag ∷ orderTypeTag ∷ nonceTag ∷ timestampTag ∷ orderNumberTag
+      ∷ orderAttributeTag ∷ ownerTag ∷ []),
+)
 
 -- "Reply forms": the tags of each
 abbrev pub replyRow : ReplyForm → ℕ
@@ -194,7 +215,7 @@ hasPhase (Reply x) p = true
 abbrev pub formTable : List Form
 formTable =
     Request UploadOpening ∷ Request DownloadOpening ∷ Request UploadTransfer ∷ Request DownloadTransfer
-    ∷ Request Receipt
+    ∷ Request Receipt ∷ Request Signing
     ∷ Reply UploadOpened ∷ Reply DownloadOpened ∷ Reply SegmentTaken ∷ Reply DownloadSegment ∷ Reply ReceiptAnswered
     ∷ Reply Unreadable ∷ Reply Refusal ∷ []
 

@@ -5,6 +5,7 @@ use crate::table::LAST_MARK;
 use crate::table::NONCE;
 use crate::table::ORDER_NUMBER;
 use crate::table::ORDER_TYPE;
+use crate::table::OWNER;
 use crate::table::PHASE;
 use crate::table::RECEIPT_CODE;
 use crate::table::RETURN_CODE;
@@ -21,8 +22,8 @@ ghost use Rattle.frame_table.specs.Table.{tagCount, has};
 ghost use Rattle.frame_table.specs.Names.{noFields};
 ghost use Rattle.frame_table.specs.Names.{phase, subscriber, exchange, orderType, nonce, timestamp, segments};
 ghost use Rattle.frame_table.specs.Names.{transaction, segment};
-ghost use Rattle.frame_table.specs.Names.{lastMark, receiptCode, returnCode, orderNumber, form, withTag, with};
-ghost use Rattle.frame_table.specs.Names.{withWide, sameBits};
+ghost use Rattle.frame_table.specs.Names.{lastMark, receiptCode, returnCode, orderNumber, owner, form, withTag};
+ghost use Rattle.frame_table.specs.Names.{with, withWide, sameBits};
 
 // 16 bytes as two numbers: a transaction ID or a nonce.
 pub struct Bits128 {
@@ -165,6 +166,12 @@ impl Fields {
         ensures { λ r. ⌜ r ≡ orderNumber self ⌝ }
     {
         self.low[ORDER_NUMBER]
+    }
+
+    pub fn owner(self) -> u64
+        ensures { λ r. ⌜ r ≡ owner self ⌝ }
+    {
+        self.low[OWNER]
     }
 
     // The fields with this tag, of this number; unchanged where there is no such tag.

@@ -10,7 +10,7 @@ ghost use mathlib.Core.Bool.{cond};
 ghost use lib.Dec.{eqb};
 
 // How many tags there are, from 0 on.
-pub const TAG_COUNT: usize = 15;
+pub const TAG_COUNT: usize = 17;
 
 // How many bytes a frame has at most.
 pub const FRAME_LIMIT: usize = 1024;
@@ -46,6 +46,13 @@ pub const RETURN_CODE: usize = 13;
 
 pub const ORDER_NUMBER: usize = 14;
 
+pub const ORDER_ATTRIBUTE: usize = 15;
+
+pub const OWNER: usize = 16;
+
+// The one order attribute: five characters, high byte first.
+pub const UZHNN: u64 = 0x55_5A_48_4E_4E;
+
 // The characters of a text.
 pub enum Characters {
     Digits,
@@ -68,6 +75,7 @@ pub enum RequestForm {
     UploadTransfer,
     DownloadTransfer,
     Receipt,
+    Signing,
 }
 
 // SegmentTaken is also the recovery point, which has the same fields.
@@ -122,6 +130,16 @@ const RECEIPT: u32 = 1 << PHASE
     | 1 << EXCHANGE
     | 1 << TRANSACTION
     | 1 << RECEIPT_CODE;
+
+const SIGNING: u32 = 1 << PHASE
+    | 1 << SUBSCRIBER
+    | 1 << EXCHANGE
+    | 1 << ORDER_TYPE
+    | 1 << NONCE
+    | 1 << TIMESTAMP
+    | 1 << ORDER_NUMBER
+    | 1 << ORDER_ATTRIBUTE
+    | 1 << OWNER;
 
 const UPLOAD_OPENED: u32 = 1 << PHASE
     | 1 << EXCHANGE
@@ -179,7 +197,9 @@ fn field_row(tag: usize) -> Field
         DATA => Field(0, Values::Any), // 0B
         RECEIPT_CODE => Field(1, Values::Range(0, 1)), // 0C
         RETURN_CODE => Field(6, Values::Text(Characters::Digits)), // 0D
-        _ => Field(4, Values::Any), // 0E order number
+        ORDER_NUMBER => Field(4, Values::Any), // 0E
+        ORDER_ATTRIBUTE => Field(5, Values::Range(UZHNN, UZHNN)), // 0F
+        _ => Field(2, Values::Any), // 10 owner
     }
 }
 
@@ -251,6 +271,7 @@ pub(crate) fn form_of(tags: u32, phase: u64) -> Form
         UPLOAD_TRANSFER => of_phase(phase, 2, RequestForm::UploadTransfer),
         DOWNLOAD_TRANSFER => of_phase(phase, 2, RequestForm::DownloadTransfer),
         RECEIPT => of_phase(phase, 3, RequestForm::Receipt),
+        SIGNING => of_phase(phase, 1, RequestForm::Signing),
         UPLOAD_OPENED => Form::Reply(ReplyForm::UploadOpened),
         DOWNLOAD_OPENED => Form::Reply(ReplyForm::DownloadOpened),
         SEGMENT_TAKEN => Form::Reply(ReplyForm::SegmentTaken),

@@ -97,6 +97,14 @@ uploadOpeningLength = 57
 abbrev pub downloadOpeningLength : ℕ
 downloadOpeningLength = 52
 
+-- and, of card 8, signing 72
+abbrev pub signingLength : ℕ
+signingLength = 72
+
+-- its reply 20: the form "any other refusal 01 03 0D"
+abbrev pub signedLength : ℕ
+signedLength = 20
+
 -- "largest request 303", with the 256 data bytes of a whole segment; "request buffer under 303"
 abbrev pub requestRoom : ℕ
 requestRoom = 303

@@ -11,7 +11,7 @@ use Rattle.octets.specs.Bytes.{overwrite}
 use Rattle.octets.proofs.Tests.{and-true}
 use Rattle.image.specs.declared.codec.Answer.the-variants.{Done, Lengths, Contents}
 use Rattle.image.specs.declared.table.Form.{Form}
-use Rattle.image.specs.declared.table.Form.the-variants.{Five, Six}
+use Rattle.image.specs.declared.table.Form.the-variants.{Five, Six, Eight}
 use Rattle.image.specs.declared.table.Sizes.{Sizes}
 use Rattle.image.specs.declared.walk.Cursor.{Cursor}
 use Rattle.image.specs.Table.{rowAt}
@@ -54,6 +54,7 @@ pub form-stores : (form : Form) → storesIn (itemsOf form) ≡ sizesOf form .st
 unfolding sizesOf itemsOf fieldItems contentItems recordItems partItems storeItems storesIn rowAt
 form-stores Five = refl
 form-stores Six = refl
+form-stores Eight = refl
 
 -- the stores that are read are the parts of the bytes at the form's places
 pub stores-are-parts : (form : Form) (s : List ℕ) → storesOf (itemsOf form) s ≡ partsOf form s

@@ -32,7 +32,7 @@ use Rattle.octets.proofs.Numbers.{length-overwrite}
 use Rattle.message.specs.Limits.{fileBytes}
 use Rattle.bank_state.specs.Limits.{placeCount, storeBytes}
 use Rattle.image.specs.declared.table.Form.{Form}
-use Rattle.image.specs.declared.table.Form.the-variants.{Five, Six}
+use Rattle.image.specs.declared.table.Form.the-variants.{Five, Six, Eight}
 use Rattle.image.specs.Table.{fileSize, storeSize}
 use Rattle.image.specs.declared.table.Sizes.{Sizes}
 use Rattle.image.specs.Items.{itemsOf, sizesOf}
@@ -43,6 +43,7 @@ use Rattle.image.proofs.Calls.{parts-within, stores-are-parts}
 pub file-small : (form : Form) → fileSize form ≤ fileBytes
 file-small Five = omega arith
 file-small Six = omega arith
+file-small Eight = omega arith
 
 -- part i of n ends inside
 pub part-room : (size n i : ℕ) → i < n → i * size + size ≤ n * size
@@ -126,7 +127,7 @@ module _ (form : Form) (s : List ℕ) (e : length s ≡ storeSize form) where
   part-store i h = part-extended (fileSize form) placeCount i s (file-small form) e h
 
 -- the form that is written has all bytes
-pub extended-whole : (s : List ℕ) → length s ≡ storeSize Six → extended Six s ≡ s
+pub extended-whole : (s : List ℕ) → length s ≡ storeSize Eight → extended Eight s ≡ s
 unfolding extended
 extended-whole s e = parts-whole placeCount s e
 

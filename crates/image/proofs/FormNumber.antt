@@ -11,7 +11,7 @@ use Rattle.octets.specs.Bytes.{Bytes, number}
 use Rattle.octets.proofs.Numbers.{number-take}
 use Rattle.octets.proofs.Tests.{and-true}
 use Rattle.image.specs.declared.table.Form.{Form}
-use Rattle.image.specs.declared.table.Form.the-variants.{Five, Six}
+use Rattle.image.specs.declared.table.Form.the-variants.{Five, Six, Eight}
 use Rattle.image.specs.Table.{rowAt, formField, formNumber}
 use Rattle.image.specs.Items.{Item, constant, itemsOf, sizesOf, fieldItems, bytesIn}
 use Rattle.image.specs.Image.{constantsRight, isImage}
@@ -23,10 +23,12 @@ first-item : (form : Form)
 unfolding itemsOf fieldItems rowAt
 first-item Five = refl
 first-item Six = refl
+first-item Eight = refl
 
 one-byte : (form : Form) → formNumber form < 256
 one-byte Five = omega arith
 one-byte Six = omega arith
+one-byte Eight = omega arith
 
 -- "The first field is the form's number": the byte behind its head of three
 pub form-number : (form : Form) (s : List ℕ) → Bytes s → isImage form s ≡ true → getD s 3 0 ≡ formNumber form

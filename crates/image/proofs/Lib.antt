@@ -10,3 +10,4 @@ pub mod Theorems
 pub mod FormNumber
 pub mod Forms
 pub mod Extended
+pub mod Widths

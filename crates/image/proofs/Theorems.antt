@@ -12,7 +12,7 @@ use Rattle.octets.specs.Bytes.{Bytes, overwrite}
 use Rattle.octets.proofs.Tests.{and-true}
 use Rattle.image.specs.declared.codec.Answer.the-variants.{Done, Lengths, Contents}
 use Rattle.image.specs.declared.table.Form.{Form}
-use Rattle.image.specs.declared.table.Form.the-variants.{Five, Six}
+use Rattle.image.specs.declared.table.Form.the-variants.{Five, Six, Eight}
 use Rattle.image.specs.Table.{rowAt, firstRow, fieldCount}
 use Rattle.image.specs.Items.{
   itemsOf,
@@ -184,11 +184,15 @@ module _ (form : Form) where
           (read-packed (itemsOf form) s bytes (omega (arith, long)) (both .1)
           ∙ take-all (bytesIn (itemsOf form)) s (omega (arith, long)))
 
--- "130,829 (form 5: 65,293)"; the session has 725 numbers in both
-pub form-5 : (sizesOf Five .image ≡ 65293) × (sizesOf Five .numbers ≡ 725)
+-- "130,837", "130,829 (form 5: 65,293)"; the session has 733 numbers in all, in one order
+pub form-5 : (sizesOf Five .image ≡ 65293) × (sizesOf Five .numbers ≡ 733)
 unfolding sizesOf itemsOf fieldItems contentItems recordItems partItems storeItems bytesIn partsIn rowAt
 form-5 = (refl, refl)
 
-pub form-6 : (sizesOf Six .image ≡ 130829) × (sizesOf Six .numbers ≡ 725)
+pub form-6 : (sizesOf Six .image ≡ 130829) × (sizesOf Six .numbers ≡ 733)
 unfolding sizesOf itemsOf fieldItems contentItems recordItems partItems storeItems bytesIn partsIn rowAt
 form-6 = (refl, refl)
+
+pub form-8 : (sizesOf Eight .image ≡ 130837) × (sizesOf Eight .numbers ≡ 733)
+unfolding sizesOf itemsOf fieldItems contentItems recordItems partItems storeItems bytesIn partsIn rowAt
+form-8 = (refl, refl)

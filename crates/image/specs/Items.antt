@@ -53,6 +53,13 @@ partsIn (constant w v ∷ l) = partsIn l
 partsIn (part w ∷ l) = suc (partsIn l)
 partsIn (store z ∷ l) = partsIn l
 
+-- the lengths of the numbers' parts
+unfoldable pub widthsIn : List Item → List ℕ
+widthsIn [] = []
+widthsIn (constant w v ∷ l) = widthsIn l
+widthsIn (part w ∷ l) = w ∷ widthsIn l
+widthsIn (store z ∷ l) = widthsIn l
+
 unfoldable pub storesIn : List Item → List ℕ
 storesIn [] = []
 storesIn (constant w v ∷ l) = storesIn l

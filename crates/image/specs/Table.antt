@@ -7,17 +7,19 @@ use Rattle.bank_state.specs.Limits.{placeCount, nonceCount}
 use Rattle.journal.specs.Events.{recordCount}
 use Rattle.image.specs.declared.table.Row.{Row}
 use Rattle.image.specs.declared.table.Form.{Form}
-use Rattle.image.specs.declared.table.Form.the-variants.{Five, Six}
+use Rattle.image.specs.declared.table.Form.the-variants.{Five, Six, Eight}
 
 -- "the form's number: the number of the card that made the form"
 abbrev pub formNumber : Form → ℕ
 formNumber Five = 5
 formNumber Six = 6
+formNumber Eight = 8
 
 -- the most segments of an order: "form 5 with its own limits (15 segments, 3,840 bytes)"
 abbrev pub segmentLimit : Form → ℕ
 segmentLimit Five = 15
 segmentLimit Six = maxSegments
+segmentLimit Eight = maxSegments
 
 -- the bytes of a place and of a mailbox: all segments of an order
 abbrev pub fileSize : Form → ℕ
@@ -30,6 +32,12 @@ storeSize form = placeCount * fileSize form
 -- the length of a time
 abbrev pub timeBytes : ℕ
 timeBytes = 8
+
+-- the length of a place's set of signers, "(form 8 on)"; "older ones still taken up mean none": a part of no bytes is 0
+abbrev pub signerBytes : Form → ℕ
+signerBytes Five = 0
+signerBytes Six = 0
+signerBytes Eight = 1
 
 abbrev pub sum : List ℕ → ℕ
 sum [] = 0
@@ -92,8 +100,8 @@ fieldsOf form =
     ∷ numberField 0x08 1 (1 ∷ [])  -- "number of open downloads"
     -- open downloads: subscriber, lent and running half of the transaction ID, delivered, attempts, last fit
     ∷ numberField 0x09 placeCount (2 ∷ 8 ∷ 8 ∷ 2 ∷ 1 ∷ timeBytes ∷ [])
-    -- places: state, subscriber, lent and running half, order, segments, taken, attempts, last fit, length
-    ∷ numberField 0x0A placeCount (1 ∷ 2 ∷ 8 ∷ 8 ∷ 4 ∷ 2 ∷ 2 ∷ 1 ∷ timeBytes ∷ 2 ∷ [])
+    -- places: state, subscriber, lent and running half, order, segments, taken, attempts, last fit, length, signers
+    ∷ numberField 0x0A placeCount (1 ∷ 2 ∷ 8 ∷ 8 ∷ 4 ∷ 2 ∷ 2 ∷ 1 ∷ timeBytes ∷ 2 ∷ signerBytes form ∷ [])
     ∷ numberField 0x0B placeCount (2 ∷ [])  -- "file lengths of mailboxes 1 to 8"
     -- journal: number, clock, subscriber, type, order, kind
     ∷ numberField 0x0C recordCount (8 ∷ timeBytes ∷ 2 ∷ 3 ∷ 4 ∷ 1 ∷ [])
@@ -103,7 +111,7 @@ fieldsOf form =
 
 -- the fields of all forms, one form behind the other
 abbrev pub allRows : List Row
-allRows = fieldsOf Five ++ fieldsOf Six
+allRows = fieldsOf Five ++ (fieldsOf Six ++ fieldsOf Eight)
 
 unfoldable pub rowAt : ℕ → Row
 rowAt i = getD allRows i noRow
@@ -112,6 +120,7 @@ rowAt i = getD allRows i noRow
 abbrev pub firstRow : Form → ℕ
 firstRow Five = 0
 firstRow Six = length (fieldsOf Five)
+firstRow Eight = length (fieldsOf Five) + length (fieldsOf Six)
 
 abbrev pub fieldCount : Form → ℕ
 fieldCount form = length (fieldsOf form)

@@ -24,12 +24,15 @@ pub struct Row {
 pub enum Form {
     Five,
     Six,
+    Eight,
 }
 
-// The fields of a form, and those of all forms.
+// The fields of a form, the first row of form 8, and the rows of all forms.
 const FIELD_COUNT: usize = 14;
 
-const ROW_COUNT: usize = FIELD_COUNT + FIELD_COUNT;
+const FIRST_8: usize = FIELD_COUNT + FIELD_COUNT;
+
+const ROW_COUNT: usize = FIRST_8 + FIELD_COUNT;
 
 // The most segments of an order in an image of the form, and its bytes: form 5 has its own.
 const SEGMENTS_5: u64 = 15;
@@ -59,7 +62,17 @@ const FORM_6: Row = Row {
     bytes: 0,
 };
 
-// The fields of numbers, which both forms share.
+const FORM_8: Row = Row {
+    width: 4,
+    head: 0x01_0001_08,
+    records: 0,
+    more: 0,
+    widths: 0,
+    store: 0,
+    bytes: 0,
+};
+
+// The fields of numbers, which all forms share but for the places.
 const CLOCK: Row = Row {
     width: 3,
     head: 0x02_0008,
@@ -140,14 +153,25 @@ const DOWNLOADS: Row = Row {
     bytes: 232,
 };
 
+// The places of forms 5 and 6, whose last part has no bytes, and those of form 8, where it is the set of signers.
 const PLACES: Row = Row {
     width: 3,
     head: 0x0a_0130,
     records: 8,
-    more: 9,
-    widths: 0x2812248821,
+    more: 10,
+    widths: 0x02812248821,
     store: 0,
     bytes: 304,
+};
+
+const PLACES_8: Row = Row {
+    width: 3,
+    head: 0x0a_0138,
+    records: 8,
+    more: 10,
+    widths: 0x12812248821,
+    store: 0,
+    bytes: 312,
 };
 
 const FILES: Row = Row {
@@ -170,7 +194,7 @@ const JOURNAL: Row = Row {
     bytes: 1664,
 };
 
-// The stores of each form.
+// The stores of form 5, and those of forms 6 and 8.
 const ORDERS_5: Row = Row {
     width: 3,
     head: 0x0d_7800,
@@ -191,7 +215,7 @@ const MAILBOXES_5: Row = Row {
     bytes: STORE_5,
 };
 
-const ORDERS_6: Row = Row {
+const ORDERS: Row = Row {
     width: 3,
     head: 0x0d_f800,
     records: 0,
@@ -201,7 +225,7 @@ const ORDERS_6: Row = Row {
     bytes: STORE_BYTES,
 };
 
-const MAILBOXES_6: Row = Row {
+const MAILBOXES: Row = Row {
     width: 3,
     head: 0x0e_f800,
     records: 0,
@@ -211,7 +235,7 @@ const MAILBOXES_6: Row = Row {
     bytes: STORE_BYTES,
 };
 
-// The fields of form 5 and behind them those of form 6, in the order of `fieldsOf`.
+// The fields of form 5 and behind them those of forms 6 and 8, in the order of `fieldsOf`.
 const ROWS: [Row; ROW_COUNT] = [
     FORM_5,
     CLOCK,
@@ -239,8 +263,22 @@ const ROWS: [Row; ROW_COUNT] = [
     PLACES,
     FILES,
     JOURNAL,
-    ORDERS_6,
-    MAILBOXES_6,
+    ORDERS,
+    MAILBOXES,
+    FORM_8,
+    CLOCK,
+    OPENINGS,
+    SERIES,
+    EVENTS,
+    NONCES_USED,
+    NONCES,
+    DOWNLOADS_OPEN,
+    DOWNLOADS,
+    PLACES_8,
+    FILES,
+    JOURNAL,
+    ORDERS,
+    MAILBOXES,
 ];
 
 // The field at a row; none behind the last.
@@ -280,7 +318,7 @@ pub fn sizes_of(form: Form) -> Sizes
         Form::Five => Sizes {
             first: 0,
             fields: 14,
-            numbers: 725,
+            numbers: 733,
             store: STORE_5,
             image: 65293,
             orders: 3850,
@@ -289,11 +327,20 @@ pub fn sizes_of(form: Form) -> Sizes
         Form::Six => Sizes {
             first: FIELD_COUNT,
             fields: 14,
-            numbers: 725,
+            numbers: 733,
             store: STORE_BYTES,
             image: 130829,
             orders: 3850,
             mailboxes: 67341,
+        },
+        Form::Eight => Sizes {
+            first: FIRST_8,
+            fields: 14,
+            numbers: 733,
+            store: STORE_BYTES,
+            image: 130837,
+            orders: 3858,
+            mailboxes: 67349,
         },
     }
 }
@@ -305,6 +352,7 @@ pub fn segment_limit(form: Form) -> u64
     match form {
         Form::Five => SEGMENTS_5,
         Form::Six => MAX_SEGMENTS,
+        Form::Eight => MAX_SEGMENTS,
     }
 }
 
@@ -315,5 +363,6 @@ pub fn file_size(form: Form) -> usize
     match form {
         Form::Five => FILE_5,
         Form::Six => FILE_BYTES,
+        Form::Eight => FILE_BYTES,
     }
 }

@@ -98,7 +98,7 @@ abbrev pub downloadWidths : List ℕ
 downloadWidths = 2 ∷ 8 ∷ 8 ∷ 2 ∷ 1 ∷ timeBytes ∷ []
 
 abbrev pub placeWidths : List ℕ
-placeWidths = 1 ∷ 2 ∷ 8 ∷ 8 ∷ 4 ∷ 2 ∷ 2 ∷ 1 ∷ timeBytes ∷ 2 ∷ []
+placeWidths = 1 ∷ 2 ∷ 8 ∷ 8 ∷ 4 ∷ 2 ∷ 2 ∷ 1 ∷ timeBytes ∷ 2 ∷ 1 ∷ []
 
 abbrev pub eventWidths : List ℕ
 eventWidths = 8 ∷ timeBytes ∷ 2 ∷ 3 ∷ 4 ∷ 1 ∷ []
@@ -192,6 +192,11 @@ module _ (xs : List ℕ) (f : fits (itemsOf written) xs ≡ true) (i : ℕ) wher
       let at = part-fits image.placesAt placeWidths placeCount places-stand (omega arith) (omega arith) xs f i in
       (at 2 _ h (omega arith) (omega arith), at 3 _ h (omega arith) (omega arith))
 
+  pub place-signers : i < placeCount → image.placeAt xs i .signers < 256 ^ 1
+  unfolding image.placeAt
+  place-signers h =
+      part-fits image.placesAt placeWidths placeCount places-stand (omega arith) (omega arith) xs f i 10 _ h (omega arith) (omega arith)
+
 -- ---- a record's parts
 
 module _ (xs : List ℕ) where
@@ -245,10 +250,10 @@ module _ (xs : List ℕ) where
     pub place-group : (r : PlaceRecord) → image.placeAt xs i ≡ r
         → r .state < 256 ^ 1 → r .subscriber < 256 ^ 2 → r .high < 256 ^ 8 → r .low < 256 ^ 8
         → r .order < 256 ^ 4 → r .segments < 256 ^ 2 → r .taken < 256 ^ 2 → r .attempts < 256 ^ 1
-        → r .last < 256 ^ timeBytes → r .length < 256 ^ 2
+        → r .last < 256 ^ timeBytes → r .length < 256 ^ 2 → r .signers < 256 ^ 1
         → Group xs image.placesAt placeWidths i
     unfolding image.placeAt
-    place-group r e state subscriber high low order segments taken attempts last size =
+    place-group r e state subscriber high low order segments taken attempts last size signers =
         let at = image.placesAt + i * image.placeWidth in (
           (
             (
@@ -259,26 +264,29 @@ module _ (xs : List ℕ) where
                       (
                         (
                           (
-                            tt,
-                            part-of at _ _ (omega arith) (ap (λ (x : PlaceRecord). x .state) e) state,
+                            (
+                              tt,
+                              part-of at _ _ (omega arith) (ap (λ (x : PlaceRecord). x .state) e) state,
+                            ),
+                            part-of (at + 1) _ _ (omega arith) (ap (λ (x : PlaceRecord). x .subscriber) e) subscriber,
                           ),
-                          part-of (at + 1) _ _ (omega arith) (ap (λ (x : PlaceRecord). x .subscriber) e) subscriber,
+                          part-of (at + 2) _ _ (omega arith) (ap (λ (x : PlaceRecord). x .high) e) high,
                         ),
-                        part-of (at + 2) _ _ (omega arith) (ap (λ (x : PlaceRecord). x .high) e) high,
+                        part-of (at + 3) _ _ (omega arith) (ap (λ (x : PlaceRecord). x .low) e) low,
                       ),
-                      part-of (at + 3) _ _ (omega arith) (ap (λ (x : PlaceRecord). x .low) e) low,
+                      part-of (at + 4) _ _ (omega arith) (ap (λ (x : PlaceRecord). x .order) e) order,
                     ),
-                    part-of (at + 4) _ _ (omega arith) (ap (λ (x : PlaceRecord). x .order) e) order,
+                    part-of (at + 5) _ _ (omega arith) (ap (λ (x : PlaceRecord). x .segments) e) segments,
                   ),
-                  part-of (at + 5) _ _ (omega arith) (ap (λ (x : PlaceRecord). x .segments) e) segments,
+                  part-of (at + 6) _ _ (omega arith) (ap (λ (x : PlaceRecord). x .taken) e) taken,
                 ),
-                part-of (at + 6) _ _ (omega arith) (ap (λ (x : PlaceRecord). x .taken) e) taken,
+                part-of (at + 7) _ _ (omega arith) (ap (λ (x : PlaceRecord). x .attempts) e) attempts,
               ),
-              part-of (at + 7) _ _ (omega arith) (ap (λ (x : PlaceRecord). x .attempts) e) attempts,
+              part-of (at + 8) _ _ (omega arith) (ap (λ (x : PlaceRecord). x .last) e) last,
             ),
-            part-of (at + 8) _ _ (omega arith) (ap (λ (x : PlaceRecord). x .last) e) last,
+            part-of (at + 9) _ _ (omega arith) (ap (λ (x : PlaceRecord). x .length) e) size,
           ),
-          part-of (at + 9) _ _ (omega arith) (ap (λ (x : PlaceRecord). x .length) e) size,
+          part-of (at + 10) _ _ (omega arith) (ap (λ (x : PlaceRecord). x .signers) e) signers,
         )
 
     pub event-group : (r : EventRecord) → image.eventAt xs i ≡ r

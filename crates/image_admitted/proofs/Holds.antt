@@ -13,7 +13,7 @@ use Rattle.journal.specs.Events.{recordCount}
 use Rattle.bank_state.specs.declared.state.Download.{Download}
 use Rattle.bank_state.specs.declared.state.Use.{Use}
 use Rattle.bank_state.specs.declared.state.Use.the-variants.{Free, Open, Booked}
-use Rattle.bank_state.specs.Limits.{placeCount, nonceCount, storeBytes, maxOpenings}
+use Rattle.bank_state.specs.Limits.{placeCount, nonceCount, storeBytes, maxOpenings, allSigners}
 use Rattle.bank_state.specs.Search.{isFree, isOpen}
 use Rattle.bank_state.specs.State.{Bank, BankState, placeAt, downloadAt}
 use Rattle.bank_state.specs.Store.{partAt}
@@ -37,7 +37,7 @@ use Rattle.image_admitted.proofs.Downloads.{downloads-hold, download-no
 use Rattle.image_admitted.proofs.Slots.{places-apart, downloads-apart, open-all, open-of, events-bound}
 use Rattle.image_admitted.proofs.Journal.{journal-holds}
 use Rattle.image_admitted.proofs.Rows.{tested-laid, shown, tested-wiped}
-use Rattle.image_admitted.proofs.Fits.{nonce-words, download-words, place-words}
+use Rattle.image_admitted.proofs.Fits.{nonce-words, download-words, place-words, place-signers}
 use Rattle.image_conditions.proofs.Listed.{Listed, listed}
 
 -- the lengths of what is lent
@@ -110,6 +110,9 @@ module _ (m : LentSession) (right : lengthsRight m ≡ true) (h : isAdmitted m �
       let f = rw (v .place i k) at (place-words (numbersOf m) fit i k) in
       record { high = f .0; low = f .1 }
 
+  signers-fit : (i : ℕ) → i < placeCount → placeAt b i .signers ≤ allSigners
+  signers-fit i k = let f = rw (v .place i k) at (place-signers (numbersOf m) fit i k) in omega arith
+
   download-fits : (i : ℕ) → Words (downloadAt b i .transaction)
   download-fits i = at (ltb i (downloadCountOf (bankRows (m .rows)))) refl
     where
@@ -128,7 +131,7 @@ module _ (m : LentSession) (right : lengthsRight m ≡ true) (h : isAdmitted m �
   rooms i k = mailboxes-hold v (m .mailboxes) (long .mailboxes) (list .files) i k .room
 
   places : (i : ℕ) → i < placeCount → PlaceHolds (placeAt b i .used) (b .clock) (b .openings) (placeAt b i) (partAt (m .orders) i)
-  places = place-holds v (m .orders) (long .orders) (list .places)
+  places i k = place-holds v (m .orders) (long .orders) (list .places) i k (signers-fit i k)
 
   downloads : (i : ℕ) → DownloadHolds (downloadAt b i .used) (b .clock) (b .openings)
       (mailboxFile w (downloadAt b i .subscriber)) (downloadAt b i)
@@ -155,7 +158,7 @@ module _ (m : LentSession) (right : lengthsRight m ≡ true) (h : isAdmitted m �
     numbers = omega (arith, leb-true (image.openings (numbersOf m)) maxOpenings (list .openings), v .openings);
     series = series-hold v (list .series) (list .seriesAll);
     places = places;
-    orders = place-ordered v (m .orders) (long .orders) (list .places);
+    orders = λ i k. place-ordered v (m .orders) (long .orders) (list .places) i k (signers-fit i k);
     downloads = downloads;
     mailboxesHold = mailboxes-hold v (m .mailboxes) (long .mailboxes) (list .files);
     placesApart = places-apart v (list .numbers) (list .ordersApart);

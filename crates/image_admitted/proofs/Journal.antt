@@ -11,7 +11,7 @@ use borrow.Author.Tests.{eqb-true, eq-eqb, leb-true, le-leb, ltb-true, ltb-false
 use Rattle.octets.proofs.Tests.{never, and-true}
 use Rattle.message.specs.Limits.{subscribers, ful}
 use Rattle.journal.specs.declared.event.Kind.{Kind}
-use Rattle.journal.specs.declared.event.Kind.the-variants.{Unused, Opened, Booked, Cancelled, Dropped}
+use Rattle.journal.specs.declared.event.Kind.the-variants.{Unused, Opened, Booked, Cancelled, Dropped, Signed}
 use Rattle.journal.specs.Events.{recordCount, noEvent}
 use Rattle.journal.specs.Places.{usedAfter}
 use Rattle.journal.specs.Row.{Journal}
@@ -27,6 +27,7 @@ use Rattle.image_records.proofs.Shapes.{every-at, every-from, up-to-le}
 use Rattle.image_numbers.specs.Numbers.{numberOfKind}
 use Rattle.image_numbers.proofs.Records.{eventIn}
 use Rattle.image_records.proofs.General.{unused-part, unused-parts}
+use Rattle.image_calls.specs.Calls.{written}
 use Rattle.image_admitted.proofs.Series.{counter-of}
 use Rattle.image_admitted.proofs.Shown.{Shown, up-to-few}
 
@@ -38,13 +39,15 @@ kind-told Opened h = refl
 kind-told Booked h = refl
 kind-told Cancelled h = refl
 kind-told Dropped h = refl
+kind-told Signed h = refl
 
-kind-number : (k : Kind) → isEvent k ≡ true → (1 ≤ numberOfKind k) × (numberOfKind k ≤ lastKind)
+kind-number : (k : Kind) → isEvent k ≡ true → (1 ≤ numberOfKind k) × (numberOfKind k ≤ lastKind written)
 kind-number Unused h = never h
 kind-number Opened h = (omega arith, omega arith)
 kind-number Booked h = (omega arith, omega arith)
 kind-number Cancelled h = (omega arith, omega arith)
 kind-number Dropped h = (omega arith, omega arith)
+kind-number Signed h = (omega arith, omega arith)
 
 kind-unused : (k : Kind) → numberOfKind k ≡ 0 → k ≡ Unused
 kind-unused Unused e = refl
@@ -52,6 +55,7 @@ kind-unused Opened e = absurd (omega arith)
 kind-unused Booked e = absurd (omega arith)
 kind-unused Cancelled e = absurd (omega arith)
 kind-unused Dropped e = absurd (omega arith)
+kind-unused Signed e = absurd (omega arith)
 
 -- ---- how many are used
 
@@ -77,16 +81,16 @@ module _ (now counter entered i : ℕ) (before e : EventRecord) where
   Facts =
       (e .number ≡ entered - upTo recordCount entered + 1 + i) × (e .clock ≤ now) × (before .clock ≤ e .clock)
       × (1 ≤ e .subscriber) × (e .subscriber ≤ subscribers) × (e .«order_type» ≡ ful) × (e .order < counter)
-      × (1 ≤ e .kind) × (e .kind ≤ lastKind)
+      × (1 ≤ e .kind) × (e .kind ≤ lastKind written)
 
-  told : eventHolds now counter entered i before e ≡ true → Facts
+  told : eventHolds written now counter entered i before e ≡ true → Facts
   told h =
       let a = and-true (eqb (e .number) (entered - upTo recordCount entered + 1 + i)) _ h in
       let b = and-true (leb (e .clock) now && leb (before .clock) (e .clock)) _ (a .1) in
       let c = and-true (leb 1 (e .subscriber) && leb (e .subscriber) subscribers) _ (b .1) in
       let type = and-true (eqb (e .«order_type») ful) _ (c .1) in
       let d = and-true (ltb (e .order) counter) _ (type .1) in
-      let f = and-true (leb 1 (e .kind) && leb (e .kind) lastKind) _ (d .1) in
+      let f = and-true (leb 1 (e .kind) && leb (e .kind) (lastKind written)) _ (d .1) in
       let time = and-true (leb (e .clock) now) _ (b .0) in
       let known = and-true (leb 1 (e .subscriber)) _ (c .0) in
       let kind = and-true (leb 1 (e .kind)) _ (f .0) in (
@@ -101,7 +105,7 @@ module _ (now counter entered i : ℕ) (before e : EventRecord) where
         leb-true _ _ (kind .1),
       )
 
-  tested : Facts → eventHolds now counter entered i before e ≡ true
+  tested : Facts → eventHolds written now counter entered i before e ≡ true
   tested f =
       rw (
         eq-eqb _ _ (f .0),
@@ -121,14 +125,14 @@ module _ {xs : List ℕ} {b : Bank} {j : Journal} {d n : ℕ} (v : Shown xs b j 
 
   -- ---- from the tests
 
-  module _ (h : everyEvent xs ≡ true) where
+  module _ (h : everyEvent written xs ≡ true) where
     facts : (i : ℕ) → i < usedAfter (j .events)
         → Facts (b .clock) (image.counterOf xs (recordAt j i .subscriber)) (j .events) i (eventIn (recordAt j (i - 1)))
         (eventIn (recordAt j i))
     unfolding everyEvent eventTest
     facts i k =
         let few = used-few (j .events) in
-        let t = every-at (eventTest xs) (image.usedEvents xs) i h (rw used-are k) in
+        let t = every-at (eventTest written xs) (image.usedEvents xs) i h (rw used-are k) in
         told (b .clock) (image.counterOf xs (recordAt j i .subscriber)) (j .events) i (eventIn (recordAt j (i - 1)))
         (eventIn (recordAt j i)) (rw (v .clock, v .events, v .event (i - 1) (omega arith), v .event i (omega arith)) at t)
 
@@ -199,10 +203,10 @@ module _ {xs : List ℕ} {b : Bank} {j : Journal} {d n : ℕ} (v : Shown xs b j 
             let f : i - 1 ≡ i = omega arith in
             rw f (omega arith)
 
-    pub every-event : everyEvent xs ≡ true
+    pub every-event : everyEvent written xs ≡ true
     unfolding everyEvent eventTest
     every-event =
-        every-from (eventTest xs) (image.usedEvents xs)
+        every-from (eventTest written xs) (image.usedEvents xs)
         (λ i h.
         let k : i < usedAfter (j .events) = rw used-are at h in
         let few = used-few (j .events) in

@@ -13,7 +13,7 @@ use Rattle.journal.specs.Row.{Journal}
 use Rattle.bank_state.specs.declared.state.Place.{Place}
 use Rattle.bank_state.specs.declared.state.Use.{Use}
 use Rattle.bank_state.specs.declared.state.Use.the-variants.{Free, Open, Booked}
-use Rattle.bank_state.specs.Limits.{placeCount, storeBytes, idleLimit}
+use Rattle.bank_state.specs.Limits.{placeCount, storeBytes, idleLimit, allSigners}
 use Rattle.bank_state.specs.Search.{isFree, isOpen}
 use Rattle.bank_state.specs.State.{Bank, placeAt, seriesOf}
 use Rattle.bank_state.specs.Store.{partAt}
@@ -54,7 +54,8 @@ module _ (clock openings counter : ℕ) (p : Place) (bytes : List ℕ) where
   -- its length, what it may hold, that it is not idle, and its number
   abbrev Told : Use → Type 0
   Told u =
-      (p .length ≤ fileBytes) × (p .used ≡ u → Zeros (p .length) bytes → PlaceHolds u clock openings p bytes)
+      (p .length ≤ fileBytes)
+      × (p .used ≡ u → p .signers ≤ allSigners → Zeros (p .length) bytes → PlaceHolds u clock openings p bytes)
       × NotIdle u clock p × Ordered u counter p
 
   told-free : placeHolds written clock openings counter (placeParts Free p) ≡ true → Told Free
@@ -68,6 +69,7 @@ module _ (clock openings counter : ℕ) (p : Place) (bytes : List ℕ) where
       let f = and-true (eqb (p .attempts) 0) _ (e .1) in
       let g = and-true (eqb (p .last) 0) _ (f .1) in
       let k = and-true (eqb (p .length) 0) _ (g .1) in
+      let m = and-true (eqb (p .signers) 0) _ (k .1) in
       let subscriber = eqb-true (p .subscriber) 0 (a .0) in
       let high = eqb-true (p .transaction .high) 0 (b .0) in
       let low = eqb-true (p .transaction .low) 0 (c .0) in
@@ -76,9 +78,10 @@ module _ (clock openings counter : ℕ) (p : Place) (bytes : List ℕ) where
       let taken = eqb-true (p .taken) 0 (e .0) in
       let attempts = eqb-true (p .attempts) 0 (f .0) in
       let last = eqb-true (p .last) 0 (g .0) in
-      let size = eqb-true (p .length) 0 (k .0) in (
+      let size = eqb-true (p .length) 0 (k .0) in
+      let signers = eqb-true (p .signers) 0 (m .0) in (
         omega arith,
-        λ used zeros. record {
+        λ used small zeros. record {
           empty = λ z. record {
             used = used z;
             transaction = record { high = high z; low = low z };
@@ -89,6 +92,7 @@ module _ (clock openings counter : ℕ) (p : Place) (bytes : List ℕ) where
             attempts = attempts z;
             last = last z;
             length = size z;
+            signers = signers z;
           };
           zeros = zeros ∙ ap (λ (m : ℕ). take m bytes ++ replicate (fileBytes - m) 0) size;
         },
@@ -111,6 +115,7 @@ module _ (clock openings counter : ℕ) (p : Place) (bytes : List ℕ) where
       let e = and-true (leb (p .attempts) maxAttempts) _ (d .1) in
       let f = and-true (leb (p .last) clock && leb clock (p .last + idleLimit)) _ (e .1) in
       let g = and-true (leb (p .taken) (p .length) && leb (p .length) (segmentBytes * p .taken)) _ (f .1) in
+      let none = and-true (eqb (p .signers) 0) _ (g .1) in
       let known = and-true (leb 1 (p .subscriber)) _ (a .0) in
       let first = leb-true 1 (p .subscriber) (known .0) in
       let most = leb-true (p .subscriber) subscribers (known .1) in
@@ -122,7 +127,7 @@ module _ (clock openings counter : ℕ) (p : Place) (bytes : List ℕ) where
       let size = and-true (leb (p .taken) (p .length)) _ (g .0) in
       let largest : p .length ≤ segmentBytes * p .taken = leb-true _ _ (size .1) in (
         omega arith,
-        λ used zeros. record {
+        λ used small zeros. record {
           place = used-as first most counted zeros;
           some = leb-true _ _ (segments .0);
           few = few;
@@ -131,6 +136,7 @@ module _ (clock openings counter : ℕ) (p : Place) (bytes : List ℕ) where
           current = leb-true _ _ (time .0);
           least = leb-true _ _ (size .0);
           largest = omega arith;
+          unsigned = eqb-true _ _ (none .0);
         },
         λ _. leb-true _ _ (time .1),
         λ _. ltb-true _ _ (order .0),
@@ -153,7 +159,7 @@ module _ (clock openings counter : ℕ) (p : Place) (bytes : List ℕ) where
       let size = and-true (leb 1 (p .length)) _ (c .0) in
       let room : p .length ≤ fileBytes = leb-true _ _ (size .1) in (
         room,
-        λ used zeros. record {
+        λ used small zeros. record {
           place = used-as first most counted zeros;
           over = record {
             segments = eqb-true _ _ (d .0);
@@ -163,6 +169,7 @@ module _ (clock openings counter : ℕ) (p : Place) (bytes : List ℕ) where
           };
           some = leb-true _ _ (size .0);
           room = room;
+          signed = small;
         },
         never,
         λ _. ltb-true _ _ (order .0),
@@ -200,6 +207,7 @@ module _ (clock openings counter : ℕ) (p : Place) (bytes : List ℕ) where
           le-leb clock (p .last + idleLimit) (idle refl),
           le-leb (p .taken) (p .length) (o .least),
           le-leb (p .length) (segmentBytes * p .taken) (omega (arith, o .largest)),
+          eq-eqb (p .signers) 0 (o .unsigned),
         ),
         omega (arith, o .largest, o .below, o .few),
         u .zeros,
@@ -250,16 +258,17 @@ module _ {xs : List ℕ} {b : Bank} {j : Journal} {d n : ℕ} (v : Shown xs b j 
     all-told : Told (b .clock) (b .openings) counter p (partAt orders i) (p .used)
     all-told = told (b .clock) (b .openings) counter p (partAt orders i) (p .used) (place-tests .0)
 
-    pub place-holds : PlaceHolds (p .used) (b .clock) (b .openings) p (partAt orders i)
-    place-holds = all-told .1 refl (zeros-told orders whole i k (p .length) (all-told .0) (place-tests .1))
+    -- where its signers are a byte
+    pub place-holds : p .signers ≤ allSigners → PlaceHolds (p .used) (b .clock) (b .openings) p (partAt orders i)
+    place-holds small = all-told .1 refl small (zeros-told orders whole i k (p .length) (all-told .0) (place-tests .1))
 
     pub place-not-idle : isOpen (p .used) ≡ true → b .clock ≤ p .last + idleLimit
     place-not-idle = all-told .2
 
     -- "the order number is below the orders of the record"
-    pub place-ordered : isFree (p .used) ≡ false → p .number < seriesOf (p .subscriber) (b .series)
-    place-ordered f =
-        let known = place-known (p .used) (b .clock) (b .openings) p (partAt orders i) place-holds f in
+    pub place-ordered : p .signers ≤ allSigners → isFree (p .used) ≡ false → p .number < seriesOf (p .subscriber) (b .series)
+    place-ordered small f =
+        let known = place-known (p .used) (b .clock) (b .openings) p (partAt orders i) (place-holds small) f in
         rw (counter-of v (p .subscriber) (known .0) (known .1)) at (all-told .3 f)
 
   pub every-place : ((i : ℕ) → i < placeCount

@@ -175,6 +175,7 @@ module _ (s : List ℕ) (row : List Event) (long : length s ≡ sessionSize) (fu
           attempts = col rows.placeAttempts (omega arith) z;
           last = col rows.placeLast (omega arith) z;
           length = col rows.placeLength (omega arith) z;
+          signers = col rows.placeSigners (omega arith) z;
         } in
         place-in s row i h ∙ e ∙ ap (λ (p : Place). placeParts (p .used) p) (sym (place-read t i h))
 

@@ -49,6 +49,7 @@ placeParts u p = record {
   attempts = p .attempts;
   last = p .last;
   length = p .length;
+  signers = p .signers;
 }
 
 -- the numbers xs show the bank b, with d open downloads and n nonces, and the journal j

@@ -2,16 +2,17 @@
 -- and "events" are what a session may hold. Assumes nothing.
 use Prim.Native.Nat.{ℕ, _+_, _-_, _*_, _≤_, _<_}
 use mathlib.Core.Bool.{Bool, true, false, cond, _&&_}
-use mathlib.Core.List.{List}
+use mathlib.Core.List.{List, [], _∷_}
 use mathlib.Core.Logic.{inl, inr}
 use mathlib.Core.Path.{_≡_, refl, sym, ap, _∙_}
 use native.Mathlib.Decide.{decLt}
 use native.Mathlib.Omega.{arith}
 use lib.Dec.{eqb, leb, ltb}
-use lib.ListN.{length}
+use lib.ListN.{length, getD}
 use borrow.Author.Tests.{eqb-true, eq-eqb, ne-eqb, leb-true, leb-false, le-leb, ltb-true, ltb-false, lt-ltb, le-ltb}
 use Rattle.octets.proofs.Tests.{never, and-true}
 use Rattle.message.specs.Limits.{subscribers}
+use Rattle.signers.specs.Signers.{signerCount}
 use Rattle.journal.specs.Row.{Journal}
 use Rattle.bank_state.specs.declared.state.Download.{Download}
 use Rattle.bank_state.specs.declared.state.Place.{Place}
@@ -22,10 +23,11 @@ use Rattle.bank_state.specs.Rows.{countOf}
 use Rattle.bank_state.specs.Search.{isFree, isOpen, openCount, openCountOf}
 use Rattle.bank_state.specs.State.{Bank, noPlace, noDownload, placeAt, downloadAt}
 use Rattle.bank_rows.specs.Records.{numberOfUse}
-use Rattle.bank_admitted.specs.Session.{openUploads}
+use Rattle.bank_admitted.specs.Session.{openUploads, signersGiven}
 use Rattle.bank_admitted.specs.State.{Alike}
+use Rattle.image_records.specs.declared.layout.PlaceRecord.{PlaceRecord}
 use Rattle.image_records.specs.declared.layout.Slot.{Slot}
-use Rattle.image_records.specs.Shapes.{count}
+use Rattle.image_records.specs.Shapes.{count, total}
 use Rattle.image_records.specs.Layout as image
 use Rattle.image_records.specs.Layout.{openState, slotCount, slotAt}
 use Rattle.image_conditions.specs.Conditions.{
@@ -37,13 +39,23 @@ use Rattle.image_conditions.specs.Conditions.{
   isOpenOf,
   openInAll,
   openOfOne,
+  signersAt,
+  signersInAll,
   eventsFit,
   everySubscriber,
 }
-use Rattle.image_records.proofs.Shapes.{every-at, every-from, count-same}
+use Rattle.image_records.proofs.Shapes.{every-at, every-from, count-same, total-none, total-first, total-same}
 use Rattle.image_records.proofs.General.{count-two, count-zero, count-row, distinct-at, distinct-from}
 use Rattle.image_conditions.proofs.Laws.{orders-apart}
 use Rattle.image_admitted.proofs.Shown.{Shown, downloads-are}
+
+-- the signers of a row of places
+given-row : (l : List Place) → total (λ i. signerCount (getD l i noPlace .signers)) (length l) ≡ signersGiven l
+unfolding signersGiven
+given-row [] = total-none (λ i. signerCount (getD [] i noPlace .signers))
+given-row (p ∷ l) =
+    let e = given-row l in
+    omega (arith, total-first (λ i. signerCount (getD (p ∷ l) i noPlace .signers)) (length l))
 
 abbrev slot : ℕ → ℕ → ℕ → Slot
 slot state subscriber low = record { state = state; subscriber = subscriber; low = low }
@@ -283,22 +295,30 @@ module _ {xs : List ℕ} {b : Bank} {j : Journal} {d n : ℕ} (v : Shown xs b j 
   unfolding openInAll
   open-in-all h = le-leb (count (isOpenSlot xs) slotCount) maxOpen (omega (arith, open-count))
 
-  pub events-bound : eventsFit xs ≡ true → j .events + openUploads b ≤ 2 * b .openings
+  signers-all : signersInAll xs ≡ signersGiven (b .places)
+  unfolding signersInAll signersAt
+  signers-all =
+      total-same (signersAt xs) (λ i. signerCount (placeAt b i .signers)) placeCount
+      (λ i h. ap (λ (r : PlaceRecord). signerCount (r .signers)) (v .place i h))
+      ∙ ap (total (λ i. signerCount (placeAt b i .signers))) (sym (v .longPlaces)) ∙ given-row (b .places)
+
+  pub events-bound : eventsFit xs ≡ true → j .events + openUploads b ≤ 2 * b .openings + signersGiven (b .places)
   unfolding eventsFit
   events-bound h =
       omega (
         arith,
-        leb-true (image.events xs + count (isOpenSlot xs) placeCount) (2 * image.openings xs) h,
+        leb-true (image.events xs + count (isOpenSlot xs) placeCount) (2 * image.openings xs + signersInAll xs) h,
         open-uploads,
+        signers-all,
         v .events,
         v .openings,
       )
 
-  pub events-fit : j .events + openUploads b ≤ 2 * b .openings → eventsFit xs ≡ true
+  pub events-fit : j .events + openUploads b ≤ 2 * b .openings + signersGiven (b .places) → eventsFit xs ≡ true
   unfolding eventsFit
   events-fit h =
-      le-leb (image.events xs + count (isOpenSlot xs) placeCount) (2 * image.openings xs)
-      (omega (arith, open-uploads, v .events, v .openings))
+      le-leb (image.events xs + count (isOpenSlot xs) placeCount) (2 * image.openings xs + signersInAll xs)
+      (omega (arith, open-uploads, signers-all, v .events, v .openings))
 
   -- what is open is of one of the eight
   module _ (placeKnown : (i : ℕ) → i < placeCount → isOpen (placeAt b i .used) ≡ true

@@ -11,7 +11,7 @@ use Rattle.frame_table.specs.Table.{lastTime}
 use Rattle.message.specs.Limits.{maxSegments}
 use Rattle.message.specs.Segments.{segmentsOf}
 use Rattle.journal.specs.declared.event.Kind.{Kind}
-use Rattle.journal.specs.declared.event.Kind.the-variants.{Unused, Opened, Booked, Cancelled, Dropped}
+use Rattle.journal.specs.declared.event.Kind.the-variants.{Unused, Opened, Booked, Cancelled, Dropped, Signed}
 use Rattle.journal.specs.declared.event.Event.{Event}
 use Rattle.journal.specs.Places.{usedAfter}
 use Rattle.journal.specs.Row.{Journal}
@@ -26,8 +26,9 @@ use Rattle.bank_state.specs.Store.{partAt, fileOf}
 use Rattle.bank_rows.specs.Records.{numberOfUse}
 use Rattle.bank_rows.specs.State.{nonceAt}
 use Rattle.bank_admitted.specs.State.{mailboxFile, PlaceHolds, DownloadHolds}
-use Rattle.bank_admitted.specs.Session.{recordAt, SessionHolds}
+use Rattle.bank_admitted.specs.Session.{signersGiven, recordAt, SessionHolds}
 use Rattle.bank_admitted.proofs.Series.{series-counted}
+use Rattle.bank_admitted.proofs.Signers.{given-most}
 use Rattle.image_records.specs.Layout as image
 use Rattle.image_numbers.specs.Numbers.{numberOfKind}
 use Rattle.image_numbers.proofs.Records.{eventIn}
@@ -64,12 +65,13 @@ kind-small Opened = omega arith
 kind-small Booked = omega arith
 kind-small Cancelled = omega arith
 kind-small Dropped = omega arith
+kind-small Signed = omega arith
 
 -- the columns of a place but its transaction
 abbrev SmallPlace : Place → Type 0
 SmallPlace p =
     (p .subscriber < 256 ^ 2) × (p .number < 256 ^ 4) × (p .segments < 256 ^ 2) × (p .taken < 256 ^ 2)
-    × (p .attempts < 256 ^ 1) × (p .last < 256 ^ timeBytes) × (p .length < 256 ^ 2)
+    × (p .attempts < 256 ^ 1) × (p .last < 256 ^ timeBytes) × (p .length < 256 ^ 2) × (p .signers < 256 ^ 1)
 
 small-place : (u : Use) (clock openings : ℕ) (p : Place) (bytes : List ℕ) → clock ≤ lastTime
     → PlaceHolds u clock openings p bytes → (isFree u ≡ false → p .number < 256 ^ 4) → SmallPlace p
@@ -103,13 +105,17 @@ module _ (w : BankState) {xs : List ℕ} {j : Journal} {d n : ℕ} (v : Shown xs
       (h .words .high, h .words .low, omega (arith, h .last))
   small-nonce i false e = subst SmallNonce (sym (v .freeNonce i (ltb-false i n e))) (omega arith)
 
+  -- eight signers of each place at most
+  given-few : signersGiven (w .bank .places) ≤ 64
+  given-few = omega (arith, given-most (w .bank .places), o .state .sizes .places)
+
   small-event : (i : ℕ) (t : Bool) → ltb i (usedAfter (j .events)) ≡ t → SmallEvent (recordAt j i)
   small-event i true e =
       let k = ltb-true i (usedAfter (j .events)) e in
       let h = o .journal .each i k in
       let number = o .journal .numbered i k in
       let few = used-few (j .events) in (
-        omega (arith, o .events, o .state .numbers),
+        omega (arith, o .events, o .state .numbers, given-few),
         omega (arith, h .current, o .clock),
         omega (arith, h .most),
         omega (arith, h .typed),
@@ -125,7 +131,7 @@ module _ (w : BankState) {xs : List ℕ} {j : Journal} {d n : ℕ} (v : Shown xs
 
     counts-group : Group xs image.eventsAt countWidths 0
     counts-group = (
-      (tt, omega (arith, v .events, o .events, o .state .numbers)),
+      (tt, omega (arith, v .events, o .events, o .state .numbers, given-few)),
       omega (arith, v .nonceTotal, v .fewNonces),
     )
 
@@ -155,7 +161,7 @@ module _ (w : BankState) {xs : List ℕ} {j : Journal} {d n : ℕ} (v : Shown xs
         (o .state .places i k) (order-small i k) in
         let words = o .places i k in
         place-group xs i (placeParts (p .used) p) (v .place i k) (use-small (p .used)) (f .0) (words .high) (words .low)
-        (f .1) (f .2) (f .3) (f .4) (f .5) (f .6))
+        (f .1) (f .2) (f .3) (f .4) (f .5) (f .6) (f .7))
         (λ i k. omega (arith, v .file i k, o .state .mailboxesHold i k .room))
         (λ i k.
         let e = recordAt j i in

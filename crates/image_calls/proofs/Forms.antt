@@ -1,29 +1,19 @@
--- The form of an image by its number, and what both forms share. Assumes nothing.
+-- The form of an image by its number, and that what an older form holds fits the one that is written. Assumes nothing.
 use Prim.Native.Nat.{ℕ}
 use mathlib.Core.Bool.{true}
-use mathlib.Core.List.{List, [], _∷_}
-use mathlib.Core.Path.{_≡_, refl, sym, ap, _∙_}
-use lib.ListN.{length, getD, drop}
+use mathlib.Core.List.{List}
+use mathlib.Core.Path.{_≡_, refl}
+use lib.ListN.{length, getD}
 use Rattle.octets.specs.Bytes.{Bytes, bytesOf}
 use Rattle.bank_session.specs.Session.{LentSession}
 use Rattle.image.specs.declared.table.Form.{Form}
-use Rattle.image.specs.declared.table.Form.the-variants.{Five, Six}
+use Rattle.image.specs.declared.table.Form.the-variants.{Five, Six, Eight}
 use Rattle.image.specs.Table.{formNumber, storeSize, rowAt}
-use Rattle.image.specs.Items.{
-  Item,
-  constant,
-  part,
-  store,
-  itemsOf,
-  fieldItems,
-  contentItems,
-  recordItems,
-  partItems,
-  storeItems,
-}
+use Rattle.image.specs.Items.{itemsOf, fieldItems, contentItems, recordItems, partItems, storeItems, widthsIn}
 use Rattle.image.specs.Image as codec
 use Rattle.image.proofs.FormNumber.{form-number}
 use Rattle.image.proofs.Extended.{extended-whole}
+use Rattle.image.proofs.Widths.{noWider, fits-wider}
 use Rattle.image_calls.specs.Calls.{written, imageIn, formOf, storeFrom, storeTaken}
 
 -- ---- the form's number
@@ -32,6 +22,7 @@ form-told-by : (form : Form) (s : List ℕ) → getD s 3 0 ≡ formNumber form �
 unfolding formOf
 form-told-by Five s e = rw e
 form-told-by Six s e = rw e
+form-told-by Eight s e = rw e
 
 -- "its table is the one used": an image of a form is read by that form's table
 pub form-told : (form : Form) (s : List ℕ) → Bytes s → codec.isImage form s ≡ true → formOf s ≡ form
@@ -52,28 +43,12 @@ store-whole n s e h = rw e (extended-whole (storeFrom n s) h)
 
 -- ---- the numbers' parts
 
-abbrev partsAlone : List Item → List Item
-partsAlone [] = []
-partsAlone (constant w v ∷ l) = partsAlone l
-partsAlone (part w ∷ l) = part w ∷ partsAlone l
-partsAlone (store z ∷ l) = partsAlone l
-
-fits-parts : (l : List Item) (xs : List ℕ) → codec.fits l xs ≡ codec.fits (partsAlone l) xs
-unfolding codec.fits
-fits-parts [] xs = refl
-fits-parts (constant w v ∷ l) xs = fits-parts l xs
-fits-parts (part w ∷ l) xs = rw (fits-parts l (drop 1 xs))
-fits-parts (store z ∷ l) xs = fits-parts l xs
-
--- a number has the same length in both forms
-same-parts : (form : Form) → partsAlone (itemsOf form) ≡ partsAlone (itemsOf written)
-unfolding itemsOf fieldItems contentItems recordItems partItems storeItems rowAt
-same-parts Five = refl
-same-parts Six = refl
+-- no part is wider than in the form that is written
+no-wider : (form : Form) → noWider (widthsIn (itemsOf form)) (widthsIn (itemsOf written)) ≡ true
+unfolding widthsIn itemsOf fieldItems contentItems recordItems partItems storeItems rowAt
+no-wider Five = refl
+no-wider Six = refl
+no-wider Eight = refl
 
 pub fits-written : (form : Form) (xs : List ℕ) → codec.fits (itemsOf form) xs ≡ true → codec.fits (itemsOf written) xs ≡ true
-fits-written form xs h =
-    fits-parts (itemsOf written) xs
-    ∙ ap (λ (l : List Item). codec.fits l xs) (sym (same-parts form))
-    ∙ sym (fits-parts (itemsOf form) xs)
-    ∙ h
+fits-written form xs h = fits-wider (itemsOf form) (itemsOf written) xs (no-wider form) h

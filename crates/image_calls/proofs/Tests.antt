@@ -14,7 +14,7 @@ use Rattle.journal.specs.Events.{recordCount}
 use Rattle.bank_state.specs.Limits.{storeBytes}
 use Rattle.bank_session.specs.Session.{LentSession, session, sessionSize}
 use Rattle.image.specs.declared.table.Form.{Form}
-use Rattle.image.specs.declared.table.Form.the-variants.{Five, Six}
+use Rattle.image.specs.declared.table.Form.the-variants.{Five, Six, Eight}
 use Rattle.image.specs.Table.{storeSize}
 use Rattle.image.specs.Items.{sizesOf}
 use Rattle.image.specs.Image as codec
@@ -42,10 +42,12 @@ use Rattle.image_calls.specs.Calls.{sizesRight, lengthsRight}
 pub image-short : (form : Form) → sizesOf form .image < 2 ^ 32
 image-short Five = omega (arith, image.form-5 .0)
 image-short Six = omega (arith, image.form-6 .0)
+image-short Eight = omega (arith, image.form-8 .0)
 
 pub numbers-size : (form : Form) → sizesOf form .numbers ≡ numberCount
 numbers-size Five = image.form-5 .1
 numbers-size Six = image.form-6 .1
+numbers-size Eight = image.form-8 .1
 
 store-size : (form : Form) → sizesOf form .store ≡ storeSize form
 unfolding sizesOf
@@ -117,19 +119,26 @@ zero-at [] h i = refl
 zero-at (x ∷ l) h zero = eqb-true x 0 (and-true (eqb x 0) (allZero l) h .0)
 zero-at (x ∷ l) h (suc i) = zero-at l (and-true (eqb x 0) (allZero l) h .1) i
 
-module _ (xs : List ℕ) where
+-- no form has a kind beyond the newest's
+last-kind : (form : Form) → records.lastKind form ≤ records.lastKind Eight
+last-kind Five = omega arith
+last-kind Six = omega arith
+last-kind Eight = omega arith
+
+module _ (form : Form) (xs : List ℕ) where
   abbrev kindAt : ℕ → ℕ
   kindAt i = getD xs (journalAt + i * eventWidth + 5) 0
 
-  used-kind : (i : ℕ) → list.eventTest xs i ≡ true → kindAt i ≤ 4
+  used-kind : (i : ℕ) → list.eventTest form xs i ≡ true → kindAt i ≤ records.lastKind Eight
   unfolding list.eventTest eventAt
   used-kind i h =
       let e = eventAt xs i in
       let b = eventAt xs (i - 1) in
       let n = events xs in
       let holds = all-of (records.eventNumber n i e ∷ records.eventClock (clock xs) b e ∷ records.eventSubscriber e
-      ∷ records.eventType e ∷ records.eventOrder (counterOf xs (e .subscriber)) e ∷ records.eventKind e ∷ []) h 5 in
-      leb-true (kindAt i) 4 (and-true (leb 1 (kindAt i)) (leb (kindAt i) 4) holds .1)
+      ∷ records.eventType e ∷ records.eventOrder (counterOf xs (e .subscriber)) e ∷ records.eventKind form e ∷ []) h 5 in
+      let most = records.lastKind form in
+      omega (arith, last-kind form, leb-true (kindAt i) most (and-true (leb 1 (kindAt i)) (leb (kindAt i) most) holds .1))
 
   unused-kind : (u i : ℕ) → u ≤ i → i < recordCount → unused xs journalAt eventWidth u recordCount ≡ true → kindAt i ≡ 0
   unfolding unused
@@ -141,25 +150,25 @@ module _ (xs : List ℕ) where
       ap (λ (a : ℕ). getD xs a 0) q ∙ sym (getD-drop p xs j 0) ∙ sym (getD-take n (drop p xs) j 0 (omega arith))
       ∙ zero-at (take n (drop p xs)) e j
 
-  module _ (holds : list.journalConditions xs ≡ true) where
-    parts : (list.everyEvent xs ≡ true) × (list.journalUnused xs ≡ true)
+  module _ (holds : list.journalConditions form xs ≡ true) where
+    parts : (list.everyEvent form xs ≡ true) × (list.journalUnused xs ≡ true)
     unfolding list.journalConditions
     parts =
-        let at = all-of (list.eventsFit xs ∷ list.everyEvent xs ∷ list.journalUnused xs ∷ []) holds in
+        let at = all-of (list.eventsFit xs ∷ list.everyEvent form xs ∷ list.journalUnused xs ∷ []) holds in
         (at 1, at 2)
 
-    kind-by : (i : ℕ) → i < recordCount → (t : Bool) → ltb i (usedEvents xs) ≡ t → eventAt xs i .kind ≤ 4
+    kind-by : (i : ℕ) → i < recordCount → (t : Bool) → ltb i (usedEvents xs) ≡ t → eventAt xs i .kind ≤ records.lastKind Eight
     unfolding list.everyEvent list.journalUnused eventAt
     kind-by i h true e =
-        used-kind i (every-at (list.eventTest xs) (usedEvents xs) i (parts .0) (ltb-true i (usedEvents xs) e))
+        used-kind i (every-at (list.eventTest form xs) (usedEvents xs) i (parts .0) (ltb-true i (usedEvents xs) e))
     kind-by i h false e =
         let k = unused-kind (usedEvents xs) i (ltb-false i (usedEvents xs) e) h (parts .1) in omega arith
 
 pub listed-kinds : (form : Form) (xs orders mailboxes : List ℕ) → list.admitted form xs orders mailboxes ≡ true
-    → (i : ℕ) → i < recordCount → eventAt xs i .kind ≤ 4
+    → (i : ℕ) → i < recordCount → eventAt xs i .kind ≤ records.lastKind Eight
 unfolding list.conditions
 listed-kinds form xs orders mailboxes h i k =
     let journal = all-of (list.clockFits xs ∷ list.openingsFit xs ∷ list.seriesConditions xs ∷ list.nonceConditions xs
     ∷ list.downloadConditions xs ∷ list.everyPlace form xs orders ∷ list.openConditions xs
-    ∷ list.everyMailbox form xs mailboxes ∷ list.journalConditions xs ∷ []) (listed form xs orders mailboxes h .3) 8 in
-    kind-by xs journal i k (ltb i (usedEvents xs)) refl
+    ∷ list.everyMailbox form xs mailboxes ∷ list.journalConditions form xs ∷ []) (listed form xs orders mailboxes h .3) 8 in
+    kind-by form xs journal i k (ltb i (usedEvents xs)) refl

@@ -1,5 +1,5 @@
--- Cards 2 and 6: what is put away is taken up again, equal sessions give equal bytes and only such bytes are accepted,
--- form 5 is still taken up, and what is refused changes nothing. Assumes nothing.
+-- Cards 2, 6 and 8: what is put away is taken up again, equal sessions give equal bytes and only such bytes are accepted,
+-- forms 5 and 6 are still taken up, and what is refused changes nothing. Assumes nothing.
 use Prim.Native.Nat.{ℕ, _≤_}
 use mathlib.Core.Bool.{Bool, true, false, cond, _&&_}
 use mathlib.Core.List.{List, [], _++_}
@@ -14,7 +14,7 @@ use Rattle.octets.specs.Bytes.{Bytes, overwrite}
 use Rattle.octets.proofs.Tests.{and-true}
 use Rattle.bank_session.specs.Session.{LentSession, session}
 use Rattle.image.specs.declared.table.Form.{Form}
-use Rattle.image.specs.declared.table.Form.the-variants.{Five, Six}
+use Rattle.image.specs.declared.table.Form.the-variants.{Five, Six, Eight}
 use Rattle.image.specs.declared.codec.Answer.the-variants.{Done}
 use Rattle.image.specs.Table.{formNumber, storeSize}
 use Rattle.image.specs.Items.{itemsOf, sizesOf}
@@ -55,9 +55,9 @@ use Rattle.image_calls.proofs.Forms.{form-told, form-written, store-who
 use Rattle.image_calls.proofs.Putting.{away-done}
 use Rattle.image_calls.proofs.Taking.{both-stores, image-tests, up-not, up-done}
 
--- "130,829 (form 5: 65,293)"
-pub image-of-130829-bytes : (imageLength ≡ 130829) × (sizesOf Five .image ≡ 65293)
-image-of-130829-bytes = (image.form-6 .0, image.form-5 .0)
+-- "130,837", and those still taken up: 130,829 and 65,293
+pub image-of-130837-bytes : (imageLength ≡ 130837) × (sizesOf Six .image ≡ 130829) × (sizesOf Five .image ≡ 65293)
+image-of-130837-bytes = (image.form-8 .0, image.form-6 .0, image.form-5 .0)
 
 over-front : (d xs : List ℕ) (n : ℕ) → length xs ≡ n → overwrite d 0 xs ≡ xs ++ drop n d
 unfolding overwrite
@@ -217,7 +217,7 @@ module _ (s : List ℕ) (holds : isAdmittedImage s ≡ true) where
       (listed-lent form xs (storeFrom 0 s) (storeFrom 1 s) image-listed) (image-tests s holds .0) xs _ refl (both-stores s))
 
   module _ (bytes : Bytes s) where
-    -- what is taken up from either form is a session of the list that is written
+    -- what is taken up from any form is a session of the list that is written
     pub session-listed : isAdmitted (sessionFrom s) ≡ true
     unfolding isAdmitted sessionFrom storeTaken
     session-listed =
@@ -257,51 +257,52 @@ module _ (m : LentSession) (s : List ℕ) where
   not-image true e n = absurd (n refl)
   not-image false e n = rw e
 
-  neither : (getD s 3 0 ≡ formNumber Five → ⊥) → (getD s 3 0 ≡ formNumber Six → ⊥)
+  none-of : (getD s 3 0 ≡ formNumber Five → ⊥) → (getD s 3 0 ≡ formNumber Six → ⊥) → (getD s 3 0 ≡ formNumber Eight → ⊥)
       → (form : Form) → getD s 3 0 ≡ formNumber form → ⊥
-  neither a b Five e = a e
-  neither a b Six e = b e
+  none-of a b c Five e = a e
+  none-of a b c Six e = b e
+  none-of a b c Eight e = c e
 
   -- "Any other form's number is number 9"
   pub other-form : Bytes s → lengthsRight m ≡ true
-      → (getD s 3 0 ≡ formNumber Five → ⊥) → (getD s 3 0 ≡ formNumber Six → ⊥)
+      → (getD s 3 0 ≡ formNumber Five → ⊥) → (getD s 3 0 ≡ formNumber Six → ⊥) → (getD s 3 0 ≡ formNumber Eight → ⊥)
       → takeUp m s ≡ takeUpOf up.NotAdmitted m
-  other-form bytes right a b =
+  other-form bytes right a b c =
       let other : isAdmittedImage s ≡ false =
-      not-image (codec.isImage (formOf s) s) refl (λ e. neither a b (formOf s) (form-number (formOf s) s bytes e)) in
+      not-image (codec.isImage (formOf s) s) refl (λ e. none-of a b c (formOf s) (form-number (formOf s) s bytes e)) in
       sym (up-not m s right other)
 
   -- "older images get number 9": those of forms 2 and 3
   pub form-2-refused : Bytes s → lengthsRight m ≡ true → getD s 3 0 ≡ 2 → takeUp m s ≡ takeUpOf up.NotAdmitted m
-  form-2-refused bytes right e = other-form bytes right (λ k. omega arith) (λ k. omega arith)
+  form-2-refused bytes right e = other-form bytes right (λ k. omega arith) (λ k. omega arith) (λ k. omega arith)
 
   pub form-3-refused : Bytes s → lengthsRight m ≡ true → getD s 3 0 ≡ 3 → takeUp m s ≡ takeUpOf up.NotAdmitted m
-  form-3-refused bytes right e = other-form bytes right (λ k. omega arith) (λ k. omega arith)
+  form-3-refused bytes right e = other-form bytes right (λ k. omega arith) (λ k. omega arith) (λ k. omega arith)
 
-  -- ---- an image of form 5, by form 5's table and limits
+  -- ---- an image of any form, by that form's table and limits
 
-  abbrev numbers5 : List ℕ
-  numbers5 = codec.numbersOf (itemsOf Five) s
+  module _ (form : Form) where
+    abbrev numbersBy : List ℕ
+    numbersBy = codec.numbersOf (itemsOf form) s
 
-  abbrev store5 : ℕ → List ℕ
-  store5 n = getD (codec.storesOf (itemsOf Five) s) n []
+    abbrev storeBy : ℕ → List ℕ
+    storeBy n = getD (codec.storesOf (itemsOf form) s) n []
 
-  module _ (bytes : Bytes s) (right : lengthsRight m ≡ true) (image5 : codec.isImage Five s ≡ true) where
-    judged : (t : Bool) → list.admitted Five numbers5 (store5 0) (store5 1) ≡ t → isAdmittedImage s ≡ t
-    unfolding isAdmittedImage numbersFrom storeFrom
-    judged t h = rw (form-told Five s bytes image5, image5) h
+    module _ (bytes : Bytes s) (right : lengthsRight m ≡ true) (whole : codec.isImage form s ≡ true) where
+      judged : (t : Bool) → list.admitted form numbersBy (storeBy 0) (storeBy 1) ≡ t → isAdmittedImage s ≡ t
+      unfolding isAdmittedImage numbersFrom storeFrom
+      judged t h = rw (form-told form s bytes whole, whole) h
 
-    -- "each place and mailbox extended with zeros and all else the same"
-    pub form-5-taken-up : list.admitted Five numbers5 (store5 0) (store5 1) ≡ true
-        → takeUp m s ≡ takeUpOf up.Done
-        (session (rowsFrom numbers5) (rowFrom numbers5) (codec.extended Five (store5 0)) (codec.extended Five (store5 1)))
-    unfolding sessionFrom storeTaken numbersFrom storeFrom
-    form-5-taken-up h =
-        sym (up-done m s right (judged true h)) ∙ rw (form-told Five s bytes image5)
+      -- card 6: "each place and mailbox extended with zeros and all else the same"
+      pub form-taken-up : list.admitted form numbersBy (storeBy 0) (storeBy 1) ≡ true
+          → takeUp m s ≡ takeUpOf up.Done
+          (session (rowsFrom numbersBy) (rowFrom numbersBy) (codec.extended form (storeBy 0)) (codec.extended form (storeBy 1)))
+      unfolding sessionFrom storeTaken numbersFrom storeFrom
+      form-taken-up h = sym (up-done m s right (judged true h)) ∙ rw (form-told form s bytes whole)
 
-    -- "form 5 with its own limits (15 segments, 3,840 bytes; more is number 9)"
-    pub form-5-over : list.admitted Five numbers5 (store5 0) (store5 1) ≡ false → takeUp m s ≡ takeUpOf up.NotAdmitted m
-    form-5-over h = sym (up-not m s right (judged false h))
+      -- "form 5 with its own limits (15 segments, 3,840 bytes; more is number 9)"
+      pub form-over : list.admitted form numbersBy (storeBy 0) (storeBy 1) ≡ false → takeUp m s ≡ takeUpOf up.NotAdmitted m
+      form-over h = sym (up-not m s right (judged false h))
 
   taken-by : (t u : Bool) → UpBy t u .answer ≡ up.Done → (t ≡ true) × (u ≡ true) × (UpBy t u .session ≡ sessionFrom s)
   taken-by true true e = (refl, refl, refl)

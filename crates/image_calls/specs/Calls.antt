@@ -10,7 +10,7 @@ use Rattle.journal.specs.Events.{recordCount}
 use Rattle.bank_state.specs.Limits.{storeBytes}
 use Rattle.bank_session.specs.Session.{LentSession, session, sessionSize}
 use Rattle.image.specs.declared.table.Form.{Form}
-use Rattle.image.specs.declared.table.Form.the-variants.{Five, Six}
+use Rattle.image.specs.declared.table.Form.the-variants.{Five, Six, Eight}
 use Rattle.image.specs.declared.codec.Answer.{Answer}
 use Rattle.image.specs.declared.codec.Answer.the-variants as codec-answer
 use Rattle.image.specs.Table.{formNumber}
@@ -25,7 +25,7 @@ use Rattle.image_calls.specs.declared.calls.TakenUp.the-variants as up
 
 -- the form that is written, and the length of its images
 abbrev pub written : Form
-written = Six
+written = Eight
 
 abbrev pub imageLength : ℕ
 imageLength = sizesOf written .image
@@ -100,10 +100,11 @@ pub record TakeUp : Type 0 where
 abbrev pub takeUpOf : TakenUp → LentSession → TakeUp
 takeUpOf r m = record { session = m; answer = r; number = takenUpNumber r }
 
--- card 6, "forms 5 and 6 are taken up": "01 is a form that is taken up (and its table is the one used)"; bytes with
--- another number are an image of neither
+-- "takes up 5, 6 and 8": "01 is a form that is taken up (and its table is the one used)"; bytes with another number are
+-- an image of none
 unfoldable pub formOf : List ℕ → Form
-formOf image = cond (eqb (getD image 3 0) (formNumber Five)) Five Six
+formOf image =
+    cond (eqb (getD image 3 0) (formNumber Five)) Five (cond (eqb (getD image 3 0) (formNumber Six)) Six Eight)
 
 -- the numbers and the stores in an image, by the table of its form
 unfoldable pub numbersFrom : List ℕ → List ℕ
@@ -130,7 +131,7 @@ sessionFrom image =
 -- "Number 1: a store or the row has another length. Then number 9: the image breaks a condition. Else state, stores and
 -- row become those of the image, whatever stood there; no clock moves, nothing is dropped or forgotten, no event is
 -- entered"; "an image of form 5 is judged by form 5's limits (15 segments, 3,840) and each place and mailbox gets 4,096
--- zeros behind it"
+-- zeros behind it"; "an image of form 5 or 6 means no signers"
 unfoldable pub takeUp : LentSession → List ℕ → TakeUp
 takeUp m image =
     cond (lengthsRight m)

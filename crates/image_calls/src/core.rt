@@ -31,13 +31,15 @@ ghost use Rattle.image_conditions.specs.Conditions as list;
 ghost use Rattle.image_calls.specs.Calls.{sizesRight, awayOf, putAwayOf, putAway, takeUpOf, takeUp};
 ghost use Rattle.image_calls.specs.Calls.{formOf, numbersFrom, storeFrom, isAdmittedImage};
 
-// Where the form's number stands in an image, and the number of form 5.
+// Where the form's number stands in an image, and the numbers of the older forms.
 const NUMBER_AT: usize = 3;
 
 const NUMBER_5: u8 = 5;
 
+const NUMBER_6: u8 = 6;
+
 // The form that is written.
-const WRITTEN: Form = Form::Six;
+const WRITTEN: Form = Form::Eight;
 
 // What taking up comes to, but for the row: its answer, whether another row is taken, and that row.
 pub struct TakeUpCore {
@@ -110,12 +112,15 @@ fn form_of(image: &[u8]) -> Form
     ensures { λ r. ⌜ r ≡ formOf (now (image .entry)) ⌝ }
 {
     if image.len() <= NUMBER_AT {
-        return Form::Six;
+        return Form::Eight;
     }
     if image[NUMBER_AT] == NUMBER_5 {
         return Form::Five;
     }
-    Form::Six
+    if image[NUMBER_AT] == NUMBER_6 {
+        return Form::Six;
+    }
+    Form::Eight
 }
 
 // Whether the numbers of an image and the stores in it hold the conditions of its form.

@@ -1,4 +1,5 @@
--- Card 6: a session taken up from an older form, its stores extended, is of the newest form's list. Assumes nothing.
+-- Cards 6 and 8: a session taken up from an older form, its stores extended, is of the newest form's list. Assumes
+-- nothing.
 use Prim.Native.Nat.{ℕ, _+_, _-_, _*_, _≤_, _<_}
 use mathlib.Core.Bool.{Bool, true, false, cond}
 use mathlib.Core.List.{List, _++_}
@@ -12,27 +13,30 @@ use Rattle.octets.proofs.Tests.{and-true}
 use Rattle.message.specs.Limits.{maxSegments, fileBytes}
 use Rattle.bank_state.specs.Limits.{placeCount, storeBytes}
 use Rattle.image.specs.declared.table.Form.{Form}
-use Rattle.image.specs.declared.table.Form.the-variants.{Five, Six}
+use Rattle.image.specs.declared.table.Form.the-variants.{Five, Six, Eight}
 use Rattle.image.specs.Table.{segmentLimit, fileSize, storeSize}
 use Rattle.image.specs.Image.{extended}
 use Rattle.image.proofs.Extended.{file-small, length-store, part-store}
 use Rattle.image_records.specs.Shapes.{implies, within, upTo, allZero}
-use Rattle.image_records.specs.Layout.{clock, openings, counterOf, placeAt, fileAt}
-use Rattle.image_records.specs.Records.{isOpen, isBooked, placeHolds}
+use Rattle.image_records.specs.Layout.{clock, openings, events, usedEvents, counterOf, placeAt, eventAt, fileAt}
+use Rattle.image_records.specs.Records.{lastKind, isOpen, isBooked, placeHolds}
 use Rattle.image_conditions.specs.Conditions.{
   bytesBehind,
   placeBytes,
   mailboxBytes,
   placeTest,
   mailboxTest,
+  eventTest,
   everyPlace,
   everyMailbox,
+  everyEvent,
+  journalConditions,
   conditions,
   admitted,
 }
 use Rattle.image_records.proofs.Shapes.{every-at, every-from}
 use Rattle.image_records.proofs.General.{and-both, zeros-at, zeros-from, all-zeros}
-use Rattle.image_records.proofs.OneRecord.{place-listed}
+use Rattle.image_records.proofs.OneRecord.{place-listed, event-kind}
 use Rattle.image_conditions.proofs.Parts.{part-within}
 use Rattle.image_conditions.proofs.Listed.{listed, lengths}
 use Rattle.image_conditions.proofs.Laws.{byte-behind}
@@ -42,6 +46,12 @@ use Rattle.image_conditions.proofs.Laws.{byte-behind}
 segments-small : (form : Form) → segmentLimit form ≤ maxSegments
 segments-small Five = omega arith
 segments-small Six = omega arith
+segments-small Eight = omega arith
+
+kinds-few : (form : Form) → lastKind form ≤ lastKind Eight
+kinds-few Five = omega arith
+kinds-few Six = omega arith
+kinds-few Eight = omega arith
 
 within-more : (t : Bool) (a b n : ℕ) → a ≤ b → implies t (within 1 a n) ≡ true → implies t (within 1 b n) ≡ true
 within-more true a b n h e =
@@ -105,21 +115,21 @@ module _ (form : Form) (s : List ℕ) (long : length s ≡ storeSize form) (i n 
 
 module _ (form : Form) (xs orders mailboxes : List ℕ) (h : admitted form xs orders mailboxes ≡ true) where
   module _ (i : ℕ) (k : i < placeCount) where
-    place-still : placeTest form xs orders i ≡ true → placeTest Six xs (extended form orders) i ≡ true
+    place-still : placeTest form xs orders i ≡ true → placeTest Eight xs (extended form orders) i ≡ true
     unfolding placeTest placeBytes
     place-still e =
         let p = placeAt xs i in
         let counter = counterOf xs (p .subscriber) in
         let t = and-true (placeHolds form (clock xs) (openings xs) counter p) _ e in
         let l = place-listed form (clock xs) (openings xs) counter p (t .0) in
-        let still : placeHolds Six (clock xs) (openings xs) counter p ≡ true =
+        let still : placeHolds Eight (clock xs) (openings xs) counter p ≡ true =
         rw (
           within-more (isOpen p) (segmentLimit form) maxSegments (p .segments) (segments-small form) (l .segments),
           within-more (isBooked p) (fileSize form) fileBytes (p .length) (file-small form) (l .booked),
         ) (rw (l .segments, l .booked) at (t .0)) in
         and-both still (zeros-behind form orders (lengths form xs orders mailboxes h .1) i (p .length) k (t .1))
 
-    mailbox-still : mailboxTest form xs mailboxes i ≡ true → mailboxTest Six xs (extended form mailboxes) i ≡ true
+    mailbox-still : mailboxTest form xs mailboxes i ≡ true → mailboxTest Eight xs (extended form mailboxes) i ≡ true
     unfolding mailboxTest mailboxBytes
     mailbox-still e =
         let n = fileAt xs i in
@@ -127,23 +137,33 @@ module _ (form : Form) (xs orders mailboxes : List ℕ) (h : admitted form xs or
         and-both (le-leb n fileBytes (omega (arith, leb-true n (fileSize form) (t .0), file-small form)))
         (zeros-behind form mailboxes (lengths form xs orders mailboxes h .2) i n k (t .1))
 
+  event-still : (i : ℕ) → eventTest form xs i ≡ true → eventTest Eight xs i ≡ true
+  unfolding eventTest
+  event-still i e =
+      let v = eventAt xs i in
+      let kind = event-kind form (clock xs) (counterOf xs (v .subscriber)) (events xs) i (eventAt xs (i - 1)) v e in
+      rw (within-more true (lastKind form) (lastKind Eight) (v .kind) (kinds-few form) kind) (rw kind at e)
+
   -- "each place and mailbox extended with zeros": so taken up, it is of the list
-  pub extended-listed : admitted Six xs (extended form orders) (extended form mailboxes) ≡ true
-  unfolding admitted conditions everyPlace everyMailbox
+  pub extended-listed : admitted Eight xs (extended form orders) (extended form mailboxes) ≡ true
+  unfolding admitted conditions everyPlace everyMailbox journalConditions everyEvent
   extended-listed =
       let l = listed form xs orders mailboxes h in
       let long = lengths form xs orders mailboxes h in
       rw (
         eq-eqb (length (extended form orders)) storeBytes (length-store form orders (long .1)),
         eq-eqb (length (extended form mailboxes)) storeBytes (length-store form mailboxes (long .2)),
-        every-from (placeTest Six xs (extended form orders)) placeCount
+        every-from (placeTest Eight xs (extended form orders)) placeCount
             (λ i k. place-still i k (every-at (placeTest form xs orders) placeCount i (l .places) k)),
-        every-from (mailboxTest Six xs (extended form mailboxes)) placeCount
+        every-from (mailboxTest Eight xs (extended form mailboxes)) placeCount
             (λ i k. mailbox-still i k (every-at (mailboxTest form xs mailboxes) placeCount i (l .files) k)),
+        every-from (eventTest Eight xs) (usedEvents xs)
+            (λ i k. event-still i (every-at (eventTest form xs) (usedEvents xs) i (l .journal) k)),
       )
       (rw (
         eq-eqb (length orders) (storeSize form) (long .1),
         eq-eqb (length mailboxes) (storeSize form) (long .2),
         l .places,
         l .files,
+        l .journal,
       ) at h)

@@ -34,6 +34,8 @@ use Rattle.image_conditions.specs.Conditions.{
   nonceTest,
   placeTest,
   isOpenSlot,
+  signersAt,
+  signersInAll,
   bytesBehind,
   placeBytes,
   mailboxBytes,
@@ -43,7 +45,9 @@ use Rattle.image_conditions.specs.Conditions.{
   everyMailbox,
   admitted,
 }
-use Rattle.image_records.proofs.Shapes.{every-at}
+use Rattle.signers.specs.Signers.{bitCount}
+use Rattle.signers.proofs.Counts.{count-most}
+use Rattle.image_records.proofs.Shapes.{every-at, total-most}
 use Rattle.image_records.proofs.General.{zeros-at, distinct-at}
 use Rattle.image_records.proofs.OneRecord as one
 use Rattle.image_conditions.proofs.Listed.{listed}
@@ -110,11 +114,17 @@ pub mailbox-behind : (form : Form) (xs mailboxes : List ℕ) (i k : ℕ) → mai
 unfolding mailboxBytes
 mailbox-behind form xs mailboxes i k e = byte-behind (fileSize form) mailboxes i (fileAt xs i) k e
 
--- "05 plus the number of open uploads is at most 2 × openings"
+-- "05 plus the number of open uploads is at most 2 × openings + signers"
 pub events-bounded : (xs : List ℕ) → eventsFit xs ≡ true →
-    events xs + count (isOpenSlot xs) placeCount ≤ 2 * openings xs
+    events xs + count (isOpenSlot xs) placeCount ≤ 2 * openings xs + signersInAll xs
 unfolding eventsFit
-events-bounded xs e = leb-true (events xs + count (isOpenSlot xs) placeCount) (2 * openings xs) e
+events-bounded xs e =
+    leb-true (events xs + count (isOpenSlot xs) placeCount) (2 * openings xs + signersInAll xs) e
+
+-- at most 64 signers in all: eight of each place
+pub signers-most : (xs : List ℕ) → signersInAll xs ≤ placeCount * bitCount
+unfolding signersInAll signersAt
+signers-most xs = total-most (signersAt xs) bitCount (λ i. count-most (placeAt xs i .signers)) placeCount
 
 -- "form 5 with its own limits (15 segments, 3,840 bytes; more is number 9)"
 module _ (xs orders mailboxes : List ℕ) (h : admitted Five xs orders mailboxes ≡ true) (i : ℕ)

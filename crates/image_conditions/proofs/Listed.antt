@@ -59,7 +59,7 @@ pub record Listed (form : Form) (xs orders mailboxes : List ℕ) : Type 0 where
   pub openOf : everySubscriber xs ≡ true
   pub files : everyMailbox form xs mailboxes ≡ true
   pub events : eventsFit xs ≡ true
-  pub journal : everyEvent xs ≡ true
+  pub journal : everyEvent form xs ≡ true
   pub journalOver : journalUnused xs ≡ true
 
 module _ (form : Form) (xs orders mailboxes : List ℕ) where
@@ -87,7 +87,7 @@ module _ (form : Form) (xs orders mailboxes : List ℕ) where
       let places = and-true (everyPlace form xs orders) _ (downloads .1) in
       let opens = and-true (openConditions xs) _ (places .1) in
       let files = and-true (everyMailbox form xs mailboxes) _ (opens .1) in
-      let journal = and-true (journalConditions xs) true (files .1) in
+      let journal = and-true (journalConditions form xs) true (files .1) in
       let counter = and-true (everySeries xs) _ (series .0) in
       let sum = and-true (seriesSum xs) true (counter .1) in
       let nonce = and-true (nonceCountFits xs) _ (nonces .0) in
@@ -102,7 +102,7 @@ module _ (form : Form) (xs orders mailboxes : List ℕ) where
       let together = and-true (openInAll xs) _ (number .1) in
       let of = and-true (everySubscriber xs) true (together .1) in
       let events = and-true (eventsFit xs) _ (journal .0) in
-      let event = and-true (everyEvent xs) _ (events .1) in
+      let event = and-true (everyEvent form xs) _ (events .1) in
       let none = and-true (journalUnused xs) true (event .1) in
       record {
         clock = clock .0;

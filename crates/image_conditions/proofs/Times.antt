@@ -49,8 +49,8 @@ times-bounded form xs orders mailboxes h =
           let held = and-true (records.placeHolds form now opened counter p) _ t .0 in
           let n = place-time form now opened counter p (place-listed form now opened counter p held) in omega arith;
       events = λ i k.
-          let t = every-at (list.eventTest xs) (image.usedEvents xs) i (l .journal) k in
+          let t = every-at (list.eventTest form xs) (image.usedEvents xs) i (l .journal) k in
           let e = image.eventAt xs i in
           let counter = image.counterOf xs (e .subscriber) in
-          let n = event-time now counter (image.events xs) i (image.eventAt xs (i - 1)) e t in omega arith;
+          let n = event-time form now counter (image.events xs) i (image.eventAt xs (i - 1)) e t in omega arith;
     }

@@ -9,6 +9,7 @@ use Rattle.frame_table.specs.Table.{lastTime}
 use Rattle.message.specs.Limits.{subscribers}
 use Rattle.bank_state.specs.Limits.{placeCount, nonceCount, maxOpen, maxOpenPerSubscriber, maxOpenings, seriesLimit}
 use Rattle.journal.specs.Events.{recordCount}
+use Rattle.signers.specs.Signers.{signerCount}
 use Rattle.image.specs.declared.table.Form.{Form}
 use Rattle.image.specs.Table.{fileSize, storeSize}
 use Rattle.image_records.specs.Shapes.{allOf, implies, upTo, every, count, total, distinct, allZero, unused}
@@ -127,9 +128,17 @@ openInAll xs = leb (count (isOpenSlot xs) slotCount) maxOpen
 unfoldable pub openOfOne : List ℕ → ℕ → Bool
 openOfOne xs i = leb (count (isOpenOf xs (i + 1)) slotCount) maxOpenPerSubscriber
 
--- events: "05 plus the number of open uploads is at most 2 × openings"
+-- the number of signers of place i
+unfoldable pub signersAt : List ℕ → ℕ → ℕ
+signersAt xs i = signerCount (placeAt xs i .signers)
+
+-- "signers the bits set in the places' signers, all together"
+unfoldable pub signersInAll : List ℕ → ℕ
+signersInAll xs = total (signersAt xs) placeCount
+
+-- events: "05 plus the number of open uploads is at most 2 × openings + signers"
 unfoldable pub eventsFit : List ℕ → Bool
-eventsFit xs = leb (events xs + count (isOpenSlot xs) placeCount) (2 * openings xs)
+eventsFit xs = leb (events xs + count (isOpenSlot xs) placeCount) (2 * openings xs + signersInAll xs)
 
 -- ---- the stores
 
@@ -174,9 +183,10 @@ placeTest form xs orders i =
 unfoldable pub mailboxTest : Form → List ℕ → List ℕ → ℕ → Bool
 mailboxTest form xs mailboxes i = mailboxLength form xs i && mailboxBytes form xs mailboxes i
 
-unfoldable pub eventTest : List ℕ → ℕ → Bool
-eventTest xs i =
-    eventHolds (clock xs) (counterOf xs (eventAt xs i .subscriber)) (events xs) i (eventAt xs (i - 1)) (eventAt xs i)
+unfoldable pub eventTest : Form → List ℕ → ℕ → Bool
+eventTest form xs i =
+    eventHolds form (clock xs) (counterOf xs (eventAt xs i .subscriber)) (events xs) i (eventAt xs (i - 1))
+    (eventAt xs i)
 
 unfoldable pub everySeries : List ℕ → Bool
 everySeries xs = every (seriesFits xs) placeCount
@@ -196,8 +206,8 @@ everyMailbox form xs mailboxes = every (mailboxTest form xs mailboxes) placeCoun
 unfoldable pub everySubscriber : List ℕ → Bool
 everySubscriber xs = every (openOfOne xs) subscribers
 
-unfoldable pub everyEvent : List ℕ → Bool
-everyEvent xs = every (eventTest xs) (usedEvents xs)
+unfoldable pub everyEvent : Form → List ℕ → Bool
+everyEvent form xs = every (eventTest form xs) (usedEvents xs)
 
 unfoldable pub seriesConditions : List ℕ → Bool
 seriesConditions xs = allOf (everySeries xs ∷ seriesSum xs ∷ [])
@@ -211,14 +221,14 @@ downloadConditions xs = allOf (downloadCountFits xs ∷ everyDownload xs ∷ dow
 unfoldable pub openConditions : List ℕ → Bool
 openConditions xs = allOf (ordersDistinct xs ∷ numbersDistinct xs ∷ openInAll xs ∷ everySubscriber xs ∷ [])
 
-unfoldable pub journalConditions : List ℕ → Bool
-journalConditions xs = allOf (eventsFit xs ∷ everyEvent xs ∷ journalUnused xs ∷ [])
+unfoldable pub journalConditions : Form → List ℕ → Bool
+journalConditions form xs = allOf (eventsFit xs ∷ everyEvent form xs ∷ journalUnused xs ∷ [])
 
 -- the conditions, over numbers and stores of the form's lengths
 unfoldable pub conditions : Form → List ℕ → List ℕ → List ℕ → Bool
 conditions form xs orders mailboxes =
     allOf (clockFits xs ∷ openingsFit xs ∷ seriesConditions xs ∷ nonceConditions xs ∷ downloadConditions xs
-    ∷ everyPlace form xs orders ∷ openConditions xs ∷ everyMailbox form xs mailboxes ∷ journalConditions xs ∷ [])
+    ∷ everyPlace form xs orders ∷ openConditions xs ∷ everyMailbox form xs mailboxes ∷ journalConditions form xs ∷ [])
 
 -- "What a session may hold is bounded": the session is one of the form's list
 unfoldable pub admitted : Form → List ℕ → List ℕ → List ℕ → Bool

@@ -101,13 +101,16 @@ fn open_conditions(numbers: &[u64]) -> bool
     )
 }
 
-fn journal_conditions(numbers: &[u64]) -> bool
+fn journal_conditions(form: Form, numbers: &[u64]) -> bool
     requires { ⌜ length (now numbers) ≡ numberCount ⌝ }
-    ensures { λ r. ⌜ r ≡ journalConditions (now (numbers .entry)) ⌝ }
+    ensures { λ r. ⌜ r ≡ journalConditions form (now (numbers .entry)) ⌝ }
 {
     both(
         events_fit(numbers),
-        both(every_event(numbers), both(journal_unused(numbers), true)),
+        both(
+            every_event(form, numbers),
+            both(journal_unused(numbers), true),
+        ),
     )
 }
 
@@ -118,7 +121,7 @@ fn conditions(form: Form, numbers: &[u64], orders: &[u8], mailboxes: &[u8]) -> b
 {
     let journal = both(
         every_mailbox(form, numbers, mailboxes),
-        both(journal_conditions(numbers), true),
+        both(journal_conditions(form, numbers), true),
     );
     let places = both(
         every_place(form, numbers, orders),

@@ -30,13 +30,14 @@ use image_records::records::download_holds;
 use image_records::records::event_holds;
 use image_records::records::nonce_time;
 use image_records::records::place_holds;
-use image_records::tests::at_most_twice;
+use image_records::tests::at_most_twice_and;
 use image_records::tests::both;
 use image_records::tests::one_if;
 use image_records::tests::up_to;
 use image_records::tests::zero_bytes;
 use image_records::tests::zero_numbers;
 use journal::event::RECORD_COUNT;
+use signers::set;
 ghost use mathlib.Core.Path.{_≡_};
 ghost use mathlib.Core.Bool.{not};
 ghost use Prim.Native.Nat.{_+_, _-_, _*_, _≤_, _<_};
@@ -52,7 +53,8 @@ ghost use Rattle.image_conditions.specs.Conditions.{downloadTest, downlo
 ghost use Rattle.image_conditions.specs.Conditions.{placeTest, placeBytes, everyPlace};
 ghost use Rattle.image_conditions.specs.Conditions.{sameOrder, ordersDistinct};
 ghost use Rattle.image_conditions.specs.Conditions.{sameNumber, numbersDistinct, isOpenSlot, isOpenOf, openInAll};
-ghost use Rattle.image_conditions.specs.Conditions.{openOfOne, everySubscriber, eventsFit, bytesBehind};
+ghost use Rattle.image_conditions.specs.Conditions.{openOfOne, everySubscriber, bytesBehind};
+ghost use Rattle.image_conditions.specs.Conditions.{signersAt, signersInAll, eventsFit};
 ghost use Rattle.image_conditions.specs.Conditions.{mailboxBytes, mailboxTest, everyMailbox};
 ghost use Rattle.image_conditions.specs.Conditions.{eventTest, everyEvent};
 ghost use Rattle.image_conditions.specs.Conditions.{journalUnused, nonceTest};
@@ -454,27 +456,52 @@ pub fn every_subscriber(numbers: &[u64]) -> bool
     ok
 }
 
+// How many signers a place has: its set is the low byte.
+fn signers_at(numbers: &[u64], i: usize) -> u64
+    requires { ⌜ (i < placeCount) × (length (now numbers) ≡ numberCount) ⌝ }
+    ensures { λ r. ⌜ (r ≡ signersAt (now (numbers .entry)) i) × (r ≤ 8) ⌝ }
+{
+    let p = place_at(numbers, i);
+    set::count((p.signers % 256) as u8) as u64
+}
+
+// How many signers the places have, all together.
+fn signers_in_all(numbers: &[u64]) -> u64
+    requires { ⌜ length (now numbers) ≡ numberCount ⌝ }
+    ensures { λ r. ⌜ r ≡ signersInAll (now (numbers .entry)) ⌝ }
+{
+    let mut sum: u64 = 0;
+    let mut i = 0;
+    while i < PLACE_COUNT {
+        sum += signers_at(numbers, i);
+        i += 1;
+    }
+    sum
+}
+
 pub fn events_fit(numbers: &[u64]) -> bool
     requires { ⌜ length (now numbers) ≡ numberCount ⌝ }
     ensures { λ r. ⌜ r ≡ eventsFit (now (numbers .entry)) ⌝ }
 {
     let open = open_slots(numbers, PLACE_COUNT);
-    at_most_twice(numbers[EVENTS], open, numbers[OPENINGS])
+    let signers = signers_in_all(numbers);
+    at_most_twice_and(numbers[EVENTS], open, numbers[OPENINGS], signers)
 }
 
 // ---- the journal
 
-fn event_test(numbers: &[u64], i: usize) -> bool
+fn event_test(form: Form, numbers: &[u64], i: usize) -> bool
     requires { ⌜ (i < usedEvents (now numbers)) × (length (now numbers) ≡ numberCount) ⌝ }
-    ensures { λ r. ⌜ r ≡ eventTest (now (numbers .entry)) i ⌝ }
+    ensures { λ r. ⌜ r ≡ eventTest form (now (numbers .entry)) i ⌝ }
 {
     let e = event_at(numbers, i);
     let counter = counter_of(numbers, e.subscriber);
     if i == 0 {
-        return event_holds(numbers[CLOCK], counter, numbers[EVENTS], 0, e, e);
+        return event_holds(form, numbers[CLOCK], counter, numbers[EVENTS], 0, e, e);
     }
     let before = event_at(numbers, i - 1);
     event_holds(
+        form,
         numbers[CLOCK],
         counter,
         numbers[EVENTS],
@@ -484,15 +511,15 @@ fn event_test(numbers: &[u64], i: usize) -> bool
     )
 }
 
-pub fn every_event(numbers: &[u64]) -> bool
+pub fn every_event(form: Form, numbers: &[u64]) -> bool
     requires { ⌜ length (now numbers) ≡ numberCount ⌝ }
-    ensures { λ r. ⌜ r ≡ everyEvent (now (numbers .entry)) ⌝ }
+    ensures { λ r. ⌜ r ≡ everyEvent form (now (numbers .entry)) ⌝ }
 {
     let n = used_events(numbers);
     let mut ok = true;
     let mut i = 0;
     while i < n {
-        ok = both(event_test(numbers, i), ok);
+        ok = both(event_test(form, numbers, i), ok);
         i += 1;
     }
     ok

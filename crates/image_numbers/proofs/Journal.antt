@@ -10,7 +10,7 @@ use borrow.Author.Tests.{ne-eqb}
 use Rattle.octets.specs.Bytes.{overwrite}
 use Rattle.octets.proofs.Numbers.{overwrite-overwrite, overwrite-all}
 use Rattle.journal.specs.declared.event.Kind.{Kind}
-use Rattle.journal.specs.declared.event.Kind.the-variants.{Dropped}
+use Rattle.journal.specs.declared.event.Kind.the-variants.{Signed}
 use Rattle.journal.specs.declared.event.Event.{Event}
 use Rattle.journal.specs.Events.{recordCount, noEvent}
 use Rattle.bank_rows.specs.Rows.{rowsOf, numbersOf}
@@ -22,8 +22,8 @@ use Rattle.image_numbers.specs.Numbers.{numbersAt, kindOf, eventNumbers,
 use Rattle.image_numbers.proofs.Places.{length-at, length-session}
 use Rattle.image_numbers.proofs.Laws.{event-wide}
 
-pub kind-else : (n : ℕ) → (n ≡ 0 → ⊥) → (n ≡ 1 → ⊥) → (n ≡ 2 → ⊥) → (n ≡ 3 → ⊥) → Dropped ≡ kindOf n
-kind-else n a b c d = rw (ne-eqb n 0 a, ne-eqb n 1 b, ne-eqb n 2 c, ne-eqb n 3 d)
+pub kind-else : (n : ℕ) → (n ≡ 0 → ⊥) → (n ≡ 1 → ⊥) → (n ≡ 2 → ⊥) → (n ≡ 3 → ⊥) → (n ≡ 4 → ⊥) → Signed ≡ kindOf n
+kind-else n a b c d e = rw (ne-eqb n 0 a, ne-eqb n 1 b, ne-eqb n 2 c, ne-eqb n 3 d, ne-eqb n 4 e)
 
 -- ---- reading
 

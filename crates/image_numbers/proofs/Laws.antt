@@ -1,22 +1,25 @@
 -- A session's numbers are its rows and its journal again, and an image's numbers are themselves again. Assumes nothing.
 use Prim.Native.Nat.{ℕ, _+_, _*_, _≤_, _<_}
-use mathlib.Core.Bool.{Bool, true, false}
+use mathlib.Core.Bool.{Bool, true}
 use mathlib.Core.List.{List, [], _∷_, _++_, append-nil}
 use mathlib.Core.Path.{_≡_, refl, sym, ap, _∙_}
 use native.Mathlib.Omega.{arith}
 use lib.Dec.{eqb}
 use lib.ListN.{length, getD, take, drop, length-append, length-take, length-drop, take-append-drop}
 use lib.Seq.{ext-getD, getD-take, getD-drop, drop-at, take-all}
-use borrow.Author.Tests.{eqb-true, eqb-false}
+use borrow.Author.Tests.{eqb-true}
+use Rattle.octets.proofs.Tests.{every-below}
 use Rattle.journal.specs.declared.event.Kind.{Kind}
-use Rattle.journal.specs.declared.event.Kind.the-variants.{Unused, Opened, Booked, Cancelled, Dropped}
+use Rattle.journal.specs.declared.event.Kind.the-variants.{Unused, Opened, Booked, Cancelled, Dropped, Signed}
 use Rattle.journal.specs.declared.event.Event.{Event}
 use Rattle.journal.specs.Events.{recordCount}
 use Rattle.bank_state.specs.Rows.{keep}
 use Rattle.bank_rows.specs.Rows.{numbersOf}
 use Rattle.bank_rows.proofs.General.{length-numbers, length-rows, numbers-rows, rows-numbers, take-listed}
 use Rattle.bank_session.specs.Session.{sessionSize}
+use Rattle.image.specs.declared.table.Form.the-variants.{Eight}
 use Rattle.image_records.specs.Layout.{journalAt, eventWidth, numberCount, eventAt}
+use Rattle.image_records.specs.Records.{lastKind}
 use Rattle.image_numbers.specs.Table.{sessionPlaces, imagePlaces}
 use Rattle.image_numbers.specs.Numbers.{
   numbersAt,
@@ -100,6 +103,7 @@ kind-back Opened = refl
 kind-back Booked = refl
 kind-back Cancelled = refl
 kind-back Dropped = refl
+kind-back Signed = refl
 
 pub event-back : (e : Event) → true ≡ true → (r : List ℕ) → eventOf (eventNumbers e ++ r) ≡ e
 event-back e t r = rw (kind-back (e .kind))
@@ -119,24 +123,15 @@ row-back s row h =
 
 -- ---- an image's numbers again
 
-kind-at : (n : ℕ) (a b c d : Bool) → eqb n 0 ≡ a → eqb n 1 ≡ b → eqb n 2 ≡ c → eqb n 3 ≡ d → n ≤ 4
-    → numberOfKind (kindOf n) ≡ n
-kind-at n true b c d e f g i h = rw (eqb-true n 0 e)
-kind-at n false true c d e f g i h = rw (eqb-true n 1 f)
-kind-at n false false true d e f g i h = rw (eqb-true n 2 g)
-kind-at n false false false true e f g i h = rw (eqb-true n 3 i)
-kind-at n false false false false e f g i h =
-    let w = eqb-false n 0 e in
-    let x = eqb-false n 1 f in
-    let y = eqb-false n 2 g in
-    let z = eqb-false n 3 i in
-    let m : n ≡ 4 = omega arith in
-    rw m
+-- each number of a kind, one by one
+kind-number : (n : ℕ) → n ≤ lastKind Eight → numberOfKind (kindOf n) ≡ n
+kind-number n h = eqb-true (numberOfKind (kindOf n)) n (every-below isKind 6 refl n (omega (arith, h)))
+  where
+    isKind : ℕ → Bool
+    isKind k = eqb (numberOfKind (kindOf k)) k
 
-kind-number : (n : ℕ) → n ≤ 4 → numberOfKind (kindOf n) ≡ n
-kind-number n h = kind-at n (eqb n 0) (eqb n 1) (eqb n 2) (eqb n 3) refl refl refl refl h
-
-event-numbers : (s : List ℕ) → eventWidth ≤ length s → getD s 5 0 ≤ 4 → eventNumbers (eventOf s) ≡ take eventWidth s
+event-numbers : (s : List ℕ) → eventWidth ≤ length s → getD s 5 0 ≤ lastKind Eight
+    → eventNumbers (eventOf s) ≡ take eventWidth s
 event-numbers s h k = rw (kind-number (getD s 5 0) k) (sym (take-listed eventWidth s h))
 
 module _ (xs : List ℕ) (long : length xs ≡ numberCount) where
@@ -156,7 +151,7 @@ module _ (xs : List ℕ) (long : length xs ≡ numberCount) where
       (rw length-image session-within)
       ∙ front-again
 
-  module _ (kinds : (i : ℕ) → i < recordCount → eventAt xs i .kind ≤ 4) where
+  module _ (kinds : (i : ℕ) → i < recordCount → eventAt xs i .kind ≤ lastKind Eight) where
     journal-record : (i : ℕ) → i < recordCount
         → eventNumbers (eventOf (drop (eventWidth * i) (drop journalAt xs)))
         ≡ take eventWidth (drop (eventWidth * i) (drop journalAt xs))

@@ -145,6 +145,7 @@ placeIn s i =
       attempts = getD s (rows.placesAt + (rows.placeWidth * i + rows.placeAttempts)) 0;
       last = getD s (rows.placesAt + (rows.placeWidth * i + rows.placeLast)) 0;
       length = getD s (rows.placesAt + (rows.placeWidth * i + rows.placeLength)) 0;
+      signers = getD s (rows.placesAt + (rows.placeWidth * i + rows.placeSigners)) 0;
     }
 
 module _ (s : List ℕ) (row : List Event) (i : ℕ) where
@@ -185,6 +186,7 @@ module _ (s : List ℕ) (row : List Event) (i : ℕ) where
         at 7 (omega arith),
         at 8 (omega arith),
         at 9 (omega arith),
+        at 10 (omega arith),
       )
 
   pub counter-in : i < placeCount → counterAt (numbersIn s row) i ≡ getD s (rows.seriesAt + i) 0

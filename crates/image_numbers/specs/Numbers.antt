@@ -5,7 +5,7 @@ use mathlib.Core.List.{List, [], _∷_, _++_, map}
 use lib.Dec.{eqb}
 use lib.ListN.{getD, drop}
 use Rattle.journal.specs.declared.event.Kind.{Kind}
-use Rattle.journal.specs.declared.event.Kind.the-variants.{Unused, Opened, Booked, Cancelled, Dropped}
+use Rattle.journal.specs.declared.event.Kind.the-variants.{Unused, Opened, Booked, Cancelled, Dropped, Signed}
 use Rattle.journal.specs.declared.event.Event.{Event}
 use Rattle.journal.specs.Events.{recordCount}
 use Rattle.bank_rows.specs.Rows.{rowsOf, numbersOf}
@@ -18,17 +18,19 @@ numbersAt places xs = map (λ (k : ℕ). getD xs k 0) places
 
 -- ---- the journal
 
--- "1 opened, 2 booked, 3 cancelled, 4 dropped"; a record not in use "is 0 in every part"
+-- "1 opened, 2 booked, 3 cancelled, 4 dropped, 5 signed (form 8 on)"; a record not in use "is 0 in every part"
 abbrev pub numberOfKind : Kind → ℕ
 numberOfKind Unused = 0
 numberOfKind Opened = 1
 numberOfKind Booked = 2
 numberOfKind Cancelled = 3
 numberOfKind Dropped = 4
+numberOfKind Signed = 5
 
 abbrev pub kindOf : ℕ → Kind
 kindOf n =
-    cond (eqb n 0) Unused (cond (eqb n 1) Opened (cond (eqb n 2) Booked (cond (eqb n 3) Cancelled Dropped)))
+    cond (eqb n 0) Unused
+    (cond (eqb n 1) Opened (cond (eqb n 2) Booked (cond (eqb n 3) Cancelled (cond (eqb n 4) Dropped Signed))))
 
 -- an event's parts, and the event of them
 abbrev pub eventNumbers : Event → List ℕ

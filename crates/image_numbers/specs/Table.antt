@@ -36,7 +36,7 @@ downloadParts =
 abbrev pub placeParts : List ℕ
 placeParts =
     rows.placeUse ∷ rows.placeSubscriber ∷ rows.placeHigh ∷ rows.placeLow ∷ rows.placeNumber ∷ rows.placeSegments
-    ∷ rows.placeTaken ∷ rows.placeAttempts ∷ rows.placeLast ∷ rows.placeLength ∷ []
+    ∷ rows.placeTaken ∷ rows.placeAttempts ∷ rows.placeLast ∷ rows.placeLength ∷ rows.placeSigners ∷ []
 
 -- the image's numbers in their order, by their places among the session's
 abbrev pub sessionGroups : List Group
@@ -60,9 +60,9 @@ nonceNumbers = 0 ∷ 1 ∷ 2 ∷ []
 abbrev pub downloadNumbers : List ℕ
 downloadNumbers = 1 ∷ 2 ∷ 0 ∷ 3 ∷ 4 ∷ 5 ∷ []
 
--- "order (form 5 on)": the order number has a part of its own
+-- "order (form 5 on)": the order number has a part of its own, and "signers (form 8 on)" are the last
 abbrev pub placeNumbers : List ℕ
-placeNumbers = 0 ∷ 2 ∷ 3 ∷ 1 ∷ 4 ∷ 5 ∷ 6 ∷ 7 ∷ 8 ∷ 9 ∷ []
+placeNumbers = 0 ∷ 2 ∷ 3 ∷ 1 ∷ 4 ∷ 5 ∷ 6 ∷ 7 ∷ 8 ∷ 9 ∷ 10 ∷ []
 
 -- the session's numbers in their order, by their places among the image's
 abbrev pub imageGroups : List Group

@@ -24,6 +24,7 @@ fn number_of_kind(kind: Kind) -> u64
         Kind::Booked => 2,
         Kind::Cancelled => 3,
         Kind::Dropped => 4,
+        Kind::Signed => 5,
     }
 }
 
@@ -35,7 +36,8 @@ pub fn kind_of(n: u64) -> Kind
         1 => Kind::Opened,
         2 => Kind::Booked,
         3 => Kind::Cancelled,
-        _ => Kind::Dropped,
+        4 => Kind::Dropped,
+        _ => Kind::Signed,
     }
 }
 

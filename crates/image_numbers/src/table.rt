@@ -76,8 +76,8 @@ const GROUPS: [Group; ALL_GROUPS] = [
     Group {
         at: bank_rows::layout::PLACES_AT,
         width: bank_rows::layout::PLACE_WIDTH,
-        size: 10,
-        parts: 0x9876542130,
+        size: 11,
+        parts: 0xa9876542130,
         records: PLACE_COUNT,
     },
     Group {
@@ -132,8 +132,8 @@ const GROUPS: [Group; ALL_GROUPS] = [
     Group {
         at: image_records::layout::PLACES,
         width: image_records::layout::PLACE_WIDTH,
-        size: 10,
-        parts: 0x9876541320,
+        size: 11,
+        parts: 0xa9876541320,
         records: PLACE_COUNT,
     },
     Group {

@@ -2,3 +2,4 @@
 pub mod Shapes
 pub mod General
 pub mod OneRecord
+pub mod Older

@@ -35,11 +35,16 @@ use Rattle.image_records.specs.Records.{
   uploadAttempts,
   uploadTime,
   uploadLength,
+  uploadSigners,
   bookedLength,
   bookedRest,
   placeHolds,
   eventNumber,
   eventClock,
+  eventSubscriber,
+  eventType,
+  eventOrder,
+  eventKind,
   eventHolds,
 }
 use Rattle.image_records.proofs.General.{implied}
@@ -87,6 +92,7 @@ pub record PlaceListed (form : Form) (now opened counter : ℕ) (p : PlaceRecord
   pub attempts : uploadAttempts p ≡ true
   pub time : uploadTime now p ≡ true
   pub length : uploadLength p ≡ true
+  pub signers : uploadSigners p ≡ true
   pub booked : bookedLength form p ≡ true
   pub rest : bookedRest p ≡ true
 
@@ -103,7 +109,8 @@ module _ (form : Form) (now opened counter : ℕ) (p : PlaceRecord) where
       let attempts = and-true (uploadAttempts p) _ (taken .1) in
       let time = and-true (uploadTime now p) _ (attempts .1) in
       let length = and-true (uploadLength p) _ (time .1) in
-      let booked = and-true (bookedLength form p) _ (length .1) in
+      let signers = and-true (uploadSigners p) _ (length .1) in
+      let booked = and-true (bookedLength form p) _ (signers .1) in
       let rest = and-true (bookedRest p) true (booked .1) in
       record {
         state = state .0;
@@ -116,6 +123,7 @@ module _ (form : Form) (now opened counter : ℕ) (p : PlaceRecord) where
         attempts = attempts .0;
         time = time .0;
         length = length .0;
+        signers = signers .0;
         booked = booked .0;
         rest = rest .0;
       }
@@ -131,6 +139,19 @@ module _ (form : Form) (now opened counter : ℕ) (p : PlaceRecord) (l : PlaceLi
       let f = and-true (eqb (p .taken) 0) _ (d .1) in
       let g = and-true (eqb (p .attempts) 0) _ (f .1) in
       eqb-true (p .last) 0 (and-true (eqb (p .last) 0) _ (g .1) .0)
+
+  free-signers : p .state ≡ 0 → p .signers ≡ 0
+  free-signers e =
+      let a = and-true (eqb (p .subscriber) 0) _ (implied (l .free) (eq-eqb (p .state) 0 e)) in
+      let b = and-true (eqb (p .high) 0) _ (a .1) in
+      let c = and-true (eqb (p .low) 0) _ (b .1) in
+      let order = and-true (eqb (p .order) 0) _ (c .1) in
+      let d = and-true (eqb (p .segments) 0) _ (order .1) in
+      let f = and-true (eqb (p .taken) 0) _ (d .1) in
+      let g = and-true (eqb (p .attempts) 0) _ (f .1) in
+      let last = and-true (eqb (p .last) 0) _ (g .1) in
+      let length = and-true (eqb (p .length) 0) _ (last .1) in
+      eqb-true (p .signers) 0 (and-true (eqb (p .signers) 0) true (length .1) .0)
 
   booked-last : isBooked p ≡ true → p .last ≡ 0
   booked-last e =
@@ -172,9 +193,31 @@ module _ (now opened counter : ℕ) (p : PlaceRecord) (l : PlaceListed Five now 
 -- ---- a used event
 
 -- "at most clock"
-pub event-time : (now counter entered i : ℕ) (before e : EventRecord) → eventHolds now counter entered i before e ≡ true
-    → e .clock ≤ now
-event-time now counter entered i before e h =
+pub event-time : (form : Form) (now counter entered i : ℕ) (before e : EventRecord)
+    → eventHolds form now counter entered i before e ≡ true → e .clock ≤ now
+event-time form now counter entered i before e h =
     let a = and-true (eventNumber entered i e) _ h in
     let b = and-true (eventClock now before e) _ (a .1) in
     leb-true (e .clock) now (and-true (leb (e .clock) now) _ (b .0) .0)
+
+-- "1 to 4, form 8 on: 1 to 5"
+pub event-kind : (form : Form) (now counter entered i : ℕ) (before e : EventRecord)
+    → eventHolds form now counter entered i before e ≡ true → eventKind form e ≡ true
+event-kind form now counter entered i before e h =
+    let a = and-true (eventNumber entered i e) _ h in
+    let b = and-true (eventClock now before e) _ (a .1) in
+    let c = and-true (eventSubscriber e) _ (b .1) in
+    let d = and-true (eventType e) _ (c .1) in
+    let f = and-true (eventOrder counter e) _ (d .1) in
+    and-true (eventKind form e) true (f .1) .0
+
+-- "state 1: signers are 0"; a free place has none either, as every part of it is 0
+pub only-booked : (form : Form) (now opened counter : ℕ) (p : PlaceRecord) → PlaceListed form now opened counter p
+    → (p .state ≡ bookedState → ⊥) → p .signers ≡ 0
+only-booked form now opened counter p l other = at (isOpen p) refl
+  where
+    at : (t : Bool) → isOpen p ≡ t → p .signers ≡ 0
+    at true e = eqb-true (p .signers) 0 (implied (l .signers) e)
+    at false e =
+        let z : p .state ≡ 0 = omega (arith, leb-true (p .state) bookedState (l .state), eqb-false (p .state) openState e, other) in
+        free-signers form now opened counter p l z

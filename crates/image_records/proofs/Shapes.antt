@@ -1,9 +1,9 @@
 -- Laws of the tests' shapes: every number below one, how many, a sum, no two the same, zeros. Assumes nothing.
-use Prim.Native.Nat.{ℕ, zero, suc, _+_, _≤_, _<_}
+use Prim.Native.Nat.{ℕ, zero, suc, _+_, _*_, _≤_, _<_}
 use mathlib.Core.List.{List, [], _∷_, _++_}
 use mathlib.Core.Bool.{Bool, true, false, cond, _&&_}
 use mathlib.Core.Path.{_≡_, refl, sym, ap, _∙_}
-use native.Mathlib.Nat.{add-zero, add-suc}
+use native.Mathlib.Nat.{add-zero, add-suc, suc-mul}
 use native.Mathlib.Numerals.{add-one}
 use native.Mathlib.Omega.{arith}
 use lib.ListN.{length, getD, take}
@@ -72,6 +72,12 @@ module _ (f : ℕ → ℕ) where
   unfolding total
   total-more n zero = rw (add-zero n) (omega arith)
   total-more n (suc k) = let h = total-more n k in rw (add-suc n k) (omega arith)
+
+-- a sum of numbers that are each at most m
+pub total-most : (f : ℕ → ℕ) (m : ℕ) → ((i : ℕ) → f i ≤ m) → (n : ℕ) → total f n ≤ n * m
+unfolding total
+total-most f m h zero = omega arith
+total-most f m h (suc n) = omega (arith, h n, total-most f m h n, suc-mul n m)
 
 pub total-same : (f g : ℕ → ℕ) (n : ℕ) → ((i : ℕ) → i < n → f i ≡ g i) → total f n ≡ total g n
 unfolding total

@@ -47,12 +47,12 @@ downloadsAt = downloadCountAt + 1
 abbrev pub downloadWidth : ℕ
 downloadWidth = 6
 
--- a place has ten
+-- a place has eleven
 abbrev pub placesAt : ℕ
 placesAt = downloadsAt + downloadWidth * placeCount
 
 abbrev pub placeWidth : ℕ
-placeWidth = 10
+placeWidth = 11
 
 -- the states of a place
 abbrev pub openState : ℕ
@@ -127,6 +127,7 @@ placeAt xs i =
       attempts = getD xs (placesAt + i * placeWidth + 7) 0;
       last = getD xs (placesAt + i * placeWidth + 8) 0;
       length = getD xs (placesAt + i * placeWidth + 9) 0;
+      signers = getD xs (placesAt + i * placeWidth + 10) 0;
     }
 
 unfoldable pub eventAt : List ℕ → ℕ → EventRecord

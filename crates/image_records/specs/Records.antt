@@ -10,6 +10,7 @@ use Rattle.message.specs.Segments.{segmentsOf}
 use Rattle.bank_state.specs.Limits.{idleLimit, window}
 use Rattle.journal.specs.Events.{recordCount}
 use Rattle.image.specs.declared.table.Form.{Form}
+use Rattle.image.specs.declared.table.Form.the-variants.{Five, Six, Eight}
 use Rattle.image.specs.Table.{segmentLimit, fileSize}
 use Rattle.image_records.specs.declared.layout.NonceRecord.{NonceRecord}
 use Rattle.image_records.specs.declared.layout.DownloadRecord.{DownloadRecord}
@@ -18,9 +19,11 @@ use Rattle.image_records.specs.declared.layout.EventRecord.{EventRecord}
 use Rattle.image_records.specs.Shapes.{allOf, implies, within, upTo}
 use Rattle.image_records.specs.Layout.{openState, bookedState}
 
--- the kinds of an event: opened, booked, cancelled, dropped
-abbrev pub lastKind : ℕ
-lastKind = 4
+-- the kinds of an event: opened, booked, cancelled, dropped; "5 signed (form 8 on)"
+abbrev pub lastKind : Form → ℕ
+lastKind Five = 4
+lastKind Six = 4
+lastKind Eight = 5
 
 -- the last fitting request of what is open: "last fit is at most clock, and clock is at most last fit + idle limit"
 abbrev pub fitTime : ℕ → ℕ → Bool
@@ -80,7 +83,7 @@ abbrev pub placeFree : PlaceRecord → Bool
 placeFree p =
     implies (eqb (p .state) 0)
     (allOf (eqb (p .subscriber) 0 ∷ eqb (p .high) 0 ∷ eqb (p .low) 0 ∷ eqb (p .order) 0 ∷ eqb (p .segments) 0
-    ∷ eqb (p .taken) 0 ∷ eqb (p .attempts) 0 ∷ eqb (p .last) 0 ∷ eqb (p .length) 0 ∷ []))
+    ∷ eqb (p .taken) 0 ∷ eqb (p .attempts) 0 ∷ eqb (p .last) 0 ∷ eqb (p .length) 0 ∷ eqb (p .signers) 0 ∷ []))
 
 -- place subscriber: "state 1 or 2: 1 to 8"
 abbrev pub placeSubscriber : PlaceRecord → Bool
@@ -114,6 +117,10 @@ uploadTime now p = implies (isOpen p) (fitTime now (p .last))
 abbrev pub uploadLength : PlaceRecord → Bool
 uploadLength p = implies (isOpen p) (within (p .taken) (segmentBytes * p .taken) (p .length))
 
+-- upload signers: "state 1: signers are 0"
+abbrev pub uploadSigners : PlaceRecord → Bool
+uploadSigners p = implies (isOpen p) (eqb (p .signers) 0)
+
 -- booked length: "state 2: 1 to 3,840, form 6 on: 1 to 7,936"
 abbrev pub bookedLength : Form → PlaceRecord → Bool
 bookedLength form p = implies (isBooked p) (within 1 (fileSize form) (p .length))
@@ -129,7 +136,7 @@ abbrev pub placeHolds : Form → ℕ → ℕ → ℕ → PlaceRecord → Bool
 placeHolds form now opened counter p =
     allOf (placeState p ∷ placeFree p ∷ placeSubscriber p ∷ placeNumber opened p ∷ placeOrder counter p
     ∷ uploadSegments form p ∷ uploadTaken p ∷ uploadAttempts p ∷ uploadTime now p ∷ uploadLength p
-    ∷ bookedLength form p ∷ bookedRest p ∷ [])
+    ∷ uploadSigners p ∷ bookedLength form p ∷ bookedRest p ∷ [])
 
 -- ---- a used event
 
@@ -153,12 +160,12 @@ eventType e = eqb (e .«order_type») ful
 abbrev pub eventOrder : ℕ → EventRecord → Bool
 eventOrder counter e = ltb (e .order) counter
 
--- event kind: "1 to 4"
-abbrev pub eventKind : EventRecord → Bool
-eventKind e = within 1 lastKind (e .kind)
+-- event kind: "1 to 4, form 8 on: 1 to 5"
+abbrev pub eventKind : Form → EventRecord → Bool
+eventKind form e = within 1 (lastKind form) (e .kind)
 
 -- an event, with the counter of its subscriber's series
-abbrev pub eventHolds : ℕ → ℕ → ℕ → ℕ → EventRecord → EventRecord → Bool
-eventHolds now counter entered i before e =
+abbrev pub eventHolds : Form → ℕ → ℕ → ℕ → ℕ → EventRecord → EventRecord → Bool
+eventHolds form now counter entered i before e =
     allOf (eventNumber entered i e ∷ eventClock now before e ∷ eventSubscriber e ∷ eventType e ∷ eventOrder counter e
-    ∷ eventKind e ∷ [])
+    ∷ eventKind form e ∷ [])

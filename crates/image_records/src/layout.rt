@@ -37,7 +37,7 @@ pub const DOWNLOAD_WIDTH: usize = 6;
 
 pub const PLACES: usize = DOWNLOADS + DOWNLOAD_WIDTH * PLACE_COUNT;
 
-pub const PLACE_WIDTH: usize = 10;
+pub const PLACE_WIDTH: usize = 11;
 
 pub const FILES: usize = PLACES + PLACE_WIDTH * PLACE_COUNT;
 
@@ -65,7 +65,7 @@ pub struct DownloadRecord {
 }
 
 // A place: free (0), an open upload (1) or a booked order (2); low is the running number of its opening, order counts
-// in its subscriber's series.
+// in its subscriber's series, signers is a set as bits.
 pub struct PlaceRecord {
     pub state: u64,
     pub subscriber: u64,
@@ -77,6 +77,7 @@ pub struct PlaceRecord {
     pub attempts: u64,
     pub last: u64,
     pub length: u64,
+    pub signers: u64,
 }
 
 // An event of the journal.
@@ -161,6 +162,7 @@ pub fn place_at(numbers: &[u64], i: usize) -> PlaceRecord
         attempts: numbers[at + 7],
         last: numbers[at + 8],
         length: numbers[at + 9],
+        signers: numbers[at + 10],
     }
 }
 

@@ -27,15 +27,13 @@ ghost use Rattle.image_records.specs.Records.{fitTime, nonceTime, downlo
 ghost use Rattle.image_records.specs.Records.{downloadAttempts, downloadTime, downloadNumber, downloadHolds};
 ghost use Rattle.image_records.specs.Records.{placeState, placeFree, placeSubscriber, placeNumber, placeOrder};
 ghost use Rattle.image_records.specs.Records.{uploadSegments, uploadTaken, uploadAttempts, uploadTime};
-ghost use Rattle.image_records.specs.Records.{uploadLength, bookedLength, bookedRest, placeHolds, eventNumber};
-ghost use Rattle.image_records.specs.Records.{eventClock, eventSubscriber, eventType, eventOrder, eventKind};
-ghost use Rattle.image_records.specs.Records.{eventHolds};
+ghost use Rattle.image_records.specs.Records.{uploadLength, uploadSigners, bookedLength, bookedRest, placeHolds};
+ghost use Rattle.image_records.specs.Records.{eventNumber, eventClock, eventSubscriber, eventType, eventOrder};
+ghost use Rattle.image_records.specs.Records.{lastKind, eventKind, eventHolds};
 
 const OPEN: u64 = 1;
 
 const BOOKED: u64 = 2;
-
-const LAST_KIND: u64 = 4;
 
 // The last fitting request of what is open is at most the idle limit behind the clock.
 fn fit_time(clock: u64, last: u64) -> bool
@@ -103,10 +101,8 @@ fn place_state(p: PlaceRecord) -> bool
 fn place_free(p: PlaceRecord) -> bool
     ensures { λ r. ⌜ r ≡ placeFree p ⌝ }
 {
-    let counts = both(
-        p.attempts == 0,
-        both(p.last == 0, both(p.length == 0, true)),
-    );
+    let bytes = both(p.length == 0, both(p.signers == 0, true));
+    let counts = both(p.attempts == 0, both(p.last == 0, bytes));
     let steps = both(p.segments == 0, both(p.taken == 0, counts));
     let numbers = both(p.low == 0, both(p.order == 0, steps));
     implies(
@@ -166,6 +162,12 @@ fn upload_length(p: PlaceRecord) -> bool
     )
 }
 
+fn upload_signers(p: PlaceRecord) -> bool
+    ensures { λ r. ⌜ r ≡ uploadSigners p ⌝ }
+{
+    implies(p.state == OPEN, p.signers == 0)
+}
+
 fn booked_length(form: Form, p: PlaceRecord) -> bool
     ensures { λ r. ⌜ r ≡ bookedLength form p ⌝ }
 {
@@ -190,7 +192,8 @@ pub fn place_holds(form: Form, clock: u64, openings: u64, counter: u64, p: Place
     ensures { λ r. ⌜ r ≡ placeHolds form clock openings counter p ⌝ }
 {
     let booked = both(booked_length(form, p), both(booked_rest(p), true));
-    let times = both(upload_time(clock, p), both(upload_length(p), booked));
+    let signers = both(upload_signers(p), booked);
+    let times = both(upload_time(clock, p), both(upload_length(p), signers));
     let upload = both(
         upload_segments(form, p),
         both(upload_taken(p), both(upload_attempts(p), times)),
@@ -235,14 +238,26 @@ fn event_order(counter: u64, e: EventRecord) -> bool
     e.order < counter
 }
 
-fn event_kind(e: EventRecord) -> bool
-    ensures { λ r. ⌜ r ≡ eventKind e ⌝ }
+// The last of the kinds that an event of the form may have.
+fn last_kind(form: Form) -> u64
+    ensures { λ r. ⌜ r ≡ lastKind form ⌝ }
 {
-    within(1, LAST_KIND, e.kind)
+    match form {
+        Form::Five => 4,
+        Form::Six => 4,
+        Form::Eight => 5,
+    }
+}
+
+fn event_kind(form: Form, e: EventRecord) -> bool
+    ensures { λ r. ⌜ r ≡ eventKind form e ⌝ }
+{
+    within(1, last_kind(form), e.kind)
 }
 
 // A used event and the one before it, with the counter of its subscriber's series.
 pub fn event_holds(
+    form: Form,
     clock: u64,
     counter: u64,
     events: u64,
@@ -251,9 +266,9 @@ pub fn event_holds(
     e: EventRecord,
 ) -> bool
     requires { ⌜ i < upTo recordCount events ⌝ }
-    ensures { λ r. ⌜ r ≡ eventHolds clock counter events i before e ⌝ }
+    ensures { λ r. ⌜ r ≡ eventHolds form clock counter events i before e ⌝ }
 {
-    let kind = both(event_order(counter, e), both(event_kind(e), true));
+    let kind = both(event_order(counter, e), both(event_kind(form, e), true));
     let order = both(event_type(e), kind);
     let who = both(
         event_clock(clock, before, e),

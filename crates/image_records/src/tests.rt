@@ -50,11 +50,25 @@ pub fn at_most_segments(n: u64, k: u64) -> bool
 }
 
 // Whether a + k is at most 2 * b, where neither need fit.
-pub fn at_most_twice(a: u64, k: u64, b: u64) -> bool
+fn at_most_twice(a: u64, k: u64, b: u64) -> bool
     requires { ⌜ k ≤ 16 ⌝ }
     ensures { λ r. ⌜ r ≡ leb (a + k) (2 * b) ⌝ }
 {
     a / 2 + (a % 2 + k + 1) / 2 <= b
+}
+
+// Whether a + k is at most 2 * b + s, where neither need fit.
+pub fn at_most_twice_and(a: u64, k: u64, b: u64, s: u64) -> bool
+    requires { ⌜ k ≤ 16 ⌝ }
+    ensures { λ r. ⌜ r ≡ leb (a + k) (2 * b + s) ⌝ }
+{
+    if s <= a {
+        return at_most_twice(a - s, k, b);
+    }
+    if k <= s - a {
+        return true;
+    }
+    at_most_twice(0, k - (s - a), b)
 }
 
 pub fn one_if(t: bool) -> u64

@@ -1,5 +1,6 @@
 -- What `lookup` says of an order, by the records: Booked where one is a booking, Ended where none is and one is a
--- cancellation or drop, Nothing where none is either; and what it says of the row is true of all events. Assumes nothing.
+-- cancellation or drop, Nothing where none is either; a signing is looked past; and what it says of the row is true of all
+-- events. Assumes nothing.
 use Prim.Native.Nat.{ℕ, zero, suc, _-_}
 use mathlib.Core.Path.{_≡_, refl, sym, _∙_, ap}
 use mathlib.Core.Bool.{Bool, true, false, cond, _&&_}
@@ -12,7 +13,7 @@ use borrow.Author.Tests.{eqb-true, eq-eqb}
 use Rattle.octets.proofs.Tests.{and-true}
 use Rattle.message.specs.OrderNumbers.{orderNumberOf}
 use Rattle.journal.specs.declared.event.Kind.{Kind}
-use Rattle.journal.specs.declared.event.Kind.the-variants.{Unused, Opened, Booked, Cancelled, Dropped}
+use Rattle.journal.specs.declared.event.Kind.the-variants.{Unused, Opened, Booked, Cancelled, Dropped, Signed}
 use Rattle.journal.specs.declared.event.Event.{Event}
 use Rattle.journal.specs.declared.event.OrderName.{OrderName}
 use Rattle.journal.specs.declared.event.Found.{Found}
@@ -39,6 +40,7 @@ kind-ended Opened f h = inr h
 kind-ended Booked f h = absurd (not-both (sym h))
 kind-ended Cancelled f h = inl (inl refl)
 kind-ended Dropped f h = inl (inr refl)
+kind-ended Signed f h = inr h
 
 or-ended-booked : (f : Found) → orEnded f ≡ found.Booked → f ≡ found.Booked
 or-ended-booked found.Nothing h = absurd (not-both h)
@@ -51,6 +53,7 @@ kind-booked Opened f h = inr h
 kind-booked Booked f h = inl refl
 kind-booked Cancelled f h = inr (or-ended-booked f h)
 kind-booked Dropped f h = inr (or-ended-booked f h)
+kind-booked Signed f h = inr h
 
 -- a booking is not taken back, and an end not but for a booking
 kind-keeps : (k : Kind) (f : Found) → f ≡ found.Booked → withKind k f ≡ found.Booked
@@ -59,6 +62,7 @@ kind-keeps Opened f h = h
 kind-keeps Booked f h = refl
 kind-keeps Cancelled f h = ap orEnded h
 kind-keeps Dropped f h = ap orEnded h
+kind-keeps Signed f h = h
 
 kind-keeps-end : (k : Kind) (f : Found) → f ≡ found.Ended → (withKind k f ≡ found.Booked → ⊥) → withKind k f ≡ found.Ended
 kind-keeps-end Unused f h n = h
@@ -66,6 +70,7 @@ kind-keeps-end Opened f h n = h
 kind-keeps-end Booked f h n = absurd (n refl)
 kind-keeps-end Cancelled f h n = ap orEnded h
 kind-keeps-end Dropped f h n = ap orEnded h
+kind-keeps-end Signed f h n = h
 
 or-ended : (f : Found) → (f ≡ found.Booked → ⊥) → orEnded f ≡ found.Ended
 or-ended found.Nothing n = refl
@@ -139,9 +144,23 @@ module _ (o : OrderName) (e : Event) (f : Found) where
       at true n = kind-keeps-end (e .kind) f h n
       at false n = h
 
+  -- a signed event ends nothing: it is looked past, whatever its order
+  signs-only : e .kind ≡ Signed → withRecord o e f ≡ f
+  unfolding withRecord
+  signs-only k = at (isOf o e)
+    where
+      at : (t : Bool) → cond t (withKind (e .kind) f) f ≡ f
+      at true = ap (λ (j : Kind). withKind j f) k
+      at false = refl
+
 -- ---- a list of records
 
 module _ (order : OrderName) where
+  -- card 8: an unclear run looks past the signings, so they make no order lodged and none not lodged
+  pub signed-past : (e : Event) (l : List Event) → e .kind ≡ Signed → lookup order (e ∷ l) ≡ lookup order l
+  unfolding lookup
+  signed-past e l k = signs-only order e (lookup order l) k
+
   end-here : (e : Event) (es : List Event) → nameOf e ≡ order → (e .kind ≡ Cancelled) ⊎ (e .kind ≡ Dropped) → RecordedEnd order (e ∷ es)
   end-here e es o (inl k) = inl (here o k)
   end-here e es o (inr k) = inr (here o k)

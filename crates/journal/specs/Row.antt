@@ -6,7 +6,7 @@ use lib.Dec.{eqb, ltb}
 use lib.ListN.{length, set, drop, replicate}
 use Rattle.message.specs.OrderNumbers.{orderNumberOf}
 use Rattle.journal.specs.declared.event.Kind.{Kind}
-use Rattle.journal.specs.declared.event.Kind.the-variants.{Unused, Opened, Booked, Cancelled, Dropped}
+use Rattle.journal.specs.declared.event.Kind.the-variants.{Unused, Opened, Booked, Cancelled, Dropped, Signed}
 use Rattle.journal.specs.declared.event.Event.{Event}
 use Rattle.journal.specs.declared.event.Batch.{Batch}
 use Rattle.journal.specs.declared.event.OrderName.{OrderName}
@@ -60,13 +60,15 @@ orEnded found.Nothing = found.Ended
 orEnded found.Ended = found.Ended
 orEnded found.Booked = found.Booked
 
--- what is known of an order with one record of it more: a booking wins, a cancellation or drop ends it
+-- what is known of an order with one record of it more: a booking wins, a cancellation or drop ends it; "signed" says
+-- nothing of it
 abbrev pub withKind : Kind → Found → Found
 withKind Unused f = f
 withKind Opened f = f
 withKind Booked f = found.Booked
 withKind Cancelled f = orEnded f
 withKind Dropped f = orEnded f
+withKind Signed f = f
 
 -- what is known of an order with one record more, of any order
 unfoldable pub withRecord : OrderName → Event → Found → Found

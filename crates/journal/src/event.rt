@@ -6,13 +6,15 @@ pub const RECORD_COUNT: usize = 64;
 // The most events of one call: the uploads of all eight places dropped, and one other event.
 pub const MAX_ENTRIES: usize = 9;
 
-// What happened to an upload: document 02's "opened, booked, cancelled, dropped". A record not in use is unused.
+// What happened to an upload: document 02's "opened, booked, cancelled, dropped", and card 8's "signed" of a booked
+// order. A record not in use is unused.
 pub enum Kind {
     Unused,
     Opened,
     Booked,
     Cancelled,
     Dropped,
+    Signed,
 }
 
 // A record of the row, document 02's "event number (8 bytes, from 1), clock, subscriber, order number, and kind"; "the

@@ -64,6 +64,7 @@ fn with_kind(kind: Kind, found: Found) -> Found
         Kind::Booked => Found::Booked,
         Kind::Cancelled => or_ended(found),
         Kind::Dropped => or_ended(found),
+        Kind::Signed => found,
     }
 }
 

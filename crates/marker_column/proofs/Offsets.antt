@@ -65,6 +65,7 @@ opening-timed (form.Request request.DownloadOpening) h = (refl, refl)
 opening-timed (form.Request request.UploadTransfer) h = never h
 opening-timed (form.Request request.DownloadTransfer) h = never h
 opening-timed (form.Request request.Receipt) h = never h
+opening-timed (form.Request request.Signing) h = (refl, refl)
 opening-timed (form.Reply x) h = never h
 
 -- what the code finds: the request's form, and whether its offset is shown

@@ -18,13 +18,14 @@ use Rattle.print.specs.Text.{hyphen, signedDecimal, signedRoom}
 abbrev pub offsetOf : ℕ → ℕ → ℤ
 offsetOf timestamp clock = pos timestamp -ℤ pos clock
 
--- the two opening forms
+-- the two opening forms, and that of card 8, which is "An opening of form 01 to 06, 0E, 0F, 10"
 abbrev pub opens : RequestForm → Bool
 opens request.UploadOpening = true
 opens request.DownloadOpening = true
 opens request.UploadTransfer = false
 opens request.DownloadTransfer = false
 opens request.Receipt = false
+opens request.Signing = true
 
 abbrev pub isOpening : Form → Bool
 isOpening form.NoForm = false

@@ -33,6 +33,7 @@ fn opens(form: RequestForm) -> bool
         RequestForm::UploadTransfer => false,
         RequestForm::DownloadTransfer => false,
         RequestForm::Receipt => false,
+        RequestForm::Signing => true,
     }
 }
 

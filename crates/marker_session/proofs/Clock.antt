@@ -18,6 +18,7 @@ use Rattle.bank_rows.specs.State.{bankOf}
 use Rattle.bank_rows.proofs.State.{fresh-rows}
 use Rattle.bank_sound.proofs.Range.{zeros-sound}
 use Rattle.bank_openings.specs.Openings.{counted, countedUpload, openUpload, openDownload}
+use Rattle.bank_signing.specs.Signings.{sign}
 use Rattle.bank_verdicts.specs.declared.verdict.Action.the-variants as action
 use Rattle.bank_verdicts.specs.declared.verdict.DownloadAction.the-variants as down
 use Rattle.bank_verdicts.specs.declared.verdict.UploadAction.the-variants as up
@@ -37,7 +38,7 @@ use Rattle.marker_session.specs.Marking.{MarkerState, inputOf, callOf, c
 
 -- "beyond clock and drops only what is named changes": no verdict moves the clock
 carried-clock : (v : Verdict) (w : BankState) (q : Fields) (d : List ℕ) → carryOut v w q d .bank .clock ≡ w .bank .clock
-unfolding openUpload openDownload counted countedUpload
+unfolding openUpload openDownload counted countedUpload sign
 carried-clock verdict.Unreadable w q d = refl
 carried-clock (verdict.Refused c) w q d = refl
 carried-clock (verdict.Of t (action.Upload (up.Opened n))) w q d = refl
@@ -52,6 +53,7 @@ carried-clock (verdict.Of t (action.Download (down.Point k))) w q d = refl
 carried-clock (verdict.Of t (action.Download down.Cancelled)) w q d = refl
 carried-clock (verdict.Of t (action.Download down.Confirmed)) w q d = refl
 carried-clock (verdict.Of t (action.Download down.Declined)) w q d = refl
+carried-clock (verdict.Signed n added) w q d = refl
 
 -- a call that its lengths and its time pass sets the clock, and any other leaves it
 module _ (w : BankState) (a : FrameInput) where

@@ -42,6 +42,7 @@ codeOf-field code.UnknownTransaction = refl
 codeOf-field code.TransactionAbort = refl
 codeOf-field code.MessageReplay = refl
 codeOf-field code.SegmentNumberExceeded = refl
+codeOf-field code.OrderIdUnknown = refl
 codeOf-field code.MaxSegmentsExceeded = refl
 codeOf-field code.MaxTransactionsExceeded = refl
 

@@ -28,6 +28,9 @@ use Rattle.frame_table.specs.Table.{
   receiptCodeTag,
   returnCodeTag,
   orderNumberTag,
+  orderAttributeTag,
+  ownerTag,
+  uzhnn,
   width,
   valuesOf,
   inRange,
@@ -61,7 +64,17 @@ use Rattle.message.specs.declared.codes.ReturnCode.{ReturnCode}
 use Rattle.message.specs.declared.codes.ReturnCode.the-variants as code
 use Rattle.message.specs.Limits.{initialisationPhase, transferPhase, receiptPhase, ful, fdl}
 use Rattle.message.specs.Codes.{codeField}
-use Rattle.message.specs.Requests.{requestOf, openingOf, uploadOpening, downloadOpening, transferOf, uploadTransfer, downloadTransfer, receipt}
+use Rattle.message.specs.Requests.{
+  requestOf,
+  openingOf,
+  uploadOpening,
+  downloadOpening,
+  transferOf,
+  uploadTransfer,
+  downloadTransfer,
+  receipt,
+  signing,
+}
 use Rattle.message.specs.Replies.{
   replyOf,
   withCode,
@@ -119,6 +132,11 @@ module _ (f : Fields) (d : List ℕ) (a : Fine f d) where
   unfolding width valuesOf
   with-receipt-code code h = fine-range f d a receiptCodeTag 1 code 0 1 (refl, refl, refl) (omega arith)
       (omega arith) (omega arith) h
+
+  with-attribute : Fine (with orderAttributeTag uzhnn f) d
+  unfolding width valuesOf
+  with-attribute = fine-range f d a orderAttributeTag 5 uzhnn uzhnn uzhnn (refl, refl, refl) (omega arith) (omega arith)
+      (omega arith) (omega arith)
 
   with-type : (v : ℕ) → v < 2 ^ 24 → listed orderTypeTag (bytesOf 3 v) ≡ true → Fine (with orderTypeTag v f) d
   unfolding width
@@ -198,6 +216,14 @@ module _ (subscriber exchange : ℕ) (s : Sender subscriber exchange) where
     unfolding downloadOpening width valuesOf listed spelled bytesOf allowed inRange formOf findForm rowFits
     download-opening-written =
         plain _ forms.DownloadOpening (opening-fine fdl (omega arith) refl) refl refl refl refl refl
+
+    pub signing-written : (orderNumber owner : ℕ) → orderNumber < 2 ^ 32 → owner < 2 ^ 16
+        → WrittenAs (signing subscriber exchange nonce timestamp orderNumber owner) [] forms.Signing
+    unfolding signing width valuesOf listed spelled bytesOf allowed inRange formOf findForm rowFits
+    signing-written orderNumber owner h k =
+        let a = with-long _ [] (opening-fine ful (omega arith) refl) orderNumberTag orderNumber (refl, refl, refl) h in
+        let b = with-short _ [] (with-attribute _ [] a) ownerTag owner (refl, refl, refl) k in
+        plain _ forms.Signing b refl refl refl refl refl
 
   module _ (transaction : Bits128) (v : Wide transaction) where
     transfer-fine : (d : List ℕ) (segment : ℕ) → segment < 2 ^ 16 → Fine (transferOf subscriber exchange transaction segment) d

@@ -1,4 +1,4 @@
--- The return codes of document 01 and the number of field 0D for each.
+-- The return codes of document 01 and of card 8, and the number of field 0D for each.
 use Prim.Native.Nat.{ℕ, zero, suc, _+_, _*_, _/_, _%_}
 use mathlib.Core.List.{List, [], _∷_}
 use Rattle.message.specs.declared.codes.ReturnCode.{ReturnCode}
@@ -23,11 +23,12 @@ returnCodes =
     ∷ code.TransactionAbort
     ∷ code.MessageReplay
     ∷ code.SegmentNumberExceeded
+    ∷ code.OrderIdUnknown
     ∷ code.MaxSegmentsExceeded
     ∷ code.MaxTransactionsExceeded
     ∷ []
 
--- Document 01's six-digit code, as a decimal number
+-- Document 01's six-digit code, as a decimal number; card 8, "It refuses an order not in the book with 091114"
 abbrev pub codeValue : ReturnCode → ℕ
 codeValue code.Ok = 0
 codeValue code.DownloadPostprocessDone = 11000
@@ -45,6 +46,7 @@ codeValue code.UnknownTransaction = 91101
 codeValue code.TransactionAbort = 91102
 codeValue code.MessageReplay = 91103
 codeValue code.SegmentNumberExceeded = 91104
+codeValue code.OrderIdUnknown = 91114
 codeValue code.MaxSegmentsExceeded = 91118
 codeValue code.MaxTransactionsExceeded = 91119
 

@@ -64,6 +64,6 @@ receiptAnswered exchange transaction c = withCode c
 unfoldable pub unreadable : Fields
 unreadable = withCode code.InvalidXml noFields
 
--- "any other refusal 01 03 0D"
+-- "any other refusal 01 03 0D"; of card 8 also the reply to a signing, with 000000: "the reply is 01 03 0D"
 unfoldable pub refusal : ℕ → ℕ → ReturnCode → Fields
 refusal phase exchange c = withCode c (replyOf phase exchange)

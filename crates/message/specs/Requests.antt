@@ -1,9 +1,10 @@
--- The five request forms of document 01, each as the fields that it has.
+-- The five request forms of document 01 and that of card 8, each as the fields that it has.
 use Prim.Native.Nat.{ℕ}
 use Rattle.frame_table.specs.declared.fields.Fields.{Fields}
 use Rattle.frame_table.specs.declared.fields.Bits128.{Bits128}
 use Rattle.frame_table.specs.Table.{phaseTag, subscriberTag, exchangeTag, orderTypeTag, nonceTag, timestampTag}
 use Rattle.frame_table.specs.Table.{segmentsTag, transactionTag, segmentTag, lastMarkTag, dataTag, receiptCodeTag}
+use Rattle.frame_table.specs.Table.{orderNumberTag, orderAttributeTag, ownerTag, uzhnn}
 use Rattle.frame_table.specs.Names.{noFields}
 use Rattle.frame_table.specs.Names.{with, withWide}
 use Rattle.message.specs.Limits.{initialisationPhase, transferPhase, receiptPhase, ful, fdl}
@@ -46,3 +47,10 @@ downloadTransfer subscriber exchange transaction segment = transferOf subscriber
 unfoldable pub receipt : ℕ → ℕ → Bits128 → ℕ → Fields
 receipt subscriber exchange transaction code =
     with receiptCodeTag code (withWide transactionTag transaction (requestOf receiptPhase subscriber exchange))
+
+-- card 8, "An opening of form 01 to 06, 0E, 0F, 10 has attribute UZHNN ... and names type FUL, an order number and its
+-- owner"
+unfoldable pub signing : ℕ → ℕ → Bits128 → ℕ → ℕ → ℕ → Fields
+signing subscriber exchange nonce timestamp orderNumber owner =
+    with ownerTag owner (with orderAttributeTag uzhnn
+    (with orderNumberTag orderNumber (openingOf subscriber exchange ful nonce timestamp)))

@@ -139,7 +139,7 @@ pub fn unreadable() -> Fields
     with_code(ReturnCode::InvalidXml, Fields::none())
 }
 
-// Any other refusal: 01 03 0D.
+// Any other refusal, and the reply to a signing: 01 03 0D.
 pub fn refusal(phase: u64, exchange: u64, code: ReturnCode) -> Fields
     ensures { λ r. ⌜ r ≡ refusal phase exchange code ⌝ }
 {

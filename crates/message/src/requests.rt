@@ -1,4 +1,4 @@
-// The five request forms, each as the fields that it has.
+// The six request forms, each as the fields that it has.
 use crate::limits::FDL;
 use crate::limits::FUL;
 use crate::limits::INITIALISATION_PHASE;
@@ -10,7 +10,10 @@ use frame_table::table::DATA;
 use frame_table::table::EXCHANGE;
 use frame_table::table::LAST_MARK;
 use frame_table::table::NONCE;
+use frame_table::table::ORDER_ATTRIBUTE;
+use frame_table::table::ORDER_NUMBER;
 use frame_table::table::ORDER_TYPE;
+use frame_table::table::OWNER;
 use frame_table::table::PHASE;
 use frame_table::table::RECEIPT_CODE;
 use frame_table::table::SEGMENT;
@@ -18,9 +21,10 @@ use frame_table::table::SEGMENTS;
 use frame_table::table::SUBSCRIBER;
 use frame_table::table::TIMESTAMP;
 use frame_table::table::TRANSACTION;
+use frame_table::table::UZHNN;
 ghost use mathlib.Core.Path.{_≡_};
 ghost use Rattle.message.specs.Requests.{requestOf, openingOf, uploadOpening, downloadOpening, transferOf};
-ghost use Rattle.message.specs.Requests.{uploadTransfer, downloadTransfer, receipt};
+ghost use Rattle.message.specs.Requests.{uploadTransfer, downloadTransfer, receipt, signing};
 
 // 01 02 03, which stand in every request.
 fn request_of(phase: u64, subscriber: u64, exchange: u64) -> Fields
@@ -32,7 +36,7 @@ fn request_of(phase: u64, subscriber: u64, exchange: u64) -> Fields
         .with(EXCHANGE, exchange)
 }
 
-// 01 to 06, which stand in both openings.
+// 01 to 06, which stand in every opening.
 fn opening_of(
     subscriber: u64,
     exchange: u64,
@@ -111,4 +115,21 @@ pub fn receipt(subscriber: u64, exchange: u64, transaction: Bits128, code: u64) 
     request_of(RECEIPT_PHASE, subscriber, exchange)
         .with_wide(TRANSACTION, transaction)
         .with(RECEIPT_CODE, code)
+}
+
+// Signing: 01 to 06, 0E, 0F, 10; the order is of type FUL.
+pub fn signing(
+    subscriber: u64,
+    exchange: u64,
+    nonce: Bits128,
+    timestamp: u64,
+    order_number: u64,
+    owner: u64,
+) -> Fields
+    ensures { λ r. ⌜ r ≡ signing subscriber exchange nonce timestamp «order_number» owner ⌝ }
+{
+    opening_of(subscriber, exchange, FUL, nonce, timestamp)
+        .with(ORDER_NUMBER, order_number)
+        .with(ORDER_ATTRIBUTE, UZHNN)
+        .with(OWNER, owner)
 }

@@ -1,5 +1,6 @@
 -- How long a day, an order's name, a closing word, and an order's line are at most. Assumes nothing.
 use Prim.Native.Nat.{ℕ, _≤_}
+use mathlib.Core.Bool.{Bool, true, false}
 use mathlib.Core.List.{[], _∷_, _++_}
 use native.Mathlib.Omega.{arith}
 use lib.ListN.{length, length-append}
@@ -11,12 +12,14 @@ use Rattle.bank_state.specs.declared.state.Place.{Place}
 use Rattle.bank_state.specs.Search.{isBooked}
 use Rattle.message.specs.Limits.{ful}
 use Rattle.message.specs.OrderNumbers.{orderNumberOf}
+use Rattle.signers.specs.Signers.{signerCount, isReleased}
 use Rattle.print.specs.Text.{hyphen, orderCharacters, orderNumberText, typeColumn, space, newline, column}
 use Rattle.print.proofs.Digits.{length-digitsIn, type-column-most, column-most}
 use Rattle.print.proofs.Texts.{cond-most}
 use Rattle.print.specs.Day.{lastDigits, dayText, dayRoom}
 use Rattle.print.specs.Name.{orderNameText, orderNameRoom}
 use Rattle.print.specs.Closing.{closingText, closingRoom}
+use Rattle.print.specs.Book.{releasedText, releasedRoom, signerColumns, signerColumnsRoom}
 use Rattle.print.specs.Book.{orderColumns, orderColumnsRoom, orderLine}
 
 pub day-most : (d : Date) → length (dayText d) ≤ dayRoom
@@ -54,20 +57,39 @@ closing-most Fetched o = omega arith
 closing-most HeldUnconfirmed o = omega arith
 closing-most NotFetched o = omega arith
 
+pub released-most : (t : Bool) → length (releasedText t) ≤ releasedRoom
+released-most true = omega arith
+released-most false = omega arith
+
+pub signers-most : (set end : ℕ) → length (signerColumns set end) ≤ signerColumnsRoom
+unfolding signerColumns
+signers-most set end =
+    let released = releasedText (isReleased set) in
+    omega (
+      arith,
+      length-append (column (signerCount set) space) (released ++ (end ∷ [])),
+      length-append released (end ∷ []),
+      column-most (signerCount set) space,
+      released-most (isReleased set),
+    )
+
 pub columns-most : (p : Place) (bytes end : ℕ) → length (orderColumns p bytes end) ≤ orderColumnsRoom
 unfolding orderColumns
 columns-most p bytes end =
     let number = orderNumberOf (p .number) in
     let subscriber = column (p .subscriber) space in
+    let signed = column bytes space ++ signerColumns (p .signers) end in
     omega (
       arith,
-      length-append (orderNumberText number) (space ∷ subscriber ++ (typeColumn ful ++ column bytes end)),
-      length-append subscriber (typeColumn ful ++ column bytes end),
-      length-append (typeColumn ful) (column bytes end),
+      length-append (orderNumberText number) (space ∷ subscriber ++ (typeColumn ful ++ signed)),
+      length-append subscriber (typeColumn ful ++ signed),
+      length-append (typeColumn ful) signed,
+      length-append (column bytes space) (signerColumns (p .signers) end),
       length-digitsIn 256 0 orderCharacters number,
       column-most (p .subscriber) space,
       type-column-most ful,
-      column-most bytes end,
+      column-most bytes space,
+      signers-most (p .signers) end,
     )
 
 pub order-most : (p : Place) → length (orderLine p) ≤ orderColumnsRoom

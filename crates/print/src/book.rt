@@ -10,6 +10,8 @@ use bank_state::search::is_booked;
 use bank_state::state::Place;
 use message::limits::FUL;
 use message::order_numbers::order_number_of;
+use signers::set::count;
+use signers::set::is_released;
 ghost use mathlib.Core.Path.{_≡_};
 ghost use Prim.Native.Nat.{_+_, _*_, _≤_};
 ghost use lib.ListN.{length};
@@ -17,13 +19,15 @@ ghost use Rattle.bank_state.specs.Limits.{placeCount};
 ghost use Rattle.bank_rows.specs.Layout.{stateSize};
 ghost use Rattle.bank_rows.specs.State.{bankOf};
 ghost use Rattle.print.specs.Text.{Put, rowsTo, printed, printedCount};
-ghost use Rattle.print.specs.Book.{bookHeader, bookHeaderRoom, orderColumns, orderColumnsRoom};
+ghost use Rattle.print.specs.Book.{bookHeader, bookHeaderRoom, releasedText, releasedRoom};
+ghost use Rattle.print.specs.Book.{signerColumns, signerColumnsRoom, orderColumns, orderColumnsRoom};
 ghost use Rattle.print.specs.Book.{orderLine, lineAt, bookOf, bookRoom};
 
-// The most bytes of the columns' names with the byte after them, of an order's columns, and of the book.
-pub const BOOK_HEADER_ROOM: usize = 27 + 1;
+// The most bytes of the columns' names with the byte after them, of an order's columns, the last two those of its
+// signers, and of the book.
+pub const BOOK_HEADER_ROOM: usize = 44 + 1;
 
-pub const ORDER_COLUMNS_ROOM: usize = 4 + 1 + 21 + 4 + 21;
+pub const ORDER_COLUMNS_ROOM: usize = 4 + 1 + 21 + 4 + 21 + (21 + 3 + 1);
 
 pub const BOOK_ROOM: usize = BOOK_HEADER_ROOM + PLACE_COUNT * ORDER_COLUMNS_ROOM;
 
@@ -32,8 +36,30 @@ pub fn put_book_header(output: &mut [u8], at: usize, end: u8) -> usize
     requires { ⌜ at + bookHeaderRoom ≤ length (now output) ⌝ }
     ensures { λ r. ⌜ Put (now (output .entry)) at (bookHeader end) (now (output .exit)) r ⌝ }
 {
-    let a = put_text(output, at, b"order subscriber type bytes");
+    let a = put_text(output, at, b"order subscriber type bytes signers released");
     put_byte(output, a, end)
+}
+
+// Writes whether an order is released.
+fn put_released(output: &mut [u8], at: usize, released: bool) -> usize
+    requires { ⌜ at + releasedRoom ≤ length (now output) ⌝ }
+    ensures { λ r. ⌜ Put (now (output .entry)) at (releasedText released) (now (output .exit)) r ⌝ }
+{
+    if released {
+        return put_text(output, at, b"yes");
+    }
+    put_text(output, at, b"no")
+}
+
+// Writes how many signers an order has, whether they release it, and the byte after both. The set is the low byte.
+fn put_signers(output: &mut [u8], at: usize, set: u64, end: u8) -> usize
+    requires { ⌜ at + signerColumnsRoom ≤ length (now output) ⌝ }
+    ensures { λ r. ⌜ Put (now (output .entry)) at (signerColumns set end) (now (output .exit)) r ⌝ }
+{
+    let signers = (set % 256) as u8;
+    let a = put_column(output, at, count(signers) as u64, b' ');
+    let b = put_released(output, a, is_released(signers));
+    put_byte(output, b, end)
 }
 
 // Writes the columns of an order of so many bytes, an upload, and the byte after them.
@@ -45,7 +71,8 @@ pub fn put_order_columns(output: &mut [u8], at: usize, p: Place, bytes: u64, end
     let b = put_byte(output, a, b' ');
     let c = put_column(output, b, p.subscriber, b' ');
     let d = put_type(output, c, FUL);
-    put_column(output, d, bytes, end)
+    let e = put_column(output, d, bytes, b' ');
+    put_signers(output, e, p.signers, end)
 }
 
 // Writes the line of a place, where it holds a booked order.

@@ -144,6 +144,7 @@ upload-holds a i w d b h = record {
 carried-holds : (v : Verdict) (w : BankState) (q : Fields) (d : List ℕ) → Bytes d → StoresHold w → StoresHold (carryOut v w q d)
 carried-holds verdict.Unreadable w q d b h = h
 carried-holds (verdict.Refused c) w q d b h = h
+carried-holds (verdict.Signed n added) w q d b h = record { orders = h .orders; mailboxes = h .mailboxes }
 carried-holds (verdict.Of t (action.Upload (up.Opened n))) w q d b h = record { orders = h .orders; mailboxes = h .mailboxes }
 carried-holds (verdict.Of t (action.Upload up.Took)) w q d b h = upload-holds up.Took _ w d b h
 carried-holds (verdict.Of t (action.Upload up.TookLast)) w q d b h = upload-holds up.TookLast _ w d b h

@@ -21,15 +21,18 @@ abbrev μ-loop : tie.MeasureT-loop
 μ-loop runs₀ nonces₀ row₀ first last mail₀ rows₀ orders₀ boxes₀ payloads₀ files₀ room₀ i₀ runs nonces row mail rows orders mailboxes payloads files room i =
     last - i
 
--- where a move has given back the mail, and where it began
-abbrev moved : tie.After-slice-known14 Inv-loop μ-loop → tie.After-mail Inv-loop μ-loop
+-- where a move has given back the mail, where its signing has, and where it began
+abbrev moved : tie.After-slice-known15 Inv-loop μ-loop → tie.After-mail2 Inv-loop μ-loop
 moved c = c .before .before .before .before .before .before .before .before .before .before .before .before .before
 
+abbrev signed : tie.After-mail2 Inv-loop μ-loop → tie.After-mail Inv-loop μ-loop
+signed c = c .before .before .before .before .before .before .before .before .before .before .before .before .before
+
 abbrev began : tie.After-mail Inv-loop μ-loop → tie.In-loop Inv-loop μ-loop
-began c = c .before .before .before .before .before .before .before .before .before .before .before .before .before .before .before .before .before .before .before .before
+began c = c .before .before .before .before .before .before .before .before .before .before .before
 
 loop-less : tie.Need-loop-less Inv-loop μ-loop
-loop-less c = omega (arith, began (moved c) .loop-test .taken)
+loop-less c = omega (arith, began (signed (moved c)) .loop-test .taken)
 
 loop-again : tie.Need-loop-again Inv-loop μ-loop
 loop-again c =
@@ -40,8 +43,9 @@ loop-again c =
     let at-orders = at-boxes .before .before in
     let at-rows = at-orders .before .before in
     let at-mail = at-rows .before .before in
-    let inv = began at-mail .before .loop .inv in (
-      at-mail .mail .given ∙ inv .0,
+    let at-signing = signed at-mail in
+    let inv = began at-signing .before .loop .inv in (
+      at-mail .mail2 .given ∙ (at-signing .mail .given ∙ inv .0),
       at-rows .rows .given ∙ inv .1,
       at-orders .orders .given ∙ inv .2,
       at-boxes .mailboxes .given ∙ inv .3,
@@ -60,6 +64,7 @@ play-spec =
     (λ c κs. tt)
     (λ c κs. tt)
     (λ c. search needs)
+    (λ c κs. tt)
     (λ c κs. tt)
     loop-less
     loop-again

@@ -1,4 +1,4 @@
--- By the verdict's action, where it has one.
+-- By the verdict's action, where it has one; a signing has the number itself.
 use borrow.Author.Needs.{needs}
 use Rattle.bank_events.proofs.actions.verdict_order.Statement.{statement}
 use Rattle.bank_events.proofs.actions.verdict_order.Tie as tie
@@ -10,4 +10,4 @@ pub verdict-order-spec : {M : Type 1} → statement M
 verdict-order-spec =
     tie.close
     (tie.spec (λ c. search needs) (λ c. search needs) (λ c. search needs) (λ c κs. search needs) (λ c. search needs)
-    (λ c. search needs) returns-3)
+    (λ c. search needs) (λ c. search needs) returns-3 (λ c. search needs))

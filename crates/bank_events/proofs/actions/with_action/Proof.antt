@@ -18,7 +18,7 @@ returns c =
     let start = at .before .before in
     let a = start .args in
     let kind = at .before .verdict-kind in
-    let e = entry-of (a .verdict) (a .order) (a .q) (kind .result) (kind .ensures) _ (c .before .subscriber .ensures)
+    let e = entry-of (a .verdict) (a .order) (a .q) (kind .result) (kind .ensures) _ (c .before .verdict-subscriber .ensures)
     (sym (at .is-event .ensures) ∙ c .before .before .if1 .taken) in
     subst (λ (es : List Entry). Holds (c .with-entry .result) (entriesIn (a .batch) ++ es)) (sym e) (c .with-entry .ensures)
 

@@ -104,9 +104,18 @@ mul-t34 c = search needs
 shared-slice-read-t36 : tie.Need-shared-slice-read-t36
 shared-slice-read-t36 c = search needs
 
+add-t37 : tie.Need-add-t37
+add-t37 c = search needs
+
+mul-t38 : tie.Need-mul-t38
+mul-t38 c = search needs
+
+shared-slice-read-t40 : tie.Need-shared-slice-read-t40
+shared-slice-read-t40 c = search needs
+
 returns : tie.Need-returns
 returns c =
-    let at-use = c .before .before .before .before .before .before .before .before .before in
+    let at-use = c .before .before .before .before .before .before .before .before .before .before in
     let start = at-use .before .before .before in
     rw (at-use .use-of .ensures) (sym (place-read (start .args .rows .now) (start .args .i) (start .pre .1)))
 
@@ -147,4 +156,7 @@ place-at-spec =
     add-t33
     mul-t34
     shared-slice-read-t36
+    add-t37
+    mul-t38
+    shared-slice-read-t40
     returns)

@@ -1,4 +1,4 @@
--- The ten numbers of the place are written over its row.
+-- The eleven numbers of the place are written over its row.
 use mathlib.Core.Path.{_∙_}
 use Rattle.bank_rows.proofs.Writing.{place-write}
 use borrow.Author.Needs.{needs}

@@ -19,6 +19,7 @@ judged-so requests.DownloadOpening k b q = refl
 judged-so requests.UploadTransfer k b q = refl
 judged-so requests.DownloadTransfer k b q = refl
 judged-so requests.Receipt k b q = refl
+judged-so requests.Signing k b q = refl
 
 returns : tie.Need-returns
 returns c =
@@ -41,6 +42,18 @@ returns-3 c =
     rw (← judged-so _ _ _ _, ← at-target .before .before .target-of .ensures, at-target .target .given .1)
     (at-on-transaction .on-transaction .ensures)
 
+returns-4 : tie.Need-returns-4
+returns-4 c =
+    let at-signing = c .before .before in
+    let at-told = at-signing .before .before in
+    rw (← judged-so _ _ _ _, ← at-told .before .before .target-of .ensures, at-told .enum-told3 .given .1)
+    (at-signing .signing .ensures _ _ _)
+
+signing-requires : tie.Need-signing-requires
+signing-requires c κs =
+    let memory = c .before .before .before .before .before .before .before .before .pre .memory in
+    (memory .laid, memory .range .signers)
+
 pub by-request-spec : {M : Type 1} → statement M
 by-request-spec =
     tie.close
@@ -53,10 +66,14 @@ by-request-spec =
     (λ c. search needs)
     (λ c κs. search needs)
     (λ c. search needs)
+    signing-requires
+    (λ c. search needs)
     returns
     (λ c. search needs)
     returns-2
     (λ c. search needs)
     (λ c. search needs)
     (λ c. search needs)
-    returns-3)
+    returns-3
+    (λ c. search needs)
+    returns-4)

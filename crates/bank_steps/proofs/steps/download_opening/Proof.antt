@@ -1,11 +1,13 @@
 -- An opening that acts on a transaction is accepted; the other verdicts change nothing. Assumes nothing.
-use mathlib.Core.Path.{sym, _∙_, subst}
+use mathlib.Core.Path.{sym, ap, _∙_, subst}
 use Rattle.bank_rows.specs.State.{bankOf}
 use Rattle.bank_rows.proofs.State.{held-rows}
 use Rattle.bank_verdicts.specs.declared.verdict.Direction.the-variants as direction
 use Rattle.bank_verdicts.specs.declared.verdict.Verdict.{Verdict}
+use Rattle.bank_verdicts.proofs.Signing.{isSigned, opening-signs-not}
 use Rattle.bank_openings.proofs.Opened.{accepted-room}
 use Rattle.bank_steps.specs.Lent.{lent, CarriedOut}
+use Rattle.bank_steps.proofs.Carried.{unacted}
 use Rattle.bank_steps.proofs.Lent.{none-carried, download-opening-carried}
 use borrow.Author.Needs.{needs}
 use Rattle.bank_steps.proofs.steps.download_opening.Statement.{statement}
@@ -40,7 +42,9 @@ returns-2 c =
     let s = a .rows .now in
     let judged = c .before .judge-opening .ensures in
     subst (λ (v : Verdict). CarriedOut v (lent s o m) (a .q) d (c .before .judge-opening .result) (lent s o m)) judged
-    (none-carried (c .before .judge-opening .result) s o m (a .q) d (start .pre) (c .match .keys2))
+    (none-carried (c .before .judge-opening .result) s o m (a .q) d (start .pre)
+    (unacted (c .before .judge-opening .result) (c .match .keys2))
+    (ap isSigned judged ∙ opening-signs-not direction.Download (a .context) (bankOf s) (a .q)))
 
 pub download-opening-spec : {M : Type 1} → statement M
 download-opening-spec =

@@ -1,4 +1,4 @@
--- By the verdict: a refusal has no data. Assumes nothing.
+-- By the verdict: a refusal and a signing have no data. Assumes nothing.
 use borrow.Author.Needs.{needs}
 use Rattle.bank_verdicts.proofs.replies.segment_in.Statement.{statement}
 use Rattle.bank_verdicts.proofs.replies.segment_in.Tie as tie
@@ -16,4 +16,6 @@ segment-in-spec =
     (λ c κs. tt)
     (λ c. search needs)
     (λ c. search needs)
-    returns-3)
+    (λ c. search needs)
+    returns-3
+    (λ c. search needs))

@@ -56,19 +56,23 @@ sub-end c = end-within (to-data (c .before .before .before .before)) (c .read-fi
 
 content-at-requires : tie.Need-content-at-requires
 content-at-requires c κs =
-    let c11 = c .before .before .before .before .before .before .before .before .before .before .before .before .before .before in
+    let c11 = c .before .before .before .before .before .before .before .before .before .before .before .before .before .before .before .before .before .before .before .before .before .before in
     end-after (to-data (c11 .before .before .before .before)) (c11 .read-field11 .ensures)
 
 returns : tie.Need-returns
 unfolding parse
 returns c =
-    let c14 = c .before .before .before in
+    let c16 = c .before .before .before in
+    let c15 = c16 .before .before .before .before in
+    let c14 = c15 .before .before .before .before in
     let c13 = c14 .before .before .before .before in
     let c12 = c13 .before .before .before .before in
     let c11 = c12 .before .before .before .before in
     let r13 = read-next (past-data c11) (omega arith) (c12 .read-field12 .ensures) in
     let r14 = read-next r13 (omega arith) (c13 .read-field13 .ensures) in
-    let r = read-next r14 (omega arith) (c14 .read-field14 .ensures) in (
+    let r15 = read-next r14 (omega arith) (c14 .read-field14 .ensures) in
+    let r16 = read-next r15 (omega arith) (c15 .read-field15 .ensures) in
+    let r = read-next r16 (omega arith) (c16 .read-field16 .ensures) in (
       c .before .fields-if .ensures ∙ rw (c .before .before .is-whole .ensures) (rw (r .left, read-end r)),
       data-stand (to-data (c11 .before .before .before .before)) (c11 .read-field11 .ensures) _ _ refl (c .content-at .ensures),
     )
@@ -90,6 +94,8 @@ parse-spec =
     sub-at
     (λ c κs. search needs)
     sub-end
+    (λ c κs. search needs)
+    (λ c κs. search needs)
     (λ c κs. search needs)
     (λ c κs. search needs)
     (λ c κs. search needs)

@@ -21,6 +21,9 @@ of-phase-requires-4 c κs = search needs
 of-phase-requires-5 : tie.Need-of-phase-requires-5
 of-phase-requires-5 c κs = search needs
 
+of-phase-requires-6 : tie.Need-of-phase-requires-6
+of-phase-requires-6 c κs = search needs
+
 returns : tie.Need-returns
 unfolding rowFits findForm formOf
 returns c = c .of-phase .ensures ∙ sym (rw (c .before .match .keys1))
@@ -43,7 +46,7 @@ returns-5 c = c .of-phase5 .ensures ∙ sym (rw (c .before .match .keys5))
 
 returns-6 : tie.Need-returns-6
 unfolding rowFits findForm formOf
-returns-6 c = sym (rw (c .match .keys6))
+returns-6 c = c .of-phase6 .ensures ∙ sym (rw (c .before .match .keys6))
 
 returns-7 : tie.Need-returns-7
 unfolding rowFits findForm formOf
@@ -71,16 +74,21 @@ returns-12 c = sym (rw (c .match .keys12))
 
 returns-13 : tie.Need-returns-13
 unfolding rowFits findForm formOf
-returns-13 c =
+returns-13 c = sym (rw (c .match .keys13))
+
+returns-14 : tie.Need-returns-14
+unfolding rowFits findForm formOf
+returns-14 c =
     let m = c .before .args .tags in
     let r = c .match .rest in
     sym
     (rw (
-      ne-eqb 254 m (λ e. r .0 .0 .0 .0 .0 .0 .0 .0 .0 .0 .0 .1 (sym e)),
-      ne-eqb 126 m (λ e. r .0 .0 .0 .0 .0 .0 .0 .0 .0 .0 .1 (sym e)),
-      ne-eqb 3854 m (λ e. r .0 .0 .0 .0 .0 .0 .0 .0 .0 .1 (sym e)),
-      ne-eqb 782 m (λ e. r .0 .0 .0 .0 .0 .0 .0 .0 .1 (sym e)),
-      ne-eqb 4366 m (λ e. r .0 .0 .0 .0 .0 .0 .0 .1 (sym e)),
+      ne-eqb 254 m (λ e. r .0 .0 .0 .0 .0 .0 .0 .0 .0 .0 .0 .0 .1 (sym e)),
+      ne-eqb 126 m (λ e. r .0 .0 .0 .0 .0 .0 .0 .0 .0 .0 .0 .1 (sym e)),
+      ne-eqb 3854 m (λ e. r .0 .0 .0 .0 .0 .0 .0 .0 .0 .0 .1 (sym e)),
+      ne-eqb 782 m (λ e. r .0 .0 .0 .0 .0 .0 .0 .0 .0 .1 (sym e)),
+      ne-eqb 4366 m (λ e. r .0 .0 .0 .0 .0 .0 .0 .0 .1 (sym e)),
+      ne-eqb 114814 m (λ e. r .0 .0 .0 .0 .0 .0 .0 .1 (sym e)),
       ne-eqb 24842 m (λ e. r .0 .0 .0 .0 .0 .0 .1 (sym e)),
       ne-eqb 12170 m (λ e. r .0 .0 .0 .0 .0 .1 (sym e)),
       ne-eqb 8970 m (λ e. r .0 .0 .0 .0 .1 (sym e)),
@@ -99,6 +107,7 @@ form-of-spec =
     of-phase-requires-3
     of-phase-requires-4
     of-phase-requires-5
+    of-phase-requires-6
     returns
     returns-2
     returns-3
@@ -111,4 +120,5 @@ form-of-spec =
     returns-10
     returns-11
     returns-12
-    returns-13)
+    returns-13
+    returns-14)

@@ -36,8 +36,8 @@ returns c =
     let e = c .before .before .before .before .before .event-at in
     rw z
     (c .event-holds .ensures
-    ∙ ap (λ (n : ℕ). eventHolds (clock xs) n (events xs) 0 (e .result) (e .result)) (c .before .before .before .before .counter-of .ensures)
-    ∙ ap (λ (x : EventRecord). eventHolds (clock xs) (counterOf xs (x .subscriber)) (events xs) 0 x x) (e .ensures ∙ ap (eventAt xs) z))
+    ∙ ap (λ (n : ℕ). eventHolds (a .form) (clock xs) n (events xs) 0 (e .result) (e .result)) (c .before .before .before .before .counter-of .ensures)
+    ∙ ap (λ (x : EventRecord). eventHolds (a .form) (clock xs) (counterOf xs (x .subscriber)) (events xs) 0 x x) (e .ensures ∙ ap (eventAt xs) z))
 
 sub-event-at : tie.Need-sub-event-at
 sub-event-at c = search needs
@@ -64,10 +64,10 @@ returns-2 c =
     let e = c .before .before .before .before .before .before .event-at in
     let before = c .before .before .before .event-at2 in
     c .event-holds2 .ensures
-    ∙ ap (λ (n : ℕ). eventHolds (clock xs) n (events xs) (a .i) (before .result) (e .result)) (c .before .before .before .before .before .counter-of .ensures)
-    ∙ ap (λ (x : EventRecord). eventHolds (clock xs) (counterOf xs (e .result .subscriber)) (events xs) (a .i) x (e .result))
+    ∙ ap (λ (n : ℕ). eventHolds (a .form) (clock xs) n (events xs) (a .i) (before .result) (e .result)) (c .before .before .before .before .before .counter-of .ensures)
+    ∙ ap (λ (x : EventRecord). eventHolds (a .form) (clock xs) (counterOf xs (e .result .subscriber)) (events xs) (a .i) x (e .result))
     (before .ensures)
-    ∙ ap (λ (x : EventRecord). eventHolds (clock xs) (counterOf xs (x .subscriber)) (events xs) (a .i) (eventAt xs (a .i - 1)) x)
+    ∙ ap (λ (x : EventRecord). eventHolds (a .form) (clock xs) (counterOf xs (x .subscriber)) (events xs) (a .i) (eventAt xs (a .i - 1)) x)
     (e .ensures)
 
 pub event-test-spec : {M : Type 1} → statement M

@@ -18,9 +18,12 @@ returns-4 : tie.Need-returns-4
 returns-4 c = ap kindOf (sym (c .match .keys4))
 
 returns-5 : tie.Need-returns-5
-returns-5 c =
+returns-5 c = ap kindOf (sym (c .match .keys5))
+
+returns-6 : tie.Need-returns-6
+returns-6 c =
     let r = c .match .rest in
-    kind-else _ (r .0 .0 .0 .1) (r .0 .0 .1) (r .0 .1) (r .1)
+    kind-else _ (r .0 .0 .0 .0 .1) (r .0 .0 .0 .1) (r .0 .0 .1) (r .0 .1) (r .1)
 
 pub kind-of-spec : {M : Type 1} → statement M
-kind-of-spec = tie.close (tie.spec returns returns-2 returns-3 returns-4 returns-5)
+kind-of-spec = tie.close (tie.spec returns returns-2 returns-3 returns-4 returns-5 returns-6)

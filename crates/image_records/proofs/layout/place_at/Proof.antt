@@ -98,6 +98,15 @@ mul-t40 c = search needs
 shared-slice-read-t42 : tie.Need-shared-slice-read-t42
 shared-slice-read-t42 c = search needs
 
+add-t43 : tie.Need-add-t43
+add-t43 c = search needs
+
+mul-t44 : tie.Need-mul-t44
+mul-t44 c = search needs
+
+shared-slice-read-t46 : tie.Need-shared-slice-read-t46
+shared-slice-read-t46 c = search needs
+
 returns : tie.Need-returns
 unfolding placeAt
 returns c = refl
@@ -137,4 +146,7 @@ place-at-spec =
     add-t39
     mul-t40
     shared-slice-read-t42
+    add-t43
+    mul-t44
+    shared-slice-read-t46
     returns)

@@ -31,21 +31,25 @@ both-requires-8 c κs = search needs
 both-requires-9 : tie.Need-both-requires-9
 both-requires-9 c κs = search needs
 
+both-requires-10 : tie.Need-both-requires-10
+both-requires-10 c κs = search needs
+
 implies-requires : tie.Need-implies-requires
 implies-requires c κs = search needs
 
 returns : tie.Need-returns
 returns c =
     rw (
-      c .before .both9 .ensures,
-      c .before .before .both8 .ensures,
-      c .before .before .before .before .before .before .both7 .ensures,
-      c .before .before .before .before .before .before .before .both6 .ensures,
-      c .before .before .before .before .before .before .before .before .before .before .both5 .ensures,
-      c .before .before .before .before .before .before .before .before .before .before .before .both4 .ensures,
-      c .before .before .before .before .before .before .before .before .before .before .before .before .before .before .both3 .ensures,
-      c .before .before .before .before .before .before .before .before .before .before .before .before .before .before .before .both2 .ensures,
-      c .before .before .before .before .before .before .before .before .before .before .before .before .before .before .before .before .both .ensures,
+      c .before .both10 .ensures,
+      c .before .before .both9 .ensures,
+      c .before .before .before .before .before .before .both8 .ensures,
+      c .before .before .before .before .before .before .before .both7 .ensures,
+      c .before .before .before .before .before .before .before .before .before .before .both6 .ensures,
+      c .before .before .before .before .before .before .before .before .before .before .before .both5 .ensures,
+      c .before .before .before .before .before .before .before .before .before .before .before .before .before .before .both4 .ensures,
+      c .before .before .before .before .before .before .before .before .before .before .before .before .before .before .before .both3 .ensures,
+      c .before .before .before .before .before .before .before .before .before .before .before .before .before .before .before .before .before .before .both2 .ensures,
+      c .before .before .before .before .before .before .before .before .before .before .before .before .before .before .before .before .before .before .before .both .ensures,
     ) at (c .implies .ensures)
 
 pub place-free-spec : {M : Type 1} → statement M
@@ -61,5 +65,6 @@ place-free-spec =
     both-requires-7
     both-requires-8
     both-requires-9
+    both-requires-10
     implies-requires
     returns)

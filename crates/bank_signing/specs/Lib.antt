@@ -1,0 +1,2 @@
+-- The definitions of signings.
+pub mod Signings

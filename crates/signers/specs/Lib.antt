@@ -1,0 +1,2 @@
+-- The definitions of a set of signers.
+pub mod Signers
