@@ -3,7 +3,7 @@
 use Prim.Native.Nat.{ℕ, _≤_}
 use mathlib.Core.Bool.{Bool, true, false, _&&_}
 use mathlib.Core.List.{List, [], _∷_, List·Memᴰ as In, List·Memᴰ·head as here, List·Memᴰ·tail as there}
-use mathlib.Core.Path.{_≡_, refl, sym, _∙_, subst}
+use mathlib.Core.Path.{_≡_, refl, sym, ap, _∙_, subst}
 use native.Mathlib.Omega.{arith}
 use lib.Dec.{leb}
 use lib.ListN.{take}
@@ -24,6 +24,8 @@ use Rattle.bank_rows.specs.State.{bankOf}
 use Rattle.bank_steps.specs.Lent.{stateOf}
 use Rattle.bank.specs.Call.{FrameInput}
 use Rattle.bank_session.specs.Session.{LentSession, bankRows, bankIn, journalIn, sessionFrameCall}
+use Rattle.bank_history.specs.History as history
+use Rattle.client_history.proofs.Theorems.{no-signing-issued}
 use Rattle.image_calls.specs.Calls.{putAway, imageLength}
 use Rattle.exchange.specs.Course.{
   Call,
@@ -38,14 +40,18 @@ use Rattle.exchange.specs.Course.{
   Exchange,
   Arrival,
   Course,
+  start,
   callNumber,
   carryOut,
   exec,
   after,
 }
 use Rattle.exchange.specs.Terms.{IssuedBy, NoIdleHour, InTurn, Order, nameOf, InBook}
-use Rattle.exchange.specs.Demand3.{isNamed, isSubscribers, Allowed, Outcome}
+use Rattle.exchange.specs.Demand3.{isNamed, isSubscribers, Allowed, AllAllowed, OneExchangeNumber, Outcome}
 use Rattle.exchange.proofs.Calls.{numbered-stays, carried, by-number}
+use Rattle.exchange.proofs.Clients.{asIssue, issued-in, Parts, ownPast}
+use Rattle.exchange.proofs.Courses.{parts, parts-start}
+use Rattle.exchange.proofs.Told.{Gave, fileIn, bank-replies}
 
 -- ---- "a call given a number may be lent others"
 
@@ -233,6 +239,22 @@ own-in-turn i s m a fresh hour _ = λ _. (fresh, hour)
 pub foreign-in-turn : (i : ℕ) (s : Course) (m : LentSession) (a : FrameInput) → (IssuedBy i (a .frame) s → ⊥) →
     InTurn i (frameArrives m a) s
 foreign-in-turn i s m a foreign _ = λ own. absurd (foreign own)
+
+-- a signing, whoever signs: no run issues any
+pub signing-in-turn : (i : ℕ) (ks : List Call) → AllAllowed ks start → OneExchangeNumber (after ks start) → (m : LentSession)
+    (a : FrameInput) → form (readRequest (a .frame)) ≡ forms.Signing → InTurn i (frameArrives m a) (after ks start)
+signing-in-turn i ks all numbers m a f = foreign-in-turn i (after ks start) m a foreign
+  where
+    v : Parts (after ks start)
+    v = parts ks start parts-start all numbers
+
+    h : List history.Exchange
+    h = v .bank .past .history
+
+    foreign : IssuedBy i (a .frame) (after ks start) → ⊥
+    foreign (x, n, r, e) =
+        no-signing-issued (Gave h) (fileIn h) (bank-replies h (v .bank .holds .invariant .sound) (v .bank .proper))
+        (ownPast v i) (v .runs i .own) (asIssue x) (issued-in i n r) (ap (λ (l : List ℕ). form (readRequest l)) e ∙ f)
 
 -- ---- "'Lodged' names subscriber, type and number together"
 
