@@ -28,7 +28,7 @@ use Rattle.client_run.specs.declared.run.Stage.{Stage}
 use Rattle.client_run.specs.declared.run.Stage.the-variants as stage
 use Rattle.client_run.specs.Run.{orderName}
 use Rattle.client_rules.specs.Rulings.{isBegun}
-use Rattle.print.specs.Text.{Put, decimal, space, newline, column, columnRoom}
+use Rattle.print.specs.Text.{Put, ascii, decimal, space, newline, column, columnRoom}
 use Rattle.print.specs.Name.{orderNameText}
 use Rattle.print.specs.Book.{orderColumns}
 use Rattle.print.proofs.Digits.{decimal-most, column-most}
@@ -42,7 +42,7 @@ use Rattle.unit_state.specs.Records.{runCount}
 use Rattle.unit_state.specs.State.{runAt}
 use Rattle.driver_print.specs.declared.tables.Table.{Table}
 use Rattle.driver_print.specs.declared.tables.Table.the-variants.{Book, Mailboxes, Words, Files, Journal}
-use Rattle.driver_print.specs.Line.{hexDigit, hexOf, digest, awayText, answerText, awayRoom, answerRoom}
+use Rattle.driver_print.specs.Line.{hexDigit, hexOf, digest, awayText, messageText, outText, answerText, awayRoom, outRoom, answerRoom}
 use Rattle.driver_print.specs.Tables.{
   headerText,
   contentText,
@@ -116,6 +116,15 @@ unfolding awayText
 away-most n room =
     omega (arith, length-append (column n space) (decimal (digest room)), column-most n space, decimal-most (digest room))
 
+pub message-most : (m : List ℕ) → length (messageText m) ≤ 1 + 2 * length m
+unfolding messageText
+message-most m =
+    cond-most (eqb (length m) 0) (ascii "-") (hexOf m) (1 + 2 * length m) (omega arith) (omega (arith, length-hexOf m))
+
+out-most : (n : ℕ) (m : List ℕ) → length (outText n m) ≤ outRoom (length m)
+unfolding outText
+out-most n m = omega (arith, length-append (column n space) (messageText m), column-most n space, message-most m)
+
 pub answer-most : (a : Answer) (buffer room : List ℕ) → length (answerText a buffer room) ≤ answerRoom (length buffer)
 answer-most (answer.Frame n) buffer room = omega (arith, hex-front n buffer)
 answer-most answer.Put buffer room = omega arith
@@ -127,6 +136,9 @@ answer-most (answer.Away n) buffer room = omega (arith, away-most n room)
 answer-most answer.TakenUp buffer room = omega arith
 answer-most answer.Room buffer room = omega arith
 answer-most (answer.Day d) buffer room = omega (arith, day-most d)
+answer-most answer.Line buffer room = omega arith
+answer-most (answer.Out n) buffer room = omega (arith, decimal-most n)
+answer-most (answer.OutAndHeld n k) buffer room = omega (arith, out-most n (take k buffer), length-take k buffer)
 answer-most (answer.Number n) buffer room = omega (arith, decimal-most n)
 answer-most answer.NoCall buffer room = omega arith
 

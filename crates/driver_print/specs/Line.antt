@@ -2,8 +2,8 @@
 use Prim.Native.Nat.{ℕ, _+_, _*_, _/_, _%_}
 use mathlib.Core.Bool.{cond}
 use mathlib.Core.List.{List, [], _∷_, _++_}
-use lib.Dec.{ltb}
-use lib.ListN.{take}
+use lib.Dec.{eqb, ltb}
+use lib.ListN.{length, take}
 use Rattle.octets.specs.Bytes.{number}
 use Rattle.print.specs.Text.{ascii, maxDigits, decimal, space, newline, column, columnRoom}
 use Rattle.print.specs.Day.{dayText}
@@ -20,6 +20,9 @@ use Rattle.unit_state.specs.declared.answer.Answer.the-variants.{
   TakenUp,
   Room,
   Day,
+  Line,
+  Out,
+  OutAndHeld,
   Number,
   NoCall,
 }
@@ -40,8 +43,16 @@ digest l = number l % 4294967291
 unfoldable pub awayText : ℕ → List ℕ → List ℕ
 awayText n room = ascii "away " ++ (column n space ++ decimal (digest room))
 
--- what an answer says; the reply or request stands in the buffer, and these bytes of the image room were lent. No call
--- says nothing.
+-- "that message in lower-case hexadecimal, `-` if it is empty"
+unfoldable pub messageText : List ℕ → List ℕ
+messageText m = cond (eqb (length m) 0) (ascii "-") (hexOf m)
+
+-- "`out COPIES`, and where a held message comes out behind them a space and that message"
+unfoldable pub outText : ℕ → List ℕ → List ℕ
+outText copies m = ascii "out " ++ (column copies space ++ messageText m)
+
+-- what an answer says; the reply, the request or a held message stands in the buffer, and these bytes of the image room
+-- were lent. No call says nothing.
 abbrev pub answerText : Answer → List ℕ → List ℕ → List ℕ
 answerText (Frame n) buffer room = ascii "frame " ++ hexOf (take n buffer)
 answerText Put buffer room = ascii "put"
@@ -53,6 +64,9 @@ answerText (Away n) buffer room = awayText n room
 answerText TakenUp buffer room = ascii "taken up"
 answerText Room buffer room = ascii "room"
 answerText (Day d) buffer room = ascii "day " ++ dayText d
+answerText Line buffer room = ascii "line"
+answerText (Out n) buffer room = ascii "out " ++ decimal n
+answerText (OutAndHeld n k) buffer room = outText n (take k buffer)
 answerText (Number n) buffer room = ascii "number " ++ decimal n
 answerText NoCall buffer room = []
 
@@ -60,10 +74,13 @@ answerText NoCall buffer room = []
 unfoldable pub lineOf : ℕ → Answer → List ℕ → List ℕ → List ℕ
 lineOf n a buffer room = column n space ++ (answerText a buffer room ++ (newline ∷ []))
 
--- the most bytes that an image's length and digest take, an answer with a buffer of b bytes ("away " and its two
--- numbers is the longest word), and a line
+-- the most bytes that an image's length and digest take, what comes out with a held message of n bytes, an answer with a
+-- buffer of b bytes ("away " and its two numbers is the longest word), and a line
 abbrev pub awayRoom : ℕ
 awayRoom = 5 + columnRoom + maxDigits
+
+abbrev pub outRoom : ℕ → ℕ
+outRoom n = 4 + columnRoom + 1 + 2 * n
 
 abbrev pub answerRoom : ℕ → ℕ
 answerRoom b = awayRoom + 2 * b

@@ -1,4 +1,4 @@
 // The driver's print: the line of a call, and the closing tables.
+pub mod call_line;
 mod digest;
-pub mod line;
 pub mod tables;

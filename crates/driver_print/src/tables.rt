@@ -1,6 +1,6 @@
 // The closing tables: the book, the mailboxes, the runs' closing words, the runs' files and the journal, written into a
 // lent output.
-use crate::line::put_hex;
+use crate::call_line::put_hex;
 use bank_rows::numbers::file_length;
 use bank_rows::places::place_at;
 use bank_state::limits::PLACE_COUNT;

@@ -1,9 +1,8 @@
 // The driver's session: each record from standard input, its line to standard output; at the end the closing tables.
 use bank_rows::layout::STATE_SIZE;
 use bank_session::layout::SESSION_SIZE;
-use bank_state::limits::REPLY_ROOM;
 use bank_state::limits::STORE_BYTES;
-use driver_print::line::line;
+use driver_print::call_line::line;
 use driver_print::tables::TABLE_ROOM;
 use driver_print::tables::Table;
 use driver_print::tables::table_of;
@@ -12,9 +11,12 @@ use libc::STDOUT_FILENO;
 use octets::bytes::front;
 use unit::call::call;
 use unit_rows::events::ROW_SIZE;
+use unit_rows::lines::LINES_SIZE;
+use unit_rows::lines::STORES_BYTES;
 use unit_rows::runs::NONCES_SIZE;
 use unit_rows::runs::RUNS_SIZE;
 use unit_rows::whole::unit_of;
+use unit_state::answer::is_answer;
 use unit_state::record::RECORD_BYTES;
 use unit_state::record::ROOM_BYTES;
 use unit_state::record::call_of;
@@ -23,6 +25,7 @@ use unit_state::record::is_call;
 use unit_state::record::kind_of;
 use unit_state::record::lent_length;
 use unit_state::record::size_of;
+use unit_state::state::BUFFER_BYTES;
 use unit_state::state::ROOMS_BYTES;
 use unit_state::state::UnitState;
 ghost use mathlib.Core.Path.{_≡_};
@@ -30,6 +33,7 @@ ghost use lib.ListN.{length};
 ghost use Rattle.bank_steps.specs.Lent.{lent};
 ghost use Rattle.bank_session.specs.Session.{sessionSize};
 ghost use Rattle.unit_rows.specs.Rows.{unitFrom};
+ghost use Rattle.unit_rows.specs.Lines.{linesOf};
 ghost use Rattle.unit.specs.State.{memory, stateOf};
 ghost use Rattle.driver_session.specs.Session.{Calls, Session};
 
@@ -76,7 +80,7 @@ fn first(input: &[u8]) -> u8 {
     input[0]
 }
 
-// One record: its call, the call's line, and whether the input may go on.
+// One record: its call, the call's line, and whether the input may go on. A message for a line not made ends it, too.
 fn step(
     runs: &mut [u64; RUNS_SIZE],
     nonces: &mut [u8; NONCES_SIZE],
@@ -91,14 +95,18 @@ fn step(
     files: &mut [u8],
     buffer: &mut [u8],
     room: &mut [u8],
+    lines: &mut [u64],
+    stores: &mut [u8],
 ) -> bool
     ensures { λ r. ⌜ Calls
         (stateOf (unitFrom (now (runs .entry)) (now (nonces .entry)) (now (row .entry)))
         (memory (lent (now (rows .entry)) (now (orders .entry)) (now (mailboxes .entry)))
-        (now (payloads .entry)) (now (files .entry)) (now (buffer .entry)) (now (room .entry))))
+        (now (payloads .entry)) (now (files .entry)) (now (buffer .entry)) (now (room .entry))
+        (linesOf (now (lines .entry)) (now (stores .entry)))))
         (stateOf (unitFrom (now (runs .exit)) (now (nonces .exit)) (now (row .exit)))
         (memory (lent (now (rows .exit)) (now (orders .exit)) (now (mailboxes .exit)))
-        (now (payloads .exit)) (now (files .exit)) (now (buffer .exit)) (now (room .exit)))) ⌝ }
+        (now (payloads .exit)) (now (files .exit)) (now (buffer .exit)) (now (room .exit))
+        (linesOf (now (lines .exit)) (now (stores .exit))))) ⌝ }
 {
     let size = read_record(input);
     if !is_call(call_of(front(input, size))) {
@@ -116,7 +124,12 @@ fn step(
         files,
         buffer,
         room,
+        lines,
+        stores,
     );
+    if !is_answer(answer) {
+        return false;
+    }
     let k = line(n, answer, buffer, front(room, lent_length(input)), output);
     io::write_all(STDOUT_FILENO, front(output, k))
 }
@@ -136,14 +149,18 @@ fn read_all(
     files: &mut [u8],
     buffer: &mut [u8],
     room: &mut [u8],
+    lines: &mut [u64],
+    stores: &mut [u8],
 )
     ensures { λ _. ⌜ Calls
         (stateOf (unitFrom (now (runs .entry)) (now (nonces .entry)) (now (row .entry)))
         (memory (lent (now (rows .entry)) (now (orders .entry)) (now (mailboxes .entry)))
-        (now (payloads .entry)) (now (files .entry)) (now (buffer .entry)) (now (room .entry))))
+        (now (payloads .entry)) (now (files .entry)) (now (buffer .entry)) (now (room .entry))
+        (linesOf (now (lines .entry)) (now (stores .entry)))))
         (stateOf (unitFrom (now (runs .exit)) (now (nonces .exit)) (now (row .exit)))
         (memory (lent (now (rows .exit)) (now (orders .exit)) (now (mailboxes .exit)))
-        (now (payloads .exit)) (now (files .exit)) (now (buffer .exit)) (now (room .exit)))) ⌝ }
+        (now (payloads .exit)) (now (files .exit)) (now (buffer .exit)) (now (room .exit))
+        (linesOf (now (lines .exit)) (now (stores .exit))))) ⌝ }
 {
     let mut more = true;
     let mut calls = 0;
@@ -163,6 +180,8 @@ fn read_all(
             files,
             buffer,
             room,
+            lines,
+            stores,
         );
     }
 }
@@ -213,8 +232,10 @@ pub fn session() -> SessionEnd
     let mut mailboxes = [0u8; STORE_BYTES];
     let mut payloads = [0u8; ROOMS_BYTES];
     let mut files = [0u8; ROOMS_BYTES];
-    let mut buffer = [0u8; REPLY_ROOM];
+    let mut buffer = [0u8; BUFFER_BYTES];
     let mut room = [0u8; ROOM_BYTES];
+    let mut lines = [0u64; LINES_SIZE];
+    let mut stores = [0u8; STORES_BYTES];
     let mut runs = [0u64; RUNS_SIZE];
     let mut nonces = [0u8; NONCES_SIZE];
     let mut row = [0u64; ROW_SIZE];
@@ -231,6 +252,8 @@ pub fn session() -> SessionEnd
         &mut files,
         &mut buffer,
         &mut room,
+        &mut lines,
+        &mut stores,
     );
     let unit = unit_of(&runs, &nonces, &row);
     close(unit, &mut output, &rows, &orders, &mailboxes, &files);

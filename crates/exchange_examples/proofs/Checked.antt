@@ -197,7 +197,7 @@ requestAt n s = nth (record { run = 0; frame = []; file = []; box = [] }) n (s .
 abbrev pub noExchange : Exchange
 noExchange = record { request = []; reply = []; clock = 0; box = [] }
 
-abbrev replyAt : ℕ → Course → List ℕ
+abbrev pub replyAt : ℕ → Course → List ℕ
 replyAt n s = nth noExchange n (s .exchanged) .reply
 
 -- what a frame call is lent besides the bank
@@ -326,8 +326,12 @@ allowed (takes n) s rest v r h = (λ _. nth-in [] n (s .images) h, r)
 allowed (numbered k) s rest v r h = (numbered-allowed k s (λ z. not-both h (eq-eqb (callNumber k) 0 z)), r)
 
 -- no two requests under one exchange number
-abbrev isNumbered : Course → Bool
+abbrev pub isNumbered : Course → Bool
 isNumbered s = distinct (map (λ (x : Issue). exchange (readRequest (x .frame))) (s .issued))
+
+pub one-number : (s : Course) → isNumbered s ≡ true → OneExchangeNumber s
+unfolding OneExchangeNumber
+one-number s h = distinct-nodup _ h
 
 -- the test of a whole list, by these steps
 abbrev pub isMetBy : (Move → Course → Course) → List Move → Course → Bool
@@ -345,8 +349,7 @@ all-allowed (m ∷ ms) s v r h =
     (b .0, all-allowed ms (next m s) (right-next (callOf m s) s v (b .0)) (b .1) (a .1))
 
 numbers : (ms : List Move) (s : Course) → isMet ms s ≡ true → OneExchangeNumber (endOf ms s)
-unfolding OneExchangeNumber
-numbers [] s h = distinct-nodup _ h
+numbers [] s h = one-number s h
 numbers (m ∷ ms) s h = numbers ms (next m s) (and-true (isAllowed m s) (isMet ms (next m s)) h .1)
 
 -- ---- in turn

@@ -1,4 +1,5 @@
-// The line of a move: call, who to whom, what the frame says, repeated, lost or late, and what the call answered.
+// The line of a move: call, who to whom, what the frame says, repeated, what became of the message, and what the call
+// answered.
 use crate::say::VALUES;
 use crate::say::say;
 use crate::say::say_closing;
@@ -66,7 +67,24 @@ fn frame_key(form: Form, code: u64) -> u8 {
     }
 }
 
-// The key of the name of a return code that the script meets.
+// The key of the name of a return code that only lines from other seeds meet.
+fn rare_key(code: u64) -> u8 {
+    if code == code_field(ReturnCode::TransactionAbort) {
+        return b'8';
+    }
+    if code == code_field(ReturnCode::MaxTransactionsExceeded) {
+        return b'm';
+    }
+    if code == code_field(ReturnCode::NoDownloadDataAvailable) {
+        return b'y';
+    }
+    if code == code_field(ReturnCode::InternalError) {
+        return b'z';
+    }
+    0
+}
+
+// The key of the name of a return code that the exercises meet.
 fn name_key(code: u64) -> u8 {
     if code == code_field(ReturnCode::Ok) {
         return b'O';
@@ -86,7 +104,7 @@ fn name_key(code: u64) -> u8 {
     if code == code_field(ReturnCode::OrderIdUnknown) {
         return b'I';
     }
-    0
+    rare_key(code)
 }
 
 // Whether the message of a move with this letter is a reply, and whether a move has a message at all.

@@ -1,4 +1,5 @@
-// The record of a move, and the messages under way: the last request, the bank's last reply, a request held back.
+// The record of a move, and the messages under way: the last request, the bank's last reply, a request held back, the
+// request whose second copy is still to come, and a late reply.
 use crate::script::MOVES_C;
 use crate::script::Move;
 use crate::script::SIGNINGS;
@@ -64,7 +65,11 @@ const REPLY_AT: usize = REQUEST_AT + 2 + REPLY_ROOM;
 
 const COPY_AT: usize = REPLY_AT + 2 + REPLY_ROOM;
 
-const IMAGE_AT: usize = COPY_AT + 2 + REPLY_ROOM;
+const SENT_AT: usize = COPY_AT + 2 + REPLY_ROOM;
+
+const LATE_AT: usize = SENT_AT + 2 + REPLY_ROOM;
+
+const IMAGE_AT: usize = LATE_AT + 2 + REPLY_ROOM;
 
 pub const MAIL_BYTES: usize = IMAGE_AT + LETTER_BYTES + EXTENT_BYTES;
 
@@ -179,10 +184,10 @@ fn head_of(letter: u8, run: u8, time: u64, image: u64) -> Head {
     }
 }
 
-// The time of a move; there are fewer than a hundred. Exercise D's come over an hour later too, as its clock is that of
-// the late copy.
+// The time of a move; there are fewer than a thousand. Those after exercise C come over an hour later too, as exercise
+// D's clock is that of the late copy.
 fn time_of(m: Move) -> u64 {
-    let time = TIME + SECOND * (m.number % 100);
+    let time = TIME + SECOND * (m.number % 1000);
     if m.hour == b'H' || (MOVES_C as u64) < m.number {
         return time + HOUR;
     }
@@ -197,10 +202,10 @@ fn image_of(mail: &[u8], letter: u8) -> u64 {
     ROOM_BYTES as u64
 }
 
-// Writes the record of a move, whose body this is. A lost message and the reply to a signing, which no client run waits
-// for, make no call: their record is empty.
+// Writes the record of a move, whose body this is. A message that is lost or that a line holds, and the reply to a
+// signing, which no client run waits for, make no call: their record is empty.
 fn put_record(record: &mut [u8], m: Move, image: u64, body: &[u8]) {
-    if m.fate == b'x' || m.letter == b'Q' {
+    if m.fate == b'x' || m.fate == b'r' || m.letter == b'Q' {
         return;
     }
     let h = head_of(m.letter, m.run, time_of(m), image);
@@ -215,20 +220,40 @@ fn put_record(record: &mut [u8], m: Move, image: u64, body: &[u8]) {
     put_body(record, h.body, body);
 }
 
-// The place of a move's message.
-fn place_of(letter: u8, fate: u8) -> usize {
+// The place of a reply, and of a request, to which this happens.
+fn reply_place(fate: u8) -> usize {
+    if fate == b'l' {
+        return LATE_AT;
+    }
+    REPLY_AT
+}
+
+fn request_place(fate: u8) -> usize {
     if fate == b'l' {
         return COPY_AT;
     }
-    if letter == b'R' || letter == b'Q' {
-        return REPLY_AT;
+    if fate == b't' {
+        return SENT_AT;
     }
     REQUEST_AT
 }
 
-// The message of a move.
-pub fn message_of(mail: &[u8], m: Move) -> &[u8] {
-    body_at(mail, place_of(m.letter, m.fate))
+// The place of a move's message.
+fn place_of(letter: u8, fate: u8) -> usize {
+    if letter == b'R' || letter == b'Q' {
+        return reply_place(fate);
+    }
+    request_place(fate)
+}
+
+// The message of a move with this letter and this fate.
+pub fn message_of(mail: &[u8], letter: u8, fate: u8) -> &[u8] {
+    body_at(mail, place_of(letter, fate))
+}
+
+// Keeps a message that comes out of a line late, for its move with this letter.
+pub fn keep_late(mail: &mut [u8], letter: u8, message: &[u8]) {
+    put_body(mail, place_of(letter, b'l'), message);
 }
 
 // Writes the record of a move: its body is the content of an order, or a message. What follows a record without one is
@@ -238,7 +263,7 @@ pub fn put_move(record: &mut [u8], m: Move, mail: &[u8]) {
     let image = image_of(mail, letter);
     let text = example_text();
     match letter {
-        b'F' | b'G' | b'R' => put_record(record, m, image, message_of(mail, m)),
+        b'F' | b'G' | b'R' => put_record(record, m, image, message_of(mail, letter, m.fate)),
         _ => put_record(record, m, image, content_of(&text, m.run)),
     }
 }
@@ -280,14 +305,16 @@ fn keep_written(mail: &mut [u8], answer: Answer, buffer: &[u8]) {
     }
 }
 
-// Keeps a copy of the request in a record, where it is held back.
+// Keeps a copy of the request in a record, where it is held back, and where a second copy may come out of its line.
 fn hold_back(mail: &mut [u8], fate: u8, record: &[u8]) {
     if fate == b'c' {
         put_body(mail, COPY_AT, body_at(record, FRAME_AT));
+    } else if fate == b'p' {
+        put_body(mail, SENT_AT, body_at(record, FRAME_AT));
     }
 }
 
-// Keeps what a move leaves: its request, where that is held back, and what its call wrote.
+// Keeps what a move leaves: its request, where a copy of it is still to come, and what its call wrote.
 pub fn keep(mail: &mut [u8], fate: u8, record: &[u8], answer: Answer, buffer: &[u8]) {
     hold_back(mail, fate, record);
     keep_written(mail, answer, buffer);

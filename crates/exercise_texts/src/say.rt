@@ -70,9 +70,10 @@ fn say_keyed(table: &[u8], key: u8, v: [u64; VALUES]) {
 
 // Prints the text of a key, or nothing where no text has it. The keys: a record's letter for the line of a move; 1 to 7
 // for what a request says, a to k and s for a reply; E for what follows each of them, A a request that repeats one, C
-// the code of a reply, O, S, Y, K, L and I the codes' names in Annex 1; x and l for what became of a message, H for the
-// hour; i, q, w and n for what the call answered; u and d for a run's row in exercise C, o for a run that has not
-// ended, B, Z and X for what the bank has, V and W for whether the closing word is true, v for an order and its day.
+// the code of a reply, O, S, Y, K, L, I, 8, m, y and z the codes' names in Annex 1; x, l, r and t for what became of a
+// message, H for the hour; i, q, w and n for what the call answered; u and d for a run's row in exercise C, o for a run
+// that has not ended, B, Z and X for what the bank has, V and W for whether the closing word is true, v for an order
+// and its day.
 pub fn say(key: u8, v: [u64; VALUES]) {
     say_keyed(
         b"\
@@ -112,8 +113,14 @@ pub fn say(key: u8, v: [u64; VALUES]) {
             KEBICS_TX_UNKNOWN_TXID\n\
             LEBICS_TX_MESSAGE_REPLAY\n\
             IEBICS_ORDERID_UNKNOWN\n\
+            8EBICS_TX_ABORT\n\
+            mEBICS_MAX_TRANSACTIONS_EXCEEDED\n\
+            yEBICS_NO_DOWNLOAD_DATA_AVAILABLE\n\
+            zEBICS_INTERNAL_ERROR\n\
             x, lost\n\
             l, late\n\
+            r, held\n\
+            t, second copy\n\
             H, over an hour later\n\
             i, ignored\n\
             q, unchanged\n\

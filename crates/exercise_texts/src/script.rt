@@ -1,4 +1,4 @@
-// The script: the order of each client run, the signings, and the moves one by one.
+// The script: the order of each client run, the signings, the moves one by one, and the seed of exercise B over lines.
 use octets::bytes::behind;
 
 // The client runs, numbered from 1.
@@ -39,6 +39,21 @@ pub fn order_of(run: u8) -> Order {
         },
     }
 }
+
+// The client runs whose orders are exercise B's: this one and those after it.
+pub const FIRST_OF_B: u8 = 3;
+
+// The letter with which an order of exercise B begins; a statement is put into its mailbox first.
+pub fn first_letter(run: u8) -> u8 {
+    if run == 5 {
+        return b'M';
+    }
+    b'U'
+}
+
+// The seed of exercise B over lines, the one number from which all its lines follow: client run r's requests go over
+// line 2r - 1 and the replies to them over line 2r, and a line's seed is this number and its own.
+pub const SEED: u32 = 7;
 
 // A signing: the subscriber who signs, the order by its owner and its number in the owner's series, and the exchange
 // number whose nonce it has, as a client run has that of its own.
@@ -99,7 +114,8 @@ pub const MOVES: u8 = MOVES_C + 10;
 // A move has four bytes: the letter of its record (M a file for a mailbox, U or D a run begins, F its request, R the
 // bank's reply, N no reply came, J the journal is handed to it, P the session is put away, T it is taken up, G a
 // signing, Q the bank's reply to it, which makes no call), its client run or signing, what becomes of the message (x
-// lost, c a copy is held back, l the copy arrives late), and H where it comes over an hour later, else a space.
+// lost, c a copy is held back, l the copy arrives late; over a line also p a request comes out, r a message is held, t
+// its second copy comes out, and l one that was held), and H where it comes over an hour later, else a space.
 const MOVE_BYTES: usize = 4;
 
 // A move: its number, from 1 on, its letter, its client run or signing, what becomes of its message, whether it comes

@@ -4,6 +4,7 @@ use bank_rows::layout::STATE_SIZE;
 use bank_rows::numbers::file_length;
 use bank_rows::places::place_at;
 use bank_state::limits::PLACE_COUNT;
+use bank_state::limits::STORE_BYTES;
 use bank_state::search::is_booked;
 use bank_state::state::Place;
 use bank_state::store::file_of;
@@ -37,6 +38,7 @@ use unit_rows::events::record_at;
 use unit_rows::runs::NONCES_SIZE;
 use unit_rows::runs::RUNS_SIZE;
 use unit_rows::runs::run_at;
+use unit_state::state::ROOMS_BYTES;
 
 // Whether two byte rows are the same.
 fn same_bytes(a: &[u8], b: &[u8]) -> bool {
@@ -209,15 +211,16 @@ fn say_run(c: ClientRun, i: usize, rows: &[u64; STATE_SIZE], orders: &[u8], file
     say_row(c, h, v);
 }
 
-// The rows of all client runs.
+// The rows of the client runs from one on, counted from 0.
 pub(crate) fn say_results(
+    first: usize,
     runs: &[u64; RUNS_SIZE],
     nonces: &[u8; NONCES_SIZE],
     rows: &[u64; STATE_SIZE],
-    orders: &[u8],
-    files: &[u8],
+    orders: &[u8; STORE_BYTES],
+    files: &[u8; ROOMS_BYTES],
 ) {
-    let mut i = 0;
+    let mut i = first;
     while i < RUN_COUNT {
         let r = run_at(runs, nonces, i);
         let c = r.client.run;
@@ -231,8 +234,8 @@ pub(crate) fn say_handed(
     runs: &[u64; RUNS_SIZE],
     nonces: &[u8; NONCES_SIZE],
     rows: &[u64; STATE_SIZE],
-    orders: &[u8],
-    files: &[u8],
+    orders: &[u8; STORE_BYTES],
+    files: &[u8; ROOMS_BYTES],
 ) {
     let fourth = run_at(runs, nonces, 3);
     let sixth = run_at(runs, nonces, 5);

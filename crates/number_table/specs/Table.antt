@@ -6,7 +6,8 @@ use mathlib.Core.List.{List, [], _∷_}
 -- ---- *The host* ("a number, nothing changed, clock included")
 
 -- "a lent length differs from the above or is too short for what is to be written"; of the frame writer "fields of no
--- form, values outside their list or too short a buffer"; card 3: a value over the last one "as bank or client time"
+-- form, values outside their list or too short a buffer"; card 3: a value over the last one "as bank or client time";
+-- card 9: "longer ones get number 1"
 abbrev pub wrongLength : ℕ
 wrongLength = 1
 
@@ -52,12 +53,16 @@ notAdmitted = 9
 abbrev pub tooLate : ℕ
 tooLate = 10
 
+-- card 9: "It refuses seed 0 with number 11"
+abbrev pub seedZero : ℕ
+seedZero = 11
+
 -- ---- the table, in the papers' order; a card adds its row at the end
 
 abbrev pub table : List ℕ
 table =
     wrongLength ∷ noMailbox ∷ wrongFile ∷ mailboxFull ∷ wrongBuffer ∷ exchangeTooHigh ∷ noSubscriber ∷ wrongStage
-    ∷ notAdmitted ∷ tooLate ∷ []
+    ∷ notAdmitted ∷ tooLate ∷ seedZero ∷ []
 
 -- so many numbers, one by one from the first on
 unfoldable pub countedFrom : ℕ → ℕ → List ℕ

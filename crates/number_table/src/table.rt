@@ -22,3 +22,5 @@ pub const WRONG_STAGE: u64 = 8;
 pub const NOT_ADMITTED: u64 = 9;
 
 pub const TOO_LATE: u64 = 10;
+
+pub const SEED_ZERO: u64 = 11;

@@ -132,6 +132,8 @@ module _ {u : State} {s : Course} (v : Standing u s) (r : List ℕ) (b : Bytes r
         files = v .files;
         room = v .room;
         image = v .image;
+        line-rows = v .line-rows;
+        line-stores = v .line-stores;
         runs = λ i h. by-number k s (λ (t : Course). SameRunAt u t i) (v .runs i h) (λ _. v .runs i h);
       }
 
@@ -219,6 +221,8 @@ module _ {u : State} {s : Course} (v : Standing u s) (r : List ℕ) (b : Bytes r
         files = v .files;
         room = v .room;
         image = v .image;
+        line-rows = v .line-rows;
+        line-stores = v .line-stores;
         runs = λ i h. by-number k s (λ (t : Course). SameRunAt u t i) (v .runs i h) (λ _. v .runs i h);
       }
 

@@ -93,6 +93,8 @@ module _ (u : State) (r : List ℕ) (s : Course) (b : NoOther s) (ks : List Call
   call-beyond kind.TakeUp e h = rest _ (by-number (takenOf u r) s NoOther b (λ _. b))
   call-beyond kind.Image e h = rest s b
   call-beyond kind.ValueDay e h = rest s b
+  call-beyond kind.MakeLine e h = rest s b
+  call-beyond kind.PutIn e h = rest s b
   call-beyond kind.NoCall e h = never h
 
 beyond : {rs : List (List ℕ)} → Records rs → (u : State) (s : Course) → NoOther s → NoOther (after (callsOf u rs) s)

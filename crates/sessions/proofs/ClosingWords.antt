@@ -98,6 +98,8 @@ first-appended kind.Away u r ks ls = refl
 first-appended kind.TakeUp u r ks ls = refl
 first-appended kind.Image u r ks ls = refl
 first-appended kind.ValueDay u r ks ls = refl
+first-appended kind.MakeLine u r ks ls = refl
+first-appended kind.PutIn u r ks ls = refl
 first-appended kind.NoCall u r ks ls = refl
 
 appended : (u : State) (rs ts : List (List ℕ)) → callsOf u (rs ++ ts) ≡ callsOf u rs ++ callsOf (unitAfter u rs) ts

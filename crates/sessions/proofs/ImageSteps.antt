@@ -185,6 +185,8 @@ module _ {u : State} {s : Course} (v : Standing u s) (r : List ℕ) where
         room = length-overwrite (u .memory .room) 0 left (let h = left-within in omega arith) ∙ v .room;
         image = bytes-overwrite (u .memory .room) 0 left (v .image)
             (away-bytes (sessionIn u) front (v .stores .orders) (v .stores .mailboxes) front-bytes);
+        line-rows = v .line-rows;
+        line-stores = v .line-stores;
         runs = λ i h. by-number k s (λ (t : Course). SameRunAt u t i) (v .runs i h) (λ _. v .runs i h);
       }
 
@@ -221,6 +223,8 @@ module _ {u : State} {s : Course} (v : Standing u s) (r : List ℕ) where
         files = v .files;
         room = v .room;
         image = v .image;
+        line-rows = v .line-rows;
+        line-stores = v .line-stores;
         runs = v .runs;
       })
 
@@ -238,6 +242,8 @@ module _ {u : State} {s : Course} (v : Standing u s) (r : List ℕ) where
         files = v .files;
         room = v .room;
         image = v .image;
+        line-rows = v .line-rows;
+        line-stores = v .line-stores;
         runs = v .runs;
       })
 
@@ -274,5 +280,7 @@ module _ {u : State} {s : Course} (v : Standing u s) (r : List ℕ) where
         files = v .files;
         room = length-overwrite (u .memory .room) (offsetOf r) x (let n = v .room in omega arith) ∙ v .room;
         image = bytes-overwrite (u .memory .room) (offsetOf r) x (v .image) (body-bytes kind.Image r b);
+        line-rows = v .line-rows;
+        line-stores = v .line-stores;
         runs = v .runs;
       }

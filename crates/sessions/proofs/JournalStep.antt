@@ -149,6 +149,8 @@ module _ {u : State} {s : Course} (v : Standing u s) (r : List ℕ) (inside : in
         files = v .files;
         room = v .room;
         image = v .image;
+        line-rows = v .line-rows;
+        line-stores = v .line-stores;
         runs = λ j h. at j h (ℕ-discrete j i);
       })
     where

@@ -7,6 +7,7 @@ pub mod BankSteps
 pub mod RunSteps
 pub mod JournalStep
 pub mod ImageSteps
+pub mod LineSteps
 pub mod Theorem
 pub mod ClosingWords
 pub mod LodgedName

@@ -1,7 +1,7 @@
 -- "Lodged" as the unit answers it: the run that the record names is ended so, and the answer has the name of its order, which
 -- is in the book. Assumes nothing.
 use Prim.Native.Nat.{ℕ, _<_}
-use mathlib.Core.Bool.{true, false}
+use mathlib.Core.Bool.{Bool, true, false, cond}
 use mathlib.Core.List.{List, [], _∷_, _++_}
 use mathlib.Core.Path.{_≡_, refl, sym, ap, _∙_, subst}
 use Rattle.octets.proofs.Tests.{never}
@@ -20,12 +20,16 @@ use Rattle.image_calls.specs.Calls.{putAway, takeUp}
 use Rattle.calendar.specs.declared.value_day.ValueDay.{ValueDay}
 use Rattle.calendar.specs.declared.value_day.ValueDay.the-variants as value
 use Rattle.calendar.specs.ValueDay.{valueDay}
+use Rattle.line.specs.declared.calls.MakeAnswer.{MakeAnswer}
+use Rattle.line.specs.declared.calls.MakeAnswer.the-variants as make
+use Rattle.line.specs.declared.calls.PutAnswer.{PutAnswer}
+use Rattle.line.specs.declared.calls.PutAnswer.the-variants as put-answer
 use Rattle.client_run.specs.declared.run.ClientRun.{ClientRun}
 use Rattle.client_run.specs.declared.run.Word.{Word}
 use Rattle.client_run.specs.declared.run.Word.the-variants.{Lodged}
 use Rattle.client_run.specs.Run.{orderName}
 use Rattle.exchange.specs.Course.{Course}
-use Rattle.unit_state.specs.declared.answer.Answer.the-variants.{Closed}
+use Rattle.unit_state.specs.declared.answer.Answer.the-variants.{Closed, NoCall}
 use Rattle.unit_state.specs.declared.record.Kind.{Kind}
 use Rattle.unit_state.specs.declared.record.Kind.the-variants as kind
 use Rattle.unit_state.specs.Records.{
@@ -34,11 +38,13 @@ use Rattle.unit_state.specs.Records.{
   mailboxOf,
   runOf,
   bookingTimeOf,
+  seedOf,
   bodyOf,
   runCount,
   callOf,
   isCall,
 }
+use Rattle.unit_rows.specs.Lines.{rowAt, isMade, madeAt, putAt}
 use Rattle.unit.specs.State.{State, sessionIn}
 use Rattle.unit.specs.Call.{
   UnitCall,
@@ -47,13 +53,20 @@ use Rattle.unit.specs.Call.{
   awayAnswer,
   takenUpAnswer,
   valueDayAnswer,
+  lineAnswer,
+  outAnswer,
   indexOf,
   frameStep,
   fileStep,
   awayStep,
   takeUpStep,
   imageStep,
+  unchanged,
   valueDayStep,
+  lineIndex,
+  makeStep,
+  putStep,
+  putInStep,
   stepOf,
   unitCall,
 }
@@ -88,6 +101,22 @@ by-value-day : (x : ValueDay) → isClosed (valueDayAnswer x) ≡ false
 by-value-day (value.Day d) = refl
 by-value-day value.TooLate = refl
 
+by-line : (x : MakeAnswer) → isClosed (lineAnswer x) ≡ false
+by-line make.Made = refl
+by-line make.WrongLength = refl
+by-line make.SeedZero = refl
+
+by-out : (x : PutAnswer) → isClosed (outAnswer x) ≡ false
+by-out (put-answer.Out n) = refl
+by-out (put-answer.OutAndHeld n k) = refl
+by-out put-answer.WrongLength = refl
+
+-- to a line not made it is no call
+by-put : (t : Bool) (u : State) (x : UnitCall) → isClosed (x .answer) ≡ false
+    → isClosed ((cond t x (unchanged u NoCall)) .answer) ≡ false
+by-put true u x e = e
+by-put false u x e = refl
+
 by-taken : (x : TakenUp) → isClosed (takenUpAnswer x) ≡ false
 by-taken up.Done = refl
 by-taken up.WrongLength = refl
@@ -100,7 +129,7 @@ module _ {u : State} {s : Course} (v : Standing u s) (r : List ℕ) (w : Word) (
   Named x = (indexOf r < runCount) × Tells w o (clientAt (x .state) (indexOf r))
 
   named-by : (g : Kind) → callOf r ≡ g → isCall g ≡ true → stepOf g u r .answer ≡ Closed w o → Named (stepOf g u r)
-  unfolding frameStep fileStep awayStep takeUpStep imageStep valueDayStep
+  unfolding frameStep fileStep awayStep takeUpStep imageStep valueDayStep makeStep putStep putInStep
   named-by kind.Frame e h c =
       let input = frameInput (bankTimeOf r) (idsOf r) (bodyOf kind.Frame r) (u .memory .buffer) in
       never (sym (by-frame (sessionFrameCall (sessionIn u) input .answer)) ∙ ap isClosed c)
@@ -117,6 +146,12 @@ module _ {u : State} {s : Course} (v : Standing u s) (r : List ℕ) (w : Word) (
   named-by kind.TakeUp e h c = never (sym (by-taken (takeUp (sessionIn u) (frontOf u r) .answer)) ∙ ap isClosed c)
   named-by kind.Image e h c = never (ap isClosed c)
   named-by kind.ValueDay e h c = never (sym (by-value-day (valueDay (bookingTimeOf r))) ∙ ap isClosed c)
+  named-by kind.MakeLine e h c =
+      never (sym (by-line (madeAt (u .memory .lines) (lineIndex r) (seedOf r) .answer)) ∙ ap isClosed c)
+  named-by kind.PutIn e h c =
+      let o = putAt (u .memory .lines) (lineIndex r) (bodyOf kind.PutIn r) (u .memory .buffer) in
+      let t = isMade (rowAt (u .memory .lines .rows) (lineIndex r)) in
+      never (sym (by-put t u (putStep u r) (by-out (o .answer))) ∙ ap isClosed c)
   named-by kind.NoCall e h c = never h
 
   named : isCall (callOf r) ≡ true → unitCall u r .answer ≡ Closed w o → Named (unitCall u r)

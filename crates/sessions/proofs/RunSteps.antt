@@ -246,6 +246,8 @@ module _ {u : State} {s : Course} (v : Standing u s) (r : List ℕ) (e : Event) 
         length-room (u .memory .files) (v .files) i inside (o .file) (let w = left-whole in omega arith);
     room = v .room;
     image = v .image;
+    line-rows = v .line-rows;
+    line-stores = v .line-stores;
     runs = runs;
   }
 

@@ -1,5 +1,5 @@
 -- The unit and the course that its calls leave: the unit's session is one of the list of conditions, as the calls ask, and
--- is the course's bank and journal; the rooms have their lengths, the image room holds bytes; each run is the course's.
+-- is the course's bank and journal; the rooms and the lines' memory have their lengths, the image room holds bytes; each run is the course's.
 use Prim.Native.Nat.{ℕ, _<_}
 use mathlib.Core.Bool.{true}
 use mathlib.Core.List.{List}
@@ -29,7 +29,8 @@ use Rattle.unit_state.specs.declared.state.Run.{Run}
 use Rattle.unit_state.specs.Records.{runCount, roomBytes, callOf}
 use Rattle.unit_state.specs.State.{newRun, fresh, roomsBytes}
 use Rattle.unit.specs.State.{State, sessionIn}
-use Rattle.unit.specs.Call.{UnitCall, roomsRight, stepOf, unitCall}
+use Rattle.unit_rows.specs.Lines.{linesSize, storesBytes}
+use Rattle.unit.specs.Call.{UnitCall, roomsRight, roomsOf, stepOf, unitCall}
 use Rattle.sessions.specs.Sessions.{
   freshUnit,
   bankAt,
@@ -60,6 +61,8 @@ pub record Standing (u : State) (s : Course) : Type 0 where
   pub files : length (u .memory .files) ≡ roomsBytes
   pub room : length (u .memory .room) ≡ roomBytes
   pub image : Bytes (u .memory .room)
+  pub line-rows : length (u .memory .lines .rows) ≡ linesSize
+  pub line-stores : length (u .memory .lines .stores) ≡ storesBytes
   pub runs : (i : ℕ) → i < runCount → SameRunAt u s i
 
 -- the closing word and the name that the unit answers are those of the run c
@@ -89,13 +92,15 @@ module _ {u : State} {s : Course} (v : Standing u s) where
   same = record { bank = v .bank; journal = v .journal; runs = v .runs }
 
   -- "a lent length differs" does not come
-  rooms-right : roomsRight (length (u .memory .payloads)) (length (u .memory .files)) (length (u .memory .room)) ≡ true
+  rooms-right : roomsOf (u .memory) ≡ true
   unfolding roomsRight
   rooms-right =
       rw (
         eq-eqb (length (u .memory .payloads)) roomsBytes (v .payloads),
         eq-eqb (length (u .memory .files)) roomsBytes (v .files),
         eq-eqb (length (u .memory .room)) roomBytes (v .room),
+        eq-eqb (length (u .memory .lines .rows)) linesSize (v .line-rows),
+        eq-eqb (length (u .memory .lines .stores)) storesBytes (v .line-stores),
       )
 
   pub made : (r : List ℕ) (k : Kind) → callOf r ≡ k → unitCall u r ≡ stepOf k u r
@@ -120,6 +125,8 @@ fresh-standing = record {
   files = length-replicate {A = ℕ} roomsBytes 0;
   room = length-replicate {A = ℕ} roomBytes 0;
   image = bytes-zeros roomBytes;
+  line-rows = length-replicate {A = ℕ} linesSize 0;
+  line-stores = length-replicate {A = ℕ} storesBytes 0;
   runs = λ i h. record {
     client = ap (λ (x : Run). x .client .run) (getD-replicate runCount i _ _ h);
     payload = λ b. never b;

@@ -37,6 +37,7 @@ use Rattle.sessions.proofs.BankSteps.{frame-step, file-step}
 use Rattle.sessions.proofs.RunSteps.{run-step}
 use Rattle.sessions.proofs.JournalStep.{journal-step}
 use Rattle.sessions.proofs.ImageSteps.{away-step, taken-step, image-standing}
+use Rattle.sessions.proofs.LineSteps.{make-standing, put-in-standing}
 
 -- ---- a record and those after it
 
@@ -115,6 +116,8 @@ module _ {u : State} {s : Course} (v : Standing u s) (r : List ℕ) (b : Bytes r
   next-call kind.TakeUp e h = as-made kind.TakeUp e _ (taken-step v r) (λ ks. refl) (λ t ts. refl)
   next-call kind.Image e h = as-left kind.Image e (image-standing v r b e) (λ ks. refl) (λ t ts. refl)
   next-call kind.ValueDay e h = as-left kind.ValueDay e value-day-standing (λ ks. refl) (λ t ts. refl)
+  next-call kind.MakeLine e h = as-left kind.MakeLine e (make-standing v r e) (λ ks. refl) (λ t ts. refl)
+  next-call kind.PutIn e h = as-left kind.PutIn e (put-in-standing v r e) (λ ks. refl) (λ t ts. refl)
   next-call kind.NoCall e h = never h
 
 is-course : {rs : List (List ℕ)} → Records rs → {u : State} {s : Course} → Standing u s → IsCourse u rs s

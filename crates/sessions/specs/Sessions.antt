@@ -11,7 +11,7 @@ use Rattle.frame_table.specs.Names.{subscriber}
 use Rattle.frame_reader.specs.Reader.{readRequest}
 use Rattle.journal.specs.declared.event.OrderName.{OrderName}
 use Rattle.journal.specs.Row.{Journal}
-use Rattle.bank_state.specs.Limits.{storeBytes, replyRoom}
+use Rattle.bank_state.specs.Limits.{storeBytes}
 use Rattle.bank_state.specs.State.{BankState}
 use Rattle.bank_state.specs.Store.{partAt, fileOf}
 use Rattle.bank.specs.Call.{frameInput}
@@ -67,6 +67,9 @@ use Rattle.unit_state.specs.declared.answer.Answer.the-variants.{
   TakenUp,
   Room,
   Day,
+  Line,
+  Out,
+  OutAndHeld,
   Number,
   NoCall,
 }
@@ -87,7 +90,8 @@ use Rattle.unit_state.specs.Records.{
   callOf,
   isCall,
 }
-use Rattle.unit_state.specs.State.{fresh, roomsBytes, runAt}
+use Rattle.unit_state.specs.State.{fresh, roomsBytes, bufferBytes, runAt}
+use Rattle.unit_rows.specs.Lines.{linesSize, storesBytes, linesOf}
 use Rattle.unit.specs.State.{State, memory, stateOf, sessionIn}
 use Rattle.unit.specs.Call.{
   frameAnswer,
@@ -108,14 +112,17 @@ use Rattle.unit.specs.Call as unit
 abbrev zeros : ℕ → List ℕ
 zeros n = replicate n 0
 
--- "one fresh bank (8 places, 8 mailboxes) and 16 client runs": no run begun, no event in the journal, and all that is
--- lent to them zeroed
+-- "one fresh bank (8 places, 8 mailboxes) and 16 client runs": no run begun, no event in the journal, no line made, and
+-- all that is lent to them zeroed
 unfoldable pub freshUnit : State
 freshUnit =
     let bank = lent (zeros sessionSize) (zeros storeBytes) (zeros storeBytes) in
-    stateOf fresh (memory bank (zeros roomsBytes) (zeros roomsBytes) (zeros replyRoom) (zeros roomBytes))
+    stateOf fresh
+    (memory bank (zeros roomsBytes) (zeros roomsBytes) (zeros bufferBytes) (zeros roomBytes)
+    (linesOf (zeros linesSize) (zeros storesBytes)))
 
--- the driver's records: bytes, and each is a call; what is no call ends the input
+-- the driver's records: bytes, and each is a call; what is no call ends the input. A message for a line not made, which
+-- ends it too, may stand here anywhere: it changes nothing
 pub data Records : List (List ℕ) → Type 0 where
   none : Records []
   more : {r : List ℕ} {rs : List (List ℕ)} → Bytes r → isCall (callOf r) ≡ true → Records rs → Records (r ∷ rs)
@@ -187,8 +194,8 @@ awayOf u r = putsAway (sessionIn u) (frontOf u r)
 unfoldable pub takenOf : State → List ℕ → Call
 takenOf u r = takesUp (sessionIn u) (frontOf u r)
 
--- the call of a record of this kind, before the calls ks; `I` is "the host's own doing, no call of the unit", and `V`
--- asks the calendar alone, no call of demand 3
+-- the call of a record of this kind, before the calls ks; `I` is "the host's own doing, no call of the unit", `V` asks the
+-- calendar alone, and `L` and `W` a line: no calls of demand 3
 abbrev pub callFirst : Kind → State → List ℕ → List Call → List Call
 callFirst kind.Frame u r ks = frameOf u r ∷ ks
 callFirst kind.File u r ks = putOf u r ∷ ks
@@ -198,6 +205,8 @@ callFirst kind.Away u r ks = awayOf u r ∷ ks
 callFirst kind.TakeUp u r ks = takenOf u r ∷ ks
 callFirst kind.Image u r ks = ks
 callFirst kind.ValueDay u r ks = ks
+callFirst kind.MakeLine u r ks = ks
+callFirst kind.PutIn u r ks = ks
 callFirst kind.NoCall u r ks = ks
 
 -- the calls of these records
@@ -207,7 +216,7 @@ callsOf u (r ∷ rs) = callFirst (callOf r) u r (callsOf (unitCall u r .state) r
 
 -- ---- WHAT IS ANSWERED
 
--- an answer with the bytes of its reply, request or image
+-- an answer with the bytes of its reply, request, image or held message
 pub record Told : Type 0 where
   pub answer : Answer
   pub bytes : List ℕ
@@ -223,6 +232,9 @@ bytesIn (Away n) buffer room = take n room
 bytesIn TakenUp buffer room = []
 bytesIn Room buffer room = []
 bytesIn (Day d) buffer room = []
+bytesIn Line buffer room = []
+bytesIn (Out n) buffer room = []
+bytesIn (OutAndHeld n k) buffer room = take k buffer
 bytesIn (Number n) buffer room = []
 bytesIn NoCall buffer room = []
 
@@ -243,6 +255,8 @@ answerFirst kind.Away t ts = t ∷ ts
 answerFirst kind.TakeUp t ts = t ∷ ts
 answerFirst kind.Image t ts = ts
 answerFirst kind.ValueDay t ts = ts
+answerFirst kind.MakeLine t ts = ts
+answerFirst kind.PutIn t ts = ts
 answerFirst kind.NoCall t ts = t ∷ ts
 
 -- by the unit, call by call

@@ -15,6 +15,7 @@ use Rattle.unit_state.specs.declared.record.Kind.the-variants as kind
 use Rattle.unit_state.specs.declared.answer.Answer.{Answer}
 use Rattle.unit_state.specs.declared.state.UnitState.{UnitState}
 use Rattle.unit_state.specs.Records.{lentLengthOf, offsetOf, sizeOf, roomBytes, callOf}
+use Rattle.unit_rows.specs.Lines.{Lines}
 use Rattle.unit.specs.State.{memory, stateOf, sessionIn}
 use Rattle.unit.specs.Call.{afterCall, awayAnswer, awayStep}
 use Rattle.unit_state.proofs.Parts.{callable}
@@ -37,9 +38,9 @@ unfolding overwrite
 front-back room x n e = rw (zero-add, e)
 
 -- the session put away into the front of the room
-pub away-left : (u : UnitState) (bank : Lent) (p f b room r x : List ℕ) (n : ℕ) (out : put-away.Away) (answer : Answer)
+pub away-left : (u : UnitState) (bank : Lent) (p f b room : List ℕ) (l : Lines) (r x : List ℕ) (n : ℕ) (out : put-away.Away) (answer : Answer)
     → n ≡ lentLengthOf r → length x ≡ n
-    → putAwayOf out x ≡ putAway (sessionIn (stateOf u (memory bank p f b room))) (take n room) → answer ≡ awayAnswer out
-    → afterCall u (memory bank p f b (x ++ drop n room)) answer ≡ awayStep (stateOf u (memory bank p f b room)) r
+    → putAwayOf out x ≡ putAway (sessionIn (stateOf u (memory bank p f b room l))) (take n room) → answer ≡ awayAnswer out
+    → afterCall u (memory bank p f b (x ++ drop n room) l) answer ≡ awayStep (stateOf u (memory bank p f b room l)) r
 unfolding awayStep
-away-left u bank p f b room r x n out answer en ex eo ea = rw (front-back room x n ex, ea, ← en, ← eo)
+away-left u bank p f b room l r x n out answer en ex eo ea = rw (front-back room x n ex, ea, ← en, ← eo)

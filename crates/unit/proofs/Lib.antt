@@ -2,4 +2,5 @@
 pub mod Begins
 pub mod Steps
 pub mod ImageRoom
+pub mod LineSteps
 pub mod Named

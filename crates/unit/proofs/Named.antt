@@ -22,6 +22,9 @@ use Rattle.unit_state.specs.declared.answer.Answer.the-variants.{
   TakenUp,
   Room,
   Day,
+  Line,
+  Out,
+  OutAndHeld,
   Number,
   NoCall,
 }
@@ -38,6 +41,9 @@ isClosed (Away n) = false
 isClosed TakenUp = false
 isClosed Room = false
 isClosed (Day d) = false
+isClosed Line = false
+isClosed (Out n) = false
+isClosed (OutAndHeld n k) = false
 isClosed (Number n) = false
 isClosed NoCall = false
 
@@ -53,6 +59,9 @@ wordIn x (Away n) = x
 wordIn x TakenUp = x
 wordIn x Room = x
 wordIn x (Day d) = x
+wordIn x Line = x
+wordIn x (Out n) = x
+wordIn x (OutAndHeld n k) = x
 wordIn x (Number n) = x
 wordIn x NoCall = x
 
@@ -67,6 +76,9 @@ nameIn x (Away n) = x
 nameIn x TakenUp = x
 nameIn x Room = x
 nameIn x (Day d) = x
+nameIn x Line = x
+nameIn x (Out n) = x
+nameIn x (OutAndHeld n k) = x
 nameIn x (Number n) = x
 nameIn x NoCall = x
 

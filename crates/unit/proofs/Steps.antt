@@ -25,11 +25,11 @@ use Rattle.unit_state.specs.declared.state.Run.{Run}
 use Rattle.unit_state.specs.declared.state.UnitState.{UnitState}
 use Rattle.unit_state.specs.Records.{runOf, timeOf, nonceOf, bodyOf, isRun, callOf}
 use Rattle.unit_state.specs.State.{roomsBytes, unitOf, runAt}
+use Rattle.unit_rows.specs.Lines.{Lines}
 use Rattle.unit.specs.State.{Memory, State, memory, stateOf}
 use Rattle.unit.specs.Call.{
   UnitCall,
   Ready,
-  roomsRight,
   afterCall,
   runAnswer,
   journalAnswer,
@@ -46,6 +46,7 @@ use Rattle.unit.specs.Call.{
   runStep,
   journalStep,
   stepOf,
+  roomsOf,
   unitCall,
 }
 use Rattle.unit_state.proofs.Parts.{callable, whole-head}
@@ -67,7 +68,7 @@ unfolding roomCall
 roomed e c i r time nonce payload files buffer out file file′ files′ buffer′ lent back o = rw (back, ← lent, ← o)
 
 -- a call to run i
-pub ran : (run : Run) (i : ℕ) (bank : Lent) (payloads files buffer room r : List ℕ) (e : Event)
+pub ran : (run : Run) (i : ℕ) (bank : Lent) (payloads files buffer room : List ℕ) (l : Lines) (r : List ℕ) (e : Event)
     (begin : Bool) (nonce body held payload : List ℕ) (out : Outcome) (files′ buffer′ : List ℕ)
     (kept : Bool) (payloads′ : List ℕ) (run′ : Run) (answer : Answer)
     → begin ≡ begins e → nonce ≡ cond begin (nonceOf r) (run .nonce) → body ≡ bodyOf (kind.Run e) r
@@ -75,10 +76,10 @@ pub ran : (run : Run) (i : ℕ) (bank : Lent) (payloads files buffer room r : Li
     → client.callOf out files′ buffer′ ≡ roomCall e (run .client .run) i r (lentOf (timeOf r) nonce payload files buffer)
     → kept ≡ keeps begin (out .answer) → payloads′ ≡ keptPayloads kept payloads i body
     → run′ ≡ nextRun kept run (out .client .run) nonce (length body) → answer ≡ runAnswer (out .answer) (out .client .run)
-    → runCallOf (record { run = run′; answer = answer }) (memory bank payloads′ files′ buffer′ room)
-    ≡ runCall e i run (memory bank payloads files buffer room) r
+    → runCallOf (record { run = run′; answer = answer }) (memory bank payloads′ files′ buffer′ room l)
+    ≡ runCall e i run (memory bank payloads files buffer room l) r
 unfolding runCall
-ran run i bank payloads files buffer room r e begin nonce body held payload out files′ buffer′ kept payloads′ run′ answer
+ran run i bank payloads files buffer room l r e begin nonce body held payload out files′ buffer′ kept payloads′ run′ answer
     eb en ey eh ep ec ek es er ea =
     rw (ea, er, es, ek, ← eb, ← en, ← ey, ← eh, ← ep, ← ec)
 
@@ -112,7 +113,6 @@ ready e r payloads files k ep ef ek told =
 
 -- the call of a record, where the rooms are of their lengths
 pub called : (s : State) (r : List ℕ) (right : Bool) (k g : Kind) (o : UnitCall)
-    → right ≡ roomsRight (length (s .memory .payloads)) (length (s .memory .files)) (length (s .memory .room))
-    → not right ≡ false → k ≡ callOf r → k ≡ g → o ≡ stepOf g s r → o ≡ unitCall s r
+    → right ≡ roomsOf (s .memory) → not right ≡ false → k ≡ callOf r → k ≡ g → o ≡ stepOf g s r → o ≡ unitCall s r
 unfolding unitCall
 called s r right k g o rooms h ek told step = rw (← rooms, not-false right h, ← ek, told) step

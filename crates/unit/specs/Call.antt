@@ -9,6 +9,11 @@ use Rattle.octets.specs.Bytes.{overwrite}
 use Rattle.calendar.specs.declared.value_day.ValueDay.{ValueDay}
 use Rattle.calendar.specs.declared.value_day.ValueDay.the-variants as value
 use Rattle.calendar.specs.ValueDay.{valueDay, answered}
+use Rattle.line.specs.declared.calls.MakeAnswer.{MakeAnswer}
+use Rattle.line.specs.declared.calls.MakeAnswer.the-variants as make
+use Rattle.line.specs.declared.calls.PutAnswer.{PutAnswer}
+use Rattle.line.specs.declared.calls.PutAnswer.the-variants as put-answer
+use Rattle.line.specs.Calls.{makeNumber, putNumber}
 use Rattle.bank_state.specs.Store.{partAt, withPart, fileOf}
 use Rattle.bank.specs.declared.call.FrameAnswer.{FrameAnswer}
 use Rattle.bank.specs.declared.call.FrameAnswer.the-variants as frame-answer
@@ -50,6 +55,9 @@ use Rattle.unit_state.specs.declared.answer.Answer.the-variants.{
   TakenUp,
   Room,
   Day,
+  Line,
+  Out,
+  OutAndHeld,
   Number,
   NoCall,
 }
@@ -69,17 +77,22 @@ use Rattle.unit_state.specs.Records.{
   lentLengthOf,
   offsetOf,
   bookingTimeOf,
+  lineOf,
+  seedOf,
   bodyOf,
   isRun,
   roomBytes,
   callOf,
 }
 use Rattle.unit_state.specs.State.{roomsBytes, runAt, withRun, withJournal}
+use Rattle.unit_rows.specs.Lines.{linesSize, storesBytes, rowAt, isMade, madeAt, putAt}
 use Rattle.unit.specs.State.{Memory, State, memory, stateOf, sessionIn}
 
--- the rooms lent for the runs and for images are of their lengths
-unfoldable pub roomsRight : ℕ → ℕ → ℕ → Bool
-roomsRight payloads files room = eqb payloads roomsBytes && (eqb files roomsBytes && eqb room roomBytes)
+-- the rooms lent for the runs, for images and for the lines are of their lengths
+unfoldable pub roomsRight : ℕ → ℕ → ℕ → ℕ → ℕ → Bool
+roomsRight payloads files room lines stores =
+    eqb payloads roomsBytes
+    && (eqb files roomsBytes && (eqb room roomBytes && (eqb lines linesSize && eqb stores storesBytes)))
 
 -- what a call to a run asks: a record that names one of the runs and has its head, and rooms of their lengths
 pub record Ready (e : Event) (r payloads files : List ℕ) : Type 0 where
@@ -136,14 +149,25 @@ abbrev pub valueDayAnswer : ValueDay → Answer
 valueDayAnswer (value.Day d) = Day d
 valueDayAnswer value.TooLate = Number (answered value.TooLate .number)
 
+-- the answers of making a line, and of putting a message in
+abbrev pub lineAnswer : MakeAnswer → Answer
+lineAnswer make.Made = Line
+lineAnswer make.WrongLength = Number (makeNumber make.WrongLength)
+lineAnswer make.SeedZero = Number (makeNumber make.SeedZero)
+
+abbrev pub outAnswer : PutAnswer → Answer
+outAnswer (put-answer.Out copies) = Out copies
+outAnswer (put-answer.OutAndHeld copies n) = OutAndHeld copies n
+outAnswer put-answer.WrongLength = Number (putNumber put-answer.WrongLength)
+
 -- `F`: a frame to the bank
 unfoldable pub frameStep : State → List ℕ → UnitCall
 frameStep s r =
     let m = s .memory in
     let o = sessionFrameCall (sessionIn s) (frameInput (bankTimeOf r) (idsOf r) (bodyOf kind.Frame r) (m .buffer)) in
     let bank = lent (o .session .rows) (o .session .orders) (o .session .mailboxes) in
-    afterCall (withJournal (s .unit) (o .session .row)) (memory bank (m .payloads) (m .files) (o .buffer) (m .room))
-    (frameAnswer (o .answer))
+    afterCall (withJournal (s .unit) (o .session .row))
+    (memory bank (m .payloads) (m .files) (o .buffer) (m .room) (m .lines)) (frameAnswer (o .answer))
 
 -- `M`: a file into a mailbox
 unfoldable pub fileStep : State → List ℕ → UnitCall
@@ -151,7 +175,7 @@ fileStep s r =
     let m = s .memory in
     let o = sessionFileCall (m .bank .rows) (mailboxOf r) (bodyOf kind.File r) (m .bank .mailboxes) in
     let bank = lent (o .rows) (m .bank .orders) (o .mailboxes) in
-    afterCall (s .unit) (memory bank (m .payloads) (m .files) (m .buffer) (m .room)) (fileAnswer (o .answer))
+    afterCall (s .unit) (memory bank (m .payloads) (m .files) (m .buffer) (m .room) (m .lines)) (fileAnswer (o .answer))
 
 -- the run that a record names, from 0 on
 abbrev pub indexOf : List ℕ → ℕ
@@ -226,7 +250,7 @@ runCall e i run m r =
     let kept = keeps (begins e) (o .answer) in
     record {
       run = nextRun kept run (o .run) nonce (length body);
-      memory = memory (m .bank) (keptPayloads kept (m .payloads) i body) (o .file) (o .request) (m .room);
+      memory = memory (m .bank) (keptPayloads kept (m .payloads) i body) (o .file) (o .request) (m .room) (m .lines);
       answer = runAnswer (o .answer) (o .run);
     }
 
@@ -247,7 +271,7 @@ journalStep s r =
 
 -- the memory with this image room
 abbrev pub withRoom : Memory → List ℕ → Memory
-withRoom m room = memory (m .bank) (m .payloads) (m .files) (m .buffer) room
+withRoom m room = memory (m .bank) (m .payloads) (m .files) (m .buffer) room (m .lines)
 
 -- `P`: "the session is put away into the first that many bytes of the image room"
 unfoldable pub awayStep : State → List ℕ → UnitCall
@@ -262,8 +286,8 @@ takeUpStep s r =
     let m = s .memory in
     let o = takeUp (sessionIn s) (take (lentLengthOf r) (m .room)) in
     let bank = lent (o .session .rows) (o .session .orders) (o .session .mailboxes) in
-    afterCall (withJournal (s .unit) (o .session .row)) (memory bank (m .payloads) (m .files) (m .buffer) (m .room))
-    (takenUpAnswer (o .answer))
+    afterCall (withJournal (s .unit) (o .session .row))
+    (memory bank (m .payloads) (m .files) (m .buffer) (m .room) (m .lines)) (takenUpAnswer (o .answer))
 
 -- `I`: "these bytes into the image room at that offset (the host's own doing, no call of the unit)"
 unfoldable pub imageStep : State → List ℕ → UnitCall
@@ -279,6 +303,31 @@ unchanged s a = record { state = s; answer = a }
 unfoldable pub valueDayStep : State → List ℕ → UnitCall
 valueDayStep s r = unchanged s (valueDayAnswer (valueDay (bookingTimeOf r)))
 
+-- the line that a record names, from 0 on
+abbrev pub lineIndex : List ℕ → ℕ
+lineIndex r = lineOf r - 1
+
+-- `L`: "a line is made, afresh also where there is one"; "an `L` given a number leaves the line as it was"
+unfoldable pub makeStep : State → List ℕ → UnitCall
+makeStep s r =
+    let m = s .memory in
+    let o = madeAt (m .lines) (lineIndex r) (seedOf r) in
+    afterCall (s .unit) (memory (m .bank) (m .payloads) (m .files) (m .buffer) (m .room) (o .lines))
+    (lineAnswer (o .answer))
+
+-- `W`: "the message is put into that line"; what comes out stands in the buffer and "goes nowhere by itself"
+unfoldable pub putStep : State → List ℕ → UnitCall
+putStep s r =
+    let m = s .memory in
+    let o = putAt (m .lines) (lineIndex r) (bodyOf kind.PutIn r) (m .buffer) in
+    afterCall (s .unit) (memory (m .bank) (m .payloads) (m .files) (o .buffer) (m .room) (o .lines))
+    (outAnswer (o .answer))
+
+-- "a `W` to a line not made" is no call
+unfoldable pub putInStep : State → List ℕ → UnitCall
+putInStep s r =
+    cond (isMade (rowAt (s .memory .lines .rows) (lineIndex r))) (putStep s r) (unchanged s NoCall)
+
 abbrev pub stepOf : Kind → State → List ℕ → UnitCall
 stepOf kind.Frame s r = frameStep s r
 stepOf kind.File s r = fileStep s r
@@ -288,11 +337,18 @@ stepOf kind.Away s r = awayStep s r
 stepOf kind.TakeUp s r = takeUpStep s r
 stepOf kind.Image s r = imageStep s r
 stepOf kind.ValueDay s r = valueDayStep s r
+stepOf kind.MakeLine s r = makeStep s r
+stepOf kind.PutIn s r = putInStep s r
 stepOf kind.NoCall s r = unchanged s NoCall
+
+-- the rooms of this memory are of their lengths
+abbrev pub roomsOf : Memory → Bool
+roomsOf m =
+    roomsRight (length (m .payloads)) (length (m .files)) (length (m .room)) (length (m .lines .rows))
+    (length (m .lines .stores))
 
 -- one call of the record r on the unit; rooms of another length get number 1, "a lent length differs"
 unfoldable pub unitCall : State → List ℕ → UnitCall
 unitCall s r =
     let m = s .memory in
-    cond (roomsRight (length (m .payloads)) (length (m .files)) (length (m .room))) (stepOf (callOf r) s r)
-    (unchanged s (Number (frameNumber frame-answer.WrongLength)))
+    cond (roomsOf m) (stepOf (callOf r) s r) (unchanged s (Number (frameNumber frame-answer.WrongLength)))

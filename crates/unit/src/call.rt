@@ -2,6 +2,8 @@
 use crate::images::away_call;
 use crate::images::image_call;
 use crate::images::take_up_call;
+use crate::lines::make_call;
+use crate::lines::put_in_call;
 use bank::call::FrameAnswer;
 use bank::mailbox::FileAnswer;
 use bank_session::calls::frame_core;
@@ -31,6 +33,8 @@ use octets::bytes::copy;
 use unit_rows::events::ROW_SIZE;
 use unit_rows::events::enter;
 use unit_rows::events::journal_of;
+use unit_rows::lines::LINES_SIZE;
+use unit_rows::lines::STORES_BYTES;
 use unit_rows::runs::NONCES_SIZE;
 use unit_rows::runs::RUNS_SIZE;
 use unit_rows::runs::run_at;
@@ -75,6 +79,7 @@ ghost use Rattle.unit_state.specs.declared.state.Run.{Run};
 ghost use Rattle.unit_state.specs.declared.state.UnitState.{UnitState};
 ghost use Rattle.unit_state.specs.State.{roomsBytes, unitOf};
 ghost use Rattle.unit_rows.specs.Rows.{runsFrom, journalFrom, unitFrom};
+ghost use Rattle.unit_rows.specs.Lines.{Lines, linesOf};
 ghost use Rattle.unit.specs.State.{Memory, memory, stateOf};
 ghost use Rattle.unit.specs.Call.{Ready, roomsRight, afterCall, frameAnswer, fileAnswer, runAnswer};
 ghost use Rattle.unit.specs.Call.{journalAnswer, frameStep, fileStep, indexOf, begins, paramsOf, eventCall};
@@ -177,12 +182,13 @@ fn frame_call(
     mailboxes: &mut [u8],
     buffer: &mut [u8],
 ) -> Answer
-    ensures { λ r. ⌜ ((runs : List Run) (p f room : List ℕ)
+    ensures { λ r. ⌜ ((runs : List Run) (p f room : List ℕ) (l : Lines)
         → afterCall (unitOf runs (journalFrom (now (row .exit))))
-        (memory (lent (now (rows .exit)) (now (orders .exit)) (now (mailboxes .exit))) p f (now (buffer .exit)) room) r
+        (memory (lent (now (rows .exit)) (now (orders .exit)) (now (mailboxes .exit))) p f
+        (now (buffer .exit)) room l) r
         ≡ frameStep (stateOf (unitOf runs (journalFrom (now (row .entry))))
         (memory (lent (now (rows .entry)) (now (orders .entry)) (now (mailboxes .entry))) p f
-        (now (buffer .entry)) room)) (now («record» .entry))) ⌝ }
+        (now (buffer .entry)) room l)) (now («record» .entry))) ⌝ }
 {
     let c = frame_core(
         rows,
@@ -203,9 +209,9 @@ fn frame_call(
 
 // A file into a mailbox.
 fn file_call(record: &[u8], rows: &mut [u64], mailboxes: &mut [u8]) -> Answer
-    ensures { λ r. ⌜ ((u : UnitState) (o p f b room : List ℕ)
-        → afterCall u (memory (lent (now (rows .exit)) o (now (mailboxes .exit))) p f b room) r
-        ≡ fileStep (stateOf u (memory (lent (now (rows .entry)) o (now (mailboxes .entry))) p f b room))
+    ensures { λ r. ⌜ ((u : UnitState) (o p f b room : List ℕ) (l : Lines)
+        → afterCall u (memory (lent (now (rows .exit)) o (now (mailboxes .exit))) p f b room l) r
+        ≡ fileStep (stateOf u (memory (lent (now (rows .entry)) o (now (mailboxes .entry))) p f b room l))
         (now («record» .entry))) ⌝ }
 {
     let answer = put_file(
@@ -412,9 +418,9 @@ fn run_event(
     buffer: &mut [u8],
 ) -> RunOut
     requires { ⌜ (i < runCount) × Ready event (now «record») (now payloads) (now files) ⌝ }
-    ensures { λ r. ⌜ ((bank : Lent) (room : List ℕ)
-        → runCallOf r (memory bank (now (payloads .exit)) (now (files .exit)) (now (buffer .exit)) room)
-        ≡ runCall event i run (memory bank (now (payloads .entry)) (now (files .entry)) (now (buffer .entry)) room)
+    ensures { λ r. ⌜ ((bank : Lent) (room : List ℕ) (l : Lines)
+        → runCallOf r (memory bank (now (payloads .exit)) (now (files .exit)) (now (buffer .exit)) room l)
+        ≡ runCall event i run (memory bank (now (payloads .entry)) (now (files .entry)) (now (buffer .entry)) room l)
         (now («record» .entry))) ⌝ }
 {
     let client = run.client;
@@ -454,11 +460,11 @@ fn run_call(
     buffer: &mut [u8],
 ) -> Answer
     requires { ⌜ Ready event (now «record») (now payloads) (now files) ⌝ }
-    ensures { λ r. ⌜ ((row : List row-event.Event) (bank : Lent) (room : List ℕ)
+    ensures { λ r. ⌜ ((row : List row-event.Event) (bank : Lent) (room : List ℕ) (l : Lines)
         → afterCall (unitOf (runsFrom (now (runs .exit)) (now (nonces .exit))) row)
-        (memory bank (now (payloads .exit)) (now (files .exit)) (now (buffer .exit)) room) r
+        (memory bank (now (payloads .exit)) (now (files .exit)) (now (buffer .exit)) room l) r
         ≡ runStep event (stateOf (unitOf (runsFrom (now (runs .entry)) (now (nonces .entry))) row)
-        (memory bank (now (payloads .entry)) (now (files .entry)) (now (buffer .entry)) room))
+        (memory bank (now (payloads .entry)) (now (files .entry)) (now (buffer .entry)) room l))
         (now («record» .entry))) ⌝ }
 {
     let i = index_of(record);
@@ -493,9 +499,9 @@ fn journal_call(
     journal_answer(answer, after)
 }
 
-// Whether the rooms lent for the runs and for images are of their lengths.
-fn rooms_right(payloads: usize, files: usize, room: usize) -> bool
-    ensures { λ r. ⌜ r ≡ roomsRight payloads files room ⌝ }
+// Whether the rooms lent for the runs, for images and for the lines are of their lengths.
+fn rooms_right(payloads: usize, files: usize, room: usize, lines: usize, stores: usize) -> bool
+    ensures { λ r. ⌜ r ≡ roomsRight payloads files room lines stores ⌝ }
 {
     if payloads != ROOMS_BYTES {
         return false;
@@ -503,7 +509,13 @@ fn rooms_right(payloads: usize, files: usize, room: usize) -> bool
     if files != ROOMS_BYTES {
         return false;
     }
-    room == ROOM_BYTES
+    if room != ROOM_BYTES {
+        return false;
+    }
+    if lines != LINES_SIZE {
+        return false;
+    }
+    stores == STORES_BYTES
 }
 
 // One call of a record on the unit. Rooms of another length get number 1.
@@ -519,16 +531,26 @@ pub fn call(
     files: &mut [u8],
     buffer: &mut [u8],
     room: &mut [u8],
+    lines: &mut [u64],
+    stores: &mut [u8],
 ) -> Answer
     ensures { λ r. ⌜ afterCall (unitFrom (now (runs .exit)) (now (nonces .exit)) (now (row .exit)))
         (memory (lent (now (rows .exit)) (now (orders .exit)) (now (mailboxes .exit)))
-        (now (payloads .exit)) (now (files .exit)) (now (buffer .exit)) (now (room .exit))) r
+        (now (payloads .exit)) (now (files .exit)) (now (buffer .exit)) (now (room .exit))
+        (linesOf (now (lines .exit)) (now (stores .exit)))) r
         ≡ unitCall (stateOf (unitFrom (now (runs .entry)) (now (nonces .entry)) (now (row .entry)))
         (memory (lent (now (rows .entry)) (now (orders .entry)) (now (mailboxes .entry)))
-        (now (payloads .entry)) (now (files .entry)) (now (buffer .entry)) (now (room .entry))))
+        (now (payloads .entry)) (now (files .entry)) (now (buffer .entry)) (now (room .entry))
+        (linesOf (now (lines .entry)) (now (stores .entry)))))
         (now («record» .entry)) ⌝ }
 {
-    if !rooms_right(payloads.len(), files.len(), room.len()) {
+    if !rooms_right(
+        payloads.len(),
+        files.len(),
+        room.len(),
+        lines.len(),
+        stores.len(),
+    ) {
         return Answer::Number(WRONG_LENGTH);
     }
     let kind = call_of(record);
@@ -541,6 +563,8 @@ pub fn call(
         Kind::TakeUp => take_up_call(row, record, rows, orders, mailboxes, room),
         Kind::Image => image_call(record, room),
         Kind::ValueDay => value_day_call(record),
+        Kind::MakeLine => make_call(record, lines, stores),
+        Kind::PutIn => put_in_call(record, lines, stores, buffer),
         Kind::NoCall => Answer::NoCall,
     }
 }

@@ -25,6 +25,7 @@ ghost use Rattle.unit_state.specs.declared.state.Run.{Run};
 ghost use Rattle.unit_state.specs.declared.state.UnitState.{UnitState};
 ghost use Rattle.unit_state.specs.State.{unitOf};
 ghost use Rattle.unit_rows.specs.Rows.{journalFrom};
+ghost use Rattle.unit_rows.specs.Lines.{Lines};
 ghost use Rattle.unit.specs.State.{memory, stateOf};
 ghost use Rattle.unit.specs.Call.{afterCall, awayAnswer, takenUpAnswer};
 ghost use Rattle.unit.specs.Call.{awayStep, takeUpStep, imageStep};
@@ -61,12 +62,13 @@ pub(crate) fn away_call(
     room: &mut [u8],
 ) -> Answer
     requires { ⌜ lentLengthOf (now «record») ≤ length (now room) ⌝ }
-    ensures { λ r. ⌜ ((runs : List Run) (p f b : List ℕ)
+    ensures { λ r. ⌜ ((runs : List Run) (p f b : List ℕ) (l : Lines)
         → afterCall (unitOf runs (journalFrom (now (row .entry))))
-        (memory (lent (now (rows .entry)) (now (orders .entry)) (now (mailboxes .entry))) p f b (now (room .exit))) r
+        (memory (lent (now (rows .entry)) (now (orders .entry)) (now (mailboxes .entry))) p f b
+        (now (room .exit)) l) r
         ≡ awayStep (stateOf (unitOf runs (journalFrom (now (row .entry))))
         (memory (lent (now (rows .entry)) (now (orders .entry)) (now (mailboxes .entry))) p f b
-        (now (room .entry)))) (now («record» .entry))) ⌝ }
+        (now (room .entry)) l)) (now («record» .entry))) ⌝ }
 {
     let n = lent_length(record);
     let held = journal_of(row);
@@ -83,12 +85,13 @@ pub(crate) fn take_up_call(
     mailboxes: &mut [u8],
     room: &[u8],
 ) -> Answer
-    ensures { λ r. ⌜ ((runs : List Run) (p f b : List ℕ)
+    ensures { λ r. ⌜ ((runs : List Run) (p f b : List ℕ) (l : Lines)
         → afterCall (unitOf runs (journalFrom (now (row .exit))))
-        (memory (lent (now (rows .exit)) (now (orders .exit)) (now (mailboxes .exit))) p f b (now (room .entry))) r
+        (memory (lent (now (rows .exit)) (now (orders .exit)) (now (mailboxes .exit))) p f b
+        (now (room .entry)) l) r
         ≡ takeUpStep (stateOf (unitOf runs (journalFrom (now (row .entry))))
         (memory (lent (now (rows .entry)) (now (orders .entry)) (now (mailboxes .entry))) p f b
-        (now (room .entry)))) (now («record» .entry))) ⌝ }
+        (now (room .entry)) l)) (now («record» .entry))) ⌝ }
 {
     let n = lent_length(record);
     let held = journal_of(row);
@@ -102,9 +105,9 @@ pub(crate) fn take_up_call(
 // The record's bytes go into the image room.
 pub(crate) fn image_call(record: &[u8], room: &mut [u8]) -> Answer
     requires { ⌜ offsetOf (now «record») + sizeOf Kind.Image (now «record») ≤ length (now room) ⌝ }
-    ensures { λ r. ⌜ ((u : UnitState) (bank : Lent) (p f b : List ℕ)
-        → afterCall u (memory bank p f b (now (room .exit))) r
-        ≡ imageStep (stateOf u (memory bank p f b (now (room .entry)))) (now («record» .entry))) ⌝ }
+    ensures { λ r. ⌜ ((u : UnitState) (bank : Lent) (p f b : List ℕ) (l : Lines)
+        → afterCall u (memory bank p f b (now (room .exit)) l) r
+        ≡ imageStep (stateOf u (memory bank p f b (now (room .entry)) l)) (now («record» .entry))) ⌝ }
 {
     copy(room, offset_of(record), body_of(Kind::Image, record));
     Answer::Room

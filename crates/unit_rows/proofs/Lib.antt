@@ -1,2 +1,3 @@
 -- The laws that several proofs, and the crates above, cite.
 pub mod Rows
+pub mod LineParts

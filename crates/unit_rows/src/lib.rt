@@ -1,5 +1,6 @@
-// The unit's client runs and the journal's row as numbers and bytes in lent memory.
+// The unit's client runs, the journal's row and the lines as numbers and bytes in lent memory.
 mod codes;
 pub mod events;
+pub mod lines;
 pub mod runs;
 pub mod whole;

@@ -25,6 +25,8 @@ use Rattle.unit_state.specs.declared.record.Kind.the-variants.{
   TakeUp,
   Image,
   ValueDay,
+  MakeLine,
+  PutIn,
   NoCall,
 }
 use Rattle.unit_state.specs.Records.{
@@ -37,6 +39,8 @@ use Rattle.unit_state.specs.Records.{
   sizeOf,
   runCount,
   isRun,
+  lineCount,
+  isLine,
   isWithin,
   isWhole,
   callOf,
@@ -90,6 +94,8 @@ head-within Away = omega arith
 head-within TakeUp = omega arith
 head-within Image = omega arith
 head-within ValueDay = omega arith
+head-within MakeLine = omega arith
+head-within PutIn = omega arith
 head-within NoCall = omega arith
 
 -- a length stands in the last bytes of a head
@@ -105,6 +111,8 @@ length-head Away h = omega arith
 length-head TakeUp h = omega arith
 length-head Image h = omega arith
 length-head ValueDay h = omega arith
+length-head MakeLine h = omega arith
+length-head PutIn h = omega arith
 length-head NoCall h = never h
 
 pub nothing-whole : (k : Kind) (r : List ℕ) → length r < 1 → isWhole k r ≡ false
@@ -119,6 +127,11 @@ pub run-within : (n : ℕ) → isRun n ≡ true → (1 ≤ n) × (n ≤ runCount
 run-within n h =
     let a = and-true (leb 1 n) (leb n runCount) h in
     (leb-true 1 n (a .0), leb-true n runCount (a .1))
+
+pub line-within : (n : ℕ) → isLine n ≡ true → (1 ≤ n) × (n ≤ lineCount)
+line-within n h =
+    let a = and-true (leb 1 n) (leb n lineCount) h in
+    (leb-true 1 n (a .0), leb-true n lineCount (a .1))
 
 -- a call's record is whole, and what it names is there
 pub record Callable (k : Kind) (r : List ℕ) : Type 0 where

@@ -19,10 +19,12 @@ use Rattle.unit_state.specs.declared.record.Kind.the-variants.{
   TakeUp,
   Image,
   ValueDay,
+  MakeLine,
+  PutIn,
   NoCall,
 }
 
--- the letters F, M, U, D, R, N, J, P, T, I and V
+-- the letters F, M, U, D, R, N, J, P, T, I, V, L and W
 unfoldable pub kindOf : ℕ → Kind
 kindOf letter =
     decide
@@ -37,6 +39,8 @@ kindOf letter =
     ∷ (eqb letter 84, TakeUp)
     ∷ (eqb letter 73, Image)
     ∷ (eqb letter 86, ValueDay)
+    ∷ (eqb letter 76, MakeLine)
+    ∷ (eqb letter 87, PutIn)
     ∷ [])
     NoCall
 
@@ -73,6 +77,14 @@ sizeBytes = 2
 abbrev pub extentBytes : ℕ
 extentBytes = 4
 
+-- "line 1"
+abbrev pub lineBytes : ℕ
+lineBytes = 1
+
+-- "seed 4"
+abbrev pub seedBytes : ℕ
+seedBytes = 4
+
 -- F: bank time and ID bytes, the first part behind the letter, each other behind the one before it
 abbrev pub bankTimeAt : ℕ
 bankTimeAt = letterBytes
@@ -108,6 +120,13 @@ extentAt = letterBytes
 abbrev pub bookingAt : ℕ
 bookingAt = letterBytes
 
+-- L and W: the line; L: the seed
+abbrev pub lineNumberAt : ℕ
+lineNumberAt = letterBytes
+
+abbrev pub seedAt : ℕ
+seedAt = lineNumberAt + lineBytes
+
 -- the bytes of a record before those that its length counts: the letter, then the parts in their order
 abbrev pub headOf : Kind → ℕ
 -- "bank time 8, ID bytes 8, length 2"
@@ -131,6 +150,10 @@ headOf TakeUp = extentAt + extentBytes
 headOf Image = extentAt + extentBytes + sizeBytes
 -- "booking time 8"
 headOf ValueDay = bookingAt + timeBytes
+-- "line 1, seed 4"
+headOf MakeLine = seedAt + seedBytes
+-- "line 1, length 2"
+headOf PutIn = lineNumberAt + lineBytes + sizeBytes
 headOf NoCall = letterBytes
 
 -- whether a length stands at the end of the head
@@ -146,6 +169,8 @@ hasLength Away = false
 hasLength TakeUp = false
 hasLength Image = true
 hasLength ValueDay = false
+hasLength MakeLine = false
+hasLength PutIn = true
 hasLength NoCall = false
 
 -- n bytes of a record r from a place on, and their number
@@ -196,7 +221,14 @@ offsetOf r = numberAt extentAt extentBytes r
 abbrev pub bookingTimeOf : List ℕ → ℕ
 bookingTimeOf r = numberAt bookingAt timeBytes r
 
--- what the length says, and the frame, file, payload, reply or bytes that it counts
+-- L and W: the line, "numbered 1 to 32"; L: the seed
+abbrev pub lineOf : List ℕ → ℕ
+lineOf r = numberAt lineNumberAt lineBytes r
+
+abbrev pub seedOf : List ℕ → ℕ
+seedOf r = numberAt seedAt seedBytes r
+
+-- what the length says, and the frame, file, payload, reply, bytes or message that it counts
 unfoldable pub sizeOf : Kind → List ℕ → ℕ
 sizeOf k r = cond (hasLength k) (numberAt (headOf k - sizeBytes) sizeBytes r) 0
 
@@ -210,6 +242,13 @@ runCount = 16
 abbrev pub isRun : ℕ → Bool
 isRun n = leb 1 n && leb n runCount
 
+-- "The driver has 32 lines, numbered 1 to 32"
+abbrev pub lineCount : ℕ
+lineCount = 32
+
+abbrev pub isLine : ℕ → Bool
+isLine n = leb 1 n && leb n lineCount
+
 -- "The image room is 140,000 bytes of the driver"
 abbrev pub roomBytes : ℕ
 roomBytes = 140000
@@ -218,8 +257,8 @@ roomBytes = 140000
 abbrev pub inRoom : ℕ → ℕ → Bool
 inRoom from n = leb (from + n) roomBytes
 
--- a run is one of the 16, where the record names one, and its bytes of the image room are within it; another letter is
--- no call
+-- a run is one of the 16, a line one of the 32, where the record names one, and its bytes of the image room are within
+-- it; another letter is no call
 abbrev pub isWithin : Kind → List ℕ → Bool
 isWithin Frame r = true
 isWithin File r = true
@@ -229,6 +268,8 @@ isWithin Away r = inRoom 0 (lentLengthOf r)
 isWithin TakeUp r = inRoom 0 (lentLengthOf r)
 isWithin Image r = inRoom (offsetOf r) (sizeOf Image r)
 isWithin ValueDay r = true
+isWithin MakeLine r = isLine (lineOf r)
+isWithin PutIn r = isLine (lineOf r)
 isWithin NoCall r = false
 
 -- a record of this kind that is not cut short
@@ -236,7 +277,8 @@ unfoldable pub isWhole : Kind → List ℕ → Bool
 isWhole k r = leb (headOf k) (length r) && leb (headOf k + sizeOf k r) (length r)
 
 -- "A record that is cut short, another letter, and a run outside 1 to 16 end the input", as do "a `P` or `T` with a
--- length over 140,000, and an `I` whose offset plus length is over 140,000": they are no call
+-- length over 140,000, and an `I` whose offset plus length is over 140,000", and "a line outside 1 to 32": they are no
+-- call
 unfoldable pub callOf : List ℕ → Kind
 callOf r =
     let k = kindOf (letterOf r) in
@@ -252,4 +294,6 @@ isCall Away = true
 isCall TakeUp = true
 isCall Image = true
 isCall ValueDay = true
+isCall MakeLine = true
+isCall PutIn = true
 isCall NoCall = false

@@ -2,6 +2,7 @@
 use Prim.Native.Nat.{ℕ, _*_}
 use mathlib.Core.List.{List, []}
 use lib.ListN.{replicate, getD, set}
+use Rattle.line.specs.Line.{messageBytes}
 use Rattle.message.specs.Limits.{fileBytes}
 use Rattle.journal.specs.declared.event.Event.{Event}
 use Rattle.journal.specs.Row.{emptyRow}
@@ -14,6 +15,10 @@ use Rattle.unit_state.specs.Records.{runCount}
 -- "payload rooms and file buffers have 7,936 bytes": those of all runs
 abbrev pub roomsBytes : ℕ
 roomsBytes = runCount * fileBytes
+
+-- the buffer for a reply, a request or a held message, of which the last is the longest
+abbrev pub bufferBytes : ℕ
+bufferBytes = messageBytes
 
 -- a run not begun, with no payload
 abbrev pub newRun : List ℕ → Run

@@ -7,17 +7,20 @@ use octets::bytes::number;
 ghost use mathlib.Core.Path.{_≡_};
 ghost use Prim.Native.Nat.{_≤_};
 ghost use Rattle.unit_state.specs.Records.{kindOf, headOf, hasLength, bytesAt, numberAt, sizeOf, bodyOf};
-ghost use Rattle.unit_state.specs.Records.{isRun, inRoom, isWithin, isWhole, callOf, isCall};
+ghost use Rattle.unit_state.specs.Records.{isRun, isLine, inRoom, isWithin, isWhole, callOf, isCall};
 ghost use Rattle.unit_state.specs.Records.{lentLengthOf, offsetOf};
 
 // The client runs, numbered from 1.
 pub const RUN_COUNT: usize = 16;
 
+// The lines, numbered from 1.
+pub const LINE_COUNT: usize = 32;
+
 // The bytes of the image room.
 pub const ROOM_BYTES: usize = 140000;
 
 // How many bytes the parts of a record have: its letter, a run, a time, a mailbox, a subscriber, a first exchange
-// number, the length of what stands behind the head, and a length or an offset in the image room.
+// number, the length of what stands behind the head, a length or an offset in the image room, a line, and a seed.
 pub const LETTER_BYTES: usize = 1;
 
 pub const RUN_BYTES: usize = 1;
@@ -34,8 +37,12 @@ pub const SIZE_BYTES: usize = 2;
 
 pub const EXTENT_BYTES: usize = 4;
 
+pub const LINE_BYTES: usize = 1;
+
+pub const SEED_BYTES: usize = 4;
+
 // Where the parts begin, each behind the one before it: those of a frame to the bank, of a file, of a call to a run,
-// of one on the image room, and of one for a value day.
+// of one on the image room, of one for a value day, and of one on a line.
 pub const BANK_TIME_AT: usize = LETTER_BYTES;
 
 pub const IDS_AT: usize = BANK_TIME_AT + TIME_BYTES;
@@ -56,6 +63,10 @@ pub const EXTENT_AT: usize = LETTER_BYTES;
 
 pub const BOOKING_AT: usize = LETTER_BYTES;
 
+pub const LINE_NUMBER_AT: usize = LETTER_BYTES;
+
+pub const SEED_AT: usize = LINE_NUMBER_AT + LINE_BYTES;
+
 // The bytes of an upload's head, the longest one.
 pub const UPLOAD_HEAD: usize = NONCE_AT + NONCE_BYTES + SIZE_BYTES;
 
@@ -71,7 +82,7 @@ pub enum Event {
 }
 
 // What a record is: a call to the bank, a call to a client run, the journal handed to a run, the session put away or
-// taken up, bytes for the image room, the value day of a booking, or no call.
+// taken up, bytes for the image room, the value day of a booking, a line made, a message put into a line, or no call.
 pub enum Kind {
     Frame,
     File,
@@ -81,6 +92,8 @@ pub enum Kind {
     TakeUp,
     Image,
     ValueDay,
+    MakeLine,
+    PutIn,
     NoCall,
 }
 
@@ -100,6 +113,8 @@ pub fn kind_of(letter: u8) -> Kind
         b'T' => Kind::TakeUp,
         b'I' => Kind::Image,
         b'V' => Kind::ValueDay,
+        b'L' => Kind::MakeLine,
+        b'W' => Kind::PutIn,
         _ => Kind::NoCall,
     }
 }
@@ -129,6 +144,8 @@ pub fn head_of(kind: Kind) -> usize
         Kind::TakeUp => EXTENT_AT + EXTENT_BYTES,
         Kind::Image => EXTENT_AT + EXTENT_BYTES + SIZE_BYTES,
         Kind::ValueDay => BOOKING_AT + TIME_BYTES,
+        Kind::MakeLine => SEED_AT + SEED_BYTES,
+        Kind::PutIn => LINE_NUMBER_AT + LINE_BYTES + SIZE_BYTES,
         Kind::NoCall => LETTER_BYTES,
     }
 }
@@ -158,6 +175,8 @@ fn has_length(kind: Kind) -> bool
         Kind::TakeUp => false,
         Kind::Image => true,
         Kind::ValueDay => false,
+        Kind::MakeLine => false,
+        Kind::PutIn => true,
         Kind::NoCall => false,
     }
 }
@@ -201,7 +220,7 @@ pub fn offset_of(s: &[u8]) -> usize
     number_at(s, EXTENT_AT, EXTENT_BYTES) as usize
 }
 
-// The frame, file, payload, reply or bytes of a record.
+// The frame, file, payload, reply, bytes or message of a record.
 pub fn body_of(kind: Kind, s: &[u8]) -> &[u8]
     ensures { λ r. ⌜ now r ≡ bodyOf kind (now (s .entry)) ⌝ }
 {
@@ -218,6 +237,16 @@ fn is_run(n: u64) -> bool
     n <= RUN_COUNT as u64
 }
 
+// Whether a line is one of the lines.
+fn is_line(n: u64) -> bool
+    ensures { λ r. ⌜ r ≡ isLine n ⌝ }
+{
+    if n < 1 {
+        return false;
+    }
+    n <= LINE_COUNT as u64
+}
+
 // Whether bytes from a place on are within the image room.
 fn in_room(from: usize, n: usize) -> bool
     ensures { λ r. ⌜ r ≡ inRoom from n ⌝ }
@@ -228,7 +257,7 @@ fn in_room(from: usize, n: usize) -> bool
     n <= ROOM_BYTES - from
 }
 
-// Whether there is what the record names: its run, and its bytes of the image room.
+// Whether there is what the record names: its run, its line, and its bytes of the image room.
 fn is_within(kind: Kind, s: &[u8]) -> bool
     ensures { λ r. ⌜ r ≡ isWithin kind (now (s .entry)) ⌝ }
 {
@@ -241,6 +270,8 @@ fn is_within(kind: Kind, s: &[u8]) -> bool
         Kind::TakeUp => in_room(0, lent_length(s)),
         Kind::Image => in_room(offset_of(s), size_of(kind, s)),
         Kind::ValueDay => true,
+        Kind::MakeLine => is_line(number_at(s, LINE_NUMBER_AT, LINE_BYTES)),
+        Kind::PutIn => is_line(number_at(s, LINE_NUMBER_AT, LINE_BYTES)),
         Kind::NoCall => false,
     }
 }
@@ -286,6 +317,8 @@ pub fn is_call(kind: Kind) -> bool
         Kind::TakeUp => true,
         Kind::Image => true,
         Kind::ValueDay => true,
+        Kind::MakeLine => true,
+        Kind::PutIn => true,
         Kind::NoCall => false,
     }
 }

@@ -4,10 +4,14 @@ use client::calls::Client;
 use client_run::run::NONCE_BYTES;
 use journal::event::Event;
 use journal::event::RECORD_COUNT;
+use line::layout::MESSAGE_BYTES;
 use message::limits::FILE_BYTES;
 
 // The bytes of all runs' payload rooms, and of all their file buffers.
 pub const ROOMS_BYTES: usize = RUN_COUNT * FILE_BYTES;
+
+// The bytes of the buffer for a call's reply or request, or for a held message, the longest of the three.
+pub const BUFFER_BYTES: usize = MESSAGE_BYTES;
 
 // A client run, the nonce bytes that it keeps, and how many bytes its payload has.
 pub struct Run {

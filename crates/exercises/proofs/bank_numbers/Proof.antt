@@ -14,7 +14,7 @@ abbrev μ-loop : tie.MeasureT-loop
 μ-loop rows numbers₀ i₀ numbers i = stateSize - i
 
 loop-again : tie.Need-loop-again Inv-loop μ-loop
-loop-again c = let l = c .before .before .loop in length-set (l .numbers) (l .i) _ ∙ l .inv
+loop-again c = let l = c .before .before .before .loop in length-set (l .numbers) (l .i) _ ∙ l .inv
 
 pub bank-numbers-spec : {M : Type 1} → statement M
 bank-numbers-spec =

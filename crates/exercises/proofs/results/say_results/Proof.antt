@@ -6,10 +6,10 @@ use Rattle.exercises.proofs.results.say_results.Statement.{statement}
 use Rattle.exercises.proofs.results.say_results.Tie as tie
 
 abbrev Inv-loop : tie.InvT-loop
-Inv-loop runs nonces rows orders files i₀ i = 0 ≤ i
+Inv-loop first runs nonces rows orders files i₀ i = 0 ≤ i
 
 abbrev μ-loop : tie.MeasureT-loop
-μ-loop runs nonces rows orders files i₀ i = 6 - i
+μ-loop first runs nonces rows orders files i₀ i = 6 - i
 
 pub say-results-spec : {M : Type 1} → statement M
 say-results-spec =

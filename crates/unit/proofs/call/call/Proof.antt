@@ -15,14 +15,18 @@ use Rattle.unit_state.specs.declared.record.Kind.the-variants.{
   TakeUp,
   Image,
   ValueDay,
+  MakeLine,
+  PutIn,
   NoCall,
 }
 use Rattle.unit_rows.specs.Rows.{unitFrom}
+use Rattle.unit_rows.specs.Lines.{linesOf}
 use Rattle.unit.specs.State.{State, memory, stateOf}
 use Rattle.unit.specs.Call.{UnitCall, valueDayStep, stepOf, unitCall}
 use Rattle.unit.proofs.Begins.{RoomsLengths, rooms-lengths}
 use Rattle.unit.proofs.Steps.{handed-run, ready, called}
 use Rattle.unit.proofs.ImageRoom.{away-within, image-within}
+use Rattle.unit.proofs.LineSteps.{line-made-named, line-put-named}
 use borrow.Author.Needs.{needs}
 use Rattle.unit.proofs.call.call.Statement.{statement}
 use Rattle.unit.proofs.call.call.Tie as tie
@@ -30,19 +34,20 @@ use Rattle.unit.proofs.call.call.Tie as tie
 -- the unit and the record, from where the record's kind is known
 abbrev unit-at : tie.After-call-of → State
 unit-at c =
-    let a = c .before .before .before .before .before .before .before .before .before .before .before .args in
+    let a = c .before .before .before .before .before .before .before .before .before .before .before .before .before .args in
     stateOf (unitFrom (a .runs .now) (a .nonces .now) (a .row .now))
-    (memory (lent (a .rows .now) (a .orders .now) (a .mailboxes .now)) (a .payloads .now) (a .files .now) (a .buffer .now) (a .room .now))
+    (memory (lent (a .rows .now) (a .orders .now) (a .mailboxes .now)) (a .payloads .now) (a .files .now) (a .buffer .now) (a .room .now)
+    (linesOf (a .lines .now) (a .stores .now)))
 
 abbrev record-at : tie.After-call-of → List ℕ
-record-at c = c .before .before .before .before .before .before .before .before .before .before .before .args .«record» .now
+record-at c = c .before .before .before .before .before .before .before .before .before .before .before .before .before .args .«record» .now
 
 -- the rooms are of their lengths
 rooms-at : (c : tie.After-call-of)
     → let m = unit-at c .memory in
-    RoomsLengths (length (m .payloads)) (length (m .files)) (length (m .room))
+    RoomsLengths (length (m .payloads)) (length (m .files)) (length (m .room)) (length (m .lines .rows)) (length (m .lines .stores))
 rooms-at c =
-    rooms-lengths _ _ _ (sym (c .before .before .rooms-right .ensures) ∙ not-false (c .before .before .rooms-right .result) (c .before .if1 .left))
+    rooms-lengths _ _ _ _ _ (sym (c .before .before .rooms-right .ensures) ∙ not-false (c .before .before .rooms-right .result) (c .before .if1 .left))
 
 -- the call of a record of kind g
 by-kind : (c : tie.After-call-of) (g : Kind) (o : UnitCall) → c .call-of .result ≡ g → o ≡ stepOf g (unit-at c) (record-at c)
@@ -79,23 +84,37 @@ image-call-requires c κs =
     let at-call = at-told .before .before in
     image-within (record-at at-call) (unit-at at-call .memory .room) _ (rooms-at at-call .image-room) (at-call .call-of .ensures) (at-told .enum-told6 .given .1)
 
+make-call-requires : tie.Need-make-call-requires
+make-call-requires c κs =
+    let at-told = c .before .before in
+    let at-call = at-told .before .before in
+    let rooms = rooms-at at-call in
+    (line-made-named _ _ (at-call .call-of .ensures) (at-told .enum-told8 .given .1), rooms .line-rows, rooms .line-stores)
+
+put-in-call-requires : tie.Need-put-in-call-requires
+put-in-call-requires c κs =
+    let at-told = c .before .before .before in
+    let at-call = at-told .before .before in
+    let rooms = rooms-at at-call in
+    (line-put-named _ _ (at-call .call-of .ensures) (at-told .enum-told9 .given .1), rooms .line-rows, rooms .line-stores)
+
 returns-2 : tie.Need-returns-2
 returns-2 c =
     let at-frame = c .before .before .before .before .before .before .before .before in
     let at-told = at-frame .before .before .before .before .before .before in
-    by-kind (at-told .before .before) Frame _ (at-told .enum-told .given .1) (at-frame .frame-call .ensures _ _ _ _)
+    by-kind (at-told .before .before) Frame _ (at-told .enum-told .given .1) (at-frame .frame-call .ensures _ _ _ _ _)
 
 returns-3 : tie.Need-returns-3
 returns-3 c =
     let at-file = c .before .before .before .before in
     let at-told = at-file .before .before .before in
-    by-kind (at-told .before .before) File _ (at-told .enum-told2 .given .1) (at-file .file-call .ensures _ _ _ _ _ _)
+    by-kind (at-told .before .before) File _ (at-told .enum-told2 .given .1) (at-file .file-call .ensures _ _ _ _ _ _ _)
 
 returns-4 : tie.Need-returns-4
 returns-4 c =
     let at-run = c .before .before .before .before .before .before in
     let at-told = at-run .before .before .before .before .before .before .before in
-    by-kind (at-told .before .before) (Run _) _ (at-told .kind .given .1) (at-run .run-call .ensures _ _ _)
+    by-kind (at-told .before .before) (Run _) _ (at-told .kind .given .1) (at-run .run-call .ensures _ _ _ _)
 
 returns-5 : tie.Need-returns-5
 returns-5 c =
@@ -106,19 +125,19 @@ returns-6 : tie.Need-returns-6
 returns-6 c =
     let at-away = c .before .before in
     let at-told = at-away .before .before .before .before .before .before in
-    by-kind (at-told .before .before) Away _ (at-told .enum-told4 .given .1) (at-away .away-call .ensures _ _ _ _)
+    by-kind (at-told .before .before) Away _ (at-told .enum-told4 .given .1) (at-away .away-call .ensures _ _ _ _ _)
 
 returns-7 : tie.Need-returns-7
 returns-7 c =
     let at-take-up = c .before .before .before .before .before .before in
     let at-told = at-take-up .before .before .before .before .before .before in
-    by-kind (at-told .before .before) TakeUp _ (at-told .enum-told5 .given .1) (at-take-up .take-up-call .ensures _ _ _ _)
+    by-kind (at-told .before .before) TakeUp _ (at-told .enum-told5 .given .1) (at-take-up .take-up-call .ensures _ _ _ _ _)
 
 returns-8 : tie.Need-returns-8
 returns-8 c =
     let at-image = c .before .before in
     let at-told = at-image .before .before in
-    by-kind (at-told .before .before) Image _ (at-told .enum-told6 .given .1) (at-image .image-call .ensures _ _ _ _ _)
+    by-kind (at-told .before .before) Image _ (at-told .enum-told6 .given .1) (at-image .image-call .ensures _ _ _ _ _ _)
 
 returns-9 : tie.Need-returns-9
 unfolding valueDayStep
@@ -127,7 +146,19 @@ returns-9 c =
     by-kind (at-told .before .before) ValueDay _ (at-told .enum-told7 .given .1) (rw (c .value-day-call .ensures))
 
 returns-10 : tie.Need-returns-10
-returns-10 c = by-kind (c .before .before) NoCall _ (c .enum-told8 .given .1) refl
+returns-10 c =
+    let at-make = c .before .before in
+    let at-told = at-make .before .before .before in
+    by-kind (at-told .before .before) MakeLine _ (at-told .enum-told8 .given .1) (at-make .make-call .ensures _ _ _ _ _ _)
+
+returns-11 : tie.Need-returns-11
+returns-11 c =
+    let at-put = c .before .before .before .before .before .before in
+    let at-told = at-put .before .before .before .before in
+    by-kind (at-told .before .before) PutIn _ (at-told .enum-told9 .given .1) (at-put .put-in-call .ensures _ _ _ _ _)
+
+returns-12 : tie.Need-returns-12
+returns-12 c = by-kind (c .before .before) NoCall _ (c .enum-told10 .given .1) refl
 
 pub call-spec : {M : Type 1} → statement M
 call-spec =
@@ -152,6 +183,10 @@ call-spec =
     image-call-requires
     (λ c. search needs)
     (λ c κs. tt)
+    (λ c. search needs)
+    make-call-requires
+    (λ c. search needs)
+    put-in-call-requires
     (λ c. search needs)
     (λ c. search needs)
     (λ c. search needs)
@@ -179,4 +214,11 @@ call-spec =
     (λ c. search needs)
     returns-8
     returns-9
-    returns-10)
+    (λ c. search needs)
+    (λ c. search needs)
+    returns-10
+    (λ c. search needs)
+    (λ c. search needs)
+    (λ c. search needs)
+    returns-11
+    returns-12)

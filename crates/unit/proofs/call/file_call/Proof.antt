@@ -7,7 +7,7 @@ use Rattle.unit.proofs.call.file_call.Tie as tie
 returns : tie.Need-returns
 unfolding fileStep
 returns c =
-    λ u o p f b room.
+    λ u o p f b room l.
     let at-file = c .before .before .before .before .before in
     let at-body = at-file .before .before in
     rw (

@@ -10,7 +10,7 @@ use Rattle.unit.proofs.call.frame_call.Tie as tie
 returns : tie.Need-returns
 unfolding frameStep
 returns c =
-    λ runs p f room.
+    λ runs p f room l.
     let at-enter = c .before .before in
     let at-core = at-enter .before .before .before .before .before .before .before .before .before .before .before in
     let at-body = at-core .before .before .before .before in

@@ -27,14 +27,14 @@ keep-payload-requires c κs =
 
 returns : tie.Need-returns
 returns c =
-    λ bank room.
+    λ bank room l.
     let at-keep = c .before .before .before .before in
     let at-call = at-keep .before .before .before .before .before .before .before .before in
     let at-payload = at-call .before .before .before in
     let at-body = at-payload .before .before .before in
     let at-begins = at-body .before .before in
     let a = at-begins .before .before .before .before .before .before .before .args in
-    ran (a .run) (a .i) bank (a .payloads .now) (a .files .now) (a .buffer .now) room (a .«record» .now) (a .event) _ _ _ _ _ _ _ _ _ _ _ _
+    ran (a .run) (a .i) bank (a .payloads .now) (a .files .now) (a .buffer .now) room l (a .«record» .now) (a .event) _ _ _ _ _ _ _ _ _ _ _ _
     (at-begins .begins .ensures) (at-body .before .nonce-for .ensures) (at-body .body-of .ensures)
     (at-payload .before .file-of .ensures) (at-payload .payload-for .ensures) (at-call .room-call .ensures)
     (at-keep .before .before .keeps .ensures) (at-keep .keep-payload .ensures) (c .before .next-run .ensures)

@@ -21,12 +21,12 @@ slice-aggregate-put-away-held c = long (c .before .before)
 
 returns : tie.Need-returns
 returns c =
-    λ runs p f b.
+    λ runs p f b l.
     let at-room = c .before .before in
     let at-put = at-room .before in
     let at-row = at-put .before .before in
     let at-length = at-row .before in
-    away-left _ _ p f b _ _ _ _ _ _ (at-length .lent-length .ensures) (at-room .room .given .0 ∙ sym (long at-length))
+    away-left _ _ p f b _ l _ _ _ _ _ (at-length .lent-length .ensures) (at-room .room .given .0 ∙ sym (long at-length))
     (rw (at-row .journal-of .ensures) at (at-put .put-away-held .ensures)) (c .away-answer .ensures)
 
 pub away-call-spec : {M : Type 1} → statement M

@@ -17,7 +17,7 @@ copy-requires c κs =
 returns : tie.Need-returns
 unfolding imageStep
 returns c =
-    λ u bank p f b.
+    λ u bank p f b l.
     let at-copy = c .before .before in
     let at-body = at-copy .before in
     rw (← at-body .before .offset-of .ensures, ← at-body .body-of .ensures, ← at-copy .copy .ensures)

@@ -7,7 +7,7 @@ use Rattle.unit.proofs.images.take_up_call.Tie as tie
 returns : tie.Need-returns
 unfolding takeUpStep
 returns c =
-    λ runs p f b.
+    λ runs p f b l.
     let at-set = c .before in
     let at-take-up = at-set .before .before .before .before .before .before .before .before .before in
     let at-front = at-take-up .before in

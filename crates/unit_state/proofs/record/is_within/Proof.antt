@@ -1,4 +1,5 @@
--- A run is one of the runs, and bytes of the image room are within it, where the record names them. Assumes nothing.
+-- A run is one of the runs, a line one of the lines, and bytes of the image room are within it, where the record names
+-- them. Assumes nothing.
 use borrow.Author.Needs.{needs}
 use Rattle.unit_state.proofs.record.is_within.Statement.{statement}
 use Rattle.unit_state.proofs.record.is_within.Tie as tie
@@ -21,6 +22,12 @@ returns-7 c =
     let at-offset = at-size .before in
     let told = at-offset .before .enum-told7 .given .1 in
     rw (told, ← at-offset .offset-of .ensures, ← rw told at (at-size .size-of .ensures)) (c .in-room3 .ensures)
+
+returns-9 : tie.Need-returns-9
+returns-9 c = rw (c .before .before .enum-told9 .given .1, ← c .before .number-at3 .ensures) (c .is-line .ensures)
+
+returns-10 : tie.Need-returns-10
+returns-10 c = rw (c .before .before .enum-told10 .given .1, ← c .before .number-at4 .ensures) (c .is-line2 .ensures)
 
 pub is-within-spec : {M : Type 1} → statement M
 is-within-spec =
@@ -46,6 +53,12 @@ is-within-spec =
     (λ c κs. tt)
     (λ c. search needs)
     (λ c. search needs)
+    (λ c κs. search needs)
+    (λ c κs. tt)
+    (λ c. search needs)
+    (λ c κs. search needs)
+    (λ c κs. tt)
+    (λ c. search needs)
     (λ c. search needs)
     (λ c. search needs)
     returns-3
@@ -54,4 +67,6 @@ is-within-spec =
     returns-6
     returns-7
     (λ c. search needs)
+    returns-9
+    returns-10
     (λ c. search needs))

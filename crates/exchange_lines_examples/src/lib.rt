@@ -1,0 +1,1 @@
+// An order over lines that lose, double and hold, computed. Proof; no code.

@@ -1,0 +1,4 @@
+-- The proofs of the unit's lines.
+pub mod Parts
+pub mod OneLine
+pub mod Theorem

@@ -1,0 +1,2 @@
+-- The definitions of the unit's lines over lists of records.
+pub mod UnitLines
