@@ -5,10 +5,12 @@ use mathlib.Core.List.{List, [], _∷_}
 use mathlib.Core.Path.{_≡_, refl, sym, ap, _∙_, subst}
 use native.Mathlib.Omega.{arith}
 use lib.ListN.{length, set}
-use borrow.Author.Tests.{eq-eqb}
+use lib.Dec.{eqb, leb, ltb}
+use borrow.Author.Tests.{eq-eqb, eqb-false, leb-false, lt-ltb}
 use Rattle.frame_table.specs.declared.fields.Fields.{Fields}
 use Rattle.frame_table.specs.Forms as forms
 use Rattle.frame_table.specs.Names.{subscriber, transaction, segment, receiptCode, form}
+use Rattle.message.proofs.Verdicts.{and-false}
 use Rattle.frame_table.proofs.Bits.{bits-same}
 use Rattle.message.specs.Segments.{segmentsOf, segmentOf}
 use Rattle.bank_state.specs.declared.clock.Ended.the-variants as ending
@@ -18,12 +20,14 @@ use Rattle.bank_state.specs.Search.{isDownload}
 use Rattle.bank_state.specs.State.{BankState, downloadAt, fileLength}
 use Rattle.bank_state.specs.Store.{zeroed}
 use Rattle.bank_verdicts.specs.declared.verdict.TransactionRequest.{TransactionRequest}
+use Rattle.bank_verdicts.specs.declared.verdict.TransactionRequest.the-variants as asksFor
 use Rattle.bank_verdicts.specs.declared.verdict.DownloadAction.{DownloadAction}
 use Rattle.bank_verdicts.specs.declared.verdict.DownloadAction.the-variants as down
 use Rattle.bank_verdicts.specs.declared.verdict.Action.the-variants as action
 use Rattle.bank_verdicts.specs.declared.verdict.Verdict.{Verdict}
 use Rattle.bank_verdicts.specs.declared.verdict.Verdict.the-variants as verdict
 use Rattle.bank_downloads.specs.Downloads.{movedTo}
+use Rattle.bank_verdicts.specs.Refusals.{fitsDownload, isSentAgain}
 use Rattle.bank_verdicts.specs.Judgement.{mailboxSegments, downloadOf}
 use Rattle.bank_steps.specs.Steps.{ended, carryOut}
 use Rattle.bank.specs.Call.{mailboxSegment}
@@ -148,13 +152,37 @@ module _ (w : BankState) (h : List Exchange) (v : Invariant w h) (q : Fields) (d
         again = let z = isOpen′ .1 .deliveries in omega arith;
       })
 
-  point-keeps : let a = down.Point (old .delivered) in StateHolds (left a) → Invariant (left a) (now a ∷ h)
-  point-keeps state =
+  -- a recovery point: no segment 1 to d + 1 up to N is asked for
+  unfit : (r : TransactionRequest) → form q ≡ requestForm r → fitsDownload r old n q ≡ false → isSentAgain r old q ≡ false →
+      form q ≡ forms.DownloadTransfer → 1 ≤ segment q → segment q ≤ suc (old .delivered) → segment q ≤ n → ⊥
+  unfit asksFor.UploadTransfer asked fits unsent e some next most = let z : _≡_ {A = ℕ} 0 1 = cc in omega arith
+  unfit asksFor.DownloadTransfer asked fits unsent e some next most =
+      let m = segment q in
+      let z = leb-false m (old .delivered) (and-false (ltb 0 m) (leb m (old .delivered)) unsent (lt-ltb 0 m some)) in
+      let y = leb-false m n (and-false (eqb m (old .delivered + 1)) (leb m n) fits (eq-eqb m (old .delivered + 1) (omega arith))) in
+      omega arith
+  unfit asksFor.Receipt asked fits unsent e some next most = let z : _≡_ {A = ℕ} 0 1 = cc in omega arith
+
+  -- and no receipt that fits
+  early : (r : TransactionRequest) → form q ≡ requestForm r → fitsDownload r old n q ≡ false → form q ≡ forms.Receipt →
+      old .delivered < n
+  early asksFor.UploadTransfer asked fits e = absurd (let z : _≡_ {A = ℕ} 0 1 = cc in omega arith)
+  early asksFor.DownloadTransfer asked fits e = absurd (let z : _≡_ {A = ℕ} 0 1 = cc in omega arith)
+  early asksFor.Receipt asked fits e =
+      let z = eqb-false (old .delivered) n fits in let c = count-now in let y = isOpen′ .0 .within in omega arith
+
+  point-keeps : (r : TransactionRequest) → form q ≡ requestForm r → fitsDownload r old n q ≡ false → isSentAgain r old q ≡ false →
+      let a = down.Point (old .delivered) in StateHolds (left a) → Invariant (left a) (now a ∷ h)
+  point-keeps r asked fits unsent state =
+      let told = isOpen′ .1 .deliveries in
+      let count = sound-download (down.Point (old .delivered)) .count in
       moves (down.Point (old .delivered)) refl refl refl refl (old .delivered) (old .attempts + 1) (old .last) state refl
       (record {
         request = sound-request (down.Point (old .delivered));
         opened = isOpen′ .1 .opened;
         point = sym (isOpen′ .1 .deliveries);
+        unfit = λ e some next most. unfit r asked fits unsent e some (omega arith) (omega arith);
+        early = λ e. let z = early r asked fits e in omega arith;
         bare = bare w (subscriber q);
       })
 
@@ -196,7 +224,7 @@ module _ (w : BankState) (h : List Exchange) (v : Invariant w h) (q : Fields) (d
       StateHolds (left a) → Invariant (left a) (now a ∷ h)
   download-sound-keeps asked (delivered t next within) state = delivered-keeps state (asked ∙ ap requestForm t) next within
   download-sound-keeps asked (sentAgain t some again few) state = sent-again-keeps state (asked ∙ ap requestForm t) some again
-  download-sound-keeps asked (downloadPoint fits few) state = point-keeps state
+  download-sound-keeps {r} asked (downloadPoint fits few) state = point-keeps r asked (fits .0) (fits .1) state
   download-sound-keeps asked (cancelled fits many) state = ends-keeps down.Cancelled refl refl refl state
       (record { request = sound-request down.Cancelled; cancelling = refl; bare = bare w (subscriber q) })
   download-sound-keeps asked (confirmed t whole taken) state = confirmed-keeps state (asked ∙ ap requestForm t) whole taken

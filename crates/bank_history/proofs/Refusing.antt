@@ -1,4 +1,4 @@
--- The code of a verdict that refuses: never 000000, 011000 or 011001, by every line of the list. Assumes nothing.
+-- The code of a verdict that refuses: never 000000, 011000, 011001 or 061101, by every line of the list. Assumes nothing.
 use Prim.Native.Nat.{ℕ}
 use mathlib.Core.Bool.{Bool, true, false, not, _||_}
 use mathlib.Core.List.{List, []}
@@ -41,7 +41,7 @@ use Rattle.bank_verdicts.specs.Judgement.{
 }
 use Rattle.bank_verdicts.proofs.Lines.{allRows, judged-by, each-such}
 
--- ---- no refusal carries 000000, 011000 or 011001
+-- ---- no refusal carries 000000, 011000, 011001 or 061101
 
 abbrev pub refuses : ReturnCode → Bool
 refuses code.Ok = false
@@ -50,7 +50,7 @@ refuses code.DownloadPostprocessSkipped = false
 refuses code.SegmentNumberUnderrun = true
 refuses code.InvalidRequest = true
 refuses code.InternalError = true
-refuses code.RecoverySync = true
+refuses code.RecoverySync = false
 refuses code.NoDownloadDataAvailable = true
 refuses code.UserUnknown = true
 refuses code.InvalidOrderType = true
@@ -64,10 +64,10 @@ refuses code.OrderIdUnknown = true
 refuses code.MaxSegmentsExceeded = true
 refuses code.MaxTransactionsExceeded = true
 
--- field 0D is none of these three
+-- field 0D is none of these four
 abbrev pub isRefusing : ℕ → Bool
 isRefusing n = not (eqb n (codeField code.Ok) || eqb n (codeField code.DownloadPostprocessDone) || eqb n
-    (codeField code.DownloadPostprocessSkipped))
+    (codeField code.DownloadPostprocessSkipped) || eqb n (codeField code.RecoverySync))
 
 pub refusing-code : (c : ReturnCode) → isRefusing (codeField c) ≡ refuses c
 refusing-code code.Ok = refl
@@ -100,9 +100,12 @@ refusing-not-ok c r = at (eqb (codeField c) (codeField code.Ok)) refl
     skipped : Bool
     skipped = eqb (codeField c) (codeField code.DownloadPostprocessSkipped)
 
+    point : Bool
+    point = eqb (codeField c) (codeField code.RecoverySync)
+
     at : (b : Bool) → eqb (codeField c) (codeField code.Ok) ≡ b → b ≡ false
     at false z = refl
-    at true z = never (sym (ap (λ (b : Bool). not (b || done || skipped)) z) ∙ (refusing-code c ∙ r))
+    at true z = never (sym (ap (λ (b : Bool). not (b || done || skipped || point)) z) ∙ (refusing-code c ∙ r))
 
 -- a verdict's code, where it refuses; an accepted signing's reply, 01 03 0D with 000000, is no refusal's
 abbrev pub refusesIn : Verdict → Bool

@@ -150,6 +150,11 @@ pub record SoundDownloadPoint (d : ℕ) (t : Bits128) (e : Exchange) (h : List E
   pub request : SoundRequest t e h
   pub opened : ever isDownloadOpening t h ≡ true
   pub point : d ≡ times isDelivery t h
+  -- it asks for none of the segments 1 to d + 1 up to N, and as a receipt it comes before segment N is delivered
+  pub unfit : form (e .request) ≡ forms.DownloadTransfer → 1 ≤ segment (e .request) →
+      segment (e .request) ≤ suc (times isDelivery t h) →
+      segment (e .request) ≤ segmentsOf (length (fileAtOpening t h)) → ⊥
+  pub early : form (e .request) ≡ forms.Receipt → times isDelivery t h < segmentsOf (length (fileAtOpening t h))
   pub bare : e .replyData ≡ []
 
 -- "A receipt fits when d = N"

@@ -286,7 +286,7 @@ pub data DownloadSound (r : TransactionRequest) (e : Download) (n : ℕ) (q : Fi
       DownloadSound r e n q (down.Delivered n)
   sentAgain : r ≡ asked.DownloadTransfer → 0 < segment q → segment q ≤ e .delivered → e .attempts < maxAttempts →
       DownloadSound r e n q (down.SentAgain n)
-  downloadPoint : fitsDownload r e n q ≡ false → e .attempts < maxAttempts →
+  downloadPoint : (fitsDownload r e n q ≡ false) × (isSentAgain r e q ≡ false) → e .attempts < maxAttempts →
       DownloadSound r e n q (down.Point (e .delivered))
   cancelled : fitsDownload r e n q ≡ false → maxAttempts ≤ e .attempts → DownloadSound r e n q down.Cancelled
   confirmed : r ≡ asked.Receipt → e .delivered ≡ n → receiptCode q ≡ 0 → DownloadSound r e n q down.Confirmed
@@ -339,7 +339,10 @@ module _ (e : Download) (n : ℕ) (q : Fields) where
     unfolding judgeDownload downloadRows receiptRows
     judged-download =
         judged-by (λ (a : DownloadAction). DownloadSound r e n q a) (downloadRows r e n q) (down.Delivered n)
-        (line (λ h _. let a = attempted (and-true (downloadAttempt r e n q) _ h .0) in downloadPoint (a .0) (a .1))
+        (line (λ h _.
+        let b = and-true (downloadAttempt r e n q) (not (isSentAgain r e q)) h in
+        let a = attempted (b .0) in
+        downloadPoint (a .0, not-true (isSentAgain r e q) (b .1)) (a .1))
         (line (λ h _.
         let a = and-true (downloadAttempt r e n q) (isSentAgain r e q) h in
         again r (a .1) (attempted (a .0) .1))

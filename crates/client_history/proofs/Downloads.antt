@@ -67,6 +67,7 @@ use Rattle.client_history.specs.Invariant.{
   confirms as receipt-issued,
   Answered,
   Got,
+  Brought,
   HeldFile,
   FileHeld,
   DownloadStep,
@@ -129,6 +130,7 @@ module _ (Given : Fields → List ℕ → Fields → List ℕ → Type 0) where
     most = h .most;
     some = h .some;
     top = h .top;
+    last = h .last;
     end = h .end;
     bytes = h .bytes;
   }
@@ -153,11 +155,11 @@ module _ (Given : Fields → List ℕ → Fields → List ℕ → Type 0) where
     inside = let k = most-segments (length f) most in let b = below in omega arith
 
     grows : {l : List Issue} (g : Got Given l forms.DownloadOpening forms.DownloadOpened code.Ok)
-        → transaction (g .reply) ≡ t
+        → transaction (g .reply) ≡ t → Brought Given t s
         → 0 < length f → size ≡ length (take (segmentBytes * h) f) → take size file ≡ take (segmentBytes * h) f
         → d ≡ segmentOf f s
         → HeldFile Given f t n (h + 1) ((s - 1) * segmentBytes + length d) (overwrite file ((s - 1) * segmentBytes) d) l
-    grows g id least end bytes e =
+    grows g id last least end bytes e =
         let part = e ∙ ap (segmentOf f) next in
         record {
           got = g;
@@ -167,6 +169,7 @@ module _ (Given : Fields → List ℕ → Fields → List ℕ → Type 0) where
           most = most;
           some = omega arith;
           top = omega arith;
+          last = subst (Brought Given t) next last;
           end = ap (λ (m : ℕ). m + length d) place ∙ grown-end f file d h size below inside end bytes part;
           bytes =
               subst (λ (m : ℕ). take (m + length d) (overwrite file m d) ≡ take (segmentBytes * (h + 1)) f) (sym place)
@@ -349,6 +352,20 @@ module _ (Given : Fields → List ℕ → Fields → List ℕ → Type 0) where
                 ∙ ap (λ (t : Bits128). segmentOf (fileAt t) (segment r)) (own-id c r (k .own))
                 ∙ ap (segmentOf (fileAt (c .transaction))) (k .number)
 
+            sent : Brought Given (c .transaction) (c .segment)
+            sent =
+                let k = brought c r (length d) h .0 in
+                record {
+                  request = _;
+                  requestData = _;
+                  reply = r;
+                  bytes = d;
+                  given = a .given;
+                  formed = inr (said _ _ _ r (k .said) .form-is);
+                  id = own-id c r (k .own);
+                  number = k .number;
+                }
+
             fresh : isNew (c .direction) c ≡ true
                 → Moves (grown (length d) c) (overwrite file ((c .segment - 1) * segmentBytes) d)
             fresh z =
@@ -364,7 +381,7 @@ module _ (Given : Fields → List ℕ → Fields → List ℕ → Type 0) where
                   open-file =
                       grows (c .transaction) (c .segments) (c .held) (c .length) (c .segment) (fileAt (c .transaction))
                       file d
-                      room (f .number) (f .most) m i (f .got) (f .id)
+                      room (f .number) (f .most) m i (f .got) (f .id) sent
                       (f .least) (f .end) (f .bytes) part;
                 })
                 (omega arith)
@@ -416,7 +433,18 @@ module _ (Given : Fields → List ℕ → Fields → List ℕ → Type 0) where
                   open-file =
                       grows (transaction r) (segments r) (c .held) (c .length) 1 (fileAt (transaction r)) file d room
                       (bank .number (a .given) i) (bank .most (a .given) i) n
-                      (let y = at .0 in omega arith) (got Given {p = p} a asked says-so) refl (bank .some (a .given) i)
+                      (let y = at .0 in omega arith) (got Given {p = p} a asked says-so) refl
+                      (record {
+                        request = _;
+                        requestData = _;
+                        reply = r;
+                        bytes = d;
+                        given = a .given;
+                        formed = inl i;
+                        id = refl;
+                        number = o .first;
+                      })
+                      (bank .some (a .given) i)
                       (none .0) (none .1) (bank .first (a .given) i);
                 })
                 (omega arith)

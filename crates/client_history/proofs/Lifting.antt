@@ -26,6 +26,7 @@ use Rattle.client_history.specs.Invariant.{
   UploadWord,
   UploadStage,
   UploadRun,
+  Brought,
   HeldFile,
   FileHeld,
   DownloadStep,
@@ -91,6 +92,18 @@ module _ (Given Later : Fields → List ℕ → Fields → List ℕ → Type 0)
 
   -- ---- download, its transaction's file the same once it is open
 
+  brought-up : {t : Bits128} {n : ℕ} → Brought Given t n → Brought Later t n
+  brought-up b = record {
+    request = b .request;
+    requestData = b .requestData;
+    reply = b .reply;
+    bytes = b .bytes;
+    given = up _ _ _ _ (b .given);
+    formed = b .formed;
+    id = b .id;
+    number = b .number;
+  }
+
   held-up : {f : List ℕ} {t : Bits128} {n held size : ℕ} {file : List ℕ} {l : List Issue}
       → HeldFile Given f t n held size file l
       → HeldFile Later f t n held size file l
@@ -102,6 +115,7 @@ module _ (Given Later : Fields → List ℕ → Fields → List ℕ → Type 0)
     most = h .most;
     some = h .some;
     top = h .top;
+    last = brought-up (h .last);
     end = h .end;
     bytes = h .bytes;
   }

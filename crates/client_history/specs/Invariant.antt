@@ -195,6 +195,17 @@ module _ (Given : Fields → List ℕ → Fields → List ℕ → Type 0) where
 
   -- ---- DOWNLOAD
 
+  -- segment n was sent under the transaction t: the opening's reply has segment 1 in it
+  pub record Brought (t : Bits128) (n : ℕ) : Type 0 where
+    pub request : Fields
+    pub requestData : List ℕ
+    pub reply : Fields
+    pub bytes : List ℕ
+    pub given : Given request requestData reply bytes
+    pub formed : (form reply ≡ forms.DownloadOpened) ⊎ (form reply ≡ forms.DownloadSegment)
+    pub id : transaction reply ≡ t
+    pub number : segment reply ≡ n
+
   -- the transaction t of the file f, of n segments, is open to the run, which holds segments 1 to held, size bytes
   pub record HeldFile (f : List ℕ) (t : Bits128) (n held size : ℕ) (file : List ℕ) (issues : List Issue) : Type 0 where
     pub got : Got issues forms.DownloadOpening forms.DownloadOpened code.Ok
@@ -204,6 +215,7 @@ module _ (Given : Fields → List ℕ → Fields → List ℕ → Type 0) where
     pub most : length f ≤ fileBytes
     pub some : 1 ≤ held
     pub top : held ≤ n
+    pub last : Brought t held
     pub end : size ≡ length (take (segmentBytes * held) f)
     -- "A run's file is its file buffer up to the end of the last segment held"
     pub bytes : take size file ≡ take (segmentBytes * held) f

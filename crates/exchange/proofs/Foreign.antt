@@ -124,7 +124,7 @@ case-under (signs c) z o = absurd (let y : _≡_ {A = ℕ} 0 1 = cc in omega ari
 case-under (toUpload r a c) z o = asked-under r (c .asked)
 case-under (toDownload r a c) z o = asked-under r (c .asked)
 
-id-downloadTransfer : (s x : ℕ) (t : Bits128) (j : ℕ) → transaction (requests.downloadTransfer s x t j) ≡ t
+pub id-downloadTransfer : (s x : ℕ) (t : Bits128) (j : ℕ) → transaction (requests.downloadTransfer s x t j) ≡ t
 unfolding requests.downloadTransfer
 id-downloadTransfer s x t j = refl
 

@@ -24,6 +24,7 @@ pub mod OpenTransactions
 pub mod Received
 pub mod Concerns
 pub mod Receipts
+pub mod Points
 pub mod Safety
 pub mod OrderStates
 pub mod OwnRequests

@@ -51,9 +51,11 @@ use Rattle.bank_history.proofs.Theorems.{
   ended-unbooked,
   stands-ever,
 }
+use Rattle.client_run.specs.declared.run.Direction.the-variants.{Download}
 use Rattle.client_run.specs.declared.run.Stage.the-variants as stage
 use Rattle.client_run.specs.Run.{orderName}
 use Rattle.client_run.specs.declared.run.Word.the-variants.{Lodged, NotLodged, Unclear, Fetched}
+use Rattle.client_run.proofs.Apart.{not-both}
 use Rattle.client_history.specs.History.{Past, BankReplies}
 use Rattle.client_history.specs.History as history
 use Rattle.client_history.specs.Invariant.{
@@ -85,8 +87,8 @@ use Rattle.client_history.proofs.Requests.{
 }
 use Rattle.client_history.proofs.Theorems.{lodged, not-lodged, last-not-sent, fetched, fetched-file, receipt-issued, one-subscriber, opened-name}
 use Rattle.exchange.specs.Course.{Issue, Exchange, Course, heldOf}
-use Rattle.exchange.specs.Terms.{IssuedBy, Opened, Books, Booked, Order, nameOf, InBook, OrderOf}
-use Rattle.exchange.specs.Demand3.{isNamed, OneExchangeNumber, Outcome}
+use Rattle.exchange.specs.Terms.{IssuedBy, Received, Opened, Books, Booked, Order, nameOf, InBook, OrderOf}
+use Rattle.exchange.specs.Demand3.{isNamed, isSubscribers, OneExchangeNumber, Outcome}
 use Rattle.exchange.specs.Lists.{AtMostOne}
 use Rattle.exchange.proofs.Told.{
   opening-at,
@@ -164,6 +166,11 @@ HeldWhole s e = (form (readRequest (e .request)) ≡ forms.Receipt)
 abbrev pub AllHeldWhole : Course → Type 0
 AllHeldWhole s = (e : Exchange) → In e (s .exchanged) → returnCode (readReply (e .reply)) ≡ codeField code.DownloadPostprocessDone →
     HeldWhole s e
+
+-- 061101 under a subscriber's number answers an upload's segment, and nothing else
+abbrev pub UploadPoints : Course → Type 0
+UploadPoints s = (e : Exchange) → In e (s .exchanged) → isSubscribers (e .request) ≡ true →
+    returnCode (readReply (e .reply)) ≡ codeField code.RecoverySync → form (readRequest (e .request)) ≡ forms.UploadTransfer
 
 module _ (s : Course) (v : Parts s) (copies : Copied s) (numbers : OneExchangeNumber s) where
   abbrev h : List bank.Exchange
@@ -557,8 +564,22 @@ module _ (s : Course) (v : Parts s) (copies : Copied s) (numbers : OneExchangeNu
         ),
       )
 
-  pub outcome : AllHeldWhole s → Outcome s
-  outcome held = record {
+  -- ---- recovery points
+
+  -- so no request of a download run gets it
+  no-point : UploadPoints s → (i : ℕ) (e : Exchange) → Received i e s → s .runs i .direction ≡ Download →
+      returnCode (readReply (e .reply)) ≡ codeField code.RecoverySync → ⊥
+  no-point points i e (m, (x, n, own, same)) down z =
+      let k = request-of i (issued-in i n own) in
+      let q : readRequest (x .frame) ≡ readRequest (e .request) = ap readRequest same in
+      let u = ap subscriber q in
+      let asked = points e m (counts s v copies numbers (e .request) (ap (λ (f : Fields). isNamed (form f)) (sym q) ∙ k .0)
+      (let y = k .1 in omega arith) (let y = k .2 in omega arith)) z in
+      not-both (sender-uploads s v copies numbers (x, n, own, same) asked .run .direction) down
+
+  pub outcome : AllHeldWhole s → UploadPoints s → Outcome s
+  outcome held points = record {
+    noPoint = no-point points;
     once = booked-once;
     sound = book-sound;
     whole = book-whole;

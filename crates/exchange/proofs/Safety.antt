@@ -12,6 +12,7 @@ use Rattle.exchange.proofs.Issues.{numbers-before}
 use Rattle.exchange.proofs.Courses.{parts, parts-start, copied, copied-start}
 use Rattle.exchange.proofs.Outcome.{outcome}
 use Rattle.exchange.proofs.Receipts.{receipts, receipts-start}
+use Rattle.exchange.proofs.Points.{points, points-start}
 use Rattle.exchange.proofs.Runs.{stays-ended}
 
 -- ---- a list and its continuation
@@ -36,6 +37,7 @@ pub outcome-of : (ks : List Call) → AllAllowed ks start → OneExchangeNumber 
 outcome-of ks a n =
     outcome (after ks start) (parts ks start parts-start a n) (copied ks start copied-start a) n
     (receipts ks start parts-start copied-start a n receipts-start .held)
+    (points ks start parts-start copied-start a n points-start)
 
 module _ (ks ls : List Call) (a : AllAllowed (ks ++ ls) start) (n : OneExchangeNumber (after (ks ++ ls) start)) where
   pub first-numbers : OneExchangeNumber (after ks start)

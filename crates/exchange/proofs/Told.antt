@@ -310,6 +310,45 @@ module _ {e : Exchange} {g h : List Exchange} (sound : AllSound h) (stands : Sta
         at t (action.Upload a) own = at-upload t a own
         at t (action.Download a) own = at-download t a own
 
+    -- 061101: a recovery point of an upload or of a download
+    pub point-given : returnCode (e .reply) ≡ codeField code.RecoverySync →
+        (t : Bits128) × (n : ℕ) × ((e .verdict ≡ verdict.Of t (action.Upload (up.Point n)))
+        ⊎ (e .verdict ≡ verdict.Of t (action.Download (down.Point n))))
+    point-given z = let b = by-code code.RecoverySync refl z unsigned in at (b .0) (b .1) (b .2)
+      where
+        unsigned : (n : ℕ) (added : Bool) → e .verdict ≡ verdict.Signed n added → ⊥
+        unsigned n added own =
+            let y = ap (λ (v : Verdict). codeField (verdictCode v)) (sym own) ∙ sym coded ∙ z in omega arith
+
+        Out : Type 0
+        Out = (t : Bits128) × (n : ℕ) × ((e .verdict ≡ verdict.Of t (action.Upload (up.Point n)))
+            ⊎ (e .verdict ≡ verdict.Of t (action.Download (down.Point n))))
+
+        not : {t : Bits128} {k : Action} → e .verdict ≡ verdict.Of t k →
+            (codeField (verdictCode (verdict.Of t k)) ≡ codeField code.RecoverySync → ⊥) → Out
+        not own = other-code code.RecoverySync z own
+
+        at-upload : (t : Bits128) (a : UploadAction) → e .verdict ≡ verdict.Of t (action.Upload a) → Out
+        at-upload t (up.Opened n) own = not own (λ y. omega arith)
+        at-upload t up.Took own = not own (λ y. omega arith)
+        at-upload t up.TookLast own = not own (λ y. omega arith)
+        at-upload t (up.Point k) own = (t, k, inl own)
+        at-upload t (up.Cancelled c) own =
+            not own (λ y. never (sym (ap isCancelling y) ∙ (cancelling-code c ∙ action-sound sound stands own .cancelling)))
+
+        at-download : (t : Bits128) (a : DownloadAction) → e .verdict ≡ verdict.Of t (action.Download a) → Out
+        at-download t (down.Opened n) own = not own (λ y. omega arith)
+        at-download t (down.Delivered n) own = not own (λ y. omega arith)
+        at-download t (down.SentAgain n) own = not own (λ y. omega arith)
+        at-download t (down.Point d) own = (t, d, inr own)
+        at-download t down.Cancelled own = not own (λ y. omega arith)
+        at-download t down.Confirmed own = not own (λ y. omega arith)
+        at-download t down.Declined own = not own (λ y. omega arith)
+
+        at : (t : Bits128) (k : Action) → e .verdict ≡ verdict.Of t k → Out
+        at t (action.Upload a) own = at-upload t a own
+        at t (action.Download a) own = at-download t a own
+
 -- ---- the replies as a client run takes them
 
 pub sound-before : {e : Exchange} {g h : List Exchange} → AllSound h → Stands e g h → AllSound g

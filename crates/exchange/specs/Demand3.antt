@@ -18,6 +18,7 @@ use Rattle.bank_steps.specs.Lent.{stateOf}
 use Rattle.bank_session.specs.Session.{bankRows, bankIn, journalIn}
 use Rattle.bank_history.specs.Signatures.{isSigningForm}
 use Rattle.client_run.specs.declared.run.ClientRun.{ClientRun}
+use Rattle.client_run.specs.declared.run.Direction.the-variants.{Download}
 use Rattle.client_run.specs.declared.run.Stage.the-variants as stage
 use Rattle.client_run.specs.declared.run.Word.the-variants.{Lodged, NotLodged, Fetched}
 use Rattle.client_run.specs.Run.{Lent, orderName}
@@ -44,6 +45,7 @@ use Rattle.exchange.specs.Course.{
 use Rattle.exchange.specs.Lists.{AtMostOne, NoDup}
 use Rattle.exchange.specs.Terms.{
   IssuedBy,
+  Received,
   Books,
   Booked,
   Opened,
@@ -136,6 +138,9 @@ pub record Outcome (s : Course) : Type 0 where
       × ((x : Issue) × In x (s .issued) × (x .frame ≡ e .request)
       × (s .runs (x .run) .subscriber ≡ subscriber (readRequest (e .request)))
       × (x .file ≡ x .box) × (x .file ≡ e .box))
+  -- no request of a download run is answered 061101
+  pub noPoint : (i : ℕ) (e : Exchange) → Received i e s → s .runs i .direction ≡ Download →
+      returnCode (readReply (e .reply)) ≡ codeField code.RecoverySync → ⊥
 
 -- "an order in turn closes as lodged or fetched"
 abbrev pub ClosesInTurn : List Call → Type 0
