@@ -8,7 +8,6 @@ use client_run::next_run::begun;
 use client_run::next_run::ended;
 use client_run::next_run::go_on;
 use client_run::next_run::holding;
-use client_run::next_run::is_new;
 use client_run::next_run::learned;
 use client_run::next_run::repeated;
 use client_run::requests::data_of;
@@ -32,7 +31,6 @@ use frame_writer::writer::write;
 use message::limits::SEGMENT_BYTES;
 use octets::bytes::copy;
 ghost use mathlib.Core.Path.{_≡_};
-ghost use mathlib.Core.Bool.{true};
 ghost use mathlib.Core.Logic.{_⊎_};
 ghost use mathlib.Core.List.{List};
 ghost use Prim.Native.Nat.{ℕ, _+_, _-_, _*_, _^_, _≤_, _<_};
@@ -40,7 +38,7 @@ ghost use lib.ListN.{length};
 ghost use Rattle.octets.specs.Bytes.{overwrite};
 ghost use Rattle.frame_writer.specs.Writer.{writeAnswer, writeBuffer};
 ghost use Rattle.message.specs.Limits.{segmentBytes, maxSegments, fileBytes};
-ghost use Rattle.client_run.specs.NextRun.{isNew, fileWith, ended};
+ghost use Rattle.client_run.specs.NextRun.{HasPlace, fileWith, ended};
 ghost use Rattle.client_run.specs.Requests.{outstanding, outstandingData};
 ghost use Rattle.client_run.specs.Run.{lentOf, maxExchange};
 ghost use Rattle.client_rules.specs.Decisions.{onReply, onNoReply};
@@ -66,13 +64,13 @@ fn put_segment(s: u64, d: &[u8], file: &mut [u8])
     copy(file, (s - 1) as usize * SEGMENT_BYTES, d);
 }
 
-// Writes the data of the outstanding segment into the file where it is newly held.
+// Writes the data of the outstanding segment into the file, where a download holds it.
 fn hold(c: ClientRun, d: &[u8], file: &mut [u8])
-    requires { ⌜ (isNew (c .direction) c ≡ true →
-        (c .segment ≤ maxSegments) × (length (now d) ≤ segmentBytes) × (length (now file) ≡ fileBytes)) ⌝ }
+    requires { ⌜ HasPlace c (length (now d)) × (c .direction ≡ Direction.Download → length (now file) ≡ fileBytes) ⌝ }
     ensures { λ _. ⌜ now (file .exit) ≡ fileWith c (now (d .entry)) (now (file .entry)) ⌝ }
 {
-    if is_new(c) {
+    let direction = c.direction;
+    if let Direction::Download = direction {
         put_segment(c.segment, d, file);
     }
 }
@@ -113,8 +111,7 @@ fn outcome_of(w: Written, c: ClientRun, next: ClientRun) -> Outcome
 
 // The file buffer changes only where the request is written.
 fn hold_if_written(w: Written, c: ClientRun, d: &[u8], file: &mut [u8])
-    requires { ⌜ (isNew (c .direction) c ≡ true →
-        (c .segment ≤ maxSegments) × (length (now d) ≤ segmentBytes) × (length (now file) ≡ fileBytes)) ⌝ }
+    requires { ⌜ HasPlace c (length (now d)) × (c .direction ≡ Direction.Download → length (now file) ≡ fileBytes) ⌝ }
     ensures { λ _. ⌜ now (file .exit)
         ≡ ifWritten w (fileWith c (now (d .entry)) (now (file .entry))) (now (file .entry)) ⌝ }
 {
@@ -150,8 +147,8 @@ fn take_segment(
     file: &mut [u8],
     request: &mut [u8],
 ) -> Outcome
-    requires { ⌜ (k .segment + 1 < 2 ^ 64) × (k .exchange ≤ maxExchange) × (isNew (k .direction) k ≡ true →
-        (k .segment ≤ maxSegments) × (length (now d) ≤ segmentBytes) × (length (now file) ≡ fileBytes)) ⌝ }
+    requires { ⌜ (k .segment + 1 < 2 ^ 64) × (k .exchange ≤ maxExchange) × HasPlace k (length (now d))
+        × (k .direction ≡ Direction.Download → length (now file) ≡ fileBytes) ⌝ }
     ensures { λ r. ⌜ callOf r (now (file .exit)) (now (request .exit)) ≡ taken c k (now (d .entry))
         (lentOf time nonce (now (payload .entry)) (now (file .entry)) (now (request .entry))) ⌝ }
 {

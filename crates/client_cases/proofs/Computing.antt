@@ -14,11 +14,11 @@ unfoldable pub calls : ℕ
 unfolding frames messages clientCalls.isWritten clientCalls.requestWith clientCalls.issued clientCalls.taken
     clientCalls.beginCall clientCalls.replyCall clientCalls.noReplyCall decisions.says decisions.isOwn
     decisions.restWord decisions.mayRepeat decisions.endsUpload decisions.answersSegment
-    decisions.fitsData decisions.fitsSegment decisions.isPoint decisions.goesBack
-    decisions.uploadReturns decisions.downloadReturns decisions.opensDownload decisions.lodges
+    decisions.fitsData decisions.fitsSegment decisions.isPoint
+    decisions.uploadReturns decisions.opensDownload decisions.lodges
     decisions.takesSegment decisions.bringsSegment decisions.confirms decisions.onUpload
     decisions.onDownload decisions.isAnswer decisions.onReply decisions.onNoReply
-    nextRun.begun nextRun.goOn nextRun.repeated nextRun.holding nextRun.fileWith
+    nextRun.begun nextRun.goOn nextRun.repeated
     nextRun.ended requests.nonceOf requests.outstanding requests.outstandingData
     rulings.wrongLengths rulings.noSubscriber rulings.timeFirst rulings.rulingAtBegin
     rulings.beginRuling rulings.rulingNotBegun rulings.rulingRunning rulings.rulingEnded

@@ -400,13 +400,11 @@ downloadCases =
     ∷ (receipted (comes (ofPhase 2 done)) gives closes HeldUnconfirmed)
     ∷ (receipted (comes (ofPhase 3 (ofCode 011000 (took 8 1)))) gives closes HeldUnconfirmed)
     ∷ (receipted (comes (refusal 3 8 code.UnknownTransaction)) gives closes HeldUnconfirmed)
-    -- "in a download if segments 1 to r are held (r = N leads to the receipt)"; "counts as phase 1 while only that is
-    -- delivered"
-    ∷ (second 2 (comes (point 1 8 1)) gives issues 2 2)
+    -- card 10: 061101 "ends the run like any other ill-fitting one"
+    ∷ (second 2 (comes (point 1 8 1)) gives closes NotFetched)
     ∷ (second 2 (comes (point 2 8 1)) gives closes NotFetched)
-    ∷ (second 2 (comes (point 2 8 2)) gives closes NotFetched)
-    ∷ (receipted (comes (point 1 8 1)) gives issues 3 0)
-    ∷ (receipted (comes (ofAnother (point 1 8 1))) gives closes HeldUnconfirmed)
+    ∷ (receipted (comes (point 1 8 1)) gives closes HeldUnconfirmed)
+    ∷ (receipted (comes (point 2 8 1)) gives closes HeldUnconfirmed)
     -- the sixth repeat
     ∷ (runs Download 0 (replicate 5 silence) gives issues 1 0)
     ∷ (runs Download 0 (replicate 6 silence) gives closes NotFetched)

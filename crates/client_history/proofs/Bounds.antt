@@ -1,4 +1,4 @@
--- "An upload issues at most 6N + 1 requests, a download 6N + 6 (N is 0 while unknown), on any replies": over every list
+-- "An upload issues at most 6N + 1 requests", a download N + 6 (N is 0 while unknown), "on any replies": over every list
 -- of events, whatever they bring and are lent. Each event keeps the bounds, as each step keeps the course.
 -- Assumes nothing.
 use Prim.Native.Nat.{ℕ, _+_, _≤_}
@@ -19,16 +19,17 @@ use Rattle.client_run.specs.declared.run.Direction.{Direction}
 use Rattle.client_run.specs.declared.run.Direction.the-variants.{Upload, Download}
 use Rattle.client_run.specs.declared.run.Lengths.{Lengths}
 use Rattle.client_run.specs.declared.run.RunParameters.{RunParameters}
+use Rattle.client_run.specs.declared.run.Step.{Step}
 use Rattle.client_run.specs.declared.run.Step.the-variants as step
 use Rattle.client_run.specs.declared.run.Word.{Word}
 use Rattle.client_run.specs.NextRun.{beginLength, begun, ended}
 use Rattle.client_run.specs.Run.{Lent, lengthsOf, parametersOf, maxExchange}
-use Rattle.client_run.proofs.Apart.{not-both, not-opening-receipt, not-new-running}
+use Rattle.client_run.proofs.Apart.{not-both, not-new-running}
 use Rattle.client_rules.specs.Rulings.{isBegun}
 use Rattle.client_rules.proofs.Accepted.{Serves, Begins}
 use Rattle.client_rules.proofs.Causes.{Cause}
 use Rattle.client_history.specs.Bounds.{maxRequests, Numbered, none, more, Course, Bounded, Bounds, fresh, going}
-use Rattle.client_history.specs.History.{Issue, Event, Begin, Reply, NoReply, Past, after, pastOf}
+use Rattle.client_history.specs.History.{Issue, Event, Begin, Reply, NoReply, Past, heldCount, after, pastOf}
 use Rattle.client_history.proofs.AnyEvent.{
   withRequest,
   begunBy,
@@ -44,8 +45,8 @@ use Rattle.client_history.proofs.Course.{
   course-ended,
   course-most,
   course-segments,
-  receipt-held,
-  course-guards,
+  DownloadAt,
+  download-at,
   up-start,
   opening-start,
 }
@@ -165,12 +166,13 @@ most-by : {c : ClientRun} {issues : List Issue} → Bounds c issues
 most-by (fresh e z) = omega (arith, ap length z)
 most-by {c} {issues} (going b) = course-most c (length issues) (b .course) (b .repeats)
 
--- "An upload issues at most 6N + 1 requests, a download 6N + 6 (N is 0 while unknown), on any replies"
+-- "An upload issues at most 6N + 1 requests", a download N + 6 (N is 0 while unknown), "on any replies"
 pub requests-most : (es : List Event)
     → length (pastOf es .issues) ≤ maxRequests (pastOf es .run .direction) (pastOf es .run .segments)
 requests-most es = most-by (bounds es)
 
-most-fits : (direction : Direction) (n : ℕ) → n ≤ maxSegments → maxRequests direction n ≤ maxRequests Download maxSegments
+-- the most that a run of either direction issues, by which the highest first exchange number leaves room
+most-fits : (direction : Direction) (n : ℕ) → n ≤ maxSegments → maxRequests direction n ≤ maxRequests Upload maxSegments
 most-fits Upload n h = omega arith
 most-fits Download n h = omega arith
 
@@ -206,24 +208,20 @@ pub exchange-rises : (p : Past) (e : Event) → isBegun (p .run .stage) ≡ true
     → after e p .run .exchange + length (p .issues) ≡ p .run .exchange + length (after e p .issues)
 exchange-rises p e b = rises-by b (any-change Any p e (any-read e))
 
+-- what the course of a download says of the outstanding request
+at-by : {c : ClientRun} {issues : List Issue} (s : Step) → c .direction ≡ Download → c .step ≡ s → Bounds c issues
+    → DownloadAt s c
+at-by s w e (fresh n z) = not-both (ap (λ (k : ClientRun). k .direction) n) w
+at-by s w e (going b) = download-at s e w (b .course)
+
 -- a receipt is outstanding only where the segments 1 to N are held
-held-by : {c : ClientRun} {issues : List Issue} → c .direction ≡ Download → c .step ≡ step.Receipt → Bounds c issues
-    → c .held ≡ c .segments
-held-by w s (fresh e z) = not-opening-receipt (ap (λ (k : ClientRun). k .step) e) s
-held-by {c} {issues} w s (going b) = receipt-held c (length issues) (b .course) w s
-
 pub all-held : (es : List Event) → pastOf es .run .direction ≡ Download → pastOf es .run .step ≡ step.Receipt
-    → pastOf es .run .held ≡ pastOf es .run .segments
-all-held es w s = held-by w s (bounds es)
+    → heldCount (pastOf es .run) ≡ pastOf es .run .segments
+all-held es w s = omega (arith, at-by step.Receipt w s (bounds es))
 
--- the guards of a download's replies tell nothing in a run from a begin: no more segments than an order has are held, and
--- asked for
-guards-by : {c : ClientRun} {issues : List Issue} → c .direction ≡ Download → Bounds c issues
-    → (c .held ≤ maxSegments) × (c .step ≡ step.Segment → c .segment ≤ maxSegments)
-guards-by w (fresh e z) = not-both (ap (λ (k : ClientRun). k .direction) e) w
-guards-by {c} {issues} w (going b) = course-guards c (length issues) (b .course) w
-
-pub guards-idle : (es : List Event) → pastOf es .run .direction ≡ Download
-    → (pastOf es .run .held ≤ maxSegments)
-    × (pastOf es .run .step ≡ step.Segment → pastOf es .run .segment ≤ maxSegments)
-guards-idle es w = guards-by w (bounds es)
+-- the guards of a download's replies tell nothing in a run from a begin: it asks for segments 1 to N alone, and N is no
+-- more than an order has
+pub guards-idle : (es : List Event) → let c = pastOf es .run in
+    c .direction ≡ Download → c .step ≡ step.Segment
+    → (1 ≤ c .segment) × (c .segment ≤ c .segments) × (c .segments ≤ maxSegments)
+guards-idle es w s = at-by step.Segment w s (bounds es)

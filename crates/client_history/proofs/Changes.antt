@@ -2,7 +2,6 @@
 use Prim.Native.Nat.{ℕ, _+_}
 use mathlib.Core.Bool.{true}
 use mathlib.Core.List.{List, [], List·Memᴰ as In}
-use mathlib.Core.Logic.{_⊎_}
 use mathlib.Core.Path.{_≡_, refl, sym, subst}
 use lib.ListN.{length}
 use Rattle.frame_table.specs.declared.fields.Fields.{Fields}
@@ -52,7 +51,6 @@ use Rattle.client_rules.specs.Decisions.{
   mayRepeat,
   endsUpload,
   uploadReturns,
-  downloadReturns,
   opensDownload,
   lodges,
   takesSegment,
@@ -125,10 +123,6 @@ module _ (Given : Fields → List ℕ → Fields → List ℕ → Type 0) where
         → bringsSegment (p .run) r (length d) ≡ true
         → Move p (goOn (p .run .segment) (p .run .repeats) (holding (length d) (p .run)))
         (fileWith (p .run) d (p .file))
-    download-returns : {r : Fields} {d : List ℕ} → p .run .direction ≡ Download
-        → (p .run .step ≡ step.Segment) ⊎ (p .run .step ≡ step.Receipt)
-        → Answering p r d → downloadReturns (p .run) r ≡ true
-        → Move p (goOn (segment r) (p .run .repeats + 1) (p .run)) (p .file)
     repeats : mayRepeat (p .run) ≡ true → Move p (repeated (p .run)) (p .file)
 
   -- the word of a run that ends
@@ -210,7 +204,6 @@ module _ (Given : Fields → List ℕ → Fields → List ℕ → Type 0) where
     carried {r} {d} f (cause.download-opened w s h t) =
         opened Download r d w (after-segment (learned Download r (p .run)) d (download-opens w s (f h) t))
     carried f (cause.segment-brought w s h t) = after-segment (p .run) _ (brings w s (f h) t)
-    carried f (cause.download-returned w s h t) = moves _ (λ g. g) (download-returns w s (f h) t)
     carried f (cause.fetched w s h t) = ends (confirmed w s (f h) t)
     carried f cause.rest = ends otherwise
     carried f (cause.no-reply h) = moves _ (λ g. g) (repeats h)

@@ -1,14 +1,12 @@
 -- Each step of a run keeps its course: how far it is, and how many requests it has issued by then. Assumes nothing.
 use Prim.Native.Nat.{ℕ, _+_, _*_, _≤_, _<_}
-use mathlib.Core.Bool.{Bool, true, false}
 use mathlib.Core.Logic.{inl, inr}
-use mathlib.Core.Path.{_≡_, refl, sym, ap, subst, _∙_}
-use native.Mathlib.Nat.{add-mul, one-mul, mul-one, mul-le-mul-left, mul-le-mul-right}
+use mathlib.Core.Path.{_≡_, refl, ap, _∙_}
+use native.Mathlib.Nat.{add-mul, one-mul, mul-le-mul-right}
 use native.Mathlib.Omega.{arith}
 use lib.Dec.{eqb}
 use borrow.Author.Tests.{eqb-true, eqb-false}
 use Rattle.frame_table.specs.declared.fields.Fields.{Fields}
-use Rattle.frame_table.specs.Names.{segments}
 use Rattle.message.specs.Limits.{maxSegments, fileBytes}
 use Rattle.message.specs.Segments.{segmentsOf}
 use Rattle.message.proofs.Verdicts.{by-test}
@@ -18,17 +16,15 @@ use Rattle.client_run.specs.declared.run.Direction.the-variants.{Upload, Downlo
 use Rattle.client_run.specs.declared.run.Step.{Step}
 use Rattle.client_run.specs.declared.run.Step.the-variants as step
 use Rattle.client_run.specs.declared.run.Word.{Word}
-use Rattle.client_run.specs.NextRun.{begun, stepAfter, goOn, repeated, learned, isNew, holding, ended}
+use Rattle.client_run.specs.NextRun.{begun, stepAfter, goOn, repeated, learned, holding, ended}
 use Rattle.client_run.specs.Run.{parametersOf}
 use Rattle.client_run.proofs.Apart.{not-both, not-opening-segment, not-opening-receipt, not-segment-receipt}
-use Rattle.client_run.proofs.NextRuns.{new-next}
-use Rattle.client_rules.proofs.Causes.{OpensDownload}
+use Rattle.client_rules.proofs.Causes.{HasSegment, OpensDownload}
 use Rattle.client_history.specs.Bounds.{
   maxRequests,
   UploadPlace,
   UploadCourse,
   OpeningCourse,
-  SegmentsKnown,
   DownloadPlace,
   DownloadCourse,
   Course,
@@ -117,111 +113,51 @@ place-after k n h =
     (λ e. inr (refl, ap (λ (m : ℕ). m + 1) (eqb-true k n e)))
     (λ e. inl (refl, (let d = eqb-false k n e in omega arith)))
 
--- the request after segment s issued, as the p-th repeat or return
-pub down-go : (c : ClientRun) (q s p : ℕ) → SegmentsKnown c → s ≤ c .held → q ≤ s + p * (c .segments + 1)
+-- the request after segment s issued, with p repeats by then
+down-go : (c : ClientRun) (q s p : ℕ) → c .direction ≡ Download → c .segments ≤ maxSegments → 1 ≤ s → s ≤ c .segments
+    → q ≤ s + p
     → DownloadCourse (goOn s p c) (q + 1)
 unfolding goOn
-down-go c q s p k near few = record {
-  known = record { direction = k .direction; some = k .some; most = k .most; within = k .within };
+down-go c q s p w most some within few = record {
+  direction = w;
+  most = most;
   first = omega arith;
-  next = omega arith;
-  place = rw (k .direction) (place-after s (c .segments) (omega (arith, k .within)));
+  place = rw w (place-after s (c .segments) within);
   requests = omega arith;
 }
 
--- the outstanding segment held: those up to it are held then
-pub record Holds (c h : ClientRun) : Type 0 where
-  pub known : SegmentsKnown h
-  pub same : h .segments ≡ c .segments
-  pub held : c .segment ≤ h .held
-
-holds-at : (c : ClientRun) (d : ℕ) (b : Bool) → isNew (c .direction) c ≡ b → SegmentsKnown c → c .segment ≤ c .segments
-    → c .segment ≤ c .held + 1
-    → Holds c (holding d c)
-unfolding holding
-holds-at c d true e k m n = rw e (record {
-  known =
-      record {
-        direction = k .direction;
-        some = k .some;
-        most = k .most;
-        within = omega (arith, new-next (c .direction) c e);
-      };
-  same = refl;
-  held = n;
-})
-holds-at c d false e k m n =
-    let old = eqb-false (c .segment) (c .held + 1)
-    (sym (ap (λ (direction : Direction). isNew direction c) (k .direction)) ∙ e) in
-    rw e (record { known = k; same = refl; held = omega arith })
-
-pub holds : (c : ClientRun) (d : ℕ) → SegmentsKnown c → c .segment ≤ c .segments → c .segment ≤ c .held + 1
-    → Holds c (holding d c)
-holds c d k m n = holds-at c d (isNew (c .direction) c) refl k m n
-
--- the outstanding segment answered
-pub down-taken : (c : ClientRun) (q d p : ℕ) → SegmentsKnown c → c .segment ≤ c .segments → c .segment ≤ c .held + 1
-    → q ≤ c .segment + p * (c .segments + 1) → DownloadCourse (goOn (c .segment) p (holding d c)) (q + 1)
-down-taken c q d p k m n few =
-    let h = holds c d k m n in
-    let few' = subst (λ (z : ℕ). q ≤ c .segment + p * (z + 1)) (sym (h .same)) few in
-    down-go (holding d c) q (c .segment) p (h .known) (h .held) few'
+-- the outstanding segment brought
+pub down-brought : (c : ClientRun) (q d : ℕ) (r : Fields) → DownloadCourse c q → HasSegment (c .segment) (c .segments) d r
+    → DownloadCourse (goOn (c .segment) (c .repeats) (holding d c)) (q + 1)
+down-brought c q d r e h =
+    down-go (holding d c) q (c .segment) (c .repeats) (e .direction) (e .most) (h .some) (h .within) (e .requests)
 
 -- the opening answered
 pub down-opened : (c : ClientRun) (q d : ℕ) (r : Fields) → OpeningCourse c q → OpensDownload r d
     → DownloadCourse (goOn 1 (c .repeats) (holding d (learned Download r c))) (q + 1)
 down-opened c q d r o h =
-    let k = learned Download r c in
-    let n = segments r in
-    let repeats : c .repeats * 1 ≤ c .repeats * (n + 1) = mul-le-mul-left (c .repeats) (omega arith) in
-    let known : SegmentsKnown k =
-    record { direction = o .direction; some = h .some; most = h .most; within = omega (arith, o .none) } in
-    down-taken k q d (c .repeats) known (h .some) (omega arith) (omega (arith, o .requests, mul-one (c .repeats)))
-
-down-place : (at : Step) (s n : ℕ) → DownloadPlace at s n → s ≤ n + 1
-down-place at s n (inl p) = omega (arith, p .1)
-down-place at s n (inr p) = omega (arith, p .1)
-
--- the segment of a download's transfer is among the N
-pub down-transfer : (c : ClientRun) (q : ℕ) → DownloadCourse c q → c .step ≡ step.Segment → c .segment ≤ c .segments
-down-transfer c q d e = at (d .place)
-  where
-    at : DownloadPlace (c .step) (c .segment) (c .segments) → c .segment ≤ c .segments
-    at (inl p) = p .1
-    at (inr p) = not-segment-receipt e (p .0)
-
-pub down-returned : (c : ClientRun) (q s : ℕ) → DownloadCourse c q → s ≤ c .held
-    → DownloadCourse (goOn s (c .repeats + 1) c) (q + 1)
-down-returned c q s d h =
-    down-go c q s (c .repeats + 1) (d .known) h
-    (omega (
-      arith,
-      d .requests,
-      down-place (c .step) (c .segment) (c .segments) (d .place),
-      more (c .repeats) (c .segments + 1),
-    ))
+    down-go (holding d (learned Download r c)) q 1 (c .repeats) (o .direction) (h .segment-1 .most) (omega arith)
+    (h .segment-1 .within) (o .requests)
 
 pub down-repeated : (c : ClientRun) (q : ℕ) → DownloadCourse c q → DownloadCourse (repeated c) (q + 1)
 unfolding repeated
-down-repeated c q d =
-    let k = d .known in record {
-      known = record { direction = k .direction; some = k .some; most = k .most; within = k .within };
-      first = d .first;
-      next = d .next;
-      place = d .place;
-      requests = omega (arith, d .requests, more (c .repeats) (c .segments + 1));
-    }
+down-repeated c q d = record {
+  direction = d .direction;
+  most = d .most;
+  first = d .first;
+  place = d .place;
+  requests = omega (arith, d .requests);
+}
 
 pub down-ended : (c : ClientRun) (q : ℕ) (w : Word) → DownloadCourse c q → DownloadCourse (ended w c) q
 unfolding ended
-down-ended c q w d =
-    let k = d .known in record {
-      known = record { direction = k .direction; some = k .some; most = k .most; within = k .within };
-      first = d .first;
-      next = d .next;
-      place = d .place;
-      requests = d .requests;
-    }
+down-ended c q w d = record {
+  direction = d .direction;
+  most = d .most;
+  first = d .first;
+  place = d .place;
+  requests = d .requests;
+}
 
 pub opening-repeated : (c : ClientRun) (q : ℕ) → OpeningCourse c q → OpeningCourse (repeated c) (q + 1)
 unfolding repeated
@@ -230,20 +166,22 @@ opening-repeated c q o =
       direction = o .direction;
       at = o .at;
       unknown = o .unknown;
-      none = o .none;
       requests = omega (arith, o .requests);
     }
 
 pub opening-ended : (c : ClientRun) (q : ℕ) (w : Word) → OpeningCourse c q → OpeningCourse (ended w c) q
 unfolding ended
 opening-ended c q w o =
-    record { direction = o .direction; at = o .at; unknown = o .unknown; none = o .none; requests = o .requests }
+    record { direction = o .direction; at = o .at; unknown = o .unknown; requests = o .requests }
 
--- "a download 6N + 6"
-pub down-most : (c : ClientRun) (q : ℕ) → DownloadCourse c q → c .repeats ≤ 5 → q ≤ 6 * c .segments + 6
+down-place : (at : Step) (s n : ℕ) → DownloadPlace at s n → s ≤ n + 1
+down-place at s n (inl p) = omega (arith, p .1)
+down-place at s n (inr p) = omega (arith, p .1)
+
+-- card 10: "Downloads then issue at most N + 6 requests"
+pub down-most : (c : ClientRun) (q : ℕ) → DownloadCourse c q → c .repeats ≤ 5 → q ≤ c .segments + 6
 down-most c q d h =
-    let place = down-place (c .step) (c .segment) (c .segments) (d .place) in
-    omega (arith, d .requests, mul-le-mul-right (c .segments + 1) h)
+    omega (arith, d .requests, down-place (c .step) (c .segment) (c .segments) (d .place))
 
 -- ---- both directions
 
@@ -251,7 +189,7 @@ down-most c q d h =
 pub upload-course : {c : ClientRun} {q : ℕ} → Course c q → c .direction ≡ Upload → UploadCourse c q
 upload-course (uploading u) w = u
 upload-course (opening o) w = not-both w (o .direction)
-upload-course (downloading d) w = not-both w (d .known .direction)
+upload-course (downloading d) w = not-both w (d .direction)
 
 -- what the course of an upload says of the outstanding request, by its step
 abbrev pub UploadAt : Step → ClientRun → Type 0
@@ -281,44 +219,35 @@ course-repeated c q (downloading d) = downloading (down-repeated c q d)
 pub course-most : (c : ClientRun) (q : ℕ) → Course c q → c .repeats ≤ 5 → q ≤ maxRequests (c .direction) (c .segments)
 course-most c q (uploading u) h = rw (u .direction) (up-most c q u h)
 course-most c q (opening o) h = rw (o .direction) (omega (arith, o .requests))
-course-most c q (downloading d) h = rw (d .known .direction) (down-most c q d h)
+course-most c q (downloading d) h = rw (d .direction) (down-most c q d h)
 
 pub course-segments : (c : ClientRun) (q : ℕ) → Course c q → c .segments ≤ maxSegments
 course-segments c q (uploading u) = up-segments c q u .1
 course-segments c q (opening o) = omega (arith, o .unknown)
-course-segments c q (downloading d) = d .known .most
-
--- at the receipt of a download all segments are held
-pub receipt-held : (c : ClientRun) (q : ℕ) → Course c q → c .direction ≡ Download → c .step ≡ step.Receipt
-    → c .held ≡ c .segments
-receipt-held c q (uploading u) w s = not-both (u .direction) w
-receipt-held c q (opening o) w s = not-opening-receipt (o .at) s
-receipt-held c q (downloading d) w s = at (d .place)
-  where
-    at : DownloadPlace (c .step) (c .segment) (c .segments) → c .held ≡ c .segments
-    at (inl p) = not-segment-receipt (p .0) s
-    at (inr p) = omega (arith, p .1, d .next, d .known .within)
+course-segments c q (downloading d) = d .most
 
 -- what the course of a download says of the outstanding request, by its step
 abbrev pub DownloadAt : Step → ClientRun → Type 0
 DownloadAt step.Opening c = Unit {0}
-DownloadAt step.Segment c = (1 ≤ c .segment) × (c .segment ≤ c .held + 1) × (c .segment ≤ c .segments)
-DownloadAt step.Receipt c = c .held ≡ c .segments
+DownloadAt step.Segment c = (1 ≤ c .segment) × (c .segment ≤ c .segments) × (c .segments ≤ maxSegments)
+DownloadAt step.Receipt c = c .segment ≡ c .segments + 1
+
+open-at : (s : Step) (c : ClientRun) (q : ℕ) → c .step ≡ s → DownloadCourse c q → DownloadAt s c
+open-at s c q e d = at s e (d .place)
+  where
+    at : (s : Step) → c .step ≡ s → DownloadPlace (c .step) (c .segment) (c .segments) → DownloadAt s c
+    at step.Opening e p = tt
+    at step.Segment e (inl p) = (omega (arith, d .first), p .1, d .most)
+    at step.Segment e (inr p) = not-segment-receipt e (p .0)
+    at step.Receipt e (inl p) = not-segment-receipt (p .0) e
+    at step.Receipt e (inr p) = p .1
 
 pub download-at : {c : ClientRun} {q : ℕ} (s : Step) → c .step ≡ s → c .direction ≡ Download → Course c q → DownloadAt s c
-download-at step.Opening e w k = tt
-download-at step.Segment e w (uploading u) = not-both (u .direction) w
+download-at s e w (uploading u) = not-both (u .direction) w
+download-at {c} {q} s e w (downloading d) = open-at s c q e d
+download-at step.Opening e w (opening o) = tt
 download-at step.Segment e w (opening o) = not-opening-segment (o .at) e
-download-at {c} {q} step.Segment e w (downloading d) = (d .first, d .next, down-transfer c q d e)
-download-at {c} {q} step.Receipt e w k = receipt-held c q k w e
-
--- no more segments than an order has are held, and asked for
-pub course-guards : (c : ClientRun) (q : ℕ) → Course c q → c .direction ≡ Download
-    → (c .held ≤ maxSegments) × (c .step ≡ step.Segment → c .segment ≤ maxSegments)
-course-guards c q (uploading u) w = not-both (u .direction) w
-course-guards c q (opening o) w = (omega (arith, o .none), not-opening-segment (o .at))
-course-guards c q (downloading d) w =
-    (omega (arith, d .known .within, d .known .most), λ s. omega (arith, down-transfer c q d s, d .known .most))
+download-at step.Receipt e w (opening o) = not-opening-receipt (o .at) e
 
 -- ---- a run as begun
 
@@ -339,4 +268,4 @@ up-start subscriber first n some most = uploading (record {
 pub opening-start : (subscriber first : ℕ) → Course (begun (parametersOf Download subscriber first) 0) 1
 unfolding begun segmentsOf
 opening-start subscriber first =
-    opening (record { direction = refl; at = refl; unknown = refl; none = refl; requests = omega arith })
+    opening (record { direction = refl; at = refl; unknown = refl; requests = omega arith })

@@ -1,7 +1,7 @@
 -- The run that a decision leaves where its request is written: what it has of the run before, and that it keeps the
 -- course. Assumes nothing.
 use Prim.Native.Nat.{ℕ, _+_, _*_, _≤_}
-use mathlib.Core.Logic.{_⊎_, inl, inr}
+use mathlib.Core.Logic.{inl, inr}
 use mathlib.Core.Path.{_≡_, refl, ap, _∙_}
 use native.Mathlib.Omega.{arith}
 use Rattle.frame_table.specs.declared.fields.Fields.{Fields}
@@ -14,7 +14,7 @@ use Rattle.client_run.specs.declared.run.Direction.the-variants.{Upload, Downlo
 use Rattle.client_run.specs.declared.run.Step.the-variants as step
 use Rattle.client_run.specs.NextRun.{goOn, repeated, learned, holding, ended}
 use Rattle.client_run.proofs.Apart.{not-both, not-opening-segment, not-opening-receipt}
-use Rattle.client_rules.proofs.Causes.{Cause, upload-point, download-point, taken-below, opens}
+use Rattle.client_rules.proofs.Causes.{Cause, upload-point, taken-below, brought, opens}
 use Rattle.client_rules.proofs.Causes as cause
 use Rattle.client_rules.proofs.Feasible.{repeat-fits, return-left}
 use Rattle.client_history.specs.Bounds.{
@@ -32,9 +32,7 @@ use Rattle.client_history.proofs.Course.{
   up-go,
   up-learned,
   down-opened,
-  down-taken,
-  down-transfer,
-  down-returned,
+  down-brought,
   course-repeated,
 }
 use Rattle.client_history.proofs.NextRuns.{
@@ -44,7 +42,6 @@ use Rattle.client_history.proofs.NextRuns.{
   learned-same,
   learned-length,
   held-same,
-  opened-same,
 }
 
 -- the decisions that issue a request
@@ -91,8 +88,8 @@ unfolding repeated
 next-of Ignore i c r d = absurd i
 next-of Opened i c r d =
     let k = learned (c .direction) r c in
-    goes-next (k .segment) (k .repeats) (holding d k) c (opened-same (c .direction) d r c)
-next-of Advance i c r d = goes-next (c .segment) (c .repeats) (holding d c) c (held-same d c .0)
+    goes-next (k .segment) (k .repeats) (holding d k) c (held-same d k c (learned-same (c .direction) r c))
+next-of Advance i c r d = goes-next (c .segment) (c .repeats) (holding d c) c (held-same d c c (same c))
 next-of (Return s) i c r d = goes-next s (c .repeats + 1) c c (same c)
 next-of Repeat i c r d = record { stage = refl; direction = refl; subscriber = refl; exchange = refl }
 next-of (Close w) i c r d = absurd i
@@ -124,18 +121,14 @@ next-repeats (Close w) i c r d k few = absurd i
 
 -- ---- the course
 
-not-opening : {A : Type 0} (c : ClientRun) → c .step ≡ step.Opening → (c .step ≡ step.Segment) ⊎ (c .step ≡ step.Receipt)
-    → A
-not-opening c o (inl s) = not-opening-segment o s
-not-opening c o (inr s) = not-opening-receipt o s
-
 module _ (c : ClientRun) (q : ℕ) (r : Fields) (d : ℕ) where
+  -- an open download is past its opening
   down-opened-not : {A : Type 0} → DownloadCourse c q → c .step ≡ step.Opening → A
   down-opened-not e s = at (e .place)
     where
       at : {A : Type 0} → DownloadPlace (c .step) (c .segment) (c .segments) → A
-      at (inl p) = not-opening c s (inl (p .0))
-      at (inr p) = not-opening c s (inr (p .0))
+      at (inl p) = not-opening-segment s (p .0)
+      at (inr p) = not-opening-receipt s (p .0)
 
   up-opened : UploadCourse c q → c .step ≡ step.Opening
       → UploadCourse (goOn 0 (c .repeats) (holding d (learned Upload r c))) (q + 1)
@@ -150,7 +143,7 @@ module _ (c : ClientRun) (q : ℕ) (r : Fields) (d : ℕ) where
   course-opened Upload e (uploading u) (cause.upload-opened w s a h) = uploading (up-opened u s)
   course-opened Upload e (uploading u) (cause.download-opened w s a h) = not-both e w
   course-opened Upload e (opening o) k = not-both e (o .direction)
-  course-opened Upload e (downloading o) k = not-both e (o .known .direction)
+  course-opened Upload e (downloading o) k = not-both e (o .direction)
   course-opened Download e (uploading u) k = not-both (u .direction) e
   course-opened Download e (opening o) (cause.upload-opened w s a h) = not-both w e
   course-opened Download e (opening o) (cause.download-opened w s a h) =
@@ -164,10 +157,9 @@ module _ (c : ClientRun) (q : ℕ) (r : Fields) (d : ℕ) where
       (uploading (up-go c q (c .segment) (c .repeats) u (taken-below c r h .1) (u .known) (u .requests)))
   course-advance (uploading u) (cause.segment-brought w s a h) = not-both (u .direction) w
   course-advance (opening o) (cause.segment-taken w s a h) = not-both w (o .direction)
-  course-advance (opening o) (cause.segment-brought w s a h) = not-opening c (o .at) (inl s)
-  course-advance (downloading e) (cause.segment-taken w s a h) = not-both w (e .known .direction)
-  course-advance (downloading e) (cause.segment-brought w s a h) =
-      downloading (down-taken c q d (c .repeats) (e .known) (down-transfer c q e s) (e .next) (e .requests))
+  course-advance (opening o) (cause.segment-brought w s a h) = not-opening-segment (o .at) s
+  course-advance (downloading e) (cause.segment-taken w s a h) = not-both w (e .direction)
+  course-advance (downloading e) (cause.segment-brought w s a h) = downloading (down-brought c q d r e (brought c r d h .1))
 
   up-returned : (s : ℕ) → UploadCourse c q → s ≤ c .segments → q ≤ 1 + s + (c .repeats + 1) * c .segments
   up-returned s u h = omega (arith, u .requests, u .known, u .within, more (c .repeats) (c .segments))
@@ -177,12 +169,8 @@ module _ (c : ClientRun) (q : ℕ) (r : Fields) (d : ℕ) where
       let p = upload-point c r h in
       uploading
       (up-go c q s (c .repeats + 1) u (p .below) (p .reached) (up-returned s u (omega (arith, p .below))))
-  course-return s (uploading u) (cause.download-returned w t a h) = not-both (u .direction) w
   course-return s (opening o) (cause.upload-returned w t a h) = not-both w (o .direction)
-  course-return s (opening o) (cause.download-returned w t a h) = not-opening c (o .at) t
-  course-return s (downloading e) (cause.upload-returned w t a h) = not-both w (e .known .direction)
-  course-return s (downloading e) (cause.download-returned w t a h) =
-      downloading (down-returned c q s e (download-point c r h .reached))
+  course-return s (downloading e) (cause.upload-returned w t a h) = not-both w (e .direction)
 
   -- one request more
   pub course-next : (decision : Decision) → Issuing decision → Cause c r d decision → Course c q

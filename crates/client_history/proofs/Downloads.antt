@@ -1,6 +1,6 @@
 -- What a download run keeps.
 use Prim.Native.Nat.{ℕ, _+_, _-_, _*_, _<_, _≤_}
-use mathlib.Core.Bool.{Bool, true, false, cond, _||_}
+use mathlib.Core.Bool.{Bool, true, false, cond}
 use mathlib.Core.List.{
   List,
   [],
@@ -15,15 +15,15 @@ use mathlib.Core.Path.{_≡_, refl, sym, ap, _∙_, subst}
 use native.Mathlib.Omega.{arith}
 use lib.Dec.{eqb}
 use lib.ListN.{length, take}
-use borrow.Author.Tests.{eqb-true, eqb-false, eq-eqb}
+use borrow.Author.Tests.{eqb-true, eqb-false}
 use Rattle.frame_table.specs.declared.fields.Bits128.{Bits128}
 use Rattle.frame_table.specs.declared.fields.Fields.{Fields}
 use Rattle.frame_table.specs.Forms as forms
 use Rattle.octets.specs.Bytes.{overwrite}
 use Rattle.frame_table.specs.Names.{transaction, segments, segment, form}
-use Rattle.octets.proofs.Tests.{never, and-true, or-left, or-right}
+use Rattle.octets.proofs.Tests.{and-true}
 use Rattle.message.specs.declared.codes.ReturnCode.the-variants as code
-use Rattle.message.specs.Limits.{segmentBytes, fileBytes, initialisationPhase, receiptPhase}
+use Rattle.message.specs.Limits.{segmentBytes, maxSegments, fileBytes, receiptPhase}
 use Rattle.message.specs.Segments.{segmentsOf, segmentOf}
 use Rattle.client_run.specs.declared.run.ClientRun.{ClientRun}
 use Rattle.client_run.specs.declared.run.Direction.{Direction}
@@ -37,26 +37,26 @@ use Rattle.client_run.specs.declared.run.Word.the-variants as word
 use Rattle.client_run.specs.NextRun.{
   begun,
   stepAfter,
-  receiptsAfter,
   goOn,
   repeated,
   learned,
-  isNew,
-  grown,
+  lengthWith,
   holding,
+  fileBy,
   fileWith,
   ended,
 }
-use Rattle.client_run.specs.Requests.{nonceOf, outstanding}
+use Rattle.client_run.specs.Requests.{nonceOf}
 use Rattle.client_run.specs.Run.{parametersOf}
+use Rattle.client_run.proofs.Apart.{not-opening-receipt, not-segment-receipt}
 use Rattle.client_rules.specs.Decisions.{
   says,
   isOwn,
+  downloadWord,
   closingWord,
   restWord,
   opensDownload,
   bringsSegment,
-  downloadReturns,
   confirms,
 }
 use Rattle.client_history.specs.History.{Issue, Past, issueOf, BankReplies}
@@ -73,16 +73,13 @@ use Rattle.client_history.specs.Invariant.{
   DownloadStep,
   DownloadWord,
   DownloadStage,
-  Receipts,
   DownloadRun,
 }
-use Rattle.message.proofs.Verdicts.{by-test}
-use Rattle.client_rules.proofs.Causes.{brought, download-point, opens}
+use Rattle.client_rules.proofs.Causes.{brought, opens}
 use Rattle.client_history.proofs.Files.{most-segments, nothing-held, all-held, grown-end, grown-bytes}
 use Rattle.client_history.proofs.Course.{DownloadAt}
 use Rattle.client_history.proofs.Issues.{got, got-in}
-use Rattle.client_history.proofs.NextRuns.{Held, by-new}
-use Rattle.client_rules.proofs.Replies.{Says, said, opened-says, own-id}
+use Rattle.client_rules.proofs.Replies.{said, opened-says, own-id}
 use Rattle.client_history.proofs.Requests.{
   form-downloadOpening,
   form-receipt,
@@ -95,29 +92,20 @@ use Rattle.client_history.proofs.Requests.{
 
 -- ---- the requests issued, as the run goes on
 
-receipted-more : {s n held : ℕ} {t : Bits128} {b : Bool} {f : List ℕ} {x : Issue} (y : Bool) → (b ≡ true → y ≡ true)
-    → DownloadIssue s n t held b f x → DownloadIssue s n t held y f x
-receipted-more y h (downloadOpens number time nonce q d) = downloadOpens number time nonce q d
-receipted-more y h (asks number j a b c e q d) = asks number j a b c e q d
-receipted-more y h (receipt-issued number a b c e q d) = receipt-issued number a b (h c) e q d
+-- past a segment, which is no receipt's
+asked-more : {s n next : ℕ} {t : Bits128} {at : Step} {f : List ℕ} {x : Issue} (y : Step) → at ≡ step.Segment
+    → DownloadIssue s n t at next f x → DownloadIssue s n t y (next + 1) f x
+asked-more y e (downloadOpens number time nonce q d) = downloadOpens number time nonce q d
+asked-more y e (asks number j a b c g q d) = asks number j a (omega arith) c g q d
+asked-more y e (receipt-issued number z a g q d) = not-segment-receipt e z
 
--- a segment more, which is no receipt's
-held-more : {s n held : ℕ} {t : Bits128} {b : Bool} {f : List ℕ} {x : Issue} → held < n
-    → DownloadIssue s n t held b f x → DownloadIssue s n t (held + 1) b f x
-held-more h (downloadOpens number time nonce q d) = downloadOpens number time nonce q d
-held-more h (asks number j a b c e q d) = asks number j a (omega arith) c (omega arith) q d
-held-more h (receipt-issued number a b c e q d) = absurd (omega arith)
-
--- with no segment held the transaction is open to choice
-pub unasked : {s n m held more : ℕ} {t u : Bits128} {b y : Bool} {f g : List ℕ} {x : Issue} → held ≡ 0
-    → DownloadIssue s n t held b f x → DownloadIssue s m u more y g x
-unasked h (downloadOpens number time nonce q d) = downloadOpens number time nonce q d
-unasked h (asks number j a b c e q d) = absurd (omega arith)
-unasked h (receipt-issued number a b c e q d) = absurd (omega arith)
-
-or-false : (a b : Bool) → b ≡ false → a || b ≡ true → a ≡ true
-or-false true b e h = refl
-or-false false b e h = never (sym e ∙ h)
+-- before the opening's answer the transaction is open to choice
+pub unasked : {s n m next more : ℕ} {t u : Bits128} {at y : Step} {f g : List ℕ} {x : Issue} → at ≡ step.Opening
+    → next ≡ 0
+    → DownloadIssue s n t at next f x → DownloadIssue s m u y more g x
+unasked o h (downloadOpens number time nonce q d) = downloadOpens number time nonce q d
+unasked o h (asks number j a b c g q d) = absurd (omega arith)
+unasked o h (receipt-issued number z a g q d) = not-opening-receipt o z
 
 module _ (Given : Fields → List ℕ → Fields → List ℕ → Type 0) where
   held-in : {t : Bits128} {n held size : ℕ} {f file : List ℕ} {l m : List Issue} → ((x : Issue) → In x l → In x m)
@@ -141,39 +129,46 @@ module _ (Given : Fields → List ℕ → Fields → List ℕ → Type 0) where
       → take size file ≡ f
   whole-file {held = held} {f = f} h e = h .bytes ∙ all-held f held (e ∙ h .number)
 
-  -- segment h + 1, as segment s, written after segments 1 to h
-  module _ (t : Bits128) (n h size s : ℕ) (f file d : List ℕ) (room : length file ≡ fileBytes)
+  -- segment s written after segments 1 to s - 1
+  module _ (t : Bits128) (n size s : ℕ) (f file d : List ℕ) (room : length file ≡ fileBytes)
       (number : n ≡ segmentsOf (length f))
-      (most : length f ≤ fileBytes) (more : h < n) (next : s ≡ h + 1) where
-    place : (s - 1) * segmentBytes ≡ segmentBytes * h
+      (most : length f ≤ fileBytes) (some : 1 ≤ s) (within : s ≤ n) where
+    place : (s - 1) * segmentBytes ≡ segmentBytes * (s - 1)
     place = omega arith
 
-    below : h < segmentsOf (length f)
+    next : s - 1 + 1 ≡ s
+    next = omega arith
+
+    below : s - 1 < segmentsOf (length f)
     below = omega arith
 
-    inside : segmentBytes * h ≤ length file
+    inside : segmentBytes * (s - 1) ≤ length file
     inside = let k = most-segments (length f) most in let b = below in omega arith
 
     grows : {l : List Issue} (g : Got Given l forms.DownloadOpening forms.DownloadOpened code.Ok)
         → transaction (g .reply) ≡ t → Brought Given t s
-        → 0 < length f → size ≡ length (take (segmentBytes * h) f) → take size file ≡ take (segmentBytes * h) f
+        → 0 < length f → size ≡ length (take (segmentBytes * (s - 1)) f)
+        → take size file ≡ take (segmentBytes * (s - 1)) f
         → d ≡ segmentOf f s
-        → HeldFile Given f t n (h + 1) ((s - 1) * segmentBytes + length d) (overwrite file ((s - 1) * segmentBytes) d) l
+        → HeldFile Given f t n s ((s - 1) * segmentBytes + length d) (overwrite file ((s - 1) * segmentBytes) d) l
     grows g id last least end bytes e =
-        let part = e ∙ ap (segmentOf f) next in
+        let part = e ∙ ap (segmentOf f) (sym next) in
         record {
           got = g;
           id = id;
           number = number;
           least = least;
           most = most;
-          some = omega arith;
-          top = omega arith;
-          last = subst (Brought Given t) next last;
-          end = ap (λ (m : ℕ). m + length d) place ∙ grown-end f file d h size below inside end bytes part;
+          some = some;
+          top = within;
+          last = last;
+          end =
+              ap (λ (m : ℕ). m + length d) place ∙ grown-end f file d (s - 1) size below inside end bytes part
+              ∙ ap (λ (m : ℕ). length (take (segmentBytes * m) f)) next;
           bytes =
-              subst (λ (m : ℕ). take (m + length d) (overwrite file m d) ≡ take (segmentBytes * (h + 1)) f) (sym place)
-              (grown-bytes f file d h size below inside end bytes part);
+              subst (λ (m : ℕ). take (m + length d) (overwrite file m d) ≡ take (segmentBytes * s) f) (sym place)
+              (grown-bytes f file d (s - 1) size below inside end bytes part
+              ∙ ap (λ (m : ℕ). take (segmentBytes * m) f) next);
         }
 
   module _ (fileAt : Bits128 → List ℕ) where
@@ -181,87 +176,74 @@ module _ (Given : Fields → List ℕ → Fields → List ℕ → Type 0) where
     outstanding-issue : (c : ClientRun) (payload file : List ℕ) (time : ℕ) (nonce : List ℕ) (issues : List Issue)
         → c .direction ≡ Download
         → (s : Step) → c .step ≡ s → DownloadAt s c → DownloadStep Given fileAt s c file issues
-        → DownloadIssue (c .subscriber) (c .segments) (c .transaction) (c .held) (c .receipted)
-        (fileAt (c .transaction))
+        → DownloadIssue (c .subscriber) (c .segments) (c .transaction) (c .step) (c .segment) (fileAt (c .transaction))
         (issueOf c payload file time nonce)
     outstanding-issue c payload file time nonce issues down step.Opening e p k =
         downloadOpens (c .exchange) time (nonceOf nonce (c .exchange)) (is-downloadOpening c time nonce payload down e)
         (data-download c time nonce payload down)
     outstanding-issue c payload file time nonce issues down step.Segment e p k =
-        asks (c .exchange) (c .segment) (p .0) (p .1) (p .2) (k .some)
+        asks (c .exchange) (c .segment) (omega (arith, k .some)) (omega arith) (p .1) (k .bytes)
         (is-downloadTransfer c time nonce payload down e) (data-download c time nonce payload down)
     outstanding-issue c payload file time nonce issues down step.Receipt e p k =
-        receipt-issued (c .exchange) p (k .0 .some) (k .1) (whole-file (k .0) p)
+        receipt-issued (c .exchange) e p (whole-file k (omega arith))
         (is-receipt c time nonce payload down e) (data-download c time nonce payload down)
 
-    -- an open download that runs
-    record Ready (c : ClientRun) (file : List ℕ) (issues : List Issue) : Type 0 where
-      direction : c .direction ≡ Download
-      running : c .stage ≡ stage.Running
-      each : (x : Issue) → In x issues
-          → DownloadIssue (c .subscriber) (c .segments) (c .transaction) (c .held) (c .receipted)
-          (fileAt (c .transaction)) x
-      receipts : c .receipted ≡ true → Receipts issues
-      open-file : FileHeld Given fileAt c file issues
-
-    goes-on : (c : ClientRun) (payload file : List ℕ) (issues : List Issue) (k repeats time : ℕ) (nonce : List ℕ)
-        → Ready c file issues
-        → k ≤ c .held
-        → DownloadRun Given fileAt (goOn k repeats c) file (issueOf (goOn k repeats c) payload file time nonce ∷ issues)
+    -- a run that holds its segment goes on: to the next one, or to the receipt
+    goes-on : (c : ClientRun) (payload file : List ℕ) (issues : List Issue) (repeats time : ℕ) (nonce : List ℕ)
+        → c .direction ≡ Download → c .stage ≡ stage.Running → c .segments ≤ maxSegments
+        → ((y : Step) (x : Issue) → In x issues
+        → DownloadIssue (c .subscriber) (c .segments) (c .transaction) y (c .segment + 1) (fileAt (c .transaction)) x)
+        → HeldFile Given (fileAt (c .transaction)) (c .transaction) (c .segments) (c .segment) (c .length) file issues
+        → let next = goOn (c .segment) repeats c in
+        DownloadRun Given fileAt next file (issueOf next payload file time nonce ∷ issues)
     unfolding goOn
-    goes-on c payload file issues k repeats time nonce r a = go (eqb k (c .segments)) refl
+    goes-on c payload file issues repeats time nonce down running most each held = go (eqb (c .segment) (c .segments)) refl
       where
         next : ClientRun
-        next = goOn k repeats c
+        next = goOn (c .segment) repeats c
 
         new : Issue
         new = issueOf next payload file time nonce
 
-        kept : FileHeld Given fileAt c file (new ∷ issues)
-        kept = held-in (λ x m. there m) (r .open-file)
+        before : c .segment + 1 - 1 ≡ c .segment
+        before = omega arith
 
-        -- the step, and whether a receipt was issued, by the test on k
-        at : stepAfter (c .direction) k (c .segments) ≡ cond (eqb k (c .segments)) step.Receipt step.Segment
-        at = ap (λ (w : Direction). stepAfter w k (c .segments)) (r .direction)
+        kept : FileHeld Given fileAt next file (new ∷ issues)
+        kept =
+            subst
+            (λ (m : ℕ). HeldFile Given (fileAt (c .transaction)) (c .transaction) (c .segments) m (c .length) file
+            (new ∷ issues))
+            (sym before) (held-in (λ x m. there m) held)
 
-        receipt-after : receiptsAfter (c .direction) k (c .segments) ≡ eqb k (c .segments)
-        receipt-after = ap (λ (w : Direction). receiptsAfter w k (c .segments)) (r .direction)
+        -- the step by the test on the segment
+        at : next .step ≡ cond (eqb (c .segment) (c .segments)) step.Receipt step.Segment
+        at = ap (λ (w : Direction). stepAfter w (c .segment) (c .segments)) down
 
         run : (s : Step) → next .step ≡ s → DownloadAt s next → DownloadStep Given fileAt s next file (new ∷ issues)
-            → (next .receipted ≡ true → Receipts (new ∷ issues))
             → DownloadRun Given fileAt next file (new ∷ issues)
-        run s e p g f = record {
-          direction = r .direction;
-          each = each;
-          receipts = f;
+        run s e p g = record {
+          direction = down;
+          each = all;
           step = subst (λ (z : Step). DownloadStep Given fileAt z next file (new ∷ issues)) (sym e) g;
-          stage = subst (λ (z : Stage). DownloadStage Given fileAt z next file (new ∷ issues)) (sym (r .running)) tt;
+          stage = subst (λ (z : Stage). DownloadStage Given fileAt z next file (new ∷ issues)) (sym running) tt;
         }
           where
-            each : (x : Issue) → In x (new ∷ issues)
-                → DownloadIssue (c .subscriber) (c .segments) (c .transaction) (c .held) (next .receipted)
+            all : (x : Issue) → In x (new ∷ issues)
+                → DownloadIssue (c .subscriber) (c .segments) (c .transaction) (next .step) (c .segment + 1)
                 (fileAt (c .transaction)) x
-            each x (here i) =
+            all x (here i) =
                 subst (DownloadIssue _ _ _ _ _ _) (sym i)
-                (outstanding-issue next payload file time nonce (new ∷ issues) (r .direction) s e p g)
-            each x (there m) = receipted-more (next .receipted) (or-left (c .receipted) _) (r .each x m)
+                (outstanding-issue next payload file time nonce (new ∷ issues) down s e p g)
+            all x (there m) = each (next .step) x m
 
-        go : (b : Bool) → eqb k (c .segments) ≡ b → DownloadRun Given fileAt next file (new ∷ issues)
+        go : (b : Bool) → eqb (c .segment) (c .segments) ≡ b → DownloadRun Given fileAt next file (new ∷ issues)
         go true e =
-            let z = eqb-true k (c .segments) e in
-            let y = ap (λ (b : Bool). cond b step.Receipt step.Segment) e in
-            let w : c .held ≡ c .segments = omega (arith, r .open-file .top) in
-            run step.Receipt (at ∙ y) w (kept, or-right (c .receipted) _ (receipt-after ∙ e))
-            (λ h. (
-              new,
-              here refl,
-              ap form (is-receipt next time nonce payload (r .direction) (at ∙ y)) ∙ form-receipt _ _ _ _,
-            ))
+            run step.Receipt (at ∙ ap (λ (b : Bool). cond b step.Receipt step.Segment) e)
+            (ap (λ (m : ℕ). m + 1) (eqb-true (c .segment) (c .segments) e)) kept
         go false e =
-            let z = eqb-false k (c .segments) e in
-            let y = ap (λ (b : Bool). cond b step.Receipt step.Segment) e in
-            run step.Segment (at ∙ y) (omega arith, omega arith, omega (arith, r .open-file .top)) kept
-            (λ h. let o = r .receipts (or-false (c .receipted) _ (receipt-after ∙ e) h) in (o .0, there (o .1), o .2))
+            let z = eqb-false (c .segment) (c .segments) e in
+            run step.Segment (at ∙ ap (λ (b : Bool). cond b step.Receipt step.Segment) e)
+            (omega arith, omega (arith, held .top), most) kept
 
     module _ (c : ClientRun) (payload file : List ℕ) (issues : List Issue) (u : DownloadRun Given fileAt c file issues)
         (running : c .stage ≡ stage.Running) where
@@ -271,32 +253,17 @@ module _ (Given : Fields → List ℕ → Fields → List ℕ → Type 0) where
       abbrev At : Step → Type 0
       At s = DownloadStep Given fileAt s c file issues
 
-      ready : FileHeld Given fileAt c file issues → Ready c file issues
-      ready h =
-          record { direction = u .direction; running = running; each = u .each; receipts = u .receipts; open-file = h }
-
       -- ---- the next request
 
       module _ (time : ℕ) (nonce : List ℕ) where
         abbrev Goes : ClientRun → List ℕ → Type 0
         Goes next g = DownloadRun Given fileAt next g (issueOf next payload g time nonce ∷ issues)
 
-        pub returned : (r : Fields) → (c .step ≡ step.Segment) ⊎ (c .step ≡ step.Receipt) → downloadReturns c r ≡ true
-            → Goes (goOn (segment r) (c .repeats + 1) c) file
-        returned r e h =
-            goes-on c payload file issues (segment r) (c .repeats + 1) time nonce (ready (held e))
-            (download-point c r h .reached)
-          where
-            held : (c .step ≡ step.Segment) ⊎ (c .step ≡ step.Receipt) → FileHeld Given fileAt c file issues
-            held (inl s) = subst At s (u .step)
-            held (inr s) = subst At s (u .step) .0
-
         pub repeated-run : DownloadAt (c .step) c → Goes (repeated c) file
         unfolding repeated
         repeated-run place = record {
           direction = u .direction;
           each = each;
-          receipts = λ h. let o = u .receipts h in (o .0, there (o .1), o .2);
           step = stepped (c .step) (u .step);
           stage = subst (λ (s : Stage). DownloadStage Given fileAt s next file (new ∷ issues)) (sym running) tt;
         }
@@ -315,10 +282,10 @@ module _ (Given : Fields → List ℕ → Fields → List ℕ → Type 0) where
             stepped : (s : Step) → At s → DownloadStep Given fileAt s next file (new ∷ issues)
             stepped step.Opening k = k
             stepped step.Segment k = held-in (λ x m. there m) k
-            stepped step.Receipt k = (held-in (λ x m. there m) (k .0), k .1)
+            stepped step.Receipt k = held-in (λ x m. there m) k
 
             each : (x : Issue) → In x (new ∷ issues)
-                → DownloadIssue (c .subscriber) (c .segments) (c .transaction) (c .held) (c .receipted)
+                → DownloadIssue (c .subscriber) (c .segments) (c .transaction) (c .step) (c .segment)
                 (fileAt (c .transaction)) x
             each x (here e) =
                 subst (DownloadIssue _ _ _ _ _ _) (sym e)
@@ -331,123 +298,68 @@ module _ (Given : Fields → List ℕ → Fields → List ℕ → Type 0) where
       module _ (bank : BankReplies Given fileAt) (r : Fields) (d : List ℕ) (a : Answered Given p r d)
           (room : length file ≡ fileBytes)
           (time : ℕ) (nonce : List ℕ) where
-        abbrev Moves : ClientRun → List ℕ → Type 0
-        Moves next g = Goes time nonce (goOn (c .segment) (c .repeats) next) g
+        -- the reply has segment s of the transaction t
+        sent : {t : Bits128} {s : ℕ} → (form r ≡ forms.DownloadOpened) ⊎ (form r ≡ forms.DownloadSegment)
+            → transaction r ≡ t
+            → segment r ≡ s → Brought Given t s
+        sent formed id number = record {
+          request = _;
+          requestData = _;
+          reply = r;
+          bytes = d;
+          given = a .given;
+          formed = formed;
+          id = id;
+          number = number;
+        }
 
-        -- by the test on the outstanding segment
-        newly : {b : Bool} → isNew (c .direction) c ≡ b → eqb (c .segment) (c .held + 1) ≡ b
-        newly h = sym (ap (λ (w : Direction). isNew w c) (u .direction)) ∙ h
+        -- what a download has then of its file
+        taken : {f : List ℕ} {t : Bits128} {n : ℕ} (s : ℕ)
+            → HeldFile Given f t n s ((s - 1) * segmentBytes + length d) (overwrite file ((s - 1) * segmentBytes) d) issues
+            → HeldFile Given f t n s (lengthWith (c .direction) s (length d) (c .length)) (fileBy (c .direction) s d file)
+            issues
+        taken {f} {t} {n} s h =
+            subst
+            (λ (w : Direction). HeldFile Given f t n s (lengthWith w s (length d) (c .length)) (fileBy w s d file) issues)
+            (sym (u .direction)) h
 
-        pub brought-run : c .step ≡ step.Segment → DownloadAt step.Segment c → bringsSegment c r (length d) ≡ true
-            → Held c d file Moves
-        brought-run e place h = by-new c d file Moves (isNew (c .direction) c) refl fresh again
-          where
-            at : At step.Segment
-            at = subst At e (u .step)
-
-            part : d ≡ segmentOf (fileAt (c .transaction)) (c .segment)
-            part =
-                let k = brought c r (length d) h .0 in
-                bank .part (a .given) (said _ _ _ r (k .said) .form-is)
-                ∙ ap (λ (t : Bits128). segmentOf (fileAt t) (segment r)) (own-id c r (k .own))
-                ∙ ap (segmentOf (fileAt (c .transaction))) (k .number)
-
-            sent : Brought Given (c .transaction) (c .segment)
-            sent =
-                let k = brought c r (length d) h .0 in
-                record {
-                  request = _;
-                  requestData = _;
-                  reply = r;
-                  bytes = d;
-                  given = a .given;
-                  formed = inr (said _ _ _ r (k .said) .form-is);
-                  id = own-id c r (k .own);
-                  number = k .number;
-                }
-
-            fresh : isNew (c .direction) c ≡ true
-                → Moves (grown (length d) c) (overwrite file ((c .segment - 1) * segmentBytes) d)
-            fresh z =
-                let i = eqb-true (c .segment) (c .held + 1) (newly z) in
-                let f = at in
-                let m : c .held < c .segments = let j = place .2 in omega arith in
-                goes-on (grown (length d) c) payload _ issues (c .segment) (c .repeats) time nonce
-                (record {
-                  direction = u .direction;
-                  running = running;
-                  each = λ x y. held-more m (u .each x y);
-                  receipts = u .receipts;
-                  open-file =
-                      grows (c .transaction) (c .segments) (c .held) (c .length) (c .segment) (fileAt (c .transaction))
-                      file d
-                      room (f .number) (f .most) m i (f .got) (f .id) sent
-                      (f .least) (f .end) (f .bytes) part;
-                })
-                (omega arith)
-
-            again : isNew (c .direction) c ≡ false → Moves c file
-            again z =
-                let i = eqb-false (c .segment) (c .held + 1) (newly z) in
-                let j = place .1 in
-                goes-on c payload file issues (c .segment) (c .repeats) time nonce (ready at) (omega arith)
+        pub brought-run : c .step ≡ step.Segment → bringsSegment c r (length d) ≡ true
+            → Goes time nonce (goOn (c .segment) (c .repeats) (holding (length d) c)) (fileWith c d file)
+        brought-run e h =
+            let k = brought c r (length d) h .0 in
+            let z = brought c r (length d) h .1 in
+            let i = said _ _ _ r (k .said) .form-is in
+            let f = subst At e (u .step) in
+            let part : d ≡ segmentOf (fileAt (c .transaction)) (c .segment) =
+            bank .part (a .given) i
+            ∙ ap (λ (t : Bits128). segmentOf (fileAt t) (segment r)) (own-id c r (k .own))
+            ∙ ap (segmentOf (fileAt (c .transaction))) (k .number) in
+            goes-on (holding (length d) c) payload _ issues (c .repeats) time nonce (u .direction) running (z .most)
+            (λ y x m. asked-more y e (u .each x m))
+            (taken (c .segment)
+            (grows (c .transaction) (c .segments) (c .length) (c .segment) (fileAt (c .transaction)) file d room
+            (f .number) (f .most) (z .some) (z .within) (f .got) (f .id) (sent (inr i) (own-id c r (k .own)) (k .number))
+            (f .least) (f .end) (f .bytes) part))
 
         pub opened-run : c .step ≡ step.Opening → opensDownload (length d) r ≡ true
             → let k = learned Download r c in Goes time nonce (goOn 1 (c .repeats) (holding (length d) k))
             (fileWith k d file)
         opened-run e h =
-            by-new k d file (λ (n : ClientRun) (g : List ℕ). Goes time nonce (goOn 1 (c .repeats) n) g) true is-new fresh
-            (λ z. never (sym z))
-          where
-            k : ClientRun
-            k = learned Download r c
-
-            at : At step.Opening
-            at = subst At e (u .step)
-
-            is-new : isNew (c .direction) k ≡ true
-            is-new =
-                ap (λ (w : Direction). isNew w k) (u .direction) ∙ eq-eqb 1 (c .held + 1) (let z = at .0 in omega arith)
-
-            says-so : Says forms.DownloadOpened code.Ok initialisationPhase r
-            says-so = opened-says (length d) r h
-
-            asked : form (outstanding c (a .time) (a .nonce)) ≡ forms.DownloadOpening
-            asked =
-                ap form (is-downloadOpening c (a .time) (a .nonce) payload (u .direction) e)
-                ∙ form-downloadOpening _ _ _ _
-
-            fresh : {A : Type 0} → A
-                → Goes time nonce (goOn 1 (c .repeats) (grown (length d) k)) (overwrite file ((1 - 1) * segmentBytes) d)
-            fresh z =
-                let i = says-so .form-is in
-                let o = opens r (length d) h in
-                let n : c .held < segments r = let y = at .0 in let x = o .some in omega arith in
-                let none = nothing-held (fileAt (transaction r)) file (at .0) (at .1) in
-                goes-on (grown (length d) k) payload _ issues 1 (c .repeats) time nonce
-                (record {
-                  direction = u .direction;
-                  running = running;
-                  each = λ x y. unasked (at .0) (u .each x y);
-                  receipts = λ y. never (sym (at .2) ∙ y);
-                  open-file =
-                      grows (transaction r) (segments r) (c .held) (c .length) 1 (fileAt (transaction r)) file d room
-                      (bank .number (a .given) i) (bank .most (a .given) i) n
-                      (let y = at .0 in omega arith) (got Given {p = p} a asked says-so) refl
-                      (record {
-                        request = _;
-                        requestData = _;
-                        reply = r;
-                        bytes = d;
-                        given = a .given;
-                        formed = inl i;
-                        id = refl;
-                        number = o .first;
-                      })
-                      (bank .some (a .given) i)
-                      (none .0) (none .1) (bank .first (a .given) i);
-                })
-                (omega arith)
+            let says-so = opened-says (length d) r h in
+            let i = says-so .form-is in
+            let o = opens r (length d) h in
+            let at = subst At e (u .step) in
+            let asked =
+            ap form (is-downloadOpening c (a .time) (a .nonce) payload (u .direction) e) ∙ form-downloadOpening _ _ _ _ in
+            let none = nothing-held (fileAt (transaction r)) file {h = 1 - 1} {size = c .length} refl (at .1) in
+            goes-on (holding (length d) (learned Download r c)) payload _ issues (c .repeats) time nonce (u .direction)
+            running (o .segment-1 .most)
+            (λ y x m. unasked e (at .0) (u .each x m))
+            (taken 1
+            (grows (transaction r) (segments r) (c .length) 1 (fileAt (transaction r)) file d room
+            (bank .number (a .given) i) (bank .most (a .given) i) (omega arith) (o .segment-1 .within)
+            (got Given {p = p} a asked says-so) refl (sent (inl i) refl (o .first))
+            (bank .some (a .given) i) (none .0) (none .1) (bank .first (a .given) i)))
 
       -- ---- the closing words
 
@@ -460,7 +372,6 @@ module _ (Given : Fields → List ℕ → Fields → List ℕ → Type 0) where
           record {
             direction = u .direction;
             each = u .each;
-            receipts = u .receipts;
             step = stepped (c .step) (u .step);
             stage = k;
           }
@@ -479,8 +390,8 @@ module _ (Given : Fields → List ℕ → Fields → List ℕ → Type 0) where
           let g = subst At e (u .step) in
           ended-with word.Fetched
           (record {
-            held = g .0;
-            whole = place;
+            held = g;
+            whole = omega arith;
             got = got Given {p = p} a (ap form q ∙ form-receipt _ _ _ _) (said _ _ _ r (k .0));
             id = ap transaction q ∙ id-receipt _ _ _ _;
           })
@@ -488,8 +399,12 @@ module _ (Given : Fields → List ℕ → Fields → List ℕ → Type 0) where
       pub rest-run : Closes (restWord c)
       unfolding restWord ended
       rest-run =
-          subst (λ (w : Direction). Closes (closingWord w c)) (sym (u .direction))
-          (by-test Closes (c .receipted) (λ h. ended-with word.HeldUnconfirmed h) (λ h. ended-with word.NotFetched h))
+          subst (λ (w : Direction). Closes (closingWord w c)) (sym (u .direction)) (by (c .step) refl)
+        where
+          by : (s : Step) → c .step ≡ s → Closes (downloadWord s)
+          by step.Opening e = ended-with word.NotFetched (not-opening-receipt e)
+          by step.Segment e = ended-with word.NotFetched (not-segment-receipt e)
+          by step.Receipt e = ended-with word.HeldUnconfirmed e
 
     -- ---- the begin
 
@@ -498,7 +413,7 @@ module _ (Given : Fields → List ℕ → Fields → List ℕ → Type 0) where
         (issueOf next payload file time nonce ∷ issues)
     unfolding begun
     begun-run s first time nonce payload file issues z =
-        record { direction = refl; each = each; receipts = λ h. never h; step = (refl, refl, refl); stage = tt }
+        record { direction = refl; each = each; step = (refl, refl); stage = tt }
       where
         next : ClientRun
         next = begun (parametersOf Download s first) 0
@@ -507,8 +422,8 @@ module _ (Given : Fields → List ℕ → Fields → List ℕ → Type 0) where
         new = issueOf next payload file time nonce
 
         each : (x : Issue) → In x (new ∷ issues)
-            → DownloadIssue s (next .segments) (next .transaction) 0 false (fileAt (next .transaction)) x
+            → DownloadIssue s (next .segments) (next .transaction) step.Opening 0 (fileAt (next .transaction)) x
         each x (here e) =
             subst (DownloadIssue _ _ _ _ _ _) (sym e)
-            (outstanding-issue next payload file time nonce (new ∷ issues) refl step.Opening refl tt (refl, refl, refl))
+            (outstanding-issue next payload file time nonce (new ∷ issues) refl step.Opening refl tt (refl, refl))
         each x (there m) = absurd (in-none (subst (In x) z m))

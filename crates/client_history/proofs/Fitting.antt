@@ -169,7 +169,7 @@ file-fits f j n r d a b m e g k =
     let h = ap length g in
     let some = segment-some f j a w in
     let most = segment-most f j a w in
-    and-intro (and-intro (le-leb j maxSegments (omega arith)) (eq-eqb _ _ k))
+    and-intro (and-intro (and-intro (and-intro (le-leb 1 j a) (le-leb j n b)) (le-leb n maxSegments m)) (eq-eqb _ _ k))
     (data-at j n (length d) (eqb j n) refl (omega arith) (omega arith)
     (λ z. h ∙ segment-full f j a w (λ y. z (y ∙ sym e))))
 

@@ -72,7 +72,6 @@ module _ (Given : Fields → List ℕ → Fields → List ℕ → Type 0) (fileA
           Uploads.next-run Given c (p .payload) (p .file) (p .issues) u (a .running) (l .time) (l .nonce) s _ _
       upload-goes (change.download-opens w s g t) = not-both (u .direction) w
       upload-goes (change.brings w s g t) = not-both (u .direction) w
-      upload-goes (change.download-returns w s g t) = not-both (u .direction) w
       upload-goes (change.repeats t) =
           Uploads.repeated-run Given c (p .payload) (p .file) (p .issues) u (a .running) (l .time) (l .nonce)
           (upload-at (c .step) refl (upload-course (b .bounded .course) (u .direction)))
@@ -109,9 +108,7 @@ module _ (Given : Fields → List ℕ → Fields → List ℕ → Type 0) (fileA
           (answered Given fileAt bank p r d b g) room (l .time) (l .nonce) s t
       download-goes (change.brings {r} {d} w s g t) =
           Downloads.brought-run Given fileAt c (p .payload) (p .file) (p .issues) u (a .running) bank r d
-          (answered Given fileAt bank p r d b g) room (l .time) (l .nonce) s (place step.Segment s) t
-      download-goes (change.download-returns {r} w s g t) =
-          Downloads.returned Given fileAt c (p .payload) (p .file) (p .issues) u (a .running) (l .time) (l .nonce) r s t
+          (answered Given fileAt bank p r d b g) room (l .time) (l .nonce) s t
       download-goes (change.repeats t) =
           Downloads.repeated-run Given fileAt c (p .payload) (p .file) (p .issues) u (a .running) (l .time) (l .nonce)
           (place (c .step) refl)

@@ -3,7 +3,7 @@ use Prim.Native.Nat.{ℕ}
 use mathlib.Core.Bool.{true}
 use mathlib.Core.List.{List}
 use mathlib.Core.Logic.{inl, inr}
-use mathlib.Core.Path.{_≡_, refl, sym, subst}
+use mathlib.Core.Path.{_≡_, refl, sym, ap, subst}
 use native.Mathlib.Omega.{arith}
 use Rattle.frame_table.specs.declared.fields.Bits128.{Bits128}
 use Rattle.frame_table.specs.declared.fields.Fields.{Fields}
@@ -16,7 +16,7 @@ use Rattle.client_run.specs.declared.run.Step.{Step}
 use Rattle.client_run.specs.declared.run.Step.the-variants as step
 use Rattle.client_run.specs.declared.run.Word.{Word}
 use Rattle.client_run.specs.declared.run.Word.the-variants as word
-use Rattle.client_history.specs.History.{Issue, Past}
+use Rattle.client_history.specs.History.{Issue, Past, heldCount}
 use Rattle.client_history.specs.Invariant.{
   isOpen,
   DownloadIssue,
@@ -125,14 +125,14 @@ module _ (Given Later : Fields → List ℕ → Fields → List ℕ → Type 0)
         (f : isOpen (c .step) ≡ true → fileAt (c .transaction) ≡ fileLater (c .transaction)) where
       file-up : isOpen (c .step) ≡ true → FileHeld Given fileAt c file l → FileHeld Later fileLater c file l
       file-up o h =
-          subst (λ (g : List ℕ). HeldFile Later g (c .transaction) (c .segments) (c .held) (c .length) file l) (f o)
+          subst (λ (g : List ℕ). HeldFile Later g (c .transaction) (c .segments) (heldCount c) (c .length) file l) (f o)
           (held-up h)
 
       step-up : (s : Step) → isOpen s ≡ isOpen (c .step) → DownloadStep Given fileAt s c file l
           → DownloadStep Later fileLater s c file l
       step-up step.Opening e k = k
       step-up step.Segment e k = file-up (sym e) k
-      step-up step.Receipt e k = (file-up (sym e) (k .0), k .1)
+      step-up step.Receipt e k = file-up (sym e) k
 
       -- a run that holds a segment is open
       open-by : (s : Step) → DownloadStep Given fileAt s c file l → FileHeld Given fileAt c file l → isOpen s ≡ true
@@ -159,20 +159,19 @@ module _ (Given Later : Fields → List ℕ → Fields → List ℕ → Type 0)
       stage-up (stage.Ended w) k = word-up w k
 
       abbrev Issued : List ℕ → Issue → Type 0
-      Issued g x = DownloadIssue (c .subscriber) (c .segments) (c .transaction) (c .held) (c .receipted) g x
+      Issued g x = DownloadIssue (c .subscriber) (c .segments) (c .transaction) (c .step) (c .segment) g x
 
-      each-up : (s : Step) → isOpen s ≡ isOpen (c .step) → DownloadStep Given fileAt s c file l → (x : Issue)
+      each-up : (s : Step) → c .step ≡ s → DownloadStep Given fileAt s c file l → (x : Issue)
           → Issued (fileAt (c .transaction)) x
           → Issued (fileLater (c .transaction)) x
-      each-up step.Opening e k x i = unasked (k .0) i
-      each-up step.Segment e k x i = subst (λ (g : List ℕ). Issued g x) (f (sym e)) i
-      each-up step.Receipt e k x i = subst (λ (g : List ℕ). Issued g x) (f (sym e)) i
+      each-up step.Opening e k x i = unasked e (k .0) i
+      each-up step.Segment e k x i = subst (λ (g : List ℕ). Issued g x) (f (ap isOpen e)) i
+      each-up step.Receipt e k x i = subst (λ (g : List ℕ). Issued g x) (f (ap isOpen e)) i
 
       download-up : DownloadRun Later fileLater c file l
       download-up = record {
         direction = u .direction;
         each = λ x m. each-up (c .step) refl (u .step) x (u .each x m);
-        receipts = u .receipts;
         step = step-up (c .step) refl (u .step);
         stage = stage-up (c .stage) (u .stage);
       }

@@ -5,7 +5,7 @@ use mathlib.Core.List.{List}
 use mathlib.Core.Path.{_≡_, refl, sym, ap, _∙_, subst}
 use native.Mathlib.Omega.{arith}
 use lib.ListN.{length}
-use borrow.Author.Tests.{lt-ltb, le-leb, eq-eqb, ne-eqb}
+use borrow.Author.Tests.{lt-ltb, eq-eqb, ne-eqb}
 use Rattle.frame_table.specs.declared.fields.Bits128.{Bits128}
 use Rattle.frame_table.specs.declared.fields.Fields.{Fields}
 use Rattle.frame_table.specs.Forms as forms
@@ -80,7 +80,6 @@ use Rattle.client_history.proofs.Files.{most-segments}
 use Rattle.message.proofs.SegmentNumbers.{some-segment}
 use Rattle.client_rules.proofs.Accepted as rulings
 use Rattle.message.proofs.Verdicts.{by-test}
-use Rattle.client_history.proofs.NextRuns.{held-same}
 use Rattle.client_rules.proofs.Replies.{said, opened-says}
 use Rattle.client_history.proofs.Fitting.{
   and-intro,
@@ -164,23 +163,21 @@ next-in-turn : (k : ClientRun) (direction : Direction) (j : ℕ) (d payload file
     (k .exchange + 1)
 unfolding next goOn
 next-in-turn k direction j d payload file l p running w e z =
-    let s = held-same (length d) k in
     record {
-      running = s .0 .stage ∙ running;
-      direction = s .0 .direction ∙ w;
+      running = running;
+      direction = w;
       step =
-          ap (λ (x : Direction). stepAfter x (k .segment) (holding (length d) k .segments)) (s .0 .direction ∙ w)
-          ∙ ap (λ (x : ℕ). stepAfter direction x (holding (length d) k .segments)) e
-          ∙ ap (stepAfter direction j) (s .1 .segments);
+          ap (λ (x : Direction). stepAfter x (k .segment) (k .segments)) w
+          ∙ ap (λ (x : ℕ). stepAfter direction x (k .segments)) e;
       segment = ap (λ (x : ℕ). x + 1) e;
       repeats = z;
-      number = ap (λ (x : ℕ). x + 1) (s .0 .exchange);
+      number = refl;
     }
 
 next-known : (k : ClientRun) (d : List ℕ)
     → (next k d .transaction ≡ k .transaction) × (next k d .number ≡ k .number) × (next k d .segments ≡ k .segments)
 unfolding next goOn
-next-known k d = let s = held-same (length d) k .1 in (s .transaction, s .number, s .segments)
+next-known k d = (refl, refl, refl)
 
 module _ (p : Past) (frame : List ℕ) (l : Lent) (done : answerNumber (replyCall (p .run) frame l .answer) ≡ 0) where
   abbrev c : ClientRun
@@ -297,11 +294,7 @@ module _ (p : Past) (frame : List ℕ) (l : Lent) (done : answerNumber (replyCal
       let whole =
       file-fits f 1 (segments r) r d (omega arith) some few (sn ∙ m) g
       (ap lastMark e ∙ y .3 ∙ ap (lastMarkOf 1) (sym sn)) in
-      let fits =
-      and-intro
-      (and-intro (and-intro (and-intro (fits-says c r x) (eq-eqb (segment r) 1 (ap segment e ∙ y .2)))
-      (le-leb 1 _ some))
-      (le-leb _ _ few)) whole in
+      let fits = and-intro (and-intro (fits-says c r x) (eq-eqb (segment r) 1 (ap segment e ∙ y .2))) whole in
       let k = learned Download r c in
       let h = next-known k d in
       by-opened

@@ -35,7 +35,7 @@ use Rattle.client_run.proofs.Apart.{not-ended-running}
 use Rattle.client_rules.proofs.Accepted.{accepted, begins}
 use Rattle.client_history.proofs.Changes.{Move, Change}
 use Rattle.client_history.proofs.Changes as change
-use Rattle.client_history.proofs.NextRuns.{Same, Known, same, known, learned-same, held-same, opened-same}
+use Rattle.client_history.proofs.NextRuns.{Same, Known, same, known, learned-same, held-same, held-known}
 
 -- ---- a begun run
 
@@ -95,10 +95,9 @@ module _ (Given : Fields → List ℕ → Fields → List ℕ → Type 0) where
   moved p b l (change.takes w s g t) = goes-same p b _ _ _ _ _
   moved p b l (change.upload-returns w s g t) = goes-same p b _ _ _ _ _
   moved p b l (change.download-opens {r} {d} w s g t) =
-      goes-on p b _ _ _ 1 _ _ (opened-same Download (length d) r (p .run)) (opening s)
+      goes-on p b _ _ _ 1 _ _ (held-same (length d) _ (p .run) (learned-same Download r (p .run))) (opening s)
   moved p b l (change.brings {r} {d} w s g t) =
-      goes-on p b _ _ _ _ _ _ (held-same (length d) (p .run) .0) (λ h. held-same (length d) (p .run) .1)
-  moved p b l (change.download-returns w s g t) = goes-same p b _ _ _ _ _
+      goes-on p b _ _ _ _ _ _ (held-same (length d) _ (p .run) (same (p .run))) (λ h. held-known (length d) (p .run))
   moved p b l (change.repeats t) = repeats-same p b _ _ _
 
   steady-by : {p q : Past} → isBegun (p .run .stage) ≡ true → Change Given p q → Steady p q

@@ -1,9 +1,9 @@
 -- The main results, for the crates above: what holds of a client run after any events, and after fair ones.
 use Prim.Native.Nat.{ℕ, _+_, _<_, _≤_}
-use mathlib.Core.Bool.{Bool, true, false}
-use mathlib.Core.List.{List, List·Memᴰ as In, List·Memᴰ·not-nil as in-none}
+use mathlib.Core.Bool.{true, false}
+use mathlib.Core.List.{List, List·Memᴰ as In, List·Memᴰ·head as here, List·Memᴰ·not-nil as in-none}
 use mathlib.Core.Logic.{_⊎_, inl, inr}
-use mathlib.Core.Path.{_≡_, sym, ap, _∙_, subst}
+use mathlib.Core.Path.{_≡_, refl, sym, ap, _∙_, subst}
 use native.Mathlib.Omega.{arith}
 use lib.ListN.{length}
 use Rattle.frame_table.specs.declared.fields.Bits128.{Bits128}
@@ -33,7 +33,9 @@ use Rattle.client_history.specs.History.{
   Issue,
   Event,
   Past,
+  heldCount,
   heldOf,
+  issueOf,
   after,
   pastOf,
   BankReplies,
@@ -115,6 +117,7 @@ use Rattle.client_history.proofs.Requests.{
   form-downloadTransfer,
   form-receipt,
   segment-uploadTransfer,
+  is-receipt,
 }
 use Rattle.client_history.proofs.Stays
 
@@ -132,12 +135,12 @@ upload-form : {s n top : ℕ} {t : Bits128} {y : List ℕ} {x : Issue} → Uploa
 upload-form (uploadOpens number time nonce q d) = inl (ap form q ∙ form-uploadOpening _ _ _ _ _)
 upload-form (sends number j a c q d) = inr (ap form q ∙ form-uploadTransfer _ _ _ _ _)
 
-download-form : {s n held : ℕ} {t : Bits128} {b : Bool} {f : List ℕ} {x : Issue} → DownloadIssue s n t held b f x
+download-form : {s n next : ℕ} {t : Bits128} {at : Step} {f : List ℕ} {x : Issue} → DownloadIssue s n t at next f x
     → (form (x .request) ≡ forms.DownloadOpening)
     ⊎ ((form (x .request) ≡ forms.DownloadTransfer) ⊎ (form (x .request) ≡ forms.Receipt))
 download-form (downloadOpens number time nonce q d) = inl (ap form q ∙ form-downloadOpening _ _ _ _)
-download-form (asks number j a b c e q d) = inr (inl (ap form q ∙ form-downloadTransfer _ _ _ _))
-download-form (confirms number a b c e q d) = inr (inr (ap form q ∙ form-receipt _ _ _ _))
+download-form (asks number j a b c g q d) = inr (inl (ap form q ∙ form-downloadTransfer _ _ _ _))
+download-form (confirms number z a g q d) = inr (inr (ap form q ∙ form-receipt _ _ _ _))
 
 not-upload : {A : Type 0} {f x : Form} → (f ≡ forms.UploadOpening) ⊎ (f ≡ forms.UploadTransfer) → f ≡ x
     → (x ≡ forms.UploadOpening → _≡_ {A = ℕ} 0 1) → (x ≡ forms.UploadTransfer → _≡_ {A = ℕ} 0 1) → A
@@ -368,10 +371,10 @@ module _ (Given : Fields → List ℕ → Fields → List ℕ → Type 0) (fileA
               → FileHeld Given fileAt (p .run) (p .file) (p .issues)
           go step.Opening h k = never h
           go step.Segment h k = k
-          go step.Receipt h k = k .0
+          go step.Receipt h k = k
 
       -- with all segments held the run's file is the mailbox's at the opening
-      pub file-whole : isOpen (p .run .step) ≡ true → p .run .held ≡ p .run .segments
+      pub file-whole : isOpen (p .run .step) ≡ true → heldCount (p .run) ≡ p .run .segments
           → heldOf (p .run) (p .file) ≡ fileAt (p .run .transaction)
       file-whole o e = whole-file Given (file-held o) e
 
@@ -381,26 +384,32 @@ module _ (Given : Fields → List ℕ → Fields → List ℕ → Type 0) (fileA
           ⊎ ((form (x .request) ≡ forms.DownloadTransfer) ⊎ (form (x .request) ≡ forms.Receipt))
       download-forms x m = download-form (download-run .each x m)
 
-      -- `receipted`: a receipt was issued
-      pub receipted-issued : p .run .receipted ≡ true → Receipts (p .issues)
-      receipted-issued h = download-run .receipts h
+      -- at its step a receipt was issued: it is the newest issue
+      pub receipted-issued : p .run .step ≡ step.Receipt → Receipts (p .issues)
+      receipted-issued h =
+          let n = newest-outstanding b in
+          let x = issueOf (p .run) (p .payload) (p .file) (n .time) (n .nonce) in (
+            x,
+            subst (In x) (sym (n .are)) (here refl),
+            ap form (is-receipt (p .run) (n .time) (n .nonce) (p .payload) w h) ∙ form-receipt _ _ _ _,
+          )
 
     module _ (x : Issue) (m : In x (p .issues)) where
-      -- every download transfer asks for a segment up to the next one, under the run's transaction
-      pub segment-asked : form (x .request) ≡ forms.DownloadTransfer → SegmentAsked p x
+      -- card 10: every download transfer asks for the segment after those held, under the run's transaction
+      pub segment-asked : form (x .request) ≡ forms.DownloadTransfer → SegmentAsked p (fileAt (p .run .transaction)) x
       segment-asked e = go i
         where
           asked : p .run .direction ≡ Download
-              → DownloadIssue (p .run .subscriber) (p .run .segments) (p .run .transaction) (p .run .held)
-              (p .run .receipted)
-              (fileAt (p .run .transaction)) x → SegmentAsked p x
+              → DownloadIssue (p .run .subscriber) (p .run .segments) (p .run .transaction) (p .run .step)
+              (p .run .segment)
+              (fileAt (p .run .transaction)) x → SegmentAsked p (fileAt (p .run .transaction)) x
           asked w (downloadOpens number time nonce q d) =
               other-form e (ap form q ∙ form-downloadOpening _ _ _ _) (λ z. cc)
           asked w (asks number j a b c f q d) =
-              record { download-run = w; number = number; j = j; least = a; next = b; most = c; request = q }
-          asked w (confirms number a b c f q d) = other-form e (ap form q ∙ form-receipt _ _ _ _) (λ z. cc)
+              record { download-run = w; number = number; j = j; least = a; next = b; most = c; file = f; request = q }
+          asked w (confirms number z a f q d) = other-form e (ap form q ∙ form-receipt _ _ _ _) (λ z. cc)
 
-          go : Invariant Given fileAt p → SegmentAsked p x
+          go : Invariant Given fileAt p → SegmentAsked p (fileAt (p .run .transaction)) x
           go (not-begun f g) = absurd (in-none (subst (In x) g m))
           go (upload g u) = not-upload (upload-form (u .each x m)) e (λ z. cc) (λ z. cc)
           go (download g u) = asked (u .direction) (u .each x m)
@@ -419,14 +428,14 @@ module _ (Given : Fields → List ℕ → Fields → List ℕ → Type 0) (fileA
       receipt-issued e = go i
         where
           issued : p .run .direction ≡ Download
-              → DownloadIssue (p .run .subscriber) (p .run .segments) (p .run .transaction) (p .run .held)
-              (p .run .receipted)
+              → DownloadIssue (p .run .subscriber) (p .run .segments) (p .run .transaction) (p .run .step)
+              (p .run .segment)
               (fileAt (p .run .transaction)) x → ReceiptIssued p (fileAt (p .run .transaction)) x
           issued w (downloadOpens number time nonce q d) =
               other-form e (ap form q ∙ form-downloadOpening _ _ _ _) (λ z. cc)
           issued w (asks number j a b c f q d) = other-form e (ap form q ∙ form-downloadTransfer _ _ _ _) (λ z. cc)
-          issued w (confirms number a b c f q d) =
-              record { download-run = w; number = number; whole = a; receipted = c; file = f; request = q }
+          issued w (confirms number z a f q d) =
+              record { download-run = w; number = number; at = z; whole = omega arith; file = f; request = q }
 
           go : Invariant Given fileAt p → ReceiptIssued p (fileAt (p .run .transaction)) x
           go (not-begun f g) = absurd (in-none (subst (In x) g m))

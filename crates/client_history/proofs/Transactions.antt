@@ -2,7 +2,7 @@
 -- Assumes nothing.
 use Prim.Native.Nat.{ℕ}
 use mathlib.Core.List.{List, [], _∷_}
-use mathlib.Core.Path.{sym, subst, _∙_}
+use mathlib.Core.Path.{sym, subst}
 use native.Mathlib.Omega.{arith}
 use lib.ListN.{length}
 use Rattle.octets.specs.Bytes.{Bytes}
@@ -15,13 +15,13 @@ use Rattle.message.proofs.Writable.{Wide}
 use Rattle.client_run.specs.declared.run.ClientRun.{ClientRun}
 use Rattle.client_run.specs.declared.run.Decision.{Decision}
 use Rattle.client_run.specs.declared.run.Decision.the-variants.{Ignore, Opened, Advance, Return, Repeat, Close}
-use Rattle.client_run.specs.NextRun.{begun, goOn, repeated, learned, ended}
+use Rattle.client_run.specs.NextRun.{begun, goOn, repeated, ended}
 use Rattle.client_history.specs.Bounds.{Typed, typed-begin, typed-reply, typed-no-reply}
 use Rattle.client_history.specs.Bounds.{AllTyped, typed-more}
 use Rattle.client_history.specs.History.{Issue, Event, Past, pastOf}
 use Rattle.client_history.proofs.AnyEvent.{AnyChange, nothing, begins-with, goes, closes, Reads, any-change}
 use Rattle.client_history.proofs.Decided.{Issuing, nextOf}
-use Rattle.client_history.proofs.NextRuns.{held-same, learned-transaction}
+use Rattle.client_history.proofs.NextRuns.{learned-transaction}
 
 -- ---- what is read
 
@@ -35,10 +35,8 @@ pub next-wide : (decision : Decision) → Issuing decision → (c : ClientRun) (
     → Wide (c .transaction) → Wide (nextOf decision c r d .transaction)
 unfolding goOn repeated
 next-wide Ignore i c r d v w = absurd i
-next-wide Opened i c r d v w =
-    let k = learned (c .direction) r c in
-    subst Wide (sym (held-same d k .1 .transaction ∙ learned-transaction (c .direction) r c)) v
-next-wide Advance i c r d v w = subst Wide (sym (held-same d c .1 .transaction)) w
+next-wide Opened i c r d v w = subst Wide (sym (learned-transaction (c .direction) r c)) v
+next-wide Advance i c r d v w = w
 next-wide (Return s) i c r d v w = w
 next-wide Repeat i c r d v w = w
 next-wide (Close u) i c r d v w = absurd i

@@ -154,16 +154,16 @@ module _ (c : ClientRun) (issues : List Issue) (b : Bounded c issues) (v : Wide 
   down-segment-sent : DownloadCourse c q → c .step ≡ step.Segment → c .segment ≤ c .segments → Sent c l
   unfolding outstanding outstandingData
   down-segment-sent e s k =
-      let small = e .known .most in
+      let small = e .most in
       let w = download-transfer-written (c .subscriber) (c .exchange) sender (c .transaction) v (c .segment)
       (omega arith) in
-      sent w refl (omega arith) (rw (e .known .direction, s)) (rw (e .known .direction))
+      sent w refl (omega arith) (rw (e .direction, s)) (rw (e .direction))
 
   receipt-sent : DownloadCourse c q → c .step ≡ step.Receipt → Sent c l
   unfolding outstanding outstandingData
   receipt-sent e s =
       let w = receipt-written (c .subscriber) (c .exchange) sender (c .transaction) v 0 (omega arith) in
-      sent w refl (omega arith) (rw (e .known .direction, s)) (rw (e .known .direction))
+      sent w refl (omega arith) (rw (e .direction, s)) (rw (e .direction))
 
   course-sent : Course c q → Sent c l
   course-sent (uploading u) = at (u .place)

@@ -22,10 +22,10 @@ use Rattle.client_run.specs.Run.{Lent, lengthsOf, nonceBytes, notBegun, maxFirs
 use Rattle.client_rules.specs.Rulings.{isBegun, beginRuling, runRuling}
 use Rattle.client_history.specs.History.{Issue, Event, Begin, Reply, NoReply}
 
--- "An upload issues at most 6N + 1 requests, a download 6N + 6 (N is 0 while unknown)"
+-- "An upload issues at most 6N + 1 requests"; card 10: "Downloads then issue at most N + 6 requests" (N is 0 while unknown)
 abbrev pub maxRequests : Direction → ℕ → ℕ
 maxRequests Upload n = 6 * n + 1
-maxRequests Download n = 6 * n + 6
+maxRequests Download n = n + 6
 
 -- "Each request takes the next exchange number": the issues carry first, first + 1, ... up to before next, each once
 pub data Numbered (first : ℕ) : ℕ → List Issue → Type 0 where
@@ -50,32 +50,24 @@ pub record UploadCourse (c : ClientRun) (q : ℕ) : Type 0 where
   pub within : c .issued ≤ c .segments
   pub requests : q ≤ 1 + c .segment + c .repeats * c .segments
 
--- a download's opening is outstanding
+-- a download's opening is outstanding: it comes once, and once more with each repeat
 pub record OpeningCourse (c : ClientRun) (q : ℕ) : Type 0 where
   pub direction : c .direction ≡ Download
   pub at : c .step ≡ step.Opening
   pub unknown : c .segments ≡ 0
-  pub none : c .held ≡ 0
   pub requests : q ≤ 1 + c .repeats
-
--- a download whose N is known
-pub record SegmentsKnown (c : ClientRun) : Type 0 where
-  pub direction : c .direction ≡ Download
-  pub some : 1 ≤ c .segments
-  pub most : c .segments ≤ maxSegments
-  pub within : c .held ≤ c .segments
 
 -- the step of an open download and the place of its request: segment N + 1 stands for the receipt
 abbrev pub DownloadPlace : Step → ℕ → ℕ → Type 0
 DownloadPlace at s n = ((at ≡ step.Segment) × (s ≤ n)) ⊎ ((at ≡ step.Receipt) × (s ≡ n + 1))
 
--- an open download: each return costs at most N + 1 requests more, and so does each repeat
+-- an open download, with segment 1 held: each segment is asked for once, and once more with each repeat
 pub record DownloadCourse (c : ClientRun) (q : ℕ) : Type 0 where
-  pub known : SegmentsKnown c
-  pub first : 1 ≤ c .segment
-  pub next : c .segment ≤ c .held + 1
+  pub direction : c .direction ≡ Download
+  pub most : c .segments ≤ maxSegments
+  pub first : 2 ≤ c .segment
   pub place : DownloadPlace (c .step) (c .segment) (c .segments)
-  pub requests : q ≤ c .segment + c .repeats * (c .segments + 1)
+  pub requests : q ≤ c .segment + c .repeats
 
 pub data Course (c : ClientRun) (q : ℕ) : Type 0 where
   uploading : UploadCourse c q → Course c q

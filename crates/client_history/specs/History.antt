@@ -1,5 +1,5 @@
 -- The events of a client run, the requests that it issued, and which replies may reach it.
-use Prim.Native.Nat.{ℕ, _<_, _≤_}
+use Prim.Native.Nat.{ℕ, _-_, _<_, _≤_}
 use mathlib.Core.Bool.{true}
 use mathlib.Core.List.{List, [], _∷_, List·Memᴰ as In}
 use mathlib.Core.Path.{_≡_}
@@ -44,6 +44,10 @@ pub record Past : Type 0 where
 -- a run not begun
 abbrev pub start : Past
 start = record { run = notBegun; payload = []; file = []; issues = [] }
+
+-- the segments that a download holds: those before the outstanding one, where N + 1 stands for the receipt
+abbrev pub heldCount : ClientRun → ℕ
+heldCount c = c .segment - 1
 
 -- "A run's file is its file buffer up to the end of the last segment held"
 abbrev pub heldOf : ClientRun → List ℕ → List ℕ

@@ -1,5 +1,5 @@
 -- What holds of a client run and of all that it issued, over which reply was given to which request.
-use Prim.Native.Nat.{ℕ, _+_, _*_, _<_, _≤_}
+use Prim.Native.Nat.{ℕ, _+_, _-_, _*_, _<_, _≤_}
 use mathlib.Core.Bool.{Bool, true, false}
 use mathlib.Core.List.{List, [], _∷_, List·Memᴰ as In}
 use mathlib.Core.Logic.{_⊎_}
@@ -29,7 +29,7 @@ use Rattle.client_run.specs.Requests.{outstanding, outstandingData}
 use Rattle.client_run.specs.Run.{notBegun}
 use Rattle.client_rules.specs.Rulings.{isBegun}
 use Rattle.client_history.specs.Bounds.{Bounded}
-use Rattle.client_history.specs.History.{Issue, Past, issueOf}
+use Rattle.client_history.specs.History.{Issue, Past, heldCount, issueOf}
 
 -- ---- THE REQUESTS ISSUED
 
@@ -55,18 +55,20 @@ pub data UploadIssue (s n : ℕ) (t : Bits128) (top : ℕ) (payload : List ℕ) 
       → x .requestData ≡ segmentOf payload j
       → UploadIssue s n t top payload x
 
--- what a download of the file f, of n segments under the transaction t, issues while it holds segments 1 to held
-pub data DownloadIssue (s n : ℕ) (t : Bits128) (held : ℕ) (receipted : Bool) (f : List ℕ) (x : Issue) : Type 0 where
+-- what a download of the file f, of n segments under the transaction t, issues up to the step `at` and the segment `next`
+pub data DownloadIssue (s n : ℕ) (t : Bits128) (at : Step) (next : ℕ) (f : List ℕ) (x : Issue) : Type 0 where
   downloadOpens : (number time : ℕ) (nonce : Bits128) → x .request ≡ downloadOpening s number nonce time
       → x .requestData ≡ []
-      → DownloadIssue s n t held receipted f x
-  asks : (number j : ℕ) → 1 ≤ j → j ≤ held + 1 → j ≤ n → 1 ≤ held → x .request ≡ downloadTransfer s number t j
+      → DownloadIssue s n t at next f x
+  -- as it asks for segment j it holds segments 1 to j - 1, so no held segment is ever asked for
+  asks : (number j : ℕ) → 2 ≤ j → j ≤ next → j ≤ n → x .file ≡ take (segmentBytes * (j - 1)) f
+      → x .request ≡ downloadTransfer s number t j
       → x .requestData ≡ []
-      → DownloadIssue s n t held receipted f x
+      → DownloadIssue s n t at next f x
   -- "the run held the whole when, as it issued that receipt, its file was the mailbox's"
-  confirms : (number : ℕ) → held ≡ n → 1 ≤ held → receipted ≡ true → x .file ≡ f → x .request ≡ receipt s number t 0
+  confirms : (number : ℕ) → at ≡ step.Receipt → next ≡ n + 1 → x .file ≡ f → x .request ≡ receipt s number t 0
       → x .requestData ≡ []
-      → DownloadIssue s n t held receipted f x
+      → DownloadIssue s n t at next f x
 
 -- the run's transaction is known: its opening was answered
 abbrev pub isOpen : Step → Bool
@@ -98,22 +100,23 @@ pub record SegmentSent (p : Past) (x : Issue) : Type 0 where
       (lastMarkOf j (p .run .segments))
   pub bytes : x .requestData ≡ segmentOf (p .payload) j
 
--- a download transfer issued: segment j is asked for
-pub record SegmentAsked (p : Past) (x : Issue) : Type 0 where
+-- a download transfer issued: segment j of the file f is asked for, with segments 1 to j - 1 held
+pub record SegmentAsked (p : Past) (f : List ℕ) (x : Issue) : Type 0 where
   pub download-run : p .run .direction ≡ Download
   pub number : ℕ
   pub j : ℕ
-  pub least : 1 ≤ j
-  pub next : j ≤ p .run .held + 1
+  pub least : 2 ≤ j
+  pub next : j ≤ p .run .segment
   pub most : j ≤ p .run .segments
+  pub file : x .file ≡ take (segmentBytes * (j - 1)) f
   pub request : x .request ≡ downloadTransfer (p .run .subscriber) number (p .run .transaction) j
 
 -- a receipt issued, over the whole file f
 pub record ReceiptIssued (p : Past) (f : List ℕ) (x : Issue) : Type 0 where
   pub download-run : p .run .direction ≡ Download
   pub number : ℕ
-  pub whole : p .run .held ≡ p .run .segments
-  pub receipted : p .run .receipted ≡ true
+  pub at : p .run .step ≡ step.Receipt
+  pub whole : heldCount (p .run) ≡ p .run .segments
   pub file : x .file ≡ f
   pub request : x .request ≡ receipt (p .run .subscriber) number (p .run .transaction) 0
 
@@ -223,17 +226,17 @@ module _ (Given : Fields → List ℕ → Fields → List ℕ → Type 0) where
   module _ (fileAt : Bits128 → List ℕ) where
     abbrev pub FileHeld : ClientRun → List ℕ → List Issue → Type 0
     FileHeld c file issues =
-        HeldFile (fileAt (c .transaction)) (c .transaction) (c .segments) (c .held) (c .length) file issues
+        HeldFile (fileAt (c .transaction)) (c .transaction) (c .segments) (heldCount c) (c .length) file issues
 
     abbrev pub DownloadStep : Step → ClientRun → List ℕ → List Issue → Type 0
-    DownloadStep step.Opening c file issues = (c .held ≡ 0) × (c .length ≡ 0) × (c .receipted ≡ false)
+    DownloadStep step.Opening c file issues = (c .segment ≡ 0) × (c .length ≡ 0)
     DownloadStep step.Segment c file issues = FileHeld c file issues
-    DownloadStep step.Receipt c file issues = FileHeld c file issues × (c .receipted ≡ true)
+    DownloadStep step.Receipt c file issues = FileHeld c file issues
 
     -- "fetched (011000)"
     pub record Confirmed (c : ClientRun) (file : List ℕ) (issues : List Issue) : Type 0 where
       pub held : FileHeld c file issues
-      pub whole : c .held ≡ c .segments
+      pub whole : heldCount c ≡ c .segments
       pub got : Got issues forms.Receipt forms.ReceiptAnswered code.DownloadPostprocessDone
       pub id : transaction (got .issue .request) ≡ c .transaction
 
@@ -242,8 +245,8 @@ module _ (Given : Fields → List ℕ → Fields → List ℕ → Type 0) where
     DownloadWord word.NotLodged c file issues = ⊥
     DownloadWord word.Unclear c file issues = ⊥
     DownloadWord word.Fetched c file issues = Confirmed c file issues
-    DownloadWord word.HeldUnconfirmed c file issues = c .receipted ≡ true
-    DownloadWord word.NotFetched c file issues = c .receipted ≡ false
+    DownloadWord word.HeldUnconfirmed c file issues = c .step ≡ step.Receipt
+    DownloadWord word.NotFetched c file issues = c .step ≡ step.Receipt → ⊥
 
     abbrev pub DownloadStage : Stage → ClientRun → List ℕ → List Issue → Type 0
     DownloadStage stage.NotBegun c file issues = ⊥
@@ -253,9 +256,8 @@ module _ (Given : Fields → List ℕ → Fields → List ℕ → Type 0) where
     pub record DownloadRun (c : ClientRun) (file : List ℕ) (issues : List Issue) : Type 0 where
       pub direction : c .direction ≡ Download
       pub each : (x : Issue) → In x issues
-          → DownloadIssue (c .subscriber) (c .segments) (c .transaction) (c .held) (c .receipted)
+          → DownloadIssue (c .subscriber) (c .segments) (c .transaction) (c .step) (c .segment)
           (fileAt (c .transaction)) x
-      pub receipts : c .receipted ≡ true → Receipts issues
       pub step : DownloadStep (c .step) c file issues
       pub stage : DownloadStage (c .stage) c file issues
 

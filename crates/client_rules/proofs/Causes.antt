@@ -1,5 +1,5 @@
 -- What led to a decision: each rule of the definitions as a case, and what its tests tell. Assumes nothing.
-use Prim.Native.Nat.{ℕ, _+_, _<_, _≤_}
+use Prim.Native.Nat.{ℕ, _<_, _≤_}
 use mathlib.Core.Bool.{Bool, true, false}
 use mathlib.Core.Logic.{_⊎_, inl, inr}
 use mathlib.Core.Path.{_≡_, refl, sym, subst}
@@ -33,9 +33,7 @@ use Rattle.client_rules.specs.Decisions.{
   fitsData,
   fitsSegment,
   isPoint,
-  goesBack,
   uploadReturns,
-  downloadReturns,
   opensDownload,
   lodges,
   takesSegment,
@@ -66,9 +64,6 @@ pub data Cause (c : ClientRun) (r : Fields) (d : ℕ) : Decision → Type 0 wher
       → Cause c r d Opened
   segment-brought : c .direction ≡ Download → c .step ≡ step.Segment → isAnswer c r ≡ true → bringsSegment c r d ≡ true
       → Cause c r d Advance
-  download-returned : c .direction ≡ Download → (c .step ≡ step.Segment) ⊎ (c .step ≡ step.Receipt)
-      → isAnswer c r ≡ true
-      → downloadReturns c r ≡ true → Cause c r d (Return (segment r))
   fetched : c .direction ≡ Download → c .step ≡ step.Receipt → isAnswer c r ≡ true → confirms c r ≡ true
       → Cause c r d (Close word.Fetched)
   -- any other or ill-fitting reply, and the sixth repeat or return
@@ -94,11 +89,9 @@ module _ (c : ClientRun) (r : Fields) (d : ℕ) where
   by-download direction a step.Opening s =
       by-test (Cause c r d) (opensDownload d r) (download-opened direction s a) (λ _. rest)
   by-download direction a step.Segment s =
-      by-test (Cause c r d) (bringsSegment c r d) (segment-brought direction s a) λ _.
-      by-test (Cause c r d) (downloadReturns c r) (download-returned direction (inl s) a) (λ _. rest)
+      by-test (Cause c r d) (bringsSegment c r d) (segment-brought direction s a) (λ _. rest)
   by-download direction a step.Receipt s =
-      by-test (Cause c r d) (confirms c r) (fetched direction s a) λ _.
-      by-test (Cause c r d) (downloadReturns c r) (download-returned direction (inr s) a) (λ _. rest)
+      by-test (Cause c r d) (confirms c r) (fetched direction s a) (λ _. rest)
 
   by-answer : isAnswer c r ≡ true → (direction : Direction) → c .direction ≡ direction
       → Cause c r d (onAnswer direction c r d)
@@ -123,32 +116,24 @@ pub repeats-left : (c : ClientRun) → mayRepeat c ≡ true → c .repeats < max
 unfolding mayRepeat
 repeats-left c h = ltb-true (c .repeats) maxAttempts h
 
--- a run goes on from r
-pub record Point (first end top : ℕ) (c : ClientRun) (r : Fields) : Type 0 where
-  pub below : segment r < end
-  pub reached : segment r ≤ top
+-- an upload goes on from r
+pub record Point (c : ClientRun) (r : Fields) : Type 0 where
+  pub below : segment r < c .segments
+  pub reached : segment r ≤ c .issued
   pub left : c .repeats < maxAttempts
-  pub point : isPoint first c r ≡ true
+  pub point : isPoint c r ≡ true
 
-point-of : (first end top : ℕ) (c : ClientRun) (r : Fields) → goesBack first end top c r ≡ true → Point first end top c r
-unfolding goesBack
-point-of first end top c r h =
+pub upload-point : (c : ClientRun) (r : Fields) → uploadReturns c r ≡ true → Point c r
+unfolding uploadReturns
+upload-point c r h =
     let a = and-true _ (mayRepeat c) h in
-    let b = and-true _ (leb (segment r) top) (a .0) in
-    let e = and-true (isPoint first c r) (ltb (segment r) end) (b .0) in record {
-      below = ltb-true (segment r) end (e .1);
-      reached = leb-true (segment r) top (b .1);
+    let b = and-true _ (leb (segment r) (c .issued)) (a .0) in
+    let e = and-true (isPoint c r) (ltb (segment r) (c .segments)) (b .0) in record {
+      below = ltb-true (segment r) (c .segments) (e .1);
+      reached = leb-true (segment r) (c .issued) (b .1);
       left = repeats-left c (a .1);
       point = e .0;
     }
-
-pub upload-point : (c : ClientRun) (r : Fields) → uploadReturns c r ≡ true → Point 0 (c .segments) (c .issued) c r
-unfolding uploadReturns
-upload-point c r h = point-of 0 (c .segments) (c .issued) c r h
-
-pub download-point : (c : ClientRun) (r : Fields) → downloadReturns c r ≡ true → Point 1 (maxSegments + 1) (c .held) c r
-unfolding downloadReturns
-download-point c r h = point-of 1 (maxSegments + 1) (c .held) c r h
 
 -- d bytes are segment s of n
 pub record Whole (s n d : ℕ) : Type 0 where
@@ -171,7 +156,9 @@ whole-at s n d false e h =
 
 -- the reply has segment s of n
 pub record HasSegment (s n d : ℕ) (r : Fields) : Type 0 where
-  pub place : s ≤ maxSegments
+  pub some : 1 ≤ s
+  pub within : s ≤ n
+  pub most : n ≤ maxSegments
   pub mark : lastMark r ≡ lastMarkOf s n
   pub bytes : Whole s n d
 
@@ -179,8 +166,12 @@ pub has-segment : (s n d : ℕ) (r : Fields) → fitsSegment s n d r ≡ true �
 unfolding fitsSegment
 has-segment s n d r h =
     let a = and-true _ (fitsData s n d) h in
-    let b = and-true (leb s maxSegments) (eqb (lastMark r) (lastMarkOf s n)) (a .0) in record {
-      place = leb-true s maxSegments (b .0);
+    let b = and-true _ (eqb (lastMark r) (lastMarkOf s n)) (a .0) in
+    let e = and-true _ (leb n maxSegments) (b .0) in
+    let g = and-true (leb 1 s) (leb s n) (e .0) in record {
+      some = leb-true 1 s (g .0);
+      within = leb-true s n (g .1);
+      most = leb-true n maxSegments (e .1);
       mark = eqb-true (lastMark r) (lastMarkOf s n) (b .1);
       bytes = whole-at s n d (eqb s n) refl (a .1);
     }
@@ -215,20 +206,13 @@ brought c r d h =
 -- a download is opened with segment 1 of N
 pub record OpensDownload (r : Fields) (d : ℕ) : Type 0 where
   pub first : segment r ≡ 1
-  pub some : 1 ≤ segments r
-  pub most : segments r ≤ maxSegments
   pub segment-1 : HasSegment 1 (segments r) d r
 
 pub opens : (r : Fields) (d : ℕ) → opensDownload d r ≡ true → OpensDownload r d
 unfolding opensDownload
 opens r d h =
-    let n = segments r in
-    let a = and-true _ (fitsSegment 1 n d r) h in
-    let b = and-true _ (leb n maxSegments) (a .0) in
-    let e = and-true _ (leb 1 n) (b .0) in
-    let g = and-true (says forms.DownloadOpened code.Ok initialisationPhase r) (eqb (segment r) 1) (e .0) in record {
-      first = eqb-true (segment r) 1 (g .1);
-      some = leb-true 1 n (e .1);
-      most = leb-true n maxSegments (b .1);
-      segment-1 = has-segment 1 n d r (a .1);
+    let a = and-true _ (fitsSegment 1 (segments r) d r) h in
+    let b = and-true (says forms.DownloadOpened code.Ok initialisationPhase r) (eqb (segment r) 1) (a .0) in record {
+      first = eqb-true (segment r) 1 (b .1);
+      segment-1 = has-segment 1 (segments r) d r (a .1);
     }

@@ -4,7 +4,7 @@ use mathlib.Core.Bool.{Bool, true, false, not, _||_}
 use mathlib.Core.List.{_∷_}
 use mathlib.Core.Logic.{_⊎_, inl, inr}
 use mathlib.Core.Path.{_≡_, refl, sym, ap, _∙_}
-use lib.Dec.{leb, eqb}
+use lib.Dec.{eqb}
 use lib.ListN.{getD}
 use borrow.Author.Tests.{eqb-true, eq-eqb, not-true}
 use Rattle.frame_table.specs.declared.fields.Fields.{Fields}
@@ -22,7 +22,7 @@ use Rattle.frame_table.proofs.Bits.{bits-same}
 use Rattle.message.specs.declared.codes.ReturnCode.{ReturnCode}
 use Rattle.message.specs.declared.codes.ReturnCode.the-variants as code
 use Rattle.message.specs.Codes.{codeField}
-use Rattle.message.specs.Limits.{maxSegments, initialisationPhase, transferPhase}
+use Rattle.message.specs.Limits.{initialisationPhase, transferPhase}
 use Rattle.client_run.specs.declared.run.ClientRun.{ClientRun}
 use Rattle.client_rules.specs.Decisions.{
   requestIndex,
@@ -89,9 +89,7 @@ pub opened-says : (d : ℕ) (r : Fields) → opensDownload d r ≡ true
 unfolding opensDownload
 opened-says d r h =
     let a = and-true _ (fitsSegment 1 (segments r) d r) h in
-    let b = and-true _ (leb (segments r) maxSegments) (a .0) in
-    let e = and-true _ (leb 1 (segments r)) (b .0) in
-    said _ _ _ r (and-true (says forms.DownloadOpened code.Ok initialisationPhase r) (eqb (segment r) 1) (e .0) .0)
+    said _ _ _ r (and-true (says forms.DownloadOpened code.Ok initialisationPhase r) (eqb (segment r) 1) (a .0) .0)
 
 -- "the run's transaction ID"
 pub own-id : (c : ClientRun) (r : Fields) → isOwn c r ≡ true → transaction r ≡ c .transaction

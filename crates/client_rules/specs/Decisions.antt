@@ -1,5 +1,5 @@
 -- "The client run": what fits each step, and what each event leads to.
-use Prim.Native.Nat.{ℕ, _+_}
+use Prim.Native.Nat.{ℕ}
 use mathlib.Core.Bool.{Bool, not, cond, _&&_, _||_}
 use mathlib.Core.List.{List, [], _∷_}
 use lib.Dec.{ltb, leb, eqb}
@@ -78,12 +78,17 @@ says x c p r = eqb (formIndex (form r)) (formIndex x) && eqb (returnCode r) (cod
 unfoldable pub isOwn : ClientRun → Fields → Bool
 isOwn c r = sameBits (transaction r) (c .transaction)
 
--- a closing word where nothing else is said.
--- Upload: "not lodged (segment N never issued ...); else unclear".
--- Download: "held, unconfirmed (a receipt was issued); else not fetched"
+-- a download's closing word where nothing else is said: "held, unconfirmed (a receipt was issued); else not fetched".
+-- After its receipt a download issues nothing else
+abbrev pub downloadWord : Step → Word
+downloadWord step.Opening = word.NotFetched
+downloadWord step.Segment = word.NotFetched
+downloadWord step.Receipt = word.HeldUnconfirmed
+
+-- either direction's; an upload's: "not lodged (segment N never issued ...); else unclear"
 abbrev pub closingWord : Direction → ClientRun → Word
 closingWord Upload c = cond (ltb (c .issued) (c .segments)) word.NotLodged word.Unclear
-closingWord Download c = cond (c .receipted) word.HeldUnconfirmed word.NotFetched
+closingWord Download c = downloadWord (c .step)
 
 unfoldable pub restWord : ClientRun → Word
 restWord c = closingWord (c .direction) c
@@ -109,39 +114,27 @@ answersSegment x c r = says x code.Ok transferPhase r && isOwn c r && eqb (segme
 unfoldable pub fitsData : ℕ → ℕ → ℕ → Bool
 fitsData s n d = cond (eqb s n) (leb 1 d && leb d segmentBytes) (eqb d segmentBytes)
 
--- "... with last mark 1 there only"; no call leaves s over the most segments
+-- "... with last mark 1 there only"; "a download's N must be 1 to" the most segments, and no call leaves an s outside 1
+-- to N
 unfoldable pub fitsSegment : ℕ → ℕ → ℕ → Fields → Bool
-fitsSegment s n d r = leb s maxSegments && eqb (lastMark r) (lastMarkOf s n) && fitsData s n d
+fitsSegment s n d r =
+    leb 1 s && leb s n && leb n maxSegments && eqb (lastMark r) (lastMarkOf s n) && fitsData s n d
 
--- "a recovery point has instead its point's phase, as under the frame, and its own r": phase 1 is that of the point
--- after segment first: "1 for segment 0 of an upload, else 2"; a download "counts as phase 1 while only" segment 1
--- "is delivered"
-unfoldable pub isPoint : ℕ → ClientRun → Fields → Bool
-isPoint first c r =
-    says forms.SegmentTaken code.RecoverySync (cond (eqb (segment r) first) initialisationPhase transferPhase) r
-    && isOwn c r
+-- "a recovery point has instead its point's phase, as under the frame, and its own r": "1 for segment 0 of an upload,
+-- else 2"
+unfoldable pub isPoint : ClientRun → Fields → Bool
+isPoint c r =
+    says forms.SegmentTaken code.RecoverySync (cond (eqb (segment r) 0) initialisationPhase transferPhase) r && isOwn c r
 
--- a recovery point leads on, as one of five, if it is below a number of segments and at most the last that the run
--- reached
-unfoldable pub goesBack : ℕ → ℕ → ℕ → ClientRun → Fields → Bool
-goesBack first below reached c r = isPoint first c r && ltb (segment r) below && leb (segment r) reached && mayRepeat c
-
--- an upload's "if r < N and segment r + 1 was issued or is next"
+-- an upload goes on from a recovery point, as one of five, "if r < N and segment r + 1 was issued or is next"
 unfoldable pub uploadReturns : ClientRun → Fields → Bool
-uploadReturns c r = goesBack 0 (c .segments) (c .issued) c r
+uploadReturns c r =
+    isPoint c r && ltb (segment r) (c .segments) && leb (segment r) (c .issued) && mayRepeat c
 
--- a download's "if segments 1 to r are held" (no call leaves more than the most)
-unfoldable pub downloadReturns : ClientRun → Fields → Bool
-downloadReturns c r = goesBack 1 (maxSegments + 1) (c .held) c r
-
--- a download's opening is answered: "a download's N must be 1 to" the most segments, "segment 1 is in it"
+-- a download's opening is answered: "segment 1 is in it"
 unfoldable pub opensDownload : ℕ → Fields → Bool
 opensDownload d r =
-    says forms.DownloadOpened code.Ok initialisationPhase r
-    && eqb (segment r) 1
-    && leb 1 (segments r)
-    && leb (segments r) maxSegments
-    && fitsSegment 1 (segments r) d r
+    says forms.DownloadOpened code.Ok initialisationPhase r && eqb (segment r) 1 && fitsSegment 1 (segments r) d r
 
 -- "lodged (segment N answered 000000)"
 unfoldable pub lodges : ClientRun → Fields → Bool
@@ -171,11 +164,12 @@ uploadRules step.Segment c r =
     ∷ []
 uploadRules step.Receipt c r = []
 
--- the same in a download; d is the length of the reply's data
+-- the same in a download; d is the length of the reply's data. Card 10: 061101 "ends the run like any other ill-fitting
+-- one"
 abbrev pub downloadRules : Step → ClientRun → Fields → ℕ → List (Bool × Decision)
 downloadRules step.Opening c r d = (opensDownload d r, Opened) ∷ []
-downloadRules step.Segment c r d = (bringsSegment c r d, Advance) ∷ (downloadReturns c r, Return (segment r)) ∷ []
-downloadRules step.Receipt c r d = (confirms c r, Close word.Fetched) ∷ (downloadReturns c r, Return (segment r)) ∷ []
+downloadRules step.Segment c r d = (bringsSegment c r d, Advance) ∷ []
+downloadRules step.Receipt c r d = (confirms c r, Close word.Fetched) ∷ []
 
 -- "the sixth ends the run, as does any other or ill-fitting reply"
 unfoldable pub onUpload : Step → ClientRun → Fields → Decision

@@ -23,10 +23,10 @@ ghost use mathlib.Core.Path.{_≡_};
 ghost use mathlib.Core.Bool.{cond};
 ghost use lib.Dec.{eqb};
 ghost use Rattle.message.specs.Limits.{initialisationPhase, transferPhase};
-ghost use Rattle.client_rules.specs.Decisions.{requestIndex, replyIndex, formIndex, says, isOwn, closingWord, restWord};
-ghost use Rattle.client_rules.specs.Decisions.{mayRepeat, endsUpload, answersSegment, fitsData, fitsSegment, isPoint};
-ghost use Rattle.client_rules.specs.Decisions.{goesBack, uploadReturns, downloadReturns, opensDownload, lodges};
-ghost use Rattle.client_rules.specs.Decisions.{takesSegment, bringsSegment, confirms};
+ghost use Rattle.client_rules.specs.Decisions.{requestIndex, replyIndex, formIndex, says, isOwn, downloadWord, closingWord};
+ghost use Rattle.client_rules.specs.Decisions.{restWord, mayRepeat, endsUpload, answersSegment, fitsData, fitsSegment};
+ghost use Rattle.client_rules.specs.Decisions.{isPoint, uploadReturns, opensDownload, lodges, takesSegment};
+ghost use Rattle.client_rules.specs.Decisions.{bringsSegment, confirms};
 ghost use Rattle.client_rules.specs.Decisions.{onUpload, onDownload, onAnswer, isAnswer, onReply, onNoReply};
 
 // The place of a form in document 01's list with that of card 8, requests first.
@@ -99,13 +99,14 @@ fn upload_word(c: ClientRun) -> Word
 }
 
 // The closing word of a download where nothing else is said.
-fn download_word(c: ClientRun) -> Word
-    ensures { λ w. ⌜ w ≡ closingWord Direction.Download c ⌝ }
+fn download_word(step: Step) -> Word
+    ensures { λ w. ⌜ w ≡ downloadWord step ⌝ }
 {
-    if c.receipted {
-        return Word::HeldUnconfirmed;
+    match step {
+        Step::Opening => Word::NotFetched,
+        Step::Segment => Word::NotFetched,
+        Step::Receipt => Word::HeldUnconfirmed,
     }
-    Word::NotFetched
 }
 
 // The closing word where nothing else is said.
@@ -113,9 +114,10 @@ pub(crate) fn rest_word(c: ClientRun) -> Word
     ensures { λ w. ⌜ w ≡ restWord c ⌝ }
 {
     let direction = c.direction;
+    let step = c.step;
     match direction {
         Direction::Upload => upload_word(c),
-        Direction::Download => download_word(c),
+        Direction::Download => download_word(step),
     }
 }
 
@@ -184,7 +186,13 @@ fn fits_data(s: u64, n: u64, d: usize) -> bool
 fn fits_segment(s: u64, n: u64, d: usize, r: Fields) -> bool
     ensures { λ b. ⌜ b ≡ fitsSegment s n d r ⌝ }
 {
-    if MAX_SEGMENTS < s {
+    if s < 1 {
+        return false;
+    }
+    if n < s {
+        return false;
+    }
+    if MAX_SEGMENTS < n {
         return false;
     }
     if r.last_mark() != last_mark_of(s, n) {
@@ -193,21 +201,21 @@ fn fits_segment(s: u64, n: u64, d: usize, r: Fields) -> bool
     fits_data(s, n, d)
 }
 
-// The phase of a recovery point after a segment; it is 1 after segment `first` alone.
-fn point_phase(segment: u64, first: u64) -> u64
-    ensures { λ p. ⌜ p ≡ cond (eqb segment first) initialisationPhase transferPhase ⌝ }
+// The phase of an upload's recovery point after a segment.
+fn point_phase(segment: u64) -> u64
+    ensures { λ p. ⌜ p ≡ cond (eqb segment 0) initialisationPhase transferPhase ⌝ }
 {
-    if segment == first {
+    if segment == 0 {
         return INITIALISATION_PHASE;
     }
     TRANSFER_PHASE
 }
 
-// Whether the reply is a recovery point of the run.
-fn is_point(first: u64, c: ClientRun, r: Fields) -> bool
-    ensures { λ b. ⌜ b ≡ isPoint first c r ⌝ }
+// Whether the reply is a recovery point of the upload.
+fn is_point(c: ClientRun, r: Fields) -> bool
+    ensures { λ b. ⌜ b ≡ isPoint c r ⌝ }
 {
-    let phase = point_phase(r.segment(), first);
+    let phase = point_phase(r.segment());
     if !says(
         Form::Reply(ReplyForm::SegmentTaken),
         ReturnCode::RecoverySync,
@@ -219,36 +227,22 @@ fn is_point(first: u64, c: ClientRun, r: Fields) -> bool
     is_own(c, r)
 }
 
-// Whether the reply is a recovery point to go on from: below a number of segments, at most the last reached, and a
+// Whether the reply is a recovery point that the upload goes on from: before segment N, at most the last issued, and a
 // return left.
-fn goes_back(first: u64, below: u64, reached: u64, c: ClientRun, r: Fields) -> bool
-    ensures { λ b. ⌜ b ≡ goesBack first below reached c r ⌝ }
-{
-    if !is_point(first, c, r) {
-        return false;
-    }
-    let point = r.segment();
-    if below <= point {
-        return false;
-    }
-    if reached < point {
-        return false;
-    }
-    may_repeat(c)
-}
-
-// Whether the reply is a recovery point that an upload goes on from.
 fn upload_returns(c: ClientRun, r: Fields) -> bool
     ensures { λ b. ⌜ b ≡ uploadReturns c r ⌝ }
 {
-    goes_back(0, c.segments, c.issued, c, r)
-}
-
-// Whether the reply is a recovery point that a download goes on from.
-fn download_returns(c: ClientRun, r: Fields) -> bool
-    ensures { λ b. ⌜ b ≡ downloadReturns c r ⌝ }
-{
-    goes_back(1, MAX_SEGMENTS + 1, c.held, c, r)
+    if !is_point(c, r) {
+        return false;
+    }
+    let point = r.segment();
+    if c.segments <= point {
+        return false;
+    }
+    if c.issued < point {
+        return false;
+    }
+    may_repeat(c)
 }
 
 // Whether the reply, with d bytes of data, answers a download's opening.
@@ -266,14 +260,7 @@ fn opens_download(d: usize, r: Fields) -> bool
     if r.segment() != 1 {
         return false;
     }
-    let n = r.segments();
-    if n < 1 {
-        return false;
-    }
-    if MAX_SEGMENTS < n {
-        return false;
-    }
-    fits_segment(1, n, d, r)
+    fits_segment(1, r.segments(), d, r)
 }
 
 // An upload's opening is outstanding.
@@ -357,9 +344,6 @@ fn on_download_segment(c: ClientRun, r: Fields, d: usize) -> Decision
     if brings_segment(c, r, d) {
         return Decision::Advance;
     }
-    if download_returns(c, r) {
-        return Decision::Return(r.segment());
-    }
     Decision::Close(rest_word(c))
 }
 
@@ -384,9 +368,6 @@ fn on_receipt(c: ClientRun, r: Fields) -> Decision
 {
     if confirms(c, r) {
         return Decision::Close(Word::Fetched);
-    }
-    if download_returns(c, r) {
-        return Decision::Return(r.segment());
     }
     Decision::Close(rest_word(c))
 }

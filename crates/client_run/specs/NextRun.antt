@@ -1,12 +1,13 @@
 -- "A client run is handed in and handed back at each call": the next run, by what the event led to.
-use Prim.Native.Nat.{ℕ, _+_, _-_, _*_, max}
-use mathlib.Core.Bool.{Bool, false, cond, _||_}
+use Prim.Native.Nat.{ℕ, _+_, _-_, _*_, _≤_, max}
+use mathlib.Core.Bool.{cond}
 use mathlib.Core.List.{List}
+use mathlib.Core.Path.{_≡_}
 use lib.Dec.{eqb}
 use Rattle.frame_table.specs.declared.fields.Fields.{Fields}
 use Rattle.octets.specs.Bytes.{overwrite}
 use Rattle.frame_table.specs.Names.{segments, transaction, orderNumber}
-use Rattle.message.specs.Limits.{segmentBytes}
+use Rattle.message.specs.Limits.{segmentBytes, maxSegments}
 use Rattle.message.specs.Segments.{segmentsOf}
 use Rattle.client_run.specs.declared.run.ClientRun.{ClientRun}
 use Rattle.client_run.specs.declared.run.Direction.{Direction}
@@ -38,19 +39,12 @@ begun params n = record {
   segments = segmentsOf n;
   segment = 0;
   issued = 0;
-  held = 0;
-  receipted = false;
 }
 
 -- the step after segment k: the receipt where a download has them all, else segment k + 1
 abbrev pub stepAfter : Direction → ℕ → ℕ → Step
 stepAfter Upload k n = step.Segment
 stepAfter Download k n = cond (eqb k n) step.Receipt step.Segment
-
--- a receipt is issued after the last segment of a download
-abbrev pub receiptsAfter : Direction → ℕ → ℕ → Bool
-receiptsAfter Upload k n = false
-receiptsAfter Download k n = eqb k n
 
 -- the run whose request after segment k is outstanding, with this many repeats:
 -- "Each request takes the next exchange number"
@@ -68,8 +62,6 @@ goOn k repeats c = record {
   segments = c .segments;
   segment = k + 1;
   issued = max (c .issued) (k + 1);
-  held = c .held;
-  receipted = c .receipted || receiptsAfter (c .direction) k (c .segments);
 }
 
 -- the same request again under a new exchange number
@@ -87,8 +79,6 @@ repeated c = record {
   segments = c .segments;
   segment = c .segment;
   issued = c .issued;
-  held = c .held;
-  receipted = c .receipted;
 }
 
 -- what an opening's answer tells: the transaction ID, an upload's order number, a download's number of segments
@@ -106,8 +96,6 @@ learned Upload r c = record {
   segments = c .segments;
   segment = 0;
   issued = c .issued;
-  held = c .held;
-  receipted = c .receipted;
 }
 learned Download r c = record {
   stage = c .stage;
@@ -122,18 +110,20 @@ learned Download r c = record {
   segments = segments r;
   segment = 1;
   issued = c .issued;
-  held = c .held;
-  receipted = c .receipted;
 }
 
--- a segment of d bytes that answers the outstanding request is newly held where it is the next one
-abbrev pub isNew : Direction → ClientRun → Bool
-isNew Upload c = false
-isNew Download c = eqb (c .segment) (c .held + 1)
+-- a download's outstanding segment, answered with d bytes, has its place in a file
+abbrev pub HasPlace : ClientRun → ℕ → Type 0
+HasPlace c d = c .direction ≡ Download → (1 ≤ c .segment) × (c .segment ≤ maxSegments) × (d ≤ segmentBytes)
 
--- the run with its outstanding segment, of d bytes, newly held
-abbrev pub grown : ℕ → ClientRun → ClientRun
-grown d c = record {
+-- the bytes that count once segment s is answered with d bytes: an upload's n stay, a download holds them up to those
+abbrev pub lengthWith : Direction → ℕ → ℕ → ℕ → ℕ
+lengthWith Upload s d n = n
+lengthWith Download s d n = (s - 1) * segmentBytes + d
+
+-- the run with its outstanding segment answered with d bytes, which a download holds
+abbrev pub holding : ℕ → ClientRun → ClientRun
+holding d c = record {
   stage = c .stage;
   direction = c .direction;
   step = c .step;
@@ -142,21 +132,19 @@ grown d c = record {
   repeats = c .repeats;
   transaction = c .transaction;
   number = c .number;
-  length = (c .segment - 1) * segmentBytes + d;
+  length = lengthWith (c .direction) (c .segment) d (c .length);
   segments = c .segments;
   segment = c .segment;
   issued = c .issued;
-  held = c .held + 1;
-  receipted = c .receipted;
 }
 
--- the run with its outstanding segment, of d bytes, held
-unfoldable pub holding : ℕ → ClientRun → ClientRun
-holding d c = cond (isNew (c .direction) c) (grown d c) c
+-- "Only ... a newly held segment's bytes are written": of segment s, in a download
+abbrev pub fileBy : Direction → ℕ → List ℕ → List ℕ → List ℕ
+fileBy Upload s d file = file
+fileBy Download s d file = overwrite file ((s - 1) * segmentBytes) d
 
--- "Only ... a newly held segment's bytes are written ...; one held already is not written again"
-unfoldable pub fileWith : ClientRun → List ℕ → List ℕ → List ℕ
-fileWith c d file = cond (isNew (c .direction) c) (overwrite file ((c .segment - 1) * segmentBytes) d) file
+abbrev pub fileWith : ClientRun → List ℕ → List ℕ → List ℕ
+fileWith c d file = fileBy (c .direction) (c .segment) d file
 
 -- the run ended with a word
 unfoldable pub ended : Word → ClientRun → ClientRun
@@ -173,6 +161,4 @@ ended w c = record {
   segments = c .segments;
   segment = c .segment;
   issued = c .issued;
-  held = c .held;
-  receipted = c .receipted;
 }

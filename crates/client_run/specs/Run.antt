@@ -1,6 +1,5 @@
 -- A client run, its closing words and the numbers that its calls are given.
 use Prim.Native.Nat.{ℕ}
-use mathlib.Core.Bool.{false}
 use mathlib.Core.List.{List}
 use lib.ListN.{length}
 use Rattle.number_table.specs.Table as numbers
@@ -85,8 +84,6 @@ notBegun = record {
   segments = 0;
   segment = 0;
   issued = 0;
-  held = 0;
-  receipted = false;
 }
 
 -- what a run is begun with, by its parts

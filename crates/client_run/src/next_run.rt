@@ -11,13 +11,11 @@ use frame_table::fields::Fields;
 use message::limits::SEGMENT_SIZE;
 use message::segments::segments_of;
 ghost use mathlib.Core.Path.{_≡_};
-ghost use Prim.Native.Nat.{_+_, _*_, _^_, _≤_, _<_, max};
-ghost use mathlib.Core.Bool.{true, _||_};
-ghost use lib.Dec.{eqb};
+ghost use Prim.Native.Nat.{_+_, _^_, _≤_, _<_, max};
 ghost use Rattle.message.specs.Limits.{segmentBytes, maxSegments};
 ghost use Rattle.client_run.specs.Run.{maxExchange};
-ghost use Rattle.client_run.specs.NextRun.{beginLength, begun, stepAfter, receiptsAfter, goOn, repeated, learned};
-ghost use Rattle.client_run.specs.NextRun.{isNew, holding, ended};
+ghost use Rattle.client_run.specs.NextRun.{beginLength, begun, stepAfter, goOn, repeated, learned};
+ghost use Rattle.client_run.specs.NextRun.{HasPlace, lengthWith, holding, ended};
 
 // The bytes that count of what is lent to begin.
 pub fn begin_length(direction: Direction, l: Lengths) -> u64
@@ -47,8 +45,6 @@ pub fn begun(params: RunParameters, n: u64) -> ClientRun
         segments: segments_of(n),
         segment: 0,
         issued: 0,
-        held: 0,
-        receipted: false,
     }
 }
 
@@ -70,27 +66,6 @@ fn step_after(direction: Direction, k: u64, n: u64) -> Step
         Direction::Upload => Step::Segment,
         Direction::Download => download_step(k, n),
     }
-}
-
-// Whether a receipt stands after segment k of n.
-fn receipts_after(direction: Direction, k: u64, n: u64) -> bool
-    ensures { λ b. ⌜ b ≡ receiptsAfter direction k n ⌝ }
-{
-    match direction {
-        Direction::Upload => false,
-        Direction::Download => k == n,
-    }
-}
-
-// Whether a receipt was issued, with the one after segment k.
-fn receipted_after(c: ClientRun, k: u64) -> bool
-    ensures { λ b. ⌜ b ≡ c .receipted || receiptsAfter (c .direction) k (c .segments) ⌝ }
-{
-    if c.receipted {
-        return true;
-    }
-    let direction = c.direction;
-    receipts_after(direction, k, c.segments)
 }
 
 fn larger(a: u64, b: u64) -> u64
@@ -123,8 +98,6 @@ pub fn go_on(k: u64, repeats: u64, c: ClientRun) -> ClientRun
         segments: c.segments,
         segment: k + 1,
         issued: larger(c.issued, k + 1),
-        held: c.held,
-        receipted: receipted_after(c, k),
     }
 }
 
@@ -175,41 +148,25 @@ pub fn learned(r: Fields, c: ClientRun) -> ClientRun
     }
 }
 
-// Whether segment s comes next after those held.
-fn is_next(s: u64, held: u64) -> bool
-    ensures { λ b. ⌜ b ≡ eqb s (held + 1) ⌝ }
+// The bytes that count once segment s is answered with d bytes.
+fn length_with(direction: Direction, s: u64, d: usize, n: u64) -> u64
+    requires { ⌜ (direction ≡ Direction.Download → (1 ≤ s) × (s ≤ maxSegments) × (d ≤ segmentBytes)) ⌝ }
+    ensures { λ r. ⌜ r ≡ lengthWith direction s d n ⌝ }
 {
-    if s < 1 {
-        return false;
-    }
-    if s - 1 == held {
-        return true;
-    }
-    false
-}
-
-// Whether the outstanding segment is newly held when it is answered.
-pub fn is_new(c: ClientRun) -> bool
-    ensures { λ b. ⌜ b ≡ isNew (c .direction) c ⌝ }
-{
-    let direction = c.direction;
     match direction {
-        Direction::Upload => false,
-        Direction::Download => is_next(c.segment, c.held),
+        Direction::Upload => n,
+        Direction::Download => (s - 1) * SEGMENT_SIZE + d as u64,
     }
 }
 
-// The run with its outstanding segment, of d bytes, held.
+// The run with its outstanding segment, answered with d bytes, held.
 pub fn holding(d: usize, c: ClientRun) -> ClientRun
-    requires { ⌜ (isNew (c .direction) c ≡ true → (c .segment ≤ maxSegments) × (d ≤ segmentBytes)) ⌝ }
+    requires { ⌜ HasPlace c d ⌝ }
     ensures { λ r. ⌜ r ≡ holding d c ⌝ }
 {
-    if !is_new(c) {
-        return c;
-    }
+    let direction = c.direction;
     let mut next = c;
-    next.length = (c.segment - 1) * SEGMENT_SIZE + d as u64;
-    next.held = c.held + 1;
+    next.length = length_with(direction, c.segment, d, c.length);
     next
 }
 
@@ -233,7 +190,5 @@ pub fn ended(w: Word, c: ClientRun) -> ClientRun
         segments: c.segments,
         segment: c.segment,
         issued: c.issued,
-        held: c.held,
-        receipted: c.receipted,
     }
 }

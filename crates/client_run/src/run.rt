@@ -62,7 +62,7 @@ pub enum Step {
 // A client run. `exchange` is the outstanding request's exchange number, `segment` its segment number, `repeats` counts
 // repeats and returns, `transaction` and `number` (the order number) are known once opened, `segments` is N, 0 while
 // unknown. An upload has its payload's `length` and the highest segment `issued`; a download has the bytes held as
-// `length`, the segments `held`, and whether a receipt was issued.
+// `length`: those of the segments before the outstanding one, where N + 1 stands for the receipt.
 pub struct ClientRun {
     pub stage: Stage,
     pub direction: Direction,
@@ -76,8 +76,6 @@ pub struct ClientRun {
     pub segments: u64,
     pub segment: u64,
     pub issued: u64,
-    pub held: u64,
-    pub receipted: bool,
 }
 
 // Why a call is given a number: the time, a buffer, the first exchange number, the subscriber, or the run's stage.
@@ -152,8 +150,6 @@ impl ClientRun {
             segments: 0,
             segment: 0,
             issued: 0,
-            held: 0,
-            receipted: false,
         }
     }
 }

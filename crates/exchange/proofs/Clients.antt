@@ -184,8 +184,6 @@ atStage x p = record {
     segments = p .run .segments;
     segment = p .run .segment;
     issued = p .run .issued;
-    held = p .run .held;
-    receipted = p .run .receipted;
   };
   payload = p .payload;
   file = p .file;
@@ -236,7 +234,7 @@ past-lifts {h} (grows {x = x}) sound later p (download b u) = lifted (Gave h) (G
         OpenedBy forms.DownloadOpening h (p .run .transaction) (p .issues)
     at step.Opening o k = never o
     at step.Segment o k = opened-download sound k
-    at step.Receipt o k = opened-download sound (k .0)
+    at step.Receipt o k = opened-download sound k
 
 module _ {calls more : List BankCall} {h k : List bank.Exchange} (g : Grows h k)
     (never : (t : Bits128) → NeverBooked calls t → NeverBooked more t) where

@@ -236,20 +236,20 @@ module _ (s : Course) (v : Parts s) (copies : Copied s) (numbers : OneExchangeNu
           (asIssue x) own
           (ap form q ∙ form-uploadTransfer _ _ _ _ _)))
 
-      held : 1 ≤ s .runs j .held → (at : Step) → DownloadStep (Gave (v .bank .past .history)) (fileIn (v .bank .past .history)) at
+      held : 1 ≤ s .runs j .segment → (at : Step) → DownloadStep (Gave (v .bank .past .history)) (fileIn (v .bank .past .history)) at
           (ownPast v j .run) (s .files j) (issuesOf j (s .issued)) →
           OpenedBy forms.DownloadOpening (v .bank .past .history) (s .runs j .transaction) (issuesOf j (s .issued))
       held l step.Opening k = absurd (let z = k .0 in omega arith)
       held l step.Segment k = opened-download sound k
-      held l step.Receipt k = opened-download sound (k .0)
+      held l step.Receipt k = opened-download sound k
 
       fetched : DownloadStep (Gave (v .bank .past .history)) (fileIn (v .bank .past .history)) (s .runs j .step) (ownPast v j .run)
           (s .files j) (issuesOf j (s .issued)) →
-          DownloadIssue (s .runs j .subscriber) (s .runs j .segments) (s .runs j .transaction) (s .runs j .held) (s .runs j .receipted)
+          DownloadIssue (s .runs j .subscriber) (s .runs j .segments) (s .runs j .transaction) (s .runs j .step) (s .runs j .segment)
           (fileIn (v .bank .past .history) (s .runs j .transaction)) (asIssue x) → Out
       fetched k (downloadOpens n time nonce q d) = under-not under (inr (ap form q ∙ form-downloadOpening _ _ _ _))
-      fetched k (asks n i a b c e q d) = under-own (ap transaction q ∙ id-downloadTransfer _ _ _ _) (held e (s .runs j .step) k)
-      fetched k (confirms n a b c e q d) = under-own (ap transaction q ∙ id-receipt _ _ _ _) (held b (s .runs j .step) k)
+      fetched k (asks n i a b c e q d) = under-own (ap transaction q ∙ id-downloadTransfer _ _ _ _) (held (omega arith) (s .runs j .step) k)
+      fetched k (confirms n a b e q d) = under-own (ap transaction q ∙ id-receipt _ _ _ _) (held (omega arith) (s .runs j .step) k)
 
       at : Invariant (Gave (v .bank .past .history)) (fileIn (v .bank .past .history)) (ownPast v j) → Out
       at (not-begun e g) = absurd (in-none (subst (In (asIssue x)) g own))

@@ -53,6 +53,7 @@ use Rattle.bank_history.proofs.Theorems.{
 }
 use Rattle.client_run.specs.declared.run.Direction.the-variants.{Download}
 use Rattle.client_run.specs.declared.run.Stage.the-variants as stage
+use Rattle.client_run.specs.declared.run.Step.{Step}
 use Rattle.client_run.specs.Run.{orderName}
 use Rattle.client_run.specs.declared.run.Word.the-variants.{Lodged, NotLodged, Unclear, Fetched}
 use Rattle.client_run.proofs.Apart.{not-both}
@@ -142,11 +143,11 @@ upload-kind : {s n top : ℕ} {t : Bits128} {payload : List ℕ} {x : history.Is
 upload-kind (uploadOpens number time nonce q d) = ap isNamed (ap form q ∙ form-uploadOpening _ _ _ _ _)
 upload-kind (sends number j a b q d) = ap isNamed (ap form q ∙ form-uploadTransfer _ _ _ _ _)
 
-download-kind : {s n held : ℕ} {t : Bits128} {b : Bool} {f : List ℕ} {x : history.Issue} → DownloadIssue s n t held b f x →
+download-kind : {s n next : ℕ} {t : Bits128} {at : Step} {f : List ℕ} {x : history.Issue} → DownloadIssue s n t at next f x →
     isNamed (form (x .request)) ≡ true
 download-kind (downloadOpens number time nonce q d) = ap isNamed (ap form q ∙ form-downloadOpening _ _ _ _)
 download-kind (asks number j a b c e q d) = ap isNamed (ap form q ∙ form-downloadTransfer _ _ _ _)
-download-kind (confirms number a b c e q d) = ap isNamed (ap form q ∙ form-receipt _ _ _ _)
+download-kind (confirms number a b e q d) = ap isNamed (ap form q ∙ form-receipt _ _ _ _)
 
 pub receipt-id : {p : Past} {f : List ℕ} {x : history.Issue} → ReceiptIssued p f x → transaction (x .request) ≡ p .run .transaction
 receipt-id r = ap transaction (r .request) ∙ id-receipt _ _ _ _

@@ -168,19 +168,19 @@ module _ (s : Course) (v : Parts s) (copies : Copied s) (numbers : OneExchangeNu
       Held : Type 0
       Held = FileHeld (Gave (v .bank .past .history)) (fileIn (v .bank .past .history)) (ownPast v j .run) (s .files j) (issuesOf j (s .issued))
 
-      held : 1 ≤ s .runs j .held → (at : Step) → DownloadStep (Gave (v .bank .past .history)) (fileIn (v .bank .past .history)) at
+      held : 1 ≤ s .runs j .segment → (at : Step) → DownloadStep (Gave (v .bank .past .history)) (fileIn (v .bank .past .history)) at
           (ownPast v j .run) (s .files j) (issuesOf j (s .issued)) → Held
       held l step.Opening k = absurd (let z = k .0 in omega arith)
       held l step.Segment k = k
-      held l step.Receipt k = k .0
+      held l step.Receipt k = k
 
       fetched : DownloadStep (Gave (v .bank .past .history)) (fileIn (v .bank .past .history)) (s .runs j .step) (ownPast v j .run)
           (s .files j) (issuesOf j (s .issued)) →
-          DownloadIssue (s .runs j .subscriber) (s .runs j .segments) (s .runs j .transaction) (s .runs j .held) (s .runs j .receipted)
+          DownloadIssue (s .runs j .subscriber) (s .runs j .segments) (s .runs j .transaction) (s .runs j .step) (s .runs j .segment)
           (fileIn (v .bank .past .history) (s .runs j .transaction)) (asIssue x) → Out
       fetched k (downloadOpens n time nonce e d) = other (ap form e ∙ form-downloadOpening _ _ _ _) (λ z. cc) (λ z. cc)
-      fetched k (asks n i a b c l e d) =
-          let f = held l (s .runs j .step) k in
+      fetched k (asks n i a b c g e d) =
+          let f = held (omega arith) (s .runs j .step) k in
           let w = held-sent sound f in
           let y : segment (readRequest (x .frame)) ≡ i = ap segment e ∙ number-asked _ _ _ _ in
           let z = f .number in
@@ -191,8 +191,8 @@ module _ (s : Course) (v : Parts s) (copies : Copied s) (numbers : OneExchangeNu
             receipt = λ g. absurd (let u : forms.DownloadTransfer ≡ forms.Receipt = sym (ap form e ∙ form-downloadTransfer _ _ _ _) ∙ g in
                 let t : _≡_ {A = ℕ} 0 1 = cc in omega arith);
           }
-      fetched k (confirms n a l c g e d) =
-          let f = held l (s .runs j .step) k in
+      fetched k (confirms n a b g e d) =
+          let f = held (omega arith) (s .runs j .step) k in
           let w = held-sent sound f in
           let z = f .number in
           record {

@@ -1,6 +1,6 @@
 -- "as it issued that receipt, its file was the mailbox's": so of each receipt answered 011000. Assumes nothing.
 use Prim.Native.Nat.{ℕ, _<_}
-use mathlib.Core.Bool.{Bool, true, false}
+use mathlib.Core.Bool.{true, false}
 use mathlib.Core.List.{
   List,
   [],
@@ -57,6 +57,7 @@ use Rattle.client.specs.Calls.{beginCall, replyCall, noReplyCall}
 use Rattle.client_run.specs.Run.{ClientCall}
 use Rattle.client_run.proofs.Apart.{not-both}
 use Rattle.client_history.specs.History.{BankReplies}
+use Rattle.client_run.specs.declared.run.Step.{Step}
 use Rattle.client_history.specs.History as history
 use Rattle.client_history.specs.Invariant.{
   DownloadIssue,
@@ -157,10 +158,10 @@ module _ (s : Course) (v : Parts s) (copies : Copied s) (numbers : OneExchangeNu
       other : {f : Form} → form (y .request) ≡ f → (f ≡ forms.UploadOpening → _≡_ {A = ℕ} 0 1) → ⊥
       other g z = let u = z (sym g ∙ e) in omega arith
 
-      each : {u k held : ℕ} {i : Bits128} {b : Bool} {f : List ℕ} → DownloadIssue u k i held b f y → ⊥
+      each : {u k next : ℕ} {i : Bits128} {at : Step} {f : List ℕ} → DownloadIssue u k i at next f y → ⊥
       each (downloadOpens k time nonce q d) = other (ap form q ∙ form-downloadOpening _ _ _ _) (λ z. cc)
       each (asks k j a b c f q d) = other (ap form q ∙ form-downloadTransfer _ _ _ _) (λ z. cc)
-      each (confirms k a b c f q d) = other (ap form q ∙ form-receipt _ _ _ _) (λ z. cc)
+      each (confirms k a b f q d) = other (ap form q ∙ form-receipt _ _ _ _) (λ z. cc)
 
       at : Invariant (Gave h) (fileIn h) (ownPast v (x .run)) → ⊥
       at (not-begun a g) = in-none (subst (In y) g n)

@@ -82,11 +82,11 @@ unfolding frameBytes.numberFrom frameBytes.number frameBytes.bytesOf frameBytes.
     bankMailbox.fileCall clientCalls.isWritten clientCalls.requestWith clientCalls.issued clientCalls.taken
     clientCalls.beginCall clientCalls.replyCall clientCalls.noReplyCall clientDecisions.says clientDecisions.isOwn
     clientDecisions.restWord clientDecisions.mayRepeat clientDecisions.endsUpload clientDecisions.answersSegment
-    clientDecisions.fitsData clientDecisions.fitsSegment clientDecisions.isPoint clientDecisions.goesBack
-    clientDecisions.uploadReturns clientDecisions.downloadReturns clientDecisions.opensDownload clientDecisions.lodges
+    clientDecisions.fitsData clientDecisions.fitsSegment clientDecisions.isPoint
+    clientDecisions.uploadReturns clientDecisions.opensDownload clientDecisions.lodges
     clientDecisions.takesSegment clientDecisions.bringsSegment clientDecisions.confirms clientDecisions.onUpload
     clientDecisions.onDownload clientDecisions.isAnswer clientDecisions.onReply clientDecisions.onNoReply
-    clientNextRun.begun clientNextRun.goOn clientNextRun.repeated clientNextRun.holding clientNextRun.fileWith
+    clientNextRun.begun clientNextRun.goOn clientNextRun.repeated
     clientNextRun.ended clientRequests.nonceOf clientRequests.outstanding clientRequests.outstandingData
     clientRulings.wrongLengths clientRulings.noSubscriber clientRulings.timeFirst clientRulings.rulingAtBegin
     clientRulings.beginRuling clientRulings.rulingNotBegun clientRulings.rulingRunning clientRulings.rulingEnded

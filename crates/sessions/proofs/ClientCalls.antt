@@ -1,12 +1,11 @@
 -- A client's call keeps the length of a file buffer; one given a number changes nothing; a reply or none
 -- is taken by a run that has begun; one that answers a closing word leaves the run ended with it.
 use Prim.Native.Nat.{ℕ, _-_, _*_, _≤_}
-use mathlib.Core.Bool.{Bool, true, false, cond}
+use mathlib.Core.Bool.{Bool, true, false}
 use mathlib.Core.List.{List, []}
 use mathlib.Core.Path.{_≡_, refl, ap}
 use native.Mathlib.Omega.{arith}
 use lib.ListN.{length}
-use Rattle.octets.specs.Bytes.{overwrite}
 use Rattle.octets.proofs.Numbers.{length-overwrite}
 use Rattle.octets.proofs.Tests.{never}
 use Rattle.frame_table.specs.declared.fields.Fields.{Fields}
@@ -15,12 +14,14 @@ use Rattle.frame_writer.specs.declared.writer.Written.{Written}
 use Rattle.frame_writer.specs.declared.writer.Written.the-variants as written
 use Rattle.frame_reader.specs.Reader.{readReply}
 use Rattle.frame_row.specs.Row.{dataOf}
-use Rattle.message.specs.Limits.{segmentBytes, maxSegments, fileBytes}
+use Rattle.message.specs.Limits.{segmentBytes, fileBytes}
 use Rattle.client_run.specs.declared.run.Answer.{Answer}
 use Rattle.client_run.specs.declared.run.Answer.the-variants as answer
 use Rattle.client_run.specs.declared.run.ClientRun.{ClientRun}
 use Rattle.client_run.specs.declared.run.Decision.{Decision}
 use Rattle.client_run.specs.declared.run.Decision.the-variants.{Ignore, Opened, Advance, Return, Repeat, Close}
+use Rattle.client_run.specs.declared.run.Direction.{Direction}
+use Rattle.client_run.specs.declared.run.Direction.the-variants as direction
 use Rattle.client_run.specs.declared.run.Refusal.{Refusal}
 use Rattle.client_run.specs.declared.run.Refusal.the-variants.{
   TimeTooHigh,
@@ -52,14 +53,13 @@ use Rattle.client.specs.Calls.{
   admittedNoReply,
   noReplyCall,
 }
-use Rattle.client_run.specs.NextRun.{isNew, fileWith, learned, ended}
+use Rattle.client_run.specs.NextRun.{HasPlace, fileBy, fileWith, learned, ended}
 use Rattle.client_run.specs.Run.{Lent, ClientCall, lengthsOf, answerNumber, refusalNumber, maxExchange}
 use Rattle.client_rules.specs.Decisions.{onReply, onNoReply}
 use Rattle.client_rules.specs.Rulings.{beginRuling, runRuling, isBegun}
 use Rattle.client_rules.proofs.Accepted.{accepted}
-use Rattle.client_rules.proofs.Causes.{Cause, by-reply, by-no-reply, brought}
-use Rattle.client_rules.proofs.Causes as cause
-use Rattle.client_rules.proofs.Feasible.{opened-takes}
+use Rattle.client_rules.proofs.Causes.{Cause, by-reply, by-no-reply}
+use Rattle.client_rules.proofs.Feasible.{opened-takes, advance-place}
 use Rattle.unit_state.specs.declared.record.Event.{Event}
 use Rattle.unit_state.specs.declared.record.Event.the-variants.{Upload, Download, Reply, NoReply}
 use Rattle.unit.specs.Call.{eventCall}
@@ -81,27 +81,16 @@ issued-keeps c next file l e = at (isWritten next l)
         record { long = e; refused = λ x h. absurd (let z : _≡_ {A = ℕ} 0 1 = cc in omega arith) }
     at written.Refused = record { long = refl; refused = λ x h. (refl, refl) }
 
--- a newly held segment has its place in the file buffer
-file-long : (k : ClientRun) (d file : List ℕ) → length file ≡ fileBytes →
-    (isNew (k .direction) k ≡ true → (k .segment ≤ maxSegments) × (length d ≤ segmentBytes)) →
+-- a segment that a download holds has its place in the file buffer
+file-long : (k : ClientRun) (d file : List ℕ) → length file ≡ fileBytes → HasPlace k (length d) →
     length (fileWith k d file) ≡ length file
-unfolding fileWith
-file-long k d file whole fits = at (isNew (k .direction) k) refl
+file-long k d file whole fits = at (k .direction) refl
   where
-    at : (t : Bool) → isNew (k .direction) k ≡ t →
-        length (cond t (overwrite file ((k .segment - 1) * segmentBytes) d) file) ≡ length file
-    at true e =
-        let f = fits e in
-        let place = f .0 in
-        let size = f .1 in
+    at : (w : Direction) → k .direction ≡ w → length (fileBy w (k .segment) d file) ≡ length file
+    at direction.Upload e = refl
+    at direction.Download e =
+        let (least, place, size) = fits e in
         length-overwrite file ((k .segment - 1) * segmentBytes) d (omega arith)
-    at false e = refl
-
-advance-fits : (c : ClientRun) (r : Fields) (d : ℕ) → Cause c r d Advance → isNew (c .direction) c ≡ true →
-    (c .segment ≤ maxSegments) × (d ≤ segmentBytes)
-advance-fits c r d (cause.segment-taken w s a h) new = never (rw w at new)
-advance-fits c r d (cause.segment-brought w s a h) new =
-    let b = brought c r d h .1 in (b .place, b .bytes .most)
 
 module _ (c : ClientRun) (l : Lent) (whole : length (l .file) ≡ fileBytes) (low : c .exchange ≤ maxExchange) where
   carried-keeps : (decision : Decision) (r : Fields) (d : List ℕ) → Cause c r (length d) decision →
@@ -111,10 +100,9 @@ module _ (c : ClientRun) (l : Lent) (whole : length (l .file) ≡ fileBytes) (lo
       record { long = refl; refused = λ x h. absurd (let z : _≡_ {A = ℕ} 0 1 = cc in omega arith) }
   carried-keeps Opened r d k =
       let takes = opened-takes c r (length d) (length (l .file)) low (λ _. whole) (c .direction) refl k in
-      issued-keeps c _ _ l
-      (file-long (learned (c .direction) r c) d (l .file) whole (λ new. let t = takes .2 new in (t .0, t .1)))
+      issued-keeps c _ _ l (file-long (learned (c .direction) r c) d (l .file) whole (takes .2))
   carried-keeps Advance r d k =
-      issued-keeps c _ _ l (file-long c d (l .file) whole (advance-fits c r (length d) k))
+      issued-keeps c _ _ l (file-long c d (l .file) whole (advance-place c r (length d) k))
   carried-keeps (Return s) r d k = issued-keeps c _ (l .file) l refl
   carried-keeps Repeat r d k = issued-keeps c _ (l .file) l refl
   carried-keeps (Close w) r d k =

@@ -1,13 +1,11 @@
 -- Laws of rows of numbers that are each read by themselves: a row written over is an element set, a row read is an element,
 -- and elements copied one by one. Assumes nothing.
 use Prim.Native.Nat.{ℕ, zero, suc, _+_, _*_, _≤_, _<_}
-use mathlib.Core.Bool.{Bool, true, false}
 use mathlib.Core.List.{List, [], _∷_, _++_, map, zipWith}
 use mathlib.Core.Path.{_≡_, refl, sym, ap, subst, _∙_}
 use native.Mathlib.Nat.{mul-zero, mul-suc, add-comm, add-zero}
 use native.Mathlib.Numerals.{add-one}
 use native.Mathlib.Omega.{arith}
-use lib.Dec.{eqb}
 use lib.ListN.{length, getD, take, drop, set, replicate, length-map, length-drop, take-append-drop, List·getD-map}
 use lib.Seq.{length-take-le, take-all, take-suc, take-suc-set, take-at, drop-at, getD-take, getD-drop}
 use Rattle.octets.specs.Bytes.{overwrite}
@@ -51,7 +49,6 @@ use Rattle.unit_rows.specs.Codes.{
   directionOf,
   numberOfStep,
   stepOf,
-  numberOfFlag,
 }
 use Rattle.unit_rows.specs.Rows.{
   runWidth,
@@ -235,14 +232,10 @@ step-back Opening = refl
 step-back Segment = refl
 step-back Receipt = refl
 
-flag-back : (b : Bool) → eqb (numberOfFlag b) 1 ≡ b
-flag-back true = refl
-flag-back false = refl
-
 run-back : (run : Run) → runOf (runNumbers run) (run .nonce) ≡ run
 run-back run =
     let c = run .client .run in
-    rw (stage-back (c .stage), direction-back (c .direction), step-back (c .step), flag-back (c .receipted))
+    rw (stage-back (c .stage), direction-back (c .direction), step-back (c .step))
 
 pub length-runs : (runs nonces : List ℕ) → length (runsFrom runs nonces) ≡ runCount
 unfolding runsFrom
@@ -265,8 +258,6 @@ pub client-read : (runs : List ℕ) (i : ℕ) → clientOf (take runWidth (drop 
       segments = getD runs (runWidth * i + 10) 0;
       segment = getD runs (runWidth * i + 11) 0;
       issued = getD runs (runWidth * i + 12) 0;
-      held = getD runs (runWidth * i + 13) 0;
-      receipted = eqb (getD runs (runWidth * i + 14) 0) 1;
     }
 client-read runs i =
     rw (
@@ -283,8 +274,6 @@ client-read runs i =
       number-at runWidth i 10 runs (omega arith),
       number-at runWidth i 11 runs (omega arith),
       number-at runWidth i 12 runs (omega arith),
-      number-at runWidth i 13 runs (omega arith),
-      number-at runWidth i 14 runs (omega arith),
       add-zero (runWidth * i),
     )
 

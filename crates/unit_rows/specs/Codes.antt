@@ -1,6 +1,6 @@
--- A run's stage, direction and step and whether a receipt was issued, each as a number, and what a number says.
+-- A run's stage, direction and step, each as a number, and what a number says.
 use Prim.Native.Nat.{ℕ}
-use mathlib.Core.Bool.{Bool, true, false, cond}
+use mathlib.Core.Bool.{cond}
 use lib.Dec.{eqb}
 use Rattle.client_run.specs.declared.run.Direction.{Direction}
 use Rattle.client_run.specs.declared.run.Direction.the-variants.{Upload, Download}
@@ -57,8 +57,3 @@ numberOfStep Receipt = 2
 
 abbrev pub stepOf : ℕ → Step
 stepOf n = cond (eqb n 0) Opening (cond (eqb n 1) Segment Receipt)
-
--- 1 yes, 0 no
-abbrev pub numberOfFlag : Bool → ℕ
-numberOfFlag true = 1
-numberOfFlag false = 0

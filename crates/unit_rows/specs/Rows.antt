@@ -1,7 +1,6 @@
--- The unit that lent numbers and bytes are: of each run 16 numbers and its nonce bytes, of each event 6 numbers.
+-- The unit that lent numbers and bytes are: of each run 14 numbers and its nonce bytes, of each event 6 numbers.
 use Prim.Native.Nat.{ℕ, _*_}
 use mathlib.Core.List.{List, [], _∷_, map, zipWith}
-use lib.Dec.{eqb}
 use lib.ListN.{getD, take}
 use Rattle.journal.specs.declared.event.Event.{Event}
 use Rattle.journal.specs.Events.{recordCount}
@@ -20,11 +19,10 @@ use Rattle.unit_rows.specs.Codes.{
   directionOf,
   numberOfStep,
   stepOf,
-  numberOfFlag,
 }
 
 abbrev pub runWidth : ℕ
-runWidth = 16
+runWidth = 14
 
 abbrev pub eventWidth : ℕ
 eventWidth = 6
@@ -58,19 +56,17 @@ clientOf s = record {
   segments = getD s 10 0;
   segment = getD s 11 0;
   issued = getD s 12 0;
-  held = getD s 13 0;
-  receipted = eqb (getD s 14 0) 1;
 }
 
 -- the run of such numbers, the last of which is its payload's length, and of its nonce bytes; and a run's numbers
 abbrev pub runOf : List ℕ → List ℕ → Run
-runOf s nonce = record { client = record { run = clientOf s }; nonce = nonce; payload = getD s 15 0 }
+runOf s nonce = record { client = record { run = clientOf s }; nonce = nonce; payload = getD s 13 0 }
 
 abbrev pub clientNumbers : ClientRun → ℕ → List ℕ
 clientNumbers c payload =
     numberOfStage (c .stage) ∷ numberOfDirection (c .direction) ∷ numberOfStep (c .step) ∷ c .subscriber ∷ c .exchange
     ∷ c .repeats ∷ c .transaction .high ∷ c .transaction .low ∷ c .number ∷ c .length ∷ c .segments ∷ c .segment
-    ∷ c .issued ∷ c .held ∷ numberOfFlag (c .receipted) ∷ payload ∷ []
+    ∷ c .issued ∷ payload ∷ []
 
 abbrev pub runNumbers : Run → List ℕ
 runNumbers run = clientNumbers (run .client .run) (run .payload)

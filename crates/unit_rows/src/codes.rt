@@ -4,9 +4,8 @@ use client_run::run::Stage;
 use client_run::run::Step;
 use client_run::run::Word;
 ghost use mathlib.Core.Path.{_≡_};
-ghost use lib.Dec.{eqb};
 ghost use Rattle.unit_rows.specs.Codes.{numberOfWord, numberOfStage, stageOf, numberOfDirection, directionOf};
-ghost use Rattle.unit_rows.specs.Codes.{numberOfStep, stepOf, numberOfFlag};
+ghost use Rattle.unit_rows.specs.Codes.{numberOfStep, stepOf};
 
 // The number of a run that ended with this closing word.
 fn number_of_word(word: Word) -> u64
@@ -83,19 +82,4 @@ pub(crate) fn step_of(n: u64) -> Step
         1 => Step::Segment,
         _ => Step::Receipt,
     }
-}
-
-pub(crate) fn number_of_flag(set: bool) -> u64
-    ensures { λ r. ⌜ r ≡ numberOfFlag set ⌝ }
-{
-    if set {
-        return 1;
-    }
-    0
-}
-
-pub(crate) fn flag_of(n: u64) -> bool
-    ensures { λ r. ⌜ r ≡ eqb n 1 ⌝ }
-{
-    n == 1
 }

@@ -1,8 +1,6 @@
 // The client runs as numbers, and the nonce bytes that they keep.
 use crate::codes::direction_of;
-use crate::codes::flag_of;
 use crate::codes::number_of_direction;
-use crate::codes::number_of_flag;
 use crate::codes::number_of_stage;
 use crate::codes::number_of_step;
 use crate::codes::stage_of;
@@ -25,7 +23,7 @@ ghost use Rattle.unit_state.specs.State.{runAt};
 ghost use Rattle.unit_rows.specs.Rows.{runWidth, runsSize, clientOf, runNumbers, runsFrom};
 
 // The numbers of a run, of all runs, and the nonce bytes of all runs.
-const RUN_WIDTH: usize = 16;
+const RUN_WIDTH: usize = 14;
 
 pub const RUNS_SIZE: usize = RUN_COUNT * RUN_WIDTH;
 
@@ -57,8 +55,6 @@ fn client_at(runs: &[u64; RUNS_SIZE], i: usize) -> ClientRun
         segments: runs[at + 10],
         segment: runs[at + 11],
         issued: runs[at + 12],
-        held: runs[at + 13],
-        receipted: flag_of(runs[at + 14]),
     }
 }
 
@@ -79,7 +75,7 @@ pub fn run_at(runs: &[u64; RUNS_SIZE], nonces: &[u8; NONCES_SIZE], i: usize) -> 
     Run {
         client,
         nonce,
-        payload: runs[RUN_WIDTH * i + 15],
+        payload: runs[RUN_WIDTH * i + 13],
     }
 }
 
@@ -107,8 +103,6 @@ fn put_run(runs: &mut [u64; RUNS_SIZE], i: usize, run: Run)
         c.segments,
         c.segment,
         c.issued,
-        c.held,
-        number_of_flag(c.receipted),
         run.payload,
     ];
     put(runs, RUN_WIDTH * i, &numbers);

@@ -1,39 +1,29 @@
 -- `hold` meets its contract. Assumes nothing.
-use mathlib.Core.Bool.{true}
-use mathlib.Core.Path.{_≡_, sym, _∙_}
-use native.Mathlib.Omega.{arith}
 use borrow.Author.Needs.{needs}
-use Rattle.client_run.specs.declared.run.ClientRun.{ClientRun}
-use Rattle.client_run.specs.NextRun.{isNew, fileWith}
-use Rattle.client_run.proofs.NextRuns.{new-next}
 use Rattle.client.proofs.calls.hold.Statement.{statement}
 use Rattle.client.proofs.calls.hold.Tie as tie
 
-abbrev run-of : tie.Then1 → ClientRun
-run-of c = c .before .before .before .before .args .c
-
--- the segment is newly held
-new : (c : tie.Then1) → isNew (run-of c .direction) (run-of c) ≡ true
-new c = sym (c .before .is-new .ensures) ∙ c .if1 .taken
-
-is-new-requires : tie.Need-is-new-requires
-is-new-requires c κs = tt
+enum-told : tie.Need-enum-told
+enum-told c = search needs
 
 put-segment-requires : tie.Need-put-segment-requires
 put-segment-requires c κs =
-    let a = c .before .before .before .before .before .pre (new (c .before)) in
-    (omega (arith, new-next (run-of (c .before) .direction) (run-of (c .before)) (new (c .before))), a .0, a .1, a .2)
+    let start = c .before .before .before .before .before in
+    let down = c .before .enum-told .given .1 in
+    let a = start .pre .0 down in
+    (a .0, a .1, a .2, start .pre .1 down)
+
+enum-told-2 : tie.Need-enum-told-2
+enum-told-2 c = search needs
 
 same-length : tie.Need-same-length
 same-length c = search needs
 
 returns : tie.Need-returns
-unfolding fileWith
-returns c = rw (new (c .before .before .before .before)) (c .before .before .put-segment .ensures)
+returns c = rw (c .before .before .before .before .enum-told .given .1) (c .before .before .put-segment .ensures)
 
 returns-2 : tie.Need-returns-2
-unfolding fileWith
-returns-2 c = simp (← c .before .is-new .ensures, c .if1 .left)
+returns-2 c = rw (c .enum-told2 .given .1)
 
 pub hold-spec : {M : Type 1} → statement M
-hold-spec = tie.close (tie.spec is-new-requires put-segment-requires same-length returns returns-2)
+hold-spec = tie.close (tie.spec enum-told put-segment-requires enum-told-2 same-length returns returns-2)

@@ -4,20 +4,17 @@ use Rattle.client.specs.Calls.{isWritten, requestWith, taken}
 use Rattle.client_run.specs.NextRun.{goOn, fileWith}
 use Rattle.client_run.specs.Run.{lentOf}
 use Rattle.client.proofs.Issues.{issued-is}
-use Rattle.client_run.proofs.NextRuns.{holding-exchange}
 use borrow.Author.Needs.{needs}
 use Rattle.client.proofs.calls.take_segment.Statement.{statement}
 use Rattle.client.proofs.calls.take_segment.Tie as tie
 
 holding-requires : tie.Need-holding-requires
-holding-requires c κs new =
-    let p = c .before .before .before .before .pre .2 new in
-    (p .0, p .1)
+holding-requires c κs = c .before .before .before .before .pre .2
 
 go-on-requires : tie.Need-go-on-requires
 go-on-requires c κs =
     let start = c .before .before .before .before .before in
-    (start .pre .0, rw (c .holding .ensures, holding-exchange) (start .pre .1))
+    (start .pre .0, rw (c .holding .ensures) (start .pre .1))
 
 write-request-requires : tie.Need-write-request-requires
 write-request-requires c κs = tt

@@ -1,5 +1,5 @@
 -- `opens_download` meets its contract. Assumes nothing.
-use borrow.Author.Tests.{eq-eqb, le-leb, lt-leb, ne-eqb, not-false, not-true}
+use borrow.Author.Tests.{eq-eqb, ne-eqb, not-false, not-true}
 use Rattle.client_rules.specs.Decisions.{opensDownload}
 use Rattle.client_rules.proofs.decisions.opens_download.Statement.{statement}
 use Rattle.client_rules.proofs.decisions.opens_download.Tie as tie
@@ -29,6 +29,9 @@ returns-2 c =
 segments-requires : tie.Need-segments-requires
 segments-requires c κs = tt
 
+fits-segment-requires : tie.Need-fits-segment-requires
+fits-segment-requires c κs = tt
+
 returns-3 : tie.Need-returns-3
 unfolding opensDownload
 returns-3 c =
@@ -42,47 +45,6 @@ returns-3 c =
       ← b .segment .ensures,
       eq-eqb _ _ (a .if2 .left),
       ← c .before .segments .ensures,
-      lt-leb _ _ (c .if3 .taken),
-    )
-
-returns-4 : tie.Need-returns-4
-unfolding opensDownload
-returns-4 c =
-    let a = c .before .before in
-    let b = a .before in
-    let d = b .before in
-    let e = d .before in
-    let f = e .before in
-    simp (
-      ← f .says .ensures,
-      not-false (f .says .result) (e .if1 .left),
-      ← d .segment .ensures,
-      eq-eqb _ _ (b .if2 .left),
-      ← a .segments .ensures,
-      le-leb _ _ (c .before .if3 .left),
-      lt-leb _ _ (c .if4 .taken),
-    )
-
-fits-segment-requires : tie.Need-fits-segment-requires
-fits-segment-requires c κs = tt
-
-returns-5 : tie.Need-returns-5
-unfolding opensDownload
-returns-5 c =
-    let a = c .before .before in
-    let b = a .before in
-    let d = b .before in
-    let e = d .before in
-    let f = e .before in
-    let g = f .before in
-    simp (
-      ← g .says .ensures,
-      not-false (g .says .result) (f .if1 .left),
-      ← e .segment .ensures,
-      eq-eqb _ _ (d .if2 .left),
-      ← b .segments .ensures,
-      le-leb _ _ (a .if3 .left),
-      le-leb _ _ (c .before .if4 .left),
       ← c .fits-segment .ensures,
     )
 
@@ -95,7 +57,5 @@ opens-download-spec =
     segment-requires
     returns-2
     segments-requires
-    returns-3
-    returns-4
     fits-segment-requires
-    returns-5)
+    returns-3)

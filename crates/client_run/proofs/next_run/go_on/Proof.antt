@@ -19,26 +19,9 @@ add-larger c = search needs
 larger-requires : tie.Need-larger-requires
 larger-requires c κs = tt
 
-receipted-after-requires : tie.Need-receipted-after-requires
-receipted-after-requires c κs = tt
-
 returns : tie.Need-returns
 unfolding goOn
-returns c =
-    simp (
-      ← c .before .before .before .step-after .ensures,
-      ← c .before .larger .ensures,
-      ← c .receipted-after .ensures,
-    )
+returns c = simp (← c .before .before .step-after .ensures, ← c .larger .ensures)
 
 pub go-on-spec : {M : Type 1} → statement M
-go-on-spec =
-    tie.close
-    (tie.spec
-    step-after-requires
-    add-t8
-    add-t9
-    add-larger
-    larger-requires
-    receipted-after-requires
-    returns)
+go-on-spec = tie.close (tie.spec step-after-requires add-t8 add-t9 add-larger larger-requires returns)

@@ -7,8 +7,13 @@ use Rattle.unit_rows.proofs.runs.client_at.Tie as tie
 
 returns : tie.Need-returns
 returns c =
-    rw (c .before .before .before .before .before .before .before .before .before .before .before .before .before .before .before .before .before .stage-of .ensures, c .before .before .before .before .before .before .before .before .before .before .before .before .before .before .before .direction-of .ensures, c .before .before .before .before .before .before .before .before .before .before .before .before .before .step-of .ensures, c .flag-of .ensures)
-    (sym (client-read (c .before .before .before .before .before .before .before .before .before .before .before .before .before .before .before .before .before .before .before .args .runs .now) (c .before .before .before .before .before .before .before .before .before .before .before .before .before .before .before .before .before .before .before .args .i)))
+    let start = c .before .before .before .before .before .before .before .before .before .before .before .before .before .before .before .before in
+    rw (
+      c .before .before .before .before .before .before .before .before .before .before .before .before .before .before .stage-of .ensures,
+      c .before .before .before .before .before .before .before .before .before .before .before .before .direction-of .ensures,
+      c .before .before .before .before .before .before .before .before .before .before .step-of .ensures,
+    )
+    (sym (client-read (start .args .runs .now) (start .args .i)))
 
 pub client-at-spec : {M : Type 1} → statement M
 client-at-spec =
@@ -56,11 +61,4 @@ client-at-spec =
     (λ c. search needs)
     (λ c. search needs)
     (λ c. search needs)
-    (λ c. search needs)
-    (λ c. search needs)
-    (λ c. search needs)
-    (λ c. search needs)
-    (λ c. search needs)
-    (λ c. search needs)
-    (λ c κs. search needs)
     returns)
