@@ -2,3 +2,4 @@
 pub mod Parts
 pub mod OneLine
 pub mod Theorem
+pub mod LineCourse

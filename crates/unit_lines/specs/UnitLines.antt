@@ -1,13 +1,14 @@
 -- The unit's lines over every list of records: what each is by the records alone, and what lent memory is.
 use Prim.Native.Nat.{ℕ, _≤_, _<_}
 use mathlib.Core.Bool.{Bool, true, false, cond, not, _&&_}
-use mathlib.Core.List.{List, [], _∷_}
+use mathlib.Core.List.{List, [], _∷_, _++_}
 use mathlib.Core.Path.{_≡_}
 use lib.Dec.{eqb, leb}
 use lib.ListN.{length, replicate}
 use Rattle.number_table.specs.Table as numbers
 use Rattle.octets.specs.Bytes.{Bytes, overwrite}
 use Rattle.line.specs.Line.{Message, messageBytes, Line, made, put}
+use Rattle.line.specs.Course.{after}
 use Rattle.line.specs.Memory.{joined}
 use Rattle.line.specs.Calls.{answerFor, Lies}
 use Rattle.unit_state.specs.declared.answer.Answer.the-variants.{Number, NoCall}
@@ -63,6 +64,43 @@ unfoldable pub usedAfter : ℕ → List (List ℕ) → Used → Used
 usedAfter i [] u = u
 usedAfter i (r ∷ rs) u = usedAfter i rs (usedBy (callOf r) i r u)
 
+-- the messages that a record of this kind, and these records, put into line i
+abbrev pub sentBy : Kind → ℕ → List ℕ → List Message
+sentBy kind.Frame i r = []
+sentBy kind.File i r = []
+sentBy (kind.Run e) i r = []
+sentBy kind.Journal i r = []
+sentBy kind.Away i r = []
+sentBy kind.TakeUp i r = []
+sentBy kind.Image i r = []
+sentBy kind.ValueDay i r = []
+sentBy kind.MakeLine i r = []
+sentBy kind.PutIn i r =
+    cond (eqb (lineIndex r) i && leb (length (messageOf r)) messageBytes) (messageOf r ∷ []) []
+sentBy kind.NoCall i r = []
+
+unfoldable pub sentTo : ℕ → List (List ℕ) → List Message
+sentTo i [] = []
+sentTo i (r ∷ rs) = sentBy (callOf r) i r ++ sentTo i rs
+
+-- none of them makes line i afresh
+abbrev pub keptBy : Kind → ℕ → List ℕ → Bool
+keptBy kind.Frame i r = true
+keptBy kind.File i r = true
+keptBy (kind.Run e) i r = true
+keptBy kind.Journal i r = true
+keptBy kind.Away i r = true
+keptBy kind.TakeUp i r = true
+keptBy kind.Image i r = true
+keptBy kind.ValueDay i r = true
+keptBy kind.MakeLine i r = not (eqb (lineIndex r) i && not (eqb (seedOf r) 0))
+keptBy kind.PutIn i r = true
+keptBy kind.NoCall i r = true
+
+unfoldable pub keptIn : ℕ → List (List ℕ) → Bool
+keptIn i [] = true
+keptIn i (r ∷ rs) = keptBy (callOf r) i r && keptIn i rs
+
 -- ---- IN LENT MEMORY
 
 -- line i of the memory is this one
@@ -100,6 +138,11 @@ FreshLines = (s : State) → s .memory .lines ≡ linesOf (replicate linesSize 0
 unfoldable pub UnitLines : Type 0
 UnitLines = (s : State) (us : ℕ → Used) → LinesAre us s → (rs : List (List ℕ)) → Records s rs →
     LinesAre (λ i. usedAfter i rs (us i)) (unitAfter s rs)
+
+-- from one `L` to the next a line is after the messages put into it, so that `Lossy` speaks of what comes out
+unfoldable pub UnitCourse : Type 0
+UnitCourse = (i : ℕ) (l : Line) (rs : List (List ℕ)) → keptIn i rs ≡ true →
+    usedAfter i rs (used l) ≡ used (after l (sentTo i rs))
 
 -- what a `W` is answered: what comes out of that line, the held one in the buffer; number 1 for a message over 1,024
 -- bytes; nothing where the line is not made
