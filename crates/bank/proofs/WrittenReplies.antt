@@ -18,8 +18,11 @@ use Rattle.frame.proofs.Theorems.{reply-length, reply-least}
 use Rattle.frame_table.proofs.Bits.{bits-same}
 use Rattle.message.specs.declared.codes.ReturnCode.{ReturnCode}
 use Rattle.message.specs.declared.codes.ReturnCode.the-variants as code
+use Rattle.message.specs.declared.editions.Edition.{Edition}
+use Rattle.message.specs.declared.editions.Edition.the-variants as edition
+use Rattle.message.specs.Editions.{editionOf}
 use Rattle.message.specs.Limits.{segmentBytes, maxSegments}
-use Rattle.message.specs.Replies.{uploadOpened, downloadOpened, segmentTaken, receiptAnswered, refusal}
+use Rattle.message.specs.Replies.{downloadOpened, segmentTaken, receiptAnswered, refusal}
 use Rattle.message.specs.Segments.{segmentsOf, segmentOf, lastMarkOf}
 use Rattle.message.proofs.SegmentNumbers.{some-segment, segment-length, mark-most}
 use Rattle.message.proofs.OrderNumbers.{letter-lt, character-lt}
@@ -31,6 +34,7 @@ use Rattle.message.proofs.Writable.{
   unreadable-written,
   refusal-written,
   upload-opened-written,
+  chosen-opened-written,
   segment-taken-written,
   recovery-point-written,
   receipt-answered-written,
@@ -42,7 +46,7 @@ use Rattle.bank_state.specs.declared.state.Place.{Place}
 use Rattle.bank_state.specs.declared.state.Use.the-variants.{Open}
 use Rattle.bank_state.specs.Limits.{placeCount, storeBytes}
 use Rattle.bank_state.specs.Search.{isOpen}
-use Rattle.bank_state.specs.State.{BankState, placeAt, downloadAt, fileLength, seriesOf}
+use Rattle.bank_state.specs.State.{BankState, placeAt, downloadAt, fileLength}
 use Rattle.bank_sound.specs.Sound.{InRange}
 use Rattle.bank_state.specs.Store.{partAt, fileOf, mailboxFile}
 use Rattle.bank_verdicts.specs.declared.verdict.Context.{Context}
@@ -52,7 +56,7 @@ use Rattle.bank_verdicts.specs.declared.verdict.DownloadAction.{DownloadAction}
 use Rattle.bank_verdicts.specs.declared.verdict.Verdict.{Verdict}
 use Rattle.bank_verdicts.specs.declared.verdict.Verdict.the-variants as verdict
 use Rattle.bank_verdicts.specs.Refusals.{requestRows}
-use Rattle.bank_verdicts.specs.Judgement.{transactionOf, mailboxSegments, uploadAt, downloadOf, judge}
+use Rattle.bank_verdicts.specs.Judgement.{transactionOf, mailboxSegments, openingNumber, uploadAt, downloadOf, judge}
 use Rattle.bank_steps.specs.Steps.{carryOut}
 use Rattle.bank_steps.specs.Lent.{Lent, stateOf, keptIn, Prepared}
 use Rattle.bank_rows.specs.State.{bankOf}
@@ -64,6 +68,7 @@ use Rattle.bank_verdicts.specs.Replies.{
   uploadPointPhase,
   downloadPointPhase,
   segmentReply,
+  openedReply,
   uploadReply,
   downloadReply,
   downloadSegmentIn,
@@ -271,13 +276,19 @@ module _ (w : BankState) (range : InRange (w .bank)) (long : length (w .mailboxe
     opening-wide = (small, let n = g .numbers in omega arith)
 
     abbrev m : ℕ
-    m = seriesOf (subscriber q) (w .bank .series)
+    m = openingNumber (w .bank) q
 
-    upload-opening-written : WrittenReply (uploadOpened (exchange q) t (orderNumberOf m)) []
-    upload-opening-written =
+    -- with the order number, or without it to an opening that brings it
+    opened-written : (e : Edition) → WrittenReply (openedReply e m t q) []
+    opened-written edition.V24 =
+        sent refl (omega arith) (chosen-opened-written (exchange q) (r .numbered) t opening-wide)
+    opened-written edition.V25 =
         sent refl (omega arith)
         (upload-opened-written (exchange q) (r .numbered) t opening-wide
         (orderNumberOf m) (order-number-lt m))
+
+    upload-opening-written : WrittenReply (openedReply (editionOf q) m t q) []
+    upload-opening-written = opened-written (editionOf q)
 
     download-opening-written : (fileLength (subscriber q) (w .bank .files) ≡ 0 → ⊥) →
         let n = mailboxSegments (subscriber q) (w .bank) in

@@ -31,7 +31,7 @@ use Rattle.bank_state.proofs.Drops.{
 }
 use Rattle.bank_admitted.specs.State.{mailboxFile, Sizes, StateHolds, NoneIdle}
 use Rattle.bank_admitted.proofs.Rows.{count-set-le}
-use Rattle.bank_admitted.proofs.Series.{further-same}
+use Rattle.bank_admitted.proofs.Ahead.{kept-holds, ahead-stays}
 use Rattle.bank_admitted.proofs.Nonces.{nonces-later}
 use Rattle.bank_admitted.proofs.PlaceChange.{place-change}
 use Rattle.bank_admitted.proofs.Downloads.{ended-step}
@@ -63,8 +63,8 @@ freed-keeps i w inside v =
       grow = omega arith;
       numbers = v .numbers;
       counters = v .sizes .series;
-      further = further-same (w .bank .series);
-      seriesHold = v .series;
+      seriesHold = kept-holds (w .bank .openings) i noPlace (v .series)
+          (ahead-stays (w .bank .series) (placeAt (w .bank) i) noPlace (λ f. never (sym f)));
       new = record { empty = refl; zeros = refl };
       order = λ f. never (sym f);
       apartPlace = λ j a n f. never (sym f);

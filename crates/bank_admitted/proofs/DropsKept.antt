@@ -16,7 +16,7 @@ use Rattle.journal.specs.declared.event.Entry.{Entry}
 use Rattle.bank_events.specs.Entries.{isIdleUpload, droppedUploads, dropEntry}
 use Rattle.bank_events.proofs.Dropped.{length-by, in-dropped, dropped-place}
 use Rattle.bank_admitted.specs.State.{StateHolds}
-use Rattle.bank_admitted.specs.Session.{openUploads}
+use Rattle.bank_admitted.specs.Session.{Words, openUploads}
 use Rattle.bank_admitted.proofs.Held.{open-in-use, place-used}
 use Rattle.bank_admitted.proofs.JournalKept.{EntryHolds}
 
@@ -91,9 +91,9 @@ drops-counted time w s =
 
 -- ---- what is entered of them
 
-module _ (w : BankState) (v : StateHolds w) where
+module _ (w : BankState) (v : StateHolds w) (words : (i : ℕ) → i < placeCount → Words (placeAt (w .bank) i .transaction)) where
   pub drops-entered : (clock : ℕ) (e : Entry) → In e (map dropEntry (droppedUploads clock (w .bank))) →
-      EntryHolds (w .bank .series) e
+      EntryHolds (w .bank .openings) e
   drops-entered clock e m =
       let x = of-map dropEntry (droppedUploads clock (w .bank)) m in
       let k = dropped-place clock (w .bank) (x .1) in
@@ -103,6 +103,14 @@ module _ (w : BankState) (v : StateHolds w) where
       let inside : k .0 < placeCount = (let l = k .1 .0 in omega arith) in
       let used = open-in-use (placeAt (w .bank) (k .0) .used) (ap (λ (p : Place). isOpen (p .used)) same ∙ o) in
       let u = place-used w v (k .0) inside used in
-      subst (EntryHolds (w .bank .series)) (x .2)
-      (subst (λ (p : Place). EntryHolds (w .bank .series) (dropEntry p)) same
-      (record { known = u .known; most = u .most; typed = refl; counted = v .orders (k .0) inside used; happened = refl }))
+      subst (EntryHolds (w .bank .openings)) (x .2)
+      (subst (λ (p : Place). EntryHolds (w .bank .openings) (dropEntry p)) same
+      (record {
+        known = u .known;
+        most = u .most;
+        typed = refl;
+        ordered = v .orders (k .0) inside used;
+        lent = words (k .0) inside .high;
+        counted = u .counted;
+        happened = refl;
+      }))

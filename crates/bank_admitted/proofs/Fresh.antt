@@ -20,7 +20,7 @@ use Rattle.bank_state.specs.Search.{isFree, isOpen, openCount, openCountOf}
 use Rattle.bank_state.specs.State.{BankState, Nonce, bankState, noPlace, noDownload, noNonce, fresh, placeAt, downloadAt}
 use Rattle.bank_state.specs.Store.{partAt}
 use Rattle.bank_admitted.specs.Packed.{rest}
-use Rattle.bank_admitted.specs.State.{end, total, StateHolds, NoneIdle}
+use Rattle.bank_admitted.specs.State.{end, total, isAhead, chosenAhead, StateHolds, NoneIdle}
 use Rattle.bank_admitted.specs.Session.{SessionHolds}
 use Rattle.bank_admitted.proofs.Rows.{getD-free, free-replicate}
 
@@ -60,7 +60,7 @@ unfolding fresh
 fresh-nonce = getD-free noNonce nonceCount
 
 pub fresh-state : StateHolds freshState
-unfolding fresh total openCount openCountOf countOf
+unfolding fresh total isAhead chosenAhead openCount openCountOf countOf
 fresh-state = record {
   sizes = record {
     places = refl;

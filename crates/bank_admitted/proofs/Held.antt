@@ -1,29 +1,41 @@
 -- What a state that may be held tells of one place, one record of downloads and one mailbox.
 use Prim.Native.Nat.{ℕ, suc, _≤_, _<_}
 use mathlib.Core.Bool.{Bool, true, false}
-use mathlib.Core.Path.{_≡_, refl, sym, subst}
+use mathlib.Core.Path.{_≡_, refl, sym, _∙_, subst}
 use native.Mathlib.Decide.{decLt}
 use native.Mathlib.Omega.{arith}
 use lib.ListN.{length}
+use borrow.Author.Tests.{ltb-false, eq-eqb}
 use Rattle.octets.proofs.Tests.{never}
 use Rattle.message.specs.Limits.{subscribers}
 use Rattle.bank_state.specs.declared.state.Download.{Download}
 use Rattle.bank_state.specs.declared.state.Use.{Use}
 use Rattle.bank_state.specs.declared.state.Use.the-variants.{Free, Open, Booked}
 use Rattle.bank_state.specs.Limits.{placeCount, seriesLimit}
-use Rattle.bank_state.specs.Search.{isFree, isOpen}
-use Rattle.bank_state.specs.State.{BankState, noDownload, placeAt, downloadAt, fileLength}
+use Rattle.bank_state.specs.Search.{isFree, isOpen, holdsNumber, findNumber, isNumberHeld}
+use Rattle.bank_state.specs.State.{Bank, BankState, noPlace, noDownload, placeAt, downloadAt, fileLength}
 use Rattle.bank_state.specs.Store.{partAt}
+use Rattle.bank_state.proofs.Rows.{first-before}
 use Rattle.bank_state.proofs.Stores.{kept-long}
 use Rattle.bank_admitted.specs.State.{mailboxFile, UsedAs, PlaceHolds, OpenRecord, DownloadHolds, StateHolds}
 use Rattle.bank_admitted.proofs.Rows.{packed-rises}
-use Rattle.bank_admitted.proofs.Series.{series-counted, series-limited}
 
 -- an open upload is a place in use
 pub open-in-use : (u : Use) → isOpen u ≡ true → isFree u ≡ false
 open-in-use Free e = never e
 open-in-use Open e = refl
 open-in-use Booked e = never e
+
+-- a number that is not held is that of no place in use of the subscriber
+pub held-by-none : (b : Bank) (s n : ℕ) → length (b .places) ≡ placeCount → isNumberHeld s n b ≡ false → (j : ℕ) → j < placeCount →
+    isFree (placeAt b j .used) ≡ false → s ≡ placeAt b j .subscriber → n ≡ placeAt b j .number → ⊥
+unfolding isNumberHeld findNumber holdsNumber
+held-by-none b s n long h j inside used e f =
+    let l = ltb-false (findNumber s n b) placeCount h in
+    never (sym (first-before (holdsNumber s n) (b .places) noPlace j (omega arith)) ∙ holds)
+  where
+    holds : holdsNumber s n (placeAt b j) ≡ true
+    holds = rw (used, eq-eqb (placeAt b j .subscriber) s (sym e), eq-eqb (placeAt b j .number) n (sym f))
 
 module _ (w : BankState) (v : StateHolds w) where
   pub place-used : (i : ℕ) → i < placeCount → isFree (placeAt (w .bank) i .used) ≡ false →
@@ -36,22 +48,15 @@ module _ (w : BankState) (v : StateHolds w) where
       at Open s e = s .place
       at Booked s e = s .place
 
-  -- a place in use has a running number and an order number below the number of openings
+  -- a place in use has a running number below the number of openings
   pub place-counted : (i : ℕ) → i < placeCount → isFree (placeAt (w .bank) i .used) ≡ false →
-      (placeAt (w .bank) i .transaction .low < w .bank .openings) × (placeAt (w .bank) i .number < w .bank .openings)
-  place-counted i a f =
-      let m = series-counted (v .series) (placeAt (w .bank) i .subscriber) in
-      let n = v .orders i a f in
-      (place-used i a f .counted, omega arith)
+      placeAt (w .bank) i .transaction .low < w .bank .openings
+  place-counted i a f = place-used i a f .counted
 
-  -- "The limit of 1,213,056 ... holds per series"
+  -- any of A000 to ZZZZ
   pub order-limited : (i : ℕ) → i < placeCount → isFree (placeAt (w .bank) i .used) ≡ false →
       placeAt (w .bank) i .number < seriesLimit
-  order-limited i a f =
-      let u = place-used i a f in
-      let m = series-limited (v .series) (placeAt (w .bank) i .subscriber) (u .known) (u .most) in
-      let n = v .orders i a f in
-      omega arith
+  order-limited i a f = v .orders i a f
 
   pub file-long : (s : ℕ) → 1 ≤ s → s ≤ subscribers → length (mailboxFile w s) ≡ fileLength s (w .bank .files)
   file-long = kept-long w (v .sizes .mailboxes) (λ i l. v .mailboxesHold i l .room)

@@ -1,5 +1,5 @@
--- The journal stays one that a session may hold: at a later clock and further series, and with a call's events entered.
-use Prim.Native.Nat.{ℕ, suc, _+_, _-_, _≤_, _<_}
+-- The journal stays one that a session may hold: at a later clock and after more openings, and with a call's events entered.
+use Prim.Native.Nat.{ℕ, suc, _+_, _-_, _^_, _≤_, _<_}
 use mathlib.Core.Bool.{true}
 use mathlib.Core.List.{List, List·Memᴰ as In}
 use mathlib.Core.Logic.{_⊎_, inl, inr}
@@ -8,7 +8,7 @@ use native.Mathlib.Decide.{decLt}
 use native.Mathlib.Omega.{arith}
 use lib.ListN.{length, getD, List·getD-eq-default}
 use Rattle.message.specs.Limits.{subscribers, ful}
-use Rattle.bank_state.specs.State.{seriesOf}
+use Rattle.bank_state.specs.Limits.{seriesLimit}
 use Rattle.journal.specs.declared.event.Entry.{Entry}
 use Rattle.journal.specs.declared.event.Event.{Event}
 use Rattle.journal.specs.Events.{recordCount, noEvent, noEntry, eventOf, eventsFrom}
@@ -21,27 +21,30 @@ use Rattle.bank_events.specs.Entries.{isEvent}
 use Rattle.bank_events.proofs.Rising.{in-at}
 use Rattle.bank.specs.Journal.{withEntries}
 use Rattle.bank_admitted.specs.Session.{EventHolds, JournalHolds, recordAt}
-use Rattle.bank_admitted.proofs.Series.{Further}
 
--- what a call enters, with the series come so far
-pub record EntryHolds (series : List ℕ) (e : Entry) : Type 0 where
+-- what a call enters, after so many openings
+pub record EntryHolds (openings : ℕ) (e : Entry) : Type 0 where
   pub known : 1 ≤ e .subscriber
   pub most : e .subscriber ≤ subscribers
   pub typed : e .«order_type» ≡ ful
-  pub counted : e .order < seriesOf (e .subscriber) series
+  pub ordered : e .order < seriesLimit
+  pub lent : e .high < 2 ^ 64
+  pub counted : e .low < openings
   pub happened : isEvent (e .kind) ≡ true
 
-pub entry-later : {l l′ : List ℕ} {e : Entry} → Further l l′ → EntryHolds l e → EntryHolds l′ e
-entry-later {e = e} k h = record {
+pub entry-later : {o o′ : ℕ} {e : Entry} → o ≤ o′ → EntryHolds o e → EntryHolds o′ e
+entry-later k h = record {
   known = h .known;
   most = h .most;
   typed = h .typed;
-  counted = omega (arith, h .counted, k (e .subscriber));
+  ordered = h .ordered;
+  lent = h .lent;
+  counted = omega (arith, h .counted);
   happened = h .happened;
 }
 
-pub journal-later : {c c′ : ℕ} {l l′ : List ℕ} {j : Journal} → c ≤ c′ → Further l l′ → JournalHolds c l j → JournalHolds c′ l′ j
-journal-later {c} {c′} {l} {l′} {j} h k v = record {
+pub journal-later : {c c′ o o′ : ℕ} {j : Journal} → c ≤ c′ → o ≤ o′ → JournalHolds c o j → JournalHolds c′ o′ j
+journal-later {c} {c′} {o} {o′} {j} h k v = record {
   long = v .long;
   each = λ i m. later (v .each i m);
   numbered = v .numbered;
@@ -49,13 +52,15 @@ journal-later {c} {c′} {l} {l′} {j} h k v = record {
   unused = v .unused;
 }
   where
-    later : {e : Event} → EventHolds c l e → EventHolds c′ l′ e
-    later {e} x = record {
+    later : {e : Event} → EventHolds c o e → EventHolds c′ o′ e
+    later x = record {
       current = omega (arith, x .current);
       known = x .known;
       most = x .most;
       typed = x .typed;
-      counted = omega (arith, x .counted, k (e .subscriber));
+      ordered = x .ordered;
+      lent = x .lent;
+      counted = omega (arith, x .counted);
       happened = x .happened;
     }
 
@@ -70,8 +75,8 @@ used-is n = at (decLt n recordCount)
     at (yes h) = inl (omega arith, used-below n (omega arith))
     at (no h) = inr (omega arith, used-above n (omega arith))
 
-module _ (clock : ℕ) (series : List ℕ) (es : List Entry) (j : Journal) (v : JournalHolds clock series j)
-    (new : (e : Entry) → In e es → EntryHolds series e) where
+module _ (clock openings : ℕ) (es : List Entry) (j : Journal) (v : JournalHolds clock openings j)
+    (new : (e : Entry) → In e es → EntryHolds openings e) where
   abbrev n : ℕ
   n = j .events
 
@@ -127,13 +132,15 @@ module _ (clock : ℕ) (series : List ℕ) (es : List Entry) (j : Journal) (v : 
           ∙ new-at n events (j .row) (v .long) s moved i k e (omega (arith, events-length n clock es)))
           (fresh k e m)
 
-  entered-each : (i : ℕ) → i < usedAfter (n + c) → EventHolds clock series (recordAt after i)
-  entered-each i h = in-use (EventHolds clock series) i h (v .each (i + s))
+  entered-each : (i : ℕ) → i < usedAfter (n + c) → EventHolds clock openings (recordAt after i)
+  entered-each i h = in-use (EventHolds clock openings) i h (v .each (i + s))
       (λ k e l. let x = new (getD es k noEntry) (in-at es noEntry k l) in record {
         current = omega arith;
         known = x .known;
         most = x .most;
         typed = x .typed;
+        ordered = x .ordered;
+        lent = x .lent;
         counted = x .counted;
         happened = x .happened;
       })
@@ -164,7 +171,7 @@ module _ (clock : ℕ) (series : List ℕ) (es : List Entry) (j : Journal) (v : 
           List·getD-eq-default (after .row) noEvent {n = i} (omega (arith, entered-all-length n events (j .row) (v .long)))
 
   -- with the events of a call entered
-  pub journal-entered : JournalHolds clock series (withEntries clock es j)
+  pub journal-entered : JournalHolds clock openings (withEntries clock es j)
   journal-entered = record {
     long = entered-all-length n events (j .row) (v .long);
     each = entered-each;

@@ -2,6 +2,7 @@
 pub mod Stores
 pub mod Rows
 pub mod Series
+pub mod Ahead
 pub mod Reading
 pub mod Parts
 pub mod Nonces

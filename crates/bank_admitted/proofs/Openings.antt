@@ -3,7 +3,7 @@ use Prim.Native.Nat.{ℕ, suc, _+_, _-_, _≤_, _<_}
 use mathlib.Core.Bool.{Bool, true, false, not, _&&_, Bool·not-not}
 use mathlib.Core.List.{List}
 use mathlib.Core.Logic.{inl, inr}
-use mathlib.Core.Path.{_≡_, refl, sym, ap, _∙_, subst}
+use mathlib.Core.Path.{_≡_, refl, sym, _∙_, subst}
 use native.Mathlib.Omega.{arith}
 use lib.Dec.{eqb}
 use lib.ListN.{length, set, replicate, length-set}
@@ -12,27 +12,33 @@ use Rattle.frame_table.specs.declared.fields.Bits128.{Bits128}
 use Rattle.frame_table.specs.declared.fields.Fields.{Fields}
 use Rattle.frame_table.specs.Names.{subscriber, nonce, timestamp, segments}
 use Rattle.octets.proofs.Tests.{never, and-true}
+use Rattle.message.specs.declared.editions.Edition.{Edition}
+use Rattle.message.specs.declared.editions.Edition.the-variants as edition
+use Rattle.message.specs.Editions.{editionOf}
 use Rattle.message.specs.Limits.{fileBytes}
 use Rattle.message.proofs.SegmentNumbers.{some-segment}
 use Rattle.bank_state.specs.declared.state.Download.{Download}
 use Rattle.bank_state.specs.declared.state.Place.{Place}
 use Rattle.bank_state.specs.declared.state.Use.{Use}
 use Rattle.bank_state.specs.declared.state.Use.the-variants.{Free, Open, Booked}
-use Rattle.bank_state.specs.Limits.{placeCount, maxOpen, maxOpenPerSubscriber, seriesLimit}
+use Rattle.bank_state.specs.Limits.{placeCount, maxOpen, maxOpenPerSubscriber}
+use Rattle.bank_state.specs.Numbers.{nextNumber}
 use Rattle.bank_state.specs.Rows.{countOf}
 use Rattle.bank_state.specs.Search.{isFree, isOpen, freePlace, freeDownload, freeNonce, openCount, openCountOf}
-use Rattle.bank_state.specs.State.{Bank, Nonce, BankState, bankState, noPlace, noDownload, placeAt, downloadAt, fileLength, seriesOf}
+use Rattle.bank_state.specs.State.{Bank, Nonce, BankState, bankState, noPlace, noDownload, placeAt, downloadAt, fileLength}
 use Rattle.bank_state.specs.Store.{partAt}
 use Rattle.bank_state.proofs.Rows.{first-passes}
-use Rattle.bank_verdicts.specs.Judgement.{transactionOf}
-use Rattle.bank_verdicts.proofs.Sound.{Acceptable, Readable}
-use Rattle.bank_openings.specs.Openings.{counted, moved, countedUpload, newPlace, openUpload, newDownload, openDownload}
-use Rattle.bank_admitted.specs.State.{mailboxFile, Alike, PlaceHolds, FreePlace, DownloadHolds, NoncesHold, StateHolds}
+use Rattle.bank_verdicts.specs.declared.verdict.Context.{Context}
+use Rattle.bank_verdicts.specs.Judgement.{transactionOf, openingNumber}
+use Rattle.bank_verdicts.proofs.Series.{number-unheld, number-own}
+use Rattle.bank_verdicts.proofs.Sound.{Acceptable, Readable, Numbered}
+use Rattle.bank_openings.specs.Openings.{counted, movedBy, moved, countedUpload, newPlace, openUpload, newDownload, openDownload}
+use Rattle.bank_admitted.specs.State.{mailboxFile, Alike, PlaceHolds, FreePlace, DownloadHolds, NoncesHold, SeriesHold, StateHolds}
 use Rattle.bank_admitted.proofs.Rows.{each-set, first-if-few, count-set-le, count-set-suc, packed-add}
-use Rattle.bank_admitted.proofs.Series.{moved-further, moved-own, moved-holds}
+use Rattle.bank_admitted.proofs.Ahead.{own-holds, chosen-holds}
 use Rattle.bank_admitted.proofs.Nonces.{nonces-added}
 use Rattle.bank_admitted.proofs.Parts.{place-opened, download-later, download-opened}
-use Rattle.bank_admitted.proofs.Held.{place-counted, file-long, download-open}
+use Rattle.bank_admitted.proofs.Held.{held-by-none, place-counted, file-long, download-open}
 use Rattle.bank_admitted.proofs.PlaceChange.{place-change}
 use Rattle.bank_admitted.proofs.DownloadChange.{download-change}
 
@@ -93,15 +99,18 @@ module _ (first : ℕ) (w : BankState) (v : StateHolds w) (q : Fields) (n : ℕ)
   unfolding freeNonce
   nonces-hold = nonces-added (w .bank .clock) (w .bank .nonces) (v .nonces) _ refl (acceptable .timely) (acceptable .memory)
 
-  -- how far its subscriber's series has come
+  -- its order's number, chosen or the bank's own
   abbrev order : ℕ
-  order = seriesOf (subscriber q) (w .bank .series)
+  order = openingNumber (w .bank) q
+
+  abbrev context : Context
+  context = record { prefix = first; others = 0 }
 
   -- an upload opened
-  pub opens-upload : (segments q ≡ 0 → ⊥) → freePlace (w .bank) < placeCount → seriesOf (subscriber q) (w .bank .series) < seriesLimit →
+  pub opens-upload : (segments q ≡ 0 → ⊥) → freePlace (w .bank) < placeCount → Numbered (w .bank) q →
       StateHolds (bankState (openUpload t order q (w .bank)) (w .orders) (w .mailboxes))
   unfolding openUpload countedUpload counted openCount openCountOf
-  opens-upload some inside below = place-change w i new (o + 1) (moved (subscriber q) (w .bank .series)) nonces (w .orders) v (record {
+  opens-upload some inside own = place-change w i new (o + 1) (moved order q (w .bank .series)) nonces (w .orders) v (record {
     bytes = replicate fileBytes 0;
     inside = inside;
     stored = v .sizes .orders;
@@ -111,13 +120,12 @@ module _ (first : ℕ) (w : BankState) (v : StateHolds w) (q : Fields) (n : ℕ)
     memory = nonces-hold;
     grow = omega arith;
     numbers = let z = acceptable .numbers in omega arith;
-    counters = length-set (w .bank .series) (subscriber q - 1) _ ∙ v .sizes .series;
-    further = moved-further (subscriber q) (w .bank .series);
-    seriesHold = moved-holds (subscriber q) (w .bank .series) (v .sizes .series) (readable .known) (readable .most) o (v .series) below;
+    counters = counters (editionOf q);
+    seriesHold = series (editionOf q) refl;
     new = place-opened (o + 1) (w .bank .clock) order t q (omega arith) (readable .known) (readable .most)
         (omega arith) (acceptable .few);
-    order = λ _. let z = moved-own (subscriber q) (w .bank .series) (v .sizes .series) (readable .known) (readable .most) in omega arith;
-    apartPlace = λ j a n f g. not-alike (placeAt (w .bank) j) (place-counted w v j a g .0) (v .orders j a g);
+    order = λ _. own .below;
+    apartPlace = λ j a n f g. not-alike j a g;
     apartDownload = λ j f g e. let z = download-open w v j g .counted in omega arith;
     openAll = let m = count-set-suc (λ (r : Place). isOpen (r .used)) (w .bank .places) i new in let a = acceptable .ofAll in omega arith;
     openOf = λ s. openOf s (eqb (subscriber q) s) refl;
@@ -129,11 +137,25 @@ module _ (first : ℕ) (w : BankState) (v : StateHolds w) (q : Fields) (n : ℕ)
       new : Place
       new = newPlace t order (w .bank .clock) q
 
-      -- a new transaction, and a new order number of its subscriber
-      not-alike : (r : Place) → r .transaction .low < o → r .number < seriesOf (r .subscriber) (w .bank .series) → Alike new r → ⊥
-      not-alike r l n (inl e) = omega arith
-      not-alike r l n (inr (s, e)) =
-          let z = ap (λ (u : ℕ). seriesOf u (w .bank .series)) s in omega arith
+      counters : (e : Edition) → length (movedBy e order q (w .bank .series)) ≡ placeCount
+      counters edition.V24 = v .sizes .series
+      counters edition.V25 = length-set (w .bank .series) (subscriber q - 1) _ ∙ v .sizes .series
+
+      -- a chosen number leaves the series, the bank's own moves it
+      series : (e : Edition) → editionOf q ≡ e → SeriesHold (o + 1) (movedBy e order q (w .bank .series)) (set (w .bank .places) i new)
+      series edition.V24 e = chosen-holds o i new (v .series)
+      series edition.V25 e =
+          let n : order ≡ nextNumber (subscriber q) (w .bank) = number-own context (w .bank) q e in
+          subst (λ (m : ℕ). SeriesHold (o + 1) (set (w .bank .series) (subscriber q - 1) (m + 1)) (set (w .bank .places) i new)) (sym n)
+          (own-holds (w .bank) (subscriber q) (v .sizes .series) (v .sizes .places) (readable .known) (readable .most) o i new
+          (v .series) (omega (arith, own .below, n)) refl n)
+
+      -- a new transaction, and an order number that no place in use of its subscriber has
+      not-alike : (j : ℕ) → j < placeCount → isFree (placeAt (w .bank) j .used) ≡ false → Alike new (placeAt (w .bank) j) → ⊥
+      not-alike j a g (inl e) = let l = place-counted w v j a g in omega arith
+      not-alike j a g (inr (s, e)) =
+          held-by-none (w .bank) (subscriber q) order (v .sizes .places)
+          (number-unheld context (w .bank) q (v .sizes .places) (own .unheld)) j a g s e
 
       openOf : (s : ℕ) (b : Bool) → eqb (subscriber q) s ≡ b →
           countOf (λ (p : Place). isOpen (p .used) && eqb (p .subscriber) s) (set (w .bank .places) i new)
@@ -168,7 +190,7 @@ module _ (first : ℕ) (w : BankState) (v : StateHolds w) (q : Fields) (n : ℕ)
     mailboxesHold = v .mailboxesHold;
     apart = λ i l a f. each-set (w .bank .downloads) j new noDownload inside
         (λ (m : ℕ) (r : Download). r .used ≡ true → placeAt (w .bank) i .transaction .low ≡ r .transaction .low → ⊥)
-        (λ g e. let z = place-counted w v i a f .0 in omega arith) (λ m n. v .apart i m a f) l;
+        (λ g e. let z = place-counted w v i a f in omega arith) (λ m n. v .apart i m a f) l;
     inOrder = packed-add (λ (r : Download). r .used) noDownload (λ (r : Download). r .transaction .low)
         (λ (r : Download). suc (r .transaction .low))
         new (v .inOrder) refl refl (omega arith) (λ i u. download-open w v i u .counted);

@@ -7,13 +7,12 @@ use mathlib.Core.Path.{_≡_, refl, sym, _∙_}
 use native.Mathlib.Omega.{arith}
 use lib.ListN.{length, getD, set, length-set}
 use Rattle.bank_state.specs.declared.state.Place.{Place}
-use Rattle.bank_state.specs.Limits.{placeCount, storeBytes, nonceCount, maxOpen, maxOpenPerSubscriber, maxOpenings}
+use Rattle.bank_state.specs.Limits.{placeCount, storeBytes, nonceCount, maxOpen, maxOpenPerSubscriber, maxOpenings, seriesLimit}
 use Rattle.bank_state.specs.Search.{isFree, openCount, openCountOf}
-use Rattle.bank_state.specs.State.{Nonce, BankState, bankState, noPlace, placeAt, downloadAt, fileLength, seriesOf}
+use Rattle.bank_state.specs.State.{Nonce, BankState, bankState, noPlace, placeAt, downloadAt, fileLength}
 use Rattle.bank_state.specs.Store.{partAt}
 use Rattle.bank_admitted.specs.State.{mailboxFile, PlaceHolds, SeriesHold, NoncesHold, Alike, StateHolds}
 use Rattle.bank_admitted.proofs.Rows.{each-set}
-use Rattle.bank_admitted.proofs.Series.{Further}
 use Rattle.bank_admitted.proofs.Parts.{place-later, download-later}
 
 pub alike-sym : (p r : Place) → Alike p r → Alike r p
@@ -50,10 +49,9 @@ module _ (w : BankState) (i : ℕ) (p : Place) (o : ℕ) (series : List ℕ) (no
     pub grow : w .bank .openings ≤ o
     pub numbers : o ≤ maxOpenings
     pub counters : length series ≡ placeCount
-    pub further : Further (w .bank .series) series
-    pub seriesHold : SeriesHold o series
+    pub seriesHold : SeriesHold o series (set (w .bank .places) i p)
     pub new : PlaceHolds (p .used) (w .bank .clock) o p bytes
-    pub order : isFree (p .used) ≡ false → p .number < seriesOf (p .subscriber) series
+    pub order : isFree (p .used) ≡ false → p .number < seriesLimit
     pub apartPlace : (j : ℕ) → j < placeCount → (j ≡ i → ⊥) → isFree (p .used) ≡ false → isFree (placeAt (w .bank) j .used) ≡ false →
         Alike p (placeAt (w .bank) j) → ⊥
     pub apartDownload : (j : ℕ) → isFree (p .used) ≡ false → downloadAt (w .bank) j .used ≡ true →
@@ -83,8 +81,8 @@ module _ (w : BankState) (i : ℕ) (p : Place) (o : ℕ) (series : List ℕ) (no
     };
     numbers = c .numbers;
     series = c .seriesHold;
-    orders = each (λ (j : ℕ) (r : Place). isFree (r .used) ≡ false → r .number < seriesOf (r .subscriber) series) (c .order)
-        (λ j a n f. omega (arith, v .orders j a f, c .further (placeAt (w .bank) j .subscriber)));
+    orders = each (λ (j : ℕ) (r : Place). isFree (r .used) ≡ false → r .number < seriesLimit) (c .order)
+        (λ j a n. v .orders j a);
     places = each (λ (j : ℕ) (r : Place). PlaceHolds (r .used) (w .bank .clock) o r (partAt orders j)) (rw (c .here) (c .new))
         (λ j a n. rw (c .elsewhere j n) (place-later (w .bank .clock) (w .bank .clock) (w .bank .openings) o (omega arith) (c .grow)
         (placeAt (w .bank) j) (partAt (w .orders) j) (placeAt (w .bank) j .used) (v .places j a)));

@@ -18,13 +18,17 @@ use Rattle.frame_table.specs.declared.fields.Fields.{Fields}
 use Rattle.frame_table.specs.declared.table.Form.{Form}
 use Rattle.frame_table.specs.Names.{subscriber, nonce, timestamp, transaction, orderNumber, owner, form}
 use Rattle.frame_table.specs.Table.{lastTime, timestampTag, has, isRequestForm, tagsOf}
+use Rattle.message.specs.declared.editions.Edition.{Edition}
+use Rattle.message.specs.declared.editions.Edition.the-variants as edition
+use Rattle.message.specs.Editions.{editionOf, openingForm}
+use Rattle.message.specs.Limits.{subscribers}
 use Rattle.bank_state.specs.declared.clock.Ended.{Ended}
 use Rattle.bank_state.specs.declared.state.Download.{Download}
 use Rattle.bank_state.specs.declared.state.Place.{Place}
 use Rattle.bank_state.specs.Clock.{endDownloads}
-use Rattle.bank_state.specs.Limits.{placeCount, nonceCount}
+use Rattle.bank_state.specs.Limits.{placeCount, nonceCount, seriesLimit}
 use Rattle.bank_state.specs.Search.{isFree, isOpen, isBooked, freePlace, freeDownload, freeNonce}
-use Rattle.bank_state.specs.State.{Nonce, BankState, bankState, noPlace, noDownload, placeAt, downloadAt, seriesOf, withPlace, withDownloads, withFiles}
+use Rattle.bank_state.specs.State.{Nonce, BankState, bankState, noPlace, noDownload, placeAt, downloadAt, withPlace, withDownloads, withFiles}
 use Rattle.bank_state.proofs.Drops.{each-endDownloads}
 use Rattle.bank_state.proofs.Found.{upload-found}
 use Rattle.bank_state.proofs.Rows.{first-passes}
@@ -36,11 +40,12 @@ use Rattle.bank_verdicts.specs.declared.verdict.DownloadAction.{DownloadAction}
 use Rattle.bank_verdicts.specs.declared.verdict.Action.the-variants as action
 use Rattle.bank_verdicts.specs.declared.verdict.Verdict.{Verdict}
 use Rattle.bank_verdicts.specs.declared.verdict.Verdict.the-variants as verdict
-use Rattle.bank_verdicts.specs.Judgement.{transactionOf, mailboxSegments, orderAt, uploadAt, downloadOf}
+use Rattle.bank_verdicts.specs.Judgement.{transactionOf, openingNumber, mailboxSegments, orderAt, uploadAt, downloadOf}
 use Rattle.bank_verdicts.proofs.Signing.{order-found}
 use Rattle.bank_verdicts.proofs.Sound.{
   Readable,
   Acceptable,
+  Numbered,
   UploadSound,
   took,
   tookLast,
@@ -57,7 +62,7 @@ use Rattle.bank_verdicts.proofs.Sound.{
   declined,
 }
 use Rattle.bank_signing.specs.Signings.{sign}
-use Rattle.bank_openings.specs.Openings.{remembered, counted, moved, countedUpload, newPlace, openUpload, newDownload, openDownload}
+use Rattle.bank_openings.specs.Openings.{remembered, counted, countedUpload, newPlace, openUpload, newDownload, openDownload}
 use Rattle.bank_uploads.specs.Uploads.{grown, booked, attempted}
 use Rattle.journal.specs.declared.event.Entry.{Entry}
 use Rattle.journal.specs.declared.event.Kind.{Kind}
@@ -79,7 +84,6 @@ use Rattle.bank_steps.proofs.Cases.{
   signs,
 }
 use Rattle.bank_admitted.proofs.Held.{open-in-use}
-use Rattle.bank_admitted.proofs.Series.{Further, further-same, moved-further, moved-own}
 use Rattle.bank_admitted.proofs.JournalKept.{EntryHolds}
 use Rattle.bank_admitted.proofs.NoncesKept.{nonces-counted}
 use Rattle.bank_admitted.proofs.Rows.{count-set, count-set-suc, each-set-all}
@@ -97,6 +101,11 @@ DownloadNumbered e = Words (e .transaction)
 pub free-numbered : PlaceNumbered noPlace
 free-numbered = record { high = omega arith; low = omega arith }
 
+-- what is entered of an upload: a number of A000 to ZZZZ, and the transaction ID of an accepted opening
+pub record OrderNamed (openings : ℕ) (p : Place) : Type 0 where
+  pub ordered : p .number < seriesLimit
+  pub counted : p .transaction .low < openings
+
 -- what a request finds, the clock and the drops done
 pub record Found (w : BankState) : Type 0 where
   pub rowed : length (w .bank .places) ≡ placeCount
@@ -104,9 +113,7 @@ pub record Found (w : BankState) : Type 0 where
   pub nonces : NoncesApart (w .bank .clock) (w .bank .nonces)
   pub places : (i : ℕ) → PlaceNumbered (placeAt (w .bank) i)
   pub downloads : (i : ℕ) → DownloadNumbered (downloadAt (w .bank) i)
-  pub named : (i : ℕ) → i < placeCount → isFree (placeAt (w .bank) i .used) ≡ false →
-      placeAt (w .bank) i .number < seriesOf (placeAt (w .bank) i .subscriber) (w .bank .series)
-  pub counters : length (w .bank .series) ≡ placeCount
+  pub named : (i : ℕ) → i < placeCount → isFree (placeAt (w .bank) i .used) ≡ false → OrderNamed (w .bank .openings) (placeAt (w .bank) i)
   pub unsigned : (i : ℕ) → i < placeCount → isBooked (placeAt (w .bank) i .used) ≡ false →
       placeAt (w .bank) i .signers ≡ 0
 
@@ -114,11 +121,10 @@ pub record Found (w : BankState) : Type 0 where
 pub record Left (w v : BankState) (es : List Entry) : Type 0 where
   pub clock : v .bank .clock ≡ w .bank .clock
   pub more : w .bank .openings ≤ v .bank .openings
-  pub further : Further (w .bank .series) (v .bank .series)
   pub nonces : NoncesApart (v .bank .clock) (v .bank .nonces)
   pub places : (i : ℕ) → PlaceNumbered (placeAt (v .bank) i)
   pub downloads : (i : ℕ) → DownloadNumbered (downloadAt (v .bank) i)
-  pub entries : (e : Entry) → In e es → EntryHolds (v .bank .series) e
+  pub entries : (e : Entry) → In e es → EntryHolds (v .bank .openings) e
   -- an opening has room for two events, of which an open upload has had one, and a signer for one
   pub events : length es + openUploads (v .bank) + (2 * w .bank .openings + signersGiven (w .bank .places))
       ≤ openUploads (w .bank) + (2 * v .bank .openings + signersGiven (v .bank .places))
@@ -135,7 +141,6 @@ module _ (first : ℕ) (small : first < 2 ^ 64) (w : BankState) (f : Found w) (q
   unchanged = record {
     clock = refl;
     more = omega arith;
-    further = further-same (w .bank .series);
     nonces = f .nonces;
     places = f .places;
     downloads = f .downloads;
@@ -143,11 +148,20 @@ module _ (first : ℕ) (small : first < 2 ^ 64) (w : BankState) (f : Found w) (q
     events = omega arith;
   }
 
-  one-entry : (k : Kind) (order : ℕ) (series : List ℕ) → Readable q (length d) → order < seriesOf (subscriber q) series →
-      isEvent k ≡ true → (e : Entry) → In e (entry k (subscriber q) order ∷ []) → EntryHolds series e
-  one-entry k order series a l h e i =
-      subst (EntryHolds series) (sym (in-one i))
-      (record { known = a .known; most = a .most; typed = refl; counted = l; happened = h })
+  -- an event of the upload in the place p
+  one-entry : (k : Kind) (s : ℕ) (p : Place) (openings : ℕ) → 1 ≤ s → s ≤ subscribers → PlaceNumbered p → OrderNamed openings p →
+      isEvent k ≡ true → (e : Entry) → In e (entry k s (p .number) (p .transaction) ∷ []) → EntryHolds openings e
+  one-entry k s p openings known most words named h e i =
+      subst (EntryHolds openings) (sym (in-one i))
+      (record {
+        known = known;
+        most = most;
+        typed = refl;
+        ordered = named .ordered;
+        lent = words .high;
+        counted = named .counted;
+        happened = h;
+      })
 
   -- ---- an accepted opening
 
@@ -163,16 +177,15 @@ module _ (first : ℕ) (small : first < 2 ^ 64) (w : BankState) (f : Found w) (q
         nonces-counted (w .bank) q (f .remembered) (g .unseen) (g .memory)
         (record { words = brought .nonce; ahead = g .ahead; last = brought .timestamp (a .request) timed }) (f .nonces)
 
-    -- how far its subscriber's series has come
+    -- its order's number, chosen or the bank's own
     abbrev order : ℕ
-    order = seriesOf (subscriber q) (w .bank .series)
+    order = openingNumber (w .bank) q
 
-    upload-opened : freePlace (w .bank) < placeCount → Left w (bankState (openUpload t order q (w .bank)) (w .orders) (w .mailboxes))
-        (entry kind.Opened (subscriber q) order ∷ [])
+    upload-opened : freePlace (w .bank) < placeCount → Numbered (w .bank) q → Left w (bankState (openUpload t order q (w .bank)) (w .orders) (w .mailboxes))
+        (entry kind.Opened (subscriber q) order t ∷ [])
     unfolding openUpload countedUpload counted freePlace
-    upload-opened inside =
+    upload-opened inside own =
         let p = newPlace t order (w .bank .clock) q in
-        let o = moved-own (subscriber q) (w .bank .series) (f .counters) (a .known) (a .most) in
         let m = count-set-suc (λ (r : Place). isOpen (r .used)) (w .bank .places) (freePlace (w .bank)) p in
         let n = f .rowed in
         let free = first-passes (λ (r : Place). isFree (r .used)) (w .bank .places) noPlace (omega arith) in
@@ -181,11 +194,11 @@ module _ (first : ℕ) (small : first < 2 ^ 64) (w : BankState) (f : Found w) (q
         record {
           clock = refl;
           more = omega arith;
-          further = moved-further (subscriber q) (w .bank .series);
           nonces = new-nonces;
           places = each-set-all PlaceNumbered (w .bank .places) (freePlace (w .bank)) p noPlace new-words (f .places);
           downloads = f .downloads;
-          entries = one-entry kind.Opened order (moved (subscriber q) (w .bank .series)) a (omega arith) refl;
+          entries = one-entry kind.Opened (subscriber q) p (w .bank .openings + 1) (a .known) (a .most) new-words
+              (record { ordered = own .below; counted = omega arith }) refl;
           events = omega arith;
         }
 
@@ -194,7 +207,6 @@ module _ (first : ℕ) (small : first < 2 ^ 64) (w : BankState) (f : Found w) (q
     download-opened = record {
       clock = refl;
       more = omega arith;
-      further = further-same (w .bank .series);
       nonces = new-nonces;
       places = f .places;
       downloads = each-set-all DownloadNumbered (w .bank .downloads) (freeDownload (w .bank))
@@ -208,7 +220,7 @@ module _ (first : ℕ) (small : first < 2 ^ 64) (w : BankState) (f : Found w) (q
   -- the place changed, with at most one event where it is not open any more
   place-left : (i : ℕ) → i < placeCount → isOpen (placeAt (w .bank) i .used) ≡ true → (p : Place) (orders : List ℕ)
       (es : List Entry) → PlaceNumbered p → length es + cond (isOpen (p .used)) 1 0 ≤ 1 →
-      ((e : Entry) → In e es → EntryHolds (w .bank .series) e) →
+      ((e : Entry) → In e es → EntryHolds (w .bank .openings) e) →
       Left w (bankState (withPlace i p (w .bank)) orders (w .mailboxes)) es
   place-left i inside used p orders es new few entered =
       let h = f .rowed in
@@ -219,7 +231,6 @@ module _ (first : ℕ) (small : first < 2 ^ 64) (w : BankState) (f : Found w) (q
       record {
         clock = refl;
         more = omega arith;
-        further = further-same (w .bank .series);
         nonces = f .nonces;
         places = each-set-all PlaceNumbered (w .bank .places) i p noPlace new (f .places);
         downloads = f .downloads;
@@ -237,12 +248,6 @@ module _ (first : ℕ) (small : first < 2 ^ 64) (w : BankState) (f : Found w) (q
     used : isOpen (p .used) ≡ true
     used = ap isOpen (upload-found (subscriber q) (transaction q) p (c .found) .0)
 
-    -- the upload is the request's subscriber's
-    named : p .number < seriesOf (subscriber q) (w .bank .series)
-    named =
-        subst (λ (s : ℕ). p .number < seriesOf s (w .bank .series))
-        (upload-found (subscriber q) (transaction q) p (c .found) .1) (f .named i (c .inside) (open-in-use (p .used) used))
-
     still-few : (b : Bool) → length {A = Entry} [] + cond b 1 0 ≤ 1
     still-few true = omega arith
     still-few false = omega arith
@@ -253,22 +258,24 @@ module _ (first : ℕ) (small : first < 2 ^ 64) (w : BankState) (f : Found w) (q
         place-left i (c .inside) used p′ orders [] new (still-few (isOpen (p′ .used))) (λ e m. absurd (in-none m))
 
     ends : (k : Kind) → isEvent k ≡ true → (p′ : Place) (orders : List ℕ) → isOpen (p′ .used) ≡ false → PlaceNumbered p′ →
-        Left w (bankState (withPlace i p′ (w .bank)) orders (w .mailboxes)) (entry k (subscriber q) (p .number) ∷ [])
+        Left w (bankState (withPlace i p′ (w .bank)) orders (w .mailboxes)) (entry k (subscriber q) (p .number) (p .transaction) ∷ [])
     ends k h p′ orders z new =
-        place-left i (c .inside) used p′ orders (entry k (subscriber q) (p .number) ∷ []) new
+        place-left i (c .inside) used p′ orders (entry k (subscriber q) (p .number) (p .transaction) ∷ []) new
         (let y = ap (λ (b : Bool). cond {A = ℕ} b 1 0) z in omega arith)
-        (one-entry k (p .number) (w .bank .series) (c .readable) named h)
+        (one-entry k (subscriber q) p (w .bank .openings) (c .readable .known) (c .readable .most) (f .places i)
+        (f .named i (c .inside) (open-in-use (p .used) used)) h)
 
-    upload-left : {b : UploadAction} (u : Bits128) → UploadSound r p q b →
-        Left w (uploadActs b u w q d)
-        (actionEntries (verdict.Of u (action.Upload b)) (orderIn (verdict.Of u (action.Upload b)) (w .bank) q) q)
+    upload-left : {b : UploadAction} → UploadSound r p q b →
+        Left w (uploadActs b (p .transaction) w q d)
+        (actionEntries (verdict.Of (p .transaction) (action.Upload b))
+        (orderIn (verdict.Of (p .transaction) (action.Upload b)) (w .bank) q) q)
     unfolding actionEntries grown booked attempted
-    upload-left u (took y below early) = stays (grown (w .bank .clock) (length d) p) _ (f .places i)
-    upload-left u (tookLast y last mark) = ends kind.Booked refl (booked (length d) p) _ refl (f .places i)
-    upload-left u (uploadPoint fits few) = stays (attempted p) _ (f .places i)
-    upload-left u (abort fits many) = ends kind.Cancelled refl noPlace _ refl free-numbered
-    upload-left u (underrun y below mark) = ends kind.Cancelled refl noPlace _ refl free-numbered
-    upload-left u (exceeded y last mark) = ends kind.Cancelled refl noPlace _ refl free-numbered
+    upload-left (took y below early) = stays (grown (w .bank .clock) (length d) p) _ (f .places i)
+    upload-left (tookLast y last mark) = ends kind.Booked refl (booked (length d) p) _ refl (f .places i)
+    upload-left (uploadPoint fits few) = stays (attempted p) _ (f .places i)
+    upload-left (abort fits many) = ends kind.Cancelled refl noPlace _ refl free-numbered
+    upload-left (underrun y below mark) = ends kind.Cancelled refl noPlace _ refl free-numbered
+    upload-left (exceeded y last mark) = ends kind.Cancelled refl noPlace _ refl free-numbered
 
   -- ---- a request to an open download
 
@@ -278,7 +285,6 @@ module _ (first : ℕ) (small : first < 2 ^ 64) (w : BankState) (f : Found w) (q
   downloads-left l files mailboxes new = record {
     clock = refl;
     more = omega arith;
-    further = further-same (w .bank .series);
     nonces = f .nonces;
     places = f .places;
     downloads = new;
@@ -315,7 +321,7 @@ module _ (first : ℕ) (small : first < 2 ^ 64) (w : BankState) (f : Found w) (q
   -- its set of signers and the nonces changed, with at most one event for each signer more
   pub order-left : (i : ℕ) → i < placeCount → (signers : ℕ) (nonces : List Nonce) (es : List Entry) →
       NoncesApart (w .bank .clock) nonces → length es + signerCount (placeAt (w .bank) i .signers) ≤ signerCount signers →
-      ((e : Entry) → In e es → EntryHolds (w .bank .series) e) →
+      ((e : Entry) → In e es → EntryHolds (w .bank .openings) e) →
       Left w (changedAt i (withSigners signers (placeAt (w .bank) i)) (w .bank .openings) (w .bank .series) nonces (w .orders) w) es
   order-left i inside signers nonces es apart few entered =
       let h = f .rowed in
@@ -325,7 +331,6 @@ module _ (first : ℕ) (small : first < 2 ^ 64) (w : BankState) (f : Found w) (q
       record {
         clock = refl;
         more = omega arith;
-        further = further-same (w .bank .series);
         nonces = apart;
         places = each-set-all PlaceNumbered (w .bank .places) i p noPlace (f .places i) (f .places);
         downloads = f .downloads;
@@ -340,12 +345,8 @@ module _ (first : ℕ) (small : first < 2 ^ 64) (w : BankState) (f : Found w) (q
     abbrev signedAt : Place
     signedAt = placeAt (w .bank) at
 
-    -- the order is one of the owner's series
-    order-named : signedAt .number < seriesOf (owner q) (w .bank .series)
-    order-named =
-        let found = order-found (owner q) (orderNumber q) signedAt (c .found) in
-        subst (λ (s : ℕ). signedAt .number < seriesOf s (w .bank .series)) (found .1)
-        (f .named at (c .signable .inside) (ap isFree (found .0)))
+    order-named : OrderNamed (w .bank .openings) signedAt
+    order-named = f .named at (c .signable .inside) (ap isFree (order-found (owner q) (orderNumber q) signedAt (c .found) .0))
 
     signed-nonces : NoncesApart (w .bank .clock) (remembered q (w .bank) .nonces)
     unfolding counted
@@ -363,7 +364,7 @@ module _ (first : ℕ) (small : first < 2 ^ 64) (w : BankState) (f : Found w) (q
 
     signed-by : (t : Bool) → isSigner (subscriber q) (signedAt .signers) ≡ t
         → Left w (bankState (sign q (w .bank)) (w .orders) (w .mailboxes))
-        (cond (isEvent (signedKind (not t))) (entry (signedKind (not t)) (owner q) (signedAt .number) ∷ []) [])
+        (cond (isEvent (signedKind (not t))) (entry (signedKind (not t)) (owner q) (signedAt .number) (signedAt .transaction) ∷ []) [])
     unfolding sign freeNonce
     signed-by true e =
         let g = count-grows (subscriber q) (signedAt .signers) has-bit in
@@ -372,28 +373,26 @@ module _ (first : ℕ) (small : first < 2 ^ 64) (w : BankState) (f : Found w) (q
     signed-by false e =
         let g = count-grows (subscriber q) (signedAt .signers) has-bit in
         order-left at (c .signable .inside) (withSigner (subscriber q) (signedAt .signers)) _
-        (entry kind.Signed (owner q) (signedAt .number) ∷ []) signed-nonces (rw (g, e) (omega arith))
-        (λ x i. subst (EntryHolds (w .bank .series)) (sym (in-one i))
-        (record {
-          known = c .signable .known;
-          most = c .signable .most;
-          typed = refl;
-          counted = order-named;
-          happened = refl;
-        }))
+        (entry kind.Signed (owner q) (signedAt .number) (signedAt .transaction) ∷ []) signed-nonces (rw (g, e) (omega arith))
+        (one-entry kind.Signed (owner q) signedAt (w .bank .openings) (c .signable .known) (c .signable .most) (f .places at)
+        order-named refl)
 
   -- ---- every request
 
   timed-by : {x : Form} → form q ≡ x → has (tagsOf x) timestampTag ≡ true → has (tagsOf (form q)) timestampTag ≡ true
   timed-by e h = ap (λ (y : Form). has (tagsOf y) timestampTag) e ∙ h
 
+  opening-timed : (e : Edition) → has (tagsOf (openingForm e)) timestampTag ≡ true
+  opening-timed edition.V24 = refl
+  opening-timed edition.V25 = refl
+
   pub request-left : {v : Verdict} → Happens first w q d v →
       Left w (carryOut v w q d) (actionEntries v (orderIn v (w .bank) q) q)
   unfolding actionEntries
   request-left unreadable = unchanged
   request-left (refused c z) = unchanged
-  request-left (opensUpload e a g n inside below) = upload-opened a g (timed-by e refl) inside
+  request-left (opensUpload e a g n inside own) = upload-opened a g (timed-by e (opening-timed (editionOf q))) inside own
   request-left (opensDownload e a g n) = download-opened a g (timed-by e refl)
-  request-left (toUpload r a c) = upload-left r a c _ (c .sound)
+  request-left (toUpload r a c) = upload-left r a c (c .sound)
   request-left (toDownload r a c) = download-left r a c _ (c .sound)
   request-left (signs c) = signed-by c (timed-by (c .asked) refl) _ refl

@@ -22,7 +22,7 @@ use Rattle.bank_state.specs.declared.state.Place.{Place}
 use Rattle.bank_state.specs.Clock.{advanced}
 use Rattle.bank_state.specs.Limits.{placeCount, idBytes}
 use Rattle.bank_state.specs.Search.{isFree, isBooked}
-use Rattle.bank_state.specs.State.{BankState, bankState, noPlace, noDownload, placeAt, downloadAt, seriesOf, withFiles}
+use Rattle.bank_state.specs.State.{BankState, bankState, noPlace, noDownload, placeAt, downloadAt, withFiles}
 use Rattle.bank_state.proofs.Drops.{isIdlePlace, AtClock, advanced-at-clock, Sized, advanced-sized, each-endDownloads}
 use Rattle.bank_verdicts.specs.declared.verdict.Verdict.{Verdict}
 use Rattle.bank_verdicts.specs.Judgement.{judge}
@@ -43,13 +43,13 @@ use Rattle.bank_admitted.specs.State.{StateHolds, NoneIdle}
 use Rattle.bank_admitted.specs.Session.{NoncesApart, JournalHolds, openUploads, signersGiven, SessionHolds, Brought}
 use Rattle.bank_steps.proofs.Cases.{happens}
 use Rattle.bank_admitted.proofs.Clock.{sized}
-use Rattle.bank_admitted.proofs.Series.{Further}
+use Rattle.bank_admitted.proofs.Held.{place-counted}
 use Rattle.bank_admitted.proofs.DropsKept.{advanced-place, drops-counted, drops-entered}
 use Rattle.bank_admitted.proofs.JournalKept.{EntryHolds, entry-later, journal-later, journal-entered}
 use Rattle.bank_admitted.proofs.NoncesKept.{nonces-later}
 use Rattle.bank_admitted.proofs.OpeningRead.{nonce-read, timestamp-read}
 use Rattle.bank_admitted.proofs.Signers.{given-most, unsigned, drops-unsigned}
-use Rattle.bank_admitted.proofs.RequestKept.{PlaceNumbered, DownloadNumbered, free-numbered, Found, Left, request-left}
+use Rattle.bank_admitted.proofs.RequestKept.{PlaceNumbered, DownloadNumbered, free-numbered, OrderNamed, Found, Left, request-left}
 
 -- no count of events wraps: nine more fit in 64 bits
 pub events-fit : {w : BankState} {j : Journal} → SessionHolds w j → j .events + maxEntries < 2 ^ 64
@@ -99,16 +99,15 @@ module _ {w : BankState} {j : Journal} (h : SessionHolds w j) (a : FrameInput) (
           subst PlaceNumbered (sym (List·getD-eq-default (b .bank .places) noPlace {n = i} (omega arith))) free-numbered
 
   found-named : (i : ℕ) → i < placeCount → isFree (placeAt (b .bank) i .used) ≡ false →
-      placeAt (b .bank) i .number < seriesOf (placeAt (b .bank) i .subscriber) (b .bank .series)
+      OrderNamed (b .bank .openings) (placeAt (b .bank) i)
   found-named i l =
-      subst (λ (series : List ℕ). isFree (placeAt (b .bank) i .used) ≡ false →
-      placeAt (b .bank) i .number < seriesOf (placeAt (b .bank) i .subscriber) series) (sym (at .series))
+      subst (λ (o : ℕ). isFree (placeAt (b .bank) i .used) ≡ false → OrderNamed o (placeAt (b .bank) i)) (sym (at .openings))
       (subst Named (sym (advanced-place (a .time) w s i l))
       (by-test Named (isIdlePlace c (placeAt (w .bank) i)) (λ _ e. never (sym e))
-      (λ _ e. h .state .orders i l e)))
+      (λ _ e. record { ordered = h .state .orders i l e; counted = place-counted w (h .state) i l e })))
     where
       Named : Place → Type 0
-      Named p = isFree (p .used) ≡ false → p .number < seriesOf (p .subscriber) (w .bank .series)
+      Named p = isFree (p .used) ≡ false → OrderNamed (w .bank .openings) p
 
   found-unsigned : (i : ℕ) → i < placeCount → isBooked (placeAt (b .bank) i .used) ≡ false → placeAt (b .bank) i .signers ≡ 0
   found-unsigned i l =
@@ -140,7 +139,6 @@ module _ {w : BankState} {j : Journal} (h : SessionHolds w j) (a : FrameInput) (
         places = found-places;
         downloads = found-downloads;
         named = found-named;
-        counters = n .series;
         unsigned = found-unsigned;
       }
 
@@ -175,25 +173,25 @@ module _ {w : BankState} {j : Journal} (h : SessionHolds w j) (a : FrameInput) (
     now : after .bank .clock ≡ c
     now = left .clock ∙ at .clock
 
-    further : Further (w .bank .series) (after .bank .series)
-    further = subst (λ (l : List ℕ). Further l (after .bank .series)) (at .series) (left .further)
+    more : w .bank .openings ≤ after .bank .openings
+    more = let x = left .more in let y = at .openings in omega arith
 
     in-time : after .bank .clock ≤ lastTime
     in-time = let x = h .clock in let y = right .inTime in let z = now in omega arith
 
     -- the journal before, at the call's clock and after its opening
-    journal-waits : JournalHolds c (after .bank .series) j
-    journal-waits = journal-later (omega arith) further (h .journal)
+    journal-waits : JournalHolds c (after .bank .openings) j
+    journal-waits = journal-later (omega arith) more (h .journal)
 
-    entries-hold : (e : Entry) → In e (drops ++ acted) → EntryHolds (after .bank .series) e
+    entries-hold : (e : Entry) → In e (drops ++ acted) → EntryHolds (after .bank .openings) e
     entries-hold e m = by (in-append drops m)
       where
-        by : In e drops ⊎ In e acted → EntryHolds (after .bank .series) e
-        by (inl k) = entry-later further (drops-entered w (h .state) c e k)
+        by : In e drops ⊎ In e acted → EntryHolds (after .bank .openings) e
+        by (inl k) = entry-later more (drops-entered w (h .state) (h .places) c e k)
         by (inr k) = left .entries e k
 
     -- all but the journal
-    with-journal : (k : Journal) → StateHolds after → NoneIdle after → JournalHolds c (after .bank .series) k →
+    with-journal : (k : Journal) → StateHolds after → NoneIdle after → JournalHolds c (after .bank .openings) k →
         k .events + openUploads (after .bank) ≤ 2 * after .bank .openings + signersGiven (after .bank .places) → SessionHolds after k
     with-journal k state idle journal events = record {
       state = state;
@@ -202,7 +200,7 @@ module _ {w : BankState} {j : Journal} (h : SessionHolds w j) (a : FrameInput) (
       nonces = left .nonces;
       places = λ i _. left .places i;
       downloads = left .downloads;
-      journal = subst (λ (n : ℕ). JournalHolds n (after .bank .series) k) (sym now) journal;
+      journal = subst (λ (n : ℕ). JournalHolds n (after .bank .openings) k) (sym now) journal;
       events = events;
     }
 
@@ -223,7 +221,7 @@ module _ {w : BankState} {j : Journal} (h : SessionHolds w j) (a : FrameInput) (
         SessionHolds after (journalBy r (withEntries c (drops ++ acted) j) j)
     answered-keeps (Reply n) state idle =
         with-journal (withEntries c (drops ++ acted) j) state idle
-        (journal-entered c (after .bank .series) (drops ++ acted) j journal-waits entries-hold) few
+        (journal-entered c (after .bank .openings) (drops ++ acted) j journal-waits entries-hold) few
     answered-keeps WrongLength state idle =
         with-journal j state idle journal-waits (let x = few in omega arith)
 

@@ -24,7 +24,7 @@ use Rattle.bank_steps.proofs.Cases.{ToOrder}
 use Rattle.bank_admitted.specs.State.{PlaceHolds, NoncesHold, StateHolds}
 use Rattle.bank_admitted.proofs.Rows.{count-set-le}
 use Rattle.bank_admitted.proofs.Parts.{withSigners, place-signed}
-use Rattle.bank_admitted.proofs.Series.{further-same}
+use Rattle.bank_admitted.proofs.Ahead.{kept-holds, ahead-stays}
 use Rattle.bank_admitted.proofs.Nonces.{nonces-added}
 use Rattle.bank_admitted.proofs.InRange.{state-in-range}
 use Rattle.bank_admitted.proofs.PlaceChange.{changedAt, place-change, alike-sym}
@@ -62,8 +62,8 @@ module _ (w : BankState) (v : StateHolds w) (i : ℕ) (inside : i < placeCount) 
         grow = omega arith;
         numbers = v .numbers;
         counters = v .sizes .series;
-        further = further-same (w .bank .series);
-        seriesHold = v .series;
+        seriesHold = kept-holds (w .bank .openings) i after (v .series)
+            (ahead-stays (w .bank .series) before after (λ _. (used, refl, refl)));
         new = new;
         order = λ _. v .orders i inside used;
         apartPlace = λ j a n f g e. n (v .placesApart j i a inside g used (alike-sym before (placeAt (w .bank) j) e));

@@ -21,7 +21,7 @@ use Rattle.bank_state.specs.declared.state.Use.{Use}
 use Rattle.bank_state.specs.declared.state.Use.the-variants.{Open}
 use Rattle.bank_state.specs.Limits.{placeCount}
 use Rattle.bank_state.specs.Search.{isFree, isOpen, isUpload, openCount, openCountOf}
-use Rattle.bank_state.specs.State.{BankState, noPlace, placeAt, seriesOf}
+use Rattle.bank_state.specs.State.{BankState, noPlace, placeAt}
 use Rattle.bank_state.specs.Store.{partAt, withPart}
 use Rattle.bank_state.proofs.Found.{upload-found}
 use Rattle.bank_state.proofs.Stores.{length-withPart, part-same, part-other}
@@ -49,7 +49,7 @@ use Rattle.bank_state.proofs.Stores.{length-part}
 use Rattle.bank_admitted.proofs.Rows.{count-set-le}
 use Rattle.bank_steps.proofs.Cases.{requestForm, ToUpload}
 use Rattle.bank_admitted.proofs.Parts.{place-attempted, place-grown, place-booked}
-use Rattle.bank_admitted.proofs.Series.{further-same}
+use Rattle.bank_admitted.proofs.Ahead.{kept-holds, ahead-stays}
 use Rattle.bank_admitted.proofs.Held.{open-in-use}
 use Rattle.bank_admitted.proofs.PlaceChange.{changedAt, place-change}
 
@@ -83,10 +83,10 @@ module _ (w : BankState) (v : StateHolds w) (i : ℕ) (inside : i < placeCount) 
         grow = omega arith;
         numbers = v .numbers;
         counters = v .sizes .series;
-        further = further-same (w .bank .series);
-        seriesHold = v .series;
+        seriesHold = kept-holds (w .bank .openings) i p (v .series)
+            (ahead-stays (w .bank .series) before p (λ f. (used, same f .1, same f .2)));
         new = new;
-        order = λ f. ordered (same f .1) (same f .2);
+        order = λ f. rw (same f .2) (v .orders i inside used);
         apartPlace = λ j a n f g e. n (v .placesApart j i a inside g used (alike same f (placeAt (w .bank) j) e));
         apartDownload = λ j f g e. v .apart i j inside used g (sym (same f .0) ∙ e);
         openAll = let m = count-set-le (λ (r : Place). isOpen (r .used)) (w .bank .places) i p noPlace (λ _. ap isOpen opened) in omega
@@ -98,10 +98,6 @@ module _ (w : BankState) (v : StateHolds w) (i : ℕ) (inside : i < placeCount) 
     where
       used : isFree (before .used) ≡ false
       used = ap isFree opened
-
-      ordered : p .subscriber ≡ before .subscriber → p .number ≡ before .number →
-          p .number < seriesOf (p .subscriber) (w .bank .series)
-      ordered s n = rw (s, n) (v .orders i inside used)
 
       of : (s : ℕ) → isOpen (p .used) && eqb (p .subscriber) s ≡ true → isOpen (before .used) && eqb (before .subscriber) s ≡ true
       of s e =

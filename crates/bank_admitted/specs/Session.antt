@@ -14,10 +14,10 @@ use Rattle.journal.specs.Events.{recordCount, noEvent}
 use Rattle.journal.specs.Places.{usedAfter}
 use Rattle.journal.specs.Row.{Journal}
 use Rattle.bank_state.specs.declared.state.Place.{Place}
-use Rattle.bank_state.specs.Limits.{placeCount, window}
+use Rattle.bank_state.specs.Limits.{placeCount, seriesLimit, window}
 use Rattle.bank_state.specs.Rows.{countOf}
 use Rattle.bank_state.specs.Search.{isOpen}
-use Rattle.bank_state.specs.State.{Bank, BankState, Nonce, noNonce, placeAt, downloadAt, seriesOf}
+use Rattle.bank_state.specs.State.{Bank, BankState, Nonce, noNonce, placeAt, downloadAt}
 use Rattle.bank_events.specs.Entries.{isEvent}
 use Rattle.bank.specs.Call.{FrameInput}
 use Rattle.bank_admitted.specs.State.{StateHolds, NoneIdle}
@@ -39,22 +39,25 @@ pub record NoncesApart (clock : ℕ) (nonces : List Nonce) : Type 0 where
   pub apart : (i j : ℕ) → getD nonces i noNonce .used ≡ true → getD nonces j noNonce .used ≡ true →
       getD nonces i noNonce .value ≡ getD nonces j noNonce .value → i ≡ j
 
--- an event in use, at a clock, with the series come so far: type FUL, the order "below its subscriber's count"
-pub record EventHolds (clock : ℕ) (series : List ℕ) (e : Event) : Type 0 where
+-- an event in use, at a clock, with the number of openings: type FUL, an order number of A000 to ZZZZ, the transaction ID
+-- of an accepted opening
+pub record EventHolds (clock openings : ℕ) (e : Event) : Type 0 where
   pub current : e .clock ≤ clock
   pub known : 1 ≤ e .subscriber
   pub most : e .subscriber ≤ subscribers
   pub typed : e .«order_type» ≡ ful
-  pub counted : e .order < seriesOf (e .subscriber) series
+  pub ordered : e .order < seriesLimit
+  pub lent : e .high < 2 ^ 64
+  pub counted : e .low < openings
   pub happened : isEvent (e .kind) ≡ true
 
 abbrev pub recordAt : Journal → ℕ → Event
 recordAt j i = getD (j .row) i noEvent
 
 -- the journal: numbers "consecutive, the last one is 05", no clock below the one before, the other records are 0
-pub record JournalHolds (clock : ℕ) (series : List ℕ) (j : Journal) : Type 0 where
+pub record JournalHolds (clock openings : ℕ) (j : Journal) : Type 0 where
   pub long : length (j .row) ≡ recordCount
-  pub each : (i : ℕ) → i < usedAfter (j .events) → EventHolds clock series (recordAt j i)
+  pub each : (i : ℕ) → i < usedAfter (j .events) → EventHolds clock openings (recordAt j i)
   pub numbered : (i : ℕ) → i < usedAfter (j .events) →
       recordAt j i .number ≡ j .events - usedAfter (j .events) + 1 + i
   pub rising : (i : ℕ) → suc i < usedAfter (j .events) → recordAt j i .clock ≤ recordAt j (suc i) .clock
@@ -76,7 +79,7 @@ pub record SessionHolds (w : BankState) (j : Journal) : Type 0 where
   pub nonces : NoncesApart (w .bank .clock) (w .bank .nonces)
   pub places : (i : ℕ) → i < placeCount → Words (placeAt (w .bank) i .transaction)
   pub downloads : (i : ℕ) → Words (downloadAt (w .bank) i .transaction)
-  pub journal : JournalHolds (w .bank .clock) (w .bank .series) j
+  pub journal : JournalHolds (w .bank .clock) (w .bank .openings) j
   -- "05 plus the number of open uploads is at most 2 × openings + *signers*"
   pub events : j .events + openUploads (w .bank) ≤ 2 * w .bank .openings + signersGiven (w .bank .places)
 

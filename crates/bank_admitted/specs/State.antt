@@ -1,6 +1,6 @@
 -- What a bank and its stores may hold, without their history: "bounded by document 01's limits".
 use Prim.Native.Nat.{ℕ, suc, _-_, _*_, _+_, _<_, _≤_}
-use mathlib.Core.Bool.{Bool, true, false}
+use mathlib.Core.Bool.{Bool, true, false, not, _&&_}
 use mathlib.Core.List.{List, [], _∷_, _++_}
 use mathlib.Core.Logic.{_⊎_}
 use mathlib.Core.Path.{_≡_}
@@ -26,6 +26,7 @@ use Rattle.bank_state.specs.Limits.{
   window,
   allSigners,
 }
+use Rattle.bank_state.specs.Rows.{countOf}
 use Rattle.bank_state.specs.Search.{isFree, isOpen, openCount, openCountOf}
 use Rattle.bank_state.specs.State.{BankState, noPlace, noDownload, noNonce, placeAt, downloadAt, seriesOf}
 use Rattle.bank_state.specs.Store.{partAt}
@@ -134,12 +135,20 @@ unfoldable pub total : List ℕ → ℕ
 total [] = 0
 total (n ∷ l) = n + total l
 
--- how far the numbering of each subscriber's uploads has come, after so many openings
-pub record SeriesHold (openings : ℕ) (series : List ℕ) : Type 0 where
+-- a place is in use with an order number that its subscriber's counter has not reached
+unfoldable pub isAhead : List ℕ → Place → Bool
+isAhead series p = not (isFree (p .used)) && leb (seriesOf (p .subscriber) series) (p .number)
+
+-- "chosen ahead": how many places are so
+unfoldable pub chosenAhead : List ℕ → List Place → ℕ
+chosenAhead series places = countOf (isAhead series) places
+
+-- how far the bank's own numbering of each subscriber's uploads has come, after so many openings, with these places
+pub record SeriesHold (openings : ℕ) (series : List ℕ) (places : List Place) : Type 0 where
   -- "The limit of 1,213,056 ... holds per series"
   pub limited : (i : ℕ) → i < placeCount → getD series i 0 ≤ seriesLimit
-  -- "the eight counts add up to at most openings"
-  pub counted : total series ≤ openings
+  -- "the counts and chosen ahead together" are at most the openings
+  pub counted : total series + chosenAhead series places ≤ openings
 
 -- two places have one running number in their transaction IDs, or one subscriber and one order number
 abbrev pub Alike : Place → Place → Type 0
@@ -152,14 +161,14 @@ pub record StateHolds (w : BankState) : Type 0 where
   pub sizes : Sizes w
   -- at most 4,294,967,296 openings
   pub numbers : w .bank .openings ≤ maxOpenings
-  pub series : SeriesHold (w .bank .openings) (w .bank .series)
+  pub series : SeriesHold (w .bank .openings) (w .bank .series) (w .bank .places)
   -- each place is free and zero, or in use with its columns in their ranges and zeros behind its bytes
   pub places : (i : ℕ) → i < placeCount →
       PlaceHolds (placeAt (w .bank) i .used) (w .bank .clock) (w .bank .openings) (placeAt (w .bank) i)
       (partAt (w .orders) i)
-  -- an order's number is one that its subscriber's series has given
+  -- an order's number is any of A000 to ZZZZ, the bank's own or its client's
   pub orders : (i : ℕ) → i < placeCount → isFree (placeAt (w .bank) i .used) ≡ false →
-      placeAt (w .bank) i .number < seriesOf (placeAt (w .bank) i .subscriber) (w .bank .series)
+      placeAt (w .bank) i .number < seriesLimit
   -- each record of downloads is zero, or an open download with its columns in their ranges
   pub downloads : (j : ℕ) →
       DownloadHolds (downloadAt (w .bank) j .used) (w .bank .clock) (w .bank .openings)

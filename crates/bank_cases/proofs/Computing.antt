@@ -16,7 +16,7 @@ use Rattle.image.specs.Table as imageTable
 use Rattle.image_numbers.specs.Table as numbersTable
 use Rattle.image_numbers.specs.Numbers as imageNumbers
 use Rattle.image_calls.specs.Calls as imageCalls
-use Rattle.case_rows.proofs.Computing.{frames, messages, bank, signings}
+use Rattle.case_rows.proofs.Computing.{frames, messages, bank, signings, choices}
 use Rattle.bank_cases.specs.Table as table
 
 -- a session's numbers
@@ -34,15 +34,15 @@ journals = 0
 
 -- a frame and a file arrive
 unfoldable pub calls : ℕ
-unfolding frames messages bank signings numbers journals lentCalls.lentFileCall sessionCalls.sessionFileCall
+unfolding frames messages bank signings choices numbers journals lentCalls.lentFileCall sessionCalls.sessionFileCall
 calls = 0
 
 -- an image's length, and the first number of a session to be put away
 unfoldable pub images : ℕ
 unfolding numbers image.fits image.isImage items.partItems items.recordItems items.storeItems items.contentItems
-    items.fieldItems items.itemsOf items.bytesIn items.sizesOf imageTable.rowAt
+    items.fieldItems items.imageItems items.bytesIn items.imageSizes imageTable.rowAt
     numbersTable.groupAt numbersTable.partPlaces numbersTable.recordPlaces numbersTable.recordsFrom
     numbersTable.groupPlaces numbersTable.groupsFrom numbersTable.sessionPlaces
-    imageNumbers.numbersAt imageNumbers.numbersIn imageCalls.formOf imageCalls.isAdmittedImage
+    imageNumbers.numbersAt imageNumbers.numbersIn imageCalls.isAdmittedImage
     imageCalls.lengthsRight imageCalls.takeUp
 images = 0

@@ -19,6 +19,11 @@ use Rattle.bank_cases.specs.Table.{
   shareCases,
   signingCases,
   signerCases,
+  editionCases,
+  numberCases,
+  chosenCases,
+  heldCases,
+  numberingCases,
   frameCases,
   fileCases,
   imageCases,
@@ -51,6 +56,26 @@ signers-hold : Holds quick signerCases
 unfolding signerCases calls
 signers-hold = listed signerCases refl
 
+editions-hold : Holds quick editionCases
+unfolding editionCases calls
+editions-hold = listed editionCases refl
+
+numbers-hold : Holds quick numberCases
+unfolding numberCases calls
+numbers-hold = listed numberCases refl
+
+chosen-hold : Holds quick chosenCases
+unfolding chosenCases calls
+chosen-hold = listed chosenCases refl
+
+held-hold : Holds quick heldCases
+unfolding heldCases calls
+held-hold = listed heldCases refl
+
+numbering-holds : Holds quick numberingCases
+unfolding numberingCases calls
+numbering-holds = listed numberingCases refl
+
 frames-hold : Holds quick frameCases
 unfolding frameCases calls
 frames-hold = listed frameCases refl
@@ -69,7 +94,9 @@ bank-cases-hold =
     otherwise same
     (both order-hold
     (both transactions-hold (both limits-hold (both shares-hold
-    (both signings-hold (both signers-hold (both frames-hold (both files-hold images-hold))))))))
+    (both signings-hold (both signers-hold
+    (both editions-hold (both numbers-hold (both chosen-hold (both held-hold (both numbering-holds
+    (both frames-hold (both files-hold images-hold)))))))))))))
 
 -- card 13's share while the other three banks are idle: nobody is refused by it who has fewer than 8 open
 

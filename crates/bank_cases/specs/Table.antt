@@ -1,18 +1,22 @@
 -- Document 01, "Who can cause which refusal", as rows: the order of the lines ("Checked in the order given, from top to
--- bottom"), the limits from both sides, and the host's numbers. A row of two neighbours is a request with the causes of
--- both and, where that can be, of no other line; the upper one is answered. The calls are the host's on a session,
--- `sessionFrameCall`, `sessionFileCall`, `putAway` and `takeUp`, on a bank as given. Digits stand here as in the paper.
+-- bottom"), the limits from both sides, card 8's signings, card 11's openings, and the host's numbers. A row of two
+-- neighbours is a request with the causes of both and, where that can be, of no other line; the upper one is answered.
+-- The calls are the host's on a session, `sessionFrameCall`, `sessionFileCall`, `putAway` and `takeUp`, on a bank as
+-- given. Digits stand here as in the paper.
 use Prim.Native.Nat.{ℕ, zero, suc, _-_, _^_}
 use mathlib.Core.Bool.{true, cond}
 use mathlib.Core.List.{List, [], _∷_, _++_}
-use lib.ListN.{length, replicate, getD}
+use lib.ListN.{length, replicate, getD, take}
 use Rattle.octets.specs.Bytes.{number}
 use Rattle.octets.specs.Texts.{ascii}
 use Rattle.frame_table.specs.declared.fields.Fields.{Fields}
-use Rattle.frame_table.specs.Names.{with}
+use Rattle.frame_table.specs.Names.{orderNumber, with}
 use Rattle.frame_table.specs.Table.{phaseTag, orderTypeTag, lastMarkTag, dataTag, orderAttributeTag}
+use Rattle.frame_table.specs.Table.{orderNumberTag, versionTag}
 use Rattle.frame_writer.specs.Writer.{frameOf}
+use Rattle.message.specs.OrderNumbers.{orderNumberOf}
 use Rattle.message.specs.Requests.{uploadOpening, downloadOpening, uploadTransfer, downloadTransfer, receipt, signing}
+use Rattle.message.specs.Requests.{chosenOpening}
 use Rattle.signers.specs.Signers.{signerCount, isReleased}
 use Rattle.journal.specs.Events.{noEvent}
 use Rattle.bank_state.specs.declared.state.Use.the-variants.{Open, Booked}
@@ -25,18 +29,20 @@ use Rattle.bank_state.specs.State.{
   noDownload,
   noNonce,
   placeAt,
+  seriesOf,
   withClock,
   withOpenings,
   withSeries,
 }
 use Rattle.bank_rows.specs.Layout.{stateSize}
 use Rattle.bank_rows.specs.State.{stored}
+use Rattle.bank_state.specs.Search.{isRemembered}
 use Rattle.bank_steps.specs.Lent.{stateOf}
 use Rattle.bank.specs.Call.{FrameInput}
 use Rattle.bank_session.specs.Session.{LentSession, session, eventCount, bankIn, withCount}
-use Rattle.bank_session.specs.Session.{sessionFrameCall, sessionFileCall}
+use Rattle.bank_session.specs.Session.{SessionFrameCall, sessionFrameCall, sessionFileCall}
 use Rattle.image_calls.specs.Calls.{putAway, takeUp}
-use Rattle.case_rows.specs.Rows.{Case, _gives_, clock, idOf, six}
+use Rattle.case_rows.specs.Rows.{Case, _gives_, clock, idOf, six, bytesIn, replyIn}
 
 -- ---- a bank as given
 
@@ -192,12 +198,12 @@ lending records orders mailboxes b =
 abbrev pub sessionWith : Bank → LentSession
 sessionWith = lending 64 63488 63488
 
--- a request at a bank time, with so many ID bytes and a reply buffer of so many, the other banks counting so many
-abbrev pub asking : ℕ → ℕ → ℕ → ℕ → Fields → List ℕ → FrameInput
-asking time ids buffer others q d = record {
+-- a frame at a bank time, with so many ID bytes and a reply buffer of so many, the other banks counting so many
+abbrev pub asking : ℕ → ℕ → ℕ → ℕ → List ℕ → FrameInput
+asking time ids buffer others frame = record {
   time = time;
   ids = replicate ids 0;
-  frame = frameOf q d;
+  frame = frame;
   buffer = replicate buffer 0;
   others = others;
 }
@@ -212,8 +218,10 @@ pub data HostCall : Type 0 where
   -- the same: how many events the journal has then, and under whom the first of them is entered: 0 where there is none
   eventsAfter : Bank → Fields → List ℕ → HostCall
   enteredUnder : Bank → Fields → List ℕ → HostCall
-  -- the same request with so many records, bytes in the stores of orders and of mailboxes, ID bytes, bytes in the reply
-  -- buffer, and at a bank time: its number
+  -- a frame at a bank time, those banks idle: a number that is asked of what the call leaves
+  asked : (SessionFrameCall → ℕ) → ℕ → Bank → List ℕ → HostCall
+  -- the opening of an upload with so many records, bytes in the stores of orders and of mailboxes, ID bytes, bytes in
+  -- the reply buffer, and at a bank time: its number
   frameWith : ℕ → ℕ → ℕ → ℕ → ℕ → ℕ → HostCall
   -- a file for a mailbox of so many bytes, with the numbers of a session, and a store of so many bytes: its number
   fileWith : List ℕ → ℕ → ℕ → ℕ → HostCall
@@ -224,7 +232,7 @@ pub data HostCall : Type 0 where
 
 -- the session after a request at a bank, the other banks being idle
 abbrev pub sessionAfter : Bank → Fields → List ℕ → LentSession
-sessionAfter b q d = sessionFrameCall (sessionWith b) (asking clock 8 312 6 q d) .session
+sessionAfter b q d = sessionFrameCall (sessionWith b) (asking clock 8 312 6 (frameOf q d)) .session
 
 -- the signers of the order in the first place of a session's bank, and under whom its journal's first event is
 abbrev pub signersIn : LentSession → ℕ
@@ -235,13 +243,14 @@ firstUnder m = getD (m .row) 0 noEvent .subscriber
 
 -- what comes of it
 abbrev pub come : HostCall → ℕ
-come (codeWith others b q d) = sessionFrameCall (sessionWith b) (asking clock 8 312 others q d) .code
+come (codeWith others b q d) = sessionFrameCall (sessionWith b) (asking clock 8 312 others (frameOf q d)) .code
 come (signersAfter b q d) = signerCount (signersIn (sessionAfter b q d))
 come (releasedAfter b q d) = cond (isReleased (signersIn (sessionAfter b q d))) 1 0
 come (eventsAfter b q d) = eventCount (sessionAfter b q d .rows)
 come (enteredUnder b q d) = firstUnder (sessionAfter b q d)
+come (asked of time b frame) = of (sessionFrameCall (sessionWith b) (asking time 8 312 6 frame))
 come (frameWith records orders mailboxes ids buffer time) =
-    sessionFrameCall (lending records orders mailboxes idle) (asking time ids buffer 6 (uploads 1) []) .number
+    sessionFrameCall (lending records orders mailboxes idle) (asking time ids buffer 6 (frameOf (uploads 1) [])) .number
 come (fileWith numbers store mailbox n) = sessionFileCall numbers mailbox (bytes n) (replicate store 0) .number
 come (takeUpWith mailboxes) = takeUp (lending 64 63488 mailboxes idle) [] .number
 come (putAwayWith b buffer) = putAway (sessionWith b) (replicate buffer 0) .number
@@ -543,6 +552,268 @@ signerCases =
     ∷ (eventsAfter (lodged 2) (signs 1 (ascii "A001") 1) [] gives 0)
     ∷ []
 
+-- ---- card 11: openings of edition 2.4, and the bank's own numbering
+
+-- an upload of n segments is opened with a nonce, a timestamp and a number
+abbrev pub opensChosen : ℕ → ℕ → ℕ → ℕ → List ℕ → Fields
+opensChosen s nonce timestamp n order = chosenOpening s 1 (idOf nonce) timestamp n (number order)
+
+-- one of 1 segment by a subscriber, in time and with a nonce that is not remembered
+abbrev pub chooses : ℕ → List ℕ → Fields
+chooses s order = opensChosen s 900 clock 1 order
+
+-- the same with another value of field 11
+abbrev pub versioned : List ℕ → Fields → Fields
+versioned letters q = with versionTag (number letters) q
+
+-- the bank that a call leaves
+abbrev pub bankLeft : SessionFrameCall → Bank
+bankLeft c = stateOf (bankIn (c .session)) .bank
+
+-- so many bytes of a request's frame, and a request at a bank time: the code
+abbrev pub cutTo : ℕ → Bank → Fields → HostCall
+cutTo n b q = asked (λ (c : SessionFrameCall). c .code) clock b (take n (frameOf q []))
+
+abbrev pub codeAt : ℕ → Bank → Fields → HostCall
+codeAt time b q = asked (λ (c : SessionFrameCall). c .code) time b (frameOf q [])
+
+-- of a request's reply: its bytes as one number, how many they are, and its order number, 0 where it has none
+abbrev pub replyOf : Bank → Fields → HostCall
+replyOf b q = asked (λ (c : SessionFrameCall). number (bytesIn (c .answer) (c .buffer))) clock b (frameOf q [])
+
+abbrev pub lengthOf : Bank → Fields → HostCall
+lengthOf b q = asked (λ (c : SessionFrameCall). length (bytesIn (c .answer) (c .buffer))) clock b (frameOf q [])
+
+abbrev pub orderOf : Bank → Fields → HostCall
+orderOf b q = asked (λ (c : SessionFrameCall). orderNumber (replyIn (c .answer) (c .buffer))) clock b (frameOf q [])
+
+-- of the bank then: how far subscriber 1's series has come, the number in the first place, the openings accepted, and
+-- whether the requests' nonce is remembered: 1, or 0
+abbrev pub seriesAfter : Bank → Fields → HostCall
+seriesAfter b q = asked (λ (c : SessionFrameCall). seriesOf 1 (bankLeft c .series)) clock b (frameOf q [])
+
+abbrev pub numberAfter : Bank → Fields → HostCall
+numberAfter b q = asked (λ (c : SessionFrameCall). placeAt (bankLeft c) 0 .number) clock b (frameOf q [])
+
+abbrev pub openingsAfter : Bank → Fields → HostCall
+openingsAfter b q = asked (λ (c : SessionFrameCall). bankLeft c .openings) clock b (frameOf q [])
+
+abbrev pub rememberedAfter : Bank → Fields → HostCall
+rememberedAfter b q =
+    asked (λ (c : SessionFrameCall). cond (isRemembered (idOf 900) (bankLeft c)) 1 0) clock b (frameOf q [])
+
+-- "An upload opening with field 11 (4 bytes, H003) and 0E, besides 01 to 07, is such a client's; the reply leaves 0E
+-- out"
+unfoldable pub editionCases : List Row
+editionCases =
+    (codeOf idle (chooses 1 (ascii "A000")) [] gives six 000000)
+    -- 01 03 08 0D: phase 1, exchange number 1, the running number 100, 000000
+    ∷ (replyOf idle (chooses 1 (ascii "A000"))
+    gives number
+    (0x01 ∷ 0 ∷ 1 ∷ 1 ∷ 0x03 ∷ 0 ∷ 4 ∷ 0 ∷ 0 ∷ 0 ∷ 1
+    ∷ 0x08 ∷ 0 ∷ 16 ∷ (replicate 15 0 ++ (100 ∷ 0x0D ∷ 0 ∷ 6 ∷ ascii "000000"))))
+    ∷ (lengthOf idle (chooses 1 (ascii "A000")) gives 39)
+    ∷ (lengthOf idle (uploads 1) gives 46)
+    -- 091010: another value of field 11, another phase, data, one of the tags left out
+    ∷ (codeOf idle (versioned (ascii "H002") (chooses 1 (ascii "A000"))) [] gives six 091010)
+    ∷ (codeOf idle (versioned (ascii "H004") (chooses 1 (ascii "A000"))) [] gives six 091010)
+    ∷ (codeOf idle (versioned (ascii "h003") (chooses 1 (ascii "A000"))) [] gives six 091010)
+    ∷ (codeOf idle (with phaseTag 2 (chooses 1 (ascii "A000"))) [] gives six 091010)
+    ∷ (codeOf idle (with dataTag 0 (chooses 1 (ascii "A000"))) (bytes 1) gives six 091010)
+    ∷ (codeOf idle (with orderNumberTag (number (ascii "A000")) (uploads 1)) [] gives six 091010)
+    ∷ (codeOf idle (versioned (ascii "H003") (uploads 1)) [] gives six 091010)
+    ∷ (codeOf idle (versioned (ascii "H003") (with orderNumberTag (number (ascii "A000")) (downloads 2))) []
+    gives six 091010)
+    -- its 71 bytes, cut: behind 0E it is no form, behind 07 a good opening of 2.5, which gets the bank's own number
+    ∷ (cutTo 71 idle (chooses 1 (ascii "A000")) gives six 000000)
+    ∷ (cutTo 70 idle (chooses 1 (ascii "A000")) gives six 091010)
+    ∷ (cutTo 64 idle (chooses 1 (ascii "A000")) gives six 091010)
+    ∷ (cutTo 57 idle (chooses 1 (ascii "A000")) gives six 000000)
+    ∷ (asked (λ (c : SessionFrameCall). orderNumber (replyIn (c .answer) (c .buffer))) clock idle
+    (take 57 (frameOf (chooses 1 (ascii "A000")) []))
+    gives orderNumberOf 100)
+    ∷ (cutTo 56 idle (chooses 1 (ascii "A000")) gives six 091010)
+    -- a signing cut behind 06 has the form of a download's opening
+    ∷ (cutTo 52 (lodged 0) (signs 2 (ascii "A000") 1) gives six 061002)
+    ∷ []
+
+-- "It refuses a number that is none of A000 to ZZZZ with 061002": each character at its limits
+abbrev pub chosen : List ℕ → HostCall
+chosen order = codeOf idle (chooses 1 order) []
+
+unfoldable pub numberCases : List Row
+numberCases =
+    (chosen (ascii "ZZZZ") gives six 000000)
+    ∷ (chosen (ascii "@000") gives six 061002)
+    ∷ (chosen (ascii "[000") gives six 061002)
+    ∷ (chosen (ascii "9000") gives six 061002)
+    ∷ (chosen (ascii "a000") gives six 061002)
+    ∷ (chosen (ascii "A900") gives six 000000)
+    ∷ (chosen (ascii "AA00") gives six 000000)
+    ∷ (chosen (ascii "A/00") gives six 061002)
+    ∷ (chosen (ascii "A:00") gives six 061002)
+    ∷ (chosen (ascii "A@00") gives six 061002)
+    ∷ (chosen (ascii "A[00") gives six 061002)
+    ∷ (chosen (ascii "A090") gives six 000000)
+    ∷ (chosen (ascii "A0A0") gives six 000000)
+    ∷ (chosen (ascii "A0/0") gives six 061002)
+    ∷ (chosen (ascii "A0:0") gives six 061002)
+    ∷ (chosen (ascii "A0@0") gives six 061002)
+    ∷ (chosen (ascii "A0[0") gives six 061002)
+    ∷ (chosen (ascii "A009") gives six 000000)
+    ∷ (chosen (ascii "A00A") gives six 000000)
+    ∷ (chosen (ascii "A00/") gives six 061002)
+    ∷ (chosen (ascii "A00:") gives six 061002)
+    ∷ (chosen (ascii "A00@") gives six 061002)
+    ∷ (chosen (ascii "A00[") gives six 061002)
+    -- the number of the place
+    ∷ (numberAfter idle (chooses 1 (ascii "A007")) gives 7)
+    ∷ (numberAfter idle (chooses 1 (ascii "A00Z")) gives 35)
+    ∷ (numberAfter idle (chooses 1 (ascii "AZZZ")) gives 46655)
+    ∷ (numberAfter idle (chooses 1 (ascii "ZZZZ")) gives 1213055)
+    ∷ []
+
+-- the causes of 091115 for A000, of 091119 and of 061099: subscriber 1 has 4 open and 4 booked, 4 downloads are open,
+-- 64 nonces are remembered, and the running numbers are at their end
+abbrev pub crowded : Bank
+crowded =
+    withOpenings 4294967296
+    (bankWith (from 0 4 (opened 1) ++ from 4 4 (booked 1)) (from 8 4 (loading 2)) (from 0 64 nonce))
+
+-- the lines in their order: 091010, 091003, 091005, 061002, 091118, 091103, 091115, 091119, 061099. 091009 and 090005
+-- cannot be: such an opening has no data and is an upload's
+unfoldable pub chosenCases : List Row
+chosenCases =
+    -- 091010 before 091003: another value of field 11, subscriber 9
+    (codeOf idle (versioned (ascii "H004") (chooses 9 (ascii "A000"))) [] gives six 091010)
+    -- 091003 before 091005 and before 061002: subscriber 9, type FUX, a bad number
+    ∷ (codeOf idle (typed (ascii "FUX") (chooses 9 (ascii "A000"))) [] gives six 091003)
+    ∷ (codeOf idle (chooses 9 (ascii "@000")) [] gives six 091003)
+    -- 091005 before 061002: type FUX, a bad number
+    ∷ (codeOf idle (typed (ascii "FUX") (chooses 1 (ascii "@000"))) [] gives six 091005)
+    -- 061002 before 091118: a bad number, FDL, 32 segments
+    ∷ (codeOf idle (opensChosen 1 900 clock 32 (ascii "@000")) [] gives six 061002)
+    ∷ (codeOf idle (typed (ascii "FDL") (opensChosen 1 900 clock 32 (ascii "A000"))) [] gives six 061002)
+    -- 061002 before 091103, where 091118 is not: a bad number, 0 segments, not in time
+    ∷ (codeOf idle (opensChosen 1 900 late 1 (ascii "@000")) [] gives six 061002)
+    ∷ (codeOf idle (opensChosen 1 900 late 0 (ascii "A000")) [] gives six 061002)
+    -- 091118 before 091103: 32 segments, not in time, or nonce remembered; 31 segments pass
+    ∷ (codeOf idle (opensChosen 1 900 late 32 (ascii "A000")) [] gives six 091118)
+    ∷ (codeOf (bankWith [] [] (nonce 900 ∷ [])) (opensChosen 1 900 clock 32 (ascii "A000")) [] gives six 091118)
+    ∷ (codeOf idle (opensChosen 1 900 clock 31 (ascii "A000")) [] gives six 000000)
+    -- 091118 before 091115, where 091103 is not
+    ∷ (codeOf (bankWith (booked 1 0 ∷ []) [] []) (opensChosen 1 900 clock 32 (ascii "A000")) [] gives six 091118)
+    -- 091103 before 091115: not in time, or nonce remembered, and the number held
+    ∷ (codeOf (bankWith (booked 1 0 ∷ []) [] []) (opensChosen 1 900 late 1 (ascii "A000")) [] gives six 091103)
+    ∷ (codeOf (bankWith (booked 1 0 ∷ []) [] (nonce 900 ∷ [])) (chooses 1 (ascii "A000")) [] gives six 091103)
+    -- 091103 before 091119, where 091115 is not
+    ∷ (codeOf four (opensChosen 1 900 late 1 (ascii "B000")) [] gives six 091103)
+    -- 091115 before 091119: the number held, 4 open of the subscriber
+    ∷ (codeOf four (chooses 1 (ascii "A000")) [] gives six 091115)
+    -- 091115 before 061099, where 091119 is not: 8 open, 8 places in use, 64 nonces, the running number's end, share
+    ∷ (codeOf (bankWith (booked 1 0 ∷ from 1 4 (opened 3)) (from 5 4 (loading 2)) []) (chooses 1 (ascii "A000")) []
+    gives six 091115)
+    ∷ (codeOf (bankWith (from 0 8 (booked 1)) [] []) (chooses 1 (ascii "A000")) [] gives six 091115)
+    ∷ (codeOf (bankWith (booked 1 0 ∷ []) [] (from 0 64 nonce)) (chooses 1 (ascii "A000")) [] gives six 091115)
+    ∷ (codeOf (withOpenings 4294967296 (bankWith (booked 1 0 ∷ []) [] [])) (chooses 1 (ascii "A000")) []
+    gives six 091115)
+    ∷ (codeWith 14 (bankWith (booked 1 0 ∷ from 1 2 (opened 3)) [] []) (chooses 1 (ascii "A000")) [] gives six 091115)
+    -- 091119 before 061099: 4 open of the subscriber and each of these, a number that is not held
+    ∷ (codeOf (bankWith (from 0 4 (opened 1)) (from 4 4 (loading 2)) []) (chooses 1 (ascii "B000")) [] gives six 091119)
+    ∷ (codeOf (bankWith (from 0 4 (opened 1) ++ from 4 4 (booked 1)) [] []) (chooses 1 (ascii "B000")) []
+    gives six 091119)
+    ∷ (codeOf (bankWith (from 0 4 (opened 1)) [] (from 0 64 nonce)) (chooses 1 (ascii "B000")) [] gives six 091119)
+    ∷ (codeOf (withOpenings 4294967296 four) (chooses 1 (ascii "B000")) [] gives six 091119)
+    ∷ (codeWith 14 four (chooses 1 (ascii "B000")) [] gives six 091119)
+    ∷ (codeOf four (chooses 1 (ascii "B000")) [] gives six 091119)
+    -- 061099 by each of them
+    ∷ (codeOf (bankWith (from 0 4 (opened 3)) (from 4 4 (loading 2)) []) (chooses 1 (ascii "B000")) [] gives six 061099)
+    ∷ (codeOf (bankWith (from 0 8 (booked 1)) [] []) (chooses 1 (ascii "B000")) [] gives six 061099)
+    ∷ (codeOf (bankWith [] [] (from 0 64 nonce)) (chooses 1 (ascii "B000")) [] gives six 061099)
+    ∷ (codeOf (withOpenings 4294967296 idle) (chooses 1 (ascii "B000")) [] gives six 061099)
+    ∷ (codeWith 14 (bankWith (from 0 2 (opened 3)) [] []) (chooses 1 (ascii "B000")) [] gives six 061099)
+    -- each with the causes of all that come after it
+    ∷ (codeOf crowded (versioned (ascii "H004") (typed (ascii "FUX") (opensChosen 9 900 late 32 (ascii "@000")))) []
+    gives six 091010)
+    ∷ (codeOf crowded (typed (ascii "FUX") (opensChosen 9 900 late 32 (ascii "@000"))) [] gives six 091003)
+    ∷ (codeOf crowded (typed (ascii "FUX") (opensChosen 1 900 late 32 (ascii "@000"))) [] gives six 091005)
+    ∷ (codeOf crowded (opensChosen 1 900 late 32 (ascii "@000")) [] gives six 061002)
+    ∷ (codeOf crowded (opensChosen 1 900 late 32 (ascii "A000")) [] gives six 091118)
+    ∷ (codeOf crowded (opensChosen 1 900 late 1 (ascii "A000")) [] gives six 091103)
+    ∷ (codeOf crowded (chooses 1 (ascii "A000")) [] gives six 091115)
+    ∷ (codeOf crowded (chooses 1 (ascii "B000")) [] gives six 091119)
+    ∷ []
+
+-- "one held by an open or booked upload of that subscriber and type with 091115"
+unfoldable pub heldCases : List Row
+heldCases =
+    -- by an open one, by a booked one, in the last place, the last number
+    (codeOf (bankWith (opened 1 0 ∷ []) [] []) (chooses 1 (ascii "A000")) [] gives six 091115)
+    ∷ (codeOf (bankWith (booked 1 0 ∷ []) [] []) (chooses 1 (ascii "A000")) [] gives six 091115)
+    ∷ (codeOf (bankWith (replicate 7 noPlace ++ (booked 1 0 ∷ [])) [] []) (chooses 1 (ascii "A000")) []
+    gives six 091115)
+    ∷ (codeOf (bankWith (booked 1 1213055 ∷ []) [] []) (chooses 1 (ascii "ZZZZ")) [] gives six 091115)
+    -- not another number, not another subscriber's; an opening of 2.5 never
+    ∷ (codeOf (bankWith (booked 1 0 ∷ []) [] []) (chooses 1 (ascii "A001")) [] gives six 000000)
+    ∷ (codeOf (bankWith (booked 1 1 ∷ []) [] []) (chooses 1 (ascii "A000")) [] gives six 000000)
+    ∷ (codeOf (bankWith (opened 2 0 ∷ booked 3 0 ∷ []) [] []) (chooses 1 (ascii "A000")) [] gives six 000000)
+    ∷ (codeOf (bankWith (booked 1 100 ∷ []) [] []) (uploads 1) [] gives six 000000)
+    -- "A cancelled or dropped order's number may be chosen again": open for an hour, then dropped; a booked one stays
+    ∷ (codeAt 4600000 (bankWith (opened 1 0 ∷ []) [] []) (opensChosen 1 900 4600000 1 (ascii "A000")) gives six 091115)
+    ∷ (codeAt 4600001 (bankWith (opened 1 0 ∷ []) [] []) (opensChosen 1 900 4600001 1 (ascii "A000")) gives six 000000)
+    ∷ (codeAt 4600001 (bankWith (booked 1 0 ∷ []) [] []) (opensChosen 1 900 4600001 1 (ascii "A000")) gives six 091115)
+    ∷ []
+
+-- subscriber 1's series at a number, with these orders
+abbrev pub comeTo : ℕ → List Place → Bank
+comeTo n places = withSeries (replicate 8 n) (bankWith places [] [])
+
+-- "The bank's own numbering, which such openings neither move nor need, skips numbers held by that subscriber's open or
+-- booked uploads; past ZZZZ it is 061099"
+unfoldable pub numberingCases : List Row
+numberingCases =
+    -- none is skipped, one, several, as many as there can be beside a free place
+    (orderOf (comeTo 100 []) (uploads 1) gives orderNumberOf 100)
+    ∷ (orderOf (comeTo 100 (opened 1 100 ∷ [])) (uploads 1) gives orderNumberOf 101)
+    ∷ (orderOf (comeTo 100 (booked 1 100 ∷ [])) (uploads 1) gives orderNumberOf 101)
+    ∷ (orderOf (comeTo 100 (booked 1 102 ∷ opened 1 100 ∷ booked 1 101 ∷ [])) (uploads 1) gives orderNumberOf 103)
+    ∷ (orderOf (comeTo 100 (from 100 7 (booked 1))) (uploads 1) gives orderNumberOf 107)
+    -- only held ones, and only from the counter on, of that subscriber
+    ∷ (orderOf (comeTo 100 (booked 1 100 ∷ booked 1 102 ∷ [])) (uploads 1) gives orderNumberOf 101)
+    ∷ (orderOf (comeTo 100 (booked 1 99 ∷ booked 1 101 ∷ [])) (uploads 1) gives orderNumberOf 100)
+    ∷ (orderOf (comeTo 100 (booked 2 100 ∷ opened 3 100 ∷ [])) (uploads 1) gives orderNumberOf 100)
+    -- the counter becomes that number plus one, where the opening is accepted
+    ∷ (seriesAfter (comeTo 100 []) (uploads 1) gives 101)
+    ∷ (seriesAfter (comeTo 100 (booked 1 100 ∷ [])) (uploads 1) gives 102)
+    ∷ (seriesAfter (comeTo 100 (from 100 7 (booked 1))) (uploads 1) gives 108)
+    ∷ (seriesAfter (comeTo 100 (booked 1 100 ∷ [])) (opensUpload 1 900 late 1) gives 100)
+    ∷ (seriesAfter (comeTo 100 []) (uploads 2) gives 100)
+    -- an opening of 2.4 leaves it, whatever it brings; running number and nonce are taken as ever
+    ∷ (seriesAfter (comeTo 100 []) (chooses 1 (ascii "A02R")) gives 100)
+    ∷ (seriesAfter (comeTo 100 []) (chooses 1 (ascii "A02S")) gives 100)
+    ∷ (seriesAfter (comeTo 100 []) (chooses 1 (ascii "ZZZZ")) gives 100)
+    ∷ (numberAfter (comeTo 100 []) (chooses 1 (ascii "A02S")) gives 100)
+    ∷ (openingsAfter idle (chooses 1 (ascii "A000")) gives 101)
+    ∷ (rememberedAfter idle (chooses 1 (ascii "A000")) gives 1)
+    -- refused it takes none
+    ∷ (openingsAfter (comeTo 100 (booked 1 0 ∷ [])) (chooses 1 (ascii "A000")) gives 100)
+    ∷ (rememberedAfter (comeTo 100 (booked 1 0 ∷ [])) (chooses 1 (ascii "A000")) gives 0)
+    -- ZZZZ is 1,213,055: the last one, and past it, the last ones being held
+    ∷ (orderOf (comeTo 1213055 []) (uploads 1) gives number (ascii "ZZZZ"))
+    ∷ (codeOf (comeTo 1213056 []) (uploads 1) [] gives six 061099)
+    ∷ (codeOf (comeTo 1213055 (booked 1 1213055 ∷ [])) (uploads 1) [] gives six 061099)
+    ∷ (codeOf (comeTo 1213055 (booked 2 1213055 ∷ [])) (uploads 1) [] gives six 000000)
+    ∷ (orderOf (comeTo 1213054 (booked 1 1213054 ∷ [])) (uploads 1) gives number (ascii "ZZZZ"))
+    ∷ (codeOf (comeTo 1213054 (opened 1 1213055 ∷ booked 1 1213054 ∷ [])) (uploads 1) [] gives six 061099)
+    ∷ (seriesAfter (comeTo 1213055 (booked 1 1213055 ∷ [])) (uploads 1) gives 1213055)
+    -- 091119 before it
+    ∷ (codeOf (comeTo 1213055 (from 1213052 4 (opened 1))) (uploads 1) [] gives six 091119)
+    -- an opening of 2.4 does not need it
+    ∷ (codeOf (comeTo 1213056 []) (chooses 1 (ascii "A000")) [] gives six 000000)
+    ∷ (codeOf (comeTo 1213056 []) (chooses 1 (ascii "ZZZZ")) [] gives six 000000)
+    ∷ (codeOf (comeTo 1213055 (booked 1 1213055 ∷ [])) (chooses 1 (ascii "ZZZY")) [] gives six 000000)
+    ∷ []
+
 -- ---- the host's numbers ("a number, nothing changed, clock included")
 
 -- 1: "a lent length differs from the above or is too short for what is to be written"
@@ -610,4 +881,6 @@ unfoldable pub bankCases : List Row
 bankCases =
     orderCases
     ++ (transactionCases ++ (limitCases ++ (shareCases
-    ++ (signingCases ++ (signerCases ++ (frameCases ++ (fileCases ++ imageCases)))))))
+    ++ (signingCases ++ (signerCases
+    ++ (editionCases ++ (numberCases ++ (chosenCases ++ (heldCases ++ (numberingCases
+    ++ (frameCases ++ (fileCases ++ imageCases))))))))))))

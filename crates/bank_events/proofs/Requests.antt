@@ -12,39 +12,41 @@ use Rattle.message.specs.declared.codes.ReturnCode.{ReturnCode}
 use Rattle.bank_verdicts.specs.declared.verdict.UploadAction.the-variants as up
 use Rattle.bank_verdicts.specs.declared.verdict.DownloadAction.{DownloadAction}
 use Rattle.bank_verdicts.specs.declared.verdict.Action.the-variants as action
+use Rattle.bank_verdicts.specs.declared.verdict.SignedOrder.{SignedOrder}
 use Rattle.bank_verdicts.specs.declared.verdict.Verdict.{Verdict}
 use Rattle.bank_verdicts.specs.declared.verdict.Verdict.the-variants as verdict
 use Rattle.journal.specs.declared.event.Kind.{Kind}
 use Rattle.journal.specs.declared.event.Kind.the-variants as kind
 use Rattle.journal.specs.declared.event.Entry.{Entry}
-use Rattle.bank_events.specs.Entries.{entry, isEvent, verdictKind, verdictSubscriber, actionEntries}
+use Rattle.bank_events.specs.Entries.{entry, isEvent, verdictKind, verdictSubscriber, verdictId, actionEntries}
 
 module _ (order : ℕ) (q : Fields) where
-  -- an accepted opening, a booking and a cancellation are entered, under the request's subscriber and the order's number
+  -- an accepted opening, a booking and a cancellation are entered, under the request's subscriber, the order's number and its ID
   pub opened-entry : (t : Bits128) (n : ℕ)
-      → actionEntries (verdict.Of t (action.Upload (up.Opened n))) order q ≡ entry kind.Opened (subscriber q) order ∷ []
+      → actionEntries (verdict.Of t (action.Upload (up.Opened n))) order q ≡ entry kind.Opened (subscriber q) order t ∷ []
   unfolding actionEntries
   opened-entry t n = refl
 
   pub booked-entry : (t : Bits128)
-      → actionEntries (verdict.Of t (action.Upload up.TookLast)) order q ≡ entry kind.Booked (subscriber q) order ∷ []
+      → actionEntries (verdict.Of t (action.Upload up.TookLast)) order q ≡ entry kind.Booked (subscriber q) order t ∷ []
   unfolding actionEntries
   booked-entry t = refl
 
   pub cancelled-entry : (t : Bits128) (c : ReturnCode)
-      → actionEntries (verdict.Of t (action.Upload (up.Cancelled c))) order q ≡ entry kind.Cancelled (subscriber q) order ∷ []
+      → actionEntries (verdict.Of t (action.Upload (up.Cancelled c))) order q ≡ entry kind.Cancelled (subscriber q) order t ∷ []
   unfolding actionEntries
   cancelled-entry t c = refl
 
   -- so is a signer more, under the order's owner
-  pub signed-entry : (n : ℕ) → actionEntries (verdict.Signed n true) order q ≡ entry kind.Signed (owner q) order ∷ []
+  pub signed-entry : (o : SignedOrder)
+      → actionEntries (verdict.Signed o true) order q ≡ entry kind.Signed (owner q) order (o .transaction) ∷ []
   unfolding actionEntries
-  signed-entry n = refl
+  signed-entry o = refl
 
   -- nothing else is: "Signing again answers 000000 and adds nobody"
-  pub again-none : (n : ℕ) → actionEntries (verdict.Signed n false) order q ≡ []
+  pub again-none : (o : SignedOrder) → actionEntries (verdict.Signed o false) order q ≡ []
   unfolding actionEntries
-  again-none n = refl
+  again-none o = refl
 
   pub took-none : (t : Bits128) → actionEntries (verdict.Of t (action.Upload up.Took)) order q ≡ []
   unfolding actionEntries
@@ -69,7 +71,7 @@ module _ (order : ℕ) (q : Fields) where
   -- at most one
   pub action-few : (v : Verdict) → length (actionEntries v order q) ≤ 1
   unfolding actionEntries
-  action-few v = at (isEvent (verdictKind v)) (entry (verdictKind v) (verdictSubscriber v q) order)
+  action-few v = at (isEvent (verdictKind v)) (entry (verdictKind v) (verdictSubscriber v q) order (verdictId v))
     where
       at : (t : Bool) (e : Entry) → length (cond t (e ∷ []) []) ≤ 1
       at true e = omega arith
@@ -77,9 +79,10 @@ module _ (order : ℕ) (q : Fields) where
 
 -- the request's event by its kind
 module _ (v : Verdict) (order : ℕ) (q : Fields) (k : Kind) (is : k ≡ verdictKind v) where
-  pub entry-of : (s : ℕ) → s ≡ verdictSubscriber v q → isEvent k ≡ true → actionEntries v order q ≡ entry k s order ∷ []
+  pub entry-of : (s : ℕ) (id : Bits128) → s ≡ verdictSubscriber v q → id ≡ verdictId v → isEvent k ≡ true
+      → actionEntries v order q ≡ entry k s order id ∷ []
   unfolding actionEntries
-  entry-of s t e = rw (← is, ← t, e)
+  entry-of s id t u e = rw (← is, ← t, ← u, e)
 
   pub no-entry : isEvent k ≡ false → actionEntries v order q ≡ []
   unfolding actionEntries

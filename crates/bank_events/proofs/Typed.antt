@@ -19,13 +19,13 @@ use Rattle.bank_state.specs.declared.state.Place.{Place}
 use Rattle.bank_state.specs.State.{Bank}
 use Rattle.bank_verdicts.specs.declared.verdict.Verdict.{Verdict}
 use Rattle.journal.specs.declared.event.Entry.{Entry}
-use Rattle.bank_events.specs.Entries.{entry, isEvent, verdictKind, verdictSubscriber, droppedUploads, dropEntry, actionEntries, callEntries}
+use Rattle.bank_events.specs.Entries.{entry, isEvent, verdictKind, verdictSubscriber, verdictId, droppedUploads, dropEntry, actionEntries, callEntries}
 
 pub action-typed : (v : Verdict) (order : ℕ) (q : Fields) {e : Entry} → In e (actionEntries v order q) → e .«order_type» ≡ ful
 unfolding actionEntries
 action-typed v order q {e} m = at (isEvent (verdictKind v)) m
   where
-    at : (t : Bool) → In e (cond t (entry (verdictKind v) (verdictSubscriber v q) order ∷ []) []) → e .«order_type» ≡ ful
+    at : (t : Bool) → In e (cond t (entry (verdictKind v) (verdictSubscriber v q) order (verdictId v) ∷ []) []) → e .«order_type» ≡ ful
     at true (here x) = ap (λ (d : Entry). d .«order_type») x
     at true (there i) = absurd (in-none i)
     at false i = absurd (in-none i)

@@ -6,6 +6,7 @@ use bank_state::limits::PLACE_COUNT;
 use bank_verdicts::verdict::Action;
 use bank_verdicts::verdict::UploadAction;
 use bank_verdicts::verdict::Verdict;
+use frame_table::fields::Bits128;
 use frame_table::fields::Fields;
 use journal::event::Batch;
 use journal::event::Entry;
@@ -19,7 +20,7 @@ ghost use Rattle.bank_state.specs.Limits.{placeCount};
 ghost use Rattle.bank_rows.specs.State.{bankOf, Laid};
 ghost use Rattle.journal.specs.Events.{entriesIn};
 ghost use Rattle.bank_events.specs.Entries.{Holds, actionKind, kindOf, signedKind, verdictKind, isEvent};
-ghost use Rattle.bank_events.specs.Entries.{actionOrder, orderOf, verdictOrder, namedOrder, verdictSubscriber, actionEntries};
+ghost use Rattle.bank_events.specs.Entries.{actionOrder, orderOf, verdictOrder, namedOrder, verdictSubscriber, verdictId, actionEntries};
 
 // What an upload's action is to the journal.
 fn action_kind(action: UploadAction) -> Kind
@@ -121,7 +122,7 @@ pub fn verdict_order(verdict: Verdict, named: u64) -> u64
         Verdict::Unreadable => 0,
         Verdict::Refused(_) => 0,
         Verdict::Of(_, action) => order_of(action, named),
-        Verdict::Signed(n, _) => n,
+        Verdict::Signed(order, _) => order.number,
     }
 }
 
@@ -134,6 +135,18 @@ fn verdict_subscriber(verdict: Verdict, q: Fields) -> u64
         Verdict::Refused(_) => q.subscriber(),
         Verdict::Of(_, _) => q.subscriber(),
         Verdict::Signed(_, _) => q.owner(),
+    }
+}
+
+// The transaction ID of the upload that a request's event is of; 0 where it has none.
+fn verdict_id(verdict: Verdict) -> Bits128
+    ensures { λ r. ⌜ r ≡ verdictId verdict ⌝ }
+{
+    match verdict {
+        Verdict::Unreadable => Bits128 { high: 0, low: 0 },
+        Verdict::Refused(_) => Bits128 { high: 0, low: 0 },
+        Verdict::Of(transaction, _) => transaction,
+        Verdict::Signed(order, _) => order.transaction,
     }
 }
 
@@ -164,12 +177,15 @@ pub fn with_action(batch: Batch, verdict: Verdict, order: u64, q: Fields) -> Bat
     let kind = verdict_kind(verdict);
     if is_event(kind) {
         let subscriber = verdict_subscriber(verdict, q);
+        let id = verdict_id(verdict);
         return with_entry(
             batch,
             Entry {
                 subscriber,
                 order_type: FUL,
                 order,
+                high: id.high,
+                low: id.low,
                 kind,
             },
         );

@@ -8,12 +8,11 @@ use mathlib.Core.Path.{_≡_, refl, sym, ap, _∙_, subst}
 use native.Mathlib.Omega.{arith}
 use borrow.Author.Tests.{eq-eqb}
 use Rattle.frame_table.specs.declared.fields.Bits128.{Bits128}
-use Rattle.frame_table.specs.Forms as forms
-use Rattle.frame_table.specs.Names.{subscriber, segments, transaction, orderNumber, form}
+use Rattle.frame_table.specs.Names.{subscriber, segments, transaction}
 use Rattle.octets.proofs.Tests.{never}
+use Rattle.message.specs.Editions.{editionOf, orderOpened}
 use Rattle.message.specs.Limits.{ful}
 use Rattle.message.specs.OrderNumbers.{orderNumberOf}
-use Rattle.message.specs.Replies.{uploadOpened}
 use Rattle.journal.specs.declared.event.OrderName.{OrderName}
 use Rattle.journal.proofs.Lookup.{same-name}
 use Rattle.bank_state.specs.declared.state.Place.{Place}
@@ -35,19 +34,23 @@ use Rattle.bank_admitted.proofs.Held.{order-limited}
 use Rattle.bank_admitted.proofs.Rows.{first-at-most}
 use Rattle.bank_admitted.proofs.Signers.{open-not-booked}
 use Rattle.bank_history.specs.History.{Exchange, Stands, BankCall, isBooking, ActionIn, ever}
+use Rattle.bank_history.specs.Opened.{isUploadOpened}
 use Rattle.bank_history.specs.Sound.{SoundUploadOpening, AllSound}
 use Rattle.bank_history.specs.Invariant.{placeName}
 use Rattle.bank_history.specs.ByReplies.{ownerOf, orderOf}
 use Rattle.bank_history.specs.JournalOrders.{OpensOrder}
 use Rattle.bank_history.specs.Signers.{BooksOrder, InBook, bankAfter, historyAfter}
 use Rattle.bank_history.specs.Transactions.{Order}
-use Rattle.bank_history.proofs.ByReplies.{formed-as, coded-as, says, carries, sound-as, at-opened}
+use Rattle.bank_history.proofs.ByReplies.{formed-as, coded-as, carries, sound-as, at-opened}
+use Rattle.bank_history.proofs.ByReplies.{upload-opened as is-opening}
 use Rattle.bank_history.proofs.DropOrder.{OpensAs, owner-is, order-is, opened-order, opened-as}
 use Rattle.bank_history.proofs.FalseEconomies.{takes-action}
+use Rattle.bank_history.proofs.Opened.{order-opened}
 use Rattle.bank_history.proofs.OrderNumbers.{one-order-number}
 use Rattle.bank_history.proofs.Positions.{sound-at, stands-behind, taken-last-books, booking-last, ever-stands, stands-ever}
+use Rattle.bank_history.proofs.Replies.{opened-answers}
 use Rattle.bank_history.proofs.SentSegments.{sound-before}
-use Rattle.bank_history.proofs.Series.{series-typed}
+use Rattle.bank_history.proofs.UploadTypes.{series-typed}
 use Rattle.bank_history.proofs.Theorems.{invariant, history-sound, booked-order, in-book, upload-opened}
 
 -- ---- the order in the book is the one that is found
@@ -90,20 +93,19 @@ module _ (w : BankState) (v : StateHolds w) {o : OrderName} {i : ℕ} (b : InBoo
 module _ (calls : List BankCall) {g : List Exchange} (sound : AllSound g)
     (within : (e : Exchange) (k : List Exchange) → Stands e k g → Stands e k (historyAfter calls)) {o : OrderName} (t : Bits128) where
   pub opens-named : (n : ℕ) → OpensAs (o .subscriber) n t g → ful ≡ o .«order_type» → orderNumberOf n ≡ o .number → OpensOrder o t g
-  unfolding uploadOpened
   opens-named n x typed numbered =
       let e = x .exchange in
       let z = sound-at sound (x .stands) in
-      let opened : form (e .reply) ≡ forms.UploadOpened = formed-as z (x .is) in
+      let opened : isUploadOpened e ≡ true = is-opening z (x .is) in
       record {
         exchange = e;
         before = x .before;
         stands = x .stands;
         opened = opened;
-        id = carries z (x .is) (λ y. let a : _≡_ {A = ℕ} 0 1 = cc in omega arith);
+        id = carries z (x .is) (opened-answers (editionOf (e .request)));
         named = same-name (x .owner)
             (series-typed calls (record { stands = within e (x .before) (x .stands); opened = opened; owner = x .owner }) ∙ typed)
-            (ap orderNumber (says z (x .is)) ∙ numbered);
+            (order-opened z (x .is) ∙ numbered);
       }
 
   pub books-named : OpensOrder o t g → ever isBooking t g ≡ true → BooksOrder o g
@@ -171,7 +173,7 @@ books-in-book calls {o} b = (
 
     u : (n : ℕ) × (c .exchange .verdict ≡ verdict.Of (transaction (c .exchange .reply)) (action.Upload (up.Opened n)))
         × SoundUploadOpening n (transaction (c .exchange .reply)) (c .exchange) (c .before)
-        × (orderNumber (c .exchange .reply) ≡ orderNumberOf n)
+        × (orderOpened (c .exchange .request) (c .exchange .reply) ≡ orderNumberOf n)
     u = upload-opened sound (c .stands) (c .opened)
 
     same : (ownerOf t h ≡ subscriber (c .exchange .request)) × (orderOf t h ≡ u .0)

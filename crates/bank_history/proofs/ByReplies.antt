@@ -11,35 +11,33 @@ use Rattle.frame_table.specs.declared.fields.Bits128.{Bits128}
 use Rattle.frame_table.specs.Forms as forms
 use Rattle.frame_table.specs.Names.{subscriber, transaction, segments, segment, returnCode, form, sameBits}
 use Rattle.frame_table.proofs.Bits.{bits-same}
-use Rattle.octets.proofs.Tests.{never, or-right, and-true-right}
+use Rattle.octets.proofs.Tests.{never, or-right, and-true, and-true-right}
 use Rattle.message.specs.declared.codes.ReturnCode.the-variants as code
 use Rattle.message.specs.Codes.{codeField}
+use Rattle.message.specs.declared.editions.Edition.{Edition}
+use Rattle.message.specs.declared.editions.Edition.the-variants as edition
+use Rattle.message.specs.Editions.{editionOf, openedForm}
 use Rattle.message.specs.Replies.{downloadOpened, downloadSegment}
 use Rattle.message.proofs.Verdicts.{by-test}
 use Rattle.bank_verdicts.specs.declared.verdict.Direction.the-variants as direction
-use Rattle.bank_verdicts.specs.declared.verdict.UploadAction.{UploadAction}
 use Rattle.bank_verdicts.specs.declared.verdict.UploadAction.the-variants as up
-use Rattle.bank_verdicts.specs.declared.verdict.DownloadAction.{DownloadAction}
 use Rattle.bank_verdicts.specs.declared.verdict.DownloadAction.the-variants as down
 use Rattle.bank_verdicts.specs.declared.verdict.Action.{Action}
 use Rattle.bank_verdicts.specs.declared.verdict.Action.the-variants as action
 use Rattle.bank_verdicts.specs.declared.verdict.Verdict.{Verdict}
 use Rattle.bank_verdicts.specs.declared.verdict.Verdict.the-variants as verdict
 use Rattle.bank_verdicts.specs.Replies.{replyTo}
-use Rattle.bank_history.specs.History.{Exchange, Stands, newest, older, isOpening, isUploadOpening, isDownloadOpening, isDelivery, did, ever, times, opens, acceptsUpload, accepted, uploadsAccepted, atOpening, segmentsAt}
+use Rattle.bank_history.specs.History.{Exchange, Stands, newest, older, isOpening, isUploadOpening, isDownloadOpening, isDelivery, did, ever, times, opens, acceptsUpload, accepted, numbersOwn, numberIn, ownNumbering, atOpening, segmentsAt}
 use Rattle.bank_history.specs.Sound.{isCancelling, Sound, SoundVerdict, SoundAction, AllSound}
 use Rattle.bank_history.specs.Sound as sounds
 use Rattle.bank_history.specs.Status.{Status, Open, Cancelled, dropIdle, statusAfter, status, openedIn, openings}
+use Rattle.bank_history.specs.Opened.{ofReply, isOpened, isUploadOpened}
 use Rattle.bank_history.specs.ByReplies.{
-  ofReply,
-  isOpenedForm,
-  isUploadForm,
   isSendingForm,
-  isOpened,
-  isUploadOpened,
   openedCount,
-  uploadsOpened,
+  ownGiven,
   openedIds,
+  numberGiven,
   atOpened,
   segmentCountOf,
   sentUpTo,
@@ -48,18 +46,20 @@ use Rattle.bank_history.specs.ByReplies.{
   sentStatus,
   receiptStatus,
   otherReceipt,
+  uploadOpenedStatus,
   replyStatus,
   standing,
 }
 use Rattle.bank_history.proofs.Entries.{and-no}
 use Rattle.bank_history.proofs.SentSegments.{sound-before}
-use Rattle.bank_history.proofs.Positions.{action-sound, opening-number, never-times, ever-stands}
+use Rattle.bank_history.proofs.Positions.{action-sound, opening-number, never-times, ever-stands, own-opening}
+pub use Rattle.bank_history.proofs.Opened.{formed, coded, is-opened, is-upload, is-own}
+use Rattle.bank_history.proofs.Opened.{opens-some, number-given}
 use Rattle.bank_history.proofs.Replies.{
   verdictForm,
   verdictCode,
-  verdict-form,
-  verdict-code,
   action-transaction,
+  opened-answers,
   actionForm,
   actionCode,
   cancelling-code,
@@ -71,82 +71,21 @@ cond-same false f g = g refl
 
 -- ---- one exchange of a sound history
 
-abbrev openedBy : Verdict → Bool
-openedBy v = ofReply false isOpenedForm (verdictForm v)
+abbrev sendsBy : Edition → Verdict → Bool
+sendsBy x v = ofReply false isSendingForm (verdictForm x v)
 
-abbrev sendsBy : Verdict → Bool
-sendsBy v = ofReply false isSendingForm (verdictForm v)
-
-upload-opens : (a : UploadAction) (t : Bits128) → openedBy (verdict.Of t (action.Upload a)) ≡ isOpening (action.Upload a)
-upload-opens (up.Opened n) t = refl
-upload-opens up.Took t = refl
-upload-opens up.TookLast t = refl
-upload-opens (up.Point k) t = refl
-upload-opens (up.Cancelled c) t = refl
-
-download-opens : (a : DownloadAction) (t : Bits128) →
-    openedBy (verdict.Of t (action.Download a)) ≡ isOpening (action.Download a)
-download-opens (down.Opened n) t = refl
-download-opens (down.Delivered n) t = refl
-download-opens (down.SentAgain n) t = refl
-download-opens (down.Point d) t = refl
-download-opens down.Cancelled t = refl
-download-opens down.Confirmed t = refl
-download-opens down.Declined t = refl
-
-opened-form : (v : Verdict) → openedBy v ≡ opens v
-opened-form verdict.Unreadable = refl
-opened-form (verdict.Refused c) = refl
-opened-form (verdict.Signed n added) = refl
-opened-form (verdict.Of t (action.Upload a)) = upload-opens a t
-opened-form (verdict.Of t (action.Download a)) = download-opens a t
-
--- a reply that opens or sends is no refusal
-opens-some : (k : Action) → isOpening k ≡ true → actionForm k ≡ forms.Refusal → ⊥
-opens-some (action.Upload a) o z =
-    never (ap (ofReply false isOpenedForm) (sym z) ∙ (upload-opens a (record { high = 0; low = 0 }) ∙ o))
-opens-some (action.Download a) o z =
-    never (ap (ofReply false isOpenedForm) (sym z) ∙ (download-opens a (record { high = 0; low = 0 }) ∙ o))
-
-upload-form : (k : Action) → ofReply false isUploadForm (actionForm k) ≡ isUploadOpening k
-upload-form (action.Upload (up.Opened n)) = refl
-upload-form (action.Upload up.Took) = refl
-upload-form (action.Upload up.TookLast) = refl
-upload-form (action.Upload (up.Point k)) = refl
-upload-form (action.Upload (up.Cancelled c)) = refl
-upload-form (action.Download (down.Opened n)) = refl
-upload-form (action.Download (down.Delivered n)) = refl
-upload-form (action.Download (down.SentAgain n)) = refl
-upload-form (action.Download (down.Point d)) = refl
-upload-form (action.Download down.Cancelled) = refl
-upload-form (action.Download down.Confirmed) = refl
-upload-form (action.Download down.Declined) = refl
-
-upload-verdict : (v : Verdict) → ofReply false isUploadForm (verdictForm v) ≡ acceptsUpload v
-upload-verdict verdict.Unreadable = refl
-upload-verdict (verdict.Refused c) = refl
-upload-verdict (verdict.Signed n added) = refl
-upload-verdict (verdict.Of t k) = upload-form k
+-- an accepted upload's reply sends no segment
+opened-sends : (x : Edition) → ofReply false isSendingForm (openedForm x) ≡ false
+opened-sends edition.V24 = refl
+opened-sends edition.V25 = refl
 
 module _ {e : Exchange} {h : List Exchange} (s : Sound e h) where
-  pub formed : form (e .reply) ≡ verdictForm (e .verdict)
-  formed = ap form (s .reply) ∙ verdict-form (e .verdict) (e .request)
-
-  pub coded : returnCode (e .reply) ≡ codeField (verdictCode (e .verdict))
-  coded = ap returnCode (s .reply) ∙ verdict-code (e .verdict) (e .request)
-
-  pub is-opened : isOpened e ≡ opens (e .verdict)
-  is-opened = ap (ofReply false isOpenedForm) formed ∙ opened-form (e .verdict)
-
-  pub is-upload : isUploadOpened e ≡ acceptsUpload (e .verdict)
-  is-upload = ap (ofReply false isUploadForm) formed ∙ upload-verdict (e .verdict)
-
   module _ {u : Bits128} {k : Action} (own : e .verdict ≡ verdict.Of u k) where
-    pub formed-as : form (e .reply) ≡ actionForm k
-    formed-as = formed ∙ ap verdictForm own
+    pub formed-as : form (e .reply) ≡ actionForm (editionOf (e .request)) k
+    formed-as = formed s ∙ ap (verdictForm (editionOf (e .request))) own
 
     pub coded-as : returnCode (e .reply) ≡ codeField (actionCode k)
-    coded-as = coded ∙ ap (λ (v : Verdict). codeField (verdictCode v)) own
+    coded-as = coded s ∙ ap (λ (v : Verdict). codeField (verdictCode v)) own
 
     pub is-code : (c : ℕ) → isCode c e ≡ eqb (codeField (actionCode k)) c
     is-code c = ap (λ (m : ℕ). eqb m c) coded-as
@@ -154,7 +93,7 @@ module _ {e : Exchange} {h : List Exchange} (s : Sound e h) where
     pub says : e .reply ≡ replyTo (verdict.Of u k) (e .request)
     says = s .reply ∙ ap (λ (v : Verdict). replyTo v (e .request)) own
 
-    pub carries : (actionForm k ≡ forms.Refusal → ⊥) → transaction (e .reply) ≡ u
+    pub carries : (actionForm (editionOf (e .request)) k ≡ forms.Refusal → ⊥) → transaction (e .reply) ≡ u
     carries n = ap transaction says ∙ action-transaction u (e .request) k n
 
     pub sound-as : SoundVerdict (verdict.Of u k) e h
@@ -162,7 +101,7 @@ module _ {e : Exchange} {h : List Exchange} (s : Sound e h) where
 
   -- it opens an upload
   pub upload-opened : {u : Bits128} {k : Action} → e .verdict ≡ verdict.Of u k → isUploadOpened e ≡ isUploadOpening k
-  upload-opened {u} {k} own = ap (ofReply false isUploadForm) (formed-as own) ∙ upload-form k
+  upload-opened own = is-upload s ∙ ap acceptsUpload own
 
   -- the reply opens t exactly when the verdict does
   pub opened-own : (t : Bits128) → isOpened e && sameBits t (transaction (e .reply)) ≡ did isOpening t (e .verdict)
@@ -170,18 +109,18 @@ module _ {e : Exchange} {h : List Exchange} (s : Sound e h) where
     where
       at : (v : Verdict) → e .verdict ≡ v → isOpened e && sameBits t (transaction (e .reply)) ≡ did isOpening t v
       at verdict.Unreadable own =
-          ap (λ (b : Bool). b && sameBits t (transaction (e .reply))) (is-opened ∙ ap opens own)
+          ap (λ (b : Bool). b && sameBits t (transaction (e .reply))) (is-opened s ∙ ap opens own)
       at (verdict.Refused c) own =
-          ap (λ (b : Bool). b && sameBits t (transaction (e .reply))) (is-opened ∙ ap opens own)
+          ap (λ (b : Bool). b && sameBits t (transaction (e .reply))) (is-opened s ∙ ap opens own)
       at (verdict.Signed n added) own =
-          ap (λ (b : Bool). b && sameBits t (transaction (e .reply))) (is-opened ∙ ap opens own)
+          ap (λ (b : Bool). b && sameBits t (transaction (e .reply))) (is-opened s ∙ ap opens own)
       at (verdict.Of u k) own =
-          ap (λ (b : Bool). b && sameBits t (transaction (e .reply))) (is-opened ∙ ap opens own)
+          ap (λ (b : Bool). b && sameBits t (transaction (e .reply))) (is-opened s ∙ ap opens own)
           ∙ by (isOpening k) refl
         where
           by : (b : Bool) → isOpening k ≡ b → b && sameBits t (transaction (e .reply)) ≡ sameBits t u && b
           by true o =
-              ap (sameBits t) (carries own (opens-some k o)) ∙ and-true-right (sameBits t u)
+              ap (sameBits t) (carries own (opens-some (editionOf (e .request)) k o)) ∙ and-true-right (sameBits t u)
           by false o = sym (and-no (sameBits t u))
 
   opened-id : cond (isOpened e) (transaction (e .reply) ∷ []) [] ≡ openedIn (e .verdict)
@@ -189,14 +128,14 @@ module _ {e : Exchange} {h : List Exchange} (s : Sound e h) where
     where
       at : (v : Verdict) → e .verdict ≡ v → cond (isOpened e) (transaction (e .reply) ∷ []) [] ≡ openedIn v
       at verdict.Unreadable own =
-          ap (λ (b : Bool). cond b (transaction (e .reply) ∷ []) []) (is-opened ∙ ap opens own)
+          ap (λ (b : Bool). cond b (transaction (e .reply) ∷ []) []) (is-opened s ∙ ap opens own)
       at (verdict.Refused c) own =
-          ap (λ (b : Bool). cond b (transaction (e .reply) ∷ []) []) (is-opened ∙ ap opens own)
+          ap (λ (b : Bool). cond b (transaction (e .reply) ∷ []) []) (is-opened s ∙ ap opens own)
       at (verdict.Signed n added) own =
-          ap (λ (b : Bool). cond b (transaction (e .reply) ∷ []) []) (is-opened ∙ ap opens own)
+          ap (λ (b : Bool). cond b (transaction (e .reply) ∷ []) []) (is-opened s ∙ ap opens own)
       at (verdict.Of u k) own =
-          ap (λ (b : Bool). cond b (transaction (e .reply) ∷ []) []) (is-opened ∙ ap opens own)
-          ∙ cond-same (isOpening k) (λ o. ap (λ (i : Bits128). i ∷ []) (carries own (opens-some k o))) (λ _. refl)
+          ap (λ (b : Bool). cond b (transaction (e .reply) ∷ []) []) (is-opened s ∙ ap opens own)
+          ∙ cond-same (isOpening k) (λ o. ap (λ (i : Bits128). i ∷ []) (carries own (opens-some (editionOf (e .request)) k o))) (λ _. refl)
 
 -- ---- the openings
 
@@ -205,11 +144,18 @@ unfolding openedCount accepted
 opened-count sounds.none = refl
 opened-count (sounds.more {e = e} {h = h} s r) = rw (is-opened s, opened-count r)
 
--- how many uploads of a subscriber: downloads and refused openings are none
-pub uploads-told : (s : ℕ) {h : List Exchange} → AllSound h → uploadsOpened s h ≡ uploadsAccepted s h
-unfolding uploadsOpened uploadsAccepted
-uploads-told s sounds.none = refl
-uploads-told s (sounds.more {e = e} {h = h} x r) = rw (is-upload x, uploads-told s r)
+-- the number that the bank's own numbering gave
+own-number : {e : Exchange} {h : List Exchange} → Sound e h → numbersOwn e ≡ true → numberGiven e ≡ numberIn (e .verdict)
+own-number {e} s o = let p = own-opening e o in number-given s (p .1 .is) ∙ sym (ap numberIn (p .1 .is))
+
+-- how far it has come for a subscriber
+pub own-told : (s : ℕ) {h : List Exchange} → AllSound h → ownGiven s h ≡ ownNumbering s h
+unfolding ownGiven ownNumbering
+own-told s sounds.none = refl
+own-told s (sounds.more {e = e} {h = h} x r) =
+    ap (λ (b : Bool). cond (b && eqb (subscriber (e .request)) s) (suc (numberGiven e)) (ownGiven s h)) (is-own x)
+    ∙ cond-same (numbersOwn e && eqb (subscriber (e .request)) s)
+    (λ z. ap suc (own-number x (and-true (numbersOwn e) (eqb (subscriber (e .request)) s) z .0))) (λ _. own-told s r)
 
 pub opened-ids : {h : List Exchange} → AllSound h → openedIds h ≡ openings h
 unfolding openedIds openings
@@ -220,7 +166,7 @@ opened-ids (sounds.more {e = e} {h = h} s r) =
 
 -- something of the exchange that opened t alone
 pub at-opened : {A : Type 0} (f : Exchange → A) (none : A) (t : Bits128) {h : List Exchange} → AllSound h →
-    atOpened (λ (e : Exchange) (g : List Exchange). f e) none t h ≡ atOpening f none t h
+    atOpened f none t h ≡ atOpening f none t h
 unfolding atOpened atOpening
 at-opened f none t sounds.none = refl
 at-opened f none t (sounds.more {e = e} {h = h} s r) = rw (opened-own s t, at-opened f none t r)
@@ -298,13 +244,13 @@ module _ (t : Bits128) {e : Exchange} {h : List Exchange} (s : Sound e h) (r : A
   counts b =
       cond (b && sameBits t (transaction (e .reply))) (max (times isDelivery t h) (segment (e .reply))) (times isDelivery t h)
 
-  sends-not : (v : Verdict) → e .verdict ≡ v → sendsBy v ≡ false → did isDelivery t v ≡ false → Sends v
+  sends-not : (v : Verdict) → e .verdict ≡ v → sendsBy (editionOf (e .request)) v ≡ false → did isDelivery t v ≡ false → Sends v
   sends-not v own a b =
-      ap counts (ap (ofReply false isSendingForm) (formed s ∙ ap verdictForm own) ∙ a)
+      ap counts (ap (ofReply false isSendingForm) (formed s ∙ ap (verdictForm (editionOf (e .request))) own) ∙ a)
       ∙ ap (λ (d : Bool). cond d (suc (times isDelivery t h)) (times isDelivery t h)) (sym b)
 
-  sends-by : (u : Bits128) (k : Action) → e .verdict ≡ verdict.Of u k → (actionForm k ≡ forms.Refusal → ⊥) →
-      sendsBy (verdict.Of u k) ≡ true →
+  sends-by : (u : Bits128) (k : Action) → e .verdict ≡ verdict.Of u k →
+      (actionForm (editionOf (e .request)) k ≡ forms.Refusal → ⊥) → sendsBy (editionOf (e .request)) (verdict.Of u k) ≡ true →
       (sameBits t u ≡ true → max (times isDelivery t h) (segment (e .reply)) ≡
       cond (isDelivery k) (suc (times isDelivery t h)) (times isDelivery t h)) → Sends (verdict.Of u k)
   sends-by u k own n a same =
@@ -322,7 +268,8 @@ module _ (t : Bits128) {e : Exchange} {h : List Exchange} (s : Sound e h) (r : A
   sent-by verdict.Unreadable own = sends-not verdict.Unreadable own refl refl
   sent-by (verdict.Refused c) own = sends-not (verdict.Refused c) own refl refl
   sent-by (verdict.Signed n added) own = sends-not (verdict.Signed n added) own refl refl
-  sent-by (verdict.Of u (action.Upload (up.Opened n))) own = sends-not _ own refl (and-no (sameBits t u))
+  sent-by (verdict.Of u (action.Upload (up.Opened n))) own =
+      sends-not _ own (opened-sends (editionOf (e .request))) (and-no (sameBits t u))
   sent-by (verdict.Of u (action.Upload up.Took)) own = sends-not _ own refl (and-no (sameBits t u))
   sent-by (verdict.Of u (action.Upload up.TookLast)) own = sends-not _ own refl (and-no (sameBits t u))
   sent-by (verdict.Of u (action.Upload (up.Point k))) own = sends-not _ own refl (and-no (sameBits t u))
@@ -364,13 +311,15 @@ module _ (t : Bits128) {e : Exchange} {h : List Exchange} (s : Sound e h) (r : A
   Says v = ofReply x (replyStatus t e h x) (form (e .reply)) ≡ statusAfter t v e x
 
   -- a reply of t with its ID in it, and a refusal
-  by-id : (u : Bits128) (k : Action) → e .verdict ≡ verdict.Of u k → (actionForm k ≡ forms.Refusal → ⊥) →
-      (f : Bits128 → Status) → ofReply x (replyStatus t e h x) (actionForm k) ≡ f (transaction (e .reply)) →
+  by-id : (u : Bits128) (k : Action) → e .verdict ≡ verdict.Of u k →
+      (actionForm (editionOf (e .request)) k ≡ forms.Refusal → ⊥) → (f : Bits128 → Status) →
+      ofReply x (replyStatus t e h x) (actionForm (editionOf (e .request)) k) ≡ f (transaction (e .reply)) →
       f u ≡ statusAfter t (verdict.Of u k) e x → Says (verdict.Of u k)
   by-id u k own n f a b =
       ap (ofReply x (replyStatus t e h x)) (formed-as s own) ∙ (a ∙ (ap f (carries s own n) ∙ b))
 
-  by-request : (u : Bits128) (k : Action) → e .verdict ≡ verdict.Of u k → actionForm k ≡ forms.Refusal →
+  by-request : (u : Bits128) (k : Action) → e .verdict ≡ verdict.Of u k →
+      actionForm (editionOf (e .request)) k ≡ forms.Refusal →
       transaction (e .request) ≡ u → isCancelling (codeField (actionCode k)) ≡ true →
       cond (sameBits t u) Cancelled x ≡ statusAfter t (verdict.Of u k) e x → Says (verdict.Of u k)
   by-request u k own f same c b =
@@ -379,13 +328,30 @@ module _ (t : Bits128) {e : Exchange} {h : List Exchange} (s : Sound e h) (r : A
       ∙ (ap (λ (d : Bool). cond (sameBits t u) (cond d Cancelled x) x) (ap isCancelling (coded-as s own) ∙ c) ∙ b))
 
   -- 01 03 0D that cancels nothing: a refusal's, and a signing's reply
-  by-none : (v : Verdict) → e .verdict ≡ v → verdictForm v ≡ forms.Refusal → isCancelling (codeField (verdictCode v)) ≡ false →
+  by-none : (v : Verdict) → e .verdict ≡ v → verdictForm (editionOf (e .request)) v ≡ forms.Refusal →
+      isCancelling (codeField (verdictCode v)) ≡ false →
       ofReply x (replyStatus t e h x) (form (e .reply)) ≡ x
   by-none v own f c =
-      ap (ofReply x (replyStatus t e h x)) (formed s ∙ (ap verdictForm own ∙ f))
+      ap (ofReply x (replyStatus t e h x)) (formed s ∙ (ap (verdictForm (editionOf (e .request))) own ∙ f))
       ∙ (ap (λ (d : Bool). cond (sameBits t (transaction (e .request))) (cond d Cancelled x) x)
       (ap isCancelling (coded s ∙ ap (λ (v : Verdict). codeField (verdictCode v)) own) ∙ c)
       ∙ by-test (λ (y : Status). y ≡ x) (sameBits t (transaction (e .request))) (λ _. refl) (λ _. refl))
+
+  -- an accepted upload's reply, of either edition
+  by-edition : (i : Edition) → isUploadOpened e ≡ true →
+      ofReply x (replyStatus t e h x) (openedForm i) ≡ uploadOpenedStatus t e x
+  by-edition edition.V24 z =
+      ap (λ (b : Bool). cond b (uploadOpenedStatus t e x)
+      (cond (sameBits t (transaction (e .reply))) (receiptStatus e) (otherReceipt e x))) z
+  by-edition edition.V25 z = refl
+
+  -- a receipt's, which accepts no upload
+  receipt-reply : isUploadOpened e ≡ false →
+      ofReply x (replyStatus t e h x) forms.ReceiptAnswered
+      ≡ cond (sameBits t (transaction (e .reply))) (receiptStatus e) (otherReceipt e x)
+  receipt-reply z =
+      ap (λ (b : Bool). cond b (uploadOpenedStatus t e x)
+      (cond (sameBits t (transaction (e .reply))) (receiptStatus e) (otherReceipt e x))) z
 
   -- the N of its opening
   count-is : (u : Bits128) → sameBits t u ≡ true → segmentCountOf t h ≡ segmentsAt u h
@@ -398,12 +364,14 @@ module _ (t : Bits128) {e : Exchange} {h : List Exchange} (s : Sound e h) (r : A
 
   says-by : (v : Verdict) → e .verdict ≡ v → SoundVerdict v e h → Says v
   unfolding downloadSegment
-  says-by verdict.Unreadable own z = ap (ofReply x (replyStatus t e h x)) (formed s ∙ ap verdictForm own)
+  says-by verdict.Unreadable own z =
+      ap (ofReply x (replyStatus t e h x)) (formed s ∙ ap (verdictForm (editionOf (e .request))) own)
   says-by (verdict.Refused c) own z = by-none (verdict.Refused c) own refl (cancelling-code c ∙ z .harmless)
   says-by (verdict.Signed n added) own z = by-none (verdict.Signed n added) own refl refl
   says-by (verdict.Of u (action.Upload (up.Opened n))) own z =
-      by-id u _ own (λ y. let w : _≡_ {A = ℕ} 0 1 = cc in omega arith)
-      (λ (i : Bits128). cond (sameBits t i) (Open direction.Upload (subscriber (e .request)) (e .clock)) x) refl refl
+      by-id u _ own (opened-answers (editionOf (e .request)))
+      (λ (i : Bits128). cond (sameBits t i) (Open direction.Upload (subscriber (e .request)) (e .clock)) x)
+      (by-edition (editionOf (e .request)) (upload-opened s own)) refl
   says-by (verdict.Of u (action.Upload up.Took)) own z =
       by-id u _ own (λ y. let w : _≡_ {A = ℕ} 0 1 = cc in omega arith)
       (λ (i : Bits128). cond (sameBits t i) (takenStatus t e h x) x) refl
@@ -457,12 +425,12 @@ module _ (t : Bits128) {e : Exchange} {h : List Exchange} (s : Sound e h) (r : A
       by-request u _ own refl (sym (z .request .same)) refl refl
   says-by (verdict.Of u (action.Download down.Confirmed)) own z =
       by-id u _ own (λ y. let w : _≡_ {A = ℕ} 0 1 = cc in omega arith)
-      (λ (i : Bits128). cond (sameBits t i) (receiptStatus e) (otherReceipt e x)) refl
+      (λ (i : Bits128). cond (sameBits t i) (receiptStatus e) (otherReceipt e x)) (receipt-reply (upload-opened s own))
       (cond-same (sameBits t u) (λ y. rw (is-code s own (codeField code.DownloadPostprocessDone)))
       (λ y. rw (is-code s own (codeField code.DownloadPostprocessDone))))
   says-by (verdict.Of u (action.Download down.Declined)) own z =
       by-id u _ own (λ y. let w : _≡_ {A = ℕ} 0 1 = cc in omega arith)
-      (λ (i : Bits128). cond (sameBits t i) (receiptStatus e) (otherReceipt e x)) refl
+      (λ (i : Bits128). cond (sameBits t i) (receiptStatus e) (otherReceipt e x)) (receipt-reply (upload-opened s own))
       (cond-same (sameBits t u) (λ y. rw (is-code s own (codeField code.DownloadPostprocessDone)))
       (λ y. rw (is-code s own (codeField code.DownloadPostprocessDone))))
 

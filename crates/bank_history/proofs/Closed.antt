@@ -13,7 +13,7 @@ use Rattle.message.proofs.Verdicts.{by-test}
 use Rattle.bank_state.specs.declared.state.Download.{Download}
 use Rattle.bank_state.specs.Clock.{isIdle}
 use Rattle.bank_state.specs.Search.{isOpen}
-use Rattle.bank_state.specs.State.{BankState, placeAt, downloadAt, seriesOf}
+use Rattle.bank_state.specs.State.{BankState, placeAt, downloadAt}
 use Rattle.bank_state.proofs.Found.{upload-found, download-found}
 use Rattle.bank_verdicts.specs.declared.verdict.Direction.{Direction}
 use Rattle.bank_verdicts.specs.declared.verdict.Direction.the-variants as direction
@@ -23,7 +23,7 @@ use Rattle.bank_verdicts.specs.declared.verdict.Action.{Action}
 use Rattle.bank_verdicts.specs.declared.verdict.Action.the-variants as action
 use Rattle.bank_verdicts.specs.declared.verdict.Verdict.{Verdict}
 use Rattle.bank_verdicts.specs.declared.verdict.Verdict.the-variants as verdict
-use Rattle.bank_verdicts.specs.Judgement.{mailboxSegments, uploadAt, downloadOf}
+use Rattle.bank_verdicts.specs.Judgement.{openingNumber, mailboxSegments, uploadAt, downloadOf}
 use Rattle.bank.specs.Call.{FrameInput}
 use Rattle.bank_history.specs.History.{Exchange, BankCall, Frame, Past, newest, isOpening, isBooking, did, ever, accepted, callExchange, start, after, pastOf}
 use Rattle.bank_history.specs.FalseEconomies.{Next}
@@ -122,7 +122,7 @@ case-open w σ told q d unreadable t k z o = absurd (let x : _≡_ {A = ℕ} 0 1
 case-open w σ told q d (refused c y) t k z o = absurd (let x : _≡_ {A = ℕ} 0 1 = cc in omega arith)
 case-open w σ told q d (signs s) t k z o = absurd (let x : _≡_ {A = ℕ} 0 1 = cc in omega arith)
 case-open w σ told q d (opensUpload f a g n inside below) t k z o =
-    let same : action.Upload (up.Opened (seriesOf (subscriber q) (w .bank .series))) ≡ k = cc in never (sym o ∙ ap isOpening (sym same))
+    let same : action.Upload (up.Opened (openingNumber (w .bank) q)) ≡ k = cc in never (sym o ∙ ap isOpening (sym same))
 case-open w σ told q d (opensDownload f a g n) t k z o =
     let same : action.Download (down.Opened (mailboxSegments (subscriber q) (w .bank))) ≡ k = cc in never (sym o ∙ ap isOpening (sym same))
 case-open w σ told q d (toUpload r a s) t k z o =

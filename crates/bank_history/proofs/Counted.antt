@@ -21,7 +21,7 @@ use Rattle.bank_state.specs.declared.state.Use.the-variants.{Free, Open, Booked
 use Rattle.bank_state.specs.Clock.{advanced, endDownloads}
 use Rattle.bank_state.specs.Limits.{placeCount}
 use Rattle.bank_state.specs.Search.{isFree, isOpen, freePlace, freeDownload}
-use Rattle.bank_state.specs.State.{BankState, noPlace, noDownload, fresh, placeAt, downloadAt, seriesOf}
+use Rattle.bank_state.specs.State.{BankState, noPlace, noDownload, fresh, placeAt, downloadAt}
 use Rattle.bank_state.proofs.Drops.{each-endDownloads}
 use Rattle.bank_state.proofs.Found.{upload-found, download-found}
 use Rattle.bank_openings.specs.Openings.{counted, countedUpload, openUpload, openDownload}
@@ -33,7 +33,7 @@ use Rattle.bank_verdicts.specs.declared.verdict.Action.{Action}
 use Rattle.bank_verdicts.specs.declared.verdict.Action.the-variants as action
 use Rattle.bank_verdicts.specs.declared.verdict.Verdict.{Verdict}
 use Rattle.bank_verdicts.specs.declared.verdict.Verdict.the-variants as verdict
-use Rattle.bank_verdicts.specs.Judgement.{transactionOf, uploadAt, downloadOf, orderAt, signed}
+use Rattle.bank_verdicts.specs.Judgement.{transactionOf, openingNumber, uploadAt, downloadOf, orderAt, signed}
 use Rattle.bank_signing.specs.Signings.{sign}
 use Rattle.bank_uploads.specs.Uploads.{grown, booked, attempted, placeAfter}
 use Rattle.bank_steps.specs.Steps.{onUpload, downloadActs, carryOut}
@@ -188,7 +188,7 @@ module _ (w : BankState) (h : List Exchange) (v : Invariant w h) (c : Counted w 
     elsewhere u l = ap (did isAction u) own ∙ did-other u t k (λ z. omega arith)
 
     old-place : (j : ℕ) → j < placeCount → PlaceCounts (x ∷ h) (placeAt (w .bank) j)
-    old-place j b z = other x h _ _ _ (elsewhere _ (place-counted w (v .state) j b (open-used (placeAt (w .bank) j .used) z) .0)) (c .places j b z)
+    old-place j b z = other x h _ _ _ (elsewhere _ (place-counted w (v .state) j b (open-used (placeAt (w .bank) j .used) z))) (c .places j b z)
 
     old-download : (j : ℕ) → DownloadCounts (x ∷ h) (downloadAt (w .bank) j)
     old-download j z = other x h _ _ _ (elsewhere _ (download-open w h v j z .0 .counted)) (c .downloads j z)
@@ -280,7 +280,7 @@ module _ (w : BankState) (h : List Exchange) (v : Invariant w h) (c : Counted w 
   case-counted first (refused r z) = nothing (entry (verdict.Refused r) w q d) (λ t. refl)
   case-counted first (opensUpload asked a g n inside below) =
       let t = transactionOf first (w .bank) in
-      let k = action.Upload (up.Opened (seriesOf (subscriber q) (w .bank .series))) in
+      let k = action.Upload (up.Opened (openingNumber (w .bank) q)) in
       let x = entry (verdict.Of t k) w q d in
       record {
         places = place-set (x ∷ h) (freePlace (w .bank)) _ inside (λ _. opened x h t 0 0 k refl refl refl (new-id t k refl x refl))

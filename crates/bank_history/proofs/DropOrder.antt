@@ -66,10 +66,10 @@ use Rattle.bank_history.specs.Status.{
   end,
   next,
 }
+use Rattle.bank_history.specs.Opened.{isUploadOpened}
 use Rattle.bank_history.specs.ByReplies.{
-  uploadsOpened,
+  numberGiven,
   openedIds,
-  isUploadOpened,
   atOpened,
   ownerOf,
   orderOf,
@@ -80,15 +80,15 @@ use Rattle.bank_history.specs.Journal.{entryOf, isIdleUploadAt, uploadDr
 use Rattle.bank_history.proofs.ByReplies.{
   opened-own,
   upload-opened,
-  uploads-told,
   opened-ids,
   at-opened,
   opening-below,
   standing-is,
 }
+use Rattle.bank_history.proofs.Opened.{number-given}
 use Rattle.bank_history.proofs.Drops.{in-keep, keep-in, open-listed, rising-keep, opened-numbered}
 use Rattle.bank_history.proofs.Positions.{sound-at, action-sound, opening-number, ever-stands}
-use Rattle.bank_history.proofs.SentSegments.{action-in, sound-before}
+use Rattle.bank_history.proofs.SentSegments.{action-in}
 use Rattle.bank_history.proofs.Entries.{did-same}
 use Rattle.bank_history.proofs.Statuses.{Told, open-shown}
 use Rattle.bank_history.proofs.Counted.{open-used}
@@ -100,7 +100,7 @@ rising-above end i = absurd (in-none i)
 rising-above (next {t = u} a r) (here z) = let y = ap (λ (i : Bits128). i .low) z in omega arith
 rising-above (next {t = u} a r) (there i) = let y = rising-above r i in omega arith
 
-same-rising : {m n : ℕ} {k l : List Bits128} → Rising m k → Rising n l → ((t : Bits128) → In t k → In t l) →
+pub same-rising : {m n : ℕ} {k l : List Bits128} → Rising m k → Rising n l → ((t : Bits128) → In t k → In t l) →
     ((t : Bits128) → In t l → In t k) → k ≡ l
 same-rising end end f g = refl
 same-rising end (next {t = u} b s) f g = absurd (in-none (g u (here refl)))
@@ -234,14 +234,14 @@ apart-keep test used (q ∷ l) one =
 -- ---- the exchange that opened a transaction
 
 -- there is one such exchange only
-opening-at : {A : Type 0} (f : Exchange → List Exchange → A) (d : A) (t : Bits128) (k : Action) {e : Exchange}
+opening-at : {A : Type 0} (f : Exchange → A) (d : A) (t : Bits128) (k : Action) {e : Exchange}
     {g h : List Exchange} → AllSound h → Stands e g h → e .verdict ≡ verdict.Of t k → isOpening k ≡ true →
-    atOpened f d t h ≡ f e g
+    atOpened f d t h ≡ f e
 unfolding atOpened
 opening-at f d t k {e} {g} (sounds.more s r) newest own o =
-    ap (λ (b : Bool). cond b (f e g) (atOpened f d t g)) (opened-own s t ∙ (ap (did isOpening t) own ∙ (did-same isOpening t k ∙ o)))
+    ap (λ (b : Bool). cond b (f e) (atOpened f d t g)) (opened-own s t ∙ (ap (did isOpening t) own ∙ (did-same isOpening t k ∙ o)))
 opening-at f d t k {e} {g} (sounds.more s r) (older {x = x} {h = h} p) own o =
-    ap (λ (b : Bool). cond b (f x h) (atOpened f d t h)) (opened-own s t ∙ other (did isOpening t (x .verdict)) refl)
+    ap (λ (b : Bool). cond b (f x) (atOpened f d t h)) (opened-own s t ∙ other (did isOpening t (x .verdict)) refl)
     ∙ opening-at f d t k r p own o
   where
     other : (b : Bool) → did isOpening t (x .verdict) ≡ b → b ≡ false
@@ -271,7 +271,7 @@ upload-opening (action.Download down.Declined) z = never z
 pub owner-is : (t : Bits128) {h : List Exchange} → AllSound h → ownerOf t h ≡ openedBy t h
 owner-is t r = at-opened (λ (e : Exchange). subscriber (e .request)) 0 t r
 
--- the exchange e, with g before it, opened the upload t of the subscriber s with the number n of its series
+-- the exchange e, with g before it, opened the upload t of the subscriber s with the number n
 pub record OpensAs (s n : ℕ) (t : Bits128) (h : List Exchange) : Type 0 where
   pub exchange : Exchange
   pub before : List Exchange
@@ -283,7 +283,7 @@ abbrev pub order-older : {s n : ℕ} {t : Bits128} {h : List Exchange} (e : Exch
 order-older e o =
     record { exchange = o .exchange; before = o .before; stands = older (o .stands); is = o .is; owner = o .owner }
 
--- the order number of an upload, that of its series, is that of its opening's verdict
+-- the order number of an upload is that of its opening's verdict
 pub order-is : (t : Bits128) {h : List Exchange} → AllSound h → ever isUploadOpening t h ≡ true → orderOf t h ≡ numberAt t h
 order-is t {h} r z =
     let p = ever-stands isUploadOpening t h z in
@@ -292,14 +292,12 @@ order-is t {h} r z =
     let a = p .3 in
     let n = upload-opening (a .action) (a .kind) in
     let own : e .verdict ≡ verdict.Of t (action.Upload (up.Opened (n .0))) = a .is ∙ ap (verdict.Of t) (n .1) in
-    opening-at (λ (x : Exchange) (y : List Exchange). uploadsOpened (subscriber (x .request)) y) 0 t
-    (action.Upload (up.Opened (n .0))) r (p .2) own refl
-    ∙ (uploads-told (subscriber (e .request)) (sound-before r (p .2))
-    ∙ (sym (action-sound r (p .2) own .number)
+    opening-at (λ (x : Exchange). numberGiven x) 0 t (action.Upload (up.Opened (n .0))) r (p .2) own refl
+    ∙ (number-given (sound-at r (p .2)) own
     ∙ (sym (ap numberIn own)
-    ∙ (sym (opening-at (λ (x : Exchange) (y : List Exchange). numberIn (x .verdict)) 0 t (action.Upload (up.Opened (n .0))) r
+    ∙ (sym (opening-at (λ (x : Exchange). numberIn (x .verdict)) 0 t (action.Upload (up.Opened (n .0))) r
     (p .2) own refl)
-    ∙ at-opened (λ (x : Exchange). numberIn (x .verdict)) 0 t r))))
+    ∙ at-opened (λ (x : Exchange). numberIn (x .verdict)) 0 t r)))
 
 -- the exchange that opened an upload
 pub opened-order : (t : Bits128) {h : List Exchange} → AllSound h → ever isUploadOpening t h ≡ true →
@@ -310,14 +308,14 @@ opened-order t {h} r z =
     let n = upload-opening (a .action) (a .kind) in
     let own : p .0 .verdict ≡ verdict.Of t (action.Upload (up.Opened (n .0))) = a .is ∙ ap (verdict.Of t) (n .1) in
     let order : orderOf t h ≡ n .0 = order-is t r z ∙ (sym (at-opened (λ (x : Exchange). numberIn (x .verdict)) 0 t r)
-    ∙ (opening-at (λ (x : Exchange) (y : List Exchange). numberIn (x .verdict)) 0 t (action.Upload (up.Opened (n .0))) r
+    ∙ (opening-at (λ (x : Exchange). numberIn (x .verdict)) 0 t (action.Upload (up.Opened (n .0))) r
     (p .2) own refl ∙ ap numberIn own)) in
     record {
       exchange = p .0;
       before = p .1;
       stands = p .2;
       is = own ∙ ap (λ (m : ℕ). verdict.Of t (action.Upload (up.Opened m))) (sym order);
-      owner = sym (opening-at (λ (x : Exchange) (y : List Exchange). subscriber (x .request)) 0 t
+      owner = sym (opening-at (λ (x : Exchange). subscriber (x .request)) 0 t
           (action.Upload (up.Opened (n .0))) r (p .2) own refl);
     }
 
@@ -325,10 +323,9 @@ opened-order t {h} r z =
 pub opened-as : {s n : ℕ} {t : Bits128} {h : List Exchange} → AllSound h → OpensAs s n t h → (ownerOf t h ≡ s) × (orderOf t h ≡ n)
 opened-as {s} {n} {t} r o =
     let k = action.Upload (up.Opened n) in (
-      opening-at (λ (x : Exchange) (y : List Exchange). subscriber (x .request)) 0 t k r (o .stands) (o .is) refl ∙ o .owner,
-      opening-at (λ (x : Exchange) (y : List Exchange). uploadsOpened (subscriber (x .request)) y) 0 t k r (o .stands) (o .is) refl
-          ∙ (uploads-told (subscriber (o .exchange .request)) (sound-before r (o .stands))
-          ∙ sym (action-sound r (o .stands) (o .is) .number)),
+      opening-at (λ (x : Exchange). subscriber (x .request)) 0 t k r (o .stands) (o .is) refl ∙ o .owner,
+      opening-at (λ (x : Exchange). numberGiven x) 0 t k r (o .stands) (o .is) refl
+          ∙ number-given (sound-at r (o .stands)) (o .is),
     )
 
 -- whether it is an upload
@@ -337,7 +334,7 @@ upload-id t {h} r z =
     let p = ever-stands isUploadOpening t h z in
     let a = p .3 in
     let o = or-left (isUploadOpening (a .action)) (isDownloadOpening (a .action)) (a .kind) in
-    opening-at (λ (x : Exchange) (y : List Exchange). isUploadOpened x) false t (a .action) r (p .2) (a .is) o
+    opening-at (λ (x : Exchange). isUploadOpened x) false t (a .action) r (p .2) (a .is) o
     ∙ (upload-opened (sound-at r (p .2)) (a .is) ∙ a .kind)
 
 pub download-id : (t : Bits128) {h : List Exchange} → AllSound h → ever isDownloadOpening t h ≡ true →
@@ -346,7 +343,7 @@ download-id t {h} r z =
     let p = ever-stands isDownloadOpening t h z in
     let a = p .3 in
     let o = or-right (isUploadOpening (a .action)) (isDownloadOpening (a .action)) (a .kind) in
-    opening-at (λ (x : Exchange) (y : List Exchange). isUploadOpened x) false t (a .action) r (p .2) (a .is) o
+    opening-at (λ (x : Exchange). isUploadOpened x) false t (a .action) r (p .2) (a .is) o
     ∙ (upload-opened (sound-at r (p .2)) (a .is) ∙ not-both (a .action) (a .kind))
   where
     not-both : (k : Action) → isDownloadOpening k ≡ true → isUploadOpening k ≡ false

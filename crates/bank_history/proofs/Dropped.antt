@@ -52,7 +52,7 @@ module _ (time : ℕ) (w : BankState) (h : List Exchange) (v : Invariant w h) (t
 
       known : t .low < advanced time w .bank .openings
       known =
-          let a = place-counted w (v .state) (u .place) (u .inside) used .0 in
+          let a = place-counted w (v .state) (u .place) (u .inside) used in
           let b = advanced-openings time w in
           let c = number in
           omega arith

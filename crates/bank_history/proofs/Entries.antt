@@ -15,7 +15,7 @@ use Rattle.bank_verdicts.specs.declared.verdict.Action.{Action}
 use Rattle.bank_verdicts.specs.declared.verdict.Action.the-variants as action
 use Rattle.bank_verdicts.specs.declared.verdict.Verdict.{Verdict}
 use Rattle.bank_verdicts.specs.declared.verdict.Verdict.the-variants as verdict
-use Rattle.bank_history.specs.History.{Exchange, isAction, isTaking, isBooking, isOpening, isUploadOpening, isDownloadOpening, opens, acceptsUpload, accepted, uploadsAccepted, did, ever, times, received, atOpening}
+use Rattle.bank_history.specs.History.{Exchange, isAction, isTaking, isBooking, isOpening, isUploadOpening, isDownloadOpening, opens, acceptsUpload, accepted, ownNumbering, did, ever, times, received, atOpening}
 
 -- ---- transaction IDs
 
@@ -168,8 +168,8 @@ opens-no-upload (verdict.Signed n added) z = refl
 opens-no-upload (verdict.Of t k) z = or-neither (isUploadOpening k) (isDownloadOpening k) z .0
 
 pub series-unmoved : (s : ℕ) (x : Exchange) (h : List Exchange) → opens (x .verdict) ≡ false →
-    uploadsAccepted s (x ∷ h) ≡ uploadsAccepted s h
-unfolding uploadsAccepted
+    ownNumbering s (x ∷ h) ≡ ownNumbering s h
+unfolding ownNumbering
 series-unmoved s x h z = rw (opens-no-upload (x .verdict) z)
 
 -- behind the exchange that took segment N of u

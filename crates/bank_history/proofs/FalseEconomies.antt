@@ -12,14 +12,18 @@ use Rattle.frame_table.specs.declared.fields.Bits128.{Bits128}
 use Rattle.frame_table.specs.declared.fields.Fields.{Fields}
 use Rattle.frame_table.specs.declared.table.Form.{Form}
 use Rattle.frame_table.specs.Forms as forms
-use Rattle.frame_table.specs.Names.{phase, subscriber, orderType, nonce, timestamp, segments, transaction, segment, lastMark, returnCode, form}
+use Rattle.frame_table.specs.Names.{phase, subscriber, orderType, nonce, timestamp, segments, transaction, segment, lastMark, returnCode, orderNumber, form}
 use Rattle.frame_table.specs.Table.{isRequestForm}
 use Rattle.frame_table.proofs.Forms.{phaseOf, request-phase, request-form}
 use Rattle.octets.proofs.Tests.{never, or-left, or-right}
 use Rattle.message.specs.declared.codes.ReturnCode.the-variants as code
 use Rattle.message.specs.Codes.{codeField}
+use Rattle.message.specs.declared.editions.Edition.{Edition}
+use Rattle.message.specs.declared.editions.Edition.the-variants as edition
+use Rattle.message.specs.Editions.{formEdition, editionOf, openingForm}
 use Rattle.message.specs.Limits.{ful, fdl, maxSegments, initialisationPhase, transferPhase}
-use Rattle.message.specs.Replies.{uploadOpened, downloadOpened, segmentTaken, recoveryPoint, downloadSegment, receiptAnswered, refusal}
+use Rattle.message.specs.OrderNumbers.{isOrderNumber}
+use Rattle.message.specs.Replies.{uploadOpened, chosenOpened, downloadOpened, segmentTaken, recoveryPoint, downloadSegment, receiptAnswered, refusal}
 use Rattle.bank_state.specs.State.{Bank}
 use Rattle.bank_state.specs.Clock.{advanced}
 use Rattle.bank_state.specs.Limits.{window}
@@ -34,13 +38,14 @@ use Rattle.bank_verdicts.specs.declared.verdict.Action.{Action}
 use Rattle.bank_verdicts.specs.declared.verdict.Action.the-variants as action
 use Rattle.bank_verdicts.specs.declared.verdict.Verdict.{Verdict}
 use Rattle.bank_verdicts.specs.declared.verdict.Verdict.the-variants as verdict
-use Rattle.bank_verdicts.specs.Refusals.{unknownType, manySegments, isReplay, inTime, openingRows}
+use Rattle.bank_verdicts.specs.Refusals.{unknownType, badNumber, noOrderNumber, manySegments, isReplay, inTime, openingRows}
 use Rattle.bank_verdicts.specs.Judgement.{judgeOpening, judge}
-use Rattle.bank_verdicts.specs.Replies.{replyTo, uploadReply, downloadReply}
+use Rattle.bank_verdicts.specs.Replies.{replyTo, openedReply, uploadReply, downloadReply}
 use Rattle.bank_steps.specs.Steps.{carryOut}
 use Rattle.bank.specs.Call.{contextOf}
 use Rattle.bank_history.specs.History.{Exchange, BankCall, Frame, Stands, newest, older, ActionIn, pastOf, remembers, isOpening, isUploadOpening, isDownloadOpening, isTaking, isBooking, did, ever, atOpening, openedBy}
 use Rattle.bank_history.specs.Sound.{SoundUploadPoint, SoundDownloadPoint, SoundUploadAction, SoundDownloadAction, SoundAction, SoundVerdict, AllSound, more}
+use Rattle.bank_history.specs.Opened.{isUploadOpened}
 use Rattle.bank_history.specs.FalseEconomies.{Next, WellMadeOpening, Asks, RefusedWith, Opens, Takes, RecoveryPoint, FalseEconomies}
 use Rattle.bank_history.proofs.Entries.{opening-own, did-same}
 use Rattle.bank_history.proofs.NextCall.{
@@ -58,6 +63,7 @@ use Rattle.bank_history.proofs.NextCall.{
   asked-open,
   unknown-unless,
 }
+use Rattle.bank_history.proofs.Opened.{opened-cases}
 use Rattle.bank_history.proofs.Positions.{sound-at, action-sound, one-opening, ever-stands, stands-ever}
 use Rattle.bank_history.proofs.Remembered.{nonce-remembered}
 use Rattle.bank_history.proofs.SentSegments.{action-in, reply-form, reply-transaction}
@@ -72,9 +78,9 @@ use Rattle.bank_history.proofs.UploadRequests.{verdict-by-form}
 
 -- a reply "opened" is that of an opening of its transaction ID
 opens-action : {t : Bits128} {f : Exchange} {g h : List Exchange} → AllSound h → Stands f g h → Opens t f → ActionIn isOpening t f
-opens-action {t} {f} sound stands o = at (o .formed)
+opens-action {t} {f} sound stands o = at (opened-cases f (o .accepted))
   where
-    at : (form (f .reply) ≡ forms.UploadOpened) ⊎ (form (f .reply) ≡ forms.DownloadOpened) → ActionIn isOpening t f
+    at : (isUploadOpened f ≡ true) ⊎ (form (f .reply) ≡ forms.DownloadOpened) → ActionIn isOpening t f
     at (inl z) =
         let u = upload-opened sound stands z in
         let k = action.Upload (up.Opened (u .0)) in
@@ -92,11 +98,11 @@ module _ (context : Context) (b : Bank) (q : Fields) (few : segments q ≤ maxSe
   unfolding isReplay
   replayed = or-right (not (inTime (timestamp q) (b .clock))) (isRemembered (nonce q) b) seen
 
-  upload-replayed : orderType q ≡ ful → 1 ≤ segments q →
+  upload-replayed : orderType q ≡ ful → 1 ≤ segments q → noOrderNumber q ≡ false →
       judgeOpening direction.Upload context b q ≡ verdict.Refused code.MessageReplay
   unfolding judgeOpening openingRows unknownType manySegments
-  upload-replayed kind some =
-      rw (replayed, kind, ne-eqb (segments q) 0 (λ z. omega arith), le-ltb maxSegments (segments q) few)
+  upload-replayed kind some spelled =
+      rw (replayed, kind, ne-eqb (segments q) 0 (λ z. omega arith), spelled, le-ltb maxSegments (segments q) few)
 
   download-replayed : orderType q ≡ fdl → judgeOpening direction.Download context b q ≡ verdict.Refused code.MessageReplay
   unfolding judgeOpening openingRows unknownType manySegments
@@ -119,14 +125,22 @@ seen-refused {calls} {e} n made seen = refused-with n code.MessageReplay (verdic
     few = rw (sym (request-is n)) (made .few)
 
     judged-so : ((form (asked n) ≡ forms.UploadOpening) × (orderType (asked n) ≡ ful) × (1 ≤ segments (asked n)))
-        ⊎ ((form (asked n) ≡ forms.DownloadOpening) × (orderType (asked n) ≡ fdl)) →
+        ⊎ (((form (asked n) ≡ forms.ChosenOpening) × (orderType (asked n) ≡ ful) × (1 ≤ segments (asked n))
+        × (isOrderNumber (orderNumber (asked n)) ≡ true))
+        ⊎ ((form (asked n) ≡ forms.DownloadOpening) × (orderType (asked n) ≡ fdl))) →
         judge (contextOf (n .input)) (judgedBank n .bank) (asked n)
         (length (sent n)) ≡ verdict.Refused code.MessageReplay
     judged-so (inl (z, kind, some)) =
         verdict-by-form (contextOf (n .input)) (judgedBank n) (asked n) (sent n) forms.UploadOpening z
         (well-made n (made .made) (ap isRequestForm z))
         ∙ upload-replayed (contextOf (n .input)) (judgedBank n .bank) (asked n) few seen kind some
-    judged-so (inr (z, kind)) =
+        (ap (λ (f : Form). badNumber (formEdition f) (asked n)) z)
+    judged-so (inr (inl (z, kind, some, spelled))) =
+        verdict-by-form (contextOf (n .input)) (judgedBank n) (asked n) (sent n) forms.ChosenOpening z
+        (well-made n (made .made) (ap isRequestForm z))
+        ∙ upload-replayed (contextOf (n .input)) (judgedBank n .bank) (asked n) few seen kind some
+        (ap (λ (f : Form). badNumber (formEdition f) (asked n)) z ∙ ap not spelled)
+    judged-so (inr (inr (z, kind))) =
         verdict-by-form (contextOf (n .input)) (judgedBank n) (asked n) (sent n) forms.DownloadOpening z
         (well-made n (made .made) (ap isRequestForm z))
         ∙ download-replayed (contextOf (n .input)) (judgedBank n .bank) (asked n) few seen kind
@@ -195,19 +209,19 @@ took-last (action.Download down.Confirmed) u f g z s mark = never z
 took-last (action.Download down.Declined) u f g z s mark = never z
 
 -- no action that takes is answered by a refusal
-taking-form : (k : Action) → isTaking k ≡ true → actionForm k ≡ forms.SegmentTaken
-taking-form (action.Upload (up.Opened m)) z = never z
-taking-form (action.Upload up.Took) z = refl
-taking-form (action.Upload up.TookLast) z = refl
-taking-form (action.Upload (up.Point m)) z = never z
-taking-form (action.Upload (up.Cancelled c)) z = never z
-taking-form (action.Download (down.Opened m)) z = never z
-taking-form (action.Download (down.Delivered m)) z = never z
-taking-form (action.Download (down.SentAgain m)) z = never z
-taking-form (action.Download (down.Point m)) z = never z
-taking-form (action.Download down.Cancelled) z = never z
-taking-form (action.Download down.Confirmed) z = never z
-taking-form (action.Download down.Declined) z = never z
+taking-form : (x : Edition) (k : Action) → isTaking k ≡ true → actionForm x k ≡ forms.SegmentTaken
+taking-form x (action.Upload (up.Opened m)) z = never z
+taking-form x (action.Upload up.Took) z = refl
+taking-form x (action.Upload up.TookLast) z = refl
+taking-form x (action.Upload (up.Point m)) z = never z
+taking-form x (action.Upload (up.Cancelled c)) z = never z
+taking-form x (action.Download (down.Opened m)) z = never z
+taking-form x (action.Download (down.Delivered m)) z = never z
+taking-form x (action.Download (down.SentAgain m)) z = never z
+taking-form x (action.Download (down.Point m)) z = never z
+taking-form x (action.Download down.Cancelled) z = never z
+taking-form x (action.Download down.Confirmed) z = never z
+taking-form x (action.Download down.Declined) z = never z
 
 -- a reply "segment taken" with 000000 is that of a segment taken under its transaction ID
 pub takes-action : {t : Bits128} {f : Exchange} {g h : List Exchange} → AllSound h → Stands f g h → Takes t f → ActionIn isTaking t f
@@ -217,8 +231,8 @@ takes-action {t} {f} sound stands taken =
     took : ActionIn isTaking (transaction (f .request)) f
     took = segment-taken sound stands (taken .formed) (taken .coded) .0
 
-    refuses-not : actionForm (took .action) ≡ forms.Refusal → ⊥
-    refuses-not z = let y = taking-form (took .action) (took .kind) in let x : _≡_ {A = ℕ} 0 1 = cc in omega arith
+    refuses-not : actionForm (editionOf (f .request)) (took .action) ≡ forms.Refusal → ⊥
+    refuses-not z = let y = taking-form (editionOf (f .request)) (took .action) (took .kind) in let x : _≡_ {A = ℕ} 0 1 = cc in omega arith
 
     own-id : transaction (f .request) ≡ t
     own-id = sym (reply-transaction sound stands (took .is) refuses-not) ∙ taken .id
@@ -250,24 +264,29 @@ phase-of q f z k =
     request-phase (q .tags) (phase q) (request-form (form q) r) r ∙ ap phaseOf z
 
 -- not "unreadable", and not 061101
-Phased : Verdict → Type 0
-Phased v = (verdictForm v ≡ forms.Unreadable → ⊥) × (codeField (verdictCode v) ≡ codeField code.RecoverySync → ⊥)
+Phased : Edition → Verdict → Type 0
+Phased x v = (verdictForm x v ≡ forms.Unreadable → ⊥) × (codeField (verdictCode v) ≡ codeField code.RecoverySync → ⊥)
 
 module _ (e : Exchange) (g : List Exchange) where
   abbrev q : Fields
   q = e .request
 
-  upload-phase : (u : Bits128) (a : UploadAction) → SoundUploadAction a u e g → Phased (verdict.Of u (action.Upload a)) →
-      phase (uploadReply a u q) ≡ phase q
-  unfolding uploadOpened segmentTaken refusal Phased
-  upload-phase u (up.Opened m) s p = sym (phase-of q forms.UploadOpening (s .opening .asked) refl)
+  opening-phase : (x : Edition) (m : ℕ) (u : Bits128) → form q ≡ openingForm x → phase (openedReply x m u q) ≡ phase q
+  unfolding uploadOpened chosenOpened
+  opening-phase edition.V24 m u z = sym (phase-of q forms.ChosenOpening z refl)
+  opening-phase edition.V25 m u z = sym (phase-of q forms.UploadOpening z refl)
+
+  upload-phase : (u : Bits128) (a : UploadAction) → SoundUploadAction a u e g →
+      Phased (editionOf q) (verdict.Of u (action.Upload a)) → phase (uploadReply a u q) ≡ phase q
+  unfolding segmentTaken refusal Phased
+  upload-phase u (up.Opened m) s p = opening-phase (editionOf q) m u (s .opening .asked)
   upload-phase u up.Took s p = sym (phase-of q forms.UploadTransfer (s .taking .asked) refl)
   upload-phase u up.TookLast s p = sym (phase-of q forms.UploadTransfer (s .taking .asked) refl)
   upload-phase u (up.Point k) s p = absurd (p .1 refl)
   upload-phase u (up.Cancelled c) s p = refl
 
-  download-phase : (u : Bits128) (a : DownloadAction) → SoundDownloadAction a u e g → Phased (verdict.Of u (action.Download a)) →
-      phase (downloadReply a u q) ≡ phase q
+  download-phase : (u : Bits128) (a : DownloadAction) → SoundDownloadAction a u e g →
+      Phased (editionOf q) (verdict.Of u (action.Download a)) → phase (downloadReply a u q) ≡ phase q
   unfolding downloadOpened downloadSegment receiptAnswered refusal Phased
   download-phase u (down.Opened m) s p = sym (phase-of q forms.DownloadOpening (s .opening .asked) refl)
   download-phase u (down.Delivered m) s p = sym (phase-of q forms.DownloadTransfer (s .carried .asked) refl)
@@ -277,7 +296,7 @@ module _ (e : Exchange) (g : List Exchange) where
   download-phase u down.Confirmed s p = sym (phase-of q forms.Receipt (s .receipt .asked) refl)
   download-phase u down.Declined s p = sym (phase-of q forms.Receipt (s .asked) refl)
 
-  verdict-phase : (v : Verdict) → SoundVerdict v e g → Phased v → phase (replyTo v q) ≡ phase q
+  verdict-phase : (v : Verdict) → SoundVerdict v e g → Phased (editionOf q) v → phase (replyTo v q) ≡ phase q
   unfolding refusal Phased
   verdict-phase verdict.Unreadable s p = absurd (p .0 refl)
   verdict-phase (verdict.Refused c) s p = refl
@@ -352,7 +371,7 @@ module _ {calls : List BankCall} {e : Exchange} (n : Next calls e) (r : Recovery
       (λ z. let y = reply-form (all-sound n) newest own in let x = r .formed in let w : _≡_ {A = ℕ} 0 1 = cc in omega arith)
 
   module _ {f : Exchange} {g : List Exchange} (stands : Stands f g (pastOf calls .history)) (same : transaction (f .reply) ≡ transaction (e .reply)) where
-    pub upload-points : form (f .reply) ≡ forms.UploadOpened → phase (e .reply) ≡ cond (eqb (segment (e .reply)) 0) initialisationPhase transferPhase
+    pub upload-points : isUploadOpened f ≡ true → phase (e .reply) ≡ cond (eqb (segment (e .reply)) 0) initialisationPhase transferPhase
     upload-points z = at (recovery-point (all-sound n) newest (r .formed) (r .coded))
       where
         at : ((e .verdict ≡ uploads) × SoundUploadPoint (segment (e .reply)) (transaction (e .request)) e (pastOf calls .history))

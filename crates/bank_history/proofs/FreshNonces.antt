@@ -47,9 +47,9 @@ use Rattle.bank_history.specs.History.{
   remembered,
 }
 use Rattle.bank_history.specs.Signatures.{isSigned}
-use Rattle.bank_history.specs.ByReplies.{isOpened}
+use Rattle.bank_history.specs.Opened.{isOpened}
 use Rattle.bank_history.specs.FalseEconomies.{Next}
-use Rattle.bank_history.specs.Signers.{isKept, Timely}
+use Rattle.bank_history.specs.Timely.{isKept, Timely}
 use Rattle.bank_history.proofs.ByReplies.{coded, is-opened}
 use Rattle.bank_history.proofs.Counts.{unit}
 use Rattle.bank_history.proofs.Drops.{keep-in, in-either}

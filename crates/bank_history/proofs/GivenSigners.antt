@@ -15,7 +15,7 @@ use Rattle.bank_state.specs.declared.state.Place.{Place}
 use Rattle.bank_state.specs.Limits.{placeCount}
 use Rattle.bank_state.specs.Rows.{countOf}
 use Rattle.bank_state.specs.Search.{isFree, isOpen, isBooked, freePlace}
-use Rattle.bank_state.specs.State.{BankState, noPlace, placeAt, downloadAt, seriesOf}
+use Rattle.bank_state.specs.State.{BankState, noPlace, placeAt, downloadAt}
 use Rattle.bank_state.proofs.Found.{upload-found}
 use Rattle.bank_state.proofs.Rows.{first-passes}
 use Rattle.bank_verdicts.specs.declared.verdict.UploadAction.{UploadAction}
@@ -23,9 +23,11 @@ use Rattle.bank_verdicts.specs.declared.verdict.UploadAction.the-variants as up
 use Rattle.bank_verdicts.specs.declared.verdict.DownloadAction.{DownloadAction}
 use Rattle.bank_verdicts.specs.declared.verdict.DownloadAction.the-variants as down
 use Rattle.bank_verdicts.specs.declared.verdict.Action.the-variants as action
+use Rattle.bank_verdicts.specs.declared.verdict.SignedOrder.{SignedOrder}
 use Rattle.bank_verdicts.specs.declared.verdict.Verdict.{Verdict}
 use Rattle.bank_verdicts.specs.declared.verdict.Verdict.the-variants as verdict
-use Rattle.bank_verdicts.specs.Judgement.{transactionOf, uploadAt, downloadOf, orderAt}
+use Rattle.bank_verdicts.specs.Judgement.{openingNumber, uploadAt, downloadOf, orderAt}
+use Rattle.bank_verdicts.specs.Judgement as judgement
 use Rattle.bank_openings.specs.Openings.{counted, countedUpload, newPlace, openUpload, openDownload}
 use Rattle.bank_uploads.specs.Uploads.{placeAfter}
 use Rattle.bank_signing.specs.Signings.{signedPlace, sign}
@@ -47,6 +49,7 @@ use Rattle.journal.specs.declared.event.Kind.the-variants as kind
 use Rattle.journal.specs.declared.event.Entry.{Entry}
 use Rattle.journal.specs.declared.event.Event.{Event}
 use Rattle.journal.specs.Events.{eventsFrom}
+use Rattle.journal.specs.Row.{transactionOf}
 use Rattle.bank_events.specs.Entries.{orderIn, actionEntries}
 use Rattle.bank.specs.Call.{FrameInput, respond}
 use Rattle.bank_admitted.specs.State.{StateHolds}
@@ -57,7 +60,7 @@ use Rattle.bank_history.specs.History.{Exchange, Past, BankCall, Frame, 
 use Rattle.bank_history.specs.FalseEconomies.{Next}
 use Rattle.bank_history.specs.Transactions.{answered}
 use Rattle.bank_history.specs.Signers.{isSignedKind}
-use Rattle.bank_history.specs.ByReplies.{ofReply}
+use Rattle.bank_history.specs.Opened.{ofReply}
 use Rattle.bank_history.specs.Journal.{entryOf, uploadDrops, replyEntries, entriesOf, eventsIn}
 use Rattle.bank_history.proofs.Counts.{unit, count-append}
 use Rattle.bank_history.proofs.Journal.{request-told}
@@ -66,14 +69,18 @@ use Rattle.bank_history.proofs.Liveness.{by-call}
 use Rattle.bank_history.proofs.NextCall.{judgedBank, asked, sent, judged-holds, case-is}
 use Rattle.bank_history.proofs.Signatures.{has-bit}
 
+-- the transaction ID of an entry's upload
+abbrev pub entryId : Entry → Bits128
+entryId y = record { high = y .high; low = y .low }
+
 -- as many of the events numbered on pass a test as of their entries
-pub count-from : (p : Kind → ℕ → ℕ → ℕ → Bool) (n clock : ℕ) (es : List Entry) →
-    countOf (λ (v : Event). p (v .kind) (v .subscriber) (v .«order_type») (v .order)) (eventsFrom n clock es)
-    ≡ countOf (λ (y : Entry). p (y .kind) (y .subscriber) (y .«order_type») (y .order)) es
+pub count-from : (p : Kind → ℕ → ℕ → ℕ → Bits128 → Bool) (n clock : ℕ) (es : List Entry) →
+    countOf (λ (v : Event). p (v .kind) (v .subscriber) (v .«order_type») (v .order) (transactionOf v)) (eventsFrom n clock es)
+    ≡ countOf (λ (y : Entry). p (y .kind) (y .subscriber) (y .«order_type») (y .order) (entryId y)) es
 unfolding countOf eventsFrom
 count-from p n clock [] = refl
 count-from p n clock (e ∷ es) =
-    ap (λ (m : ℕ). unit (p (e .kind) (e .subscriber) (e .«order_type») (e .order)) + m) (count-from p (suc n) clock es)
+    ap (λ (m : ℕ). unit (p (e .kind) (e .subscriber) (e .«order_type») (e .order) (entryId e)) + m) (count-from p (suc n) clock es)
 
 -- the events signed among entries, and of a history
 abbrev pub signedIn : List Entry → ℕ
@@ -122,8 +129,11 @@ module _ (w : BankState) (v : StateHolds w) (q : Fields) (d : List ℕ) where
     abbrev p : Place
     p = placeAt (w .bank) (orderAt (w .bank) q)
 
+    abbrev o : SignedOrder
+    o = record { transaction = p .transaction; number = p .number }
+
     order-gives : (b : Bool) → isSigner (subscriber q) (p .signers) ≡ b →
-        signedIn (actionEntries (verdict.Signed (p .number) (not b)) (p .number) q) + given
+        signedIn (actionEntries (verdict.Signed o (not b)) (p .number) q) + given
         ≤ signersGiven (sign q (w .bank) .places)
     unfolding actionEntries countOf sign
     order-gives b z =
@@ -138,7 +148,7 @@ module _ (w : BankState) (v : StateHolds w) (q : Fields) (d : List ℕ) where
 
         at : (x : Bool) → more ≡ cond x (signerCount (p .signers)) (suc (signerCount (p .signers))) →
             signersGiven (sign q (w .bank) .places) + signerCount (p .signers) ≡ given + more →
-            signedIn (actionEntries (verdict.Signed (p .number) (not x)) (p .number) q) + given
+            signedIn (actionEntries (verdict.Signed o (not x)) (p .number) q) + given
             ≤ signersGiven (sign q (w .bank) .places)
         at true m g = omega arith
         at false m g = omega arith
@@ -147,12 +157,12 @@ module _ (w : BankState) (v : StateHolds w) (q : Fields) (d : List ℕ) where
   unfolding actionEntries countOf openUpload countedUpload counted openDownload freePlace
   case-gives unreadable = omega arith
   case-gives (refused c z) = omega arith
-  case-gives {first} (opensUpload f a g n inside below) =
+  case-gives {first} (opensUpload f a g n inside numbered) =
       let l = v .sizes .places in
       let i = freePlace (w .bank) in
       let free = first-passes (λ (r : Place). isFree (r .used)) (w .bank .places) noPlace (omega arith) in
       let k = changed i inside (free-not-booked (placeAt (w .bank) i .used) free)
-      (newPlace (transactionOf first (w .bank)) (seriesOf (subscriber q) (w .bank .series)) (w .bank .clock) q) in
+      (newPlace (judgement.transactionOf first (w .bank)) (openingNumber (w .bank) q) (w .bank .clock) q) in
       omega arith
   case-gives (opensDownload f a g n) = omega arith
   case-gives (toUpload r a c) =
@@ -203,7 +213,7 @@ module _ {calls : List BankCall} {e : Exchange} (n : Next calls e) where
   next-few old =
       let a = count-append (λ (x : Event). isSignedKind (x .kind)) (eventsIn h)
       (eventsFrom (length (eventsIn h)) (e .clock) (entriesOf e h)) in
-      let b = count-from (λ (k : Kind) (s t o : ℕ). isSignedKind k) (length (eventsIn h)) (e .clock) (entriesOf e h) in
+      let b = count-from (λ (k : Kind) (s t m : ℕ) (i : Bits128). isSignedKind k) (length (eventsIn h)) (e .clock) (entriesOf e h) in
       let c = call-gives in
       omega arith
 

@@ -17,6 +17,9 @@ use Rattle.octets.proofs.Tests.{never}
 use Rattle.message.specs.declared.codes.ReturnCode.{ReturnCode}
 use Rattle.message.specs.declared.codes.ReturnCode.the-variants as code
 use Rattle.message.specs.Codes.{codeField}
+use Rattle.message.specs.declared.editions.Edition.{Edition}
+use Rattle.message.specs.declared.editions.Edition.the-variants as edition
+use Rattle.message.specs.Editions.{editionOf, openedForm}
 use Rattle.bank_state.specs.declared.state.Place.{Place}
 use Rattle.bank_state.specs.declared.state.Use.{Use}
 use Rattle.bank_state.specs.declared.state.Use.the-variants as uses
@@ -30,6 +33,7 @@ use Rattle.bank_verdicts.specs.declared.verdict.DownloadAction.{DownloadAction}
 use Rattle.bank_verdicts.specs.declared.verdict.DownloadAction.the-variants as down
 use Rattle.bank_verdicts.specs.declared.verdict.Action.{Action}
 use Rattle.bank_verdicts.specs.declared.verdict.Action.the-variants as action
+use Rattle.bank_verdicts.specs.declared.verdict.SignedOrder.{SignedOrder}
 use Rattle.bank_verdicts.specs.declared.verdict.Verdict.{Verdict}
 use Rattle.bank_verdicts.specs.declared.verdict.Verdict.the-variants as verdict
 use Rattle.bank_verdicts.specs.Refusals.{cancels}
@@ -58,28 +62,29 @@ use Rattle.bank.specs.declared.call.FrameAnswer.{FrameAnswer}
 use Rattle.bank.specs.declared.call.FrameAnswer.the-variants.{Reply, WrongLength}
 use Rattle.bank.specs.Call.{contextOf, FrameInput, respond, frameCall}
 use Rattle.bank.specs.Journal.{enteredBy, journalAfter, journalBy}
-use Rattle.bank_history.specs.History.{Exchange, BankCall, Frame, File, Past, isOpening, isDownloadOpening, ever, callExchange, segmentsAt, entered, after, start, pastOf}
+use Rattle.bank_history.specs.History.{Exchange, BankCall, Frame, File, Past, isOpening, isBooking, isDownloadOpening, ever, callExchange, segmentsAt, entered, after, start, pastOf}
 use Rattle.bank_history.specs.Signatures.{isSigningForm, signedName, isSigned, hasSigned}
 use Rattle.bank_history.specs.FalseEconomies.{Next}
 use Rattle.bank_history.specs.Invariant.{PlaceTold, UploadTold, Invariant}
 use Rattle.bank_history.specs.Sound.{isCancelling, Sound, SoundRequest, SoundSigning, SoundVerdict, AllSound}
 use Rattle.bank_history.specs.Sound as sounds
+use Rattle.bank_history.specs.Opened.{ofReply, isUploadOpened}
 use Rattle.bank_history.specs.ByReplies.{
-  ofReply,
-  uploadsOpened,
+  numberGiven,
   ownerOf,
   orderOf,
   segmentCountOf,
   isUploadId,
   isCode,
 }
+use Rattle.bank_history.specs.Status.{Booked, status}
 use Rattle.bank_history.specs.Journal.{
   journalOver,
   journalOf,
   entryOf,
   uploadDrops,
-  numberNamed,
   signedEntries,
+  openedEntries,
   replyEntries,
   entriesOf,
   eventsIn,
@@ -93,9 +98,9 @@ use Rattle.bank_history.proofs.ByReplies.{
   coded-as,
   carries,
   sound-as,
-  uploads-told,
   at-opened,
 }
+use Rattle.bank_history.proofs.ByReplies as replied
 use Rattle.bank_history.proofs.GoesOn.{upload-goes-on}
 use Rattle.bank_steps.proofs.Cases.{
   Happens,
@@ -110,10 +115,11 @@ use Rattle.bank_steps.proofs.Cases.{
 use Rattle.bank_history.proofs.Entries.{and-no}
 use Rattle.bank_admitted.proofs.Clock.{advanced-clock}
 use Rattle.bank_history.proofs.Downloads.{download-open}
+use Rattle.bank_history.proofs.Closed.{booked-status}
 use Rattle.bank_history.proofs.DropOrder.{owner-is, order-is, upload-id, download-id, same-entries}
 use Rattle.bank_history.proofs.Keeps.{past-holds}
 use Rattle.bank_history.proofs.Liveness.{by-call}
-use Rattle.bank_history.proofs.NamedNumbers.{number-named}
+use Rattle.bank_history.proofs.Opened.{number-given}
 use Rattle.bank_history.proofs.NextCall.{
   judgedBank,
   asked,
@@ -127,7 +133,8 @@ use Rattle.bank_history.proofs.NextCall.{
 }
 use Rattle.bank_history.proofs.Plain.{events-plain}
 use Rattle.bank_history.proofs.Refusing.{refusing-not-ok, Refuses, verdict-refuses}
-use Rattle.bank_history.proofs.Replies.{verdictForm, verdictCode, uploadForm, actionForm, cancelling-code}
+use Rattle.bank_history.proofs.Replies.{verdictForm, verdictCode, uploadForm, actionForm, cancelling-code, opened-answers}
+use Rattle.bank_history.proofs.SignedOrders.{signed-entry}
 use Rattle.bank_history.proofs.Signatures.{unsigned-code, signer-told, has-bit}
 use Rattle.bank_history.proofs.Statuses.{past-told}
 
@@ -147,18 +154,21 @@ module _ {e : Exchange} {h : List Exchange} (s : Sound e h) (r : AllSound h) (w 
   abbrev Enters : Verdict → Type 0
   Enters u = actionEntries u (orderIn u (w .bank) q) q ≡ ofReply [] (replyEntries e h) (form (e .reply))
 
+  abbrev x : Edition
+  x = editionOf (e .request)
+
   -- the replies with a transaction ID, and a refusal
   by-form : {u : Bits128} {k : Action} (es : List Entry) → e .verdict ≡ verdict.Of u k →
-      es ≡ ofReply [] (replyEntries e h) (actionForm k) → es ≡ ofReply [] (replyEntries e h) (form (e .reply))
+      es ≡ ofReply [] (replyEntries e h) (actionForm x k) → es ≡ ofReply [] (replyEntries e h) (form (e .reply))
   by-form es own z = z ∙ sym (ap (ofReply [] (replyEntries e h)) (formed-as s own))
 
   none-by : {u : Bits128} {k : Action} (b : Bool) (es : List Entry) → e .verdict ≡ verdict.Of u k →
-      ofReply [] (replyEntries e h) (actionForm k) ≡ cond b es [] → b ≡ false →
+      ofReply [] (replyEntries e h) (actionForm x k) ≡ cond b es [] → b ≡ false →
       [] ≡ ofReply [] (replyEntries e h) (form (e .reply))
   none-by b es own z n = by-form [] own (ap (λ (x : Bool). cond x es []) (sym n) ∙ sym z)
 
   some-by : {u : Bits128} {k : Action} (b : Bool) {es : List Entry} (fs : List Entry) → e .verdict ≡ verdict.Of u k →
-      ofReply [] (replyEntries e h) (actionForm k) ≡ cond b fs [] → b ≡ true → es ≡ fs →
+      ofReply [] (replyEntries e h) (actionForm x k) ≡ cond b fs [] → b ≡ true → es ≡ fs →
       es ≡ ofReply [] (replyEntries e h) (form (e .reply))
   some-by b fs own z n y = by-form _ own (y ∙ (ap (λ (x : Bool). cond x fs []) (sym n) ∙ sym z))
 
@@ -197,7 +207,7 @@ module _ {e : Exchange} {h : List Exchange} (s : Sound e h) (r : AllSound h) (w 
     count-is = at-opened (λ (y : Exchange). segments (y .request)) 0 t r
 
     -- the segment is N
-    last-is : {a : UploadAction} → e .verdict ≡ verdict.Of t (action.Upload a) → uploadForm a ≡ forms.SegmentTaken →
+    last-is : {a : UploadAction} → e .verdict ≡ verdict.Of t (action.Upload a) → uploadForm x a ≡ forms.SegmentTaken →
         (b : Bool) → eqb (segment (e .request)) (segmentsAt t h) ≡ b →
         eqb (segment (e .request)) (segmentCountOf (transaction (e .reply)) h) ≡ b
     last-is own f b z =
@@ -206,10 +216,10 @@ module _ {e : Exchange} {h : List Exchange} (s : Sound e h) (r : AllSound h) (w 
         ∙ (ap (eqb (segment (e .request))) count-is ∙ z)
 
     booked-entry : (u : Bits128) → u ≡ t → SoundRequest t e h → (k : Kind) →
-        entry k (subscriber q) (p .number) ∷ [] ≡ entryOf k u h ∷ []
+        entry k (subscriber q) (p .number) t ∷ [] ≡ entryOf k u h ∷ []
     booked-entry u z o k =
-        let same : entry k (subscriber q) (p .number) ≡ entryOf k t h = rw (owned o, number-is) in
-        ap (λ (x : Entry). x ∷ []) same ∙ ap (λ (x : Bits128). entryOf k x h ∷ []) (sym z)
+        let same : entry k (subscriber q) (p .number) t ≡ entryOf k t h = rw (owned o, number-is) in
+        ap (λ (y : Entry). y ∷ []) same ∙ ap (λ (y : Bits128). entryOf k y h ∷ []) (sym z)
 
     upload-enters : (a : UploadAction) → isOpening (action.Upload a) ≡ false →
         e .verdict ≡ verdict.Of t (action.Upload a) →
@@ -257,8 +267,8 @@ module _ {e : Exchange} {h : List Exchange} (s : Sound e h) (r : AllSound h) (w 
       (ap cancellation (sym (ap (λ (b : Bool). isCancelling (returnCode (e .reply)) && b)
       (ap (λ (u : Bits128). isUploadId u h) (sym (sound-as s own .request .same)) ∙ download-id t r o)
       ∙ and-no (isCancelling (returnCode (e .reply))))))
-  download-enters t down.Confirmed o own = by-form [] own refl
-  download-enters t down.Declined o own = by-form [] own refl
+  download-enters t down.Confirmed o own = none-by (isUploadOpened e) (openedEntries e) own refl (replied.upload-opened s own)
+  download-enters t down.Declined o own = none-by (isUploadOpened e) (openedEntries e) own refl (replied.upload-opened s own)
 
   upload-order : (t : Bits128) (a : UploadAction) → isOpening (action.Upload a) ≡ false →
       actionEntries (verdict.Of t (action.Upload a)) (orderIn (verdict.Of t (action.Upload a)) (w .bank) q) q
@@ -269,18 +279,22 @@ module _ {e : Exchange} {h : List Exchange} (s : Sound e h) (r : AllSound h) (w 
   upload-order t (up.Point k) o = refl
   upload-order t (up.Cancelled c) o = refl
 
+  -- what stands booked by the history
+  abbrev Stays : Type 0
+  Stays = (u : Bits128) → ever isBooking u h ≡ true → status u h ≡ Booked
+
   -- an accepted signing: an event where its subscriber has not signed the order before
-  signing-enters : {n : ℕ} {added : Bool} → e .verdict ≡ verdict.Signed n added →
-      actionEntries (verdict.Signed n added) n q ≡ ofReply [] (replyEntries e h) (form (e .reply))
+  signing-enters : {n : SignedOrder} {added : Bool} → Stays → e .verdict ≡ verdict.Signed n added →
+      actionEntries (verdict.Signed n added) (n .number) q ≡ ofReply [] (replyEntries e h) (form (e .reply))
   unfolding actionEntries
-  signing-enters {n} {added} own =
-      by-refusal _ true (formed s ∙ ap verdictForm own)
+  signing-enters {n} {added} stays own =
+      by-refusal _ true (formed s ∙ ap (verdictForm x) own)
       (ap (λ (f : Form). isSigningForm f && eqb (returnCode (e .reply)) (codeField code.Ok)) (z .asked)
-      ∙ ap (λ (c : ℕ). eqb c (codeField code.Ok)) (coded s ∙ ap (λ (x : Verdict). codeField (verdictCode x)) own))
-      (ap (λ (b : Bool). event b n) (z .adds ∙ ap not (signer-told o by (has-bit by (z .known) (z .most)) h))
+      ∙ ap (λ (c : ℕ). eqb c (codeField code.Ok)) (coded s ∙ ap (λ (y : Verdict). codeField (verdictCode y)) own))
+      (ap event (z .adds ∙ ap not (signer-told o by (has-bit by (z .known) (z .most)) h))
       ∙ (at (hasSigned o by h)
-      ∙ (ap (λ (m : ℕ). cond (hasSigned o by h) [] (entry kind.Signed (owner q) m ∷ [])) (sym (number-named r z))
-      ∙ ap (λ (f : Fields). cond (hasSigned o by h) [] (entry kind.Signed (owner f) (numberNamed o h) ∷ [])) (sym same))))
+      ∙ (ap (λ (f : Fields). cond (hasSigned o by h) [] (entry kind.Signed (owner f) (n .number) (n .transaction) ∷ [])) (sym same)
+      ∙ ap (λ (l : List Entry). cond (hasSigned o by h) [] l) (sym (signed-entry r z w v stays)))))
     where
       z : SoundSigning n added e h
       z = subst (λ (u : Verdict). SoundVerdict u e h) own (s .verdict)
@@ -291,35 +305,46 @@ module _ {e : Exchange} {h : List Exchange} (s : Sound e h) (r : AllSound h) (w 
       by : ℕ
       by = subscriber (e .request)
 
-      event : Bool → ℕ → List Entry
-      event b m = cond (isEvent (signedKind b)) (entry (signedKind b) (owner q) m ∷ []) []
+      event : Bool → List Entry
+      event b = cond (isEvent (signedKind b)) (entry (signedKind b) (owner q) (n .number) (n .transaction) ∷ []) []
 
-      at : (b : Bool) → event (not b) n ≡ cond b [] (entry kind.Signed (owner q) n ∷ [])
+      at : (b : Bool) → event (not b) ≡ cond b [] (entry kind.Signed (owner q) (n .number) (n .transaction) ∷ [])
       at true = refl
       at false = refl
 
+  -- an accepted upload's reply, in either edition's form
+  opened-told : (y : Edition) → isUploadOpened e ≡ true → ofReply [] (replyEntries e h) (openedForm y) ≡ openedEntries e
+  opened-told edition.V24 z = ap (λ (b : Bool). cond b (openedEntries e) []) z
+  opened-told edition.V25 z = refl
+
+  opening-enters : {t : Bits128} {m : ℕ} → e .verdict ≡ verdict.Of t (action.Upload (up.Opened m)) →
+      entry kind.Opened (subscriber q) m t ∷ [] ≡ ofReply [] (replyEntries e h) (form (e .reply))
+  opening-enters {t} {m} own =
+      by-form _ own (ap (λ (f : Fields). entry kind.Opened (subscriber f) m t ∷ []) (sym same)
+      ∙ (ap (λ (n : ℕ). entry kind.Opened (subscriber (e .request)) n t ∷ []) (sym (number-given s own))
+      ∙ (ap (λ (u : Bits128). entry kind.Opened (subscriber (e .request)) (numberGiven e) u ∷ [])
+      (sym (carries s own (opened-answers x)))
+      ∙ sym (opened-told x (replied.upload-opened s own)))))
+
   -- every case of a request
-  case-enters : {first : ℕ} {d : List ℕ} {u : Verdict} → e .verdict ≡ u → Refuses u → Happens first w q d u → Enters u
+  case-enters : {first : ℕ} {d : List ℕ} {u : Verdict} → Stays → e .verdict ≡ u → Refuses u → Happens first w q d u → Enters u
   unfolding actionEntries
-  case-enters own k unreadable = sym (ap (ofReply [] (replyEntries e h)) (formed s ∙ ap verdictForm own))
-  case-enters own k (refused c z) =
-      let coded-so : returnCode (e .reply) ≡ codeField c = coded s ∙ ap (λ (x : Verdict). codeField (verdictCode x)) own in
-      by-refusal [] false (formed s ∙ ap verdictForm own)
+  case-enters stays own k unreadable = sym (ap (ofReply [] (replyEntries e h)) (formed s ∙ ap (verdictForm x) own))
+  case-enters stays own k (refused c z) =
+      let coded-so : returnCode (e .reply) ≡ codeField c = coded s ∙ ap (λ (y : Verdict). codeField (verdictCode y)) own in
+      by-refusal [] false (formed s ∙ ap (verdictForm x) own)
       (unsigned-code e (ap (λ (m : ℕ). eqb m (codeField code.Ok)) coded-so ∙ refusing-not-ok c k))
       (ap (λ (b : Bool). cancellation (b && isUploadId (transaction (e .request)) h))
       (sym (ap isCancelling coded-so ∙ (cancelling-code c ∙ z))))
-  case-enters own k (signs y) = signing-enters own
-  case-enters own k (opensUpload asked a g n inside below) =
-      by-form _ own (ap (λ (m : ℕ). entry kind.Opened (subscriber q) m ∷ [])
-      (v .series (subscriber q) (a .known) (a .most) ∙ sym (uploads-told (subscriber q) r))
-      ∙ ap (λ (f : Fields). entry kind.Opened (subscriber f) (uploadsOpened (subscriber f) h) ∷ []) (sym same))
-  case-enters own k (opensDownload asked a g n) = by-form [] own refl
-  case-enters own k (toUpload y a z) =
+  case-enters stays own k (signs y) = signing-enters stays own
+  case-enters stays own k (opensUpload asked a g n inside numbered) = opening-enters own
+  case-enters stays own k (opensDownload asked a g n) = by-form [] own refl
+  case-enters stays own k (toUpload y a z) =
       let i = uploadAt (w .bank) q in
       upload-order (placeAt (w .bank) i .transaction) a (upload-goes-on (z .sound))
       ∙ upload-enters i (z .inside) (upload-found (subscriber q) (transaction q) (placeAt (w .bank) i) (z .found) .0) a
       (upload-goes-on (z .sound)) own
-  case-enters own k (toDownload y a z) =
+  case-enters stays own k (toDownload y a z) =
       let j = downloadOf (w .bank) q in
       download-enters (downloadAt (w .bank) j .transaction) a
       (download-open w h v j (download-found (subscriber q) (transaction q) (downloadAt (w .bank) j) (z .found) .0) .1 .opened)
@@ -344,7 +369,7 @@ module _ {calls : List BankCall} {e : Exchange} (n : Next calls e) where
           actionEntries (e .verdict) (orderIn (e .verdict) (judgedBank n .bank) (asked n)) (asked n) ≡ ofReply []
           (replyEntries e h) (form (e .reply))
       at (sounds.more s r) =
-          case-enters s r (judgedBank n) (judged-holds n) (asked n) (request-is n) refl
+          case-enters s r (judgedBank n) (judged-holds n) (asked n) (request-is n) (λ t. booked-status t calls) refl
           (subst Refuses (sym (verdict-is n)) (verdict-refuses (contextOf (n .input)) (judgedBank n) (asked n) (sent n)))
           (case-is n)
 

@@ -8,12 +8,14 @@ use mathlib.Core.List.{
   _++_,
   map,
   List·Memᴰ as In,
+  List·Memᴰ·head as here,
+  List·Memᴰ·tail as there,
+  List·Memᴰ·not-nil as in-none,
 }
 use mathlib.Core.Path.{_≡_, refl, sym, ap, _∙_, subst}
 use native.Mathlib.Omega.{arith}
 use lib.Dec.{eqb}
 use lib.ListN.{length, length-append}
-use borrow.Author.Tests.{eqb-true}
 use Rattle.frame_table.specs.declared.fields.Bits128.{Bits128}
 use Rattle.frame_table.specs.declared.fields.Fields.{Fields}
 use Rattle.frame_table.specs.declared.table.Form.{Form}
@@ -23,9 +25,9 @@ use Rattle.frame_table.specs.declared.table.ReplyForm.the-variants as replies
 use Rattle.frame_table.specs.Names.{subscriber, transaction, segment, returnCode, form, sameBits}
 use Rattle.message.specs.declared.codes.ReturnCode.the-variants as code
 use Rattle.message.specs.Codes.{codeField}
-use Rattle.message.specs.Limits.{ful, subscribers}
-use Rattle.message.specs.OrderNumbers.{orderNumberOf}
-use Rattle.octets.proofs.Tests.{never, and-true}
+use Rattle.message.specs.Limits.{subscribers}
+use Rattle.octets.proofs.Tests.{never}
+use Rattle.frame_table.proofs.Bits.{bits-same}
 use Rattle.message.proofs.Verdicts.{by-test}
 use Rattle.bank_state.specs.declared.state.Place.{Place}
 use Rattle.bank_state.specs.declared.state.Use.the-variants as uses
@@ -34,18 +36,17 @@ use Rattle.bank_state.specs.State.{BankState, placeAt}
 use Rattle.bank_state.proofs.Found.{upload-found}
 use Rattle.bank_verdicts.specs.Judgement.{uploadAt, orderAt}
 use Rattle.signers.specs.Signers.{isSigner}
-use Rattle.bank_state.specs.Limits.{placeCount, maxOpenings, seriesLimit}
+use Rattle.bank_state.specs.Limits.{placeCount, maxOpenings}
 use Rattle.bank_state.specs.Rows.{countOf}
 use Rattle.bank_state.proofs.Rows.{count-le}
 use Rattle.journal.specs.declared.event.Kind.{Kind}
 use Rattle.journal.specs.declared.event.Kind.the-variants as kind
 use Rattle.journal.specs.declared.event.Entry.{Entry}
 use Rattle.journal.specs.declared.event.Event.{Event}
-use Rattle.journal.specs.declared.event.OrderName.{OrderName}
 use Rattle.journal.specs.Events.{eventsFrom}
-use Rattle.journal.specs.Row.{isOf}
+use Rattle.journal.specs.Row.{transactionOf, isOf}
 use Rattle.journal.proofs.Events.{events-length}
-use Rattle.bank_events.specs.Entries.{entry, orderIn, actionEntries}
+use Rattle.bank_events.specs.Entries.{orderIn, actionEntries}
 use Rattle.bank_verdicts.specs.declared.verdict.Direction.{Direction}
 use Rattle.bank_verdicts.specs.declared.verdict.Direction.the-variants as direction
 use Rattle.bank_verdicts.specs.declared.verdict.UploadAction.{UploadAction}
@@ -53,13 +54,12 @@ use Rattle.bank_verdicts.specs.declared.verdict.UploadAction.the-variants as up
 use Rattle.bank_verdicts.specs.declared.verdict.DownloadAction.the-variants as down
 use Rattle.bank_verdicts.specs.declared.verdict.Action.{Action}
 use Rattle.bank_verdicts.specs.declared.verdict.Action.the-variants as action
+use Rattle.bank_verdicts.specs.declared.verdict.SignedOrder.{SignedOrder}
 use Rattle.bank_verdicts.specs.declared.verdict.Verdict.{Verdict}
 use Rattle.bank_verdicts.specs.declared.verdict.Verdict.the-variants as verdict
-use Rattle.bank_history.specs.History.{Exchange, BankCall, Stands, newest, ActionIn, isOpening, isDownloadOpening, did, accepted, start, pastOf}
+use Rattle.bank_history.specs.History.{Exchange, BankCall, newest, isOpening, did, accepted, start, pastOf}
+use Rattle.bank_history.specs.Opened.{ofReply, isOk, isUploadForm, isOpenedForm, isOpened}
 use Rattle.bank_history.specs.ByReplies.{
-  ofReply,
-  isOpenedForm,
-  isOpened,
   isCode,
   isUploadId,
   openedCount,
@@ -80,7 +80,9 @@ use Rattle.bank_history.specs.Journal.{
   isIdleUploadAt,
   uploadDrops,
   entryOf,
+  bookedAs,
   signedEntries,
+  openedEntries,
   replyEntries,
   entriesOf,
   eventsIn,
@@ -104,6 +106,10 @@ use Rattle.bank_history.specs.Status.{
   statusAfter,
   status,
   openedIn,
+  openings,
+  Numbered,
+  none,
+  one,
 }
 use Rattle.bank_history.proofs.ByReplies.{standing-is, opened-count, opened-ids}
 use Rattle.bank_history.proofs.Counts.{
@@ -128,36 +134,16 @@ use Rattle.bank_steps.proofs.Cases.{
 }
 use Rattle.bank_admitted.proofs.Signers.{given-most}
 use Rattle.bank_history.proofs.Closed.{isClosed, acted-open, closed-next, by-exchange}
-use Rattle.bank_history.proofs.DropOrder.{
-  OpensAs,
-  owner-is,
-  opened-as,
-  opened-order,
-  upload-id,
-  download-id,
-  idle-status,
-  drop-told,
-}
-use Rattle.bank_history.proofs.Drops.{in-keep, listed}
-use Rattle.bank_history.proofs.Journal.{journal-told, request-told, p-told, number-is}
-use Rattle.bank_history.proofs.JournalUploads.{order-low, own-status}
+use Rattle.bank_history.proofs.DropOrder.{OpensAs, opened-order, idle-status}
+use Rattle.bank_history.proofs.Drops.{listed, opened-numbered}
+use Rattle.bank_history.proofs.Entries.{other-bits}
+use Rattle.bank_history.proofs.Journal.{journal-told, request-told, p-told}
+use Rattle.bank_history.proofs.JournalUploads.{own-status}
 use Rattle.bank_history.proofs.Keeps.{past-holds}
-use Rattle.bank_history.proofs.NamedUploads.{
-  Upload,
-  uploadBy,
-  uploadsIn,
-  upload-opens,
-  listed-upload,
-  named-once,
-  few-uploads,
-  count-uploads,
-}
-use Rattle.bank_history.proofs.OrderNumbers.{one-order-number}
 use Rattle.bank_history.proofs.NextCall.{judgedBank, asked, all-sound, request-is, judged-holds, case-is}
-use Rattle.bank_history.proofs.Positions.{action-sound, opening-number, stands-ever}
+use Rattle.bank_history.proofs.Positions.{action-sound, opening-number}
 use Rattle.bank_history.proofs.SentSegments.{action-in}
-use Rattle.bank_history.proofs.GivenSigners.{count-from, signedIn, signedOf, signed-few}
-use Rattle.bank_history.proofs.Statuses.{past-told}
+use Rattle.bank_history.proofs.GivenSigners.{entryId, count-from, signedIn, signedOf, signed-few}
 
 -- ---- how a transaction stands: an open upload
 
@@ -255,29 +241,64 @@ kept-open c EndedByReceipt z = absurd (let y : _≡_ {A = ℕ} 0 1 = cc in omega
 kept-open c Cancelled z = absurd (let y : _≡_ {A = ℕ} 0 1 = cc in omega arith)
 kept-open c Dropped z = absurd (let y : _≡_ {A = ℕ} 0 1 = cc in omega arith)
 
+-- ---- the openings
+
+-- what was opened has the running number of an accepted opening
+numbered-low : {m : ℕ} {l : List Bits128} {t : Bits128} → Numbered m l → In t l → t .low < m + length l
+numbered-low none i = absurd (in-none i)
+numbered-low {m} {t = t} (one {t = u} e r) (here z) = let y = ap (λ (i : Bits128). i .low) z in omega arith
+numbered-low (one e r) (there i) = let a = numbered-low r i in omega arith
+
+opened-low : {h : List Exchange} {t : Bits128} → AllSound h → In t (openings h) → t .low < accepted h
+opened-low r i = let a = opened-numbered r in let b = numbered-low (a .0) i in let c = a .1 in omega arith
+
+-- no ID stands twice
+none-above : (t : Bits128) {m : ℕ} {l : List Bits128} → t .low < m → Numbered m l →
+    countOf (λ (u : Bits128). sameBits u t) l ≡ 0
+unfolding countOf
+none-above t a none = refl
+none-above t {m} a (one {t = u} e r) =
+    rw (other-bits u t (λ z. omega arith)) (let c = none-above t (omega arith) r in omega arith)
+
+one-listed : (t : Bits128) {m : ℕ} {l : List Bits128} → Numbered m l → countOf (λ (u : Bits128). sameBits u t) l ≤ 1
+unfolding countOf
+one-listed t none = omega arith
+one-listed t {m} (one {t = u} {l = l} e r) = at (sameBits u t) refl (one-listed t r)
+  where
+    at : (b : Bool) → sameBits u t ≡ b → countOf (λ (i : Bits128). sameBits i t) l ≤ 1 →
+        unit b + countOf (λ (i : Bits128). sameBits i t) l ≤ 1
+    at true z later =
+        let y = ap (λ (i : Bits128). i .low) (bits-same u t z) in
+        let c = none-above t (omega arith) r in
+        omega arith
+    at false z later = omega arith
+
 -- ---- one exchange more
 
--- a test of subscriber, type and number
-module _ (which : ℕ → ℕ → ℕ → Bool) where
-  -- an event that ends an upload with such a name
-  abbrev ends : Kind → ℕ → ℕ → ℕ → Bool
-  ends k s t o = isEnd k && which s t o
+-- a test of the transaction ID
+module _ (which : Bits128 → Bool) where
+  -- an event that ends such an upload
+  abbrev ends : Kind → ℕ → ℕ → ℕ → Bits128 → Bool
+  ends k s t o u = isEnd k && which u
+
+  abbrev entryEnds : Entry → Bool
+  entryEnds y = isEnd (y .kind) && which (entryId y)
+
+  abbrev eventEnds : Event → Bool
+  eventEnds x = isEnd (x .kind) && which (transactionOf x)
 
   abbrev endsIn : List Entry → ℕ
-  endsIn es = countOf (λ (y : Entry). ends (y .kind) (y .subscriber) (y .«order_type») (y .order)) es
+  endsIn es = countOf entryEnds es
 
   abbrev endsOf : List Exchange → ℕ
-  endsOf h = countOf (λ (x : Event). ends (x .kind) (x .subscriber) (x .«order_type») (x .order)) (eventsIn h)
+  endsOf h = countOf eventEnds (eventsIn h)
 
-  -- the uploads with such a name, and those of them that are open
-  abbrev all : Upload → Bool
-  all u = which (u .owner) ful (u .order)
-
-  abbrev openAfter : List Exchange → Upload → Bool
-  openAfter h u = isOpenUpload (status (u .id) h) && which (u .owner) ful (u .order)
+  -- those of them that are open
+  abbrev openAfter : List Exchange → Bits128 → Bool
+  openAfter h t = isOpenUpload (status t h) && which t
 
   abbrev Ended : List Exchange → Type 0
-  Ended h = endsOf h + countOf (openAfter h) (uploadsIn h) ≤ countOf all (uploadsIn h)
+  Ended h = endsOf h + countOf (openAfter h) (openings h) ≤ countOf which (openings h)
 
   module _ {calls : List BankCall} {e : Exchange} (n : Next calls e) where
     abbrev h : List Exchange
@@ -286,8 +307,8 @@ module _ (which : ℕ → ℕ → ℕ → Bool) where
     abbrev v : Invariant (pastOf calls .bankState) h
     v = past-holds calls .invariant
 
-    abbrev idle : Upload → Bool
-    idle u = isIdleUploadAt (e .clock) (standing (u .id) h) && which (u .owner) ful (u .order)
+    abbrev idle : Bits128 → Bool
+    idle t = isIdleUploadAt (e .clock) (standing t h) && which t
 
     -- its own opening is new
     no-opening : (t : Bits128) → t .low < accepted h → did isOpening t (e .verdict) ≡ false
@@ -307,14 +328,11 @@ module _ (which : ℕ → ℕ → ℕ → Bool) where
         (after-open t (e .verdict) e (dropIdle (e .clock) (status t h)) (no-opening t l) z)
 
     -- what is idle is dropped; what is open was open
-    each : (u : Upload) → In u (uploadsIn h) → unit (idle u) + unit (openAfter (e ∷ h) u) ≤ unit (openAfter h u)
-    each u i = at (isIdleUploadAt (e .clock) (standing t h)) refl
+    each : (t : Bits128) → In t (openings h) → unit (idle t) + unit (openAfter (e ∷ h) t) ≤ unit (openAfter h t)
+    each t i = at (isIdleUploadAt (e .clock) (standing t h)) refl
       where
-        t : Bits128
-        t = u .id
-
         l : t .low < accepted h
-        l = order-low (v .sound) (upload-opens h i)
+        l = opened-low (v .sound) i
 
         by : (a b w : Bool) → (a ≡ true → b ≡ true) → 0 + unit (a && w) ≤ unit (b && w)
         by true true w f = omega arith
@@ -322,7 +340,7 @@ module _ (which : ℕ → ℕ → ℕ → Bool) where
         by false b w f = omega arith
 
         at : (b : Bool) → isIdleUploadAt (e .clock) (standing t h) ≡ b →
-            unit (b && which (u .owner) ful (u .order)) + unit (openAfter (e ∷ h) u) ≤ unit (openAfter h u)
+            unit (b && which t) + unit (openAfter (e ∷ h) t) ≤ unit (openAfter h t)
         at true z =
             let o = idle-status (e .clock) (standing t h) z in
             let now : status t h ≡ Open direction.Upload (o .0) (o .1) = sym (standing-is t (v .sound)) ∙ o .2 in
@@ -330,90 +348,37 @@ module _ (which : ℕ → ℕ → ℕ → Bool) where
             ap (dropIdle (e .clock)) now ∙ ap (λ (b : Bool). cond b Dropped (Open direction.Upload (o .0) (o .1))) (o .3) in
             let gone : status t (e ∷ h) ≡ Dropped = closed-next n t l (ap isClosed y) ∙ y in
             rw (now, gone) (omega arith)
-        at false z =
-            by (isOpenUpload (status t (e ∷ h))) (isOpenUpload (status t h)) (which (u .owner) ful (u .order)) (open-before t l)
-
-    -- no download is an idle upload
-    not-idle : {x : Exchange} {g : List Exchange} (t : Bits128) (m : ℕ) → Stands x g h →
-        x .verdict ≡ verdict.Of t (action.Download (down.Opened m)) → isIdleUploadAt (e .clock) (standing t h) ≡ false
-    unfolding uploadDrops
-    not-idle {x} t m s own = at (isIdleUploadAt (e .clock) (standing t h)) refl
-      where
-        opened : ActionIn isDownloadOpening t x
-        opened = record { action = action.Download (down.Opened m); is = own; kind = refl }
-
-        dropped : isIdleUploadAt (e .clock) (standing t h) ≡ true → In t (uploadDrops (e .clock) h)
-        dropped z =
-            in-keep (λ (i : Bits128). isIdleUploadAt (e .clock) (standing i h)) (openedIds h)
-            (subst (λ (l : List Bits128). In t l) (sym (opened-ids (v .sound)))
-            (listed s (record { action = opened .action; is = own; kind = refl }))) z
-
-        at : (b : Bool) → isIdleUploadAt (e .clock) (standing t h) ≡ b → b ≡ false
-        at true z =
-            never (sym (download-id t (v .sound) (stands-ever isDownloadOpening t s opened))
-            ∙ upload-id t (v .sound)
-            (drop-told (pastOf calls .bankState) h v (past-told calls) (e .clock) t (dropped z) .0))
-        at false z = refl
-
-    -- an opening that is an idle upload with such a name, by the replies
-    abbrev idleBy : Bits128 → Bool
-    idleBy t = isIdleUploadAt (e .clock) (standing t h) && which (ownerOf t h) ful (orderOf t h)
-
-    one-idle : (x : Exchange) (g : List Exchange) → Stands x g h →
-        countOf idleBy (openedIn (x .verdict)) ≡ countOf idle (uploadBy (x .verdict) (x .request))
-    unfolding countOf
-    one-idle x g s = at (x .verdict) refl
-      where
-        at : (u : Verdict) → x .verdict ≡ u → countOf idleBy (openedIn u) ≡ countOf idle (uploadBy u (x .request))
-        at verdict.Unreadable own = refl
-        at (verdict.Refused c) own = refl
-        at (verdict.Signed n added) own = refl
-        at (verdict.Of t (action.Upload (up.Opened m))) own =
-            let z = opened-as (v .sound) (record { exchange = x; before = g; stands = s; is = own; owner = refl }) in
-            rw (z .0, z .1)
-        at (verdict.Of t (action.Upload up.Took)) own = refl
-        at (verdict.Of t (action.Upload up.TookLast)) own = refl
-        at (verdict.Of t (action.Upload (up.Point k))) own = refl
-        at (verdict.Of t (action.Upload (up.Cancelled c))) own = refl
-        at (verdict.Of t (action.Download (down.Opened m))) own = rw (not-idle t m s own)
-        at (verdict.Of t (action.Download (down.Delivered m))) own = refl
-        at (verdict.Of t (action.Download (down.SentAgain m))) own = refl
-        at (verdict.Of t (action.Download (down.Point m))) own = refl
-        at (verdict.Of t (action.Download down.Cancelled)) own = refl
-        at (verdict.Of t (action.Download down.Confirmed)) own = refl
-        at (verdict.Of t (action.Download down.Declined)) own = refl
+        at false z = by (isOpenUpload (status t (e ∷ h))) (isOpenUpload (status t h)) (which t) (open-before t l)
 
     -- the drops are the idle uploads
-    drop-ends : endsIn (map (λ (t : Bits128). entryOf kind.Dropped t h) (uploadDrops (e .clock) h)) ≡ countOf idle (uploadsIn h)
+    drop-ends : endsIn (map (λ (t : Bits128). entryOf kind.Dropped t h) (uploadDrops (e .clock) h)) ≡ countOf idle (openings h)
     unfolding uploadDrops
     drop-ends =
-        count-map (λ (y : Entry). ends (y .kind) (y .subscriber) (y .«order_type») (y .order))
-        (λ (t : Bits128). entryOf kind.Dropped t h) (uploadDrops (e .clock) h)
-        ∙ (count-keep (λ (t : Bits128). which (ownerOf t h) ful (orderOf t h))
-        (λ (t : Bits128). isIdleUploadAt (e .clock) (standing t h)) (openedIds h)
-        ∙ (ap (countOf idleBy) (opened-ids (v .sound)) ∙ count-uploads idleBy idle h one-idle))
+        count-map entryEnds (λ (t : Bits128). entryOf kind.Dropped t h) (uploadDrops (e .clock) h)
+        ∙ (count-keep which (λ (t : Bits128). isIdleUploadAt (e .clock) (standing t h)) (openedIds h)
+        ∙ ap (countOf idle) (opened-ids (v .sound)))
 
     -- a request that ends an upload
     abbrev Fewer : ℕ → Type 0
-    Fewer m = countOf idle (uploadsIn h) + countOf (openAfter (e ∷ h)) (uploadsIn h) + m ≤ countOf (openAfter h) (uploadsIn h)
+    Fewer m = countOf idle (openings h) + countOf (openAfter (e ∷ h)) (openings h) + m ≤ countOf (openAfter h) (openings h)
 
     none-fewer : Fewer 0
-    none-fewer = let a = count-two idle (openAfter (e ∷ h)) (openAfter h) (uploadsIn h) each in omega arith
+    none-fewer = let a = count-two idle (openAfter (e ∷ h)) (openAfter h) (openings h) each in omega arith
 
     one-fewer : (t : Bits128) (a : UploadAction) → e .verdict ≡ verdict.Of t (action.Upload a) →
         isOpening (action.Upload a) ≡ false → OpensAs (ownerOf t h) (orderOf t h) t h →
-        isOpenUpload (status t (e ∷ h)) ≡ false →
-        Fewer (unit (which (ownerOf t h) ful (orderOf t h)))
-    one-fewer t a own o s z = at (which (ownerOf t h) ful (orderOf t h)) refl
+        isOpenUpload (status t (e ∷ h)) ≡ false → Fewer (unit (which t))
+    one-fewer t a own o s z = at (which t) refl
       where
-        at : (b : Bool) → which (ownerOf t h) ful (orderOf t h) ≡ b → Fewer (unit b)
+        at : (b : Bool) → which t ≡ b → Fewer (unit b)
         at false y = none-fewer
         at true y =
             let d = acted-open n t (action.Upload a) own o in
             let k = kept-open (e .clock) (status t h) (d .2) in
             let i : isIdleUploadAt (e .clock) (standing t h) ≡ false =
             ap (isIdleUploadAt (e .clock)) (standing-is t (v .sound)) ∙ k .1 in
-            count-two-less idle (openAfter (e ∷ h)) (openAfter h) (uploadsIn h) each (listed-upload s)
+            count-two-less idle (openAfter (e ∷ h)) (openAfter h) (openings h) each
+            (listed (s .stands) (record { action = action.Upload (up.Opened (orderOf t h)); is = s .is; kind = refl }))
             (rw (i, z, k .0, y) (omega arith))
 
     request-fewer : {u : Verdict} {first : ℕ} {d : List ℕ} → e .verdict ≡ u → Happens first (judgedBank n) (asked n) d u →
@@ -421,7 +386,7 @@ module _ (which : ℕ → ℕ → ℕ → Bool) where
     unfolding actionEntries countOf
     request-fewer own unreadable = none-fewer
     request-fewer own (refused c z) = none-fewer
-    request-fewer own (opensUpload f a g m inside below) = none-fewer
+    request-fewer own (opensUpload f a g m inside numbered) = none-fewer
     request-fewer own (opensDownload f a g m) = none-fewer
     request-fewer own (toUpload r a s) = at a (upload-goes-on (s .sound)) own
       where
@@ -439,18 +404,10 @@ module _ (which : ℕ → ℕ → ℕ → Bool) where
 
         told : AllSound (e ∷ h) → (k : UploadAction) → e .verdict ≡ verdict.Of (p .transaction) (action.Upload k) →
             isOpening (action.Upload k) ≡ false → isOpenUpload (status (p .transaction) (e ∷ h)) ≡ false →
-            Fewer (unit (which (subscriber q) ful (p .number)) + 0)
+            Fewer (unit (which (p .transaction)) + 0)
         told (sounds.more x r′) k y o z =
-            let i = uploadAt (b .bank) q in
-            let same = number-is x r′ b (judged-holds n) q (request-is n) i (s .inside) used in
-            let place = p-told x r′ b (judged-holds n) q (request-is n) i (s .inside) used .place in
-            let owner : ownerOf (p .transaction) h ≡ subscriber q =
-            owner-is (p .transaction) (v .sound)
-            ∙ (place .owner ∙ upload-found (subscriber q) (transaction q) p (s .found) .1) in
-            let m : Fewer (unit (which (subscriber q) ful (p .number))) =
-            subst (λ (j : ℕ). Fewer (unit (which (subscriber q) ful j))) same
-            (subst (λ (j : ℕ). Fewer (unit (which j ful (orderOf (p .transaction) h)))) owner
-            (one-fewer (p .transaction) k y o (opened-order (p .transaction) (v .sound) (place .opened)) z)) in
+            let place = p-told x r′ b (judged-holds n) q (request-is n) (uploadAt (b .bank) q) (s .inside) used .place in
+            let m = one-fewer (p .transaction) k y o (opened-order (p .transaction) (v .sound) (place .opened)) z in
             omega arith
 
         at : (k : UploadAction) → isOpening (action.Upload k) ≡ false →
@@ -472,28 +429,29 @@ module _ (which : ℕ → ℕ → ℕ → Bool) where
         p : Place
         p = placeAt (judgedBank n .bank) (orderAt (judgedBank n .bank) (asked n))
 
+        o : SignedOrder
+        o = record { transaction = p .transaction; number = p .number }
+
         -- "signed" ends no upload, and signing again is no event
-        at : (added : Bool) → Fewer (endsIn (actionEntries (verdict.Signed (p .number) added)
-            (orderIn (verdict.Signed (p .number) added) (judgedBank n .bank) (asked n)) (asked n)))
+        at : (added : Bool) → Fewer (endsIn (actionEntries (verdict.Signed o added)
+            (orderIn (verdict.Signed o added) (judgedBank n .bank) (asked n)) (asked n)))
         at true = none-fewer
         at false = none-fewer
 
     ended-next : Ended h → Ended (e ∷ h)
-    unfolding eventsIn entriesOf uploadsIn
+    unfolding eventsIn entriesOf openings
     ended-next old =
         let drops = map (λ (t : Bits128). entryOf kind.Dropped t h) (uploadDrops (e .clock) h) in
         let rest = ofReply [] (replyEntries e h) (form (e .reply)) in
-        let a = count-append (λ (x : Event). ends (x .kind) (x .subscriber) (x .«order_type») (x .order)) (eventsIn h)
-        (eventsFrom (length (eventsIn h)) (e .clock) (drops ++ rest)) in
+        let a = count-append eventEnds (eventsIn h) (eventsFrom (length (eventsIn h)) (e .clock) (drops ++ rest)) in
         let b = count-from ends (length (eventsIn h)) (e .clock) (drops ++ rest) in
-        let c = count-append (λ (y : Entry). ends (y .kind) (y .subscriber) (y .«order_type») (y .order)) drops rest in
+        let c = count-append entryEnds drops rest in
         let d = drop-ends in
         let f : Fewer (endsIn rest) = subst (λ (l : List Entry). Fewer (endsIn l)) (request-told n) (request-fewer refl (case-is n)) in
-        let new = uploadBy (e .verdict) (e .request) in
-        let g = count-append (openAfter (e ∷ h)) (uploadsIn h) new in
-        let i = count-append all (uploadsIn h) new in
-        let j = count-less (openAfter (e ∷ h)) all new
-        (λ u _. and-less (isOpenUpload (status (u .id) (e ∷ h))) (which (u .owner) ful (u .order))) in
+        let new = openedIn (e .verdict) in
+        let g = count-append (openAfter (e ∷ h)) (openings h) new in
+        let i = count-append which (openings h) new in
+        let j = count-less (openAfter (e ∷ h)) which new (λ t _. and-less (isOpenUpload (status t (e ∷ h))) (which t)) in
         omega arith
       where
         and-less : (b w : Bool) → unit (b && w) ≤ unit w
@@ -502,54 +460,39 @@ module _ (which : ℕ → ℕ → ℕ → Bool) where
         and-less false false = omega arith
 
   pub all-ended : (calls : List BankCall) → Ended (pastOf calls .history)
-  unfolding pastOf start eventsIn uploadsIn countOf
+  unfolding pastOf start eventsIn openings countOf
   all-ended [] = omega arith
   all-ended (c ∷ calls) = by-exchange Ended calls c (all-ended calls) (λ e n. ended-next n (all-ended calls))
 
 -- ---- at most one end
 
-abbrev isNamed : OrderName → ℕ → ℕ → ℕ → Bool
-isNamed o s t n = eqb s (o .subscriber) && eqb t (o .«order_type») && eqb (orderNumberOf n) (o .number)
-
--- a name is of one subscriber and one number
-one-name : (o : OrderName) (s s′ m n : ℕ) → m < seriesLimit → n < seriesLimit → isNamed o s ful m ≡ true → isNamed o s′ ful n ≡ true →
-    (s ≡ s′) × (m ≡ n)
-one-name o s s′ m n a b x y = (
-  owner s m x ∙ sym (owner s′ n y),
-  one-order-number m n a b (order s m x ∙ sym (order s′ n y)),
-)
-  where
-    owner : (i j : ℕ) → isNamed o i ful j ≡ true → i ≡ o .subscriber
-    owner i j z =
-        let c = and-true (eqb i (o .subscriber) && eqb ful (o .«order_type»)) (eqb (orderNumberOf j) (o .number)) z in
-        eqb-true i (o .subscriber) (and-true (eqb i (o .subscriber)) (eqb ful (o .«order_type»)) (c .0) .0)
-
-    order : (i j : ℕ) → isNamed o i ful j ≡ true → orderNumberOf j ≡ o .number
-    order i j z =
-        eqb-true (orderNumberOf j) (o .number)
-        (and-true (eqb i (o .subscriber) && eqb ful (o .«order_type»)) (eqb (orderNumberOf j) (o .number)) z .1)
-
-pub one-end : (calls : List BankCall) (o : OrderName) →
-    countOf (λ (x : Event). isEnd (x .kind) && isOf o x) (eventsIn (pastOf calls .history)) ≤ 1
+pub one-end : (calls : List BankCall) (t : Bits128) →
+    countOf (λ (x : Event). isEnd (x .kind) && isOf t x) (eventsIn (pastOf calls .history)) ≤ 1
 unfolding isOf
-one-end calls o =
-    let a = all-ended (isNamed o) calls in
-    let b = named-once (λ (s n : ℕ). isNamed o s ful n) (one-name o) (past-holds calls .invariant .sound) in
+one-end calls t =
+    let a = all-ended (λ (u : Bits128). sameBits u t) calls in
+    let b = one-listed t (opened-numbered (past-holds calls .invariant .sound) .0) in
     omega arith
 
 -- ---- at most two events, and one for each signer
 
-abbrev any : ℕ → ℕ → ℕ → Bool
-any s t o = true
+abbrev any : Bits128 → Bool
+any t = true
 
 abbrev anyEnd : Event → Bool
-anyEnd x = ends any (x .kind) (x .subscriber) (x .«order_type») (x .order)
+anyEnd x = eventEnds any x
 
 drops-all : (h : List Exchange) (l : List Bits128) →
     length (map (λ (t : Bits128). entryOf kind.Dropped t h) l) ≤ endsIn any (map (λ (t : Bits128). entryOf kind.Dropped t h) l)
 unfolding countOf
 drops-all h [] = omega arith
 drops-all h (t ∷ l) = let a = drops-all h l in omega arith
+
+signed-all : (h : List Exchange) (l : List Bits128) →
+    length (map (λ (t : Bits128). entryOf kind.Signed t h) l) ≤ signedIn (map (λ (t : Bits128). entryOf kind.Signed t h) l)
+unfolding countOf
+signed-all h [] = omega arith
+signed-all h (t ∷ l) = let a = signed-all h l in omega arith
 
 -- a reply's event ends an upload, is one signed, or is an accepted opening
 module _ (e : Exchange) (h : List Exchange) where
@@ -561,37 +504,45 @@ module _ (e : Exchange) (h : List Exchange) where
   either true t k z = rw z (omega arith)
   either false t k z = omega arith
 
-  signing : (b : Bool) (s n : ℕ) → Told (cond b [] (entry kind.Signed s n ∷ [])) false
+  signing : (b : Bool) (l : List Bits128) → Told (cond b [] (map (λ (t : Bits128). entryOf kind.Signed t h) l)) false
   unfolding countOf
-  signing true s n = omega arith
-  signing false s n = omega arith
+  signing true l = omega arith
+  signing false l = let a = signed-all h l in omega arith
+
+  opening : (b : Bool) → Told (cond b (openedEntries e) []) b
+  unfolding countOf
+  opening true = omega arith
+  opening false = omega arith
 
   refusal : (b : Bool) →
       let t = transaction (e .request) in
       let isEnded = isCancelling (returnCode (e .reply)) && isUploadId t h in
       Told (cond b (signedEntries e h) (cond isEnded (entryOf kind.Cancelled t h ∷ []) [])) false
-  refusal true = signing (hasSigned (signedName e) (subscriber (e .request)) h) _ _
+  refusal true = signing (hasSigned (signedName e) (subscriber (e .request)) h) (bookedAs (signedName e) h)
   refusal false =
       either (isCancelling (returnCode (e .reply)) && isUploadId (transaction (e .request)) h) (transaction (e .request))
       kind.Cancelled refl
 
-  form-told : (f : ReplyForm) → Told (replyEntries e h f) (isOpenedForm f)
+  form-told : (f : ReplyForm) → form (e .reply) ≡ Reply f → Told (replyEntries e h f) (isOpenedForm (returnCode (e .reply)) f)
   unfolding countOf
-  form-told replies.UploadOpened = omega arith
-  form-told replies.DownloadOpened = omega arith
-  form-told replies.SegmentTaken =
+  form-told replies.UploadOpened z = omega arith
+  form-told replies.DownloadOpened z = omega arith
+  form-told replies.SegmentTaken z =
       either (isCode (codeField code.Ok) e && eqb (segment (e .request)) (segmentCountOf (transaction (e .reply)) h))
       (transaction (e .reply)) kind.Booked refl
-  form-told replies.DownloadSegment = omega arith
-  form-told replies.ReceiptAnswered = omega arith
-  form-told replies.Refusal = refusal (isSigned e)
-  form-told replies.Unreadable = omega arith
+  form-told replies.DownloadSegment z = omega arith
+  form-told replies.ReceiptAnswered z =
+      subst (λ (b : Bool). Told (cond b (openedEntries e) []) (isOk (returnCode (e .reply))))
+      (sym (ap (ofReply false (isUploadForm (returnCode (e .reply)))) z)) (opening (isOk (returnCode (e .reply))))
+  form-told replies.Refusal z = refusal (isSigned e)
+  form-told replies.Unreadable z = omega arith
 
-  reply-told : (f : Form) → Told (ofReply [] (replyEntries e h) f) (ofReply false isOpenedForm f)
+  reply-told : (f : Form) → form (e .reply) ≡ f →
+      Told (ofReply [] (replyEntries e h) f) (ofReply false (isOpenedForm (returnCode (e .reply))) f)
   unfolding countOf
-  reply-told NoForm = omega arith
-  reply-told (Request x) = omega arith
-  reply-told (Reply x) = form-told x
+  reply-told NoForm z = omega arith
+  reply-told (Request x) z = omega arith
+  reply-told (Reply x) z = form-told x z
 
   entries-told : Told (entriesOf e h) (isOpened e)
   unfolding entriesOf
@@ -599,9 +550,9 @@ module _ (e : Exchange) (h : List Exchange) where
       let drops = map (λ (t : Bits128). entryOf kind.Dropped t h) (uploadDrops (e .clock) h) in
       let rest = ofReply [] (replyEntries e h) (form (e .reply)) in
       let a = drops-all h (uploadDrops (e .clock) h) in
-      let b = reply-told (form (e .reply)) in
+      let b = reply-told (form (e .reply)) refl in
       let c = length-append drops rest in
-      let d = count-append (λ (y : Entry). ends any (y .kind) (y .subscriber) (y .«order_type») (y .order)) drops rest in
+      let d = count-append (entryEnds any) drops rest in
       let f = count-append (λ (y : Entry). isSignedKind (y .kind)) drops rest in
       omega arith
 
@@ -626,7 +577,7 @@ events-told (e ∷ h) = at (isOpened e) (entries-told e h) (events-told h)
         let d = count-append anyEnd (eventsIn h) new in
         let f = count-from (ends any) (length (eventsIn h)) (e .clock) (entriesOf e h) in
         let i = count-append isSignedEvent (eventsIn h) new in
-        let j = count-from (λ (k : Kind) (s t o : ℕ). isSignedKind k) (length (eventsIn h)) (e .clock) (entriesOf e h) in
+        let j = count-from (λ (k : Kind) (s t o : ℕ) (u : Bits128). isSignedKind k) (length (eventsIn h)) (e .clock) (entriesOf e h) in
         by-test (λ (m : ℕ). length (eventsIn h ++ new) ≤ countOf anyEnd (eventsIn h ++ new)
         + countOf isSignedEvent (eventsIn h ++ new) + m)
         b (λ z. let g : unit b ≡ 1 = ap unit z in omega arith) (λ z. let g : unit b ≡ 0 = ap unit z in omega arith)
@@ -637,8 +588,8 @@ few-events calls =
     let v = past-holds calls .invariant in
     let a = events-told h in
     let b = all-ended any calls in
-    let c = count-le (all any) (uploadsIn h) in
-    let d = few-uploads h in
+    let c = count-le any (openings h) in
+    let d = opened-numbered (v .sound) .1 in
     let f = opened-count (v .sound) in
     let g = v .counted in
     let i = v .state .numbers in

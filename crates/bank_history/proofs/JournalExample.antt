@@ -18,7 +18,7 @@ use Rattle.journal.specs.declared.event.Event.{Event}
 use Rattle.journal.specs.Events.{noEvent}
 use Rattle.bank.specs.Call.{frameInput}
 use Rattle.bank_history.specs.History.{BankCall, Frame, pastOf}
-use Rattle.bank_history.specs.ByReplies.{uploadsOpened}
+use Rattle.bank_history.specs.ByReplies.{ownGiven}
 use Rattle.bank_history.specs.Journal.{journalOf, eventsIn}
 use Rattle.octets.specs.Bytes as octets
 use Rattle.frame_table.specs.Table as frameTable
@@ -30,6 +30,7 @@ use Rattle.message.specs.Replies as replies
 use Rattle.message.specs.Requests as requests
 use Rattle.signers.specs.Signers as signers
 use Rattle.bank_state.specs.Clock as clocks
+use Rattle.bank_state.specs.Numbers as numbers
 use Rattle.bank_state.specs.Rows as rows
 use Rattle.bank_state.specs.Search as searches
 use Rattle.bank_state.specs.State as state
@@ -70,11 +71,12 @@ unfolding clocks.isIdle clocks.freed clocks.dropUpload clocks.dropUploads clocks
     clocks.atClock clocks.advanced rows.firstOf rows.countOf rows.keep rows.keepOnly
     searches.freePlace searches.freeDownload searches.freeNonce searches.isUpload searches.findUpload searches.isDownload
     searches.findDownload searches.openCount searches.openCountOf searches.isRemembered
+    searches.holdsNumber searches.findNumber searches.isNumberHeld numbers.firstUnheld numbers.nextNumber
     state.fresh state.fileLength state.seriesOf store.partAt store.withPart store.zeroed store.fileOf
     refusals.noSubscriber refusals.longData refusals.requestRows refusals.unknownType refusals.manySegments refusals.inTime
     refusals.isReplay refusals.manyOpen refusals.isFull refusals.noShare refusals.openingRows refusals.notOpen refusals.transactionRows
     refusals.uploadAttempt refusals.isUnderrun refusals.isExceeded refusals.segmentRows refusals.uploadRows
-    judgement.judgeOpening judgement.takes judgement.judgeUpload judgement.judgeOpen
+    judgement.openingNumber judgement.judgeOpening judgement.takes judgement.judgeUpload judgement.judgeOpen
     judgement.judgeTransaction judgement.judge
     openings.counted openings.countedUpload openings.openUpload uploads.grown uploads.booked uploads.attempted
     bankCall.mailboxSegment bankCall.respond bankCall.lentRight bankCall.frameCall
@@ -88,7 +90,7 @@ unfolding entries.insertByOpening entries.byOpening entries.droppedUploads entri
 events-entered = 0
 
 unfoldable events-told : ℕ
-unfolding events.eventsFrom byReplies.uploadsOpened byReplies.openedIds byReplies.atOpened byReplies.sentUpTo byReplies.standing
+unfolding events.eventsFrom byReplies.ownGiven orderNumbers.digitOf orderNumbers.letterOf orderNumbers.orderIn byReplies.openedIds byReplies.atOpened byReplies.sentUpTo byReplies.standing
     journal.uploadDrops journal.entriesOf journal.eventsIn
 events-told = 0
 
@@ -96,7 +98,7 @@ unfoldable signatures-given : ℕ
 unfolding requests.signing refusals.noOwner refusals.signsDownload refusals.isOrder refusals.findOrder refusals.notBooked
     refusals.noMemory refusals.signingRows judgement.judgeSigning signings.sign
     signers.hasBit signers.isSigner signers.withSigner signers.countFrom signers.signerCount
-    signatures.sameName signatures.hasSigned journal.numberNamed
+    signatures.sameName signatures.hasSigned journal.bookedAs
 signatures-given = 0
 
 -- ---- the calls
@@ -134,19 +136,28 @@ beforeDrops =
 abbrev withDrops : List BankCall
 withDrops = call late [] ∷ beforeDrops
 
-abbrev event : ℕ → ℕ → ℕ → ℕ → Kind → Event
-event n clock subscriber order k =
-    record { number = n; clock = clock; subscriber = subscriber; «order_type» = ful; order = order; kind = k }
+-- an event of the upload of opening t
+abbrev event : ℕ → ℕ → ℕ → ℕ → ℕ → Kind → Event
+event n clock subscriber order t k = record {
+  number = n;
+  clock = clock;
+  subscriber = subscriber;
+  «order_type» = ful;
+  order = order;
+  high = 0;
+  low = t;
+  kind = k;
+}
 
 -- upload 1 is dropped before upload 2
 abbrev expected : List Event
 expected =
-    event 1 early 1 0 Opened
-    ∷ event 2 early 1 1 Opened
-    ∷ event 3 early 1 0 Cancelled
-    ∷ event 4 early 2 0 Opened
-    ∷ event 5 late 1 1 Dropped
-    ∷ event 6 late 2 0 Dropped
+    event 1 early 1 0 0 Opened
+    ∷ event 2 early 1 1 1 Opened
+    ∷ event 3 early 1 0 0 Cancelled
+    ∷ event 4 early 2 0 2 Opened
+    ∷ event 5 late 1 1 1 Dropped
+    ∷ event 6 late 2 0 2 Dropped
     ∷ []
 
 -- ---- what they compute to
@@ -158,8 +169,8 @@ pub places-used-again : let b = pastOf beforeDrops .bankState .bank in
 unfolding frames bank
 places-used-again = (refl, refl, refl, refl)
 
--- subscriber 1 has opened two uploads, subscriber 2 one
-pub series-of-each : (uploadsOpened 1 (pastOf beforeDrops .history) ≡ 2) × (uploadsOpened 2 (pastOf beforeDrops .history) ≡ 1)
+-- the bank's own numbering has come to A002 for subscriber 1, for subscriber 2 to A001
+pub series-of-each : (ownGiven 1 (pastOf beforeDrops .history) ≡ 2) × (ownGiven 2 (pastOf beforeDrops .history) ≡ 1)
 unfolding frames bank events-told
 series-of-each = (refl, refl)
 
@@ -193,10 +204,10 @@ withSignings =
 -- "once a signer, under the owner"
 abbrev expectedSigned : List Event
 expectedSigned =
-    event 1 early 1 0 Opened
-    ∷ event 2 early 1 0 Booked
-    ∷ event 3 early 1 0 Signed
-    ∷ event 4 early 1 0 Signed
+    event 1 early 1 0 0 Opened
+    ∷ event 2 early 1 0 0 Booked
+    ∷ event 3 early 1 0 0 Signed
+    ∷ event 4 early 1 0 0 Signed
     ∷ []
 
 -- the bits of subscribers 1 and 2

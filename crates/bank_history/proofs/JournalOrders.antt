@@ -5,9 +5,9 @@ use Rattle.bank_history.proofs.JournalUploads.{
   in-row,
   recorded-event,
   event-typed,
-  one-named,
   event-opened,
   event-booked,
+  event-signed,
   event-ended,
 }
 
@@ -16,10 +16,10 @@ journal-orders = record {
   inRow = in-row;
   recorded = recorded-event;
   typed = event-typed;
-  one = one-named;
   opened = event-opened;
   booked = event-booked;
-  ended = λ calls x t i z o. event-ended calls x t i o z;
+  ended = event-ended;
+  signed = event-signed;
   once = one-end;
   bounded = few-events;
 }

@@ -1,5 +1,5 @@
--- What the journal's events say of orders: each is of an upload and has its subscriber; a booking is one; what is
--- cancelled or dropped is never booked.
+-- What the journal's events say of orders: each has the ID of an upload and the name that it was opened under; a booking is
+-- one; what is cancelled or dropped is never booked; what is signed is booked.
 use Prim.{tt}
 use Prim.Native.Nat.{ℕ, zero, suc, _-_, _<_}
 use mathlib.Core.Bool.{Bool, true, false, cond}
@@ -22,11 +22,9 @@ use native.Mathlib.Omega.{arith}
 use lib.ListN.{length, drop, replicate}
 use Rattle.frame_table.specs.declared.fields.Bits128.{Bits128}
 use Rattle.frame_table.specs.declared.fields.Fields.{Fields}
-use Rattle.frame_table.specs.Forms as forms
-use Rattle.frame_table.specs.Names.{subscriber, transaction, orderNumber, owner, form}
+use Rattle.frame_table.specs.Names.{subscriber, transaction, owner, form}
 use Rattle.octets.proofs.Tests.{never}
 use Rattle.message.specs.Limits.{ful}
-use Rattle.message.specs.OrderNumbers.{orderNumberOf}
 use Rattle.bank_state.specs.declared.state.Place.{Place}
 use Rattle.bank_state.specs.declared.state.Use.the-variants as uses
 use Rattle.bank_state.specs.State.{BankState, placeAt}
@@ -36,24 +34,21 @@ use Rattle.bank_verdicts.specs.declared.verdict.Direction.the-variants as direc
 use Rattle.bank_verdicts.specs.declared.verdict.UploadAction.{UploadAction}
 use Rattle.bank_verdicts.specs.declared.verdict.UploadAction.the-variants as up
 use Rattle.bank_verdicts.specs.declared.verdict.Action.the-variants as action
+use Rattle.bank_verdicts.specs.declared.verdict.SignedOrder.{SignedOrder}
 use Rattle.bank_verdicts.specs.declared.verdict.Verdict.{Verdict}
 use Rattle.bank_verdicts.specs.declared.verdict.Verdict.the-variants as verdict
-use Rattle.bank_verdicts.specs.Judgement.{uploadAt, transactionOf}
+use Rattle.bank_verdicts.specs.Judgement.{uploadAt}
 use Rattle.journal.specs.declared.event.Kind.{Kind}
 use Rattle.journal.specs.declared.event.Kind.the-variants as kind
 use Rattle.journal.specs.declared.event.Entry.{Entry}
 use Rattle.journal.specs.declared.event.Event.{Event}
 use Rattle.journal.specs.Events.{recordCount, noEvent, eventsFrom}
-use Rattle.journal.specs.Row.{newest, rowOf}
-use Rattle.journal.specs.declared.event.OrderName.{OrderName}
+use Rattle.journal.specs.Row.{newest, rowOf, transactionOf}
 use Rattle.journal.specs.Records.{nameOf, Recorded}
-use Rattle.journal.proofs.Lookup.{same-name}
 use Rattle.journal.specs.Records as records
 use Rattle.bank_events.specs.Entries.{entry, orderIn, actionEntries}
 use Rattle.bank_events.proofs.Typed.{call-typed}
 use Rattle.bank.specs.Journal.{enteredBy}
-use Rattle.bank_verdicts.specs.Replies.{replyTo}
-use Rattle.message.specs.Replies.{uploadOpened}
 use Rattle.bank_history.specs.History.{Exchange, BankCall, isOpening, isUploadOpening, isBooking, ever, accepted, opens, start, pastOf}
 use Rattle.bank_history.specs.History as stands
 use Rattle.bank_history.specs.FalseEconomies.{Next}
@@ -71,11 +66,12 @@ use Rattle.bank_history.specs.Status.{
   statusAfter,
   status,
 }
-use Rattle.bank_history.specs.ByReplies.{ofReply, ownerOf, orderOf}
+use Rattle.bank_history.specs.Opened.{ofReply}
+use Rattle.bank_history.specs.ByReplies.{ownerOf, orderOf}
 use Rattle.bank_history.specs.Journal.{journalOf, entryOf, uploadDrops, replyEntries, entriesOf, eventsIn}
 use Rattle.bank_history.specs.JournalOrders.{OpensOrder, NeverBooked}
-use Rattle.bank_history.specs.Series.{InSeries}
 use Rattle.bank_history.proofs.ByReplies.{opening-below}
+use Rattle.bank_history.proofs.Book.{opens-named}
 use Rattle.bank_steps.proofs.Cases.{Happens, unreadable, refused, opensUpload, opensDownload, signs, toUpload, toDownload}
 use Rattle.bank_history.proofs.GoesOn.{upload-goes-on}
 use Rattle.bank_history.proofs.Closed.{
@@ -93,19 +89,21 @@ use Rattle.bank_history.proofs.Drops.{call-drops, in-either}
 use Rattle.bank_history.proofs.Entries.{same-bits}
 use Rattle.bank_history.proofs.Journal.{journal-told, request-told, enters, p-told, number-is, owned}
 use Rattle.bank_history.proofs.Keeps.{past-holds}
-use Rattle.bank_history.proofs.NamedNumbers.{signed-upload}
 use Rattle.bank_history.proofs.NextCall.{judgedBank, asked, all-sound, request-is, judged-holds, case-is}
 use Rattle.bank_history.proofs.Positions.{action-sound}
-use Rattle.bank_history.proofs.Series.{series-apart, series-typed}
-use Rattle.bank_history.proofs.Replies.{verdictForm, verdict-form}
+use Rattle.bank_history.proofs.SignedOrders.{signed-upload}
 use Rattle.bank_history.proofs.Statuses.{past-told}
-use Rattle.bank_history.proofs.Theorems.{history-sound, reply-is}
+use Rattle.bank_history.proofs.Theorems.{history-sound}
 
 -- ---- lists
 
+-- the transaction ID of an entry's upload
+abbrev idOf : Entry → Bits128
+idOf y = record { high = y .high; low = y .low }
+
 from-in : (n clock : ℕ) (es : List Entry) {v : Event} → In v (eventsFrom n clock es) →
     (y : Entry) × In y es × (v .subscriber ≡ y .subscriber) × (v .order ≡ y .order) × (v .kind ≡ y .kind)
-    × (v .«order_type» ≡ y .«order_type»)
+    × (v .«order_type» ≡ y .«order_type») × (transactionOf v ≡ idOf y)
 unfolding eventsFrom
 from-in n clock [] i = absurd (in-none i)
 from-in n clock (e ∷ es) (here z) = (
@@ -115,8 +113,10 @@ from-in n clock (e ∷ es) (here z) = (
   ap (λ (v : Event). v .order) z,
   ap (λ (v : Event). v .kind) z,
   ap (λ (v : Event). v .«order_type») z,
+  ap transactionOf z,
 )
-from-in n clock (e ∷ es) (there i) = let r = from-in (suc n) clock es i in (r .0, there (r .1), r .2, r .3, r .4, r .5)
+from-in n clock (e ∷ es) (there i) =
+    let r = from-in (suc n) clock es i in (r .0, there (r .1), r .2, r .3, r .4, r .5, r .6)
 
 in-drop : {A : Type 0} (k : ℕ) (l : List A) {x : A} → In x (drop k l) → In x l
 in-drop zero l i = i
@@ -148,14 +148,26 @@ Says kind.Cancelled t h = status t h ≡ Cancelled
 Says kind.Dropped t h = status t h ≡ Dropped
 Says kind.Signed t h = status t h ≡ Booked
 
-record Of (s o : ℕ) (k : Kind) (h : List Exchange) : Type 0 where
-  id : Bits128
-  opening : OpensAs s o id h
-  says : Says k id h
+record Of (s o : ℕ) (t : Bits128) (k : Kind) (h : List Exchange) : Type 0 where
+  opening : OpensAs s o t h
+  says : Says k t h
 
-of-same : {s s′ o o′ : ℕ} {k k′ : Kind} {h : List Exchange} → s′ ≡ s → o′ ≡ o → k′ ≡ k → Of s o k h → Of s′ o′ k′ h
-of-same {s} {s′} {o} {o′} {k} {k′} {h} a b c x =
-    subst (λ (m : ℕ). Of m o′ k′ h) (sym a) (subst (λ (m : ℕ). Of s m k′ h) (sym b) (subst (λ (m : Kind). Of s o m h) (sym c) x))
+-- of an event, and of an entry
+abbrev OfEvent : Event → List Exchange → Type 0
+OfEvent v h = Of (v .subscriber) (v .order) (transactionOf v) (v .kind) h
+
+abbrev OfEntry : Entry → List Exchange → Type 0
+OfEntry y h = Of (y .subscriber) (y .order) (idOf y) (y .kind) h
+
+of-same : {s s′ o o′ : ℕ} {t t′ : Bits128} {k k′ : Kind} {h : List Exchange} → s′ ≡ s → o′ ≡ o → t′ ≡ t → k′ ≡ k →
+    Of s o t k h → Of s′ o′ t′ k′ h
+of-same {s} {s′} {o} {o′} {t} {t′} {k} {k′} {h} a b d c x =
+    subst (λ (m : ℕ). Of m o′ t′ k′ h) (sym a) (subst (λ (m : ℕ). Of s m t′ k′ h) (sym b)
+    (subst (λ (u : Bits128). Of s o u k′ h) (sym d) (subst (λ (m : Kind). Of s o t m h) (sym c) x)))
+
+-- an entry of an upload
+of-entry-of : {y : Entry} {s o : ℕ} {t : Bits128} {k : Kind} {h : List Exchange} → y ≡ entry k s o t → Of s o t k h → OfEntry y h
+of-entry-of {h = h} z x = subst (λ (y : Entry). OfEntry y h) (sym z) x
 
 -- its transaction has the running number of an accepted opening
 pub order-low : {s n : ℕ} {t : Bits128} {h : List Exchange} → AllSound h → OpensAs s n t h → t .low < accepted h
@@ -194,20 +206,18 @@ module _ {calls : List BankCall} {e : Exchange} (n : Next calls e) where
   says-older kind.Dropped t known z = closed-says Dropped refl t known z
   says-older kind.Signed t known z = closed-says Booked refl t known z
 
-  of-older : {s o : ℕ} {k : Kind} → Of s o k h → Of s o k (e ∷ h)
-  of-older {s} {o} {k} x = record {
-    id = x .id;
+  of-older : {s o : ℕ} {t : Bits128} {k : Kind} → Of s o t k h → Of s o t k (e ∷ h)
+  of-older {t = t} {k = k} x = record {
     opening = order-older e (x .opening);
-    says = says-older k (x .id) (order-low (v .sound) (x .opening)) (x .says);
+    says = says-older k t (order-low (v .sound) (x .opening)) (x .says);
   }
 
   -- an upload of the history, by the opening that it has there
   of-upload : (k : Kind) (t : Bits128) → ever isUploadOpening t h ≡ true → Says k t (e ∷ h) →
-      Of (ownerOf t h) (orderOf t h) k (e ∷ h)
-  of-upload k t z y =
-      record { id = t; opening = order-older e (opened-order t (v .sound) z); says = y }
+      Of (ownerOf t h) (orderOf t h) t k (e ∷ h)
+  of-upload k t z y = record { opening = order-older e (opened-order t (v .sound) z); says = y }
 
-  of-drop : (t : Bits128) → In t (uploadDrops (e .clock) h) → Of (ownerOf t h) (orderOf t h) kind.Dropped (e ∷ h)
+  of-drop : (t : Bits128) → In t (uploadDrops (e .clock) h) → Of (ownerOf t h) (orderOf t h) t kind.Dropped (e ∷ h)
   of-drop t i =
       let d = drop-told (pastOf calls .bankState) h v (past-told calls) (e .clock) t i in
       let o = opened-order t (v .sound) (d .0) in
@@ -225,36 +235,32 @@ module _ {calls : List BankCall} {e : Exchange} (n : Next calls e) where
       ∙ (rw (same-bits t) (z (dropIdle (e .clock) (status t h))))
 
   -- an accepted signing: its order is booked, and an event is one of that order
-  of-signing : {m : ℕ} {added : Bool} {y : Entry} → e .verdict ≡ verdict.Signed m added →
-      In y (actionEntries (verdict.Signed m added) m q) → Of (y .subscriber) (y .order) (y .kind) (e ∷ h)
+  of-signing : {m : SignedOrder} {added : Bool} {y : Entry} → e .verdict ≡ verdict.Signed m added →
+      In y (actionEntries (verdict.Signed m added) (m .number) q) → OfEntry y (e ∷ h)
   unfolding actionEntries
   of-signing {m} {added} {y} own = at added (all-sound n) own
     where
       at : (b : Bool) → AllSound (e ∷ h) → e .verdict ≡ verdict.Signed m b →
-          In y (actionEntries (verdict.Signed m b) m q) → Of (y .subscriber) (y .order) (y .kind) (e ∷ h)
+          In y (actionEntries (verdict.Signed m b) (m .number) q) → OfEntry y (e ∷ h)
       at false r z i = absurd (in-none i)
       at true (sounds.more x r) z i =
           let s = subst (λ (u : Verdict). SoundVerdict u e h) z (x .verdict) in
           let o = signed-upload r s in
-          let same = in-one i in
-          of-same (ap (λ (k : Entry). k .subscriber) same ∙ sym (ap owner (request-is n))) (ap (λ (k : Entry). k .order) same)
-          (ap (λ (k : Entry). k .kind) same)
+          let t = m .transaction in
+          of-entry-of (in-one i ∙ ap (λ (f : Fields). entry kind.Signed (owner f) (m .number) t) (sym (request-is n)))
           (record {
-            id = s .id;
             opening = order-older e o;
-            says = closed-says Booked refl (s .id) (order-low r o) (booked-status (s .id) calls (s .booked));
+            says = closed-says Booked refl t (order-low r o) (booked-status t calls (s .booked));
           })
 
   of-request : {u : Verdict} {first : ℕ} {d : List ℕ} {y : Entry} → e .verdict ≡ u → Happens first w q d u →
-      In y (actionEntries u (orderIn u (w .bank) q) q) → Of (y .subscriber) (y .order) (y .kind) (e ∷ h)
+      In y (actionEntries u (orderIn u (w .bank) q) q) → OfEntry y (e ∷ h)
   unfolding actionEntries
   of-request own unreadable i = absurd (in-none i)
   of-request own (refused c z) i = absurd (in-none i)
-  of-request {first = first} own (opensUpload f a g m inside below) i =
-      let z = in-one i in
-      of-same (ap (λ (x : Entry). x .subscriber) z) (ap (λ (x : Entry). x .order) z) (ap (λ (x : Entry). x .kind) z)
+  of-request own (opensUpload f a g m inside numbered) i =
+      of-entry-of (in-one i)
       (record {
-        id = transactionOf first (w .bank);
         opening = record {
           exchange = e;
           before = h;
@@ -274,22 +280,19 @@ module _ {calls : List BankCall} {e : Exchange} (n : Next calls e) where
       used = upload-found (subscriber q) (transaction q) p (s .found) .0
 
       told : AllSound (e ∷ h) → (k : Kind) → SoundRequest (p .transaction) e h → Says k (p .transaction) (e ∷ h) →
-          y ≡ entry k (subscriber q) (p .number) → Of (y .subscriber) (y .order) (y .kind) (e ∷ h)
+          y ≡ entry k (subscriber q) (p .number) (p .transaction) → OfEntry y (e ∷ h)
       told (sounds.more x r′) k o z same =
-          of-same
-          (ap (λ (x : Entry). x .subscriber) same
-          ∙ sym (owned x r′ w (judged-holds n) q (request-is n) (uploadAt (w .bank) q) (s .inside) used o))
-          (ap (λ (x : Entry). x .order) same
-          ∙ sym (number-is x r′ w (judged-holds n) q (request-is n) (uploadAt (w .bank) q) (s .inside) used))
-          (ap (λ (x : Entry). x .kind) same)
+          of-entry-of same
+          (of-same (sym (owned x r′ w (judged-holds n) q (request-is n) (uploadAt (w .bank) q) (s .inside) used o))
+          (sym (number-is x r′ w (judged-holds n) q (request-is n) (uploadAt (w .bank) q) (s .inside) used)) refl refl
           (of-upload k (p .transaction)
-          (p-told x r′ w (judged-holds n) q (request-is n) (uploadAt (w .bank) q) (s .inside) used .place .opened) z)
+          (p-told x r′ w (judged-holds n) q (request-is n) (uploadAt (w .bank) q) (s .inside) used .place .opened) z))
 
       at : (b : UploadAction) → isOpening (action.Upload b) ≡ false →
           e .verdict ≡ verdict.Of (p .transaction) (action.Upload b) →
           In y (actionEntries (verdict.Of (p .transaction) (action.Upload b))
           (orderIn (verdict.Of (p .transaction) (action.Upload b)) (w .bank) q) q) →
-          Of (y .subscriber) (y .order) (y .kind) (e ∷ h)
+          OfEntry y (e ∷ h)
       at (up.Opened m) o z j = never (sym o)
       at up.Took o z j = absurd (in-none j)
       at up.TookLast o z j =
@@ -302,81 +305,35 @@ module _ {calls : List BankCall} {e : Exchange} (n : Next calls e) where
   of-request own (toDownload r a s) i = absurd (in-none i)
   of-request own (signs s) i = of-signing own i
 
-  of-entry : (y : Entry) → In y (entriesOf e h) → Of (y .subscriber) (y .order) (y .kind) (e ∷ h)
+  of-entry : (y : Entry) → In y (entriesOf e h) → OfEntry y (e ∷ h)
   unfolding entriesOf
   of-entry y i = at (in-either _ (ofReply [] (replyEntries e h) (form (e .reply))) i)
     where
       at : In y (map (λ (t : Bits128). entryOf kind.Dropped t h) (uploadDrops (e .clock) h))
-          ⊎ In y (ofReply [] (replyEntries e h) (form (e .reply))) →
-          Of (y .subscriber) (y .order) (y .kind) (e ∷ h)
+          ⊎ In y (ofReply [] (replyEntries e h) (form (e .reply))) → OfEntry y (e ∷ h)
       at (inl j) =
           let m = of-map (λ (t : Bits128). entryOf kind.Dropped t h) (uploadDrops (e .clock) h) j in
-          of-same (ap (λ (x : Entry). x .subscriber) (sym (m .2))) (ap (λ (x : Entry). x .order) (sym (m .2)))
-          (ap (λ (x : Entry). x .kind) (sym (m .2))) (of-drop (m .0) (m .1))
+          of-entry-of (sym (m .2)) (of-drop (m .0) (m .1))
       at (inr j) = of-request refl (case-is n) (subst (λ (l : List Entry). In y l) (sym (request-told n)) j)
 
-  of-next : ((x : Event) → In x (eventsIn h) → Of (x .subscriber) (x .order) (x .kind) h) → (x : Event) →
-      In x (eventsIn (e ∷ h)) → Of (x .subscriber) (x .order) (x .kind) (e ∷ h)
+  of-next : ((x : Event) → In x (eventsIn h) → OfEvent x h) → (x : Event) → In x (eventsIn (e ∷ h)) → OfEvent x (e ∷ h)
   unfolding eventsIn
   of-next old x i = at (in-either (eventsIn h) _ i)
     where
-      at : In x (eventsIn h) ⊎ In x (eventsFrom (length (eventsIn h)) (e .clock) (entriesOf e h)) →
-          Of (x .subscriber) (x .order) (x .kind) (e ∷ h)
+      at : In x (eventsIn h) ⊎ In x (eventsFrom (length (eventsIn h)) (e .clock) (entriesOf e h)) → OfEvent x (e ∷ h)
       at (inl j) = of-older (old x j)
       at (inr j) =
           let y = from-in (length (eventsIn h)) (e .clock) (entriesOf e h) j in
-          of-same (y .2) (y .3) (y .4) (of-entry (y .0) (y .1))
+          of-same (y .2) (y .3) (y .6) (y .4) (of-entry (y .0) (y .1))
 
 -- ---- every list of calls
 
-events-of : (calls : List BankCall) (x : Event) → In x (eventsIn (pastOf calls .history)) →
-    Of (x .subscriber) (x .order) (x .kind) (pastOf calls .history)
+events-of : (calls : List BankCall) (x : Event) → In x (eventsIn (pastOf calls .history)) → OfEvent x (pastOf calls .history)
 unfolding pastOf start eventsIn
 events-of [] = λ x i. absurd (in-none i)
 events-of (c ∷ calls) =
-    by-exchange (λ (g : List Exchange). (x : Event) → In x (eventsIn g) → Of (x .subscriber) (x .order) (x .kind) g)
-    calls c (events-of calls) (λ e n. of-next n (events-of calls))
-
--- ---- names
-
--- one name, one upload: both are of one subscriber's series, and no number of it repeats
-pub one-named : (calls : List BankCall) {o : OrderName} {t u : Bits128} → OpensOrder o t (pastOf calls .history) →
-    OpensOrder o u (pastOf calls .history) → t ≡ u
-one-named calls {o} a b =
-    let x = series-apart calls (series a) (series b) (number a ∙ sym (number b)) in
-    sym (a .id) ∙ (ap (λ (e : Exchange). transaction (e .reply)) (x .0) ∙ b .id)
-  where
-    series : {v : Bits128} (x : OpensOrder o v (pastOf calls .history)) →
-        InSeries (o .subscriber) (x .exchange) (x .before) (pastOf calls .history)
-    series x = record { stands = x .stands; opened = x .opened; owner = ap (λ (n : OrderName). n .subscriber) (x .named) }
-
-    number : {v : Bits128} (x : OpensOrder o v (pastOf calls .history)) → orderNumber (x .exchange .reply) ≡ o .number
-    number x = ap (λ (n : OrderName). n .number) (x .named)
-
--- the upload with a number of a series has that name
-module _ (calls : List BankCall) {s n : ℕ} {t : Bits128} (o : OpensAs s n t (pastOf calls .history)) where
-  abbrev e : Exchange
-  e = o .exchange
-
-  says-reply : e .reply ≡ replyTo (verdict.Of t (action.Upload (up.Opened n))) (e .request)
-  says-reply =
-      reply-is (history-sound calls) (o .stands) ∙ ap (λ (v : Verdict). replyTo v (e .request)) (o .is)
-
-  order-named : OpensOrder (record { subscriber = s; «order_type» = ful; number = orderNumberOf n }) t (pastOf calls .history)
-  unfolding uploadOpened
-  order-named =
-      let opened : form (e .reply) ≡ forms.UploadOpened =
-      ap form (reply-is (history-sound calls) (o .stands)) ∙ (verdict-form (e .verdict) (e .request) ∙ ap verdictForm (o .is)) in
-      record {
-        exchange = e;
-        before = o .before;
-        stands = o .stands;
-        opened = opened;
-        id = ap transaction says-reply;
-        named = same-name (o .owner)
-            (series-typed calls (record { stands = o .stands; opened = opened; owner = o .owner }))
-            (ap orderNumber says-reply);
-      }
+    by-exchange (λ (g : List Exchange). (x : Event) → In x (eventsIn g) → OfEvent x g) calls c (events-of calls)
+    (λ e n. of-next n (events-of calls))
 
 -- ---- the journal's type
 
@@ -401,79 +358,66 @@ event-typed (c ∷ calls) =
         let y = from-in (length (eventsIn (pastOf calls .history))) (e .clock) (entriesOf e (pastOf calls .history)) j in
         y .5 ∙ entries-typed n (y .1)
 
--- an event's name is that of its upload
-event-named : (calls : List BankCall) (x : Event) → In x (eventsIn (pastOf calls .history)) →
-    (f : Of (x .subscriber) (x .order) (x .kind) (pastOf calls .history)) × OpensOrder (nameOf x) (f .id) (pastOf calls .history)
-event-named calls x i =
-    let f = events-of calls x i in (
-      f,
-      subst (λ (o : OrderName). OpensOrder o (f .id) (pastOf calls .history))
-          (same-name refl (sym (event-typed calls x i)) refl) (order-named calls (f .opening)),
-    )
+-- ---- one event
 
-module _ (calls : List BankCall) (x : Event) (t : Bits128) (i : In x (eventsIn (pastOf calls .history)))
-    (o : OpensOrder (nameOf x) t (pastOf calls .history)) where
+module _ (calls : List BankCall) (x : Event) where
   abbrev past : List Exchange
   past = pastOf calls .history
 
-  says-own : {k : Kind} → x .kind ≡ k → Says k t past
-  says-own {k} z =
-      let f = event-named calls x i in
-      subst (λ (m : Kind). Says m t past) z
-      (subst (λ (u : Bits128). Says (x .kind) u past) (one-named calls (f .1) o) (f .0 .says))
+  pub in-row : In x (journalOf calls .row) → (x .kind ≡ kind.Unused → ⊥) → In x (eventsIn past)
+  in-row i used = row-events (eventsIn past) (subst (λ (l : List Event). In x l) (journal-told .row calls) i) used
 
-  ended-by : (y : Status) → isClosed y ≡ true → (Booked ≡ y → ⊥) → ((d : Direction) (s last : ℕ) → Open d s last ≡ y → ⊥) →
-      status t past ≡ y → NeverBooked calls t
-  ended-by y z unbooked shut now =
-      let k : (more : List BankCall) → Closed t y (pastOf (more ++ calls) .history) =
-      λ more. closed-calls t y z calls more (known, now) in
-      record {
-        closed = λ more p. shut (p .0) (p .1) (p .2)
-            (sym (call-drops .told (more ++ calls) t (p .0) (p .1) (p .2) (p .3)) ∙ k more .1);
-        unbooked = λ more. never-true _ (λ b. unbooked (sym (booked-status t (more ++ calls) b) ∙ k more .1));
-      }
-    where
-      known : t .low < accepted past
-      known =
-          let f = event-named calls x i in
-          subst (λ (u : Bits128). u .low < accepted past) (one-named calls (f .1) o)
-          (order-low (history-sound calls) (f .0 .opening))
+  module _ (i : In x (eventsIn past)) where
+    abbrev t : Bits128
+    t = transactionOf x
 
-      never-true : (b : Bool) → (b ≡ true → ⊥) → b ≡ false
-      never-true true f = absurd (f refl)
-      never-true false f = refl
+    -- it has the name that its upload was opened under
+    pub event-opened : OpensOrder (nameOf x) t past
+    event-opened =
+        opens-named calls (history-sound calls) (λ e k s. s) t (x .order) (events-of calls x i .opening)
+        (sym (event-typed calls x i)) refl
 
-  pub event-ended : (x .kind ≡ kind.Cancelled) ⊎ (x .kind ≡ kind.Dropped) → NeverBooked calls t
-  event-ended (inl z) =
-      ended-by Cancelled refl (λ y. let c : _≡_ {A = ℕ} 0 1 = cc in omega arith)
-      (λ d s last y. let c : _≡_ {A = ℕ} 0 1 = cc in omega arith) (says-own z)
-  event-ended (inr z) =
-      ended-by Dropped refl (λ y. let c : _≡_ {A = ℕ} 0 1 = cc in omega arith)
-      (λ d s last y. let c : _≡_ {A = ℕ} 0 1 = cc in omega arith) (says-own z)
+    says-own : {k : Kind} → x .kind ≡ k → Says k t past
+    says-own z = subst (λ (m : Kind). Says m t past) z (events-of calls x i .says)
 
--- a record under a name
-recorded-in : {k : Kind} {o : OrderName} {l : List Event} → Recorded k o l →
-    (x : Event) × In x l × (nameOf x ≡ o) × (x .kind ≡ k)
+    pub event-booked : x .kind ≡ kind.Booked → ever isBooking t past ≡ true
+    event-booked z = status-booked t past (says-own z)
+
+    pub event-signed : x .kind ≡ kind.Signed → ever isBooking t past ≡ true
+    event-signed z = status-booked t past (says-own z)
+
+    ended-by : (y : Status) → isClosed y ≡ true → (Booked ≡ y → ⊥) → ((d : Direction) (s last : ℕ) → Open d s last ≡ y → ⊥) →
+        status t past ≡ y → NeverBooked calls t
+    ended-by y z unbooked shut now =
+        let k : (more : List BankCall) → Closed t y (pastOf (more ++ calls) .history) =
+        λ more. closed-calls t y z calls more (order-low (history-sound calls) (events-of calls x i .opening), now) in
+        record {
+          closed = λ more p. shut (p .0) (p .1) (p .2)
+              (sym (call-drops .told (more ++ calls) t (p .0) (p .1) (p .2) (p .3)) ∙ k more .1);
+          unbooked = λ more. never-true _ (λ b. unbooked (sym (booked-status t (more ++ calls) b) ∙ k more .1));
+        }
+      where
+        never-true : (b : Bool) → (b ≡ true → ⊥) → b ≡ false
+        never-true true f = absurd (f refl)
+        never-true false f = refl
+
+    pub event-ended : (x .kind ≡ kind.Cancelled) ⊎ (x .kind ≡ kind.Dropped) → NeverBooked calls t
+    event-ended (inl z) =
+        ended-by Cancelled refl (λ y. let c : _≡_ {A = ℕ} 0 1 = cc in omega arith)
+        (λ d s last y. let c : _≡_ {A = ℕ} 0 1 = cc in omega arith) (says-own z)
+    event-ended (inr z) =
+        ended-by Dropped refl (λ y. let c : _≡_ {A = ℕ} 0 1 = cc in omega arith)
+        (λ d s last y. let c : _≡_ {A = ℕ} 0 1 = cc in omega arith) (says-own z)
+
+-- a record of an upload
+recorded-in : {k : Kind} {t : Bits128} {l : List Event} → Recorded k t l →
+    (x : Event) × In x l × (transactionOf x ≡ t) × (x .kind ≡ k)
 recorded-in (records.here {e = e} a b) = (e, here refl, a, b)
 recorded-in (records.there r) = let y = recorded-in r in (y .0, there (y .1), y .2, y .3)
 
-module _ (calls : List BankCall) (x : Event) where
-  pub in-row : In x (journalOf calls .row) → (x .kind ≡ kind.Unused → ⊥) → In x (eventsIn (pastOf calls .history))
-  in-row i used =
-      row-events (eventsIn (pastOf calls .history)) (subst (λ (l : List Event). In x l) (journal-told .row calls) i) used
-
-  pub event-opened : In x (eventsIn (pastOf calls .history)) →
-      (t : Bits128) × OpensOrder (nameOf x) t (pastOf calls .history)
-  event-opened i = let f = event-named calls x i in (f .0 .id, f .1)
-
-  pub event-booked : (t : Bits128) → In x (eventsIn (pastOf calls .history)) → x .kind ≡ kind.Booked →
-      OpensOrder (nameOf x) t (pastOf calls .history) →
-      ever isBooking t (pastOf calls .history) ≡ true
-  event-booked t i z o = status-booked t (pastOf calls .history) (says-own calls x t i o z)
-
-pub recorded-event : (calls : List BankCall) {k : Kind} {o : OrderName} → Recorded k o (journalOf calls .row) →
+pub recorded-event : (calls : List BankCall) {k : Kind} {t : Bits128} → Recorded k t (journalOf calls .row) →
     (k ≡ kind.Unused → ⊥) →
-    (x : Event) × In x (eventsIn (pastOf calls .history)) × (nameOf x ≡ o) × (x .kind ≡ k)
+    (x : Event) × In x (eventsIn (pastOf calls .history)) × (transactionOf x ≡ t) × (x .kind ≡ k)
 recorded-event calls {k} r used =
     let y = recorded-in r in
     (y .0, in-row calls (y .0) (y .1) (λ z. used (sym (y .3) ∙ z)), y .2, y .3)

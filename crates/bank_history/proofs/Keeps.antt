@@ -50,7 +50,7 @@ use Rattle.bank_admitted.proofs.Files.{FileSound, rejected, done, judged-file}
 use Rattle.bank_admitted.proofs.Keeps.{respond-not-idle}
 use Rattle.bank_admitted.proofs.Rows.{getD-free}
 use Rattle.bank_admitted.proofs.Fresh.{fresh-place, fresh-download, fresh-state, fresh-not-idle}
-use Rattle.bank_history.specs.History.{Exchange, Past, BankCall, Frame, File, did, isAction, isBooking, opens, remembers, accepted, uploadsAccepted, exchangeOf, entered, placed, after, start, pastOf, ever, openingNonces, remembered}
+use Rattle.bank_history.specs.History.{Exchange, Past, BankCall, Frame, File, did, isAction, isBooking, opens, remembers, accepted, ownNumbering, exchangeOf, entered, placed, after, start, pastOf, ever, openingNonces, remembered}
 use Rattle.bank_history.specs.Sound.{Sound, none, more}
 use Rattle.bank_history.specs.Invariant.{Invariant, Holds}
 use Rattle.bank_history.proofs.Entries.{ever-other, series-unmoved}
@@ -184,7 +184,7 @@ after-holds (File mailbox file) p old = file-holds p mailbox file old
 -- ---- a fresh bank
 
 start-holds : Holds start
-unfolding start fresh seriesOf accepted uploadsAccepted ever remembered openingNonces keep signersIn findOrder isOrder
+unfolding start fresh seriesOf accepted ownNumbering ever remembered openingNonces keep signersIn findOrder isOrder
     firstOf
 start-holds = record {
   invariant = record {

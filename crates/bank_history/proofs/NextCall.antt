@@ -1,7 +1,7 @@
 -- A frame call that is answered after a list of calls: the bank as its request is judged, its exchange, its case, and
 -- what it leaves.
 use Prim.Native.Nat.{ℕ}
-use mathlib.Core.Bool.{true, false}
+use mathlib.Core.Bool.{Bool, true, false}
 use mathlib.Core.List.{List, [], _∷_}
 use mathlib.Core.Logic.{_⊎_, inl, inr}
 use mathlib.Core.Path.{_≡_, refl, sym, ap, _∙_, subst}
@@ -11,15 +11,22 @@ use lib.ListN.{length}
 use Rattle.frame_table.specs.declared.fields.Bits128.{Bits128}
 use Rattle.frame_table.specs.declared.fields.Fields.{Fields}
 use Rattle.frame_table.specs.declared.table.Form.{Form}
+use Rattle.frame_table.specs.declared.table.Form.the-variants as form-kinds
+use Rattle.frame_table.specs.declared.table.RequestForm.{RequestForm}
+use Rattle.frame_table.specs.declared.table.RequestForm.the-variants as requests
 use Rattle.frame_table.specs.Forms as forms
 use Rattle.frame_table.specs.Names.{form, returnCode}
 use Rattle.frame_table.specs.Table.{isRequestForm}
 use Rattle.octets.specs.Bytes.{number}
+use Rattle.octets.proofs.Tests.{never}
 use Rattle.frame_reader.specs.Reader.{readRequest}
 use Rattle.frame_row.specs.Row.{dataOf}
 use Rattle.message.specs.declared.codes.ReturnCode.{ReturnCode}
 use Rattle.message.specs.declared.codes.ReturnCode.the-variants as code
 use Rattle.message.specs.Codes.{codeField}
+use Rattle.message.specs.declared.editions.Edition.{Edition}
+use Rattle.message.specs.declared.editions.Edition.the-variants as edition
+use Rattle.message.specs.Editions.{editionOf, openingForm}
 use Rattle.message.proofs.Verdicts.{by-test}
 use Rattle.bank_state.specs.Clock.{advanced}
 use Rattle.bank_state.specs.Limits.{placeCount}
@@ -53,6 +60,26 @@ use Rattle.bank_history.proofs.Positions.{action-sound, request-of}
 use Rattle.bank_history.proofs.Replies.{verdictForm, verdictCode, verdict-form, verdict-code}
 use Rattle.bank_history.proofs.Theorems.{reply-is}
 use Rattle.bank_history.proofs.UploadRequests.{verdict-by-form}
+
+-- ---- the forms of openings
+
+abbrev isOpeningRequest : RequestForm → Bool
+isOpeningRequest requests.UploadOpening = true
+isOpeningRequest requests.DownloadOpening = true
+isOpeningRequest requests.UploadTransfer = false
+isOpeningRequest requests.DownloadTransfer = false
+isOpeningRequest requests.Receipt = false
+isOpeningRequest requests.Signing = false
+isOpeningRequest requests.ChosenOpening = true
+
+abbrev isOpeningForm : Form → Bool
+isOpeningForm form-kinds.NoForm = false
+isOpeningForm (form-kinds.Request x) = isOpeningRequest x
+isOpeningForm (form-kinds.Reply x) = false
+
+opening-form : (x : Edition) → isOpeningForm (openingForm x) ≡ true
+opening-form edition.V24 = refl
+opening-form edition.V25 = refl
 
 -- ---- the verdict on a request to a transaction: 091101, or an action
 
@@ -169,7 +196,7 @@ module _ {calls : List BankCall} {e : Exchange} (n : Next calls e) where
   refused-with c own =
       let r = reply-is all-sound newest in
       record {
-        formed = ap form r ∙ (verdict-form (e .verdict) (e .request) ∙ ap verdictForm own);
+        formed = ap form r ∙ (verdict-form (e .verdict) (e .request) ∙ ap (verdictForm (editionOf (e .request))) own);
         coded = ap returnCode r
             ∙ (verdict-code (e .verdict) (e .request) ∙ ap (λ (v : Verdict). codeField (verdictCode v)) own);
       }
@@ -201,22 +228,21 @@ module _ {calls : List BankCall} {e : Exchange} (n : Next calls e) where
     pub acted : notOpen (judgedBank .bank) asked ≡ false → (u : Bits128) × (k : Action) × (e .verdict ≡ verdict.Of u k)
     acted some = by-asked Acted (by-open (contextOf (n .input)) judgedBank asked sent some)
 
-    not-form : {f : Form} → form (e .request) ≡ f → (f ≡ forms.UploadOpening) ⊎ (f ≡ forms.DownloadOpening) → ⊥
-    not-form {f} z o = at o (a .kind)
+    not-form : {f : Form} → form (e .request) ≡ f → isOpeningForm f ≡ true → ⊥
+    not-form {f} z o = at (a .kind)
       where
-        at : (f ≡ forms.UploadOpening) ⊎ (f ≡ forms.DownloadOpening) →
-            (form (e .request) ≡ forms.UploadTransfer) ⊎
+        by : {k : Form} → form (e .request) ≡ k → isOpeningForm k ≡ false → ⊥
+        by x y = never (sym y ∙ (ap isOpeningForm (sym x ∙ z) ∙ o))
+
+        at : (form (e .request) ≡ forms.UploadTransfer) ⊎
             ((form (e .request) ≡ forms.DownloadTransfer) ⊎ (form (e .request) ≡ forms.Receipt)) → ⊥
-        at (inl y) (inl x) = let u : _≡_ {A = ℕ} 0 1 = cc in omega arith
-        at (inl y) (inr (inl x)) = let u : _≡_ {A = ℕ} 0 1 = cc in omega arith
-        at (inl y) (inr (inr x)) = let u : _≡_ {A = ℕ} 0 1 = cc in omega arith
-        at (inr y) (inl x) = let u : _≡_ {A = ℕ} 0 1 = cc in omega arith
-        at (inr y) (inr (inl x)) = let u : _≡_ {A = ℕ} 0 1 = cc in omega arith
-        at (inr y) (inr (inr x)) = let u : _≡_ {A = ℕ} 0 1 = cc in omega arith
+        at (inl x) = by x refl
+        at (inr (inl x)) = by x refl
+        at (inr (inr x)) = by x refl
 
     upload-no-opening : (u : Bits128) (k : UploadAction) → SoundUploadAction k u e (pastOf calls .history) →
         isOpening (action.Upload k) ≡ false
-    upload-no-opening u (up.Opened m) s = absurd (not-form (s .opening .asked) (inl refl))
+    upload-no-opening u (up.Opened m) s = absurd (not-form (s .opening .asked) (opening-form (editionOf (e .request))))
     upload-no-opening u up.Took s = refl
     upload-no-opening u up.TookLast s = refl
     upload-no-opening u (up.Point m) s = refl
@@ -224,7 +250,7 @@ module _ {calls : List BankCall} {e : Exchange} (n : Next calls e) where
 
     download-no-opening : (u : Bits128) (k : DownloadAction) → SoundDownloadAction k u e (pastOf calls .history) →
         isOpening (action.Download k) ≡ false
-    download-no-opening u (down.Opened m) s = absurd (not-form (s .opening .asked) (inr refl))
+    download-no-opening u (down.Opened m) s = absurd (not-form (s .opening .asked) refl)
     download-no-opening u (down.Delivered m) s = refl
     download-no-opening u (down.SentAgain m) s = refl
     download-no-opening u (down.Point m) s = refl

@@ -20,6 +20,7 @@ use Rattle.message.specs.declared.codes.ReturnCode.{ReturnCode}
 use Rattle.message.specs.declared.codes.ReturnCode.the-variants as code
 use Rattle.message.specs.Codes.{codeField}
 use Rattle.bank_state.specs.Clock.{isIdle}
+use Rattle.message.specs.Editions.{editionOf}
 use Rattle.bank_state.specs.Limits.{placeCount, idleLimit}
 use Rattle.bank_state.specs.Search.{findUpload, findDownload}
 use Rattle.bank_state.specs.State.{BankState}
@@ -32,7 +33,8 @@ use Rattle.bank_verdicts.specs.declared.verdict.Action.the-variants as action
 use Rattle.bank_verdicts.specs.declared.verdict.Verdict.{Verdict}
 use Rattle.bank_verdicts.specs.declared.verdict.Verdict.the-variants as verdict
 use Rattle.bank_verdicts.specs.Refusals.{cancels, notOpen}
-use Rattle.bank_history.specs.History.{Exchange, BankCall, newest, ActionIn, isTaking, did, pastOf}
+use Rattle.bank_history.specs.History.{Exchange, BankCall, newest, ActionIn, isTaking, did, opens as isOpens, pastOf}
+use Rattle.bank_history.specs.Opened.{isUploadOpened}
 use Rattle.bank_history.specs.Sound.{isCancelling, SoundAction, AllSound, more}
 use Rattle.bank_history.specs.FalseEconomies.{
   Next,
@@ -76,7 +78,8 @@ use Rattle.bank_history.proofs.Counted.{isFitting, isAttempt}
 use Rattle.bank_history.proofs.Entries.{and-no, same-bits, did-same}
 use Rattle.bank_history.proofs.Keeps.{past-holds}
 use Rattle.bank_history.proofs.NextCall.{judgedBank, asked, all-sound, request-is, clock-is, judged-holds, acted}
-use Rattle.bank_history.proofs.Positions.{action-sound}
+use Rattle.bank_history.proofs.Opened.{opened-cases, is-opened}
+use Rattle.bank_history.proofs.Positions.{sound-at, action-sound}
 use Rattle.bank_history.proofs.Replies.{
   verdict-form,
   actionForm,
@@ -111,9 +114,9 @@ own-status {t} e g k own = rw own (rw (same-bits t))
 
 module _ (t : Bits128) (f : Form) (s : ℕ) {e : Exchange} {g : List Exchange} (sound : AllSound (e ∷ g)) where
   opening-status : Opens t e → form (e .reply) ≡ f → subscriber (e .request) ≡ s → OpenStatus t f s (e .clock) (e ∷ g)
-  opening-status o same from = at (o .formed)
+  opening-status o same from = at (opened-cases e (o .accepted))
     where
-      at : (form (e .reply) ≡ forms.UploadOpened) ⊎ (form (e .reply) ≡ forms.DownloadOpened) →
+      at : (isUploadOpened e ≡ true) ⊎ (form (e .reply) ≡ forms.DownloadOpened) →
           OpenStatus t f s (e .clock) (e ∷ g)
       at (inl z) =
           let u = upload-opened sound newest z in
@@ -156,7 +159,7 @@ module _ (t : Bits128) (f : Form) (s : ℕ) {e : Exchange} {g : List Exchange} (
         a : ActionIn isTaking (transaction (e .request)) e
         a = segment-taken sound newest (taken .formed) (taken .coded) .0
 
-        own : (k : Action) → a .action ≡ k → actionForm k ≡ forms.SegmentTaken → e .verdict ≡ verdict.Of t k
+        own : (k : Action) → a .action ≡ k → actionForm (editionOf (e .request)) k ≡ forms.SegmentTaken → e .verdict ≡ verdict.Of t k
         own k z y =
             let is : e .verdict ≡ verdict.Of (transaction (e .request)) k =
             a .is ∙ ap (verdict.Of (transaction (e .request))) z in
@@ -181,12 +184,12 @@ module _ (t : Bits128) (f : Form) (s : ℕ) {e : Exchange} {g : List Exchange} (
     delivered-status : AllShown (e ∷ g) → form (e .reply) ≡ forms.DownloadSegment → transaction (e .reply) ≡ t →
         (Sent t (segment (e .reply)) g → ⊥) → OpenStatus t f s (e .clock) (e ∷ g)
     delivered-status (shown.more shows rest) formed id new =
-        let d = is-action (e .verdict) forms.DownloadSegment
+        let d = is-action (editionOf (e .request)) (e .verdict) forms.DownloadSegment
         (sym (ap form (reply-is sound newest) ∙ verdict-form (e .verdict) (e .request)) ∙ formed) refl in
         at d (d .kind)
       where
-        ours : (u : Bits128) (k : Action) → e .verdict ≡ verdict.Of u k → actionForm k ≡ forms.DownloadSegment →
-            e .verdict ≡ verdict.Of t k
+        ours : (u : Bits128) (k : Action) → e .verdict ≡ verdict.Of u k →
+            actionForm (editionOf (e .request)) k ≡ forms.DownloadSegment → e .verdict ≡ verdict.Of t k
         ours u k own z =
             own ∙ ap (λ (i : Bits128). verdict.Of i k)
             (sym (reply-transaction sound newest own (λ y. let x : _≡_ {A = ℕ} 0 1 = cc in omega arith)) ∙ id)
@@ -214,8 +217,8 @@ module _ (t : Bits128) (f : Form) (s : ℕ) {e : Exchange} {g : List Exchange} (
           fits : (k : Action) → e .verdict ≡ verdict.Of t k → isFitting k ≡ true → ⊥
           fits k own y = notFits (fits-shown sound newest (record { action = k; is = own; kind = y }))
 
-          ends : (k : Action) (c : ReturnCode) → e .verdict ≡ verdict.Of t k → actionForm k ≡ forms.Refusal →
-              codeField (actionCode k) ≡ codeField c → cancels c ≡ true → t ≡ transaction (e .request) → ⊥
+          ends : (k : Action) (c : ReturnCode) → e .verdict ≡ verdict.Of t k →
+              actionForm (editionOf (e .request)) k ≡ forms.Refusal → codeField (actionCode k) ≡ codeField c → cancels c ≡ true → t ≡ transaction (e .request) → ⊥
           ends k c own formed coded cancels same =
               notEnds (cancelled (reply-form sound newest own ∙ formed)
               (ap isCancelling (reply-code sound newest own ∙ coded) ∙ (cancelling-code c ∙ cancels)) (sym same))
@@ -234,8 +237,10 @@ module _ (t : Bits128) (f : Form) (s : ℕ) {e : Exchange} {g : List Exchange} (
           at (action.Download down.Cancelled) own z =
               absurd (ends _ code.TransactionAbort own refl refl (z .cancelling) (z .request .same))
           at (action.Download down.Confirmed) own z = absurd (notEnds (receipt (reply-form sound newest own)
+              (is-opened (sound-at sound newest) ∙ ap isOpens own)
               (reply-transaction sound newest own (λ y. let x : _≡_ {A = ℕ} 0 1 = cc in omega arith))))
           at (action.Download down.Declined) own z = absurd (notEnds (receipt (reply-form sound newest own)
+              (is-opened (sound-at sound newest) ∙ ap isOpens own)
               (reply-transaction sound newest own (λ y. let x : _≡_ {A = ℕ} 0 1 = cc in omega arith))))
 
       -- another transaction's
@@ -313,7 +318,7 @@ not-unknown : {e : Exchange} {g : List Exchange} {u : Bits128} {k : Action} → 
     e .verdict ≡ verdict.Of u k →
     RefusedWith code.UnknownTransaction e → ⊥
 not-unknown {e} {g} {u} {k} sound own r =
-    by (subst (λ (f : Form). ActionOf f k) (sym (reply-form sound newest own) ∙ r .formed) (action-of k))
+    by (subst (λ (f : Form). ActionOf f k) (sym (reply-form sound newest own) ∙ r .formed) (action-of (editionOf (e .request)) k))
   where
     clash : (c : ReturnCode) → codeField (actionCode k) ≡ codeField c → cancels c ≡ true → ⊥
     clash c z y =

@@ -1,65 +1,65 @@
 -- An accepted opening keeps the invariant.
 use Prim.Native.Nat.{ℕ, suc, _+_, _-_, _≤_, _<_}
-use mathlib.Core.Bool.{Bool, true, false, cond}
+use mathlib.Core.Bool.{Bool, true, false, cond, _&&_}
 use mathlib.Core.List.{List, _∷_}
 use mathlib.Core.Path.{_≡_, refl, sym, ap, _∙_, subst}
+use native.Mathlib.Numerals.{add-one}
 use native.Mathlib.Omega.{arith}
 use lib.Dec.{eqb}
 use lib.ListN.{length, set, replicate}
-use lib.Seq.{getD-set-other}
-use borrow.Author.Tests.{eqb-true, eqb-false}
+use lib.Seq.{getD-set-same, getD-set-other}
+use borrow.Author.Tests.{eqb-true, eqb-false, not-false}
 use Rattle.frame_table.specs.declared.fields.Bits128.{Bits128}
 use Rattle.frame_table.specs.declared.fields.Fields.{Fields}
 use Rattle.frame_table.specs.declared.table.Form.{Form}
 use Rattle.frame_table.specs.Forms as forms
-use Rattle.frame_table.specs.Names.{subscriber, nonce, timestamp, segments, form}
+use Rattle.frame_table.specs.Names.{subscriber, nonce, timestamp, segments, orderNumber, form}
+use Rattle.message.specs.declared.editions.Edition.{Edition}
+use Rattle.message.specs.declared.editions.Edition.the-variants as edition
+use Rattle.message.specs.Editions.{editionOf, openingForm}
 use Rattle.message.specs.Limits.{subscribers, fileBytes}
+use Rattle.message.specs.OrderNumbers.{isOrderNumber}
+use Rattle.message.proofs.OrderNumbers.{said-number}
 use Rattle.message.specs.Segments.{segmentsOf}
 use Rattle.bank_state.specs.declared.state.Download.{Download}
 use Rattle.bank_state.specs.State.{Nonce}
 use Rattle.bank_state.specs.declared.state.Place.{Place}
 use Rattle.bank_state.specs.declared.state.Use.{Use}
 use Rattle.bank_state.specs.declared.state.Use.the-variants.{Free, Booked}
-use Rattle.bank_state.specs.Limits.{placeCount, seriesLimit}
+use Rattle.bank_state.specs.Limits.{placeCount}
 use Rattle.bank_state.specs.Search.{isBooked, freePlace, freeDownload, freeNonce}
 use Rattle.bank_state.specs.State.{BankState, noDownload, placeAt, downloadAt, fileLength, seriesOf}
 use Rattle.bank_state.specs.Store.{partAt}
-use Rattle.bank_openings.specs.Openings.{counted, moved, countedUpload, newPlace, openUpload, newDownload, openDownload}
+use Rattle.bank_state.proofs.Numbers.{next-from}
+use Rattle.bank_openings.specs.Openings.{counted, movedBy, moved, countedUpload, newPlace, openUpload, newDownload, openDownload}
 use Rattle.bank_steps.specs.Steps.{carryOut}
 use Rattle.bank_verdicts.specs.declared.verdict.Action.the-variants as action
 use Rattle.bank_verdicts.specs.declared.verdict.DownloadAction.the-variants as down
 use Rattle.bank_verdicts.specs.declared.verdict.UploadAction.the-variants as up
 use Rattle.bank_verdicts.specs.declared.verdict.Action.{Action}
 use Rattle.bank_verdicts.specs.declared.verdict.Verdict.the-variants as verdict
-use Rattle.bank_verdicts.specs.Refusals.{findOrder}
-use Rattle.bank_verdicts.specs.Judgement.{transactionOf, mailboxSegments}
-use Rattle.bank_verdicts.proofs.Sound.{Acceptable, Readable}
+use Rattle.bank_verdicts.specs.Refusals.{badNumber, noOrderNumber, findOrder}
+use Rattle.bank_verdicts.specs.Judgement.{transactionOf, numberBy, openingNumber, mailboxSegments}
+use Rattle.bank_verdicts.proofs.Sound.{Acceptable, Numbered, Readable}
 use Rattle.bank_admitted.specs.State.{mailboxFile}
 use Rattle.bank_admitted.proofs.Rows.{each-set}
 use Rattle.bank_admitted.proofs.Held.{place-counted, file-long, download-open}
-use Rattle.bank_admitted.proofs.Series.{moved-own}
 use Rattle.bank_admitted.proofs.Openings.{free-inside-open}
 use Rattle.bank_admitted.proofs.Openings as admitted
-use Rattle.bank_history.specs.History.{Exchange, isBooking, isOpening, remembers, nonceOf, isAction, did, ever, accepted, uploadsAccepted}
+use Rattle.bank_history.specs.History.{Exchange, isBooking, isOpening, remembers, nonceOf, isAction, did, ever, accepted, isOwn, ownNumbering}
 use Rattle.bank_history.specs.Signatures.{isSigningForm}
-use Rattle.bank_history.specs.Sound.{SoundOpening, more}
+use Rattle.bank_history.specs.Sound.{NumberedAs, SoundOpening, more}
 use Rattle.bank_history.specs.Invariant.{PlaceTold, DownloadTold, Memory, Invariant}
 use Rattle.bank_history.proofs.Entries.{did-other, known-more, booked-more, accepted-own}
 use Rattle.bank_history.proofs.Memory.{memory-added}
 use Rattle.bank_history.proofs.Places.{place-unchanged, place-opened, places-told}
 use Rattle.bank_history.proofs.Records.{download-unchanged, download-opened}
-use Rattle.bank_history.proofs.Signatures.{signers-unchanged, unsigned-form, unbooked-signers}
+use Rattle.bank_history.proofs.Signatures.{signers-unchanged, unsigned-form, opening-unsigned, unbooked-signers}
 use Rattle.bank_history.proofs.Uploads.{entry, bare, booked-at, still-booked}
 use Rattle.bank.proofs.WrittenReplies.{carried-segment}
 
 free-not-booked : (u : Use) → u ≡ Free → u ≡ Booked → ⊥
 free-not-booked u e f = let z : _≡_ {A = ℕ} 0 1 = cc in omega arith
-
--- another subscriber's series stays
-moved-other : (s i : ℕ) (series : List ℕ) → 1 ≤ s → 1 ≤ i → (s ≡ i → ⊥) → seriesOf s (moved i series) ≡ seriesOf s series
-unfolding seriesOf
-moved-other s i series a b n =
-    getD-set-other series (i - 1) (s - 1) (seriesOf i series + 1) 0 (λ e. n (omega arith))
 
 module _ (first : ℕ) (w : BankState) (h : List Exchange) (v : Invariant w h) (q : Fields) (d : List ℕ) (readable : Readable q (length d))
     (acceptable : Acceptable (w .bank) q) where
@@ -69,9 +69,9 @@ module _ (first : ℕ) (w : BankState) (h : List Exchange) (v : Invariant w h) (
   abbrev o : ℕ
   o = w .bank .openings
 
-  -- how far the subscriber's series has come
+  -- the upload's number
   abbrev m : ℕ
-  m = seriesOf (subscriber q) (w .bank .series)
+  m = openingNumber (w .bank) q
 
   abbrev nonces : List Nonce
   nonces = set (w .bank .nonces) (freeNonce (w .bank)) (record { used = true; value = nonce q; timestamp = timestamp q })
@@ -102,7 +102,7 @@ module _ (first : ℕ) (w : BankState) (h : List Exchange) (v : Invariant w h) (
     places-stay i a =
         place-unchanged x h (placeAt (w .bank) i) (partAt (w .orders) i) (placeAt (w .bank) i .used)
         (λ f. ap (did isAction (placeAt (w .bank) i .transaction)) own
-        ∙ did-other (placeAt (w .bank) i .transaction) t k (λ z. let n = place-counted w (v .state) i a f .0 in omega arith))
+        ∙ did-other (placeAt (w .bank) i .transaction) t k (λ z. let n = place-counted w (v .state) i a f in omega arith))
         (v .places i a)
 
     downloads-stay : (j : ℕ) →
@@ -116,24 +116,43 @@ module _ (first : ℕ) (w : BankState) (h : List Exchange) (v : Invariant w h) (
     known-stays : (u : Bits128) → ever isAction u (x ∷ h) ≡ true → u .low < o + 1
     known-stays = known-more t k x h own (o + 1) (omega arith) (λ u e. let z = v .known u e in omega arith)
 
-  -- an upload moves its subscriber's series by one, and no other
-  series-moved : (s : ℕ) → 1 ≤ s → s ≤ subscribers → seriesOf s (moved (subscriber q) (w .bank .series))
-      ≡ cond (eqb (subscriber q) s) (suc (uploadsAccepted s h)) (uploadsAccepted s h)
-  series-moved s known most = at (eqb (subscriber q) s) refl
+  -- an upload that the bank numbers takes its subscriber's counter past its number, and no other; one that brings its
+  -- number takes none
+  series-moved : (n s : ℕ) → 1 ≤ s → s ≤ subscribers → seriesOf s (moved n q (w .bank .series))
+      ≡ cond (isOwn (editionOf q) && eqb (subscriber q) s) (suc n) (ownNumbering s h)
+  unfolding seriesOf
+  series-moved n s known most = by (editionOf q)
     where
       at : (b : Bool) → eqb (subscriber q) s ≡ b →
-          seriesOf s (moved (subscriber q) (w .bank .series)) ≡ cond b (suc (uploadsAccepted s h)) (uploadsAccepted s h)
+          seriesOf s (set (w .bank .series) (subscriber q - 1) (n + 1)) ≡ cond b (suc n) (ownNumbering s h)
       at true z =
           let same = eqb-true (subscriber q) s z in
-          ap (λ (i : ℕ). seriesOf i (moved (subscriber q) (w .bank .series))) (sym same)
-          ∙ (moved-own (subscriber q) (w .bank .series) (v .state .sizes .series) (readable .known) (readable .most)
-          ∙ (let a = v .series (subscriber q) (readable .known) (readable .most) in
-          let b = ap (λ (i : ℕ). uploadsAccepted i h) same in
-          omega arith))
+          let long = v .state .sizes .series in
+          let i = readable .known in
+          let j = readable .most in
+          ap (λ (i : ℕ). seriesOf i (set (w .bank .series) (subscriber q - 1) (n + 1))) (sym same)
+          ∙ (getD-set-same (w .bank .series) (subscriber q - 1) (n + 1) 0 (omega arith) ∙ add-one n)
       at false z =
-          moved-other s (subscriber q) (w .bank .series) known (readable .known)
-          (λ e. eqb-false (subscriber q) s z (sym e))
+          getD-set-other (w .bank .series) (subscriber q - 1) (s - 1) (n + 1) 0
+          (λ e. eqb-false (subscriber q) s z (let i = readable .known in omega arith))
           ∙ v .series s known most
+
+      by : (e : Edition) → seriesOf s (movedBy e n q (w .bank .series))
+          ≡ cond (isOwn e && eqb (subscriber q) s) (suc n) (ownNumbering s h)
+      by edition.V24 = v .series s known most
+      by edition.V25 = at (eqb (subscriber q) s) refl
+
+  -- its number is the one brought, or one that the bank's own numbering has not passed
+  numbered-as : (x : Exchange) → x .request ≡ q → noOrderNumber q ≡ false → NumberedAs (editionOf q) m x h
+  unfolding openingNumber
+  numbered-as x same good = by (editionOf q) good
+    where
+      by : (e : Edition) → badNumber e q ≡ false → NumberedAs e (numberBy e (w .bank) q) x h
+      by edition.V24 z = ap orderNumber same ∙ sym (said-number (orderNumber q) (not-false (isOrderNumber (orderNumber q)) z) .1)
+      by edition.V25 z =
+          let a = v .series (subscriber q) (readable .known) (readable .most) in
+          let b = next-from (subscriber q) (w .bank) in
+          rw same (omega arith)
 
   sound-opening : (f : Form) (x : Exchange) → x .request ≡ q → form q ≡ f → SoundOpening f t x h
   sound-opening f x e asked = record {
@@ -144,15 +163,15 @@ module _ (first : ℕ) (w : BankState) (h : List Exchange) (v : Invariant w h) (
   }
 
   -- an upload opened
-  pub opens-upload : form q ≡ forms.UploadOpening → (segments q ≡ 0 → ⊥) → freePlace (w .bank) < placeCount →
-      seriesOf (subscriber q) (w .bank .series) < seriesLimit →
-      let u = verdict.Of t (action.Upload (up.Opened (seriesOf (subscriber q) (w .bank .series)))) in
+  pub opens-upload : form q ≡ openingForm (editionOf q) → (segments q ≡ 0 → ⊥) → freePlace (w .bank) < placeCount →
+      Numbered (w .bank) q →
+      let u = verdict.Of t (action.Upload (up.Opened m)) in
       Invariant (carryOut u w q d) (entry u w q d ∷ h)
-  unfolding openUpload countedUpload counted mailboxFile fileLength uploadsAccepted findOrder
-  opens-upload asked some inside below = record {
-    state = admitted.opens-upload first w (v .state) q (length d) readable acceptable some inside below;
+  unfolding openUpload countedUpload counted mailboxFile fileLength ownNumbering findOrder
+  opens-upload asked some inside own = record {
+    state = admitted.opens-upload first w (v .state) q (length d) readable acceptable some inside own;
     counted = counted-more k refl refl x refl;
-    series = series-moved;
+    series = series-moved m;
     places = places-told (x ∷ h) w i new (w .orders) (replicate fileBytes 0) (v .state .sizes .places) inside
         (admitted.free-zeros w (v .state) inside) (λ j n. refl) (place-opened x h (w .bank .clock) m t refl unknown)
         (λ j a n. places-stay k refl refl x refl j a);
@@ -164,13 +183,14 @@ module _ (first : ℕ) (w : BankState) (h : List Exchange) (v : Invariant w h) (
         (v .booked u (booked-more t k x h refl refl u g));
     signers = λ owner order. unbooked-signers owner order (w .bank .places) i new (let l = v .state .sizes .places in omega arith)
         (ap isBooked (admitted.found-free (w .bank) (v .state .sizes .places) inside)) refl
-        ∙ (v .signers owner order ∙ sym (signers-unchanged _ x h (unsigned-form x (ap isSigningForm asked))));
+        ∙ (v .signers owner order
+        ∙ sym (signers-unchanged _ x h (unsigned-form x (ap isSigningForm asked ∙ opening-unsigned (editionOf q)))));
     sound = more {e = x} (record {
       reply = refl;
       verdict = record {
-        opening = sound-opening forms.UploadOpening x refl asked;
-        number = v .series (subscriber q) (readable .known) (readable .most);
-        limited = below;
+        opening = sound-opening (openingForm (editionOf q)) x refl asked;
+        number = numbered-as x refl (own .spelled);
+        limited = own .below;
         some = omega arith;
         few = acceptable .few;
         bare = bare w (subscriber q);
@@ -194,7 +214,7 @@ module _ (first : ℕ) (w : BankState) (h : List Exchange) (v : Invariant w h) (
   pub opens-download : form q ≡ forms.DownloadOpening → (fileLength (subscriber q) (w .bank .files) ≡ 0 → ⊥) →
       let u = verdict.Of t (action.Download (down.Opened (mailboxSegments (subscriber q) (w .bank)))) in
       Invariant (carryOut u w q d) (entry u w q d ∷ h)
-  unfolding openDownload counted mailboxFile fileLength uploadsAccepted findOrder
+  unfolding openDownload counted mailboxFile fileLength ownNumbering findOrder
   opens-download asked some = record {
     state = admitted.opens-download first w (v .state) q (length d) readable acceptable some;
     counted = counted-more k refl refl x refl;

@@ -1,5 +1,5 @@
 -- The events of the journal go by request, reply and clock of each exchange alone.
-use Prim.Native.Nat.{ℕ, suc, max}
+use Prim.Native.Nat.{ℕ, max}
 use mathlib.Core.Bool.{Bool, true, false, cond, _&&_}
 use mathlib.Core.List.{List, [], _∷_, _++_, map}
 use mathlib.Core.Path.{_≡_, refl, ap, _∙_}
@@ -21,12 +21,10 @@ use Rattle.journal.specs.Events.{eventsFrom}
 use Rattle.bank_history.specs.History.{Exchange}
 use Rattle.bank_history.specs.Signatures.{signedName, signs, hasSigned}
 use Rattle.bank_history.specs.Status.{Status, dropIdle}
+use Rattle.bank_history.specs.Opened.{ofReply, isOpened, isUploadOpened}
 use Rattle.bank_history.specs.ByReplies.{
-  ofReply,
   isSendingForm,
-  isOpened,
-  isUploadOpened,
-  uploadsOpened,
+  numberGiven,
   openedIds,
   atOpened,
   ownerOf,
@@ -41,7 +39,9 @@ use Rattle.bank_history.specs.Journal.{
   entryOf,
   isIdleUploadAt,
   uploadDrops,
-  numberNamed,
+  isBookedAs,
+  bookedAs,
+  signedEntries,
   replyEntries,
   entriesOf,
   eventsIn,
@@ -51,12 +51,6 @@ use Rattle.bank_history.specs.Journal.{
 abbrev plains : List Exchange → List Exchange
 plains h = map plain h
 
-count-plain : (s : ℕ) (h : List Exchange) → uploadsOpened s (plains h) ≡ uploadsOpened s h
-unfolding uploadsOpened
-count-plain s [] = refl
-count-plain s (e ∷ h) =
-    ap (λ (n : ℕ). cond (isUploadOpened e && eqb (subscriber (e .request)) s) (suc n) n) (count-plain s h)
-
 ids-plain : (h : List Exchange) → openedIds (plains h) ≡ openedIds h
 unfolding openedIds
 ids-plain [] = refl
@@ -64,29 +58,26 @@ ids-plain (e ∷ h) =
     ap (λ (l : List Bits128). l ++ cond (isOpened e) (transaction (e .reply) ∷ []) []) (ids-plain h)
 
 -- something of the exchange that opened a transaction
-at-plain : {A : Type 0} (f : Exchange → List Exchange → A) (d : A) (t : Bits128) →
-    ((e : Exchange) (h : List Exchange) → f (plain e) (plains h) ≡ f e h) → (h : List Exchange) →
-    atOpened f d t (plains h) ≡ atOpened f d t h
+at-plain : {A : Type 0} (f : Exchange → A) (d : A) (t : Bits128) → ((e : Exchange) → f (plain e) ≡ f e) →
+    (h : List Exchange) → atOpened f d t (plains h) ≡ atOpened f d t h
 unfolding atOpened
 at-plain f d t k [] = refl
 at-plain {A} f d t k (e ∷ h) =
-    ap (λ (x : A). cond (isOpened e && sameBits t (transaction (e .reply))) x (atOpened f d t (plains h))) (k e h)
-    ∙ ap (λ (x : A). cond (isOpened e && sameBits t (transaction (e .reply))) (f e h) x) (at-plain f d t k h)
+    ap (λ (x : A). cond (isOpened e && sameBits t (transaction (e .reply))) x (atOpened f d t (plains h))) (k e)
+    ∙ ap (λ (x : A). cond (isOpened e && sameBits t (transaction (e .reply))) (f e) x) (at-plain f d t k h)
 
 module _ (t : Bits128) (h : List Exchange) where
   owner-plain : ownerOf t (plains h) ≡ ownerOf t h
-  owner-plain = at-plain (λ (e : Exchange) (g : List Exchange). subscriber (e .request)) 0 t (λ e g. refl) h
+  owner-plain = at-plain (λ (e : Exchange). subscriber (e .request)) 0 t (λ e. refl) h
 
   order-plain : orderOf t (plains h) ≡ orderOf t h
-  order-plain =
-      at-plain (λ (e : Exchange) (g : List Exchange). uploadsOpened (subscriber (e .request)) g) 0 t
-      (λ e g. count-plain (subscriber (e .request)) g) h
+  order-plain = at-plain (λ (e : Exchange). numberGiven e) 0 t (λ e. refl) h
 
   segments-plain : segmentCountOf t (plains h) ≡ segmentCountOf t h
-  segments-plain = at-plain (λ (e : Exchange) (g : List Exchange). segments (e .request)) 0 t (λ e g. refl) h
+  segments-plain = at-plain (λ (e : Exchange). segments (e .request)) 0 t (λ e. refl) h
 
   upload-plain : isUploadId t (plains h) ≡ isUploadId t h
-  upload-plain = at-plain (λ (e : Exchange) (g : List Exchange). isUploadOpened e) false t (λ e g. refl) h
+  upload-plain = at-plain (λ (e : Exchange). isUploadOpened e) false t (λ e. refl) h
 
   entry-plain : (k : Kind) → entryOf k t (plains h) ≡ entryOf k t h
   entry-plain k = rw (owner-plain, order-plain)
@@ -146,13 +137,26 @@ signed-plain o s [] = refl
 signed-plain o s (e ∷ h) =
     ap (λ (b : Bool). cond (signs o e && eqb (subscriber (e .request)) s) true b) (signed-plain o s h)
 
-named-plain : (o : OrderName) (h : List Exchange) → numberNamed o (plains h) ≡ numberNamed o h
-unfolding numberNamed
-named-plain o [] = refl
-named-plain o (e ∷ h) = rw (count-plain (o .subscriber) h, named-plain o h)
+booked-plain : (o : OrderName) (h : List Exchange) (t : Bits128) → isBookedAs o (plains h) t ≡ isBookedAs o h t
+booked-plain o h t = rw (standing-plain t h, owner-plain t h, order-plain t h)
+
+named-plain : (o : OrderName) (h : List Exchange) → bookedAs o (plains h) ≡ bookedAs o h
+unfolding bookedAs
+named-plain o h =
+    ap (keep (isBookedAs o (plains h))) (ids-plain h)
+    ∙ keep-same (isBookedAs o (plains h)) (isBookedAs o h) (booked-plain o h) (openedIds h)
+
+signed-entries-plain : (e : Exchange) (h : List Exchange) → signedEntries (plain e) (plains h) ≡ signedEntries e h
+signed-entries-plain e h =
+    ap (λ (b : Bool). cond b [] (map (λ (t : Bits128). entryOf kind.Signed t (plains h)) (bookedAs (signedName e) (plains h))))
+    (signed-plain (signedName e) (subscriber (e .request)) h)
+    ∙ ap (cond (hasSigned (signedName e) (subscriber (e .request)) h) [])
+    (ap (map (λ (t : Bits128). entryOf kind.Signed t (plains h))) (named-plain (signedName e) h)
+    ∙ map-same (λ (t : Bits128). entryOf kind.Signed t (plains h)) (λ (t : Bits128). entryOf kind.Signed t h)
+    (λ t. entry-plain t h kind.Signed) (bookedAs (signedName e) h))
 
 reply-plain : (e : Exchange) (h : List Exchange) (f : ReplyForm) → replyEntries (plain e) (plains h) f ≡ replyEntries e h f
-reply-plain e h replies.UploadOpened = rw (count-plain (subscriber (e .request)) h)
+reply-plain e h replies.UploadOpened = refl
 reply-plain e h replies.DownloadOpened = refl
 reply-plain e h replies.SegmentTaken =
     rw (segments-plain (transaction (e .reply)) h, entry-plain (transaction (e .reply)) h kind.Booked)
@@ -160,8 +164,7 @@ reply-plain e h replies.DownloadSegment = refl
 reply-plain e h replies.ReceiptAnswered = refl
 reply-plain e h replies.Refusal =
     rw (
-      signed-plain (signedName e) (subscriber (e .request)) h,
-      named-plain (signedName e) h,
+      signed-entries-plain e h,
       upload-plain (transaction (e .request)) h,
       entry-plain (transaction (e .request)) h kind.Cancelled,
     )

@@ -1,5 +1,5 @@
--- Exchanges of a sound history: each opening has its own number, each upload one in its series, each segment is taken
--- once, what is ended was not booked.
+-- Exchanges of a sound history: each opening has its own number, the bank's own numbering gives none twice, each segment
+-- is taken once, what is ended was not booked.
 use Prim.Native.Nat.{ℕ, suc, _+_, _-_, _*_, _≤_, _<_}
 use mathlib.Core.Bool.{Bool, true, false, cond, _&&_}
 use mathlib.Core.List.{List, [], _∷_, _++_}
@@ -8,11 +8,14 @@ use native.Mathlib.Omega.{arith}
 use lib.Dec.{eqb}
 use lib.ListN.{take, drop}
 use lib.Seq.{take-add}
-use borrow.Author.Tests.{eq-eqb}
+use borrow.Author.Tests.{eqb-true, eq-eqb}
 use Rattle.frame_table.specs.declared.fields.Bits128.{Bits128}
 use Rattle.frame_table.specs.Names.{subscriber, segment, sameBits}
 use Rattle.octets.proofs.Tests.{never, and-true}
 use Rattle.frame_table.proofs.Bits.{bits-same}
+use Rattle.message.specs.declared.editions.Edition.{Edition}
+use Rattle.message.specs.declared.editions.Edition.the-variants as edition
+use Rattle.message.specs.Editions.{editionOf}
 use Rattle.message.specs.Limits.{segmentBytes}
 use Rattle.message.specs.Segments.{segmentOf}
 use Rattle.bank_verdicts.specs.declared.verdict.UploadAction.{UploadAction}
@@ -21,9 +24,10 @@ use Rattle.bank_verdicts.specs.declared.verdict.DownloadAction.{DownloadAction}
 use Rattle.bank_verdicts.specs.declared.verdict.DownloadAction.the-variants as down
 use Rattle.bank_verdicts.specs.declared.verdict.Action.{Action}
 use Rattle.bank_verdicts.specs.declared.verdict.Action.the-variants as action
+use Rattle.bank_verdicts.specs.declared.verdict.SignedOrder.{SignedOrder}
 use Rattle.bank_verdicts.specs.declared.verdict.Verdict.{Verdict}
 use Rattle.bank_verdicts.specs.declared.verdict.Verdict.the-variants as verdict
-use Rattle.bank_history.specs.History.{uploadKind, downloadKind, Exchange, Stands, newest, older, isOpening, isTaking, isBooking, isEnding, did, ever, times, received, segmentsAt, accepted, uploadsAccepted, opens, acceptsUpload, OpensNumber, OpensInSeries, ActionIn}
+use Rattle.bank_history.specs.History.{uploadKind, downloadKind, Exchange, Stands, newest, older, isOpening, isTaking, isBooking, isEnding, did, ever, times, received, segmentsAt, accepted, ownNumbering, numbersOwn, isOwn, opens, acceptsUpload, OpensNumber, OpensInSeries, ActionIn}
 use Rattle.bank_history.specs.Sound.{
   SoundUploadAction,
   SoundDownloadAction,
@@ -32,6 +36,7 @@ use Rattle.bank_history.specs.Sound.{
   SoundRequest,
   SoundTaking,
   SoundSigning,
+  NumberedAs,
   Sound,
   AllSound,
   none,
@@ -49,6 +54,11 @@ pub stands-behind : {e f : Exchange} {g k h : List Exchange} → Stands f k g �
 stands-behind p newest = older p
 stands-behind p (older q) = older (stands-behind p q)
 
+-- nothing stands in the history of a fresh bank
+pub stands-none : {e : Exchange} {g h : List Exchange} → Stands e g h → h ≡ [] → ⊥
+stands-none newest z = let y : _≡_ {A = ℕ} 0 1 = cc in omega arith
+stands-none (older p) z = let y : _≡_ {A = ℕ} 0 1 = cc in omega arith
+
 -- what the verdict of a standing exchange says
 pub action-sound : {e : Exchange} {g h : List Exchange} {t : Bits128} {k : Action} → AllSound h → Stands e g h →
     e .verdict ≡ verdict.Of t k →
@@ -56,27 +66,39 @@ pub action-sound : {e : Exchange} {g h : List Exchange} {t : Bits128} {k : Actio
 action-sound {e} {g} r p own = subst (λ (v : Verdict). SoundVerdict v e g) own (sound-at r p .verdict)
 
 -- so is an accepted signing
-pub signing-sound : {e : Exchange} {g h : List Exchange} {n : ℕ} {added : Bool} → AllSound h → Stands e g h →
+pub signing-sound : {e : Exchange} {g h : List Exchange} {n : SignedOrder} {added : Bool} → AllSound h → Stands e g h →
     e .verdict ≡ verdict.Signed n added → SoundSigning n added e g
 signing-sound {e} {g} r p own = subst (λ (v : Verdict). SoundVerdict v e g) own (sound-at r p .verdict)
 
--- at most one exchange with one value, where the value is a measure of what came before it that each such exchange raises
+-- at most one exchange with one value, where a measure of what came before it has not passed the value, and each such
+-- exchange takes the measure past its own
 module _ (P : Exchange → Type 0) (value : Exchange → ℕ) (measure : List Exchange → ℕ)
-    (known : (e : Exchange) (g : List Exchange) → Sound e g → P e → value e ≡ measure g)
-    (raises : (e : Exchange) (g : List Exchange) → P e → measure g < measure (e ∷ g))
-    (grows : (e : Exchange) (g : List Exchange) → measure g ≤ measure (e ∷ g)) where
-  below : {e : Exchange} {g h : List Exchange} → Stands e g h → P e → measure g < measure h
-  below {e} {g} newest p = raises e g p
-  below (older {x = x} {h = h} s) p = let a = below s p in let b = grows x h in omega arith
+    (known : (e : Exchange) (g : List Exchange) → Sound e g → P e → measure g ≤ value e)
+    (raises : (e : Exchange) (g : List Exchange) → Sound e g → P e → value e < measure (e ∷ g))
+    (grows : (e : Exchange) (g : List Exchange) → Sound e g → measure g ≤ measure (e ∷ g)) where
+  below : {e : Exchange} {g h : List Exchange} → AllSound h → Stands e g h → P e → value e < measure h
+  below {e} {g} (more s r) newest p = raises e g s p
+  below (more {e = x} {h = h} y r) (older s) p = let a = below r s p in let b = grows x h y in omega arith
 
-  pub one-place : {e f : Exchange} {g k h : List Exchange} → AllSound h → Stands e g h → Stands f k h → P e → P f → value e ≡ value f →
+  one-rising : {e f : Exchange} {g k h : List Exchange} → AllSound h → Stands e g h → Stands f k h → P e → P f → value e ≡ value f →
       (e ≡ f) × (g ≡ k)
-  one-place (more s r) newest newest p q z = (refl, refl)
-  one-place {e} {f} {g} {k} (more s r) newest (older b) p q z =
-      absurd (let m = known e g s p in let n = known f k (sound-at r b) q in let l = below b q in omega arith)
-  one-place {e} {f} {g} {k} (more s r) (older a) newest p q z =
-      absurd (let m = known f k s q in let n = known e g (sound-at r a) p in let l = below a p in omega arith)
-  one-place (more s r) (older a) (older b) p q z = one-place r a b p q z
+  one-rising (more s r) newest newest p q z = (refl, refl)
+  one-rising {e} {f} {g} {k} (more s r) newest (older b) p q z =
+      absurd (let m = known e g s p in let l = below r b q in omega arith)
+  one-rising {e} {f} {g} {k} (more s r) (older a) newest p q z =
+      absurd (let m = known f k s q in let l = below r a p in omega arith)
+  one-rising (more s r) (older a) (older b) p q z = one-rising r a b p q z
+
+-- so where the value is the measure, which each such exchange raises
+one-place : (P : Exchange → Type 0) (value : Exchange → ℕ) (measure : List Exchange → ℕ) →
+    ((e : Exchange) (g : List Exchange) → Sound e g → P e → value e ≡ measure g) →
+    ((e : Exchange) (g : List Exchange) → P e → measure g < measure (e ∷ g)) →
+    ((e : Exchange) (g : List Exchange) → measure g ≤ measure (e ∷ g)) →
+    {e f : Exchange} {g k h : List Exchange} → AllSound h → Stands e g h → Stands f k h → P e → P f → value e ≡ value f →
+    (e ≡ f) × (g ≡ k)
+one-place P value measure known raises grows =
+    one-rising P value measure (λ e g s p. let z = known e g s p in omega arith)
+    (λ e g s p. let z = known e g s p in let y = raises e g p in omega arith) (λ e g s. grows e g)
 
 -- ---- openings
 
@@ -119,33 +141,92 @@ one-opening n r a b p q = one-place (OpensNumber n) (λ _. n) accepted known rai
     grows : (e : Exchange) (g : List Exchange) → accepted g ≤ accepted (e ∷ g)
     grows e g = by-test (λ (m : ℕ). accepted g ≤ m) (opens (e .verdict)) (λ _. omega arith) (λ _. omega arith)
 
--- each upload is one more of its series
-series-raises : (s n : ℕ) (e : Exchange) (g : List Exchange) → OpensInSeries s n e → uploadsAccepted s g < uploadsAccepted s (e ∷ g)
-unfolding uploadsAccepted
-series-raises s n e g p = rw (p .is, eq-eqb (subscriber (e .request)) s (p .owner)) (omega arith)
+-- ---- the bank's own numbering
 
-series-grows : (s : ℕ) (e : Exchange) (g : List Exchange) → uploadsAccepted s g ≤ uploadsAccepted s (e ∷ g)
-unfolding uploadsAccepted
-series-grows s e g =
-    by-test (λ (m : ℕ). uploadsAccepted s g ≤ m) (acceptsUpload (e .verdict) && eqb (subscriber (e .request)) s)
-    (λ _. omega arith) (λ _. omega arith)
+upload-given : (a : UploadAction) → uploadKind a .opensUpload ≡ true → (n : ℕ) × (a ≡ up.Opened n)
+upload-given (up.Opened n) o = (n, refl)
+upload-given up.Took o = never o
+upload-given up.TookLast o = never o
+upload-given (up.Point k) o = never o
+upload-given (up.Cancelled c) o = never o
 
-pub upload-below : {s n : ℕ} {e : Exchange} {g h : List Exchange} → Stands e g h → OpensInSeries s n e →
-    uploadsAccepted s g < uploadsAccepted s h
-upload-below {s} {n} {e} {g} newest p = series-raises s n e g p
-upload-below {s} (older {x = x} {h = h} a) p =
-    let b = upload-below a p in let c = series-grows s x h in omega arith
+download-given : (a : DownloadAction) → downloadKind a .opensUpload ≡ false
+download-given (down.Opened n) = refl
+download-given (down.Delivered n) = refl
+download-given (down.SentAgain n) = refl
+download-given (down.Point d) = refl
+download-given down.Cancelled = refl
+download-given down.Confirmed = refl
+download-given down.Declined = refl
 
--- "Uploads of a subscriber ... count from A000 on their own": each has its own number in its series
+-- an accepted upload's verdict has its number
+pub accepts-upload : (v : Verdict) → acceptsUpload v ≡ true →
+    (t : Bits128) × (n : ℕ) × (v ≡ verdict.Of t (action.Upload (up.Opened n)))
+accepts-upload verdict.Unreadable o = never o
+accepts-upload (verdict.Refused c) o = never o
+accepts-upload (verdict.Signed n added) o = never o
+accepts-upload (verdict.Of t (action.Download a)) o = never (sym (download-given a) ∙ o)
+accepts-upload (verdict.Of t (action.Upload a)) o =
+    let z = upload-given a o in (t, z .0, ap (λ (b : UploadAction). verdict.Of t (action.Upload b)) (z .1))
+
+own-edition : (x : Edition) → isOwn x ≡ true → x ≡ edition.V25
+own-edition edition.V24 o = never o
+own-edition edition.V25 o = refl
+
+-- what the bank's own numbering gave its number
+pub own-opening : (e : Exchange) → numbersOwn e ≡ true → (n : ℕ) × OpensInSeries (subscriber (e .request)) n e
+own-opening e o =
+    let a = and-true (acceptsUpload (e .verdict)) (isOwn (editionOf (e .request))) o in
+    let z = accepts-upload (e .verdict) (a .0) in
+    (z .1, record { id = z .0; is = z .2; own = own-edition (editionOf (e .request)) (a .1); owner = refl })
+
+module _ {s n : ℕ} {e : Exchange} (p : OpensInSeries s n e) (g : List Exchange) where
+  -- it has not passed the number that it gives
+  pub own-from : Sound e g → ownNumbering s g ≤ n
+  own-from x =
+      let z = subst (λ (v : Verdict). SoundVerdict v e g) (p .is) (x .verdict) .number in
+      let y : NumberedAs edition.V25 n e g = subst (λ (i : Edition). NumberedAs i n e g) (p .own) z in
+      subst (λ (i : ℕ). ownNumbering i g ≤ n) (p .owner) y
+
+  -- and has come past it then
+  pub own-past : ownNumbering s (e ∷ g) ≡ suc n
+  unfolding ownNumbering
+  own-past = rw (p .is, p .own, eq-eqb (subscriber (e .request)) s (p .owner))
+
+-- no other exchange moves it
+pub own-still : (s : ℕ) (e : Exchange) (g : List Exchange) → numbersOwn e && eqb (subscriber (e .request)) s ≡ false →
+    ownNumbering s (e ∷ g) ≡ ownNumbering s g
+unfolding ownNumbering
+own-still s e g z = rw z
+
+own-grows : (s : ℕ) (e : Exchange) (g : List Exchange) → Sound e g → ownNumbering s g ≤ ownNumbering s (e ∷ g)
+own-grows s e g x = at (numbersOwn e && eqb (subscriber (e .request)) s) refl
+  where
+    at : (b : Bool) → numbersOwn e && eqb (subscriber (e .request)) s ≡ b → ownNumbering s g ≤ ownNumbering s (e ∷ g)
+    at true z =
+        let a = and-true (numbersOwn e) (eqb (subscriber (e .request)) s) z in
+        let o = own-opening e (a .0) in
+        let q = o .1 in
+        let p : OpensInSeries s (o .0) e =
+        record { id = q .id; is = q .is; own = q .own; owner = eqb-true (subscriber (e .request)) s (a .1) } in
+        let b = own-from p g x in
+        let c = own-past p g in
+        omega arith
+    at false z = let c = own-still s e g z in omega arith
+
+-- a number that it gave is behind it from then on
+pub upload-below : {s n : ℕ} {e : Exchange} {g h : List Exchange} → AllSound h → Stands e g h → OpensInSeries s n e →
+    n < ownNumbering s h
+upload-below {g = g} (more x r) newest p = let z = own-past p g in omega arith
+upload-below {s} (more {e = x} {h = h} y r) (older a) p =
+    let b = upload-below r a p in let c = own-grows s x h y in omega arith
+
+-- no number comes twice from it
 pub one-upload : (s n : ℕ) {e f : Exchange} {g k h : List Exchange} → AllSound h → Stands e g h → Stands f k h →
     OpensInSeries s n e → OpensInSeries s n f → (e ≡ f) × (g ≡ k)
 one-upload s n r a b p q =
-    one-place (OpensInSeries s n) (λ _. n) (uploadsAccepted s) known (series-raises s n) (series-grows s) r a b p q refl
-  where
-    known : (e : Exchange) (g : List Exchange) → Sound e g → OpensInSeries s n e → n ≡ uploadsAccepted s g
-    known e g x p =
-        subst (λ (v : Verdict). SoundVerdict v e g) (p .is) (x .verdict) .number
-        ∙ ap (λ (m : ℕ). uploadsAccepted m g) (p .owner)
+    one-rising (OpensInSeries s n) (λ _. n) (ownNumbering s) (λ e g x p. own-from p g x)
+    (λ e g x p. let z = own-past p g in omega arith) (own-grows s) r a b p q refl
 
 -- ---- one kind of actions of one transaction
 

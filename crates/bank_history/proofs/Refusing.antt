@@ -61,6 +61,7 @@ refuses code.TransactionAbort = true
 refuses code.MessageReplay = true
 refuses code.SegmentNumberExceeded = true
 refuses code.OrderIdUnknown = true
+refuses code.OrderIdAlreadyExists = true
 refuses code.MaxSegmentsExceeded = true
 refuses code.MaxTransactionsExceeded = true
 
@@ -87,6 +88,7 @@ refusing-code code.TransactionAbort = refl
 refusing-code code.MessageReplay = refl
 refusing-code code.SegmentNumberExceeded = refl
 refusing-code code.OrderIdUnknown = refl
+refusing-code code.OrderIdAlreadyExists = refl
 refusing-code code.MaxSegmentsExceeded = refl
 refusing-code code.MaxTransactionsExceeded = refl
 
@@ -147,6 +149,7 @@ module _ (context : Context) (w : BankState) (q : Fields) (d : List ℕ) where
   request-refuses requests.DownloadTransfer = transaction-refuses asked.DownloadTransfer
   request-refuses requests.Receipt = transaction-refuses asked.Receipt
   request-refuses requests.Signing = signing-refuses
+  request-refuses requests.ChosenOpening = opening-refuses direction.Upload
 
   form-refuses : (f : Form) → Refuses (judgeForm f context (w .bank) q)
   form-refuses NoForm = refl

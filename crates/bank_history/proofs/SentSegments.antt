@@ -11,7 +11,9 @@ use Rattle.frame_table.specs.Forms as forms
 use Rattle.frame_table.specs.Names.{transaction, segments, segment, returnCode, form, sameBits}
 use Rattle.octets.proofs.Tests.{never, and-true}
 use Rattle.frame_table.proofs.Bits.{bits-same}
+use Rattle.message.specs.declared.editions.Edition.{Edition}
 use Rattle.message.specs.Codes.{codeField}
+use Rattle.message.specs.Editions.{editionOf}
 use Rattle.message.specs.Replies.{downloadSegment}
 use Rattle.message.proofs.Verdicts.{by-test}
 use Rattle.bank_verdicts.specs.declared.verdict.UploadAction.the-variants as up
@@ -21,12 +23,13 @@ use Rattle.bank_verdicts.specs.declared.verdict.Action.the-variants as action
 use Rattle.bank_verdicts.specs.declared.verdict.Verdict.{Verdict}
 use Rattle.bank_verdicts.specs.declared.verdict.Verdict.the-variants as verdict
 use Rattle.bank_verdicts.specs.Replies.{replyTo}
-use Rattle.bank_history.specs.History.{Exchange, Stands, newest, older, ActionIn, isDelivery, did, times}
+use Rattle.bank_history.specs.History.{Exchange, Stands, newest, older, ActionIn, isDelivery, did, times, opens as isOpens}
 use Rattle.bank_history.specs.Sound.{AllSound, more}
 use Rattle.bank_history.specs.FalseEconomies.{Sent, Fits, opens, takes, delivers}
 use Rattle.bank_history.proofs.Counted.{isFitting}
 use Rattle.bank_history.proofs.Entries.{times-own}
-use Rattle.bank_history.proofs.Positions.{action-sound}
+use Rattle.bank_history.proofs.Opened.{is-opened}
+use Rattle.bank_history.proofs.Positions.{sound-at, action-sound}
 use Rattle.bank_history.proofs.Replies.{
   verdictForm,
   verdictCode,
@@ -38,6 +41,7 @@ use Rattle.bank_history.proofs.Replies.{
   IsAction,
   ActionOf,
   is-action,
+  opened-answers,
 }
 use Rattle.bank_history.proofs.Theorems.{reply-is, download-opened}
 
@@ -53,14 +57,16 @@ action-in f t x (verdict.Of u k) e d =
 
 module _ {u : Bits128} {k : Action} {f : Exchange} {g h : List Exchange} (sound : AllSound h) (stands : Stands f g h)
     (own : f .verdict ≡ verdict.Of u k) where
-  pub reply-form : form (f .reply) ≡ actionForm k
-  reply-form = ap form (reply-is sound stands) ∙ (verdict-form (f .verdict) (f .request) ∙ ap verdictForm own)
+  pub reply-form : form (f .reply) ≡ actionForm (editionOf (f .request)) k
+  reply-form =
+      ap form (reply-is sound stands)
+      ∙ (verdict-form (f .verdict) (f .request) ∙ ap (verdictForm (editionOf (f .request))) own)
 
   pub reply-code : returnCode (f .reply) ≡ codeField (actionCode k)
   reply-code =
       ap returnCode (reply-is sound stands) ∙ (verdict-code (f .verdict) (f .request) ∙ ap (λ (v : Verdict). codeField (verdictCode v)) own)
 
-  pub reply-transaction : (actionForm k ≡ forms.Refusal → ⊥) → transaction (f .reply) ≡ u
+  pub reply-transaction : (actionForm (editionOf (f .request)) k ≡ forms.Refusal → ⊥) → transaction (f .reply) ≡ u
   reply-transaction n =
       ap transaction (reply-is sound stands ∙ ap (λ (v : Verdict). replyTo v (f .request)) own) ∙ action-transaction u (f .request) k n
 
@@ -99,11 +105,14 @@ sent-most t {n} {h} sound s = by-form (s .formed)
     grown : times isDelivery t (f ∷ g) ≤ times isDelivery t h
     grown = stands-times isDelivery t (s .stands)
 
-    not-refusal : (k : Action) → actionForm k ≡ forms.DownloadSegment → actionForm k ≡ forms.Refusal → ⊥
+    x : Edition
+    x = editionOf (f .request)
+
+    not-refusal : (k : Action) → actionForm x k ≡ forms.DownloadSegment → actionForm x k ≡ forms.Refusal → ⊥
     not-refusal k y z = let x : _≡_ {A = ℕ} 0 1 = cc in omega arith
 
     -- its transaction is t
-    ours : {u : Bits128} {k : Action} → f .verdict ≡ verdict.Of u k → actionForm k ≡ forms.DownloadSegment → f .verdict ≡ verdict.Of t k
+    ours : {u : Bits128} {k : Action} → f .verdict ≡ verdict.Of u k → actionForm x k ≡ forms.DownloadSegment → f .verdict ≡ verdict.Of t k
     ours {u} {k} own z =
         own ∙ ap (λ (i : Bits128). verdict.Of i k) (sym (reply-transaction sound (s .stands) own (not-refusal k z)) ∙ s .id)
 
@@ -139,7 +148,7 @@ sent-most t {n} {h} sound s = by-form (s .formed)
     by-form : (form (f .reply) ≡ forms.DownloadOpened) ⊎ (form (f .reply) ≡ forms.DownloadSegment) → n ≤ times isDelivery t h
     by-form (inl z) = opened z
     by-form (inr z) =
-        let d = is-action (f .verdict) forms.DownloadSegment
+        let d = is-action x (f .verdict) forms.DownloadSegment
         (sym (ap form (reply-is sound (s .stands)) ∙ verdict-form (f .verdict) (f .request)) ∙ z) refl in
         by-kind d (d .kind)
 
@@ -155,8 +164,11 @@ delivered-new {t} m sound stands own s =
 
 fits-by : {t : Bits128} {f : Exchange} {g h : List Exchange} (k : Action) → AllSound h → Stands f g h → f .verdict ≡ verdict.Of t k →
     isFitting k ≡ true → Fits t g f
-fits-by (action.Upload (up.Opened m)) sound stands own z =
-    opens (record { formed = inl (reply-form sound stands own); id = reply-transaction sound stands own (λ y. let x : _≡_ {A = ℕ} 0 1 = cc in omega arith) })
+fits-by {f = f} (action.Upload (up.Opened m)) sound stands own z =
+    opens (record {
+      accepted = is-opened (sound-at sound stands) ∙ ap isOpens own;
+      id = reply-transaction sound stands own (opened-answers (editionOf (f .request)));
+    })
 fits-by (action.Upload up.Took) sound stands own z =
     takes (record {
       formed = reply-form sound stands own;
@@ -172,7 +184,10 @@ fits-by (action.Upload up.TookLast) sound stands own z =
 fits-by (action.Upload (up.Point m)) sound stands own z = never z
 fits-by (action.Upload (up.Cancelled c)) sound stands own z = never z
 fits-by (action.Download (down.Opened m)) sound stands own z =
-    opens (record { formed = inr (reply-form sound stands own); id = reply-transaction sound stands own (λ y. let x : _≡_ {A = ℕ} 0 1 = cc in omega arith) })
+    opens (record {
+      accepted = is-opened (sound-at sound stands) ∙ ap isOpens own;
+      id = reply-transaction sound stands own (λ y. let x : _≡_ {A = ℕ} 0 1 = cc in omega arith);
+    })
 fits-by (action.Download (down.Delivered m)) sound stands own z =
     delivers (reply-form sound stands own) (reply-transaction sound stands own (λ y. let x : _≡_ {A = ℕ} 0 1 = cc in omega arith))
     (delivered-new m sound stands own)

@@ -15,6 +15,9 @@ use Rattle.octets.proofs.Tests.{never}
 use Rattle.frame_table.specs.Names.{subscriber, returnCode, form}
 use Rattle.message.specs.declared.codes.ReturnCode.the-variants as code
 use Rattle.message.specs.Codes.{codeField}
+use Rattle.message.specs.declared.editions.Edition.{Edition}
+use Rattle.message.specs.declared.editions.Edition.the-variants as edition
+use Rattle.message.specs.Editions.{openingForm}
 use Rattle.message.specs.Limits.{subscribers}
 use Rattle.signers.specs.Signers.{hasBit, isSigner, withSigner, countFrom, signerCount}
 use Rattle.signers.proofs.Laws.{with-signer, nobody, nobody-yet}
@@ -55,6 +58,11 @@ unsigned-code x other =
 -- nor is an answer to another request
 pub unsigned-form : (x : Exchange) → isSigningForm (form (x .request)) ≡ false → isSigned x ≡ false
 unsigned-form x other = rw other refl
+
+-- an upload's opening is no signing
+pub opening-unsigned : (e : Edition) → isSigningForm (openingForm e) ≡ false
+opening-unsigned edition.V24 = refl
+opening-unsigned edition.V25 = refl
 
 -- a request to a transaction is no signing
 pub transaction-form : (r : TransactionRequest) → isSigningForm (requestForm r) ≡ false

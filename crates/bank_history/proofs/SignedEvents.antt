@@ -16,46 +16,48 @@ use Rattle.frame_table.specs.Names.{subscriber, transaction, segment, returnCod
 use Rattle.octets.proofs.Tests.{and-true-right}
 use Rattle.message.specs.declared.codes.ReturnCode.the-variants as code
 use Rattle.message.specs.Codes.{codeField}
-use Rattle.message.specs.Limits.{ful}
+use Rattle.message.specs.Editions.{editionOf}
 use Rattle.message.specs.OrderNumbers.{orderNumberOf}
 use Rattle.bank_state.specs.Rows.{countOf}
 use Rattle.journal.specs.declared.event.Kind.{Kind}
 use Rattle.journal.specs.declared.event.Kind.the-variants as kind
 use Rattle.journal.specs.declared.event.Entry.{Entry}
 use Rattle.journal.specs.declared.event.OrderName.{OrderName}
+use Rattle.journal.proofs.Lookup.{same-name}
 use Rattle.journal.specs.Events.{eventOf, eventsFrom}
-use Rattle.journal.specs.Row.{isOf}
+use Rattle.journal.specs.Records.{nameOf}
 use Rattle.bank_events.specs.Entries.{entry}
 use Rattle.bank_history.specs.History.{Exchange, newest, BankCall, start, pastOf}
 use Rattle.bank_history.specs.Signatures.{signedName, sameName, isSigned, signs, hasSigned, signatureCount}
 use Rattle.bank_history.specs.Sound.{isCancelling, SoundSigning}
-use Rattle.bank_history.specs.ByReplies.{ofReply, segmentCountOf, isUploadId, isCode}
+use Rattle.bank_history.specs.Opened.{ofReply, isUploadOpened}
+use Rattle.bank_history.specs.ByReplies.{numberGiven, segmentCountOf, isUploadId, isCode}
 use Rattle.bank_history.specs.FalseEconomies.{Next}
-use Rattle.bank_history.specs.Journal.{entryOf, uploadDrops, numberNamed, signedEntries, replyEntries, entriesOf, eventsIn}
+use Rattle.bank_history.specs.Journal.{entryOf, uploadDrops, bookedAs, signedEntries, replyEntries, entriesOf, eventsIn}
 use Rattle.bank_history.specs.Signers.{isSignedKind, isSignedOf}
-use Rattle.bank_history.proofs.Closed.{by-exchange}
+use Rattle.bank_history.proofs.Closed.{by-exchange, booked-status}
 use Rattle.bank_history.proofs.Counts.{unit, count-append, count-map, count-none}
 use Rattle.bank_history.proofs.Entries.{and-no}
 use Rattle.bank_history.proofs.GivenSigners.{count-from}
-use Rattle.bank_history.proofs.NamedNumbers.{number-named}
+use Rattle.bank_history.proofs.Keeps.{past-holds}
 use Rattle.bank_history.proofs.NextCall.{all-sound}
 use Rattle.bank_history.proofs.Positions.{signing-sound}
 use Rattle.bank_history.proofs.Replies.{verdictForm, verdict-form}
 use Rattle.bank_history.proofs.SignedHistory.{same-named, signed-signs, signatures-more, signatures-same, no-signatures}
+use Rattle.bank_history.proofs.SignedOrders.{signed-entry}
 use Rattle.bank_history.proofs.SignedVerdicts.{IsSigned, next-signed}
 use Rattle.bank_history.proofs.Theorems.{history-sound, reply-is}
 
 -- an entry signed of the order o
 abbrev isSignedEntry : OrderName → Entry → Bool
-isSignedEntry o y = isSignedKind (y .kind) && isOf o (eventOf 0 0 y)
+isSignedEntry o y = isSignedKind (y .kind) && sameName (nameOf (eventOf 0 0 y)) o
 
 -- the entries numbered on
 count-signed : (o : OrderName) (n clock : ℕ) (es : List Entry) →
     countOf (isSignedOf o) (eventsFrom n clock es) ≡ countOf (isSignedEntry o) es
-unfolding isOf
 count-signed o =
-    count-from (λ (k : Kind) (s t m : ℕ). isSignedKind k
-    && (eqb s (o .subscriber) && eqb t (o .«order_type») && eqb (orderNumberOf m) (o .number)))
+    count-from (λ (k : Kind) (s t m : ℕ) (i : Bits128). isSignedKind k
+    && sameName (record { subscriber = s; «order_type» = t; number = orderNumberOf m }) o)
 
 module _ {calls : List BankCall} {e : Exchange} (n : Next calls e) (o : OrderName) where
   abbrev h : List Exchange
@@ -85,21 +87,23 @@ module _ {calls : List BankCall} {e : Exchange} (n : Next calls e) (o : OrderNam
 
     refused-form : form (e .reply) ≡ forms.Refusal
     refused-form =
-        ap form (reply-is (all-sound n) newest) ∙ (verdict-form (e .verdict) (e .request) ∙ ap verdictForm (own .2))
+        ap form (reply-is (all-sound n) newest) ∙ (verdict-form (e .verdict) (e .request) ∙ ap (verdictForm (editionOf (e .request))) (own .2))
 
     abbrev name : OrderName
     name = signedName e
 
     abbrev event : Entry
-    event = entry kind.Signed (name .subscriber) (numberNamed name h)
+    event = entry kind.Signed (name .subscriber) (own .0 .number) (own .0 .transaction)
+
+    -- the entries that the booked upload of its name gives
+    entered : map (λ (t : Bits128). entryOf kind.Signed t h) (bookedAs name h) ≡ event ∷ []
+    entered =
+        signed-entry (history-sound calls) told (pastOf calls .bankState) (past-holds calls .invariant)
+        (λ t. booked-status t calls)
 
     event-named : isSignedEntry o event ≡ sameName name o
-    unfolding isOf sameName
     event-named =
-        let t : ful ≡ name .«order_type» = sym (told .typed) in
-        let m : orderNumberOf (numberNamed name h) ≡ name .number =
-        ap orderNumberOf (number-named (history-sound calls) told) ∙ sym (told .named) in
-        λ i. eqb (name .subscriber) (o .subscriber) && eqb (t i) (o .«order_type») && eqb (m i) (o .number)
+        ap (λ (r : OrderName). sameName r o) (same-name refl (sym (told .typed)) (sym (told .named)))
 
     first-event : (b : Bool) → countOf (isSignedEntry o) (cond b [] (event ∷ [])) ≡ unit (sameName name o && not b)
     unfolding countOf
@@ -117,9 +121,10 @@ module _ {calls : List BankCall} {e : Exchange} (n : Next calls e) (o : OrderNam
     signing-adds =
         ap (λ (f : Form). countOf (isSignedEntry o) (ofReply [] (replyEntries e h) f)) refused-form
         ∙ (ap (λ (b : Bool). countOf (isSignedEntry o) (cond b (signedEntries e h) cancelled)) z
+        ∙ (ap (λ (l : List Entry). countOf (isSignedEntry o) (cond (hasSigned name u h) [] l)) entered
         ∙ (first-event (hasSigned name u h)
         ∙ (ap unit (same-order (sameName name o) refl)
-        ∙ ap (λ (b : Bool). unit (b && sameName name o && not (hasSigned o u h))) (sym z))))
+        ∙ ap (λ (b : Bool). unit (b && sameName name o && not (hasSigned o u h))) (sym z)))))
 
     signature-adds : signatureCount o (e ∷ h) ≡ unit isFirst + signatureCount o h
     signature-adds = signatures-more o e h (told .known) (told .most)
@@ -146,7 +151,8 @@ module _ {calls : List BankCall} {e : Exchange} (n : Next calls e) (o : OrderNam
         (isCode (codeField code.Ok) e && eqb (segment (e .request)) (segmentCountOf (transaction (e .reply)) h))
         (entryOf kind.Booked (transaction (e .reply)) h) refl
     none-entered (Reply replies.DownloadSegment) = refl
-    none-entered (Reply replies.ReceiptAnswered) = refl
+    none-entered (Reply replies.ReceiptAnswered) =
+        none-or-one (isUploadOpened e) (entry kind.Opened u (numberGiven e) (transaction (e .reply))) refl
     none-entered (Reply replies.Refusal) =
         ap (λ (b : Bool). countOf (isSignedEntry o) (cond b (signedEntries e h) cancelled)) z
         ∙ none-or-one (isCancelling (returnCode (e .reply)) && isUploadId (transaction (e .request)) h)

@@ -63,6 +63,7 @@ is-signing (Request requests.UploadTransfer) z = never z
 is-signing (Request requests.DownloadTransfer) z = never z
 is-signing (Request requests.Receipt) z = never z
 is-signing (Request requests.Signing) z = refl
+is-signing (Request requests.ChosenOpening) z = never z
 is-signing (Reply x) z = never z
 
 pub signed-signs : (e : Exchange) → isSigned e ≡ true → Signs e

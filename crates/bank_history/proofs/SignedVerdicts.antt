@@ -1,6 +1,5 @@
 -- The verdict behind an answer to a signing: 000000 is given where the bank has signed, and nowhere else. By the cases of
 -- a request, and by induction on the calls. Assumes nothing.
-use Prim.Native.Nat.{ℕ}
 use mathlib.Core.Bool.{Bool, true}
 use mathlib.Core.List.{List, [], _∷_}
 use mathlib.Core.Path.{_≡_, refl, sym, ap, _∙_, subst}
@@ -15,8 +14,10 @@ use Rattle.message.specs.declared.codes.ReturnCode.{ReturnCode}
 use Rattle.message.specs.declared.codes.ReturnCode.the-variants as code
 use Rattle.message.specs.Codes.{codeField}
 use Rattle.bank_state.specs.State.{BankState}
+use Rattle.bank_verdicts.specs.declared.verdict.SignedOrder.{SignedOrder}
 use Rattle.bank_verdicts.specs.declared.verdict.Verdict.{Verdict}
 use Rattle.bank_verdicts.specs.declared.verdict.Verdict.the-variants as verdict
+use Rattle.message.specs.Editions.{editionOf}
 use Rattle.bank_verdicts.specs.Judgement.{signed}
 use Rattle.bank_steps.proofs.Cases.{
   Happens,
@@ -38,13 +39,13 @@ use Rattle.bank_history.proofs.Closed.{by-exchange}
 use Rattle.bank_history.proofs.NextCall.{judgedBank, asked, sent, all-sound, verdict-is, request-is, case-is}
 use Rattle.bank_history.proofs.Refusing.{refuses, refusing-not-ok, Refuses, verdict-refuses}
 use Rattle.bank_history.proofs.Replies.{verdictCode, verdict-code}
-use Rattle.bank_history.proofs.Series.{stands-none}
-use Rattle.bank_history.proofs.Signatures.{transaction-form}
+use Rattle.bank_history.proofs.Positions.{stands-none}
+use Rattle.bank_history.proofs.Signatures.{transaction-form, opening-unsigned}
 use Rattle.bank_history.proofs.Theorems.{reply-is}
 
 -- an accepted signing
 abbrev pub IsSigned : Verdict → Type 0
-IsSigned v = (m : ℕ) × (added : Bool) × (v ≡ verdict.Signed m added)
+IsSigned v = (m : SignedOrder) × (added : Bool) × (v ≡ verdict.Signed m added)
 
 -- ---- the next call
 
@@ -71,7 +72,8 @@ module _ {calls : List BankCall} {e : Exchange} (n : Next calls e) where
       at : {u : Verdict} → Refuses u → Happens (number (n .input .ids)) w q (sent n) u → P u
       at r unreadable = unread
       at r (refused c y) = refuse c r
-      at r (opensUpload f a g m inside below) = never (ap isSigningForm (sym f ∙ signing))
+      at r (opensUpload f a g m inside below) =
+          never (sym (opening-unsigned (editionOf q)) ∙ ap isSigningForm (sym f ∙ signing))
       at r (opensDownload f a g m) = never (ap isSigningForm (sym f ∙ signing))
       at r (toUpload x a t) = never (sym (transaction-form x) ∙ ap isSigningForm (sym (t .asked) ∙ signing))
       at r (toDownload x a t) = never (sym (transaction-form x) ∙ ap isSigningForm (sym (t .asked) ∙ signing))

@@ -19,6 +19,7 @@ use Rattle.frame_table.specs.Table.{isRequestForm}
 use Rattle.octets.proofs.Tests.{and-true, or-right}
 use Rattle.message.specs.declared.codes.ReturnCode.the-variants as code
 use Rattle.message.specs.Codes.{codeField}
+use Rattle.message.specs.Editions.{editionOf}
 use Rattle.message.specs.Limits.{ful, subscribers}
 use Rattle.signers.specs.Signers.{releasing, hasBit, isSigner, signerCount, isReleased}
 use Rattle.journal.specs.declared.event.OrderName.{OrderName}
@@ -43,20 +44,21 @@ use Rattle.bank_history.specs.History.{Exchange, Stands, newest, BankCal
 use Rattle.bank_history.specs.Signatures.{signedName, signatureCount, signersIn}
 use Rattle.bank_history.specs.Sound.{SoundSigning}
 use Rattle.bank_history.specs.FalseEconomies.{Next, WellMadeOpening, Opens, RefusedWith}
-use Rattle.bank_history.specs.Signers.{WellMadeSigning, Signs, isKept, Timely, Signature, BooksOrder, InBook, signersAt, bankAfter, historyAfter, SignsOnly, SignersTold}
+use Rattle.bank_history.specs.Timely.{isKept, Timely}
+use Rattle.bank_history.specs.Signers.{WellMadeSigning, Signs, Signature, BooksOrder, InBook, signersAt, bankAfter, historyAfter, SignsOnly, SignersTold}
 use Rattle.bank_history.proofs.Book.{order-at, opens-named, books-named, in-book-books, books-in-book, books-later, book-later, book-earlier}
 use Rattle.bank_history.proofs.DropOrder.{OpensAs}
 use Rattle.bank_history.proofs.Entries.{and-no}
 use Rattle.bank_history.proofs.FalseEconomies.{nonce-seen, seen-refused, opens-remembered}
 use Rattle.bank_history.proofs.FreshNonces.{no-replay, some-room, no-room}
 use Rattle.bank_history.proofs.NextCall.{judgedBank, asked, sent, all-sound, verdict-is, request-is, clock-is, judged-holds, bank-after, refused-with, well-made}
-use Rattle.bank_history.proofs.NamedNumbers.{signed-upload}
 use Rattle.bank_history.proofs.Positions.{stands-behind, signing-sound}
 use Rattle.bank_history.proofs.Replies.{verdictForm, verdictCode, verdict-form}
 use Rattle.bank_history.proofs.SentSegments.{sound-before}
 use Rattle.bank_history.proofs.Signatures.{has-bit, signer-told, signatures-told}
 use Rattle.bank_history.proofs.SignedEvents.{signed-events}
 use Rattle.bank_history.proofs.SignedHistory.{has-signature, signature-has}
+use Rattle.bank_history.proofs.SignedOrders.{signed-upload}
 use Rattle.bank_history.proofs.SignedVerdicts.{signing-case, signs-by, IsSigned, all-signed, coded, asks-signing}
 use Rattle.bank_history.proofs.Theorems.{invariant, history-sound, reply-is}
 use Rattle.bank_history.proofs.UploadRequests.{verdict-by-form}
@@ -89,9 +91,9 @@ module _ (calls : List BankCall) {o : OrderName} {s : ℕ} (x : Signature o s (h
       let sound = sound-before (history-sound calls) (x .stands) in
       let within : (e : Exchange) (k : List Exchange) → Stands e k (x .before) → Stands e k (historyAfter calls) =
       λ e k p. stands-behind p (x .stands) in
-      books-named calls sound within (told .id)
-      (opens-named calls sound within (told .id) (own .0)
-      (subst (λ (m : ℕ). OpensAs m (own .0) (told .id) (x .before)) (ap (λ (u : OrderName). u .subscriber) (x .named))
+      books-named calls sound within (own .0 .transaction)
+      (opens-named calls sound within (own .0 .transaction) (own .0 .number)
+      (subst (λ (m : ℕ). OpensAs m (own .0 .number) (own .0 .transaction) (x .before)) (ap (λ (u : OrderName). u .subscriber) (x .named))
       (signed-upload sound told))
       (sym (told .typed) ∙ ap (λ (u : OrderName). u .«order_type») (x .named))
       (sym (told .named) ∙ ap (λ (u : OrderName). u .number) (x .named))) (told .booked)
@@ -171,7 +173,7 @@ module _ {calls : List BankCall} {e : Exchange} (n : Next calls e) where
   next-reply : Signs e → (form (e .reply) ≡ forms.Refusal) × (e .replyData ≡ [])
   next-reply s =
       let own = signs-by n s .1 in (
-        ap form (reply-is (all-sound n) newest) ∙ (verdict-form (e .verdict) (e .request) ∙ ap verdictForm own),
+        ap form (reply-is (all-sound n) newest) ∙ (verdict-form (e .verdict) (e .request) ∙ ap (verdictForm (editionOf (e .request))) own),
         signing-sound (all-sound n) newest own .bare,
       )
 

@@ -167,14 +167,13 @@ module _ (w : BankState) (h : List Exchange) (v : Invariant w h) (q : Fields) (d
   order-told : OrderTold h old (partAt (w .orders) i)
   order-told = subst (λ (u : Use). PlaceTold u h old (partAt (w .orders) i)) (named .0) (v .places i (t .signable .inside))
 
-  sound : SoundSigning (old .number) (not (isSigner (subscriber q) (old .signers))) x h
+  sound : SoundSigning (record { transaction = old .transaction; number = old .number }) (not (isSigner (subscriber q) (old .signers))) x h
   sound = record {
     asked = t .asked;
     known = t .readable .known;
     most = t .readable .most;
     typed = t .signable .upload;
     named = sym (named .2);
-    id = old .transaction;
     opened = order-told .place .opened;
     owned = order-told .place .owner ∙ named .1;
     order = order-told .place .order;

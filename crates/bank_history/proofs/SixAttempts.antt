@@ -14,6 +14,7 @@ use Rattle.frame_table.specs.Names.{subscriber, transaction, segment, form}
 use Rattle.octets.proofs.Tests.{never}
 use Rattle.message.specs.declared.codes.ReturnCode.the-variants as code
 use Rattle.message.specs.Codes.{codeField}
+use Rattle.message.specs.Editions.{editionOf}
 use Rattle.message.specs.Limits.{maxAttempts}
 use Rattle.message.specs.Replies.{downloadOpened}
 use Rattle.bank_state.specs.declared.state.Download.{Download}
@@ -211,7 +212,8 @@ past-tracked (call ∷ calls) =
 attempt-did : {t : Bits128} {e : Exchange} {g : List Exchange} → AllSound (e ∷ g) → Attempt t g e → did isAttempt t (e .verdict) ≡ true
 attempt-did {t} {e} {g} sound (point r id) = at (recovery-point sound newest (r .formed) (r .coded))
   where
-    is : (k : Action) → e .verdict ≡ verdict.Of (transaction (e .request)) k → actionForm k ≡ forms.SegmentTaken → isAttempt k ≡ true →
+    is : (k : Action) → e .verdict ≡ verdict.Of (transaction (e .request)) k →
+        actionForm (editionOf (e .request)) k ≡ forms.SegmentTaken → isAttempt k ≡ true →
         did isAttempt t (e .verdict) ≡ true
     is k own f z =
         let same : transaction (e .request) ≡ t =
@@ -224,11 +226,12 @@ attempt-did {t} {e} {g} sound (point r id) = at (recovery-point sound newest (r 
     at (inl u) = is _ (u .0) refl refl
     at (inr u) = is _ (u .0) refl refl
 attempt-did {t} {e} {g} sound (again formed id before) =
-    let d = is-action (e .verdict) forms.DownloadSegment
+    let d = is-action (editionOf (e .request)) (e .verdict) forms.DownloadSegment
     (sym (ap form (reply-is sound newest) ∙ verdict-form (e .verdict) (e .request)) ∙ formed) refl in
     at d (d .kind)
   where
-    ours : (u : Bits128) (k : Action) → e .verdict ≡ verdict.Of u k → actionForm k ≡ forms.DownloadSegment → e .verdict ≡ verdict.Of t k
+    ours : (u : Bits128) (k : Action) → e .verdict ≡ verdict.Of u k →
+        actionForm (editionOf (e .request)) k ≡ forms.DownloadSegment → e .verdict ≡ verdict.Of t k
     ours u k own f =
         own ∙ ap (λ (i : Bits128). verdict.Of i k)
         (sym (reply-transaction sound newest own (λ y. let z : _≡_ {A = ℕ} 0 1 = cc in omega arith)) ∙ id)

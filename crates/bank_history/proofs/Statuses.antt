@@ -26,7 +26,7 @@ use Rattle.bank_state.specs.declared.state.Use.the-variants as uses
 use Rattle.bank_state.specs.Clock.{isIdle, ends, endDownloads, advanced}
 use Rattle.bank_state.specs.Limits.{placeCount, idleLimit}
 use Rattle.bank_state.specs.Search.{isFree, isOpen, isDownload, freePlace, freeDownload}
-use Rattle.bank_state.specs.State.{BankState, noPlace, noDownload, fresh, placeAt, downloadAt, seriesOf}
+use Rattle.bank_state.specs.State.{BankState, noPlace, noDownload, fresh, placeAt, downloadAt}
 use Rattle.bank_state.proofs.Drops.{each-endDownloads}
 use Rattle.bank_state.proofs.Found.{upload-found, download-found}
 use Rattle.bank_openings.specs.Openings.{counted, countedUpload, openUpload, openDownload}
@@ -40,7 +40,7 @@ use Rattle.bank_verdicts.specs.declared.verdict.Action.{Action}
 use Rattle.bank_verdicts.specs.declared.verdict.Action.the-variants as action
 use Rattle.bank_verdicts.specs.declared.verdict.Verdict.{Verdict}
 use Rattle.bank_verdicts.specs.declared.verdict.Verdict.the-variants as verdict
-use Rattle.bank_verdicts.specs.Judgement.{transactionOf, mailboxSegments, uploadAt, downloadOf, orderAt, signed}
+use Rattle.bank_verdicts.specs.Judgement.{transactionOf, openingNumber, mailboxSegments, uploadAt, downloadOf, orderAt, signed}
 use Rattle.bank_signing.specs.Signings.{sign}
 use Rattle.bank_uploads.specs.Uploads.{grown, booked, attempted, placeAfter}
 use Rattle.bank_steps.specs.Steps.{onUpload, carryOut}
@@ -263,7 +263,7 @@ module _ (w : BankState) (h : List Exchange) (v : Invariant w h) (σ : Bits128 �
     elsewhere u l = unchanged u (other-bits u t (λ z. omega arith))
 
     old-place : (j : ℕ) → j < placeCount → PlaceTold (then (verdict.Of t k)) (placeAt (w .bank) j)
-    old-place j b z = elsewhere _ (place-counted w (v .state) j b (open-used (placeAt (w .bank) j .used) z) .0)
+    old-place j b z = elsewhere _ (place-counted w (v .state) j b (open-used (placeAt (w .bank) j .used) z))
         ∙ told .places j b z
 
     old-download : (j : ℕ) → DownloadTold (then (verdict.Of t k)) (downloadAt (w .bank) j)
@@ -533,7 +533,7 @@ module _ (w : BankState) (h : List Exchange) (v : Invariant w h) (σ : Bits128 �
   case-told (refused r z) = told
   case-told {first} (opensUpload asked a g n inside below) =
       let t = transactionOf first (w .bank) in
-      let k = action.Upload (up.Opened (seriesOf (subscriber q) (w .bank .series))) in
+      let k = action.Upload (up.Opened (openingNumber (w .bank) q)) in
       let w′ = carryOut (verdict.Of t k) w q d in
       let own : then (verdict.Of t k) t ≡ Open direction.Upload (subscriber q) (w .bank .clock) = rw (same-bits t) in
       record {
@@ -542,7 +542,7 @@ module _ (w : BankState) (h : List Exchange) (v : Invariant w h) (σ : Bits128 �
         downloads = old-download t k refl (λ u z. rw z);
         shown = shown-by t k w′
             (subst (Shown w′ t) (sym own)
-            (upload (ownUpload.opened-open first w h v q d t (seriesOf (subscriber q) (w .bank .series))
+            (upload (ownUpload.opened-open first w h v q d t (openingNumber (w .bank) q)
             (opensUpload asked a g n inside below) refl)))
             (λ u z. rw z (still-shown w w′ u (σ u) (told .shown u)
             (λ f s last. open-other u (opensUpload asked a g n inside below) (no-action u t k z) f s last

@@ -10,13 +10,14 @@ use lib.ListN.{replicate, List·getD-eq-default}
 use Rattle.frame_table.specs.declared.fields.Bits128.{Bits128}
 use Rattle.frame_table.specs.declared.table.Form.{Form}
 use Rattle.frame_table.specs.Forms as forms
-use Rattle.frame_table.specs.Names.{exchange, transaction, segments, segment, lastMark, returnCode, form, orderNumber}
+use Rattle.frame_table.specs.Names.{exchange, transaction, segments, segment, lastMark, returnCode, form}
 use Rattle.octets.proofs.Tests.{never}
 use Rattle.message.specs.declared.codes.ReturnCode.{ReturnCode}
 use Rattle.message.specs.declared.codes.ReturnCode.the-variants as code
 use Rattle.message.specs.Codes.{codeField}
+use Rattle.message.specs.Editions.{editionOf, orderOpened}
 use Rattle.message.specs.Limits.{fileBytes}
-use Rattle.message.specs.Replies.{downloadOpened, segmentTaken, recoveryPoint, downloadSegment, uploadOpened}
+use Rattle.message.specs.Replies.{downloadOpened, segmentTaken, recoveryPoint, downloadSegment}
 use Rattle.message.specs.Segments.{lastMarkOf}
 use Rattle.bank_state.specs.declared.state.Place.{Place}
 use Rattle.bank_state.specs.declared.state.Use.{Use}
@@ -36,6 +37,7 @@ use Rattle.bank_verdicts.specs.Replies.{replyTo}
 use Rattle.bank_admitted.specs.State.{mailboxFile}
 use Rattle.bank_history.specs.History.{CancelsWith, Exchange, Stands, BankCall, pastOf, isTaking, isBooking, isEnding, ever, received, ActionIn}
 use Rattle.bank_history.specs.History as cancelled
+use Rattle.bank_history.specs.Opened.{isUploadOpened}
 use Rattle.bank_history.specs.Sound.{
   isCancelling,
   SoundUploadOpening,
@@ -51,6 +53,7 @@ use Rattle.bank_history.specs.Sound.{
 use Rattle.bank_history.specs.Invariant.{OrderTold, PlaceTold, DownloadTold, Invariant}
 use Rattle.bank_history.specs.Transactions.{Gone, Order}
 use Rattle.bank_history.proofs.Entries.{ever-action}
+use Rattle.bank_history.proofs.Opened.{upload-behind, order-opened}
 use Rattle.bank_history.proofs.Positions.{sound-at, action-sound}
 use Rattle.bank_history.proofs.Replies.{
   ofAction,
@@ -174,7 +177,7 @@ module _ {e : Exchange} {g h : List Exchange} (sound : AllSound h) (stands : Sta
   pub reply-is : e .reply ≡ replyTo (e .verdict) (e .request)
   reply-is = sound-at sound stands .reply
 
-  formed : form (e .reply) ≡ verdictForm (e .verdict)
+  formed : form (e .reply) ≡ verdictForm (editionOf (e .request)) (e .verdict)
   formed = ap form reply-is ∙ verdict-form (e .verdict) (e .request)
 
   coded : returnCode (e .reply) ≡ codeField (verdictCode (e .verdict))
@@ -186,27 +189,23 @@ module _ {e : Exchange} {g h : List Exchange} (sound : AllSound h) (stands : Sta
 
   -- the action behind a reply in one of the forms that only an action is answered in
   action-behind : (f : Form) → form (e .reply) ≡ f → ofAction f ≡ true → IsAction (e .verdict) f
-  action-behind f z d = is-action (e .verdict) f (sym formed ∙ z) d
+  action-behind f z d = is-action (editionOf (e .request)) (e .verdict) f (sym formed ∙ z) d
 
   says : {t : Bits128} {k : Action} → e .verdict ≡ verdict.Of t k → e .reply ≡ replyTo (verdict.Of t k) (e .request)
   says own = reply-is ∙ ap (λ (v : Verdict). replyTo v (e .request)) own
 
-  carries : {t : Bits128} {k : Action} → e .verdict ≡ verdict.Of t k → (actionForm k ≡ forms.Refusal → ⊥) → transaction (e .reply) ≡ t
+  carries : {t : Bits128} {k : Action} → e .verdict ≡ verdict.Of t k →
+      (actionForm (editionOf (e .request)) k ≡ forms.Refusal → ⊥) → transaction (e .reply) ≡ t
   carries {t} {k} own n = ap transaction (says own) ∙ action-transaction t (e .request) k n
 
-  -- "upload opened": the reply's transaction ID was opened by this request, and the order number is that of its number in the series
-  pub upload-opened : form (e .reply) ≡ forms.UploadOpened →
+  -- an upload opened, of either edition: the reply's transaction ID was opened by this request, and the order number is
+  -- that of its number
+  pub upload-opened : isUploadOpened e ≡ true →
       (n : ℕ) × (e .verdict ≡ verdict.Of (transaction (e .reply)) (action.Upload (up.Opened n)))
-      × SoundUploadOpening n (transaction (e .reply)) e g × (orderNumber (e .reply) ≡ orderNumberOf n)
-  unfolding uploadOpened
+      × SoundUploadOpening n (transaction (e .reply)) e g × (orderOpened (e .request) (e .reply) ≡ orderNumberOf n)
   upload-opened z =
-      let d = action-behind forms.UploadOpened z refl in
-      let n = d .kind .0 in
-      let own : e .verdict ≡ verdict.Of (d .id) (action.Upload (up.Opened n)) = d .is ∙ ap (verdict.Of (d .id)) (d .kind .1) in
-      let t = carries own (λ y. let x : _≡_ {A = ℕ} 0 1 = cc in omega arith) in
-      let now : e .verdict ≡ verdict.Of (transaction (e .reply)) (action.Upload (up.Opened n)) =
-      own ∙ ap (λ (i : Bits128). verdict.Of i (action.Upload (up.Opened n))) (sym t) in
-      (n, now, action-sound sound stands now, ap orderNumber (says now))
+      let u = upload-behind (sound-at sound stands) z in
+      (u .0, u .1, action-sound sound stands (u .1), order-opened (sound-at sound stands) (u .1))
 
   -- "download opened": N, and segment 1 of the file with its last mark
   pub download-opened : form (e .reply) ≡ forms.DownloadOpened →
@@ -308,11 +307,16 @@ module _ {e : Exchange} {g h : List Exchange} (sound : AllSound h) (stands : Sta
           × SoundConfirmed (transaction (e .request)) e g
 
       by : (d : IsAction (e .verdict) forms.ReceiptAnswered) → ActionOf forms.ReceiptAnswered (d .action) → Out
-      by d (inl k) =
+      by d (inl k) = absurd (
+          let own : e .verdict ≡ verdict.Of (d .id) (action.Upload (up.Opened (k .0))) = d .is ∙ ap (verdict.Of (d .id)) (k .1) in
+          let c : codeField code.Ok ≡ codeField code.DownloadPostprocessDone =
+          sym (coded ∙ ap (λ (v : Verdict). codeField (verdictCode v)) own) ∙ ok in
+          omega arith)
+      by d (inr (inl k)) =
           let own : e .verdict ≡ verdict.Of (d .id) (action.Download down.Confirmed) = d .is ∙ ap (verdict.Of (d .id)) k in
           let now = own-id own (action-sound sound stands own .receipt .download .request .same) in
           (now, action-sound sound stands now)
-      by d (inr k) = absurd (
+      by d (inr (inr k)) = absurd (
           let own : e .verdict ≡ verdict.Of (d .id) (action.Download down.Declined) = d .is ∙ ap (verdict.Of (d .id)) k in
           let c : codeField code.DownloadPostprocessSkipped ≡ codeField code.DownloadPostprocessDone =
           sym (coded ∙ ap (λ (v : Verdict). codeField (verdictCode v)) own) ∙ ok in
@@ -342,8 +346,8 @@ module _ {e : Exchange} {g h : List Exchange} (sound : AllSound h) (stands : Sta
           (code.TransactionAbort, action.Download down.Cancelled, cancelled.download, mine, action-sound sound stands mine)
 
       at : (v : Verdict) → e .verdict ≡ v → Out
-      at verdict.Unreadable own = absurd (let y : forms.Unreadable ≡ forms.Refusal = sym (formed ∙ ap verdictForm own)
-          ∙ z in let x : _≡_ {A = ℕ} 0 1 = cc in omega arith)
+      at verdict.Unreadable own = absurd (let y : forms.Unreadable ≡ forms.Refusal =
+          sym (formed ∙ ap (verdictForm (editionOf (e .request))) own) ∙ z in let x : _≡_ {A = ℕ} 0 1 = cc in omega arith)
       at (verdict.Refused c) own =
           let s = subst (λ (v : Verdict). SoundVerdict v e g) own (sound-at sound stands .verdict) in
           let c′ : returnCode (e .reply) ≡ codeField c = coded ∙ ap (λ (v : Verdict). codeField (verdictCode v)) own in
@@ -351,7 +355,8 @@ module _ {e : Exchange} {g h : List Exchange} (sound : AllSound h) (stands : Sta
       at (verdict.Signed n added) own =
           let c′ : returnCode (e .reply) ≡ codeField code.Ok = coded ∙ ap (λ (v : Verdict). codeField (verdictCode v)) own in
           never (ap isCancelling (sym c′) ∙ ends)
-      at (verdict.Of t k) own = by t k own (subst (λ (f : Form). ActionOf f k) (sym (ap verdictForm own) ∙ (sym formed ∙ z)) (action-of k))
+      at (verdict.Of t k) own = by t k own (subst (λ (f : Form). ActionOf f k)
+          (sym (ap (verdictForm (editionOf (e .request))) own) ∙ (sym formed ∙ z)) (action-of (editionOf (e .request)) k))
 
   -- 01 03 08 09 0D with 061101: the recovery point is the number of segments taken or delivered
   pub recovery-point : form (e .reply) ≡ forms.SegmentTaken → returnCode (e .reply) ≡ codeField code.RecoverySync →

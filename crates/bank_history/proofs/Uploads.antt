@@ -142,7 +142,7 @@ module _ (w : BankState) (h : List Exchange) (v : Invariant w h) (i : ℕ) (insi
         (downloadAt (w .bank) j .used)
         (λ f. about (downloadAt (w .bank) j .transaction) (download-other w h v i j k inside used f)) (v .downloads j);
     memory = memory-unchanged _ _ x h (ap remembers own ∙ noOpening) (v .memory);
-    known = known-more _ k x h own (w .bank .openings) (place-counted w (v .state) i inside used .0) (v .known);
+    known = known-more _ k x h own (w .bank .openings) (place-counted w (v .state) i inside used) (v .known);
     booked = booked;
     signers = λ o n. signers o n ∙ (v .signers o n ∙ sym (signers-unchanged _ x h unsigned));
     sound = more sound (v .sound);

@@ -5,15 +5,16 @@ use mathlib.Core.Bool.{Bool, true, false, cond, _&&_}
 use mathlib.Core.List.{List, [], _∷_, _++_}
 use lib.Dec.{eqb, ltb}
 use Rattle.frame_table.specs.declared.fields.Bits128.{Bits128}
-use Rattle.frame_table.specs.declared.table.Form.{Form}
-use Rattle.frame_table.specs.declared.table.Form.the-variants.{NoForm, Request, Reply}
 use Rattle.frame_table.specs.declared.table.ReplyForm.{ReplyForm}
 use Rattle.frame_table.specs.declared.table.ReplyForm.the-variants as replies
 use Rattle.frame_table.specs.Names.{subscriber, transaction, segments, segment, returnCode, form, sameBits}
 use Rattle.message.specs.declared.codes.ReturnCode.the-variants as code
 use Rattle.message.specs.Codes.{codeField}
+use Rattle.message.specs.Editions.{orderOpened}
+use Rattle.message.specs.OrderNumbers.{orderIn}
 use Rattle.bank_verdicts.specs.declared.verdict.Direction.the-variants as direction
 use Rattle.bank_history.specs.History.{Exchange}
+use Rattle.bank_history.specs.Opened.{ofReply, isOwnOpened, isUploadOpened, isOpened}
 use Rattle.bank_history.specs.Sound.{isCancelling}
 use Rattle.bank_history.specs.Status.{
   Status,
@@ -28,73 +29,46 @@ use Rattle.bank_history.specs.Status.{
   endedByReceipt,
 }
 
--- what is said of a reply by its form; none where it is of no reply form
-abbrev pub ofReply : {A : Type 0} → A → (ReplyForm → A) → Form → A
-ofReply none f NoForm = none
-ofReply none f (Request x) = none
-ofReply none f (Reply x) = f x
-
--- ---- accepted openings: the replies "upload opened" and "download opened"
-
-abbrev pub isOpenedForm : ReplyForm → Bool
-isOpenedForm replies.UploadOpened = true
-isOpenedForm replies.DownloadOpened = true
-isOpenedForm replies.SegmentTaken = false
-isOpenedForm replies.DownloadSegment = false
-isOpenedForm replies.ReceiptAnswered = false
-isOpenedForm replies.Refusal = false
-isOpenedForm replies.Unreadable = false
-
-abbrev pub isUploadForm : ReplyForm → Bool
-isUploadForm replies.UploadOpened = true
-isUploadForm replies.DownloadOpened = false
-isUploadForm replies.SegmentTaken = false
-isUploadForm replies.DownloadSegment = false
-isUploadForm replies.ReceiptAnswered = false
-isUploadForm replies.Refusal = false
-isUploadForm replies.Unreadable = false
-
-abbrev pub isOpened : Exchange → Bool
-isOpened e = ofReply false isOpenedForm (form (e .reply))
-
-abbrev pub isUploadOpened : Exchange → Bool
-isUploadOpened e = ofReply false isUploadForm (form (e .reply))
+-- ---- accepted openings
 
 -- how many there were
 unfoldable pub openedCount : List Exchange → ℕ
 openedCount [] = 0
 openedCount (e ∷ h) = cond (isOpened e) (suc (openedCount h)) (openedCount h)
 
--- how many uploads of a subscriber were opened
-unfoldable pub uploadsOpened : ℕ → List Exchange → ℕ
-uploadsOpened s [] = 0
-uploadsOpened s (e ∷ h) =
-    cond (isUploadOpened e && eqb (subscriber (e .request)) s) (suc (uploadsOpened s h)) (uploadsOpened s h)
+-- the number of an upload's order, by request and reply: A000 is 0
+abbrev pub numberGiven : Exchange → ℕ
+numberGiven e = orderIn (orderOpened (e .request) (e .reply))
+
+-- how far the bank's own numbering of a subscriber's uploads has come: one past the number that it gave last
+unfoldable pub ownGiven : ℕ → List Exchange → ℕ
+ownGiven s [] = 0
+ownGiven s (e ∷ h) =
+    cond (isOwnOpened e && eqb (subscriber (e .request)) s) (suc (numberGiven e)) (ownGiven s h)
 
 -- the transactions that they opened, the oldest first
 unfoldable pub openedIds : List Exchange → List Bits128
 openedIds [] = []
 openedIds (e ∷ h) = openedIds h ++ cond (isOpened e) (transaction (e .reply) ∷ []) []
 
--- something of the exchange that opened t, and of what came before it
-unfoldable pub atOpened : {A : Type 0} → (Exchange → List Exchange → A) → A → Bits128 → List Exchange → A
+-- something of the exchange that opened t
+unfoldable pub atOpened : {A : Type 0} → (Exchange → A) → A → Bits128 → List Exchange → A
 atOpened f none t [] = none
 atOpened f none t (e ∷ h) =
-    cond (isOpened e && sameBits t (transaction (e .reply))) (f e h) (atOpened f none t h)
+    cond (isOpened e && sameBits t (transaction (e .reply))) (f e) (atOpened f none t h)
 
--- its subscriber; its order number, "Uploads of a subscriber ... count from A000 on their own"; its N; whether it is an
--- upload
+-- its subscriber; its order number, brought by its opening or given in the reply; its N; whether it is an upload
 abbrev pub ownerOf : Bits128 → List Exchange → ℕ
-ownerOf t h = atOpened (λ (e : Exchange) (g : List Exchange). subscriber (e .request)) 0 t h
+ownerOf t h = atOpened (λ (e : Exchange). subscriber (e .request)) 0 t h
 
 abbrev pub orderOf : Bits128 → List Exchange → ℕ
-orderOf t h = atOpened (λ (e : Exchange) (g : List Exchange). uploadsOpened (subscriber (e .request)) g) 0 t h
+orderOf t h = atOpened (λ (e : Exchange). numberGiven e) 0 t h
 
 abbrev pub segmentCountOf : Bits128 → List Exchange → ℕ
-segmentCountOf t h = atOpened (λ (e : Exchange) (g : List Exchange). segments (e .request)) 0 t h
+segmentCountOf t h = atOpened (λ (e : Exchange). segments (e .request)) 0 t h
 
 abbrev pub isUploadId : Bits128 → List Exchange → Bool
-isUploadId t h = atOpened (λ (e : Exchange) (g : List Exchange). isUploadOpened e) false t h
+isUploadId t h = atOpened (λ (e : Exchange). isUploadOpened e) false t h
 
 -- ---- how a transaction stands
 
@@ -135,16 +109,22 @@ abbrev pub otherReceipt : Exchange → Status → Status
 otherReceipt e x =
     cond (isCode (codeField code.DownloadPostprocessDone) e) (endedByReceipt (subscriber (e .request)) x) x
 
--- what the reply of e, after the history h, says of t that stood so; a refusal has no transaction ID, its request has
-abbrev pub replyStatus : Bits128 → Exchange → List Exchange → Status → ReplyForm → Status
-replyStatus t e h x replies.UploadOpened =
+-- an upload's opening accepted, of either edition
+abbrev pub uploadOpenedStatus : Bits128 → Exchange → Status → Status
+uploadOpenedStatus t e x =
     cond (sameBits t (transaction (e .reply))) (Open direction.Upload (subscriber (e .request)) (e .clock)) x
+
+-- what the reply of e, after the history h, says of t that stood so; a refusal has no transaction ID, its request has;
+-- the tags of "receipt answered" with 000000 accept an opening of edition 2.4
+abbrev pub replyStatus : Bits128 → Exchange → List Exchange → Status → ReplyForm → Status
+replyStatus t e h x replies.UploadOpened = uploadOpenedStatus t e x
 replyStatus t e h x replies.DownloadOpened =
     cond (sameBits t (transaction (e .reply))) (Open direction.Download (subscriber (e .request)) (e .clock)) x
 replyStatus t e h x replies.SegmentTaken = cond (sameBits t (transaction (e .reply))) (takenStatus t e h x) x
 replyStatus t e h x replies.DownloadSegment = cond (sameBits t (transaction (e .reply))) (sentStatus t e h x) x
 replyStatus t e h x replies.ReceiptAnswered =
-    cond (sameBits t (transaction (e .reply))) (receiptStatus e) (otherReceipt e x)
+    cond (isUploadOpened e) (uploadOpenedStatus t e x)
+    (cond (sameBits t (transaction (e .reply))) (receiptStatus e) (otherReceipt e x))
 replyStatus t e h x replies.Refusal =
     cond (sameBits t (transaction (e .request))) (cond (isCancelling (returnCode (e .reply))) Cancelled x) x
 replyStatus t e h x replies.Unreadable = x

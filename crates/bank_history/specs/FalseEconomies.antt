@@ -1,7 +1,7 @@
 -- Document 01, "False economies", and what else a bank might save: statements on every list of calls to a fresh bank.
 -- They are said by requests, replies and the clock; no verdict and no column of the bank's state is looked at.
 use Prim.Native.Nat.{ℕ, suc, _+_, _≤_, _<_}
-use mathlib.Core.Bool.{true, cond}
+use mathlib.Core.Bool.{true, false, cond}
 use mathlib.Core.List.{List, [], _∷_}
 use mathlib.Core.Logic.{_⊎_}
 use mathlib.Core.Path.{_≡_}
@@ -21,6 +21,7 @@ use Rattle.frame_table.specs.Names.{
   segment,
   lastMark,
   returnCode,
+  orderNumber,
   form,
 }
 use Rattle.message.specs.declared.codes.ReturnCode.{ReturnCode}
@@ -36,10 +37,12 @@ use Rattle.message.specs.Limits.{
   initialisationPhase,
   transferPhase,
 }
+use Rattle.message.specs.OrderNumbers.{isOrderNumber}
 use Rattle.bank_state.specs.Clock.{advanced}
 use Rattle.bank_state.specs.Limits.{window, idleLimit}
 use Rattle.bank.specs.Call.{FrameInput}
 use Rattle.bank_history.specs.History.{Exchange, BankCall, Frame, Stands, pastOf}
+use Rattle.bank_history.specs.Opened.{isUploadOpened, isOpened}
 use Rattle.bank_history.specs.Sound.{isCancelling}
 
 -- after these calls a frame call is answered, and e is its exchange
@@ -59,7 +62,9 @@ pub record WellMade (e : Exchange) : Type 0 where
 pub record WellMadeOpening (e : Exchange) : Type 0 where
   pub made : WellMade e
   pub kind : ((form (e .request) ≡ forms.UploadOpening) × (orderType (e .request) ≡ ful) × (1 ≤ segments (e .request)))
-      ⊎ ((form (e .request) ≡ forms.DownloadOpening) × (orderType (e .request) ≡ fdl))
+      ⊎ (((form (e .request) ≡ forms.ChosenOpening) × (orderType (e .request) ≡ ful) × (1 ≤ segments (e .request))
+      × (isOrderNumber (orderNumber (e .request)) ≡ true))
+      ⊎ ((form (e .request) ≡ forms.DownloadOpening) × (orderType (e .request) ≡ fdl)))
   pub few : segments (e .request) ≤ maxSegments
 
 -- a request to the transaction t
@@ -78,7 +83,7 @@ pub record RefusedWith (c : ReturnCode) (e : Exchange) : Type 0 where
 
 -- an accepted opening, with the transaction ID t
 pub record Opens (t : Bits128) (e : Exchange) : Type 0 where
-  pub formed : (form (e .reply) ≡ forms.UploadOpened) ⊎ (form (e .reply) ≡ forms.DownloadOpened)
+  pub accepted : isOpened e ≡ true
   pub id : transaction (e .reply) ≡ t
 
 -- a segment of the upload t taken
@@ -127,7 +132,7 @@ pub data Attempts (t : Bits128) : ℕ → List Exchange → Type 0 where
 pub data Ends (t : Bits128) (f : Form) (s : ℕ) (e : Exchange) : Type 0 where
   cancelled : form (e .reply) ≡ forms.Refusal → isCancelling (returnCode (e .reply)) ≡ true →
       transaction (e .request) ≡ t → Ends t f s e
-  receipt : form (e .reply) ≡ forms.ReceiptAnswered → transaction (e .reply) ≡ t → Ends t f s e
+  receipt : form (e .reply) ≡ forms.ReceiptAnswered → isOpened e ≡ false → transaction (e .reply) ≡ t → Ends t f s e
   emptied : f ≡ forms.DownloadOpened → form (e .reply) ≡ forms.ReceiptAnswered →
       returnCode (e .reply) ≡ codeField code.DownloadPostprocessDone → subscriber (e .request) ≡ s → Ends t f s e
 
@@ -187,7 +192,7 @@ pub record FalseEconomies : Type 0 where
       (returnCode (e .reply) ≡ codeField code.RecoverySync → ⊥) → phase (e .reply) ≡ phase (e .request)
   -- "in a recovery point it is that point's: 1 for segment 0 of an upload, else 2"
   pub uploadPoints : {calls : List BankCall} {e f : Exchange} {g : List Exchange} → Next calls e → RecoveryPoint e →
-      Stands f g (pastOf calls .history) → form (f .reply) ≡ forms.UploadOpened →
+      Stands f g (pastOf calls .history) → isUploadOpened f ≡ true →
       transaction (f .reply) ≡ transaction (e .reply) →
       phase (e .reply) ≡ cond (eqb (segment (e .reply)) 0) initialisationPhase transferPhase
   -- "a download's opening delivered segment 1 and counts as phase 1 while only that is delivered"

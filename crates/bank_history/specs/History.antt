@@ -13,6 +13,9 @@ use Rattle.frame_reader.specs.Reader.{readRequest}
 use Rattle.frame_row.specs.Row.{dataOf}
 use Rattle.message.specs.declared.codes.ReturnCode.{ReturnCode}
 use Rattle.message.specs.declared.codes.ReturnCode.the-variants as code
+use Rattle.message.specs.declared.editions.Edition.{Edition}
+use Rattle.message.specs.declared.editions.Edition.the-variants as edition
+use Rattle.message.specs.Editions.{editionOf}
 use Rattle.bank_state.specs.State.{Bank}
 use Rattle.bank_state.specs.State.{Nonce}
 use Rattle.bank_state.specs.Clock.{advanced}
@@ -203,10 +206,11 @@ pub record OpensNumber (n : ℕ) (e : Exchange) : Type 0 where
   pub opening : isOpening action ≡ true
   pub numbered : id .low ≡ n
 
--- the exchange opens an upload of this subscriber with this number of its series
+-- the exchange opens an upload of this subscriber, and the bank's own numbering gave it this number
 pub record OpensInSeries (s n : ℕ) (e : Exchange) : Type 0 where
   pub id : Bits128
   pub is : e .verdict ≡ verdict.Of id (action.Upload (up.Opened n))
+  pub own : editionOf (e .request) ≡ edition.V25
   pub owner : subscriber (e .request) ≡ s
 
 -- there was such an action under t
@@ -272,17 +276,26 @@ unfoldable pub accepted : List Exchange → ℕ
 accepted [] = 0
 accepted (e ∷ h) = cond (opens (e .verdict)) (suc (accepted h)) (accepted h)
 
--- the accepted uploads of a subscriber
+-- the accepted uploads
 abbrev pub acceptsUpload : Verdict → Bool
 acceptsUpload verdict.Unreadable = false
 acceptsUpload (verdict.Refused c) = false
 acceptsUpload (verdict.Of t k) = isUploadOpening k
 acceptsUpload (verdict.Signed n added) = false
 
-unfoldable pub uploadsAccepted : ℕ → List Exchange → ℕ
-uploadsAccepted s [] = 0
-uploadsAccepted s (e ∷ h) =
-    cond (acceptsUpload (e .verdict) && eqb (subscriber (e .request)) s) (suc (uploadsAccepted s h)) (uploadsAccepted s h)
+-- those that the bank's own numbering gave their number: "before 2.5 the client chose" it
+abbrev pub isOwn : Edition → Bool
+isOwn edition.V24 = false
+isOwn edition.V25 = true
+
+abbrev pub numbersOwn : Exchange → Bool
+numbersOwn e = acceptsUpload (e .verdict) && isOwn (editionOf (e .request))
+
+-- how far it has come for a subscriber: one past the number that it gave last
+unfoldable pub ownNumbering : ℕ → List Exchange → ℕ
+ownNumbering s [] = 0
+ownNumbering s (e ∷ h) =
+    cond (numbersOwn e && eqb (subscriber (e .request)) s) (suc (numberIn (e .verdict))) (ownNumbering s h)
 
 -- the verdicts that a nonce is remembered for: an accepted opening's, and an accepted signing's, which "opens no
 -- transaction and takes no running number; its nonce is remembered"

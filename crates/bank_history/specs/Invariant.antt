@@ -19,7 +19,7 @@ use Rattle.bank_state.specs.State.{Bank, BankState, noNonce, placeAt, downloadA
 use Rattle.bank_state.specs.Store.{partAt}
 use Rattle.bank_verdicts.specs.Refusals.{findOrder}
 use Rattle.bank_admitted.specs.State.{mailboxFile}
-use Rattle.bank_history.specs.History.{Exchange, Past, isUploadOpening, isDownloadOpening, isBooking, isTaking, isDelivery, isEnding, isAction, ever, times, received, accepted, uploadsAccepted, openedBy, numberAt, segmentsAt, fileAtOpening, remembered}
+use Rattle.bank_history.specs.History.{Exchange, Past, isUploadOpening, isDownloadOpening, isBooking, isTaking, isDelivery, isEnding, isAction, ever, times, received, accepted, ownNumbering, openedBy, numberAt, segmentsAt, fileAtOpening, remembered}
 use Rattle.bank_admitted.specs.State.{StateHolds, NoneIdle}
 use Rattle.bank_history.specs.Signatures.{signersIn}
 use Rattle.bank_history.specs.Sound.{AllSound}
@@ -105,8 +105,8 @@ pub record Invariant (w : BankState) (h : List Exchange) : Type 0 where
   pub state : StateHolds w
   -- the openings are counted
   pub counted : w .bank .openings ≡ accepted h
-  -- so are the uploads of each subscriber
-  pub series : (s : ℕ) → 1 ≤ s → s ≤ subscribers → seriesOf s (w .bank .series) ≡ uploadsAccepted s h
+  -- each subscriber's counter is one past the number that the bank's own numbering gave last
+  pub series : (s : ℕ) → 1 ≤ s → s ≤ subscribers → seriesOf s (w .bank .series) ≡ ownNumbering s h
   -- each place in use holds exactly what was taken for it
   pub places : (i : ℕ) → i < placeCount →
       PlaceTold (placeAt (w .bank) i .used) h (placeAt (w .bank) i) (partAt (w .orders) i)

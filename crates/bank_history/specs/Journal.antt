@@ -1,6 +1,6 @@
 -- The journal after a list of calls, and the events of a history told by requests, replies and clocks alone.
 use Prim.Native.Nat.{ℕ}
-use mathlib.Core.Bool.{Bool, false, cond, _&&_}
+use mathlib.Core.Bool.{Bool, true, false, cond, _&&_}
 use mathlib.Core.List.{List, [], _∷_, _++_, map}
 use mathlib.Core.Path.{_≡_}
 use lib.Dec.{eqb}
@@ -8,9 +8,10 @@ use lib.ListN.{length}
 use Rattle.frame_table.specs.declared.fields.Bits128.{Bits128}
 use Rattle.frame_table.specs.declared.table.ReplyForm.{ReplyForm}
 use Rattle.frame_table.specs.declared.table.ReplyForm.the-variants as replies
-use Rattle.frame_table.specs.Names.{subscriber, transaction, segment, returnCode, orderNumber, form}
+use Rattle.frame_table.specs.Names.{subscriber, transaction, segment, returnCode, form}
 use Rattle.message.specs.declared.codes.ReturnCode.the-variants as code
 use Rattle.message.specs.Codes.{codeField}
+use Rattle.message.specs.OrderNumbers.{orderNumberOf}
 use Rattle.bank_state.specs.Clock.{isIdle}
 use Rattle.bank_state.specs.Rows.{keep}
 use Rattle.bank_verdicts.specs.declared.verdict.Direction.{Direction}
@@ -28,6 +29,7 @@ use Rattle.bank_events.specs.Entries.{entry}
 use Rattle.bank.specs.Call.{frameCall}
 use Rattle.bank.specs.Journal.{journalAfter, journalBy}
 use Rattle.bank_history.specs.History.{Exchange, BankCall, Frame, File, Past, pastOf}
+use Rattle.bank_history.specs.Opened.{ofReply, isUploadOpened}
 use Rattle.bank_history.specs.Signatures.{signedName, isSigned, hasSigned}
 use Rattle.bank_history.specs.Sound.{isCancelling}
 use Rattle.bank_history.specs.Status.{
@@ -42,9 +44,7 @@ use Rattle.bank_history.specs.Status.{
   Dropped,
 }
 use Rattle.bank_history.specs.ByReplies.{
-  ofReply,
-  isUploadOpened,
-  uploadsOpened,
+  numberGiven,
   openedIds,
   ownerOf,
   orderOf,
@@ -69,7 +69,7 @@ journalOf (c ∷ calls) = journalOver c (pastOf calls) (journalOf calls)
 -- ---- the events by requests, replies and clocks
 
 abbrev pub entryOf : Kind → Bits128 → List Exchange → Entry
-entryOf k t h = entry k (ownerOf t h) (orderOf t h)
+entryOf k t h = entry k (ownerOf t h) (orderOf t h) t
 
 -- an upload that is open, and idle at a clock
 abbrev pub isIdleAs : ℕ → Direction → ℕ → Bool
@@ -90,31 +90,47 @@ isIdleUploadAt clock Dropped = false
 unfoldable pub uploadDrops : ℕ → List Exchange → List Bits128
 uploadDrops clock h = keep (λ (t : Bits128). isIdleUploadAt clock (standing t h)) (openedIds h)
 
--- the number in its owner's series of the order so named: how many uploads of its owner were opened before it
-unfoldable pub numberNamed : OrderName → List Exchange → ℕ
-numberNamed o [] = 0
-numberNamed o (e ∷ h) =
-    cond (isUploadOpened e && eqb (subscriber (e .request)) (o .subscriber) && eqb (orderNumber (e .reply)) (o .number))
-    (uploadsOpened (o .subscriber) h) (numberNamed o h)
+-- a booked upload that was opened under this name
+abbrev pub isBookedStatus : Status → Bool
+isBookedStatus NotOpened = false
+isBookedStatus (Open d s last) = false
+isBookedStatus Booked = true
+isBookedStatus Fetched = false
+isBookedStatus Skipped = false
+isBookedStatus EndedByReceipt = false
+isBookedStatus Cancelled = false
+isBookedStatus Dropped = false
+
+abbrev pub isBookedAs : OrderName → List Exchange → Bits128 → Bool
+isBookedAs o h t =
+    isBookedStatus (standing t h) && (eqb (ownerOf t h) (o .subscriber) && eqb (orderNumberOf (orderOf t h)) (o .number))
+
+-- the booked uploads of that name: one, or none
+unfoldable pub bookedAs : OrderName → List Exchange → List Bits128
+bookedAs o h = keep (isBookedAs o h) (openedIds h)
 
 -- "kind signed, once a signer, under the owner": the first signature of a subscriber is an event, "signing again" none
 abbrev pub signedEntries : Exchange → List Exchange → List Entry
 signedEntries e h =
     let o = signedName e in
-    cond (hasSigned o (subscriber (e .request)) h) [] (entry kind.Signed (o .subscriber) (numberNamed o h) ∷ [])
+    cond (hasSigned o (subscriber (e .request)) h) []
+    (map (λ (t : Bits128). entryOf kind.Signed t h) (bookedAs o h))
+
+-- an upload opened, of either edition
+abbrev pub openedEntries : Exchange → List Entry
+openedEntries e = entry kind.Opened (subscriber (e .request)) (numberGiven e) (transaction (e .reply)) ∷ []
 
 -- what a reply says beside the drops: an upload opened; an upload's segment N taken; 01 03 0D with 000000 to a signing;
 -- an upload cancelled by 091102, 011101 or 091104
 abbrev pub replyEntries : Exchange → List Exchange → ReplyForm → List Entry
-replyEntries e h replies.UploadOpened =
-    let s = subscriber (e .request) in entry kind.Opened s (uploadsOpened s h) ∷ []
+replyEntries e h replies.UploadOpened = openedEntries e
 replyEntries e h replies.DownloadOpened = []
 replyEntries e h replies.SegmentTaken =
     let t = transaction (e .reply) in
     let isLast = isCode (codeField code.Ok) e && eqb (segment (e .request)) (segmentCountOf t h) in
     cond isLast (entryOf kind.Booked t h ∷ []) []
 replyEntries e h replies.DownloadSegment = []
-replyEntries e h replies.ReceiptAnswered = []
+replyEntries e h replies.ReceiptAnswered = cond (isUploadOpened e) (openedEntries e) []
 replyEntries e h replies.Refusal =
     let t = transaction (e .request) in
     cond (isSigned e) (signedEntries e h)

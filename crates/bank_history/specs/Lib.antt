@@ -1,6 +1,8 @@
 -- The definitions of the bank's history, of its invariant, and of what holds after every list of calls.
 pub mod History
+pub mod Opened
 pub mod Signatures
+pub mod Timely
 pub mod Sound
 pub mod Invariant
 pub mod Transactions

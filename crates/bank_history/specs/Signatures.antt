@@ -26,6 +26,7 @@ isSigningRequest requests.UploadTransfer = false
 isSigningRequest requests.DownloadTransfer = false
 isSigningRequest requests.Receipt = false
 isSigningRequest requests.Signing = true
+isSigningRequest requests.ChosenOpening = false
 
 abbrev pub isSigningForm : Form → Bool
 isSigningForm NoForm = false

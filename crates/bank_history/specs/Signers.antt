@@ -2,11 +2,10 @@
 -- Document 02, card 8: "Signers are a set over the 8 subscribers, and the number of signatures given is the count of
 -- signers; two or more make the order released".
 use Prim.Native.Nat.{ℕ, _≤_, _<_, _+_}
-use mathlib.Core.Bool.{Bool, true, false, _&&_, _||_}
+use mathlib.Core.Bool.{Bool, true, false, _&&_}
 use mathlib.Core.List.{List, [], _∷_}
 use mathlib.Core.Logic.{_⊎_}
 use mathlib.Core.Path.{_≡_}
-use lib.Dec.{leb}
 use lib.ListN.{set}
 use Rattle.frame_table.specs.declared.fields.Bits128.{Bits128}
 use Rattle.frame_table.specs.Forms as forms
@@ -24,13 +23,14 @@ use Rattle.journal.specs.declared.event.Kind.{Kind}
 use Rattle.journal.specs.declared.event.Kind.the-variants as kind
 use Rattle.journal.specs.declared.event.Event.{Event}
 use Rattle.journal.specs.declared.event.OrderName.{OrderName}
-use Rattle.journal.specs.Row.{isOf}
+use Rattle.journal.specs.Records.{nameOf}
 use Rattle.bank_signing.specs.Signings.{signedPlace}
 use Rattle.bank_history.specs.History.{Exchange, Stands, BankCall, Frame, pastOf, nonceOf}
-use Rattle.bank_history.specs.Signatures.{signedName, isSigned, signatureCount}
+use Rattle.bank_history.specs.Signatures.{signedName, sameName, signatureCount}
 use Rattle.bank_history.specs.Invariant.{placeName}
 use Rattle.bank_history.specs.FalseEconomies.{Next, WellMade, WellMadeOpening, Opens, Takes, RefusedWith}
-use Rattle.bank_history.specs.ByReplies.{isOpened, segmentCountOf}
+use Rattle.bank_history.specs.ByReplies.{segmentCountOf}
+use Rattle.bank_history.specs.Timely.{isKept, Timely}
 use Rattle.bank_history.specs.Journal.{eventsIn}
 use Rattle.bank_history.specs.JournalOrders.{OpensOrder}
 
@@ -48,18 +48,6 @@ pub record WellMadeSigning (e : Exchange) : Type 0 where
 pub record Signs (e : Exchange) : Type 0 where
   pub asked : form (e .request) ≡ forms.Signing
   pub coded : returnCode (e .reply) ≡ codeField code.Ok
-
--- an accepted opening or signing whose nonce is remembered at this clock: "while its timestamp is at most" the window
--- "behind the clock"
-abbrev pub isKept : ℕ → Exchange → Bool
-isKept clock e = (isOpened e || isSigned e) && leb clock (timestamp (e .request) + window)
-
--- a timestamp in time, and a nonce that is not remembered: no line 091103
-pub record Timely (e : Exchange) (h : List Exchange) : Type 0 where
-  pub early : timestamp (e .request) ≤ e .clock + window
-  pub late : e .clock ≤ timestamp (e .request) + window
-  pub unseen : (f : Exchange) (g : List Exchange) → Stands f g h → isKept (e .clock) f ≡ true →
-      nonce (e .request) ≡ nonce (f .request) → ⊥
 
 -- the subscriber s has signed the order o: to a signing of s that names its owner, type and number 000000 was answered
 pub record Signature (o : OrderName) (s : ℕ) (h : List Exchange) : Type 0 where
@@ -133,7 +121,7 @@ isSignedKind kind.Signed = true
 
 -- an event signed of the order o
 abbrev pub isSignedOf : OrderName → Event → Bool
-isSignedOf o v = isSignedKind (v .kind) && isOf o v
+isSignedOf o v = isSignedKind (v .kind) && sameName (nameOf v) o
 
 -- ---- the statements
 

@@ -23,6 +23,9 @@ use Rattle.frame_table.specs.Names.{
 use Rattle.message.specs.declared.codes.ReturnCode.{ReturnCode}
 use Rattle.message.specs.declared.codes.ReturnCode.the-variants as code
 use Rattle.message.specs.Codes.{codeField}
+use Rattle.message.specs.declared.editions.Edition.{Edition}
+use Rattle.message.specs.declared.editions.Edition.the-variants as edition
+use Rattle.message.specs.Editions.{editionOf, openingForm}
 use Rattle.message.specs.Limits.{ful, subscribers, segmentBytes, maxSegments}
 use Rattle.message.specs.OrderNumbers.{orderNumberOf}
 use Rattle.message.specs.Segments.{segmentsOf, segmentOf}
@@ -34,6 +37,7 @@ use Rattle.bank_verdicts.specs.declared.verdict.DownloadAction.{DownloadAction}
 use Rattle.bank_verdicts.specs.declared.verdict.DownloadAction.the-variants as down
 use Rattle.bank_verdicts.specs.declared.verdict.Action.{Action}
 use Rattle.bank_verdicts.specs.declared.verdict.Action.the-variants as action
+use Rattle.bank_verdicts.specs.declared.verdict.SignedOrder.{SignedOrder}
 use Rattle.bank_verdicts.specs.declared.verdict.Verdict.{Verdict}
 use Rattle.bank_verdicts.specs.declared.verdict.Verdict.the-variants as verdict
 use Rattle.bank_verdicts.specs.Refusals.{cancels}
@@ -49,7 +53,7 @@ use Rattle.bank_history.specs.History.{
   ever,
   times,
   accepted,
-  uploadsAccepted,
+  ownNumbering,
   openedBy,
   numberAt,
   segmentsAt,
@@ -70,11 +74,17 @@ pub record SoundOpening (f : Form) (t : Bits128) (e : Exchange) (h : List Exchan
   pub known : 1 ≤ subscriber (e .request)
   pub most : subscriber (e .request) ≤ subscribers
 
--- an upload opened: "Uploads of a subscriber and type now count from A000 on their own", "The limit of 1,213,056 ...
--- holds per series"; "0 segments" and, from 32 on, too many are refused
+-- its order number, by the request's edition: up to 2.4 the one that "the client chose", from 2.5 on one that the bank's
+-- own numbering has not passed
+abbrev pub NumberedAs : Edition → ℕ → Exchange → List Exchange → Type 0
+NumberedAs edition.V24 n e h = orderNumber (e .request) ≡ orderNumberOf n
+NumberedAs edition.V25 n e h = ownNumbering (subscriber (e .request)) h ≤ n
+
+-- an upload opened: "The limit of 1,213,056 ... holds per series", and ZZZZ is the last number to choose; "0 segments"
+-- and, from 32 on, too many are refused
 pub record SoundUploadOpening (n : ℕ) (t : Bits128) (e : Exchange) (h : List Exchange) : Type 0 where
-  pub opening : SoundOpening forms.UploadOpening t e h
-  pub number : n ≡ uploadsAccepted (subscriber (e .request)) h
+  pub opening : SoundOpening (openingForm (editionOf (e .request))) t e h
+  pub number : NumberedAs (editionOf (e .request)) n e h
   pub limited : n < seriesLimit
   pub some : 1 ≤ segments (e .request)
   pub few : segments (e .request) ≤ maxSegments
@@ -172,19 +182,18 @@ pub record SoundCancelled (c : ReturnCode) (t : Bits128) (e : Exchange) (h : Lis
   pub cancelling : cancels c ≡ true
   pub bare : e .replyData ≡ []
 
--- an accepted signing of the order with the number n of its owner's series: "the subscriber becomes a signer of that
--- booked order", so the order was booked before; "Signing again answers 000000 and adds nobody"
-pub record SoundSigning (n : ℕ) (added : Bool) (e : Exchange) (h : List Exchange) : Type 0 where
+-- an accepted signing of the order n: "the subscriber becomes a signer of that booked order", so the order was booked
+-- before; "Signing again answers 000000 and adds nobody"
+pub record SoundSigning (n : SignedOrder) (added : Bool) (e : Exchange) (h : List Exchange) : Type 0 where
   pub asked : form (e .request) ≡ forms.Signing
   pub known : 1 ≤ subscriber (e .request)
   pub most : subscriber (e .request) ≤ subscribers
   pub typed : orderType (e .request) ≡ ful
-  pub named : orderNumber (e .request) ≡ orderNumberOf n
-  pub id : Bits128
-  pub opened : ever isUploadOpening id h ≡ true
-  pub owned : openedBy id h ≡ owner (e .request)
-  pub order : numberAt id h ≡ n
-  pub booked : ever isBooking id h ≡ true
+  pub named : orderNumber (e .request) ≡ orderNumberOf (n .number)
+  pub opened : ever isUploadOpening (n .transaction) h ≡ true
+  pub owned : openedBy (n .transaction) h ≡ owner (e .request)
+  pub order : numberAt (n .transaction) h ≡ n .number
+  pub booked : ever isBooking (n .transaction) h ≡ true
   pub adds : added ≡ not (isSigner (subscriber (e .request)) (signersIn (signedName e) h))
   pub bare : e .replyData ≡ []
 

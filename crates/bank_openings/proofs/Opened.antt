@@ -1,19 +1,22 @@
 -- An accepted opening finds room for it, and the bank that it leaves is one that rows can hold. Assumes nothing.
 use Prim.Native.Nat.{ℕ, _+_, _-_, _<_}
 use mathlib.Core.List.{List}
-use mathlib.Core.Path.{_≡_, refl, sym, ap, _∙_}
+use mathlib.Core.Bool.{true}
+use mathlib.Core.Path.{_≡_, refl, sym, ap, _∙_, subst}
 use native.Mathlib.Omega.{arith}
 use lib.ListN.{set}
-use borrow.Author.Tests.{lt-leb, leb-false}
 use Rattle.frame_table.specs.declared.fields.Bits128.{Bits128}
 use Rattle.frame_table.specs.declared.fields.Fields.{Fields}
 use Rattle.frame_table.specs.Names.{subscriber, nonce, timestamp}
+use Rattle.message.specs.declared.editions.Edition.{Edition}
+use Rattle.message.specs.declared.editions.Edition.the-variants as edition
+use Rattle.message.specs.Editions.{editionOf}
 use Rattle.bank_state.specs.State.{Bank}
 use Rattle.bank_state.specs.declared.state.Download.{Download}
 use Rattle.bank_state.specs.declared.state.Place.{Place}
-use Rattle.bank_state.specs.Limits.{placeCount, nonceCount, maxOpen, seriesLimit}
+use Rattle.bank_state.specs.Limits.{placeCount, nonceCount, maxOpen}
 use Rattle.bank_state.specs.Search.{freePlace, freeDownload, freeNonce, openCount}
-use Rattle.bank_state.specs.State.{seriesOf, withOpenings, withSeries, withPlace, withDownload, withNonces}
+use Rattle.bank_state.specs.State.{withOpenings, withSeries, withPlace, withDownload, withNonces}
 use Rattle.bank_rows.specs.Records.{bits, nonceRecord}
 use Rattle.bank_rows.specs.State.{downloadCountOf, bankOf, stored, Laid, Held}
 use Rattle.bank_rows.proofs.Calls.{
@@ -31,11 +34,14 @@ use Rattle.bank_rows.proofs.Calls.{
 use Rattle.bank_rows.proofs.Reading.{free-download}
 use Rattle.bank_rows.proofs.State.{held-rows, stored-back, stored-laid}
 use Rattle.bank_verdicts.specs.declared.verdict.Action.{Action}
+use Rattle.bank_verdicts.specs.declared.verdict.Action.the-variants as action
 use Rattle.bank_verdicts.specs.declared.verdict.Context.{Context}
 use Rattle.bank_verdicts.specs.declared.verdict.Direction.{Direction}
+use Rattle.bank_verdicts.specs.declared.verdict.Direction.the-variants as direction
+use Rattle.bank_verdicts.specs.declared.verdict.UploadAction.the-variants as up
 use Rattle.bank_verdicts.specs.declared.verdict.Verdict.{Verdict}
 use Rattle.bank_verdicts.specs.declared.verdict.Verdict.the-variants as verdict
-use Rattle.bank_verdicts.specs.Judgement.{judgeOpening}
+use Rattle.bank_verdicts.specs.Judgement.{openingNumber, openedNumber, judgeOpening}
 use Rattle.bank_verdicts.proofs.Sound.{OpeningSound, judged-opening}
 use Rattle.bank_verdicts.proofs.Sound as sound
 use Rattle.bank_openings.specs.Openings.{
@@ -43,12 +49,16 @@ use Rattle.bank_openings.specs.Openings.{
   UploadRoom,
   DownloadRoom,
   counted,
+  movedBy,
+  moved,
+  fitsSeries,
   countedUpload,
   newPlace,
   openUpload,
   newDownload,
   openDownload,
 }
+use Rattle.bank_openings.proofs.Numbering.{number-left, number-fits}
 
 -- ---- an accepted opening
 
@@ -61,10 +71,10 @@ module _ (y : Context) (b : Bank) (q : Fields) (k : Held b) where
   room-by : {t : Bits128} {a : Action} (d : Direction) (v : Verdict) → OpeningSound (y .prefix) b q d v → v ≡ verdict.Of t a
       → Room d b q
   room-by d v (sound.refused e c h) x = absurd (let z : _≡_ {A = ℕ} 0 1 = cc in omega arith)
-  room-by d v (sound.upload acc some free below) x = record {
+  room-by d v (sound.upload acc some free own) x = record {
     place = free;
     memory = acc .memory;
-    series = lt-leb seriesLimit (seriesOf (subscriber q) (b .series)) below;
+    series = number-left b q (own .below);
     numbers = acc .numbers;
   }
   room-by d v (sound.download acc full) x =
@@ -73,6 +83,18 @@ module _ (y : Context) (b : Bank) (q : Fields) (k : Held b) where
   -- the verdict on an opening that acts on a transaction is given only where there is room
   pub accepted-room : {t : Bits128} {a : Action} (d : Direction) → judgeOpening d y b q ≡ verdict.Of t a → Room d b q
   accepted-room d e = room-by d (judgeOpening d y b q) (judged-opening y b q d) e
+
+  opened-by : {t : Bits128} {a : Action} (v : Verdict) → OpeningSound (y .prefix) b q direction.Upload v → v ≡ verdict.Of t a
+      → fitsSeries (editionOf q) (openedNumber a) ≡ true
+  opened-by v (sound.refused e c h) x = absurd (let z : _≡_ {A = ℕ} 0 1 = cc in omega arith)
+  opened-by {t} {a} v (sound.upload acc some free own) x =
+      let e : action.Upload (up.Opened (openingNumber b q)) ≡ a = cc in
+      subst (λ (z : Action). fitsSeries (editionOf q) (openedNumber z) ≡ true) e (number-fits b q (own .below))
+
+  -- and its number fits the series
+  pub accepted-fits : {t : Bits128} {a : Action} {n : ℕ} → judgeOpening direction.Upload y b q ≡ verdict.Of t a
+      → n ≡ openedNumber a → fitsSeries (editionOf q) n ≡ true
+  accepted-fits e x = rw x (opened-by (judgeOpening direction.Upload y b q) (judged-opening y b q direction.Upload) e)
 
 -- ---- the bank that it leaves
 
@@ -91,13 +113,18 @@ module _ (q : Fields) (b : Bank) (k : Held b) where
     unfolding counted
     held-counted = held-openings (b .openings + 1) held-noted
 
-    pub held-counted-upload : Held (countedUpload q b)
-    unfolding countedUpload counted
-    held-counted-upload = held-series (subscriber q - 1) (seriesOf (subscriber q) (b .series) + 1) held-counted
+    held-moved : (e : Edition) (number : ℕ) → Held (withSeries (movedBy e number q (b .series)) (counted q b))
+    unfolding counted
+    held-moved edition.V24 number = held-counted
+    held-moved edition.V25 number = held-series (subscriber q - 1) (number + 1) held-counted
+
+    pub held-counted-upload : (number : ℕ) → Held (countedUpload number q b)
+    unfolding countedUpload
+    held-counted-upload = held-moved (editionOf q)
 
   pub held-upload : UploadRoom b q → (t : Bits128) (number : ℕ) → Held (openUpload t number q b)
   unfolding openUpload
-  held-upload r t number = held-place (freePlace b) (newPlace t number (b .clock) q) (held-counted-upload (r .memory))
+  held-upload r t number = held-place (freePlace b) (newPlace t number (b .clock) q) (held-counted-upload (r .memory) number)
 
   pub held-download : DownloadRoom b q → (t : Bits128) → Held (openDownload t q b)
   unfolding openDownload counted
@@ -142,33 +169,24 @@ module _ (s : List ℕ) (l : Laid s) (q : Fields) where
 
   -- then the series of an upload, and its place
   module _ (r : UploadRoom b q) where
-    -- its number, which the code reads, is below the limit
-    pub room-in-series : (i n : ℕ) → i ≡ subscriber q → n ≡ seriesOf i (b .series) → n < seriesLimit
-    room-in-series i n x y =
-        let e : n ≡ seriesOf (subscriber q) (b .series) = y ∙ ap (λ (j : ℕ). seriesOf j (b .series)) x in
-        omega (arith, leb-false seriesLimit (seriesOf (subscriber q) (b .series)) (r .series))
-
-    pub upload-counted : (t : List ℕ) → t ≡ stored (counted q b) s → (u : List ℕ) (i n : ℕ) → i ≡ subscriber q
-        → n ≡ seriesOf i (b .series) → u ≡ stored (withSeries (set (bankOf t .series) (i - 1) (n + 1)) (bankOf t)) t
-        → u ≡ stored (countedUpload q b) s
+    pub upload-counted : (t : List ℕ) → t ≡ stored (counted q b) s → (u : List ℕ) (number : ℕ)
+        → u ≡ stored (withSeries (moved number q (bankOf t .series)) (bankOf t)) t → u ≡ stored (countedUpload number q b) s
     unfolding countedUpload counted
-    upload-counted t e u i n x y f =
+    upload-counted t e u number f =
         stored-change s l (counted q b) (held-counted q b held (r .memory))
-        (λ (c : Bank). withSeries (set (c .series) (subscriber q - 1) (seriesOf (subscriber q) (b .series) + 1)) c)
-        (held-counted-upload q b held (r .memory)) (omega arith) (omega arith) t u e
-        (f ∙ ap (λ (m : ℕ). stored (withSeries (set (bankOf t .series) (i - 1) (m + 1)) (bankOf t)) t) y
-        ∙ ap (λ (j : ℕ). stored (withSeries (set (bankOf t .series) (j - 1) (seriesOf j (b .series) + 1)) (bankOf t)) t) x)
+        (λ (c : Bank). withSeries (moved number q (c .series)) c)
+        (held-counted-upload q b held (r .memory) number) (omega arith) (omega arith) t u e f
 
-    module _ (t : List ℕ) (e : t ≡ stored (countedUpload q b) s) where
+    module _ (number : ℕ) (t : List ℕ) (e : t ≡ stored (countedUpload number q b) s) where
       pub upload-laid : Laid t
-      upload-laid = rw e (stored-laid (countedUpload q b) (held-counted-upload q b held (r .memory)) s l)
+      upload-laid = rw e (stored-laid (countedUpload number q b) (held-counted-upload q b held (r .memory) number) s l)
 
-      pub upload-stored : (u : List ℕ) (i number : ℕ) (transaction : Bits128) (p : Place)
+      pub upload-stored : (u : List ℕ) (i : ℕ) (transaction : Bits128) (p : Place)
           → u ≡ stored (withPlace i p (bankOf t)) t → i ≡ freePlace b → p ≡ newPlace transaction number (b .clock) q
           → u ≡ stored (openUpload transaction number q b) s
       unfolding openUpload countedUpload counted
-      upload-stored u i number transaction p f x y =
-          stored-change s l (countedUpload q b) (held-counted-upload q b held (r .memory))
+      upload-stored u i transaction p f x y =
+          stored-change s l (countedUpload number q b) (held-counted-upload q b held (r .memory) number)
           (withPlace (freePlace b) (newPlace transaction number (b .clock) q)) (held-upload q b held r transaction number)
           (omega arith) (omega arith) t u e
           (f ∙ ap (λ (j : ℕ). stored (withPlace j p (bankOf t)) t) x

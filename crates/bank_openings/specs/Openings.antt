@@ -1,8 +1,9 @@
 -- "Opening.": what an accepted opening leaves.
 use Prim.Native.Nat.{ℕ, _+_, _-_, _<_}
-use mathlib.Core.Bool.{true, false}
+use mathlib.Core.Bool.{Bool, true, false}
 use mathlib.Core.List.{List}
 use mathlib.Core.Path.{_≡_}
+use lib.Dec.{ltb}
 use lib.ListN.{set}
 use Rattle.frame_table.specs.declared.fields.Bits128.{Bits128}
 use Rattle.frame_table.specs.declared.fields.Fields.{Fields}
@@ -11,9 +12,12 @@ use Rattle.bank_state.specs.State.{Bank}
 use Rattle.bank_state.specs.declared.state.Download.{Download}
 use Rattle.bank_state.specs.declared.state.Place.{Place}
 use Rattle.bank_state.specs.declared.state.Use.the-variants.{Open}
-use Rattle.bank_state.specs.Limits.{placeCount, nonceCount, maxOpenings}
+use Rattle.message.specs.declared.editions.Edition.{Edition}
+use Rattle.message.specs.declared.editions.Edition.the-variants as edition
+use Rattle.message.specs.Editions.{editionOf}
+use Rattle.bank_state.specs.Limits.{placeCount, nonceCount, maxOpenings, seriesLimit}
 use Rattle.bank_state.specs.Search.{freePlace, freeDownload, freeNonce}
-use Rattle.bank_state.specs.State.{seriesOf, withOpenings, withSeries, withPlace, withDownload, withNonces}
+use Rattle.bank_state.specs.State.{withOpenings, withSeries, withPlace, withDownload, withNonces}
 use Rattle.bank_verdicts.specs.declared.verdict.Direction.{Direction}
 use Rattle.bank_verdicts.specs.declared.verdict.Direction.the-variants as direction
 use Rattle.bank_verdicts.specs.Refusals.{seriesEnded}
@@ -46,13 +50,23 @@ remembered q b =
 unfoldable pub counted : Fields → Bank → Bank
 counted q b = withOpenings (b .openings + 1) (remembered q b)
 
--- a subscriber's series one number further
-abbrev pub moved : ℕ → List ℕ → List ℕ
-moved s series = set series (s - 1) (seriesOf s series + 1)
+-- the series after an upload of this number by its opening's edition: that of 2.4 does not move the bank's own numbering,
+-- from 2.5 on it has come to the number after this one
+abbrev pub movedBy : Edition → ℕ → Fields → List ℕ → List ℕ
+movedBy edition.V24 number q series = series
+movedBy edition.V25 number q series = set series (subscriber q - 1) (number + 1)
 
--- "Uploads of a subscriber and type now count from A000 on their own": an upload is also one more of its series
-unfoldable pub countedUpload : Fields → Bank → Bank
-countedUpload q b = withSeries (moved (subscriber q) (b .series)) (counted q b)
+abbrev pub moved : ℕ → Fields → List ℕ → List ℕ
+moved number q series = movedBy (editionOf q) number q series
+
+-- a number that its series can come past
+abbrev pub fitsSeries : Edition → ℕ → Bool
+fitsSeries edition.V24 number = true
+fitsSeries edition.V25 number = ltb number seriesLimit
+
+-- "Uploads of a subscriber and type now count from A000 on their own": an upload with the bank's own number moves its series
+unfoldable pub countedUpload : ℕ → Fields → Bank → Bank
+countedUpload number q b = withSeries (moved number q (b .series)) (counted q b)
 
 -- the place of an upload just opened, with its transaction ID and its order's number
 abbrev pub newPlace : Bits128 → ℕ → ℕ → Fields → Place
@@ -71,7 +85,7 @@ newPlace t number clock q = record {
 
 -- "An upload takes the first place not in use"
 unfoldable pub openUpload : Bits128 → ℕ → Fields → Bank → Bank
-openUpload t number q b = withPlace (freePlace b) (newPlace t number (b .clock) q) (countedUpload q b)
+openUpload t number q b = withPlace (freePlace b) (newPlace t number (b .clock) q) (countedUpload number q b)
 
 -- a download just opened: "its opening delivered segment 1"
 abbrev pub newDownload : Bits128 → ℕ → Fields → Download

@@ -1,4 +1,5 @@
 // How an opening is judged: each refusal's test by its name in document 01's list, then the list from top to bottom.
+use crate::own_numbers::next_number;
 use bank_lists::counts::open_count;
 use bank_lists::counts::open_count_of;
 use bank_lists::nonces::is_remembered;
@@ -8,6 +9,7 @@ use bank_rows::numbers::file_length_of;
 use bank_rows::numbers::openings;
 use bank_rows::numbers::series_of;
 use bank_rows::places::free_place;
+use bank_rows::places::is_number_held;
 use bank_state::limits::MAX_OPEN;
 use bank_state::limits::MAX_OPEN_PER_SUBSCRIBER;
 use bank_state::limits::MAX_OPENINGS;
@@ -26,16 +28,25 @@ use bank_verdicts::verdict::Verdict;
 use frame_table::fields::Bits128;
 use frame_table::fields::Fields;
 use message::codes::ReturnCode;
+use message::editions::Edition;
+use message::editions::edition_of;
 use message::limits::FDL;
 use message::limits::FUL;
 use message::limits::MAX_SEGMENTS;
+use message::order_numbers::is_order_number;
+use message::order_numbers::order_in;
 use message::segments::segments_of;
 ghost use mathlib.Core.Path.{_≡_};
-ghost use mathlib.Core.Bool.{_||_};
+ghost use mathlib.Core.Bool.{false, _||_};
+ghost use lib.Dec.{leb};
+ghost use Rattle.message.specs.Editions.{editionOf};
+ghost use Rattle.bank_state.specs.Limits.{seriesLimit};
+ghost use Rattle.bank_state.specs.Numbers.{nextNumber};
 ghost use Rattle.bank_rows.specs.State.{bankOf, Laid};
-ghost use Rattle.bank_verdicts.specs.Judgement.{accepted, judgeOpening, mailboxSegments};
-ghost use Rattle.bank_verdicts.specs.Refusals.{unknownType, otherDirection, manySegments, inTime, isReplay};
-ghost use Rattle.bank_verdicts.specs.Refusals.{emptyMailbox, manyOpen, noPlaceFree, seriesEnded, isFull, noShare};
+ghost use Rattle.bank_verdicts.specs.Judgement.{openingNumber, accepted, judgeOpening, mailboxSegments};
+ghost use Rattle.bank_verdicts.specs.Refusals.{unknownType, noOrderNumber, otherDirection, manySegments, inTime, isReplay};
+ghost use Rattle.bank_verdicts.specs.Refusals.{isHeld, emptyMailbox, manyOpen, noPlaceFree};
+ghost use Rattle.bank_verdicts.specs.Refusals.{numberingEnded, seriesEnded, isFull, noShare};
 
 // 091005: order type neither FUL nor FDL.
 pub fn unknown_type(q: Fields) -> bool
@@ -48,17 +59,31 @@ pub fn unknown_type(q: Fields) -> bool
     order_type != FDL
 }
 
-// 061002 of an upload's form: order type FDL, or 0 segments.
+// 061002 of an opening of edition 2.4: its order number is none of A000 to ZZZZ.
+fn no_order_number(q: Fields) -> bool
+    ensures { λ r. ⌜ r ≡ noOrderNumber q ⌝ }
+{
+    let edition = edition_of(q);
+    match edition {
+        Edition::V24 => !is_order_number(q.order_number()),
+        Edition::V25 => false,
+    }
+}
+
+// 061002 of an upload's form: order type FDL, 0 segments, or no order number.
 fn no_upload(q: Fields) -> bool
     ensures { λ r. ⌜ r ≡ otherDirection Direction.Upload q ⌝ }
 {
     if q.order_type() == FDL {
         return true;
     }
-    q.segments() == 0
+    if q.segments() == 0 {
+        return true;
+    }
+    no_order_number(q)
 }
 
-// 061002: opening form of the other direction, or 0 segments.
+// 061002: opening form of the other direction, 0 segments, or no order number.
 fn other_direction(d: Direction, q: Fields) -> bool
     ensures { λ r. ⌜ r ≡ otherDirection d q ⌝ }
 {
@@ -97,6 +122,18 @@ pub fn is_replay(rows: &[u64], q: Fields) -> bool
     true
 }
 
+// 091115: the order number that an opening of edition 2.4 brings is held.
+fn is_held(rows: &[u64], q: Fields) -> bool
+    requires { ⌜ Laid (now rows) ⌝ }
+    ensures { λ r. ⌜ r ≡ isHeld (bankOf (now (rows .entry))) q ⌝ }
+{
+    let edition = edition_of(q);
+    match edition {
+        Edition::V24 => is_number_held(rows, q.subscriber(), order_in(q.order_number())),
+        Edition::V25 => false,
+    }
+}
+
 // 090005: download, mailbox empty.
 fn empty_mailbox(rows: &[u64], d: Direction, q: Fields) -> bool
     requires { ⌜ Laid (now rows) ⌝ }
@@ -127,19 +164,42 @@ fn no_place_free(rows: &[u64], d: Direction) -> bool
     }
 }
 
-// An upload with 1,213,056 uploads accepted in its subscriber's series.
+// Whether the bank's own numbering of a subscriber's uploads is past ZZZZ.
+fn is_past(rows: &[u64], subscriber: u64) -> bool
+    requires { ⌜ Laid (now rows) ⌝ }
+    ensures { λ r. ⌜ r ≡ leb seriesLimit (nextNumber subscriber (bankOf (now (rows .entry)))) ⌝ }
+{
+    if SERIES_LIMIT <= series_of(rows, subscriber) {
+        return true;
+    }
+    SERIES_LIMIT <= next_number(rows, subscriber)
+}
+
+// The same for an opening: that of edition 2.4 needs no number of the bank's.
+fn numbering_ended(rows: &[u64], q: Fields) -> bool
+    requires { ⌜ Laid (now rows) ⌝ }
+    ensures { λ r. ⌜ r ≡ numberingEnded (editionOf q) (bankOf (now (rows .entry))) q ⌝ }
+{
+    let edition = edition_of(q);
+    match edition {
+        Edition::V24 => false,
+        Edition::V25 => is_past(rows, q.subscriber()),
+    }
+}
+
+// An upload at the end of its subscriber's series.
 fn series_ended(rows: &[u64], d: Direction, q: Fields) -> bool
     requires { ⌜ Laid (now rows) ⌝ }
     ensures { λ r. ⌜ r ≡ seriesEnded d (bankOf (now (rows .entry))) q ⌝ }
 {
     match d {
-        Direction::Upload => SERIES_LIMIT <= series_of(rows, q.subscriber()),
+        Direction::Upload => numbering_ended(rows, q),
         Direction::Download => false,
     }
 }
 
-// 061099: 8 transactions open, an upload with 8 places in use, 64 nonces remembered, 1,213,056 uploads accepted in the
-// upload's series, or 4,294,967,296 openings accepted.
+// 061099: 8 transactions open, an upload with 8 places in use, 64 nonces remembered, the end of the upload's
+// series, or 4,294,967,296 openings accepted.
 fn is_full(rows: &[u64], d: Direction, q: Fields) -> bool
     requires { ⌜ Laid (now rows) ⌝ }
     ensures { λ r. ⌜ r ≡ isFull d (bankOf (now (rows .entry))) q ⌝ }
@@ -193,10 +253,21 @@ pub fn mailbox_segments(rows: &[u64], subscriber: u64) -> u64
     segments_of(file_length_of(rows, subscriber))
 }
 
-// An accepted opening: its transaction ID is the lent bytes and its running number; an upload has the number that its
-// subscriber's series has come to.
+// The number of an upload: the one that it brings, or the bank's own.
+fn opening_number(rows: &[u64], q: Fields) -> u64
+    requires { ⌜ Laid (now rows) × (seriesEnded Direction.Upload (bankOf (now rows)) q ≡ false) ⌝ }
+    ensures { λ r. ⌜ r ≡ openingNumber (bankOf (now (rows .entry))) q ⌝ }
+{
+    let edition = edition_of(q);
+    match edition {
+        Edition::V24 => order_in(q.order_number()),
+        Edition::V25 => next_number(rows, q.subscriber()),
+    }
+}
+
+// An accepted opening: its transaction ID is the lent bytes and its running number.
 fn accepted(rows: &[u64], d: Direction, first: u64, q: Fields) -> Verdict
-    requires { ⌜ Laid (now rows) ⌝ }
+    requires { ⌜ Laid (now rows) × (seriesEnded d (bankOf (now rows)) q ≡ false) ⌝ }
     ensures { λ r. ⌜ r ≡ accepted d first (bankOf (now (rows .entry))) q ⌝ }
 {
     let number = openings(rows);
@@ -206,7 +277,7 @@ fn accepted(rows: &[u64], d: Direction, first: u64, q: Fields) -> Verdict
     };
     match d {
         Direction::Upload => {
-            let n = series_of(rows, q.subscriber());
+            let n = opening_number(rows, q);
             Verdict::Of(transaction, Action::Upload(UploadAction::Opened(n)))
         }
         Direction::Download => {
@@ -232,6 +303,9 @@ pub fn judge_opening(rows: &[u64], d: Direction, context: Context, q: Fields) ->
     }
     if is_replay(rows, q) {
         return Verdict::Refused(ReturnCode::MessageReplay);
+    }
+    if is_held(rows, q) {
+        return Verdict::Refused(ReturnCode::OrderIdAlreadyExists);
     }
     if empty_mailbox(rows, d, q) {
         return Verdict::Refused(ReturnCode::NoDownloadDataAvailable);

@@ -3,7 +3,6 @@ use bank_lists::downloads::add_download;
 use bank_lists::nonces::add_nonce;
 use bank_rows::numbers::clock;
 use bank_rows::numbers::openings;
-use bank_rows::numbers::series_of;
 use bank_rows::numbers::set_openings;
 use bank_rows::numbers::set_series_of;
 use bank_rows::places::free_place;
@@ -13,12 +12,17 @@ use bank_state::state::Place;
 use bank_state::state::Use;
 use frame_table::fields::Bits128;
 use frame_table::fields::Fields;
+use message::editions::Edition;
+use message::editions::edition_of;
 ghost use mathlib.Core.Path.{_≡_};
+ghost use mathlib.Core.Bool.{true};
 ghost use Prim.Native.Nat.{_<_};
+ghost use Rattle.message.specs.Editions.{editionOf};
 ghost use Rattle.bank_state.specs.Limits.{nonceCount, maxOpenings};
+ghost use Rattle.bank_state.specs.State.{withSeries};
 ghost use Rattle.bank_state.specs.Search.{freeNonce};
 ghost use Rattle.bank_rows.specs.State.{bankOf, stored, Laid};
-ghost use Rattle.bank_openings.specs.Openings.{UploadRoom, DownloadRoom, counted, countedUpload};
+ghost use Rattle.bank_openings.specs.Openings.{UploadRoom, DownloadRoom, counted, moved, fitsSeries, countedUpload};
 ghost use Rattle.bank_openings.specs.Openings.{openUpload, openDownload};
 
 // One opening more is accepted, and its nonce is remembered.
@@ -33,20 +37,35 @@ fn count_opening(rows: &mut [u64], q: Fields)
     set_openings(rows, n + 1);
 }
 
-// An accepted upload is one opening more, and one upload more of its subscriber's series.
-fn count_upload(rows: &mut [u64], q: Fields)
-    requires { ⌜ Laid (now rows) × UploadRoom (bankOf (now rows)) q ⌝ }
-    ensures { λ _. ⌜ now (rows .exit) ≡ stored (countedUpload q (bankOf (now (rows .entry)))) (now (rows .entry)) ⌝ }
+// The bank's own numbering goes on after the number that it gave; an upload that brought its number leaves it alone.
+fn move_series(rows: &mut [u64], number: u64, q: Fields)
+    requires { ⌜ Laid (now rows) × (fitsSeries (editionOf q) number ≡ true) ⌝ }
+    ensures { λ _. ⌜ now (rows .exit)
+        ≡ stored (withSeries (moved number q (bankOf (now (rows .entry)) .series)) (bankOf (now (rows .entry))))
+        (now (rows .entry)) ⌝ }
 {
-    let subscriber = q.subscriber();
-    let n = series_of(rows, subscriber);
+    let edition = edition_of(q);
+    match edition {
+        Edition::V24 => {}
+        Edition::V25 => {
+            set_series_of(rows, q.subscriber(), number + 1);
+        }
+    }
+}
+
+// An accepted upload is one opening more, and with the bank's own number one upload more of its subscriber's series.
+fn count_upload(rows: &mut [u64], number: u64, q: Fields)
+    requires { ⌜ Laid (now rows) × UploadRoom (bankOf (now rows)) q × (fitsSeries (editionOf q) number ≡ true) ⌝ }
+    ensures { λ _. ⌜ now (rows .exit)
+        ≡ stored (countedUpload number q (bankOf (now (rows .entry)))) (now (rows .entry)) ⌝ }
+{
     count_opening(rows, q);
-    set_series_of(rows, subscriber, n + 1);
+    move_series(rows, number, q);
 }
 
 // An accepted upload takes the first free place, with its transaction ID and its order's number.
 pub fn open_upload(rows: &mut [u64], transaction: Bits128, number: u64, q: Fields)
-    requires { ⌜ Laid (now rows) × UploadRoom (bankOf (now rows)) q ⌝ }
+    requires { ⌜ Laid (now rows) × UploadRoom (bankOf (now rows)) q × (fitsSeries (editionOf q) number ≡ true) ⌝ }
     ensures { λ _. ⌜ now (rows .exit)
         ≡ stored (openUpload transaction number q (bankOf (now (rows .entry)))) (now (rows .entry)) ⌝ }
 {
@@ -63,7 +82,7 @@ pub fn open_upload(rows: &mut [u64], transaction: Bits128, number: u64, q: Field
         length: 0,
         signers: 0,
     };
-    count_upload(rows, q);
+    count_upload(rows, number, q);
     set_place(rows, i, place);
 }
 

@@ -1,6 +1,6 @@
 -- The bank's theorems of a session put away and taken up: each is the theorem on the bank's calls among the host's.
 -- Assumes nothing.
-use Prim.Native.Nat.{ℕ, _≤_}
+use Prim.Native.Nat.{ℕ, _≤_, _<_}
 use mathlib.Core.Bool.{Bool, true, false, cond}
 use mathlib.Core.List.{List, [], _∷_, _++_, List·Memᴰ as In}
 use mathlib.Core.Logic.{inl, inr}
@@ -9,25 +9,29 @@ use native.Mathlib.Omega.{arith}
 use lib.Dec.{eqb}
 use lib.ListN.{length}
 use Rattle.frame_table.specs.declared.fields.Bits128.{Bits128}
-use Rattle.frame_table.specs.Names.{orderNumber}
-use Rattle.message.specs.OrderNumbers.{orderNumberOf}
+use Rattle.frame_table.specs.Forms as forms
+use Rattle.frame_table.specs.Names.{subscriber, orderNumber, form}
+use Rattle.message.specs.declared.codes.ReturnCode.the-variants as code
+use Rattle.message.specs.Editions.{orderOpened}
+use Rattle.message.specs.OrderNumbers.{orderNumberOf, orderIn}
 use Rattle.journal.specs.declared.event.Kind.the-variants as kind
-use Rattle.journal.specs.declared.event.Event.{Event}
-use Rattle.journal.specs.declared.event.OrderName.{OrderName}
-use Rattle.journal.specs.Records.{nameOf, Recorded, RecordedEnd}
+use Rattle.journal.specs.Records.{Recorded, RecordedEnd}
 use Rattle.journal.specs.Row.{Journal, rowOf}
 use Rattle.signers.specs.Signers.{isSigner, signerCount, isReleased}
 use Rattle.bank_state.specs.Clock.{advanced}
+use Rattle.bank_state.specs.Limits.{seriesLimit}
 use Rattle.bank_state.specs.Rows.{countOf}
 use Rattle.bank_state.specs.State.{BankState, seriesOf}
 use Rattle.bank.specs.Call.{FrameInput}
 use Rattle.bank_history.specs.History.{Exchange, Stands, BankCall, Frame, Past, isBooking, ever, pastOf}
-use Rattle.bank_history.specs.FalseEconomies.{Attempt, Attempts, StillOpen}
+use Rattle.bank_history.specs.FalseEconomies.{WellMadeOpening, RefusedWith, Attempt, Attempts, StillOpen}
 use Rattle.bank_history.specs.Status.{Open, Drop, drops, eventsOf, OpenAs, OpenIn, Rising}
-use Rattle.bank_history.specs.ByReplies.{uploadsOpened, standing}
-use Rattle.bank_history.specs.Series.{InSeries}
+use Rattle.bank_history.specs.Opened.{isOwnOpened, isUploadOpened}
+use Rattle.bank_history.specs.ByReplies.{ownGiven, numberGiven, standing}
+use Rattle.bank_history.specs.Timely.{Timely}
+use Rattle.bank_history.specs.Series.{InSeries, OwnInSeries, HeldBy, Held}
 use Rattle.bank_history.specs.Journal.{journalOf, eventsIn}
-use Rattle.bank_history.specs.JournalOrders.{OpensOrder, NeverBooked}
+use Rattle.bank_history.specs.JournalOrders.{NeverBooked}
 use Rattle.bank_history.specs.Signatures.{signatureCount}
 use Rattle.bank_history.specs.Signers.{Signature, BooksOrder, InBook, signersAt, SignsOnly, isSignedOf}
 use Rattle.bank_history.proofs.ByReplies.{standing-is}
@@ -78,23 +82,20 @@ module _ {ks : List HostCall} {e : Exchange} (n : NextFrame ks e) where
 
 -- ---- the journal
 
--- an event recorded under the name of the upload t is an event of t
-module _ (calls : List BankCall) (o : OrderName) (t : Bits128) (opened : OpensOrder o t (pastOf calls .history)) where
-  own-event : (v : Event) → nameOf v ≡ o → OpensOrder (nameOf v) t (pastOf calls .history)
-  own-event v z = subst (λ (x : OrderName). OpensOrder x t (pastOf calls .history)) (sym z) opened
-
-  row-booked : Recorded kind.Booked o (journalOf calls .row) → ever isBooking t (pastOf calls .history) ≡ true
+-- an event recorded with the ID of the upload t is an event of t
+module _ (calls : List BankCall) (t : Bits128) where
+  row-booked : Recorded kind.Booked t (journalOf calls .row) → ever isBooking t (pastOf calls .history) ≡ true
   row-booked r =
       let (v, i, n, z) = journal-orders .recorded calls r (λ u. (let y : _≡_ {A = ℕ} 0 1 = cc in omega arith)) in
-      journal-orders .booked calls v t i z (own-event v n)
+      subst (λ (x : Bits128). ever isBooking x (pastOf calls .history) ≡ true) n (journal-orders .booked calls v i z)
 
-  row-ended : RecordedEnd o (journalOf calls .row) → NeverBooked calls t
+  row-ended : RecordedEnd t (journalOf calls .row) → NeverBooked calls t
   row-ended (inl r) =
       let (v, i, n, z) = journal-orders .recorded calls r (λ u. (let y : _≡_ {A = ℕ} 0 1 = cc in omega arith)) in
-      journal-orders .ended calls v t i (inl z) (own-event v n)
+      subst (NeverBooked calls) n (journal-orders .ended calls v i (inl z))
   row-ended (inr r) =
       let (v, i, n, z) = journal-orders .recorded calls r (λ u. (let y : _≡_ {A = ℕ} 0 1 = cc in omega arith)) in
-      journal-orders .ended calls v t i (inr z) (own-event v n)
+      subst (NeverBooked calls) n (journal-orders .ended calls v i (inr z))
 
 -- the bank's calls of a longer list
 call-join : (c : HostCall) (l m : List BankCall) → bankCall c (l ++ m) ≡ bankCall c l ++ m
@@ -146,15 +147,38 @@ resumed-bank {ks} r = record {
       (subst (λ (h : List Exchange). Attempt t h e) (history-is n) a);
   sixth = λ n c x. false-economies .sixth (resumed .next n) (subst (Attempts _ _) (history-is n) c) x;
   numbered = λ {s} {e} {g}. resumed .holds
-      (λ p j. InSeries s e g (p .history) → orderNumber (e .reply) ≡ orderNumberOf (uploadsOpened s g))
+      (λ p j. InSeries s e g (p .history) →
+      (numberGiven e < seriesLimit) × (orderOpened (e .request) (e .reply) ≡ orderNumberOf (numberGiven e)))
       (λ calls i. series .numbered calls i) ks r;
-  apart = λ {s} {e} {f} {g} {h}. resumed .holds
-      (λ p j. InSeries s e g (p .history) → InSeries s f h (p .history) →
-      orderNumber (e .reply) ≡ orderNumber (f .reply) → (e ≡ f) × (g ≡ h))
-      (λ calls a b. series .apart calls a b) ks r;
+  from = λ {e} n. resumed .holdsNext
+      (λ h e. isOwnOpened e ≡ true → ownGiven (subscriber (e .request)) h ≤ numberGiven e)
+      (λ calls e n. series .from n) ks e n;
+  passed = λ {e} n. resumed .holdsNext
+      (λ h e. isOwnOpened e ≡ true → (n : ℕ) → ownGiven (subscriber (e .request)) h ≤ n → n < numberGiven e →
+      Held (subscriber (e .request)) n (e .clock) h)
+      (λ calls e n. series .passed n) ks e n;
+  unheld = λ {e} n. resumed .holdsNext
+      (λ h e. isUploadOpened e ≡ true → Held (subscriber (e .request)) (numberGiven e) (e .clock) h → ⊥)
+      (λ calls e n. series .unheld n) ks e n;
   counters = λ s least most. resumed .holds
-      (λ p j. seriesOf s (p .bankState .bank .series) ≡ uploadsOpened s (p .history))
+      (λ p j. seriesOf s (p .bankState .bank .series) ≡ ownGiven s (p .history))
       (λ calls. series .counters calls s least most) ks r;
+  apart = λ {s} {e} {f} {g} {h}. resumed .holds
+      (λ p j. OwnInSeries s e g (p .history) → OwnInSeries s f h (p .history) →
+      numberGiven e ≡ numberGiven f → (e ≡ f) × (g ≡ h))
+      (λ calls a b. series .apart calls a b) ks r;
+  single = λ clock {s} {n} {t} {u}. resumed .holds
+      (λ p j. HeldBy t s n clock (p .history) → HeldBy u s n clock (p .history) → t ≡ u)
+      (λ calls a b. series .single calls clock a b) ks r;
+  refused = λ {e} n. resumed .holdsNext
+      (λ h e. WellMadeOpening e → form (e .request) ≡ forms.ChosenOpening → Timely e h →
+      Held (subscriber (e .request)) (orderIn (orderNumber (e .request))) (e .clock) h →
+      RefusedWith code.OrderIdAlreadyExists e)
+      (λ calls e n. series .refused n) ks e n;
+  onlyHeld = λ {e} n. resumed .holdsNext
+      (λ h e. RefusedWith code.OrderIdAlreadyExists e → (form (e .request) ≡ forms.ChosenOpening)
+      × Held (subscriber (e .request)) (orderIn (orderNumber (e .request))) (e .clock) h)
+      (λ calls e n. series .onlyHeld n) ks e n;
   row = resumed .holds (λ p j. j .row ≡ rowOf (eventsIn (p .history))) (journal-told .row) ks r;
   events = resumed .holds (λ p j. j .events ≡ length (eventsIn (p .history))) (journal-told .events) ks r;
   signers = λ {o} {i} placed u. resumed .holds
@@ -182,14 +206,12 @@ resumed-bank {ks} r = record {
       (subst (SignsOnly e (advanced (resumed .next n .input .time) (pastOf (bankCalls ks) .bankState))) (sym (bank-after n))
       (signers-told .only (resumed .next n) s));
   signedReplay = λ n s x z c. signers-told .replay (resumed .next n) (stood n s) x z c;
-  booked = λ {o} {t}. resumed .holds
-      (λ p j. Recorded kind.Booked o (j .row) → OpensOrder o t (p .history) → ever isBooking t (p .history) ≡ true)
-      (λ calls x opened. row-booked calls o t opened x) ks r;
-  ended = λ {o} {t} x opened more longer.
-      let p = ap (λ (p : Past). p .history) (resumed .past r) in
+  booked = λ {t}. resumed .holds
+      (λ p j. Recorded kind.Booked t (j .row) → ever isBooking t (p .history) ≡ true)
+      (λ calls x. row-booked calls t x) ks r;
+  ended = λ {t} x more longer.
       let j = ap (λ (j : Journal). j .row) (resumed .journal r) in
-      let never = row-ended (bankCalls ks) o t (subst (OpensOrder o t) p opened) (subst (RecordedEnd o) j x) in
-      ended-stays ks more never longer;
+      ended-stays ks more (row-ended (bankCalls ks) t (subst (RecordedEnd t) j x)) longer;
   told = λ t d s last. resumed .holds
       (λ p j. OpenAs (p .bankState) t d s last → standing t (p .history) ≡ Open d s last)
       (λ calls o. standing-is t (history-sound calls) ∙ call-drops .told calls t d s last o) ks r;

@@ -8,17 +8,19 @@ use mathlib.Core.Path.{_≡_}
 use lib.ListN.{length}
 use Rattle.frame_table.specs.declared.fields.Bits128.{Bits128}
 use Rattle.frame_table.specs.declared.table.Form.{Form}
-use Rattle.frame_table.specs.Names.{subscriber, nonce, timestamp, transaction, lastMark, orderNumber}
+use Rattle.frame_table.specs.Forms as forms
+use Rattle.frame_table.specs.Names.{subscriber, nonce, timestamp, transaction, lastMark, orderNumber, form}
 use Rattle.message.specs.declared.codes.ReturnCode.the-variants as code
+use Rattle.message.specs.Editions.{orderOpened}
 use Rattle.message.specs.Limits.{subscribers, maxAttempts}
-use Rattle.message.specs.OrderNumbers.{orderNumberOf}
+use Rattle.message.specs.OrderNumbers.{orderNumberOf, orderIn}
 use Rattle.journal.specs.declared.event.Kind.the-variants as kind
 use Rattle.journal.specs.declared.event.OrderName.{OrderName}
 use Rattle.journal.specs.Records.{Recorded, RecordedEnd}
 use Rattle.journal.specs.Row.{Journal, rowOf}
 use Rattle.signers.specs.Signers.{isSigner, signerCount, isReleased}
 use Rattle.bank_state.specs.Clock.{advanced}
-use Rattle.bank_state.specs.Limits.{window, idleLimit}
+use Rattle.bank_state.specs.Limits.{window, idleLimit, seriesLimit}
 use Rattle.bank_state.specs.Rows.{countOf}
 use Rattle.bank_state.specs.State.{BankState, seriesOf}
 use Rattle.bank_verdicts.specs.declared.verdict.Direction.{Direction}
@@ -49,10 +51,11 @@ use Rattle.bank_history.specs.FalseEconomies.{
   StillOpen,
 }
 use Rattle.bank_history.specs.Status.{Open, Drop, drops, eventsOf, OpenAs, OpenIn, Rising}
-use Rattle.bank_history.specs.ByReplies.{uploadsOpened, standing}
-use Rattle.bank_history.specs.Series.{InSeries}
+use Rattle.bank_history.specs.Opened.{isOwnOpened, isUploadOpened}
+use Rattle.bank_history.specs.ByReplies.{ownGiven, numberGiven, standing}
+use Rattle.bank_history.specs.Timely.{Timely}
+use Rattle.bank_history.specs.Series.{InSeries, OwnInSeries, HeldBy, Held}
 use Rattle.bank_history.specs.Journal.{journalOf, eventsIn}
-use Rattle.bank_history.specs.JournalOrders.{OpensOrder}
 use Rattle.bank_history.specs.Signatures.{signatureCount}
 use Rattle.bank_history.specs.Signers.{
   WellMadeSigning,
@@ -134,22 +137,40 @@ pub record ResumedBank (ks : List HostCall) : Type 0 where
       Attempt t (historyLeft ks) e → n < maxAttempts
   pub sixth : {e : Exchange} {n : ℕ} → NextFrame ks e → Attempts (transaction (e .request)) n (historyLeft ks) →
       RefusedWith code.TransactionAbort e → n ≡ maxAttempts
-  -- `Series`: "Uploads of a subscriber and type now count from A000 on their own", and no number comes twice
+  -- `Series`: the number of an accepted upload is one of A000 to ZZZZ, in the request or in the reply by its edition
   pub numbered : {s : ℕ} {e : Exchange} {g : List Exchange} → InSeries s e g (historyLeft ks) →
-      orderNumber (e .reply) ≡ orderNumberOf (uploadsOpened s g)
-  pub apart : {s : ℕ} {e f : Exchange} {g h : List Exchange} → InSeries s e g (historyLeft ks) →
-      InSeries s f h (historyLeft ks) → orderNumber (e .reply) ≡ orderNumber (f .reply) → (e ≡ f) × (g ≡ h)
-  -- the bank's counters are how many there were
+      (numberGiven e < seriesLimit) × (orderOpened (e .request) (e .reply) ≡ orderNumberOf (numberGiven e))
+  -- the bank's own numbering gives the first number from where it has come to that is not held; its counters say where
+  pub from : {e : Exchange} → NextFrame ks e → isOwnOpened e ≡ true →
+      ownGiven (subscriber (e .request)) (historyLeft ks) ≤ numberGiven e
+  pub passed : {e : Exchange} → NextFrame ks e → isOwnOpened e ≡ true → (n : ℕ) →
+      ownGiven (subscriber (e .request)) (historyLeft ks) ≤ n → n < numberGiven e →
+      Held (subscriber (e .request)) n (e .clock) (historyLeft ks)
+  pub unheld : {e : Exchange} → NextFrame ks e → isUploadOpened e ≡ true →
+      Held (subscriber (e .request)) (numberGiven e) (e .clock) (historyLeft ks) → ⊥
   pub counters : (s : ℕ) → 1 ≤ s → s ≤ subscribers →
-      seriesOf s (bankLeft ks .bank .series) ≡ uploadsOpened s (historyLeft ks)
+      seriesOf s (bankLeft ks .bank .series) ≡ ownGiven s (historyLeft ks)
+  -- no number comes twice from it, and no two uploads hold one at one time
+  pub apart : {s : ℕ} {e f : Exchange} {g h : List Exchange} → OwnInSeries s e g (historyLeft ks) →
+      OwnInSeries s f h (historyLeft ks) → numberGiven e ≡ numberGiven f → (e ≡ f) × (g ≡ h)
+  pub single : (clock : ℕ) {s n : ℕ} {t u : Bits128} → HeldBy t s n clock (historyLeft ks) →
+      HeldBy u s n clock (historyLeft ks) → t ≡ u
+  -- 091115 to a number chosen exactly while it is held
+  pub refused : {e : Exchange} → NextFrame ks e → WellMadeOpening e → form (e .request) ≡ forms.ChosenOpening →
+      Timely e (historyLeft ks) →
+      Held (subscriber (e .request)) (orderIn (orderNumber (e .request))) (e .clock) (historyLeft ks) →
+      RefusedWith code.OrderIdAlreadyExists e
+  pub onlyHeld : {e : Exchange} → NextFrame ks e → RefusedWith code.OrderIdAlreadyExists e →
+      (form (e .request) ≡ forms.ChosenOpening)
+      × Held (subscriber (e .request)) (orderIn (orderNumber (e .request))) (e .clock) (historyLeft ks)
   -- `JournalTold`: the row and the number of events, by requests, replies and clocks
   pub row : leftBy ks .journal .row ≡ rowOf (eventsIn (historyLeft ks))
   pub events : leftBy ks .journal .events ≡ length (eventsIn (historyLeft ks))
-  -- `JournalOrders`: "a booking under its order number"; "a cancellation or drop", whatever allowed calls come after
-  pub booked : {o : OrderName} {t : Bits128} → Recorded kind.Booked o (leftBy ks .journal .row) →
-      OpensOrder o t (historyLeft ks) → ever isBooking t (historyLeft ks) ≡ true
-  pub ended : {o : OrderName} {t : Bits128} → RecordedEnd o (leftBy ks .journal .row) →
-      OpensOrder o t (historyLeft ks) → (more : List HostCall) → AllAllowed (more ++ ks) →
+  -- `JournalOrders`, by the transaction ID: a booking; "a cancellation or drop", whatever allowed calls come after
+  pub booked : {t : Bits128} → Recorded kind.Booked t (leftBy ks .journal .row) →
+      ever isBooking t (historyLeft ks) ≡ true
+  pub ended : {t : Bits128} → RecordedEnd t (leftBy ks .journal .row) → (more : List HostCall) →
+      AllAllowed (more ++ ks) →
       (OpenIn (bankLeft (more ++ ks)) t → ⊥) × (ever isBooking t (historyLeft (more ++ ks)) ≡ false)
   -- `SignersTold`: the signers of an order in the book are exactly the subscribers to whom a signing naming its owner,
   -- type and number was answered 000000, in whatever part of the session, each after its booking

@@ -26,6 +26,7 @@ ghost use Rattle.bank_state.specs.declared.state.Place.{Place};
 ghost use Rattle.bank_state.specs.Limits.{placeCount};
 ghost use Rattle.bank_state.specs.Rows.{countOf};
 ghost use Rattle.bank_state.specs.Search.{isOpen, isFree, isUpload, freePlace, findUpload};
+ghost use Rattle.bank_state.specs.Search.{holdsNumber, findNumber, isNumberHeld};
 ghost use Rattle.bank_state.specs.State.{placeAt, withPlace};
 ghost use Rattle.bank_rows.specs.Layout.{stateSize};
 ghost use Rattle.bank_rows.specs.Records.{bits, useOf, numberOfUse};
@@ -162,6 +163,44 @@ pub fn free_place(rows: &[u64]) -> usize
         i += 1;
     }
     i
+}
+
+// Whether place i holds this order number of this subscriber, open or booked.
+fn holds_number_at(rows: &[u64], i: usize, subscriber: u64, number: u64) -> bool
+    requires { ⌜ Laid (now rows) × (i < placeCount) ⌝ }
+    ensures { λ r. ⌜ r ≡ holdsNumber subscriber number (placeAt (bankOf (now (rows .entry))) i) ⌝ }
+{
+    let at = PLACES_AT + PLACE_WIDTH * i;
+    if rows[at + PLACE_USE] == FREE {
+        return false;
+    }
+    if rows[at + PLACE_SUBSCRIBER] != subscriber {
+        return false;
+    }
+    rows[at + PLACE_NUMBER] == number
+}
+
+// The place that holds this order number of this subscriber; the number of places where there is none.
+fn find_number(rows: &[u64], subscriber: u64, number: u64) -> usize
+    requires { ⌜ Laid (now rows) ⌝ }
+    ensures { λ r. ⌜ r ≡ findNumber subscriber number (bankOf (now (rows .entry))) ⌝ }
+{
+    let mut i = 0;
+    while i < PLACE_COUNT {
+        if holds_number_at(rows, i, subscriber, number) {
+            return i;
+        }
+        i += 1;
+    }
+    i
+}
+
+// Whether a place in use of this subscriber holds this order number.
+pub fn is_number_held(rows: &[u64], subscriber: u64, number: u64) -> bool
+    requires { ⌜ Laid (now rows) ⌝ }
+    ensures { λ r. ⌜ r ≡ isNumberHeld subscriber number (bankOf (now (rows .entry))) ⌝ }
+{
+    find_number(rows, subscriber, number) < PLACE_COUNT
 }
 
 // Whether place i holds an open upload.

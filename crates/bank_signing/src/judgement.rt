@@ -7,6 +7,7 @@ use bank_rows::places::place_at;
 use bank_state::limits::NONCE_COUNT;
 use bank_state::limits::PLACE_COUNT;
 use bank_state::state::Place;
+use bank_verdicts::verdict::SignedOrder;
 use bank_verdicts::verdict::Verdict;
 use frame_table::fields::Fields;
 use message::codes::ReturnCode;
@@ -65,14 +66,19 @@ fn is_new(p: Place, subscriber: u64) -> bool
     !is_signer(p.signers as u8, subscriber)
 }
 
-// An accepted signing of the order in place i: its number, and whether it has a signer more.
+// An accepted signing of the order in place i: its ID and number, and whether it has a signer more.
 fn signed(rows: &[u64], i: usize, q: Fields) -> Verdict
     requires { ⌜ Laid (now rows) × SignerSets (bankOf (now rows)) × (i < placeCount)
         × (i ≡ orderAt (bankOf (now rows)) q) ⌝ }
     ensures { λ r. ⌜ r ≡ signed (bankOf (now (rows .entry))) q ⌝ }
 {
     let p = place_at(rows, i);
-    Verdict::Signed(p.number, is_new(p, q.subscriber()))
+    let transaction = p.transaction;
+    let order = SignedOrder {
+        transaction,
+        number: p.number,
+    };
+    Verdict::Signed(order, is_new(p, q.subscriber()))
 }
 
 // A signing, judged in document 01's order.

@@ -3,6 +3,7 @@ pub mod Tests
 pub mod Found
 pub mod Rows
 pub mod Loops
+pub mod Numbers
 pub mod Stores
 pub mod Drops
 pub mod Cases

@@ -4,4 +4,5 @@ pub mod State
 pub mod Rows
 pub mod Store
 pub mod Search
+pub mod Numbers
 pub mod Clock

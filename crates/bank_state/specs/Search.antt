@@ -10,7 +10,7 @@ use Rattle.bank_state.specs.declared.state.Place.{Place}
 use Rattle.bank_state.specs.declared.state.Download.{Download}
 use Rattle.bank_state.specs.State.{Nonce}
 use Rattle.bank_state.specs.State.{Bank}
-use Rattle.bank_state.specs.Limits.{nonceCount}
+use Rattle.bank_state.specs.Limits.{placeCount, nonceCount}
 use Rattle.bank_state.specs.Rows.{firstOf, countOf}
 
 abbrev pub isFree : Use → Bool
@@ -31,6 +31,16 @@ isBooked Booked = true
 -- "An upload takes the first place not in use"
 unfoldable pub freePlace : Bank → ℕ
 freePlace b = firstOf (λ (p : Place). isFree (p .used)) (b .places)
+
+-- card 11, "held by an open or booked upload of that subscriber": a place in use of this subscriber with this number
+unfoldable pub holdsNumber : ℕ → ℕ → Place → Bool
+holdsNumber s n p = not (isFree (p .used)) && eqb (p .subscriber) s && eqb (p .number) n
+
+unfoldable pub findNumber : ℕ → ℕ → Bank → ℕ
+findNumber s n b = firstOf (holdsNumber s n) (b .places)
+
+unfoldable pub isNumberHeld : ℕ → ℕ → Bank → Bool
+isNumberHeld s n b = ltb (findNumber s n b) placeCount
 
 -- the first free record of an open download
 unfoldable pub freeDownload : Bank → ℕ

@@ -15,7 +15,7 @@ pub record Nonce : Type 0 where
   pub value : Bits128
   pub timestamp : ℕ
 
--- The bank's state. `series` has how far the numbering of each subscriber's uploads has come. Open downloads and nonces
+-- The bank's state. `series` has how far the bank's own numbering of each subscriber's uploads has come. Open downloads and nonces
 -- stand in the order of their openings, without gaps; `files` has the length of each mailbox's file, 0 where it is empty
 pub record Bank : Type 0 where
   pub clock : ℕ
@@ -160,7 +160,7 @@ downloadAt b i = getD (b .downloads) i noDownload
 unfoldable pub fileLength : ℕ → List ℕ → ℕ
 fileLength s files = getD files (s - 1) 0
 
--- "Uploads of a subscriber ... now count from A000 on their own": how many of a subscriber were accepted
+-- "Uploads of a subscriber ... now count from A000 on their own": how far a subscriber's have come
 unfoldable pub seriesOf : ℕ → List ℕ → ℕ
 seriesOf s series = getD series (s - 1) 0
 

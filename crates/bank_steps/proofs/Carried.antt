@@ -16,19 +16,23 @@ use Rattle.bank_state.specs.State.{Bank}
 use Rattle.bank_state.specs.declared.state.Download.{Download}
 use Rattle.bank_state.specs.declared.state.Place.{Place}
 use Rattle.bank_state.specs.Limits.{placeCount}
-use Rattle.bank_state.specs.State.{BankState, bankState, placeAt, downloadAt, seriesOf, withPlace}
+use Rattle.bank_state.specs.State.{BankState, bankState, placeAt, downloadAt, withPlace}
 use Rattle.bank_state.specs.Store.{partAt, withPart}
 use Rattle.bank_verdicts.specs.declared.verdict.Context.{Context}
 use Rattle.bank_verdicts.specs.declared.verdict.Action.{Action}
+use Rattle.bank_verdicts.specs.declared.verdict.Action.the-variants as action
 use Rattle.bank_verdicts.specs.declared.verdict.Direction.{Direction}
 use Rattle.bank_verdicts.specs.declared.verdict.Direction.the-variants as direction
 use Rattle.bank_verdicts.specs.declared.verdict.DownloadAction.{DownloadAction}
 use Rattle.bank_verdicts.specs.declared.verdict.DownloadAction.the-variants as down
 use Rattle.bank_verdicts.specs.declared.verdict.TransactionRequest.{TransactionRequest}
 use Rattle.bank_verdicts.specs.declared.verdict.UploadAction.{UploadAction}
+use Rattle.bank_verdicts.specs.declared.verdict.SignedOrder.{SignedOrder}
+use Rattle.bank_verdicts.specs.declared.verdict.UploadAction.the-variants as up
 use Rattle.bank_verdicts.specs.declared.verdict.Verdict.{Verdict}
 use Rattle.bank_verdicts.specs.declared.verdict.Verdict.the-variants as verdict
-use Rattle.bank_verdicts.specs.Judgement.{transactionOf, mailboxSegments, accepted, judgeOpening, judgeSigning}
+use Rattle.bank_verdicts.specs.Judgement.{transactionOf, mailboxSegments, openingNumber, accepted, openedNumber}
+use Rattle.bank_verdicts.specs.Judgement.{judgeOpening, judgeSigning}
 use Rattle.bank_verdicts.specs.Judgement.{judgeUpload, judgeDownload, uploadAt, downloadOf, judgeOpen, judgeTransaction}
 use Rattle.bank_verdicts.specs.Refusals.{notOpen, transactionRows}
 use Rattle.bank_verdicts.proofs.Sound.{OpeningSound, UploadSound, DownloadSound}
@@ -86,12 +90,14 @@ module _ (context : Context) (b : Bank) (q : Fields) {t : Bits128} {a : Action} 
 
   module _ (o m d : List ℕ) where
     pub upload-opened : judgeOpening direction.Upload context b q ≡ verdict.Of t a
-        → bankState (openUpload t (seriesOf (subscriber q) (b .series)) q b) o m
+        → bankState (openUpload t (openedNumber a) q b) o m
         ≡ carryOut (judgeOpening direction.Upload context b q) (bankState b o m) q d
     upload-opened e =
         let known = opens direction.Upload e in
         let same : t ≡ transactionOf (context .prefix) b = cc in
-        ap (λ (id : Bits128). bankState (openUpload id (seriesOf (subscriber q) (b .series)) q b) o m) same
+        let own : a ≡ action.Upload (up.Opened (openingNumber b q)) = cc in
+        ap (λ (id : Bits128). bankState (openUpload id (openedNumber a) q b) o m) same
+        ∙ ap (λ (x : Action). bankState (openUpload (transactionOf (context .prefix) b) (openedNumber x) q b) o m) own
         ∙ sym (ap (λ (v : Verdict). carryOut v (bankState b o m) q d) known)
 
     pub download-opened : judgeOpening direction.Download context b q ≡ verdict.Of t a
@@ -105,7 +111,7 @@ module _ (context : Context) (b : Bank) (q : Fields) {t : Bits128} {a : Action} 
 
 -- ---- a signing that signs
 
-pub signing-carried : (b : Bank) (q : Fields) (o m d : List ℕ) {n : ℕ} {added : Bool}
+pub signing-carried : (b : Bank) (q : Fields) (o m d : List ℕ) {n : SignedOrder} {added : Bool}
     → judgeSigning b q ≡ verdict.Signed n added
     → bankState (sign q b) o m ≡ carryOut (judgeSigning b q) (bankState b o m) q d
 signing-carried b q o m d e = sym (ap (λ (v : Verdict). carryOut v (bankState b o m) q d) e)

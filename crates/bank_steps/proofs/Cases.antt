@@ -3,7 +3,7 @@
 use Prim.Native.Nat.{ℕ, _<_}
 use mathlib.Core.Bool.{true, false}
 use mathlib.Core.List.{List}
-use mathlib.Core.Path.{_≡_, refl}
+use mathlib.Core.Path.{_≡_, refl, sym, ap, _∙_}
 use native.Mathlib.Omega.{arith}
 use lib.Dec.{ltb, leb}
 use lib.ListN.{length}
@@ -18,11 +18,12 @@ use Rattle.frame_table.specs.Forms as forms
 use Rattle.frame_table.specs.Names.{subscriber, transaction, segments, orderNumber, owner, form}
 use Rattle.message.specs.declared.codes.ReturnCode.{ReturnCode}
 use Rattle.message.specs.declared.codes.ReturnCode.the-variants as code
+use Rattle.message.specs.Editions.{formEdition, editionOf, openingForm}
 use Rattle.message.proofs.Verdicts.{by-test, and-false}
 use Rattle.bank_state.specs.declared.state.Download.{Download}
-use Rattle.bank_state.specs.Limits.{placeCount, seriesLimit}
+use Rattle.bank_state.specs.Limits.{placeCount}
 use Rattle.bank_state.specs.Search.{freePlace, isUpload, findUpload, isDownload, findDownload}
-use Rattle.bank_state.specs.State.{BankState, placeAt, downloadAt, fileLength, seriesOf}
+use Rattle.bank_state.specs.State.{BankState, placeAt, downloadAt, fileLength}
 use Rattle.bank_state.proofs.Rows.{first-passes}
 use Rattle.bank_verdicts.specs.declared.verdict.Context.{Context}
 use Rattle.bank_verdicts.specs.declared.verdict.Direction.the-variants as direction
@@ -38,6 +39,7 @@ use Rattle.bank_verdicts.specs.declared.verdict.Verdict.the-variants as verdict
 use Rattle.bank_verdicts.specs.Refusals.{isOrder, findOrder, notOpen, cancels}
 use Rattle.bank_verdicts.specs.Judgement.{
   transactionOf,
+  openingNumber,
   mailboxSegments,
   uploadAt,
   downloadOf,
@@ -53,6 +55,7 @@ use Rattle.bank_steps.specs.Steps.{onUpload, uploadActs}
 use Rattle.bank_verdicts.proofs.Sound.{
   Readable,
   Acceptable,
+  Numbered,
   UploadSound,
   took,
   tookLast,
@@ -118,10 +121,10 @@ upload-acts {w} {q} {d} {r} {a} t c = at (c .sound)
 pub data Happens (first : ℕ) (w : BankState) (q : Fields) (d : List ℕ) : Verdict → Type 0 where
   unreadable : Happens first w q d verdict.Unreadable
   refused : (c : ReturnCode) → cancels c ≡ false → Happens first w q d (verdict.Refused c)
-  opensUpload : form q ≡ forms.UploadOpening → Readable q (length d) → Acceptable (w .bank) q → (segments q ≡ 0 → ⊥) →
-      freePlace (w .bank) < placeCount → seriesOf (subscriber q) (w .bank .series) < seriesLimit →
+  opensUpload : form q ≡ openingForm (editionOf q) → Readable q (length d) → Acceptable (w .bank) q →
+      (segments q ≡ 0 → ⊥) → freePlace (w .bank) < placeCount → Numbered (w .bank) q →
       Happens first w q d
-      (verdict.Of (transactionOf first (w .bank)) (action.Upload (up.Opened (seriesOf (subscriber q) (w .bank .series)))))
+      (verdict.Of (transactionOf first (w .bank)) (action.Upload (up.Opened (openingNumber (w .bank) q))))
   opensDownload : form q ≡ forms.DownloadOpening → Readable q (length d) → Acceptable (w .bank) q →
       (fileLength (subscriber q) (w .bank .files) ≡ 0 → ⊥) →
       Happens first w q d
@@ -179,10 +182,10 @@ module _ (k : Context) (w : BankState) (q : Fields) (d : List ℕ) (rowed : leng
         sound = judged-download (downloadAt (w .bank) j) (mailboxSegments (subscriber q) (w .bank)) q r;
       })))
 
-  upload-happens : {v : Verdict} → form q ≡ forms.UploadOpening → Readable q (length d) →
+  upload-happens : {v : Verdict} → form q ≡ openingForm (editionOf q) → Readable q (length d) →
       OpeningSound (k .prefix) (w .bank) q direction.Upload v → Comes v
   upload-happens f a (opening.refused d c e) = refused c e
-  upload-happens f a (opening.upload g n p below) = opensUpload f a g n p below
+  upload-happens f a (opening.upload g n p own) = opensUpload f a g n p own
 
   download-happens : {v : Verdict} → form q ≡ forms.DownloadOpening → Readable q (length d) →
       OpeningSound (k .prefix) (w .bank) q direction.Download v → Comes v
@@ -200,12 +203,16 @@ module _ (k : Context) (w : BankState) (q : Fields) (d : List ℕ) (rowed : leng
       signs (record { readable = a; asked = f; signable = g; found = found-order (g .inside) })
 
   request-happens : (x : RequestForm) → form q ≡ Request x → Readable q (length d) → Comes (judgeRequest x k (w .bank) q)
-  request-happens requests.UploadOpening e a = upload-happens e a (judged-opening k (w .bank) q direction.Upload)
+  request-happens requests.UploadOpening e a =
+      upload-happens (e ∙ sym (ap (λ (x : Form). openingForm (formEdition x)) e)) a (judged-opening k (w .bank) q direction.Upload)
   request-happens requests.DownloadOpening e a = download-happens e a (judged-opening k (w .bank) q direction.Download)
   request-happens requests.UploadTransfer e a = transaction-happens asked.UploadTransfer a e
   request-happens requests.DownloadTransfer e a = transaction-happens asked.DownloadTransfer a e
   request-happens requests.Receipt e a = transaction-happens asked.Receipt a e
   request-happens requests.Signing e a = signing-happens e a (judged-signing (w .bank) q)
+  request-happens requests.ChosenOpening e a =
+      upload-happens (e ∙ sym (ap (λ (x : Form). openingForm (formEdition x)) e)) a
+      (judged-opening k (w .bank) q direction.Upload)
 
   form-happens : (f : Form) → form q ≡ f → Readable q (length d) → Comes (judgeForm f k (w .bank) q)
   form-happens NoForm e a = unreadable

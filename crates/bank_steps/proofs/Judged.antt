@@ -64,6 +64,7 @@ module _ (context : Context) (b : Bank) (q : Fields) (n : ℕ) (P : Verdict → 
   request-each k requests.DownloadTransfer = transaction-each k asked.DownloadTransfer
   request-each k requests.Receipt = transaction-each k asked.Receipt
   request-each k requests.Signing = signing k (judgeSigning b q) (judged-signing b q)
+  request-each k requests.ChosenOpening = opening-each k direction.Upload
 
   form-each : Readable q n → (f : Form) → P (judgeForm f context b q)
   form-each k NoForm = unreadable

@@ -6,12 +6,11 @@ use mathlib.Core.Path.{_≡_, refl, sym, ap, _∙_}
 use lib.ListN.{set}
 use Rattle.frame_table.specs.declared.fields.Bits128.{Bits128}
 use Rattle.frame_table.specs.declared.fields.Fields.{Fields}
-use Rattle.frame_table.specs.Names.{subscriber}
 use Rattle.bank_state.specs.declared.clock.Ended.{Ended}
 use Rattle.bank_state.specs.State.{Bank}
 use Rattle.bank_state.specs.declared.state.Place.{Place}
 use Rattle.bank_state.specs.Clock.{endDownloads}
-use Rattle.bank_state.specs.State.{bankState, placeAt, seriesOf, withPlace, withDownloads, withFiles}
+use Rattle.bank_state.specs.State.{bankState, placeAt, withPlace, withDownloads, withFiles}
 use Rattle.bank_state.specs.Store.{partAt, withPart}
 use Rattle.bank_rows.specs.State.{bankOf, stored, Laid}
 use Rattle.bank_rows.proofs.Calls.{Within, within-own, within-ended, stored-next, laid-next, held-file}
@@ -21,9 +20,10 @@ use Rattle.bank_verdicts.specs.declared.verdict.Action.{Action}
 use Rattle.bank_verdicts.specs.declared.verdict.Action.the-variants as action
 use Rattle.bank_verdicts.specs.declared.verdict.Direction.the-variants as direction
 use Rattle.bank_verdicts.specs.declared.verdict.TransactionRequest.{TransactionRequest}
+use Rattle.bank_verdicts.specs.declared.verdict.SignedOrder.{SignedOrder}
 use Rattle.bank_verdicts.specs.declared.verdict.Verdict.{Verdict}
 use Rattle.bank_verdicts.specs.declared.verdict.Verdict.the-variants as verdict
-use Rattle.bank_verdicts.specs.Judgement.{judgeOpening, judgeSigning, uploadAt}
+use Rattle.bank_verdicts.specs.Judgement.{openedNumber, judgeOpening, judgeSigning, uploadAt}
 use Rattle.bank_verdicts.proofs.Signing.{isActed, isSigned}
 use Rattle.bank_openings.specs.Openings.{openUpload, openDownload}
 use Rattle.bank_signing.specs.Signings.{sign}
@@ -51,16 +51,14 @@ none-carried v s o m q d l x y = record {
 -- ---- an opening
 
 module _ (s o m : List ℕ) (context : Context) (q : Fields) (d : List ℕ) {t : Bits128} {a : Action} {u : List ℕ} where
-  pub upload-opening-carried : {i n : ℕ} → judgeOpening direction.Upload context (bankOf s) q ≡ verdict.Of t a
-      → i ≡ subscriber q → n ≡ seriesOf i (bankOf s .series)
-      → u ≡ stored (openUpload t n q (bankOf s)) s
+  pub upload-opening-carried : {n : ℕ} → judgeOpening direction.Upload context (bankOf s) q ≡ verdict.Of t a
+      → n ≡ openedNumber a → u ≡ stored (openUpload t n q (bankOf s)) s
       → CarriedOut (judgeOpening direction.Upload context (bankOf s) q) (lent s o m) q d (verdict.Of t a) (lent u o m)
-  upload-opening-carried told x e f = record {
+  upload-opening-carried told e f = record {
     judged = sym told;
     done =
         lent-same
-        (f ∙ ap (λ (k : ℕ). stored (openUpload t k q (bankOf s)) s) (e ∙ ap (λ (j : ℕ). seriesOf j (bankOf s .series)) x))
-        refl refl
+        (f ∙ ap (λ (k : ℕ). stored (openUpload t k q (bankOf s)) s) e) refl refl
         ∙ ap (keptIn (lent s o m)) (upload-opened context (bankOf s) q o m d told);
   }
 
@@ -74,7 +72,7 @@ module _ (s o m : List ℕ) (context : Context) (q : Fields) (d : List ℕ) {t :
 
 -- ---- a signing
 
-pub signed-carried : (s o m : List ℕ) (q : Fields) (d : List ℕ) {r : Verdict} {n : ℕ} {added : Bool} {u : List ℕ}
+pub signed-carried : (s o m : List ℕ) (q : Fields) (d : List ℕ) {r : Verdict} {n : SignedOrder} {added : Bool} {u : List ℕ}
     → r ≡ judgeSigning (bankOf s) q → r ≡ verdict.Signed n added → u ≡ stored (sign q (bankOf s)) s
     → CarriedOut (judgeSigning (bankOf s) q) (lent s o m) q d r (lent u o m)
 signed-carried s o m q d is told f = record {

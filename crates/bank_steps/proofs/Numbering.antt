@@ -1,9 +1,9 @@
--- What a verdict makes of the series: accepted uploads alone move them, each its own. Assumes nothing.
+-- What a verdict makes of the series: accepted uploads alone move them, with the bank's own number and each its own.
+-- Assumes nothing.
 use Prim.Native.Nat.{ℕ}
 use mathlib.Core.List.{List}
 use mathlib.Core.Path.{_≡_, refl}
 use Rattle.frame_table.specs.declared.fields.Fields.{Fields}
-use Rattle.frame_table.specs.Names.{subscriber}
 use Rattle.bank_state.specs.State.{BankState}
 use Rattle.bank_verdicts.specs.declared.verdict.Action.the-variants as action
 use Rattle.bank_verdicts.specs.declared.verdict.DownloadAction.the-variants as down
@@ -14,11 +14,12 @@ use Rattle.bank_openings.specs.Openings.{counted, moved, countedUpload, openUpl
 use Rattle.bank_signing.specs.Signings.{sign}
 use Rattle.bank_steps.specs.Steps.{carryOut}
 
--- the series after a verdict on the request q: an accepted upload moves its subscriber's, and nothing else moves any
+-- the series after a verdict on the request q: an accepted upload with the bank's own number moves its
+-- subscriber's, and nothing else moves any
 abbrev pub seriesAfter : Verdict → Fields → List ℕ → List ℕ
 seriesAfter verdict.Unreadable q l = l
 seriesAfter (verdict.Refused c) q l = l
-seriesAfter (verdict.Of t (action.Upload (up.Opened n))) q l = moved (subscriber q) l
+seriesAfter (verdict.Of t (action.Upload (up.Opened n))) q l = moved n q l
 seriesAfter (verdict.Of t (action.Upload up.Took)) q l = l
 seriesAfter (verdict.Of t (action.Upload up.TookLast)) q l = l
 seriesAfter (verdict.Of t (action.Upload (up.Point k))) q l = l

@@ -33,7 +33,7 @@ use Rattle.bank_verdicts.specs.declared.verdict.DownloadAction.{DownloadAction}
 use Rattle.bank_verdicts.specs.declared.verdict.TransactionRequest.{TransactionRequest}
 use Rattle.bank_verdicts.specs.declared.verdict.UploadAction.{UploadAction}
 use Rattle.bank_verdicts.specs.declared.verdict.Verdict.{Verdict}
-use Rattle.bank_verdicts.specs.Judgement.{mailboxSegments, orderAt, judgeDownload, uploadAt, downloadOf, judge}
+use Rattle.bank_verdicts.specs.Judgement.{mailboxSegments, openingNumber, orderAt, judgeDownload, uploadAt, downloadOf, judge}
 use Rattle.bank_verdicts.proofs.Sound.{Readable, OpeningSound, UploadSound, DownloadSound}
 use Rattle.bank_verdicts.proofs.Sound.{judged-upload, judged-download}
 use Rattle.bank_verdicts.proofs.Sound as sound
@@ -134,9 +134,9 @@ module _ {b : Bank} (r : InRange b) where
     within = r .within;
   }
 
-  counted-upload-range : (q : Fields) → InRange (countedUpload q b)
+  counted-upload-range : (number : ℕ) (q : Fields) → InRange (countedUpload number q b)
   unfolding countedUpload counted
-  counted-upload-range q = record {
+  counted-upload-range number q = record {
     files = r .files;
     lengths = r .lengths;
     signers = r .signers;
@@ -284,7 +284,7 @@ module _ (b : Bank) (k : Held b) (r : InRange b) (q : Fields) (o m d : List ℕ)
   unfolding openUpload openDownload countedUpload counted
   opening-range s first dir v (sound.refused e c h) = r
   opening-range s first dir v (sound.upload acc some free below) =
-      place-range (counted-upload-range r q) (freePlace b) _ (record {
+      place-range (counted-upload-range r (openingNumber b q) q) (freePlace b) _ (record {
         size = omega arith;
         signers = omega arith;
         few = λ _. acc .few;

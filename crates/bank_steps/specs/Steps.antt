@@ -117,6 +117,7 @@ targetOf requests.UploadTransfer = target.Transaction asked.UploadTransfer
 targetOf requests.DownloadTransfer = target.Transaction asked.DownloadTransfer
 targetOf requests.Receipt = target.Transaction asked.Receipt
 targetOf requests.Signing = target.Signing
+targetOf requests.ChosenOpening = target.UploadOpening
 
 -- how a request to a target is judged
 abbrev pub judgeTarget : Target → Context → Bank → Fields → Verdict

@@ -12,7 +12,6 @@ use bank_openings::judgement::mailbox_segments;
 use bank_openings::openings::open_download;
 use bank_openings::openings::open_upload;
 use bank_rows::numbers::clock;
-use bank_rows::numbers::series_of;
 use bank_rows::numbers::set_file_length;
 use bank_rows::places::find_upload;
 use bank_rows::places::place_at;
@@ -29,6 +28,7 @@ use bank_verdicts::verdict::Direction;
 use bank_verdicts::verdict::DownloadAction;
 use bank_verdicts::verdict::TransactionRequest;
 use bank_verdicts::verdict::Verdict;
+use bank_verdicts::verdict::opened_number;
 use frame_table::fields::Fields;
 use frame_table::table::Form;
 use frame_table::table::RequestForm;
@@ -53,7 +53,7 @@ ghost use Rattle.bank_downloads.specs.Downloads.{downloadAfter};
 ghost use Rattle.bank_steps.specs.Steps.{emptied, onDownload, uploadVerdict, downloadVerdict, targetOf};
 ghost use Rattle.bank_steps.specs.Lent.{lent, stateOf, keptIn, Prepared, Ready, CarriedOut};
 
-// An opening of an upload.
+// An opening of an upload, of either edition.
 fn upload_opening(rows: &mut [u64], context: Context, q: Fields) -> Verdict
     requires { ⌜ Laid (now rows) ⌝ }
     ensures { λ r. ⌜ ((o m d : List ℕ) →
@@ -62,8 +62,8 @@ fn upload_opening(rows: &mut [u64], context: Context, q: Fields) -> Verdict
 {
     let verdict = judge_opening(rows, Direction::Upload, context, q);
     match verdict {
-        Verdict::Of(transaction, _) => {
-            let number = series_of(rows, q.subscriber());
+        Verdict::Of(transaction, action) => {
+            let number = opened_number(action);
             open_upload(rows, transaction, number, q);
             verdict
         }
@@ -242,6 +242,7 @@ fn target_of(request: RequestForm) -> Target
         RequestForm::DownloadTransfer => Target::Transaction(TransactionRequest::DownloadTransfer),
         RequestForm::Receipt => Target::Transaction(TransactionRequest::Receipt),
         RequestForm::Signing => Target::Signing,
+        RequestForm::ChosenOpening => Target::UploadOpening,
     }
 }
 

@@ -22,6 +22,7 @@ use Rattle.bank_verdicts.specs.Refusals.{
   otherDirection,
   manySegments,
   isReplay,
+  isHeld,
   emptyMailbox,
   manyOpen,
   isFull,
@@ -60,6 +61,7 @@ module _ (d : Direction) (b : Bank) (q : Fields) where
       ∷ refusing code.InvalidRequest (otherDirection d q)
       ∷ refusing code.MaxSegmentsExceeded (manySegments q)
       ∷ refusing code.MessageReplay (isReplay b q)
+      ∷ refusing code.OrderIdAlreadyExists (isHeld b q)
       ∷ refusing code.NoDownloadDataAvailable (emptyMailbox d b q)
       ∷ refusing code.MaxTransactionsExceeded (manyOpen b q)
       ∷ refusing code.InternalError (isFull d b q)

@@ -1,6 +1,6 @@
 -- The verdicts on a request, each with the facts that led to it. Assumes nothing.
 use Prim.Native.Nat.{ℕ, _+_, _<_, _≤_}
-use mathlib.Core.Bool.{Bool, true, false, not, _&&_}
+use mathlib.Core.Bool.{Bool, true, false, not, _&&_, _||_}
 use mathlib.Core.List.{List, []}
 use mathlib.Core.Path.{_≡_, refl, sym, _∙_}
 use lib.Dec.{ltb, leb, eqb}
@@ -26,6 +26,7 @@ use Rattle.frame_table.specs.Names.{
   segment,
   lastMark,
   receiptCode,
+  orderNumber,
   form,
 }
 use Rattle.frame_table.specs.Table.{isRequestForm}
@@ -33,6 +34,11 @@ use Rattle.octets.proofs.Tests.{never, and-true, or-neither}
 use Rattle.message.specs.declared.codes.ReturnCode.{ReturnCode}
 use Rattle.message.specs.declared.codes.ReturnCode.the-variants as code
 use Rattle.message.specs.Limits.{fdl, subscribers, segmentBytes, maxSegments, maxAttempts}
+use Rattle.message.specs.declared.editions.Edition.{Edition}
+use Rattle.message.specs.declared.editions.Edition.the-variants as edition
+use Rattle.message.specs.Editions.{editionOf}
+use Rattle.message.specs.OrderNumbers.{isOrderNumber}
+use Rattle.message.proofs.OrderNumbers.{said-number}
 use Rattle.message.proofs.Verdicts.{by-test, and-false}
 use Rattle.bank_state.specs.State.{Bank}
 use Rattle.bank_state.specs.declared.state.Download.{Download}
@@ -40,7 +46,8 @@ use Rattle.bank_state.specs.declared.state.Place.{Place}
 use Rattle.bank_state.specs.Limits.{placeCount, nonceCount, window, maxOpen, maxOpenPerSubscriber}
 use Rattle.bank_state.specs.Limits.{maxOpenings, seriesLimit}
 use Rattle.bank_state.specs.Search.{freePlace, freeNonce, openCount, openCountOf, isRemembered}
-use Rattle.bank_state.specs.State.{fileLength, seriesOf}
+use Rattle.bank_state.specs.Numbers.{nextNumber}
+use Rattle.bank_state.specs.State.{fileLength}
 use Rattle.bank_verdicts.specs.declared.verdict.Context.{Context}
 use Rattle.bank_verdicts.specs.declared.verdict.Direction.{Direction}
 use Rattle.bank_verdicts.specs.declared.verdict.Direction.the-variants as direction
@@ -52,8 +59,8 @@ use Rattle.bank_verdicts.specs.declared.verdict.DownloadAction.{Download
 use Rattle.bank_verdicts.specs.declared.verdict.DownloadAction.the-variants as down
 use Rattle.bank_verdicts.specs.declared.verdict.Verdict.{Verdict}
 use Rattle.bank_verdicts.specs.declared.verdict.Verdict.the-variants.{Unreadable, Refused, Of, Signed}
-use Rattle.bank_verdicts.specs.Refusals.{Row, cancels, noSubscriber, longData, requestRows, manySegments, inTime, isReplay, manyOpen, noPlaceFree, seriesEnded, isFull, noShare, openingRows, notOpen, transactionRows, fitsUpload, uploadAttempt, isUnderrun, isExceeded, segmentRows, uploadRows, fitsDownload, isSentAgain, downloadAttempt, isReceipt, receiptRows, downloadRows}
-use Rattle.bank_verdicts.specs.Judgement.{judged, accepted, judgeOpening, takes, judgeUpload, judgeDownload}
+use Rattle.bank_verdicts.specs.Refusals.{Row, cancels, noSubscriber, longData, requestRows, badNumber, noOrderNumber, manySegments, inTime, isReplay, isHeld, manyOpen, noPlaceFree, numberingEnded, seriesEnded, isFull, noShare, openingRows, notOpen, transactionRows, fitsUpload, uploadAttempt, isUnderrun, isExceeded, segmentRows, uploadRows, fitsDownload, isSentAgain, downloadAttempt, isReceipt, receiptRows, downloadRows}
+use Rattle.bank_verdicts.specs.Judgement.{judged, numberBy, openingNumber, accepted, judgeOpening, takes, judgeUpload, judgeDownload}
 use Rattle.bank_verdicts.proofs.Lines.{Fail, end, line, judged-by, each-such}
 
 -- ---- every request, with n bytes of data
@@ -96,11 +103,16 @@ pub record Acceptable (b : Bank) (q : Fields) : Type 0 where
   pub memory : freeNonce b < nonceCount
   pub numbers : b .openings < maxOpenings
 
+-- an upload's number is one of A000 to ZZZZ; where its opening brings it, it is spelled so there and not held
+pub record Numbered (b : Bank) (q : Fields) : Type 0 where
+  pub below : openingNumber b q < seriesLimit
+  pub spelled : noOrderNumber q ≡ false
+  pub unheld : isHeld b q ≡ false
+
 pub data OpeningSound (first : ℕ) (b : Bank) (q : Fields) : Direction → Verdict → Type 0 where
   refused : (d : Direction) (c : ReturnCode) → cancels c ≡ false → OpeningSound first b q d (Refused c)
   upload : Acceptable b q → (segments q ≡ 0 → ⊥) → freePlace b < placeCount →
-      seriesOf (subscriber q) (b .series) < seriesLimit →
-      OpeningSound first b q direction.Upload (accepted direction.Upload first b q)
+      Numbered b q → OpeningSound first b q direction.Upload (accepted direction.Upload first b q)
   download : Acceptable b q → (fileLength (subscriber q) (b .files) ≡ 0 → ⊥) →
       OpeningSound first b q direction.Download (accepted direction.Download first b q)
 
@@ -127,6 +139,15 @@ module _ (b : Bank) (q : Fields) where
       let time = in-time (not-false (inTime (timestamp q) (b .clock)) (replay .0)) in
       (time .0, time .1, replay .1)
 
+  number-below : (e : Edition) → badNumber e q ≡ false → numberingEnded e b q ≡ false → numberBy e b q < seriesLimit
+  number-below edition.V24 good left = said-number (orderNumber q) (not-false (isOrderNumber (orderNumber q)) good) .0
+  number-below edition.V25 good left = leb-false seriesLimit (nextNumber (subscriber q) b) left
+
+  numbered : noOrderNumber q ≡ false → isHeld b q ≡ false → seriesEnded direction.Upload b q ≡ false → Numbered b q
+  unfolding openingNumber
+  numbered good free left =
+      record { below = number-below (editionOf q) good left; spelled = good; unheld = free }
+
 module _ (x : Context) (b : Bank) (q : Fields) where
   abbrev first : ℕ
   first = x .prefix
@@ -137,7 +158,7 @@ module _ (x : Context) (b : Bank) (q : Fields) where
   harmless d (Of t a) h = never h
   harmless d (Signed n added) h = never h
 
-  place-and-numbers : (d : Direction) → isFull d b q ≡ false →
+  pub place-and-numbers : (d : Direction) → isFull d b q ≡ false →
       (leb maxOpen (openCount b) ≡ false) × (noPlaceFree d b ≡ false) × (leb nonceCount (freeNonce b) ≡ false) ×
       (seriesEnded d b q ≡ false) × (leb maxOpenings (b .openings) ≡ false)
   unfolding isFull
@@ -167,11 +188,12 @@ module _ (x : Context) (b : Bank) (q : Fields) where
   accepting : (d : Direction) → Fail (openingRows d (x .others) b q) → OpeningSound first b q d (accepted d first b q)
   unfolding openingRows
   accepting direction.Upload failed =
-      let kind = or-neither (eqb (orderType q) fdl) (eqb (segments q) 0) (failed code.InvalidRequest) in
+      let kind = or-neither (eqb (orderType q) fdl) (eqb (segments q) 0 || noOrderNumber q) (failed code.InvalidRequest) in
+      let brought = or-neither (eqb (segments q) 0) (noOrderNumber q) (kind .1) in
       let room = place-and-numbers direction.Upload (or-neither (isFull direction.Upload b q) (noShare (x .others) b) (failed code.InternalError) .0) in
-      upload (acceptable direction.Upload failed) (eqb-false (segments q) 0 (kind .1))
+      upload (acceptable direction.Upload failed) (eqb-false (segments q) 0 (brought .0))
       (leb-false placeCount (freePlace b) (room .1))
-      (leb-false seriesLimit (seriesOf (subscriber q) (b .series)) (room .3))
+      (numbered b q (brought .1) (failed code.OrderIdAlreadyExists) (room .3))
   accepting direction.Download failed =
       download (acceptable direction.Download failed)
       (eqb-false (fileLength (subscriber q) (b .files)) 0 (failed code.NoDownloadDataAvailable))

@@ -12,6 +12,10 @@ use Rattle.frame_table.specs.declared.table.RequestForm.the-variants as request
 use Rattle.frame_table.specs.Names.{subscriber, transaction, orderNumber, owner, form}
 use Rattle.message.specs.declared.codes.ReturnCode.{ReturnCode}
 use Rattle.message.specs.Codes.{codeValue}
+use Rattle.message.specs.declared.editions.Edition.{Edition}
+use Rattle.message.specs.declared.editions.Edition.the-variants as edition
+use Rattle.message.specs.Editions.{editionOf}
+use Rattle.message.specs.OrderNumbers.{orderIn}
 use Rattle.message.specs.Segments.{segmentsOf}
 use Rattle.signers.specs.Signers.{isSigner}
 use Rattle.bank_state.specs.State.{Bank}
@@ -19,7 +23,8 @@ use Rattle.bank_state.specs.declared.state.Download.{Download}
 use Rattle.bank_state.specs.declared.state.Place.{Place}
 use Rattle.bank_state.specs.Limits.{placeCount}
 use Rattle.bank_state.specs.Search.{findUpload, findDownload}
-use Rattle.bank_state.specs.State.{placeAt, downloadAt, fileLength, seriesOf}
+use Rattle.bank_state.specs.Numbers.{nextNumber}
+use Rattle.bank_state.specs.State.{placeAt, downloadAt, fileLength}
 use Rattle.bank_verdicts.specs.declared.verdict.Context.{Context}
 use Rattle.bank_verdicts.specs.declared.verdict.Direction.{Direction}
 use Rattle.bank_verdicts.specs.declared.verdict.Direction.the-variants as direction
@@ -29,6 +34,7 @@ use Rattle.bank_verdicts.specs.declared.verdict.UploadAction.{UploadActi
 use Rattle.bank_verdicts.specs.declared.verdict.UploadAction.the-variants as up
 use Rattle.bank_verdicts.specs.declared.verdict.DownloadAction.{DownloadAction}
 use Rattle.bank_verdicts.specs.declared.verdict.DownloadAction.the-variants as down
+use Rattle.bank_verdicts.specs.declared.verdict.Action.{Action}
 use Rattle.bank_verdicts.specs.declared.verdict.Action.the-variants as action
 use Rattle.bank_verdicts.specs.declared.verdict.Verdict.{Verdict}
 use Rattle.bank_verdicts.specs.declared.verdict.Verdict.the-variants.{Unreadable, Of, Signed}
@@ -54,12 +60,33 @@ transactionOf first b = record { high = first; low = b .openings }
 abbrev pub mailboxSegments : ℕ → Bank → ℕ
 mailboxSegments s b = segmentsOf (fileLength s (b .files))
 
--- an accepted opening; an upload has the number that its subscriber's series has come to, "from A000 on"
+-- the number of an upload by its opening's edition: up to 2.4 "the client chose the order number", from 2.5 on it is the
+-- bank's own, "from A000 on"
+abbrev pub numberBy : Edition → Bank → Fields → ℕ
+numberBy edition.V24 b q = orderIn (orderNumber q)
+numberBy edition.V25 b q = nextNumber (subscriber q) b
+
+unfoldable pub openingNumber : Bank → Fields → ℕ
+openingNumber b q = numberBy (editionOf q) b q
+
+-- an accepted opening
 abbrev pub accepted : Direction → ℕ → Bank → Fields → Verdict
 accepted direction.Upload first b q =
-    Of (transactionOf first b) (action.Upload (up.Opened (seriesOf (subscriber q) (b .series))))
+    Of (transactionOf first b) (action.Upload (up.Opened (openingNumber b q)))
 accepted direction.Download first b q =
     Of (transactionOf first b) (action.Download (down.Opened (mailboxSegments (subscriber q) b)))
+
+-- the number of the upload that a verdict opens; 0 where it opens none
+abbrev pub uploadNumber : UploadAction → ℕ
+uploadNumber (up.Opened n) = n
+uploadNumber up.Took = 0
+uploadNumber up.TookLast = 0
+uploadNumber (up.Point k) = 0
+uploadNumber (up.Cancelled c) = 0
+
+abbrev pub openedNumber : Action → ℕ
+openedNumber (action.Upload a) = uploadNumber a
+openedNumber (action.Download a) = 0
 
 -- an opening in the form of this direction
 unfoldable pub judgeOpening : Direction → Context → Bank → Fields → Verdict
@@ -72,7 +99,9 @@ orderAt b q = findOrder (owner q) (orderNumber q) b
 -- an accepted signing, with its order's number in the owner's series: "the subscriber becomes a signer of that booked
 -- order", "Signing again answers 000000 and adds nobody"
 abbrev pub signed : Bank → Fields → Verdict
-signed b q = let p = placeAt b (orderAt b q) in Signed (p .number) (not (isSigner (subscriber q) (p .signers)))
+signed b q =
+    let p = placeAt b (orderAt b q) in
+    Signed (record { transaction = p .transaction; number = p .number }) (not (isSigner (subscriber q) (p .signers)))
 
 -- a signing
 unfoldable pub judgeSigning : Bank → Fields → Verdict
@@ -118,6 +147,7 @@ judgeRequest requests.UploadTransfer c b q = judgeTransaction asked.UploadTransf
 judgeRequest requests.DownloadTransfer c b q = judgeTransaction asked.DownloadTransfer b q
 judgeRequest requests.Receipt c b q = judgeTransaction asked.Receipt b q
 judgeRequest requests.Signing c b q = judgeSigning b q
+judgeRequest requests.ChosenOpening c b q = judgeOpening direction.Upload c b q
 
 abbrev pub judgeForm : Form → Context → Bank → Fields → Verdict
 judgeForm NoForm c b q = Unreadable

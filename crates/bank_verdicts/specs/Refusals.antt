@@ -1,4 +1,4 @@
--- Document 01, "Who can cause which refusal": its list from top to bottom, each line with its test and its row.
+-- Document 01, "Who can cause which refusal", with the lines of cards 8 and 11: its list from top to bottom, each line with its test and its row.
 -- A row has the line's code, its test, and the verdict that it gives.
 use Prim.Native.Nat.{ℕ, _+_}
 use mathlib.Core.Bool.{Bool, true, false, not, _&&_, _||_}
@@ -23,7 +23,10 @@ use Rattle.frame_table.specs.Table.{isRequestForm}
 use Rattle.message.specs.declared.codes.ReturnCode.{ReturnCode}
 use Rattle.message.specs.declared.codes.ReturnCode.the-variants as code
 use Rattle.message.specs.Limits.{ful, fdl, subscribers, segmentBytes, maxSegments, maxAttempts}
-use Rattle.message.specs.OrderNumbers.{orderNumberOf}
+use Rattle.message.specs.declared.editions.Edition.{Edition}
+use Rattle.message.specs.declared.editions.Edition.the-variants as edition
+use Rattle.message.specs.Editions.{editionOf}
+use Rattle.message.specs.OrderNumbers.{orderNumberOf, isOrderNumber, orderIn}
 use Rattle.bank_state.specs.State.{Bank}
 use Rattle.bank_state.specs.declared.state.Download.{Download}
 use Rattle.bank_state.specs.declared.state.Place.{Place}
@@ -37,10 +40,12 @@ use Rattle.bank_state.specs.Search.{
   openCount,
   openCountOf,
   isRemembered,
+  isNumberHeld,
   findUpload,
   findDownload,
 }
-use Rattle.bank_state.specs.State.{fileLength, seriesOf}
+use Rattle.bank_state.specs.Numbers.{nextNumber}
+use Rattle.bank_state.specs.State.{fileLength}
 use Rattle.bank_verdicts.specs.declared.verdict.Direction.{Direction}
 use Rattle.bank_verdicts.specs.declared.verdict.Direction.the-variants as direction
 use Rattle.bank_verdicts.specs.declared.verdict.TransactionRequest.{TransactionRequest}
@@ -79,6 +84,7 @@ cancels code.TransactionAbort = true
 cancels code.MessageReplay = false
 cancels code.SegmentNumberExceeded = true
 cancels code.OrderIdUnknown = false
+cancels code.OrderIdAlreadyExists = false
 cancels code.MaxSegmentsExceeded = false
 cancels code.MaxTransactionsExceeded = false
 
@@ -109,9 +115,17 @@ requestRows q n =
 unfoldable pub unknownType : Fields → Bool
 unknownType q = not (eqb (orderType q) ful || eqb (orderType q) fdl)
 
--- 061002: opening form of the other direction, or 0 segments
+-- card 11, "It refuses a number that is none of A000 to ZZZZ with 061002": one that an opening of edition 2.4 brings
+abbrev pub badNumber : Edition → Fields → Bool
+badNumber edition.V24 q = not (isOrderNumber (orderNumber q))
+badNumber edition.V25 q = false
+
+abbrev pub noOrderNumber : Fields → Bool
+noOrderNumber q = badNumber (editionOf q) q
+
+-- 061002: opening form of the other direction, 0 segments, or no order number
 abbrev pub otherDirection : Direction → Fields → Bool
-otherDirection direction.Upload q = eqb (orderType q) fdl || eqb (segments q) 0
+otherDirection direction.Upload q = eqb (orderType q) fdl || (eqb (segments q) 0 || noOrderNumber q)
 otherDirection direction.Download q = eqb (orderType q) ful
 
 -- 091118: too many segments; "091118 begins at 32"
@@ -124,6 +138,14 @@ inTime time clock = leb time (clock + window) && leb clock (time + window)
 
 unfoldable pub isReplay : Bank → Fields → Bool
 isReplay b q = not (inTime (timestamp q) (b .clock)) || isRemembered (nonce q) b
+
+-- 091115: "one held by an open or booked upload of that subscriber and type with 091115, directly after 091103"
+abbrev pub holdsChosen : Edition → Bank → Fields → Bool
+holdsChosen edition.V24 b q = isNumberHeld (subscriber q) (orderIn (orderNumber q)) b
+holdsChosen edition.V25 b q = false
+
+abbrev pub isHeld : Bank → Fields → Bool
+isHeld b q = holdsChosen (editionOf q) b q
 
 -- ---- THE SUBSCRIBER, BY THE COURSE OF THE ORDER: an opening
 
@@ -143,13 +165,18 @@ abbrev pub noPlaceFree : Direction → Bank → Bool
 noPlaceFree direction.Upload b = leb placeCount (freePlace b)
 noPlaceFree direction.Download b = false
 
--- "The limit of 1,213,056 in 061099 holds per series": an upload of a subscriber whose series has come to it
+-- "The bank's own numbering, which such openings neither move nor need ... past ZZZZ it is 061099"
+abbrev pub numberingEnded : Edition → Bank → Fields → Bool
+numberingEnded edition.V24 b q = false
+numberingEnded edition.V25 b q = leb seriesLimit (nextNumber (subscriber q) b)
+
+-- "The limit of 1,213,056 in 061099 holds per series": an upload of a subscriber whose numbering has come to it
 abbrev pub seriesEnded : Direction → Bank → Fields → Bool
-seriesEnded direction.Upload b q = leb seriesLimit (seriesOf (subscriber q) (b .series))
+seriesEnded direction.Upload b q = numberingEnded (editionOf q) b q
 seriesEnded direction.Download b q = false
 
--- 061099, after 091119: 8 transactions open, an upload with 8 places in use, 64 nonces remembered, 1,213,056 uploads
--- accepted in the upload's series, or "the running number's end": 4,294,967,296 openings accepted
+-- 061099, after 091119: 8 transactions open, an upload with 8 places in use, 64 nonces remembered, the
+-- end of the upload's series, or "the running number's end": 4,294,967,296 openings accepted
 unfoldable pub isFull : Direction → Bank → Fields → Bool
 isFull d b q =
     leb maxOpen (openCount b)
@@ -165,6 +192,7 @@ openingRows d others b q =
     ∷ refusing code.InvalidRequest (otherDirection d q)
     ∷ refusing code.MaxSegmentsExceeded (manySegments q)
     ∷ refusing code.MessageReplay (isReplay b q)
+    ∷ refusing code.OrderIdAlreadyExists (isHeld b q)
     ∷ refusing code.NoDownloadDataAvailable (emptyMailbox d b q)
     ∷ refusing code.MaxTransactionsExceeded (manyOpen b q)
     ∷ refusing code.InternalError (isFull d b q || noShare others b)

@@ -7,9 +7,13 @@ use Rattle.frame_table.specs.declared.fields.Fields.{Fields}
 use Rattle.frame_table.specs.Names.{phase, exchange, segment}
 use Rattle.message.specs.declared.codes.ReturnCode.the-variants as code
 use Rattle.message.specs.Limits.{initialisationPhase, transferPhase}
+use Rattle.message.specs.declared.editions.Edition.{Edition}
+use Rattle.message.specs.declared.editions.Edition.the-variants as edition
+use Rattle.message.specs.Editions.{editionOf}
 use Rattle.message.specs.OrderNumbers.{orderNumberOf}
 use Rattle.message.specs.Replies.{
   uploadOpened,
+  chosenOpened,
   downloadOpened,
   segmentTaken,
   recoveryPoint,
@@ -40,9 +44,14 @@ downloadPointPhase d = cond (eqb d 1) initialisationPhase transferPhase
 abbrev pub segmentReply : ℕ → Bits128 → Fields → Fields
 segmentReply n t q = downloadSegment (exchange q) t (segment q) (lastMarkOf (segment q) n)
 
+-- to an accepted upload opening, by its edition: to that of 2.4 "the reply leaves 0E out"
+abbrev pub openedReply : Edition → ℕ → Bits128 → Fields → Fields
+openedReply edition.V24 n t q = chosenOpened (exchange q) t
+openedReply edition.V25 n t q = uploadOpened (exchange q) t (orderNumberOf n)
+
 -- to a request to the upload t
 abbrev pub uploadReply : UploadAction → Bits128 → Fields → Fields
-uploadReply (up.Opened n) t q = uploadOpened (exchange q) t (orderNumberOf n)
+uploadReply (up.Opened n) t q = openedReply (editionOf q) n t q
 uploadReply up.Took t q = segmentTaken (exchange q) t (segment q)
 uploadReply up.TookLast t q = segmentTaken (exchange q) t (segment q)
 uploadReply (up.Point k) t q = recoveryPoint (uploadPointPhase k) (exchange q) t k

@@ -6,9 +6,12 @@ use crate::verdict::Verdict;
 use frame_table::fields::Bits128;
 use frame_table::fields::Fields;
 use message::codes::ReturnCode;
+use message::editions::Edition;
+use message::editions::edition_of;
 use message::limits::INITIALISATION_PHASE;
 use message::limits::TRANSFER_PHASE;
 use message::order_numbers::order_number_of;
+use message::replies::chosen_opened;
 use message::replies::download_opened;
 use message::replies::download_segment;
 use message::replies::receipt_answered;
@@ -19,8 +22,9 @@ use message::replies::unreadable;
 use message::replies::upload_opened;
 use message::segments::last_mark_of;
 ghost use mathlib.Core.Path.{_≡_};
+ghost use Rattle.message.specs.Editions.{editionOf};
 ghost use Rattle.bank_verdicts.specs.Replies.{uploadPointPhase, downloadPointPhase, segmentReply};
-ghost use Rattle.bank_verdicts.specs.Replies.{uploadReply, downloadReply, actionReply, replyTo};
+ghost use Rattle.bank_verdicts.specs.Replies.{openedReply, uploadReply, downloadReply, actionReply, replyTo};
 ghost use Rattle.bank_verdicts.specs.Replies.{downloadSegmentIn, actionSegmentIn, segmentIn};
 
 // The phase of an upload's recovery point k.
@@ -51,13 +55,25 @@ fn segment_reply(n: u64, transaction: Bits128, q: Fields) -> Fields
     download_segment(q.exchange(), transaction, segment, last_mark_of(segment, n))
 }
 
+// The reply to an accepted upload opening: that of edition 2.4 has no order number.
+fn opened_reply(n: u64, transaction: Bits128, q: Fields) -> Fields
+    ensures { λ r. ⌜ r ≡ openedReply (editionOf q) n transaction q ⌝ }
+{
+    let exchange = q.exchange();
+    let edition = edition_of(q);
+    match edition {
+        Edition::V24 => chosen_opened(exchange, transaction),
+        Edition::V25 => upload_opened(exchange, transaction, order_number_of(n)),
+    }
+}
+
 // The reply to a request to an upload.
 fn upload_reply(action: UploadAction, transaction: Bits128, q: Fields) -> Fields
     ensures { λ r. ⌜ r ≡ uploadReply action transaction q ⌝ }
 {
     let exchange = q.exchange();
     match action {
-        UploadAction::Opened(n) => upload_opened(exchange, transaction, order_number_of(n)),
+        UploadAction::Opened(n) => opened_reply(n, transaction, q),
         UploadAction::Took => segment_taken(exchange, transaction, q.segment()),
         UploadAction::TookLast => segment_taken(exchange, transaction, q.segment()),
         UploadAction::Point(k) => recovery_point(upload_point_phase(k), exchange, transaction, k),

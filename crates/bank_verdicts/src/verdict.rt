@@ -1,6 +1,8 @@
 // The verdicts on a request. State, reply and history of a call are read off its verdict.
 use frame_table::fields::Bits128;
 use message::codes::ReturnCode;
+ghost use mathlib.Core.Path.{_≡_};
+ghost use Rattle.bank_verdicts.specs.Judgement.{uploadNumber, openedNumber};
 
 // What a request is judged with besides the bank: the lent ID bytes as a number, with which a transaction ID begins, and
 // what the other banks count of the open transactions that all share (document 02, card 13).
@@ -50,11 +52,39 @@ pub enum Action {
     Download(DownloadAction),
 }
 
+// A booked order that is signed: its upload's transaction ID, and its number.
+pub struct SignedOrder {
+    pub transaction: Bits128,
+    pub number: u64,
+}
+
 // What a request comes to: it is unreadable, it is refused with a code and changes nothing, it acts on the transaction
-// with this ID, or it signs the booked order of this number in its owner's series, by a signer more or by one again.
+// with this ID, or it signs this booked order of its owner's, by a signer more or by one again.
 pub enum Verdict {
     Unreadable,
     Refused(ReturnCode),
     Of(Bits128, Action),
-    Signed(u64, bool),
+    Signed(SignedOrder, bool),
+}
+
+// The number of the upload that an action opens; 0 where it opens none.
+fn upload_number(action: UploadAction) -> u64
+    ensures { λ r. ⌜ r ≡ uploadNumber action ⌝ }
+{
+    match action {
+        UploadAction::Opened(n) => n,
+        UploadAction::Took => 0,
+        UploadAction::TookLast => 0,
+        UploadAction::Point(_) => 0,
+        UploadAction::Cancelled(_) => 0,
+    }
+}
+
+pub fn opened_number(action: Action) -> u64
+    ensures { λ r. ⌜ r ≡ openedNumber action ⌝ }
+{
+    match action {
+        Action::Upload(a) => upload_number(a),
+        Action::Download(_) => 0,
+    }
 }

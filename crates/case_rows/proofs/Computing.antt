@@ -11,6 +11,7 @@ use Rattle.message.specs.Requests as requests
 use Rattle.message.specs.Segments as files
 use Rattle.signers.specs.Signers as sets
 use Rattle.bank_state.specs.Clock as clocks
+use Rattle.bank_state.specs.Numbers as ownNumbers
 use Rattle.bank_state.specs.Rows as rows
 use Rattle.bank_state.specs.Search as searches
 use Rattle.bank_state.specs.State as state
@@ -46,6 +47,7 @@ unfolding clocks.isIdle clocks.freed clocks.dropUpload clocks.dropUploads clocks
     clocks.atClock clocks.advanced rows.firstOf rows.countOf rows.keep rows.keepOnly
     searches.freePlace searches.freeDownload searches.freeNonce searches.isUpload searches.findUpload searches.isDownload
     searches.findDownload searches.openCount searches.openCountOf searches.isRemembered
+    searches.holdsNumber searches.findNumber searches.isNumberHeld
     state.fresh state.fileLength state.seriesOf store.partAt store.withPart store.zeroed store.fileOf
     refusals.noSubscriber refusals.longData refusals.requestRows refusals.unknownType refusals.manySegments refusals.inTime
     refusals.isReplay refusals.manyOpen refusals.isFull refusals.noShare refusals.openingRows refusals.notOpen refusals.transactionRows
@@ -53,6 +55,7 @@ unfolding clocks.isIdle clocks.freed clocks.dropUpload clocks.dropUploads clocks
     refusals.downloadAttempt refusals.receiptRows refusals.downloadRows
     judgement.judgeOpening judgement.takes judgement.judgeUpload judgement.judgeDownload judgement.judgeOpen
     judgement.judgeTransaction judgement.judge
+    judgement.openingNumber ownNumbers.firstUnheld ownNumbers.nextNumber
     openings.counted openings.countedUpload openings.openUpload openings.openDownload uploads.grown uploads.booked uploads.attempted
     bankCall.mailboxSegment bankCall.respond bankCall.lentRight bankCall.frameCall bankMailbox.fileRefusals bankMailbox.fileCall
 bank = 0
@@ -63,3 +66,9 @@ unfolding requests.signing refusals.noOwner refusals.signsDownload refusals.isOr
     refusals.noMemory refusals.signingRows judgement.judgeSigning signed.sign
     sets.hasBit sets.isSigner sets.withSigner sets.countFrom sets.signerCount sets.isReleased
 signings = 0
+
+-- card 11, an opening of edition 2.4: its form, its reply's, and its number
+unfoldable pub choices : ℕ
+unfolding requests.chosenOpening replies.chosenOpened orderNumbers.digitOf orderNumbers.letterOf
+    orderNumbers.isOrderNumber orderNumbers.orderIn
+choices = 0

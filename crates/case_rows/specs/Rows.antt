@@ -2,8 +2,13 @@
 use Prim.Native.Nat.{ℕ}
 use mathlib.Core.List.{List, [], _∷_}
 use mathlib.Core.Path.{_≡_}
+use lib.ListN.{take}
 use Rattle.frame_table.specs.declared.fields.Bits128.{Bits128}
+use Rattle.frame_table.specs.declared.fields.Fields.{Fields}
+use Rattle.frame_reader.specs.Reader.{readReply}
 use Rattle.message.specs.Codes.{asciiDigits}
+use Rattle.bank.specs.declared.call.FrameAnswer.{FrameAnswer}
+use Rattle.bank.specs.declared.call.FrameAnswer.the-variants.{Reply, WrongLength}
 
 -- a row: a call, and what is due
 pub record Case (C A : Type 0) : Type 0 where
@@ -30,3 +35,11 @@ idOf n = record { high = 0; low = n }
 -- the six digits of a code, as the number of field 0D
 abbrev pub six : ℕ → ℕ
 six n = asciiDigits 6 n
+
+-- the reply in the buffer, none where the call was given a number, and its fields
+abbrev pub bytesIn : FrameAnswer → List ℕ → List ℕ
+bytesIn (Reply n) buffer = take n buffer
+bytesIn WrongLength buffer = []
+
+abbrev pub replyIn : FrameAnswer → List ℕ → Fields
+replyIn a buffer = readReply (bytesIn a buffer)

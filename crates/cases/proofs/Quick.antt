@@ -15,15 +15,16 @@ use Rattle.bank_state.specs.declared.state.Place.{Place}
 use Rattle.bank_state.specs.Limits.{placeCount, storeBytes, idBytes, replyRoom, maxOpenings, seriesLimit}
 use Rattle.bank_state.specs.Rows.{countOf}
 use Rattle.bank_state.specs.Search.{isFree, openCount, openCountOf}
-use Rattle.bank_state.specs.State.{BankState, bankState, fresh}
+use Rattle.bank_state.specs.State.{BankState, fresh}
 use Rattle.bank_state.specs.Store.{partAt}
-use Rattle.bank_admitted.specs.State.{Sizes, PlaceHolds, total, StateHolds}
+use Rattle.bank_admitted.specs.State.{Sizes, PlaceHolds, total, isAhead, chosenAhead, StateHolds}
 use Rattle.bank_admitted.proofs.Fresh.{fresh-place, fresh-download, fresh-state}
 use Rattle.bank_admitted.proofs.Rows.{getD-free}
 use Rattle.bank_admitted.proofs.Keeps.{frame-keeps-state, file-keeps-state}
 use Rattle.bank.specs.Call.{FrameCall, FrameInput, frameInput, lentRight, frameCall}
+use Rattle.case_rows.specs.Rows.{replyIn}
 use Rattle.case_rows.proofs.Calls.{frameBy, frame-by}
-use Rattle.case_rows.proofs.Computing.{frames, messages, bank, signings}
+use Rattle.case_rows.proofs.Computing.{frames, messages, bank, signings, choices}
 use Rattle.cases.specs.Table.{
   HostCall,
   put,
@@ -34,7 +35,6 @@ use Rattle.cases.specs.Table.{
   lastOfSeries,
   lastOfAll,
   started,
-  replyIn,
   Played,
   called,
   played,
@@ -101,7 +101,7 @@ same-played (c ∷ l) p v =
 -- what is said of a fresh bank, and the counts
 counting-state : (openings uploads : ℕ) → openings ≤ maxOpenings → uploads ≤ seriesLimit → uploads ≤ openings →
     StateHolds (counting openings uploads)
-unfolding fresh total openCount openCountOf countOf
+unfolding fresh total isAhead chosenAhead openCount openCountOf countOf
 counting-state openings uploads a b c = record {
   sizes = record {
     places = refl;
@@ -160,5 +160,5 @@ same (numbers l) = refl
 
 -- what they compute with
 unfoldable pub calls : ℕ
-unfolding frames messages bank signings called quickPlayed
+unfolding frames messages bank signings choices called quickPlayed
 calls = 0

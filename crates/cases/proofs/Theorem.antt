@@ -1,8 +1,8 @@
--- Every row of the table of cases gives what is due, by computation: each line of document 01 and of cards 5, 6 and 8
--- by itself. Assumes nothing.
+-- Every row of the table of cases gives what is due, by computation: each line of document 01 and of cards 5, 6, 8
+-- and 11 by itself. Assumes nothing.
 use mathlib.Core.Path.{refl}
 use Rattle.case_rows.specs.Rows.{Holds}
-use Rattle.case_rows.proofs.Computing.{frames, messages, signings}
+use Rattle.case_rows.proofs.Computing.{frames, messages, signings, choices}
 use Rattle.case_rows.proofs.Tables.{listed, both, otherwise}
 use Rattle.cases.specs.Table.{
   largest,
@@ -22,6 +22,8 @@ use Rattle.cases.specs.Table.{
   receiptCases,
   signerCases,
   signingCases,
+  chosenCases,
+  ownCases,
   cases,
 }
 use Rattle.cases.proofs.Quick.{calls, quick, same}
@@ -43,7 +45,7 @@ unfolding seriesCases calls
 series-hold = listed seriesCases refl
 
 lengths-hold : Holds quick lengthCases
-unfolding lengthCases largest requestLengths replyLengths frames messages signings
+unfolding lengthCases largest requestLengths replyLengths frames messages signings choices
 lengths-hold = listed lengthCases refl
 
 segments-hold : Holds quick segmentCases
@@ -78,6 +80,14 @@ signings-hold : Holds quick signingCases
 unfolding signingCases calls
 signings-hold = listed signingCases refl
 
+chosen-hold : Holds quick chosenCases
+unfolding chosenCases calls
+chosen-hold = listed chosenCases refl
+
+own-hold : Holds quick ownCases
+unfolding ownCases calls
+own-hold = listed ownCases refl
+
 pub cases-hold : Holds come cases
 unfolding cases
 cases-hold =
@@ -89,4 +99,5 @@ cases-hold =
     (both lengths-hold
     (both segments-hold
     (both repeats-hold (both last-marks-hold (both booked-hold
-    (both files-hold (both receipts-hold (both signers-hold signings-hold))))))))))))
+    (both files-hold (both receipts-hold (both signers-hold
+    (both signings-hold (both chosen-hold own-hold))))))))))))))

@@ -1,33 +1,32 @@
--- Document 01, "Cases; starred ones are proved", card 5's numbers and card 8's signings: each row is what is asked of
--- its calls, and what must come. The calls are `frameCall` and `fileCall`, on a bank with its whole stores: a fresh one
--- where nothing else is said. The order of the refusals and the other limits: the table of `bank_cases`.
+-- Document 01, "Cases; starred ones are proved", card 5's numbers, card 8's signings and card 11's openings: each row is
+-- what is asked of its calls, and what must come. The calls are `frameCall` and `fileCall`, on a bank with its whole
+-- stores: a fresh one where nothing else is said. The order of the refusals and the other limits: the table of
+-- `bank_cases`.
 use Prim.Native.Nat.{ℕ, _+_, max}
 use mathlib.Core.Bool.{cond}
 use mathlib.Core.List.{List, [], _∷_, _++_, map}
-use lib.ListN.{length, replicate, set, take}
+use lib.ListN.{length, replicate, set}
 use Rattle.frame_table.specs.declared.fields.Fields.{Fields}
 use Rattle.octets.specs.Bytes.{number}
 use Rattle.octets.specs.Texts.{ascii}
-use Rattle.frame_table.specs.Names.{segment, segments, transaction, returnCode, orderNumber, noFields}
-use Rattle.frame_reader.specs.Reader.{readReply}
+use Rattle.frame_table.specs.Names.{segment, segments, transaction, returnCode, orderNumber}
 use Rattle.frame_writer.specs.Writer.{frameOf, replyRoom}
 use Rattle.message.specs.declared.codes.ReturnCode.the-variants as code
 use Rattle.message.specs.Limits.{segmentBytes}
 use Rattle.message.specs.OrderNumbers.{orderNumberOf}
 use Rattle.message.specs.Requests.{uploadOpening, downloadOpening, uploadTransfer, downloadTransfer, receipt, signing}
+use Rattle.message.specs.Requests.{chosenOpening}
 use Rattle.message.specs.Replies.{uploadOpened, downloadOpened, segmentTaken, downloadSegment, receiptAnswered}
-use Rattle.message.specs.Replies.{unreadable, refusal}
+use Rattle.message.specs.Replies.{unreadable, refusal, chosenOpened}
 use Rattle.signers.specs.Signers.{signerCount, isReleased}
 use Rattle.bank_state.specs.declared.state.Place.{Place}
 use Rattle.bank_state.specs.Limits.{storeBytes, idBytes}
 use Rattle.bank_state.specs.Search.{isBooked}
 use Rattle.bank_state.specs.Rows.{countOf}
 use Rattle.bank_state.specs.State.{Bank, BankState, bankState, fresh, placeAt, withOpenings, withSeries}
-use Rattle.bank.specs.declared.call.FrameAnswer.{FrameAnswer}
-use Rattle.bank.specs.declared.call.FrameAnswer.the-variants.{Reply, WrongLength}
 use Rattle.bank.specs.Call.{frameInput, frameCall}
 use Rattle.bank.specs.Mailbox.{fileCall}
-use Rattle.case_rows.specs.Rows.{Case, _gives_, clock, idOf, six}
+use Rattle.case_rows.specs.Rows.{Case, _gives_, clock, idOf, six, replyIn}
 
 -- ---- what is called: subscriber 1 at bank time 1,000,000 or later, exchange number 1, lent ID bytes 0
 
@@ -42,6 +41,13 @@ upload timestamp n = request clock (uploadOpening 1 1 (idOf 0) timestamp n) []
 -- an upload of one segment by a subscriber, with a nonce of its own
 abbrev pub uploadBy : ℕ → ℕ → HostCall
 uploadBy s nonce = request clock (uploadOpening s 1 (idOf nonce) clock 1) []
+
+-- card 11: one of edition 2.4 at a time, of n segments, with a nonce and a number
+abbrev pub chosenAt : ℕ → ℕ → ℕ → ℕ → List ℕ → HostCall
+chosenAt time s nonce n order = request time (chosenOpening s 1 (idOf nonce) time n (number order)) []
+
+abbrev pub chosenBy : ℕ → ℕ → ℕ → List ℕ → HostCall
+chosenBy = chosenAt clock
 
 abbrev pub sentAt : ℕ → ℕ → ℕ → HostCall
 sentAt time s lastMark = request time (uploadTransfer 1 1 (idOf 0) s lastMark) (7 ∷ [])
@@ -79,11 +85,6 @@ started lastOfSeries = counting 1213055 1213055
 started lastOfAll = counting 4294967295 0
 
 -- ---- what comes of calls one after the other
-
--- the reply's fields, read from the buffer
-abbrev pub replyIn : FrameAnswer → List ℕ → Fields
-replyIn (Reply n) buffer = readReply (take n buffer)
-replyIn WrongLength buffer = noFields
 
 -- the bank after the calls, and their replies, the first one first
 pub record Played : Type 0 where
@@ -162,11 +163,13 @@ requestLengths =
     ∷ length (frameOf (downloadTransfer 1 1 (idOf 0) 1) [])
     ∷ length (frameOf (receipt 1 1 (idOf 0) 0) [])
     ∷ length (frameOf (signing 1 1 (idOf 0) clock 0 1) [])
+    ∷ length (frameOf (chosenOpening 1 1 (idOf 0) clock 1 0) [])
     ∷ []
 
 unfoldable pub replyLengths : List ℕ
 replyLengths =
     length (frameOf (uploadOpened 1 (idOf 0) 0) [])
+    ∷ length (frameOf (chosenOpened 1 (idOf 0)) [])
     ∷ length (frameOf (downloadOpened 1 1 (idOf 0) 1) whole)
     ∷ length (frameOf (segmentTaken 1 (idOf 0) 1) [])
     ∷ length (frameOf (downloadSegment 1 (idOf 0) 1 1) whole)
@@ -222,12 +225,15 @@ seriesCases =
     ∷ []
 
 -- with a timestamp of 8 bytes: "Frame lengths: upload opening" 57, "largest request 303, largest reply 312."; card 8's
--- signing, 01 to 06, 0E, 0F, 10 with 1, 2, 4, 3, 16, 8, 4, 5 and 2 bytes, and its reply, 01 03 0D with 1, 4 and 6
+-- signing, 01 to 06, 0E, 0F, 10 with 1, 2, 4, 3, 16, 8, 4, 5 and 2 bytes, and its reply, 01 03 0D with 1, 4 and 6; card
+-- 11's opening, 01 to 07, 0E, 11 with 1, 2, 4, 3, 16, 8, 2, 4 and 4, and its reply, 01 03 08 0D with 1, 4, 16 and 6
 unfoldable pub lengthCases : List Row
 lengthCases =
     (numbers (length (frameOf (uploadOpening 1 1 (idOf 0) clock 1) []) ∷ []) gives (57 ∷ []))
     ∷ (numbers (length (frameOf (signing 1 1 (idOf 0) clock 0 1) []) ∷ []) gives (72 ∷ []))
     ∷ (numbers (length (frameOf (refusal 1 1 code.Ok) []) ∷ []) gives (20 ∷ []))
+    ∷ (numbers (length (frameOf (chosenOpening 1 1 (idOf 0) clock 1 0) []) ∷ []) gives (71 ∷ []))
+    ∷ (numbers (length (frameOf (chosenOpened 1 (idOf 0)) []) ∷ []) gives (39 ∷ []))
     ∷ (numbers (largest requestLengths ∷ []) gives (303 ∷ []))
     ∷ (numbers (largest replyLengths ∷ []) gives (312 ∷ []))
     ∷ []
@@ -291,6 +297,55 @@ signingCases =
     gives (orderNumberOf 0 ∷ 0 ∷ 0 ∷ 0 ∷ orderNumberOf 1 ∷ orderNumberOf 0 ∷ []))
     ∷ []
 
+-- card 11: "one held by an open or booked upload of that subscriber and type with 091115", "A cancelled or dropped
+-- order's number may be chosen again"
+unfoldable pub chosenCases : List Row
+chosenCases =
+    -- open, and booked
+    (codes (chosenBy 1 1 1 (ascii "A000") ∷ chosenBy 1 2 1 (ascii "A000") ∷ []) gives (six 0 ∷ six 91115 ∷ []))
+    ∷ (codes (chosenBy 1 1 1 (ascii "A000") ∷ sent 1 1 ∷ chosenBy 1 2 1 (ascii "A000") ∷ [])
+    gives (six 0 ∷ six 0 ∷ six 91115 ∷ []))
+    -- of another subscriber, and after a booked one another number
+    ∷ (codes
+    (chosenBy 1 1 1 (ascii "A000") ∷ sent 1 1 ∷ chosenBy 2 2 1 (ascii "A000") ∷ chosenBy 1 3 1 (ascii "A001") ∷ [])
+    gives (six 0 ∷ six 0 ∷ six 0 ∷ six 0 ∷ []))
+    -- cancelled by 011101, by 091104, and dropped; then held again
+    ∷ (codes
+    (chosenBy 1 1 2 (ascii "A000") ∷ sent 1 1 ∷ chosenBy 1 2 1 (ascii "A000") ∷ chosenBy 1 3 1 (ascii "A000") ∷ [])
+    gives (six 0 ∷ six 11101 ∷ six 0 ∷ six 91115 ∷ []))
+    ∷ (codes (chosenBy 1 1 1 (ascii "A000") ∷ sent 1 0 ∷ chosenBy 1 2 1 (ascii "A000") ∷ [])
+    gives (six 0 ∷ six 91104 ∷ six 0 ∷ []))
+    ∷ (codes (chosenBy 1 1 1 (ascii "A000") ∷ chosenAt (clock + 3600000) 1 2 1 (ascii "A000") ∷ [])
+    gives (six 0 ∷ six 91115 ∷ []))
+    ∷ (codes (chosenBy 1 1 1 (ascii "A000") ∷ chosenAt (clock + 3600001) 1 2 1 (ascii "A000") ∷ [])
+    gives (six 0 ∷ six 0 ∷ []))
+    -- a number that the bank gave, held and cancelled
+    ∷ (codes (uploadBy 1 1 ∷ chosenBy 1 2 1 (ascii "A000") ∷ sent 1 0 ∷ chosenBy 1 3 1 (ascii "A000") ∷ [])
+    gives (six 0 ∷ six 91115 ∷ six 91104 ∷ six 0 ∷ []))
+    ∷ []
+
+-- card 11: "The bank's own numbering, which such openings neither move nor need, skips numbers held by that
+-- subscriber's open or booked uploads; past ZZZZ it is 061099"
+unfoldable pub ownCases : List Row
+ownCases =
+    (each orderNumber (uploadBy 1 1 ∷ chosenBy 1 2 1 (ascii "A001") ∷ uploadBy 1 3 ∷ uploadBy 1 4 ∷ [])
+    gives (orderNumberOf 0 ∷ 0 ∷ orderNumberOf 2 ∷ orderNumberOf 3 ∷ []))
+    ∷ (each runningNumber (uploadBy 1 1 ∷ chosenBy 1 2 1 (ascii "A001") ∷ uploadBy 1 3 ∷ uploadBy 1 4 ∷ [])
+    gives (0 ∷ 1 ∷ 2 ∷ 3 ∷ []))
+    -- booked, and of another subscriber
+    ∷ (each orderNumber (chosenBy 1 1 1 (ascii "A000") ∷ sent 1 1 ∷ uploadBy 2 2 ∷ uploadBy 1 3 ∷ [])
+    gives (0 ∷ 0 ∷ orderNumberOf 0 ∷ orderNumberOf 1 ∷ []))
+    -- cancelled, its number is not held; what was passed over does not come again
+    ∷ (each orderNumber (chosenBy 1 1 1 (ascii "A000") ∷ sent 1 0 ∷ uploadBy 1 2 ∷ [])
+    gives (0 ∷ 0 ∷ orderNumberOf 0 ∷ []))
+    ∷ (each orderNumber (chosenBy 1 1 1 (ascii "A000") ∷ uploadBy 1 2 ∷ sent 1 0 ∷ uploadBy 1 3 ∷ [])
+    gives (0 ∷ orderNumberOf 1 ∷ 0 ∷ orderNumberOf 2 ∷ []))
+    -- the last number of the series, taken by an opening of 2.4: then the bank has none, and 2.4 needs none
+    ∷ (codesFrom lastOfSeries
+    (chosenBy 1 1 1 (ascii "ZZZZ") ∷ uploadBy 1 2 ∷ chosenBy 1 3 1 (ascii "A000") ∷ uploadBy 2 4 ∷ [])
+    gives (six 0 ∷ six 61099 ∷ six 0 ∷ six 0 ∷ []))
+    ∷ []
+
 unfoldable pub cases : List Row
 cases =
     timestampCases
@@ -299,4 +354,4 @@ cases =
     ++ (seriesCases
     ++ (lengthCases
     ++ (segmentCases ++ (repeatCases ++ (lastMarkCases ++ (bookedCases
-    ++ (fileCases ++ (receiptCases ++ (signerCases ++ signingCases)))))))))))
+    ++ (fileCases ++ (receiptCases ++ (signerCases ++ (signingCases ++ (chosenCases ++ ownCases)))))))))))))

@@ -153,6 +153,10 @@ fn print_codes_091() {
     );
     print_code(ReturnCode::OrderIdUnknown, b"EBICS_ORDERID_UNKNOWN\n");
     print_code(
+        ReturnCode::OrderIdAlreadyExists,
+        b"EBICS_ORDERID_ALREADY_EXISTS\n",
+    );
+    print_code(
         ReturnCode::MaxSegmentsExceeded,
         b"EBICS_MAX_SEGMENTS_EXCEEDED\n",
     );

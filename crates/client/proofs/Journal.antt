@@ -1,4 +1,4 @@
--- What the call with the journal leaves of a run: only an unclear run changes, by what the row says of its order, and in
+-- What the call with the journal leaves of a run: only an unclear run changes, by what the row says of its upload, and in
 -- its stage alone. Assumes nothing.
 use Prim.Native.Nat.{ℕ}
 use mathlib.Core.Path.{_≡_, refl, ap, subst}
@@ -20,7 +20,6 @@ use Rattle.client_run.specs.declared.run.Stage.the-variants as stage
 use Rattle.client_run.specs.declared.run.Word.{Word}
 use Rattle.client_run.specs.declared.run.Word.the-variants as word
 use Rattle.client_run.specs.NextRun.{ended}
-use Rattle.client_run.specs.Run.{orderName}
 use Rattle.client.specs.declared.journal_call.JournalAnswer.{JournalAnswer}
 use Rattle.client.specs.declared.journal_call.JournalAnswer.the-variants as answer
 use Rattle.client.specs.Journal.{JournalCall, journalLeft, isUnclear, endedUnclear, answerOn, answerTo, answered}
@@ -30,10 +29,10 @@ use Rattle.client.specs.Journal.{journalCall}
 pub data JournalCause (c : ClientRun) (row : List Event) : JournalCall → Type 0 where
   wrong-length : (length row ≡ recordCount → ⊥) → JournalCause c row (journalLeft c answer.WrongLength)
   not-unclear : (c .stage ≡ stage.Ended word.Unclear → ⊥) → JournalCause c row (journalLeft c answer.Unchanged)
-  nothing : lookup (orderName c) row ≡ found.Nothing → JournalCause c row (journalLeft c answer.Unchanged)
-  booked : c .stage ≡ stage.Ended word.Unclear → length row ≡ recordCount → lookup (orderName c) row ≡ found.Booked
+  nothing : lookup (c .transaction) row ≡ found.Nothing → JournalCause c row (journalLeft c answer.Unchanged)
+  booked : c .stage ≡ stage.Ended word.Unclear → length row ≡ recordCount → lookup (c .transaction) row ≡ found.Booked
       → JournalCause c row (journalLeft (ended word.Lodged c) (answer.Closed word.Lodged))
-  ended-so : c .stage ≡ stage.Ended word.Unclear → length row ≡ recordCount → lookup (orderName c) row ≡ found.Ended
+  ended-so : c .stage ≡ stage.Ended word.Unclear → length row ≡ recordCount → lookup (c .transaction) row ≡ found.Ended
       → JournalCause c row (journalLeft (ended word.NotLodged c) (answer.Closed word.NotLodged))
 
 -- no run but an unclear one is given what the journal says
@@ -56,18 +55,18 @@ not-ended-unclear s e q = let z : _≡_ {A = ℕ} 0 1 = cc in omega arith
 module _ (c : ClientRun) (row : List Event) where
   -- what an unclear run is told
   unclear-cause : (f : Found) → c .stage ≡ stage.Ended word.Unclear → length row ≡ recordCount
-      → lookup (orderName c) row ≡ f → JournalCause c row (answered (answerOn f) c)
+      → lookup (c .transaction) row ≡ f → JournalCause c row (answered (answerOn f) c)
   unclear-cause found.Booked u l e = booked u l e
   unclear-cause found.Ended u l e = ended-so u l e
   unclear-cause found.Nothing u l e = nothing e
 
   cause-by : (t u : Bool) → eqb (length row) recordCount ≡ t → endedUnclear (c .stage) ≡ u
       → JournalCause c row
-      (answered (cond t (cond u (answerOn (lookup (orderName c) row)) answer.Unchanged) answer.WrongLength) c)
+      (answered (cond t (cond u (answerOn (lookup (c .transaction) row)) answer.Unchanged) answer.WrongLength) c)
   cause-by false u l s = wrong-length (eqb-false (length row) recordCount l)
   cause-by true false l s = not-unclear (not-ended-unclear (c .stage) s)
   cause-by true true l s =
-      unclear-cause (lookup (orderName c) row) (unclear-stage (c .stage) s) (eqb-true (length row) recordCount l) refl
+      unclear-cause (lookup (c .transaction) row) (unclear-stage (c .stage) s) (eqb-true (length row) recordCount l) refl
 
   pub journal-cause : JournalCause c row (journalCall c row)
   unfolding journalCall answerTo
@@ -85,20 +84,20 @@ module _ (c : ClientRun) (row : List Event) where
   only-unclear n = only-unclear-by (journalCall c row) journal-cause n
 
   -- "otherwise it stays unclear"
-  stays-by : (j : JournalCall) → JournalCause c row j → lookup (orderName c) row ≡ found.Nothing → j .run ≡ c
+  stays-by : (j : JournalCall) → JournalCause c row j → lookup (c .transaction) row ≡ found.Nothing → j .run ≡ c
   stays-by j (wrong-length l) n = refl
   stays-by j (not-unclear u) n = refl
   stays-by j (nothing e) n = refl
   stays-by j (booked u l e) n = absurd (let z : _≡_ {A = ℕ} 0 1 = cc in omega arith)
   stays-by j (ended-so u l e) n = absurd (let z : _≡_ {A = ℕ} 0 1 = cc in omega arith)
 
-  pub stays-unclear : lookup (orderName c) row ≡ found.Nothing → journalCall c row .run ≡ c
+  pub stays-unclear : lookup (c .transaction) row ≡ found.Nothing → journalCall c row .run ≡ c
   stays-unclear n = stays-by (journalCall c row) journal-cause n
 
   -- what a closing word says of the row
   abbrev Says : JournalAnswer → Type 0
-  Says (answer.Closed word.Lodged) = lookup (orderName c) row ≡ found.Booked
-  Says (answer.Closed word.NotLodged) = lookup (orderName c) row ≡ found.Ended
+  Says (answer.Closed word.Lodged) = lookup (c .transaction) row ≡ found.Booked
+  Says (answer.Closed word.NotLodged) = lookup (c .transaction) row ≡ found.Ended
   Says (answer.Closed word.Unclear) = ⊥
   Says (answer.Closed word.Fetched) = ⊥
   Says (answer.Closed word.HeldUnconfirmed) = ⊥
@@ -116,10 +115,10 @@ module _ (c : ClientRun) (row : List Event) where
   says : (a : JournalAnswer) → journalCall c row .answer ≡ a → Says a
   says a e = subst Says e (says-by (journalCall c row) journal-cause)
 
-  pub lodged-booked : journalCall c row .answer ≡ answer.Closed word.Lodged → lookup (orderName c) row ≡ found.Booked
+  pub lodged-booked : journalCall c row .answer ≡ answer.Closed word.Lodged → lookup (c .transaction) row ≡ found.Booked
   lodged-booked e = says (answer.Closed word.Lodged) e
 
-  pub not-lodged-ended : journalCall c row .answer ≡ answer.Closed word.NotLodged → lookup (orderName c) row ≡ found.Ended
+  pub not-lodged-ended : journalCall c row .answer ≡ answer.Closed word.NotLodged → lookup (c .transaction) row ≡ found.Ended
   not-lodged-ended e = says (answer.Closed word.NotLodged) e
 
   -- "never gets number 8"

@@ -16,7 +16,6 @@ use Rattle.client_run.specs.declared.run.Stage.the-variants as stage
 use Rattle.client_run.specs.declared.run.Word.{Word}
 use Rattle.client_run.specs.declared.run.Word.the-variants as word
 use Rattle.client_run.specs.NextRun.{ended}
-use Rattle.client_run.specs.Run.{orderName}
 use Rattle.client.specs.declared.journal_call.JournalAnswer.{JournalAnswer}
 use Rattle.client.specs.declared.journal_call.JournalAnswer.the-variants as answer
 use Rattle.client.specs.declared.journal_call.JournalOutcome.{JournalOutcome}
@@ -55,14 +54,13 @@ endedUnclear stage.NotBegun = false
 endedUnclear stage.Running = false
 endedUnclear (stage.Ended w) = isUnclear w
 
--- "a booking under its order number makes it lodged, a cancellation or drop makes it not lodged, otherwise it stays
--- unclear"
+-- "a booking ... makes it lodged, a cancellation or drop makes it not lodged, otherwise it stays unclear"
 abbrev pub answerOn : Found → JournalAnswer
 answerOn found.Booked = answer.Closed word.Lodged
 answerOn found.Ended = answer.Closed word.NotLodged
 answerOn found.Nothing = answer.Unchanged
 
--- the answer to a run, where a row of so many records says this of its order: another length is number 1, and "other
+-- the answer to a run, where a row of so many records says this of its upload: another length is number 1, and "other
 -- runs come back unchanged"
 unfoldable pub answerTo : Stage → ℕ → Found → JournalAnswer
 answerTo s records f =
@@ -77,10 +75,11 @@ runAfter answer.WrongLength c = c
 abbrev pub answered : JournalAnswer → ClientRun → JournalCall
 answered a c = journalLeft (runAfter a c) a
 
--- a row of so many records says this of the run's order
+-- a row of so many records says this of the run's upload
 abbrev pub heard : ClientRun → ℕ → Found → JournalCall
 heard c records f = answered (answerTo (c .stage) records f) c
 
--- the journal is handed to the run: "an unclear client goes by all three", subscriber, type and number
+-- the journal is handed to the run: "a closing word holds for the upload that earned it, by its transaction ID; the
+-- journal gains that ID, an unclear client now goes by it"
 unfoldable pub journalCall : ClientRun → List Event → JournalCall
-journalCall c row = heard c (length row) (lookup (orderName c) row)
+journalCall c row = heard c (length row) (lookup (c .transaction) row)

@@ -1,11 +1,10 @@
 // The journal is handed to a run: document 02's call for runs that closed as unclear. `journal` and `journal_held`
-// alone have the row; what they call has the number of its records and what it says of the run's order.
+// alone have the row; what they call has the number of its records and what it says of the run's upload.
 use crate::calls::Client;
 use client_run::next_run::ended;
 use client_run::run::ClientRun;
 use client_run::run::Stage;
 use client_run::run::Word;
-use client_run::run::order_name;
 use journal::event::Event;
 use journal::event::Found;
 use journal::event::RECORD_COUNT;
@@ -52,7 +51,7 @@ fn ended_unclear(stage: Stage) -> bool
     }
 }
 
-// The answer to an unclear run, by what the journal says of its order.
+// The answer to an unclear run, by what the journal says of its upload.
 fn answer_on(found: Found) -> JournalAnswer
     ensures { λ a. ⌜ a ≡ answerOn found ⌝ }
 {
@@ -63,7 +62,7 @@ fn answer_on(found: Found) -> JournalAnswer
     }
 }
 
-// The answer to a run, where a row of so many records says this of its order.
+// The answer to a run, where a row of so many records says this of its upload.
 fn answer_to(stage: Stage, records: usize, found: Found) -> JournalAnswer
     ensures { λ a. ⌜ a ≡ answerTo stage records found ⌝ }
 {
@@ -87,7 +86,7 @@ fn run_after(answer: JournalAnswer, run: ClientRun) -> ClientRun
     }
 }
 
-// A row of so many records says this of the run's order.
+// A row of so many records says this of the run's upload.
 fn heard(run: ClientRun, records: usize, found: Found) -> JournalOutcome
     ensures { λ o. ⌜ journalCallOf o ≡ heard run records found ⌝ }
 {
@@ -101,12 +100,13 @@ fn heard(run: ClientRun, records: usize, found: Found) -> JournalOutcome
 }
 
 impl Client {
-    // The journal is handed to the run, as the bank last left it.
+    // The journal is handed to the run, as the bank last left it: the run goes by its transaction ID.
     pub fn journal(self, row: &[Event]) -> JournalOutcome
         ensures { λ o. ⌜ journalCallOf o ≡ journalCall (self .run) (now (row .entry)) ⌝ }
     {
         let run = self.run;
-        let found = find(row, order_name(run));
+        let transaction = run.transaction;
+        let found = find(row, transaction);
         heard(run, row.len(), found)
     }
 

@@ -8,6 +8,7 @@ use Rattle.client_cases.specs.Table.{
   beginCases,
   runCases,
   uploadCases,
+  editionCases,
   notLodgedCases,
   downloadCases,
   clientCases,
@@ -26,6 +27,10 @@ uploads-hold : Holds come uploadCases
 unfolding uploadCases calls
 uploads-hold = listed uploadCases refl
 
+editions-hold : Holds come editionCases
+unfolding editionCases calls
+editions-hold = listed editionCases refl
+
 not-lodged-hold : Holds come notLodgedCases
 unfolding notLodgedCases calls
 not-lodged-hold = listed notLodgedCases refl
@@ -36,4 +41,6 @@ downloads-hold = listed downloadCases refl
 
 pub client-cases-hold : Holds come clientCases
 unfolding clientCases
-client-cases-hold = both begins-hold (both runs-hold (both uploads-hold (both not-lodged-hold downloads-hold)))
+client-cases-hold =
+    both begins-hold
+    (both runs-hold (both uploads-hold (both editions-hold (both not-lodged-hold downloads-hold))))

@@ -1,19 +1,22 @@
 -- Document 01, "The client's owner" and "The client run", as rows: the numbers in their order and at their limits, what
--- fits each step and what does not, and the closing words. The calls are `beginCall`, `replyCall`, `noReplyCall` and
--- `journalCall`. Digits stand here as in the paper.
+-- fits each step and what does not, the closing words, and card 11's editions. The calls are `beginCall`, `replyCall`,
+-- `noReplyCall` and `journalCall`. Digits stand here as in the paper.
 use Prim.Native.Nat.{ℕ}
 use mathlib.Core.List.{List, [], _∷_, _++_}
 use lib.ListN.{replicate, take}
 use Rattle.frame_table.specs.declared.fields.Fields.{Fields}
-use Rattle.frame_table.specs.Names.{phase, segment, noFields, with, withWide}
+use Rattle.frame_table.specs.Names.{phase, segment, orderNumber, noFields, with, withWide}
 use Rattle.frame_table.specs.Table.{phaseTag, transactionTag, segmentTag, returnCodeTag}
 use Rattle.frame_reader.specs.Reader.{readRequest}
 use Rattle.frame_writer.specs.Writer.{frameOf}
 use Rattle.message.specs.declared.codes.ReturnCode.{ReturnCode}
 use Rattle.message.specs.declared.codes.ReturnCode.the-variants as code
+use Rattle.message.specs.declared.editions.Edition.{Edition}
+use Rattle.message.specs.declared.editions.Edition.the-variants.{V24, V25}
 use Rattle.message.specs.OrderNumbers.{orderNumberOf}
 use Rattle.message.specs.Replies.{
   uploadOpened,
+  chosenOpened,
   downloadOpened,
   segmentTaken,
   recoveryPoint,
@@ -28,6 +31,7 @@ use Rattle.client_run.specs.declared.run.Answer.the-variants as answer
 use Rattle.client_run.specs.declared.run.ClientRun.{ClientRun}
 use Rattle.client_run.specs.declared.run.Direction.{Direction}
 use Rattle.client_run.specs.declared.run.Direction.the-variants.{Upload, Download}
+use Rattle.client_run.specs.declared.run.RunTerms.{RunTerms}
 use Rattle.client_run.specs.declared.run.Word.{Word}
 use Rattle.client_run.specs.declared.run.Word.the-variants.{
   Lodged,
@@ -38,7 +42,7 @@ use Rattle.client_run.specs.declared.run.Word.the-variants.{
   NotFetched,
 }
 use Rattle.client_run.specs.NextRun.{begun, ended}
-use Rattle.client_run.specs.Run.{Lent, lentOf, ClientCall, notBegun, parametersOf}
+use Rattle.client_run.specs.Run.{Lent, lentOf, ClientCall, termsOf25, notBegun, parametersOf}
 use Rattle.client.specs.Calls.{beginCall, replyCall, noReplyCall}
 use Rattle.client.specs.Journal.{journalCall}
 use Rattle.case_rows.specs.Rows.{Case, _gives_, clock, idOf, six}
@@ -54,6 +58,11 @@ pub data Event : Type 0 where
 pub data OwnerCall : Type 0 where
   -- subscriber 1 begins a run, an upload of so many bytes, under exchange number 7; then these events: the last call
   runs : Direction → ℕ → List Event → OwnerCall
+  -- the same of an upload of edition 2.4, which brings A007
+  chooses : ℕ → List Event → OwnerCall
+  -- the same of 1 byte with these terms: the order number that the request has, and the one that the run has then
+  carries : Direction → RunTerms → List Event → OwnerCall
+  learns : RunTerms → List Event → OwnerCall
   -- begin comes to a run, with direction, subscriber and first exchange number, at a time, lent a payload, a file
   -- buffer and a request buffer of so many bytes
   begins : ClientRun → Direction → ℕ → ℕ → ℕ → ℕ → ℕ → ℕ → OwnerCall
@@ -63,9 +72,11 @@ pub data OwnerCall : Type 0 where
   -- a run is handed a journal of so many records
   reads : ClientRun → ℕ → OwnerCall
 
--- what comes of it: a request of a phase and for a segment (0 where it has none), a closing word, nothing, or a number
+-- what comes of it: a request of a phase and for a segment (0 where it has none), an order number (0 where there is
+-- none), a closing word, nothing, or a number
 pub data Outcome : Type 0 where
   issues : ℕ → ℕ → Outcome
+  numbered : ℕ → Outcome
   closes : Word → Outcome
   ignores : Outcome
   gets : ℕ → Outcome
@@ -76,6 +87,12 @@ outcomeBy (answer.Request n) c = let q = readRequest (take n (c .request)) in is
 outcomeBy answer.Ignored c = ignores
 outcomeBy (answer.Closed w) c = closes w
 outcomeBy (answer.Refused r) c = gets (c .number)
+
+abbrev pub numberIn : Answer → ClientCall → ℕ
+numberIn (answer.Request n) c = orderNumber (readRequest (take n (c .request)))
+numberIn answer.Ignored c = 0
+numberIn (answer.Closed w) c = 0
+numberIn (answer.Refused r) c = 0
 
 abbrev pub outcomeOf : ClientCall → Outcome
 outcomeOf c = outcomeBy (c .answer) c
@@ -97,11 +114,27 @@ after n [] c = c
 after n (arrives r d ∷ l) c = after n l (replyCall (c .run) (frameOf r d) (lending n (c .file)))
 after n (silence ∷ l) c = after n l (noReplyCall (c .run) (lending n (c .file)))
 
+-- card 11: "told its edition, and in 2.4 its number, at begin"
+abbrev pub told : Edition → ℕ → RunTerms
+told edition number = record { edition = edition; number = number }
+
+abbrev pub choosing : RunTerms
+choosing = told V24 (orderNumberOf 7)
+
+-- the last call of a run of subscriber 1 with a payload of so many bytes, begun with these terms under 7
+abbrev pub lastCall : Direction → RunTerms → ℕ → List Event → ClientCall
+lastCall direction terms n events =
+    after n events (beginCall notBegun (parametersOf direction 1 7 terms) (lending n (replicate 7936 0)))
+
 abbrev pub come : OwnerCall → Outcome
-come (runs direction n events) =
-    outcomeOf (after n events (beginCall notBegun (parametersOf direction 1 7) (lending n (replicate 7936 0))))
+come (runs direction n events) = outcomeOf (lastCall direction termsOf25 n events)
+come (chooses n events) = outcomeOf (lastCall Upload choosing n events)
+come (carries direction terms events) =
+    let c = lastCall direction terms 1 events in
+    numbered (numberIn (c .answer) c)
+come (learns terms events) = numbered (lastCall Upload terms 1 events .run .number)
 come (begins c direction subscriber first time payload file request) =
-    outcomeOf (beginCall c (parametersOf direction subscriber first) (lendingAt time payload file request))
+    outcomeOf (beginCall c (parametersOf direction subscriber first termsOf25) (lendingAt time payload file request))
 come (hears c time payload file request) = outcomeOf (replyCall c [] (lendingAt time payload file request))
 come (waits c time payload file request) = outcomeOf (noReplyCall c (lendingAt time payload file request))
 come (reads c records) = gets (journalCall c (replicate records noEvent) .number)
@@ -114,10 +147,10 @@ Row = Case OwnerCall Outcome
 
 -- an upload of 1 byte and a download, begun; the same, ended
 abbrev pub sending : ClientRun
-sending = begun (parametersOf Upload 1 7) 1
+sending = begun (parametersOf Upload 1 7 termsOf25) 1
 
 abbrev pub fetching : ClientRun
-fetching = begun (parametersOf Download 1 7) 0
+fetching = begun (parametersOf Download 1 7 termsOf25) 0
 
 abbrev pub lodged : ClientRun
 lodged = ended Lodged sending
@@ -222,6 +255,10 @@ brings r n = arrives r (bytes n)
 abbrev pub uploadIs : Fields
 uploadIs = uploadOpened 7 (idOf 5) (orderNumberOf 0)
 
+-- "the reply leaves 0E out"
+abbrev pub chosenIs : Fields
+chosenIs = chosenOpened 7 (idOf 5)
+
 -- a segment is taken, a recovery point, a download's segment with a last mark
 abbrev pub took : ℕ → ℕ → Fields
 took exchange s = segmentTaken exchange (idOf 5) s
@@ -294,6 +331,41 @@ uploadCases =
     ∷ (runs Upload 1 (comes uploadIs ∷ (replicate 5 silence ++ (comes (point 1 13 0) ∷ []))) gives closes Unclear)
     ∷ []
 
+-- card 11: "An upload run is told its edition, and in 2.4 its number, at begin"
+unfoldable pub editionCases : List Row
+editionCases =
+    -- the opening brings the number, any four bytes, and the same again where it is repeated
+    (carries Upload choosing [] gives numbered (orderNumberOf 7))
+    ∷ (carries Upload choosing (silence ∷ []) gives numbered (orderNumberOf 7))
+    ∷ (carries Upload choosing (replicate 5 silence) gives numbered (orderNumberOf 7))
+    ∷ (carries Upload (told V24 4294967295) [] gives numbered 4294967295)
+    -- edition 2.5 and downloads leave it out
+    ∷ (carries Upload (told V25 (orderNumberOf 7)) [] gives numbered 0)
+    ∷ (carries Download choosing [] gives numbered 0)
+    -- "the reply leaves 0E out": 01 03 08 0D, of phase 1, with 000000
+    ∷ (chooses 257 (comes chosenIs ∷ []) gives issues 2 1)
+    ∷ (chooses 257 (comes (ofPhase 2 chosenIs) ∷ []) gives closes NotLodged)
+    ∷ (chooses 257 (comes (ofPhase 3 chosenIs) ∷ []) gives closes NotLodged)
+    ∷ (chooses 257 (comes (ofCode 011000 chosenIs) ∷ []) gives closes NotLodged)
+    ∷ (chooses 257 (comes (receiptAnswered 7 (idOf 5) code.DownloadPostprocessDone) ∷ []) gives closes NotLodged)
+    ∷ (chooses 257 (comes (point 1 7 0) ∷ []) gives closes NotLodged)
+    ∷ (chooses 257 (comes (chosenOpened 8 (idOf 5)) ∷ []) gives ignores)
+    -- a run takes only its edition's reply
+    ∷ (chooses 257 (comes uploadIs ∷ []) gives closes NotLodged)
+    ∷ (opening (comes chosenIs) gives closes NotLodged)
+    -- the run has the number that it brought, in 2.5 the reply's
+    ∷ (learns choosing (comes chosenIs ∷ []) gives numbered (orderNumberOf 7))
+    ∷ (learns (told V25 (orderNumberOf 7)) (comes uploadIs ∷ []) gives numbered (orderNumberOf 0))
+    -- "one held ... with 091115": of the opening, and of the repeated one where the first was accepted
+    ∷ (chooses 257 (comes (refusal 1 7 code.OrderIdAlreadyExists) ∷ []) gives closes NotLodged)
+    ∷ (chooses 257 (silence ∷ comes (refusal 1 8 code.OrderIdAlreadyExists) ∷ []) gives closes NotLodged)
+    ∷ (chooses 257 (replicate 5 silence) gives issues 1 0)
+    ∷ (chooses 257 (replicate 6 silence) gives closes NotLodged)
+    -- then as ever
+    ∷ (chooses 1 (comes chosenIs ∷ comes (took 8 1) ∷ []) gives closes Lodged)
+    ∷ (chooses 1 (comes chosenIs ∷ comes (ofAnother (took 8 1)) ∷ []) gives closes Unclear)
+    ∷ []
+
 -- segment N is issued and gets a reply 01 03 0D of a phase with a code: an upload of 1 byte
 abbrev pub refused : ℕ → ReturnCode → OwnerCall
 refused phase c = runs Upload 1 (comes uploadIs ∷ comes (refusal phase 8 c) ∷ [])
@@ -320,6 +392,7 @@ notLodgedCases =
     ∷ (refused 2 code.UnknownTransaction gives closes Unclear)
     ∷ (refused 2 code.MessageReplay gives closes Unclear)
     ∷ (refused 2 code.OrderIdUnknown gives closes Unclear)
+    ∷ (refused 2 code.OrderIdAlreadyExists gives closes Unclear)
     ∷ (refused 2 code.MaxSegmentsExceeded gives closes Unclear)
     ∷ (refused 2 code.MaxTransactionsExceeded gives closes Unclear)
     -- of phase 2, and in no other form
@@ -413,4 +486,4 @@ downloadCases =
     ∷ []
 
 unfoldable pub clientCases : List Row
-clientCases = beginCases ++ (runCases ++ (uploadCases ++ (notLodgedCases ++ downloadCases)))
+clientCases = beginCases ++ (runCases ++ (uploadCases ++ (editionCases ++ (notLodgedCases ++ downloadCases))))

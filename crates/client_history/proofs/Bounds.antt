@@ -19,6 +19,7 @@ use Rattle.client_run.specs.declared.run.Direction.{Direction}
 use Rattle.client_run.specs.declared.run.Direction.the-variants.{Upload, Download}
 use Rattle.client_run.specs.declared.run.Lengths.{Lengths}
 use Rattle.client_run.specs.declared.run.RunParameters.{RunParameters}
+use Rattle.client_run.specs.declared.run.RunTerms.{RunTerms}
 use Rattle.client_run.specs.declared.run.Step.{Step}
 use Rattle.client_run.specs.declared.run.Step.the-variants as step
 use Rattle.client_run.specs.declared.run.Word.{Word}
@@ -63,10 +64,10 @@ own-more next l file issues s e f x (here i) =
     ap (λ (y : Issue). subscriber (y .request)) i ∙ outstanding-subscriber next (l .time) (l .nonce) (l .payload)
 own-more next l file issues s e f x (there m) = f x m ∙ sym e
 
-begun-course : (direction : Direction) (subscriber first : ℕ) (l : Lengths) → Serves direction l
-    → Course (begun (parametersOf direction subscriber first) (beginLength direction l)) 1
-begun-course Upload subscriber first l s = up-start subscriber first (l .payload) (s .0) (s .1)
-begun-course Download subscriber first l s = opening-start subscriber first
+begun-course : (direction : Direction) (subscriber first : ℕ) (terms : RunTerms) (l : Lengths) → Serves direction l
+    → Course (begun (parametersOf direction subscriber first terms) (beginLength direction l)) 1
+begun-course Upload subscriber first terms l s = up-start subscriber first terms (l .payload) (s .0) (s .1)
+begun-course Download subscriber first terms l s = opening-start subscriber first terms
 
 pub bounded-begun : (c : ClientRun) (params : RunParameters) (l : Lent) (file : List ℕ) → Begins c params l
     → Bounded (begunBy params l) (withRequest (begunBy params l) l file [])
@@ -81,7 +82,7 @@ bounded-begun c params l file b =
       numbers = more (outstanding-exchange next (l .time) (l .nonce) (l .payload)) refl none;
       own = own-more next l file [] (params .subscriber) refl (λ x m. absurd (in-none m));
       repeats = omega arith;
-      course = begun-course (params .direction) (params .subscriber) (params .first) (lengthsOf l) (b .buffers);
+      course = begun-course (params .direction) (params .subscriber) (params .first) (params .terms) (lengthsOf l) (b .buffers);
     }
 
 module _ (c : ClientRun) (issues : List Issue) (b : Bounded c issues) where

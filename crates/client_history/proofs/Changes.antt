@@ -5,7 +5,6 @@ use mathlib.Core.List.{List, [], List·Memᴰ as In}
 use mathlib.Core.Path.{_≡_, refl, sym, subst}
 use lib.ListN.{length}
 use Rattle.frame_table.specs.declared.fields.Fields.{Fields}
-use Rattle.frame_table.specs.Forms as forms
 use Rattle.frame_writer.specs.declared.writer.Written.{Written}
 use Rattle.frame_writer.specs.declared.writer.Written.the-variants as written
 use Rattle.frame_table.specs.Names.{segment}
@@ -14,8 +13,6 @@ use Rattle.frame_table.specs.Names.{noFields}
 use Rattle.frame_row.specs.Row.{dataOf}
 use Rattle.frame_table.specs.Table.{rowFits, findForm, formOf}
 use Rattle.octets.proofs.Tests.{never}
-use Rattle.message.specs.declared.codes.ReturnCode.the-variants as code
-use Rattle.message.specs.Limits.{initialisationPhase}
 use Rattle.client_run.specs.declared.run.Answer.{Answer}
 use Rattle.client_run.specs.declared.run.Answer.the-variants as answer
 use Rattle.client_run.specs.declared.run.ClientRun.{ClientRun}
@@ -46,11 +43,11 @@ use Rattle.client.specs.Calls.{
 use Rattle.client_run.specs.NextRun.{beginLength, begun, goOn, repeated, learned, holding, fileWith, ended}
 use Rattle.client_run.specs.Run.{Lent, ClientCall, lengthsOf, answerNumber}
 use Rattle.client_rules.specs.Decisions.{
-  says,
   restWord,
   mayRepeat,
   endsUpload,
   uploadReturns,
+  opensUpload,
   opensDownload,
   lodges,
   takesSegment,
@@ -107,7 +104,7 @@ module _ (Given : Fields → List ℕ → Fields → List ℕ → Type 0) where
   pub data Move (p : Past) : ClientRun → List ℕ → Type 0 where
     upload-opens : {r : Fields} {d : List ℕ} → p .run .direction ≡ Upload → p .run .step ≡ step.Opening
         → Answering p r d
-        → says forms.UploadOpened code.Ok initialisationPhase r ≡ true
+        → opensUpload (p .run) r ≡ true
         → Move p (goOn 0 (p .run .repeats) (learned Upload r (p .run))) (p .file)
     takes : {r : Fields} {d : List ℕ} → p .run .direction ≡ Upload → p .run .step ≡ step.Segment → Answering p r d
         → takesSegment (p .run) r ≡ true → Move p (goOn (p .run .segment) (p .run .repeats) (p .run)) (p .file)

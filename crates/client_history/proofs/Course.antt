@@ -13,6 +13,7 @@ use Rattle.message.proofs.Verdicts.{by-test}
 use Rattle.client_run.specs.declared.run.ClientRun.{ClientRun}
 use Rattle.client_run.specs.declared.run.Direction.{Direction}
 use Rattle.client_run.specs.declared.run.Direction.the-variants.{Upload, Download}
+use Rattle.client_run.specs.declared.run.RunTerms.{RunTerms}
 use Rattle.client_run.specs.declared.run.Step.{Step}
 use Rattle.client_run.specs.declared.run.Step.the-variants as step
 use Rattle.client_run.specs.declared.run.Word.{Word}
@@ -251,10 +252,10 @@ download-at step.Receipt e w (opening o) = not-opening-receipt (o .at) e
 
 -- ---- a run as begun
 
-pub up-start : (subscriber first n : ℕ) → 1 ≤ n → n ≤ fileBytes
-    → Course (begun (parametersOf Upload subscriber first) n) 1
+pub up-start : (subscriber first : ℕ) (terms : RunTerms) (n : ℕ) → 1 ≤ n → n ≤ fileBytes
+    → Course (begun (parametersOf Upload subscriber first terms) n) 1
 unfolding begun
-up-start subscriber first n some most = uploading (record {
+up-start subscriber first terms n some most = uploading (record {
   direction = refl;
   some = some;
   most = most;
@@ -265,7 +266,8 @@ up-start subscriber first n some most = uploading (record {
   requests = omega arith;
 })
 
-pub opening-start : (subscriber first : ℕ) → Course (begun (parametersOf Download subscriber first) 0) 1
+pub opening-start : (subscriber first : ℕ) (terms : RunTerms)
+    → Course (begun (parametersOf Download subscriber first terms) 0) 1
 unfolding begun segmentsOf
-opening-start subscriber first =
+opening-start subscriber first terms =
     opening (record { direction = refl; at = refl; unknown = refl; requests = omega arith })

@@ -28,6 +28,7 @@ use Rattle.message.specs.Segments.{segmentsOf, segmentOf}
 use Rattle.client_run.specs.declared.run.ClientRun.{ClientRun}
 use Rattle.client_run.specs.declared.run.Direction.{Direction}
 use Rattle.client_run.specs.declared.run.Direction.the-variants.{Download}
+use Rattle.client_run.specs.declared.run.RunTerms.{RunTerms}
 use Rattle.client_run.specs.declared.run.Stage.{Stage}
 use Rattle.client_run.specs.declared.run.Stage.the-variants as stage
 use Rattle.client_run.specs.declared.run.Step.{Step}
@@ -408,15 +409,15 @@ module _ (Given : Fields → List ℕ → Fields → List ℕ → Type 0) where
 
     -- ---- the begin
 
-    pub begun-run : (s first time : ℕ) (nonce payload file : List ℕ) (issues : List Issue) → issues ≡ []
-        → let next = begun (parametersOf Download s first) 0 in DownloadRun Given fileAt next file
+    pub begun-run : (s first : ℕ) (terms : RunTerms) (time : ℕ) (nonce payload file : List ℕ) (issues : List Issue) → issues ≡ []
+        → let next = begun (parametersOf Download s first terms) 0 in DownloadRun Given fileAt next file
         (issueOf next payload file time nonce ∷ issues)
     unfolding begun
-    begun-run s first time nonce payload file issues z =
+    begun-run s first terms time nonce payload file issues z =
         record { direction = refl; each = each; step = (refl, refl); stage = tt }
       where
         next : ClientRun
-        next = begun (parametersOf Download s first) 0
+        next = begun (parametersOf Download s first terms) 0
 
         new : Issue
         new = issueOf next payload file time nonce

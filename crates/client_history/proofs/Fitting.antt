@@ -27,7 +27,7 @@ use Rattle.message.specs.declared.codes.ReturnCode.{ReturnCode}
 use Rattle.message.specs.declared.codes.ReturnCode.the-variants as code
 use Rattle.message.specs.Codes.{codeField}
 use Rattle.message.specs.Limits.{segmentBytes, maxSegments, initialisationPhase, transferPhase, receiptPhase}
-use Rattle.message.specs.Replies.{uploadOpened, downloadOpened, segmentTaken, downloadSegment, receiptAnswered}
+use Rattle.message.specs.Replies.{uploadOpened, chosenOpened, downloadOpened, segmentTaken, downloadSegment, receiptAnswered}
 use Rattle.message.specs.Segments.{segmentsOf, segmentOf, lastMarkOf}
 use Rattle.client_run.specs.declared.run.ClientRun.{ClientRun}
 use Rattle.client_run.specs.declared.run.Decision.the-variants.{Opened, Advance, Close}
@@ -43,6 +43,7 @@ use Rattle.client_rules.specs.Decisions.{
   answersSegment,
   fitsData,
   fitsSegment,
+  opensUpload,
   opensDownload,
   lodges,
   takesSegment,
@@ -109,6 +110,10 @@ module _ (x n j mark : ℕ) (t : Bits128) where
   unfolding uploadOpened formOf findForm rowFits
   opened-fits = record { form-is = refl; code-is = refl; phase-is = refl; number = refl }
 
+  pub chosen-fits : Fits forms.ReceiptAnswered code.Ok initialisationPhase x (chosenOpened x t)
+  unfolding chosenOpened formOf findForm rowFits
+  chosen-fits = record { form-is = refl; code-is = refl; phase-is = refl; number = refl }
+
   pub taken-fits : Fits forms.SegmentTaken code.Ok transferPhase x (segmentTaken x t j)
   unfolding segmentTaken formOf findForm rowFits
   taken-fits = record { form-is = refl; code-is = refl; phase-is = refl; number = refl }
@@ -129,6 +134,10 @@ module _ (x n j mark : ℕ) (t : Bits128) where
   pub opened-fields : (transaction (uploadOpened x t n) ≡ t) × (orderNumber (uploadOpened x t n) ≡ n)
   unfolding uploadOpened
   opened-fields = (refl, refl)
+
+  pub chosen-fields : transaction (chosenOpened x t) ≡ t
+  unfolding chosenOpened
+  chosen-fields = refl
 
   pub taken-fields : (transaction (segmentTaken x t j) ≡ t) × (segment (segmentTaken x t j) ≡ j)
   unfolding segmentTaken
@@ -185,7 +194,7 @@ module _ (c : ClientRun) (r : Fields) (n : ℕ) (a : isAnswer c r ≡ true) wher
   download-decision w s e = rw a (ap (λ (z : Direction). onAnswer z c r n) w ∙ ap (λ (z : Step). onDownload z c r n) e)
 
 module _ (c : ClientRun) (r : Fields) (n : ℕ) where
-  pub to-opened : says forms.UploadOpened code.Ok initialisationPhase r ≡ true → onUpload step.Opening c r ≡ Opened
+  pub to-opened : opensUpload c r ≡ true → onUpload step.Opening c r ≡ Opened
   unfolding onUpload
   to-opened h = rw h
 

@@ -11,6 +11,7 @@ use Rattle.message.specs.Limits.{fileBytes}
 use Rattle.client_run.specs.declared.run.ClientRun.{ClientRun}
 use Rattle.client_run.specs.declared.run.Direction.{Direction}
 use Rattle.client_run.specs.declared.run.Direction.the-variants.{Upload, Download}
+use Rattle.client_run.specs.declared.run.RunTerms.{RunTerms}
 use Rattle.client_run.specs.declared.run.Step.{Step}
 use Rattle.client_run.specs.declared.run.Step.the-variants as step
 use Rattle.client_run.specs.declared.run.Word.{Word}
@@ -124,16 +125,16 @@ module _ (Given : Fields → List ℕ → Fields → List ℕ → Type 0) (fileA
 
   -- ---- the begin
 
-  begins : (p : Past) (direction : Direction) (s first : ℕ) (l : Lent) → p .issues ≡ []
-      → let params = parametersOf direction s first in
+  begins : (p : Past) (direction : Direction) (s first : ℕ) (terms : RunTerms) (l : Lent) → p .issues ≡ []
+      → let params = parametersOf direction s first terms in
       let q =
       issuing (begun params (beginLength direction (lengthsOf l))) (l .payload) (l .file) (l .time) (l .nonce)
       (p .issues)
       in Serves direction (lengthsOf l) → Begun q → Inv q
-  begins p Upload s first l e serves b =
-      upload b (Uploads.begun-run Given s first (l .time) (l .nonce) (l .payload) (l .file) (p .issues) e)
-  begins p Download s first l e serves b =
-      download b (Downloads.begun-run Given fileAt s first (l .time) (l .nonce) (l .payload) (l .file) (p .issues) e)
+  begins p Upload s first terms l e serves b =
+      upload b (Uploads.begun-run Given s first terms (l .time) (l .nonce) (l .payload) (l .file) (p .issues) e)
+  begins p Download s first terms l e serves b =
+      download b (Downloads.begun-run Given fileAt s first terms (l .time) (l .nonce) (l .payload) (l .file) (p .issues) e)
 
   -- ---- every change
 
@@ -157,7 +158,7 @@ module _ (Given : Fields → List ℕ → Fields → List ℕ → Type 0) (fileA
   kept-by : {p q : Past} → Change Given p q → Bounds (q .run) (q .issues) → Inv p → Inv q
   kept-by change.nothing n i = i
   kept-by {p} (change.begins-with params l b) n (not-begun e f) =
-      begins p (params .direction) (params .subscriber) (params .first) l f (b .buffers)
+      begins p (params .direction) (params .subscriber) (params .first) (params .terms) l f (b .buffers)
       (now-issued _ (l .payload) (l .file) (l .time) (l .nonce) (p .issues) n)
   kept-by (change.begins-with params l b) n (upload g u) = never (sym (b .fresh) ∙ g .bounded .stage)
   kept-by (change.begins-with params l b) n (download g u) = never (sym (b .fresh) ∙ g .bounded .stage)

@@ -10,6 +10,7 @@ use Rattle.frame_table.specs.declared.fields.Fields.{Fields}
 use Rattle.frame_table.specs.declared.table.Form.{Form}
 use Rattle.message.specs.declared.codes.ReturnCode.{ReturnCode}
 use Rattle.client_run.specs.declared.run.ClientRun.{ClientRun}
+use Rattle.client_run.specs.declared.run.RunTerms.{RunTerms}
 use Rattle.client_run.specs.declared.run.Stage.{Stage}
 use Rattle.client_run.specs.declared.run.Stage.the-variants as stage
 use Rattle.client_run.specs.declared.run.Step.{Step}
@@ -21,7 +22,7 @@ use Rattle.client_history.specs.Invariant.{
   isOpen,
   DownloadIssue,
   Got,
-  UploadOpen,
+  OpenedAs,
   UploadStep,
   UploadWord,
   UploadStage,
@@ -56,8 +57,9 @@ module _ (Given Later : Fields → List ℕ → Fields → List ℕ → Type 0)
 
   -- ---- upload
 
-  open-up : {c : ClientRun} {l : List Issue} → UploadOpen Given c l → UploadOpen Later c l
-  open-up o = record { got = got-up (o .got); id = o .id; number = o .number }
+  open-up : {terms : RunTerms} {t : Bits128} {n : ℕ} {l : List Issue} → OpenedAs Given terms t n l
+      → OpenedAs Later terms t n l
+  open-up o = record { got = got-up (o .got); phase-1 = o .phase-1; id = o .id; number = o .number }
 
   module _ (c : ClientRun) (payload : List ℕ) (l : List Issue) (u : UploadRun Given c payload l) where
     upload-step-up : (s : Step) → UploadStep Given s c l → UploadStep Later s c l

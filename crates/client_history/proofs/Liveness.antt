@@ -11,19 +11,22 @@ use Rattle.frame_table.specs.declared.fields.Fields.{Fields}
 use Rattle.frame_table.specs.Forms as forms
 use Rattle.frame_writer.specs.declared.writer.Written.{Written}
 use Rattle.frame_writer.specs.declared.writer.Written.the-variants as written
-use Rattle.frame_table.specs.Names.{returnCode, exchange, segments, transaction, segment, lastMark, orderNumber}
+use Rattle.frame_table.specs.Names.{returnCode, segments, transaction, segment, lastMark, orderNumber}
 use Rattle.frame_reader.specs.Reader.{readReply}
 use Rattle.frame_row.specs.Row.{dataOf}
 use Rattle.message.specs.declared.codes.ReturnCode.the-variants as code
 use Rattle.message.specs.Codes.{codeField}
 use Rattle.message.specs.Limits.{maxSegments, fileBytes, initialisationPhase}
-use Rattle.message.specs.Replies.{uploadOpened, downloadOpened, segmentTaken, downloadSegment, receiptAnswered}
+use Rattle.message.specs.Replies.{uploadOpened, chosenOpened, downloadOpened, segmentTaken, downloadSegment, receiptAnswered}
 use Rattle.message.specs.Segments.{segmentsOf, segmentOf, lastMarkOf}
 use Rattle.client_run.specs.declared.run.ClientRun.{ClientRun}
 use Rattle.client_run.specs.declared.run.Decision.{Decision}
 use Rattle.client_run.specs.declared.run.Decision.the-variants.{Ignore, Opened, Advance, Close}
 use Rattle.client_run.specs.declared.run.Direction.{Direction}
 use Rattle.client_run.specs.declared.run.Direction.the-variants.{Upload, Download}
+use Rattle.message.specs.declared.editions.Edition.{Edition}
+use Rattle.message.specs.declared.editions.Edition.the-variants.{V24, V25}
+use Rattle.message.specs.Editions.{openedForm}
 use Rattle.client_run.specs.declared.run.Refusal.{Refusal}
 use Rattle.client_run.specs.declared.run.Refusal.the-variants.{
   TimeTooHigh,
@@ -55,11 +58,12 @@ use Rattle.client.specs.Calls.{
   beginCall,
   replyCall,
 }
-use Rattle.client_run.specs.NextRun.{begun, stepAfter, goOn, learned, holding, fileWith, ended}
-use Rattle.client_run.specs.Run.{Lent, ClientCall, lengthsOf, refusalNumber, answerNumber}
+use Rattle.client_run.specs.NextRun.{begun, stepAfter, goOn, learnedNumber, learned, holding, fileWith, ended}
+use Rattle.client_run.specs.Run.{Lent, ClientCall, lengthsOf, refusalNumber, answerNumber, chosenNumber}
 use Rattle.client_rules.specs.Decisions.{
   answersSegment,
   fitsSegment,
+  opensUpload,
   opensDownload,
   lodges,
   takesSegment,
@@ -90,11 +94,13 @@ use Rattle.client_history.proofs.Fitting.{
   fits-answer,
   answers-true,
   opened-fits,
+  chosen-fits,
   taken-fits,
   download-fits,
   segment-fits,
   receipt-fits,
   opened-fields,
+  chosen-fields,
   taken-fields,
   download-fields,
   segment-fields,
@@ -221,25 +227,45 @@ module _ (p : Past) (frame : List ℕ) (l : Lent) (done : answerNumber (replyCal
 
   -- ---- UPLOAD
 
-  -- the opening's answer leads to segment 1, under the transaction and the order number that it brings
-  pub upload-opens : (j x n : ℕ) (t : Bits128) → InTurn p Upload step.Opening j x → r ≡ uploadOpened (c .exchange) t n
-      → InTurn then Upload step.Segment 1 (c .exchange + 1) × (then .run .transaction ≡ t) × (then .run .number ≡ n)
+  -- the opening's answer leads to segment 1, under the transaction that it brings and this order number
+  abbrev OpensWith : Bits128 → ℕ → Type 0
+  OpensWith t n =
+      InTurn then Upload step.Segment 1 (c .exchange + 1) × (then .run .transaction ≡ t) × (then .run .number ≡ n)
       × (then .run .segments ≡ c .segments)
-  upload-opens j x n t i e =
-      let f = subst (Fits _ _ _ _) (sym e) (opened-fits (c .exchange) n 0 0 t) in
-      let a = fits-answer c r f refl (λ z. omega arith) in
+
+  opens-with : (j x n : ℕ) (t : Bits128) → InTurn p Upload step.Opening j x → isAnswer c r ≡ true → opensUpload c r ≡ true
+      → transaction r ≡ t → learnedNumber (c .terms .edition) (c .terms) r ≡ n → OpensWith t n
+  opens-with j x n t i a o e m =
       let k = learned Upload r c in
       let g = next-known k d in
       by-opened
       (λ (q : Past). InTurn q Upload step.Segment 1 (c .exchange + 1) × (q .run .transaction ≡ t) × (q .run .number ≡ n)
       × (q .run .segments ≡ c .segments)) Upload (i .direction)
-      (upload-decision c r (length d) a (i .direction) step.Opening (i .step)
-      ∙ to-opened c r (length d) (fits-says c r f)) (
+      (upload-decision c r (length d) a (i .direction) step.Opening (i .step) ∙ to-opened c r (length d) o) (
         next-in-turn k Upload 0 d _ _ l p (i .running) (i .direction) refl (i .repeats),
-        g .0 ∙ ap transaction e ∙ opened-fields (c .exchange) n 0 0 t .0,
-        g .1 ∙ ap orderNumber e ∙ opened-fields (c .exchange) n 0 0 t .1,
+        g .0 ∙ e,
+        g .1 ∙ m,
         g .2,
       )
+
+  -- in edition 2.5 the reply brings the number
+  pub upload-opens : (j x n : ℕ) (t : Bits128) → c .terms .edition ≡ V25 → InTurn p Upload step.Opening j x
+      → r ≡ uploadOpened (c .exchange) t n → OpensWith t n
+  upload-opens j x n t v i e =
+      let f = subst (Fits _ _ _ _) (sym e) (opened-fits (c .exchange) n 0 0 t) in
+      opens-with j x n t i (fits-answer c r f refl (λ z. omega arith))
+      (ap (λ (u : Edition). says (openedForm u) code.Ok initialisationPhase r) v ∙ fits-says c r f)
+      (ap transaction e ∙ opened-fields (c .exchange) n 0 0 t .0)
+      (ap (λ (u : Edition). learnedNumber u (c .terms) r) v ∙ ap orderNumber e ∙ opened-fields (c .exchange) n 0 0 t .1)
+
+  -- in edition 2.4 the run has it from its begin
+  pub chosen-opens : (j x : ℕ) (t : Bits128) → c .terms .edition ≡ V24 → InTurn p Upload step.Opening j x
+      → r ≡ chosenOpened (c .exchange) t → OpensWith t (chosenNumber (c .terms))
+  chosen-opens j x t v i e =
+      let f = subst (Fits _ _ _ _) (sym e) (chosen-fits (c .exchange) 0 0 0 t) in
+      opens-with j x (chosenNumber (c .terms)) t i (fits-answer c r f refl (λ z. omega arith))
+      (ap (λ (u : Edition). says (openedForm u) code.Ok initialisationPhase r) v ∙ fits-says c r f)
+      (ap transaction e ∙ chosen-fields (c .exchange) 0 0 0 t) (ap (λ (u : Edition). learnedNumber u (c .terms) r) v)
 
   module _ (j x : ℕ) (i : InTurn p Upload step.Segment j x)
       (e : r ≡ segmentTaken (c .exchange) (c .transaction) j) where
@@ -368,7 +394,7 @@ at-opening P c r n at other ignored closed = by-test P (isAnswer c r) (λ _. by 
   where
     by : (w : Direction) → P (onAnswer w c r n)
     by Upload = subst (λ (s : Step). P (onUpload s c r)) (sym at)
-        (by-test P (says forms.UploadOpened code.Ok initialisationPhase r)
+        (by-test P (opensUpload c r)
         (λ h. absurd (other (said _ _ _ r h .code-is))) (λ _. closed))
     by Download = subst (λ (s : Step). P (onDownload s c r n)) (sym at)
         (by-test P (opensDownload n r) (λ h. absurd (other (opened-says n r h .code-is))) (λ _. closed))
@@ -399,14 +425,14 @@ opening-refused p frame l done b at other =
 pub begins : (p : Past) (params : RunParameters) (l : Lent) → answerNumber (beginCall (p .run) params l .answer) ≡ 0
     → let q = after (Begin params l) p in
     InTurn q (params .direction) step.Opening 0 (params .first) × (q .run .subscriber ≡ params .subscriber)
-    × (q .payload ≡ l .payload)
+    × (q .payload ≡ l .payload) × (q .run .terms ≡ params .terms)
 unfolding after beginCall begun
 begins p params l = go (beginRuling (p .run) params (l .time) (lengthsOf l))
   where
     Goal : Past → Type 0
     Goal q =
         InTurn q (params .direction) step.Opening 0 (params .first) × (q .run .subscriber ≡ params .subscriber)
-        × (q .payload ≡ l .payload)
+        × (q .payload ≡ l .payload) × (q .run .terms ≡ params .terms)
 
     go : (u : Ruling) → let k = ifAdmitted u (p .run) l (admittedBegin (p .run) params l) in
         answerNumber (k .answer) ≡ 0 → Goal (left (k .answer) k l p)
@@ -421,6 +447,7 @@ begins p params l = go (beginRuling (p .run) params (l .time) (lengthsOf l))
             repeats = refl;
             number = refl;
           },
+          refl,
           refl,
           refl,
         )

@@ -27,6 +27,7 @@ pub record Same (n c : ClientRun) : Type 0 where
   pub stage : n .stage ≡ c .stage
   pub direction : n .direction ≡ c .direction
   pub subscriber : n .subscriber ≡ c .subscriber
+  pub terms : n .terms ≡ c .terms
   pub exchange : n .exchange ≡ c .exchange
   pub repeats : n .repeats ≡ c .repeats
 
@@ -38,15 +39,15 @@ pub record Known (n c : ClientRun) : Type 0 where
   pub segment : n .segment ≡ c .segment
 
 pub same : (c : ClientRun) → Same c c
-same c = record { stage = refl; direction = refl; subscriber = refl; exchange = refl; repeats = refl }
+same c = record { stage = refl; direction = refl; subscriber = refl; terms = refl; exchange = refl; repeats = refl }
 
 pub known : (c : ClientRun) → Known c c
 known c = record { transaction = refl; number = refl; segments = refl; segment = refl }
 
 pub learned-same : (w : Direction) (r : Fields) (c : ClientRun) → Same (learned w r c) c
-learned-same Upload r c = record { stage = refl; direction = refl; subscriber = refl; exchange = refl; repeats = refl }
+learned-same Upload r c = record { stage = refl; direction = refl; subscriber = refl; terms = refl; exchange = refl; repeats = refl }
 learned-same Download r c =
-    record { stage = refl; direction = refl; subscriber = refl; exchange = refl; repeats = refl }
+    record { stage = refl; direction = refl; subscriber = refl; terms = refl; exchange = refl; repeats = refl }
 
 pub learned-transaction : (w : Direction) (r : Fields) (c : ClientRun) → learned w r c .transaction ≡ transaction r
 learned-transaction Upload r c = refl
@@ -63,6 +64,7 @@ held-same d n c s =
       stage = s .stage;
       direction = s .direction;
       subscriber = s .subscriber;
+      terms = s .terms;
       exchange = s .exchange;
       repeats = s .repeats;
     }

@@ -6,6 +6,7 @@ use mathlib.Core.List.{List, []}
 use mathlib.Core.Path.{_≡_, refl, ap, _∙_}
 use native.Mathlib.Omega.{arith}
 use lib.ListN.{take}
+use Rattle.frame_table.specs.declared.fields.Bits128.{Bits128}
 use Rattle.frame_table.specs.declared.fields.Fields.{Fields}
 use Rattle.frame_table.specs.Names.{noFields, form, timestamp}
 use Rattle.frame_table.specs.Table.{isRequestForm, rowFits, findForm, formOf}
@@ -14,19 +15,21 @@ use Rattle.frame_writer.specs.declared.writer.Written.{Written}
 use Rattle.frame_writer.specs.declared.writer.Written.the-variants as written
 use Rattle.frame.proofs.RoundTrip.{Sized}
 use Rattle.frame.proofs.Theorems.{request-read}
-use Rattle.message.specs.Requests.{uploadOpening, downloadOpening}
+use Rattle.message.specs.Requests.{uploadOpening, chosenOpening, downloadOpening}
 use Rattle.message.proofs.Verdicts.{by-test}
 use Rattle.client_run.specs.declared.run.Answer.the-variants as answer
 use Rattle.client_run.specs.declared.run.ClientRun.{ClientRun}
 use Rattle.client_run.specs.declared.run.Decision.{Decision}
 use Rattle.client_run.specs.declared.run.Direction.{Direction}
 use Rattle.client_run.specs.declared.run.Direction.the-variants.{Upload, Download}
+use Rattle.message.specs.declared.editions.Edition.{Edition}
+use Rattle.message.specs.declared.editions.Edition.the-variants.{V24, V25}
 use Rattle.client_run.specs.declared.run.Ruling.{Ruling}
 use Rattle.client_run.specs.declared.run.Ruling.the-variants.{Refuse, Accept}
 use Rattle.client_run.specs.declared.run.RunParameters.{RunParameters}
 use Rattle.client_run.specs.declared.run.Step.the-variants as step
 use Rattle.client_run.specs.NextRun.{begun, repeated}
-use Rattle.client_run.specs.Requests.{outstanding, outstandingData}
+use Rattle.client_run.specs.Requests.{openingBy, outstanding, outstandingData}
 use Rattle.client_run.specs.Run.{Lent, ClientCall, lengthsOf}
 use Rattle.client_rules.specs.Decisions.{mayRepeat, onNoReply}
 use Rattle.client_rules.specs.Rulings.{beginRuling, runRuling}
@@ -53,9 +56,14 @@ pub record Timed (t : ℕ) (f : Fields) : Type 0 where
   pub time : timestamp f ≡ t
 
 module _ (c : ClientRun) (time : ℕ) (nonce : List ℕ) where
+  upload-timed : (e : Edition) (k s x : ℕ) (v : Bits128) (n : ℕ) → Timed time (openingBy e k s x v time n)
+  unfolding uploadOpening chosenOpening formOf findForm rowFits
+  upload-timed V24 k s x v n = record { sized = (refl, refl); request = refl; time = refl }
+  upload-timed V25 k s x v n = record { sized = (refl, refl); request = refl; time = refl }
+
   opening-by : (w : Direction) → c .direction ≡ w → c .step ≡ step.Opening → Timed time (outstanding c time nonce)
-  unfolding outstanding uploadOpening downloadOpening formOf findForm rowFits
-  opening-by Upload d s = rw (d, s) (record { sized = (refl, refl); request = refl; time = refl })
+  unfolding outstanding downloadOpening formOf findForm rowFits
+  opening-by Upload d s = rw (d, s) (upload-timed (c .terms .edition) _ _ _ _ _)
   opening-by Download d s = rw (d, s) (record { sized = (refl, refl); request = refl; time = refl })
 
   opening-timed : c .step ≡ step.Opening → Timed time (outstanding c time nonce)

@@ -3,19 +3,25 @@ use Prim.Native.Nat.{ℕ}
 use mathlib.Core.List.{List, []}
 use mathlib.Core.Path.{_≡_, refl, ap, _∙_}
 use Rattle.frame_table.specs.declared.fields.Bits128.{Bits128}
+use Rattle.frame_table.specs.declared.fields.Fields.{Fields}
 use Rattle.frame_table.specs.Forms as forms
-use Rattle.frame_table.specs.Names.{subscriber, exchange, orderType, transaction, segment, form}
+use Rattle.frame_table.specs.Names.{subscriber, exchange, segments, transaction, segment, form}
 use Rattle.frame_table.specs.Table.{rowFits, findForm, formOf}
-use Rattle.message.specs.Limits.{ful}
-use Rattle.message.specs.Requests.{uploadOpening, downloadOpening, uploadTransfer, downloadTransfer, receipt}
+use Rattle.message.specs.Requests.{uploadOpening, chosenOpening, downloadOpening, uploadTransfer, downloadTransfer, receipt}
 use Rattle.message.specs.Segments.{segmentOf, lastMarkOf}
 use Rattle.client_run.specs.declared.run.ClientRun.{ClientRun}
 use Rattle.client_run.specs.declared.run.Direction.{Direction}
 use Rattle.client_run.specs.declared.run.Direction.the-variants.{Upload, Download}
+use Rattle.message.specs.declared.editions.Edition.{Edition}
+use Rattle.message.specs.declared.editions.Edition.the-variants.{V24, V25}
+use Rattle.message.specs.Editions.{openingForm, orderOpened}
+use Rattle.client_run.specs.declared.run.RunTerms.{RunTerms}
 use Rattle.client_run.specs.declared.run.Step.{Step}
 use Rattle.client_run.specs.declared.run.Step.the-variants as step
 use Rattle.client_run.specs.Requests.{
   nonceOf,
+  openingBy,
+  termsOpening,
   uploadRequest,
   downloadRequest,
   requestBy,
@@ -24,23 +30,37 @@ use Rattle.client_run.specs.Requests.{
   outstanding,
   outstandingData,
 }
+use Rattle.client_run.specs.NextRun.{learnedNumber}
+use Rattle.client_run.specs.Run.{chosenNumber}
+use Rattle.client_run.proofs.Names.{subscriber-opening}
 
 -- ---- the fields of the request forms
 
-pub form-uploadOpening : (s x : ℕ) (nonce : Bits128) (time n : ℕ)
-    → form (uploadOpening s x nonce time n) ≡ forms.UploadOpening
-unfolding uploadOpening formOf findForm rowFits
-form-uploadOpening s x nonce time n = refl
+-- an upload's opening of either edition; its subscriber and type are those of `Names`
+pub form-opening : (e : Edition) (k s x : ℕ) (nonce : Bits128) (time n : ℕ)
+    → form (openingBy e k s x nonce time n) ≡ openingForm e
+unfolding uploadOpening chosenOpening formOf findForm rowFits
+form-opening V24 k s x nonce time n = refl
+form-opening V25 k s x nonce time n = refl
 
-pub subscriber-uploadOpening : (s x : ℕ) (nonce : Bits128) (time n : ℕ)
-    → subscriber (uploadOpening s x nonce time n) ≡ s
-unfolding uploadOpening
-subscriber-uploadOpening s x nonce time n = refl
+exchange-opening : (e : Edition) (k s x : ℕ) (nonce : Bits128) (time n : ℕ)
+    → exchange (openingBy e k s x nonce time n) ≡ x
+unfolding uploadOpening chosenOpening
+exchange-opening V24 k s x nonce time n = refl
+exchange-opening V25 k s x nonce time n = refl
 
-pub type-uploadOpening : (s x : ℕ) (nonce : Bits128) (time n : ℕ)
-    → orderType (uploadOpening s x nonce time n) ≡ ful
-unfolding uploadOpening
-type-uploadOpening s x nonce time n = refl
+pub segments-opening : (e : Edition) (k s x : ℕ) (nonce : Bits128) (time n : ℕ)
+    → segments (openingBy e k s x nonce time n) ≡ n
+unfolding uploadOpening chosenOpening
+segments-opening V24 k s x nonce time n = refl
+segments-opening V25 k s x nonce time n = refl
+
+-- the order number that it opens with: the one that it brings, or the one that its answer brings
+pub number-opening : (e : Edition) (terms : RunTerms) (s x : ℕ) (nonce : Bits128) (time n : ℕ) (r : Fields)
+    → orderOpened (openingBy e (chosenNumber terms) s x nonce time n) r ≡ learnedNumber e terms r
+unfolding uploadOpening chosenOpening formOf findForm rowFits
+number-opening V24 terms s x nonce time n r = refl
+number-opening V25 terms s x nonce time n r = refl
 
 pub form-downloadOpening : (s x : ℕ) (nonce : Bits128) (time : ℕ)
     → form (downloadOpening s x nonce time) ≡ forms.DownloadOpening
@@ -86,7 +106,7 @@ module _ (c : ClientRun) (time : ℕ) (nonce payload : List ℕ) where
 
     pub is-uploadOpening : c .step ≡ step.Opening
         → outstanding c time nonce
-        ≡ uploadOpening (c .subscriber) (c .exchange) (nonceOf nonce (c .exchange)) time (c .segments)
+        ≡ termsOpening (c .terms) (c .subscriber) (c .exchange) (nonceOf nonce (c .exchange)) time (c .segments)
     is-uploadOpening at = by-upload ∙ ap (λ (s : Step). uploadRequest s c time nonce) at
 
     pub is-uploadTransfer : c .step ≡ step.Segment → outstanding c time nonce
@@ -123,8 +143,9 @@ module _ (c : ClientRun) (time : ℕ) (nonce payload : List ℕ) where
 
   -- every request carries the run's exchange number and subscriber
   exchange-by : (w : Direction) (s : Step) → c .step ≡ s → exchange (requestBy w c time nonce) ≡ c .exchange
-  unfolding uploadOpening downloadOpening uploadTransfer downloadTransfer receipt
-  exchange-by Upload step.Opening e = ap (λ (s : Step). exchange (uploadRequest s c time nonce)) e
+  unfolding downloadOpening uploadTransfer downloadTransfer receipt
+  exchange-by Upload step.Opening e =
+      ap (λ (s : Step). exchange (uploadRequest s c time nonce)) e ∙ exchange-opening (c .terms .edition) _ _ _ _ _ _
   exchange-by Upload step.Segment e = ap (λ (s : Step). exchange (uploadRequest s c time nonce)) e
   exchange-by Upload step.Receipt e = ap (λ (s : Step). exchange (uploadRequest s c time nonce)) e
   exchange-by Download step.Opening e = ap (λ (s : Step). exchange (downloadRequest s c time nonce)) e
@@ -136,8 +157,10 @@ module _ (c : ClientRun) (time : ℕ) (nonce payload : List ℕ) where
   outstanding-exchange = exchange-by (c .direction) (c .step) refl
 
   subscriber-by : (w : Direction) (s : Step) → c .step ≡ s → subscriber (requestBy w c time nonce) ≡ c .subscriber
-  unfolding uploadOpening downloadOpening uploadTransfer downloadTransfer receipt
-  subscriber-by Upload step.Opening e = ap (λ (s : Step). subscriber (uploadRequest s c time nonce)) e
+  unfolding downloadOpening uploadTransfer downloadTransfer receipt
+  subscriber-by Upload step.Opening e =
+      ap (λ (s : Step). subscriber (uploadRequest s c time nonce)) e
+      ∙ subscriber-opening (c .terms .edition) _ _ _ _ _ _
   subscriber-by Upload step.Segment e = ap (λ (s : Step). subscriber (uploadRequest s c time nonce)) e
   subscriber-by Upload step.Receipt e = ap (λ (s : Step). subscriber (uploadRequest s c time nonce)) e
   subscriber-by Download step.Opening e = ap (λ (s : Step). subscriber (downloadRequest s c time nonce)) e

@@ -58,6 +58,7 @@ module _ (p : Past) (b : isBegun (p .run .stage) ≡ true) (file : List ℕ) (ti
     begun = ap isBegun (s .stage) ∙ b;
     direction = s .direction;
     subscriber-same = s .subscriber;
+    terms-same = s .terms;
     payload = refl;
     issues = λ x m. there m;
     known = λ h. open-after (c .direction) k (c .segments);
@@ -75,6 +76,7 @@ module _ (p : Past) (b : isBegun (p .run .stage) ≡ true) (file : List ℕ) (ti
     begun = b;
     direction = refl;
     subscriber-same = refl;
+    terms-same = refl;
     payload = refl;
     issues = λ x m. there m;
     known = λ h. h;
@@ -106,6 +108,7 @@ module _ (Given : Fields → List ℕ → Fields → List ℕ → Type 0) where
     begun = b;
     direction = refl;
     subscriber-same = refl;
+    terms-same = refl;
     payload = refl;
     issues = λ x m. m;
     known = λ h. h;
@@ -119,6 +122,7 @@ module _ (Given : Fields → List ℕ → Fields → List ℕ → Type 0) where
     begun = refl;
     direction = refl;
     subscriber-same = refl;
+    terms-same = refl;
     payload = refl;
     issues = λ x m. m;
     known = λ h. h;

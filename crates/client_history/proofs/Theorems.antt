@@ -10,7 +10,7 @@ use Rattle.frame_table.specs.declared.fields.Bits128.{Bits128}
 use Rattle.frame_table.specs.declared.fields.Fields.{Fields}
 use Rattle.frame_table.specs.declared.table.Form.{Form}
 use Rattle.frame_table.specs.Forms as forms
-use Rattle.frame_table.specs.Names.{subscriber, exchange, orderType, transaction, segment, form}
+use Rattle.frame_table.specs.Names.{subscriber, exchange, orderType, segment, form}
 use Rattle.frame_reader.specs.Reader.{readReply}
 use Rattle.frame_row.specs.Row.{dataOf}
 use Rattle.octets.proofs.Tests.{never}
@@ -19,6 +19,9 @@ use Rattle.message.specs.Segments.{segmentsOf}
 use Rattle.journal.proofs.Lookup.{same-name}
 use Rattle.client_run.specs.declared.run.ClientRun.{ClientRun}
 use Rattle.client_run.specs.declared.run.Direction.the-variants.{Upload, Download}
+use Rattle.message.specs.declared.editions.Edition.{Edition}
+use Rattle.message.specs.declared.editions.Edition.the-variants.{V24, V25}
+use Rattle.client_run.specs.declared.run.RunTerms.{RunTerms}
 use Rattle.client_run.specs.declared.run.Stage.{Stage}
 use Rattle.client_run.specs.declared.run.Stage.the-variants as stage
 use Rattle.client_run.specs.declared.run.Step.{Step}
@@ -26,6 +29,8 @@ use Rattle.client_run.specs.declared.run.Step.the-variants as step
 use Rattle.client_run.specs.declared.run.Word.{Word}
 use Rattle.client_run.specs.declared.run.Word.the-variants as word
 use Rattle.client_run.proofs.Apart.{not-both}
+use Rattle.client_run.proofs.Names.{subscriber-opening, type-opening}
+use Rattle.message.specs.Editions.{openingForm}
 use Rattle.client_run.specs.Run.{notBegun, orderTypeOf, orderName}
 use Rattle.client_rules.specs.Decisions.{isAnswer}
 use Rattle.client_rules.specs.Rulings.{isBegun}
@@ -99,6 +104,7 @@ pub use Rattle.client_history.proofs.Lifting.{lifted}
 pub use Rattle.client_history.proofs.Liveness.{
   begins,
   upload-opens,
+  chosen-opens,
   upload-advances,
   upload-lodges,
   download-opens,
@@ -109,9 +115,7 @@ pub use Rattle.client_history.proofs.Liveness.{
   begin-fresh,
 }
 use Rattle.client_history.proofs.Requests.{
-  form-uploadOpening,
-  subscriber-uploadOpening,
-  type-uploadOpening,
+  form-opening,
   form-downloadOpening,
   form-uploadTransfer,
   form-downloadTransfer,
@@ -130,9 +134,9 @@ other-form a b f = absurd (let z = f (sym a ∙ b) in omega arith)
 new-begun : {c : ClientRun} → c ≡ notBegun → isBegun (c .stage) ≡ false
 new-begun e = ap (λ (c : ClientRun). isBegun (c .stage)) e
 
-upload-form : {s n top : ℕ} {t : Bits128} {y : List ℕ} {x : Issue} → UploadIssue s n t top y x
-    → (form (x .request) ≡ forms.UploadOpening) ⊎ (form (x .request) ≡ forms.UploadTransfer)
-upload-form (uploadOpens number time nonce q d) = inl (ap form q ∙ form-uploadOpening _ _ _ _ _)
+upload-form : {terms : RunTerms} {s n top : ℕ} {t : Bits128} {y : List ℕ} {x : Issue} → UploadIssue terms s n t top y x
+    → (form (x .request) ≡ openingForm (terms .edition)) ⊎ (form (x .request) ≡ forms.UploadTransfer)
+upload-form {terms} (uploadOpens number time nonce q d) = inl (ap form q ∙ form-opening (terms .edition) _ _ _ _ _ _)
 upload-form (sends number j a c q d) = inr (ap form q ∙ form-uploadTransfer _ _ _ _ _)
 
 download-form : {s n next : ℕ} {t : Bits128} {at : Step} {f : List ℕ} {x : Issue} → DownloadIssue s n t at next f x
@@ -142,10 +146,17 @@ download-form (downloadOpens number time nonce q d) = inl (ap form q ∙ form-do
 download-form (asks number j a b c g q d) = inr (inl (ap form q ∙ form-downloadTransfer _ _ _ _))
 download-form (confirms number z a g q d) = inr (inr (ap form q ∙ form-receipt _ _ _ _))
 
-not-upload : {A : Type 0} {f x : Form} → (f ≡ forms.UploadOpening) ⊎ (f ≡ forms.UploadTransfer) → f ≡ x
-    → (x ≡ forms.UploadOpening → _≡_ {A = ℕ} 0 1) → (x ≡ forms.UploadTransfer → _≡_ {A = ℕ} 0 1) → A
-not-upload (inl a) e g h = other-form e a g
-not-upload (inr a) e g h = other-form e a h
+-- an upload's opening of either edition is of no other form
+pub not-opening : (e : Edition) {x : Form} → (x ≡ forms.UploadOpening → _≡_ {A = ℕ} 0 1)
+    → (x ≡ forms.ChosenOpening → _≡_ {A = ℕ} 0 1) → x ≡ openingForm e → _≡_ {A = ℕ} 0 1
+not-opening V24 g k z = k z
+not-opening V25 g k z = g z
+
+not-upload : {A : Type 0} {f x : Form} (o : Edition) → (f ≡ openingForm o) ⊎ (f ≡ forms.UploadTransfer) → f ≡ x
+    → (x ≡ forms.UploadOpening → _≡_ {A = ℕ} 0 1) → (x ≡ forms.ChosenOpening → _≡_ {A = ℕ} 0 1)
+    → (x ≡ forms.UploadTransfer → _≡_ {A = ℕ} 0 1) → A
+not-upload o (inl a) e g k h = other-form e a (not-opening o g k)
+not-upload o (inr a) e g k h = other-form e a h
 
 not-download : {A : Type 0} {f x : Form}
     → (f ≡ forms.DownloadOpening) ⊎ ((f ≡ forms.DownloadTransfer) ⊎ (f ≡ forms.Receipt)) → f ≡ x
@@ -253,7 +264,7 @@ module _ (Given : Fields → List ℕ → Fields → List ℕ → Type 0) (fileA
 
       -- an upload run issues openings and transfers only
       pub upload-forms : (x : Issue) → In x (p .issues)
-          → (form (x .request) ≡ forms.UploadOpening) ⊎ (form (x .request) ≡ forms.UploadTransfer)
+          → (form (x .request) ≡ openingForm (p .run .terms .edition)) ⊎ (form (x .request) ≡ forms.UploadTransfer)
       upload-forms x m = upload-form (upload-run .each x m)
 
     module _ (x : Issue) (m : In x (p .issues)) where
@@ -262,10 +273,12 @@ module _ (Given : Fields → List ℕ → Fields → List ℕ → Type 0) (fileA
       segment-sent e = go i
         where
           sent : UploadCourse (p .run) (length (p .issues))
-              → UploadIssue (p .run .subscriber) (p .run .segments) (p .run .transaction) (p .run .issued) (p .payload)
+              → UploadIssue (p .run .terms) (p .run .subscriber) (p .run .segments) (p .run .transaction) (p .run .issued) (p .payload)
               x
               → SegmentSent p x
-          sent k (uploadOpens number time nonce q d) = other-form e (ap form q ∙ form-uploadOpening _ _ _ _ _) (λ z. cc)
+          sent k (uploadOpens number time nonce q d) =
+              other-form e (ap form q ∙ form-opening (p .run .terms .edition) _ _ _ _ _ _)
+              (not-opening (p .run .terms .edition) (λ z. cc) (λ z. cc))
           sent k (sends number j a c q d) = record {
             upload-run = k .direction;
             number = number;
@@ -310,20 +323,24 @@ module _ (Given : Fields → List ℕ → Fields → List ℕ → Type 0) (fileA
     opened-name o = go i
       where
         named : p .run .direction ≡ Upload
-            → UploadIssue (p .run .subscriber) (p .run .segments) (p .run .transaction) (p .run .issued) (p .payload)
+            → UploadIssue (p .run .terms) (p .run .subscriber) (p .run .segments) (p .run .transaction) (p .run .issued) (p .payload)
             (o .got .issue)
             → orderName (p .run) ≡ openedName (o .got .issue .request) (o .got .reply)
         named w (uploadOpens number time nonce q d) =
-            same-name (sym (ap subscriber q ∙ subscriber-uploadOpening _ _ _ _ _))
-            (ap orderTypeOf w ∙ sym (ap orderType q ∙ type-uploadOpening _ _ _ _ _)) (sym (o .number))
+            same-name (sym (ap subscriber q ∙ subscriber-opening (p .run .terms .edition) _ _ _ _ _ _))
+            (ap orderTypeOf w ∙ sym (ap orderType q ∙ type-opening (p .run .terms .edition) _ _ _ _ _ _)) (sym (o .number))
         named w (sends number j a c q d) =
-            other-form (o .got .asked) (ap form q ∙ form-uploadTransfer _ _ _ _ _) (λ z. cc)
+            other-form (ap form q ∙ form-uploadTransfer _ _ _ _ _) (o .got .asked)
+            (not-opening (p .run .terms .edition) (λ z. cc) (λ z. cc))
 
         go : Invariant Given fileAt p → orderName (p .run) ≡ openedName (o .got .issue .request) (o .got .reply)
         go (not-begun f g) = absurd (in-none (subst (In (o .got .issue)) g (o .got .own)))
         go (upload g u) = named (u .direction) (u .each (o .got .issue) (o .got .own))
         go (download g u) =
-            not-download (download-form (u .each (o .got .issue) (o .got .own))) (o .got .asked) (λ z. cc) (λ z. cc) (λ z. cc)
+            not-download (download-form (u .each (o .got .issue) (o .got .own))) (o .got .asked)
+            (λ z. not-opening (p .run .terms .edition) (λ z. cc) (λ z. cc) (sym z))
+            (λ z. not-opening (p .run .terms .edition) (λ z. cc) (λ z. cc) (sym z))
+            (λ z. not-opening (p .run .terms .edition) (λ z. cc) (λ z. cc) (sym z))
 
     -- ---- 3. AN UPLOAD'S END
 
@@ -411,7 +428,7 @@ module _ (Given : Fields → List ℕ → Fields → List ℕ → Type 0) (fileA
 
           go : Invariant Given fileAt p → SegmentAsked p (fileAt (p .run .transaction)) x
           go (not-begun f g) = absurd (in-none (subst (In x) g m))
-          go (upload g u) = not-upload (upload-form (u .each x m)) e (λ z. cc) (λ z. cc)
+          go (upload g u) = not-upload (p .run .terms .edition) (upload-form (u .each x m)) e (λ z. cc) (λ z. cc) (λ z. cc)
           go (download g u) = asked (u .direction) (u .each x m)
 
       -- card 8: a run issues no signing, so that demand 3's premise on requests leaves out none of its own
@@ -420,7 +437,7 @@ module _ (Given : Fields → List ℕ → Fields → List ℕ → Type 0) (fileA
         where
           go : Invariant Given fileAt p → ⊥
           go (not-begun f g) = in-none (subst (In x) g m)
-          go (upload g u) = not-upload (upload-form (u .each x m)) e (λ z. cc) (λ z. cc)
+          go (upload g u) = not-upload (p .run .terms .edition) (upload-form (u .each x m)) e (λ z. cc) (λ z. cc) (λ z. cc)
           go (download g u) = not-download (download-form (u .each x m)) e (λ z. cc) (λ z. cc) (λ z. cc)
 
       -- "the run held the whole when, as it issued that receipt, its file was the mailbox's"
@@ -439,7 +456,7 @@ module _ (Given : Fields → List ℕ → Fields → List ℕ → Type 0) (fileA
 
           go : Invariant Given fileAt p → ReceiptIssued p (fileAt (p .run .transaction)) x
           go (not-begun f g) = absurd (in-none (subst (In x) g m))
-          go (upload g u) = not-upload (upload-form (u .each x m)) e (λ z. cc) (λ z. cc)
+          go (upload g u) = not-upload (p .run .terms .edition) (upload-form (u .each x m)) e (λ z. cc) (λ z. cc) (λ z. cc)
           go (download g u) = issued (u .direction) (u .each x m)
 
     -- "fetched (011000)"

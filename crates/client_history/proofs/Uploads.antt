@@ -21,13 +21,13 @@ use Rattle.frame_table.specs.declared.fields.Fields.{Fields}
 use Rattle.frame_table.specs.Forms as forms
 use Rattle.frame_table.specs.Names.{transaction, segment, form}
 use Rattle.octets.proofs.Tests.{and-true}
-use Rattle.message.specs.declared.codes.ReturnCode.the-variants as code
-use Rattle.message.specs.Limits.{initialisationPhase}
 use Rattle.message.specs.Requests.{uploadTransfer}
 use Rattle.message.specs.Segments.{segmentsOf, lastMarkOf}
 use Rattle.client_run.specs.declared.run.ClientRun.{ClientRun}
 use Rattle.client_run.specs.declared.run.Direction.{Direction}
 use Rattle.client_run.specs.declared.run.Direction.the-variants.{Upload}
+use Rattle.client_run.specs.declared.run.RunTerms.{RunTerms}
+use Rattle.message.specs.Editions.{orderOpened}
 use Rattle.client_run.specs.declared.run.Stage.{Stage}
 use Rattle.client_run.specs.declared.run.Stage.the-variants as stage
 use Rattle.client_run.specs.declared.run.Step.{Step}
@@ -37,13 +37,14 @@ use Rattle.client_run.specs.declared.run.Word.the-variants as word
 use Rattle.client_run.specs.NextRun.{begun, stepAfter, goOn, repeated, learned, ended}
 use Rattle.client_run.specs.Requests.{nonceOf, outstanding}
 use Rattle.client_run.specs.Run.{parametersOf}
-use Rattle.client_rules.specs.Decisions.{says, answersSegment, closingWord, restWord, endsUpload, lodges}
+use Rattle.client_rules.specs.Decisions.{opensUpload, answersSegment, closingWord, restWord, endsUpload, lodges}
 use Rattle.client_history.specs.History.{Issue, Past, issueOf}
 use Rattle.client_history.specs.Invariant.{
   UploadIssue,
   uploadOpens,
   sends,
   Answered,
+  OpenedAs,
   UploadOpen,
   UploadStep,
   UploadWord,
@@ -56,10 +57,11 @@ use Rattle.client_history.proofs.Course.{UploadAt}
 use Rattle.client_history.proofs.Issues.{got, got-in}
 use Rattle.client_rules.proofs.Replies.{said, cancels}
 use Rattle.client_history.proofs.Requests.{
-  form-uploadOpening,
+  form-opening,
   form-uploadTransfer,
   segment-uploadTransfer,
   id-uploadTransfer,
+  number-opening,
   is-uploadOpening,
   is-uploadTransfer,
   data-opening,
@@ -68,14 +70,14 @@ use Rattle.client_history.proofs.Requests.{
 
 -- ---- the requests issued, as the run goes on
 
-higher : {s n top more : ℕ} {t : Bits128} {payload : List ℕ} {x : Issue} → top ≤ more → UploadIssue s n t top payload x
-    → UploadIssue s n t more payload x
+higher : {terms : RunTerms} {s n top more : ℕ} {t : Bits128} {payload : List ℕ} {x : Issue} → top ≤ more → UploadIssue terms s n t top payload x
+    → UploadIssue terms s n t more payload x
 higher h (uploadOpens number time nonce q d) = uploadOpens number time nonce q d
 higher h (sends number j a b q d) = sends number j a (omega arith) q d
 
 -- with no segment issued the transaction is open to choice
-unsent : {s n top more : ℕ} {t u : Bits128} {payload : List ℕ} {x : Issue} → top ≡ 0 → UploadIssue s n t top payload x
-    → UploadIssue s n u more payload x
+unsent : {terms : RunTerms} {s n top more : ℕ} {t u : Bits128} {payload : List ℕ} {x : Issue} → top ≡ 0 → UploadIssue terms s n t top payload x
+    → UploadIssue terms s n u more payload x
 unsent h (uploadOpens number time nonce q d) = uploadOpens number time nonce q d
 unsent h (sends number j a b q d) = absurd (omega arith)
 
@@ -88,16 +90,16 @@ lodged-last c r h =
     (answers forms.SegmentTaken c r (a .0), eqb-true (c .segment) (c .segments) (a .1))
 
 module _ (Given : Fields → List ℕ → Fields → List ℕ → Type 0) where
-  open-for : {c k : ClientRun} {l m : List Issue} → c .transaction ≡ k .transaction → c .number ≡ k .number
-      → ((x : Issue) → In x l → In x m)
-      → UploadOpen Given c l → UploadOpen Given k m
-  open-for t n f o = record { got = got-in Given f (o .got); id = o .id ∙ t; number = o .number ∙ n }
+  open-for : {terms : RunTerms} {t : Bits128} {n : ℕ} {l m : List Issue} → ((x : Issue) → In x l → In x m)
+      → OpenedAs Given terms t n l → OpenedAs Given terms t n m
+  open-for f o =
+      record { got = got-in Given f (o .got); phase-1 = o .phase-1; id = o .id; number = o .number }
 
   -- the outstanding request is one that the run may issue
   outstanding-issue : (c : ClientRun) (payload file : List ℕ) (time : ℕ) (nonce : List ℕ) (issues : List Issue)
       → c .direction ≡ Upload
       → (s : Step) → c .step ≡ s → UploadAt s c → UploadStep Given s c issues
-      → UploadIssue (c .subscriber) (c .segments) (c .transaction) (c .issued) payload
+      → UploadIssue (c .terms) (c .subscriber) (c .segments) (c .transaction) (c .issued) payload
       (issueOf c payload file time nonce)
   outstanding-issue c payload file time nonce issues up step.Opening e p k =
       uploadOpens (c .exchange) time (nonceOf nonce (c .exchange)) (is-uploadOpening c time nonce payload up e)
@@ -112,7 +114,7 @@ module _ (Given : Fields → List ℕ → Fields → List ℕ → Type 0) where
     direction : c .direction ≡ Upload
     running : c .stage ≡ stage.Running
     size : c .length ≡ length payload
-    each : (x : Issue) → In x issues → UploadIssue (c .subscriber) (c .segments) (c .transaction) (c .issued) payload x
+    each : (x : Issue) → In x issues → UploadIssue (c .terms) (c .subscriber) (c .segments) (c .transaction) (c .issued) payload x
     opened : UploadOpen Given c issues
 
   goes-on : (c : ClientRun) (payload file : List ℕ) (issues : List Issue) (k repeats time : ℕ) (nonce : List ℕ)
@@ -138,12 +140,12 @@ module _ (Given : Fields → List ℕ → Fields → List ℕ → Type 0) where
       at = ap (λ (w : Direction). stepAfter w k (c .segments)) (r .direction)
 
       stepped : UploadStep Given step.Segment next (new ∷ issues)
-      stepped = open-for {k = next} refl refl (λ x m. there m) (r .opened)
+      stepped = open-for (λ x m. there m) (r .opened)
 
       each : (x : Issue) → In x (new ∷ issues)
-          → UploadIssue (c .subscriber) (c .segments) (c .transaction) (max (c .issued) (k + 1)) payload x
+          → UploadIssue (c .terms) (c .subscriber) (c .segments) (c .transaction) (max (c .issued) (k + 1)) payload x
       each x (here e) =
-          subst (UploadIssue _ _ _ _ _) (sym e)
+          subst (UploadIssue _ _ _ _ _ _) (sym e)
           (outstanding-issue next payload file time nonce (new ∷ issues) (r .direction) step.Segment at
           (omega arith, omega arith) stepped)
       each x (there m) = higher (omega arith) (r .each x m)
@@ -191,13 +193,13 @@ module _ (Given : Fields → List ℕ → Fields → List ℕ → Type 0) where
 
           stepped : (s : Step) → UploadStep Given s c issues → UploadStep Given s next (new ∷ issues)
           stepped step.Opening k = k
-          stepped step.Segment k = open-for {k = next} refl refl (λ x m. there m) k
+          stepped step.Segment k = open-for (λ x m. there m) k
           stepped step.Receipt k = k
 
           each : (x : Issue) → In x (new ∷ issues)
-              → UploadIssue (c .subscriber) (c .segments) (c .transaction) (c .issued) payload x
+              → UploadIssue (c .terms) (c .subscriber) (c .segments) (c .transaction) (c .issued) payload x
           each x (here e) =
-              subst (UploadIssue _ _ _ _ _) (sym e)
+              subst (UploadIssue _ _ _ _ _ _) (sym e)
               (outstanding-issue next payload file time nonce (new ∷ issues) (u .direction) (c .step) refl
               (placed (c .step) place) (stepped (c .step) (u .step)))
           each x (there m) = u .each x m
@@ -209,7 +211,7 @@ module _ (Given : Fields → List ℕ → Fields → List ℕ → Type 0) where
 
     pub opened-run : (r : Fields) (d : List ℕ) (time : ℕ) (nonce : List ℕ) → c .step ≡ step.Opening
         → Answered Given p r d
-        → says forms.UploadOpened code.Ok initialisationPhase r ≡ true
+        → opensUpload c r ≡ true
         → Goes time nonce (goOn 0 (c .repeats) (learned Upload r c))
     opened-run r d time nonce e a h =
         goes-on (learned Upload r c) payload file issues 0 (c .repeats) time nonce
@@ -222,10 +224,14 @@ module _ (Given : Fields → List ℕ → Fields → List ℕ → Type 0) where
             got =
                 got Given {p = p} a
                 (ap form (is-uploadOpening c (a .time) (a .nonce) payload (u .direction) e)
-                ∙ form-uploadOpening _ _ _ _ _)
+                ∙ form-opening (c .terms .edition) _ _ _ _ _ _)
                 (said _ _ _ r h);
+            phase-1 = said _ _ _ r h .phase-is;
             id = refl;
-            number = refl;
+            number =
+                ap (λ (q : Fields). orderOpened q r)
+                (is-uploadOpening c (a .time) (a .nonce) payload (u .direction) e)
+                ∙ number-opening (c .terms .edition) (c .terms) _ _ _ _ _ r;
           };
         })
 
@@ -246,7 +252,7 @@ module _ (Given : Fields → List ℕ → Fields → List ℕ → Type 0) where
       where
         stepped : (s : Step) → UploadStep Given s c issues → UploadStep Given s (ended w c) issues
         stepped step.Opening k = k
-        stepped step.Segment k = open-for {k = ended w c} refl refl (λ x m. m) k
+        stepped step.Segment k = open-for (λ x m. m) k
         stepped step.Receipt k = k
 
     pub rest-run : Closes (restWord c)
@@ -278,7 +284,7 @@ module _ (Given : Fields → List ℕ → Fields → List ℕ → Type 0) where
             got = got Given {p = p} a asked-form (said _ _ _ r (k .0 .said));
             last = ap segment asked ∙ segment-uploadTransfer _ _ _ _ _ ∙ k .1;
             id = asked-id;
-            opened = open-for {k = ended word.Lodged c} refl refl (λ x m. m) (ready e .opened);
+            opened = open-for (λ x m. m) (ready e .opened);
           })
 
       pub cancelled-run : endsUpload r ≡ true → Closes word.NotLodged
@@ -296,11 +302,11 @@ module _ (Given : Fields → List ℕ → Fields → List ℕ → Type 0) where
 
   -- ---- the begin
 
-  pub begun-run : (s first time : ℕ) (nonce payload file : List ℕ) (issues : List Issue) → issues ≡ []
-      → let next = begun (parametersOf Upload s first) (length payload) in
+  pub begun-run : (s first : ℕ) (terms : RunTerms) (time : ℕ) (nonce payload file : List ℕ) (issues : List Issue) → issues ≡ []
+      → let next = begun (parametersOf Upload s first terms) (length payload) in
       UploadRun Given next payload (issueOf next payload file time nonce ∷ issues)
   unfolding begun
-  begun-run s first time nonce payload file issues z =
+  begun-run s first terms time nonce payload file issues z =
       record {
         direction = refl;
         size = refl;
@@ -310,14 +316,14 @@ module _ (Given : Fields → List ℕ → Fields → List ℕ → Type 0) where
       }
     where
       next : ClientRun
-      next = begun (parametersOf Upload s first) (length payload)
+      next = begun (parametersOf Upload s first terms) (length payload)
 
       new : Issue
       new = issueOf next payload file time nonce
 
       each : (x : Issue) → In x (new ∷ issues)
-          → UploadIssue s (segmentsOf (length payload)) (next .transaction) 0 payload x
+          → UploadIssue terms s (segmentsOf (length payload)) (next .transaction) 0 payload x
       each x (here e) =
-          subst (UploadIssue _ _ _ _ _) (sym e)
+          subst (UploadIssue _ _ _ _ _ _) (sym e)
           (outstanding-issue next payload file time nonce (new ∷ issues) refl step.Opening refl tt refl)
       each x (there m) = absurd (in-none (subst (In x) z m))

@@ -28,6 +28,7 @@ use Rattle.message.proofs.Writable.{
   Wide,
   segment-content,
   upload-opening-written,
+  chosen-opening-written,
   download-opening-written,
   upload-transfer-written,
   download-transfer-written,
@@ -38,14 +39,18 @@ use Rattle.client_run.specs.declared.run.Decision.{Decision}
 use Rattle.client_run.specs.declared.run.Decision.the-variants.{Ignore, Opened, Advance, Return, Repeat, Close}
 use Rattle.client_run.specs.declared.run.Direction.{Direction}
 use Rattle.client_run.specs.declared.run.Direction.the-variants.{Upload, Download}
+use Rattle.message.specs.declared.editions.Edition.{Edition}
+use Rattle.message.specs.declared.editions.Edition.the-variants.{V24, V25}
 use Rattle.client_run.specs.declared.run.Lengths.{Lengths}
 use Rattle.client_run.specs.declared.run.Ruling.the-variants.{Accept}
 use Rattle.client_run.specs.declared.run.RunParameters.{RunParameters}
+use Rattle.client_run.specs.declared.run.RunTerms.{RunTerms}
 use Rattle.client_run.specs.declared.run.Step.the-variants as step
 use Rattle.client.specs.Calls.{isWritten, issued, taken, carryOut, ifAdmitted, beginCall, replyCall, noReplyCall}
 use Rattle.client_run.specs.NextRun.{beginLength, begun, learned, fileWith}
-use Rattle.client_run.specs.Requests.{nonceOf, outstanding, outstandingData}
-use Rattle.client_run.specs.Run.{Lent, lengthsOf, nonceBytes, requestRoom}
+use Rattle.message.specs.Editions.{openingForm}
+use Rattle.client_run.specs.Requests.{nonceOf, openingBy, outstanding, outstandingData}
+use Rattle.client_run.specs.Run.{Lent, lengthsOf, nonceBytes, requestRoom, chosenNumber}
 use Rattle.client_run.proofs.Apart.{not-both, not-new-running}
 use Rattle.client_rules.specs.Decisions.{onReply, onNoReply}
 use Rattle.client_rules.specs.Rulings.{runRuling}
@@ -89,6 +94,15 @@ nonce-wide s x e b =
     let low = number-small 4 (drop 8 s) (bytes-drop 8 s b) (simp length-drop (omega arith)) in
     (number-small 8 (take 8 s) (bytes-take 8 s b) (simp length-take (omega arith)), omega arith)
 
+-- the number that a run was told has four bytes
+chosen-small : (terms : RunTerms) → chosenNumber terms < 2 ^ 32
+unfolding chosenNumber
+chosen-small terms = omega arith
+
+opening-request : (e : Edition) → isRequestForm (openingForm e) ≡ true
+opening-request V24 = refl
+opening-request V25 = refl
+
 -- each segment of a payload has some bytes, at most 256
 part-length : (p : List ℕ) (s : ℕ) → 1 ≤ s → s ≤ segmentsOf (length p)
     → (0 < length (segmentOf p s)) × (length (segmentOf p s) ≤ segmentBytes)
@@ -124,13 +138,24 @@ module _ (c : ClientRun) (issues : List Issue) (b : Bounded c issues) (v : Wide 
             (omega arith) .0);
       }
 
+  -- an opening of either edition is written
+  opening-written : (e : Edition) → c .segments < 2 ^ 16
+      → WrittenAs
+      (openingBy e (chosenNumber (c .terms)) (c .subscriber) (c .exchange) (nonceOf (l .nonce) (c .exchange)) (l .time)
+      (c .segments)) [] (openingForm e)
+  opening-written V24 few =
+      chosen-opening-written (c .subscriber) (c .exchange) sender (nonceOf (l .nonce) (c .exchange)) (l .time)
+      (nonce-wide (l .nonce) (c .exchange) (t .twelve) (t .nonce)) timely (c .segments) (chosenNumber (c .terms)) few
+      (chosen-small (c .terms))
+  opening-written V25 few =
+      upload-opening-written (c .subscriber) (c .exchange) sender (nonceOf (l .nonce) (c .exchange)) (l .time)
+      (nonce-wide (l .nonce) (c .exchange) (t .twelve) (t .nonce)) timely (c .segments) few
+
   up-opening-sent : UploadCourse c q → c .step ≡ step.Opening → Sent c l
   unfolding outstanding outstandingData
   up-opening-sent u s =
-      let w = upload-opening-written (c .subscriber) (c .exchange) sender (nonceOf (l .nonce) (c .exchange)) (l .time)
-      (nonce-wide (l .nonce) (c .exchange) (t .twelve) (t .nonce)) timely (c .segments)
-      (omega (arith, up-segments c q u .1)) in
-      sent w refl (omega arith) (rw (u .direction, s)) (rw (u .direction, s))
+      let w = opening-written (c .terms .edition) (omega (arith, up-segments c q u .1)) in
+      sent w (opening-request (c .terms .edition)) (omega arith) (rw (u .direction, s)) (rw (u .direction, s))
 
   up-segment-sent : UploadCourse c q → c .step ≡ step.Segment → 1 ≤ c .segment → Sent c l
   unfolding outstanding outstandingData

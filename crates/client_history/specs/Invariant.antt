@@ -9,23 +9,25 @@ use Rattle.frame_table.specs.declared.fields.Bits128.{Bits128}
 use Rattle.frame_table.specs.declared.fields.Fields.{Fields}
 use Rattle.frame_table.specs.declared.table.Form.{Form}
 use Rattle.frame_table.specs.Forms as forms
-use Rattle.frame_table.specs.Names.{phase, subscriber, orderType, transaction, segment, returnCode, orderNumber, form}
+use Rattle.frame_table.specs.Names.{phase, subscriber, orderType, transaction, segment, returnCode, form}
 use Rattle.message.specs.declared.codes.ReturnCode.{ReturnCode}
 use Rattle.message.specs.declared.codes.ReturnCode.the-variants as code
 use Rattle.message.specs.Codes.{codeField}
-use Rattle.message.specs.Limits.{segmentBytes, fileBytes, transferPhase}
-use Rattle.message.specs.Requests.{uploadOpening, downloadOpening, uploadTransfer, downloadTransfer, receipt}
+use Rattle.message.specs.Editions.{openingForm, openedForm, orderOpened}
+use Rattle.message.specs.Limits.{segmentBytes, fileBytes, initialisationPhase, transferPhase}
+use Rattle.message.specs.Requests.{downloadOpening, uploadTransfer, downloadTransfer, receipt}
 use Rattle.message.specs.Segments.{segmentsOf, segmentOf, lastMarkOf}
 use Rattle.journal.specs.declared.event.OrderName.{OrderName}
 use Rattle.client_run.specs.declared.run.ClientRun.{ClientRun}
 use Rattle.client_run.specs.declared.run.Direction.the-variants.{Upload, Download}
+use Rattle.client_run.specs.declared.run.RunTerms.{RunTerms}
 use Rattle.client_run.specs.declared.run.Stage.{Stage}
 use Rattle.client_run.specs.declared.run.Stage.the-variants as stage
 use Rattle.client_run.specs.declared.run.Step.{Step}
 use Rattle.client_run.specs.declared.run.Step.the-variants as step
 use Rattle.client_run.specs.declared.run.Word.{Word}
 use Rattle.client_run.specs.declared.run.Word.the-variants as word
-use Rattle.client_run.specs.Requests.{outstanding, outstandingData}
+use Rattle.client_run.specs.Requests.{termsOpening, outstanding, outstandingData}
 use Rattle.client_run.specs.Run.{notBegun}
 use Rattle.client_rules.specs.Rulings.{isBegun}
 use Rattle.client_history.specs.Bounds.{Bounded}
@@ -45,15 +47,15 @@ pub record Begun (p : Past) : Type 0 where
   pub bounded : Bounded (p .run) (p .issues)
   pub newest : Newest p
 
--- what an upload of n segments under the transaction t issues, segments up to top
-pub data UploadIssue (s n : ℕ) (t : Bits128) (top : ℕ) (payload : List ℕ) (x : Issue) : Type 0 where
-  uploadOpens : (number time : ℕ) (nonce : Bits128) → x .request ≡ uploadOpening s number nonce time n
+-- what an upload of n segments with these terms, under the transaction t, issues, segments up to top
+pub data UploadIssue (terms : RunTerms) (s n : ℕ) (t : Bits128) (top : ℕ) (payload : List ℕ) (x : Issue) : Type 0 where
+  uploadOpens : (number time : ℕ) (nonce : Bits128) → x .request ≡ termsOpening terms s number nonce time n
       → x .requestData ≡ []
-      → UploadIssue s n t top payload x
+      → UploadIssue terms s n t top payload x
   -- "It cuts the payload at 256 bytes"
   sends : (number j : ℕ) → 1 ≤ j → j ≤ top → x .request ≡ uploadTransfer s number t j (lastMarkOf j n)
       → x .requestData ≡ segmentOf payload j
-      → UploadIssue s n t top payload x
+      → UploadIssue terms s n t top payload x
 
 -- what a download of the file f, of n segments under the transaction t, issues up to the step `at` and the segment `next`
 pub data DownloadIssue (s n : ℕ) (t : Bits128) (at : Step) (next : ℕ) (f : List ℕ) (x : Issue) : Type 0 where
@@ -81,6 +83,7 @@ pub record Steady (p q : Past) : Type 0 where
   pub begun : isBegun (q .run .stage) ≡ true
   pub direction : q .run .direction ≡ p .run .direction
   pub subscriber-same : q .run .subscriber ≡ p .run .subscriber
+  pub terms-same : q .run .terms ≡ p .run .terms
   pub payload : q .payload ≡ p .payload
   pub issues : (x : Issue) → In x (p .issues) → In x (q .issues)
   pub known : isOpen (p .run .step) ≡ true → isOpen (q .run .step) ≡ true
@@ -120,9 +123,9 @@ pub record ReceiptIssued (p : Past) (f : List ℕ) (x : Issue) : Type 0 where
   pub file : x .file ≡ f
   pub request : x .request ≡ receipt (p .run .subscriber) number (p .run .transaction) 0
 
--- what names the upload that a request opened, by the answer to it: "subscriber, type and number together"
+-- what names that upload: "subscriber, type and number together"
 abbrev pub openedName : Fields → Fields → OrderName
-openedName q r = record { subscriber = subscriber q; «order_type» = orderType q; number = orderNumber r }
+openedName q r = record { subscriber = subscriber q; «order_type» = orderType q; number = orderOpened q r }
 
 -- a receipt was issued
 abbrev pub Receipts : List Issue → Type 0
@@ -149,11 +152,15 @@ module _ (Given : Fields → List ℕ → Fields → List ℕ → Type 0) where
 
   -- ---- UPLOAD
 
-  -- "the order number opened with its transaction ID"
-  pub record UploadOpen (c : ClientRun) (issues : List Issue) : Type 0 where
-    pub got : Got issues forms.UploadOpening forms.UploadOpened code.Ok
-    pub id : transaction (got .reply) ≡ c .transaction
-    pub number : orderNumber (got .reply) ≡ c .number
+  -- "the order number opened with its transaction ID": an opening with these terms was answered in its edition's form
+  pub record OpenedAs (terms : RunTerms) (t : Bits128) (n : ℕ) (issues : List Issue) : Type 0 where
+    pub got : Got issues (openingForm (terms .edition)) (openedForm (terms .edition)) code.Ok
+    pub phase-1 : phase (got .reply) ≡ initialisationPhase
+    pub id : transaction (got .reply) ≡ t
+    pub number : orderOpened (got .issue .request) (got .reply) ≡ n
+
+  abbrev pub UploadOpen : ClientRun → List Issue → Type 0
+  UploadOpen c issues = OpenedAs (c .terms) (c .transaction) (c .number) issues
 
   abbrev pub UploadStep : Step → ClientRun → List Issue → Type 0
   UploadStep step.Opening c issues = c .issued ≡ 0
@@ -192,7 +199,7 @@ module _ (Given : Fields → List ℕ → Fields → List ℕ → Type 0) where
     pub direction : c .direction ≡ Upload
     pub size : c .length ≡ length payload
     pub each : (x : Issue) → In x issues
-        → UploadIssue (c .subscriber) (c .segments) (c .transaction) (c .issued) payload x
+        → UploadIssue (c .terms) (c .subscriber) (c .segments) (c .transaction) (c .issued) payload x
     pub step : UploadStep (c .step) c issues
     pub stage : UploadStage (c .stage) c issues
 

@@ -34,6 +34,7 @@ use Rattle.client_rules.specs.Decisions.{
   fitsSegment,
   isPoint,
   uploadReturns,
+  opensUpload,
   opensDownload,
   lodges,
   takesSegment,
@@ -51,7 +52,7 @@ use Rattle.client_rules.specs.Decisions.{
 pub data Cause (c : ClientRun) (r : Fields) (d : ℕ) : Decision → Type 0 where
   not-answered : isAnswer c r ≡ false → Cause c r d Ignore
   upload-opened : c .direction ≡ Upload → c .step ≡ step.Opening → isAnswer c r ≡ true
-      → says forms.UploadOpened code.Ok initialisationPhase r ≡ true → Cause c r d Opened
+      → opensUpload c r ≡ true → Cause c r d Opened
   lodged : c .direction ≡ Upload → c .step ≡ step.Segment → isAnswer c r ≡ true → lodges c r ≡ true
       → Cause c r d (Close word.Lodged)
   segment-taken : c .direction ≡ Upload → c .step ≡ step.Segment → isAnswer c r ≡ true → takesSegment c r ≡ true
@@ -74,8 +75,7 @@ module _ (c : ClientRun) (r : Fields) (d : ℕ) where
   by-upload : c .direction ≡ Upload → isAnswer c r ≡ true → (at : Step) → c .step ≡ at → Cause c r d (onUpload at c r)
   unfolding onUpload
   by-upload direction a step.Opening s =
-      by-test (Cause c r d) (says forms.UploadOpened code.Ok initialisationPhase r) (upload-opened direction s a)
-      (λ _. rest)
+      by-test (Cause c r d) (opensUpload c r) (upload-opened direction s a) (λ _. rest)
   by-upload direction a step.Segment s =
       by-test (Cause c r d) (lodges c r) (lodged direction s a) λ _.
       by-test (Cause c r d) (takesSegment c r) (segment-taken direction s a) λ _.

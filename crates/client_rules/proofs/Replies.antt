@@ -24,6 +24,8 @@ use Rattle.message.specs.declared.codes.ReturnCode.the-variants as code
 use Rattle.message.specs.Codes.{codeField}
 use Rattle.message.specs.Limits.{initialisationPhase, transferPhase}
 use Rattle.client_run.specs.declared.run.ClientRun.{ClientRun}
+use Rattle.message.specs.declared.editions.Edition.the-variants.{V24, V25}
+use Rattle.message.specs.Editions.{openedForm}
 use Rattle.client_rules.specs.Decisions.{
   requestIndex,
   replyIndex,
@@ -32,6 +34,7 @@ use Rattle.client_rules.specs.Decisions.{
   isOwn,
   endsUpload,
   fitsSegment,
+  opensUpload,
   opensDownload,
   isAnswer,
 }
@@ -47,6 +50,7 @@ request-indexed request.UploadTransfer = refl
 request-indexed request.DownloadTransfer = refl
 request-indexed request.Receipt = refl
 request-indexed request.Signing = refl
+request-indexed request.ChosenOpening = refl
 
 reply-indexed : (x : ReplyForm) → formAt (replyIndex x) ≡ Reply x
 reply-indexed reply.UploadOpened = refl
@@ -82,6 +86,18 @@ said x c p r h =
       code-is = eqb-true (returnCode r) (codeField c) (b .1);
       phase-is = eqb-true (phase r) p (a .1);
     }
+
+-- an upload's opening is answered, in its edition's form alone: in 2.5 with the order number, in 2.4 without
+pub upload-opened-says : (c : ClientRun) (r : Fields) → opensUpload c r ≡ true
+    → Says (openedForm (c .terms .edition)) code.Ok initialisationPhase r
+upload-opened-says c r h = said _ _ _ r h
+
+pub opened-25 : (c : ClientRun) (r : Fields) → c .terms .edition ≡ V25 → opensUpload c r ≡ true → form r ≡ forms.UploadOpened
+opened-25 c r e h = upload-opened-says c r h .form-is ∙ ap openedForm e
+
+pub opened-24 : (c : ClientRun) (r : Fields) → c .terms .edition ≡ V24 → opensUpload c r ≡ true
+    → form r ≡ forms.ReceiptAnswered
+opened-24 c r e h = upload-opened-says c r h .form-is ∙ ap openedForm e
 
 -- a download's opening is answered
 pub opened-says : (d : ℕ) (r : Fields) → opensDownload d r ≡ true

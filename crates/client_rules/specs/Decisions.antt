@@ -41,12 +41,13 @@ use Rattle.client_run.specs.declared.run.Decision.{Decision}
 use Rattle.client_run.specs.declared.run.Decision.the-variants.{Ignore, Opened, Advance, Return, Repeat, Close}
 use Rattle.client_run.specs.declared.run.Direction.{Direction}
 use Rattle.client_run.specs.declared.run.Direction.the-variants.{Upload, Download}
+use Rattle.message.specs.Editions.{openedForm}
 use Rattle.client_run.specs.declared.run.Step.{Step}
 use Rattle.client_run.specs.declared.run.Step.the-variants as step
 use Rattle.client_run.specs.declared.run.Word.{Word}
 use Rattle.client_run.specs.declared.run.Word.the-variants as word
 
--- the place of a form in document 01's list with that of card 8, by which two forms are compared
+-- the place of a form in document 01's list with those of cards 8 and 11, by which two forms are compared
 abbrev pub requestIndex : RequestForm → ℕ
 requestIndex request.UploadOpening = 1
 requestIndex request.DownloadOpening = 2
@@ -54,15 +55,16 @@ requestIndex request.UploadTransfer = 3
 requestIndex request.DownloadTransfer = 4
 requestIndex request.Receipt = 5
 requestIndex request.Signing = 6
+requestIndex request.ChosenOpening = 7
 
 abbrev pub replyIndex : ReplyForm → ℕ
-replyIndex reply.UploadOpened = 7
-replyIndex reply.DownloadOpened = 8
-replyIndex reply.SegmentTaken = 9
-replyIndex reply.DownloadSegment = 10
-replyIndex reply.ReceiptAnswered = 11
-replyIndex reply.Unreadable = 12
-replyIndex reply.Refusal = 13
+replyIndex reply.UploadOpened = 8
+replyIndex reply.DownloadOpened = 9
+replyIndex reply.SegmentTaken = 10
+replyIndex reply.DownloadSegment = 11
+replyIndex reply.ReceiptAnswered = 12
+replyIndex reply.Unreadable = 13
+replyIndex reply.Refusal = 14
 
 abbrev pub formIndex : Form → ℕ
 formIndex NoForm = 0
@@ -131,6 +133,10 @@ unfoldable pub uploadReturns : ClientRun → Fields → Bool
 uploadReturns c r =
     isPoint c r && ltb (segment r) (c .segments) && leb (segment r) (c .issued) && mayRepeat c
 
+-- an upload's opening is answered: a run takes only its edition's reply
+abbrev pub opensUpload : ClientRun → Fields → Bool
+opensUpload c r = says (openedForm (c .terms .edition)) code.Ok initialisationPhase r
+
 -- a download's opening is answered: "segment 1 is in it"
 unfoldable pub opensDownload : ℕ → Fields → Bool
 opensDownload d r =
@@ -155,7 +161,7 @@ confirms c r = says forms.ReceiptAnswered code.DownloadPostprocessDone receiptPh
 -- what a reply under the outstanding exchange number leads to in an upload, by step, from top to bottom:
 -- "No 061101 fits an opening"
 abbrev pub uploadRules : Step → ClientRun → Fields → List (Bool × Decision)
-uploadRules step.Opening c r = (says forms.UploadOpened code.Ok initialisationPhase r, Opened) ∷ []
+uploadRules step.Opening c r = (opensUpload c r, Opened) ∷ []
 uploadRules step.Segment c r =
     (lodges c r, Close word.Lodged)
     ∷ (takesSegment c r, Advance)

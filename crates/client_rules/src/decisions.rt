@@ -12,6 +12,7 @@ use frame_table::table::RequestForm;
 use frame_table::table::is_reply_form;
 use message::codes::ReturnCode;
 use message::codes::code_field;
+use message::editions::Edition;
 use message::limits::INITIALISATION_PHASE;
 use message::limits::MAX_ATTEMPTS;
 use message::limits::MAX_SEGMENTS;
@@ -25,11 +26,12 @@ ghost use lib.Dec.{eqb};
 ghost use Rattle.message.specs.Limits.{initialisationPhase, transferPhase};
 ghost use Rattle.client_rules.specs.Decisions.{requestIndex, replyIndex, formIndex, says, isOwn, downloadWord, closingWord};
 ghost use Rattle.client_rules.specs.Decisions.{restWord, mayRepeat, endsUpload, answersSegment, fitsData, fitsSegment};
+ghost use Rattle.message.specs.Editions.{openedForm};
 ghost use Rattle.client_rules.specs.Decisions.{isPoint, uploadReturns, opensDownload, lodges, takesSegment};
 ghost use Rattle.client_rules.specs.Decisions.{bringsSegment, confirms};
 ghost use Rattle.client_rules.specs.Decisions.{onUpload, onDownload, onAnswer, isAnswer, onReply, onNoReply};
 
-// The place of a form in document 01's list with that of card 8, requests first.
+// The place of a form in document 01's list with those of cards 8 and 11, requests first.
 fn request_index(form: RequestForm) -> u64
     ensures { λ r. ⌜ r ≡ requestIndex form ⌝ }
 {
@@ -40,6 +42,7 @@ fn request_index(form: RequestForm) -> u64
         RequestForm::DownloadTransfer => 4,
         RequestForm::Receipt => 5,
         RequestForm::Signing => 6,
+        RequestForm::ChosenOpening => 7,
     }
 }
 
@@ -47,13 +50,13 @@ fn reply_index(form: ReplyForm) -> u64
     ensures { λ r. ⌜ r ≡ replyIndex form ⌝ }
 {
     match form {
-        ReplyForm::UploadOpened => 7,
-        ReplyForm::DownloadOpened => 8,
-        ReplyForm::SegmentTaken => 9,
-        ReplyForm::DownloadSegment => 10,
-        ReplyForm::ReceiptAnswered => 11,
-        ReplyForm::Unreadable => 12,
-        ReplyForm::Refusal => 13,
+        ReplyForm::UploadOpened => 8,
+        ReplyForm::DownloadOpened => 9,
+        ReplyForm::SegmentTaken => 10,
+        ReplyForm::DownloadSegment => 11,
+        ReplyForm::ReceiptAnswered => 12,
+        ReplyForm::Unreadable => 13,
+        ReplyForm::Refusal => 14,
     }
 }
 
@@ -263,16 +266,24 @@ fn opens_download(d: usize, r: Fields) -> bool
     fits_segment(1, r.segments(), d, r)
 }
 
+// The form in which an upload's opening is answered: edition 2.4's reply leaves the order number out.
+fn opened_form(edition: Edition) -> Form
+    ensures { λ x. ⌜ x ≡ openedForm edition ⌝ }
+{
+    match edition {
+        Edition::V24 => Form::Reply(ReplyForm::ReceiptAnswered),
+        Edition::V25 => Form::Reply(ReplyForm::UploadOpened),
+    }
+}
+
 // An upload's opening is outstanding.
 fn on_upload_opening(c: ClientRun, r: Fields) -> Decision
     ensures { λ e. ⌜ e ≡ onUpload Step.Opening c r ⌝ }
 {
-    if says(
-        Form::Reply(ReplyForm::UploadOpened),
-        ReturnCode::Ok,
-        INITIALISATION_PHASE,
-        r,
-    ) {
+    let terms = c.terms;
+    let edition = terms.edition;
+    let form = opened_form(edition);
+    if says(form, ReturnCode::Ok, INITIALISATION_PHASE, r) {
         return Decision::Opened;
     }
     Decision::Close(rest_word(c))

@@ -12,12 +12,16 @@ use Rattle.message.specs.Segments.{segmentsOf}
 use Rattle.client_run.specs.declared.run.ClientRun.{ClientRun}
 use Rattle.client_run.specs.declared.run.Direction.{Direction}
 use Rattle.client_run.specs.declared.run.Direction.the-variants.{Upload, Download}
+use Rattle.message.specs.declared.editions.Edition.{Edition}
+use Rattle.message.specs.declared.editions.Edition.the-variants.{V24, V25}
 use Rattle.client_run.specs.declared.run.Lengths.{Lengths}
 use Rattle.client_run.specs.declared.run.RunParameters.{RunParameters}
+use Rattle.client_run.specs.declared.run.RunTerms.{RunTerms}
 use Rattle.client_run.specs.declared.run.Stage.the-variants as stage
 use Rattle.client_run.specs.declared.run.Step.{Step}
 use Rattle.client_run.specs.declared.run.Step.the-variants as step
 use Rattle.client_run.specs.declared.run.Word.{Word}
+use Rattle.client_run.specs.Run.{chosenNumber}
 
 -- the bytes that count of what is lent to begin: an upload's payload; a download holds nothing yet
 abbrev pub beginLength : Direction → Lengths → ℕ
@@ -33,6 +37,7 @@ begun params n = record {
   subscriber = params .subscriber;
   exchange = params .first;
   repeats = 0;
+  terms = params .terms;
   transaction = record { high = 0; low = 0 };
   number = 0;
   length = n;
@@ -56,6 +61,7 @@ goOn k repeats c = record {
   subscriber = c .subscriber;
   exchange = c .exchange + 1;
   repeats = repeats;
+  terms = c .terms;
   transaction = c .transaction;
   number = c .number;
   length = c .length;
@@ -73,6 +79,7 @@ repeated c = record {
   subscriber = c .subscriber;
   exchange = c .exchange + 1;
   repeats = c .repeats + 1;
+  terms = c .terms;
   transaction = c .transaction;
   number = c .number;
   length = c .length;
@@ -80,6 +87,12 @@ repeated c = record {
   segment = c .segment;
   issued = c .issued;
 }
+
+-- the order number of an upload that was opened: in edition 2.4, whose reply "leaves 0E out", the one that the run was
+-- told at begin
+abbrev pub learnedNumber : Edition → RunTerms → Fields → ℕ
+learnedNumber V24 terms r = chosenNumber terms
+learnedNumber V25 terms r = orderNumber r
 
 -- what an opening's answer tells: the transaction ID, an upload's order number, a download's number of segments
 abbrev pub learned : Direction → Fields → ClientRun → ClientRun
@@ -90,8 +103,9 @@ learned Upload r c = record {
   subscriber = c .subscriber;
   exchange = c .exchange;
   repeats = c .repeats;
+  terms = c .terms;
   transaction = transaction r;
-  number = orderNumber r;
+  number = learnedNumber (c .terms .edition) (c .terms) r;
   length = c .length;
   segments = c .segments;
   segment = 0;
@@ -104,6 +118,7 @@ learned Download r c = record {
   subscriber = c .subscriber;
   exchange = c .exchange;
   repeats = c .repeats;
+  terms = c .terms;
   transaction = transaction r;
   number = 0;
   length = c .length;
@@ -130,6 +145,7 @@ holding d c = record {
   subscriber = c .subscriber;
   exchange = c .exchange;
   repeats = c .repeats;
+  terms = c .terms;
   transaction = c .transaction;
   number = c .number;
   length = lengthWith (c .direction) (c .segment) d (c .length);
@@ -155,6 +171,7 @@ ended w c = record {
   subscriber = c .subscriber;
   exchange = c .exchange;
   repeats = c .repeats;
+  terms = c .terms;
   transaction = c .transaction;
   number = c .number;
   length = c .length;

@@ -1,5 +1,5 @@
 -- A client run, its closing words and the numbers that its calls are given.
-use Prim.Native.Nat.{ℕ}
+use Prim.Native.Nat.{ℕ, _%_, _^_}
 use mathlib.Core.List.{List}
 use lib.ListN.{length}
 use Rattle.number_table.specs.Table as numbers
@@ -10,7 +10,9 @@ use Rattle.journal.specs.declared.event.OrderName.{OrderName}
 use Rattle.client_run.specs.declared.run.ClientRun.{ClientRun}
 use Rattle.client_run.specs.declared.run.Direction.{Direction}
 use Rattle.client_run.specs.declared.run.Direction.the-variants as direction
+use Rattle.message.specs.declared.editions.Edition.the-variants.{V25}
 use Rattle.client_run.specs.declared.run.RunParameters.{RunParameters}
+use Rattle.client_run.specs.declared.run.RunTerms.{RunTerms}
 use Rattle.client_run.specs.declared.run.Stage.the-variants as stage
 use Rattle.client_run.specs.declared.run.Step.the-variants as step
 use Rattle.client_run.specs.declared.run.Word.{Word}
@@ -69,6 +71,14 @@ abbrev pub orderName : ClientRun → OrderName
 orderName c =
     record { subscriber = c .subscriber; «order_type» = orderTypeOf (c .direction); number = c .number }
 
+-- "in 2.4 its number", any four bytes: those of the number that begin brought
+unfoldable pub chosenNumber : RunTerms → ℕ
+chosenNumber terms = terms .number % 2 ^ 32
+
+-- the terms of a run in which the bank gives the number
+abbrev pub termsOf25 : RunTerms
+termsOf25 = record { edition = V25; number = 0 }
+
 -- a run not begun
 abbrev pub notBegun : ClientRun
 notBegun = record {
@@ -78,6 +88,7 @@ notBegun = record {
   subscriber = 0;
   exchange = 0;
   repeats = 0;
+  terms = termsOf25;
   transaction = record { high = 0; low = 0 };
   number = 0;
   length = 0;
@@ -87,8 +98,9 @@ notBegun = record {
 }
 
 -- what a run is begun with, by its parts
-abbrev pub parametersOf : Direction → ℕ → ℕ → RunParameters
-parametersOf direction subscriber first = record { direction = direction; subscriber = subscriber; first = first }
+abbrev pub parametersOf : Direction → ℕ → ℕ → RunTerms → RunParameters
+parametersOf direction subscriber first terms =
+    record { direction = direction; subscriber = subscriber; first = first; terms = terms }
 
 -- "a nonce is 12 lent bytes, then the exchange number"
 abbrev pub nonceBytes : ℕ

@@ -3,11 +3,14 @@ use crate::run::ClientRun;
 use crate::run::Direction;
 use crate::run::Lengths;
 use crate::run::RunParameters;
+use crate::run::RunTerms;
 use crate::run::Stage;
 use crate::run::Step;
 use crate::run::Word;
+use crate::run::chosen_number;
 use frame_table::fields::Bits128;
 use frame_table::fields::Fields;
+use message::editions::Edition;
 use message::limits::SEGMENT_SIZE;
 use message::segments::segments_of;
 ghost use mathlib.Core.Path.{_≡_};
@@ -15,7 +18,7 @@ ghost use Prim.Native.Nat.{_+_, _^_, _≤_, _<_, max};
 ghost use Rattle.message.specs.Limits.{segmentBytes, maxSegments};
 ghost use Rattle.client_run.specs.Run.{maxExchange};
 ghost use Rattle.client_run.specs.NextRun.{beginLength, begun, stepAfter, goOn, repeated, learned};
-ghost use Rattle.client_run.specs.NextRun.{HasPlace, lengthWith, holding, ended};
+ghost use Rattle.client_run.specs.NextRun.{learnedNumber, HasPlace, lengthWith, holding, ended};
 
 // The bytes that count of what is lent to begin.
 pub fn begin_length(direction: Direction, l: Lengths) -> u64
@@ -32,6 +35,7 @@ pub fn begun(params: RunParameters, n: u64) -> ClientRun
     ensures { λ r. ⌜ r ≡ begun params n ⌝ }
 {
     let direction = params.direction;
+    let terms = params.terms;
     ClientRun {
         stage: Stage::Running,
         direction: direction,
@@ -39,6 +43,7 @@ pub fn begun(params: RunParameters, n: u64) -> ClientRun
         subscriber: params.subscriber,
         exchange: params.first,
         repeats: 0,
+        terms,
         transaction: Bits128 { high: 0, low: 0 },
         number: 0,
         length: n,
@@ -84,6 +89,7 @@ pub fn go_on(k: u64, repeats: u64, c: ClientRun) -> ClientRun
 {
     let stage = c.stage;
     let direction = c.direction;
+    let terms = c.terms;
     let transaction = c.transaction;
     ClientRun {
         stage,
@@ -92,6 +98,7 @@ pub fn go_on(k: u64, repeats: u64, c: ClientRun) -> ClientRun
         subscriber: c.subscriber,
         exchange: c.exchange + 1,
         repeats,
+        terms,
         transaction,
         number: c.number,
         length: c.length,
@@ -112,14 +119,26 @@ pub fn repeated(c: ClientRun) -> ClientRun
     next
 }
 
+// The order number of an upload that was opened: in edition 2.4 the one that begin brought, in 2.5 the reply's.
+fn learned_number(terms: RunTerms, r: Fields) -> u64
+    ensures { λ n. ⌜ n ≡ learnedNumber (terms .edition) terms r ⌝ }
+{
+    let edition = terms.edition;
+    match edition {
+        Edition::V24 => chosen_number(terms),
+        Edition::V25 => r.order_number(),
+    }
+}
+
 // What the answer to an upload's opening tells.
 fn learned_upload(r: Fields, c: ClientRun) -> ClientRun
     ensures { λ k. ⌜ k ≡ learned Direction.Upload r c ⌝ }
 {
     let transaction = r.transaction();
+    let terms = c.terms;
     let mut next = c;
     next.transaction = transaction;
-    next.number = r.order_number();
+    next.number = learned_number(terms, r);
     next.segment = 0;
     next
 }
@@ -176,6 +195,7 @@ pub fn ended(w: Word, c: ClientRun) -> ClientRun
 {
     let direction = c.direction;
     let step = c.step;
+    let terms = c.terms;
     let transaction = c.transaction;
     ClientRun {
         stage: Stage::Ended(w),
@@ -184,6 +204,7 @@ pub fn ended(w: Word, c: ClientRun) -> ClientRun
         subscriber: c.subscriber,
         exchange: c.exchange,
         repeats: c.repeats,
+        terms,
         transaction,
         number: c.number,
         length: c.length,

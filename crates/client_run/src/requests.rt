@@ -3,8 +3,11 @@ use crate::run::ClientRun;
 use crate::run::Direction;
 use crate::run::NONCE_BYTES;
 use crate::run::Step;
+use crate::run::chosen_number;
 use frame_table::fields::Bits128;
 use frame_table::fields::Fields;
+use message::editions::Edition;
+use message::requests::chosen_opening;
 use message::requests::download_opening;
 use message::requests::download_transfer;
 use message::requests::receipt;
@@ -15,7 +18,7 @@ use message::segments::segment_of;
 use octets::bytes::number;
 ghost use mathlib.Core.Path.{_≡_};
 ghost use mathlib.Core.List.{[]};
-ghost use Rattle.client_run.specs.Requests.{nonceOf, uploadRequest, downloadRequest, uploadData};
+ghost use Rattle.client_run.specs.Requests.{nonceOf, termsOpening, uploadRequest, downloadRequest, uploadData};
 ghost use Rattle.client_run.specs.Requests.{outstanding, outstandingData};
 
 // How many numbers the exchange number's four bytes have.
@@ -33,6 +36,25 @@ fn nonce_of(lent: [u8; NONCE_BYTES], exchange: u64) -> Bits128
     }
 }
 
+// The opening of an upload: in edition 2.4 it brings its order number.
+fn opening_of(c: ClientRun, time: u64, nonce: Bits128) -> Fields
+    ensures { λ r. ⌜ r ≡ termsOpening (c .terms) (c .subscriber) (c .exchange) nonce time (c .segments) ⌝ }
+{
+    let terms = c.terms;
+    let edition = terms.edition;
+    match edition {
+        Edition::V24 => chosen_opening(
+            c.subscriber,
+            c.exchange,
+            nonce,
+            time,
+            c.segments,
+            chosen_number(terms),
+        ),
+        Edition::V25 => upload_opening(c.subscriber, c.exchange, nonce, time, c.segments),
+    }
+}
+
 // The request of an upload at its step.
 fn upload_request(c: ClientRun, time: u64, nonce: [u8; NONCE_BYTES]) -> Fields
     ensures { λ r. ⌜ r ≡ uploadRequest (c .step) c time nonce ⌝ }
@@ -40,13 +62,7 @@ fn upload_request(c: ClientRun, time: u64, nonce: [u8; NONCE_BYTES]) -> Fields
     let step = c.step;
     let transaction = c.transaction;
     match step {
-        Step::Opening => upload_opening(
-            c.subscriber,
-            c.exchange,
-            nonce_of(nonce, c.exchange),
-            time,
-            c.segments,
-        ),
+        Step::Opening => opening_of(c, time, nonce_of(nonce, c.exchange)),
         Step::Segment => upload_transfer(
             c.subscriber,
             c.exchange,

@@ -1,6 +1,7 @@
 // A client run, its closing words, and the answers of its calls.
 use frame_table::fields::Bits128;
 use journal::event::OrderName;
+use message::editions::Edition;
 use message::limits::FDL;
 use message::limits::FUL;
 use number_table::table::EXCHANGE_TOO_HIGH;
@@ -9,7 +10,7 @@ use number_table::table::WRONG_BUFFER;
 use number_table::table::WRONG_LENGTH;
 use number_table::table::WRONG_STAGE;
 ghost use mathlib.Core.Path.{_≡_};
-ghost use Rattle.client_run.specs.Run.{notBegun, refusalNumber, orderTypeOf, orderName};
+ghost use Rattle.client_run.specs.Run.{notBegun, refusalNumber, chosenNumber, orderTypeOf, orderName};
 
 // The bytes lent for a nonce: the exchange number follows them.
 pub const NONCE_BYTES: usize = 12;
@@ -39,11 +40,19 @@ pub enum Word {
     NotFetched,
 }
 
-// What a run is begun with: its order's direction, its subscriber, and the first exchange number.
+// What begin tells an upload run: card 11's "its edition, and in 2.4 its number", any four bytes as field 0E has them.
+// Edition 2.5 leaves the number out, and a download run both.
+pub struct RunTerms {
+    pub edition: Edition,
+    pub number: u64,
+}
+
+// What a run is begun with: its order's direction, its subscriber, the first exchange number, and its terms.
 pub struct RunParameters {
     pub direction: Direction,
     pub subscriber: u64,
     pub first: u64,
+    pub terms: RunTerms,
 }
 
 pub enum Stage {
@@ -60,8 +69,8 @@ pub enum Step {
 }
 
 // A client run. `exchange` is the outstanding request's exchange number, `segment` its segment number, `repeats` counts
-// repeats and returns, `transaction` and `number` (the order number) are known once opened, `segments` is N, 0 while
-// unknown. An upload has its payload's `length` and the highest segment `issued`; a download has the bytes held as
+// repeats and returns, `terms` are those that begin brought, `transaction` and `number` (the order number) are known once
+// opened, `segments` is N, 0 while unknown. An upload has its payload's `length` and the highest segment `issued`; a download has the bytes held as
 // `length`: those of the segments before the outstanding one, where N + 1 stands for the receipt.
 pub struct ClientRun {
     pub stage: Stage,
@@ -70,6 +79,7 @@ pub struct ClientRun {
     pub subscriber: u64,
     pub exchange: u64,
     pub repeats: u64,
+    pub terms: RunTerms,
     pub transaction: Bits128,
     pub number: u64,
     pub length: u64,
@@ -144,6 +154,10 @@ impl ClientRun {
             subscriber: 0,
             exchange: 0,
             repeats: 0,
+            terms: RunTerms {
+                edition: Edition::V25,
+                number: 0,
+            },
             transaction: Bits128 { high: 0, low: 0 },
             number: 0,
             length: 0,
@@ -152,6 +166,16 @@ impl ClientRun {
             issued: 0,
         }
     }
+}
+
+// How many numbers the order number's four bytes have.
+const ORDER_NUMBERS: u64 = 0x1_0000_0000;
+
+// The order number that an upload run of edition 2.4 was told: its four bytes.
+pub fn chosen_number(terms: RunTerms) -> u64
+    ensures { λ r. ⌜ r ≡ chosenNumber terms ⌝ }
+{
+    terms.number % ORDER_NUMBERS
 }
 
 // The type of a run's order, as field 04 has it.

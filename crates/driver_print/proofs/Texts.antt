@@ -1,5 +1,5 @@
 -- Laws of the texts of the lines and tables: bytes in hexadecimal, digests, and how long a text is at most. Assumes nothing.
-use Prim.Native.Nat.{ℕ, _+_, _*_, _/_, _%_, _≤_, _<_}
+use Prim.Native.Nat.{ℕ, zero, suc, _+_, _*_, _/_, _%_, _≤_, _<_}
 use mathlib.Core.List.{List, [], _∷_, _++_}
 use mathlib.Core.Path.{_≡_, refl, sym, ap, _∙_}
 use native.Mathlib.Nat.{div-add-mod, mul-add-mod-self-left}
@@ -8,8 +8,8 @@ use native.Mathlib.Omega.{arith}
 use lib.Dec.{eqb}
 use lib.ListN.{length, getD, take, set, length-append, length-take, length-set}
 use lib.Seq.{take-suc}
-use Rattle.octets.specs.Bytes.{number}
-use Rattle.octets.proofs.Numbers.{number-nil, number-take}
+use Rattle.octets.specs.Bytes.{number, bytesOf}
+use Rattle.octets.proofs.Numbers.{number-nil, number-take, length-bytesOf}
 use Rattle.message.specs.Limits.{fileBytes}
 use Rattle.journal.specs.declared.event.Event.{Event}
 use Rattle.journal.specs.declared.event.Kind.{Kind}
@@ -37,9 +37,10 @@ use Rattle.print.specs.Closing.{closingRoom}
 use Rattle.print.proofs.Lengths.{day-most, order-name-most, closing-most, columns-most}
 use Rattle.unit_state.specs.declared.answer.Answer.{Answer}
 use Rattle.unit_state.specs.declared.answer.Answer.the-variants as answer
+use Rattle.unit_state.specs.declared.state.Run.{Run}
 use Rattle.unit_state.specs.declared.state.UnitState.{UnitState}
 use Rattle.unit_state.specs.Records.{runCount}
-use Rattle.unit_state.specs.State.{runAt}
+use Rattle.unit_state.specs.State.{newRun, runAt}
 use Rattle.driver_print.specs.declared.tables.Table.{Table}
 use Rattle.driver_print.specs.declared.tables.Table.the-variants.{Book, Mailboxes, Words, Files, Journal}
 use Rattle.driver_print.specs.Line.{hexDigit, hexOf, digest, awayText, messageText, outText, answerText, awayRoom, outRoom, answerRoom}
@@ -50,6 +51,8 @@ use Rattle.driver_print.specs.Tables.{
   fileRow,
   stageText,
   wordRow,
+  heldBy,
+  transactionText,
   kindText,
   isUsed,
   eventRow,
@@ -58,6 +61,7 @@ use Rattle.driver_print.specs.Tables.{
   headerRoom,
   contentRoom,
   rowRoom,
+  transactionRoom,
   kindRoom,
   eventRoom,
   roomOf,
@@ -210,20 +214,35 @@ kind-most kind.Cancelled = omega arith
 kind-most kind.Dropped = omega arith
 kind-most kind.Signed = omega arith
 
+pub transaction-most : (e : Event) → length (transactionText e) ≤ transactionRoom
+unfolding transactionText
+transaction-most e =
+    rw length-hexOf
+    (omega (
+      arith,
+      length-append (bytesOf 8 (e .high)) (bytesOf 8 (e .low)),
+      length-bytesOf 8 (e .high),
+      length-bytesOf 8 (e .low),
+    ))
+
 event-most : (e : Event) → length (eventRow e) ≤ eventRoom
 unfolding eventRow
 event-most e =
     let last = space ∷ kindText (e .kind) in
+    let id = transactionText e in
+    let told = space ∷ (id ++ last) in
     let name = orderNameText (nameOf e) in
-    let named = name ++ last in
+    let named = name ++ told in
     let timed = column (e .clock) space ++ named in
     cond-most (isUsed (e .kind)) (column (e .number) space ++ timed) [] eventRoom
     (omega (
       arith,
       length-numbered (e .number) timed,
       length-numbered (e .clock) named,
-      length-append name last,
+      length-append name told,
       order-name-most (nameOf e),
+      length-append id last,
+      transaction-most e,
       kind-most (e .kind),
     )) (omega arith)
 
@@ -231,6 +250,23 @@ event-most e =
 pub file-fits : (store : List ℕ) (i n : ℕ) → length (fileOf store i n) ≤ fileBytes
 unfolding fileOf partAt
 file-fits store i n = simp (length-take) (omega arith)
+
+-- an element of a row that has it, whatever else would stand for one past its end
+at-any : {A : Type 0} (e : A) (l : List A) (i : ℕ) (d : A) → i < length l → getD l i d ≡ getD l i e
+at-any e [] i d h = absurd (omega arith)
+at-any e (x ∷ l) zero d h = refl
+at-any e (x ∷ l) (suc i) d h = at-any e l i d (omega arith)
+
+-- the rows of a run that the unit has
+module _ {old new : List ℕ} {at r : ℕ} (runs : List Run) (i : ℕ) (d : Run) (h : i < length runs) where
+  pub word-of : Put old at (wordRow (i + 1) (getD runs i d .client .run)) new r → Put old at (wordRow (i + 1) (runAt runs i .client .run)) new r
+  word-of p = rw (at-any (newRun []) runs i d h) at p
+
+  pub file-of : (files : List ℕ) → let c = getD runs i d .client .run in
+      Put old at (fileRow (i + 1) (fileOf files i (heldBy (c .direction) c))) new r
+      → let e = runAt runs i .client .run in
+      Put old at (fileRow (i + 1) (fileOf files i (heldBy (e .direction) e))) new r
+  file-of files p = rw (at-any (newRun []) runs i d h) at p
 
 pub row-most : (t : Table) (u : UnitState) (m : Lent) (files : List ℕ) (i : ℕ) → length (rowAt t u m files i) ≤ roomOf t
 row-most Book u m files i = order-most (placeAt (bankOf (m .rows)) i) _ (file-fits _ _ _)

@@ -4,6 +4,7 @@ use mathlib.Core.Bool.{Bool, true, false, cond}
 use mathlib.Core.List.{List, [], _∷_, _++_}
 use lib.Dec.{eqb}
 use lib.ListN.{length, getD}
+use Rattle.octets.specs.Bytes.{bytesOf}
 use Rattle.message.specs.Limits.{fileBytes}
 use Rattle.journal.specs.declared.event.Event.{Event}
 use Rattle.journal.specs.declared.event.Kind.{Kind}
@@ -41,7 +42,7 @@ headerText Book = bookHeader space ++ ascii "content\n"
 headerText Mailboxes = ascii "mailbox bytes content\n"
 headerText Words = ascii "run word\n"
 headerText Files = ascii "run bytes content\n"
-headerText Journal = ascii "event clock subscriber type order kind\n"
+headerText Journal = ascii "event clock subscriber type order transaction kind\n"
 
 -- the column "content", the last of its row
 unfoldable pub contentText : List ℕ → List ℕ
@@ -88,12 +89,16 @@ isUsed kind.Cancelled = true
 isUsed kind.Dropped = true
 isUsed kind.Signed = true
 
--- a record of the journal: event, clock, subscriber, type, order, kind; one that is not in use has no row
+-- "the transaction ID in front of the kind, in hexadecimal": its sixteen bytes
+unfoldable pub transactionText : Event → List ℕ
+transactionText e = hexOf (bytesOf 8 (e .high) ++ bytesOf 8 (e .low))
+
+-- a record of the journal: event, clock, subscriber, type, order, transaction, kind; one that is not in use has no row
 unfoldable pub eventRow : Event → List ℕ
 eventRow e =
     cond (isUsed (e .kind))
     (column (e .number) space ++ (column (e .clock) space
-    ++ (orderNameText (nameOf e) ++ (space ∷ kindText (e .kind)))))
+    ++ (orderNameText (nameOf e) ++ (space ∷ (transactionText e ++ (space ∷ kindText (e .kind)))))))
     []
 
 -- row i of a table: "The book in place order; the mailboxes that hold a file; the runs that have begun ...; and each
@@ -121,8 +126,8 @@ rowCount Journal = recordCount
 unfoldable pub tableOf : Table → UnitState → Lent → List ℕ → List ℕ
 tableOf t u m files = headerText t ++ rowsTo (rowAt t u m files) (rowCount t)
 
--- the most bytes that a header takes, the book's, the column "content" with the longest file, a row with it, the column
--- "kind", and a row of the journal
+-- the most bytes that a header takes, the book's, the column "content" with the longest file, a row with it, the columns
+-- "transaction" and "kind", and a row of the journal
 abbrev pub headerRoom : ℕ
 headerRoom = bookHeaderRoom + 8
 
@@ -132,11 +137,14 @@ contentRoom = 2 * fileBytes + 1
 abbrev pub rowRoom : ℕ
 rowRoom = orderColumnsRoom + contentRoom
 
+abbrev pub transactionRoom : ℕ
+transactionRoom = 2 * 16
+
 abbrev pub kindRoom : ℕ
 kindRoom = 10
 
 abbrev pub eventRoom : ℕ
-eventRoom = columnRoom + columnRoom + orderNameRoom + 1 + kindRoom
+eventRoom = columnRoom + columnRoom + orderNameRoom + 1 + transactionRoom + 1 + kindRoom
 
 -- the same of a row of each table, and of a table: 16 rows of files are longer than 64 of the journal
 abbrev pub roomOf : Table → ℕ

@@ -18,6 +18,7 @@ use journal::event::OrderName;
 use journal::event::RECORD_COUNT;
 use message::limits::FILE_BYTES;
 use message::order_numbers::order_number_of;
+use octets::bytes::digits;
 use print::book::BOOK_HEADER_ROOM;
 use print::book::ORDER_COLUMNS_ROOM;
 use print::book::put_book_header;
@@ -39,9 +40,9 @@ ghost use Rattle.bank_steps.specs.Lent.{lent};
 ghost use Rattle.print.specs.Text.{Put, rowsTo, printed, printedCount};
 ghost use Rattle.print.specs.Closing.{closingRoom};
 ghost use Rattle.driver_print.specs.Tables.{headerText, contentText, orderRow, fileRow, stageText, wordRow};
-ghost use Rattle.driver_print.specs.Tables.{heldBy, kindText, isUsed, eventRow, rowAt, rowCount, tableOf};
-ghost use Rattle.driver_print.specs.Tables.{headerRoom, contentRoom, rowRoom, kindRoom, eventRoom, roomOf};
-ghost use Rattle.driver_print.specs.Tables.{tableRoom};
+ghost use Rattle.driver_print.specs.Tables.{heldBy, transactionText, kindText, isUsed, eventRow};
+ghost use Rattle.driver_print.specs.Tables.{rowAt, rowCount, tableOf, headerRoom, contentRoom, rowRoom};
+ghost use Rattle.driver_print.specs.Tables.{transactionRoom, kindRoom, eventRoom, roomOf, tableRoom};
 
 // The most bytes of a table: the book's header and 16 of its rows.
 pub const TABLE_ROOM: usize = BOOK_HEADER_ROOM
@@ -70,7 +71,11 @@ fn put_header(output: &mut [u8], t: Table) -> usize
         Table::Mailboxes => put_text(output, 0, b"mailbox bytes content\n"),
         Table::Words => put_text(output, 0, b"run word\n"),
         Table::Files => put_text(output, 0, b"run bytes content\n"),
-        Table::Journal => put_text(output, 0, b"event clock subscriber type order kind\n"),
+        Table::Journal => put_text(
+            output,
+            0,
+            b"event clock subscriber type order transaction kind\n",
+        ),
     }
 }
 
@@ -186,6 +191,15 @@ fn name_of(e: Event) -> OrderName
     }
 }
 
+// Writes the transaction ID of an event.
+fn put_transaction(output: &mut [u8], at: usize, e: Event) -> usize
+    requires { ⌜ at + transactionRoom ≤ length (now output) ⌝ }
+    ensures { λ r. ⌜ Put (now (output .entry)) at (transactionText e) (now (output .exit)) r ⌝ }
+{
+    let id = digits(e.high, e.low);
+    put_hex(output, at, &id)
+}
+
 // Writes the row of a record that is in use.
 fn put_event(output: &mut [u8], at: usize, e: Event) -> usize
     requires { ⌜ at + eventRoom ≤ length (now output) ⌝ }
@@ -199,7 +213,9 @@ fn put_event(output: &mut [u8], at: usize, e: Event) -> usize
     let b = put_column(output, a, e.clock, b' ');
     let c = put_order_name(output, b, name_of(e));
     let d = put_byte(output, c, b' ');
-    put_kind(output, d, kind)
+    let t = put_transaction(output, d, e);
+    let s = put_byte(output, t, b' ');
+    put_kind(output, s, kind)
 }
 
 // Writes row i of a table.

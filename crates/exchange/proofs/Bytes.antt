@@ -14,7 +14,9 @@ use Rattle.frame_row.specs.Row.{dataOf}
 use Rattle.frame_table.specs.Table.{isRequestForm, rowFits, findForm, formOf}
 use Rattle.frame.proofs.RoundTrip.{Sized}
 use Rattle.frame.proofs.Theorems.{data-read, request-read}
-use Rattle.message.specs.Requests.{uploadOpening, downloadOpening, uploadTransfer, downloadTransfer, receipt}
+use Rattle.message.specs.declared.editions.Edition.{Edition}
+use Rattle.message.specs.declared.editions.Edition.the-variants.{V24, V25}
+use Rattle.message.specs.Requests.{uploadOpening, chosenOpening, downloadOpening, uploadTransfer, downloadTransfer, receipt}
 use Rattle.client_run.specs.declared.run.Answer.the-variants as answer
 use Rattle.client_run.specs.declared.run.ClientRun.{ClientRun}
 use Rattle.client_run.specs.declared.run.Decision.{Decision}
@@ -42,8 +44,8 @@ use Rattle.client.specs.Calls.{
   noReplyCall,
 }
 use Rattle.client_run.specs.NextRun.{beginLength, begun, goOn, repeated, learned, holding, fileWith}
-use Rattle.client_run.specs.Requests.{uploadRequest, downloadRequest, requestBy, outstanding, outstandingData}
-use Rattle.client_run.specs.Run.{Lent, ClientCall, lengthsOf}
+use Rattle.client_run.specs.Requests.{nonceOf, openingBy, uploadRequest, downloadRequest, requestBy, outstanding, outstandingData}
+use Rattle.client_run.specs.Run.{Lent, ClientCall, lengthsOf, chosenNumber}
 use Rattle.client_rules.specs.Decisions.{onReply, onNoReply}
 use Rattle.client_rules.specs.Rulings.{beginRuling, runRuling}
 
@@ -53,11 +55,16 @@ abbrev IsRequest : Fields → Type 0
 IsRequest f = Sized f × (isRequestForm (form f) ≡ true)
 
 pub outstanding-request : (c : ClientRun) (time : ℕ) (nonce : List ℕ) → IsRequest (outstanding c time nonce)
-unfolding outstanding uploadOpening uploadTransfer downloadOpening downloadTransfer receipt formOf findForm rowFits
+unfolding outstanding uploadOpening chosenOpening uploadTransfer downloadOpening downloadTransfer receipt formOf findForm rowFits
 outstanding-request c time nonce = go (c .direction)
   where
+    opens : (e : Edition) → IsRequest
+        (openingBy e (chosenNumber (c .terms)) (c .subscriber) (c .exchange) (nonceOf nonce (c .exchange)) time (c .segments))
+    opens V24 = ((refl, refl), refl)
+    opens V25 = ((refl, refl), refl)
+
     up : (s : Step) → IsRequest (uploadRequest s c time nonce)
-    up step.Opening = ((refl, refl), refl)
+    up step.Opening = opens (c .terms .edition)
     up step.Segment = ((refl, refl), refl)
     up step.Receipt = ((refl, refl), refl)
 

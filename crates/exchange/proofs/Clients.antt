@@ -12,10 +12,11 @@ use Rattle.frame_table.specs.declared.fields.Bits128.{Bits128}
 use Rattle.frame_table.specs.declared.fields.Fields.{Fields}
 use Rattle.frame_table.specs.declared.table.Form.{Form}
 use Rattle.frame_table.specs.Forms as forms
-use Rattle.frame_table.specs.Names.{transaction, segments, form}
+use Rattle.frame_table.specs.Names.{transaction, segments, returnCode, form}
 use Rattle.frame_reader.specs.Reader.{readRequest}
 use Rattle.frame_row.specs.Row.{dataOf}
 use Rattle.octets.proofs.Tests.{never}
+use Rattle.message.specs.Editions.{openingForm}
 use Rattle.bank_verdicts.specs.declared.verdict.Action.{Action}
 use Rattle.bank_verdicts.specs.declared.verdict.Action.the-variants as action
 use Rattle.bank_verdicts.specs.declared.verdict.DownloadAction.the-variants as down
@@ -29,6 +30,7 @@ use Rattle.bank_history.proofs.Theorems.{upload-opened, download-opened}
 use Rattle.client_run.specs.declared.run.Answer.{Answer}
 use Rattle.client_run.specs.declared.run.Answer.the-variants as answer
 use Rattle.client_run.specs.declared.run.ClientRun.{ClientRun}
+use Rattle.client_run.specs.declared.run.RunTerms.{RunTerms}
 use Rattle.client_run.specs.declared.run.Stage.{Stage}
 use Rattle.client_run.specs.declared.run.Stage.the-variants as stage
 use Rattle.client_run.specs.declared.run.Step.{Step}
@@ -39,14 +41,14 @@ use Rattle.client_run.specs.Run.{Lent, ClientCall, answerNumber}
 use Rattle.client_rules.specs.Rulings.{isBegun}
 use Rattle.client_history.specs.History.{Event, Past, issueOf, left, callOf, lentTo, Fair}
 use Rattle.client_history.specs.History as history
-use Rattle.client_history.specs.Invariant.{isOpen, UploadOpen, UploadStep, HeldFile, DownloadStep, Invariant, not-begun, upload, download}
+use Rattle.client_history.specs.Invariant.{isOpen, OpenedAs, UploadStep, HeldFile, DownloadStep, Invariant, not-begun, upload, download}
 use Rattle.client_history.proofs.Lifting.{lifted}
 use Rattle.client_history.proofs.Liveness.{numbered}
 use Rattle.client_history.proofs.Stays.{ended-stays}
 use Rattle.client_history.proofs.Theorems.{kept}
 use Rattle.exchange.specs.Course.{Issue, Exchange, Course, withRun, withIssued, heldOf, issuedBy, afterRun}
 use Rattle.exchange.proofs.Bytes.{Issued, issued-request, issued-data}
-use Rattle.exchange.proofs.Told.{Opening, opening-at, Gave, fileIn, bank-replies}
+use Rattle.exchange.proofs.Told.{Opening, opening-at, opens-upload, Gave, fileIn, bank-replies}
 use Rattle.exchange.proofs.Images.{Written}
 use Rattle.exchange.proofs.Bank.{BankPart, Grows, stays, grows}
 
@@ -108,11 +110,12 @@ pub record OpenedBy (x : Form) (h : List bank.Exchange) (t : Bits128) (issues : 
   pub kind : form (issue .request) ≡ x
 
 module _ {h : List bank.Exchange} (sound : AllSound h) where
-  pub opened-upload : {c : ClientRun} {issues : List history.Issue} → UploadOpen (Gave h) c issues →
-      OpenedBy forms.UploadOpening h (c .transaction) issues
-  opened-upload {c} o =
+  pub opened-upload : {terms : RunTerms} {t : Bits128} {n : ℕ} {issues : List history.Issue} → OpenedAs (Gave h) terms t n issues →
+      OpenedBy (openingForm (terms .edition)) h t issues
+  opened-upload {terms} o =
       let a = o .got .given in
-      let u = upload-opened sound (a .stands) (ap form (a .reply) ∙ o .got .answered) in
+      let u = upload-opened sound (a .stands)
+      (opens-upload (terms .edition) (a .exchange) (ap form (a .reply) ∙ o .got .answered) (ap returnCode (a .reply) ∙ o .got .code)) in
       record {
         exchange = a .exchange;
         before = a .before;
@@ -178,6 +181,7 @@ atStage x p = record {
     subscriber = p .run .subscriber;
     exchange = p .run .exchange;
     repeats = p .run .repeats;
+    terms = p .run .terms;
     transaction = p .run .transaction;
     number = p .run .number;
     length = p .run .length;
@@ -223,7 +227,7 @@ past-lifts {h} (grows {x = x}) sound later p (upload b u) = lifted (Gave h) (Gav
     (λ o. file-stays sound later (at (p .run .step) o (u .step))) (upload b u)
   where
     at : (s : Step) → isOpen s ≡ true → UploadStep (Gave h) s (p .run) (p .issues) →
-        OpenedBy forms.UploadOpening h (p .run .transaction) (p .issues)
+        OpenedBy (openingForm (p .run .terms .edition)) h (p .run .transaction) (p .issues)
     at step.Opening o k = never o
     at step.Segment o k = opened-upload sound k
     at step.Receipt o k = absurd k

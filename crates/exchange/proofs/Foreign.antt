@@ -72,10 +72,12 @@ use Rattle.client_history.specs.Invariant.{
   upload,
   download,
 }
-use Rattle.client_history.proofs.Requests.{form-uploadOpening, form-downloadOpening, form-uploadTransfer, id-uploadTransfer, id-receipt}
-use Rattle.client_history.proofs.Theorems.{segment-opened}
+use Rattle.client_history.proofs.Requests.{form-opening, form-downloadOpening, form-uploadTransfer, id-uploadTransfer, id-receipt}
+use Rattle.client_history.proofs.Theorems.{segment-opened, not-opening}
 use Rattle.client_run.specs.declared.run.Step.{Step}
 use Rattle.client_run.specs.declared.run.Step.the-variants as step
+use Rattle.message.specs.declared.editions.Edition.{Edition}
+use Rattle.message.specs.Editions.{openingForm}
 use Rattle.message.specs.Limits.{subscribers}
 use Rattle.message.specs.Requests as requests
 use Rattle.exchange.specs.Course.{Issue, Course}
@@ -95,12 +97,20 @@ pub data Under (q : Fields) : Type 0 where
   asking : form q ≡ forms.DownloadTransfer → Under q
   confirming : form q ≡ forms.Receipt → Under q
 
-pub under-not : {A : Type 0} {q : Fields} → Under q → (form q ≡ forms.UploadOpening) ⊎ (form q ≡ forms.DownloadOpening) → A
-under-not (sending e) (inl z) = absurd (let y : _≡_ {A = ℕ} 0 1 = cc in omega arith)
+-- and those that open one
+abbrev pub Opens : Fields → Type 0
+Opens q = ((e : Edition) × (form q ≡ openingForm e)) ⊎ (form q ≡ forms.DownloadOpening)
+
+other-form : {A : Type 0} {f x : Form} (o : (e : Edition) × (f ≡ openingForm e)) → f ≡ x → (x ≡ forms.UploadOpening → _≡_ {A = ℕ} 0 1) →
+    (x ≡ forms.ChosenOpening → _≡_ {A = ℕ} 0 1) → A
+other-form (e, z) a g k = absurd (let y = not-opening e g k (sym a ∙ z) in omega arith)
+
+pub under-not : {A : Type 0} {q : Fields} → Under q → Opens q → A
+under-not (sending e) (inl z) = other-form z e (λ y. cc) (λ y. cc)
 under-not (sending e) (inr z) = absurd (let y : _≡_ {A = ℕ} 0 1 = cc in omega arith)
-under-not (asking e) (inl z) = absurd (let y : _≡_ {A = ℕ} 0 1 = cc in omega arith)
+under-not (asking e) (inl z) = other-form z e (λ y. cc) (λ y. cc)
 under-not (asking e) (inr z) = absurd (let y : _≡_ {A = ℕ} 0 1 = cc in omega arith)
-under-not (confirming e) (inl z) = absurd (let y : _≡_ {A = ℕ} 0 1 = cc in omega arith)
+under-not (confirming e) (inl z) = other-form z e (λ y. cc) (λ y. cc)
 under-not (confirming e) (inr z) = absurd (let y : _≡_ {A = ℕ} 0 1 = cc in omega arith)
 
 under-request : {q : Fields} → Under q → isNamed (form q) ≡ true
@@ -227,9 +237,9 @@ module _ (s : Course) (v : Parts s) (copies : Copied s) (numbers : OneExchangeNu
           OpenedBy y (v .bank .past .history) (s .runs j .transaction) (issuesOf j (s .issued)) → Out
       under-own {y} e o = (y, subst (λ (t : Bits128). OpenedBy y (v .bank .past .history) t (issuesOf j (s .issued))) (sym e) o)
 
-      sent : UploadIssue (s .runs j .subscriber) (s .runs j .segments) (s .runs j .transaction) (s .runs j .issued) (s .payloads j)
+      sent : UploadIssue (s .runs j .terms) (s .runs j .subscriber) (s .runs j .segments) (s .runs j .transaction) (s .runs j .issued) (s .payloads j)
           (asIssue x) → Out
-      sent (uploadOpens n time nonce q d) = under-not under (inl (ap form q ∙ form-uploadOpening _ _ _ _ _))
+      sent (uploadOpens n time nonce q d) = under-not under (inl (s .runs j .terms .edition, ap form q ∙ form-opening (s .runs j .terms .edition) _ _ _ _ _ _))
       sent (sends n i a b q d) =
           under-own (ap transaction q ∙ id-uploadTransfer _ _ _ _ _)
           (opened-upload sound (segment-opened (Gave h) (fileIn h) (bank-replies h sound (v .bank .proper)) (ownPast v j) (v .runs j .own)

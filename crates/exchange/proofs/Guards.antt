@@ -1,18 +1,24 @@
--- What the premises of demand 3 leave free, for all arguments: a premise that grew stronger is refused here. And what
--- "lodged" names: a clause that grew weaker is too. Assumes nothing.
+-- What the premises of demand 3 leave free, for all arguments: a premise that grew stronger is refused here. And which
+-- openings are accepted, and what "lodged" names: a clause that grew weaker is too. Assumes nothing.
 use Prim.Native.Nat.{ℕ, _≤_}
 use mathlib.Core.Bool.{Bool, true, false, _&&_}
 use mathlib.Core.List.{List, [], _∷_, List·Memᴰ as In, List·Memᴰ·head as here, List·Memᴰ·tail as there}
+use mathlib.Core.Logic.{inl, inr}
 use mathlib.Core.Path.{_≡_, refl, sym, ap, _∙_, subst}
 use native.Mathlib.Omega.{arith}
 use lib.Dec.{leb}
 use lib.ListN.{take}
 use borrow.Author.Tests.{leb-true}
 use Rattle.frame_table.specs.Forms as forms
-use Rattle.frame_table.specs.Names.{subscriber, form}
+use Rattle.frame_table.specs.Names.{subscriber, returnCode, form}
 use Rattle.frame_table.specs.Table.{isRequestForm}
-use Rattle.frame_reader.specs.Reader.{readRequest}
+use Rattle.frame_reader.specs.Reader.{readRequest, readReply}
 use Rattle.octets.proofs.Tests.{never, and-true}
+use Rattle.message.specs.declared.codes.ReturnCode.the-variants as code
+use Rattle.message.specs.declared.editions.Edition.{Edition}
+use Rattle.message.specs.declared.editions.Edition.the-variants.{V24, V25}
+use Rattle.message.specs.Codes.{codeField}
+use Rattle.message.specs.Editions.{openedForm}
 use Rattle.message.specs.Limits.{subscribers}
 use Rattle.journal.specs.declared.event.Event.{Event}
 use Rattle.client_run.specs.declared.run.ClientRun.{ClientRun}
@@ -46,7 +52,7 @@ use Rattle.exchange.specs.Course.{
   exec,
   after,
 }
-use Rattle.exchange.specs.Terms.{IssuedBy, NoIdleHour, InTurn, Order, nameOf, InBook}
+use Rattle.exchange.specs.Terms.{IssuedBy, Received, NoIdleHour, InTurn, Accepted, Order, nameOf, InBook}
 use Rattle.exchange.specs.Demand3.{isNamed, isSubscribers, Allowed, AllAllowed, OneExchangeNumber, Outcome}
 use Rattle.exchange.proofs.Calls.{numbered-stays, carried, by-number}
 use Rattle.exchange.proofs.Clients.{asIssue, issued-in, Parts, ownPast}
@@ -255,6 +261,13 @@ signing-in-turn i ks all numbers m a f = foreign-in-turn i (after ks start) m a 
     foreign (x, n, r, e) =
         no-signing-issued (Gave h) (fileIn h) (bank-replies h (v .bank .holds .invariant .sound) (v .bank .proper))
         (ownPast v i) (v .runs i .own) (asIssue x) (issued-in i n r) (ap (λ (l : List ℕ). form (readRequest l)) e ∙ f)
+
+-- ---- an order of either edition is one whose opening is accepted
+
+pub opened-accepted : (x : Edition) (i : ℕ) (s : Course) (e : Exchange) → Received i e s →
+    form (readReply (e .reply)) ≡ openedForm x → returnCode (readReply (e .reply)) ≡ codeField code.Ok → Accepted i s
+opened-accepted V24 i s e r z c = (e, r, inr (inr z), c)
+opened-accepted V25 i s e r z c = (e, r, inl z, c)
 
 -- ---- "'Lodged' names subscriber, type and number together"
 

@@ -6,17 +6,15 @@ use mathlib.Core.Path.{_≡_, refl, sym, ap, _∙_, subst}
 use native.Mathlib.Decide.{ℕ-discrete}
 use native.Mathlib.Omega.{arith}
 use borrow.Author.Tests.{eq-eqb, ne-eqb}
-use Rattle.frame_table.specs.Names.{subscriber, orderType, transaction, orderNumber, form}
 use Rattle.octets.proofs.Tests.{never}
 use Rattle.journal.specs.declared.event.Event.{Event}
 use Rattle.journal.specs.declared.event.Found.{Found}
 use Rattle.journal.specs.declared.event.Found.the-variants as found
 use Rattle.journal.specs.Row.{Journal, lookup}
-use Rattle.journal.proofs.Lookup.{same-name}
-use Rattle.bank_history.specs.History.{Exchange, BankCall, isBooking, ever, pastOf}
+use Rattle.bank_history.specs.History.{Exchange, BankCall, isBooking, ever}
 use Rattle.bank_history.specs.History as bank
 use Rattle.bank_history.specs.Journal.{journalOf}
-use Rattle.bank_history.specs.JournalOrders.{OpensOrder, NeverBooked}
+use Rattle.bank_history.specs.JournalOrders.{NeverBooked}
 use Rattle.client_run.specs.declared.run.ClientRun.{ClientRun}
 use Rattle.client_run.specs.declared.run.Stage.{Stage}
 use Rattle.client_run.specs.declared.run.Stage.the-variants as stage
@@ -28,14 +26,13 @@ use Rattle.client.specs.Journal.{JournalCall, journalCall}
 use Rattle.client.proofs.Journal.{JournalCause, journal-cause}
 use Rattle.client.proofs.Journal as cause
 use Rattle.client_run.specs.NextRun.{ended}
-use Rattle.client_run.specs.Run.{orderName}
 use Rattle.client_rules.specs.Rulings.{isBegun}
 use Rattle.client_history.specs.History.{Past}
 use Rattle.client_history.specs.Invariant.{UploadOpen, UploadStep, UploadStage, UploadRun, DownloadStage, Invariant, not-begun, upload, download}
-use Rattle.client_history.proofs.Theorems.{upload-segments, opened-name}
+use Rattle.client_history.proofs.Theorems.{upload-segments}
 use Rattle.exchange.specs.Course.{journalHanded, Course, carryOut}
 use Rattle.exchange.specs.Demand3.{Premise}
-use Rattle.exchange.proofs.Told.{Opening, Gave, fileIn, bank-replies}
+use Rattle.exchange.proofs.Told.{Gave, fileIn, bank-replies}
 use Rattle.exchange.proofs.Journal.{row-booked, row-ended}
 use Rattle.exchange.proofs.Clients.{
   issuesOf,
@@ -55,8 +52,8 @@ use Rattle.exchange.proofs.Clients.{
 -- "otherwise it stays unclear; other runs come back unchanged"
 pub data Handing (c : ClientRun) (row : List Event) (r : ClientRun) : Type 0 where
   unchanged : r ≡ c → Handing c row r
-  lodges : c .stage ≡ stage.Ended word.Unclear → lookup (orderName c) row ≡ found.Booked → r ≡ ended word.Lodged c → Handing c row r
-  ends : c .stage ≡ stage.Ended word.Unclear → lookup (orderName c) row ≡ found.Ended → r ≡ ended word.NotLodged c → Handing c row r
+  lodges : c .stage ≡ stage.Ended word.Unclear → lookup (c .transaction) row ≡ found.Booked → r ≡ ended word.Lodged c → Handing c row r
+  ends : c .stage ≡ stage.Ended word.Unclear → lookup (c .transaction) row ≡ found.Ended → r ≡ ended word.NotLodged c → Handing c row r
 
 by-cause : {c : ClientRun} {row : List Event} {j : JournalCall} → JournalCause c row j → Handing c row (j .run)
 by-cause (cause.wrong-length l) = unchanged refl
@@ -77,7 +74,7 @@ not-unclear c row n = at (handing c row)
     at (lodges e f z) = absurd (n e)
     at (ends e f z) = absurd (n e)
 
--- ---- "An unclear run has issued segment N", so it knows its transaction and its order's name
+-- ---- "An unclear run has issued segment N", so it knows its transaction
 
 module _ (s : Course) (v : Parts s) (i : ℕ) where
   abbrev h : List Exchange
@@ -115,24 +112,6 @@ module _ (s : Course) (v : Parts s) (i : ℕ) where
       go (download b u) =
           absurd (subst (λ (x : Stage). DownloadStage (Gave h) (fileIn h) x (ownPast v i .run) (s .files i) (issuesOf i (s .issued))) e (u .stage))
 
-  -- its upload, under the subscriber, type and number that the run names
-  named : v .runs i .left ≡ stage.Ended word.Unclear →
-      OpensOrder (orderName (s .runs i)) (s .runs i .transaction) (pastOf (v .bank .calls) .history)
-  named e =
-      let o = unclear-upload e .1 in
-      let a = o .got .given in
-      subst (λ (p : bank.Past). OpensOrder (orderName (s .runs i)) (s .runs i .transaction) (p .history)) (v .bank .since)
-      (record {
-        exchange = a .exchange;
-        before = a .before;
-        stands = a .stands;
-        opened = ap form (a .reply) ∙ o .got .answered;
-        id = ap transaction (a .reply) ∙ o .id;
-        named = same-name (ap subscriber (a .request)) (ap orderType (a .request)) (ap orderNumber (a .reply))
-            ∙ sym (opened-name (Gave h) (fileIn h)
-            (bank-replies h (v .bank .holds .invariant .sound) (v .bank .proper)) (ownPast v i) (v .runs i .own) o);
-      })
-
   pub unclear-left : s .runs i .stage ≡ stage.Ended word.Unclear → v .runs i .left ≡ stage.Ended word.Unclear
   unclear-left e = at (v .runs i .word)
     where
@@ -142,20 +121,19 @@ module _ (s : Course) (v : Parts s) (i : ℕ) where
       at (ended-by z f b) = z
 
   -- the row is that of the bank's calls
-  row-found : {f : Found} → lookup (orderName (s .runs i)) (s .journal .row) ≡ f →
-      lookup (orderName (s .runs i)) (journalOf (v .bank .calls) .row) ≡ f
-  row-found z = ap (λ (j : Journal). lookup (orderName (s .runs i)) (j .row)) (v .bank .entered-events) ∙ z
+  row-found : {f : Found} → lookup (s .runs i .transaction) (s .journal .row) ≡ f →
+      lookup (s .runs i .transaction) (journalOf (v .bank .calls) .row) ≡ f
+  row-found z = ap (λ (j : Journal). lookup (s .runs i .transaction) (j .row)) (v .bank .entered-events) ∙ z
 
-  row-lodges : s .runs i .stage ≡ stage.Ended word.Unclear → lookup (orderName (s .runs i)) (s .journal .row) ≡ found.Booked →
+  row-lodges : lookup (s .runs i .transaction) (s .journal .row) ≡ found.Booked →
       ever isBooking (s .runs i .transaction) (v .bank .past .history) ≡ true
-  row-lodges e z =
+  row-lodges z =
       ap (λ (p : bank.Past). ever isBooking (s .runs i .transaction) (p .history)) (v .bank .since)
-      ∙ row-booked (v .bank .calls) (orderName (s .runs i)) (s .runs i .transaction) (named (unclear-left e)) (row-found z)
+      ∙ row-booked (v .bank .calls) (s .runs i .transaction) (row-found z)
 
-  row-ends : s .runs i .stage ≡ stage.Ended word.Unclear → lookup (orderName (s .runs i)) (s .journal .row) ≡ found.Ended →
+  row-ends : lookup (s .runs i .transaction) (s .journal .row) ≡ found.Ended →
       NeverBooked (v .bank .calls) (s .runs i .transaction)
-  row-ends e z =
-      row-ended (v .bank .calls) (orderName (s .runs i)) (s .runs i .transaction) (named (unclear-left e)) (row-found z)
+  row-ends z = row-ended (v .bank .calls) (s .runs i .transaction) (row-found z)
 
 -- ---- the call's course
 
@@ -205,9 +183,9 @@ journal-keeps s v i c row q = record { bank = v .bank; runs = λ j. at j (ℕ-di
     own : {r : ClientRun} → Handing (s .runs i) (s .journal .row) r → Held (withRunOf r (runPast s i))
     own (unchanged z) = subst (λ (r : ClientRun). Held (withRunOf r (runPast s i))) (sym z) (v .runs i)
     own (lodges e f z) = subst (λ (r : ClientRun). Held (withRunOf r (runPast s i))) (sym z)
-        (closed-holds (runPast s i) word.Lodged (v .runs i) (unclear-left s v i e) (lodged-judged (s .runs i) (row-lodges s v i e f)))
+        (closed-holds (runPast s i) word.Lodged (v .runs i) (unclear-left s v i e) (lodged-judged (s .runs i) (row-lodges s v i f)))
     own (ends e f z) = subst (λ (r : ClientRun). Held (withRunOf r (runPast s i))) (sym z)
-        (closed-holds (runPast s i) word.NotLodged (v .runs i) (unclear-left s v i e) (ended-judged (s .runs i) (row-ends s v i e f)))
+        (closed-holds (runPast s i) word.NotLodged (v .runs i) (unclear-left s v i e) (ended-judged (s .runs i) (row-ends s v i f)))
 
     lent : journalCall (s .runs i) (s .journal .row) .run ≡ journalCall c row .run
     lent = sym (ap (λ (x : ClientRun). journalCall x row .run) (q .0) ∙ ap (λ (l : List Event). journalCall (s .runs i) l .run) (q .1))

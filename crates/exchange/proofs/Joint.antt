@@ -14,8 +14,8 @@ use Rattle.frame_table.specs.Names.{subscriber, exchange, transaction, segments
 use Rattle.frame_reader.specs.Reader.{readRequest}
 use Rattle.frame_row.specs.Row.{dataOf}
 use Rattle.message.specs.Codes.{codeField}
+use Rattle.message.specs.Editions.{openingForm}
 use Rattle.message.specs.Limits.{subscribers, segmentBytes}
-use Rattle.message.specs.Requests.{uploadOpening}
 use Rattle.message.specs.Segments.{segmentsOf, segmentOf}
 use Rattle.bank_verdicts.specs.declared.verdict.UploadAction.the-variants as up
 use Rattle.bank_verdicts.specs.declared.verdict.DownloadAction.the-variants as down
@@ -28,6 +28,7 @@ use Rattle.bank_history.specs.Sound.{AllSound}
 use Rattle.bank_history.proofs.Positions.{stands-behind, action-sound, booking-last}
 use Rattle.bank_history.proofs.Replies.{verdictCode}
 use Rattle.bank_history.proofs.Theorems.{taking-sound, taken-last-books, booking-takes-last, ever-stands, stands-ever, received-payload}
+use Rattle.client_run.specs.declared.run.RunTerms.{RunTerms}
 use Rattle.client_run.proofs.Apart.{not-both}
 use Rattle.client_history.specs.History as history
 use Rattle.client_history.specs.Invariant.{
@@ -42,8 +43,8 @@ use Rattle.client_history.specs.Invariant.{
   upload,
   download,
 }
-use Rattle.client_history.proofs.Requests.{form-uploadTransfer, segment-uploadTransfer, id-uploadTransfer}
-use Rattle.client_history.proofs.Theorems.{issued-begun, upload-segments, segment-sent, segment-opened, one-subscriber}
+use Rattle.client_history.proofs.Requests.{segments-opening, form-uploadTransfer, segment-uploadTransfer, id-uploadTransfer}
+use Rattle.client_history.proofs.Theorems.{issued-begun, upload-segments, segment-sent, segment-opened, one-subscriber, not-opening}
 use Rattle.exchange.specs.Course.{Issue, Exchange, Course}
 use Rattle.exchange.specs.Terms.{IssuedBy, Books, Booked}
 use Rattle.exchange.specs.Demand3.{isNamed, isSubscribers, OneExchangeNumber}
@@ -107,13 +108,13 @@ at-before look empty t {g = g} sound stands o =
     ∙ sym (opening-at look empty sound (stands-behind (o .stands) stands) p)
 
 -- the number of segments in an upload's opening
-opening-segments : {s n top : ℕ} {t : Bits128} {payload : List ℕ} {x : history.Issue} → UploadIssue s n t top payload x →
-    form (x .request) ≡ forms.UploadOpening → segments (x .request) ≡ n
-unfolding uploadOpening
-opening-segments (uploadOpens number time nonce q d) e = ap segments q
-opening-segments (sends number j a b q d) e =
-    absurd (let z : forms.UploadTransfer ≡ forms.UploadOpening = sym (ap form q ∙ form-uploadTransfer _ _ _ _ _) ∙ e in
-    let y : _≡_ {A = ℕ} 0 1 = cc in omega arith)
+opening-segments : {terms : RunTerms} {s n top : ℕ} {t : Bits128} {payload : List ℕ} {x : history.Issue} →
+    UploadIssue terms s n t top payload x → form (x .request) ≡ openingForm (terms .edition) → segments (x .request) ≡ n
+opening-segments {terms} (uploadOpens number time nonce q d) e =
+    ap segments q ∙ segments-opening (terms .edition) _ _ _ _ _ _
+opening-segments {terms} (sends number j a b q d) e =
+    absurd (let y = not-opening (terms .edition) (λ z. cc) (λ z. cc) (sym (ap form q ∙ form-uploadTransfer _ _ _ _ _) ∙ e) in
+    omega arith)
 
 module _ (s : Course) (v : Parts s) (copies : Copied s) (numbers : OneExchangeNumber s) where
   abbrev h : List bank.Exchange
@@ -145,8 +146,8 @@ module _ (s : Course) (v : Parts s) (copies : Copied s) (numbers : OneExchangeNu
   pub one-run : {i j : ℕ} {t : Bits128} → Uploads i t → Uploads j t → i ≡ j
   one-run {i} {j} {t} a b = one-opener (by i a) (by j b) refl
     where
-      by : (k : ℕ) → Uploads k t → OpenedBy forms.UploadOpening (v .bank .past .history) t (issuesOf k (s .issued))
-      by k u = subst (λ (x : Bits128). OpenedBy forms.UploadOpening (v .bank .past .history) x (issuesOf k (s .issued))) (u .own)
+      by : (k : ℕ) → Uploads k t → OpenedBy (openingForm (s .runs k .terms .edition)) h t (issuesOf k (s .issued))
+      by k u = subst (λ (x : Bits128). OpenedBy (openingForm (s .runs k .terms .edition)) h x (issuesOf k (s .issued))) (u .own)
           (opened-upload sound (u .opened))
 
   -- a copy of a run's upload transfer
@@ -190,8 +191,8 @@ module _ (s : Course) (v : Parts s) (copies : Copied s) (numbers : OneExchangeNu
 
   -- what the history says of a run's upload
   module _ {i : ℕ} {t : Bits128} (u : Uploads i t) where
-    opened : OpenedBy forms.UploadOpening (v .bank .past .history) t (issuesOf i (s .issued))
-    opened = subst (λ (x : Bits128). OpenedBy forms.UploadOpening (v .bank .past .history) x (issuesOf i (s .issued))) (u .own)
+    opened : OpenedBy (openingForm (s .runs i .terms .edition)) (v .bank .past .history) t (issuesOf i (s .issued))
+    opened = subst (λ (x : Bits128). OpenedBy (openingForm (s .runs i .terms .edition)) h x (issuesOf i (s .issued))) (u .own)
         (opened-upload sound (u .opened))
 
     pub upload-count : s .runs i .segments ≡ segmentsOf (length (s .payloads i))

@@ -8,9 +8,10 @@ use mathlib.Core.Path.{_≡_, refl, sym, ap, _∙_}
 use native.Mathlib.Omega.{arith}
 use lib.ListN.{length}
 use Rattle.frame_table.specs.declared.fields.Bits128.{Bits128}
-use Rattle.frame_table.specs.Names.{exchange, transaction, segments, form}
+use Rattle.frame_table.specs.Names.{exchange, transaction, segments, returnCode, form}
 use Rattle.frame_reader.specs.Reader.{readRequest}
 use Rattle.octets.proofs.Tests.{never}
+use Rattle.message.specs.Editions.{editionOf}
 use Rattle.bank_verdicts.specs.declared.verdict.UploadAction.the-variants as up
 use Rattle.bank_verdicts.specs.declared.verdict.DownloadAction.the-variants as down
 use Rattle.bank_verdicts.specs.declared.verdict.Action.the-variants as action
@@ -24,7 +25,7 @@ use Rattle.exchange.specs.Lists.{AtMostOne}
 use Rattle.exchange.specs.Terms.{IssuedBy}
 use Rattle.exchange.specs.Demand3.{OneExchangeNumber}
 use Rattle.exchange.specs.Opening.{OpenedAs, OneOpening, Openings}
-use Rattle.exchange.proofs.Told.{Opening, one-place-opened, did-action, did-of}
+use Rattle.exchange.proofs.Told.{Opening, one-place-opened, did-action, did-of, opens-upload}
 use Rattle.exchange.proofs.Bank.{Entry, Entries, found}
 use Rattle.exchange.proofs.Clients.{Parts}
 use Rattle.exchange.proofs.Issues.{one-issue}
@@ -55,8 +56,10 @@ module _ (s : Course) (v : Parts s) where
 
     -- the bank's exchange opened the run's transaction
     opens : {e : Exchange} {f : bank.Exchange} {g : List bank.Exchange} → Stands f g h → Entry e f → OpenedAs s i e → Opening t f
-    opens stands same (inl o) =
-        let u = upload-opened sound stands (ap form (sym (same .reply)) ∙ o .answered) in
+    opens {e = e} {f = f} stands same (inl o) =
+        let u = upload-opened sound stands
+        (opens-upload (editionOf (readRequest (e .request))) f (ap form (sym (same .reply)) ∙ o .answered)
+        (ap returnCode (sym (same .reply)) ∙ o .ok)) in
         record {
           action = action.Upload (up.Opened (u .0));
           is = u .1

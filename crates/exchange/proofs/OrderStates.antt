@@ -13,7 +13,11 @@ use Rattle.frame_table.specs.Names.{exchange, transaction, returnCode, form, se
 use Rattle.frame_reader.specs.Reader.{readRequest, readReply}
 use Rattle.message.specs.declared.codes.ReturnCode.the-variants as code
 use Rattle.message.specs.Codes.{codeField}
-use Rattle.message.specs.Replies.{uploadOpened, downloadOpened, segmentTaken, downloadSegment, receiptAnswered}
+use Rattle.message.specs.declared.editions.Edition.{Edition}
+use Rattle.message.specs.declared.editions.Edition.the-variants.{V24, V25}
+use Rattle.message.specs.Editions.{openedForm}
+use Rattle.message.specs.Limits.{initialisationPhase}
+use Rattle.message.specs.Replies.{uploadOpened, chosenOpened, downloadOpened, segmentTaken, downloadSegment, receiptAnswered}
 use Rattle.message.specs.Segments.{lastMarkOf}
 use Rattle.bank_state.specs.Search.{openCountOf}
 use Rattle.bank_verdicts.specs.declared.verdict.Action.the-variants as action
@@ -32,10 +36,21 @@ use Rattle.client_rules.specs.Decisions.{isAnswer}
 use Rattle.client_rules.specs.Rulings.{isBegun}
 use Rattle.client_history.specs.History.{Past}
 use Rattle.client_history.specs.InTurn.{InTurn}
-use Rattle.client_history.proofs.Fitting.{Fits, fits-answer, opened-fits, taken-fits, download-fits, segment-fits, receipt-fits}
+use Rattle.client_history.proofs.Fitting.{
+  Fits,
+  fits-answer,
+  opened-fits,
+  chosen-fits,
+  taken-fits,
+  download-fits,
+  segment-fits,
+  receipt-fits,
+  opened-fields,
+  chosen-fields,
+}
 use Rattle.exchange.specs.Course.{Issue, Exchange, Arrival, Course}
-use Rattle.exchange.specs.Terms.{Received, Accepted}
-use Rattle.exchange.proofs.Told.{Opening}
+use Rattle.exchange.specs.Terms.{Received, IsOpened, Accepted}
+use Rattle.exchange.proofs.Told.{Opening, opens-upload}
 use Rattle.exchange.proofs.Bank.{Found, found}
 use Rattle.exchange.proofs.Clients.{asIssue, issuesOf, issued-in, OpenedBy, Parts}
 use Rattle.exchange.proofs.Issues.{numberOf}
@@ -56,20 +71,21 @@ pub record Messages (s : Course) (i top now : ℕ) : Type 0 where
 
 -- ---- THE TRANSACTION
 
--- the reply form that opens a transaction
-abbrev pub openedForm : Direction → Form
-openedForm Upload = forms.UploadOpened
-openedForm Download = forms.DownloadOpened
+-- the reply forms that open a transaction
+abbrev pub OpensAs : Direction → Form → Type 0
+OpensAs Upload f = (x : Edition) × (f ≡ openedForm x)
+OpensAs Download f = f ≡ forms.DownloadOpened
 
-opened-form : (direction : Direction) {x : Form} → x ≡ openedForm direction → (x ≡ forms.UploadOpened) ⊎ (x ≡ forms.DownloadOpened)
-opened-form Upload e = inl e
-opened-form Download e = inr e
+opened-form : (direction : Direction) {f : Form} → OpensAs direction f → IsOpened f
+opened-form Upload (V24, e) = inr (inr e)
+opened-form Upload (V25, e) = inl e
+opened-form Download e = inr (inl e)
 
 -- the transaction t of subscriber u is open at the bank, k of n segments taken or k delivered; its last request was received at last
 pub record Open (direction : Direction) (s : Course) (i u : ℕ) (t : Bits128) (n k : ℕ) : Type 0 where
   pub opening : Exchange
   pub received : Received i opening s
-  pub opened : form (readReply (opening .reply)) ≡ openedForm direction
+  pub opened : OpensAs direction (form (readReply (opening .reply)))
   pub ok : returnCode (readReply (opening .reply)) ≡ codeField code.Ok
   pub id : transaction (readReply (opening .reply)) ≡ t
   pub last : ℕ
@@ -105,10 +121,11 @@ opened-by s v direction {i} {t = t} o = by direction (o .opened)
       },
     )
 
-    by : (w : Direction) → form (readReply (o .opening .reply)) ≡ openedForm w →
+    by : (w : Direction) → OpensAs w (form (readReply (o .opening .reply))) →
         (y : Form) × OpenedBy y (v .bank .past .history) t (issuesOf i (s .issued))
-    by Upload e =
-        let p = upload-opened (v .bank .holds .invariant .sound) (f .stands) (ap form (sym (f .same .reply)) ∙ e) in
+    by Upload (x, e) =
+        let p = upload-opened (v .bank .holds .invariant .sound) (f .stands)
+        (opens-upload x (f .exchange) (ap form (sym (f .same .reply)) ∙ e) (ap returnCode (sym (f .same .reply)) ∙ o .ok)) in
         with-opening (record {
           action = action.Upload (up.Opened (p .0));
           is = p .1 ∙ ap (λ (b : Bits128). verdict.Of b (action.Upload (up.Opened (p .0)))) same;
@@ -147,10 +164,24 @@ Before direction step.Segment j s i c =
     (k : ℕ) × (j ≡ suc k) × (j ≤ c .segments) × Open direction s i (c .subscriber) (c .transaction) (c .segments) k
 Before direction step.Receipt j s i c = (direction ≡ Download) × Open direction s i (c .subscriber) (c .transaction) (c .segments) (c .segments)
 
+-- the reply that accepts an upload's opening, by its edition
+abbrev pub openedWith : Edition → ℕ → Bits128 → ℕ → Fields
+openedWith V24 number t n = chosenOpened number t
+openedWith V25 number t n = uploadOpened number t n
+
+module _ (number n : ℕ) (t : Bits128) where
+  pub accepted-fits : (x : Edition) → Fits (openedForm x) code.Ok initialisationPhase number (openedWith x number t n)
+  accepted-fits V24 = chosen-fits number 0 0 0 t
+  accepted-fits V25 = opened-fits number n 0 0 t
+
+  pub accepted-id : (x : Edition) → transaction (openedWith x number t n) ≡ t
+  accepted-id V24 = chosen-fields number 0 0 0 t
+  accepted-id V25 = opened-fields number n 0 0 t .0
+
 -- the bank once it is received, and its reply's fields
 abbrev pub Behind : Direction → Step → ℕ → Course → ℕ → ClientRun → Fields → Type 0
 Behind Upload step.Opening j s i c r =
-    (t : Bits128) × (n : ℕ) × (r ≡ uploadOpened (c .exchange) t n) × Open Upload s i (c .subscriber) t (c .segments) 0
+    (t : Bits128) × (n : ℕ) × (r ≡ openedWith (c .terms .edition) (c .exchange) t n) × Open Upload s i (c .subscriber) t (c .segments) 0
 Behind Upload step.Segment j s i c r =
     (r ≡ segmentTaken (c .exchange) (c .transaction) j) × (j ≤ c .segments)
     × (j < c .segments → Open Upload s i (c .subscriber) (c .transaction) (c .segments) j)
@@ -165,8 +196,11 @@ Behind Download step.Receipt j s i c r = r ≡ receiptAnswered (c .exchange) (c 
 -- such a reply answers the outstanding request
 behind-answers : (direction : Direction) (at : Step) (j : ℕ) (s : Course) (i : ℕ) (c : ClientRun) (r : Fields) → Behind direction at j s i c r →
     isAnswer c r ≡ true
-behind-answers Upload step.Opening j s i c r (t, n, e, o) =
-    fits-answer c r (subst (Fits _ _ _ _) (sym e) (opened-fits (c .exchange) n 0 0 t)) refl (λ z. omega arith)
+behind-answers Upload step.Opening j s i c r (t, n, e, o) = by (c .terms .edition) e
+  where
+    by : (x : Edition) → r ≡ openedWith x (c .exchange) t n → isAnswer c r ≡ true
+    by V24 z = fits-answer c r (subst (Fits _ _ _ _) (sym z) (accepted-fits (c .exchange) n t V24)) refl (λ z. omega arith)
+    by V25 z = fits-answer c r (subst (Fits _ _ _ _) (sym z) (accepted-fits (c .exchange) n t V25)) refl (λ z. omega arith)
 behind-answers Upload step.Segment j s i c r (e, within, o) =
     fits-answer c r (subst (Fits _ _ _ _) (sym e) (taken-fits (c .exchange) 0 j 0 (c .transaction))) refl (λ z. omega arith)
 behind-answers Upload step.Receipt j s i c r b = absurd b

@@ -12,12 +12,15 @@ use Rattle.frame_table.specs.declared.fields.Bits128.{Bits128}
 use Rattle.frame_table.specs.declared.fields.Fields.{Fields}
 use Rattle.frame_table.specs.declared.table.Form.{Form}
 use Rattle.frame_table.specs.Forms as forms
-use Rattle.frame_table.specs.Names.{subscriber, orderType, exchange, transaction, segments, segment, returnCode, orderNumber, form}
+use Rattle.frame_table.specs.Names.{subscriber, orderType, exchange, transaction, segments, segment, returnCode, form}
 use Rattle.frame_reader.specs.Reader.{readRequest, readReply}
 use Rattle.octets.proofs.Tests.{never}
 use Rattle.message.specs.declared.codes.ReturnCode.{ReturnCode}
 use Rattle.message.specs.declared.codes.ReturnCode.the-variants as code
 use Rattle.message.specs.Codes.{codeField}
+use Rattle.message.specs.declared.editions.Edition.{Edition}
+use Rattle.message.specs.declared.editions.Edition.the-variants.{V24, V25}
+use Rattle.message.specs.Editions.{formEdition, editionOf, openingForm, openedForm, orderOpened}
 use Rattle.message.specs.Limits.{ful, subscribers, segmentBytes}
 use Rattle.message.specs.Segments.{segmentsOf}
 use Rattle.journal.specs.declared.event.OrderName.{OrderName}
@@ -34,6 +37,7 @@ use Rattle.bank_verdicts.specs.declared.verdict.Verdict.the-variants as verdict
 use Rattle.bank_history.specs.History.{Stands, newest, older, ActionIn, isBooking, isEnding, did, ever, received, numberIn, numberAt}
 use Rattle.bank_history.specs.History as bank
 use Rattle.bank_history.specs.Invariant as whole
+use Rattle.bank_history.specs.Opened.{isUploadOpened}
 use Rattle.bank_history.specs.JournalOrders.{NeverBooked}
 use Rattle.bank_history.specs.Transactions as standing
 use Rattle.bank_history.specs.Sound.{AllSound, isCancelling}
@@ -52,6 +56,7 @@ use Rattle.bank_history.proofs.Theorems.{
   stands-ever,
 }
 use Rattle.client_run.specs.declared.run.Direction.the-variants.{Download}
+use Rattle.client_run.specs.declared.run.RunTerms.{RunTerms}
 use Rattle.client_run.specs.declared.run.Stage.the-variants as stage
 use Rattle.client_run.specs.declared.run.Step.{Step}
 use Rattle.client_run.specs.Run.{orderName}
@@ -79,7 +84,7 @@ use Rattle.client_history.specs.Invariant.{
 }
 use Rattle.client_history.proofs.Files.{all-held}
 use Rattle.client_history.proofs.Requests.{
-  form-uploadOpening,
+  form-opening,
   form-downloadOpening,
   form-uploadTransfer,
   form-downloadTransfer,
@@ -88,11 +93,13 @@ use Rattle.client_history.proofs.Requests.{
 }
 use Rattle.client_history.proofs.Theorems.{lodged, not-lodged, last-not-sent, fetched, fetched-file, receipt-issued, one-subscriber, opened-name}
 use Rattle.exchange.specs.Course.{Issue, Exchange, Course, heldOf}
-use Rattle.exchange.specs.Terms.{IssuedBy, Received, Opened, Books, Booked, Order, nameOf, InBook, OrderOf}
+use Rattle.exchange.specs.Terms.{IssuedBy, Received, Opened, UploadOpenedBy, Books, Booked, Order, nameOf, InBook, OrderOf}
 use Rattle.exchange.specs.Demand3.{isNamed, isSubscribers, OneExchangeNumber, Outcome}
 use Rattle.exchange.specs.Lists.{AtMostOne}
 use Rattle.exchange.proofs.Told.{
   opening-at,
+  opening-edition,
+  opens-upload,
   sound-before,
   proper-at,
   did-action,
@@ -138,9 +145,14 @@ use Rattle.exchange.proofs.Joint.{
 
 -- ---- forms and codes
 
-upload-kind : {s n top : ℕ} {t : Bits128} {payload : List ℕ} {x : history.Issue} → UploadIssue s n t top payload x →
-    isNamed (form (x .request)) ≡ true
-upload-kind (uploadOpens number time nonce q d) = ap isNamed (ap form q ∙ form-uploadOpening _ _ _ _ _)
+opening-kind : (e : Edition) → isNamed (openingForm e) ≡ true
+opening-kind V24 = refl
+opening-kind V25 = refl
+
+upload-kind : {terms : RunTerms} {s n top : ℕ} {t : Bits128} {payload : List ℕ} {x : history.Issue} →
+    UploadIssue terms s n t top payload x → isNamed (form (x .request)) ≡ true
+upload-kind {terms} (uploadOpens number time nonce q d) =
+    ap isNamed (ap form q ∙ form-opening (terms .edition) _ _ _ _ _ _) ∙ opening-kind (terms .edition)
 upload-kind (sends number j a b q d) = ap isNamed (ap form q ∙ form-uploadTransfer _ _ _ _ _)
 
 download-kind : {s n next : ℕ} {t : Bits128} {at : Step} {f : List ℕ} {x : history.Issue} → DownloadIssue s n t at next f x →
@@ -157,6 +169,9 @@ cancelled-code : {c : ReturnCode} → (c ≡ code.TransactionAbort) ⊎ ((c ≡ 
 cancelled-code (inl e) = ap (λ (x : ReturnCode). isCancelling (codeField x)) e
 cancelled-code (inr (inl e)) = ap (λ (x : ReturnCode). isCancelling (codeField x)) e
 cancelled-code (inr (inr e)) = ap (λ (x : ReturnCode). isCancelling (codeField x)) e
+
+same-opened : {q q′ r r′ : Fields} → q ≡ q′ → r ≡ r′ → orderOpened q r ≡ orderOpened q′ r′
+same-opened {q′ = q′} {r = r} a b = ap (λ (q : Fields). orderOpened q r) a ∙ ap (orderOpened q′) b
 
 -- "the run held the whole when, as it issued that receipt, its file was the mailbox's": and it is so still as e answers it
 abbrev pub HeldWhole : Course → Exchange → Type 0
@@ -255,9 +270,9 @@ module _ (s : Course) (v : Parts s) (copies : Copied s) (numbers : OneExchangeNu
 
   -- ---- the book
 
-  -- the number that the bank gave to an upload, from the reply to its opening
-  opened-number : {e : bank.Exchange} {g : List bank.Exchange} {t : Bits128} → Stands e g h → form (e .reply) ≡ forms.UploadOpened →
-      transaction (e .reply) ≡ t → orderNumber (e .reply) ≡ orderNumberOf (numberAt t h)
+  -- the number of an upload, from its opening and the reply to it
+  opened-number : {e : bank.Exchange} {g : List bank.Exchange} {t : Bits128} → Stands e g h → isUploadOpened e ≡ true →
+      transaction (e .reply) ≡ t → orderOpened (e .request) (e .reply) ≡ orderNumberOf (numberAt t h)
   opened-number {e} {t = t} stands z id =
       let u = upload-opened sound stands z in
       let own : e .verdict ≡ verdict.Of t (action.Upload (up.Opened (u .0))) =
@@ -266,7 +281,7 @@ module _ (s : Course) (v : Parts s) (copies : Copied s) (numbers : OneExchangeNu
       (record { action = action.Upload (up.Opened (u .0)); is = own; opening = refl }) ∙ ap numberIn own))
 
   -- an accepted upload is of type FUL
-  upload-typed : {e : bank.Exchange} {g : List bank.Exchange} → Stands e g h → form (e .reply) ≡ forms.UploadOpened →
+  upload-typed : {e : bank.Exchange} {g : List bank.Exchange} → Stands e g h → isUploadOpened e ≡ true →
       orderType (e .request) ≡ ful
   upload-typed {e} {g} stands z =
       series .typed (v .bank .calls) (record {
@@ -274,6 +289,22 @@ module _ (s : Course) (v : Parts s) (copies : Copied s) (numbers : OneExchangeNu
         opened = z;
         owner = refl;
       })
+
+  -- the reply to a run's opening accepts it
+  accepted : {i : ℕ} (o : UploadOpen (Gave (v .bank .past .history)) (ownPast v i .run) (issuesOf i (s .issued))) →
+      isUploadOpened (o .got .given .exchange) ≡ true
+  accepted {i} o =
+      let a = o .got .given in
+      opens-upload (s .runs i .terms .edition) (a .exchange) (ap form (a .reply) ∙ o .got .answered) (ap returnCode (a .reply) ∙ o .got .code)
+
+  -- and is in the form of the opening's edition
+  upload-opened-by : {i : ℕ} (o : UploadOpen (Gave (v .bank .past .history)) (ownPast v i .run) (issuesOf i (s .issued))) →
+      UploadOpenedBy s i (copied-reply (o .got .own) (o .got .given) .exchange)
+  upload-opened-by {i} o =
+      let c = copied-reply (o .got .own) (o .got .given) in
+      let same : editionOf (readRequest (c .exchange .request)) ≡ s .runs i .terms .edition =
+      ap formEdition (ap form (c .same .request ∙ o .got .given .request) ∙ o .got .asked) ∙ opening-edition (s .runs i .terms .edition) in
+      subst (λ (x : Edition). Opened (openedForm x) s i (c .exchange)) (sym same) (opened-by (o .got) (o .id))
 
   -- the place of a run's booked upload holds its order
   order-of : {i j : ℕ} {t : Bits128} → Uploads s v copies numbers i t → standing.Order (s .bank) (v .bank .past .history) t j →
@@ -290,12 +321,11 @@ module _ (s : Course) (v : Parts s) (copies : Copied s) (numbers : OneExchangeNu
             ∙ mul-comm _ segmentBytes)
             ∙ all-held (s .payloads i) (segmentsOf (length (s .payloads i))) refl;
         exchange = c .exchange;
-        opened = opened-by (u .opened .got) (u .opened .id);
-        typed = ap orderType (c .same .request)
-            ∙ upload-typed (a .stands) (ap form (a .reply) ∙ u .opened .got .answered)
+        opened = upload-opened-by (u .opened);
+        typed = ap orderType (c .same .request) ∙ upload-typed (a .stands) (accepted (u .opened))
             ∙ ap (λ (x : Order). x .orderType) (sym (b .is));
-        number = ap orderNumber (c .same .reply)
-            ∙ opened-number (a .stands) (ap form (a .reply) ∙ u .opened .got .answered) (ap transaction (a .reply) ∙ u .opened .id ∙ u .own)
+        number = same-opened (c .same .request) (c .same .reply)
+            ∙ opened-number (a .stands) (accepted (u .opened)) (ap transaction (a .reply) ∙ u .opened .id ∙ u .own)
             ∙ ap orderNumberOf (sym (r .number)) ∙ ap (λ (x : Order). x .number) (sym (b .is));
       }
 
@@ -339,8 +369,10 @@ module _ (s : Course) (v : Parts s) (copies : Copied s) (numbers : OneExchangeNu
   number-of d =
       let o = d .opened in
       let f = found (v .bank .entries) (o .received .0) in
-      sym (d .number) ∙ ap orderNumber (f .same .reply)
-      ∙ opened-number (f .stands) (ap form (sym (f .same .reply)) ∙ o .answered) (ap transaction (sym (f .same .reply)) ∙ o .own)
+      let z = opens-upload (editionOf (readRequest (d .exchange .request))) (f .exchange) (ap form (sym (f .same .reply)) ∙ o .answered)
+      (ap returnCode (sym (f .same .reply)) ∙ o .ok) in
+      sym (d .number) ∙ same-opened (f .same .request) (f .same .reply)
+      ∙ opened-number (f .stands) z (ap transaction (sym (f .same .reply)) ∙ o .own)
 
   -- one upload explains one place of the book
   pub book-place : (i j j′ : ℕ) (o o′ : Order) → InBook s j o → InBook s j′ o′ → OrderOf s i o → OrderOf s i o′ → j ≡ j′
@@ -411,7 +443,7 @@ module _ (s : Course) (v : Parts s) (copies : Copied s) (numbers : OneExchangeNu
   booked-names i b o =
       let w = book-whole i b in
       let g = o .got .given in
-      let z : form (g .exchange .reply) ≡ forms.UploadOpened = ap form (g .reply) ∙ o .got .answered in
+      let z = accepted o in
       let n = opened-number (g .stands) z (ap transaction (g .reply) ∙ o .id) in
       let name = opened-name (Gave h) (fileIn h) replies (ownPast v i) (v .runs i .own) o in (
         w .0,
@@ -421,7 +453,7 @@ module _ (s : Course) (v : Parts s) (copies : Copied s) (numbers : OneExchangeNu
         same-name (w .3 .subscriber)
             (ap (λ (x : Order). x .orderType) (w .2 .is) ∙ sym (upload-typed (g .stands) z) ∙ ap orderType (g .request)
             ∙ sym (ap (λ (x : OrderName). x .«order_type») name))
-            (number-of (w .3) ∙ sym n ∙ ap orderNumber (g .reply) ∙ o .number),
+            (number-of (w .3) ∙ sym n ∙ same-opened (g .request) (g .reply) ∙ o .number),
       )
 
   -- lodged by its own events: segment N was answered 000000

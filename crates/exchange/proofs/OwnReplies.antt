@@ -15,6 +15,8 @@ use Rattle.frame_table.specs.Names.{exchange, transaction, segments, segment, r
 use Rattle.frame_reader.specs.Reader.{readRequest, readReply}
 use Rattle.frame_row.specs.Row.{dataOf}
 use Rattle.octets.proofs.Tests.{never}
+use Rattle.message.specs.declared.editions.Edition.{Edition}
+use Rattle.message.specs.declared.editions.Edition.the-variants.{V24, V25}
 use Rattle.message.specs.Limits.{fileBytes}
 use Rattle.message.specs.Segments.{segmentsOf, segmentOf, lastMarkOf}
 use Rattle.bank_state.specs.State.{BankState}
@@ -57,6 +59,7 @@ use Rattle.exchange.proofs.OrderStates.{
   Open,
   open-stays,
   Before,
+  openedWith,
   Behind,
   Told,
   told-answers,
@@ -409,14 +412,24 @@ module _ (s : Course) (v : Parts s) (copies : Copied s) (numbers : OneExchangeNu
         at false e z =
             next-asks Download step.Segment (k + 1) z (k, omega arith, (let d = eqb-false k n e in omega arith), o)
 
+    -- the opening accepted, in either edition: segment 1 is next, under its transaction
+    opened-turn : (x : Edition) → s .runs i .terms .edition ≡ x → (j n : ℕ) (id : Bits128) →
+        InTurn p Upload step.Opening j (s .runs i .exchange) → readReply reply ≡ openedWith x (s .runs i .exchange) id n →
+        InTurn then Upload step.Segment 1 (s .runs i .exchange + 1) × (then .run .transaction ≡ id)
+        × (then .run .segments ≡ s .runs i .segments)
+    opened-turn V24 e j n id turn r =
+        let z = clientTurn.chosen-opens p reply l done-reply j (s .runs i .exchange) id e turn r in (z .0, z .1, z .3)
+    opened-turn V25 e j n id turn r =
+        let z = clientTurn.upload-opens p reply l done-reply j (s .runs i .exchange) n id e turn r in (z .0, z .1, z .3)
+
     told-by : (direction : Direction) (at : Step) (j : ℕ) → InTurn p direction at j (s .runs i .exchange) →
         Behind direction at j s i (s .runs i) (readReply reply) → Next
     told-by Upload step.Opening j turn (id, n, r, o) =
-        let z = clientTurn.upload-opens p reply l done-reply j (s .runs i .exchange) n id turn r in
+        let z = opened-turn (s .runs i .terms .edition) refl j n id turn r in
         let some = upload-segments (Gave h) (fileIn h) (bank-replies h (v .bank .holds .invariant .sound) (v .bank .proper)) (ownPast v i) (v .runs i .own)
         (begun-same s v i ∙ begun)
         (turn .direction) .1 in
-        next-asks Upload step.Segment 1 (z .0) (0, refl, (let y = z .3 in omega arith), open-then o (sym (z .1)) (sym (z .3)))
+        next-asks Upload step.Segment 1 (z .0) (0, refl, (let y = z .2 in omega arith), open-then o (sym (z .1)) (sym (z .2)))
     told-by Upload step.Segment j turn (r, within, o) = at (ℕ-discrete j (s .runs i .segments))
       where
         at : Dec (j ≡ s .runs i .segments) → Next

@@ -11,16 +11,18 @@ use lib.ListN.{length}
 use Rattle.frame_table.specs.declared.fields.Bits128.{Bits128}
 use Rattle.frame_table.specs.declared.fields.Fields.{Fields}
 use Rattle.frame_table.specs.Forms as forms
-use Rattle.octets.specs.Bytes.{number}
 use Rattle.frame_table.specs.Names.{subscriber, exchange, transaction, segments, segment, lastMark, receiptCode, returnCode, form}
 use Rattle.frame_reader.specs.Reader.{readRequest, readReply}
 use Rattle.frame_row.specs.Row.{dataOf}
 use Rattle.octets.proofs.Tests.{never}
 use Rattle.message.specs.declared.codes.ReturnCode.the-variants as code
 use Rattle.message.specs.Codes.{codeField}
+use Rattle.message.specs.declared.editions.Edition.{Edition}
+use Rattle.message.specs.declared.editions.Edition.the-variants.{V24, V25}
+use Rattle.message.specs.Editions.{formEdition, editionOf, openingForm}
 use Rattle.message.specs.Limits.{segmentBytes}
-use Rattle.message.specs.Replies.{uploadOpened, downloadOpened, segmentTaken, downloadSegment, receiptAnswered}
-use Rattle.message.specs.Requests.{uploadOpening, downloadOpening, uploadTransfer, downloadTransfer, receipt}
+use Rattle.message.specs.Replies.{downloadOpened, segmentTaken, downloadSegment, receiptAnswered}
+use Rattle.message.specs.Requests.{downloadOpening, uploadTransfer, downloadTransfer, receipt}
 use Rattle.message.specs.Segments.{lastMarkOf}
 use Rattle.bank_state.specs.Clock.{advanced}
 use Rattle.bank_state.specs.Limits.{idleLimit}
@@ -30,10 +32,11 @@ use Rattle.bank_verdicts.specs.declared.verdict.UploadAction.the-variants as up
 use Rattle.bank_verdicts.specs.declared.verdict.DownloadAction.the-variants as down
 use Rattle.bank_verdicts.specs.declared.verdict.Action.{Action}
 use Rattle.bank_verdicts.specs.declared.verdict.Action.the-variants as action
+use Rattle.bank_verdicts.specs.declared.verdict.SignedOrder.{SignedOrder}
 use Rattle.bank_verdicts.specs.declared.verdict.Verdict.{Verdict}
 use Rattle.bank_verdicts.specs.declared.verdict.Verdict.the-variants as verdict
 use Rattle.bank_verdicts.specs.Judgement.{mailboxSegments}
-use Rattle.bank_verdicts.specs.Replies.{replyTo}
+use Rattle.bank_verdicts.specs.Replies.{openedReply, replyTo}
 use Rattle.bank.specs.Call.{FrameInput}
 use Rattle.bank_history.specs.History.{newest, isOpening, exchangeOf, callExchange}
 use Rattle.bank_history.specs.History as bank
@@ -46,21 +49,20 @@ use Rattle.client_run.specs.declared.run.Direction.{Direction}
 use Rattle.client_run.specs.declared.run.Direction.the-variants.{Upload, Download}
 use Rattle.client_run.specs.declared.run.Step.{Step}
 use Rattle.client_run.specs.declared.run.Step.the-variants as step
-use Rattle.client_run.specs.Requests.{nonceOf}
+use Rattle.client_run.specs.Requests.{nonceOf, termsOpening}
 use Rattle.client_rules.specs.Rulings.{isBegun}
 use Rattle.client_history.specs.History.{Past}
 use Rattle.client_history.specs.InTurn.{InTurn}
 use Rattle.client_history.specs.Invariant.{isOpen}
 use Rattle.client_history.proofs.Files.{segment-most}
 use Rattle.client_history.proofs.Fitting.{
-  opened-fits,
   download-fits,
-  opened-fields,
   download-fields,
 }
 use Rattle.client_history.proofs.Issues as issues
 use Rattle.client_history.proofs.Requests.{
-  form-uploadOpening,
+  form-opening,
+  segments-opening,
   form-downloadOpening,
   form-uploadTransfer,
   form-downloadTransfer,
@@ -74,18 +76,18 @@ use Rattle.client_history.proofs.Requests.{
   data-transfer,
   data-download,
 }
-use Rattle.client_history.proofs.Theorems.{exchange-numbers, upload-segments, file-held}
+use Rattle.client_history.proofs.Theorems.{exchange-numbers, upload-segments, file-held, not-opening}
 use Rattle.client_history.proofs.Theorems as client
 use Rattle.exchange.specs.Course.{Issue, Exchange, Arrival, Course}
 use Rattle.exchange.specs.Terms.{IssuedBy, Received, NoIdleHour}
 use Rattle.exchange.specs.Demand3.{OneExchangeNumber}
-use Rattle.exchange.proofs.Told.{opening-action, Gave, fileIn, bank-replies, by-code}
+use Rattle.exchange.proofs.Told.{opening-action, opening-edition, Gave, fileIn, bank-replies, by-code}
 use Rattle.exchange.proofs.Bank.{Entered}
 use Rattle.exchange.proofs.Clients.{runPast, issued-in, Parts, ownPast, begun-same}
 use Rattle.exchange.proofs.Issues.{numberOf, one-issue}
 use Rattle.exchange.proofs.Courses.{Copied}
-use Rattle.exchange.proofs.Foreign.{under-not, case-of}
-use Rattle.exchange.proofs.OrderStates.{openedForm, Messages, Open, Before, Behind, State, idle, asks, told, refused, closed}
+use Rattle.exchange.proofs.Foreign.{Opens, under-not, case-of}
+use Rattle.exchange.proofs.OrderStates.{OpensAs, openedWith, accepted-fits, accepted-id, Messages, Open, Before, Behind, State, idle, asks, told, refused, closed}
 use Rattle.exchange.proofs.Outstanding.{Asked, own-outstanding}
 use Rattle.exchange.proofs.Received.{or-another}
 use Rattle.exchange.proofs.OpenTransactions.{OpenUnlessIdle}
@@ -107,9 +109,10 @@ receipt-fields : (s x : ℕ) (t : Bits128) (n : ℕ) → let q = receipt s x t n
 unfolding receipt
 receipt-fields s x t n = (refl, refl, refl)
 
-opening-segments : (s x : ℕ) (nonce : Bits128) (time n : ℕ) → segments (uploadOpening s x nonce time n) ≡ n
-unfolding uploadOpening
-opening-segments s x nonce time n = refl
+-- the bank's reply to an accepted opening
+opened-reply : (x : Edition) (m : ℕ) (id : Bits128) (q : Fields) → openedReply x m id q ≡ openedWith x (exchange q) id (orderNumberOf m)
+opened-reply V24 m id q = refl
+opened-reply V25 m id q = refl
 
 module _ (s : Course) (v : Parts s) (copies : Copied s) (numbers : OneExchangeNumber s) (i : ℕ) where
   abbrev p : Past
@@ -282,7 +285,7 @@ module _ (s : Course) (v : Parts s) (copies : Copied s) (numbers : OneExchangeNu
           at (inr none) = absurd (none (some .0) (some .1))
 
       open-now : (direction : Direction) (id : Bits128) (u n k : ℕ) (o : Exchange) → Received i o t →
-          form (readReply (o .reply)) ≡ openedForm direction →
+          OpensAs direction (form (readReply (o .reply))) →
           returnCode (readReply (o .reply)) ≡ codeField code.Ok → transaction (readReply (o .reply)) ≡ id →
           ((e : Exchange) → Received i e t → e .clock ≤ t .bank .bank .clock) →
           OpenUnlessIdle direction (answered a (v .bank .past) .bankState) id u k n
@@ -331,20 +334,18 @@ module _ (s : Course) (v : Parts s) (copies : Copied s) (numbers : OneExchangeNu
           by e z (inr k) = first e k
 
       -- its code is 000000: it opened a transaction
-      opening-done : (form (readRequest (a .frame)) ≡ forms.UploadOpening) ⊎
-          (form (readRequest (a .frame)) ≡ forms.DownloadOpening) →
+      opening-done : Opens (readRequest (a .frame)) →
           returnCode (readReply (f .reply)) ≡ codeField code.Ok →
           (id : Bits128) × (k : Action) × (x .verdict ≡ verdict.Of id k) × (isOpening k ≡ true)
       opening-done kind ok =
           let b = by-code (en .sound) newest (en .proper) code.Ok refl (sym (ap returnCode (en .same .reply)) ∙ ok) unsigned in
           (b .0, b .1, b .2, at (b .2) (isOpening (b .1)) refl)
         where
-          other : (form (readRequest (a .frame)) ≡ forms.UploadOpening) ⊎ (form (readRequest (a .frame)) ≡ forms.DownloadOpening) →
-              form (readRequest (a .frame)) ≡ forms.Signing → ⊥
-          other (inl o) f = let y : _≡_ {A = ℕ} 0 1 = cc in omega arith
+          other : Opens (readRequest (a .frame)) → form (readRequest (a .frame)) ≡ forms.Signing → ⊥
+          other (inl (w, o)) f = let y = not-opening w (λ z. cc) (λ z. cc) (sym f ∙ o) in omega arith
           other (inr o) f = let y : _≡_ {A = ℕ} 0 1 = cc in omega arith
 
-          unsigned : (n : ℕ) (added : Bool) → x .verdict ≡ verdict.Signed n added → ⊥
+          unsigned : (n : SignedOrder) (added : Bool) → x .verdict ≡ verdict.Signed n added → ⊥
           unsigned n added own =
               other kind (ap (λ (l : List ℕ). form (readRequest l)) (sym (en .request)) ∙ ap form (en .same .request)
               ∙ signing-sound (en .sound) newest own .asked)
@@ -359,34 +360,39 @@ module _ (s : Course) (v : Parts s) (copies : Copied s) (numbers : OneExchangeNu
       upload-opening : (j : ℕ) → InTurn p Upload step.Opening j (c .exchange) → ((e : Exchange) → Received i e s → ⊥) →
           returnCode (readReply (f .reply)) ≡ codeField code.Ok → State t i p
       unfolding exchangeOf
-      upload-opening j turn first ok = at (opening-done (inl asks-form) ok)
+      upload-opening j turn first ok = at (opening-done (inl (c .terms .edition, asks-form)) ok)
         where
           request : readRequest (a .frame)
-              ≡ uploadOpening (c .subscriber) (c .exchange) (nonceOf (asked .nonce) (c .exchange)) (asked .time) (c .segments)
+              ≡ termsOpening (c .terms) (c .subscriber) (c .exchange) (nonceOf (asked .nonce) (c .exchange)) (asked .time) (c .segments)
           request = asked .request ∙ is-uploadOpening (ownPast v i .run) (asked .time) (asked .nonce) [] (turn .direction) (turn .step)
 
-          asks-form : form (readRequest (a .frame)) ≡ forms.UploadOpening
-          asks-form = ap form request ∙ form-uploadOpening _ _ _ _ _
+          asks-form : form (readRequest (a .frame)) ≡ openingForm (c .terms .edition)
+          asks-form = ap form request ∙ form-opening (c .terms .edition) _ _ _ _ _ _
+
+          edition : editionOf (readRequest (a .frame)) ≡ c .terms .edition
+          edition = ap formEdition asks-form ∙ opening-edition (c .terms .edition)
 
           opened : (id : Bits128) (m : ℕ) → x .verdict ≡ verdict.Of id (action.Upload (up.Opened m)) → State t i p
           opened id m e =
+              let w = c .terms .edition in
               let r = replies (verdict.Of id (action.Upload (up.Opened m))) e
-              ∙ ap (λ (n : ℕ). uploadOpened n id (orderNumberOf m)) is-outstanding in
-              let y = opened-fits (c .exchange) (orderNumberOf m) 0 0 id in
+              ∙ ap (λ (x : Edition). openedReply x m id (readRequest (a .frame))) edition ∙ opened-reply w m id (readRequest (a .frame))
+              ∙ ap (λ (n : ℕ). openedWith w n id (orderNumberOf m)) is-outstanding in
+              let y = accepted-fits (c .exchange) (orderNumberOf m) id w in
               let there = bankTurn.upload-opens a (v .bank .past) (v .bank .holds) id m e in
               told-by Upload step.Opening j turn (
                 id,
                 orderNumberOf m,
                 r,
-                open-now Upload id (c .subscriber) (c .segments) 0 f received-now (ap form r ∙ y .form-is) ok
-                    (ap transaction r ∙ opened-fields (c .exchange) (orderNumberOf m) 0 0 id .0) (alone-now first)
+                open-now Upload id (c .subscriber) (c .segments) 0 f received-now (w, ap form r ∙ y .form-is) ok
+                    (ap transaction r ∙ accepted-id (c .exchange) (orderNumberOf m) id w) (alone-now first)
                     (λ _. subst (λ (u : ℕ). UploadAt (answered a (v .bank .past) .bankState) id u 0 (c .segments)
                     (max (v .bank .past .bankState .bank .clock) (a .time)))
                     (ap subscriber (asked .request) ∙ outstanding-subscriber (ownPast v i .run) (asked .time) (asked .nonce) [])
                     (subst (λ (n : ℕ). UploadAt (answered a (v .bank .past) .bankState) id
                     (subscriber (readRequest (a .frame))) 0 n
                     (max (v .bank .past .bankState .bank .clock) (a .time)))
-                    (ap segments request ∙ opening-segments _ _ _ _ _) there)),
+                    (ap segments request ∙ segments-opening (c .terms .edition) _ _ _ _ _ _) there)),
               )
 
           at : (id : Bits128) × (k : Action) × (x .verdict ≡ verdict.Of id k) × (isOpening k ≡ true) → State t i p
@@ -396,8 +402,7 @@ module _ (s : Course) (v : Parts s) (copies : Copied s) (numbers : OneExchangeNu
               by (inl (m, y)) = opened id m (e ∙ ap (verdict.Of id) y)
               by (inr (n, y)) = absurd (
                   let a = action-sound (en .sound) newest (e ∙ ap (verdict.Of id) y) .opening .asked in
-                  let g : forms.UploadOpening ≡ forms.DownloadOpening = sym asks-form ∙ a in
-                  let w : _≡_ {A = ℕ} 0 1 = cc in omega arith)
+                  let w = not-opening (c .terms .edition) (λ z. cc) (λ z. cc) (sym a ∙ asks-form) in omega arith)
 
       download-opening : (j : ℕ) → InTurn p Download step.Opening j (c .exchange) → ((e : Exchange) → Received i e s → ⊥) →
           returnCode (readReply (f .reply)) ≡ codeField code.Ok → State t i p
@@ -435,8 +440,7 @@ module _ (s : Course) (v : Parts s) (copies : Copied s) (numbers : OneExchangeNu
               by (inr (n, y)) = opened id n (e ∙ ap (verdict.Of id) y)
               by (inl (m, y)) = absurd (
                   let a = action-sound (en .sound) newest (e ∙ ap (verdict.Of id) y) .opening .asked in
-                  let g : forms.DownloadOpening ≡ forms.UploadOpening = sym asks-form ∙ a in
-                  let w : _≡_ {A = ℕ} 0 1 = cc in omega arith)
+                  let w = not-opening (editionOf (x .request)) (λ z. cc) (λ z. cc) (sym asks-form ∙ a) in omega arith)
 
       -- ---- a segment of an upload
 

@@ -23,6 +23,7 @@ use Rattle.frame_table.specs.Names.{transaction, segment, returnCode, form}
 use Rattle.frame_reader.specs.Reader.{readRequest, readReply}
 use Rattle.message.specs.declared.codes.ReturnCode.the-variants as code
 use Rattle.message.specs.Codes.{codeField}
+use Rattle.message.specs.Editions.{editionOf, openingForm}
 use Rattle.message.specs.Segments.{segmentsOf}
 use Rattle.message.specs.Requests as requests
 use Rattle.bank.specs.Call.{FrameInput}
@@ -39,6 +40,7 @@ use Rattle.bank_history.specs.Sound.{AllSound}
 use Rattle.bank_history.proofs.Positions.{action-sound}
 use Rattle.bank_history.proofs.SentSegments.{sent-most}
 use Rattle.bank_history.proofs.Theorems.{ever-stands}
+use Rattle.client_run.specs.declared.run.RunTerms.{RunTerms}
 use Rattle.client_run.specs.declared.run.Step.{Step}
 use Rattle.client_run.specs.declared.run.Step.the-variants as step
 use Rattle.client_history.specs.History as history
@@ -59,13 +61,14 @@ use Rattle.client_history.specs.Invariant.{
   download,
 }
 use Rattle.client_history.proofs.Requests.{
-  form-uploadOpening,
+  form-opening,
   form-downloadOpening,
   form-uploadTransfer,
   form-downloadTransfer,
   form-receipt,
   id-receipt,
 }
+use Rattle.client_history.proofs.Theorems.{not-opening}
 use Rattle.exchange.specs.Course.{
   Call,
   frameArrives,
@@ -161,8 +164,11 @@ module _ (s : Course) (v : Parts s) (copies : Copied s) (numbers : OneExchangeNu
           by (inl k) = absurd (let w = y (sym e ∙ k) in omega arith)
           by (inr k) = absurd (let w = z (sym e ∙ k) in omega arith)
 
-      sent : {n c top : ℕ} {t : Bits128} {payload : List ℕ} → UploadIssue n c t top payload (asIssue x) → Out
-      sent (uploadOpens n time nonce e d) = other (ap form e ∙ form-uploadOpening _ _ _ _ _) (λ z. cc) (λ z. cc)
+      sent : {terms : RunTerms} {n c top : ℕ} {t : Bits128} {payload : List ℕ} → UploadIssue terms n c t top payload (asIssue x) → Out
+      sent {terms} (uploadOpens n time nonce e d) =
+          let w = terms .edition in
+          other (ap form e ∙ form-opening w _ _ _ _ _ _) (λ z. not-opening w (λ z. cc) (λ z. cc) (sym z))
+          (λ z. not-opening w (λ z. cc) (λ z. cc) (sym z))
       sent (sends n i a b e d) = other (ap form e ∙ form-uploadTransfer _ _ _ _ _) (λ z. cc) (λ z. cc)
 
       Held : Type 0
@@ -226,9 +232,10 @@ module _ (s : Course) (v : Parts s) (copies : Copied s) (numbers : OneExchangeNu
         let same : e .0 ≡ o .exchange = one-opened sound (e .2) (o .stands) (upload-opening (e .3)) (o .opening) in
         let k = upload-kind (e .3 .action) (e .3 .kind) in
         let opens : e .0 .verdict ≡ verdict.Of t (action.Upload (up.Opened (k .0))) = e .3 .is ∙ ap (verdict.Of t) (k .1) in
-        let y : forms.UploadOpening ≡ forms.DownloadOpening = sym (action-sound sound (e .2) opens .opening .asked)
+        let w = editionOf (e .0 .request) in
+        let y : openingForm w ≡ forms.DownloadOpening = sym (action-sound sound (e .2) opens .opening .asked)
         ∙ ap (λ (g : bank.Exchange). form (g .request)) same ∙ ap form (o .asked) ∙ o .kind in
-        let z : _≡_ {A = ℕ} 0 1 = cc in omega arith
+        let z = not-opening w (λ z. cc) (λ z. cc) (sym y) in omega arith
 
     no-download : {issues : List history.Issue} {t : Bits128} (n : ℕ) →
         Fitting (v .bank .past .history) issues t (callExchange (v .bank .past .bankState) a .request) →

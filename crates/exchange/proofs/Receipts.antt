@@ -26,6 +26,8 @@ use Rattle.frame_row.specs.Row.{dataOf}
 use Rattle.octets.proofs.Tests.{never}
 use Rattle.message.specs.declared.codes.ReturnCode.the-variants as code
 use Rattle.message.specs.Codes.{codeField}
+use Rattle.message.specs.declared.editions.Edition.{Edition}
+use Rattle.message.specs.Editions.{editionOf, openingForm}
 use Rattle.bank_state.specs.Clock.{advanced}
 use Rattle.bank_state.specs.declared.state.Download.{Download}
 use Rattle.bank_state.specs.declared.state.Place.{Place}
@@ -71,7 +73,7 @@ use Rattle.client_history.specs.Invariant.{
   download,
 }
 use Rattle.client_history.proofs.Requests.{form-downloadOpening, form-downloadTransfer, form-receipt}
-use Rattle.client_history.proofs.Theorems.{receipt-issued, one-subscriber}
+use Rattle.client_history.proofs.Theorems.{receipt-issued, one-subscriber, not-opening}
 use Rattle.exchange.specs.Course.{
   Call,
   frameArrives,
@@ -152,16 +154,17 @@ module _ (s : Course) (v : Parts s) (copies : Copied s) (numbers : OneExchangeNu
       ∙ ap (mailboxFile (s .bank)) (sym (d .1 .owner) ∙ ap (λ (u : Bits128). openedBy u h) own ∙ opener) ∙ sym (same-mailbox (s .bank) _)
 
   -- its run opens no upload, so no place has its transaction ID
-  not-opening : (y : history.Issue) → In y (issuesOf (x .run) (s .issued)) → form (y .request) ≡ forms.UploadOpening → ⊥
-  not-opening y n e = at (v .runs (x .run) .own)
+  no-opening : (y : history.Issue) → In y (issuesOf (x .run) (s .issued)) → (w : Edition) → form (y .request) ≡ openingForm w → ⊥
+  no-opening y n w e = at (v .runs (x .run) .own)
     where
-      other : {f : Form} → form (y .request) ≡ f → (f ≡ forms.UploadOpening → _≡_ {A = ℕ} 0 1) → ⊥
-      other g z = let u = z (sym g ∙ e) in omega arith
+      other : {f : Form} → form (y .request) ≡ f → (f ≡ forms.UploadOpening → _≡_ {A = ℕ} 0 1) →
+          (f ≡ forms.ChosenOpening → _≡_ {A = ℕ} 0 1) → ⊥
+      other g z k = let u = not-opening w z k (sym g ∙ e) in omega arith
 
       each : {u k next : ℕ} {i : Bits128} {at : Step} {f : List ℕ} → DownloadIssue u k i at next f y → ⊥
-      each (downloadOpens k time nonce q d) = other (ap form q ∙ form-downloadOpening _ _ _ _) (λ z. cc)
-      each (asks k j a b c f q d) = other (ap form q ∙ form-downloadTransfer _ _ _ _) (λ z. cc)
-      each (confirms k a b f q d) = other (ap form q ∙ form-receipt _ _ _ _) (λ z. cc)
+      each (downloadOpens k time nonce q d) = other (ap form q ∙ form-downloadOpening _ _ _ _) (λ z. cc) (λ z. cc)
+      each (asks k j a b c f q d) = other (ap form q ∙ form-downloadTransfer _ _ _ _) (λ z. cc) (λ z. cc)
+      each (confirms k a b f q d) = other (ap form q ∙ form-receipt _ _ _ _) (λ z. cc) (λ z. cc)
 
       at : Invariant (Gave h) (fileIn h) (ownPast v (x .run)) → ⊥
       at (not-begun a g) = in-none (subst (In y) g n)
@@ -175,7 +178,7 @@ module _ (s : Course) (v : Parts s) (copies : Copied s) (numbers : OneExchangeNu
       let same : e .0 ≡ o .exchange = one-opened all-sound (e .2) (o .stands) (upload-opening (e .3)) (o .opening) in
       let k = upload-kind (e .3 .action) (e .3 .kind) in
       let own : e .0 .verdict ≡ verdict.Of t (action.Upload (up.Opened (k .0))) = e .3 .is ∙ ap (verdict.Of t) (k .1) in
-      not-opening (o .issue) (o .own)
+      no-opening (o .issue) (o .own) (editionOf (e .0 .request))
       (ap form (sym (o .asked)) ∙ ap (λ (f : bank.Exchange). form (f .request)) (sym same)
       ∙ action-sound all-sound (e .2) own .opening .asked)
 

@@ -6,6 +6,7 @@ use mathlib.Core.Logic.{_⊎_, inl, inr}
 use mathlib.Core.Path.{_≡_, refl, sym, ap, _∙_}
 use native.Mathlib.Omega.{arith}
 use lib.ListN.{length}
+use borrow.Author.Tests.{eq-eqb}
 use Rattle.frame_table.specs.declared.fields.Bits128.{Bits128}
 use Rattle.frame_table.specs.declared.fields.Fields.{Fields}
 use Rattle.frame_table.specs.declared.table.Form.{Form}
@@ -17,6 +18,9 @@ use Rattle.frame_table.proofs.Bits.{bits-same}
 use Rattle.message.specs.declared.codes.ReturnCode.{ReturnCode}
 use Rattle.message.specs.declared.codes.ReturnCode.the-variants as code
 use Rattle.message.specs.Codes.{codeField}
+use Rattle.message.specs.declared.editions.Edition.{Edition}
+use Rattle.message.specs.declared.editions.Edition.the-variants.{V24, V25}
+use Rattle.message.specs.Editions.{formEdition, editionOf, openingForm, openedForm}
 use Rattle.message.specs.Limits.{fileBytes}
 use Rattle.message.specs.Segments.{segmentsOf, segmentOf}
 use Rattle.bank_verdicts.specs.declared.verdict.UploadAction.{UploadAction}
@@ -25,10 +29,12 @@ use Rattle.bank_verdicts.specs.declared.verdict.DownloadAction.{DownloadAction}
 use Rattle.bank_verdicts.specs.declared.verdict.DownloadAction.the-variants as down
 use Rattle.bank_verdicts.specs.declared.verdict.Action.{Action}
 use Rattle.bank_verdicts.specs.declared.verdict.Action.the-variants as action
+use Rattle.bank_verdicts.specs.declared.verdict.SignedOrder.{SignedOrder}
 use Rattle.bank_verdicts.specs.declared.verdict.Verdict.{Verdict}
 use Rattle.bank_verdicts.specs.declared.verdict.Verdict.the-variants as verdict
 use Rattle.bank_verdicts.specs.Replies.{replyTo}
 use Rattle.bank_history.specs.History.{Exchange, Stands, newest, older, ActionIn, OpensNumber, isTaking, isOpening, isUploadOpening, isDownloadOpening, did, atOpening, fileAtOpening}
+use Rattle.bank_history.specs.Opened.{ofReply, isUploadForm, isUploadOpened}
 use Rattle.bank_history.specs.Sound.{isCancelling, SoundConfirmed, AllSound}
 use Rattle.bank_history.specs.Sound.{more as sounds}
 use Rattle.bank_history.proofs.Entries.{same-bits}
@@ -47,6 +53,7 @@ use Rattle.bank_history.proofs.Replies.{
 }
 use Rattle.bank_history.proofs.Theorems.{one-opening, ever-stands, reply-is, reply-exchange, download-opened, segment-delivered}
 use Rattle.client_history.specs.History.{BankReplies}
+use Rattle.client_history.proofs.Theorems.{not-opening}
 use Rattle.bank_history.proofs.Refusing.{refuses, isRefusing, refusing-code, Refuses}
 
 -- what is asked of every exchange: its refusals' codes, and a file of at most the bytes of a mailbox
@@ -164,23 +171,36 @@ opening-at look empty {t} {f} {g} (sounds {e = x} {h = h} s r) (older p) o =
     at true e k = ap look (one-opened (sounds s r) newest (older p) (opened-so (did-action isOpening t x e)) o)
     at false e k = k
 
+-- the edition of an opening is the one whose form it has
+pub opening-edition : (x : Edition) → formEdition (openingForm x) ≡ x
+opening-edition V24 = refl
+opening-edition V25 = refl
+
+-- a reply in the form of an edition's openings, with 000000, accepts an upload's opening
+pub opens-upload : (x : Edition) (e : Exchange) → form (e .reply) ≡ openedForm x → returnCode (e .reply) ≡ codeField code.Ok →
+    isUploadOpened e ≡ true
+opens-upload V24 e z c =
+    ap (ofReply false (isUploadForm (returnCode (e .reply)))) z ∙ eq-eqb (returnCode (e .reply)) (codeField code.Ok) c
+opens-upload V25 e z c = ap (ofReply false (isUploadForm (returnCode (e .reply)))) z
+
 -- ---- what a reply tells
 
 module _ {e : Exchange} {g h : List Exchange} (sound : AllSound h) (stands : Stands e g h) where
-  pub formed : form (e .reply) ≡ verdictForm (e .verdict)
+  pub formed : form (e .reply) ≡ verdictForm (editionOf (e .request)) (e .verdict)
   formed = ap form (reply-is sound stands) ∙ verdict-form (e .verdict) (e .request)
 
   pub coded : returnCode (e .reply) ≡ codeField (verdictCode (e .verdict))
   coded = ap returnCode (reply-is sound stands) ∙ verdict-code (e .verdict) (e .request)
 
-  carries : {t : Bits128} {k : Action} → e .verdict ≡ verdict.Of t k → (actionForm k ≡ forms.Refusal → ⊥) → transaction (e .reply) ≡ t
+  carries : {t : Bits128} {k : Action} → e .verdict ≡ verdict.Of t k → (actionForm (editionOf (e .request)) k ≡ forms.Refusal → ⊥) →
+      transaction (e .reply) ≡ t
   carries {t} {k} own n =
       ap transaction (reply-is sound stands) ∙ ap (λ (v : Verdict). transaction (replyTo v (e .request))) own
       ∙ action-transaction t (e .request) k n
 
   -- a download segment carries the transaction ID asked for
   delivered-id : form (e .reply) ≡ forms.DownloadSegment → transaction (e .reply) ≡ transaction (e .request)
-  delivered-id z = at (is-action (e .verdict) forms.DownloadSegment (sym formed ∙ z) refl)
+  delivered-id z = at (is-action (editionOf (e .request)) (e .verdict) forms.DownloadSegment (sym formed ∙ z) refl)
     where
       by : (d : IsAction (e .verdict) forms.DownloadSegment) → ActionOf forms.DownloadSegment (d .action) →
           transaction (e .reply) ≡ transaction (e .request)
@@ -197,7 +217,7 @@ module _ {e : Exchange} {g h : List Exchange} (sound : AllSound h) (stands : Sta
   module _ (proper : Proper e) where
     -- the verdict by its code, where that is no refusal's and the request no accepted signing
     pub by-code : (c : ReturnCode) → refuses c ≡ false → returnCode (e .reply) ≡ codeField c →
-        ((n : ℕ) (added : Bool) → e .verdict ≡ verdict.Signed n added → ⊥) →
+        ((n : SignedOrder) (added : Bool) → e .verdict ≡ verdict.Signed n added → ⊥) →
         (t : Bits128) × (k : Action) × (e .verdict ≡ verdict.Of t k)
     by-code c n z unsigned = at (e .verdict) refl (proper .refuses)
       where
@@ -221,7 +241,7 @@ module _ {e : Exchange} {g h : List Exchange} (sound : AllSound h) (stands : Sta
         ActionIn isTaking (transaction (e .request)) e
     transfer-taken asked z = let b = by-code code.Ok refl z unsigned in at (b .0) (b .1) (b .2)
       where
-        unsigned : (n : ℕ) (added : Bool) → e .verdict ≡ verdict.Signed n added → ⊥
+        unsigned : (n : SignedOrder) (added : Bool) → e .verdict ≡ verdict.Signed n added → ⊥
         unsigned n added own =
             let f = sym (signing-sound sound stands own .asked) ∙ asked in
             let y : _≡_ {A = ℕ} 0 1 = cc in omega arith
@@ -233,7 +253,9 @@ module _ {e : Exchange} {g h : List Exchange} (sound : AllSound h) (stands : Sta
         other f n = absurd (let y = n (sym f ∙ asked) in omega arith)
 
         at-upload : (t : Bits128) (a : UploadAction) → e .verdict ≡ verdict.Of t (action.Upload a) → Out
-        at-upload t (up.Opened n) own = other (action-sound sound stands own .opening .asked) (λ y. cc)
+        at-upload t (up.Opened n) own =
+            other (action-sound sound stands own .opening .asked)
+            (λ y. not-opening (editionOf (e .request)) (λ z. cc) (λ z. cc) (sym y))
         at-upload t up.Took own =
             let s = action-sound sound stands own in
             record {
@@ -272,7 +294,7 @@ module _ {e : Exchange} {g h : List Exchange} (sound : AllSound h) (stands : Sta
         × SoundConfirmed (transaction (e .request)) e g
     done-confirmed z = let b = by-code code.DownloadPostprocessDone refl z unsigned in at (b .0) (b .1) (b .2)
       where
-        unsigned : (n : ℕ) (added : Bool) → e .verdict ≡ verdict.Signed n added → ⊥
+        unsigned : (n : SignedOrder) (added : Bool) → e .verdict ≡ verdict.Signed n added → ⊥
         unsigned n added own =
             let y = ap (λ (v : Verdict). codeField (verdictCode v)) (sym own) ∙ sym coded ∙ z in omega arith
 
@@ -316,7 +338,7 @@ module _ {e : Exchange} {g h : List Exchange} (sound : AllSound h) (stands : Sta
         ⊎ (e .verdict ≡ verdict.Of t (action.Download (down.Point n))))
     point-given z = let b = by-code code.RecoverySync refl z unsigned in at (b .0) (b .1) (b .2)
       where
-        unsigned : (n : ℕ) (added : Bool) → e .verdict ≡ verdict.Signed n added → ⊥
+        unsigned : (n : SignedOrder) (added : Bool) → e .verdict ≡ verdict.Signed n added → ⊥
         unsigned n added own =
             let y = ap (λ (v : Verdict). codeField (verdictCode v)) (sym own) ∙ sym coded ∙ z in omega arith
 

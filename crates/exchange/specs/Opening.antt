@@ -6,17 +6,17 @@ use mathlib.Core.Path.{_≡_}
 use Rattle.frame_table.specs.Forms as forms
 use Rattle.exchange.specs.Course.{Call, Exchange, Course, start, after}
 use Rattle.exchange.specs.Lists.{AtMostOne}
-use Rattle.exchange.specs.Terms.{Opened}
+use Rattle.exchange.specs.Terms.{Opened, UploadOpenedBy}
 use Rattle.exchange.specs.Demand3.{AllAllowed, OneExchangeNumber}
 
 -- the opening of the run's transaction, an upload's or a download's
 abbrev pub OpenedAs : Course → ℕ → Exchange → Type 0
-OpenedAs s i e = Opened forms.UploadOpened s i e ⊎ Opened forms.DownloadOpened s i e
+OpenedAs s i e = UploadOpenedBy s i e ⊎ Opened forms.DownloadOpened s i e
 
 pub record OneOpening (s : Course) : Type 0 where
   -- no run's transaction has two
   pub once : (i : ℕ) → AtMostOne (OpenedAs s i) (s .exchanged)
-  pub upload : (i : ℕ) → AtMostOne (Opened forms.UploadOpened s i) (s .exchanged)
+  pub upload : (i : ℕ) → AtMostOne (UploadOpenedBy s i) (s .exchanged)
   pub download : (i : ℕ) → AtMostOne (Opened forms.DownloadOpened s i) (s .exchanged)
   -- and no two runs' transactions have one
   pub apart : (i j : ℕ) (e : Exchange) → OpenedAs s i e → OpenedAs s j e → i ≡ j

@@ -7,10 +7,11 @@ use mathlib.Core.List.{List, [], _∷_, List·Memᴰ as In}
 use lib.ListN.{length, take}
 use Rattle.frame_table.specs.declared.table.Form.{Form}
 use Rattle.frame_table.specs.Forms as forms
-use Rattle.frame_table.specs.Names.{subscriber, orderType, segment, transaction, returnCode, orderNumber, form}
+use Rattle.frame_table.specs.Names.{subscriber, orderType, segment, transaction, returnCode, form}
 use Rattle.frame_reader.specs.Reader.{readRequest, readReply}
 use Rattle.message.specs.declared.codes.ReturnCode.the-variants as code
 use Rattle.message.specs.Codes.{codeField}
+use Rattle.message.specs.Editions.{editionOf, openedForm, orderOpened}
 use Rattle.message.specs.Limits.{ful}
 use Rattle.message.specs.Segments.{segmentsOf}
 use Rattle.journal.specs.declared.event.OrderName.{OrderName}
@@ -59,6 +60,10 @@ pub record Opened (answer : Form) (s : Course) (i : ℕ) (e : Exchange) : Type 0
   pub ok : returnCode (readReply (e .reply)) ≡ codeField code.Ok
   pub own : transaction (readReply (e .reply)) ≡ s .runs i .transaction
 
+-- an upload's is answered in the form of its request's edition
+abbrev pub UploadOpenedBy : Course → ℕ → Exchange → Type 0
+UploadOpenedBy s i e = Opened (openedForm (editionOf (readRequest (e .request)))) s i e
+
 -- ---- BOOKED
 
 -- "An upload is booked when a copy of its segment N gets 000000"
@@ -95,14 +100,14 @@ pub record InBook (s : Course) (j : ℕ) (o : Order) : Type 0 where
       }
 
 -- "its order is its subscriber, its payload and the order number opened with its transaction ID"; its type is the
--- opening's
+-- opening's, and in edition 2.4 so is the number
 pub record OrderOf (s : Course) (i : ℕ) (o : Order) : Type 0 where
   pub subscriber : o .subscriber ≡ s .runs i .subscriber
   pub bytes : o .bytes ≡ s .payloads i
   pub exchange : Exchange
-  pub opened : Opened forms.UploadOpened s i exchange
+  pub opened : UploadOpenedBy s i exchange
   pub typed : orderType (readRequest (exchange .request)) ≡ o .orderType
-  pub number : orderNumber (readReply (exchange .reply)) ≡ o .number
+  pub number : orderOpened (readRequest (exchange .request)) (readReply (exchange .reply)) ≡ o .number
 
 -- ---- AN ORDER IN TURN
 
@@ -130,10 +135,14 @@ Turn i (takesUp m image) s = Unit {0}
 abbrev pub InTurn : ℕ → Call → Course → Type 0
 InTurn i k s = callNumber k ≡ 0 → Turn i k s
 
+-- the forms that accept an opening, with 000000: the last one an upload's of edition 2.4, as no receipt gets 000000
+abbrev pub IsOpened : Form → Type 0
+IsOpened f = (f ≡ forms.UploadOpened) ⊎ ((f ≡ forms.DownloadOpened) ⊎ (f ≡ forms.ReceiptAnswered))
+
 -- "an order whose opening is accepted": a request of the run was answered as an opening, with 000000
 abbrev pub Accepted : ℕ → Course → Type 0
-Accepted i s = (e : Exchange) × Received i e s × ((form (readReply (e .reply)) ≡ forms.UploadOpened)
-    ⊎ (form (readReply (e .reply)) ≡ forms.DownloadOpened)) × (returnCode (readReply (e .reply)) ≡ codeField code.Ok)
+Accepted i s = (e : Exchange) × Received i e s × IsOpened (form (readReply (e .reply)))
+    × (returnCode (readReply (e .reply)) ≡ codeField code.Ok)
 
 -- "its subscriber having nothing else open meanwhile": from the acceptance of its opening on, while the run is not
 -- ended

@@ -16,11 +16,11 @@ use mathlib.Core.Path.{_≡_, refl, sym, ap, _∙_, subst}
 use lib.Dec.{eqb, leb}
 use lib.ListN.{replicate}
 use borrow.Author.Tests.{eq-eqb, eqb-true, leb-true}
-use Rattle.frame_table.specs.Forms as forms
 use Rattle.frame_table.specs.Names.{exchange, returnCode, form}
 use Rattle.frame_reader.specs.Reader.{readRequest, readReply}
 use Rattle.octets.proofs.Tests.{never, and-true, or-true}
 use Rattle.message.specs.declared.codes.ReturnCode.the-variants as code
+use Rattle.message.specs.declared.editions.Edition.the-variants.{V24}
 use Rattle.message.specs.Codes.{codeField}
 use Rattle.message.specs.Limits.{fileBytes}
 use Rattle.bank_state.specs.Limits.{idBytes, idleLimit, replyRoom}
@@ -29,9 +29,11 @@ use Rattle.bank.specs.Call.{FrameInput, frameInput}
 use Rattle.bank_admitted.specs.State.{StateHolds}
 use Rattle.image_calls.specs.Calls.{imageLength}
 use Rattle.client_run.specs.declared.run.Direction.{Direction}
+use Rattle.client_run.specs.declared.run.Direction.the-variants.{Upload}
+use Rattle.client_run.specs.declared.run.RunParameters.{RunParameters}
 use Rattle.client_run.specs.declared.run.Stage.the-variants as stage
 use Rattle.client_run.specs.declared.run.Word.the-variants.{Lodged, Fetched}
-use Rattle.client_run.specs.Run.{Lent, lentOf, parametersOf, requestRoom, nonceBytes}
+use Rattle.client_run.specs.Run.{Lent, lentOf, parametersOf, termsOf25, requestRoom, nonceBytes}
 use Rattle.exchange.specs.Course.{
   Call,
   frameArrives,
@@ -51,7 +53,7 @@ use Rattle.exchange.specs.Course.{
   exec,
   after,
 }
-use Rattle.exchange.specs.Terms.{IssuedBy, NoIdleHour, InTurn, Accepted, AllInTurn, Settled}
+use Rattle.exchange.specs.Terms.{IssuedBy, NoIdleHour, InTurn, IsOpened, Accepted, AllInTurn, Settled}
 use Rattle.exchange.specs.Demand3.{isSubscribers, Allowed, AllAllowed, OneExchangeNumber, Outcome, ClosesInTurn, Demand3}
 use Rattle.exchange.specs.Lists.{AtMostOne, skip, only, NoDup, none, more}
 use Rattle.exchange.proofs.Calls.{carried}
@@ -169,8 +171,8 @@ pub data Move : Type 0 where
   stray : List ℕ → ℕ → Move
   -- a file into a mailbox
   puts : ℕ → List ℕ → Move
-  -- run, direction, subscriber, first exchange number, payload
-  begin : ℕ → Direction → ℕ → ℕ → List ℕ → Move
+  -- run, time, parameters, payload
+  beginAt : ℕ → ℕ → RunParameters → List ℕ → Move
   -- that reply given reaches a run
   reaches : ℕ → ℕ → Move
   -- no reply reaches a run
@@ -183,6 +185,14 @@ pub data Move : Type 0 where
   takes : ℕ → Move
   -- a call given a number
   numbered : Call → Move
+
+-- run, direction, subscriber, first exchange number, payload
+abbrev pub begin : ℕ → Direction → ℕ → ℕ → List ℕ → Move
+begin i direction u first payload = beginAt i 1000 (parametersOf direction u first termsOf25) payload
+
+-- an upload of edition 2.4: run, time, subscriber, first exchange number, order number chosen, payload
+abbrev pub chooses : ℕ → ℕ → ℕ → ℕ → ℕ → List ℕ → Move
+chooses i time u first n payload = beginAt i time (parametersOf Upload u first (record { edition = V24; number = n })) payload
 
 -- what a run is lent at a time, and at the time of all calls but the late ones
 abbrev pub lentAt : ℕ → List ℕ → List ℕ → Lent
@@ -215,7 +225,7 @@ abbrev pub callOf : Move → Course → Call
 callOf (comes n time) s = frameCalled (requestAt n s) time s
 callOf (stray frame time) s = frameCalled frame time s
 callOf (puts m file) s = filePut (standing s .rows) (s .bank .mailboxes) m file
-callOf (begin i direction u first payload) s = begins i (s .runs i) (parametersOf direction u first) (lent payload (replicate fileBytes 0))
+callOf (beginAt i time params payload) s = begins i (s .runs i) params (lentAt time payload (replicate fileBytes 0))
 callOf (reaches i n) s = replyArrives i (s .runs i) (replyAt n s) (lent (s .payloads i) (s .files i))
 callOf (silent i) s = noReply i (s .runs i) (lent (s .payloads i) (s .files i))
 callOf (hands i) s = journalHanded i (s .runs i) (s .journal .row)
@@ -257,7 +267,7 @@ abbrev pub isAllowed : Move → Course → Bool
 isAllowed (comes n time) s = isIssued (requestAt n s) s
 isAllowed (stray frame time) s = not (isSubscribers frame)
 isAllowed (puts m file) s = true
-isAllowed (begin i direction u first payload) s = true
+isAllowed (beginAt i time params payload) s = true
 isAllowed (reaches i n) s = some (λ (e : Exchange). sameBytes (e .reply) (replyAt n s) && isIssued (e .request) s) (s .exchanged)
 isAllowed (silent i) s = true
 isAllowed (hands i) s = true
@@ -270,7 +280,7 @@ abbrev pub asked : Move → Course → Type 0 → Type 0
 asked (comes n time) s rest = rest
 asked (stray frame time) s rest = rest
 asked (puts m file) s rest = rest
-asked (begin i direction u first payload) s rest = rest
+asked (beginAt i time params payload) s rest = rest
 asked (reaches i n) s rest = rest
 asked (silent i) s rest = rest
 asked (hands i) s rest = rest
@@ -291,7 +301,7 @@ pub asked-rest : (m : Move) (s : Course) (rest other : Type 0) → (rest → oth
 asked-rest (comes n time) s rest other f r = f r
 asked-rest (stray frame time) s rest other f r = f r
 asked-rest (puts m file) s rest other f r = f r
-asked-rest (begin i direction u first payload) s rest other f r = f r
+asked-rest (beginAt i time params payload) s rest other f r = f r
 asked-rest (reaches i n) s rest other f r = f r
 asked-rest (silent i) s rest other f r = f r
 asked-rest (hands i) s rest other f r = f r
@@ -310,7 +320,7 @@ allowed (stray frame time) s rest v r h =
     off true e = sym e
     off false e = refl
 allowed (puts m file) s rest v r h = (λ _. (standing-numbers s v, refl), r)
-allowed (begin i direction u first payload) s rest v r h = (λ _. refl, r)
+allowed (beginAt i time params payload) s rest v r h = (λ _. refl, r)
 allowed (reaches i n) s rest v r h = (
   λ _.
       let f : Exchange → Bool = λ e. sameBytes (e .reply) (replyAt n s) && isIssued (e .request) s in
@@ -356,7 +366,7 @@ numbers (m ∷ ms) s h = numbers ms (next m s) (and-true (isAllowed m s) (isMet 
 
 -- reply n is an opening's
 abbrev pub Opens : ℕ → Course → Type 0
-Opens n s = (form (readReply (replyAt n s)) ≡ forms.UploadOpened) ⊎ (form (readReply (replyAt n s)) ≡ forms.DownloadOpened)
+Opens n s = IsOpened (form (readReply (replyAt n s)))
 
 module _ (i : ℕ) where
   abbrev pub isOwn : List ℕ → Course → Bool
@@ -424,7 +434,7 @@ module _ (i : ℕ) where
   isInTurn (comes n time) clock s = frameInTurn (requestAt n s) clock s
   isInTurn (stray frame time) clock s = frameInTurn frame clock s
   isInTurn (puts m file) clock s = true
-  isInTurn (begin j direction u first payload) clock s = true
+  isInTurn (beginAt j time params payload) clock s = true
   isInTurn (reaches j n) clock s = implies (eqb j i) (notArrived (replyAt n s) s)
   isInTurn (silent j) clock s = not (eqb j i)
   isInTurn (hands j) clock s = true
@@ -442,7 +452,7 @@ module _ (i : ℕ) where
   in-turn (comes n time) s h = came-in-turn (requestAt n s) time s h
   in-turn (stray frame time) s h = came-in-turn frame time s h
   in-turn (puts m file) s h = λ _. tt
-  in-turn (begin j direction u first payload) s h = λ _. tt
+  in-turn (beginAt j time params payload) s h = λ _. tt
   in-turn (reaches j n) s h = λ _. λ same a m r z.
       not-both (every-in (λ (x : Arrival). not (eqb (x .run) i && sameBytes (x .reply) (replyAt n s)))
       (then (eqb j i) (notArrived (replyAt n s) s) h (eq-eqb j i same)) m)

@@ -1,6 +1,6 @@
 -- Computed examples of demand 3: lists that meet its premises, what they come to, and the theorem applied to them.
 use Prim.Native.Nat.{ℕ, _+_, _-_, _^_}
-use mathlib.Core.Bool.{true}
+use mathlib.Core.Bool.{true, cond}
 use mathlib.Core.List.{List, [], _∷_, _++_, map, List·Memᴰ as In, List·Memᴰ·not-nil as in-none}
 use mathlib.Core.Logic.{inl, inr}
 use mathlib.Core.Path.{_≡_, refl, sym, ap, _∙_, subst}
@@ -19,12 +19,16 @@ use Rattle.message.specs.Segments.{segmentsOf}
 use Rattle.signers.specs.Signers.{countFrom, signerCount, isReleased}
 use Rattle.journal.specs.declared.event.Event.{Event}
 use Rattle.journal.specs.declared.event.OrderName.{OrderName}
+use Rattle.journal.specs.declared.event.Found.{Found}
+use Rattle.journal.specs.declared.event.Found.the-variants as found
 use Rattle.journal.specs.Events.{maxEntries}
-use Rattle.journal.specs.Row.{emptyRow}
+use Rattle.journal.specs.Records.{nameOf as nameIn}
+use Rattle.journal.specs.Row.{emptyRow, withKind, lookup}
 use Rattle.bank_state.specs.declared.state.Use.the-variants as uses
 use Rattle.bank_state.specs.Limits.{placeCount, storeBytes, idleLimit}
 use Rattle.bank_state.specs.State.{placeAt}
 use Rattle.bank_admitted.specs.State.{StateHolds}
+use Rattle.bank_history.specs.Signatures.{sameName}
 use Rattle.bank_rows.specs.Layout.{stateSize}
 use Rattle.bank_steps.specs.Lent.{stateOf}
 use Rattle.bank_session.specs.Session.{LentSession, session, sessionSize, withCount, bankIn, journalIn}
@@ -69,6 +73,7 @@ use Rattle.exchange_examples.proofs.Checked.{
   stray,
   puts,
   begin,
+  chooses,
   reaches,
   silent,
   hands,
@@ -275,6 +280,38 @@ signedBetween =
     ∷ hands 0
     ∷ [])
 
+-- ---- numbers that clients choose, edition 2.4: A000, which a cancelled or dropped order leaves to be chosen again
+
+abbrev chosen : ℕ → ℕ → ℕ → ℕ → Move
+chosen i time first byte = chooses i time 1 first (orderNumberOf 0) (byte ∷ [])
+
+-- an order in turn
+abbrev choosing : List Move
+choosing = chosen 0 1000 7 65 ∷ comes 0 1000 ∷ reaches 0 0 ∷ comes 0 1000 ∷ reaches 0 0 ∷ []
+
+-- its opening is accepted, no reply comes, and the opening comes again: its number is held
+abbrev chosenTwice : List Move
+chosenTwice = chosen 0 1000 7 65 ∷ comes 0 1000 ∷ silent 0 ∷ comes 0 1000 ∷ reaches 0 0 ∷ []
+
+-- Run 0's segment comes after an idle hour, when its upload is dropped: unclear. Run 1 chooses the number again, and its
+-- segment is booked
+abbrev numberAgain : List Move
+numberAgain =
+    chosen 0 1000 7 65
+    ∷ comes 0 1000
+    ∷ reaches 0 0
+    ∷ comes 0 firstGone
+    ∷ reaches 0 0
+    ∷ chosen 1 firstGone 100 66
+    ∷ comes 0 firstGone
+    ∷ reaches 1 0
+    ∷ comes 0 firstGone
+    ∷ []
+
+-- the tenth call: run 0 is handed the journal, and closes as not lodged
+abbrev tenCalls : List Move
+tenCalls = numberAgain ++ (hands 0 ∷ [])
+
 -- ---- a session put away
 
 -- an order in turn whose session is put away and taken up
@@ -388,7 +425,7 @@ computed = record {
   repeating-done = meets repeating tt refl refl;
   losing-done = meets losing tt refl (refl, refl);
   no-reply-taken = meets segmentSent tt refl refl;
-  fetching-done = orders 0 1 fetching tt refl (inr refl, refl, refl);
+  fetching-done = orders 0 1 fetching tt refl (inr (inl refl), refl, refl);
   crossing-done = orders 0 4 crossing tt refl (inl refl, refl);
   again-done = meets again tt refl (refl, refl);
   cancelled-done = meets cancelled tt refl (refl, refl);
@@ -444,6 +481,31 @@ computed-signings : ComputedSignings
 unfolding bothEnds isReleased signerCount countFrom
 computed-signings = record {
   signed-between-done = orders 0 5 signedBetween tt refl (inl refl, refl, refl, refl, refl);
+}
+
+-- what the row would say if records were told apart by subscriber, type and number
+abbrev lookupByName : OrderName → List Event → Found
+lookupByName o [] = found.Nothing
+lookupByName o (e ∷ es) = cond (sameName (nameIn e) o) (withKind (e .kind) (lookupByName o es)) (lookupByName o es)
+
+record ComputedChoices : Type 0 where
+  choosing-done : Orders 0 1 choosing (λ (s : Course). Opens 1 s × InFirstPlace s)
+  chosen-twice-done : Meets chosenTwice (λ (s : Course). (codeNow s ≡ codeField code.OrderIdAlreadyExists) × Ended NotLodged s)
+  number-again-done : Meets numberAgain (λ (s : Course). Ended Unclear s × InFirstPlace s
+      × (codesOf s ≡ map codeField (code.Ok ∷ code.Ok ∷ code.UnknownTransaction ∷ code.Ok ∷ []))
+      × (orderName (s .runs 0) ≡ orderName (s .runs 1))
+      -- by name the booking is found; by the transaction ID the drop
+      × (lookupByName (orderName (s .runs 0)) (s .journal .row) ≡ found.Booked)
+      × (lookup (s .runs 0 .transaction) (s .journal .row) ≡ found.Ended))
+  ten-calls-done : Meets tenCalls (λ (s : Course). Ended NotLodged s)
+
+computed-choices : ComputedChoices
+unfolding bothEnds sameName
+computed-choices = record {
+  choosing-done = orders 0 1 choosing tt refl (inr (inr refl), refl);
+  chosen-twice-done = meets chosenTwice tt refl (refl, refl);
+  number-again-done = meets numberAgain tt refl (refl, refl, refl, refl, refl, refl);
+  ten-calls-done = meets tenCalls tt refl refl;
 }
 
 -- ---- with the image's bytes
@@ -560,6 +622,21 @@ own-series-unbooked = outcome ownSeries tt (computed-series .own-series-done .me
 other-booked : let s = endOf ownSeries start in
     (j : ℕ) × (o : Order) × InBook s j o × OrderOf s 1 o × (nameOf o ≡ orderName (s .runs 1))
 other-booked = outcome ownSeries tt (computed-series .own-series-done .met) .lodged 1 (computed-series .own-series-done .ends .1) .1
+
+-- an order of edition 2.4 in turn
+choosing-closed : Closed 0 (endOf choosing start)
+choosing-closed =
+    closed 0 1 choosing tt (computed-choices .choosing-done .in-order) (computed-choices .choosing-done .ends .0)
+
+-- 091115 to its opening, accepted before: "not lodged", truly
+chosen-twice-unbooked : Booked (endOf chosenTwice start) 0 → ⊥
+chosen-twice-unbooked =
+    outcome chosenTwice tt (computed-choices .chosen-twice-done .met) .notLodged 0 (computed-choices .chosen-twice-done .ends .1)
+
+-- the booked order of run 0's name is not run 0's: by name it would have closed as lodged
+ten-calls-unbooked : Booked (endOf tenCalls start) 0 → ⊥
+ten-calls-unbooked =
+    outcome tenCalls tt (computed-choices .ten-calls-done .met) .notLodged 0 (computed-choices .ten-calls-done .ends)
 
 asking-closed : Closed 0 (endOf asking start)
 asking-closed = closed 0 1 asking tt (computed .asking-done .in-order) (computed .asking-done .ends)

@@ -50,7 +50,7 @@ use Rattle.exchange_examples.proofs.Checked.{
   comes,
   stray,
   puts,
-  begin,
+  beginAt,
   reaches,
   silent,
   hands,
@@ -119,7 +119,7 @@ abbrev pub quickNext : Move → Course → Course
 quickNext (comes n time) s = quickFrame (requestAt n s) time s
 quickNext (stray frame time) s = quickFrame frame time s
 quickNext (puts m file) s = filed (s .bank .bank) (s .bank .mailboxes) m file s
-quickNext (begin i direction u first payload) s = next (begin i direction u first payload) s
+quickNext (beginAt i time params payload) s = next (beginAt i time params payload) s
 quickNext (reaches i n) s = next (reaches i n) s
 quickNext (silent i) s = next (silent i) s
 quickNext (hands i) s = next (hands i) s
@@ -151,7 +151,7 @@ quick-next : (m : Move) (s : Course) (rest : Type 0) → asked m s rest → Righ
 quick-next (comes n time) s rest r v h a = quick-frame s (v .state) time (requestAt n s)
 quick-next (stray frame time) s rest r v h a = quick-frame s (v .state) time frame
 quick-next (puts m file) s rest r v h a = quick-file s (v .state) m file
-quick-next (begin i direction u first payload) s rest r v h a = refl
+quick-next (beginAt i time params payload) s rest r v h a = refl
 quick-next (reaches i n) s rest r v h a = refl
 quick-next (silent i) s rest r v h a = refl
 quick-next (hands i) s rest r v h a = refl

@@ -10,6 +10,7 @@ use Rattle.message.specs.Requests as messageRequests
 use Rattle.message.specs.Segments as messageSegments
 use Rattle.signers.specs.Signers as signerSets
 use Rattle.bank_state.specs.Clock as bankstateClock
+use Rattle.bank_state.specs.Numbers as bankstateNumbers
 use Rattle.bank_state.specs.Rows as bankstateRows
 use Rattle.bank_state.specs.Search as bankstateSearch
 use Rattle.bank_state.specs.State as bankstateState
@@ -43,6 +44,7 @@ use Rattle.client.specs.Calls as clientCalls
 use Rattle.client.specs.Journal as clientJournal
 use Rattle.client_run.specs.NextRun as clientNextRun
 use Rattle.client_run.specs.Requests as clientRequests
+use Rattle.client_run.specs.Run as clientRun
 use Rattle.client_rules.specs.Decisions as clientDecisions
 use Rattle.client_rules.specs.Rulings as clientRulings
 use Rattle.exchange.specs.Course as course
@@ -58,15 +60,16 @@ unfolding frameBytes.numberFrom frameBytes.number frameBytes.bytesOf frameBytes.
     frameTable.rowFits frameTable.findForm frameTable.formOf frameWriter.contentOf frameWriter.contentsOf
     frameWriter.frameOf frameWriter.lengthFrom frameWriter.frameLength frameWriter.dataWhole frameWriter.fieldWritable
     frameWriter.fieldsWritable frameWriter.writable frameWriter.accepted frameWriter.writeAnswer
-    frameWriter.writeBuffer messageReplies.uploadOpened messageReplies.downloadOpened messageReplies.segmentTaken
+    frameWriter.writeBuffer messageReplies.uploadOpened messageReplies.chosenOpened messageReplies.downloadOpened messageReplies.segmentTaken
     messageReplies.recoveryPoint messageReplies.downloadSegment messageReplies.receiptAnswered
-    messageReplies.unreadable messageReplies.refusal messageRequests.uploadOpening messageRequests.downloadOpening
+    messageReplies.unreadable messageReplies.refusal messageRequests.uploadOpening messageRequests.chosenOpening messageRequests.downloadOpening
     messageRequests.uploadTransfer messageRequests.downloadTransfer messageRequests.receipt messageRequests.signing messageSegments.segmentsOf
     messageSegments.segmentOf bankstateClock.isIdle bankstateClock.freed bankstateClock.dropUpload
     bankstateClock.dropUploads bankstateClock.ends bankstateClock.endDownloads bankstateClock.forget
     bankstateClock.atClock bankstateClock.advanced bankstateRows.firstOf bankstateRows.countOf bankstateRows.keep
     bankstateRows.keepOnly bankstateSearch.freePlace bankstateSearch.freeDownload bankstateSearch.freeNonce
-    bankstateSearch.isUpload bankstateSearch.findUpload bankstateSearch.isDownload bankstateSearch.findDownload
+    bankstateSearch.holdsNumber bankstateSearch.findNumber bankstateSearch.isNumberHeld
+    bankstateNumbers.firstUnheld bankstateNumbers.nextNumber bankstateSearch.isUpload bankstateSearch.findUpload bankstateSearch.isDownload bankstateSearch.findDownload
     bankstateSearch.openCount bankstateSearch.openCountOf bankstateSearch.isRemembered bankstateState.fresh
     bankstateStore.partAt bankstateStore.withPart bankstateStore.zeroed bankstateStore.fileOf bankstateState.fileLength
     bankstateState.seriesOf refusals.noSubscriber refusals.longData refusals.requestRows refusals.unknownType refusals.manySegments
@@ -75,9 +78,10 @@ unfolding frameBytes.numberFrom frameBytes.number frameBytes.bytesOf frameBytes.
     refusals.transactionRows refusals.uploadAttempt refusals.isUnderrun refusals.isExceeded refusals.segmentRows
     refusals.uploadRows refusals.downloadAttempt refusals.receiptRows refusals.downloadRows judgement.judgeOpening judgement.judgeSigning
     judgement.takes judgement.judgeUpload judgement.judgeDownload judgement.judgeOpen judgement.judgeTransaction
-    judgement.judge openings.counted openings.countedUpload openings.openUpload openings.openDownload signings.sign signerSets.hasBit
+    judgement.openingNumber judgement.judge openings.counted openings.countedUpload openings.openUpload openings.openDownload signings.sign signerSets.hasBit
     signerSets.isSigner signerSets.withSigner messageOrderNumbers.character
-    messageOrderNumbers.letter messageOrderNumbers.orderNumberOf uploads.grown uploads.booked uploads.attempted
+    messageOrderNumbers.letter messageOrderNumbers.orderNumberOf messageOrderNumbers.digitOf messageOrderNumbers.letterOf
+    messageOrderNumbers.isOrderNumber messageOrderNumbers.orderIn uploads.grown uploads.booked uploads.attempted
     bankCall.mailboxSegment bankCall.respond bankCall.lentRight bankCall.frameCall bankMailbox.fileRefusals
     bankMailbox.fileCall clientCalls.isWritten clientCalls.requestWith clientCalls.issued clientCalls.taken
     clientCalls.beginCall clientCalls.replyCall clientCalls.noReplyCall clientDecisions.says clientDecisions.isOwn
@@ -87,7 +91,7 @@ unfolding frameBytes.numberFrom frameBytes.number frameBytes.bytesOf frameBytes.
     clientDecisions.takesSegment clientDecisions.bringsSegment clientDecisions.confirms clientDecisions.onUpload
     clientDecisions.onDownload clientDecisions.isAnswer clientDecisions.onReply clientDecisions.onNoReply
     clientNextRun.begun clientNextRun.goOn clientNextRun.repeated
-    clientNextRun.ended clientRequests.nonceOf clientRequests.outstanding clientRequests.outstandingData
+    clientNextRun.ended clientRun.chosenNumber clientRequests.nonceOf clientRequests.outstanding clientRequests.outstandingData
     clientRulings.wrongLengths clientRulings.noSubscriber clientRulings.timeFirst clientRulings.rulingAtBegin
     clientRulings.beginRuling clientRulings.rulingNotBegun clientRulings.rulingRunning clientRulings.rulingEnded
     clientRulings.runRuling course.start course.mailboxOf course.heldOf course.emptied
@@ -103,8 +107,9 @@ bothEnds = tt
 unfoldable pub images : Unit {0}
 unfolding bankrowsState.bankOf bankrowsState.joined bankrowsState.stored bankrowsRows.rowsOf bankrowsRows.rowsInUse
     bankrowsRows.numbersOf bankrowsRows.written bankrowsRows.allBelow image.fits imageItems.partItems
-    imageItems.recordItems imageItems.storeItems imageItems.contentItems imageItems.fieldItems imageItems.itemsOf
-    imageItems.bytesIn imageItems.sizesOf imageTable.rowAt conditions.seriesFits conditions.seriesSum
+    imageItems.recordItems imageItems.storeItems imageItems.contentItems imageItems.fieldItems imageItems.imageItems
+    imageItems.bytesIn imageItems.imageSizes imageTable.rowAt conditions.seriesFits
+    conditions.isAhead conditions.chosenAhead conditions.seriesSum
     conditions.sameNonce conditions.noncesDistinct recordsShapes.unused conditions.noncesUnused conditions.downloadRises
     conditions.downloadsUnused conditions.sameOrder conditions.ordersDistinct recordsLayout.slotAt conditions.sameNumber
     conditions.numbersDistinct conditions.isOpenSlot conditions.isOpenOf conditions.openInAll conditions.openOfOne

@@ -26,6 +26,7 @@ fn request_key(form: RequestForm) -> u8 {
         RequestForm::DownloadTransfer => b'4',
         RequestForm::Receipt => b'5',
         RequestForm::Signing => b'7',
+        RequestForm::ChosenOpening => b'9',
     }
 }
 
@@ -36,7 +37,7 @@ fn reply_key(form: ReplyForm, code: u64) -> u8 {
         ReplyForm::DownloadOpened => b'b',
         ReplyForm::SegmentTaken => taken_key(code),
         ReplyForm::DownloadSegment => b'g',
-        ReplyForm::ReceiptAnswered => b'h',
+        ReplyForm::ReceiptAnswered => answered_key(code),
         ReplyForm::Unreadable => b'j',
         ReplyForm::Refusal => refusal_key(code),
     }
@@ -48,6 +49,14 @@ fn taken_key(code: u64) -> u8 {
         return b'f';
     }
     b'e'
+}
+
+// The key of the answer to a receipt, or of that to an upload's opening of edition 2.4: no receipt is answered 000000.
+fn answered_key(code: u64) -> u8 {
+    if code == code_field(ReturnCode::Ok) {
+        return b'0';
+    }
+    b'h'
 }
 
 // The key of a refusal, or of the answer to a signing that is accepted.

@@ -6,10 +6,10 @@ use crate::script::SIGNINGS;
 use crate::script::byte_at;
 use crate::script::order_of;
 use crate::script::signature_of;
+use crate::script::terms_of;
 use bank_state::limits::ID_BYTES;
 use bank_state::limits::IDLE_LIMIT;
 use bank_state::limits::REPLY_ROOM;
-use client_run::run::NONCE_BYTES;
 use frame_table::fields::Bits128;
 use frame_writer::writer::Written;
 use frame_writer::writer::write;
@@ -20,12 +20,15 @@ use octets::bytes::copy;
 use octets::bytes::front;
 use print::text::put_digits;
 use unit_state::answer::Answer;
+use unit_state::record::EDITION_AT;
+use unit_state::record::EDITION_BYTES;
 use unit_state::record::EXTENT_BYTES;
 use unit_state::record::FIRST_BYTES;
 use unit_state::record::IDS_AT;
 use unit_state::record::LETTER_BYTES;
 use unit_state::record::MAILBOX_BYTES;
-use unit_state::record::NONCE_AT;
+use unit_state::record::ORDER_AT;
+use unit_state::record::ORDER_BYTES;
 use unit_state::record::ROOM_BYTES;
 use unit_state::record::RUN_BYTES;
 use unit_state::record::SUBSCRIBER_AT;
@@ -49,11 +52,11 @@ const TEXT_BYTES: usize = 1024;
 // The bytes of the longest record: an upload's head, and the longest payload.
 pub const RECORD_BYTES: usize = UPLOAD_HEAD + 700;
 
-// The places of a record's body, before which its length stands: of a frame to the bank, of a begin, and of a call to a
-// run.
+// The places of a record's body, before which its length stands: of a frame to the bank, of an upload's begin, and of a
+// call to a run.
 const FRAME_AT: usize = IDS_AT + ID_BYTES;
 
-const BEGIN_AT: usize = NONCE_AT + NONCE_BYTES;
+const BEGIN_AT: usize = ORDER_AT + ORDER_BYTES;
 
 const CALL_AT: usize = SUBSCRIBER_AT;
 
@@ -202,6 +205,15 @@ fn image_of(mail: &[u8], letter: u8) -> u64 {
     ROOM_BYTES as u64
 }
 
+// Writes what an upload run is told at begin.
+fn put_terms(record: &mut [u8], letter: u8, run: u8) {
+    if letter == b'U' {
+        let t = terms_of(run);
+        put_number(record, EDITION_AT, EDITION_BYTES, t.edition);
+        put_number(record, ORDER_AT, ORDER_BYTES, t.number);
+    }
+}
+
 // Writes the record of a move, whose body this is. A message that is lost or that a line holds, and the reply to a
 // signing, which no client run waits for, make no call: their record is empty.
 fn put_record(record: &mut [u8], m: Move, image: u64, body: &[u8]) {
@@ -217,6 +229,7 @@ fn put_record(record: &mut [u8], m: Move, image: u64, body: &[u8]) {
         SUBSCRIBER_BYTES + FIRST_BYTES,
         h.order,
     );
+    put_terms(record, m.letter, m.run);
     put_body(record, h.body, body);
 }
 

@@ -68,12 +68,12 @@ fn say_keyed(table: &[u8], key: u8, v: [u64; VALUES]) {
     }
 }
 
-// Prints the text of a key, or nothing where no text has it. The keys: a record's letter for the line of a move; 1 to 7
-// for what a request says, a to k and s for a reply; E for what follows each of them, A a request that repeats one, C
-// the code of a reply, O, S, Y, K, L, I, 8, m, y and z the codes' names in Annex 1; x, l, r and t for what became of a
-// message, H for the hour; i, q, w and n for what the call answered; u and d for a run's row in exercise C, o for a run
-// that has not ended, B, Z and X for what the bank has, V and W for whether the closing word is true, v for an order
-// and its day.
+// Prints the text of a key, or nothing where no text has it. The keys: a record's letter for the line of a move; 1 to
+// 7 and 9 for what a request says, a to k, s and 0 for a reply; E for what follows each of them, A a request that
+// repeats one, C the code of a reply, O, S, Y, K, L, I, 8, m, y and z the codes' names in Annex 1; x, l, r and t for
+// what became of a message, H for the hour; i, q, w and n for what the call answered; u and d for a run's row in
+// exercise C, o for a run that has not ended, B, Z and X for what the bank has, V and W for whether the closing word is
+// true, v for an order and its day.
 pub fn say(key: u8, v: [u64; VALUES]) {
     say_keyed(
         b"\
@@ -95,12 +95,14 @@ pub fn say(key: u8, v: [u64; VALUES]) {
             5receipt\n\
             6no message\n\
             7signing of 1 FUL 7\n\
+            9upload opening of 5 segments as order 7\n\
             aupload opened, order 7\n\
             bdownload opened with segment 4 of 5\n\
             esegment 4 taken\n\
             frecovery point at segment 4\n\
             gdownload segment 49\n\
             hreceipt answered\n\
+            0upload opened\n\
             junreadable request\n\
             krefusal\n\
             ssigned\n\

@@ -1,4 +1,5 @@
 // The script: the order of each client run, the signings, the moves one by one, and the seed of exercise B over lines.
+use message::order_numbers::order_number_of;
 use octets::bytes::behind;
 
 // The client runs, numbered from 1.
@@ -36,6 +37,28 @@ pub fn order_of(run: u8) -> Order {
         _ => Order {
             subscriber: 1,
             bytes: 700,
+        },
+    }
+}
+
+// What an upload run is told at begin, as its record has it: its edition, 1 for 2.4 and 0 for 2.5, and the order number
+// that it brings in 2.4.
+pub struct Terms {
+    pub edition: u64,
+    pub number: u64,
+}
+
+// The first run is of edition 2.4 and brings A000, which the bank then passes over for its subscriber; the others leave
+// the number to the bank.
+pub fn terms_of(run: u8) -> Terms {
+    match run {
+        1 => Terms {
+            edition: 1,
+            number: order_number_of(0),
+        },
+        _ => Terms {
+            edition: 0,
+            number: 0,
         },
     }
 }

@@ -78,7 +78,7 @@ fn say_before(
     if i == 0 {
         io::write_all(
             STDOUT_FILENO,
-            b"exercise A: an upload and a statement, no message lost\n",
+            b"exercise A: an upload of edition 2.4 and a statement, no message lost\n",
         );
     } else if i == MOVES_A {
         io::write_all(

@@ -42,6 +42,8 @@ use Rattle.frame_writer.specs.Writer.{
   downloadOpeningLength,
   signingLength,
   signedLength,
+  chosenOpeningLength,
+  chosenOpenedLength,
   requestRoom,
   replyRoom,
   smallestReply,
@@ -116,6 +118,7 @@ requests-fit request.UploadTransfer = omega arith
 requests-fit request.DownloadTransfer = omega arith
 requests-fit request.Receipt = omega arith
 requests-fit request.Signing = omega arith
+requests-fit request.ChosenOpening = omega arith
 
 replies-fit : (x : ReplyForm) → formLength (Reply x) segmentBytes ≤ replyRoom
 unfolding frameLength lengthFrom width
@@ -175,6 +178,14 @@ signed-tags : (n : ℕ) → formLength forms.Refusal n ≡ signedLength
 unfolding frameLength lengthFrom width
 signed-tags n = refl
 
+chosen-opening-tags : (n : ℕ) → formLength forms.ChosenOpening n ≡ chosenOpeningLength
+unfolding frameLength lengthFrom width
+chosen-opening-tags n = refl
+
+chosen-opened-tags : (n : ℕ) → formLength forms.ReceiptAnswered n ≡ chosenOpenedLength
+unfolding frameLength lengthFrom width
+chosen-opened-tags n = refl
+
 module _ (f : Fields) (d : List ℕ) (h : writable f d ≡ true) where
   -- a frame of a form is as long as the tables say of that form
   pub form-length : length (frameOf f d) ≡ formLength (form f) (length d)
@@ -199,3 +210,10 @@ module _ (f : Fields) (d : List ℕ) (h : writable f d ≡ true) where
 
   pub signed-size : form f ≡ forms.Refusal → length (frameOf f d) ≡ signedLength
   signed-size e = form-length ∙ ap (λ (x : Form). formLength x (length d)) e ∙ signed-tags (length d)
+
+  pub chosen-opening-size : form f ≡ forms.ChosenOpening → length (frameOf f d) ≡ chosenOpeningLength
+  chosen-opening-size e =
+      form-length ∙ ap (λ (x : Form). formLength x (length d)) e ∙ chosen-opening-tags (length d)
+
+  pub chosen-opened-size : form f ≡ forms.ReceiptAnswered → length (frameOf f d) ≡ chosenOpenedLength
+  chosen-opened-size e = form-length ∙ ap (λ (x : Form). formLength x (length d)) e ∙ chosen-opened-tags (length d)

@@ -20,6 +20,7 @@ use Rattle.frame_table.specs.Table.{
   timestampTag,
   lastTime,
   uzhnn,
+  h003,
   segmentsTag,
   transactionTag,
   segmentTag,
@@ -27,6 +28,7 @@ use Rattle.frame_table.specs.Table.{
   dataTag,
   returnCodeTag,
   orderAttributeTag,
+  versionTag,
   width,
   valuesOf,
   inRange,
@@ -39,7 +41,7 @@ use Rattle.frame_table.specs.Table.{
   isReplyForm,
   isForm,
 }
-use Rattle.frame_table.specs.Names.{form, with, timestamp, orderAttribute}
+use Rattle.frame_table.specs.Names.{form, with, timestamp, orderAttribute, version}
 use Rattle.frame_row.specs.Row.{spelled, listed, wellFormed, dataOf, highOf, lowOf, piece, join}
 use Rattle.frame_reader.specs.Reader.{parse, readAs, readRequest, readReply}
 use Rattle.frame_table.specs.Names.{noFields}
@@ -58,6 +60,8 @@ use Rattle.frame_writer.specs.Writer.{
   downloadOpeningLength,
   signingLength,
   signedLength,
+  chosenOpeningLength,
+  chosenOpenedLength,
   requestRoom,
   replyRoom,
   smallestReply,
@@ -76,6 +80,8 @@ use Rattle.frame.proofs.Lengths.{
   download-length,
   signing-size,
   signed-size,
+  chosen-opening-size,
+  chosen-opened-size,
 }
 use Rattle.frame_writer.proofs.Written.{written-front}
 use Rattle.frame.proofs.Parsed.{numberOf, Halves, InRow, field-in-row, read-halves, in-row, read-data}
@@ -224,6 +230,13 @@ module _ (s : List ℕ) where
           let n = request-number orderAttributeTag (omega arith) (λ z. omega arith) e .within uzhnn uzhnn refl in
           omega arith
 
+      -- reading 11.1, "another value than H003 is 091010": a protocol version that is read is H003
+      pub request-version : has (readRequest s .tags) versionTag ≡ true → version (readRequest s) ≡ h003
+      unfolding width valuesOf
+      request-version e =
+          let n = request-number versionTag (omega arith) (λ z. omega arith) e .within h003 h003 refl in
+          omega arith
+
     module _ (h : isReplyForm (form (readReply s)) ≡ true) where
       pub reply-written : frameOf (readReply s) (dataOf s) ≡ s
       unfolding readReply
@@ -261,6 +274,14 @@ written-attribute f d h e =
     let n = written-number f d h orderAttributeTag (omega arith) (λ z. omega arith) e .within uzhnn uzhnn refl in
     omega arith
 
+-- nor another protocol version
+pub written-version : (f : Fields) (d : List ℕ) → writable f d ≡ true → has (f .tags) versionTag ≡ true
+    → numberOf versionTag f ≡ h003
+unfolding width valuesOf
+written-version f d h e =
+    let n = written-number f d h versionTag (omega arith) (λ z. omega arith) e .within h003 h003 refl in
+    omega arith
+
 -- ---- request forms and reply forms cannot be taken for each other
 
 pub request-form-excludes : (x : Form) → isRequestForm x ≡ true → isReplyForm x ≡ false
@@ -274,7 +295,8 @@ pub reply-excludes-request : (s : List ℕ) → isReplyForm (form (readReply s))
 unfolding readRequest
 reply-excludes-request s h = rw (reply-not-request (form (parse s)) (reply-parsed s h .1))
 
--- ---- "Frame lengths: upload opening" 57, "largest request 303, largest reply 312"; of card 8, signing 72, its reply 20
+-- ---- "Frame lengths: upload opening" 57, "largest request 303, largest reply 312"; of card 8, signing 72, its reply 20;
+-- of card 11, an opening that brings its order number 71, its reply 39
 
 module _ (f : Fields) (d : List ℕ) (h : writable f d ≡ true) where
   -- a frame is as long as the tables say of its form
@@ -293,6 +315,13 @@ module _ (f : Fields) (d : List ℕ) (h : writable f d ≡ true) where
   -- a signing is answered by a frame of the form of refusals, with 000000 too
   pub signed-length : form f ≡ forms.Refusal → length (frameOf f d) ≡ signedLength
   signed-length = signed-size f d h
+
+  pub chosen-opening-length : form f ≡ forms.ChosenOpening → length (frameOf f d) ≡ chosenOpeningLength
+  chosen-opening-length = chosen-opening-size f d h
+
+  -- it is answered by a frame of the form of answered receipts, as the reply leaves 0E out
+  pub chosen-opened-length : form f ≡ forms.ReceiptAnswered → length (frameOf f d) ≡ chosenOpenedLength
+  chosen-opened-length = chosen-opened-size f d h
 
   pub request-length : isRequestForm (form f) ≡ true → length d ≤ segmentBytes → length (frameOf f d) ≤ requestRoom
   request-length k n = rw k at (length-limit f d h n)

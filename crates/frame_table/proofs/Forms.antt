@@ -75,6 +75,7 @@ request-tags-lt request.UploadTransfer = omega arith
 request-tags-lt request.DownloadTransfer = omega arith
 request-tags-lt request.Receipt = omega arith
 request-tags-lt request.Signing = omega arith
+request-tags-lt request.ChosenOpening = omega arith
 
 reply-tags-lt : (x : ReplyForm) → replyRow x < 2 ^ tagCount
 reply-tags-lt reply.UploadOpened = omega arith
@@ -109,6 +110,7 @@ request-row-has request.UploadTransfer = (refl, refl, refl)
 request-row-has request.DownloadTransfer = (refl, refl, refl)
 request-row-has request.Receipt = (refl, refl, refl)
 request-row-has request.Signing = (refl, refl, refl)
+request-row-has request.ChosenOpening = (refl, refl, refl)
 
 -- a phase, a subscriber and an exchange number
 pub request-has : (x : Form) → isRequestForm x ≡ true

@@ -1,4 +1,4 @@
--- The forms of document 01 and of card 8 by name.
+-- The forms of document 01 and of cards 8 and 11 by name.
 use Rattle.frame_table.specs.declared.table.RequestForm.the-variants as request
 use Rattle.frame_table.specs.declared.table.ReplyForm.the-variants as reply
 use Rattle.frame_table.specs.declared.table.Form.{Form}
@@ -21,6 +21,9 @@ Receipt = Request request.Receipt
 
 abbrev pub Signing : Form
 Signing = Request request.Signing
+
+abbrev pub ChosenOpening : Form
+ChosenOpening = Request request.ChosenOpening
 
 abbrev pub UploadOpened : Form
 UploadOpened = Reply reply.UploadOpened

@@ -23,6 +23,7 @@ use Rattle.frame_table.specs.Table.{
   orderNumberTag,
   orderAttributeTag,
   ownerTag,
+  versionTag,
   has,
   formOf,
 }
@@ -86,6 +87,10 @@ orderAttribute f = getD (f .low) orderAttributeTag 0
 -- "its owner (10, 2 bytes)": the subscriber whose order is named
 abbrev pub owner : Fields → ℕ
 owner f = getD (f .low) ownerTag 0
+
+-- card 11, "field 11 (4 bytes, H003)": its four bytes as a number
+abbrev pub version : Fields → ℕ
+version f = getD (f .low) versionTag 0
 
 -- the form that the fields are of
 abbrev pub form : Fields → Form

@@ -1,4 +1,4 @@
--- Document 01, "The frame", and card 8: the fields by tag, and the forms as sets of tags.
+-- Document 01, "The frame", and cards 8 and 11: the fields by tag, and the forms as sets of tags.
 use Prim.Native.Nat.{ℕ, _+_, _/_, _%_, _^_}
 use mathlib.Core.List.{List, [], _∷_}
 use mathlib.Core.Bool.{Bool, true, false, cond, _&&_, _||_}
@@ -12,7 +12,7 @@ use Rattle.frame_table.specs.declared.table.Field.{Field}
 use Rattle.frame_table.specs.declared.table.RequestForm.{RequestForm}
 use Rattle.frame_table.specs.declared.table.RequestForm.the-variants.{UploadOpening, DownloadOpening}
 use Rattle.frame_table.specs.declared.table.RequestForm.the-variants.{UploadTransfer, DownloadTransfer, Receipt}
-use Rattle.frame_table.specs.declared.table.RequestForm.the-variants.{Signing}
+use Rattle.frame_table.specs.declared.table.RequestForm.the-variants.{Signing, ChosenOpening}
 use Rattle.frame_table.specs.declared.table.ReplyForm.{ReplyForm}
 use Rattle.frame_table.specs.declared.table.ReplyForm.the-variants.{
   UploadOpened,
@@ -36,7 +36,7 @@ lastTime = 253402300799999
 
 -- how many tags there are, from 0 on
 abbrev pub tagCount : ℕ
-tagCount = 17
+tagCount = 18
 
 -- "Tags (hex)": 01 phase
 abbrev pub phaseTag : ℕ
@@ -102,9 +102,17 @@ orderAttributeTag = 15
 abbrev pub ownerTag : ℕ
 ownerTag = 16
 
+-- of card 11: 11 protocol version
+abbrev pub versionTag : ℕ
+versionTag = 17
+
 -- "attribute UZHNN": five characters, high byte first
 abbrev pub uzhnn : ℕ
 uzhnn = 0x555A484E4E
+
+-- "field 11 (4 bytes, H003)": four characters, high byte first
+abbrev pub h003 : ℕ
+h003 = 0x48303033
 
 -- "content lengths" (0: 1 or more), and the values, for each tag from 0 on
 abbrev pub fieldTable : List Field
@@ -126,6 +134,7 @@ fieldTable =
     ∷ (4, Any)  -- "order number, 4"
     ∷ (5, Range uzhnn uzhnn)  -- "attribute UZHNN (0F, 5 bytes)": no other value
     ∷ (2, Any)  -- "owner (10, 2 bytes)"
+    ∷ (4, Range h003 h003)  -- "field 11 (4 bytes, H003)": no other value
     ∷ []
 
 -- the row of a tag; no values where there is no such tag
@@ -178,6 +187,12 @@ requestRow Signing = (
   tagSet (phaseTag ∷ subscriberTag ∷ exchangeTag ∷ orderTypeTag ∷ nonceTag ∷ timestampTag ∷ orderNumberTag
       ∷ orderAttributeTag ∷ ownerTag ∷ []),
 )
+-- card 11, "An upload opening with field 11 (4 bytes, H003) and 0E, besides 01 to 07": phase 1
+requestRow ChosenOpening = (
+  1,
+  tagSet (phaseTag ∷ subscriberTag ∷ exchangeTag ∷ orderTypeTag ∷ nonceTag ∷ timestampTag ∷ segmentsTag
+      ∷ orderNumberTag ∷ versionTag ∷ []),
+)
 
 -- "Reply forms": the tags of each
 abbrev pub replyRow : ReplyForm → ℕ
@@ -192,7 +207,7 @@ replyRow SegmentTaken = tagSet (phaseTag ∷ exchangeTag ∷ transactionTag ∷ 
 -- "download segment 01 03 08 09 0A 0B 0D"
 replyRow DownloadSegment =
     tagSet (phaseTag ∷ exchangeTag ∷ transactionTag ∷ segmentTag ∷ lastMarkTag ∷ dataTag ∷ returnCodeTag ∷ [])
--- "receipt answered 01 03 08 0D"
+-- "receipt answered 01 03 08 0D"; of card 11 also the reply to a chosen opening, which "leaves 0E out"
 replyRow ReceiptAnswered = tagSet (phaseTag ∷ exchangeTag ∷ transactionTag ∷ returnCodeTag ∷ [])
 -- "unreadable request 0D"
 replyRow Unreadable = tagSet (returnCodeTag ∷ [])
@@ -215,7 +230,7 @@ hasPhase (Reply x) p = true
 abbrev pub formTable : List Form
 formTable =
     Request UploadOpening ∷ Request DownloadOpening ∷ Request UploadTransfer ∷ Request DownloadTransfer
-    ∷ Request Receipt ∷ Request Signing
+    ∷ Request Receipt ∷ Request Signing ∷ Request ChosenOpening
     ∷ Reply UploadOpened ∷ Reply DownloadOpened ∷ Reply SegmentTaken ∷ Reply DownloadSegment ∷ Reply ReceiptAnswered
     ∷ Reply Unreadable ∷ Reply Refusal ∷ []
 

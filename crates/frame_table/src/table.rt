@@ -10,7 +10,7 @@ ghost use mathlib.Core.Bool.{cond};
 ghost use lib.Dec.{eqb};
 
 // How many tags there are, from 0 on.
-pub const TAG_COUNT: usize = 17;
+pub const TAG_COUNT: usize = 18;
 
 // How many bytes a frame has at most.
 pub const FRAME_LIMIT: usize = 1024;
@@ -50,8 +50,13 @@ pub const ORDER_ATTRIBUTE: usize = 15;
 
 pub const OWNER: usize = 16;
 
+pub const VERSION: usize = 17;
+
 // The one order attribute: five characters, high byte first.
 pub const UZHNN: u64 = 0x55_5A_48_4E_4E;
+
+// The one protocol version, that of edition 2.4: four characters.
+pub const H003: u64 = 0x48_30_30_33;
 
 // The characters of a text.
 pub enum Characters {
@@ -76,9 +81,10 @@ pub enum RequestForm {
     DownloadTransfer,
     Receipt,
     Signing,
+    ChosenOpening,
 }
 
-// SegmentTaken is also the recovery point, which has the same fields.
+// SegmentTaken is also the recovery point, ReceiptAnswered also the reply to a chosen opening: each has the same fields.
 pub enum ReplyForm {
     UploadOpened,
     DownloadOpened,
@@ -141,6 +147,16 @@ const SIGNING: u32 = 1 << PHASE
     | 1 << ORDER_ATTRIBUTE
     | 1 << OWNER;
 
+const CHOSEN_OPENING: u32 = 1 << PHASE
+    | 1 << SUBSCRIBER
+    | 1 << EXCHANGE
+    | 1 << ORDER_TYPE
+    | 1 << NONCE
+    | 1 << TIMESTAMP
+    | 1 << SEGMENTS
+    | 1 << ORDER_NUMBER
+    | 1 << VERSION;
+
 const UPLOAD_OPENED: u32 = 1 << PHASE
     | 1 << EXCHANGE
     | 1 << TRANSACTION
@@ -199,7 +215,8 @@ fn field_row(tag: usize) -> Field
         RETURN_CODE => Field(6, Values::Text(Characters::Digits)), // 0D
         ORDER_NUMBER => Field(4, Values::Any), // 0E
         ORDER_ATTRIBUTE => Field(5, Values::Range(UZHNN, UZHNN)), // 0F
-        _ => Field(2, Values::Any), // 10 owner
+        OWNER => Field(2, Values::Any), // 10
+        _ => Field(4, Values::Range(H003, H003)), // 11 protocol version
     }
 }
 
@@ -230,7 +247,8 @@ pub fn in_range(least: u64, greatest: u64, number: u64) -> bool
     number <= greatest
 }
 
-fn is_capital_or_digit(byte: u64) -> bool
+// Whether the byte is a capital or a digit.
+pub fn is_capital_or_digit(byte: u64) -> bool
     ensures { λ r. ⌜ r ≡ allowed CapitalsOrDigits byte ⌝ }
 {
     if in_range(48, 57, byte) {
@@ -272,6 +290,7 @@ pub(crate) fn form_of(tags: u32, phase: u64) -> Form
         DOWNLOAD_TRANSFER => of_phase(phase, 2, RequestForm::DownloadTransfer),
         RECEIPT => of_phase(phase, 3, RequestForm::Receipt),
         SIGNING => of_phase(phase, 1, RequestForm::Signing),
+        CHOSEN_OPENING => of_phase(phase, 1, RequestForm::ChosenOpening),
         UPLOAD_OPENED => Form::Reply(ReplyForm::UploadOpened),
         DOWNLOAD_OPENED => Form::Reply(ReplyForm::DownloadOpened),
         SEGMENT_TAKEN => Form::Reply(ReplyForm::SegmentTaken),

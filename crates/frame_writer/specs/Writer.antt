@@ -105,6 +105,14 @@ signingLength = 72
 abbrev pub signedLength : ℕ
 signedLength = 20
 
+-- of card 11, an opening that brings its order number 71
+abbrev pub chosenOpeningLength : ℕ
+chosenOpeningLength = 71
+
+-- its reply 39: the form "receipt answered 01 03 08 0D"
+abbrev pub chosenOpenedLength : ℕ
+chosenOpenedLength = 39
+
 -- "largest request 303", with the 256 data bytes of a whole segment; "request buffer under 303"
 abbrev pub requestRoom : ℕ
 requestRoom = 303

@@ -1,4 +1,4 @@
--- The laws of the image: of its walk, of what the loops keep, of both round trips, of the stores extended, and the theorems.
+-- The laws of the image: of its walk, of what the loops keep, of both round trips, and the theorems.
 pub mod Bytes
 pub mod Walking
 pub mod Lengths
@@ -9,5 +9,3 @@ pub mod Calls
 pub mod Theorems
 pub mod FormNumber
 pub mod Forms
-pub mod Extended
-pub mod Widths

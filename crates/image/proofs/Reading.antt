@@ -13,7 +13,7 @@ use Rattle.octets.specs.Bytes.{number, overwrite}
 use Rattle.octets.proofs.Tests.{and-true, every, every-below}
 use Rattle.octets.proofs.Numbers.{overwrite-nil, overwrite-set}
 use Rattle.image.specs.declared.table.Row.{Row}
-use Rattle.image.specs.Table.{rowAt, allRows, noRow}
+use Rattle.image.specs.Table.{rowAt, imageFields, noRow}
 use Rattle.image.specs.Items.{
   Item,
   constant,
@@ -148,25 +148,25 @@ passes-content r =
 -- ---- what a row says of itself: tests computed over the table
 
 abbrev row-sized : ℕ → Bool
-row-sized i = eqb (getD allRows i noRow .bytes) (bytesIn (contentItems (getD allRows i noRow)))
+row-sized i = eqb (getD imageFields i noRow .bytes) (bytesIn (contentItems (getD imageFields i noRow)))
 
 abbrev row-small : ℕ → Bool
-row-small i = leb (getD allRows i noRow .width) 8 && ltb (getD allRows i noRow .head) (256 ^ (getD allRows i noRow .width))
+row-small i = leb (getD imageFields i noRow .width) 8 && ltb (getD imageFields i noRow .head) (256 ^ (getD imageFields i noRow .width))
 
-all-rows : every (λ i. row-sized i && row-small i) (length allRows) ≡ true
+all-rows : every (λ i. row-sized i && row-small i) (length imageFields) ≡ true
 unfolding contentItems recordItems partItems storeItems bytesIn
 all-rows = refl
 
-row-test : (i : ℕ) (t : Bool) → ltb i (length allRows) ≡ t → (row-sized i && row-small i) ≡ true
+row-test : (i : ℕ) (t : Bool) → ltb i (length imageFields) ≡ t → (row-sized i && row-small i) ≡ true
 unfolding contentItems recordItems storeItems bytesIn
-row-test i true e = every-below (λ i. row-sized i && row-small i) (length allRows) all-rows i (ltb-true i (length allRows) e)
+row-test i true e = every-below (λ i. row-sized i && row-small i) (length imageFields) all-rows i (ltb-true i (length imageFields) e)
 row-test i false e =
-    let z = List·getD-eq-default allRows noRow {n = i} (let k = ltb-false i (length allRows) e in omega arith) in
+    let z = List·getD-eq-default imageFields noRow {n = i} (let k = ltb-false i (length imageFields) e in omega arith) in
     rw z
 
 module _ (i : ℕ) where
   both-tests : (row-sized i ≡ true) × (row-small i ≡ true)
-  both-tests = and-true (row-sized i) (row-small i) (row-test i (ltb i (length allRows)) refl)
+  both-tests = and-true (row-sized i) (row-small i) (row-test i (ltb i (length imageFields)) refl)
 
   row-bytes : rowAt i .bytes ≡ bytesIn (contentItems (rowAt i))
   unfolding rowAt

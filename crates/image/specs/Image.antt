@@ -1,18 +1,14 @@
 -- Card 2: the image of a session's numbers and stores, and what the two calls answer and leave.
-use Prim.Native.Nat.{ℕ, zero, suc, _-_, _^_}
+use Prim.Native.Nat.{ℕ, _^_}
 use mathlib.Core.List.{List, [], _∷_, _++_}
 use mathlib.Core.Bool.{Bool, true, cond, _&&_}
-use lib.ListN.{length, getD, take, drop, replicate}
+use lib.ListN.{length, getD, take, drop}
 use lib.Dec.{ltb, leb, eqb}
 use Rattle.number_table.specs.Table as numbers
 use Rattle.octets.specs.Bytes.{number, bytesOf, overwrite}
-use Rattle.message.specs.Limits.{fileBytes}
-use Rattle.bank_state.specs.Limits.{placeCount}
-use Rattle.image.specs.declared.table.Form.{Form}
 use Rattle.image.specs.declared.codec.Answer.{Answer}
 use Rattle.image.specs.declared.codec.Answer.the-variants.{Done, Lengths, Contents}
-use Rattle.image.specs.Table.{fileSize}
-use Rattle.image.specs.Items.{Item, constant, part, store, itemsOf, sizesOf}
+use Rattle.image.specs.Items.{Item, constant, part, store, imageItems, imageSizes}
 
 -- the bytes of constants, numbers and stores
 unfoldable pub pack : List Item → List ℕ → List (List ℕ) → List ℕ
@@ -53,24 +49,24 @@ constantsRight (store z ∷ l) s = constantsRight l (drop z s)
 abbrev pub stores : List ℕ → List ℕ → List (List ℕ)
 stores orders mailboxes = orders ∷ mailboxes ∷ []
 
--- both stores as parts of an image, by the form's places of them
-abbrev pub partsOf : Form → List ℕ → List (List ℕ)
-partsOf form s =
-    stores (take (sizesOf form .store) (drop (sizesOf form .orders) s))
-    (take (sizesOf form .store) (drop (sizesOf form .mailboxes) s))
+-- both stores as parts of an image, by their places in it
+abbrev pub partsOf : List ℕ → List (List ℕ)
+partsOf s =
+    stores (take (imageSizes .store) (drop (imageSizes .orders) s))
+    (take (imageSizes .store) (drop (imageSizes .mailboxes) s))
 
-unfoldable pub imageOf : Form → List ℕ → List ℕ → List ℕ → List ℕ
-imageOf form xs orders mailboxes = pack (itemsOf form) xs (stores orders mailboxes)
+unfoldable pub imageOf : List ℕ → List ℕ → List ℕ → List ℕ
+imageOf xs orders mailboxes = pack imageItems xs (stores orders mailboxes)
 
--- the numbers and both stores have the form's lengths
-unfoldable pub lent : Form → List ℕ → List ℕ → List ℕ → Bool
-lent form xs orders mailboxes =
-    eqb (length xs) (sizesOf form .numbers)
-    && (eqb (length orders) (sizesOf form .store) && eqb (length mailboxes) (sizesOf form .store))
+-- the numbers and both stores have the image's lengths
+unfoldable pub lent : List ℕ → List ℕ → List ℕ → Bool
+lent xs orders mailboxes =
+    eqb (length xs) (imageSizes .numbers)
+    && (eqb (length orders) (imageSizes .store) && eqb (length mailboxes) (imageSizes .store))
 
--- "The first field is the form's number"; "tags rising, each once, nothing behind": bytes that are an image of the form
-unfoldable pub isImage : Form → List ℕ → Bool
-isImage form s = eqb (length s) (sizesOf form .image) && constantsRight (itemsOf form) s
+-- "The first field is the form's number"; "tags rising, each once, nothing behind": bytes that are an image
+unfoldable pub isImage : List ℕ → Bool
+isImage s = eqb (length s) (imageSizes .image) && constantsRight imageItems s
 
 -- the papers' number for an answer, 0 where an image is written or read: "with number 9 after number 1"
 abbrev pub codecNumber : Answer → ℕ
@@ -88,11 +84,11 @@ abbrev pub wrote : Answer → List ℕ → Wrote
 wrote r d = record { answer = r; number = codecNumber r; buffer = d }
 
 -- "in a lent buffer, bytes behind them untouched"
-unfoldable pub written : Form → List ℕ → List ℕ → List ℕ → List ℕ → Wrote
-written form xs orders mailboxes d =
-    cond (lent form xs orders mailboxes && leb (sizesOf form .image) (length d))
-    (cond (fits (itemsOf form) xs)
-    (wrote Done (overwrite d 0 (imageOf form xs orders mailboxes)))
+unfoldable pub written : List ℕ → List ℕ → List ℕ → List ℕ → Wrote
+written xs orders mailboxes d =
+    cond (lent xs orders mailboxes && leb (imageSizes .image) (length d))
+    (cond (fits imageItems xs)
+    (wrote Done (overwrite d 0 (imageOf xs orders mailboxes)))
     (wrote Contents d))
     (wrote Lengths d)
 
@@ -107,11 +103,11 @@ abbrev pub took : Answer → List ℕ → List (List ℕ) → Took
 took r xs ss = record { answer = r; number = codecNumber r; numbers = xs; stores = ss }
 
 -- "taking up gives back the session written, whatever stood there"; "leaves the session unchanged" otherwise
-unfoldable pub taken : Form → List ℕ → List ℕ → List ℕ → List ℕ → Took
-taken form s xs orders mailboxes =
-    cond (lent form xs orders mailboxes)
-    (cond (isImage form s)
-    (took Done (numbersOf (itemsOf form) s) (storesOf (itemsOf form) s))
+unfoldable pub taken : List ℕ → List ℕ → List ℕ → List ℕ → Took
+taken s xs orders mailboxes =
+    cond (lent xs orders mailboxes)
+    (cond (isImage s)
+    (took Done (numbersOf imageItems s) (storesOf imageItems s))
     (took Contents xs (stores orders mailboxes)))
     (took Lengths xs (stores orders mailboxes))
 
@@ -124,22 +120,11 @@ pub record TookNumbers : Type 0 where
 abbrev pub tookNumbers : Answer → List ℕ → TookNumbers
 tookNumbers r xs = record { answer = r; number = codecNumber r; numbers = xs }
 
-unfoldable pub numbersTaken : Form → List ℕ → List ℕ → TookNumbers
-numbersTaken form s xs =
-    cond (eqb (length xs) (sizesOf form .numbers))
-    (cond (isImage form s) (tookNumbers Done (numbersOf (itemsOf form) s)) (tookNumbers Contents xs))
+unfoldable pub numbersTaken : List ℕ → List ℕ → TookNumbers
+numbersTaken s xs =
+    cond (eqb (length xs) (imageSizes .numbers))
+    (cond (isImage s) (tookNumbers Done (numbersOf imageItems s)) (tookNumbers Contents xs))
     (tookNumbers Lengths xs)
-
--- ---- the stores of an older form
-
--- card 6, "each place and mailbox extended with zeros": n parts of a store, each of so many bytes
-unfoldable pub extendedParts : ℕ → ℕ → List ℕ → List ℕ
-extendedParts size zero s = []
-extendedParts size (suc n) s = (take size s ++ replicate (fileBytes - size) 0) ++ extendedParts size n (drop size s)
-
--- a store of the form with its places or mailboxes so extended
-unfoldable pub extended : Form → List ℕ → List ℕ
-extended form s = extendedParts (fileSize form) placeCount s
 
 -- the lengths of stores
 unfoldable pub lengths : List (List ℕ) → List ℕ

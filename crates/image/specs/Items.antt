@@ -1,13 +1,14 @@
 -- What a table of fields stands for: the constants, the numbers and the stores of an image, one behind the other.
 use Prim.Native.Nat.{ℕ, zero, suc, _+_, _/_, _%_}
 use mathlib.Core.List.{List, [], _∷_, _++_}
+use lib.ListN.{length}
+use Rattle.bank_state.specs.Limits.{storeBytes}
 use Rattle.image.specs.declared.table.Row.{Row}
-use Rattle.image.specs.declared.table.Form.{Form}
 use Rattle.image.specs.declared.table.Sizes.{Sizes}
-use Rattle.image.specs.Table.{storeSize, rowAt, firstRow, fieldCount}
+use Rattle.image.specs.Table.{rowAt, imageFields}
 
 pub data Item : Type 0 where
-  -- so many bytes that are this number in every image of the form
+  -- so many bytes that are this number in every image
   constant : ℕ → ℕ → Item
   -- a number of the session, of so many bytes
   part : ℕ → Item
@@ -37,8 +38,8 @@ fieldItems zero i = []
 fieldItems (suc k) i =
     constant (rowAt i .width) (rowAt i .head) ∷ (contentItems (rowAt i) ++ fieldItems k (i % 256 + 1))
 
-unfoldable pub itemsOf : Form → List Item
-itemsOf form = fieldItems (fieldCount form) (firstRow form)
+unfoldable pub imageItems : List Item
+imageItems = fieldItems (length imageFields) 0
 
 -- how many bytes, how many numbers, and the sizes of the stores
 unfoldable pub bytesIn : List Item → ℕ
@@ -52,13 +53,6 @@ partsIn [] = 0
 partsIn (constant w v ∷ l) = partsIn l
 partsIn (part w ∷ l) = suc (partsIn l)
 partsIn (store z ∷ l) = partsIn l
-
--- the lengths of the numbers' parts
-unfoldable pub widthsIn : List Item → List ℕ
-widthsIn [] = []
-widthsIn (constant w v ∷ l) = widthsIn l
-widthsIn (part w ∷ l) = w ∷ widthsIn l
-widthsIn (store z ∷ l) = widthsIn l
 
 unfoldable pub storesIn : List Item → List ℕ
 storesIn [] = []
@@ -74,14 +68,13 @@ storeAt (part w ∷ l) n = w + storeAt l n
 storeAt (store z ∷ l) zero = 0
 storeAt (store z ∷ l) (suc n) = z + storeAt l n
 
-unfoldable pub sizesOf : Form → Sizes
-sizesOf form =
+unfoldable pub imageSizes : Sizes
+imageSizes =
     record {
-      first = firstRow form;
-      fields = fieldCount form;
-      numbers = partsIn (itemsOf form);
-      store = storeSize form;
-      image = bytesIn (itemsOf form);
-      orders = storeAt (itemsOf form) 0;
-      mailboxes = storeAt (itemsOf form) 1;
+      fields = length imageFields;
+      numbers = partsIn imageItems;
+      store = storeBytes;
+      image = bytesIn imageItems;
+      orders = storeAt imageItems 0;
+      mailboxes = storeAt imageItems 1;
     }

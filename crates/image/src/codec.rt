@@ -2,9 +2,8 @@
 use crate::numbers::fits_width;
 use crate::numbers::number_at;
 use crate::numbers::put_number;
-use crate::table::Form;
+use crate::table::image_sizes;
 use crate::table::row_at;
-use crate::table::sizes_of;
 use crate::walk::Cursor;
 use crate::walk::Step;
 use crate::walk::next;
@@ -15,7 +14,7 @@ ghost use mathlib.Core.List.{[]};
 ghost use Prim.Native.Nat.{_+_, _≤_, _<_};
 ghost use lib.ListN.{length, getD, take, drop};
 ghost use Rattle.octets.specs.Bytes.{overwrite};
-ghost use Rattle.image.specs.Items.{itemsOf, sizesOf, fieldItems, bytesIn, partsIn, storesIn};
+ghost use Rattle.image.specs.Items.{imageItems, imageSizes, fieldItems, bytesIn, partsIn, storesIn};
 ghost use Rattle.image.specs.Walk.{rest};
 ghost use Rattle.image.specs.Image.{pack, numbersOf, storesOf, fits, constantsRight, stores, lengths};
 ghost use Rattle.image.specs.Image.{isImage, wrote, written, took, taken, tookNumbers, numbersTaken};
@@ -129,15 +128,15 @@ fn heads_right(field: usize, fields: u64, image: &[u8]) -> bool
     true
 }
 
-// Whether the bytes are an image of the form.
-pub fn is_image(form: Form, image: &[u8]) -> bool
-    ensures { λ r. ⌜ r ≡ isImage form (now (image .entry)) ⌝ }
+// Whether the bytes are an image.
+pub fn is_image(image: &[u8]) -> bool
+    ensures { λ r. ⌜ r ≡ isImage (now (image .entry)) ⌝ }
 {
-    let f = sizes_of(form);
+    let f = image_sizes();
     if image.len() != f.image {
         return false;
     }
-    heads_right(f.first, f.fields, image)
+    heads_right(0, f.fields, image)
 }
 
 // Reads the numbers of an image.
@@ -182,29 +181,23 @@ fn take_store(image: &[u8], at: usize, store: &mut [u8])
 }
 
 // Reads both stores of an image.
-pub fn take_stores(form: Form, image: &[u8], orders: &mut [u8], mailboxes: &mut [u8])
-    requires { ⌜ (length (now image) ≡ sizesOf form .image)
-        × (length (now orders) ≡ sizesOf form .store) × (length (now mailboxes) ≡ sizesOf form .store) ⌝ }
+pub fn take_stores(image: &[u8], orders: &mut [u8], mailboxes: &mut [u8])
+    requires { ⌜ (length (now image) ≡ imageSizes .image)
+        × (length (now orders) ≡ imageSizes .store) × (length (now mailboxes) ≡ imageSizes .store) ⌝ }
     ensures { λ _. ⌜ stores (now (orders .exit)) (now (mailboxes .exit))
-        ≡ storesOf (itemsOf form) (now (image .entry)) ⌝ }
+        ≡ storesOf imageItems (now (image .entry)) ⌝ }
 {
-    let f = sizes_of(form);
+    let f = image_sizes();
     take_store(image, f.orders, orders);
     take_store(image, f.mailboxes, mailboxes);
 }
 
 // Writes the image of the numbers and the stores over the front of the buffer.
-pub fn write(
-    form: Form,
-    numbers: &[u64],
-    orders: &[u8],
-    mailboxes: &[u8],
-    buffer: &mut [u8],
-) -> Answer
-    ensures { λ r. ⌜ wrote r (now (buffer .exit)) ≡ written form (now (numbers .entry)) (now (orders .entry))
+pub fn write(numbers: &[u64], orders: &[u8], mailboxes: &[u8], buffer: &mut [u8]) -> Answer
+    ensures { λ r. ⌜ wrote r (now (buffer .exit)) ≡ written (now (numbers .entry)) (now (orders .entry))
         (now (mailboxes .entry)) (now (buffer .entry)) ⌝ }
 {
-    let f = sizes_of(form);
+    let f = image_sizes();
     if numbers.len() != f.numbers {
         return Answer::Lengths;
     }
@@ -217,7 +210,7 @@ pub fn write(
     if buffer.len() < f.image {
         return Answer::Lengths;
     }
-    let from = start(f.first, f.fields);
+    let from = start(0, f.fields);
     if !fits_all(from, numbers) {
         return Answer::Contents;
     }
@@ -226,17 +219,11 @@ pub fn write(
 }
 
 // Reads an image, which is all the bytes handed in, into the numbers and the stores.
-pub fn read(
-    form: Form,
-    image: &[u8],
-    numbers: &mut [u64],
-    orders: &mut [u8],
-    mailboxes: &mut [u8],
-) -> Answer
+pub fn read(image: &[u8], numbers: &mut [u64], orders: &mut [u8], mailboxes: &mut [u8]) -> Answer
     ensures { λ r. ⌜ took r (now (numbers .exit)) (stores (now (orders .exit)) (now (mailboxes .exit)))
-        ≡ taken form (now (image .entry)) (now (numbers .entry)) (now (orders .entry)) (now (mailboxes .entry)) ⌝ }
+        ≡ taken (now (image .entry)) (now (numbers .entry)) (now (orders .entry)) (now (mailboxes .entry)) ⌝ }
 {
-    let f = sizes_of(form);
+    let f = image_sizes();
     if numbers.len() != f.numbers {
         return Answer::Lengths;
     }
@@ -246,26 +233,26 @@ pub fn read(
     if mailboxes.len() != f.store {
         return Answer::Lengths;
     }
-    if !is_image(form, image) {
+    if !is_image(image) {
         return Answer::Contents;
     }
-    take_numbers(start(f.first, f.fields), image, numbers);
-    take_stores(form, image, orders, mailboxes);
+    take_numbers(start(0, f.fields), image, numbers);
+    take_stores(image, orders, mailboxes);
     Answer::Done
 }
 
 // Reads the numbers of an image, which is all the bytes handed in, and not its stores.
-pub fn read_numbers(form: Form, image: &[u8], numbers: &mut [u64]) -> Answer
+pub fn read_numbers(image: &[u8], numbers: &mut [u64]) -> Answer
     ensures { λ r. ⌜ tookNumbers r (now (numbers .exit))
-        ≡ numbersTaken form (now (image .entry)) (now (numbers .entry)) ⌝ }
+        ≡ numbersTaken (now (image .entry)) (now (numbers .entry)) ⌝ }
 {
-    let f = sizes_of(form);
+    let f = image_sizes();
     if numbers.len() != f.numbers {
         return Answer::Lengths;
     }
-    if !is_image(form, image) {
+    if !is_image(image) {
         return Answer::Contents;
     }
-    take_numbers(start(f.first, f.fields), image, numbers);
+    take_numbers(start(0, f.fields), image, numbers);
     Answer::Done
 }

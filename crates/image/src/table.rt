@@ -1,14 +1,11 @@
-// The table of an image's fields, form by form, and a form's sizes.
-use bank_state::limits::PLACE_COUNT;
+// The table of an image's fields, and its sizes.
 use bank_state::limits::STORE_BYTES;
-use message::limits::FILE_BYTES;
-use message::limits::MAX_SEGMENTS;
 ghost use mathlib.Core.Path.{_≡_};
-ghost use Rattle.image.specs.Table.{rowAt, segmentLimit, fileSize};
-ghost use Rattle.image.specs.Items.{sizesOf};
+ghost use Rattle.image.specs.Table.{rowAt};
+ghost use Rattle.image.specs.Items.{imageSizes};
 
 // A field: its head as a number of so many bytes (tag and length; for the form's number the content too), which is the
-// same in every image of the form; how many records it has, how many parts a record has besides the first, and their
+// same in every image; how many records it has, how many parts a record has besides the first, and their
 // lengths as hexadecimal digits, the first part's last; or the size of its store; how many bytes stand behind the head.
 pub struct Row {
     pub width: usize,
@@ -20,31 +17,13 @@ pub struct Row {
     pub bytes: usize,
 }
 
-// The forms that are written or taken up, each by the card that made it.
-pub enum Form {
-    Five,
-    Six,
-    Eight,
-}
-
-// The fields of a form, the first row of form 8, and the rows of all forms.
+// How many fields an image has.
 const FIELD_COUNT: usize = 14;
 
-const FIRST_8: usize = FIELD_COUNT + FIELD_COUNT;
-
-const ROW_COUNT: usize = FIRST_8 + FIELD_COUNT;
-
-// The most segments of an order in an image of the form, and its bytes: form 5 has its own.
-const SEGMENTS_5: u64 = 15;
-
-const FILE_5: usize = 3840;
-
-const STORE_5: usize = PLACE_COUNT * FILE_5;
-
-// The form's number, of each form.
-const FORM_5: Row = Row {
+// The form's number.
+const FORM: Row = Row {
     width: 4,
-    head: 0x01_0001_05,
+    head: 0x01_0001_0b,
     records: 0,
     more: 0,
     widths: 0,
@@ -52,27 +31,7 @@ const FORM_5: Row = Row {
     bytes: 0,
 };
 
-const FORM_6: Row = Row {
-    width: 4,
-    head: 0x01_0001_06,
-    records: 0,
-    more: 0,
-    widths: 0,
-    store: 0,
-    bytes: 0,
-};
-
-const FORM_8: Row = Row {
-    width: 4,
-    head: 0x01_0001_08,
-    records: 0,
-    more: 0,
-    widths: 0,
-    store: 0,
-    bytes: 0,
-};
-
-// The fields of numbers, which all forms share but for the places.
+// The fields of numbers.
 const CLOCK: Row = Row {
     width: 3,
     head: 0x02_0008,
@@ -153,18 +112,7 @@ const DOWNLOADS: Row = Row {
     bytes: 232,
 };
 
-// The places of forms 5 and 6, whose last part has no bytes, and those of form 8, where it is the set of signers.
 const PLACES: Row = Row {
-    width: 3,
-    head: 0x0a_0130,
-    records: 8,
-    more: 10,
-    widths: 0x02812248821,
-    store: 0,
-    bytes: 304,
-};
-
-const PLACES_8: Row = Row {
     width: 3,
     head: 0x0a_0138,
     records: 8,
@@ -186,35 +134,15 @@ const FILES: Row = Row {
 
 const JOURNAL: Row = Row {
     width: 3,
-    head: 0x0c_0680,
+    head: 0x0c_0a80,
     records: 64,
-    more: 5,
-    widths: 0x143288,
+    more: 7,
+    widths: 0x18843288,
     store: 0,
-    bytes: 1664,
+    bytes: 2688,
 };
 
-// The stores of form 5, and those of forms 6 and 8.
-const ORDERS_5: Row = Row {
-    width: 3,
-    head: 0x0d_7800,
-    records: 0,
-    more: 0,
-    widths: 0,
-    store: STORE_5,
-    bytes: STORE_5,
-};
-
-const MAILBOXES_5: Row = Row {
-    width: 3,
-    head: 0x0e_7800,
-    records: 0,
-    more: 0,
-    widths: 0,
-    store: STORE_5,
-    bytes: STORE_5,
-};
-
+// The stores.
 const ORDERS: Row = Row {
     width: 3,
     head: 0x0d_f800,
@@ -235,9 +163,9 @@ const MAILBOXES: Row = Row {
     bytes: STORE_BYTES,
 };
 
-// The fields of form 5 and behind them those of forms 6 and 8, in the order of `fieldsOf`.
-const ROWS: [Row; ROW_COUNT] = [
-    FORM_5,
+// The fields in the order of `imageFields`.
+const ROWS: [Row; FIELD_COUNT] = [
+    FORM,
     CLOCK,
     OPENINGS,
     SERIES,
@@ -247,34 +175,6 @@ const ROWS: [Row; ROW_COUNT] = [
     DOWNLOADS_OPEN,
     DOWNLOADS,
     PLACES,
-    FILES,
-    JOURNAL,
-    ORDERS_5,
-    MAILBOXES_5,
-    FORM_6,
-    CLOCK,
-    OPENINGS,
-    SERIES,
-    EVENTS,
-    NONCES_USED,
-    NONCES,
-    DOWNLOADS_OPEN,
-    DOWNLOADS,
-    PLACES,
-    FILES,
-    JOURNAL,
-    ORDERS,
-    MAILBOXES,
-    FORM_8,
-    CLOCK,
-    OPENINGS,
-    SERIES,
-    EVENTS,
-    NONCES_USED,
-    NONCES,
-    DOWNLOADS_OPEN,
-    DOWNLOADS,
-    PLACES_8,
     FILES,
     JOURNAL,
     ORDERS,
@@ -285,7 +185,7 @@ const ROWS: [Row; ROW_COUNT] = [
 pub fn row_at(i: usize) -> Row
     ensures { λ r. ⌜ r ≡ rowAt i ⌝ }
 {
-    if i < ROW_COUNT {
+    if i < FIELD_COUNT {
         return ROWS[i];
     }
     Row {
@@ -299,10 +199,9 @@ pub fn row_at(i: usize) -> Row
     }
 }
 
-// A form's first row and how many fields it has; how many numbers a session has, the sizes of a store and of the image;
-// where the places' store and the mailboxes' begin in the image.
+// How many fields an image has and how many numbers a session; the sizes of a store and of the image; where the places'
+// store and the mailboxes' begin in the image.
 pub struct Sizes {
-    pub first: usize,
     pub fields: u64,
     pub numbers: usize,
     pub store: usize,
@@ -311,58 +210,15 @@ pub struct Sizes {
     pub mailboxes: usize,
 }
 
-pub fn sizes_of(form: Form) -> Sizes
-    ensures { λ r. ⌜ r ≡ sizesOf form ⌝ }
+pub fn image_sizes() -> Sizes
+    ensures { λ r. ⌜ r ≡ imageSizes ⌝ }
 {
-    match form {
-        Form::Five => Sizes {
-            first: 0,
-            fields: 14,
-            numbers: 733,
-            store: STORE_5,
-            image: 65293,
-            orders: 3850,
-            mailboxes: 34573,
-        },
-        Form::Six => Sizes {
-            first: FIELD_COUNT,
-            fields: 14,
-            numbers: 733,
-            store: STORE_BYTES,
-            image: 130829,
-            orders: 3850,
-            mailboxes: 67341,
-        },
-        Form::Eight => Sizes {
-            first: FIRST_8,
-            fields: 14,
-            numbers: 733,
-            store: STORE_BYTES,
-            image: 130837,
-            orders: 3858,
-            mailboxes: 67349,
-        },
-    }
-}
-
-// The most segments of an order in an image of the form.
-pub fn segment_limit(form: Form) -> u64
-    ensures { λ r. ⌜ r ≡ segmentLimit form ⌝ }
-{
-    match form {
-        Form::Five => SEGMENTS_5,
-        Form::Six => MAX_SEGMENTS,
-        Form::Eight => MAX_SEGMENTS,
-    }
-}
-
-// The bytes of a place and of a mailbox in an image of the form.
-pub fn file_size(form: Form) -> usize
-    ensures { λ r. ⌜ r ≡ fileSize form ⌝ }
-{
-    match form {
-        Form::Five => FILE_5,
-        Form::Six => FILE_BYTES,
-        Form::Eight => FILE_BYTES,
+    Sizes {
+        fields: 14,
+        numbers: 861,
+        store: STORE_BYTES,
+        image: 131861,
+        orders: 4882,
+        mailboxes: 68373,
     }
 }

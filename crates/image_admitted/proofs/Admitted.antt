@@ -10,7 +10,8 @@ use Rattle.message.specs.Limits.{fileBytes}
 use Rattle.journal.specs.Events.{recordCount}
 use Rattle.bank_state.specs.declared.state.Download.{Download}
 use Rattle.bank_state.specs.Limits.{placeCount, storeBytes, maxOpenings}
-use Rattle.bank_state.specs.State.{BankState, noDownload, downloadAt}
+use Rattle.bank_state.specs.State.{BankState, noDownload, placeAt, downloadAt}
+use Rattle.bank_state.specs.Store.{partAt}
 use Rattle.bank_rows.specs.State.{downloadCountOf, nonceCountOf, Laid}
 use Rattle.bank_steps.specs.Lent.{stateOf}
 use Rattle.bank_session.specs.Session.{LentSession, sessionSize, bankRows, bankIn, journalIn}
@@ -18,14 +19,14 @@ use Rattle.bank_admitted.specs.Session.{SessionHolds}
 use Rattle.bank_admitted.proofs.Rows.{packed-rises}
 use Rattle.image_records.specs.Layout as image
 use Rattle.image_numbers.proofs.Laws.{length-numbersIn}
-use Rattle.image_calls.specs.Calls.{written, numbersOf, lengthsRight, isAdmitted}
+use Rattle.image_calls.specs.Calls.{numbersOf, lengthsRight, isAdmitted}
 use Rattle.image_admitted.specs.Unused.{Wiped}
 use Rattle.image_records.proofs.General.{and-both}
 use Rattle.image_admitted.proofs.Shown.{Shown}
 use Rattle.image_admitted.proofs.Series.{every-series, series-sum}
 use Rattle.image_admitted.proofs.Nonces.{every-nonce, nonces-distinct}
 use Rattle.image_admitted.proofs.Mailboxes.{every-mailbox}
-use Rattle.image_admitted.proofs.Places.{every-place}
+use Rattle.image_admitted.proofs.Places.{place-known, every-place}
 use Rattle.image_admitted.proofs.Downloads.{every-download}
 use Rattle.image_admitted.proofs.Slots.{
   orders-distinct,
@@ -77,12 +78,14 @@ module _ (m : LentSession) (right : lengthsRight m ≡ true) (o : SessionHolds (
       packed-rises (λ (e : Download). e .used) noDownload (λ (e : Download). e .transaction .low)
       (λ (e : Download). suc (e .transaction .low)) refl (λ e. omega arith) (o .state .inOrder) i k less (v .usedDownload k below)
 
-  list : Listed written (numbersOf m) (m .orders) (m .mailboxes)
+  list : Listed (numbersOf m) (m .orders) (m .mailboxes)
   list = record {
     clock = le-leb (image.clock (numbersOf m)) lastTime (omega (arith, v .clock, o .clock));
     openings = le-leb (image.openings (numbersOf m)) maxOpenings (omega (arith, v .openings, o .state .numbers));
     series = every-series v (o .state .series);
-    seriesAll = series-sum v (o .state .series);
+    seriesAll = series-sum v
+        (λ i k. place-known (placeAt (w .bank) i .used) (w .bank .clock) (w .bank .openings) (placeAt (w .bank) i) (partAt (w .orders) i)
+        (o .state .places i k)) (o .state .series);
     nonceCount = counts-fit (m .rows) (m .row) (long .rows) (long .row) l .0;
     nonces = every-nonce v (o .nonces) (o .state .nonces);
     noncesApart = nonces-distinct v (o .nonces) (o .state .nonces);
@@ -105,7 +108,7 @@ module _ (m : LentSession) (right : lengthsRight m ≡ true) (o : SessionHolds (
   unfolding isAdmitted
   holds-admitted =
       and-both
-      (listing written (numbersOf m) (m .orders) (m .mailboxes) (length-numbersIn (m .rows) (m .row) (long .row)) (long .orders)
+      (listing (numbersOf m) (m .orders) (m .mailboxes) (length-numbersIn (m .rows) (m .row) (long .row)) (long .orders)
       (long .mailboxes) list)
       (numbers-fit w v o (nonce-all (m .rows) (m .row) (long .rows) (long .row) l z)
       (download-all (m .rows) (m .row) (long .rows) (long .row) l z))

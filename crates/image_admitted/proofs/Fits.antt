@@ -24,7 +24,7 @@ use Rattle.image.specs.Items.{
   storeItems,
   contentItems,
   fieldItems,
-  itemsOf,
+  imageItems,
 }
 use Rattle.image.specs.Image.{fits}
 use Rattle.image_records.specs.declared.layout.NonceRecord.{NonceRecord}
@@ -34,7 +34,6 @@ use Rattle.image_records.specs.declared.layout.EventRecord.{EventRecord}
 use Rattle.image_records.specs.Shapes.{every}
 use Rattle.image_records.specs.Layout as image
 use Rattle.image_records.proofs.Shapes.{every-at}
-use Rattle.image_calls.specs.Calls.{written}
 use Rattle.image_records.proofs.General.{Below, below-at, by-record}
 
 -- ---- the lengths of the parts, in their order
@@ -74,7 +73,7 @@ fits-from (store z ∷ l) xs f = fits-from l xs f
 -- ---- the groups of records
 
 unfoldable partWidths : List ℕ
-partWidths = widths (itemsOf written)
+partWidths = widths imageItems
 
 -- from a place on stand so many records whose parts have these lengths
 unfoldable stands : ℕ → List ℕ → ℕ → Bool
@@ -101,46 +100,46 @@ abbrev pub placeWidths : List ℕ
 placeWidths = 1 ∷ 2 ∷ 8 ∷ 8 ∷ 4 ∷ 2 ∷ 2 ∷ 1 ∷ timeBytes ∷ 2 ∷ 1 ∷ []
 
 abbrev pub eventWidths : List ℕ
-eventWidths = 8 ∷ timeBytes ∷ 2 ∷ 3 ∷ 4 ∷ 1 ∷ []
+eventWidths = 8 ∷ timeBytes ∷ 2 ∷ 3 ∷ 4 ∷ 8 ∷ 8 ∷ 1 ∷ []
 
 all-parts : length partWidths ≡ image.numberCount
-unfolding partWidths widths itemsOf fieldItems contentItems recordItems partItems storeItems rowAt
+unfolding partWidths widths imageItems fieldItems contentItems recordItems partItems storeItems rowAt
 all-parts = refl
 
 head-stands : stands image.clockAt headWidths 1 ≡ true
-unfolding stands every partWidths widths itemsOf fieldItems contentItems recordItems partItems storeItems rowAt
+unfolding stands every partWidths widths imageItems fieldItems contentItems recordItems partItems storeItems rowAt
 head-stands = refl
 
 series-stand : stands image.seriesAt seriesWidths placeCount ≡ true
-unfolding stands every partWidths widths itemsOf fieldItems contentItems recordItems partItems storeItems rowAt
+unfolding stands every partWidths widths imageItems fieldItems contentItems recordItems partItems storeItems rowAt
 series-stand = refl
 
 counts-stand : stands image.eventsAt countWidths 1 ≡ true
-unfolding stands every partWidths widths itemsOf fieldItems contentItems recordItems partItems storeItems rowAt
+unfolding stands every partWidths widths imageItems fieldItems contentItems recordItems partItems storeItems rowAt
 counts-stand = refl
 
 nonces-stand : stands image.noncesAt nonceWidths nonceCount ≡ true
-unfolding stands every partWidths widths itemsOf fieldItems contentItems recordItems partItems storeItems rowAt
+unfolding stands every partWidths widths imageItems fieldItems contentItems recordItems partItems storeItems rowAt
 nonces-stand = refl
 
 count-stands : stands image.downloadCountAt (1 ∷ []) 1 ≡ true
-unfolding stands every partWidths widths itemsOf fieldItems contentItems recordItems partItems storeItems rowAt
+unfolding stands every partWidths widths imageItems fieldItems contentItems recordItems partItems storeItems rowAt
 count-stands = refl
 
 downloads-stand : stands image.downloadsAt downloadWidths placeCount ≡ true
-unfolding stands every partWidths widths itemsOf fieldItems contentItems recordItems partItems storeItems rowAt
+unfolding stands every partWidths widths imageItems fieldItems contentItems recordItems partItems storeItems rowAt
 downloads-stand = refl
 
 places-stand : stands image.placesAt placeWidths placeCount ≡ true
-unfolding stands every partWidths widths itemsOf fieldItems contentItems recordItems partItems storeItems rowAt
+unfolding stands every partWidths widths imageItems fieldItems contentItems recordItems partItems storeItems rowAt
 places-stand = refl
 
 files-stand : stands image.filesAt (2 ∷ []) placeCount ≡ true
-unfolding stands every partWidths widths itemsOf fieldItems contentItems recordItems partItems storeItems rowAt
+unfolding stands every partWidths widths imageItems fieldItems contentItems recordItems partItems storeItems rowAt
 files-stand = refl
 
 journal-stands : stands image.journalAt eventWidths recordCount ≡ true
-unfolding stands every partWidths widths itemsOf fieldItems contentItems recordItems partItems storeItems rowAt
+unfolding stands every partWidths widths imageItems fieldItems contentItems recordItems partItems storeItems rowAt
 journal-stands = refl
 
 -- record i of a group has no part too long
@@ -155,12 +154,12 @@ module _ (at : ℕ) (ws : List ℕ) (records : ℕ) (s : stands at ws records �
       let one : ℕ → ℕ → Bool = λ n p. eqb (getD partWidths (at + (n * length ws + p)) 0) (getD ws p 0) in
       eqb-true _ _ (every-at (one i) (length ws) k (every-at (λ n. every (one n) (length ws)) records i s h) l)
 
-  part-fits : fits (itemsOf written) xs ≡ true → (i k q : ℕ) → i < records → k < length ws
+  part-fits : fits imageItems xs ≡ true → (i k q : ℕ) → i < records → k < length ws
       → q ≡ at + (i * length ws + k) → getD xs q 0 < 256 ^ getD ws k 0
   unfolding partWidths
   part-fits f i k q h l e =
       rw (e, ← width-is i k h l)
-      (fits-at (itemsOf written) xs f (at + (i * length ws + k))
+      (fits-at imageItems xs f (at + (i * length ws + k))
       (omega (arith, all-parts, mul-le-mul-right (length ws) h)))
 
   group-fits : ((i : ℕ) → i < records → Group xs at ws i) → (p : ℕ) → at ≤ p → p < at + records * length ws
@@ -173,7 +172,7 @@ module _ (at : ℕ) (ws : List ℕ) (records : ℕ) (s : stands at ws records �
 
 -- ---- what the codec tells of transactions and nonces
 
-module _ (xs : List ℕ) (f : fits (itemsOf written) xs ≡ true) (i : ℕ) where
+module _ (xs : List ℕ) (f : fits imageItems xs ≡ true) (i : ℕ) where
   pub nonce-words : i < nonceCount → (image.nonceAt xs i .high < 2 ^ 64) × (image.nonceAt xs i .low < 2 ^ 64)
   unfolding image.nonceAt
   nonce-words h =
@@ -196,6 +195,11 @@ module _ (xs : List ℕ) (f : fits (itemsOf written) xs ≡ true) (i : ℕ) wher
   unfolding image.placeAt
   place-signers h =
       part-fits image.placesAt placeWidths placeCount places-stand (omega arith) (omega arith) xs f i 10 _ h (omega arith) (omega arith)
+
+  pub event-word : i < recordCount → image.eventAt xs i .high < 2 ^ 64
+  unfolding image.eventAt
+  event-word h =
+      part-fits image.journalAt eventWidths recordCount journal-stands (omega arith) (omega arith) xs f i 5 _ h (omega arith) (omega arith)
 
 -- ---- a record's parts
 
@@ -291,28 +295,34 @@ module _ (xs : List ℕ) where
 
     pub event-group : (r : EventRecord) → image.eventAt xs i ≡ r
         → r .number < 256 ^ 8 → r .clock < 256 ^ timeBytes → r .subscriber < 256 ^ 2 → r .«order_type» < 256 ^ 3
-        → r .order < 256 ^ 4 → r .kind < 256 ^ 1
+        → r .order < 256 ^ 4 → r .high < 256 ^ 8 → r .low < 256 ^ 8 → r .kind < 256 ^ 1
         → Group xs image.journalAt eventWidths i
     unfolding image.eventAt
-    event-group r e number clock subscriber type order kind =
+    event-group r e number clock subscriber type order high low kind =
         let at = image.journalAt + i * image.eventWidth in (
           (
             (
               (
                 (
                   (
-                    tt,
-                    part-of at _ _ (omega arith) (ap (λ (x : EventRecord). x .number) e) number,
+                    (
+                      (
+                        tt,
+                        part-of at _ _ (omega arith) (ap (λ (x : EventRecord). x .number) e) number,
+                      ),
+                      part-of (at + 1) _ _ (omega arith) (ap (λ (x : EventRecord). x .clock) e) clock,
+                    ),
+                    part-of (at + 2) _ _ (omega arith) (ap (λ (x : EventRecord). x .subscriber) e) subscriber,
                   ),
-                  part-of (at + 1) _ _ (omega arith) (ap (λ (x : EventRecord). x .clock) e) clock,
+                  part-of (at + 3) _ _ (omega arith) (ap (λ (x : EventRecord). x .«order_type») e) type,
                 ),
-                part-of (at + 2) _ _ (omega arith) (ap (λ (x : EventRecord). x .subscriber) e) subscriber,
+                part-of (at + 4) _ _ (omega arith) (ap (λ (x : EventRecord). x .order) e) order,
               ),
-              part-of (at + 3) _ _ (omega arith) (ap (λ (x : EventRecord). x .«order_type») e) type,
+              part-of (at + 5) _ _ (omega arith) (ap (λ (x : EventRecord). x .high) e) high,
             ),
-            part-of (at + 4) _ _ (omega arith) (ap (λ (x : EventRecord). x .order) e) order,
+            part-of (at + 6) _ _ (omega arith) (ap (λ (x : EventRecord). x .low) e) low,
           ),
-          part-of (at + 5) _ _ (omega arith) (ap (λ (x : EventRecord). x .kind) e) kind,
+          part-of (at + 7) _ _ (omega arith) (ap (λ (x : EventRecord). x .kind) e) kind,
         )
 
   -- ---- all numbers
@@ -331,12 +341,12 @@ module _ (xs : List ℕ) where
       → ((i : ℕ) → i < placeCount → Group xs image.downloadsAt downloadWidths i)
       → ((i : ℕ) → i < placeCount → Group xs image.placesAt placeWidths i)
       → ((i : ℕ) → i < placeCount → image.fileAt xs i < 256 ^ 2)
-      → ((i : ℕ) → i < recordCount → Group xs image.journalAt eventWidths i) → fits (itemsOf written) xs ≡ true
+      → ((i : ℕ) → i < recordCount → Group xs image.journalAt eventWidths i) → fits imageItems xs ≡ true
   unfolding partWidths image.counterAt image.fileAt
   groups-fit head series counts nonces count downloads places files journal =
       let Fit : ℕ → Type 0 = λ p. getD xs p 0 < 256 ^ getD partWidths p 0 in
       let one : (i : ℕ) → i < 1 → i ≡ 0 = λ i h. omega arith in
-      fits-from (itemsOf written) xs
+      fits-from imageItems xs
       (rw all-parts
       (join Fit image.journalAt image.numberCount
       (join Fit image.filesAt image.journalAt

@@ -1,5 +1,5 @@
 -- A session of the list holds what a session may hold. Assumes nothing.
-use Prim.Native.Nat.{ℕ, _≤_, _<_}
+use Prim.Native.Nat.{ℕ, _^_, _≤_, _<_}
 use mathlib.Core.Bool.{Bool, true, false}
 use mathlib.Core.Path.{_≡_, refl, sym, subst}
 use native.Mathlib.Omega.{arith}
@@ -13,7 +13,7 @@ use Rattle.journal.specs.Events.{recordCount}
 use Rattle.bank_state.specs.declared.state.Download.{Download}
 use Rattle.bank_state.specs.declared.state.Use.{Use}
 use Rattle.bank_state.specs.declared.state.Use.the-variants.{Free, Open, Booked}
-use Rattle.bank_state.specs.Limits.{placeCount, nonceCount, storeBytes, maxOpenings, allSigners}
+use Rattle.bank_state.specs.Limits.{placeCount, storeBytes, maxOpenings, allSigners}
 use Rattle.bank_state.specs.Search.{isFree, isOpen}
 use Rattle.bank_state.specs.State.{Bank, BankState, placeAt, downloadAt}
 use Rattle.bank_state.specs.Store.{partAt}
@@ -21,12 +21,12 @@ use Rattle.bank_rows.specs.State.{downloadCountOf, nonceCountOf, bankOf, nonceA
 use Rattle.bank_steps.specs.Lent.{stateOf}
 use Rattle.bank_session.specs.Session.{LentSession, sessionSize, bankRows, bankIn, journalIn}
 use Rattle.bank_admitted.specs.State.{mailboxFile, PlaceHolds, DownloadHolds, StateHolds, NoneIdle}
-use Rattle.bank_admitted.specs.Session.{Words, SessionHolds}
-use Rattle.image.specs.Items.{itemsOf}
+use Rattle.bank_admitted.specs.Session.{Words, recordAt, SessionHolds}
+use Rattle.image.specs.Items.{imageItems}
 use Rattle.image.specs.Image.{fits}
 use Rattle.image_records.specs.Layout as image
 use Rattle.image_conditions.specs.Conditions.{admitted}
-use Rattle.image_calls.specs.Calls.{written, numbersOf, lengthsRight, isAdmitted}
+use Rattle.image_calls.specs.Calls.{numbersOf, lengthsRight, isAdmitted}
 use Rattle.image_admitted.specs.Unused.{Wiped}
 use Rattle.image_admitted.proofs.Shown.{Shown, download-used}
 use Rattle.image_admitted.proofs.Series.{series-hold}
@@ -37,7 +37,7 @@ use Rattle.image_admitted.proofs.Downloads.{downloads-hold, download-no
 use Rattle.image_admitted.proofs.Slots.{places-apart, downloads-apart, open-all, open-of, events-bound}
 use Rattle.image_admitted.proofs.Journal.{journal-holds}
 use Rattle.image_admitted.proofs.Rows.{tested-laid, shown, tested-wiped}
-use Rattle.image_admitted.proofs.Fits.{nonce-words, download-words, place-words, place-signers}
+use Rattle.image_admitted.proofs.Fits.{nonce-words, download-words, place-words, place-signers, event-word}
 use Rattle.image_conditions.proofs.Listed.{Listed, listed}
 
 -- the lengths of what is lent
@@ -76,15 +76,15 @@ module _ (m : LentSession) (right : lengthsRight m ≡ true) (h : isAdmitted m �
   long : Long m
   long = lengths-told m right
 
-  list : Listed written (numbersOf m) (m .orders) (m .mailboxes)
+  list : Listed (numbersOf m) (m .orders) (m .mailboxes)
   unfolding isAdmitted
   list =
-      listed written (numbersOf m) (m .orders) (m .mailboxes)
-      (and-true (admitted written (numbersOf m) (m .orders) (m .mailboxes)) _ h .0)
+      listed (numbersOf m) (m .orders) (m .mailboxes)
+      (and-true (admitted (numbersOf m) (m .orders) (m .mailboxes)) _ h .0)
 
-  fit : fits (itemsOf written) (numbersOf m) ≡ true
+  fit : fits imageItems (numbersOf m) ≡ true
   unfolding isAdmitted
-  fit = and-true (admitted written (numbersOf m) (m .orders) (m .mailboxes)) _ h .1
+  fit = and-true (admitted (numbersOf m) (m .orders) (m .mailboxes)) _ h .1
 
   -- the rows are a bank's, wiped behind their counts
   pub admitted-laid : Laid (bankRows (m .rows))
@@ -144,6 +144,15 @@ module _ (m : LentSession) (right : lengthsRight m ≡ true) (h : isAdmitted m �
       (downloads i) in
       (o .known, o .most)
 
+  place-subscriber : (i : ℕ) → i < placeCount → isFree (placeAt b i .used) ≡ false
+      → (1 ≤ placeAt b i .subscriber) × (placeAt b i .subscriber ≤ subscribers)
+  place-subscriber i k =
+      place-known (placeAt b i .used) (b .clock) (b .openings) (placeAt b i) (partAt (m .orders) i) (places i k)
+
+  -- the first half of an event's transaction ID
+  event-fits : (i : ℕ) → i < recordCount → recordAt (journalIn m) i .high < 2 ^ 64
+  event-fits i k = rw (v .event i k) at (event-word (numbersOf m) fit i k)
+
   state-holds : StateHolds w
   state-holds = record {
     sizes = record {
@@ -156,9 +165,9 @@ module _ (m : LentSession) (right : lengthsRight m ≡ true) (h : isAdmitted m �
       mailboxes = long .mailboxes;
     };
     numbers = omega (arith, leb-true (image.openings (numbersOf m)) maxOpenings (list .openings), v .openings);
-    series = series-hold v (list .series) (list .seriesAll);
+    series = series-hold v place-subscriber (list .series) (list .seriesAll);
     places = places;
-    orders = λ i k. place-ordered v (m .orders) (long .orders) (list .places) i k (signers-fit i k);
+    orders = place-ordered v (m .orders) (long .orders) (list .places);
     downloads = downloads;
     mailboxesHold = mailboxes-hold v (m .mailboxes) (long .mailboxes) (list .files);
     placesApart = places-apart v (list .numbers) (list .ordersApart);
@@ -167,9 +176,7 @@ module _ (m : LentSession) (right : lengthsRight m ≡ true) (h : isAdmitted m �
     nonces = nonces-hold v (list .nonces);
     openAll = open-all v (list .openAll);
     openOf = open-of v
-        (λ i k e.
-        place-known (placeAt b i .used) (b .clock) (b .openings) (placeAt b i) (partAt (m .orders) i) (places i k)
-        (open-used (placeAt b i .used) e))
+        (λ i k e. place-subscriber i k (open-used (placeAt b i .used) e))
         download-known (list .openOf);
   }
 
@@ -188,6 +195,6 @@ module _ (m : LentSession) (right : lengthsRight m ≡ true) (h : isAdmitted m �
     nonces = nonces-apart v (list .nonces) (list .noncesApart) nonce-fits;
     places = place-fits;
     downloads = download-fits;
-    journal = journal-holds v (list .journal) (list .journalOver);
+    journal = journal-holds v event-fits (list .journal) (list .journalOver);
     events = events-bound v (list .events);
   }

@@ -1,6 +1,6 @@
 -- The journal: the conditions on each used event, and that the other records are 0, are what a session's journal may
 -- hold. Assumes nothing.
-use Prim.Native.Nat.{ℕ, suc, _+_, _-_, _*_, _≤_, _<_}
+use Prim.Native.Nat.{ℕ, suc, _+_, _-_, _*_, _^_, _≤_, _<_}
 use mathlib.Core.Bool.{Bool, true, false, cond, _&&_}
 use mathlib.Core.List.{List}
 use mathlib.Core.Path.{_≡_, refl, sym, ap, _∙_}
@@ -15,6 +15,7 @@ use Rattle.journal.specs.declared.event.Kind.the-variants.{Unused, Opened, Book
 use Rattle.journal.specs.Events.{recordCount, noEvent}
 use Rattle.journal.specs.Places.{usedAfter}
 use Rattle.journal.specs.Row.{Journal}
+use Rattle.bank_state.specs.Limits.{seriesLimit}
 use Rattle.bank_state.specs.State.{Bank}
 use Rattle.bank_events.specs.Entries.{isEvent}
 use Rattle.bank_admitted.specs.Session.{recordAt, JournalHolds}
@@ -27,8 +28,6 @@ use Rattle.image_records.proofs.Shapes.{every-at, every-from, up-to-le}
 use Rattle.image_numbers.specs.Numbers.{numberOfKind}
 use Rattle.image_numbers.proofs.Records.{eventIn}
 use Rattle.image_records.proofs.General.{unused-part, unused-parts}
-use Rattle.image_calls.specs.Calls.{written}
-use Rattle.image_admitted.proofs.Series.{counter-of}
 use Rattle.image_admitted.proofs.Shown.{Shown, up-to-few}
 
 -- ---- an event's kind
@@ -41,7 +40,7 @@ kind-told Cancelled h = refl
 kind-told Dropped h = refl
 kind-told Signed h = refl
 
-kind-number : (k : Kind) → isEvent k ≡ true → (1 ≤ numberOfKind k) × (numberOfKind k ≤ lastKind written)
+kind-number : (k : Kind) → isEvent k ≡ true → (1 ≤ numberOfKind k) × (numberOfKind k ≤ lastKind)
 kind-number Unused h = never h
 kind-number Opened h = (omega arith, omega arith)
 kind-number Booked h = (omega arith, omega arith)
@@ -76,21 +75,22 @@ used-few n = omega (arith, up-to-le recordCount n .0, used-events n)
 
 -- ---- the test of one event
 
-module _ (now counter entered i : ℕ) (before e : EventRecord) where
+module _ (now opened entered i : ℕ) (before e : EventRecord) where
   abbrev Facts : Type 0
   Facts =
       (e .number ≡ entered - upTo recordCount entered + 1 + i) × (e .clock ≤ now) × (before .clock ≤ e .clock)
-      × (1 ≤ e .subscriber) × (e .subscriber ≤ subscribers) × (e .«order_type» ≡ ful) × (e .order < counter)
-      × (1 ≤ e .kind) × (e .kind ≤ lastKind written)
+      × (1 ≤ e .subscriber) × (e .subscriber ≤ subscribers) × (e .«order_type» ≡ ful) × (e .order < seriesLimit)
+      × (e .low < opened) × (1 ≤ e .kind) × (e .kind ≤ lastKind)
 
-  told : eventHolds written now counter entered i before e ≡ true → Facts
+  told : eventHolds now opened entered i before e ≡ true → Facts
   told h =
       let a = and-true (eqb (e .number) (entered - upTo recordCount entered + 1 + i)) _ h in
       let b = and-true (leb (e .clock) now && leb (before .clock) (e .clock)) _ (a .1) in
       let c = and-true (leb 1 (e .subscriber) && leb (e .subscriber) subscribers) _ (b .1) in
       let type = and-true (eqb (e .«order_type») ful) _ (c .1) in
-      let d = and-true (ltb (e .order) counter) _ (type .1) in
-      let f = and-true (leb 1 (e .kind) && leb (e .kind) (lastKind written)) _ (d .1) in
+      let d = and-true (ltb (e .order) seriesLimit) _ (type .1) in
+      let low = and-true (ltb (e .low) opened) _ (d .1) in
+      let f = and-true (leb 1 (e .kind) && leb (e .kind) lastKind) _ (low .1) in
       let time = and-true (leb (e .clock) now) _ (b .0) in
       let known = and-true (leb 1 (e .subscriber)) _ (c .0) in
       let kind = and-true (leb 1 (e .kind)) _ (f .0) in (
@@ -101,11 +101,12 @@ module _ (now counter entered i : ℕ) (before e : EventRecord) where
         leb-true _ _ (known .1),
         eqb-true _ _ (type .0),
         ltb-true _ _ (d .0),
+        ltb-true _ _ (low .0),
         leb-true _ _ (kind .0),
         leb-true _ _ (kind .1),
       )
 
-  tested : Facts → eventHolds written now counter entered i before e ≡ true
+  tested : Facts → eventHolds now opened entered i before e ≡ true
   tested f =
       rw (
         eq-eqb _ _ (f .0),
@@ -115,8 +116,9 @@ module _ (now counter entered i : ℕ) (before e : EventRecord) where
         le-leb _ _ (f .4),
         eq-eqb _ _ (f .5),
         lt-ltb _ _ (f .6),
-        le-leb _ _ (f .7),
+        lt-ltb _ _ (f .7),
         le-leb _ _ (f .8),
+        le-leb _ _ (f .9),
       )
 
 module _ {xs : List ℕ} {b : Bank} {j : Journal} {d n : ℕ} (v : Shown xs b j d n) where
@@ -125,16 +127,16 @@ module _ {xs : List ℕ} {b : Bank} {j : Journal} {d n : ℕ} (v : Shown xs b j 
 
   -- ---- from the tests
 
-  module _ (h : everyEvent written xs ≡ true) where
+  module _ (words : (i : ℕ) → i < recordCount → recordAt j i .high < 2 ^ 64) (h : everyEvent xs ≡ true) where
     facts : (i : ℕ) → i < usedAfter (j .events)
-        → Facts (b .clock) (image.counterOf xs (recordAt j i .subscriber)) (j .events) i (eventIn (recordAt j (i - 1)))
+        → Facts (b .clock) (b .openings) (j .events) i (eventIn (recordAt j (i - 1)))
         (eventIn (recordAt j i))
     unfolding everyEvent eventTest
     facts i k =
         let few = used-few (j .events) in
-        let t = every-at (eventTest written xs) (image.usedEvents xs) i h (rw used-are k) in
-        told (b .clock) (image.counterOf xs (recordAt j i .subscriber)) (j .events) i (eventIn (recordAt j (i - 1)))
-        (eventIn (recordAt j i)) (rw (v .clock, v .events, v .event (i - 1) (omega arith), v .event i (omega arith)) at t)
+        let t = every-at (eventTest xs) (image.usedEvents xs) i h (rw used-are k) in
+        told (b .clock) (b .openings) (j .events) i (eventIn (recordAt j (i - 1)))
+        (eventIn (recordAt j i)) (rw (v .clock, v .openings, v .events, v .event (i - 1) (omega arith), v .event i (omega arith)) at t)
 
     module _ (zero : journalUnused xs ≡ true) where
       part-zero : (i p q : ℕ) → usedAfter (j .events) ≤ i → i < recordCount → p < image.eventWidth
@@ -154,20 +156,24 @@ module _ {xs : List ℕ} {b : Bank} {j : Journal} {d n : ℕ} (v : Shown xs b j 
           let subscriber = sym (ap (λ (x : EventRecord). x .subscriber) r) ∙ part-zero i 2 _ k l (omega arith) (omega arith) in
           let type = sym (ap (λ (x : EventRecord). x .«order_type») r) ∙ part-zero i 3 _ k l (omega arith) (omega arith) in
           let order = sym (ap (λ (x : EventRecord). x .order) r) ∙ part-zero i 4 _ k l (omega arith) (omega arith) in
+          let high = sym (ap (λ (x : EventRecord). x .high) r) ∙ part-zero i 5 _ k l (omega arith) (omega arith) in
+          let low = sym (ap (λ (x : EventRecord). x .low) r) ∙ part-zero i 6 _ k l (omega arith) (omega arith) in
           let kind = kind-unused (recordAt j i .kind)
-          (sym (ap (λ (x : EventRecord). x .kind) r) ∙ part-zero i 5 _ k l (omega arith) (omega arith)) in
+          (sym (ap (λ (x : EventRecord). x .kind) r) ∙ part-zero i 7 _ k l (omega arith) (omega arith)) in
           λ z. record {
             number = number z;
             clock = clock z;
             subscriber = subscriber z;
             «order_type» = type z;
             order = order z;
+            high = high z;
+            low = low z;
             kind = kind z;
           }
       not-used i false e k =
           List·getD-eq-default (j .row) noEvent (omega (arith, ltb-false i recordCount e, v .longRow))
 
-      pub journal-holds : JournalHolds (b .clock) (b .series) j
+      pub journal-holds : JournalHolds (b .clock) (b .openings) j
       journal-holds = record {
         long = v .longRow;
         each = λ i k.
@@ -177,8 +183,10 @@ module _ {xs : List ℕ} {b : Bank} {j : Journal} {d n : ℕ} (v : Shown xs b j 
               known = f .3;
               most = f .4;
               typed = f .5;
-              counted = rw (counter-of v (recordAt j i .subscriber) (f .3) (f .4)) at (f .6);
-              happened = kind-told (recordAt j i .kind) (f .7);
+              ordered = f .6;
+              lent = words i (omega (arith, k, used-few (j .events)));
+              counted = f .7;
+              happened = kind-told (recordAt j i .kind) (f .8);
             };
         numbered = λ i k. rw (← used-events (j .events)) (facts i k .0);
         rising = λ i k.
@@ -189,7 +197,7 @@ module _ {xs : List ℕ} {b : Bank} {j : Journal} {d n : ℕ} (v : Shown xs b j 
 
   -- ---- and to them
 
-  module _ (o : JournalHolds (b .clock) (b .series) j) where
+  module _ (o : JournalHolds (b .clock) (b .openings) j) where
     before-rises : (i : ℕ) → i < usedAfter (j .events) → recordAt j (i - 1) .clock ≤ recordAt j i .clock
     before-rises i k = at (ltb 0 i) refl
       where
@@ -203,17 +211,17 @@ module _ {xs : List ℕ} {b : Bank} {j : Journal} {d n : ℕ} (v : Shown xs b j 
             let f : i - 1 ≡ i = omega arith in
             rw f (omega arith)
 
-    pub every-event : everyEvent written xs ≡ true
+    pub every-event : everyEvent xs ≡ true
     unfolding everyEvent eventTest
     every-event =
-        every-from (eventTest written xs) (image.usedEvents xs)
+        every-from (eventTest xs) (image.usedEvents xs)
         (λ i h.
         let k : i < usedAfter (j .events) = rw used-are at h in
         let few = used-few (j .events) in
         let e = o .each i k in
         let kind = kind-number (recordAt j i .kind) (e .happened) in
-        rw (v .clock, v .events, v .event (i - 1) (omega arith), v .event i (omega arith))
-        (tested (b .clock) (image.counterOf xs (recordAt j i .subscriber)) (j .events) i (eventIn (recordAt j (i - 1)))
+        rw (v .clock, v .openings, v .events, v .event (i - 1) (omega arith), v .event i (omega arith))
+        (tested (b .clock) (b .openings) (j .events) i (eventIn (recordAt j (i - 1)))
         (eventIn (recordAt j i)) (
           rw (used-events (j .events)) (o .numbered i k),
           e .current,
@@ -221,7 +229,8 @@ module _ {xs : List ℕ} {b : Bank} {j : Journal} {d n : ℕ} (v : Shown xs b j 
           e .known,
           e .most,
           e .typed,
-          rw (counter-of v (recordAt j i .subscriber) (e .known) (e .most)) (e .counted),
+          e .ordered,
+          e .counted,
           kind .0,
           kind .1,
         )))
@@ -240,14 +249,20 @@ module _ {xs : List ℕ} {b : Bank} {j : Journal} {d n : ℕ} (v : Shown xs b j 
             (
               (
                 (
-                  (tt, at 0 _ (omega arith) (ap (λ (x : EventRecord). x .number) r)),
-                  at 1 _ (omega arith) (ap (λ (x : EventRecord). x .clock) r),
+                  (
+                    (
+                      (tt, at 0 _ (omega arith) (ap (λ (x : EventRecord). x .number) r)),
+                      at 1 _ (omega arith) (ap (λ (x : EventRecord). x .clock) r),
+                    ),
+                    at 2 _ (omega arith) (ap (λ (x : EventRecord). x .subscriber) r),
+                  ),
+                  at 3 _ (omega arith) (ap (λ (x : EventRecord). x .«order_type») r),
                 ),
-                at 2 _ (omega arith) (ap (λ (x : EventRecord). x .subscriber) r),
+                at 4 _ (omega arith) (ap (λ (x : EventRecord). x .order) r),
               ),
-              at 3 _ (omega arith) (ap (λ (x : EventRecord). x .«order_type») r),
+              at 5 _ (omega arith) (ap (λ (x : EventRecord). x .high) r),
             ),
-            at 4 _ (omega arith) (ap (λ (x : EventRecord). x .order) r),
+            at 6 _ (omega arith) (ap (λ (x : EventRecord). x .low) r),
           ),
-          at 5 _ (omega arith) (ap (λ (x : EventRecord). x .kind) r),
+          at 7 _ (omega arith) (ap (λ (x : EventRecord). x .kind) r),
         )))

@@ -17,26 +17,25 @@ use Rattle.bank_admitted.specs.State.{MailboxHolds}
 use Rattle.image_conditions.specs.Conditions.{mailboxBytes, mailboxTest, everyMailbox}
 use Rattle.image_records.proofs.Shapes.{every-at, every-from}
 use Rattle.image_records.proofs.General.{and-both}
-use Rattle.image_calls.specs.Calls.{written}
 use Rattle.image_admitted.proofs.Shown.{Shown}
 use Rattle.image_admitted.proofs.Stores.{zeros-told, zeros-tested}
 
 module _ {xs : List ℕ} {b : Bank} {j : Journal} {d n : ℕ} (v : Shown xs b j d n)
     (mailboxes : List ℕ) (whole : length mailboxes ≡ storeBytes) where
-  pub mailboxes-hold : everyMailbox written xs mailboxes ≡ true → (i : ℕ) → i < placeCount
+  pub mailboxes-hold : everyMailbox xs mailboxes ≡ true → (i : ℕ) → i < placeCount
       → MailboxHolds (getD (b .files) i 0) (partAt mailboxes i)
   unfolding everyMailbox mailboxTest mailboxBytes
   mailboxes-hold h i k =
-      let t = rw (v .file i k) at (every-at (mailboxTest written xs mailboxes) placeCount i h k) in
+      let t = rw (v .file i k) at (every-at (mailboxTest xs mailboxes) placeCount i h k) in
       let a = and-true (leb (getD (b .files) i 0) fileBytes) _ t in
       let room = leb-true _ _ (a .0) in
       record { room = room; zeros = zeros-told mailboxes whole i k (getD (b .files) i 0) room (a .1) }
 
   pub every-mailbox : ((i : ℕ) → i < placeCount → MailboxHolds (getD (b .files) i 0) (partAt mailboxes i))
-      → everyMailbox written xs mailboxes ≡ true
+      → everyMailbox xs mailboxes ≡ true
   unfolding everyMailbox mailboxTest mailboxBytes
   every-mailbox f =
-      every-from (mailboxTest written xs mailboxes) placeCount
+      every-from (mailboxTest xs mailboxes) placeCount
       (λ i k.
       let m = f i k in
       rw (v .file i k)

@@ -13,20 +13,17 @@ use Rattle.journal.specs.Row.{Journal}
 use Rattle.bank_state.specs.declared.state.Place.{Place}
 use Rattle.bank_state.specs.declared.state.Use.{Use}
 use Rattle.bank_state.specs.declared.state.Use.the-variants.{Free, Open, Booked}
-use Rattle.bank_state.specs.Limits.{placeCount, storeBytes, idleLimit, allSigners}
+use Rattle.bank_state.specs.Limits.{placeCount, storeBytes, idleLimit, seriesLimit, allSigners}
 use Rattle.bank_state.specs.Search.{isFree, isOpen}
-use Rattle.bank_state.specs.State.{Bank, placeAt, seriesOf}
+use Rattle.bank_state.specs.State.{Bank, placeAt}
 use Rattle.bank_state.specs.Store.{partAt}
 use Rattle.bank_admitted.specs.State.{UsedAs, FreePlace, OpenPlace, BookedPlace, PlaceHolds}
 use Rattle.image_records.specs.Shapes.{allZero}
-use Rattle.image_records.specs.Layout as image
 use Rattle.image_records.specs.Records.{placeHolds}
 use Rattle.image_conditions.specs.Conditions.{bytesBehind, placeBytes, placeTest, everyPlace}
 use Rattle.image_records.proofs.Shapes.{every-at, every-from}
 use Rattle.image_records.proofs.General.{and-both}
-use Rattle.image_calls.specs.Calls.{written}
 use Rattle.image_admitted.proofs.Shown.{placeParts, Shown}
-use Rattle.image_admitted.proofs.Series.{counter-of}
 use Rattle.image_admitted.proofs.Stores.{zeros-told, zeros-tested}
 
 -- zeros in a place's bytes behind its length
@@ -37,9 +34,9 @@ Zeros n bytes = bytes ≡ take n bytes ++ replicate (fileBytes - n) 0
 abbrev NotIdle : Use → ℕ → Place → Type 0
 NotIdle u clock p = isOpen u ≡ true → clock ≤ p .last + idleLimit
 
--- a place in use has a number below its counter
-abbrev Ordered : Use → ℕ → Place → Type 0
-Ordered u counter p = isFree u ≡ false → p .number < counter
+-- a place in use has a number of A000 to ZZZZ
+abbrev Ordered : Use → Place → Type 0
+Ordered u p = isFree u ≡ false → p .number < seriesLimit
 
 -- a place in use has a subscriber
 pub place-known : (u : Use) (clock openings : ℕ) (p : Place) (bytes : List ℕ) → PlaceHolds u clock openings p bytes
@@ -50,15 +47,15 @@ place-known Booked clock openings p bytes h e = (h .place .known, h .place .most
 
 -- ---- what the test of a place tells, by its use
 
-module _ (clock openings counter : ℕ) (p : Place) (bytes : List ℕ) where
+module _ (clock openings : ℕ) (p : Place) (bytes : List ℕ) where
   -- its length, what it may hold, that it is not idle, and its number
   abbrev Told : Use → Type 0
   Told u =
       (p .length ≤ fileBytes)
       × (p .used ≡ u → p .signers ≤ allSigners → Zeros (p .length) bytes → PlaceHolds u clock openings p bytes)
-      × NotIdle u clock p × Ordered u counter p
+      × NotIdle u clock p × Ordered u p
 
-  told-free : placeHolds written clock openings counter (placeParts Free p) ≡ true → Told Free
+  told-free : placeHolds clock openings (placeParts Free p) ≡ true → Told Free
   told-free h =
       let a = and-true (eqb (p .subscriber) 0) _ (and-true _ true h .0) in
       let b = and-true (eqb (p .transaction .high) 0) _ (a .1) in
@@ -105,11 +102,11 @@ module _ (clock openings counter : ℕ) (p : Place) (bytes : List ℕ) where
       → UsedAs openings p bytes
   used-as first most counted zeros = record { counted = counted; known = first; most = most; zeros = zeros }
 
-  told-open : placeHolds written clock openings counter (placeParts Open p) ≡ true → Told Open
+  told-open : placeHolds clock openings (placeParts Open p) ≡ true → Told Open
   told-open h =
       let a = and-true (leb 1 (p .subscriber) && leb (p .subscriber) subscribers) _ h in
       let b = and-true (ltb (p .transaction .low) openings) _ (a .1) in
-      let order = and-true (ltb (p .number) counter) _ (b .1) in
+      let order = and-true (ltb (p .number) seriesLimit) _ (b .1) in
       let c = and-true (leb 1 (p .segments) && leb (p .segments) maxSegments) _ (order .1) in
       let d = and-true (ltb (p .taken) (p .segments)) _ (c .1) in
       let e = and-true (leb (p .attempts) maxAttempts) _ (d .1) in
@@ -142,11 +139,11 @@ module _ (clock openings counter : ℕ) (p : Place) (bytes : List ℕ) where
         λ _. ltb-true _ _ (order .0),
       )
 
-  told-booked : placeHolds written clock openings counter (placeParts Booked p) ≡ true → Told Booked
+  told-booked : placeHolds clock openings (placeParts Booked p) ≡ true → Told Booked
   told-booked h =
       let a = and-true (leb 1 (p .subscriber) && leb (p .subscriber) subscribers) _ h in
       let b = and-true (ltb (p .transaction .low) openings) _ (a .1) in
-      let order = and-true (ltb (p .number) counter) _ (b .1) in
+      let order = and-true (ltb (p .number) seriesLimit) _ (b .1) in
       let c = and-true (leb 1 (p .length) && leb (p .length) fileBytes) _ (order .1) in
       let d = and-true (eqb (p .segments) 0) _ (and-true _ true (c .1) .0) in
       let e = and-true (eqb (p .taken) 0) _ (d .1) in
@@ -175,7 +172,7 @@ module _ (clock openings counter : ℕ) (p : Place) (bytes : List ℕ) where
         λ _. ltb-true _ _ (order .0),
       )
 
-  told : (u : Use) → placeHolds written clock openings counter (placeParts u p) ≡ true → Told u
+  told : (u : Use) → placeHolds clock openings (placeParts u p) ≡ true → Told u
   told Free = told-free
   told Open = told-open
   told Booked = told-booked
@@ -183,22 +180,22 @@ module _ (clock openings counter : ℕ) (p : Place) (bytes : List ℕ) where
   -- ---- and what passes it
 
   abbrev Tested : Use → Type 0
-  Tested u = (placeHolds written clock openings counter (placeParts u p) ≡ true) × (p .length ≤ fileBytes) × Zeros (p .length) bytes
+  Tested u = (placeHolds clock openings (placeParts u p) ≡ true) × (p .length ≤ fileBytes) × Zeros (p .length) bytes
 
   tested-free : FreePlace p bytes → Tested Free
   tested-free f =
       let e = f .empty in
-      subst (λ (q : Place). (placeHolds written clock openings counter (placeParts Free q) ≡ true) × (q .length ≤ fileBytes) × Zeros (q .length) bytes) (sym e)
+      subst (λ (q : Place). (placeHolds clock openings (placeParts Free q) ≡ true) × (q .length ≤ fileBytes) × Zeros (q .length) bytes) (sym e)
       (refl, omega arith, f .zeros)
 
-  tested-open : OpenPlace clock openings p bytes → NotIdle Open clock p → Ordered Open counter p → Tested Open
+  tested-open : OpenPlace clock openings p bytes → NotIdle Open clock p → Ordered Open p → Tested Open
   tested-open o idle ordered =
       let u = o .place in (
         rw (
           le-leb 1 (p .subscriber) (u .known),
           le-leb (p .subscriber) subscribers (u .most),
           lt-ltb (p .transaction .low) openings (u .counted),
-          lt-ltb (p .number) counter (ordered refl),
+          lt-ltb (p .number) seriesLimit (ordered refl),
           le-leb 1 (p .segments) (o .some),
           le-leb (p .segments) maxSegments (o .few),
           lt-ltb (p .taken) (p .segments) (o .below),
@@ -213,14 +210,14 @@ module _ (clock openings counter : ℕ) (p : Place) (bytes : List ℕ) where
         u .zeros,
       )
 
-  tested-booked : BookedPlace openings p bytes → Ordered Booked counter p → Tested Booked
+  tested-booked : BookedPlace openings p bytes → Ordered Booked p → Tested Booked
   tested-booked o ordered =
       let u = o .place in (
         rw (
           le-leb 1 (p .subscriber) (u .known),
           le-leb (p .subscriber) subscribers (u .most),
           lt-ltb (p .transaction .low) openings (u .counted),
-          lt-ltb (p .number) counter (ordered refl),
+          lt-ltb (p .number) seriesLimit (ordered refl),
           le-leb 1 (p .length) (o .some),
           le-leb (p .length) fileBytes (o .room),
           eq-eqb (p .segments) 0 (o .over .segments),
@@ -232,7 +229,7 @@ module _ (clock openings counter : ℕ) (p : Place) (bytes : List ℕ) where
         u .zeros,
       )
 
-  tested : (u : Use) → PlaceHolds u clock openings p bytes → NotIdle u clock p → Ordered u counter p → Tested u
+  tested : (u : Use) → PlaceHolds u clock openings p bytes → NotIdle u clock p → Ordered u p → Tested u
   tested Free f idle ordered = tested-free f
   tested Open o idle ordered = tested-open o idle ordered
   tested Booked o idle ordered = tested-booked o ordered
@@ -241,22 +238,19 @@ module _ (clock openings counter : ℕ) (p : Place) (bytes : List ℕ) where
 
 module _ {xs : List ℕ} {b : Bank} {j : Journal} {d n : ℕ} (v : Shown xs b j d n)
     (orders : List ℕ) (whole : length orders ≡ storeBytes) where
-  module _ (h : everyPlace written xs orders ≡ true) (i : ℕ) (k : i < placeCount) where
+  module _ (h : everyPlace xs orders ≡ true) (i : ℕ) (k : i < placeCount) where
     abbrev p : Place
     p = placeAt b i
 
-    abbrev counter : ℕ
-    counter = image.counterOf xs (p .subscriber)
-
-    place-tests : (placeHolds written (b .clock) (b .openings) counter (placeParts (p .used) p) ≡ true)
+    place-tests : (placeHolds (b .clock) (b .openings) (placeParts (p .used) p) ≡ true)
         × (allZero (bytesBehind fileBytes orders i (p .length)) ≡ true)
     unfolding everyPlace placeTest placeBytes
     place-tests =
-        let t = rw (v .clock, v .openings, v .place i k) at (every-at (placeTest written xs orders) placeCount i h k) in
-        and-true (placeHolds written (b .clock) (b .openings) counter (placeParts (p .used) p)) _ t
+        let t = rw (v .clock, v .openings, v .place i k) at (every-at (placeTest xs orders) placeCount i h k) in
+        and-true (placeHolds (b .clock) (b .openings) (placeParts (p .used) p)) _ t
 
-    all-told : Told (b .clock) (b .openings) counter p (partAt orders i) (p .used)
-    all-told = told (b .clock) (b .openings) counter p (partAt orders i) (p .used) (place-tests .0)
+    all-told : Told (b .clock) (b .openings) p (partAt orders i) (p .used)
+    all-told = told (b .clock) (b .openings) p (partAt orders i) (p .used) (place-tests .0)
 
     -- where its signers are a byte
     pub place-holds : p .signers ≤ allSigners → PlaceHolds (p .used) (b .clock) (b .openings) p (partAt orders i)
@@ -265,27 +259,20 @@ module _ {xs : List ℕ} {b : Bank} {j : Journal} {d n : ℕ} (v : Shown xs b j 
     pub place-not-idle : isOpen (p .used) ≡ true → b .clock ≤ p .last + idleLimit
     place-not-idle = all-told .2
 
-    -- "the order number is below the orders of the record"
-    pub place-ordered : p .signers ≤ allSigners → isFree (p .used) ≡ false → p .number < seriesOf (p .subscriber) (b .series)
-    place-ordered small f =
-        let known = place-known (p .used) (b .clock) (b .openings) p (partAt orders i) (place-holds small) f in
-        rw (counter-of v (p .subscriber) (known .0) (known .1)) at (all-told .3 f)
+    -- "the order number is below" 1,213,056
+    pub place-ordered : isFree (p .used) ≡ false → p .number < seriesLimit
+    place-ordered = all-told .3
 
   pub every-place : ((i : ℕ) → i < placeCount
       → PlaceHolds (placeAt b i .used) (b .clock) (b .openings) (placeAt b i) (partAt orders i))
       → ((i : ℕ) → i < placeCount → isOpen (placeAt b i .used) ≡ true → b .clock ≤ placeAt b i .last + idleLimit)
-      → ((i : ℕ) → i < placeCount → isFree (placeAt b i .used) ≡ false
-      → placeAt b i .number < seriesOf (placeAt b i .subscriber) (b .series))
-      → everyPlace written xs orders ≡ true
+      → ((i : ℕ) → i < placeCount → isFree (placeAt b i .used) ≡ false → placeAt b i .number < seriesLimit)
+      → everyPlace xs orders ≡ true
   unfolding everyPlace placeTest placeBytes
-  every-place f idle counted =
-      every-from (placeTest written xs orders) placeCount
+  every-place f idle ordered =
+      every-from (placeTest xs orders) placeCount
       (λ i k.
       let p = placeAt b i in
-      let ordered : Ordered (p .used) (image.counterOf xs (p .subscriber)) p =
-      λ e.
-      let known = place-known (p .used) (b .clock) (b .openings) p (partAt orders i) (f i k) e in
-      rw (counter-of v (p .subscriber) (known .0) (known .1)) (counted i k e) in
-      let t = tested (b .clock) (b .openings) (image.counterOf xs (p .subscriber)) p (partAt orders i) (p .used) (f i k) (idle i k) ordered in
+      let t = tested (b .clock) (b .openings) p (partAt orders i) (p .used) (f i k) (idle i k) (ordered i k) in
       rw (v .clock, v .openings, v .place i k)
       (and-both (t .0) (zeros-tested orders whole i k (p .length) (t .1) (t .2))))

@@ -64,7 +64,6 @@ use Rattle.image_numbers.proofs.Records.{
   file-in,
   event-in,
 }
-use Rattle.image_calls.specs.Calls.{written}
 use Rattle.image_admitted.specs.Unused.{Wiped}
 use Rattle.image_records.proofs.General.{Below, below-at, by-record, unused-part, unused-parts}
 use Rattle.image_admitted.proofs.Shown.{nonceParts, downloadParts, placeParts, Shown, nonces-are, downloads-are}
@@ -95,13 +94,13 @@ module _ (s : List ℕ) (row : List Event) (long : length s ≡ sessionSize) (fu
 
   -- ---- rows that pass the tests are a bank's
 
-  state-told : (orders : List ℕ) → everyPlace written xs orders ≡ true → (i : ℕ) → i < placeCount → image.placeAt xs i .state ≤ 2
+  state-told : (orders : List ℕ) → everyPlace xs orders ≡ true → (i : ℕ) → i < placeCount → image.placeAt xs i .state ≤ 2
   unfolding everyPlace placeTest
   state-told orders h i k =
-      let a = and-true _ _ (every-at (placeTest written xs orders) placeCount i h k) in
+      let a = and-true _ _ (every-at (placeTest xs orders) placeCount i h k) in
       leb-true (image.placeAt xs i .state) 2 (and-true (leb (image.placeAt xs i .state) 2) _ (a .0) .0)
 
-  pub tested-laid : (orders : List ℕ) → nonceCountFits xs ≡ true → downloadCountFits xs ≡ true → everyPlace written xs orders ≡ true
+  pub tested-laid : (orders : List ℕ) → nonceCountFits xs ≡ true → downloadCountFits xs ≡ true → everyPlace xs orders ≡ true
       → Laid t
   tested-laid orders n d h = record {
     long = bank-long;

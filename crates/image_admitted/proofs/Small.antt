@@ -27,15 +27,13 @@ use Rattle.bank_rows.specs.Records.{numberOfUse}
 use Rattle.bank_rows.specs.State.{nonceAt}
 use Rattle.bank_admitted.specs.State.{mailboxFile, PlaceHolds, DownloadHolds}
 use Rattle.bank_admitted.specs.Session.{signersGiven, recordAt, SessionHolds}
-use Rattle.bank_admitted.proofs.Series.{series-counted}
 use Rattle.bank_admitted.proofs.Signers.{given-most}
 use Rattle.image_records.specs.Layout as image
 use Rattle.image_numbers.specs.Numbers.{numberOfKind}
 use Rattle.image_numbers.proofs.Records.{eventIn}
 use Rattle.image.specs.Table.{timeBytes}
-use Rattle.image.specs.Items.{itemsOf}
+use Rattle.image.specs.Items.{imageItems}
 use Rattle.image.specs.Image.{fits}
-use Rattle.image_calls.specs.Calls.{written}
 use Rattle.image_admitted.proofs.Fits.{
   Group,
   headWidths,
@@ -96,7 +94,7 @@ SmallNonce e = (e .value .high < 256 ^ 8) × (e .value .low < 256 ^ 8) × (e .ti
 abbrev SmallEvent : Event → Type 0
 SmallEvent e =
     (e .number < 256 ^ 8) × (e .clock < 256 ^ timeBytes) × (e .subscriber < 256 ^ 2) × (e .«order_type» < 256 ^ 3)
-    × (e .order < 256 ^ 4)
+    × (e .order < 256 ^ 4) × (e .high < 256 ^ 8) × (e .low < 256 ^ 8)
 
 module _ (w : BankState) {xs : List ℕ} {j : Journal} {d n : ℕ} (v : Shown xs (w .bank) j d n) (o : SessionHolds w j) where
   small-nonce : (i : ℕ) (t : Bool) → ltb i n ≡ t → SmallNonce (nonceAt (w .bank) i)
@@ -119,7 +117,9 @@ module _ (w : BankState) {xs : List ℕ} {j : Journal} {d n : ℕ} (v : Shown xs
         omega (arith, h .current, o .clock),
         omega (arith, h .most),
         omega (arith, h .typed),
-        omega (arith, h .counted, series-counted (o .state .series) (recordAt j i .subscriber), o .state .numbers),
+        omega (arith, h .ordered),
+        h .lent,
+        omega (arith, h .counted, o .state .numbers),
       )
   small-event i false e =
       subst SmallEvent (sym (o .journal .unused i (ltb-false i (usedAfter (j .events)) e))) (omega arith)
@@ -135,12 +135,11 @@ module _ (w : BankState) {xs : List ℕ} {j : Journal} {d n : ℕ} (v : Shown xs
       omega (arith, v .nonceTotal, v .fewNonces),
     )
 
-    -- an order's number is one that its series has given
+    -- an order's number is one of A000 to ZZZZ
     order-small : (i : ℕ) → i < placeCount → isFree (placeAt (w .bank) i .used) ≡ false → placeAt (w .bank) i .number < 256 ^ 4
-    order-small i k f =
-        omega (arith, o .state .orders i k f, series-counted (o .state .series) (placeAt (w .bank) i .subscriber), o .state .numbers)
+    order-small i k f = omega (arith, o .state .orders i k f)
 
-    pub numbers-fit : fits (itemsOf written) xs ≡ true
+    pub numbers-fit : fits imageItems xs ≡ true
     numbers-fit =
         groups-fit xs head-group
         (λ i k. omega (arith, v .counter i k, o .state .series .limited i k))
@@ -166,4 +165,4 @@ module _ (w : BankState) {xs : List ℕ} {j : Journal} {d n : ℕ} (v : Shown xs
         (λ i k.
         let e = recordAt j i in
         let f = small-event i (ltb i (usedAfter (j .events))) refl in
-        event-group xs i (eventIn e) (v .event i k) (f .0) (f .1) (f .2) (f .3) (f .4) (kind-small (e .kind)))
+        event-group xs i (eventIn e) (v .event i k) (f .0) (f .1) (f .2) (f .3) (f .4) (f .5) (f .6) (kind-small (e .kind)))

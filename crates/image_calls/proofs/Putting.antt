@@ -10,14 +10,13 @@ use Rattle.journal.specs.declared.event.Event.{Event}
 use Rattle.bank_session.specs.Session.{LentSession}
 use Rattle.image.specs.declared.codec.Answer.{Answer}
 use Rattle.image.specs.declared.codec.Answer.the-variants.{Done, Contents}
-use Rattle.image.specs.Items.{itemsOf}
+use Rattle.image.specs.Items.{imageItems}
 use Rattle.image.specs.Image as codec
 use Rattle.image_conditions.specs.Conditions as list
 use Rattle.image_numbers.specs.Numbers.{numbersIn}
 use Rattle.image_calls.specs.declared.calls.Away.{Away}
 use Rattle.image_calls.specs.declared.calls.Away.the-variants as away
 use Rattle.image_calls.specs.Calls.{
-  written,
   imageLength,
   numbersOf,
   imageIn,
@@ -30,7 +29,7 @@ use Rattle.image_calls.specs.Calls.{
 use Rattle.image_calls.proofs.Tests.{listed-lent}
 
 module _ (m : LentSession) where
-  pub not-listed : list.admitted written (numbersOf m) (m .orders) (m .mailboxes) ≡ false → isAdmitted m ≡ false
+  pub not-listed : list.admitted (numbersOf m) (m .orders) (m .mailboxes) ≡ false → isAdmitted m ≡ false
   unfolding isAdmitted
   not-listed h = rw h
 
@@ -54,19 +53,19 @@ module _ (m : LentSession) (buffer : List ℕ) where
       unfolding putAway
       away-done h = rw (right, le-leb imageLength (length buffer) room, h)
 
-      module _ (listed : list.admitted written (numbersOf m) (m .orders) (m .mailboxes) ≡ true) where
-        by-fits : (t : Bool) → codec.fits (itemsOf written) (numbersOf m) ≡ t → isAdmitted m ≡ t
+      module _ (listed : list.admitted (numbersOf m) (m .orders) (m .mailboxes) ≡ true) where
+        by-fits : (t : Bool) → codec.fits imageItems (numbersOf m) ≡ t → isAdmitted m ≡ t
         unfolding isAdmitted
         by-fits t h = rw listed h
 
-        codec-written : (t : Bool) → codec.fits (itemsOf written) (numbersOf m) ≡ t
-            → codec.written written (numbersOf m) (m .orders) (m .mailboxes) buffer
+        codec-written : (t : Bool) → codec.fits imageItems (numbersOf m) ≡ t
+            → codec.written (numbersOf m) (m .orders) (m .mailboxes) buffer
             ≡ cond t (codec.wrote Done (overwrite buffer 0 (imageIn m))) (codec.wrote Contents buffer)
         unfolding codec.written imageIn
         codec-written t h =
-            rw (listed-lent written (numbersOf m) (m .orders) (m .mailboxes) listed, le-leb imageLength (length buffer) room, h)
+            rw (listed-lent (numbersOf m) (m .orders) (m .mailboxes) listed, le-leb imageLength (length buffer) room, h)
 
-        by-answer : (a : Answer) (d : List ℕ) (t : Bool) → codec.fits (itemsOf written) (numbersOf m) ≡ t
+        by-answer : (a : Answer) (d : List ℕ) (t : Bool) → codec.fits imageItems (numbersOf m) ≡ t
             → codec.wrote a d ≡ cond t (codec.wrote Done (overwrite buffer 0 (imageIn m))) (codec.wrote Contents buffer)
             → putAwayOf (awayOf a) d ≡ putAway m buffer
         by-answer a d true h q =
@@ -76,19 +75,19 @@ module _ (m : LentSession) (buffer : List ℕ) where
 
         -- the codec writes the image where each number has its part's length
         pub away-written : (a : Answer) (d : List ℕ)
-            → codec.wrote a d ≡ codec.written written (numbersOf m) (m .orders) (m .mailboxes) buffer
+            → codec.wrote a d ≡ codec.written (numbersOf m) (m .orders) (m .mailboxes) buffer
             → (r : Away) → r ≡ awayOf a → putAwayOf r d ≡ putAway m buffer
         away-written a d q r e =
-            let t = codec.fits (itemsOf written) (numbersOf m) in
+            let t = codec.fits imageItems (numbersOf m) in
             rw e (by-answer a d t refl (q ∙ codec-written t refl))
 
 -- the numbers are gathered from the row by value, which is the session's
 module _ (rows orders mailboxes : List ℕ) (row l : List Event) (xs : List ℕ) (gathered : xs ≡ numbersIn rows row)
     (same : row ≡ l) where
-  pub told-listed : (r : Bool) → r ≡ list.admitted written xs orders mailboxes → (t : Bool) → r ≡ t
-      → list.admitted written (numbersIn rows l) orders mailboxes ≡ t
+  pub told-listed : (r : Bool) → r ≡ list.admitted xs orders mailboxes → (t : Bool) → r ≡ t
+      → list.admitted (numbersIn rows l) orders mailboxes ≡ t
   told-listed r e t h = sym (e ∙ rw (gathered, same)) ∙ h
 
-  pub told-written : (a : Answer) (d buffer : List ℕ) → codec.wrote a d ≡ codec.written written xs orders mailboxes buffer
-      → codec.wrote a d ≡ codec.written written (numbersIn rows l) orders mailboxes buffer
+  pub told-written : (a : Answer) (d buffer : List ℕ) → codec.wrote a d ≡ codec.written xs orders mailboxes buffer
+      → codec.wrote a d ≡ codec.written (numbersIn rows l) orders mailboxes buffer
   told-written a d buffer e = e ∙ rw (gathered, same)

@@ -4,19 +4,16 @@ use mathlib.Core.Bool.{Bool, true, false, _&&_}
 use mathlib.Core.List.{List, [], _∷_}
 use mathlib.Core.Path.{_≡_, refl, sym, ap, _∙_}
 use native.Mathlib.Omega.{arith}
-use lib.Dec.{eqb, leb, ltb}
+use lib.Dec.{eqb, ltb}
 use lib.ListN.{length, getD, take, drop}
 use lib.Seq.{getD-drop, getD-take}
-use borrow.Author.Tests.{eqb-true, eq-eqb, leb-true, ltb-true, ltb-false}
+use borrow.Author.Tests.{eqb-true, eq-eqb, ltb-true, ltb-false}
 use Rattle.octets.proofs.Tests.{and-true}
 use Rattle.journal.specs.declared.event.Event.{Event}
 use Rattle.journal.specs.Events.{recordCount}
 use Rattle.bank_state.specs.Limits.{storeBytes}
 use Rattle.bank_session.specs.Session.{LentSession, session, sessionSize}
-use Rattle.image.specs.declared.table.Form.{Form}
-use Rattle.image.specs.declared.table.Form.the-variants.{Five, Six, Eight}
-use Rattle.image.specs.Table.{storeSize}
-use Rattle.image.specs.Items.{sizesOf}
+use Rattle.image.specs.Items.{imageSizes}
 use Rattle.image.specs.Image as codec
 use Rattle.image.proofs.Calls.{lent-all}
 use Rattle.image.proofs.Theorems as image
@@ -26,32 +23,29 @@ use Rattle.image_records.specs.Layout.{
   journalAt,
   eventWidth,
   clock,
+  openings,
   events,
   usedEvents,
   eventAt,
-  counterOf,
 }
 use Rattle.image_records.specs.Records as records
 use Rattle.image_conditions.specs.Conditions as list
 use Rattle.image_records.proofs.Shapes.{every-at}
+use Rattle.image_records.proofs.OneRecord.{event-listed, event-kinds}
 use Rattle.image_calls.specs.Calls.{sizesRight, lengthsRight}
 
 -- ---- lengths
 
 -- an image is so short that its places are numbers of 64 bits
-pub image-short : (form : Form) → sizesOf form .image < 2 ^ 32
-image-short Five = omega (arith, image.form-5 .0)
-image-short Six = omega (arith, image.form-6 .0)
-image-short Eight = omega (arith, image.form-8 .0)
+pub image-short : imageSizes .image < 2 ^ 32
+image-short = omega (arith, image.image-is .0)
 
-pub numbers-size : (form : Form) → sizesOf form .numbers ≡ numberCount
-numbers-size Five = image.form-5 .1
-numbers-size Six = image.form-6 .1
-numbers-size Eight = image.form-8 .1
+pub numbers-size : imageSizes .numbers ≡ numberCount
+numbers-size = image.image-is .1
 
-store-size : (form : Form) → sizesOf form .store ≡ storeSize form
-unfolding sizesOf
-store-size form = refl
+pub store-size : imageSizes .store ≡ storeBytes
+unfolding imageSizes
+store-size = refl
 
 module _ (rows records orders mailboxes : ℕ) (h : sizesRight rows records orders mailboxes ≡ true) where
   pub sizes-are : (rows ≡ sessionSize) × (records ≡ recordCount) × (orders ≡ storeBytes) × (mailboxes ≡ storeBytes)
@@ -87,24 +81,24 @@ right-lengths m a b c d =
 
 -- ---- the list
 
-module _ (form : Form) (xs orders mailboxes : List ℕ) (h : list.admitted form xs orders mailboxes ≡ true) where
-  listed : (length xs ≡ numberCount) × (length orders ≡ storeSize form) × (length mailboxes ≡ storeSize form)
-      × (list.conditions form xs orders mailboxes ≡ true)
+module _ (xs orders mailboxes : List ℕ) (h : list.admitted xs orders mailboxes ≡ true) where
+  listed : (length xs ≡ numberCount) × (length orders ≡ storeBytes) × (length mailboxes ≡ storeBytes)
+      × (list.conditions xs orders mailboxes ≡ true)
   unfolding list.admitted
   listed =
-      let c = list.conditions form xs orders mailboxes in
+      let c = list.conditions xs orders mailboxes in
       let p = and-true (eqb (length xs) numberCount) _ h in
-      let q = and-true (eqb (length orders) (storeSize form)) _ (p .1) in
-      let r = and-true (eqb (length mailboxes) (storeSize form)) (c && true) (q .1) in
+      let q = and-true (eqb (length orders) storeBytes) _ (p .1) in
+      let r = and-true (eqb (length mailboxes) storeBytes) (c && true) (q .1) in
       (eqb-true _ _ (p .0), eqb-true _ _ (q .0), eqb-true _ _ (r .0), and-true c true (r .1) .0)
 
-  pub listed-sizes : (length xs ≡ numberCount) × (length orders ≡ storeSize form) × (length mailboxes ≡ storeSize form)
+  pub listed-sizes : (length xs ≡ numberCount) × (length orders ≡ storeBytes) × (length mailboxes ≡ storeBytes)
   listed-sizes = (listed .0, listed .1, listed .2)
 
-  pub listed-lent : codec.lent form xs orders mailboxes ≡ true
+  pub listed-lent : codec.lent xs orders mailboxes ≡ true
   listed-lent =
-      lent-all form (sizesOf form) refl xs orders mailboxes (listed .0 ∙ sym (numbers-size form))
-      (listed .1 ∙ sym (store-size form)) (listed .2 ∙ sym (store-size form))
+      lent-all imageSizes refl xs orders mailboxes (listed .0 ∙ sym (numbers-size))
+      (listed .1 ∙ sym (store-size)) (listed .2 ∙ sym (store-size))
 
 -- ---- the kinds of events
 
@@ -119,56 +113,47 @@ zero-at [] h i = refl
 zero-at (x ∷ l) h zero = eqb-true x 0 (and-true (eqb x 0) (allZero l) h .0)
 zero-at (x ∷ l) h (suc i) = zero-at l (and-true (eqb x 0) (allZero l) h .1) i
 
--- no form has a kind beyond the newest's
-last-kind : (form : Form) → records.lastKind form ≤ records.lastKind Eight
-last-kind Five = omega arith
-last-kind Six = omega arith
-last-kind Eight = omega arith
-
-module _ (form : Form) (xs : List ℕ) where
+module _ (xs : List ℕ) where
   abbrev kindAt : ℕ → ℕ
-  kindAt i = getD xs (journalAt + i * eventWidth + 5) 0
+  kindAt i = getD xs (journalAt + i * eventWidth + 7) 0
 
-  used-kind : (i : ℕ) → list.eventTest form xs i ≡ true → kindAt i ≤ records.lastKind Eight
+  used-kind : (i : ℕ) → list.eventTest xs i ≡ true → kindAt i ≤ records.lastKind
   unfolding list.eventTest eventAt
   used-kind i h =
       let e = eventAt xs i in
-      let b = eventAt xs (i - 1) in
+      let before = eventAt xs (i - 1) in
       let n = events xs in
-      let holds = all-of (records.eventNumber n i e ∷ records.eventClock (clock xs) b e ∷ records.eventSubscriber e
-      ∷ records.eventType e ∷ records.eventOrder (counterOf xs (e .subscriber)) e ∷ records.eventKind form e ∷ []) h 5 in
-      let most = records.lastKind form in
-      omega (arith, last-kind form, leb-true (kindAt i) most (and-true (leb 1 (kindAt i)) (leb (kindAt i) most) holds .1))
+      event-kinds (clock xs) (openings xs) n i before e (event-listed (clock xs) (openings xs) n i before e h)
 
   unused-kind : (u i : ℕ) → u ≤ i → i < recordCount → unused xs journalAt eventWidth u recordCount ≡ true → kindAt i ≡ 0
   unfolding unused
   unused-kind u i h k e =
       let n : ℕ = eventWidth * recordCount - u * eventWidth in
       let p : ℕ = journalAt + u * eventWidth in
-      let j : ℕ = i * eventWidth + 5 - u * eventWidth in
-      let q : journalAt + i * eventWidth + 5 ≡ p + j = omega arith in
+      let j : ℕ = i * eventWidth + 7 - u * eventWidth in
+      let q : journalAt + i * eventWidth + 7 ≡ p + j = omega arith in
       ap (λ (a : ℕ). getD xs a 0) q ∙ sym (getD-drop p xs j 0) ∙ sym (getD-take n (drop p xs) j 0 (omega arith))
       ∙ zero-at (take n (drop p xs)) e j
 
-  module _ (holds : list.journalConditions form xs ≡ true) where
-    parts : (list.everyEvent form xs ≡ true) × (list.journalUnused xs ≡ true)
+  module _ (holds : list.journalConditions xs ≡ true) where
+    parts : (list.everyEvent xs ≡ true) × (list.journalUnused xs ≡ true)
     unfolding list.journalConditions
     parts =
-        let at = all-of (list.eventsFit xs ∷ list.everyEvent form xs ∷ list.journalUnused xs ∷ []) holds in
+        let at = all-of (list.eventsFit xs ∷ list.everyEvent xs ∷ list.journalUnused xs ∷ []) holds in
         (at 1, at 2)
 
-    kind-by : (i : ℕ) → i < recordCount → (t : Bool) → ltb i (usedEvents xs) ≡ t → eventAt xs i .kind ≤ records.lastKind Eight
+    kind-by : (i : ℕ) → i < recordCount → (t : Bool) → ltb i (usedEvents xs) ≡ t → eventAt xs i .kind ≤ records.lastKind
     unfolding list.everyEvent list.journalUnused eventAt
     kind-by i h true e =
-        used-kind i (every-at (list.eventTest form xs) (usedEvents xs) i (parts .0) (ltb-true i (usedEvents xs) e))
+        used-kind i (every-at (list.eventTest xs) (usedEvents xs) i (parts .0) (ltb-true i (usedEvents xs) e))
     kind-by i h false e =
         let k = unused-kind (usedEvents xs) i (ltb-false i (usedEvents xs) e) h (parts .1) in omega arith
 
-pub listed-kinds : (form : Form) (xs orders mailboxes : List ℕ) → list.admitted form xs orders mailboxes ≡ true
-    → (i : ℕ) → i < recordCount → eventAt xs i .kind ≤ records.lastKind Eight
+pub listed-kinds : (xs orders mailboxes : List ℕ) → list.admitted xs orders mailboxes ≡ true
+    → (i : ℕ) → i < recordCount → eventAt xs i .kind ≤ records.lastKind
 unfolding list.conditions
-listed-kinds form xs orders mailboxes h i k =
+listed-kinds xs orders mailboxes h i k =
     let journal = all-of (list.clockFits xs ∷ list.openingsFit xs ∷ list.seriesConditions xs ∷ list.nonceConditions xs
-    ∷ list.downloadConditions xs ∷ list.everyPlace form xs orders ∷ list.openConditions xs
-    ∷ list.everyMailbox form xs mailboxes ∷ list.journalConditions form xs ∷ []) (listed form xs orders mailboxes h .3) 8 in
-    kind-by form xs journal i k (ltb i (usedEvents xs)) refl
+    ∷ list.downloadConditions xs ∷ list.everyPlace xs orders ∷ list.openConditions xs
+    ∷ list.everyMailbox xs mailboxes ∷ list.journalConditions xs ∷ []) (listed xs orders mailboxes h .3) 8 in
+    kind-by xs journal i k (ltb i (usedEvents xs)) refl

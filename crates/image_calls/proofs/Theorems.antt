@@ -1,6 +1,6 @@
--- Cards 2, 6 and 8: what is put away is taken up again, equal sessions give equal bytes and only such bytes are accepted,
--- forms 5 and 6 are still taken up, and what is refused changes nothing. Assumes nothing.
-use Prim.Native.Nat.{ℕ, _≤_}
+-- Cards 2 and 11: what is put away is taken up again, equal sessions give equal bytes and only such bytes are accepted,
+-- older images get number 9, and what is refused changes nothing. Assumes nothing.
+use Prim.Native.Nat.{ℕ, _≤_, _<_}
 use mathlib.Core.Bool.{Bool, true, false, cond, _&&_}
 use mathlib.Core.List.{List, [], _++_}
 use mathlib.Core.Path.{_≡_, refl, sym, ap, _∙_}
@@ -12,26 +12,21 @@ use lib.Seq.{take-at}
 use borrow.Author.Tests.{leb-true}
 use Rattle.octets.specs.Bytes.{Bytes, overwrite}
 use Rattle.octets.proofs.Tests.{and-true}
-use Rattle.bank_session.specs.Session.{LentSession, session}
-use Rattle.image.specs.declared.table.Form.{Form}
-use Rattle.image.specs.declared.table.Form.the-variants.{Five, Six, Eight}
+use Rattle.bank_state.specs.Limits.{storeBytes}
+use Rattle.bank_session.specs.Session.{LentSession}
 use Rattle.image.specs.declared.codec.Answer.the-variants.{Done}
-use Rattle.image.specs.Table.{formNumber, storeSize}
-use Rattle.image.specs.Items.{itemsOf, sizesOf}
+use Rattle.image.specs.Table.{formNumber}
+use Rattle.image.specs.Items.{imageItems, imageSizes}
 use Rattle.image.specs.Image as codec
 use Rattle.image.proofs.Calls.{taken-done}
 use Rattle.image.proofs.FormNumber.{form-number}
-use Rattle.image.proofs.Extended.{length-store}
 use Rattle.image.proofs.Theorems as image
 use Rattle.image_records.specs.Layout.{numberCount}
 use Rattle.image_conditions.specs.Conditions as list
-use Rattle.image_conditions.proofs.Extended.{extended-listed}
-use Rattle.image_numbers.specs.Numbers.{rowsFrom, rowFrom}
 use Rattle.image_numbers.proofs.Laws as numbers
 use Rattle.image_calls.specs.declared.calls.Away.the-variants as away
 use Rattle.image_calls.specs.declared.calls.TakenUp.the-variants as up
 use Rattle.image_calls.specs.Calls.{
-  written,
   imageLength,
   numbersOf,
   imageIn,
@@ -43,21 +38,18 @@ use Rattle.image_calls.specs.Calls.{
   TakeUp,
   takeUpOf,
   takeUp,
-  formOf,
   numbersFrom,
   storeFrom,
-  storeTaken,
   isAdmittedImage,
   sessionFrom,
 }
 use Rattle.image_calls.proofs.Tests.{lengths-right, right-lengths, listed-sizes, listed-lent, listed-kinds}
-use Rattle.image_calls.proofs.Forms.{form-told, form-written, store-whole, fits-written}
 use Rattle.image_calls.proofs.Putting.{away-done}
 use Rattle.image_calls.proofs.Taking.{both-stores, image-tests, up-not, up-done}
 
--- "130,837", and those still taken up: 130,829 and 65,293
-pub image-of-130837-bytes : (imageLength ≡ 130837) × (sizesOf Six .image ≡ 130829) × (sizesOf Five .image ≡ 65293)
-image-of-130837-bytes = (image.form-8 .0, image.form-6 .0, image.form-5 .0)
+-- "131,861"
+pub image-of-131861-bytes : imageLength ≡ 131861
+image-of-131861-bytes = image.image-is .0
 
 over-front : (d xs : List ℕ) (n : ℕ) → length xs ≡ n → overwrite d 0 xs ≡ xs ++ drop n d
 unfolding overwrite
@@ -66,48 +58,38 @@ over-front d xs n e = ap (λ (k : ℕ). xs ++ drop k d) (zero-add (length xs) �
 -- ---- a session of the list
 
 module _ (m : LentSession) (right : lengthsRight m ≡ true) (holds : isAdmitted m ≡ true) where
-  tests : (list.admitted written (numbersOf m) (m .orders) (m .mailboxes) ≡ true)
-      × (codec.fits (itemsOf written) (numbersOf m) ≡ true)
+  tests : (list.admitted (numbersOf m) (m .orders) (m .mailboxes) ≡ true)
+      × (codec.fits imageItems (numbersOf m) ≡ true)
   unfolding isAdmitted
   tests =
-      and-true (list.admitted written (numbersOf m) (m .orders) (m .mailboxes)) (codec.fits (itemsOf written) (numbersOf m))
+      and-true (list.admitted (numbersOf m) (m .orders) (m .mailboxes)) (codec.fits imageItems (numbersOf m))
       holds
 
-  as-numbers : image.Session written (numbersOf m) (m .orders) (m .mailboxes)
-  as-numbers = (listed-lent written (numbersOf m) (m .orders) (m .mailboxes) (tests .0), tests .1)
+  as-numbers : image.Session (numbersOf m) (m .orders) (m .mailboxes)
+  as-numbers = (listed-lent (numbersOf m) (m .orders) (m .mailboxes) (tests .0), tests .1)
 
   numbers-again : numbersFrom (imageIn m) ≡ numbersOf m
   unfolding numbersFrom imageIn codec.imageOf
-  numbers-again = rw (form-written m) (image.numbers-back written (numbersOf m) (m .orders) (m .mailboxes) as-numbers)
+  numbers-again = image.numbers-back (numbersOf m) (m .orders) (m .mailboxes) as-numbers
 
   stores-again : (storeFrom 0 (imageIn m) ≡ m .orders) × (storeFrom 1 (imageIn m) ≡ m .mailboxes)
   unfolding storeFrom imageIn codec.imageOf
   stores-again =
-      let e = image.stores-back written (numbersOf m) (m .orders) (m .mailboxes) as-numbers in
-      rw (form-written m)
+      let e = image.stores-back (numbersOf m) (m .orders) (m .mailboxes) as-numbers in
       (ap (λ (ss : List (List ℕ)). getD ss 0 []) e, ap (λ (ss : List (List ℕ)). getD ss 1 []) e)
-
-  taken-again : (storeTaken 0 (imageIn m) ≡ m .orders) × (storeTaken 1 (imageIn m) ≡ m .mailboxes)
-  taken-again =
-      let sizes = lengths-right m right in
-      let e = stores-again in
-      let w = form-written m in (
-        store-whole 0 (imageIn m) w (ap length (e .0) ∙ sizes .2) ∙ e .0,
-        store-whole 1 (imageIn m) w (ap length (e .1) ∙ sizes .3) ∙ e .1,
-      )
 
   pub image-long : length (imageIn m) ≡ imageLength
   unfolding imageIn
-  image-long = image.image-length written (numbersOf m) (m .orders) (m .mailboxes) as-numbers
+  image-long = image.image-length (numbersOf m) (m .orders) (m .mailboxes) as-numbers
 
-  is-image : codec.isImage written (imageIn m) ≡ true
+  is-image : codec.isImage (imageIn m) ≡ true
   unfolding imageIn
-  is-image = image.image-accepted written (numbersOf m) (m .orders) (m .mailboxes) as-numbers
+  is-image = image.image-accepted (numbersOf m) (m .orders) (m .mailboxes) as-numbers
 
   -- "the full list [...] admits every image written"
   pub image-admitted : isAdmittedImage (imageIn m) ≡ true
   unfolding isAdmittedImage
-  image-admitted = rw (form-written m, is-image, numbers-again, stores-again .0, stores-again .1) (tests .0)
+  image-admitted = rw (is-image, numbers-again, stores-again .0, stores-again .1) (tests .0)
 
   pub session-again : sessionFrom (imageIn m) ≡ m
   unfolding sessionFrom
@@ -115,8 +97,8 @@ module _ (m : LentSession) (right : lengthsRight m ≡ true) (holds : isAdmitted
       let sizes = lengths-right m right in
       rw (
         numbers-again,
-        taken-again .0,
-        taken-again .1,
+        stores-again .0,
+        stores-again .1,
         numbers.rows-back (m .rows) (m .row) (sizes .0),
         numbers.row-back (m .rows) (m .row) (sizes .1),
       )
@@ -190,50 +172,43 @@ module _ (s : List ℕ) (holds : isAdmittedImage s ≡ true) where
   abbrev xs : List ℕ
   xs = numbersFrom s
 
-  abbrev form : Form
-  form = formOf s
-
-  image-listed : list.admitted form xs (storeFrom 0 s) (storeFrom 1 s) ≡ true
+  image-listed : list.admitted xs (storeFrom 0 s) (storeFrom 1 s) ≡ true
   image-listed = image-tests s holds .1
 
-  image-sizes : (length xs ≡ numberCount) × (length (storeFrom 0 s) ≡ storeSize form) × (length (storeFrom 1 s) ≡ storeSize form)
-  image-sizes = listed-sizes form xs (storeFrom 0 s) (storeFrom 1 s) image-listed
+  image-sizes : (length xs ≡ numberCount) × (length (storeFrom 0 s) ≡ storeBytes) × (length (storeFrom 1 s) ≡ storeBytes)
+  image-sizes = listed-sizes xs (storeFrom 0 s) (storeFrom 1 s) image-listed
 
   pub session-lengths : lengthsRight (sessionFrom s) ≡ true
-  unfolding sessionFrom storeTaken
+  unfolding sessionFrom
   session-lengths =
-      right-lengths (sessionFrom s) (numbers.length-rowsFrom xs) (numbers.length-rowFrom xs)
-      (length-store form (storeFrom 0 s) (image-sizes .1)) (length-store form (storeFrom 1 s) (image-sizes .2))
+      right-lengths (sessionFrom s) (numbers.length-rowsFrom xs) (numbers.length-rowFrom xs) (image-sizes .1)
+      (image-sizes .2)
 
   session-numbers : numbersOf (sessionFrom s) ≡ xs
   unfolding sessionFrom
   session-numbers =
-      numbers.numbers-back xs (image-sizes .0) (listed-kinds form xs (storeFrom 0 s) (storeFrom 1 s) image-listed)
+      numbers.numbers-back xs (image-sizes .0) (listed-kinds xs (storeFrom 0 s) (storeFrom 1 s) image-listed)
 
-  read : codec.taken form s xs (storeFrom 0 s) (storeFrom 1 s) ≡ codec.took Done xs (codec.stores (storeFrom 0 s) (storeFrom 1 s))
+  read : codec.taken s xs (storeFrom 0 s) (storeFrom 1 s) ≡ codec.took Done xs (codec.stores (storeFrom 0 s) (storeFrom 1 s))
   unfolding numbersFrom
   read =
-      sym (taken-done form (sizesOf form) refl xs (storeFrom 0 s) (storeFrom 1 s) s
-      (listed-lent form xs (storeFrom 0 s) (storeFrom 1 s) image-listed) (image-tests s holds .0) xs _ refl (both-stores s))
+      sym (taken-done imageSizes refl xs (storeFrom 0 s) (storeFrom 1 s) s
+      (listed-lent xs (storeFrom 0 s) (storeFrom 1 s) image-listed) (image-tests s holds .0) xs _ refl (both-stores s))
 
   module _ (bytes : Bytes s) where
-    -- what is taken up from any form is a session of the list that is written
+    -- what is taken up is a session of the list
     pub session-listed : isAdmitted (sessionFrom s) ≡ true
-    unfolding isAdmitted sessionFrom storeTaken
+    unfolding isAdmitted sessionFrom
     session-listed =
-        let fit = image.session-read form s xs (storeFrom 0 s) (storeFrom 1 s) xs (storeFrom 0 s) (storeFrom 1 s) read bytes .1 in
-        rw (session-numbers, extended-listed form xs (storeFrom 0 s) (storeFrom 1 s) image-listed) (fits-written form xs fit)
+        rw (session-numbers, image-listed)
+        (image.session-read s xs (storeFrom 0 s) (storeFrom 1 s) xs (storeFrom 0 s) (storeFrom 1 s) read bytes .1)
 
-    session-image : formOf s ≡ written → imageIn (sessionFrom s) ≡ s
+    -- and writes the image again
+    pub session-image : imageIn (sessionFrom s) ≡ s
     unfolding imageIn sessionFrom
-    session-image e =
-        rw (
-          session-numbers,
-          store-whole 0 s e (image-sizes .1 ∙ ap storeSize e),
-          store-whole 1 s e (image-sizes .2 ∙ ap storeSize e),
-          ← e,
-        )
-        (image.write-back form s xs (storeFrom 0 s) (storeFrom 1 s) xs (storeFrom 0 s) (storeFrom 1 s) read bytes)
+    session-image =
+        rw session-numbers
+        (image.write-back s xs (storeFrom 0 s) (storeFrom 1 s) xs (storeFrom 0 s) (storeFrom 1 s) read bytes)
 
 -- ---- the answers of taking up
 
@@ -252,57 +227,20 @@ module _ (m : LentSession) (s : List ℕ) where
   unfolding takeUp
   refused-up h = stays-by (lengthsRight m) (isAdmittedImage s) h
 
-  not-image : (t : Bool) → codec.isImage (formOf s) s ≡ t → (t ≡ true → ⊥) → isAdmittedImage s ≡ false
+  not-image : (t : Bool) → codec.isImage s ≡ t → (t ≡ true → ⊥) → isAdmittedImage s ≡ false
   unfolding isAdmittedImage
   not-image true e n = absurd (n refl)
   not-image false e n = rw e
 
-  none-of : (getD s 3 0 ≡ formNumber Five → ⊥) → (getD s 3 0 ≡ formNumber Six → ⊥) → (getD s 3 0 ≡ formNumber Eight → ⊥)
-      → (form : Form) → getD s 3 0 ≡ formNumber form → ⊥
-  none-of a b c Five e = a e
-  none-of a b c Six e = b e
-  none-of a b c Eight e = c e
-
-  -- "Any other form's number is number 9"
-  pub other-form : Bytes s → lengthsRight m ≡ true
-      → (getD s 3 0 ≡ formNumber Five → ⊥) → (getD s 3 0 ≡ formNumber Six → ⊥) → (getD s 3 0 ≡ formNumber Eight → ⊥)
+  -- "Any other form's number is number 9", so "older images get number 9"
+  pub other-form : Bytes s → lengthsRight m ≡ true → (getD s 3 0 ≡ formNumber → ⊥)
       → takeUp m s ≡ takeUpOf up.NotAdmitted m
-  other-form bytes right a b c =
-      let other : isAdmittedImage s ≡ false =
-      not-image (codec.isImage (formOf s) s) refl (λ e. none-of a b c (formOf s) (form-number (formOf s) s bytes e)) in
-      sym (up-not m s right other)
+  other-form bytes right other =
+      sym (up-not m s right (not-image (codec.isImage s) refl (λ e. other (form-number s bytes e))))
 
-  -- "older images get number 9": those of forms 2 and 3
-  pub form-2-refused : Bytes s → lengthsRight m ≡ true → getD s 3 0 ≡ 2 → takeUp m s ≡ takeUpOf up.NotAdmitted m
-  form-2-refused bytes right e = other-form bytes right (λ k. omega arith) (λ k. omega arith) (λ k. omega arith)
-
-  pub form-3-refused : Bytes s → lengthsRight m ≡ true → getD s 3 0 ≡ 3 → takeUp m s ≡ takeUpOf up.NotAdmitted m
-  form-3-refused bytes right e = other-form bytes right (λ k. omega arith) (λ k. omega arith) (λ k. omega arith)
-
-  -- ---- an image of any form, by that form's table and limits
-
-  module _ (form : Form) where
-    abbrev numbersBy : List ℕ
-    numbersBy = codec.numbersOf (itemsOf form) s
-
-    abbrev storeBy : ℕ → List ℕ
-    storeBy n = getD (codec.storesOf (itemsOf form) s) n []
-
-    module _ (bytes : Bytes s) (right : lengthsRight m ≡ true) (whole : codec.isImage form s ≡ true) where
-      judged : (t : Bool) → list.admitted form numbersBy (storeBy 0) (storeBy 1) ≡ t → isAdmittedImage s ≡ t
-      unfolding isAdmittedImage numbersFrom storeFrom
-      judged t h = rw (form-told form s bytes whole, whole) h
-
-      -- card 6: "each place and mailbox extended with zeros and all else the same"
-      pub form-taken-up : list.admitted form numbersBy (storeBy 0) (storeBy 1) ≡ true
-          → takeUp m s ≡ takeUpOf up.Done
-          (session (rowsFrom numbersBy) (rowFrom numbersBy) (codec.extended form (storeBy 0)) (codec.extended form (storeBy 1)))
-      unfolding sessionFrom storeTaken numbersFrom storeFrom
-      form-taken-up h = sym (up-done m s right (judged true h)) ∙ rw (form-told form s bytes whole)
-
-      -- "form 5 with its own limits (15 segments, 3,840 bytes; more is number 9)"
-      pub form-over : list.admitted form numbersBy (storeBy 0) (storeBy 1) ≡ false → takeUp m s ≡ takeUpOf up.NotAdmitted m
-      form-over h = sym (up-not m s right (judged false h))
+  -- those of cards 2, 3, 5, 6 and 8
+  pub older-refused : Bytes s → lengthsRight m ≡ true → getD s 3 0 < formNumber → takeUp m s ≡ takeUpOf up.NotAdmitted m
+  older-refused bytes right older = other-form bytes right (λ e. omega (arith, older, e))
 
   taken-by : (t u : Bool) → UpBy t u .answer ≡ up.Done → (t ≡ true) × (u ≡ true) × (UpBy t u .session ≡ sessionFrom s)
   taken-by true true e = (refl, refl, refl)
@@ -314,9 +252,9 @@ module _ (m : LentSession) (s : List ℕ) where
     unfolding takeUp
     take-up-done = taken-by (lengthsRight m) (isAdmittedImage s) done
 
-    -- "only such bytes": a session of the list, which writes them; "Older forms still taken up .. are excepted"
+    -- "only such bytes": a session of the list, which writes them
     pub written-back : Bytes s → (lengthsRight (takeUp m s .session) ≡ true) × (isAdmitted (takeUp m s .session) ≡ true)
-        × (formOf s ≡ written → imageIn (takeUp m s .session) ≡ s)
+        × (imageIn (takeUp m s .session) ≡ s)
     written-back bytes =
         let d = take-up-done in
         rw (d .2) (session-lengths s (d .1), session-listed s (d .1) bytes, session-image s (d .1) bytes)

@@ -9,12 +9,9 @@ use Rattle.octets.specs.Bytes.{overwrite}
 use Rattle.journal.specs.Events.{recordCount}
 use Rattle.bank_state.specs.Limits.{storeBytes}
 use Rattle.bank_session.specs.Session.{LentSession, session, sessionSize}
-use Rattle.image.specs.declared.table.Form.{Form}
-use Rattle.image.specs.declared.table.Form.the-variants.{Five, Six, Eight}
 use Rattle.image.specs.declared.codec.Answer.{Answer}
 use Rattle.image.specs.declared.codec.Answer.the-variants as codec-answer
-use Rattle.image.specs.Table.{formNumber}
-use Rattle.image.specs.Items.{itemsOf, sizesOf}
+use Rattle.image.specs.Items.{imageItems, imageSizes}
 use Rattle.image.specs.Image as codec
 use Rattle.image_conditions.specs.Conditions as list
 use Rattle.image_numbers.specs.Numbers.{numbersIn, rowsFrom, rowFrom}
@@ -23,19 +20,16 @@ use Rattle.image_calls.specs.declared.calls.Away.the-variants as away
 use Rattle.image_calls.specs.declared.calls.TakenUp.{TakenUp}
 use Rattle.image_calls.specs.declared.calls.TakenUp.the-variants as up
 
--- the form that is written, and the length of its images
-abbrev pub written : Form
-written = Eight
-
+-- the length of an image
 abbrev pub imageLength : ℕ
-imageLength = sizesOf written .image
+imageLength = imageSizes .image
 
 -- the numbers of a session's image, and the image
 abbrev pub numbersOf : LentSession → List ℕ
 numbersOf m = numbersIn (m .rows) (m .row)
 
 unfoldable pub imageIn : LentSession → List ℕ
-imageIn m = codec.imageOf written (numbersOf m) (m .orders) (m .mailboxes)
+imageIn m = codec.imageOf (numbersOf m) (m .orders) (m .mailboxes)
 
 -- "a store or the row has another length"
 abbrev pub sizesRight : ℕ → ℕ → ℕ → ℕ → Bool
@@ -48,7 +42,7 @@ lengthsRight m = sizesRight (length (m .rows)) (length (m .row)) (length (m .ord
 -- the session is one of the list: its numbers hold the conditions and have their parts' lengths
 unfoldable pub isAdmitted : LentSession → Bool
 isAdmitted m =
-    list.admitted written (numbersOf m) (m .orders) (m .mailboxes) && codec.fits (itemsOf written) (numbersOf m)
+    list.admitted (numbersOf m) (m .orders) (m .mailboxes) && codec.fits imageItems (numbersOf m)
 
 -- ---- putting away
 
@@ -100,38 +94,26 @@ pub record TakeUp : Type 0 where
 abbrev pub takeUpOf : TakenUp → LentSession → TakeUp
 takeUpOf r m = record { session = m; answer = r; number = takenUpNumber r }
 
--- "takes up 5, 6 and 8": "01 is a form that is taken up (and its table is the one used)"; bytes with another number are
--- an image of none
-unfoldable pub formOf : List ℕ → Form
-formOf image =
-    cond (eqb (getD image 3 0) (formNumber Five)) Five (cond (eqb (getD image 3 0) (formNumber Six)) Six Eight)
-
--- the numbers and the stores in an image, by the table of its form
+-- the numbers and the stores in an image
 unfoldable pub numbersFrom : List ℕ → List ℕ
-numbersFrom image = codec.numbersOf (itemsOf (formOf image)) image
+numbersFrom image = codec.numbersOf imageItems image
 
 unfoldable pub storeFrom : ℕ → List ℕ → List ℕ
-storeFrom n image = getD (codec.storesOf (itemsOf (formOf image)) image) n []
+storeFrom n image = getD (codec.storesOf imageItems image) n []
 
--- the bytes are an image of the form, and hold the conditions with the form's own limits
+-- the bytes are an image, and hold the conditions; "Any other form's number is number 9"
 unfoldable pub isAdmittedImage : List ℕ → Bool
 isAdmittedImage image =
-    codec.isImage (formOf image) image
-    && list.admitted (formOf image) (numbersFrom image) (storeFrom 0 image) (storeFrom 1 image)
-
--- the store that the session gets: "each place and mailbox extended with zeros"
-unfoldable pub storeTaken : ℕ → List ℕ → List ℕ
-storeTaken n image = codec.extended (formOf image) (storeFrom n image)
+    codec.isImage image && list.admitted (numbersFrom image) (storeFrom 0 image) (storeFrom 1 image)
 
 -- the session in an image
 unfoldable pub sessionFrom : List ℕ → LentSession
 sessionFrom image =
-    session (rowsFrom (numbersFrom image)) (rowFrom (numbersFrom image)) (storeTaken 0 image) (storeTaken 1 image)
+    session (rowsFrom (numbersFrom image)) (rowFrom (numbersFrom image)) (storeFrom 0 image) (storeFrom 1 image)
 
 -- "Number 1: a store or the row has another length. Then number 9: the image breaks a condition. Else state, stores and
 -- row become those of the image, whatever stood there; no clock moves, nothing is dropped or forgotten, no event is
--- entered"; "an image of form 5 is judged by form 5's limits (15 segments, 3,840) and each place and mailbox gets 4,096
--- zeros behind it"; "an image of form 5 or 6 means no signers"
+-- entered"
 unfoldable pub takeUp : LentSession → List ℕ → TakeUp
 takeUp m image =
     cond (lengthsRight m)

@@ -5,10 +5,9 @@ use bank_session::layout::SESSION_SIZE;
 use bank_state::limits::STORE_BYTES;
 use image::codec::Answer;
 use image::codec::read_numbers;
+use image::codec::take_stores;
 use image::codec::write;
-use image::stores::take_extended;
-use image::table::Form;
-use image::table::sizes_of;
+use image::table::image_sizes;
 use image_conditions::conditions::admitted;
 use image_numbers::events::row_from;
 use image_numbers::numbers::gather;
@@ -25,21 +24,11 @@ ghost use Rattle.journal.specs.declared.event.Event.{Event};
 ghost use Rattle.journal.specs.Events.{recordCount};
 ghost use Rattle.journal.specs.Row.{replaced};
 ghost use Rattle.bank_session.specs.Session.{session};
-ghost use Rattle.image.specs.Items.{sizesOf};
+ghost use Rattle.image.specs.Items.{imageSizes};
 ghost use Rattle.image_records.specs.Layout.{numberCount};
 ghost use Rattle.image_conditions.specs.Conditions as list;
 ghost use Rattle.image_calls.specs.Calls.{sizesRight, awayOf, putAwayOf, putAway, takeUpOf, takeUp};
-ghost use Rattle.image_calls.specs.Calls.{formOf, numbersFrom, storeFrom, isAdmittedImage};
-
-// Where the form's number stands in an image, and the numbers of the older forms.
-const NUMBER_AT: usize = 3;
-
-const NUMBER_5: u8 = 5;
-
-const NUMBER_6: u8 = 6;
-
-// The form that is written.
-const WRITTEN: Form = Form::Eight;
+ghost use Rattle.image_calls.specs.Calls.{numbersFrom, storeFrom, isAdmittedImage};
 
 // What taking up comes to, but for the row: its answer, whether another row is taken, and that row.
 pub struct TakeUpCore {
@@ -71,7 +60,7 @@ fn away_of(answer: Answer) -> Away
     ensures { λ r. ⌜ r ≡ awayOf answer ⌝ }
 {
     match answer {
-        Answer::Done => Away::Length(sizes_of(WRITTEN).image),
+        Answer::Done => Away::Length(image_sizes().image),
         Answer::Lengths => Away::WrongLength,
         Answer::Contents => Away::NotAdmitted,
     }
@@ -94,48 +83,31 @@ pub fn put_away_core(
     if !sizes_right(rows.len(), records, orders.len(), mailboxes.len()) {
         return Away::WrongLength;
     }
-    if buffer.len() < sizes_of(WRITTEN).image {
+    if buffer.len() < image_sizes().image {
         return Away::WrongLength;
     }
     let mut numbers = [0u64; NUMBER_COUNT];
     gather(rows, row, &mut numbers);
-    if !admitted(WRITTEN, &numbers, orders, mailboxes) {
+    if !admitted(&numbers, orders, mailboxes) {
         return Away::NotAdmitted;
     }
-    away_of(write(WRITTEN, &numbers, orders, mailboxes, buffer))
+    away_of(write(&numbers, orders, mailboxes, buffer))
 }
 
 // ---- taking up
 
-// The form of an image, by its number; bytes with the number of no form taken up are no image of this one.
-fn form_of(image: &[u8]) -> Form
-    ensures { λ r. ⌜ r ≡ formOf (now (image .entry)) ⌝ }
-{
-    if image.len() <= NUMBER_AT {
-        return Form::Eight;
-    }
-    if image[NUMBER_AT] == NUMBER_5 {
-        return Form::Five;
-    }
-    if image[NUMBER_AT] == NUMBER_6 {
-        return Form::Six;
-    }
-    Form::Eight
-}
-
-// Whether the numbers of an image and the stores in it hold the conditions of its form.
-fn holds_list(form: Form, image: &[u8], numbers: &[u64]) -> bool
-    requires { ⌜ (form ≡ formOf (now image)) × (length (now image) ≡ sizesOf form .image) ⌝ }
-    ensures { λ r. ⌜ r ≡ list.admitted form (now (numbers .entry))
+// Whether the numbers of an image and the stores in it hold the conditions.
+fn holds_list(image: &[u8], numbers: &[u64]) -> bool
+    requires { ⌜ length (now image) ≡ imageSizes .image ⌝ }
+    ensures { λ r. ⌜ r ≡ list.admitted (now (numbers .entry))
         (storeFrom 0 (now (image .entry))) (storeFrom 1 (now (image .entry))) ⌝ }
 {
-    let f = sizes_of(form);
+    let f = image_sizes();
     let orders = f.orders;
     let orders_end = orders + f.store;
     let mailboxes = f.mailboxes;
     let mailboxes_end = mailboxes + f.store;
     admitted(
-        form,
         numbers,
         &image[orders..orders_end],
         &image[mailboxes..mailboxes_end],
@@ -143,14 +115,14 @@ fn holds_list(form: Form, image: &[u8], numbers: &[u64]) -> bool
 }
 
 // Whether the bytes are an admitted image; then its numbers are read.
-fn read_admitted(form: Form, image: &[u8], numbers: &mut [u64]) -> bool
-    requires { ⌜ (form ≡ formOf (now image)) × (length (now numbers) ≡ numberCount) ⌝ }
+fn read_admitted(image: &[u8], numbers: &mut [u64]) -> bool
+    requires { ⌜ length (now numbers) ≡ numberCount ⌝ }
     ensures { λ r. ⌜ (r ≡ isAdmittedImage (now (image .entry)))
         × (r ≡ true → now (numbers .exit) ≡ numbersFrom (now (image .entry))) ⌝ }
 {
-    let answer = read_numbers(form, image, numbers);
+    let answer = read_numbers(image, numbers);
     match answer {
-        Answer::Done => holds_list(form, image, numbers),
+        Answer::Done => holds_list(image, numbers),
         Answer::Lengths => false,
         Answer::Contents => false,
     }
@@ -167,6 +139,8 @@ fn refused(answer: TakenUp) -> TakeUpCore
         subscriber: 0,
         order_type: 0,
         order: 0,
+        high: 0,
+        low: 0,
         kind,
     };
     let row = [none; RECORD_COUNT];
@@ -195,12 +169,11 @@ pub fn take_up_core(
         return refused(TakenUp::WrongLength);
     }
     let mut numbers = [0u64; NUMBER_COUNT];
-    let form = form_of(image);
-    if !read_admitted(form, image, &mut numbers) {
+    if !read_admitted(image, &mut numbers) {
         return refused(TakenUp::NotAdmitted);
     }
     scatter(&numbers, rows);
-    take_extended(form, image, orders, mailboxes);
+    take_stores(image, orders, mailboxes);
     let row = row_from(&numbers);
     TakeUpCore {
         answer: TakenUp::Done,

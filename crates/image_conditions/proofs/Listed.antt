@@ -7,8 +7,7 @@ use lib.Dec.{eqb}
 use lib.ListN.{length}
 use borrow.Author.Tests.{eqb-true, eq-eqb}
 use Rattle.octets.proofs.Tests.{and-true}
-use Rattle.image.specs.declared.table.Form.{Form}
-use Rattle.image.specs.Table.{storeSize}
+use Rattle.bank_state.specs.Limits.{storeBytes}
 use Rattle.image_records.specs.Layout.{numberCount}
 use Rattle.image_conditions.specs.Conditions.{
   clockFits,
@@ -40,7 +39,7 @@ use Rattle.image_conditions.specs.Conditions.{
   admitted,
 }
 
-pub record Listed (form : Form) (xs orders mailboxes : List ℕ) : Type 0 where
+pub record Listed (xs orders mailboxes : List ℕ) : Type 0 where
   pub clock : clockFits xs ≡ true
   pub openings : openingsFit xs ≡ true
   pub series : everySeries xs ≡ true
@@ -52,42 +51,42 @@ pub record Listed (form : Form) (xs orders mailboxes : List ℕ) : Type 0 where
   pub downloadCount : downloadCountFits xs ≡ true
   pub downloads : everyDownload xs ≡ true
   pub downloadsOver : downloadsUnused xs ≡ true
-  pub places : everyPlace form xs orders ≡ true
+  pub places : everyPlace xs orders ≡ true
   pub ordersApart : ordersDistinct xs ≡ true
   pub numbers : numbersDistinct xs ≡ true
   pub openAll : openInAll xs ≡ true
   pub openOf : everySubscriber xs ≡ true
-  pub files : everyMailbox form xs mailboxes ≡ true
+  pub files : everyMailbox xs mailboxes ≡ true
   pub events : eventsFit xs ≡ true
-  pub journal : everyEvent form xs ≡ true
+  pub journal : everyEvent xs ≡ true
   pub journalOver : journalUnused xs ≡ true
 
-module _ (form : Form) (xs orders mailboxes : List ℕ) where
-  pub lengths : admitted form xs orders mailboxes ≡ true
-      → (length xs ≡ numberCount) × (length orders ≡ storeSize form) × (length mailboxes ≡ storeSize form)
+module _ (xs orders mailboxes : List ℕ) where
+  pub lengths : admitted xs orders mailboxes ≡ true
+      → (length xs ≡ numberCount) × (length orders ≡ storeBytes) × (length mailboxes ≡ storeBytes)
   unfolding admitted
   lengths h =
       let a = and-true (eqb (length xs) numberCount) _ h in
-      let b = and-true (eqb (length orders) (storeSize form)) _ (a .1) in
-      let c = and-true (eqb (length mailboxes) (storeSize form)) _ (b .1) in
+      let b = and-true (eqb (length orders) storeBytes) _ (a .1) in
+      let c = and-true (eqb (length mailboxes) storeBytes) _ (b .1) in
       (eqb-true _ _ (a .0), eqb-true _ _ (b .0), eqb-true _ _ (c .0))
 
-  pub listed : admitted form xs orders mailboxes ≡ true → Listed form xs orders mailboxes
+  pub listed : admitted xs orders mailboxes ≡ true → Listed xs orders mailboxes
   unfolding admitted conditions seriesConditions nonceConditions downloadConditions openConditions journalConditions
   listed h =
       let a = and-true (eqb (length xs) numberCount) _ h in
-      let b = and-true (eqb (length orders) (storeSize form)) _ (a .1) in
-      let c = and-true (eqb (length mailboxes) (storeSize form)) _ (b .1) in
-      let l = and-true (conditions form xs orders mailboxes) true (c .1) .0 in
+      let b = and-true (eqb (length orders) storeBytes) _ (a .1) in
+      let c = and-true (eqb (length mailboxes) storeBytes) _ (b .1) in
+      let l = and-true (conditions xs orders mailboxes) true (c .1) .0 in
       let clock = and-true (clockFits xs) _ l in
       let openings = and-true (openingsFit xs) _ (clock .1) in
       let series = and-true (seriesConditions xs) _ (openings .1) in
       let nonces = and-true (nonceConditions xs) _ (series .1) in
       let downloads = and-true (downloadConditions xs) _ (nonces .1) in
-      let places = and-true (everyPlace form xs orders) _ (downloads .1) in
+      let places = and-true (everyPlace xs orders) _ (downloads .1) in
       let opens = and-true (openConditions xs) _ (places .1) in
-      let files = and-true (everyMailbox form xs mailboxes) _ (opens .1) in
-      let journal = and-true (journalConditions form xs) true (files .1) in
+      let files = and-true (everyMailbox xs mailboxes) _ (opens .1) in
+      let journal = and-true (journalConditions xs) true (files .1) in
       let counter = and-true (everySeries xs) _ (series .0) in
       let sum = and-true (seriesSum xs) true (counter .1) in
       let nonce = and-true (nonceCountFits xs) _ (nonces .0) in
@@ -102,7 +101,7 @@ module _ (form : Form) (xs orders mailboxes : List ℕ) where
       let together = and-true (openInAll xs) _ (number .1) in
       let of = and-true (everySubscriber xs) true (together .1) in
       let events = and-true (eventsFit xs) _ (journal .0) in
-      let event = and-true (everyEvent form xs) _ (events .1) in
+      let event = and-true (everyEvent xs) _ (events .1) in
       let none = and-true (journalUnused xs) true (event .1) in
       record {
         clock = clock .0;
@@ -127,14 +126,14 @@ module _ (form : Form) (xs orders mailboxes : List ℕ) where
         journalOver = none .0;
       }
 
-  pub listing : length xs ≡ numberCount → length orders ≡ storeSize form → length mailboxes ≡ storeSize form
-      → Listed form xs orders mailboxes → admitted form xs orders mailboxes ≡ true
+  pub listing : length xs ≡ numberCount → length orders ≡ storeBytes → length mailboxes ≡ storeBytes
+      → Listed xs orders mailboxes → admitted xs orders mailboxes ≡ true
   unfolding admitted conditions seriesConditions nonceConditions downloadConditions openConditions journalConditions
   listing n o f l =
       rw (
         eq-eqb (length xs) numberCount n,
-        eq-eqb (length orders) (storeSize form) o,
-        eq-eqb (length mailboxes) (storeSize form) f,
+        eq-eqb (length orders) storeBytes o,
+        eq-eqb (length mailboxes) storeBytes f,
         l .clock,
         l .openings,
         l .series,

@@ -8,12 +8,11 @@ use borrow.Author.Tests.{leb-true}
 use Rattle.octets.proofs.Tests.{and-true}
 use Rattle.frame_table.specs.Table.{lastTime}
 use Rattle.bank_state.specs.Limits.{placeCount}
-use Rattle.image.specs.declared.table.Form.{Form}
 use Rattle.image_records.specs.Layout as image
 use Rattle.image_records.specs.Records as records
 use Rattle.image_conditions.specs.Conditions as list
 use Rattle.image_records.proofs.Shapes.{every-at}
-use Rattle.image_records.proofs.OneRecord.{nonce-time, download-time, place-listed, place-time, event-time}
+use Rattle.image_records.proofs.OneRecord.{nonce-time, download-time, place-listed, place-time, event-listed, event-time}
 use Rattle.image_conditions.proofs.Listed.{listed}
 
 -- no time of these numbers exceeds the bound
@@ -24,12 +23,12 @@ pub record InTime (xs : List ℕ) : Type 0 where
   pub places : (i : ℕ) → i < placeCount → image.placeAt xs i .last ≤ lastTime
   pub events : (i : ℕ) → i < image.usedEvents xs → image.eventAt xs i .clock ≤ lastTime
 
-pub times-bounded : (form : Form) (xs orders mailboxes : List ℕ) → list.admitted form xs orders mailboxes ≡ true
+pub times-bounded : (xs orders mailboxes : List ℕ) → list.admitted xs orders mailboxes ≡ true
     → InTime xs
 unfolding list.everyNonce list.everyDownload list.everyPlace list.everyEvent list.nonceTest list.downloadTest
     list.placeTest list.eventTest
-times-bounded form xs orders mailboxes h =
-    let l = listed form xs orders mailboxes h in
+times-bounded xs orders mailboxes h =
+    let l = listed xs orders mailboxes h in
     let now = image.clock xs in
     let opened = image.openings xs in
     let bounded : now ≤ lastTime = leb-true now lastTime (l .clock) in
@@ -44,13 +43,13 @@ times-bounded form xs orders mailboxes h =
           let n = download-time now opened file d (and-true (records.downloadHolds now opened file d) _ t .0) in omega arith;
       places = λ i k.
           let p = image.placeAt xs i in
-          let t = every-at (list.placeTest form xs orders) placeCount i (l .places) k in
-          let counter = image.counterOf xs (p .subscriber) in
-          let held = and-true (records.placeHolds form now opened counter p) _ t .0 in
-          let n = place-time form now opened counter p (place-listed form now opened counter p held) in omega arith;
+          let t = every-at (list.placeTest xs orders) placeCount i (l .places) k in
+          let held = and-true (records.placeHolds now opened p) _ t .0 in
+          let n = place-time now opened p (place-listed now opened p held) in omega arith;
       events = λ i k.
-          let t = every-at (list.eventTest form xs) (image.usedEvents xs) i (l .journal) k in
+          let t = every-at (list.eventTest xs) (image.usedEvents xs) i (l .journal) k in
           let e = image.eventAt xs i in
-          let counter = image.counterOf xs (e .subscriber) in
-          let n = event-time form now counter (image.events xs) i (image.eventAt xs (i - 1)) e t in omega arith;
+          let before = image.eventAt xs (i - 1) in
+          let entered = image.events xs in
+          let n = event-time now opened entered i before e (event-listed now opened entered i before e t) in omega arith;
     }

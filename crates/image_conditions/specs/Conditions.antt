@@ -1,17 +1,23 @@
 -- Card 2, "the full list stands under docs/": the conditions of an admitted image, each under its label, those of one
--- record by `image_records`; where a limit is the form's own, by the form.
+-- record by `image_records`.
 use Prim.Native.Nat.{ℕ, _+_, _-_, _*_}
 use mathlib.Core.Bool.{Bool, _&&_}
 use mathlib.Core.List.{List, [], _∷_}
 use lib.ListN.{length, getD, take, drop}
 use lib.Dec.{leb, ltb, eqb}
 use Rattle.frame_table.specs.Table.{lastTime}
-use Rattle.message.specs.Limits.{subscribers}
-use Rattle.bank_state.specs.Limits.{placeCount, nonceCount, maxOpen, maxOpenPerSubscriber, maxOpenings, seriesLimit}
+use Rattle.message.specs.Limits.{subscribers, fileBytes}
+use Rattle.bank_state.specs.Limits.{
+  placeCount,
+  nonceCount,
+  storeBytes,
+  maxOpen,
+  maxOpenPerSubscriber,
+  maxOpenings,
+  seriesLimit,
+}
 use Rattle.journal.specs.Events.{recordCount}
 use Rattle.signers.specs.Signers.{signerCount}
-use Rattle.image.specs.declared.table.Form.{Form}
-use Rattle.image.specs.Table.{fileSize, storeSize}
 use Rattle.image_records.specs.Shapes.{allOf, implies, upTo, every, count, total, distinct, allZero, unused}
 use Rattle.image_records.specs.Layout.{
   openState,
@@ -49,7 +55,7 @@ use Rattle.image_records.specs.Records.{nonceTime, downloadHolds, inUse, placeH
 abbrev pub clockFits : List ℕ → Bool
 clockFits xs = leb (clock xs) lastTime
 
--- openings: "form 5 on at most 4,294,967,296"
+-- openings: "at most 4,294,967,296"
 abbrev pub openingsFit : List ℕ → Bool
 openingsFit xs = leb (openings xs) maxOpenings
 
@@ -57,9 +63,17 @@ openingsFit xs = leb (openings xs) maxOpenings
 unfoldable pub seriesFits : List ℕ → ℕ → Bool
 seriesFits xs i = leb (counterAt xs i) seriesLimit
 
--- series sum: "the eight counts add up to at most openings"
+-- place i is in use and has "an order number that is not below" its "subscriber's count in 04"
+unfoldable pub isAhead : List ℕ → ℕ → Bool
+isAhead xs i = inUse (placeAt xs i) && leb (counterOf xs (placeAt xs i .subscriber)) (placeAt xs i .order)
+
+-- "chosen ahead": how many places are so
+unfoldable pub chosenAhead : List ℕ → ℕ
+chosenAhead xs = count (isAhead xs) placeCount
+
+-- series sum: "the eight counts add up to at most openings; form 11 on: the counts and chosen ahead together"
 unfoldable pub seriesSum : List ℕ → Bool
-seriesSum xs = leb (total (counterAt xs) placeCount) (openings xs)
+seriesSum xs = leb (total (counterAt xs) placeCount + chosenAhead xs) (openings xs)
 
 -- nonce count: "06 is at most 64"
 abbrev pub nonceCountFits : List ℕ → Bool
@@ -142,21 +156,21 @@ eventsFit xs = leb (events xs + count (isOpenSlot xs) placeCount) (2 * openings 
 
 -- ---- the stores
 
--- mailbox length: "each at most 3,840, form 6 on: 7,936"
-abbrev pub mailboxLength : Form → List ℕ → ℕ → Bool
-mailboxLength form xs i = leb (fileAt xs i) (fileSize form)
+-- mailbox length: "each at most .. 7,936"
+abbrev pub mailboxLength : List ℕ → ℕ → Bool
+mailboxLength xs i = leb (fileAt xs i) fileBytes
 
 -- the bytes behind this length of part i of a store whose parts have so many bytes
 unfoldable pub bytesBehind : ℕ → List ℕ → ℕ → ℕ → List ℕ
 bytesBehind size store i n = take (size - upTo size n) (drop (i * size + upTo size n) store)
 
 -- place bytes: "the bytes of each place behind its length are 0 (a free place: all)"
-unfoldable pub placeBytes : Form → List ℕ → List ℕ → ℕ → Bool
-placeBytes form xs orders i = allZero (bytesBehind (fileSize form) orders i (placeAt xs i .length))
+unfoldable pub placeBytes : List ℕ → List ℕ → ℕ → Bool
+placeBytes xs orders i = allZero (bytesBehind fileBytes orders i (placeAt xs i .length))
 
 -- mailbox bytes: "the bytes of each mailbox behind its length are 0"
-unfoldable pub mailboxBytes : Form → List ℕ → List ℕ → ℕ → Bool
-mailboxBytes form xs mailboxes i = allZero (bytesBehind (fileSize form) mailboxes i (fileAt xs i))
+unfoldable pub mailboxBytes : List ℕ → List ℕ → ℕ → Bool
+mailboxBytes xs mailboxes i = allZero (bytesBehind fileBytes mailboxes i (fileAt xs i))
 
 -- ---- the used events
 
@@ -175,18 +189,16 @@ downloadTest xs i =
     downloadHolds (clock xs) (openings xs) (fileOf xs (downloadAt xs i .subscriber)) (downloadAt xs i)
     && downloadRises xs i
 
-unfoldable pub placeTest : Form → List ℕ → List ℕ → ℕ → Bool
-placeTest form xs orders i =
-    placeHolds form (clock xs) (openings xs) (counterOf xs (placeAt xs i .subscriber)) (placeAt xs i)
-    && placeBytes form xs orders i
+unfoldable pub placeTest : List ℕ → List ℕ → ℕ → Bool
+placeTest xs orders i =
+    placeHolds (clock xs) (openings xs) (placeAt xs i) && placeBytes xs orders i
 
-unfoldable pub mailboxTest : Form → List ℕ → List ℕ → ℕ → Bool
-mailboxTest form xs mailboxes i = mailboxLength form xs i && mailboxBytes form xs mailboxes i
+unfoldable pub mailboxTest : List ℕ → List ℕ → ℕ → Bool
+mailboxTest xs mailboxes i = mailboxLength xs i && mailboxBytes xs mailboxes i
 
-unfoldable pub eventTest : Form → List ℕ → ℕ → Bool
-eventTest form xs i =
-    eventHolds form (clock xs) (counterOf xs (eventAt xs i .subscriber)) (events xs) i (eventAt xs (i - 1))
-    (eventAt xs i)
+unfoldable pub eventTest : List ℕ → ℕ → Bool
+eventTest xs i =
+    eventHolds (clock xs) (openings xs) (events xs) i (eventAt xs (i - 1)) (eventAt xs i)
 
 unfoldable pub everySeries : List ℕ → Bool
 everySeries xs = every (seriesFits xs) placeCount
@@ -197,17 +209,17 @@ everyNonce xs = every (nonceTest xs) (nonces xs)
 unfoldable pub everyDownload : List ℕ → Bool
 everyDownload xs = every (downloadTest xs) (downloads xs)
 
-unfoldable pub everyPlace : Form → List ℕ → List ℕ → Bool
-everyPlace form xs orders = every (placeTest form xs orders) placeCount
+unfoldable pub everyPlace : List ℕ → List ℕ → Bool
+everyPlace xs orders = every (placeTest xs orders) placeCount
 
-unfoldable pub everyMailbox : Form → List ℕ → List ℕ → Bool
-everyMailbox form xs mailboxes = every (mailboxTest form xs mailboxes) placeCount
+unfoldable pub everyMailbox : List ℕ → List ℕ → Bool
+everyMailbox xs mailboxes = every (mailboxTest xs mailboxes) placeCount
 
 unfoldable pub everySubscriber : List ℕ → Bool
 everySubscriber xs = every (openOfOne xs) subscribers
 
-unfoldable pub everyEvent : Form → List ℕ → Bool
-everyEvent form xs = every (eventTest form xs) (usedEvents xs)
+unfoldable pub everyEvent : List ℕ → Bool
+everyEvent xs = every (eventTest xs) (usedEvents xs)
 
 unfoldable pub seriesConditions : List ℕ → Bool
 seriesConditions xs = allOf (everySeries xs ∷ seriesSum xs ∷ [])
@@ -221,17 +233,17 @@ downloadConditions xs = allOf (downloadCountFits xs ∷ everyDownload xs ∷ dow
 unfoldable pub openConditions : List ℕ → Bool
 openConditions xs = allOf (ordersDistinct xs ∷ numbersDistinct xs ∷ openInAll xs ∷ everySubscriber xs ∷ [])
 
-unfoldable pub journalConditions : Form → List ℕ → Bool
-journalConditions form xs = allOf (eventsFit xs ∷ everyEvent form xs ∷ journalUnused xs ∷ [])
+unfoldable pub journalConditions : List ℕ → Bool
+journalConditions xs = allOf (eventsFit xs ∷ everyEvent xs ∷ journalUnused xs ∷ [])
 
--- the conditions, over numbers and stores of the form's lengths
-unfoldable pub conditions : Form → List ℕ → List ℕ → List ℕ → Bool
-conditions form xs orders mailboxes =
+-- the conditions, over numbers and stores of their lengths
+unfoldable pub conditions : List ℕ → List ℕ → List ℕ → Bool
+conditions xs orders mailboxes =
     allOf (clockFits xs ∷ openingsFit xs ∷ seriesConditions xs ∷ nonceConditions xs ∷ downloadConditions xs
-    ∷ everyPlace form xs orders ∷ openConditions xs ∷ everyMailbox form xs mailboxes ∷ journalConditions form xs ∷ [])
+    ∷ everyPlace xs orders ∷ openConditions xs ∷ everyMailbox xs mailboxes ∷ journalConditions xs ∷ [])
 
--- "What a session may hold is bounded": the session is one of the form's list
-unfoldable pub admitted : Form → List ℕ → List ℕ → List ℕ → Bool
-admitted form xs orders mailboxes =
-    allOf (eqb (length xs) numberCount ∷ eqb (length orders) (storeSize form)
-    ∷ eqb (length mailboxes) (storeSize form) ∷ conditions form xs orders mailboxes ∷ [])
+-- "What a session may hold is bounded": the session is one of the list
+unfoldable pub admitted : List ℕ → List ℕ → List ℕ → Bool
+admitted xs orders mailboxes =
+    allOf (eqb (length xs) numberCount ∷ eqb (length orders) storeBytes
+    ∷ eqb (length mailboxes) storeBytes ∷ conditions xs orders mailboxes ∷ [])

@@ -16,9 +16,8 @@ use crate::tables::open_in_all;
 use crate::tables::orders_distinct;
 use crate::tables::series_sum;
 use bank_state::limits::MAX_OPENINGS;
+use bank_state::limits::STORE_BYTES;
 use frame_table::table::LAST_TIME;
-use image::table::Form;
-use image::table::sizes_of;
 use image_records::layout::CLOCK;
 use image_records::layout::DOWNLOAD_COUNT_AT;
 use image_records::layout::NONCE_COUNT_AT;
@@ -27,7 +26,7 @@ use image_records::layout::OPENINGS;
 use image_records::tests::both;
 ghost use mathlib.Core.Path.{_≡_};
 ghost use lib.ListN.{length};
-ghost use Rattle.image.specs.Table.{storeSize};
+ghost use Rattle.bank_state.specs.Limits.{storeBytes};
 ghost use Rattle.image_records.specs.Layout.{numberCount};
 ghost use Rattle.image_conditions.specs.Conditions.{clockFits, openingsFit, nonceCountFits, downloadCountFits};
 ghost use Rattle.image_conditions.specs.Conditions.{seriesConditions, nonceConditions, downloadConditions};
@@ -101,30 +100,27 @@ fn open_conditions(numbers: &[u64]) -> bool
     )
 }
 
-fn journal_conditions(form: Form, numbers: &[u64]) -> bool
+fn journal_conditions(numbers: &[u64]) -> bool
     requires { ⌜ length (now numbers) ≡ numberCount ⌝ }
-    ensures { λ r. ⌜ r ≡ journalConditions form (now (numbers .entry)) ⌝ }
+    ensures { λ r. ⌜ r ≡ journalConditions (now (numbers .entry)) ⌝ }
 {
     both(
         events_fit(numbers),
-        both(
-            every_event(form, numbers),
-            both(journal_unused(numbers), true),
-        ),
+        both(every_event(numbers), both(journal_unused(numbers), true)),
     )
 }
 
-fn conditions(form: Form, numbers: &[u64], orders: &[u8], mailboxes: &[u8]) -> bool
-    requires { ⌜ (length (now numbers) ≡ numberCount) × (length (now orders) ≡ storeSize form)
-        × (length (now mailboxes) ≡ storeSize form) ⌝ }
-    ensures { λ r. ⌜ r ≡ conditions form (now (numbers .entry)) (now (orders .entry)) (now (mailboxes .entry)) ⌝ }
+fn conditions(numbers: &[u64], orders: &[u8], mailboxes: &[u8]) -> bool
+    requires { ⌜ (length (now numbers) ≡ numberCount) × (length (now orders) ≡ storeBytes)
+        × (length (now mailboxes) ≡ storeBytes) ⌝ }
+    ensures { λ r. ⌜ r ≡ conditions (now (numbers .entry)) (now (orders .entry)) (now (mailboxes .entry)) ⌝ }
 {
     let journal = both(
-        every_mailbox(form, numbers, mailboxes),
-        both(journal_conditions(form, numbers), true),
+        every_mailbox(numbers, mailboxes),
+        both(journal_conditions(numbers), true),
     );
     let places = both(
-        every_place(form, numbers, orders),
+        every_place(numbers, orders),
         both(open_conditions(numbers), journal),
     );
     let nonces = both(
@@ -135,19 +131,18 @@ fn conditions(form: Form, numbers: &[u64], orders: &[u8], mailboxes: &[u8]) -> b
     both(clock_fits(numbers), both(openings_fit(numbers), series))
 }
 
-// Whether the session is one of the form's list; no other lengths are.
-pub fn admitted(form: Form, numbers: &[u64], orders: &[u8], mailboxes: &[u8]) -> bool
-    ensures { λ r. ⌜ r ≡ admitted form (now (numbers .entry)) (now (orders .entry)) (now (mailboxes .entry)) ⌝ }
+// Whether the session is one of the list; no other lengths are.
+pub fn admitted(numbers: &[u64], orders: &[u8], mailboxes: &[u8]) -> bool
+    ensures { λ r. ⌜ r ≡ admitted (now (numbers .entry)) (now (orders .entry)) (now (mailboxes .entry)) ⌝ }
 {
-    let size = sizes_of(form).store;
     if numbers.len() != NUMBER_COUNT {
         return false;
     }
-    if orders.len() != size {
+    if orders.len() != STORE_BYTES {
         return false;
     }
-    if mailboxes.len() != size {
+    if mailboxes.len() != STORE_BYTES {
         return false;
     }
-    both(conditions(form, numbers, orders, mailboxes), true)
+    both(conditions(numbers, orders, mailboxes), true)
 }

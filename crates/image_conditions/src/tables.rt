@@ -2,8 +2,6 @@
 use bank_state::limits::NONCE_COUNT;
 use bank_state::limits::PLACE_COUNT;
 use bank_state::limits::SERIES_LIMIT;
-use image::table::Form;
-use image::table::file_size;
 use image_records::layout::CLOCK;
 use image_records::layout::DOWNLOAD_WIDTH;
 use image_records::layout::DOWNLOADS;
@@ -37,17 +35,17 @@ use image_records::tests::up_to;
 use image_records::tests::zero_bytes;
 use image_records::tests::zero_numbers;
 use journal::event::RECORD_COUNT;
+use message::limits::FILE_BYTES;
 use signers::set;
 ghost use mathlib.Core.Path.{_≡_};
 ghost use mathlib.Core.Bool.{not};
 ghost use Prim.Native.Nat.{_+_, _-_, _*_, _≤_, _<_};
 ghost use lib.ListN.{length};
-ghost use Rattle.message.specs.Limits.{subscribers};
-ghost use Rattle.bank_state.specs.Limits.{placeCount, nonceCount};
-ghost use Rattle.image.specs.Table.{fileSize, storeSize};
+ghost use Rattle.message.specs.Limits.{subscribers, fileBytes};
+ghost use Rattle.bank_state.specs.Limits.{placeCount, nonceCount, storeBytes};
 ghost use Rattle.image_records.specs.Shapes.{every, count, allZero, unused};
 ghost use Rattle.image_records.specs.Layout.{numberCount, nonces, downloads, usedEvents, slotCount};
-ghost use Rattle.image_conditions.specs.Conditions.{seriesFits, everySeries, seriesSum};
+ghost use Rattle.image_conditions.specs.Conditions.{seriesFits, everySeries, isAhead, chosenAhead, seriesSum};
 ghost use Rattle.image_conditions.specs.Conditions.{sameNonce, noncesDistinct, noncesUnused, everyNonce};
 ghost use Rattle.image_conditions.specs.Conditions.{downloadTest, downloadRises, downloadsUnused, everyDownload};
 ghost use Rattle.image_conditions.specs.Conditions.{placeTest, placeBytes, everyPlace};
@@ -92,8 +90,31 @@ pub fn every_series(numbers: &[u64]) -> bool
     ok
 }
 
-// Whether the counters add up to at most the openings: each is taken from what the ones before leave of these, so that
-// no sum is too large.
+// Whether a place is in use with an order number that its subscriber's counter has not reached.
+fn is_ahead(numbers: &[u64], i: usize) -> bool
+    requires { ⌜ (i < placeCount) × (length (now numbers) ≡ numberCount) ⌝ }
+    ensures { λ r. ⌜ r ≡ isAhead (now (numbers .entry)) i ⌝ }
+{
+    let p = place_at(numbers, i);
+    both(0 < p.state, counter_of(numbers, p.subscriber) <= p.order)
+}
+
+// How many places are so.
+fn chosen_ahead(numbers: &[u64]) -> u64
+    requires { ⌜ length (now numbers) ≡ numberCount ⌝ }
+    ensures { λ r. ⌜ r ≡ chosenAhead (now (numbers .entry)) ⌝ }
+{
+    let mut k: u64 = 0;
+    let mut i = 0;
+    while i < PLACE_COUNT {
+        k += one_if(is_ahead(numbers, i));
+        i += 1;
+    }
+    k
+}
+
+// Whether the counters and the numbers chosen ahead of them add up to at most the openings: each is taken from what the
+// ones before leave of these, so that no sum is too large.
 pub fn series_sum(numbers: &[u64]) -> bool
     requires { ⌜ length (now numbers) ≡ numberCount ⌝ }
     ensures { λ r. ⌜ r ≡ seriesSum (now (numbers .entry)) ⌝ }
@@ -108,7 +129,7 @@ pub fn series_sum(numbers: &[u64]) -> bool
         left -= n;
         i += 1;
     }
-    true
+    chosen_ahead(numbers) <= left
 }
 
 // ---- nonces
@@ -235,44 +256,42 @@ pub fn downloads_unused(numbers: &[u64]) -> bool
 // ---- places and mailboxes
 
 // Whether the bytes of part i of a store behind this length are 0.
-fn zero_behind(form: Form, store: &[u8], i: usize, n: u64) -> bool
-    requires { ⌜ (i < placeCount) × (length (now store) ≡ storeSize form) ⌝ }
-    ensures { λ r. ⌜ r ≡ allZero (bytesBehind (fileSize form) (now (store .entry)) i n) ⌝ }
+fn zero_behind(store: &[u8], i: usize, n: u64) -> bool
+    requires { ⌜ (i < placeCount) × (length (now store) ≡ storeBytes) ⌝ }
+    ensures { λ r. ⌜ r ≡ allZero (bytesBehind fileBytes (now (store .entry)) i n) ⌝ }
 {
-    let size = file_size(form);
-    let from = i * size + up_to(size as u64, n) as usize;
-    let end = i * size + size;
+    let from = i * FILE_BYTES + up_to(FILE_BYTES as u64, n) as usize;
+    let end = i * FILE_BYTES + FILE_BYTES;
     zero_bytes(&store[from..end])
 }
 
-fn place_bytes(form: Form, numbers: &[u64], orders: &[u8], i: usize) -> bool
-    requires { ⌜ (i < placeCount) × (length (now numbers) ≡ numberCount) × (length (now orders) ≡ storeSize form) ⌝ }
-    ensures { λ r. ⌜ r ≡ placeBytes form (now (numbers .entry)) (now (orders .entry)) i ⌝ }
+fn place_bytes(numbers: &[u64], orders: &[u8], i: usize) -> bool
+    requires { ⌜ (i < placeCount) × (length (now numbers) ≡ numberCount) × (length (now orders) ≡ storeBytes) ⌝ }
+    ensures { λ r. ⌜ r ≡ placeBytes (now (numbers .entry)) (now (orders .entry)) i ⌝ }
 {
     let p = place_at(numbers, i);
-    zero_behind(form, orders, i, p.length)
+    zero_behind(orders, i, p.length)
 }
 
-fn place_test(form: Form, numbers: &[u64], orders: &[u8], i: usize) -> bool
-    requires { ⌜ (i < placeCount) × (length (now numbers) ≡ numberCount) × (length (now orders) ≡ storeSize form) ⌝ }
-    ensures { λ r. ⌜ r ≡ placeTest form (now (numbers .entry)) (now (orders .entry)) i ⌝ }
+fn place_test(numbers: &[u64], orders: &[u8], i: usize) -> bool
+    requires { ⌜ (i < placeCount) × (length (now numbers) ≡ numberCount) × (length (now orders) ≡ storeBytes) ⌝ }
+    ensures { λ r. ⌜ r ≡ placeTest (now (numbers .entry)) (now (orders .entry)) i ⌝ }
 {
     let p = place_at(numbers, i);
-    let counter = counter_of(numbers, p.subscriber);
     both(
-        place_holds(form, numbers[CLOCK], numbers[OPENINGS], counter, p),
-        place_bytes(form, numbers, orders, i),
+        place_holds(numbers[CLOCK], numbers[OPENINGS], p),
+        place_bytes(numbers, orders, i),
     )
 }
 
-pub fn every_place(form: Form, numbers: &[u64], orders: &[u8]) -> bool
-    requires { ⌜ (length (now numbers) ≡ numberCount) × (length (now orders) ≡ storeSize form) ⌝ }
-    ensures { λ r. ⌜ r ≡ everyPlace form (now (numbers .entry)) (now (orders .entry)) ⌝ }
+pub fn every_place(numbers: &[u64], orders: &[u8]) -> bool
+    requires { ⌜ (length (now numbers) ≡ numberCount) × (length (now orders) ≡ storeBytes) ⌝ }
+    ensures { λ r. ⌜ r ≡ everyPlace (now (numbers .entry)) (now (orders .entry)) ⌝ }
 {
     let mut ok = true;
     let mut i = 0;
     while i < PLACE_COUNT {
-        ok = both(place_test(form, numbers, orders, i), ok);
+        ok = both(place_test(numbers, orders, i), ok);
         i += 1;
     }
     ok
@@ -316,31 +335,31 @@ pub fn orders_distinct(numbers: &[u64]) -> bool
     ok
 }
 
-fn mailbox_bytes(form: Form, numbers: &[u64], mailboxes: &[u8], i: usize) -> bool
-    requires { ⌜ (i < placeCount) × (length (now numbers) ≡ numberCount) × (length (now mailboxes) ≡ storeSize form) ⌝ }
-    ensures { λ r. ⌜ r ≡ mailboxBytes form (now (numbers .entry)) (now (mailboxes .entry)) i ⌝ }
+fn mailbox_bytes(numbers: &[u64], mailboxes: &[u8], i: usize) -> bool
+    requires { ⌜ (i < placeCount) × (length (now numbers) ≡ numberCount) × (length (now mailboxes) ≡ storeBytes) ⌝ }
+    ensures { λ r. ⌜ r ≡ mailboxBytes (now (numbers .entry)) (now (mailboxes .entry)) i ⌝ }
 {
-    zero_behind(form, mailboxes, i, file_at(numbers, i))
+    zero_behind(mailboxes, i, file_at(numbers, i))
 }
 
-fn mailbox_test(form: Form, numbers: &[u64], mailboxes: &[u8], i: usize) -> bool
-    requires { ⌜ (i < placeCount) × (length (now numbers) ≡ numberCount) × (length (now mailboxes) ≡ storeSize form) ⌝ }
-    ensures { λ r. ⌜ r ≡ mailboxTest form (now (numbers .entry)) (now (mailboxes .entry)) i ⌝ }
+fn mailbox_test(numbers: &[u64], mailboxes: &[u8], i: usize) -> bool
+    requires { ⌜ (i < placeCount) × (length (now numbers) ≡ numberCount) × (length (now mailboxes) ≡ storeBytes) ⌝ }
+    ensures { λ r. ⌜ r ≡ mailboxTest (now (numbers .entry)) (now (mailboxes .entry)) i ⌝ }
 {
     both(
-        file_at(numbers, i) <= file_size(form) as u64,
-        mailbox_bytes(form, numbers, mailboxes, i),
+        file_at(numbers, i) <= FILE_BYTES as u64,
+        mailbox_bytes(numbers, mailboxes, i),
     )
 }
 
-pub fn every_mailbox(form: Form, numbers: &[u64], mailboxes: &[u8]) -> bool
-    requires { ⌜ (length (now numbers) ≡ numberCount) × (length (now mailboxes) ≡ storeSize form) ⌝ }
-    ensures { λ r. ⌜ r ≡ everyMailbox form (now (numbers .entry)) (now (mailboxes .entry)) ⌝ }
+pub fn every_mailbox(numbers: &[u64], mailboxes: &[u8]) -> bool
+    requires { ⌜ (length (now numbers) ≡ numberCount) × (length (now mailboxes) ≡ storeBytes) ⌝ }
+    ensures { λ r. ⌜ r ≡ everyMailbox (now (numbers .entry)) (now (mailboxes .entry)) ⌝ }
 {
     let mut ok = true;
     let mut i = 0;
     while i < PLACE_COUNT {
-        ok = both(mailbox_test(form, numbers, mailboxes, i), ok);
+        ok = both(mailbox_test(numbers, mailboxes, i), ok);
         i += 1;
     }
     ok
@@ -490,20 +509,18 @@ pub fn events_fit(numbers: &[u64]) -> bool
 
 // ---- the journal
 
-fn event_test(form: Form, numbers: &[u64], i: usize) -> bool
+fn event_test(numbers: &[u64], i: usize) -> bool
     requires { ⌜ (i < usedEvents (now numbers)) × (length (now numbers) ≡ numberCount) ⌝ }
-    ensures { λ r. ⌜ r ≡ eventTest form (now (numbers .entry)) i ⌝ }
+    ensures { λ r. ⌜ r ≡ eventTest (now (numbers .entry)) i ⌝ }
 {
     let e = event_at(numbers, i);
-    let counter = counter_of(numbers, e.subscriber);
     if i == 0 {
-        return event_holds(form, numbers[CLOCK], counter, numbers[EVENTS], 0, e, e);
+        return event_holds(numbers[CLOCK], numbers[OPENINGS], numbers[EVENTS], 0, e, e);
     }
     let before = event_at(numbers, i - 1);
     event_holds(
-        form,
         numbers[CLOCK],
-        counter,
+        numbers[OPENINGS],
         numbers[EVENTS],
         i as u64,
         before,
@@ -511,15 +528,15 @@ fn event_test(form: Form, numbers: &[u64], i: usize) -> bool
     )
 }
 
-pub fn every_event(form: Form, numbers: &[u64]) -> bool
+pub fn every_event(numbers: &[u64]) -> bool
     requires { ⌜ length (now numbers) ≡ numberCount ⌝ }
-    ensures { λ r. ⌜ r ≡ everyEvent form (now (numbers .entry)) ⌝ }
+    ensures { λ r. ⌜ r ≡ everyEvent (now (numbers .entry)) ⌝ }
 {
     let n = used_events(numbers);
     let mut ok = true;
     let mut i = 0;
     while i < n {
-        ok = both(event_test(form, numbers, i), ok);
+        ok = both(event_test(numbers, i), ok);
         i += 1;
     }
     ok

@@ -40,7 +40,9 @@ event-there : (xs : List ℕ) (at w i p : ℕ) → p ≡ at + w * i
       subscriber = getD xs (p + 2) 0;
       «order_type» = getD xs (p + 3) 0;
       order = getD xs (p + 4) 0;
-      kind = kindOf (getD xs (p + 5) 0);
+      high = getD xs (p + 5) 0;
+      low = getD xs (p + 6) 0;
+      kind = kindOf (getD xs (p + 7) 0);
     }
 event-there xs at w i p e =
     rw (
@@ -50,6 +52,8 @@ event-there xs at w i p e =
       number-there xs at w i 3 (p + 3) (omega arith),
       number-there xs at w i 4 (p + 4) (omega arith),
       number-there xs at w i 5 (p + 5) (omega arith),
+      number-there xs at w i 6 (p + 6) (omega arith),
+      number-there xs at w i 7 (p + 7) (omega arith),
     )
 
 -- the event of a record
@@ -60,6 +64,8 @@ pub event-read : (xs : List ℕ) (i : ℕ) (e : EventRecord) → e ≡ eventAt x
       subscriber = e .subscriber;
       «order_type» = e .«order_type»;
       order = e .order;
+      high = e .high;
+      low = e .low;
       kind = k;
     }
     ≡ eventOf (drop (eventWidth * i) (drop journalAt xs))

@@ -17,7 +17,6 @@ use Rattle.bank_state.specs.Rows.{keep}
 use Rattle.bank_rows.specs.Rows.{numbersOf}
 use Rattle.bank_rows.proofs.General.{length-numbers, length-rows, numbers-rows, rows-numbers, take-listed}
 use Rattle.bank_session.specs.Session.{sessionSize}
-use Rattle.image.specs.declared.table.Form.the-variants.{Eight}
 use Rattle.image_records.specs.Layout.{journalAt, eventWidth, numberCount, eventAt}
 use Rattle.image_records.specs.Records.{lastKind}
 use Rattle.image_numbers.specs.Table.{sessionPlaces, imagePlaces}
@@ -124,15 +123,15 @@ row-back s row h =
 -- ---- an image's numbers again
 
 -- each number of a kind, one by one
-kind-number : (n : ℕ) → n ≤ lastKind Eight → numberOfKind (kindOf n) ≡ n
+kind-number : (n : ℕ) → n ≤ lastKind → numberOfKind (kindOf n) ≡ n
 kind-number n h = eqb-true (numberOfKind (kindOf n)) n (every-below isKind 6 refl n (omega (arith, h)))
   where
     isKind : ℕ → Bool
     isKind k = eqb (numberOfKind (kindOf k)) k
 
-event-numbers : (s : List ℕ) → eventWidth ≤ length s → getD s 5 0 ≤ lastKind Eight
+event-numbers : (s : List ℕ) → eventWidth ≤ length s → getD s 7 0 ≤ lastKind
     → eventNumbers (eventOf s) ≡ take eventWidth s
-event-numbers s h k = rw (kind-number (getD s 5 0) k) (sym (take-listed eventWidth s h))
+event-numbers s h k = rw (kind-number (getD s 7 0) k) (sym (take-listed eventWidth s h))
 
 module _ (xs : List ℕ) (long : length xs ≡ numberCount) where
   front-again : numbersAt (numbersAt sessionPlaces imagePlaces) xs ≡ take journalAt xs
@@ -151,15 +150,15 @@ module _ (xs : List ℕ) (long : length xs ≡ numberCount) where
       (rw length-image session-within)
       ∙ front-again
 
-  module _ (kinds : (i : ℕ) → i < recordCount → eventAt xs i .kind ≤ lastKind Eight) where
+  module _ (kinds : (i : ℕ) → i < recordCount → eventAt xs i .kind ≤ lastKind) where
     journal-record : (i : ℕ) → i < recordCount
         → eventNumbers (eventOf (drop (eventWidth * i) (drop journalAt xs)))
         ≡ take eventWidth (drop (eventWidth * i) (drop journalAt xs))
     unfolding eventAt
     journal-record i h =
-        let e : journalAt + (eventWidth * i + 5) ≡ journalAt + i * eventWidth + 5 = omega arith in
+        let e : journalAt + (eventWidth * i + 7) ≡ journalAt + i * eventWidth + 7 = omega arith in
         event-numbers (drop (eventWidth * i) (drop journalAt xs)) (simp length-drop (omega arith))
-        (rw (getD-drop (eventWidth * i) (drop journalAt xs) 5 0, getD-drop journalAt xs (eventWidth * i + 5) 0, e)
+        (rw (getD-drop (eventWidth * i) (drop journalAt xs) 7 0, getD-drop journalAt xs (eventWidth * i + 7) 0, e)
         (kinds i h))
 
     journal-again : numbersOf eventNumbers (rowFrom xs) ≡ drop journalAt xs

@@ -217,6 +217,8 @@ eventIn e =
       subscriber = e .subscriber;
       «order_type» = e .«order_type»;
       order = e .order;
+      high = e .high;
+      low = e .low;
       kind = numberOfKind (e .kind);
     }
 
@@ -257,4 +259,6 @@ module _ (s : List ℕ) (row : List Event) (long : length row ≡ recordCount) (
         event-number 3 (at + 3) (omega arith) (omega arith),
         event-number 4 (at + 4) (omega arith) (omega arith),
         event-number 5 (at + 5) (omega arith) (omega arith),
+        event-number 6 (at + 6) (omega arith) (omega arith),
+        event-number 7 (at + 7) (omega arith) (omega arith),
       )

@@ -18,7 +18,7 @@ numbersAt places xs = map (λ (k : ℕ). getD xs k 0) places
 
 -- ---- the journal
 
--- "1 opened, 2 booked, 3 cancelled, 4 dropped, 5 signed (form 8 on)"; a record not in use "is 0 in every part"
+-- "1 opened, 2 booked, 3 cancelled, 4 dropped, 5 signed"; a record not in use "is 0 in every part"
 abbrev pub numberOfKind : Kind → ℕ
 numberOfKind Unused = 0
 numberOfKind Opened = 1
@@ -35,7 +35,7 @@ kindOf n =
 -- an event's parts, and the event of them
 abbrev pub eventNumbers : Event → List ℕ
 eventNumbers e =
-    e .number ∷ e .clock ∷ e .subscriber ∷ e .«order_type» ∷ e .order ∷ numberOfKind (e .kind) ∷ []
+    e .number ∷ e .clock ∷ e .subscriber ∷ e .«order_type» ∷ e .order ∷ e .high ∷ e .low ∷ numberOfKind (e .kind) ∷ []
 
 abbrev pub eventOf : List ℕ → Event
 eventOf s =
@@ -45,7 +45,9 @@ eventOf s =
       subscriber = getD s 2 0;
       «order_type» = getD s 3 0;
       order = getD s 4 0;
-      kind = kindOf (getD s 5 0);
+      high = getD s 5 0;
+      low = getD s 6 0;
+      kind = kindOf (getD s 7 0);
     }
 
 -- ---- a session's numbers, and the session of an image's

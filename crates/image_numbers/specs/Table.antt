@@ -60,7 +60,7 @@ nonceNumbers = 0 ∷ 1 ∷ 2 ∷ []
 abbrev pub downloadNumbers : List ℕ
 downloadNumbers = 1 ∷ 2 ∷ 0 ∷ 3 ∷ 4 ∷ 5 ∷ []
 
--- "order (form 5 on)": the order number has a part of its own, and "signers (form 8 on)" are the last
+-- the order number has a part of its own, and the signers are the last
 abbrev pub placeNumbers : List ℕ
 placeNumbers = 0 ∷ 2 ∷ 3 ∷ 1 ∷ 4 ∷ 5 ∷ 6 ∷ 7 ∷ 8 ∷ 9 ∷ 10 ∷ []
 

@@ -53,6 +53,8 @@ pub fn put_event(e: Event, numbers: &mut [u64], at: usize)
         e.subscriber,
         e.order_type,
         e.order,
+        e.high,
+        e.low,
         number_of_kind(kind),
     ];
     put(numbers, at, &parts);
@@ -84,6 +86,8 @@ fn event_from(numbers: &[u64], i: usize) -> Event
         subscriber: e.subscriber,
         order_type: e.order_type,
         order: e.order,
+        high: e.high,
+        low: e.low,
         kind,
     }
 }
@@ -99,6 +103,8 @@ pub fn row_from(numbers: &[u64]) -> [Event; RECORD_COUNT]
         subscriber: 0,
         order_type: 0,
         order: 0,
+        high: 0,
+        low: 0,
         kind: Kind::Unused,
     };
     let mut row = [none; RECORD_COUNT];

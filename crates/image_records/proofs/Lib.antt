@@ -2,4 +2,3 @@
 pub mod Shapes
 pub mod General
 pub mod OneRecord
-pub mod Older

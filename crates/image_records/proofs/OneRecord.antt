@@ -7,15 +7,14 @@ use lib.Dec.{leb, eqb}
 use borrow.Author.Tests.{leb-true, ltb-true, lt-ltb, eqb-true, eqb-false, eq-eqb}
 use Rattle.octets.proofs.Tests.{and-true}
 use Rattle.frame_table.specs.Table.{lastTime}
-use Rattle.bank_state.specs.Limits.{window}
-use Rattle.image.specs.declared.table.Form.{Form}
-use Rattle.image.specs.declared.table.Form.the-variants.{Five}
+use Rattle.bank_state.specs.Limits.{window, seriesLimit}
 use Rattle.image_records.specs.declared.layout.NonceRecord.{NonceRecord}
 use Rattle.image_records.specs.declared.layout.DownloadRecord.{DownloadRecord}
 use Rattle.image_records.specs.declared.layout.PlaceRecord.{PlaceRecord}
 use Rattle.image_records.specs.declared.layout.EventRecord.{EventRecord}
 use Rattle.image_records.specs.Layout.{openState, bookedState}
 use Rattle.image_records.specs.Records.{
+  lastKind,
   fitTime,
   nonceTime,
   downloadSubscriber,
@@ -44,6 +43,7 @@ use Rattle.image_records.specs.Records.{
   eventSubscriber,
   eventType,
   eventOrder,
+  eventRunning,
   eventKind,
   eventHolds,
 }
@@ -81,36 +81,36 @@ download-time now opened file d h =
 
 -- ---- a place: its tests, one by one
 
-pub record PlaceListed (form : Form) (now opened counter : ℕ) (p : PlaceRecord) : Type 0 where
+pub record PlaceListed (now opened : ℕ) (p : PlaceRecord) : Type 0 where
   pub state : placeState p ≡ true
   pub free : placeFree p ≡ true
   pub subscriber : placeSubscriber p ≡ true
   pub number : placeNumber opened p ≡ true
-  pub order : placeOrder counter p ≡ true
-  pub segments : uploadSegments form p ≡ true
+  pub order : placeOrder p ≡ true
+  pub segments : uploadSegments p ≡ true
   pub taken : uploadTaken p ≡ true
   pub attempts : uploadAttempts p ≡ true
   pub time : uploadTime now p ≡ true
   pub length : uploadLength p ≡ true
   pub signers : uploadSigners p ≡ true
-  pub booked : bookedLength form p ≡ true
+  pub booked : bookedLength p ≡ true
   pub rest : bookedRest p ≡ true
 
-module _ (form : Form) (now opened counter : ℕ) (p : PlaceRecord) where
-  pub place-listed : placeHolds form now opened counter p ≡ true → PlaceListed form now opened counter p
+module _ (now opened : ℕ) (p : PlaceRecord) where
+  pub place-listed : placeHolds now opened p ≡ true → PlaceListed now opened p
   place-listed h =
       let state = and-true (placeState p) _ h in
       let free = and-true (placeFree p) _ (state .1) in
       let subscriber = and-true (placeSubscriber p) _ (free .1) in
       let number = and-true (placeNumber opened p) _ (subscriber .1) in
-      let order = and-true (placeOrder counter p) _ (number .1) in
-      let segments = and-true (uploadSegments form p) _ (order .1) in
+      let order = and-true (placeOrder p) _ (number .1) in
+      let segments = and-true (uploadSegments p) _ (order .1) in
       let taken = and-true (uploadTaken p) _ (segments .1) in
       let attempts = and-true (uploadAttempts p) _ (taken .1) in
       let time = and-true (uploadTime now p) _ (attempts .1) in
       let length = and-true (uploadLength p) _ (time .1) in
       let signers = and-true (uploadSigners p) _ (length .1) in
-      let booked = and-true (bookedLength form p) _ (signers .1) in
+      let booked = and-true (bookedLength p) _ (signers .1) in
       let rest = and-true (bookedRest p) true (booked .1) in
       record {
         state = state .0;
@@ -128,7 +128,7 @@ module _ (form : Form) (now opened counter : ℕ) (p : PlaceRecord) where
         rest = rest .0;
       }
 
-module _ (form : Form) (now opened counter : ℕ) (p : PlaceRecord) (l : PlaceListed form now opened counter p) where
+module _ (now opened : ℕ) (p : PlaceRecord) (l : PlaceListed now opened p) where
   free-last : p .state ≡ 0 → p .last ≡ 0
   free-last e =
       let a = and-true (eqb (p .subscriber) 0) _ (implied (l .free) (eq-eqb (p .state) 0 e)) in
@@ -174,50 +174,62 @@ module _ (form : Form) (now opened counter : ℕ) (p : PlaceRecord) (l : PlaceLi
   pub place-time : p .last ≤ now
   place-time = last-by (isOpen p) (isBooked p) refl refl
 
-  -- "state 1 or 2: the order number is below" its subscriber's count in 04
-  pub place-counted : 0 < p .state → p .order < counter
-  place-counted used = ltb-true (p .order) counter (implied (l .order) (lt-ltb 0 (p .state) used))
-
--- "form 5 with its own limits (15 segments, 3,840 bytes; more is number 9)"
-module _ (now opened counter : ℕ) (p : PlaceRecord) (l : PlaceListed Five now opened counter p) where
-  pub segments-in-5 : p .state ≡ openState → p .segments ≤ 15
-  segments-in-5 e =
-      let t = implied (l .segments) (eq-eqb (p .state) openState e) in
-      leb-true (p .segments) 15 (and-true (leb 1 (p .segments)) _ t .1)
-
-  pub booked-in-5 : p .state ≡ bookedState → p .length ≤ 3840
-  booked-in-5 e =
-      let t = implied (l .booked) (eq-eqb (p .state) bookedState e) in
-      leb-true (p .length) 3840 (and-true (leb 1 (p .length)) _ t .1)
+  -- "state 1 or 2: the order number is below" 1,213,056
+  pub place-ordered : 0 < p .state → p .order < seriesLimit
+  place-ordered used = ltb-true (p .order) seriesLimit (implied (l .order) (lt-ltb 0 (p .state) used))
 
 -- ---- a used event
 
--- "at most clock"
-pub event-time : (form : Form) (now counter entered i : ℕ) (before e : EventRecord)
-    → eventHolds form now counter entered i before e ≡ true → e .clock ≤ now
-event-time form now counter entered i before e h =
-    let a = and-true (eventNumber entered i e) _ h in
-    let b = and-true (eventClock now before e) _ (a .1) in
-    leb-true (e .clock) now (and-true (leb (e .clock) now) _ (b .0) .0)
+-- a used event: its tests, one by one
+pub record EventListed (now opened entered i : ℕ) (before e : EventRecord) : Type 0 where
+  pub number : eventNumber entered i e ≡ true
+  pub clock : eventClock now before e ≡ true
+  pub subscriber : eventSubscriber e ≡ true
+  pub orderType : eventType e ≡ true
+  pub order : eventOrder e ≡ true
+  pub running : eventRunning opened e ≡ true
+  pub kind : eventKind e ≡ true
 
--- "1 to 4, form 8 on: 1 to 5"
-pub event-kind : (form : Form) (now counter entered i : ℕ) (before e : EventRecord)
-    → eventHolds form now counter entered i before e ≡ true → eventKind form e ≡ true
-event-kind form now counter entered i before e h =
-    let a = and-true (eventNumber entered i e) _ h in
-    let b = and-true (eventClock now before e) _ (a .1) in
-    let c = and-true (eventSubscriber e) _ (b .1) in
-    let d = and-true (eventType e) _ (c .1) in
-    let f = and-true (eventOrder counter e) _ (d .1) in
-    and-true (eventKind form e) true (f .1) .0
+module _ (now opened entered i : ℕ) (before e : EventRecord) where
+  pub event-listed : eventHolds now opened entered i before e ≡ true → EventListed now opened entered i before e
+  event-listed h =
+      let number = and-true (eventNumber entered i e) _ h in
+      let clock = and-true (eventClock now before e) _ (number .1) in
+      let subscriber = and-true (eventSubscriber e) _ (clock .1) in
+      let orderType = and-true (eventType e) _ (subscriber .1) in
+      let order = and-true (eventOrder e) _ (orderType .1) in
+      let running = and-true (eventRunning opened e) _ (order .1) in
+      let kind = and-true (eventKind e) true (running .1) in
+      record {
+        number = number .0;
+        clock = clock .0;
+        subscriber = subscriber .0;
+        orderType = orderType .0;
+        order = order .0;
+        running = running .0;
+        kind = kind .0;
+      }
+
+module _ (now opened entered i : ℕ) (before e : EventRecord) (l : EventListed now opened entered i before e) where
+  -- "at most clock"
+  pub event-time : e .clock ≤ now
+  event-time = leb-true (e .clock) now (and-true (leb (e .clock) now) _ (l .clock) .0)
+
+  -- "running is below openings"
+  pub event-opened : e .low < opened
+  event-opened = ltb-true (e .low) opened (l .running)
+
+  -- "1 to 5"
+  pub event-kinds : e .kind ≤ lastKind
+  event-kinds = leb-true (e .kind) lastKind (and-true (leb 1 (e .kind)) _ (l .kind) .1)
 
 -- "state 1: signers are 0"; a free place has none either, as every part of it is 0
-pub only-booked : (form : Form) (now opened counter : ℕ) (p : PlaceRecord) → PlaceListed form now opened counter p
+pub only-booked : (now opened : ℕ) (p : PlaceRecord) → PlaceListed now opened p
     → (p .state ≡ bookedState → ⊥) → p .signers ≡ 0
-only-booked form now opened counter p l other = at (isOpen p) refl
+only-booked now opened p l other = at (isOpen p) refl
   where
     at : (t : Bool) → isOpen p ≡ t → p .signers ≡ 0
     at true e = eqb-true (p .signers) 0 (implied (l .signers) e)
     at false e =
         let z : p .state ≡ 0 = omega (arith, leb-true (p .state) bookedState (l .state), eqb-false (p .state) openState e, other) in
-        free-signers form now opened counter p l z
+        free-signers now opened p l z

@@ -65,12 +65,12 @@ bookedState = 2
 abbrev pub filesAt : ℕ
 filesAt = placesAt + placeWidth * placeCount
 
--- an event has six
+-- an event has eight
 abbrev pub journalAt : ℕ
 journalAt = filesAt + placeCount
 
 abbrev pub eventWidth : ℕ
-eventWidth = 6
+eventWidth = 8
 
 abbrev pub numberCount : ℕ
 numberCount = journalAt + eventWidth * recordCount
@@ -138,7 +138,9 @@ eventAt xs i =
       subscriber = getD xs (journalAt + i * eventWidth + 2) 0;
       «order_type» = getD xs (journalAt + i * eventWidth + 3) 0;
       order = getD xs (journalAt + i * eventWidth + 4) 0;
-      kind = getD xs (journalAt + i * eventWidth + 5) 0;
+      high = getD xs (journalAt + i * eventWidth + 5) 0;
+      low = getD xs (journalAt + i * eventWidth + 6) 0;
+      kind = getD xs (journalAt + i * eventWidth + 7) 0;
     }
 
 -- the counter of series i, from 0 on

@@ -1,17 +1,13 @@
--- The conditions of one record of an admitted image, each under its label; where a limit is the form's own, by the
--- form.
+-- The conditions of one record of an admitted image, each under its label.
 use Prim.Native.Nat.{ℕ, _+_, _-_, _*_}
 use mathlib.Core.Bool.{Bool, _&&_}
 use mathlib.Core.List.{[], _∷_}
 use lib.Dec.{leb, ltb, eqb}
 use Rattle.frame_table.specs.Table.{lastTime}
-use Rattle.message.specs.Limits.{subscribers, segmentBytes, maxAttempts, ful}
+use Rattle.message.specs.Limits.{subscribers, segmentBytes, maxSegments, fileBytes, maxAttempts, ful}
 use Rattle.message.specs.Segments.{segmentsOf}
-use Rattle.bank_state.specs.Limits.{idleLimit, window}
+use Rattle.bank_state.specs.Limits.{idleLimit, window, seriesLimit}
 use Rattle.journal.specs.Events.{recordCount}
-use Rattle.image.specs.declared.table.Form.{Form}
-use Rattle.image.specs.declared.table.Form.the-variants.{Five, Six, Eight}
-use Rattle.image.specs.Table.{segmentLimit, fileSize}
 use Rattle.image_records.specs.declared.layout.NonceRecord.{NonceRecord}
 use Rattle.image_records.specs.declared.layout.DownloadRecord.{DownloadRecord}
 use Rattle.image_records.specs.declared.layout.PlaceRecord.{PlaceRecord}
@@ -19,11 +15,9 @@ use Rattle.image_records.specs.declared.layout.EventRecord.{EventRecord}
 use Rattle.image_records.specs.Shapes.{allOf, implies, within, upTo}
 use Rattle.image_records.specs.Layout.{openState, bookedState}
 
--- the kinds of an event: opened, booked, cancelled, dropped; "5 signed (form 8 on)"
-abbrev pub lastKind : Form → ℕ
-lastKind Five = 4
-lastKind Six = 4
-lastKind Eight = 5
+-- the kinds of an event: "1 opened, 2 booked, 3 cancelled, 4 dropped, 5 signed"
+abbrev pub lastKind : ℕ
+lastKind = 5
 
 -- the last fitting request of what is open: "last fit is at most clock, and clock is at most last fit + idle limit"
 abbrev pub fitTime : ℕ → ℕ → Bool
@@ -93,13 +87,13 @@ placeSubscriber p = implies (inUse p) (within 1 subscribers (p .subscriber))
 abbrev pub placeNumber : ℕ → PlaceRecord → Bool
 placeNumber opened p = implies (inUse p) (ltb (p .low) opened)
 
--- place order: "state 1 or 2: the order number is below the orders of the record", its subscriber's counter
-abbrev pub placeOrder : ℕ → PlaceRecord → Bool
-placeOrder counter p = implies (inUse p) (ltb (p .order) counter)
+-- place order: "state 1 or 2: the order number is below" 1,213,056: any of A000 to ZZZZ, as the client may choose it
+abbrev pub placeOrder : PlaceRecord → Bool
+placeOrder p = implies (inUse p) (ltb (p .order) seriesLimit)
 
--- upload segments: "state 1: 1 to 15, form 6 on: 1 to 31"
-abbrev pub uploadSegments : Form → PlaceRecord → Bool
-uploadSegments form p = implies (isOpen p) (within 1 (segmentLimit form) (p .segments))
+-- upload segments: "state 1: .. 1 to 31"
+abbrev pub uploadSegments : PlaceRecord → Bool
+uploadSegments p = implies (isOpen p) (within 1 maxSegments (p .segments))
 
 -- upload taken: "state 1: below segments"
 abbrev pub uploadTaken : PlaceRecord → Bool
@@ -121,9 +115,9 @@ uploadLength p = implies (isOpen p) (within (p .taken) (segmentBytes * p .taken)
 abbrev pub uploadSigners : PlaceRecord → Bool
 uploadSigners p = implies (isOpen p) (eqb (p .signers) 0)
 
--- booked length: "state 2: 1 to 3,840, form 6 on: 1 to 7,936"
-abbrev pub bookedLength : Form → PlaceRecord → Bool
-bookedLength form p = implies (isBooked p) (within 1 (fileSize form) (p .length))
+-- booked length: "state 2: .. 1 to 7,936"
+abbrev pub bookedLength : PlaceRecord → Bool
+bookedLength p = implies (isBooked p) (within 1 fileBytes (p .length))
 
 -- booked rest: "state 2: segments, taken, attempts and last fit are 0"
 abbrev pub bookedRest : PlaceRecord → Bool
@@ -131,12 +125,11 @@ bookedRest p =
     implies (isBooked p)
     (allOf (eqb (p .segments) 0 ∷ eqb (p .taken) 0 ∷ eqb (p .attempts) 0 ∷ eqb (p .last) 0 ∷ []))
 
--- a place, with the counter of its subscriber's series
-abbrev pub placeHolds : Form → ℕ → ℕ → ℕ → PlaceRecord → Bool
-placeHolds form now opened counter p =
-    allOf (placeState p ∷ placeFree p ∷ placeSubscriber p ∷ placeNumber opened p ∷ placeOrder counter p
-    ∷ uploadSegments form p ∷ uploadTaken p ∷ uploadAttempts p ∷ uploadTime now p ∷ uploadLength p
-    ∷ uploadSigners p ∷ bookedLength form p ∷ bookedRest p ∷ [])
+abbrev pub placeHolds : ℕ → ℕ → PlaceRecord → Bool
+placeHolds now opened p =
+    allOf (placeState p ∷ placeFree p ∷ placeSubscriber p ∷ placeNumber opened p ∷ placeOrder p ∷ uploadSegments p
+    ∷ uploadTaken p ∷ uploadAttempts p ∷ uploadTime now p ∷ uploadLength p ∷ uploadSigners p ∷ bookedLength p
+    ∷ bookedRest p ∷ [])
 
 -- ---- a used event
 
@@ -156,16 +149,19 @@ eventSubscriber e = within 1 subscribers (e .subscriber)
 abbrev pub eventType : EventRecord → Bool
 eventType e = eqb (e .«order_type») ful
 
--- event order: "below the orders of the record", its subscriber's counter
-abbrev pub eventOrder : ℕ → EventRecord → Bool
-eventOrder counter e = ltb (e .order) counter
+-- event order: "below" 1,213,056: any of A000 to ZZZZ
+abbrev pub eventOrder : EventRecord → Bool
+eventOrder e = ltb (e .order) seriesLimit
 
--- event kind: "1 to 4, form 8 on: 1 to 5"
-abbrev pub eventKind : Form → EventRecord → Bool
-eventKind form e = within 1 (lastKind form) (e .kind)
+-- event running: "running is below openings"
+abbrev pub eventRunning : ℕ → EventRecord → Bool
+eventRunning opened e = ltb (e .low) opened
 
--- an event, with the counter of its subscriber's series
-abbrev pub eventHolds : Form → ℕ → ℕ → ℕ → ℕ → EventRecord → EventRecord → Bool
-eventHolds form now counter entered i before e =
-    allOf (eventNumber entered i e ∷ eventClock now before e ∷ eventSubscriber e ∷ eventType e ∷ eventOrder counter e
-    ∷ eventKind form e ∷ [])
+-- event kind: "1 to 5"
+abbrev pub eventKind : EventRecord → Bool
+eventKind e = within 1 lastKind (e .kind)
+
+abbrev pub eventHolds : ℕ → ℕ → ℕ → ℕ → EventRecord → EventRecord → Bool
+eventHolds now opened entered i before e =
+    allOf (eventNumber entered i e ∷ eventClock now before e ∷ eventSubscriber e ∷ eventType e ∷ eventOrder e
+    ∷ eventRunning opened e ∷ eventKind e ∷ [])

@@ -43,7 +43,7 @@ pub const FILES: usize = PLACES + PLACE_WIDTH * PLACE_COUNT;
 
 pub const JOURNAL: usize = FILES + PLACE_COUNT;
 
-pub const EVENT_WIDTH: usize = 6;
+pub const EVENT_WIDTH: usize = 8;
 
 pub const NUMBER_COUNT: usize = JOURNAL + EVENT_WIDTH * RECORD_COUNT;
 
@@ -64,8 +64,8 @@ pub struct DownloadRecord {
     pub last: u64,
 }
 
-// A place: free (0), an open upload (1) or a booked order (2); low is the running number of its opening, order counts
-// in its subscriber's series, signers is a set as bits.
+// A place: free (0), an open upload (1) or a booked order (2); low is the running number of its opening, order its order
+// number as a number, signers is a set as bits.
 pub struct PlaceRecord {
     pub state: u64,
     pub subscriber: u64,
@@ -80,13 +80,15 @@ pub struct PlaceRecord {
     pub signers: u64,
 }
 
-// An event of the journal.
+// An event of the journal; low is the running number of its order's opening.
 pub struct EventRecord {
     pub number: u64,
     pub clock: u64,
     pub subscriber: u64,
     pub order_type: u64,
     pub order: u64,
+    pub high: u64,
+    pub low: u64,
     pub kind: u64,
 }
 
@@ -177,7 +179,9 @@ pub fn event_at(numbers: &[u64], i: usize) -> EventRecord
         subscriber: numbers[at + 2],
         order_type: numbers[at + 3],
         order: numbers[at + 4],
-        kind: numbers[at + 5],
+        high: numbers[at + 5],
+        low: numbers[at + 6],
+        kind: numbers[at + 7],
     }
 }
 

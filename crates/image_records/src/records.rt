@@ -10,13 +10,13 @@ use crate::tests::implies;
 use crate::tests::up_to;
 use crate::tests::within;
 use bank_state::limits::IDLE_LIMIT;
+use bank_state::limits::SERIES_LIMIT;
 use bank_state::limits::WINDOW;
 use frame_table::table::LAST_TIME;
-use image::table::Form;
-use image::table::file_size;
-use image::table::segment_limit;
+use message::limits::FILE_BYTES;
 use message::limits::FUL;
 use message::limits::MAX_ATTEMPTS;
+use message::limits::MAX_SEGMENTS;
 use message::limits::SUBSCRIBERS;
 use message::segments::segments_of;
 ghost use mathlib.Core.Path.{_≡_};
@@ -29,11 +29,14 @@ ghost use Rattle.image_records.specs.Records.{placeState, placeFree, pla
 ghost use Rattle.image_records.specs.Records.{uploadSegments, uploadTaken, uploadAttempts, uploadTime};
 ghost use Rattle.image_records.specs.Records.{uploadLength, uploadSigners, bookedLength, bookedRest, placeHolds};
 ghost use Rattle.image_records.specs.Records.{eventNumber, eventClock, eventSubscriber, eventType, eventOrder};
-ghost use Rattle.image_records.specs.Records.{lastKind, eventKind, eventHolds};
+ghost use Rattle.image_records.specs.Records.{eventRunning, eventKind, eventHolds};
 
 const OPEN: u64 = 1;
 
 const BOOKED: u64 = 2;
+
+// The last of the kinds that an event may have.
+const LAST_KIND: u64 = 5;
 
 // The last fitting request of what is open is at most the idle limit behind the clock.
 fn fit_time(clock: u64, last: u64) -> bool
@@ -123,16 +126,16 @@ fn place_number(openings: u64, p: PlaceRecord) -> bool
     implies(0 < p.state, p.low < openings)
 }
 
-fn place_order(counter: u64, p: PlaceRecord) -> bool
-    ensures { λ r. ⌜ r ≡ placeOrder counter p ⌝ }
+fn place_order(p: PlaceRecord) -> bool
+    ensures { λ r. ⌜ r ≡ placeOrder p ⌝ }
 {
-    implies(0 < p.state, p.order < counter)
+    implies(0 < p.state, p.order < SERIES_LIMIT)
 }
 
-fn upload_segments(form: Form, p: PlaceRecord) -> bool
-    ensures { λ r. ⌜ r ≡ uploadSegments form p ⌝ }
+fn upload_segments(p: PlaceRecord) -> bool
+    ensures { λ r. ⌜ r ≡ uploadSegments p ⌝ }
 {
-    implies(p.state == OPEN, within(1, segment_limit(form), p.segments))
+    implies(p.state == OPEN, within(1, MAX_SEGMENTS, p.segments))
 }
 
 fn upload_taken(p: PlaceRecord) -> bool
@@ -168,13 +171,10 @@ fn upload_signers(p: PlaceRecord) -> bool
     implies(p.state == OPEN, p.signers == 0)
 }
 
-fn booked_length(form: Form, p: PlaceRecord) -> bool
-    ensures { λ r. ⌜ r ≡ bookedLength form p ⌝ }
+fn booked_length(p: PlaceRecord) -> bool
+    ensures { λ r. ⌜ r ≡ bookedLength p ⌝ }
 {
-    implies(
-        p.state == BOOKED,
-        within(1, file_size(form) as u64, p.length),
-    )
+    implies(p.state == BOOKED, within(1, FILE_BYTES as u64, p.length))
 }
 
 fn booked_rest(p: PlaceRecord) -> bool
@@ -187,21 +187,17 @@ fn booked_rest(p: PlaceRecord) -> bool
     )
 }
 
-// A place, with the counter of its subscriber's series.
-pub fn place_holds(form: Form, clock: u64, openings: u64, counter: u64, p: PlaceRecord) -> bool
-    ensures { λ r. ⌜ r ≡ placeHolds form clock openings counter p ⌝ }
+pub fn place_holds(clock: u64, openings: u64, p: PlaceRecord) -> bool
+    ensures { λ r. ⌜ r ≡ placeHolds clock openings p ⌝ }
 {
-    let booked = both(booked_length(form, p), both(booked_rest(p), true));
+    let booked = both(booked_length(p), both(booked_rest(p), true));
     let signers = both(upload_signers(p), booked);
     let times = both(upload_time(clock, p), both(upload_length(p), signers));
     let upload = both(
-        upload_segments(form, p),
+        upload_segments(p),
         both(upload_taken(p), both(upload_attempts(p), times)),
     );
-    let numbers = both(
-        place_number(openings, p),
-        both(place_order(counter, p), upload),
-    );
+    let numbers = both(place_number(openings, p), both(place_order(p), upload));
     let used = both(place_subscriber(p), numbers);
     both(place_state(p), both(place_free(p), used))
 }
@@ -232,44 +228,38 @@ fn event_type(e: EventRecord) -> bool
     e.order_type == FUL
 }
 
-fn event_order(counter: u64, e: EventRecord) -> bool
-    ensures { λ r. ⌜ r ≡ eventOrder counter e ⌝ }
+fn event_order(e: EventRecord) -> bool
+    ensures { λ r. ⌜ r ≡ eventOrder e ⌝ }
 {
-    e.order < counter
+    e.order < SERIES_LIMIT
 }
 
-// The last of the kinds that an event of the form may have.
-fn last_kind(form: Form) -> u64
-    ensures { λ r. ⌜ r ≡ lastKind form ⌝ }
+fn event_running(openings: u64, e: EventRecord) -> bool
+    ensures { λ r. ⌜ r ≡ eventRunning openings e ⌝ }
 {
-    match form {
-        Form::Five => 4,
-        Form::Six => 4,
-        Form::Eight => 5,
-    }
+    e.low < openings
 }
 
-fn event_kind(form: Form, e: EventRecord) -> bool
-    ensures { λ r. ⌜ r ≡ eventKind form e ⌝ }
+fn event_kind(e: EventRecord) -> bool
+    ensures { λ r. ⌜ r ≡ eventKind e ⌝ }
 {
-    within(1, last_kind(form), e.kind)
+    within(1, LAST_KIND, e.kind)
 }
 
-// A used event and the one before it, with the counter of its subscriber's series.
+// A used event and the one before it.
 pub fn event_holds(
-    form: Form,
     clock: u64,
-    counter: u64,
+    openings: u64,
     events: u64,
     i: u64,
     before: EventRecord,
     e: EventRecord,
 ) -> bool
     requires { ⌜ i < upTo recordCount events ⌝ }
-    ensures { λ r. ⌜ r ≡ eventHolds form clock counter events i before e ⌝ }
+    ensures { λ r. ⌜ r ≡ eventHolds clock openings events i before e ⌝ }
 {
-    let kind = both(event_order(counter, e), both(event_kind(form, e), true));
-    let order = both(event_type(e), kind);
+    let kind = both(event_running(openings, e), both(event_kind(e), true));
+    let order = both(event_type(e), both(event_order(e), kind));
     let who = both(
         event_clock(clock, before, e),
         both(event_subscriber(e), order),

@@ -1,42 +1,48 @@
--- What the row says of an order, at examples: only records under its own name count, and a signing is none that does.
--- Assumes nothing.
+-- What the row says of an upload, at examples: only records with its own transaction ID count, and a signing is none that
+-- does. Assumes nothing.
 use Prim.Native.Nat.{ℕ}
 use mathlib.Core.Path.{_≡_, refl}
 use mathlib.Core.List.{[], _∷_}
-use Rattle.message.specs.Limits.{ful, fdl}
-use Rattle.message.specs.OrderNumbers.{character, letter, orderNumberOf}
+use Rattle.frame_table.specs.declared.fields.Bits128.{Bits128}
+use Rattle.message.specs.Limits.{ful}
 use Rattle.journal.specs.declared.event.Kind.{Kind}
 use Rattle.journal.specs.declared.event.Kind.the-variants.{Opened, Booked, Dropped, Signed}
 use Rattle.journal.specs.declared.event.Event.{Event}
-use Rattle.journal.specs.declared.event.OrderName.{OrderName}
 use Rattle.journal.specs.declared.event.Found.the-variants as found
-use Rattle.journal.specs.Events.{eventOf}
+use Rattle.journal.specs.Events.{noEvent, eventOf}
 use Rattle.journal.specs.Row.{isOf, withRecord, lookup}
 
--- the name of a subscriber's first upload, A000
-abbrev first : ℕ → OrderName
-first s = record { subscriber = s; «order_type» = ful; number = orderNumberOf 0 }
+-- the transaction ID of lent bytes and a running number
+abbrev id : ℕ → ℕ → Bits128
+id high low = record { high = high; low = low }
 
--- event n, of a subscriber's A000 of a type
-abbrev event : ℕ → ℕ → ℕ → Kind → Event
-event n s type kind = eventOf n 0 (record { subscriber = s; «order_type» = type; order = 0; kind = kind })
+-- event n, of the upload of subscriber 1's A000 with this transaction ID
+abbrev event : ℕ → Bits128 → Kind → Event
+event n t kind =
+    eventOf n 0 (record { subscriber = 1; «order_type» = ful; order = 0; high = t .high; low = t .low; kind = kind })
 
--- "an unclear client goes by all three": subscriber 2's A000 is booked, and subscriber 1's is dropped
-pub other-subscriber : lookup (first 1) (event 1 2 ful Booked ∷ event 2 1 ful Dropped ∷ []) ≡ found.Ended
-unfolding lookup withRecord isOf orderNumberOf letter character
-other-subscriber = refl
+-- "A cancelled or dropped order's number may be chosen again, so a closing word holds for the upload that earned it, by its
+-- transaction ID": A000 is dropped, opened again under the same number, and booked
+pub chosen-again : lookup (id 0 0) (event 1 (id 0 0) Opened ∷ event 2 (id 0 0) Dropped ∷ event 3 (id 0 1) Opened ∷ event 4 (id 0 1) Booked ∷ []) ≡ found.Ended
+unfolding lookup withRecord isOf
+chosen-again = refl
 
--- subscriber 1's A000 of another type is booked, and that of its uploads is dropped
-pub other-type : lookup (first 1) (event 1 1 fdl Booked ∷ event 2 1 ful Dropped ∷ []) ≡ found.Ended
-unfolding lookup withRecord isOf orderNumberOf letter character
-other-type = refl
+-- the ID's first half counts too
+pub other-bytes : lookup (id 7 1) (event 1 (id 8 1) Booked ∷ event 2 (id 7 1) Dropped ∷ []) ≡ found.Ended
+unfolding lookup withRecord isOf
+other-bytes = refl
 
--- "journal (kind signed, once a signer, under the owner)": subscriber 1's A000 is signed twice, and was booked before
-pub signed-booked : lookup (first 1) (event 1 1 ful Booked ∷ event 2 1 ful Signed ∷ event 3 1 ful Signed ∷ []) ≡ found.Booked
-unfolding lookup withRecord isOf orderNumberOf letter character
+-- records not in use have ID 0, which is a real one, and say nothing of it
+pub unused-says-nothing : lookup (id 0 0) (event 1 (id 0 0) Opened ∷ noEvent ∷ noEvent ∷ []) ≡ found.Nothing
+unfolding lookup withRecord isOf
+unused-says-nothing = refl
+
+-- "journal (kind signed, once a signer, under the owner)": an order is signed twice, and was booked before
+pub signed-booked : lookup (id 0 0) (event 1 (id 0 0) Booked ∷ event 2 (id 0 0) Signed ∷ event 3 (id 0 0) Signed ∷ []) ≡ found.Booked
+unfolding lookup withRecord isOf
 signed-booked = refl
 
 -- in a row that no bank leaves, an order that was opened and signed is neither booked nor ended
-pub signed-alone : lookup (first 1) (event 1 1 ful Opened ∷ event 2 1 ful Signed ∷ []) ≡ found.Nothing
-unfolding lookup withRecord isOf orderNumberOf letter character
+pub signed-alone : lookup (id 0 0) (event 1 (id 0 0) Opened ∷ event 2 (id 0 0) Signed ∷ []) ≡ found.Nothing
+unfolding lookup withRecord isOf
 signed-alone = refl

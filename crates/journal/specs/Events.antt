@@ -19,10 +19,10 @@ maxEntries = 9
 
 -- a record that is not in use is zero
 abbrev pub noEvent : Event
-noEvent = record { number = 0; clock = 0; subscriber = 0; «order_type» = 0; order = 0; kind = Unused }
+noEvent = record { number = 0; clock = 0; subscriber = 0; «order_type» = 0; order = 0; high = 0; low = 0; kind = Unused }
 
 abbrev pub noEntry : Entry
-noEntry = record { subscriber = 0; «order_type» = 0; order = 0; kind = Unused }
+noEntry = record { subscriber = 0; «order_type» = 0; order = 0; high = 0; low = 0; kind = Unused }
 
 -- an entry's event, with its number and the clock
 abbrev pub eventOf : ℕ → ℕ → Entry → Event
@@ -33,6 +33,8 @@ eventOf number clock e =
       subscriber = e .subscriber;
       «order_type» = e .«order_type»;
       order = e .order;
+      high = e .high;
+      low = e .low;
       kind = e .kind;
     }
 

@@ -1,15 +1,15 @@
--- The row of records: what it holds after events are entered, and what it says of an order.
+-- The row of records: what it holds after events are entered, and what it says of an upload.
 use Prim.Native.Nat.{ℕ, suc, _+_, _-_, _^_}
 use mathlib.Core.Bool.{Bool, cond, _&&_}
 use mathlib.Core.List.{List, [], _∷_, _++_}
 use lib.Dec.{eqb, ltb}
 use lib.ListN.{length, set, drop, replicate}
-use Rattle.message.specs.OrderNumbers.{orderNumberOf}
+use Rattle.frame_table.specs.declared.fields.Bits128.{Bits128}
+use Rattle.frame_table.specs.Names.{sameBits}
 use Rattle.journal.specs.declared.event.Kind.{Kind}
 use Rattle.journal.specs.declared.event.Kind.the-variants.{Unused, Opened, Booked, Cancelled, Dropped, Signed}
 use Rattle.journal.specs.declared.event.Event.{Event}
 use Rattle.journal.specs.declared.event.Batch.{Batch}
-use Rattle.journal.specs.declared.event.OrderName.{OrderName}
 use Rattle.journal.specs.declared.event.Found.{Found}
 use Rattle.journal.specs.declared.event.Found.the-variants as found
 use Rattle.journal.specs.Events.{recordCount, maxEntries, noEvent, eventsFrom, entriesIn}
@@ -49,18 +49,21 @@ newest l = drop (length l - recordCount) l
 unfoldable pub rowOf : List Event → List Event
 rowOf l = newest l ++ replicate (recordCount - length l) noEvent
 
--- whether a record is of an order: "subscriber, type and number together"
-unfoldable pub isOf : OrderName → Event → Bool
-isOf o e = eqb (e .subscriber) (o .subscriber) && eqb (e .«order_type») (o .«order_type»)
-    && eqb (orderNumberOf (e .order)) (o .number)
+-- the transaction ID of an event's upload: "the journal gains that ID"
+abbrev pub transactionOf : Event → Bits128
+transactionOf e = record { high = e .high; low = e .low }
 
--- what is known of an order that a record says ended
+-- whether a record has this transaction ID. A record not in use has ID 0, which is a real one: its kind says nothing
+unfoldable pub isOf : Bits128 → Event → Bool
+isOf t e = sameBits (transactionOf e) t
+
+-- what is known of an upload that a record says ended
 abbrev pub orEnded : Found → Found
 orEnded found.Nothing = found.Ended
 orEnded found.Ended = found.Ended
 orEnded found.Booked = found.Booked
 
--- what is known of an order with one record of it more: a booking wins, a cancellation or drop ends it; "signed" says
+-- what is known of an upload with one record of it more: a booking wins, a cancellation or drop ends it; "signed" says
 -- nothing of it
 abbrev pub withKind : Kind → Found → Found
 withKind Unused f = f
@@ -70,14 +73,15 @@ withKind Cancelled f = orEnded f
 withKind Dropped f = orEnded f
 withKind Signed f = f
 
--- what is known of an order with one record more, of any order
-unfoldable pub withRecord : OrderName → Event → Found → Found
-withRecord o e f = cond (isOf o e) (withKind (e .kind) f) f
+-- what is known of an upload with one record more, of any upload
+unfoldable pub withRecord : Bits128 → Event → Found → Found
+withRecord t e f = cond (isOf t e) (withKind (e .kind) f) f
 
--- "a booking under its order number makes it lodged, a cancellation or drop makes it not lodged"
-unfoldable pub lookup : OrderName → List Event → Found
-lookup o [] = found.Nothing
-lookup o (e ∷ es) = withRecord o e (lookup o es)
+-- "a booking ... makes it lodged, a cancellation or drop makes it not lodged"; since card 11 "an unclear client now goes
+-- by" the transaction ID
+unfoldable pub lookup : Bits128 → List Event → Found
+lookup t [] = found.Nothing
+lookup t (e ∷ es) = withRecord t e (lookup t es)
 
 -- ---- the row by value
 

@@ -1,4 +1,4 @@
-// An event of an upload, the events of one call, and what the journal says of an order.
+// An event of an upload, the events of one call, and what the journal says of an upload.
 
 // The records of the row.
 pub const RECORD_COUNT: usize = 64;
@@ -18,13 +18,16 @@ pub enum Kind {
 }
 
 // A record of the row, document 02's "event number (8 bytes, from 1), clock, subscriber, order number, and kind"; "the
-// journal gains the type", the three bytes of field 04 as a number. The order number counts in its series: A000 is 0.
+// journal gains the type", the three bytes of field 04 as a number, and "gains that ID", the transaction ID in two halves.
+// The order number counts from A000, which is 0.
 pub struct Event {
     pub number: u64,
     pub clock: u64,
     pub subscriber: u64,
     pub order_type: u64,
     pub order: u64,
+    pub high: u64,
+    pub low: u64,
     pub kind: Kind,
 }
 
@@ -33,6 +36,8 @@ pub struct Entry {
     pub subscriber: u64,
     pub order_type: u64,
     pub order: u64,
+    pub high: u64,
+    pub low: u64,
     pub kind: Kind,
 }
 
@@ -49,7 +54,7 @@ pub struct OrderName {
     pub number: u64,
 }
 
-// What the journal says of an order: nothing, that it was cancelled or dropped, or that it was booked.
+// What the journal says of an upload: nothing, that it was cancelled or dropped, or that it was booked.
 pub enum Found {
     Nothing,
     Ended,

@@ -83,6 +83,8 @@ pub fn event_at(events: u64, clock: u64, batch: Batch, k: usize) -> Event
         subscriber: entry.subscriber,
         order_type: entry.order_type,
         order: entry.order,
+        high: entry.high,
+        low: entry.low,
         kind,
     }
 }

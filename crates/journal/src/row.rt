@@ -1,14 +1,13 @@
-// The row of records: the events of one call are entered, an order is looked up, and the whole row is held by value or
+// The row of records: the events of one call are entered, an upload is looked up, and the whole row is held by value or
 // replaced. The public functions alone have the row; what they call has numbers and single records.
 use crate::event::Batch;
 use crate::event::Event;
 use crate::event::Found;
 use crate::event::Kind;
-use crate::event::OrderName;
 use crate::event::RECORD_COUNT;
 use crate::places::event_at;
 use crate::places::places_of;
-use message::order_numbers::order_number_of;
+use frame_table::fields::Bits128;
 ghost use mathlib.Core.Path.{_≡_};
 ghost use Rattle.journal.specs.Row.{rowAfter, isOf, orEnded, withKind, withRecord, lookup};
 ghost use Rattle.journal.specs.Row.{emptyRow, copiedCount, heldRow, replaced};
@@ -30,20 +29,17 @@ pub fn enter(row: &mut [Event], events: u64, clock: u64, batch: Batch)
     }
 }
 
-// Whether a record is of an order, by all that names it.
-fn is_of(order: OrderName, e: Event) -> bool
-    ensures { λ r. ⌜ r ≡ isOf order e ⌝ }
+// Whether a record has this transaction ID. One not in use has ID 0, which is a real one: its kind says nothing.
+fn is_of(transaction: Bits128, e: Event) -> bool
+    ensures { λ r. ⌜ r ≡ isOf transaction e ⌝ }
 {
-    if e.subscriber != order.subscriber {
+    if e.high != transaction.high {
         return false;
     }
-    if e.order_type != order.order_type {
-        return false;
-    }
-    order_number_of(e.order) == order.number
+    e.low == transaction.low
 }
 
-// What is known of an order that a record says ended.
+// What is known of an upload that a record says ended.
 fn or_ended(found: Found) -> Found
     ensures { λ r. ⌜ r ≡ orEnded found ⌝ }
 {
@@ -54,7 +50,7 @@ fn or_ended(found: Found) -> Found
     }
 }
 
-// What is known of an order with one record of it more.
+// What is known of an upload with one record of it more.
 fn with_kind(kind: Kind, found: Found) -> Found
     ensures { λ r. ⌜ r ≡ withKind kind found ⌝ }
 {
@@ -68,26 +64,26 @@ fn with_kind(kind: Kind, found: Found) -> Found
     }
 }
 
-// What is known of an order with one record more, of any order.
-fn with_record(order: OrderName, e: Event, found: Found) -> Found
-    ensures { λ r. ⌜ r ≡ withRecord order e found ⌝ }
+// What is known of an upload with one record more, of any upload.
+fn with_record(transaction: Bits128, e: Event, found: Found) -> Found
+    ensures { λ r. ⌜ r ≡ withRecord transaction e found ⌝ }
 {
-    if is_of(order, e) {
+    if is_of(transaction, e) {
         let kind = e.kind;
         return with_kind(kind, found);
     }
     found
 }
 
-// What the row says of an order, from its last record to its first.
-pub fn find(row: &[Event], order: OrderName) -> Found
-    ensures { λ r. ⌜ r ≡ lookup order (now (row .entry)) ⌝ }
+// What the row says of the upload with this transaction ID, from its last record to its first.
+pub fn find(row: &[Event], transaction: Bits128) -> Found
+    ensures { λ r. ⌜ r ≡ lookup transaction (now (row .entry)) ⌝ }
 {
     let mut i = row.len();
     let mut found = Found::Nothing;
     while 0 < i {
         i = i - 1;
-        found = with_record(order, row[i], found);
+        found = with_record(transaction, row[i], found);
     }
     found
 }
@@ -103,6 +99,8 @@ fn empty_row() -> [Event; RECORD_COUNT]
         subscriber: 0,
         order_type: 0,
         order: 0,
+        high: 0,
+        low: 0,
         kind,
     };
     [event; RECORD_COUNT]

@@ -15,6 +15,7 @@ use Rattle.octets.proofs.Tests.{never, and-true}
 use Rattle.frame_table.specs.declared.fields.Fields.{Fields}
 use Rattle.frame_table.specs.declared.table.Form.{Form}
 use Rattle.frame_table.specs.declared.table.Form.the-variants as form
+use Rattle.frame_table.specs.declared.table.RequestForm.{RequestForm}
 use Rattle.frame_table.specs.declared.table.RequestForm.the-variants as request
 use Rattle.frame_table.specs.Table.{timestampTag, lastTime, has, tagsOf, isRequestForm}
 use Rattle.frame_table.proofs.Forms.{form-tags, request-form}
@@ -24,7 +25,7 @@ use Rattle.frame.proofs.Theorems.{request-time}
 use Rattle.print.specs.Text.{ascii, digitsIn, digitCountTo, digitCount, decimal, hyphen, signedDecimal}
 use Rattle.print.proofs.Signed.{signed-most}
 use Rattle.print.proofs.Texts.{cond-most}
-use Rattle.marker_column.specs.Offset.{offsetOf, isOpening, showsOffset, Timed, requestOffset, offsetRoom}
+use Rattle.marker_column.specs.Offset.{offsetOf, opens, isOpening, showsOffset, Timed, requestOffset, offsetRoom}
 
 -- ---- "timestamp minus clock", on both sides of zero
 
@@ -66,7 +67,18 @@ opening-timed (form.Request request.UploadTransfer) h = never h
 opening-timed (form.Request request.DownloadTransfer) h = never h
 opening-timed (form.Request request.Receipt) h = never h
 opening-timed (form.Request request.Signing) h = (refl, refl)
+opening-timed (form.Request request.ChosenOpening) h = (refl, refl)
 opening-timed (form.Reply x) h = never h
+
+-- and a request form that has one is an opening form: the offset of each is shown
+pub timed-opens : (x : RequestForm) → has (tagsOf (form.Request x)) timestampTag ≡ true → opens x ≡ true
+timed-opens request.UploadOpening h = refl
+timed-opens request.DownloadOpening h = refl
+timed-opens request.UploadTransfer h = never h
+timed-opens request.DownloadTransfer h = never h
+timed-opens request.Receipt h = never h
+timed-opens request.Signing h = refl
+timed-opens request.ChosenOpening h = refl
 
 -- what the code finds: the request's form, and whether its offset is shown
 module _ (answered : Bool) (clock : ℕ) (q : Fields) {x : Form} {shown : Bool}

@@ -18,7 +18,8 @@ use Rattle.print.specs.Text.{hyphen, signedDecimal, signedRoom}
 abbrev pub offsetOf : ℕ → ℕ → ℤ
 offsetOf timestamp clock = pos timestamp -ℤ pos clock
 
--- the two opening forms, and that of card 8, which is "An opening of form 01 to 06, 0E, 0F, 10"
+-- the two opening forms, that of card 8, which is "An opening of form 01 to 06, 0E, 0F, 10", and that of card 11, "An
+-- upload opening with field 11 (4 bytes, H003) and 0E, besides 01 to 07"
 abbrev pub opens : RequestForm → Bool
 opens request.UploadOpening = true
 opens request.DownloadOpening = true
@@ -26,6 +27,7 @@ opens request.UploadTransfer = false
 opens request.DownloadTransfer = false
 opens request.Receipt = false
 opens request.Signing = true
+opens request.ChosenOpening = true
 
 abbrev pub isOpening : Form → Bool
 isOpening form.NoForm = false

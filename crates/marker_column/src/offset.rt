@@ -34,6 +34,7 @@ fn opens(form: RequestForm) -> bool
         RequestForm::DownloadTransfer => false,
         RequestForm::Receipt => false,
         RequestForm::Signing => true,
+        RequestForm::ChosenOpening => true,
     }
 }
 

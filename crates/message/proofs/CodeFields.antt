@@ -43,6 +43,7 @@ codeOf-field code.TransactionAbort = refl
 codeOf-field code.MessageReplay = refl
 codeOf-field code.SegmentNumberExceeded = refl
 codeOf-field code.OrderIdUnknown = refl
+codeOf-field code.OrderIdAlreadyExists = refl
 codeOf-field code.MaxSegmentsExceeded = refl
 codeOf-field code.MaxTransactionsExceeded = refl
 

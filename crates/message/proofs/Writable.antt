@@ -30,7 +30,9 @@ use Rattle.frame_table.specs.Table.{
   orderNumberTag,
   orderAttributeTag,
   ownerTag,
+  versionTag,
   uzhnn,
+  h003,
   width,
   valuesOf,
   inRange,
@@ -74,11 +76,13 @@ use Rattle.message.specs.Requests.{
   downloadTransfer,
   receipt,
   signing,
+  chosenOpening,
 }
 use Rattle.message.specs.Replies.{
   replyOf,
   withCode,
   uploadOpened,
+  chosenOpened,
   withSegment,
   downloadOpened,
   pointOf,
@@ -136,6 +140,11 @@ module _ (f : Fields) (d : List ℕ) (a : Fine f d) where
   with-attribute : Fine (with orderAttributeTag uzhnn f) d
   unfolding width valuesOf
   with-attribute = fine-range f d a orderAttributeTag 5 uzhnn uzhnn uzhnn (refl, refl, refl) (omega arith) (omega arith)
+      (omega arith) (omega arith)
+
+  with-version : Fine (with versionTag h003 f) d
+  unfolding width valuesOf
+  with-version = fine-range f d a versionTag 4 h003 h003 h003 (refl, refl, refl) (omega arith) (omega arith)
       (omega arith) (omega arith)
 
   with-type : (v : ℕ) → v < 2 ^ 24 → listed orderTypeTag (bytesOf 3 v) ≡ true → Fine (with orderTypeTag v f) d
@@ -217,6 +226,14 @@ module _ (subscriber exchange : ℕ) (s : Sender subscriber exchange) where
     download-opening-written =
         plain _ forms.DownloadOpening (opening-fine fdl (omega arith) refl) refl refl refl refl refl
 
+    pub chosen-opening-written : (segments orderNumber : ℕ) → segments < 2 ^ 16 → orderNumber < 2 ^ 32
+        → WrittenAs (chosenOpening subscriber exchange nonce timestamp segments orderNumber) [] forms.ChosenOpening
+    unfolding chosenOpening uploadOpening width valuesOf listed spelled bytesOf allowed inRange formOf findForm rowFits
+    chosen-opening-written segments orderNumber h k =
+        let a = with-short _ [] (opening-fine ful (omega arith) refl) segmentsTag segments (refl, refl, refl) h in
+        let b = with-version _ [] (with-long _ [] a orderNumberTag orderNumber (refl, refl, refl) k) in
+        plain _ forms.ChosenOpening b refl refl refl refl refl
+
     pub signing-written : (orderNumber owner : ℕ) → orderNumber < 2 ^ 32 → owner < 2 ^ 16
         → WrittenAs (signing subscriber exchange nonce timestamp orderNumber owner) [] forms.Signing
     unfolding signing width valuesOf listed spelled bytesOf allowed inRange formOf findForm rowFits
@@ -286,6 +303,12 @@ module _ (exchange : ℕ) (s : exchange < 2 ^ 32) where
         let a = with-code _ [] (answer-fine [] initialisationPhase (omega arith) (omega arith)) code.Ok in
         plain _ forms.UploadOpened (with-long _ [] a orderNumberTag orderNumber (refl, refl, refl) h) refl refl refl
         refl refl
+
+    pub chosen-opened-written : WrittenAs (chosenOpened exchange transaction) [] forms.ReceiptAnswered
+    unfolding chosenOpened formOf findForm rowFits width
+    chosen-opened-written =
+        let a = with-code _ [] (answer-fine [] initialisationPhase (omega arith) (omega arith)) code.Ok in
+        plain _ forms.ReceiptAnswered a refl refl refl refl refl
 
     point-written : (phase segment : ℕ) (c : ReturnCode) → 1 ≤ phase → phase ≤ 3 → segment < 2 ^ 16
         → WrittenAs (pointOf phase exchange transaction segment c) [] forms.SegmentTaken

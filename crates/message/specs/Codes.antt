@@ -1,4 +1,4 @@
--- The return codes of document 01 and of card 8, and the number of field 0D for each.
+-- The return codes of document 01 and of cards 8 and 11, and the number of field 0D for each.
 use Prim.Native.Nat.{ℕ, zero, suc, _+_, _*_, _/_, _%_}
 use mathlib.Core.List.{List, [], _∷_}
 use Rattle.message.specs.declared.codes.ReturnCode.{ReturnCode}
@@ -24,11 +24,13 @@ returnCodes =
     ∷ code.MessageReplay
     ∷ code.SegmentNumberExceeded
     ∷ code.OrderIdUnknown
+    ∷ code.OrderIdAlreadyExists
     ∷ code.MaxSegmentsExceeded
     ∷ code.MaxTransactionsExceeded
     ∷ []
 
--- Document 01's six-digit code, as a decimal number; card 8, "It refuses an order not in the book with 091114"
+-- Document 01's six-digit code, as a decimal number; card 8, "It refuses an order not in the book with 091114";
+-- card 11, "one held by an open or booked upload of that subscriber and type with 091115"
 abbrev pub codeValue : ReturnCode → ℕ
 codeValue code.Ok = 0
 codeValue code.DownloadPostprocessDone = 11000
@@ -47,6 +49,7 @@ codeValue code.TransactionAbort = 91102
 codeValue code.MessageReplay = 91103
 codeValue code.SegmentNumberExceeded = 91104
 codeValue code.OrderIdUnknown = 91114
+codeValue code.OrderIdAlreadyExists = 91115
 codeValue code.MaxSegmentsExceeded = 91118
 codeValue code.MaxTransactionsExceeded = 91119
 

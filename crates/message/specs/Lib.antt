@@ -2,6 +2,7 @@
 pub mod Limits
 pub mod Codes
 pub mod OrderNumbers
+pub mod Editions
 pub mod Requests
 pub mod Replies
 pub mod Segments

@@ -1,4 +1,4 @@
--- The seven reply forms of document 01, each as the fields that it has.
+-- The seven reply forms of document 01 and the reply of card 11, each as the fields that it has.
 use Prim.Native.Nat.{ℕ}
 use Rattle.frame_table.specs.declared.fields.Fields.{Fields}
 use Rattle.frame_table.specs.declared.fields.Bits128.{Bits128}
@@ -24,6 +24,11 @@ unfoldable pub uploadOpened : ℕ → Bits128 → ℕ → Fields
 uploadOpened exchange transaction orderNumber =
     with orderNumberTag orderNumber
     (withCode code.Ok (withWide transactionTag transaction (replyOf initialisationPhase exchange)))
+
+-- card 11, "the reply leaves 0E out": the tags of "receipt answered 01 03 08 0D", told apart by phase 1 and 000000
+unfoldable pub chosenOpened : ℕ → Bits128 → Fields
+chosenOpened exchange transaction =
+    withCode code.Ok (withWide transactionTag transaction (replyOf initialisationPhase exchange))
 
 -- a segment's fields 09 0A 0B behind the transaction ID; the data stands beside the fields
 abbrev pub withSegment : ℕ → ℕ → Fields → Fields

@@ -1,10 +1,10 @@
--- The five request forms of document 01 and that of card 8, each as the fields that it has.
+-- The five request forms of document 01 and those of cards 8 and 11, each as the fields that it has.
 use Prim.Native.Nat.{ℕ}
 use Rattle.frame_table.specs.declared.fields.Fields.{Fields}
 use Rattle.frame_table.specs.declared.fields.Bits128.{Bits128}
 use Rattle.frame_table.specs.Table.{phaseTag, subscriberTag, exchangeTag, orderTypeTag, nonceTag, timestampTag}
 use Rattle.frame_table.specs.Table.{segmentsTag, transactionTag, segmentTag, lastMarkTag, dataTag, receiptCodeTag}
-use Rattle.frame_table.specs.Table.{orderNumberTag, orderAttributeTag, ownerTag, uzhnn}
+use Rattle.frame_table.specs.Table.{orderNumberTag, orderAttributeTag, ownerTag, uzhnn, versionTag, h003}
 use Rattle.frame_table.specs.Names.{noFields}
 use Rattle.frame_table.specs.Names.{with, withWide}
 use Rattle.message.specs.Limits.{initialisationPhase, transferPhase, receiptPhase, ful, fdl}
@@ -54,3 +54,8 @@ unfoldable pub signing : ℕ → ℕ → Bits128 → ℕ → ℕ → ℕ → Fie
 signing subscriber exchange nonce timestamp orderNumber owner =
     with ownerTag owner (with orderAttributeTag uzhnn
     (with orderNumberTag orderNumber (openingOf subscriber exchange ful nonce timestamp)))
+
+-- card 11, "An upload opening with field 11 (4 bytes, H003) and 0E, besides 01 to 07"
+unfoldable pub chosenOpening : ℕ → ℕ → Bits128 → ℕ → ℕ → ℕ → Fields
+chosenOpening subscriber exchange nonce timestamp segments orderNumber =
+    with versionTag h003 (with orderNumberTag orderNumber (uploadOpening subscriber exchange nonce timestamp segments))

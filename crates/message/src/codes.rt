@@ -1,4 +1,4 @@
-// The return codes of document 01 and of card 8 under their names of Annex 1.
+// The return codes of document 01 and of cards 8 and 11 under their names of Annex 1.
 ghost use mathlib.Core.Path.{_≡_};
 ghost use Rattle.message.specs.Codes.{codeField};
 
@@ -20,6 +20,7 @@ pub enum ReturnCode {
     MessageReplay,
     SegmentNumberExceeded,
     OrderIdUnknown,
+    OrderIdAlreadyExists,
     MaxSegmentsExceeded,
     MaxTransactionsExceeded,
 }
@@ -46,6 +47,7 @@ pub fn code_field(code: ReturnCode) -> u64
         ReturnCode::MessageReplay => 0x30_39_31_31_30_33,
         ReturnCode::SegmentNumberExceeded => 0x30_39_31_31_30_34,
         ReturnCode::OrderIdUnknown => 0x30_39_31_31_31_34,
+        ReturnCode::OrderIdAlreadyExists => 0x30_39_31_31_31_35,
         ReturnCode::MaxSegmentsExceeded => 0x30_39_31_31_31_38,
         ReturnCode::MaxTransactionsExceeded => 0x30_39_31_31_31_39,
     }

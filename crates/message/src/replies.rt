@@ -1,4 +1,4 @@
-// The seven reply forms, each as the fields that it has.
+// The seven reply forms and the reply to a chosen opening, each as the fields that it has.
 use crate::codes::ReturnCode;
 use crate::codes::code_field;
 use crate::limits::INITIALISATION_PHASE;
@@ -18,7 +18,7 @@ use frame_table::table::TRANSACTION;
 ghost use mathlib.Core.Path.{_≡_};
 ghost use Rattle.message.specs.Replies.{replyOf, withCode, uploadOpened, withSegment, downloadOpened, pointOf};
 ghost use Rattle.message.specs.Replies.{segmentTaken, recoveryPoint, downloadSegment, receiptAnswered};
-ghost use Rattle.message.specs.Replies.{unreadable, refusal};
+ghost use Rattle.message.specs.Replies.{unreadable, refusal, chosenOpened};
 
 // 01 03, which stand in every reply but the one to an unreadable request.
 fn reply_of(phase: u64, exchange: u64) -> Fields
@@ -42,6 +42,16 @@ pub fn upload_opened(exchange: u64, transaction: Bits128, order_number: u64) -> 
         ReturnCode::Ok,
         reply_of(INITIALISATION_PHASE, exchange).with_wide(TRANSACTION, transaction),
     ).with(ORDER_NUMBER, order_number)
+}
+
+// Opened with the order number that the request brought, of edition 2.4: 01 03 08 0D.
+pub fn chosen_opened(exchange: u64, transaction: Bits128) -> Fields
+    ensures { λ r. ⌜ r ≡ chosenOpened exchange transaction ⌝ }
+{
+    with_code(
+        ReturnCode::Ok,
+        reply_of(INITIALISATION_PHASE, exchange).with_wide(TRANSACTION, transaction),
+    )
 }
 
 // 09 0A 0B; the data stands beside the fields.

@@ -1,4 +1,4 @@
-// The six request forms, each as the fields that it has.
+// The seven request forms, each as the fields that it has.
 use crate::limits::FDL;
 use crate::limits::FUL;
 use crate::limits::INITIALISATION_PHASE;
@@ -8,6 +8,7 @@ use frame_table::fields::Bits128;
 use frame_table::fields::Fields;
 use frame_table::table::DATA;
 use frame_table::table::EXCHANGE;
+use frame_table::table::H003;
 use frame_table::table::LAST_MARK;
 use frame_table::table::NONCE;
 use frame_table::table::ORDER_ATTRIBUTE;
@@ -22,9 +23,10 @@ use frame_table::table::SUBSCRIBER;
 use frame_table::table::TIMESTAMP;
 use frame_table::table::TRANSACTION;
 use frame_table::table::UZHNN;
+use frame_table::table::VERSION;
 ghost use mathlib.Core.Path.{_≡_};
 ghost use Rattle.message.specs.Requests.{requestOf, openingOf, uploadOpening, downloadOpening, transferOf};
-ghost use Rattle.message.specs.Requests.{uploadTransfer, downloadTransfer, receipt, signing};
+ghost use Rattle.message.specs.Requests.{uploadTransfer, downloadTransfer, receipt, signing, chosenOpening};
 
 // 01 02 03, which stand in every request.
 fn request_of(phase: u64, subscriber: u64, exchange: u64) -> Fields
@@ -132,4 +134,20 @@ pub fn signing(
         .with(ORDER_NUMBER, order_number)
         .with(ORDER_ATTRIBUTE, UZHNN)
         .with(OWNER, owner)
+}
+
+// Upload opening of edition 2.4, which brings its order number: 01 to 07, 0E, 11.
+pub fn chosen_opening(
+    subscriber: u64,
+    exchange: u64,
+    nonce: Bits128,
+    timestamp: u64,
+    segments: u64,
+    order_number: u64,
+) -> Fields
+    ensures { λ r. ⌜ r ≡ chosenOpening subscriber exchange nonce timestamp segments «order_number» ⌝ }
+{
+    upload_opening(subscriber, exchange, nonce, timestamp, segments)
+        .with(ORDER_NUMBER, order_number)
+        .with(VERSION, H003)
 }

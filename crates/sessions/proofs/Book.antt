@@ -30,7 +30,7 @@ use Rattle.unit_state.specs.declared.record.Kind.the-variants as kind
 use Rattle.unit_state.specs.Records.{runOf, runCount, callOf, isCall}
 use Rattle.unit.specs.State.{State}
 use Rattle.unit.specs.Call.{indexOf, unitCall}
-use Rattle.unit_state.proofs.Parts.{callable, run-within}
+use Rattle.unit_state.proofs.Parts.{callable, run-within, run-named}
 use Rattle.sessions.specs.Sessions.{
   freshUnit,
   Records,
@@ -84,7 +84,7 @@ module _ (u : State) (r : List ℕ) (s : Course) (b : NoOther s) (ks : List Call
   call-beyond kind.Frame e h = rest _ (by-number (frameOf u r) s NoOther b (λ _. b))
   call-beyond kind.File e h = rest _ (by-number (putOf u r) s NoOther b (λ _. b))
   call-beyond (kind.Run x) e h =
-      let inside = run-inside (runOf r) (run-within (runOf r) (callable r (kind.Run x) refl e .within)) in
+      let inside = run-inside (runOf r) (run-within (runOf r) (run-named r x e)) in
       rest _ (run-beyond x (indexOf r) _ r _ s inside b)
   call-beyond kind.Journal e h =
       let inside = run-inside (runOf r) (run-within (runOf r) (callable r kind.Journal refl e .within)) in

@@ -15,14 +15,13 @@ use Rattle.octets.proofs.Numbers.{bytes-take, length-overwrite}
 use Rattle.octets.proofs.Tests.{and-true}
 use Rattle.bank_steps.specs.Lent as bank
 use Rattle.bank_session.specs.Session.{LentSession, bankIn, journalIn}
-use Rattle.image.specs.Items.{itemsOf}
+use Rattle.image.specs.Items.{imageItems}
 use Rattle.image.specs.Image.{stores, imageOf}
 use Rattle.image_calls.specs.declared.calls.Away.{Away}
 use Rattle.image_calls.specs.declared.calls.Away.the-variants as away
 use Rattle.image_calls.specs.declared.calls.TakenUp.{TakenUp}
 use Rattle.image_calls.specs.declared.calls.TakenUp.the-variants as up
 use Rattle.image_calls.specs.Calls.{
-  written,
   imageLength,
   numbersOf,
   imageIn,
@@ -34,9 +33,7 @@ use Rattle.image_calls.specs.Calls.{
   takeUpOf,
   takeUp,
   isAdmittedImage,
-  formOf,
   storeFrom,
-  storeTaken,
   sessionFrom,
 }
 use Rattle.image_calls.proofs.Theorems.{image-long, put-away-done, refused-up, take-up-done, written-back}
@@ -51,7 +48,6 @@ use Rattle.unit_state.proofs.Parts.{callable}
 use Rattle.sessions.specs.Sessions.{bankAt, journalAt, frontOf, awayOf, takenOf, told}
 use Rattle.sessions.proofs.MemoryBytes.{
   bytes-overwrite,
-  extended-holds,
   StoresHold,
   AllHold,
   packed-holds,
@@ -103,7 +99,7 @@ module _ (m : LentSession) (buffer : List ℕ) where
   image-bytes : Bytes (m .orders) → Bytes (m .mailboxes) → Bytes (imageIn m)
   unfolding imageIn imageOf
   image-bytes o b =
-      packed-holds (itemsOf written) (numbersOf m) (stores (m .orders) (m .mailboxes)) (both-hold (m .orders) (m .mailboxes) o b)
+      packed-holds imageItems (numbersOf m) (stores (m .orders) (m .mailboxes)) (both-hold (m .orders) (m .mailboxes) o b)
 
   away-bytes : Bytes (m .orders) → Bytes (m .mailboxes) → Bytes buffer → Bytes (putAway m buffer .buffer)
   away-bytes o b h = at away-left
@@ -146,11 +142,10 @@ done-or-not m image = at (lengthsRight m) (isAdmittedImage image)
     at false c = inr (λ z. omega arith)
 
 from-hold : (image : List ℕ) → Bytes image → StoresHold (bank.stateOf (bankIn (sessionFrom image)))
-unfolding sessionFrom storeTaken storeFrom
+unfolding sessionFrom storeFrom
 from-hold image h =
-    let form = formOf image in
-    let hold = stores-hold (itemsOf form) image h in
-    record { orders = extended-holds form _ (hold 0); mailboxes = extended-holds form _ (hold 1) }
+    let hold = stores-hold imageItems image h in
+    record { orders = hold 0; mailboxes = hold 1 }
 
 -- ---- the steps
 

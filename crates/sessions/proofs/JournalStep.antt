@@ -65,7 +65,7 @@ module _ (c : ClientRun) (row : List Event) where
   -- one that it closes is ended with the word
   closed-ends : (w : Word) → journalCall c row .answer ≡ answer.Closed w → journalCall c row .run .stage ≡ stage.Ended w
   unfolding journalCall ended
-  closed-ends w = at (answerTo (c .stage) (length row) (lookup (orderName c) row))
+  closed-ends w = at (answerTo (c .stage) (length row) (lookup (c .transaction) row))
     where
       at : (a : JournalAnswer) → a ≡ answer.Closed w → runAfter a c .stage ≡ stage.Ended w
       at (answer.Closed x) e = ap (λ (b : JournalAnswer). runAfter b c .stage) e

@@ -71,7 +71,7 @@ use Rattle.unit.specs.Call.{
   unitCall,
 }
 use Rattle.unit.proofs.Named.{isClosed}
-use Rattle.unit_state.proofs.Parts.{callable, run-within}
+use Rattle.unit_state.proofs.Parts.{callable, run-within, run-named}
 use Rattle.sessions.specs.Sessions.{freshUnit, Records, more, unitAfter, clientAt, frontOf, SessionsClose, LodgedNamed}
 use Rattle.sessions.proofs.Standing.{Standing, Tells, made, fresh-standing}
 use Rattle.sessions.proofs.RunSteps.{run-closed}
@@ -137,7 +137,7 @@ module _ {u : State} {s : Course} (v : Standing u s) (r : List ℕ) (w : Word) (
       let o = sessionFileCall (u .memory .bank .rows) (mailboxOf r) (bodyOf kind.File r) (u .memory .bank .mailboxes) in
       never (sym (by-file (o .answer)) ∙ ap isClosed c)
   named-by (kind.Run x) e h c =
-      let inside = run-inside (runOf r) (run-within (runOf r) (callable r (kind.Run x) refl e .within)) in
+      let inside = run-inside (runOf r) (run-within (runOf r) (run-named r x e)) in
       (inside, run-closed v r x inside w o c)
   named-by kind.Journal e h c =
       let inside = run-inside (runOf r) (run-within (runOf r) (callable r kind.Journal refl e .within)) in

@@ -34,9 +34,8 @@ use Rattle.bank.specs.declared.mailbox.FileAnswer.{FileAnswer}
 use Rattle.bank.specs.declared.mailbox.FileAnswer.the-variants as put
 use Rattle.bank.specs.Call.{contextOf, FrameInput, FrameCall, lentRight, respond, frameCall}
 use Rattle.bank.specs.Mailbox.{fileRefusals, carryOutFile, fileCall}
-use Rattle.image.specs.declared.table.Form.{Form}
 use Rattle.image.specs.Items.{Item, constant, part, store}
-use Rattle.image.specs.Image.{pack, storesOf, extendedParts, extended}
+use Rattle.image.specs.Image.{pack, storesOf}
 
 -- ---- lists of bytes
 
@@ -55,20 +54,6 @@ unfolding overwrite
 bytes-overwrite d at x h k =
     bytes-append (take at d) (x ++ drop (at + length x) d) (bytes-take at d h)
     (bytes-append x (drop (at + length x) d) k (bytes-drop (at + length x) d h))
-
-parts-hold : (size n : ℕ) (s : List ℕ) → Bytes s → Bytes (extendedParts size n s)
-unfolding extendedParts
-parts-hold size zero s h = bytes-zeros 0
-parts-hold size (suc n) s h =
-    let more : List ℕ = replicate (fileBytes - size) 0 in
-    bytes-append (take size s ++ more) (extendedParts size n (drop size s))
-    (bytes-append (take size s) more (bytes-take size s h) (bytes-zeros (fileBytes - size)))
-    (parts-hold size n (drop size s) (bytes-drop size s h))
-
--- a store taken up from an older form holds bytes
-pub extended-holds : (form : Form) (s : List ℕ) → Bytes s → Bytes (extended form s)
-unfolding extended
-extended-holds form s h = parts-hold _ placeCount s h
 
 bytes-one : (x : ℕ) → x < 256 → Bytes (x ∷ [])
 bytes-one x h zero = h

@@ -13,7 +13,7 @@ use Rattle.unit_state.specs.declared.record.Kind.the-variants as kind
 use Rattle.unit_state.specs.Records.{runOf, runCount, callOf, isCall}
 use Rattle.unit.specs.State.{State}
 use Rattle.unit.specs.Call.{UnitCall, valueDayStep, stepOf, unitCall}
-use Rattle.unit_state.proofs.Parts.{callable, run-within}
+use Rattle.unit_state.proofs.Parts.{callable, run-within, run-named}
 use Rattle.sessions.specs.Sessions.{
   Records,
   none,
@@ -107,7 +107,7 @@ module _ {u : State} {s : Course} (v : Standing u s) (r : List ℕ) (b : Bytes r
   next-call kind.Frame e h = as-made kind.Frame e _ (frame-step v r b) (λ ks. refl) (λ t ts. refl)
   next-call kind.File e h = as-made kind.File e _ (file-step v r b) (λ ks. refl) (λ t ts. refl)
   next-call (kind.Run x) e h =
-      let inside = run-inside (runOf r) (run-within (runOf r) (callable r (kind.Run x) refl e .within)) in
+      let inside = run-inside (runOf r) (run-within (runOf r) (run-named r x e)) in
       as-made (kind.Run x) e _ (run-step v r x inside) (λ ks. refl) (λ t ts. refl)
   next-call kind.Journal e h =
       let inside = run-inside (runOf r) (run-within (runOf r) (callable r kind.Journal refl e .within)) in

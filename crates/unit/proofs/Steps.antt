@@ -49,7 +49,7 @@ use Rattle.unit.specs.Call.{
   roomsOf,
   unitCall,
 }
-use Rattle.unit_state.proofs.Parts.{callable, whole-head}
+use Rattle.unit_state.proofs.Parts.{callable, run-named, whole-head}
 
 -- the part of a run, lent and come back as x
 pub part-kept : (files x : List ℕ) (i : ℕ) → i * fileBytes + fileBytes ≤ length files
@@ -108,8 +108,13 @@ handed-run r k ek told = callable r kind.Journal refl (sym ek ∙ told) .within
 pub ready : (e : Event) (r payloads files : List ℕ) (k : Kind) → length payloads ≡ roomsBytes → length files ≡ roomsBytes
     → k ≡ callOf r → k ≡ kind.Run e → Ready e r payloads files
 ready e r payloads files k ep ef ek told =
-    let known = callable r (kind.Run e) refl (sym ek ∙ told) in
-    record { run = known .within; head = whole-head _ r (known .whole); payload-rooms = ep; file-rooms = ef }
+    let q = sym ek ∙ told in
+    record {
+      run = run-named r e q;
+      head = whole-head _ r (callable r (kind.Run e) refl q .whole);
+      payload-rooms = ep;
+      file-rooms = ef;
+    }
 
 -- the call of a record, where the rooms are of their lengths
 pub called : (s : State) (r : List ℕ) (right : Bool) (k g : Kind) (o : UnitCall)

@@ -34,7 +34,8 @@ use Rattle.client_run.specs.declared.run.ClientRun.{ClientRun}
 use Rattle.client_run.specs.declared.run.Direction.{Direction}
 use Rattle.client_run.specs.declared.run.Direction.the-variants as direction
 use Rattle.client_run.specs.declared.run.RunParameters.{RunParameters}
-use Rattle.client_run.specs.Run.{Lent, ClientCall, parametersOf, lentOf, refusalNumber, orderName}
+use Rattle.client_run.specs.declared.run.RunTerms.{RunTerms}
+use Rattle.client_run.specs.Run.{Lent, ClientCall, termsOf25, parametersOf, lentOf, refusalNumber, orderName}
 use Rattle.client.specs.Calls.{beginCall, replyCall, noReplyCall}
 use Rattle.client.specs.declared.journal_call.JournalAnswer.{JournalAnswer}
 use Rattle.client.specs.declared.journal_call.JournalAnswer.the-variants as journal-answer
@@ -74,6 +75,8 @@ use Rattle.unit_state.specs.Records.{
   subscriberOf,
   firstOf,
   nonceOf,
+  editionIn,
+  orderOf,
   lentLengthOf,
   offsetOf,
   bookingTimeOf,
@@ -81,6 +84,7 @@ use Rattle.unit_state.specs.Records.{
   seedOf,
   bodyOf,
   isRun,
+  editionOf,
   roomBytes,
   callOf,
 }
@@ -188,9 +192,14 @@ begins Download = true
 begins Reply = false
 begins NoReply = false
 
+-- the terms that the record r brings: an upload's edition and order number; a download's record has none
+abbrev pub termsOf : Direction → List ℕ → RunTerms
+termsOf direction.Upload r = record { edition = editionOf (editionIn r); number = orderOf r }
+termsOf direction.Download r = termsOf25
+
 -- what the record r begins its run with
 abbrev pub paramsOf : Direction → List ℕ → RunParameters
-paramsOf way r = parametersOf way (subscriberOf r) (firstOf r)
+paramsOf way r = parametersOf way (subscriberOf r) (firstOf r) (termsOf way r)
 
 -- "begin, as an upload", "begin, as a download", "reply arrived", "no reply": a client's call by the event of the
 -- record r

@@ -20,9 +20,11 @@ use client_run::run::Answer as ClientAnswer;
 use client_run::run::Direction;
 use client_run::run::NONCE_BYTES;
 use client_run::run::RunParameters;
+use client_run::run::RunTerms;
 use client_run::run::order_name;
 use client_run::run::refusal_number;
 use journal::event::RECORD_COUNT;
+use message::editions::Edition;
 use message::limits::FILE_BYTES;
 use number_table::table::MAILBOX_FULL;
 use number_table::table::NO_MAILBOX;
@@ -42,6 +44,8 @@ use unit_rows::runs::set_run;
 use unit_state::answer::Answer;
 use unit_state::record::BANK_TIME_AT;
 use unit_state::record::BOOKING_AT;
+use unit_state::record::EDITION_AT;
+use unit_state::record::EDITION_BYTES;
 use unit_state::record::Event;
 use unit_state::record::FIRST_AT;
 use unit_state::record::FIRST_BYTES;
@@ -50,6 +54,8 @@ use unit_state::record::Kind;
 use unit_state::record::MAILBOX_AT;
 use unit_state::record::MAILBOX_BYTES;
 use unit_state::record::NONCE_AT;
+use unit_state::record::ORDER_AT;
+use unit_state::record::ORDER_BYTES;
 use unit_state::record::ROOM_BYTES;
 use unit_state::record::RUN_BYTES;
 use unit_state::record::RUN_NUMBER_AT;
@@ -60,6 +66,7 @@ use unit_state::record::TIME_BYTES;
 use unit_state::record::body_of;
 use unit_state::record::bytes_at;
 use unit_state::record::call_of;
+use unit_state::record::edition_of;
 use unit_state::record::number_at;
 use unit_state::state::ROOMS_BYTES;
 use unit_state::state::Run;
@@ -82,8 +89,8 @@ ghost use Rattle.unit_rows.specs.Rows.{runsFrom, journalFrom, unitFrom};
 ghost use Rattle.unit_rows.specs.Lines.{Lines, linesOf};
 ghost use Rattle.unit.specs.State.{Memory, memory, stateOf};
 ghost use Rattle.unit.specs.Call.{Ready, roomsRight, afterCall, frameAnswer, fileAnswer, runAnswer};
-ghost use Rattle.unit.specs.Call.{journalAnswer, frameStep, fileStep, indexOf, begins, paramsOf, eventCall};
-ghost use Rattle.unit.specs.Call.{roomCall, keeps, withClient, nextRun, keptPayloads, runCallOf, runCall};
+ghost use Rattle.unit.specs.Call.{journalAnswer, frameStep, fileStep, indexOf, begins, termsOf, paramsOf};
+ghost use Rattle.unit.specs.Call.{eventCall, roomCall, keeps, withClient, nextRun, keptPayloads, runCallOf, runCall};
 ghost use Rattle.unit.specs.Call.{runStep, journalStep, valueDayAnswer, unitCall};
 
 // A run after a call, and the call's answer.
@@ -256,6 +263,22 @@ fn payload_for<'a>(begin: bool, body: &'a [u8], kept: &'a [u8]) -> &'a [u8]
     kept
 }
 
+// The terms that a record brings: an upload's edition and order number.
+fn terms_of(direction: Direction, record: &[u8]) -> RunTerms
+    ensures { λ r. ⌜ r ≡ termsOf direction (now («record» .entry)) ⌝ }
+{
+    match direction {
+        Direction::Upload => RunTerms {
+            edition: edition_of(number_at(record, EDITION_AT, EDITION_BYTES)),
+            number: number_at(record, ORDER_AT, ORDER_BYTES),
+        },
+        Direction::Download => RunTerms {
+            edition: Edition::V25,
+            number: 0,
+        },
+    }
+}
+
 // What a record begins its run with.
 fn params_of(direction: Direction, record: &[u8]) -> RunParameters
     ensures { λ r. ⌜ r ≡ paramsOf direction (now («record» .entry)) ⌝ }
@@ -264,6 +287,7 @@ fn params_of(direction: Direction, record: &[u8]) -> RunParameters
         direction,
         subscriber: number_at(record, SUBSCRIBER_AT, SUBSCRIBER_BYTES),
         first: number_at(record, FIRST_AT, FIRST_BYTES),
+        terms: terms_of(direction, record),
     }
 }
 

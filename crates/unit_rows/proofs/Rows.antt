@@ -22,6 +22,8 @@ use Rattle.bank_rows.specs.Rows.{rowsOf}
 use Rattle.bank_rows.proofs.General.{overwrite-after, overwrite-front, length-rows, rows-at}
 use Rattle.image_numbers.specs.Numbers.{eventNumbers, kindOf, eventOf}
 use Rattle.image_numbers.proofs.Laws.{event-back}
+use Rattle.message.specs.declared.editions.Edition.{Edition}
+use Rattle.message.specs.declared.editions.Edition.the-variants.{V24, V25}
 use Rattle.client_run.specs.declared.run.Direction.{Direction}
 use Rattle.client_run.specs.declared.run.Direction.the-variants.{Upload, Download}
 use Rattle.client_run.specs.declared.run.Stage.{Stage}
@@ -39,7 +41,7 @@ use Rattle.client_run.specs.declared.run.Word.the-variants.{
 }
 use Rattle.client_run.specs.Run.{nonceBytes}
 use Rattle.unit_state.specs.declared.state.Run.{Run}
-use Rattle.unit_state.specs.Records.{runCount}
+use Rattle.unit_state.specs.Records.{runCount, editionOf}
 use Rattle.unit_state.specs.State.{fresh, runAt}
 use Rattle.unit_rows.specs.Codes.{
   numberOfWord,
@@ -49,6 +51,7 @@ use Rattle.unit_rows.specs.Codes.{
   directionOf,
   numberOfStep,
   stepOf,
+  numberOfEdition,
 }
 use Rattle.unit_rows.specs.Rows.{
   runWidth,
@@ -162,7 +165,9 @@ module _ (row : List ℕ) (i : ℕ) (h : i < recordCount) where
         subscriber = getD row (eventWidth * i + 2) 0;
         «order_type» = getD row (eventWidth * i + 3) 0;
         order = getD row (eventWidth * i + 4) 0;
-        kind = kindOf (getD row (eventWidth * i + 5) 0);
+        high = getD row (eventWidth * i + 5) 0;
+        low = getD row (eventWidth * i + 6) 0;
+        kind = kindOf (getD row (eventWidth * i + 7) 0);
       }
   unfolding journalFrom
   record-read =
@@ -175,6 +180,8 @@ module _ (row : List ℕ) (i : ℕ) (h : i < recordCount) where
         number-at eventWidth i 3 row (omega arith),
         number-at eventWidth i 4 row (omega arith),
         number-at eventWidth i 5 row (omega arith),
+        number-at eventWidth i 6 row (omega arith),
+        number-at eventWidth i 7 row (omega arith),
         add-zero (eventWidth * i),
       )
 
@@ -232,10 +239,14 @@ step-back Opening = refl
 step-back Segment = refl
 step-back Receipt = refl
 
+edition-back : (e : Edition) → editionOf (numberOfEdition e) ≡ e
+edition-back V24 = refl
+edition-back V25 = refl
+
 run-back : (run : Run) → runOf (runNumbers run) (run .nonce) ≡ run
 run-back run =
     let c = run .client .run in
-    rw (stage-back (c .stage), direction-back (c .direction), step-back (c .step))
+    rw (stage-back (c .stage), direction-back (c .direction), step-back (c .step), edition-back (c .terms .edition))
 
 pub length-runs : (runs nonces : List ℕ) → length (runsFrom runs nonces) ≡ runCount
 unfolding runsFrom
@@ -252,12 +263,13 @@ pub client-read : (runs : List ℕ) (i : ℕ) → clientOf (take runWidth (drop 
       subscriber = getD runs (runWidth * i + 3) 0;
       exchange = getD runs (runWidth * i + 4) 0;
       repeats = getD runs (runWidth * i + 5) 0;
-      transaction = bits (getD runs (runWidth * i + 6) 0) (getD runs (runWidth * i + 7) 0);
-      number = getD runs (runWidth * i + 8) 0;
-      length = getD runs (runWidth * i + 9) 0;
-      segments = getD runs (runWidth * i + 10) 0;
-      segment = getD runs (runWidth * i + 11) 0;
-      issued = getD runs (runWidth * i + 12) 0;
+      terms = record { edition = editionOf (getD runs (runWidth * i + 6) 0); number = getD runs (runWidth * i + 7) 0 };
+      transaction = bits (getD runs (runWidth * i + 8) 0) (getD runs (runWidth * i + 9) 0);
+      number = getD runs (runWidth * i + 10) 0;
+      length = getD runs (runWidth * i + 11) 0;
+      segments = getD runs (runWidth * i + 12) 0;
+      segment = getD runs (runWidth * i + 13) 0;
+      issued = getD runs (runWidth * i + 14) 0;
     }
 client-read runs i =
     rw (
@@ -274,6 +286,8 @@ client-read runs i =
       number-at runWidth i 10 runs (omega arith),
       number-at runWidth i 11 runs (omega arith),
       number-at runWidth i 12 runs (omega arith),
+      number-at runWidth i 13 runs (omega arith),
+      number-at runWidth i 14 runs (omega arith),
       add-zero (runWidth * i),
     )
 

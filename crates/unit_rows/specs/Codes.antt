@@ -1,7 +1,9 @@
--- A run's stage, direction and step, each as a number, and what a number says.
+-- A run's stage, direction, step and edition, each as a number, and what a number says.
 use Prim.Native.Nat.{ℕ}
 use mathlib.Core.Bool.{cond}
 use lib.Dec.{eqb}
+use Rattle.message.specs.declared.editions.Edition.{Edition}
+use Rattle.message.specs.declared.editions.Edition.the-variants.{V24, V25}
 use Rattle.client_run.specs.declared.run.Direction.{Direction}
 use Rattle.client_run.specs.declared.run.Direction.the-variants.{Upload, Download}
 use Rattle.client_run.specs.declared.run.Stage.{Stage}
@@ -57,3 +59,8 @@ numberOfStep Receipt = 2
 
 abbrev pub stepOf : ℕ → Step
 stepOf n = cond (eqb n 0) Opening (cond (eqb n 1) Segment Receipt)
+
+-- as in a record of the input: "0 is 2.5, 1 is 2.4"; the unit's records say what a number says
+abbrev pub numberOfEdition : Edition → ℕ
+numberOfEdition V25 = 0
+numberOfEdition V24 = 1

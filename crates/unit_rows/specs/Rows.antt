@@ -1,4 +1,4 @@
--- The unit that lent numbers and bytes are: of each run 14 numbers and its nonce bytes, of each event 6 numbers.
+-- The unit that lent numbers and bytes are: of each run 16 numbers and its nonce bytes, of each event 8 numbers.
 use Prim.Native.Nat.{ℕ, _*_}
 use mathlib.Core.List.{List, [], _∷_, map, zipWith}
 use lib.ListN.{getD, take}
@@ -11,7 +11,7 @@ use Rattle.client_run.specs.declared.run.ClientRun.{ClientRun}
 use Rattle.client_run.specs.Run.{nonceBytes}
 use Rattle.unit_state.specs.declared.state.Run.{Run}
 use Rattle.unit_state.specs.declared.state.UnitState.{UnitState}
-use Rattle.unit_state.specs.Records.{runCount}
+use Rattle.unit_state.specs.Records.{runCount, editionOf}
 use Rattle.unit_rows.specs.Codes.{
   numberOfStage,
   stageOf,
@@ -19,13 +19,14 @@ use Rattle.unit_rows.specs.Codes.{
   directionOf,
   numberOfStep,
   stepOf,
+  numberOfEdition,
 }
 
 abbrev pub runWidth : ℕ
-runWidth = 14
+runWidth = 16
 
 abbrev pub eventWidth : ℕ
-eventWidth = 6
+eventWidth = 8
 
 -- all numbers of the runs, their nonce bytes, and the numbers of the journal's row
 abbrev pub runsSize : ℕ
@@ -50,23 +51,24 @@ clientOf s = record {
   subscriber = getD s 3 0;
   exchange = getD s 4 0;
   repeats = getD s 5 0;
-  transaction = bits (getD s 6 0) (getD s 7 0);
-  number = getD s 8 0;
-  length = getD s 9 0;
-  segments = getD s 10 0;
-  segment = getD s 11 0;
-  issued = getD s 12 0;
+  terms = record { edition = editionOf (getD s 6 0); number = getD s 7 0 };
+  transaction = bits (getD s 8 0) (getD s 9 0);
+  number = getD s 10 0;
+  length = getD s 11 0;
+  segments = getD s 12 0;
+  segment = getD s 13 0;
+  issued = getD s 14 0;
 }
 
 -- the run of such numbers, the last of which is its payload's length, and of its nonce bytes; and a run's numbers
 abbrev pub runOf : List ℕ → List ℕ → Run
-runOf s nonce = record { client = record { run = clientOf s }; nonce = nonce; payload = getD s 13 0 }
+runOf s nonce = record { client = record { run = clientOf s }; nonce = nonce; payload = getD s 15 0 }
 
 abbrev pub clientNumbers : ClientRun → ℕ → List ℕ
 clientNumbers c payload =
     numberOfStage (c .stage) ∷ numberOfDirection (c .direction) ∷ numberOfStep (c .step) ∷ c .subscriber ∷ c .exchange
-    ∷ c .repeats ∷ c .transaction .high ∷ c .transaction .low ∷ c .number ∷ c .length ∷ c .segments ∷ c .segment
-    ∷ c .issued ∷ payload ∷ []
+    ∷ c .repeats ∷ numberOfEdition (c .terms .edition) ∷ c .terms .number ∷ c .transaction .high ∷ c .transaction .low
+    ∷ c .number ∷ c .length ∷ c .segments ∷ c .segment ∷ c .issued ∷ payload ∷ []
 
 abbrev pub runNumbers : Run → List ℕ
 runNumbers run = clientNumbers (run .client .run) (run .payload)

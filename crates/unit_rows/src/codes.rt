@@ -3,9 +3,10 @@ use client_run::run::Direction;
 use client_run::run::Stage;
 use client_run::run::Step;
 use client_run::run::Word;
+use message::editions::Edition;
 ghost use mathlib.Core.Path.{_≡_};
 ghost use Rattle.unit_rows.specs.Codes.{numberOfWord, numberOfStage, stageOf, numberOfDirection, directionOf};
-ghost use Rattle.unit_rows.specs.Codes.{numberOfStep, stepOf};
+ghost use Rattle.unit_rows.specs.Codes.{numberOfStep, stepOf, numberOfEdition};
 
 // The number of a run that ended with this closing word.
 fn number_of_word(word: Word) -> u64
@@ -81,5 +82,14 @@ pub(crate) fn step_of(n: u64) -> Step
         0 => Step::Opening,
         1 => Step::Segment,
         _ => Step::Receipt,
+    }
+}
+
+pub(crate) fn number_of_edition(edition: Edition) -> u64
+    ensures { λ r. ⌜ r ≡ numberOfEdition edition ⌝ }
+{
+    match edition {
+        Edition::V25 => 0,
+        Edition::V24 => 1,
     }
 }

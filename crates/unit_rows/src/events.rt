@@ -14,7 +14,7 @@ ghost use Rattle.journal.specs.Row.{rowAfter};
 ghost use Rattle.unit_rows.specs.Rows.{journalFrom};
 
 // The numbers of a record, and of the row.
-const EVENT_WIDTH: usize = 6;
+const EVENT_WIDTH: usize = 8;
 
 pub const ROW_SIZE: usize = RECORD_COUNT * EVENT_WIDTH;
 
@@ -24,13 +24,15 @@ pub fn record_at(row: &[u64; ROW_SIZE], i: usize) -> Event
     ensures { λ r. ⌜ r ≡ getD (journalFrom (now (row .entry))) i noEvent ⌝ }
 {
     let at = EVENT_WIDTH * i;
-    let kind = kind_of(row[at + 5]);
+    let kind = kind_of(row[at + 7]);
     Event {
         number: row[at],
         clock: row[at + 1],
         subscriber: row[at + 2],
         order_type: row[at + 3],
         order: row[at + 4],
+        high: row[at + 5],
+        low: row[at + 6],
         kind,
     }
 }

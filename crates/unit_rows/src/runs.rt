@@ -1,6 +1,7 @@
 // The client runs as numbers, and the nonce bytes that they keep.
 use crate::codes::direction_of;
 use crate::codes::number_of_direction;
+use crate::codes::number_of_edition;
 use crate::codes::number_of_stage;
 use crate::codes::number_of_step;
 use crate::codes::stage_of;
@@ -9,10 +10,12 @@ use bank_rows::rows::put;
 use client::calls::Client;
 use client_run::run::ClientRun;
 use client_run::run::NONCE_BYTES;
+use client_run::run::RunTerms;
 use frame_table::fields::Bits128;
 use octets::bytes::copy;
 use unit_state::record::RUN_COUNT;
 use unit_state::record::bytes_at;
+use unit_state::record::edition_of;
 use unit_state::state::Run;
 ghost use mathlib.Core.Path.{_≡_};
 ghost use Prim.Native.Nat.{_*_, _<_};
@@ -23,7 +26,7 @@ ghost use Rattle.unit_state.specs.State.{runAt};
 ghost use Rattle.unit_rows.specs.Rows.{runWidth, runsSize, clientOf, runNumbers, runsFrom};
 
 // The numbers of a run, of all runs, and the nonce bytes of all runs.
-const RUN_WIDTH: usize = 14;
+const RUN_WIDTH: usize = 16;
 
 pub const RUNS_SIZE: usize = RUN_COUNT * RUN_WIDTH;
 
@@ -38,9 +41,14 @@ fn client_at(runs: &[u64; RUNS_SIZE], i: usize) -> ClientRun
     let stage = stage_of(runs[at]);
     let direction = direction_of(runs[at + 1]);
     let step = step_of(runs[at + 2]);
+    let edition = edition_of(runs[at + 6]);
+    let terms = RunTerms {
+        edition,
+        number: runs[at + 7],
+    };
     let transaction = Bits128 {
-        high: runs[at + 6],
-        low: runs[at + 7],
+        high: runs[at + 8],
+        low: runs[at + 9],
     };
     ClientRun {
         stage,
@@ -49,12 +57,13 @@ fn client_at(runs: &[u64; RUNS_SIZE], i: usize) -> ClientRun
         subscriber: runs[at + 3],
         exchange: runs[at + 4],
         repeats: runs[at + 5],
+        terms,
         transaction,
-        number: runs[at + 8],
-        length: runs[at + 9],
-        segments: runs[at + 10],
-        segment: runs[at + 11],
-        issued: runs[at + 12],
+        number: runs[at + 10],
+        length: runs[at + 11],
+        segments: runs[at + 12],
+        segment: runs[at + 13],
+        issued: runs[at + 14],
     }
 }
 
@@ -75,7 +84,7 @@ pub fn run_at(runs: &[u64; RUNS_SIZE], nonces: &[u8; NONCES_SIZE], i: usize) -> 
     Run {
         client,
         nonce,
-        payload: runs[RUN_WIDTH * i + 13],
+        payload: runs[RUN_WIDTH * i + 15],
     }
 }
 
@@ -89,6 +98,8 @@ fn put_run(runs: &mut [u64; RUNS_SIZE], i: usize, run: Run)
     let stage = c.stage;
     let direction = c.direction;
     let step = c.step;
+    let terms = c.terms;
+    let edition = terms.edition;
     let numbers = [
         number_of_stage(stage),
         number_of_direction(direction),
@@ -96,6 +107,8 @@ fn put_run(runs: &mut [u64; RUNS_SIZE], i: usize, run: Run)
         c.subscriber,
         c.exchange,
         c.repeats,
+        number_of_edition(edition),
+        terms.number,
         c.transaction.high,
         c.transaction.low,
         c.number,

@@ -39,6 +39,8 @@ use Rattle.unit_state.specs.Records.{
   sizeOf,
   runCount,
   isRun,
+  runOf,
+  hasEdition,
   lineCount,
   isLine,
   isWithin,
@@ -148,3 +150,7 @@ module _ (r : List ℕ) (k : Kind) (h : isCall k ≡ true) where
   pub callable : callOf r ≡ k → Callable k r
   unfolding callOf
   callable q = callable-at (kindOf (letterOf r)) _ refl q
+
+-- a call to a run names one of the runs
+pub run-named : (r : List ℕ) (e : Event) → callOf r ≡ Run e → isRun (runOf r) ≡ true
+run-named r e q = and-true (isRun (runOf r)) (hasEdition e r) (callable r (Run e) refl q .within) .0

@@ -5,9 +5,12 @@ use mathlib.Core.List.{List, [], _∷_}
 use lib.Dec.{leb, eqb}
 use lib.ListN.{length, getD, take, drop}
 use Rattle.octets.specs.Bytes.{number}
+use Rattle.message.specs.declared.editions.Edition.{Edition}
+use Rattle.message.specs.declared.editions.Edition.the-variants.{V24, V25}
 use Rattle.message.specs.Verdicts.{decide}
 use Rattle.bank_state.specs.Limits.{idBytes}
 use Rattle.client_run.specs.Run.{nonceBytes}
+use Rattle.unit_state.specs.declared.record.Event.{Event}
 use Rattle.unit_state.specs.declared.record.Event.the-variants.{Upload, Download, Reply, NoReply}
 use Rattle.unit_state.specs.declared.record.Kind.{Kind}
 use Rattle.unit_state.specs.declared.record.Kind.the-variants.{
@@ -69,6 +72,14 @@ subscriberBytes = 2
 abbrev pub firstBytes : ℕ
 firstBytes = 4
 
+-- "edition 1"
+abbrev pub editionBytes : ℕ
+editionBytes = 1
+
+-- "order number 4"
+abbrev pub orderBytes : ℕ
+orderBytes = 4
+
 -- "length 2": of what stands behind the head
 abbrev pub sizeBytes : ℕ
 sizeBytes = 2
@@ -96,7 +107,8 @@ idsAt = bankTimeAt + timeBytes
 abbrev pub mailboxAt : ℕ
 mailboxAt = letterBytes
 
--- U, D, R, N and J: the run; all but J: the time; U and D: subscriber, first exchange number and nonce bytes
+-- U, D, R, N and J: the run; all but J: the time; U and D: subscriber, first exchange number and nonce bytes; U: "behind
+-- the nonce bytes", edition and order number
 abbrev pub runNumberAt : ℕ
 runNumberAt = letterBytes
 
@@ -111,6 +123,12 @@ firstAt = subscriberAt + subscriberBytes
 
 abbrev pub nonceAt : ℕ
 nonceAt = firstAt + firstBytes
+
+abbrev pub editionAt : ℕ
+editionAt = nonceAt + nonceBytes
+
+abbrev pub orderAt : ℕ
+orderAt = editionAt + editionBytes
 
 -- P and T: the length; I: the offset
 abbrev pub extentAt : ℕ
@@ -133,8 +151,8 @@ abbrev pub headOf : Kind → ℕ
 headOf Frame = idsAt + idBytes + sizeBytes
 -- "mailbox 2, length 2"
 headOf File = mailboxAt + mailboxBytes + sizeBytes
--- "run 1, time 8, subscriber 2, first exchange number 4, nonce bytes 12, length 2"
-headOf (Run Upload) = nonceAt + nonceBytes + sizeBytes
+-- "run 1, time 8, subscriber 2, first exchange number 4, nonce bytes 12, edition 1, order number 4, length 2"
+headOf (Run Upload) = orderAt + orderBytes + sizeBytes
 -- "run 1, time 8, subscriber 2, first exchange number 4, nonce bytes 12"
 headOf (Run Download) = nonceAt + nonceBytes
 -- "run 1, time 8, length 2"
@@ -210,6 +228,13 @@ firstOf r = numberAt firstAt firstBytes r
 abbrev pub nonceOf : List ℕ → List ℕ
 nonceOf r = bytesAt nonceAt nonceBytes r
 
+-- U: the edition's number, and the order number, "any bytes; ignored in 2.5"
+abbrev pub editionIn : List ℕ → ℕ
+editionIn r = numberAt editionAt editionBytes r
+
+abbrev pub orderOf : List ℕ → ℕ
+orderOf r = numberAt orderAt orderBytes r
+
 -- P and T: how many bytes of the image room, "the first that many"; I: where its bytes go
 abbrev pub lentLengthOf : List ℕ → ℕ
 lentLengthOf r = numberAt extentAt extentBytes r
@@ -242,6 +267,20 @@ runCount = 16
 abbrev pub isRun : ℕ → Bool
 isRun n = leb 1 n && leb n runCount
 
+-- "0 is 2.5, 1 is 2.4; another value ends the input"
+abbrev pub isEdition : ℕ → Bool
+isEdition n = leb n 1
+
+abbrev pub editionOf : ℕ → Edition
+editionOf n = cond (eqb n 0) V25 V24
+
+-- the edition is one of the two, where the record names one
+abbrev pub hasEdition : Event → List ℕ → Bool
+hasEdition Upload r = isEdition (editionIn r)
+hasEdition Download r = true
+hasEdition Reply r = true
+hasEdition NoReply r = true
+
 -- "The driver has 32 lines, numbered 1 to 32"
 abbrev pub lineCount : ℕ
 lineCount = 32
@@ -257,12 +296,12 @@ roomBytes = 140000
 abbrev pub inRoom : ℕ → ℕ → Bool
 inRoom from n = leb (from + n) roomBytes
 
--- a run is one of the 16, a line one of the 32, where the record names one, and its bytes of the image room are within
--- it; another letter is no call
+-- a run is one of the 16, an edition one of the two, a line one of the 32, where the record names one, and its bytes of
+-- the image room are within it; another letter is no call
 abbrev pub isWithin : Kind → List ℕ → Bool
 isWithin Frame r = true
 isWithin File r = true
-isWithin (Run e) r = isRun (runOf r)
+isWithin (Run e) r = isRun (runOf r) && hasEdition e r
 isWithin Journal r = isRun (runOf r)
 isWithin Away r = inRoom 0 (lentLengthOf r)
 isWithin TakeUp r = inRoom 0 (lentLengthOf r)
@@ -277,8 +316,8 @@ unfoldable pub isWhole : Kind → List ℕ → Bool
 isWhole k r = leb (headOf k) (length r) && leb (headOf k + sizeOf k r) (length r)
 
 -- "A record that is cut short, another letter, and a run outside 1 to 16 end the input", as do "a `P` or `T` with a
--- length over 140,000, and an `I` whose offset plus length is over 140,000", and "a line outside 1 to 32": they are no
--- call
+-- length over 140,000, and an `I` whose offset plus length is over 140,000", "a line outside 1 to 32", and another value
+-- than 0 and 1 as the edition: they are no call
 unfoldable pub callOf : List ℕ → Kind
 callOf r =
     let k = kindOf (letterOf r) in

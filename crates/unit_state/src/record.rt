@@ -1,12 +1,14 @@
 // A record of the input: its letter, its parts, and the call that it is.
 use bank_state::limits::ID_BYTES;
 use client_run::run::NONCE_BYTES;
+use message::editions::Edition;
 use octets::bytes::behind;
 use octets::bytes::front;
 use octets::bytes::number;
 ghost use mathlib.Core.Path.{_≡_};
 ghost use Prim.Native.Nat.{_≤_};
 ghost use Rattle.unit_state.specs.Records.{kindOf, headOf, hasLength, bytesAt, numberAt, sizeOf, bodyOf};
+ghost use Rattle.unit_state.specs.Records.{isEdition, editionOf, hasEdition};
 ghost use Rattle.unit_state.specs.Records.{isRun, isLine, inRoom, isWithin, isWhole, callOf, isCall};
 ghost use Rattle.unit_state.specs.Records.{lentLengthOf, offsetOf};
 
@@ -20,7 +22,8 @@ pub const LINE_COUNT: usize = 32;
 pub const ROOM_BYTES: usize = 140000;
 
 // How many bytes the parts of a record have: its letter, a run, a time, a mailbox, a subscriber, a first exchange
-// number, the length of what stands behind the head, a length or an offset in the image room, a line, and a seed.
+// number, an edition, an order number, the length of what stands behind the head, a length or an offset in the image
+// room, a line, and a seed.
 pub const LETTER_BYTES: usize = 1;
 
 pub const RUN_BYTES: usize = 1;
@@ -32,6 +35,10 @@ pub const MAILBOX_BYTES: usize = 2;
 pub const SUBSCRIBER_BYTES: usize = 2;
 
 pub const FIRST_BYTES: usize = 4;
+
+pub const EDITION_BYTES: usize = 1;
+
+pub const ORDER_BYTES: usize = 4;
 
 pub const SIZE_BYTES: usize = 2;
 
@@ -59,6 +66,10 @@ pub const FIRST_AT: usize = SUBSCRIBER_AT + SUBSCRIBER_BYTES;
 
 pub const NONCE_AT: usize = FIRST_AT + FIRST_BYTES;
 
+pub const EDITION_AT: usize = NONCE_AT + NONCE_BYTES;
+
+pub const ORDER_AT: usize = EDITION_AT + EDITION_BYTES;
+
 pub const EXTENT_AT: usize = LETTER_BYTES;
 
 pub const BOOKING_AT: usize = LETTER_BYTES;
@@ -68,7 +79,7 @@ pub const LINE_NUMBER_AT: usize = LETTER_BYTES;
 pub const SEED_AT: usize = LINE_NUMBER_AT + LINE_BYTES;
 
 // The bytes of an upload's head, the longest one.
-pub const UPLOAD_HEAD: usize = NONCE_AT + NONCE_BYTES + SIZE_BYTES;
+pub const UPLOAD_HEAD: usize = ORDER_AT + ORDER_BYTES + SIZE_BYTES;
 
 // The bytes of the longest record: an upload's head and a payload of 65,535.
 pub const RECORD_BYTES: usize = UPLOAD_HEAD + 65535;
@@ -237,6 +248,45 @@ fn is_run(n: u64) -> bool
     n <= RUN_COUNT as u64
 }
 
+// Whether an edition is one of the two.
+fn is_edition(n: u64) -> bool
+    ensures { λ r. ⌜ r ≡ isEdition n ⌝ }
+{
+    n <= 1
+}
+
+// The edition of a number: 0 is 2.5, 1 is 2.4.
+pub fn edition_of(n: u64) -> Edition
+    ensures { λ r. ⌜ r ≡ editionOf n ⌝ }
+{
+    match n {
+        0 => Edition::V25,
+        _ => Edition::V24,
+    }
+}
+
+// Whether there is the edition that a client run's record names, where it names one.
+fn has_edition(event: Event, s: &[u8]) -> bool
+    ensures { λ r. ⌜ r ≡ hasEdition event (now (s .entry)) ⌝ }
+{
+    match event {
+        Event::Upload => is_edition(number_at(s, EDITION_AT, EDITION_BYTES)),
+        Event::Download => true,
+        Event::Reply => true,
+        Event::NoReply => true,
+    }
+}
+
+// Whether there is what a client run's record names: its run, and its edition.
+fn is_run_within(event: Event, s: &[u8]) -> bool
+    ensures { λ r. ⌜ r ≡ isWithin (Kind.Run event) (now (s .entry)) ⌝ }
+{
+    if !is_run(number_at(s, RUN_NUMBER_AT, RUN_BYTES)) {
+        return false;
+    }
+    has_edition(event, s)
+}
+
 // Whether a line is one of the lines.
 fn is_line(n: u64) -> bool
     ensures { λ r. ⌜ r ≡ isLine n ⌝ }
@@ -257,14 +307,14 @@ fn in_room(from: usize, n: usize) -> bool
     n <= ROOM_BYTES - from
 }
 
-// Whether there is what the record names: its run, its line, and its bytes of the image room.
+// Whether there is what the record names: its run, its edition, its line, and its bytes of the image room.
 fn is_within(kind: Kind, s: &[u8]) -> bool
     ensures { λ r. ⌜ r ≡ isWithin kind (now (s .entry)) ⌝ }
 {
     match kind {
         Kind::Frame => true,
         Kind::File => true,
-        Kind::Run(_) => is_run(number_at(s, RUN_NUMBER_AT, RUN_BYTES)),
+        Kind::Run(event) => is_run_within(event, s),
         Kind::Journal => is_run(number_at(s, RUN_NUMBER_AT, RUN_BYTES)),
         Kind::Away => in_room(0, lent_length(s)),
         Kind::TakeUp => in_room(0, lent_length(s)),

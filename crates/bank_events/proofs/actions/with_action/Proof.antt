@@ -14,12 +14,13 @@ use Rattle.bank_events.proofs.actions.with_action.Tie as tie
 
 returns : tie.Need-returns
 returns c =
-    let at = c .before .before .before in
+    let at = c .before .before .before .before in
     let start = at .before .before in
     let a = start .args in
     let kind = at .before .verdict-kind in
-    let e = entry-of (a .verdict) (a .order) (a .q) (kind .result) (kind .ensures) _ (c .before .verdict-subscriber .ensures)
-    (sym (at .is-event .ensures) ∙ c .before .before .if1 .taken) in
+    let e = entry-of (a .verdict) (a .order) (a .q) (kind .result) (kind .ensures) _ _
+    (c .before .before .verdict-subscriber .ensures) (c .before .verdict-id .ensures)
+    (sym (at .is-event .ensures) ∙ c .before .before .before .if1 .taken) in
     subst (λ (es : List Entry). Holds (c .with-entry .result) (entriesIn (a .batch) ++ es)) (sym e) (c .with-entry .ensures)
 
 returns-2 : tie.Need-returns-2
@@ -37,4 +38,5 @@ returns-2 c =
 pub with-action-spec : {M : Type 1} → statement M
 with-action-spec =
     tie.close
-    (tie.spec (λ c κs. search needs) (λ c κs. search needs) (λ c κs. search needs) (λ c κs. search needs) returns returns-2)
+    (tie.spec (λ c κs. search needs) (λ c κs. search needs) (λ c κs. search needs) (λ c κs. search needs) (λ c κs. search needs) returns
+    returns-2)

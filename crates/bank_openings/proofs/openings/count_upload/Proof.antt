@@ -1,58 +1,32 @@
--- One opening more, then one more of its series: two changes stored as one.
-use native.Mathlib.Omega.{arith}
+-- One opening more, then the series: two changes stored as one.
 use Rattle.bank_verdicts.specs.declared.verdict.Direction.the-variants as direction
-use Rattle.bank_openings.proofs.Opened.{room-in-series, counted-laid, upload-counted}
+use Rattle.bank_openings.proofs.Opened.{counted-laid, upload-counted}
 use borrow.Author.Needs.{needs}
 use Rattle.bank_openings.proofs.openings.count_upload.Statement.{statement}
 use Rattle.bank_openings.proofs.openings.count_upload.Tie as tie
 
-subscriber-requires : tie.Need-subscriber-requires
-subscriber-requires c κs = search needs
-
-series-of-requires : tie.Need-series-of-requires
-series-of-requires c κs = search needs
-
 count-opening-requires : tie.Need-count-opening-requires
 count-opening-requires c κs = search needs
 
-add-set-series-of : tie.Need-add-set-series-of
-add-set-series-of c =
-    let series = c .before .before .before .before .before in
-    let subscriber = series .before .before in
-    let start = subscriber .before .before in
-    let below = room-in-series (start .args .rows .now) (start .pre .0) (start .args .q) (start .pre .1) _ _
-    (subscriber .subscriber .ensures) (series .series-of .ensures) in
-    omega (arith, below)
-
-set-series-of-requires : tie.Need-set-series-of-requires
-set-series-of-requires c κs =
+move-series-requires : tie.Need-move-series-requires
+move-series-requires c κs =
     let count = c .before .before .before in
-    let start = count .before .before .before .before .before .before in
-    counted-laid (start .args .rows .now) (start .pre .0) (start .args .q) direction.Upload (start .pre .1) _
-    (count .count-opening .ensures)
+    let start = count .before .before .before in (
+      counted-laid (start .args .rows .now) (start .pre .0) (start .args .q) direction.Upload (start .pre .1) _
+          (count .count-opening .ensures),
+      start .pre .2,
+    )
 
 same-length : tie.Need-same-length
 same-length c = search needs
 
 returns : tie.Need-returns
 returns c =
-    let set = c .before .before in
-    let count = set .before .before .before .before in
-    let series = count .before .before in
-    let subscriber = series .before .before in
-    let start = subscriber .before .before in
+    let move = c .before .before in
+    let count = move .before .before .before .before in
+    let start = count .before .before .before in
     upload-counted (start .args .rows .now) (start .pre .0) (start .args .q) (start .pre .1) _
-    (count .count-opening .ensures) _ _ _ (subscriber .subscriber .ensures) (series .series-of .ensures)
-    (set .set-series-of .ensures)
+    (count .count-opening .ensures) _ (start .args .number) (move .move-series .ensures)
 
 pub count-upload-spec : {M : Type 1} → statement M
-count-upload-spec =
-    tie.close
-    (tie.spec
-    subscriber-requires
-    series-of-requires
-    count-opening-requires
-    add-set-series-of
-    set-series-of-requires
-    same-length
-    returns)
+count-upload-spec = tie.close (tie.spec count-opening-requires move-series-requires same-length returns)

@@ -26,7 +26,7 @@ set-place-requires c κs =
     let free = count .before .before .before .before .before .before in
     let start = free .before .before .before in
     let a = start .args in (
-      upload-laid (a .rows .now) (start .pre .0) (a .q) (start .pre .1) _
+      upload-laid (a .rows .now) (start .pre .0) (a .q) (start .pre .1) (a .number) _
           (count .count-upload .ensures),
       omega (arith, free .free-place .ensures, start .pre .1 .place),
     )
@@ -43,8 +43,8 @@ returns c =
     let free = segments .before .before in
     let start = free .before .before .before in
     let a = start .args in
-    upload-stored (a .rows .now) (start .pre .0) (a .q) (start .pre .1) _ (count .count-upload .ensures) _ _
-    (a .number) (a .transaction) _ (set .set-place .ensures) (free .free-place .ensures)
+    upload-stored (a .rows .now) (start .pre .0) (a .q) (start .pre .1) (a .number) _ (count .count-upload .ensures) _ _
+    (a .transaction) _ (set .set-place .ensures) (free .free-place .ensures)
     (rw (segments .before .subscriber .ensures, segments .segments .ensures, clock .clock .ensures))
 
 pub open-upload-spec : {M : Type 1} → statement M

@@ -20,6 +20,7 @@ judged-so requests.UploadTransfer k b q = refl
 judged-so requests.DownloadTransfer k b q = refl
 judged-so requests.Receipt k b q = refl
 judged-so requests.Signing k b q = refl
+judged-so requests.ChosenOpening k b q = refl
 
 returns : tie.Need-returns
 returns c =

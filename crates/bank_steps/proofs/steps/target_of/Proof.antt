@@ -24,7 +24,9 @@ target-of-spec =
     (λ c. search needs)
     (λ c. search needs)
     (λ c. search needs)
+    (λ c. search needs)
     returns-3
     returns-4
     returns-5
+    (λ c. search needs)
     (λ c. search needs))

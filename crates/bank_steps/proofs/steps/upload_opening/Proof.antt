@@ -5,7 +5,7 @@ use Rattle.bank_rows.proofs.State.{held-rows}
 use Rattle.bank_verdicts.specs.declared.verdict.Direction.the-variants as direction
 use Rattle.bank_verdicts.specs.declared.verdict.Verdict.{Verdict}
 use Rattle.bank_verdicts.proofs.Signing.{isSigned, opening-signs-not}
-use Rattle.bank_openings.proofs.Opened.{accepted-room}
+use Rattle.bank_openings.proofs.Opened.{accepted-room, accepted-fits}
 use Rattle.bank_steps.specs.Lent.{lent, CarriedOut}
 use Rattle.bank_steps.proofs.Carried.{unacted}
 use Rattle.bank_steps.proofs.Lent.{none-carried, upload-opening-carried}
@@ -15,27 +15,31 @@ use Rattle.bank_steps.proofs.steps.upload_opening.Tie as tie
 
 open-upload-requires : tie.Need-open-upload-requires
 open-upload-requires c κs =
-    let at-verdict = c .before .before .before .before .before in
+    let at-number = c .before in
+    let at-verdict = at-number .before .before in
     let at-judge-opening = at-verdict .before .before in
     let start = at-judge-opening .before .before .before in
     let a = start .args in
     let s = a .rows .now in
-    let told = sym (at-judge-opening .judge-opening .ensures) ∙ at-verdict .verdict .given .1 in
-    (start .pre, accepted-room (a .context) (bankOf s) (a .q) (held-rows s (start .pre)) direction.Upload told)
+    let held = held-rows s (start .pre) in
+    let told = sym (at-judge-opening .judge-opening .ensures) ∙ at-verdict .verdict .given .1 in (
+      start .pre,
+      accepted-room (a .context) (bankOf s) (a .q) held direction.Upload told,
+      accepted-fits (a .context) (bankOf s) (a .q) held told (at-number .opened-number .ensures),
+    )
 
 returns : tie.Need-returns
 returns c =
     λ o m d.
     let at-open-upload = c .before .before in
-    let at-series = at-open-upload .before .before in
-    let at-subscriber = at-series .before in
-    let at-verdict = at-subscriber .before .before .before in
+    let at-number = at-open-upload .before .before in
+    let at-verdict = at-number .before .before in
     let at-judge-opening = at-verdict .before .before in
     let start = at-judge-opening .before .before .before in
     let a = start .args in
     let told = sym (at-judge-opening .judge-opening .ensures) ∙ at-verdict .verdict .given .1 in
-    upload-opening-carried (a .rows .now) o m (a .context) (a .q) d told (at-subscriber .subscriber .ensures)
-    (at-series .series-of .ensures) (at-open-upload .open-upload .ensures)
+    upload-opening-carried (a .rows .now) o m (a .context) (a .q) d told (at-number .opened-number .ensures)
+    (at-open-upload .open-upload .ensures)
 
 returns-2 : tie.Need-returns-2
 returns-2 c =
@@ -55,7 +59,6 @@ upload-opening-spec =
     (tie.spec
     (λ c κs. search needs)
     (λ c. search needs)
-    (λ c κs. search needs)
     (λ c κs. search needs)
     open-upload-requires
     (λ c. search needs)

@@ -5,13 +5,8 @@ use Rattle.bank_verdicts.proofs.replies.upload_reply.Tie as tie
 
 returns : tie.Need-returns
 returns c =
-    let at-action = c .before .before .before in
-    rw (
-      at-action .action .given .1,
-      c .upload-opened .ensures,
-      c .before .order-number-of .ensures,
-      at-action .before .before .exchange .ensures,
-    )
+    let at-action = c .before .before in
+    rw (at-action .action .given .1) (c .opened-reply .ensures)
 
 returns-2 : tie.Need-returns-2
 returns-2 c =
@@ -59,7 +54,6 @@ upload-reply-spec =
     (tie.spec
     (λ c κs. tt)
     (λ c. search needs)
-    (λ c κs. tt)
     (λ c κs. tt)
     (λ c. search needs)
     (λ c κs. tt)

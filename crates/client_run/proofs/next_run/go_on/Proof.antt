@@ -7,11 +7,11 @@ use Rattle.client_run.proofs.next_run.go_on.Tie as tie
 step-after-requires : tie.Need-step-after-requires
 step-after-requires c κs = tt
 
-add-t8 : tie.Need-add-t8
-add-t8 c = search needs
-
 add-t9 : tie.Need-add-t9
 add-t9 c = search needs
+
+add-t10 : tie.Need-add-t10
+add-t10 c = search needs
 
 add-larger : tie.Need-add-larger
 add-larger c = search needs
@@ -24,4 +24,4 @@ unfolding goOn
 returns c = simp (← c .before .before .step-after .ensures, ← c .larger .ensures)
 
 pub go-on-spec : {M : Type 1} → statement M
-go-on-spec = tie.close (tie.spec step-after-requires add-t8 add-t9 add-larger larger-requires returns)
+go-on-spec = tie.close (tie.spec step-after-requires add-t9 add-t10 add-larger larger-requires returns)

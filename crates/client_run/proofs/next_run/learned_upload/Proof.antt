@@ -5,11 +5,11 @@ use Rattle.client_run.proofs.next_run.learned_upload.Tie as tie
 transaction-requires : tie.Need-transaction-requires
 transaction-requires c κs = tt
 
-order-number-requires : tie.Need-order-number-requires
-order-number-requires c κs = tt
+learned-number-requires : tie.Need-learned-number-requires
+learned-number-requires c κs = tt
 
 returns : tie.Need-returns
-returns c = simp (← c .before .transaction .ensures, ← c .order-number .ensures)
+returns c = simp (← c .before .before .transaction .ensures, ← c .learned-number .ensures)
 
 pub learned-upload-spec : {M : Type 1} → statement M
-learned-upload-spec = tie.close (tie.spec transaction-requires order-number-requires returns)
+learned-upload-spec = tie.close (tie.spec transaction-requires learned-number-requires returns)

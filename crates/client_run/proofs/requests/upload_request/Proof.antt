@@ -9,8 +9,8 @@ enum-told c = search needs
 nonce-of-requires : tie.Need-nonce-of-requires
 nonce-of-requires c κs = tt
 
-upload-opening-requires : tie.Need-upload-opening-requires
-upload-opening-requires c κs = tt
+opening-of-requires : tie.Need-opening-of-requires
+opening-of-requires c κs = tt
 
 enum-told-2 : tie.Need-enum-told-2
 enum-told-2 c = search needs
@@ -28,7 +28,7 @@ receipt-requires : tie.Need-receipt-requires
 receipt-requires c κs = tt
 
 returns : tie.Need-returns
-returns c = simp (c .before .before .enum-told .given .1, ← c .before .nonce-of .ensures, ← c .upload-opening .ensures)
+returns c = simp (c .before .before .enum-told .given .1, ← c .before .nonce-of .ensures, ← c .opening-of .ensures)
 
 returns-2 : tie.Need-returns-2
 returns-2 c =
@@ -43,7 +43,7 @@ upload-request-spec =
     (tie.spec
     enum-told
     nonce-of-requires
-    upload-opening-requires
+    opening-of-requires
     enum-told-2
     last-mark-of-requires
     upload-transfer-requires

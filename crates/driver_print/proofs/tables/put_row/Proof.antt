@@ -1,10 +1,12 @@
 -- Table by table: each row by its own function, on what the unit and the stores have for it. Assumes nothing.
 use Prim.Native.Nat.{_<_}
+use mathlib.Core.Path.{_≡_, sym, _∙_}
 use native.Mathlib.Omega.{arith}
+use lib.ListN.{length, length-map}
 use Rattle.journal.specs.Events.{recordCount}
 use Rattle.bank_state.specs.Limits.{placeCount}
 use Rattle.unit_state.specs.Records.{runCount}
-use Rattle.driver_print.proofs.Texts.{count-most, file-fits}
+use Rattle.driver_print.proofs.Texts.{count-most, file-fits, word-of, file-of}
 use borrow.Author.Needs.{needs}
 use Rattle.driver_print.proofs.tables.put_row.Statement.{statement}
 use Rattle.driver_print.proofs.tables.put_row.Tie as tie
@@ -21,6 +23,10 @@ run-below c = rw (c .enum-told3 .given .1) at (c .before .before .before .before
 
 run-below-2 : (c : tie.After-enum-told4) → c .before .before .before .before .before .before .before .args .i < runCount
 run-below-2 c = rw (c .enum-told4 .given .1) at (c .before .before .before .before .before .before .before .pre .1)
+
+-- the unit has 16 runs
+sixteen : (c : tie.Start) → length (c .args .t4 .runs) ≡ runCount
+sixteen c = sym (length-map (c .args .t4 .runs) _) ∙ c .good .1 .1 .1 .0 .1 .1 .0 .1 .0 .1
 
 record-below : (c : tie.After-enum-told5) → c .before .before .before .before .before .before .before .args .i < recordCount
 record-below c = rw (c .enum-told5 .given .1) at (c .before .before .before .before .before .before .before .pre .1)
@@ -84,14 +90,22 @@ returns-2 c =
     (rw (at-file .file-of2 .ensures) at (c .before .before .put-file .ensures))
 
 returns-3 : tie.Need-returns-3
-returns-3 c = rw (c .before .before .before .before .before .enum-told3 .given .1) (c .before .before .put-word .ensures)
+returns-3 c =
+    let told = c .before .before .before .before .before in
+    let start = told .before .before .before .before .before .before .before in
+    let h : start .args .i < length (start .args .t4 .runs) = omega (arith, run-below told, sixteen start) in
+    rw (told .enum-told3 .given .1) (word-of (start .args .t4 .runs) (start .args .i) _ h (c .before .before .put-word .ensures))
 
 returns-4 : tie.Need-returns-4
 returns-4 c =
     let at-file = c .before .before .before in
     let at-held = at-file .before in
-    rw (at-held .before .before .before .enum-told4 .given .1)
-    (rw (at-file .file-of3 .ensures, at-held .held-by .ensures) at (c .before .before .put-file2 .ensures))
+    let told = at-held .before .before .before in
+    let start = told .before .before .before .before .before .before .before in
+    let h : start .args .i < length (start .args .t4 .runs) = omega (arith, run-below-2 told, sixteen start) in
+    rw (told .enum-told4 .given .1)
+    (file-of (start .args .t4 .runs) (start .args .i) _ h (start .args .files .now)
+    (rw (at-file .file-of3 .ensures, at-held .held-by .ensures) at (c .before .before .put-file2 .ensures)))
 
 returns-5 : tie.Need-returns-5
 returns-5 c = rw (c .before .before .before .before .before .enum-told5 .given .1) (c .before .before .put-event .ensures)

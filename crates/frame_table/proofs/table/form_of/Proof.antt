@@ -24,6 +24,9 @@ of-phase-requires-5 c κs = search needs
 of-phase-requires-6 : tie.Need-of-phase-requires-6
 of-phase-requires-6 c κs = search needs
 
+of-phase-requires-7 : tie.Need-of-phase-requires-7
+of-phase-requires-7 c κs = search needs
+
 returns : tie.Need-returns
 unfolding rowFits findForm formOf
 returns c = c .of-phase .ensures ∙ sym (rw (c .before .match .keys1))
@@ -50,7 +53,7 @@ returns-6 c = c .of-phase6 .ensures ∙ sym (rw (c .before .match .keys6))
 
 returns-7 : tie.Need-returns-7
 unfolding rowFits findForm formOf
-returns-7 c = sym (rw (c .match .keys7))
+returns-7 c = c .of-phase7 .ensures ∙ sym (rw (c .before .match .keys7))
 
 returns-8 : tie.Need-returns-8
 unfolding rowFits findForm formOf
@@ -78,17 +81,22 @@ returns-13 c = sym (rw (c .match .keys13))
 
 returns-14 : tie.Need-returns-14
 unfolding rowFits findForm formOf
-returns-14 c =
+returns-14 c = sym (rw (c .match .keys14))
+
+returns-15 : tie.Need-returns-15
+unfolding rowFits findForm formOf
+returns-15 c =
     let m = c .before .args .tags in
     let r = c .match .rest in
     sym
     (rw (
-      ne-eqb 254 m (λ e. r .0 .0 .0 .0 .0 .0 .0 .0 .0 .0 .0 .0 .1 (sym e)),
-      ne-eqb 126 m (λ e. r .0 .0 .0 .0 .0 .0 .0 .0 .0 .0 .0 .1 (sym e)),
-      ne-eqb 3854 m (λ e. r .0 .0 .0 .0 .0 .0 .0 .0 .0 .0 .1 (sym e)),
-      ne-eqb 782 m (λ e. r .0 .0 .0 .0 .0 .0 .0 .0 .0 .1 (sym e)),
-      ne-eqb 4366 m (λ e. r .0 .0 .0 .0 .0 .0 .0 .0 .1 (sym e)),
-      ne-eqb 114814 m (λ e. r .0 .0 .0 .0 .0 .0 .0 .1 (sym e)),
+      ne-eqb 254 m (λ e. r .0 .0 .0 .0 .0 .0 .0 .0 .0 .0 .0 .0 .0 .1 (sym e)),
+      ne-eqb 126 m (λ e. r .0 .0 .0 .0 .0 .0 .0 .0 .0 .0 .0 .0 .1 (sym e)),
+      ne-eqb 3854 m (λ e. r .0 .0 .0 .0 .0 .0 .0 .0 .0 .0 .0 .1 (sym e)),
+      ne-eqb 782 m (λ e. r .0 .0 .0 .0 .0 .0 .0 .0 .0 .0 .1 (sym e)),
+      ne-eqb 4366 m (λ e. r .0 .0 .0 .0 .0 .0 .0 .0 .0 .1 (sym e)),
+      ne-eqb 114814 m (λ e. r .0 .0 .0 .0 .0 .0 .0 .0 .1 (sym e)),
+      ne-eqb 147710 m (λ e. r .0 .0 .0 .0 .0 .0 .0 .1 (sym e)),
       ne-eqb 24842 m (λ e. r .0 .0 .0 .0 .0 .0 .1 (sym e)),
       ne-eqb 12170 m (λ e. r .0 .0 .0 .0 .0 .1 (sym e)),
       ne-eqb 8970 m (λ e. r .0 .0 .0 .0 .1 (sym e)),
@@ -108,6 +116,7 @@ form-of-spec =
     of-phase-requires-4
     of-phase-requires-5
     of-phase-requires-6
+    of-phase-requires-7
     returns
     returns-2
     returns-3
@@ -121,4 +130,5 @@ form-of-spec =
     returns-11
     returns-12
     returns-13
-    returns-14)
+    returns-14
+    returns-15)

@@ -21,48 +21,48 @@ use borrow.Author.Needs.{needs}
 use Rattle.image.proofs.codec.write.Statement.{statement}
 use Rattle.image.proofs.codec.write.Tie as tie
 
-sizes-of-requires : tie.Need-sizes-of-requires
-sizes-of-requires c κs = search needs
+image-sizes-requires : tie.Need-image-sizes-requires
+image-sizes-requires c κs = search needs
 
 returns : tie.Need-returns
 returns c =
     let a = c .before .before .before .before .before .before .before .args in
-    let f = c .before .before .sizes-of in
+    let f = c .before .before .image-sizes in
     let xs = a .numbers .now in
     let orders = a .orders .now in
     let boxes = a .mailboxes .now in
-    written-lengths (a .form) (f .result) (f .ensures) xs orders boxes (a .buffer .now) (lent-numbers (a .form) (f .result) (f .ensures) xs orders boxes (c .if1 .taken))
+    written-lengths (f .result) (f .ensures) xs orders boxes (a .buffer .now) (lent-numbers (f .result) (f .ensures) xs orders boxes (c .if1 .taken))
 
 returns-2 : tie.Need-returns-2
 returns-2 c =
     let a = c .before .before .before .before .before .before .before .before .before .args in
-    let f = c .before .before .before .before .sizes-of in
+    let f = c .before .before .before .before .image-sizes in
     let xs = a .numbers .now in
     let orders = a .orders .now in
     let boxes = a .mailboxes .now in
-    written-lengths (a .form) (f .result) (f .ensures) xs orders boxes (a .buffer .now) (lent-orders (a .form) (f .result) (f .ensures) xs orders boxes (c .before .before .if1 .left) (c .if2 .taken))
+    written-lengths (f .result) (f .ensures) xs orders boxes (a .buffer .now) (lent-orders (f .result) (f .ensures) xs orders boxes (c .before .before .if1 .left) (c .if2 .taken))
 
 returns-3 : tie.Need-returns-3
 returns-3 c =
     let at-if1 = c .before .before .before .before .if1 in
     let a = c .before .before .before .before .before .before .before .before .before .before .before .args in
-    let f = c .before .before .before .before .before .before .sizes-of in
+    let f = c .before .before .before .before .before .before .image-sizes in
     let xs = a .numbers .now in
     let orders = a .orders .now in
     let boxes = a .mailboxes .now in
-    written-lengths (a .form) (f .result) (f .ensures) xs orders boxes (a .buffer .now) (lent-mailboxes (a .form) (f .result) (f .ensures) xs orders boxes (at-if1 .left) (c .before .before .if2 .left) (c .if3 .taken))
+    written-lengths (f .result) (f .ensures) xs orders boxes (a .buffer .now) (lent-mailboxes (f .result) (f .ensures) xs orders boxes (at-if1 .left) (c .before .before .if2 .left) (c .if3 .taken))
 
 returns-4 : tie.Need-returns-4
 returns-4 c =
     let at-if1 = c .before .before .before .before .before .before .if1 in
     let at-if2 = c .before .before .before .before .if2 in
     let a = c .before .before .before .before .before .before .before .before .before .before .before .before .before .args in
-    let f = c .before .before .before .before .before .before .before .before .sizes-of in
+    let f = c .before .before .before .before .before .before .before .before .image-sizes in
     let xs = a .numbers .now in
     let orders = a .orders .now in
     let boxes = a .mailboxes .now in
-    let lent = lent-all (a .form) (f .result) (f .ensures) xs orders boxes (at-if1 .left) (at-if2 .left) (c .before .before .if3 .left) in
-    written-short (a .form) (f .result) (f .ensures) xs orders boxes (a .buffer .now) lent (c .if4 .taken)
+    let lent = lent-all (f .result) (f .ensures) xs orders boxes (at-if1 .left) (at-if2 .left) (c .before .before .if3 .left) in
+    written-short (f .result) (f .ensures) xs orders boxes (a .buffer .now) lent (c .if4 .taken)
 
 start-requires : tie.Need-start-requires
 start-requires c κs = search needs
@@ -71,9 +71,9 @@ fits-all-requires : tie.Need-fits-all-requires
 fits-all-requires c κs =
     let at-if1 = c .before .before .before .before .before .before .before .if1 in
     let a = c .before .before .before .before .before .before .before .before .before .before .before .before .before .before .args in
-    let f = c .before .before .before .before .before .before .before .before .before .sizes-of in
-    let items = rest-items (a .form) (f .result) (f .ensures) (c .start .result) (c .start .ensures) in
-    rw items (omega (arith, at-if1 .left, numbers-size (a .form) (f .result) (f .ensures)))
+    let f = c .before .before .before .before .before .before .before .before .before .image-sizes in
+    let items = rest-items (f .result) (f .ensures) (c .start .result) (c .start .ensures) in
+    rw items (omega (arith, at-if1 .left, numbers-size (f .result) (f .ensures)))
 
 returns-5 : tie.Need-returns-5
 returns-5 c =
@@ -83,13 +83,13 @@ returns-5 c =
     let at-start = c .before .before .start in
     let at-if4 = c .before .before .before .if4 in
     let a = c .before .before .before .before .before .before .before .before .before .before .before .before .before .before .before .before .args in
-    let f = c .before .before .before .before .before .before .before .before .before .before .before .sizes-of in
+    let f = c .before .before .before .before .before .before .before .before .before .before .before .image-sizes in
     let xs = a .numbers .now in
     let orders = a .orders .now in
     let boxes = a .mailboxes .now in
-    let lent = lent-all (a .form) (f .result) (f .ensures) xs orders boxes (at-if1 .left) (at-if2 .left) (at-if3 .left) in
-    let items = rest-items (a .form) (f .result) (f .ensures) (at-start .result) (at-start .ensures) in
-    written-unfit (a .form) (f .result) (f .ensures) xs orders boxes (a .buffer .now) lent (at-if4 .left)
+    let lent = lent-all (f .result) (f .ensures) xs orders boxes (at-if1 .left) (at-if2 .left) (at-if3 .left) in
+    let items = rest-items (f .result) (f .ensures) (at-start .result) (at-start .ensures) in
+    written-unfit (f .result) (f .ensures) xs orders boxes (a .buffer .now) lent (at-if4 .left)
     (sym (rw items at (c .before .fits-all .ensures)) ∙ not-true _ (c .if5 .taken))
 
 put-all-requires : tie.Need-put-all-requires
@@ -100,15 +100,15 @@ put-all-requires c κs =
     let at-if3 = c .before .before .before .before .before .before .if3 in
     let at-if4 = c .before .before .before .before .if4 in
     let a = c .before .before .before .before .before .before .before .before .before .before .before .before .before .before .before .before .before .args in
-    let f = c .before .before .before .before .before .before .before .before .before .before .before .before .sizes-of in
+    let f = c .before .before .before .before .before .before .before .before .before .before .before .before .image-sizes in
     let xs = a .numbers .now in
     let orders = a .orders .now in
     let boxes = a .mailboxes .now in
-    let items = rest-items (a .form) (f .result) (f .ensures) (at-start .result) (at-start .ensures) in
+    let items = rest-items (f .result) (f .ensures) (at-start .result) (at-start .ensures) in
     rw items (
-      omega (arith, at-if1 .left, numbers-size (a .form) (f .result) (f .ensures)),
-      lent-stores (a .form) (f .result) (f .ensures) xs orders boxes (at-if2 .left) (at-if3 .left),
-      omega (arith, at-if4 .left, image-size (a .form) (f .result) (f .ensures)),
+      omega (arith, at-if1 .left, numbers-size (f .result) (f .ensures)),
+      lent-stores (f .result) (f .ensures) xs orders boxes (at-if2 .left) (at-if3 .left),
+      omega (arith, at-if4 .left, image-size (f .result) (f .ensures)),
     )
 
 same-length : tie.Need-same-length
@@ -125,20 +125,20 @@ returns-6 c =
     let at-fits-all = c .before .before .before .before .before .fits-all in
     let at-if5 = c .before .before .before .before .if5 in
     let a = c .before .before .before .before .before .before .before .before .before .before .before .before .before .before .before .before .before .before .before .before .args in
-    let f = c .before .before .before .before .before .before .before .before .before .before .before .before .before .before .before .sizes-of in
+    let f = c .before .before .before .before .before .before .before .before .before .before .before .before .before .before .before .image-sizes in
     let xs = a .numbers .now in
     let orders = a .orders .now in
     let boxes = a .mailboxes .now in
-    let lent = lent-all (a .form) (f .result) (f .ensures) xs orders boxes (at-if1 .left) (at-if2 .left) (at-if3 .left) in
-    let items = rest-items (a .form) (f .result) (f .ensures) (at-start .result) (at-start .ensures) in
-    written-done (a .form) (f .result) (f .ensures) xs orders boxes (a .buffer .now) lent (at-if4 .left)
+    let lent = lent-all (f .result) (f .ensures) xs orders boxes (at-if1 .left) (at-if2 .left) (at-if3 .left) in
+    let items = rest-items (f .result) (f .ensures) (at-start .result) (at-start .ensures) in
+    written-done (f .result) (f .ensures) xs orders boxes (a .buffer .now) lent (at-if4 .left)
     (sym (rw items at (at-fits-all .ensures)) ∙ not-false _ (at-if5 .left)) _ (rw items at (c .before .before .put-all .ensures))
 
 pub write-spec : {M : Type 1} → statement M
 write-spec =
     tie.close
     (tie.spec
-    sizes-of-requires
+    image-sizes-requires
     returns
     returns-2
     returns-3

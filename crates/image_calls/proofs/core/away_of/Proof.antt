@@ -1,4 +1,4 @@
--- An image that is written has the form's length. Assumes nothing.
+-- An image that is written has its length. Assumes nothing.
 use mathlib.Core.Path.{ap}
 use Rattle.image.specs.declared.table.Sizes.{Sizes}
 use Rattle.image_calls.specs.declared.calls.Away.the-variants as away
@@ -8,7 +8,7 @@ use Rattle.image_calls.proofs.core.away_of.Tie as tie
 
 returns : tie.Need-returns
 returns c =
-    rw (c .before .enum-told .given .1) (ap (λ (x : Sizes). away.Length (x .image)) (c .sizes-of .ensures))
+    rw (c .before .enum-told .given .1) (ap (λ (x : Sizes). away.Length (x .image)) (c .image-sizes .ensures))
 
 pub away-of-spec : {M : Type 1} → statement M
 away-of-spec =

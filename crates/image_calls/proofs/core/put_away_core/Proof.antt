@@ -30,7 +30,7 @@ lengths c = sym (c .before .sizes-right .ensures) ∙ not-false _ (c .if1 .left)
 -- the buffer has room for the image
 room : (c : tie.Else2) → let a = c .before .before .before .before .before .before .before .before .before .args in
     imageLength ≤ length (a .buffer .now)
-room c = omega (arith, c .if2 .left, ap (λ (x : Sizes). x .image) (c .before .before .sizes-of .ensures))
+room c = omega (arith, c .if2 .left, ap (λ (x : Sizes). x .image) (c .before .before .image-sizes .ensures))
 
 returns : tie.Need-returns
 returns c l e k =
@@ -45,7 +45,7 @@ returns-2 c l e k =
     let a = at-if1 .before .before .before .before .before .before .args in
     let right = lengths-are (a .rows .now) (a .orders .now) (a .mailboxes .now) l (a .records) e true (lengths at-if1) in
     away-short (session (a .rows .now) l (a .orders .now) (a .mailboxes .now)) (a .buffer .now) right
-    (omega (arith, c .if2 .taken, ap (λ (x : Sizes). x .image) (c .before .before .sizes-of .ensures)))
+    (omega (arith, c .if2 .taken, ap (λ (x : Sizes). x .image) (c .before .before .image-sizes .ensures)))
 
 gather-requires : tie.Need-gather-requires
 gather-requires c κs =

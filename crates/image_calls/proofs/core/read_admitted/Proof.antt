@@ -11,27 +11,27 @@ holds-list-requires : tie.Need-holds-list-requires
 holds-list-requires c κs =
     let a = c .before .before .before .before .before .before .before .before .before .args in
     let pre = c .before .before .before .before .before .before .before .before .before .pre in
-    (pre .0, image-done (a .form) (a .image .now) (a .numbers .now) _ _ (pre .0) (pre .1) (c .before .before .before .before .before .read-numbers .ensures) (c .before .enum-told .given .1))
+    image-done (a .image .now) (a .numbers .now) _ _ pre (c .before .before .before .before .before .read-numbers .ensures) (c .before .enum-told .given .1)
 
 returns : tie.Need-returns
 returns c =
     let a = c .before .before .before .before .before .before .before .before .before .before .args in
     let pre = c .before .before .before .before .before .before .before .before .before .before .pre in
-    admitted-done (a .form) (a .image .now) (a .numbers .now) _ _ (pre .0) (pre .1) (c .before .before .before .before .before .before .read-numbers .ensures) (c .before .before .enum-told .given .1) _ (c .holds-list .ensures)
+    admitted-done (a .image .now) (a .numbers .now) _ _ pre (c .before .before .before .before .before .before .read-numbers .ensures) (c .before .before .enum-told .given .1) _ (c .holds-list .ensures)
 
 returns-2 : tie.Need-returns-2
 returns-2 c =
     let a = c .before .before .before .before .before .before .before .before .args in
     let pre = c .before .before .before .before .before .before .before .before .pre in
     let e = c .enum-told2 .given .1 in
-    admitted-other (a .form) (a .image .now) (a .numbers .now) _ _ (pre .0) (pre .1) (c .before .before .before .before .read-numbers .ensures) (λ d. let z : _≡_ {A = ℕ} 0 1 = cc in omega arith)
+    admitted-other (a .image .now) (a .numbers .now) _ _ pre (c .before .before .before .before .read-numbers .ensures) (λ d. let z : _≡_ {A = ℕ} 0 1 = cc in omega arith)
 
 returns-3 : tie.Need-returns-3
 returns-3 c =
     let a = c .before .before .before .before .before .before .before .before .args in
     let pre = c .before .before .before .before .before .before .before .before .pre in
     let e = c .enum-told3 .given .1 in
-    admitted-other (a .form) (a .image .now) (a .numbers .now) _ _ (pre .0) (pre .1) (c .before .before .before .before .read-numbers .ensures) (λ d. let z : _≡_ {A = ℕ} 0 1 = cc in omega arith)
+    admitted-other (a .image .now) (a .numbers .now) _ _ pre (c .before .before .before .before .read-numbers .ensures) (λ d. let z : _≡_ {A = ℕ} 0 1 = cc in omega arith)
 
 pub read-admitted-spec : {M : Type 1} → statement M
 read-admitted-spec =

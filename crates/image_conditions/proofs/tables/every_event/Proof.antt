@@ -10,16 +10,16 @@ use Rattle.image_conditions.proofs.tables.every_event.Statement.{statem
 use Rattle.image_conditions.proofs.tables.every_event.Tie as tie
 
 abbrev Inv-loop : tie.InvT-loop
-Inv-loop form numbers n ok₀ i₀ ok i = (i ≤ n) × (ok ≡ every (eventTest form numbers) i)
+Inv-loop numbers n ok₀ i₀ ok i = (i ≤ n) × (ok ≡ every (eventTest numbers) i)
 
 abbrev μ-loop : tie.MeasureT-loop
-μ-loop form numbers n ok₀ i₀ ok i = n - i
+μ-loop numbers n ok₀ i₀ ok i = n - i
 
 used-events-requires : tie.Need-used-events-requires Inv-loop μ-loop
 used-events-requires c κs = search needs
 
 loop-holds : tie.Need-loop-holds Inv-loop μ-loop
-loop-holds c = let a = c .before .before .args in (search needs, sym (every-none (eventTest (a .form) (a .numbers .now))))
+loop-holds c = let a = c .before .before .args in (search needs, sym (every-none (eventTest (a .numbers .now))))
 
 event-test-requires : tie.Need-event-test-requires Inv-loop μ-loop
 event-test-requires c κs = (omega (arith, c .before .before .used-events .ensures), search needs)
@@ -38,7 +38,7 @@ loop-again c =
     let at-args = c .before .before .before .before .before .before .args in
     let l = c .before .before .before .loop in
     let t = c .before .event-test in
-    (search needs, c .both .ensures ∙ every-next (eventTest (at-args .form) (at-args .numbers .now)) (l .i) (t .result) (l .ok) (t .ensures) (l .inv .1))
+    (search needs, c .both .ensures ∙ every-next (eventTest (at-args .numbers .now)) (l .i) (t .result) (l .ok) (t .ensures) (l .inv .1))
 
 returns : tie.Need-returns Inv-loop μ-loop
 unfolding everyEvent
@@ -47,7 +47,7 @@ returns c =
     let at-args = c .before .before .before .before .args in
     let l = c .before .loop in
     let e : l .i ≡ at-used-events .result = omega arith in
-    l .inv .1 ∙ ap (every (eventTest (at-args .form) (at-args .numbers .now))) (e ∙ at-used-events .ensures)
+    l .inv .1 ∙ ap (every (eventTest (at-args .numbers .now))) (e ∙ at-used-events .ensures)
 
 pub every-event-spec : {M : Type 1} → statement M
 every-event-spec =

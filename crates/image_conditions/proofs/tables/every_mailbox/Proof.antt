@@ -11,15 +11,15 @@ use Rattle.image_conditions.proofs.tables.every_mailbox.Statement.{stat
 use Rattle.image_conditions.proofs.tables.every_mailbox.Tie as tie
 
 abbrev Inv-loop : tie.InvT-loop
-Inv-loop form numbers mailboxes ok₀ i₀ ok i = (i ≤ placeCount) × (ok ≡ every (mailboxTest form numbers mailboxes) i)
+Inv-loop numbers mailboxes ok₀ i₀ ok i = (i ≤ placeCount) × (ok ≡ every (mailboxTest numbers mailboxes) i)
 
 abbrev μ-loop : tie.MeasureT-loop
-μ-loop form numbers mailboxes ok₀ i₀ ok i = placeCount - i
+μ-loop numbers mailboxes ok₀ i₀ ok i = placeCount - i
 
 loop-holds : tie.Need-loop-holds Inv-loop μ-loop
 loop-holds c =
     let at-args = c .before .before .args in
-    (search needs, sym (every-none (mailboxTest (at-args .form) (at-args .numbers .now) (at-args .mailboxes .now))))
+    (search needs, sym (every-none (mailboxTest (at-args .numbers .now) (at-args .mailboxes .now))))
 
 mailbox-test-requires : tie.Need-mailbox-test-requires Inv-loop μ-loop
 mailbox-test-requires c κs = search needs
@@ -40,7 +40,7 @@ loop-again c =
     let t = c .before .mailbox-test in (
       search needs,
       c .both .ensures
-          ∙ every-next (mailboxTest (at-args .form) (at-args .numbers .now) (at-args .mailboxes .now))
+          ∙ every-next (mailboxTest (at-args .numbers .now) (at-args .mailboxes .now))
           (l .i) (t .result) (l .ok) (t .ensures) (l .inv .1),
     )
 
@@ -50,7 +50,7 @@ returns c =
     let at-args = c .before .before .before .before .args in
     let l = c .before .loop in
     let e : l .i ≡ placeCount = omega arith in
-    l .inv .1 ∙ ap (every (mailboxTest (at-args .form) (at-args .numbers .now) (at-args .mailboxes .now))) (e)
+    l .inv .1 ∙ ap (every (mailboxTest (at-args .numbers .now) (at-args .mailboxes .now))) (e)
 
 pub every-mailbox-spec : {M : Type 1} → statement M
 every-mailbox-spec =

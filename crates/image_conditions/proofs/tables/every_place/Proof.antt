@@ -11,15 +11,15 @@ use Rattle.image_conditions.proofs.tables.every_place.Statement.{statem
 use Rattle.image_conditions.proofs.tables.every_place.Tie as tie
 
 abbrev Inv-loop : tie.InvT-loop
-Inv-loop form numbers orders ok₀ i₀ ok i = (i ≤ placeCount) × (ok ≡ every (placeTest form numbers orders) i)
+Inv-loop numbers orders ok₀ i₀ ok i = (i ≤ placeCount) × (ok ≡ every (placeTest numbers orders) i)
 
 abbrev μ-loop : tie.MeasureT-loop
-μ-loop form numbers orders ok₀ i₀ ok i = placeCount - i
+μ-loop numbers orders ok₀ i₀ ok i = placeCount - i
 
 loop-holds : tie.Need-loop-holds Inv-loop μ-loop
 loop-holds c =
     let at-args = c .before .before .args in
-    (search needs, sym (every-none (placeTest (at-args .form) (at-args .numbers .now) (at-args .orders .now))))
+    (search needs, sym (every-none (placeTest (at-args .numbers .now) (at-args .orders .now))))
 
 place-test-requires : tie.Need-place-test-requires Inv-loop μ-loop
 place-test-requires c κs = search needs
@@ -40,7 +40,7 @@ loop-again c =
     let t = c .before .place-test in (
       search needs,
       c .both .ensures
-          ∙ every-next (placeTest (at-args .form) (at-args .numbers .now) (at-args .orders .now))
+          ∙ every-next (placeTest (at-args .numbers .now) (at-args .orders .now))
           (l .i) (t .result) (l .ok) (t .ensures) (l .inv .1),
     )
 
@@ -50,7 +50,7 @@ returns c =
     let at-args = c .before .before .before .before .args in
     let l = c .before .loop in
     let e : l .i ≡ placeCount = omega arith in
-    l .inv .1 ∙ ap (every (placeTest (at-args .form) (at-args .numbers .now) (at-args .orders .now))) (e)
+    l .inv .1 ∙ ap (every (placeTest (at-args .numbers .now) (at-args .orders .now))) (e)
 
 pub every-place-spec : {M : Type 1} → statement M
 every-place-spec =

@@ -7,9 +7,6 @@ use Rattle.image_conditions.proofs.tables.mailbox_test.Tie as tie
 file-at-requires : tie.Need-file-at-requires
 file-at-requires c κs = search needs
 
-file-size-requires : tie.Need-file-size-requires
-file-size-requires c κs = search needs
-
 mailbox-bytes-requires : tie.Need-mailbox-bytes-requires
 mailbox-bytes-requires c κs = search needs
 
@@ -21,10 +18,9 @@ unfolding mailboxTest
 returns c =
     rw (
       c .before .mailbox-bytes .ensures,
-      c .before .before .file-size .ensures,
-      c .before .before .before .file-at .ensures,
+      c .before .before .file-at .ensures,
     ) at (c .both .ensures)
 
 pub mailbox-test-spec : {M : Type 1} → statement M
 mailbox-test-spec =
-    tie.close (tie.spec file-at-requires file-size-requires mailbox-bytes-requires both-requires returns)
+    tie.close (tie.spec file-at-requires mailbox-bytes-requires both-requires returns)

@@ -7,9 +7,6 @@ use Rattle.image_conditions.proofs.tables.place_test.Tie as tie
 place-at-requires : tie.Need-place-at-requires
 place-at-requires c κs = search needs
 
-counter-of-requires : tie.Need-counter-of-requires
-counter-of-requires c κs = search needs
-
 shared-slice-read-place-holds : tie.Need-shared-slice-read-place-holds
 shared-slice-read-place-holds c = search needs
 
@@ -31,8 +28,7 @@ returns c =
     rw (
       c .before .place-bytes .ensures,
       c .before .before .place-holds .ensures,
-      c .before .before .before .before .before .counter-of .ensures,
-      c .before .before .before .before .before .before .place-at .ensures,
+      c .before .before .before .before .before .place-at .ensures,
     ) at (c .both .ensures)
 
 pub place-test-spec : {M : Type 1} → statement M
@@ -40,7 +36,6 @@ place-test-spec =
     tie.close
     (tie.spec
     place-at-requires
-    counter-of-requires
     shared-slice-read-place-holds
     shared-slice-read-place-holds-2
     place-holds-requires

@@ -62,6 +62,24 @@ mul-t24 c = search needs
 shared-slice-read-t26 : tie.Need-shared-slice-read-t26
 shared-slice-read-t26 c = search needs
 
+add-t27 : tie.Need-add-t27
+add-t27 c = search needs
+
+mul-t28 : tie.Need-mul-t28
+mul-t28 c = search needs
+
+shared-slice-read-t30 : tie.Need-shared-slice-read-t30
+shared-slice-read-t30 c = search needs
+
+add-t31 : tie.Need-add-t31
+add-t31 c = search needs
+
+mul-t32 : tie.Need-mul-t32
+mul-t32 c = search needs
+
+shared-slice-read-t34 : tie.Need-shared-slice-read-t34
+shared-slice-read-t34 c = search needs
+
 returns : tie.Need-returns
 unfolding eventAt
 returns c = refl
@@ -89,4 +107,10 @@ event-at-spec =
     add-t23
     mul-t24
     shared-slice-read-t26
+    add-t27
+    mul-t28
+    shared-slice-read-t30
+    add-t31
+    mul-t32
+    shared-slice-read-t34
     returns)

@@ -4,9 +4,6 @@ use borrow.Author.Needs.{needs}
 use Rattle.image_records.proofs.records.booked_length.Statement.{statement}
 use Rattle.image_records.proofs.records.booked_length.Tie as tie
 
-file-size-requires : tie.Need-file-size-requires
-file-size-requires c κs = search needs
-
 within-requires : tie.Need-within-requires
 within-requires c κs = search needs
 
@@ -14,7 +11,7 @@ implies-requires : tie.Need-implies-requires
 implies-requires c κs = search needs
 
 returns : tie.Need-returns
-returns c = rw (c .before .within .ensures, c .before .before .file-size .ensures) at (c .implies .ensures)
+returns c = rw (c .before .within .ensures) at (c .implies .ensures)
 
 pub booked-length-spec : {M : Type 1} → statement M
-booked-length-spec = tie.close (tie.spec file-size-requires within-requires implies-requires returns)
+booked-length-spec = tie.close (tie.spec within-requires implies-requires returns)

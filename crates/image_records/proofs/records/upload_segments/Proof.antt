@@ -4,9 +4,6 @@ use borrow.Author.Needs.{needs}
 use Rattle.image_records.proofs.records.upload_segments.Statement.{statement}
 use Rattle.image_records.proofs.records.upload_segments.Tie as tie
 
-segment-limit-requires : tie.Need-segment-limit-requires
-segment-limit-requires c κs = search needs
-
 within-requires : tie.Need-within-requires
 within-requires c κs = search needs
 
@@ -14,7 +11,7 @@ implies-requires : tie.Need-implies-requires
 implies-requires c κs = search needs
 
 returns : tie.Need-returns
-returns c = rw (c .before .within .ensures, c .before .before .segment-limit .ensures) at (c .implies .ensures)
+returns c = rw (c .before .within .ensures) at (c .implies .ensures)
 
 pub upload-segments-spec : {M : Type 1} → statement M
-upload-segments-spec = tie.close (tie.spec segment-limit-requires within-requires implies-requires returns)
+upload-segments-spec = tie.close (tie.spec within-requires implies-requires returns)

@@ -47,16 +47,16 @@ use denote.Triple.Statement.{Contract, Triple}
 use denote.Triple.Clauses.{ensured, lasts}
 use denote.Triple.Table.{entered, cited}
 use denote.Triple.Walked.{says, Stays, stay-none, stay-none-slice, walkOf, Walks, ends-at, walked, goes-none, goes-none-slice, walk-meets}
+use Rattle.frame_table.specs.declared.fields.Bits128.{Bits128}
 use Rattle.journal.specs.declared.event.Event.{Event}
-use Rattle.journal.specs.declared.event.OrderName.{OrderName}
 use Rattle.journal.specs.declared.event.Found.{Found}
 use Rattle.journal.specs.declared.event.Found.the-variants.{Nothing, Ended, Booked}
 use Rattle.journal.specs.Events.{noEvent}
 use Rattle.journal.specs.Row.{withRecord, lookup}
 use Rattle.journal.proofs.event.Event as T
 use Rattle.journal.proofs.event.Event.Laws as T′
-use Rattle.journal.proofs.event.OrderName as N
-use Rattle.journal.proofs.event.OrderName.Laws as N′
+use Rattle.frame_table.proofs.fields.Bits128 as N
+use Rattle.frame_table.proofs.fields.Bits128.Laws as N′
 use Rattle.journal.proofs.event.Found as F
 use Rattle.journal.proofs.event.Found.Laws as F′
 use Rattle.journal.proofs.Width.{eventBytes}
@@ -95,11 +95,11 @@ found-is Ended = EL.owes F.the-type F′.the-laws Ended tt
 found-is Booked = EL.owes F.the-type F′.the-laws Booked tt
 
 -- from the records behind i to those from i on
-one-more : (c : OrderName) (i : ℕ) (xs : List Event) (r : Found) → i < length xs → r ≡ withRecord c (getD xs i noEvent) (lookup c (drop (suc i) xs)) → r ≡ lookup c (drop i xs)
+one-more : (c : Bits128) (i : ℕ) (xs : List Event) (r : Found) → i < length xs → r ≡ withRecord c (getD xs i noEvent) (lookup c (drop (suc i) xs)) → r ≡ lookup c (drop i xs)
 unfolding lookup
 one-more c i xs r l e = rw (drop-cons xs i noEvent l) e
 
-none-behind : (c : OrderName) (xs : List Event) → lookup c (drop (length xs) xs) ≡ Nothing
+none-behind : (c : Bits128) (xs : List Event) → lookup c (drop (length xs) xs) ≡ Nothing
 unfolding lookup
 none-behind c xs = rw (drop-of-length-le xs {i = length xs} (omega arith))
 
@@ -108,10 +108,10 @@ module _ {M : Type 1} (𝓤 : URA M) (H : Heap 𝓤) (A : Atoms 𝓤) (mem : Mem
   abbrev WithRecord : Contract 𝓤
   WithRecord = tripleOf 𝓤 H A with-record.signature (with-record.spec 𝓤 H A mem run)
 
-  record-of : (e : Event) (c : OrderName) (f r : Found) → ent 𝓤 (ensured 𝓤 H A with-record.ended (with-record.clauses 𝓤 H A mem run) tt (c, (e, (f, tt))) tt r) (fact 𝓤 (r ≡ withRecord c e f))
+  record-of : (e : Event) (c : Bits128) (f r : Found) → ent 𝓤 (ensured 𝓤 H A with-record.ended (with-record.clauses 𝓤 H A mem run) tt (c, (e, (f, tt))) tt r) (fact 𝓤 (r ≡ withRecord c e f))
   record-of e c f r = exE 𝓤 _ (λ ws. snd∗ 𝓤 (sem 𝓤 H A (lasts with-record.ended tt (c, (e, (f, tt))) ws)) (fact 𝓤 (r ≡ withRecord c e f)))
 
-module _ {M : Type 1} (𝓤 : URA M) (H : Heap 𝓤) (A : Atoms 𝓤) (W : Given 𝓤 H A) (mem : Memory → SProp 𝓤) (run : Routine → Fun 𝓤) (κ : Lft) (q : Share) (b o : ℕ) (γ : GName) (xs : List Event) (c : OrderName)
+module _ {M : Type 1} (𝓤 : URA M) (H : Heap 𝓤) (A : Atoms 𝓤) (W : Given 𝓤 H A) (mem : Memory → SProp 𝓤) (run : Routine → Fun 𝓤) (κ : Lft) (q : Share) (b o : ℕ) (γ : GName) (xs : List Event) (c : Bits128)
     (room : Room R (length xs)) (c-is : Is N.the-row c (LL.vals N.the-type N′.the-laws c)) where
   abbrev vals : Event → List Val
   vals e = LL.vals T.the-type T′.the-laws e
@@ -122,7 +122,7 @@ module _ {M : Type 1} (𝓤 : URA M) (H : Heap 𝓤) (A : Atoms 𝓤) (W : Given
   found-typed : (f : Found) (w : Val) → Is F.the-row f (w ∷ []) → Holds (hasTy F′.mir w) × WT w
   found-typed f w is = EL.lawful F.the-type F′.the-laws 𝓤 H A W tt .typed f (w ∷ []) is .0
 
-  -- the machine values: the slice's pointer and count, and the order's name
+  -- the machine values: the slice's pointer and count, and the transaction ID
   abbrev s : Val
   s = sliceVal (b, o) (length xs)
 
@@ -133,7 +133,7 @@ module _ {M : Type 1} (𝓤 : URA M) (H : Heap 𝓤) (A : Atoms 𝓤) (W : Given
   x = record { ptr = (b, o); name = γ; now = xs }
 
   abbrev Arg : Type 0
-  Arg = RefT (List Event) × (OrderName × Unit {0})
+  Arg = RefT (List Event) × (Bits128 × Unit {0})
 
   abbrev a : Arg
   a = (x, (c, tt))

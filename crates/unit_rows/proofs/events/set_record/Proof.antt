@@ -1,4 +1,4 @@
--- The six numbers of the event are written over its record. Assumes nothing.
+-- The eight numbers of the event are written over its record. Assumes nothing.
 use mathlib.Core.Path.{ap, _∙_}
 use native.Mathlib.Omega.{arith}
 use Rattle.unit_rows.specs.Rows.{journalFrom}

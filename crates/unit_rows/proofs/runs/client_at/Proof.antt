@@ -7,12 +7,12 @@ use Rattle.unit_rows.proofs.runs.client_at.Tie as tie
 
 returns : tie.Need-returns
 returns c =
-    let start = c .before .before .before .before .before .before .before .before .before .before .before .before .before .before .before .before in
-    rw (
-      c .before .before .before .before .before .before .before .before .before .before .before .before .before .before .stage-of .ensures,
-      c .before .before .before .before .before .before .before .before .before .before .before .before .direction-of .ensures,
-      c .before .before .before .before .before .before .before .before .before .before .step-of .ensures,
-    )
+    let at-edition = c .before .before .before .before .before .before .before .before .before .before .before in
+    let at-step = at-edition .before .before in
+    let at-direction = at-step .before .before in
+    let at-stage = at-direction .before .before in
+    let start = at-stage .before .before in
+    rw (at-stage .stage-of .ensures, at-direction .direction-of .ensures, at-step .step-of .ensures, at-edition .edition-of .ensures)
     (sym (client-read (start .args .runs .now) (start .args .i)))
 
 pub client-at-spec : {M : Type 1} → statement M
@@ -31,6 +31,13 @@ client-at-spec =
     (λ c. search needs)
     (λ c. search needs)
     (λ c κs. search needs)
+    (λ c. search needs)
+    (λ c. search needs)
+    (λ c. search needs)
+    (λ c κs. search needs)
+    (λ c. search needs)
+    (λ c. search needs)
+    (λ c. search needs)
     (λ c. search needs)
     (λ c. search needs)
     (λ c. search needs)

@@ -8,9 +8,10 @@ returns : tie.Need-returns
 returns c = (
   omega arith,
   rw (
-    ← c .before .before .before .before .before .number-of-stage .ensures,
-    ← c .before .before .before .before .number-of-direction .ensures,
-    ← c .before .before .before .number-of-step .ensures,
+    ← c .before .before .before .before .before .before .number-of-stage .ensures,
+    ← c .before .before .before .before .before .number-of-direction .ensures,
+    ← c .before .before .before .before .number-of-step .ensures,
+    ← c .before .before .before .number-of-edition .ensures,
   )
       (c .put .ensures),
 )
@@ -19,6 +20,7 @@ pub put-run-spec : {M : Type 1} → statement M
 put-run-spec =
     tie.close
     (tie.spec
+    (λ c κs. search needs)
     (λ c κs. search needs)
     (λ c κs. search needs)
     (λ c κs. search needs)
