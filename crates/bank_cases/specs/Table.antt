@@ -666,6 +666,9 @@ numberCases =
     ∷ (chosen (ascii "A00:") gives six 061002)
     ∷ (chosen (ascii "A00@") gives six 061002)
     ∷ (chosen (ascii "A00[") gives six 061002)
+    ∷ (chosen (ascii "Aa00") gives six 061002)
+    ∷ (chosen (ascii "A0a0") gives six 061002)
+    ∷ (chosen (ascii "A00a") gives six 061002)
     -- the number of the place
     ∷ (numberAfter idle (chooses 1 (ascii "A007")) gives 7)
     ∷ (numberAfter idle (chooses 1 (ascii "A00Z")) gives 35)
@@ -753,6 +756,7 @@ heldCases =
     ∷ (codeOf (bankWith (replicate 7 noPlace ++ (booked 1 0 ∷ [])) [] []) (chooses 1 (ascii "A000")) []
     gives six 091115)
     ∷ (codeOf (bankWith (booked 1 1213055 ∷ []) [] []) (chooses 1 (ascii "ZZZZ")) [] gives six 091115)
+    ∷ (codeOf (bankWith (booked 8 0 ∷ []) [] []) (chooses 8 (ascii "A000")) [] gives six 091115)
     -- not another number, not another subscriber's; an opening of 2.5 never
     ∷ (codeOf (bankWith (booked 1 0 ∷ []) [] []) (chooses 1 (ascii "A001")) [] gives six 000000)
     ∷ (codeOf (bankWith (booked 1 1 ∷ []) [] []) (chooses 1 (ascii "A000")) [] gives six 000000)
@@ -778,6 +782,8 @@ numberingCases =
     ∷ (orderOf (comeTo 100 (booked 1 100 ∷ [])) (uploads 1) gives orderNumberOf 101)
     ∷ (orderOf (comeTo 100 (booked 1 102 ∷ opened 1 100 ∷ booked 1 101 ∷ [])) (uploads 1) gives orderNumberOf 103)
     ∷ (orderOf (comeTo 100 (from 100 7 (booked 1))) (uploads 1) gives orderNumberOf 107)
+    ∷ (orderOf (comeTo 100 (replicate 7 noPlace ++ (booked 1 100 ∷ []))) (uploads 1) gives orderNumberOf 101)
+    ∷ (orderOf (comeTo 100 (booked 8 100 ∷ [])) (uploads 8) gives orderNumberOf 101)
     -- only held ones, and only from the counter on, of that subscriber
     ∷ (orderOf (comeTo 100 (booked 1 100 ∷ booked 1 102 ∷ [])) (uploads 1) gives orderNumberOf 101)
     ∷ (orderOf (comeTo 100 (booked 1 99 ∷ booked 1 101 ∷ [])) (uploads 1) gives orderNumberOf 100)
@@ -790,6 +796,7 @@ numberingCases =
     ∷ (seriesAfter (comeTo 100 []) (uploads 2) gives 100)
     -- an opening of 2.4 leaves it, whatever it brings; running number and nonce are taken as ever
     ∷ (seriesAfter (comeTo 100 []) (chooses 1 (ascii "A02R")) gives 100)
+    ∷ (seriesAfter (comeTo 100 []) (chooses 1 (ascii "A000")) gives 100)
     ∷ (seriesAfter (comeTo 100 []) (chooses 1 (ascii "A02S")) gives 100)
     ∷ (seriesAfter (comeTo 100 []) (chooses 1 (ascii "ZZZZ")) gives 100)
     ∷ (numberAfter (comeTo 100 []) (chooses 1 (ascii "A02S")) gives 100)
